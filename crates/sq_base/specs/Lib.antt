@@ -1,0 +1,6 @@
+pub mod Addresses
+pub mod Decimals
+pub mod Distinct
+pub mod Escapes
+pub mod Requests
+pub mod Targets

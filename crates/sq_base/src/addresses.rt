@@ -1,0 +1,52 @@
+//! IP addresses and ranges of them.
+ghost use Rattle.std.specs.Prelude.{◌≡◌};
+
+use crate::listed::Listed;
+use crate::memory::{Copying, WantOfMemory};
+use std::alloc::Global;
+use std::marker::Model;
+
+/// An IP address: its kind, and its bits as a number, which is below 2^32 for IPv4. All IPv4
+/// addresses stand before all IPv6 ones, and each kind is ordered by its number.
+#[derive(Clone, Copy, Debug, PartialEq, Eq, PartialOrd, Ord)]
+pub struct Addr {
+    pub v6: bool,
+    pub number: u128,
+}
+
+impl Model for Addr {
+    ghost use Rattle.sq_base.specs.Addresses.{Address, IsAddress};
+
+    ghost Value = { Address };
+
+    ghost view = { λ a. record { v6 = a.v6; number = a.number } };
+
+    ghost invariant = { λ a. IsAddress (record { v6 = a.v6; number = a.number }) };
+
+    ghost inverse = { λ a. record { v6 = a.v6; number = a.number } };
+}
+
+/// A list of addresses.
+pub type Addrs = Listed<Addr>;
+
+/// The addresses from the first to the last, both included, over both kinds.
+#[derive(Clone, Copy, Debug, PartialEq, Eq)]
+pub struct Range {
+    pub first: Addr,
+    pub last: Addr,
+}
+
+/// A list of ranges.
+pub type Ranges = Listed<Range>;
+
+impl Copying for Addr {
+    fn copy(&self, _alloc: Global) -> Result<Addr, WantOfMemory> {
+        Ok(*self)
+    }
+}
+
+impl Copying for Range {
+    fn copy(&self, _alloc: Global) -> Result<Range, WantOfMemory> {
+        Ok(*self)
+    }
+}
