@@ -3,6 +3,7 @@ pub mod Entries
 pub mod Leaves
 pub mod Limits
 pub mod Machine
+pub mod OutcomeText
 pub mod Readings
 pub mod Sights
 pub mod Verdicts

@@ -134,11 +134,12 @@ is_number n (Some k) = n == k
 
 abbrev pub open_check_after : History → ℕ → Event → Option ℕ → Option ℕ
 open_check_after h c (Ask d method target fields) before = if d == c then Some (suc (ask_count h)) else before
+open_check_after h c (Open d addr port) before = if d == c then None else before
 open_check_after h c (Take n) before = if is_number c (conn_of h n) then None else before
 open_check_after h c (Close d) before = if d == c then None else before
 open_check_after h c event before = before
 
--- the open check of connection c: that of its last `ask`, where no `take` of its check and no `close` stands after
+-- the open check of connection c: that of its last `ask`, where no `take` of a check of c and no `close` stands after
 abbrev pub open_check : History → ℕ → Option ℕ
 open_check [] c = None
 open_check (e ∷ h) c = open_check_after h c e.event (open_check h c)

@@ -23,17 +23,34 @@ impl Model for Offset {
 #[derive(Drop, Debug)]
 pub enum Event {
     /// The machine begins, at this offset of local time.
-    Begin { offset: Offset },
+    Begin {
+        offset: Offset,
+    },
     /// A client's connection opens.
-    Open { conn: ConnNo, addr: Addr, port: u16 },
+    Open {
+        conn: ConnNo,
+        addr: Addr,
+        port: u16,
+    },
     /// A connection closes.
-    Close { conn: ConnNo },
+    Close {
+        conn: ConnNo,
+    },
     /// A request arrives on a connection, and its check begins.
-    Ask { conn: ConnNo, method: Text, target: Text, fields: Fields },
+    Ask {
+        conn: ConnNo,
+        method: Text,
+        target: Text,
+        fields: Fields,
+    },
     /// A check goes on.
-    Step { check: CheckNo },
+    Step {
+        check: CheckNo,
+    },
     /// The outcome of a check is taken.
-    Take { check: CheckNo },
+    Take {
+        check: CheckNo,
+    },
 }
 
 /// The machine's answer to an event.

@@ -1,0 +1,4 @@
+pub mod ConfForm
+pub mod EntryText
+pub mod Forms
+pub mod ScriptForm

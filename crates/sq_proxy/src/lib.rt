@@ -1,0 +1,5 @@
+//! The program's commands over files and a sink that are handed in.
+#![tactic(auto)]
+
+mod script_form;
+mod unformed;
