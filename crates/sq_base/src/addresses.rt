@@ -26,6 +26,21 @@ impl Model for Addr {
     ghost inverse = { λ a. record { v6 = a.v6; number = a.number } };
 }
 
+impl Addr {
+    ghost use Rattle.sq_base.specs.Addresses.{is_at_most};
+
+    /// Whether it stands no later than the other.
+    pub fn is_at_most(self, other: Addr) -> bool
+        ensures { result ≡ is_at_most self other }
+    {
+        if self.v6 == other.v6 {
+            self.number <= other.number
+        } else {
+            other.v6
+        }
+    }
+}
+
 /// A list of addresses.
 pub type Addrs = Listed<Addr>;
 
@@ -38,6 +53,17 @@ pub struct Range {
 
 /// A list of ranges.
 pub type Ranges = Listed<Range>;
+
+impl Range {
+    ghost use Rattle.sq_base.specs.Ranges.{in_range};
+
+    /// Whether the address stands in the range.
+    pub fn has(&self, addr: Addr) -> bool
+        ensures { result ≡ in_range self.now addr }
+    {
+        self.first.is_at_most(addr) && addr.is_at_most(self.last)
+    }
+}
 
 impl Copying for Addr {
     fn copy(&self, _alloc: Global) -> Result<Addr, WantOfMemory> {

@@ -1,4 +1,7 @@
 pub mod ConfForm
 pub mod EntryText
 pub mod Forms
+pub mod Machines
 pub mod ScriptForm
+pub mod Seen
+pub mod Tables

@@ -8,14 +8,10 @@ use Rattle.sq_rules.specs.declared.entries.Event.{Event}
 use Rattle.sq_rules.specs.declared.entries.Event.TheVariants.{Begin, Open, Close, Ask, Step, Take}
 use Rattle.sq_rules.specs.declared.entries.Told.{Told}
 use Rattle.sq_rules.specs.declared.entries.Told.TheVariants as told
+use Rattle.sq_rules.specs.declared.sights.Peer.{Peer}
 use Rattle.sq_rules.specs.declared.sights.Sight.{Sight}
 use Rattle.sq_rules.specs.Entries.{Noted, History}
 use Rattle.sq_rules.specs.Sights.{request_of, minute_of_week}
-
--- a client of an open connection
-pub record Peer : Type 0 where
-  pub addr : Address
-  pub port : ℕ
 
 -- the client of connection c after an event, where it was this before
 abbrev pub peer_after : ℕ → Event → Option Peer → Option Peer
@@ -134,7 +130,6 @@ is_number n (Some k) = n == k
 
 abbrev pub open_check_after : History → ℕ → Event → Option ℕ → Option ℕ
 open_check_after h c (Ask d method target fields) before = if d == c then Some (suc (ask_count h)) else before
-open_check_after h c (Open d addr port) before = if d == c then None else before
 open_check_after h c (Take n) before = if is_number c (conn_of h n) then None else before
 open_check_after h c (Close d) before = if d == c then None else before
 open_check_after h c event before = before

@@ -1,6 +1,7 @@
 //! The configuration: acls and rules, with every named place there.
-ghost use Rattle.std.specs.Prelude.{◌≡◌};
+ghost use Rattle.std.specs.Prelude.{◌≡◌, ◌≤◌, length};
 ghost use Rattle.sq_rules.specs.Configurations.{IsConfiguration};
+ghost use Rattle.sq_rules.specs.Limits.{rule_limit};
 
 use crate::leaves::Leaf;
 use sq_base::{Listed, Text};
@@ -89,7 +90,8 @@ impl Config {
 
     /// The rules, in the order of the file.
     pub fn rules(&self) -> &[Rule]
-        ensures { result.now ≡ self.now.rules }
+        ensures rules { result.now ≡ self.now.rules }
+        ensures few { length result.now ≤ rule_limit }
     {
         self.rules.as_slice()
     }

@@ -18,4 +18,4 @@ pub use entries::{Entry, Event, Offset, Told};
 pub use leaves::{Leaf, PortRange, PortRanges};
 pub use outcomes::{Outcome, Why};
 pub use refusals::Refusal;
-pub use sights::Sight;
+pub use sights::{Peer, Sight};
