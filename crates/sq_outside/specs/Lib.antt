@@ -1,0 +1,5 @@
+pub mod Causes
+pub mod Input
+pub mod Memory
+pub mod Output
+pub mod Told
