@@ -40,6 +40,17 @@ fn find_file<'a>(files: &'a [MemFile], name: &[u8]) -> Option<&'a MemFile>
     files.iter().find(|f| f.name.as_bytes() == name)
 }
 
+/// A source of the file's text.
+fn source_of(alloc: Global, file: &MemFile, step: usize) -> Result<MemSource, WantOfMemory>
+    ensures text { IfOk result (λ s. s.text.items ≡ file.now.text) }
+    ensures at { IfOk result (λ s. s.at ≡ 0) }
+    ensures faults { IfOk result (λ s. s.calls.faults ≡ 0) }
+{
+    let text = file.text.copy(alloc)?.into_vec();
+    let fails = Vec::from_slice(alloc, file.fails.as_slice())?;
+    Ok(MemSource::new(text, step, fails))
+}
+
 impl MemFiles {
     /// These files, with room for so many openings, of which the listed ones are to fail.
     pub fn new(
@@ -62,5 +73,47 @@ impl MemFiles {
             step,
             calls: Calls::new(fails),
         })
+    }
+}
+
+impl Files for MemFiles {
+    ghost use Rattle.sq_outside.specs.Memory.{text_at, told_openings};
+
+    type Src = MemSource;
+
+    ghost texts = { λ s. Some (text_at s.files.items) };
+
+    ghost opened = { λ s. Some (told_openings s.openings.items) };
+
+    ghost faults = { λ s. s.calls.faults };
+
+    ghost capped = { λ s. s.calls.capped };
+
+    fn open(&mut self, alloc: Global, name: &Text) -> Result<MemSource, NoOpen> {
+        if self.calls.next().is_err() {
+            return Err(NoOpen::Failed);
+        }
+        match find_file(self.files.as_slice(), name.as_bytes()) {
+            None => Err(NoOpen::Missing),
+            Some(file) => {
+                if self.openings.len() == self.openings.capacity() {
+                    self.calls.raise();
+                    return Err(NoOpen::Failed);
+                }
+                let source = source_of(alloc, file, self.step)?;
+                let opening = MemOpening {
+                    name: name.copy(alloc)?,
+                    text: file.text.copy(alloc)?,
+                };
+                self.openings.push(opening).unwrap();
+                Ok(source)
+            }
+        }
+    }
+
+    fn give_back(&mut self, source: MemSource) {
+        if source.calls.faults > 0 {
+            self.calls.raise();
+        }
     }
 }
