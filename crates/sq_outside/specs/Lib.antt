@@ -2,4 +2,5 @@ pub mod Causes
 pub mod Input
 pub mod Memory
 pub mod Output
+pub mod System
 pub mod Told

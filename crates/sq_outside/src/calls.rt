@@ -11,9 +11,9 @@ pub const COUNT_LIMIT: u64 = 0x7fff_ffff_ffff_ffff;
 /// The count of the calls of an object, the numbers from 1 of those that are to fail, and the count of faults.
 #[derive(Drop)]
 pub struct Calls {
-    pub(crate) made: u64,
-    pub(crate) fails: Vec<u64>,
-    pub(crate) faults: u64,
+    pub made: u64,
+    pub fails: Vec<u64>,
+    pub faults: u64,
     ghost capped: { faults ≤ 2 ^ 63 - 1 },
 }
 

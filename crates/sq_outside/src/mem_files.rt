@@ -1,7 +1,9 @@
 //! `MemFiles`: files in memory.
-ghost use Rattle.std.specs.Prelude.{◌≡◌, ◌+◌, ◌<◌, ◌≤◌, ◌++◌, ◌∷◌, [], length, vec_len, vec_capacity, Some, IfOk, IsErrOf, bytes_eq};
+ghost use Rattle.std.specs.Prelude.{◌≡◌, ◌+◌, ◌<◌, ◌≤◌, [], vec_len, vec_capacity, Some, IfOk, OnErr, IsErrOf, bytes_eq};
 ghost use Rattle.std.specs.List.{find};
 ghost use Rattle.std.specs.Option.{option_copied};
+ghost use Rattle.sq_outside.specs.Causes.{OpenHasCause, TakesBack};
+ghost use Rattle.sq_outside.specs.Told.{GivesText, IsNotTold, Opens};
 
 use crate::calls::Calls;
 use crate::mem_source::MemSource;
@@ -29,8 +31,11 @@ pub struct MemOpening {
 pub struct MemFiles {
     pub(crate) files: Vec<MemFile>,
     pub(crate) openings: Vec<MemOpening>,
+    pub(crate) room: usize,
     pub(crate) step: usize,
     pub(crate) calls: Calls,
+    ghost held: { vec_len openings ≤ room },
+    ghost fits: { room ≤ vec_capacity openings },
 }
 
 /// The first file of this name.
@@ -40,18 +45,24 @@ fn find_file<'a>(files: &'a [MemFile], name: &[u8]) -> Option<&'a MemFile>
     files.iter().find(|f| f.name.as_bytes() == name)
 }
 
-/// A source of the file's text.
-fn source_of(alloc: Global, file: &MemFile, step: usize) -> Result<MemSource, WantOfMemory>
-    ensures text { IfOk result (λ s. s.text.items ≡ file.now.text) }
-    ensures at { IfOk result (λ s. s.at ≡ 0) }
-    ensures faults { IfOk result (λ s. s.calls.faults ≡ 0) }
-{
-    let text = file.text.copy(alloc)?.into_vec();
-    let fails = Vec::from_slice(alloc, file.fails.as_slice())?;
-    Ok(MemSource::new(text, step, fails))
+impl MemFile {
+    ghost use Rattle.sq_outside.specs.Memory.{source_left, source_fails, source_faults};
+
+    /// A source of its text.
+    fn source(&self, alloc: Global, step: usize) -> Result<MemSource, WantOfMemory>
+        ensures left { IfOk result (λ s. source_left s ≡ self.now.text) }
+        ensures fails { IfOk result (λ s. source_fails s ≡ self.now.fails.items) }
+        ensures faults { IfOk result (λ s. source_faults s ≡ 0) }
+    {
+        let text = self.text.copy(alloc)?.into_vec();
+        let fails = Vec::from_slice(alloc, self.fails.as_slice())?;
+        Ok(MemSource::new(text, step, fails))
+    }
 }
 
 impl MemFiles {
+    ghost use Rattle.sq_outside.specs.Memory.{files_list, files_opened, files_room, files_fails, files_faults};
+
     /// These files, with room for so many openings, of which the listed ones are to fail.
     pub fn new(
         alloc: Global,
@@ -60,16 +71,18 @@ impl MemFiles {
         room: usize,
         fails: Vec<u64>,
     ) -> Result<MemFiles, WantOfMemory>
-        ensures files { IfOk result (λ s. s.files.items ≡ files.items) }
-        ensures openings { IfOk result (λ s. s.openings.items ≡ []) }
-        ensures room { IfOk result (λ s. vec_capacity s.openings ≡ room) }
-        ensures fails { IfOk result (λ s. s.calls.fails.items ≡ fails.items) }
-        ensures faults { IfOk result (λ s. s.calls.faults ≡ 0) }
+        ensures files { IfOk result (λ s. files_list s ≡ files.items) }
+        ensures opened { IfOk result (λ s. files_opened s ≡ []) }
+        ensures room { IfOk result (λ s. files_room s ≡ room) }
+        ensures step { IfOk result (λ s. s.step ≡ step) }
+        ensures fails { IfOk result (λ s. files_fails s ≡ fails.items) }
+        ensures faults { IfOk result (λ s. files_faults s ≡ 0) }
     {
         let openings = Vec::with_capacity(alloc, room)?;
         Ok(MemFiles {
             files,
             openings,
+            room,
             step,
             calls: Calls::new(fails),
         })
@@ -77,30 +90,45 @@ impl MemFiles {
 }
 
 impl Files for MemFiles {
-    ghost use Rattle.sq_outside.specs.Memory.{text_at, told_openings};
+    ghost use Rattle.sq_outside.specs.Memory.{source_left, source_fails, source_faults, text_at, fails_at};
+    ghost use Rattle.sq_outside.specs.Memory.{files_list, files_opened, files_room, files_fails, files_faults};
 
     type Src = MemSource;
 
-    ghost texts = { λ s. Some (text_at s.files.items) };
+    ghost texts = { λ s. Some (text_at (files_list s)) };
 
-    ghost opened = { λ s. Some (told_openings s.openings.items) };
+    ghost opened = { λ s. Some (files_opened s) };
 
-    ghost faults = { λ s. s.calls.faults };
+    ghost faults = { files_faults };
 
     ghost capped = { λ s. s.calls.capped };
 
-    fn open(&mut self, alloc: Global, name: &Text) -> Result<MemSource, NoOpen> {
+    fn open(&mut self, alloc: Global, name: &Text) -> Result<MemSource, NoOpen>
+        ensures opened { IfOk result (λ source. GivesText (Some (text_at (files_list self.old))) name.now (Some (source_left source))) }
+        ensures opened_list { Opens (λ source. Some (source_left source)) (Some (files_opened self.old)) (Some (files_opened self.new)) name.now result }
+        ensures fresh { IfOk result (λ source. source_faults source ≡ 0) }
+        ensures missing { IsErrOf result NoOpen.Missing → IsNotTold (Some (text_at (files_list self.old))) name.now }
+        ensures texts { Some (text_at (files_list self.new)) ≡ Some (text_at (files_list self.old)) }
+        ensures cause { OpenHasCause (files_faults self.old) (files_faults self.new) result }
+        // The source fails as its file lists it.
+        ensures reads { IfOk result (λ source. fails_at (files_list self.old) name.now ≡ Some (source_fails source)) }
+        ensures room { IfOk result (λ _. files_room self.new + 1 ≡ files_room self.old) }
+        ensures kept { OnErr result (files_room self.new ≡ files_room self.old) }
+        // With an empty list a call fails only where no room is left.
+        ensures quiet { files_fails self.old ≡ [] → 0 < files_room self.old → files_faults self.new ≡ files_faults self.old }
+        ensures list { files_fails self.new ≡ files_fails self.old }
+    {
         if self.calls.next().is_err() {
             return Err(NoOpen::Failed);
         }
         match find_file(self.files.as_slice(), name.as_bytes()) {
             None => Err(NoOpen::Missing),
             Some(file) => {
-                if self.openings.len() == self.openings.capacity() {
+                if self.openings.len() == self.room {
                     self.calls.raise();
                     return Err(NoOpen::Failed);
                 }
-                let source = source_of(alloc, file, self.step)?;
+                let source = file.source(alloc, self.step)?;
                 let opening = MemOpening {
                     name: name.copy(alloc)?,
                     text: file.text.copy(alloc)?,
@@ -111,7 +139,13 @@ impl Files for MemFiles {
         }
     }
 
-    fn give_back(&mut self, source: MemSource) {
+    fn give_back(&mut self, source: MemSource)
+        ensures texts { Some (text_at (files_list self.new)) ≡ Some (text_at (files_list self.old)) }
+        ensures opened_list { Some (files_opened self.new) ≡ Some (files_opened self.old) }
+        ensures cause { TakesBack (files_faults self.old) (files_faults self.new) (source_faults source) }
+        ensures room { files_room self.new ≡ files_room self.old }
+        ensures list { files_fails self.new ≡ files_fails self.old }
+    {
         if source.calls.faults > 0 {
             self.calls.raise();
         }

@@ -1,5 +1,5 @@
 //! `MemSource`: a source in memory.
-ghost use Rattle.std.specs.Prelude.{◌≡◌, ◌+◌, ◌^◌, ◌<◌, ◌≤◌, [], List, length, take, drop, min, vec_len, Some, IfOk};
+ghost use Rattle.std.specs.Prelude.{◌≡◌, ◌+◌, ◌^◌, ◌<◌, ◌≤◌, [], List, length, take, drop, min, max, vec_len, Some, IfOk};
 ghost use Rattle.std.specs.Io.{ReadsAtMost};
 ghost use Rattle.std.specs.Io.KnownBytes.{ReadConsumes};
 ghost use Rattle.sq_outside.specs.Causes.{HasCause};
@@ -29,12 +29,14 @@ pub struct MemSource {
 }
 
 impl MemSource {
+    ghost use Rattle.sq_outside.specs.Memory.{source_left, source_fails, source_faults};
+
     /// A source of this text, of which the listed reads are to fail. A step of 0 counts as 1.
     pub fn new(text: Vec<u8>, step: usize, fails: Vec<u64>) -> MemSource
-        ensures text { result.text.items ≡ text.items }
-        ensures at { result.at ≡ 0 }
-        ensures fails { result.calls.fails.items ≡ fails.items }
-        ensures faults { result.calls.faults ≡ 0 }
+        ensures left { source_left result ≡ text.items }
+        ensures step { result.step ≡ max step 1 }
+        ensures fails { source_fails result ≡ fails.items }
+        ensures faults { source_faults result ≡ 0 }
     {
         MemSource {
             text,
@@ -46,20 +48,22 @@ impl MemSource {
 }
 
 impl Source for MemSource {
-    ghost left = { λ s. Some (drop s.at s.text.items) };
+    ghost use Rattle.sq_outside.specs.Memory.{source_left, source_gives, source_fails, source_faults};
 
-    ghost faults = { λ s. s.calls.faults };
+    ghost left = { λ s. Some (source_left s) };
+
+    ghost faults = { source_faults };
 
     ghost capped = { λ s. s.calls.capped };
 
     fn read(&mut self, into: &mut [u8]) -> Result<usize, Failed>
         ensures bound { ReadsAtMost result into.new }
-        ensures bytes { ReadConsumes (Some (drop self.old.at self.old.text.items))
-            (Some (drop self.new.at self.new.text.items)) result into.new }
-        ensures cause { HasCause self.old.calls.faults self.new.calls.faults result }
+        ensures bytes { ReadConsumes (Some (source_left self.old)) (Some (source_left self.new)) result into.new }
+        ensures cause { HasCause (source_faults self.old) (source_faults self.new) result }
+        ensures count { IfOk result (λ n. n ≡ source_gives self.old (length into.old)) }
         // With an empty list no call fails.
-        ensures quiet { self.old.calls.fails.items ≡ [] → self.new.calls.faults ≡ self.old.calls.faults }
-        ensures list { self.new.calls.fails.items ≡ self.old.calls.fails.items }
+        ensures quiet { source_fails self.old ≡ [] → source_faults self.new ≡ source_faults self.old }
+        ensures list { source_fails self.new ≡ source_fails self.old }
     {
         self.calls.next()?;
         let (_, left) = self.text.as_slice().split_at(self.at);

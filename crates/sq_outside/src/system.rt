@@ -32,10 +32,12 @@ pub struct RealSource<R> {
 }
 
 impl<R> RealSource<R> {
+    ghost use Rattle.sq_outside.specs.System.{reader_of, reader_faults};
+
     /// A source over this reader, with the count 0.
     pub fn new(inner: R) -> RealSource<R>
-        ensures inner { result.inner ≡ inner }
-        ensures faults { result.faults ≡ 0 }
+        ensures inner { reader_of result ≡ inner }
+        ensures faults { reader_faults result ≡ 0 }
     {
         RealSource { inner, faults: 0 }
     }
@@ -70,10 +72,12 @@ pub struct RealSink<W> {
 }
 
 impl<W> RealSink<W> {
+    ghost use Rattle.sq_outside.specs.System.{writer_of, writer_faults};
+
     /// A sink over this writer, with the count 0.
     pub fn new(inner: W) -> RealSink<W>
-        ensures inner { result.inner ≡ inner }
-        ensures faults { result.faults ≡ 0 }
+        ensures inner { writer_of result ≡ inner }
+        ensures faults { writer_faults result ≡ 0 }
     {
         RealSink { inner, faults: 0 }
     }
@@ -108,9 +112,11 @@ pub struct RealFiles<'a, R> {
 }
 
 impl<'a, R> RealFiles<'a, R> {
+    ghost use Rattle.sq_outside.specs.System.{system_faults};
+
     /// The files of this runtime, with the count 0.
     pub fn new(rt: &'a R) -> RealFiles<'a, R>
-        ensures { result.faults ≡ 0 }
+        ensures { system_faults result ≡ 0 }
     {
         RealFiles { rt, faults: 0 }
     }
