@@ -1,5 +1,5 @@
 -- Parts of texts that were written, one after the other.
-use Rattle.std.proofs.Common.{◌≡◌, ◌⊎◌, inl, inr, ℕ, ◌≤◌, List, [], ◌++◌, append_assoc, append-nil, Result, Ok, Err, OnErr, refl, sym, ap, ◌∙◌}
+use Rattle.std.proofs.Common.{inl, inr, ℕ, ◌≤◌, List, [], ◌++◌, append_assoc, append-nil, Result, Ok, Err, OnErr, refl, sym, ap, ◌∙◌}
 use Rattle.std.specs.declared.option.Option.{Option}
 use Rattle.std.specs.Io.KnownBytes.{Appends}
 use Rattle.std.proofs.KnownBytes.{Appends-trans, Appends-nil}

@@ -8,19 +8,19 @@
 #![tactic(auto)]
 
 mod calls;
+mod input;
 mod mem_files;
 mod mem_sink;
 mod mem_source;
-mod input;
 mod output;
 mod system;
 mod traits;
 
-pub use calls::{Calls, COUNT_LIMIT};
+pub use calls::{COUNT_LIMIT, Calls};
+pub use input::{Unread, read_file, read_whole};
 pub use mem_files::{MemFile, MemFiles, MemOpening};
 pub use mem_sink::MemSink;
 pub use mem_source::MemSource;
-pub use input::{read_file, read_whole, Unread};
 pub use output::{write_all, write_line};
 pub use system::{RealFiles, RealSink, RealSource};
 pub use traits::{Failed, Files, NoOpen, Sink, Source};

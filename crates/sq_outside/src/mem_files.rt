@@ -1,5 +1,5 @@
 //! `MemFiles`: files in memory.
-ghost use Rattle.std.specs.Prelude.{◌≡◌, ◌+◌, ◌<◌, ◌≤◌, [], vec_len, vec_capacity, Some, IfOk, OnErr, IsErrOf, bytes_eq};
+ghost use Rattle.std.specs.Prelude.{◌≡◌, ◌+◌, ◌<◌, ◌≤◌, [], vec_len, vec_capacity, Some, Err, IfNone, IfOk, OnErr, IsErrOf, bytes_eq};
 ghost use Rattle.std.specs.List.{find};
 ghost use Rattle.std.specs.Option.{option_copied};
 ghost use Rattle.sq_outside.specs.Causes.{OpenHasCause, TakesBack};
@@ -110,6 +110,8 @@ impl Files for MemFiles {
         ensures missing { IsErrOf result NoOpen.Missing → IsNotTold (Some (text_at (files_list self.old))) name.now }
         ensures texts { Some (text_at (files_list self.new)) ≡ Some (text_at (files_list self.old)) }
         ensures cause { OpenHasCause (files_faults self.old) (files_faults self.new) result }
+        // With an empty list a file that is not there is missing.
+        ensures absent { files_fails self.old ≡ [] → IfNone (text_at (files_list self.old) name.now) (result ≡ Err NoOpen.Missing) }
         // The source fails as its file lists it.
         ensures reads { IfOk result (λ source. fails_at (files_list self.old) name.now ≡ Some (source_fails source)) }
         ensures room { IfOk result (λ _. files_room self.new + 1 ≡ files_room self.old) }

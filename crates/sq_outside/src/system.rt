@@ -6,9 +6,8 @@ use crate::calls::COUNT_LIMIT;
 use crate::traits::{Failed, Files, NoOpen, Sink, Source};
 use sq_base::Text;
 use std::alloc::Global;
-use std::fs;
 use std::io::{ErrorKind, Read, Write};
-use std::rt;
+use std::{fs, rt};
 
 /// How often a call that was interrupted is made again.
 const TRIES: u32 = 1000;
