@@ -18,6 +18,10 @@ source_left s = drop s.at s.text.items
 abbrev pub source_gives : MemSource → ℕ → ℕ
 source_gives s places = min (min (length (source_left s)) places) s.step
 
+-- at most so many bytes come in a read
+abbrev pub source_step : MemSource → ℕ
+source_step s = s.step
+
 -- the numbers of the reads that are to fail
 abbrev pub source_fails : MemSource → List ℕ
 source_fails s = s.calls.fails.items
@@ -36,6 +40,10 @@ sink_room s = s.room - vec_len s.bytes
 -- how many of so many bytes a write takes, where it does not fail
 abbrev pub sink_takes : MemSink → ℕ → ℕ
 sink_takes s count = min (min count (sink_room s)) s.step
+
+-- at most so many bytes are taken in a write
+abbrev pub sink_step : MemSink → ℕ
+sink_step s = s.step
 
 -- the numbers of the writes that are to fail
 abbrev pub sink_fails : MemSink → List ℕ
@@ -67,6 +75,10 @@ files_opened s = reverse (map told_opening s.openings.items)
 -- for how many more openings there is room
 abbrev pub files_room : MemFiles → ℕ
 files_room s = s.room - vec_len s.openings
+
+-- at most so many bytes come in a read of a source
+abbrev pub files_step : MemFiles → ℕ
+files_step s = s.step
 
 -- the numbers of the openings that are to fail
 abbrev pub files_fails : MemFiles → List ℕ

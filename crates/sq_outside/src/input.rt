@@ -55,7 +55,8 @@ pub fn read_file<F: Files>(
     files: &mut F,
 ) -> Result<Option<Text>, NoOpen>
     ensures text { IfOk result (λ text. ReadsFile limit (F.texts files.old) name.now text) }
-    ensures opened_list { IfOk result (λ text. ReadsOpening limit (F.opened files.old) (F.opened files.new) name.now text) }
+    ensures opened_list { IfOk result (λ text.
+        ReadsOpening limit (F.opened files.old) (F.opened files.new) name.now text) }
     ensures opened_err { OnErr result (OpensAtMost (F.opened files.old) (F.opened files.new) name.now) }
     ensures missing { IsErrOf result NoOpen.Missing → IsNotTold (F.texts files.old) name.now }
     ensures not_opened { IsErrOf result NoOpen.Missing → F.opened files.new ≡ F.opened files.old }

@@ -1,5 +1,5 @@
 //! `MemFiles`: files in memory.
-ghost use Rattle.std.specs.Prelude.{◌≡◌, ◌+◌, ◌<◌, ◌≤◌, [], vec_len, vec_capacity, Some, Err, IfNone, IfOk, OnErr, IsErrOf, bytes_eq};
+ghost use Rattle.std.specs.Prelude.{◌≡◌, ◌+◌, ◌<◌, ◌≤◌, [], max, vec_len, vec_capacity, Some, Err, IfNone, IfOk, OnErr, IsErrOf, bytes_eq};
 ghost use Rattle.std.specs.List.{find};
 ghost use Rattle.std.specs.Option.{option_copied};
 ghost use Rattle.sq_outside.specs.Causes.{OpenHasCause, TakesBack};
@@ -46,11 +46,12 @@ fn find_file<'a>(files: &'a [MemFile], name: &[u8]) -> Option<&'a MemFile>
 }
 
 impl MemFile {
-    ghost use Rattle.sq_outside.specs.Memory.{source_left, source_fails, source_faults};
+    ghost use Rattle.sq_outside.specs.Memory.{source_left, source_step, source_fails, source_faults};
 
     /// A source of its text.
     fn source(&self, alloc: Global, step: usize) -> Result<MemSource, WantOfMemory>
         ensures left { IfOk result (λ s. source_left s ≡ self.now.text) }
+        ensures step { IfOk result (λ s. source_step s ≡ max step 1) }
         ensures fails { IfOk result (λ s. source_fails s ≡ self.now.fails.items) }
         ensures faults { IfOk result (λ s. source_faults s ≡ 0) }
     {
@@ -61,7 +62,7 @@ impl MemFile {
 }
 
 impl MemFiles {
-    ghost use Rattle.sq_outside.specs.Memory.{files_list, files_opened, files_room, files_fails, files_faults};
+    ghost use Rattle.sq_outside.specs.Memory.{files_list, files_opened, files_room, files_step, files_fails, files_faults};
 
     /// These files, with room for so many openings, of which the listed ones are to fail.
     pub fn new(
@@ -74,7 +75,7 @@ impl MemFiles {
         ensures files { IfOk result (λ s. files_list s ≡ files.items) }
         ensures opened { IfOk result (λ s. files_opened s ≡ []) }
         ensures room { IfOk result (λ s. files_room s ≡ room) }
-        ensures step { IfOk result (λ s. s.step ≡ step) }
+        ensures step { IfOk result (λ s. files_step s ≡ step) }
         ensures fails { IfOk result (λ s. files_fails s ≡ fails.items) }
         ensures faults { IfOk result (λ s. files_faults s ≡ 0) }
     {
@@ -90,8 +91,8 @@ impl MemFiles {
 }
 
 impl Files for MemFiles {
-    ghost use Rattle.sq_outside.specs.Memory.{source_left, source_fails, source_faults, text_at, fails_at};
-    ghost use Rattle.sq_outside.specs.Memory.{files_list, files_opened, files_room, files_fails, files_faults};
+    ghost use Rattle.sq_outside.specs.Memory.{source_left, source_step, source_fails, source_faults, text_at, fails_at};
+    ghost use Rattle.sq_outside.specs.Memory.{files_list, files_opened, files_room, files_step, files_fails, files_faults};
 
     type Src = MemSource;
 
@@ -104,21 +105,27 @@ impl Files for MemFiles {
     ghost capped = { λ s. s.calls.capped };
 
     fn open(&mut self, alloc: Global, name: &Text) -> Result<MemSource, NoOpen>
-        ensures opened { IfOk result (λ source. GivesText (Some (text_at (files_list self.old))) name.now (Some (source_left source))) }
-        ensures opened_list { Opens (λ source. Some (source_left source)) (Some (files_opened self.old)) (Some (files_opened self.new)) name.now result }
+        ensures opened { IfOk result (λ source. GivesText (Some (text_at (files_list self.old))) name.now
+            (Some (source_left source))) }
+        ensures opened_list { Opens (λ source. Some (source_left source)) (Some (files_opened self.old))
+            (Some (files_opened self.new)) name.now result }
         ensures fresh { IfOk result (λ source. source_faults source ≡ 0) }
         ensures missing { IsErrOf result NoOpen.Missing → IsNotTold (Some (text_at (files_list self.old))) name.now }
         ensures texts { Some (text_at (files_list self.new)) ≡ Some (text_at (files_list self.old)) }
         ensures cause { OpenHasCause (files_faults self.old) (files_faults self.new) result }
         // With an empty list a file that is not there is missing.
-        ensures absent { files_fails self.old ≡ [] → IfNone (text_at (files_list self.old) name.now) (result ≡ Err NoOpen.Missing) }
+        ensures absent { files_fails self.old ≡ [] → IfNone (text_at (files_list self.old) name.now)
+            (result ≡ Err NoOpen.Missing) }
         // The source fails as its file lists it.
         ensures reads { IfOk result (λ source. fails_at (files_list self.old) name.now ≡ Some (source_fails source)) }
+        ensures reads_step { IfOk result (λ source. source_step source ≡ max (files_step self.old) 1) }
         ensures room { IfOk result (λ _. files_room self.new + 1 ≡ files_room self.old) }
         ensures kept { OnErr result (files_room self.new ≡ files_room self.old) }
         // With an empty list a call fails only where no room is left.
-        ensures quiet { files_fails self.old ≡ [] → 0 < files_room self.old → files_faults self.new ≡ files_faults self.old }
+        ensures quiet { files_fails self.old ≡ [] → 0 < files_room self.old
+            → files_faults self.new ≡ files_faults self.old }
         ensures list { files_fails self.new ≡ files_fails self.old }
+        ensures step { files_step self.new ≡ files_step self.old }
     {
         if self.calls.next().is_err() {
             return Err(NoOpen::Failed);
@@ -147,6 +154,7 @@ impl Files for MemFiles {
         ensures cause { TakesBack (files_faults self.old) (files_faults self.new) (source_faults source) }
         ensures room { files_room self.new ≡ files_room self.old }
         ensures list { files_fails self.new ≡ files_fails self.old }
+        ensures step { files_step self.new ≡ files_step self.old }
     {
         if source.calls.faults > 0 {
             self.calls.raise();

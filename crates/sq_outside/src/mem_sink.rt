@@ -22,7 +22,7 @@ pub struct MemSink {
 }
 
 impl MemSink {
-    ghost use Rattle.sq_outside.specs.Memory.{sink_bytes, sink_room, sink_fails, sink_faults};
+    ghost use Rattle.sq_outside.specs.Memory.{sink_bytes, sink_room, sink_step, sink_fails, sink_faults};
 
     /// A sink with this room, of which the listed writes are to fail. A step of 0 counts as 1.
     pub fn new(
@@ -33,7 +33,7 @@ impl MemSink {
     ) -> Result<MemSink, WantOfMemory>
         ensures empty { IfOk result (λ s. sink_bytes s ≡ []) }
         ensures room { IfOk result (λ s. sink_room s ≡ room) }
-        ensures step { IfOk result (λ s. s.step ≡ max step 1) }
+        ensures step { IfOk result (λ s. sink_step s ≡ max step 1) }
         ensures fails { IfOk result (λ s. sink_fails s ≡ fails.items) }
         ensures faults { IfOk result (λ s. sink_faults s ≡ 0) }
     {
@@ -55,7 +55,7 @@ impl MemSink {
 }
 
 impl Sink for MemSink {
-    ghost use Rattle.sq_outside.specs.Memory.{sink_bytes, sink_room, sink_takes, sink_fails, sink_faults};
+    ghost use Rattle.sq_outside.specs.Memory.{sink_bytes, sink_room, sink_takes, sink_step, sink_fails, sink_faults};
 
     ghost contents = { λ s. Some (sink_bytes s) };
 
@@ -74,6 +74,7 @@ impl Sink for MemSink {
         // With an empty list a call fails only where no room is left.
         ensures quiet { sink_fails self.old ≡ [] → 0 < sink_room self.old → sink_faults self.new ≡ sink_faults self.old }
         ensures list { sink_fails self.new ≡ sink_fails self.old }
+        ensures step { sink_step self.new ≡ sink_step self.old }
     {
         self.calls.next()?;
         let room = self.room - self.bytes.len();

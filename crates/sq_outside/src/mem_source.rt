@@ -29,12 +29,12 @@ pub struct MemSource {
 }
 
 impl MemSource {
-    ghost use Rattle.sq_outside.specs.Memory.{source_left, source_fails, source_faults};
+    ghost use Rattle.sq_outside.specs.Memory.{source_left, source_step, source_fails, source_faults};
 
     /// A source of this text, of which the listed reads are to fail. A step of 0 counts as 1.
     pub fn new(text: Vec<u8>, step: usize, fails: Vec<u64>) -> MemSource
         ensures left { source_left result ≡ text.items }
-        ensures step { result.step ≡ max step 1 }
+        ensures step { source_step result ≡ max step 1 }
         ensures fails { source_fails result ≡ fails.items }
         ensures faults { source_faults result ≡ 0 }
     {
@@ -48,7 +48,7 @@ impl MemSource {
 }
 
 impl Source for MemSource {
-    ghost use Rattle.sq_outside.specs.Memory.{source_left, source_gives, source_fails, source_faults};
+    ghost use Rattle.sq_outside.specs.Memory.{source_left, source_gives, source_step, source_fails, source_faults};
 
     ghost left = { λ s. Some (source_left s) };
 
@@ -64,6 +64,7 @@ impl Source for MemSource {
         // With an empty list no call fails.
         ensures quiet { source_fails self.old ≡ [] → source_faults self.new ≡ source_faults self.old }
         ensures list { source_fails self.new ≡ source_fails self.old }
+        ensures step { source_step self.new ≡ source_step self.old }
     {
         self.calls.next()?;
         let (_, left) = self.text.as_slice().split_at(self.at);
