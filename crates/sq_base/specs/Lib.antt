@@ -2,5 +2,6 @@ pub mod Addresses
 pub mod Decimals
 pub mod Distinct
 pub mod Escapes
+pub mod Ranges
 pub mod Requests
 pub mod Targets
