@@ -1,5 +1,5 @@
 -- The numbers that the standard library's addresses give are those of the texts.
-use Rattle.std.proofs.Common.{◌≡◌, ℕ, ◌+◌, ◌-◌, ◌*◌, ◌++◌, List, [], ◌∷◌, inl, inr, length, get_or, replicate, Option, Some, None, arith, refl, sym, ◌∙◌, ap, length-append}
+use Rattle.std.proofs.Common.{◌≡◌, ℕ, ◌+◌, ◌*◌, List, [], ◌∷◌, inl, inr, length, get_or, Option, Some, None, arith, refl, sym, ◌∙◌, ap, length-append}
 use Rattle.std.proofs.lemmas.List.{length-replicate}
 use Rattle.std.proofs.NetLemmas.Arrays.{eight_items}
 use Rattle.std.specs.Net.Addr.{ipv4_octets, ipv6_segments}

@@ -13,7 +13,10 @@ pub fn read_range(text: &[u8]) -> Result<Range, BadAddress>
 {
     if text == b"all".as_slice() {
         return Ok(Range {
-            first: Addr { v6: false, number: 0 },
+            first: Addr {
+                v6: false,
+                number: 0,
+            },
             last: Addr {
                 v6: true,
                 number: u128::MAX,

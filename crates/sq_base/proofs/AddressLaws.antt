@@ -1,6 +1,5 @@
 -- The address of a text is the one that the text spells, and what is printed reads back.
-use Rattle.std.proofs.Common.{◌≡◌, ℕ, zero, suc, ◌+◌, ◌-◌, ◌*◌, ◌/◌, ◌%◌, ◌^◌, ◌<◌, ◌≤◌, ◌⊎◌, inl, inr, Bool, true, false, List, [], ◌∷◌, ◌++◌, length, get_or, Option, Some, None, option_map, nat_lt, arith, refl, sym, ◌∙◌, ap, subst, lit≤, zero-add, eqb-true, ltb-true}
-use Rattle.std.proofs.lemmas.Bool.Decides.{nat_tests}
+use Rattle.std.proofs.Common.{◌≡◌, ℕ, zero, suc, ◌+◌, ◌*◌, ◌/◌, ◌%◌, ◌^◌, ◌<◌, inl, inr, Bool, true, false, List, [], ◌∷◌, ◌++◌, get_or, Option, Some, None, option_map, arith, refl, sym, ◌∙◌, ap, subst, lit≤, zero-add, eqb-true, ltb-true}
 use Rattle.std.proofs.lemmas.Option.{none-some, same_Some}
 use Rattle.std.proofs.Math.Nat.{div-div-eq-div-mul}
 use Rattle.std.proofs.NetLemmas.Ipv4.{read_ipv4_complete, read_ipv4_sound}
@@ -9,7 +8,7 @@ use Rattle.std.proofs.NetLemmas.Options.{cond_some, map_some}
 use Rattle.std.proofs.NetLemmas.Texts.{IsDotted-ipv4_text, IsColonHex-hex_groups_text}
 use Rattle.std.specs.Net.Grammar.{IsDotted, IsColonHex}
 use Rattle.std.specs.Net.Reader.{read_ipv4, read_ipv6, whole_value}
-use Rattle.sq_base.specs.Addresses.{Address, v4, v6, IsAddress, number_on, of_octets, of_groups, Spells, v4_of, v6_of, either_of, address_of, four_octets, eight_groups, v4_text, v6_text, address_text}
+use Rattle.sq_base.specs.Addresses.{Address, v4, v6, IsAddress, number_on, Spells, v4_of, v6_of, either_of, address_of, four_octets, eight_groups, v4_text, v6_text, address_text}
 
 append-none : {A : Type 0} (xs : List A) → xs ++ [] ≡ xs
 append-none [] = refl

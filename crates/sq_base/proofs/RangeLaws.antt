@@ -1,11 +1,11 @@
 -- Blocks of addresses stay within the addresses of their kind.
-use Rattle.std.proofs.Common.{◌≡◌, ℕ, zero, suc, ◌+◌, ◌-◌, ◌*◌, ◌/◌, ◌%◌, ◌^◌, ◌<◌, ◌≤◌, Bool, true, false, List, Option, Some, None, nat_lt, arith, refl, sym, ◌∙◌, ap, subst, eqb-true, ltb-true, lt-ltb, count_ones, mul_comm, mul-add, mul-one, inl, inr}
+use Rattle.std.proofs.Common.{◌≡◌, ℕ, zero, suc, ◌+◌, ◌-◌, ◌*◌, ◌/◌, ◌%◌, ◌^◌, ◌<◌, ◌≤◌, Bool, true, false, List, Option, Some, None, arith, refl, sym, ◌∙◌, ap, subst, eqb-true, ltb-true, lt-ltb, count_ones, mul_comm, mul-add, mul-one, inl, inr}
 use Rattle.std.proofs.lemmas.Bool.{cases_eq, cases_lt}
 use Rattle.std.proofs.Math.Pow.{pow-lt}
 use Rattle.std.proofs.lemmas.Nat.{pow-add, zero_from_ones, ones-le, mul-le}
 use Rattle.std.specs.Int.Count.{ones_step}
 use Rattle.std.proofs.lemmas.Option.{none-some, same_Some, cond_some}
-use Rattle.std.proofs.Math.Nat.{div-lt_iff_lt-mul, div-add-mod, mod-lt, pow-succ'}
+use Rattle.std.proofs.Math.Nat.{div-lt_iff_lt-mul, div-add-mod, pow-succ'}
 use Rattle.std.specs.Int.{is_power_of_two}
 use Rattle.sq_base.specs.Addresses.{Address, IsAddress, v4_of}
 use Rattle.sq_base.specs.Decimals.{number_of}

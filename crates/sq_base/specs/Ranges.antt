@@ -1,6 +1,6 @@
 -- Ranges of addresses, as the acl types src and dst of Squid's configuration reference have them: one
 -- address, a block `ADDR/N` or `ADDR/MASK`, a span `ADDR-ADDR`, and `all`.
-use Rattle.std.specs.Prelude.{◌≡◌, ℕ, ◌+◌, ◌-◌, ◌*◌, ◌%◌, ◌^◌, List, Bool, true, false, not, if◌then◌else◌, ◌&&◌, ◌==◌, nat_le, Some, None, take, drop, codes, bytes_eq}
+use Rattle.std.specs.Prelude.{◌≡◌, ℕ, ◌+◌, ◌-◌, ◌*◌, ◌%◌, ◌^◌, List, Bool, false, not, if◌then◌else◌, ◌&&◌, ◌==◌, nat_le, Some, None, take, drop, codes, bytes_eq}
 use Rattle.std.specs.Int.{is_power_of_two}
 use Rattle.std.specs.List.{position}
 use Rattle.std.specs.Option.{option_map}

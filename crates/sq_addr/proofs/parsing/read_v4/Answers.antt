@@ -1,4 +1,3 @@
-use Rattle.std.proofs.Common.{sym, ap, ◌∙◌, get_or}
 use Rattle.sq_addr.proofs.ReadLaws.{v4_found, v4_absent}
 use Rattle.sq_addr.proofs.parsing.read_v4.Goals as goal
 
