@@ -1,4 +1,4 @@
+pub mod Causing
 pub mod Opening
 pub mod Places
-pub mod Causing
 pub mod Writing

@@ -3,7 +3,8 @@
 //! `Source`, `Sink` and `Files` say what an object's calls do to what it tells: the bytes that it has
 //! left, those that were written, the text of each name and the openings. A call answers a fault only
 //! where the object's count rose. Each has a form in memory, which tells all and fails where a list
-//! says so, and an adapter over the system's, which tells nothing and is the trusted edge.
+//! says so, and an adapter over std's reader, writer or files, which tells what those tell (the
+//! system's tell nothing) and is the trusted edge.
 //! `read_whole`, `read_file`, `write_all` and `write_line` read and write whole texts.
 #![tactic(auto)]
 
