@@ -1,0 +1,68 @@
+-- Laws of the readings of a history.
+use Rattle.std.proofs.Common.{◌≡◌, ℕ, ◌<◌, ◌≤◌, List, [], ◌∷◌, Bool, true, false, ◌==◌, ◌&&◌, Some, None, suc, zero, refl, arith, ap, ◌∙◌, ◌⊎◌, inl, inr, if◌then◌else◌, nat_le}
+use Rattle.std.proofs.lemmas.Bool.Decides.{nat_tests}
+use Rattle.std.specs.Option.{option_or}
+use Rattle.std.specs.declared.option.Option.{Option}
+use Rattle.sq_rules.specs.declared.entries.Event.{Event}
+use Rattle.sq_rules.specs.declared.entries.Event.TheVariants.{Begin, Open, Close, Ask, Step, Take}
+use Rattle.sq_rules.specs.declared.entries.Told.{Told}
+use Rattle.sq_rules.specs.declared.entries.Told.TheVariants as told
+use Rattle.sq_rules.specs.Entries.{Noted, History}
+use Rattle.sq_rules.specs.Readings.{ask_of, ask_count, asked_at, numbered, conn_of, check_open, is_open_on, is_done, done_after, count_after}
+
+-- no check has this number yet
+pub record IsUnborn (n count : ℕ) : Type 0 where
+  pub unborn : (n ≡ 0) ⊎ (count < n)
+
+later-unborn : (n count : ℕ) → (n ≡ 0) ⊎ (suc count < n) → IsUnborn n count
+later-unborn n count (inl e) = record { unborn = inl e }
+later-unborn n count (inr l) = record { unborn = inr (omega arith) }
+
+not-next : (n count : ℕ) → (n ≡ 0) ⊎ (suc count < n) → (n == suc count) ≡ false
+not-next n count (inl e) = grind (arith, nat_tests)
+not-next n count (inr l) = grind (arith, nat_tests)
+
+ask_of-after : (h : History) (moment : ℕ) (event : Event) (n : ℕ) → (IsUnborn n (ask_count h) → ask_of h n ≡ None)
+    → IsUnborn n (count_after event (ask_count h)) → option_or (numbered n (ask_count h) (asked_at h moment event)) (ask_of h n) ≡ None
+ask_of-after h moment (Ask c method target fields) n before u =
+    rw (not-next n (ask_count h) u.unborn) (before (later-unborn n (ask_count h) u.unborn))
+ask_of-after h moment (Begin offset) n before u = before u
+ask_of-after h moment (Open c addr port) n before u = before u
+ask_of-after h moment (Close c) n before u = before u
+ask_of-after h moment (Step k) n before u = before u
+ask_of-after h moment (Take k) n before u = before u
+
+past : (n count : ℕ) → (n ≡ 0) ⊎ (count < n) → (n ≡ 0 → ⊥) → nat_le n count ≡ false
+past n count (inl e) pos = absurd (pos e)
+past n count (inr l) pos = grind (arith, nat_tests)
+
+-- a check that was not born was not asked for
+pub ask_of-unborn : (h : History) (n : ℕ) → IsUnborn n (ask_count h) → ask_of h n ≡ None
+ask_of-unborn [] n u = refl
+ask_of-unborn (e ∷ h) n u = ask_of-after h e.moment e.event n (ask_of-unborn h n) u
+
+-- nor is it open
+pub check_open-unborn : (h : History) (n : ℕ) → IsUnborn n (ask_count h) → check_open h n ≡ false
+check_open-unborn h n u = rw (ask_of-unborn h n u) refl
+
+guarded : (a b : Bool) (before : Bool) → b ≡ false → before ≡ false → (if a && b then true else before) ≡ false
+guarded true b before p q = rw p q
+guarded false b before p q = q
+
+is_done-after : (h : History) (event : Event) (answer : Told) (n : ℕ) → (IsUnborn n (ask_count h) → is_done h n ≡ false)
+    → IsUnborn n (count_after event (ask_count h)) → (n ≡ 0 → ⊥) → done_after h n event answer (is_done h n) ≡ false
+is_done-after h (Ask c method target fields) answer n before u pos = before (later-unborn n (ask_count h) u.unborn)
+is_done-after h (Begin offset) answer n before u pos = before u
+is_done-after h (Open c addr port) answer n before u pos = before u
+is_done-after h (Close c) answer n before u pos = before u
+is_done-after h (Step k) told.Done n before u pos = guarded (n == k) (nat_le n (ask_count h)) (is_done h n) (past n (ask_count h) u.unborn pos) (before u)
+is_done-after h (Step k) (told.Epoch e) n before u pos = before u
+is_done-after h (Step k) told.Fine n before u pos = before u
+is_done-after h (Step k) (told.Check c) n before u pos = before u
+is_done-after h (Step k) (told.Judged e o) n before u pos = before u
+is_done-after h (Take k) answer n before u pos = before u
+
+-- nor did a step of it say that it is done
+pub is_done-unborn : (h : History) (n : ℕ) → IsUnborn n (ask_count h) → (n ≡ 0 → ⊥) → is_done h n ≡ false
+is_done-unborn [] n u pos = refl
+is_done-unborn (e ∷ h) n u pos = is_done-after h e.event e.answer n (λ v. is_done-unborn h n v pos) u pos
