@@ -1,5 +1,7 @@
 //! The program's commands over files and a sink that are handed in.
 #![tactic(auto)]
 
+mod pieces;
 mod script_form;
+mod targets;
 mod unformed;

@@ -1,0 +1,37 @@
+-- Texts that are cut at one byte.
+use Rattle.std.proofs.Common.{◌≡◌, ℕ, ◌+◌, ◌<◌, ◌≤◌, List, [], ◌∷◌, Bool, true, false, ◌==◌, length, take, drop, get_or, refl, sym, ◌∙◌, ap, arith, Some, Bor, Option}
+use Rattle.std.proofs.lemmas.List.{drop-drop}
+use Rattle.std.proofs.lemmas.List.Splits.{slice_split_none, slice_split_first, length-slice_split}
+use Rattle.std.proofs.lemmas.List.Sums.{position_or_len_is}
+use Rattle.std.proofs.lemmas.Grind.{get_or_default_zero}
+use Rattle.std.specs.List.{All, slice_split, position_or_len, count_by}
+use Rattle.memchr.specs.Find.{IsFirst, Nowhere, NoneBefore, Passes, is_byte}
+use Rattle.sq_proxy.specs.Cuts.{pieces_left}
+
+not_true : (b : Bool) → ¬ (b ≡ true) → b ≡ false
+not_true true h = absurd (h refl)
+not_true false h = refl
+
+-- where the byte stands first, the text is cut
+pub cut_at : (byte : ℕ) (text : List ℕ) (k : ℕ) → NoneBefore (Passes (is_byte byte) text) 0 (length text) k × Passes (is_byte byte) text k
+    → slice_split (λ b. b == byte) text ≡ take k text ∷ slice_split (λ b. b == byte) (drop 1 (drop k text))
+cut_at byte text k h =
+    let bound : k < length text = omega (arith, h.0.high) in
+    let at : position_or_len (λ b. b == byte) text ≡ k =
+    position_or_len_is (λ b. b == byte) text k 0 (omega (arith, bound)) (λ j below. not_true _ (h.0.before j (omega arith) below)) (λ _. h.1) in
+    let first = slice_split_first (λ b. b == byte) text 0 (omega (arith, at, bound)) in
+    first ∙ rw (at, drop-drop 1 k text) refl
+
+-- where the byte stands nowhere, the text is its one piece
+pub cut_nowhere : (byte : ℕ) (text : List ℕ) → Nowhere (Passes (is_byte byte) text) 0 (length text)
+    → slice_split (λ b. b == byte) text ≡ text ∷ []
+cut_nowhere byte text h =
+    slice_split_none (λ b. b == byte) text (λ k d below. rw (get_or_default_zero text k d below) (not_true _ (h k (omega arith) below)))
+
+-- there is always a piece
+pub pieces_stand : (byte : ℕ) (rest : Option (Bor (List ℕ))) (text : Bor (List ℕ)) (left : List (List ℕ)) → pieces_left byte rest ≡ left → rest ≡ Some text
+    → false ≡ (length left == 0)
+pieces_stand byte rest text left e is =
+    let cut : slice_split (λ b. b == byte) text.now ≡ left = sym (ap (pieces_left byte) is) ∙ e in
+    let count : length left ≡ count_by (λ b. b == byte) text.now + 1 = sym (ap length cut) ∙ length-slice_split (λ b. b == byte) text.now in
+    grind (arith, count)
