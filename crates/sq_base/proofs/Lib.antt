@@ -1,3 +1,4 @@
 pub mod AddressLaws
 pub mod DistinctLaws
 pub mod NumberLaws
+pub mod RangeLaws

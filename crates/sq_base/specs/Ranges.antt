@@ -1,6 +1,6 @@
 -- Ranges of addresses, as the acl types src and dst of Squid's configuration reference have them: one
 -- address, a block `ADDR/N` or `ADDR/MASK`, a span `ADDR-ADDR`, and `all`.
-use Rattle.std.specs.Prelude.{ℕ, ◌+◌, ◌-◌, ◌%◌, ◌^◌, List, Bool, true, false, not, if◌then◌else◌, ◌&&◌, ◌==◌, nat_le, Some, None, take, drop, codes, bytes_eq}
+use Rattle.std.specs.Prelude.{◌≡◌, ℕ, ◌+◌, ◌-◌, ◌*◌, ◌%◌, ◌^◌, List, Bool, true, false, not, if◌then◌else◌, ◌&&◌, ◌==◌, nat_le, Some, None, take, drop, codes, bytes_eq}
 use Rattle.std.specs.Int.{is_power_of_two}
 use Rattle.std.specs.List.{position}
 use Rattle.std.specs.Option.{option_map}
@@ -68,3 +68,7 @@ is_dash b = b == 45
 -- the range with this text
 unfoldable pub range_of : List ℕ → Option Range
 range_of text = if bytes_eq text (codes "all") then Some all_addresses else range_at text (position is_slash text) (position is_dash text)
+
+-- the one divides the other
+abbrev pub Divides : ℕ → ℕ → Type 0
+Divides size total = (count : ℕ) × (size * count ≡ total)
