@@ -22,6 +22,7 @@ pub fn read_conf(alloc: Global, text: Text) -> Result<Config, Unformed>
 }
 
 // What the lines of a text state.
+#[tactic(auto, using(crate::proofs::FormLaws::last_line, crate::proofs::FormLaws::open_line, crate::proofs::FormLaws::next_line))]
 fn stated(alloc: Global, text: &[u8]) -> Result<Draft, Unformed>
     ensures { Gives (λ d. d) result (over_lines conf_line nothing_stated (slice_split is_newline text.now)) }
 {
@@ -96,6 +97,7 @@ fn rule_line(alloc: Global, draft: &mut Draft, words: &mut Pieces) -> Result<(),
 }
 
 // Terms of acls that stand.
+#[tactic(auto, using(crate::proofs::FormLaws::no_word, crate::proofs::FormLaws::some_word))]
 fn terms(alloc: Global, draft: &Draft, words: &mut Pieces) -> Result<Terms, Unformed>
     ensures read { Gives (λ t. t) result (some_of (term_of draft.now.acls) words.old) }
     ensures known { IfOk result (λ terms. list_all (λ t. nat_lt t.acl (length draft.now.acls)) terms ≡ true) }

@@ -30,6 +30,7 @@ pub fn leaf(alloc: Global, name: &[u8], words: &mut Pieces) -> Result<Leaf, Unfo
     Err(Unformed::Outside)
 }
 
+#[tactic(auto, using(crate::proofs::FormLaws::no_word, crate::proofs::FormLaws::some_word))]
 fn src_values(alloc: Global, words: &mut Pieces) -> Result<Ranges, Unformed>
     ensures { Gives (λ v. v) result (some_of src_value words.old) }
 {
@@ -43,6 +44,7 @@ fn src_values(alloc: Global, words: &mut Pieces) -> Result<Ranges, Unformed>
     Ok(values)
 }
 
+#[tactic(auto, using(crate::proofs::FormLaws::no_word, crate::proofs::FormLaws::some_word))]
 fn port_values(alloc: Global, words: &mut Pieces) -> Result<PortRanges, Unformed>
     ensures { Gives (λ v. v) result (some_of port_value words.old) }
 {
@@ -56,6 +58,7 @@ fn port_values(alloc: Global, words: &mut Pieces) -> Result<PortRanges, Unformed
     Ok(values)
 }
 
+#[tactic(auto, using(crate::proofs::FormLaws::no_word, crate::proofs::FormLaws::some_word))]
 fn method_values(alloc: Global, words: &mut Pieces) -> Result<Texts, Unformed>
     ensures { Gives (λ v. v) result (some_of method_value words.old) }
 {

@@ -45,8 +45,10 @@ impl Draft {
         ensures { result ≡ place_of self.now.acls name.now }
     {
         let acls = self.acls.as_slice();
-        let place = acls.iter().position(|acl| acl.name.as_bytes() == name)?;
-        Some(place as u32)
+        match acls.iter().position(|acl| acl.name.as_bytes() == name) {
+            None => None,
+            Some(place) => Some(place as u32),
+        }
     }
 
     /// Whether one acl more may stand.

@@ -25,7 +25,7 @@ pub struct Dated {
 }
 
 /// The lines of a script.
-#[tactic(auto, unfolding(crate::specs::ScriptForm::script_in))]
+#[tactic(auto, using(crate::proofs::FormLaws::last_line, crate::proofs::FormLaws::open_line, crate::proofs::FormLaws::next_line), unfolding(crate::specs::ScriptForm::script_in))]
 pub fn read_script(alloc: Global, text: &[u8]) -> Result<Listed<Dated>, Unformed>
     ensures { Gives (λ s. s) result (script_in text.now) }
 {
