@@ -1,10 +1,12 @@
 -- Texts that are cut at one byte.
-use Rattle.std.proofs.Common.{◌≡◌, ℕ, ◌+◌, ◌<◌, ◌≤◌, List, [], ◌∷◌, Bool, true, false, ◌==◌, length, take, drop, get_or, refl, sym, ◌∙◌, ap, arith, Some, Bor, Option}
+use Rattle.std.proofs.Common.{◌≡◌, ℕ, ◌+◌, ◌<◌, ◌≤◌, List, [], ◌∷◌, Bool, true, false, ◌==◌, length, take, drop, get_or, refl, sym, ◌∙◌, ap, arith, Some, None, Bor, Option, nat_lt, cond}
+use Rattle.std.proofs.Math.ListN.{drop_of_length-le}
+use Rattle.std.proofs.lemmas.Bool.Decides.{nat_tests}
 use Rattle.std.proofs.lemmas.List.{drop-drop}
 use Rattle.std.proofs.lemmas.List.Splits.{slice_split_none, slice_split_first, length-slice_split}
 use Rattle.std.proofs.lemmas.List.Sums.{position_or_len_is}
 use Rattle.std.proofs.lemmas.Grind.{get_or_default_zero}
-use Rattle.std.specs.List.{All, slice_split, position_or_len, count_by}
+use Rattle.std.specs.List.{All, slice_split, position, position_or_len, count_by, after_first}
 use Rattle.memchr.specs.Find.{IsFirst, Nowhere, NoneBefore, Passes, is_byte}
 use Rattle.sq_proxy.specs.Cuts.{pieces_left}
 
@@ -35,3 +37,27 @@ pieces_stand byte rest text left e is =
     let cut : slice_split (λ b. b == byte) text.now ≡ left = sym (ap (pieces_left byte) is) ∙ e in
     let count : length left ≡ count_by (λ b. b == byte) text.now + 1 = sym (ap length cut) ∙ length-slice_split (λ b. b == byte) text.now in
     grind (arith, count)
+
+some_cond : (b : Bool) (n k : ℕ) → Some k ≡ cond b (Some n) None → k ≡ n
+some_cond true n k e = cc
+some_cond false n k e = cc
+
+none_cond : (b : Bool) (n : ℕ) → None ≡ cond b (Some n) None → b ≡ false
+none_cond true n e = cc
+none_cond false n e = refl
+
+-- what stands behind the first place
+pub behind_some : {X : Type 0} (p : X → Bool) (xs : List X) (k : ℕ) → Some k ≡ position p xs → drop (k + 1) xs ≡ after_first p xs
+behind_some p xs k e = ap (λ n. drop (n + 1) xs) (some_cond (nat_lt (position_or_len p xs) (length xs)) (position_or_len p xs) k e)
+
+-- where there is no such place, each element stands before it
+pub no_place : {X : Type 0} (p : X → Bool) (xs : List X) → None ≡ position p xs → length xs ≤ position_or_len p xs
+no_place p xs e =
+    let past : nat_lt (position_or_len p xs) (length xs) ≡ false = none_cond (nat_lt (position_or_len p xs) (length xs)) (position_or_len p xs) e in
+    grind (arith, nat_tests)
+
+-- and nothing stands behind it
+pub behind_none : {X : Type 0} (p : X → Bool) (xs : List X) → None ≡ position p xs → [] ≡ after_first p xs
+behind_none p xs e =
+    let over : length xs ≤ position_or_len p xs + 1 = omega (arith, no_place p xs e) in
+    sym (drop_of_length-le xs over)

@@ -1,3 +1,4 @@
 pub mod CutLaws
+pub mod DraftLaws
 pub mod FormLaws
 pub mod PortLaws

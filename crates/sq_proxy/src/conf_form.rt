@@ -1,7 +1,7 @@
 //! The reader of configurations of the form that is built: lines `acl` and `http_access`.
 ghost use Rattle.std.specs.Prelude.{◌≡◌, ◌==◌, true, length, nat_lt, bytes_eq, IfOk};
 ghost use Rattle.std.specs.List.{slice_split, list_all, list_any};
-ghost use Rattle.sq_proxy.specs.ConfForm.{is_name, is_name_byte, predefined, acl_line, rule_line, conf_line, conf_in, term_of, action_of, nothing_stated};
+ghost use Rattle.sq_proxy.specs.ConfForm.{is_name, is_name_byte, predefined, acl_line, rule_line, conf_line, conf_in, place_of, term_at, term_of, action_of, nothing_stated};
 ghost use Rattle.sq_proxy.specs.Forms.{Gives, Makes, some_of, over_lines, is_newline, is_space};
 
 use crate::conf_values::leaf;
@@ -118,10 +118,23 @@ fn term(draft: &Draft, word: &[u8]) -> Result<Term, Unformed>
     ensures read { Gives (λ t. t) result (term_of draft.now.acls word.now) }
     ensures known { IfOk result (λ t. nat_lt t.acl (length draft.now.acls) ≡ true) }
 {
-    let (negated, name) = match word {
-        [b'!', name @ ..] => (true, name),
-        _ => (false, word),
-    };
+    match word {
+        [] => Err(Unformed::Outside),
+        [first, name @ ..] => {
+            if *first == b'!' {
+                term_at(draft, true, name)
+            } else {
+                term_at(draft, false, word)
+            }
+        }
+    }
+}
+
+// The acl of this name, negated or not.
+fn term_at(draft: &Draft, negated: bool, name: &[u8]) -> Result<Term, Unformed>
+    ensures read { Gives (λ t. t) result (term_at negated (place_of draft.now.acls name.now)) }
+    ensures known { IfOk result (λ t. nat_lt t.acl (length draft.now.acls) ≡ true) }
+{
     match draft.place(name) {
         Some(acl) => Ok(Term { acl, negated }),
         None => Err(Unformed::Outside),

@@ -1,6 +1,6 @@
 //! Values of acls: blocks of addresses, ports and methods.
 ghost use Rattle.std.specs.Prelude.{◌≡◌, ◌==◌, ◌||◌};
-ghost use Rattle.std.specs.List.{list_all, list_any, after_first};
+ghost use Rattle.std.specs.List.{list_all, list_any, position, after_first};
 ghost use Rattle.std.specs.Char.{is_ascii_uppercase};
 ghost use Rattle.sq_base.specs.Ranges.{is_slash};
 ghost use Rattle.sq_proxy.specs.ConfForm.{src_value, port_value, method_value, leaf_of, is_block_byte};
@@ -136,8 +136,17 @@ fn has_dot(word: &[u8]) -> bool
 fn behind_slash(word: &[u8]) -> &[u8]
     ensures { result.now ≡ after_first is_slash word.now }
 {
-    match word.iter().position(|&byte| byte == b'/') {
-        Some(place) => &word[place + 1..],
-        None => &word[word.len()..],
+    match slash_place(word) {
+        Some(place) => {
+            let (_, behind) = word.split_at(place + 1);
+            behind
+        }
+        None => b"".as_slice(),
     }
+}
+
+fn slash_place(word: &[u8]) -> Option<usize>
+    ensures { result ≡ position is_slash word.now }
+{
+    word.iter().position(|&byte| byte == b'/')
 }

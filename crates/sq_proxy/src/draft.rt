@@ -44,8 +44,7 @@ impl Draft {
     pub fn place(&self, name: &[u8]) -> Option<u32>
         ensures { result ≡ place_of self.now.acls name.now }
     {
-        let acls = self.acls.as_slice();
-        match acls.iter().position(|acl| acl.name.as_bytes() == name) {
+        match position_of(self.acls.as_slice(), name) {
             None => None,
             Some(place) => Some(place as u32),
         }
@@ -91,4 +90,10 @@ impl Draft {
     {
         Config::new(source, self.acls, self.rules)
     }
+}
+
+fn position_of(acls: &[Acl], name: &[u8]) -> Option<usize>
+    ensures { result ≡ place_of acls.now name.now }
+{
+    acls.iter().position(|acl| acl.name.as_bytes() == name)
 }
