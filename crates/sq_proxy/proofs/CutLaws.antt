@@ -1,13 +1,13 @@
 -- Texts that are cut at one byte.
-use Rattle.std.proofs.Common.{◌≡◌, ℕ, ◌+◌, ◌<◌, ◌≤◌, List, [], ◌∷◌, Bool, true, false, ◌==◌, length, take, drop, get_or, refl, sym, ◌∙◌, ap, arith, Some, None, Bor, Option, nat_lt, cond}
+use Rattle.std.proofs.Common.{◌≡◌, ℕ, ◌+◌, ◌<◌, ◌≤◌, List, [], ◌∷◌, Bool, true, false, ◌==◌, length, take, drop, refl, sym, ◌∙◌, ap, arith, Some, None, Bor, Option, nat_lt, cond}
 use Rattle.std.proofs.Math.ListN.{drop_of_length-le}
 use Rattle.std.proofs.lemmas.Bool.Decides.{nat_tests}
 use Rattle.std.proofs.lemmas.List.{drop-drop}
 use Rattle.std.proofs.lemmas.List.Splits.{slice_split_none, slice_split_first, length-slice_split}
 use Rattle.std.proofs.lemmas.List.Sums.{position_or_len_is}
 use Rattle.std.proofs.lemmas.Grind.{get_or_default_zero}
-use Rattle.std.specs.List.{All, slice_split, position, position_or_len, count_by, after_first}
-use Rattle.memchr.specs.Find.{IsFirst, Nowhere, NoneBefore, Passes, is_byte}
+use Rattle.std.specs.List.{slice_split, position, position_or_len, count_by, after_first}
+use Rattle.memchr.specs.Find.{Nowhere, NoneBefore, Passes, is_byte}
 use Rattle.sq_proxy.specs.Cuts.{pieces_left}
 
 not_true : (b : Bool) → ¬ (b ≡ true) → b ≡ false

@@ -1,6 +1,6 @@
 -- One acl more leaves a draft fine.
-use Rattle.std.proofs.Common.{◌≡◌, ℕ, ◌+◌, ◌≤◌, List, [], ◌∷◌, ◌++◌, Bool, true, false, not, ◌&&◌, ◌||◌, ◌==◌, length, nat_lt, None, Some, cond, refl, sym, ap, ◌∙◌, arith, OnOk, OnErr, Result, Ok, Err, length-append}
-use Rattle.std.specs.List.{list_any, list_all, position, position_or_len}
+use Rattle.std.proofs.Common.{◌≡◌, ℕ, ◌+◌, ◌≤◌, List, [], ◌∷◌, ◌++◌, Bool, true, false, not, ◌&&◌, ◌||◌, ◌==◌, length, nat_lt, None, refl, sym, arith, OnOk, OnErr, Result, Ok, Err, length-append}
+use Rattle.std.specs.List.{list_any, list_all, position}
 use Rattle.std.specs.Str.{bytes_eq}
 use Rattle.std.proofs.lemmas.Bool.Decides.{nat_tests}
 use Rattle.std.proofs.lemmas.List.Folds.{list_any-append, list_any_none}
@@ -49,13 +49,13 @@ known-more : (n m : ℕ) (terms : List Term) → n ≤ m → list_all (λ t. nat
 known-more n m [] le h = refl
 known-more n m (t ∷ terms) le h =
     and-of (nat_lt t.acl n) (list_all (λ u. nat_lt u.acl n) terms) (nat_lt t.acl m) (list_all (λ u. nat_lt u.acl m) terms) h
-      (λ below. grind (arith, nat_tests)) (known-more n m terms le)
+    (λ below. grind (arith, nat_tests)) (known-more n m terms le)
 
 rules-more : (n m : ℕ) (rules : List Rule) → n ≤ m → list_all (is_known_rule n) rules ≡ true → list_all (is_known_rule m) rules ≡ true
 rules-more n m [] le h = refl
 rules-more n m (r ∷ rules) le h =
     and-of (is_known_rule n r) (list_all (is_known_rule n) rules) (is_known_rule m r) (list_all (is_known_rule m) rules) h
-      (known-more n m r.terms le) (rules-more n m rules le)
+    (known-more n m r.terms le) (rules-more n m rules le)
 
 -- what a push that may fail leaves
 pub fine-after : {E : Type 0} (result : Result (Unit {0}) E) (old new : List Acl) (rules : List Rule) (a : Acl)

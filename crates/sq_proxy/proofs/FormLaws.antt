@@ -1,5 +1,5 @@
 -- Steps of the readings of words and lines.
-use Rattle.std.proofs.Common.{◌≡◌, ℕ, List, [], ◌∷◌, Bool, true, false, ◌==◌, length, Some, None, Option, ◌≤◌, get_or, take, drop, ◌-◌, ◌∙◌, sym, ap, refl, arith}
+use Rattle.std.proofs.Common.{◌≡◌, ℕ, List, [], ◌∷◌, true, false, ◌==◌, length, Some, None, Option, ◌≤◌, get_or, take, drop, ◌-◌, ◌∙◌, sym, ap, refl, arith}
 use Rattle.std.proofs.lemmas.List.{take_rest}
 use Rattle.std.specs.List.{slice_split}
 use Rattle.sq_rules.specs.declared.configs.Acl.{Acl}

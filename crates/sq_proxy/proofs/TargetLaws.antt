@@ -1,17 +1,17 @@
 -- The port of a target of the simple form is the one that the target has.
-use Rattle.std.proofs.Common.{◌≡◌, ℕ, ◌+◌, ◌-◌, ◌<◌, List, [], ◌∷◌, ◌++◌, Bool, true, false, not, if◌then◌else◌, cond, ◌&&◌, ◌||◌, ◌==◌, nat_eq, nat_le, nat_lt, length, take, drop, get_or, Some, None, Option, codes, refl, sym, ap, subst, ◌∙◌, arith}
+use Rattle.std.proofs.Common.{◌≡◌, ℕ, ◌<◌, List, [], ◌∷◌, ◌++◌, Bool, true, false, not, if◌then◌else◌, cond, ◌&&◌, ◌==◌, nat_eq, nat_le, nat_lt, length, take, drop, get_or, Some, None, Option, codes, refl, sym, ap, ◌∙◌, arith}
 use Rattle.std.proofs.lemmas.Bool.Decides.{nat_tests}
 use Rattle.std.proofs.lemmas.List.{take-append-drop, length-drop, drop_more}
 use Rattle.std.proofs.lemmas.List.Folds.{list_all-append}
 use Rattle.std.proofs.lemmas.List.Sums.{prefix_len_stops, take_while-cons}
 use Rattle.std.proofs.lemmas.Slice.Eq.{bytes_eq-Decides}
-use Rattle.std.specs.Char.{is_ascii_alphabetic, is_ascii_alphanumeric, is_ascii_digit, is_ascii_graphic}
-use Rattle.std.specs.List.{list_all, prefix_len, starts_with, take_while, before_first, after_first}
+use Rattle.std.specs.Char.{is_ascii_alphabetic, is_ascii_digit}
+use Rattle.std.specs.List.{list_all, prefix_len, starts_with, take_while}
 use Rattle.std.specs.Option.{option_map}
 use Rattle.std.specs.Str.{bytes_eq, str_to_ascii_lowercase}
 use Rattle.sq_base.specs.Addresses.{v4, v4_of, is_colon}
 use Rattle.sq_base.specs.Decimals.{read_on}
-use Rattle.sq_base.specs.Targets.{Target, Host, is_target_byte, is_host_byte, is_scheme, in_authority, before_port, scheme_port, port_of, port_after, named, host_in, with_port, with_host, with_scheme, with_colon, absolute_form, target_of}
+use Rattle.sq_base.specs.Targets.{Host, is_target_byte, is_host_byte, in_authority, before_port, scheme_port, port_of, port_after, named, host_in, with_host, with_scheme, absolute_form, target_of}
 use Rattle.sq_proxy.specs.ScriptForm.{is_path_byte, is_simple_path, is_simple_host, simple_port, authority_port, target_port}
 
 -- both tests of an `if` on an option that has a value
@@ -125,7 +125,7 @@ authority_bytes : (a : List ℕ) (p : ℕ) → authority_port a ≡ Some p → l
 authority_bytes a p h =
     let parts = parts_of a p h in
     joined_bytes (take_while before_port a) (drop (prefix_len before_port a) a) a (take-append-drop (prefix_len before_port a) a)
-      (host_bytes (take_while before_port a) parts.0) (port_bytes (drop (prefix_len before_port a) a) p parts.1 (colon_next a))
+    (host_bytes (take_while before_port a) parts.0) (port_bytes (drop (prefix_len before_port a) a) p parts.1 (colon_next a))
 
 letter_first : (c : Bool) (b : ℕ) (more : List ℕ) → is_simple_host (cond c (b ∷ more) []) ≡ true → is_ascii_alphabetic b ≡ true
 letter_first true b more h = (both (is_ascii_alphabetic b) (list_all (λ d. is_host_byte d && not (d == 95)) more) h).0
@@ -155,7 +155,7 @@ authority_is path a p h =
     let parts = parts_of a p h in
     let host = host_named (take_while before_port a) (drop (prefix_len before_port a) a) parts.0 in
     with_named (codes "http") path p (host_in a) host.0 (host_at_front a parts.0 ∙ host.1)
-      (ap (port_after 80) host.2 ∙ port_same (drop (prefix_len before_port a) a) p parts.1 (colon_next a))
+    (ap (port_after 80) host.2 ∙ port_same (drop (prefix_len before_port a) a) p parts.1 (colon_next a))
 
 -- what stands behind `http://`
 behind_is : (rest : List ℕ) (p : ℕ) → is_simple_path (drop (prefix_len in_authority rest) rest) ≡ true → authority_port (take_while in_authority rest) ≡ Some p
@@ -164,7 +164,7 @@ unfolding absolute_form with_scheme
 behind_is rest p path port =
     let all : list_all is_target_byte rest ≡ true =
     joined_bytes (take_while in_authority rest) (drop (prefix_len in_authority rest) rest) rest (take-append-drop (prefix_len in_authority rest) rest)
-      (authority_bytes (take_while in_authority rest) p port) (path_bytes (drop (prefix_len in_authority rest) rest) path) in
+    (authority_bytes (take_while in_authority rest) p port) (path_bytes (drop (prefix_len in_authority rest) rest) path) in
     rw all (authority_is (drop (prefix_len in_authority rest) rest) (take_while in_authority rest) p port)
 
 -- the port of a target of the simple form, asked with another method than CONNECT

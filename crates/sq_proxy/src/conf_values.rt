@@ -122,8 +122,7 @@ pub fn are_uppercase(word: &[u8]) -> bool
 fn are_block_bytes(word: &[u8]) -> bool
     ensures { result ≡ list_all is_block_byte word.now }
 {
-    word.iter()
-        .all(|&byte| byte.is_ascii_digit() || byte == b'.' || byte == b'/')
+    word.iter().all(|&byte| byte.is_ascii_digit() || byte == b'.' || byte == b'/')
 }
 
 fn has_dot(word: &[u8]) -> bool

@@ -1,4 +1,3 @@
-use Rattle.std.proofs.Common.{◌∙◌, sym}
 use Rattle.sq_proxy.proofs.CutLaws.{cut_at, cut_nowhere}
 use Rattle.sq_proxy.proofs.pieces.first_piece.Goals as goal
 

@@ -1,4 +1,4 @@
-use Rattle.std.proofs.Common.{◌≡◌, ◌≤◌, ◌+◌, ◌*◌, ◌∷◌, ◌∙◌, sym, ap, arith, drop, length, get_or, drop-cons, add-one}
+use Rattle.std.proofs.Common.{◌≡◌, ◌+◌, ◌*◌, ◌∷◌, ◌∙◌, sym, ap, arith, drop, get_or, drop-cons, add-one}
 use Rattle.sq_base.specs.Decimals.{read_on}
 use Rattle.sq_base.proofs.NumberLaws.{read_on-grows}
 use Rattle.sq_proxy.proofs.PortLaws.{too_great}
