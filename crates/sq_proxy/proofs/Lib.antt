@@ -4,3 +4,8 @@ pub mod MachineLaws
 pub mod Rows
 pub mod SeenLaws
 pub mod TakeLaws
+pub mod CutLaws
+pub mod DraftLaws
+pub mod FormLaws
+pub mod PortLaws
+pub mod TargetLaws

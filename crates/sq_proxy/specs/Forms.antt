@@ -3,7 +3,6 @@ use Rattle.std.specs.Prelude.{◌≡◌, ℕ, List, [], ◌∷◌, ◌++◌, Boo
 use Rattle.std.specs.List.{slice_split}
 use Rattle.std.specs.Option.{option_map}
 use Rattle.std.specs.declared.option.Option.{Option}
-use Rattle.sq_base.specs.Decimals.{number_of}
 use Rattle.sq_proxy.specs.declared.unformed.Unformed.{Unformed}
 use Rattle.sq_proxy.specs.declared.unformed.Unformed.TheVariants.{Outside, WantOfMemory}
 

@@ -1,4 +1,5 @@
 pub mod ConfForm
+pub mod Cuts
 pub mod EntryText
 pub mod Forms
 pub mod Machines

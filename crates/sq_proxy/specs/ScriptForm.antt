@@ -1,6 +1,6 @@
 -- The form of scripts that is built so far: lines `MOMENT EVENT` that LF ends, of the events open, ask,
 -- step and take.
-use Rattle.std.specs.Prelude.{ℕ, ◌+◌, List, [], ◌∷◌, ◌++◌, length, Bool, true, false, not, if◌then◌else◌, ◌&&◌, ◌||◌, ◌==◌, nat_le, nat_eq, Some, None, is_some, drop, codes, bytes_eq}
+use Rattle.std.specs.Prelude.{ℕ, List, [], ◌∷◌, ◌++◌, length, Bool, false, not, if◌then◌else◌, ◌&&◌, ◌||◌, ◌==◌, nat_le, nat_eq, Some, None, is_some, drop, codes, bytes_eq}
 use Rattle.std.specs.Char.{is_ascii_alphabetic, is_ascii_alphanumeric, is_ascii_uppercase}
 use Rattle.std.specs.List.{list_all, prefix_len, slice_split, starts_with, take_while}
 use Rattle.std.specs.Option.{option_map}

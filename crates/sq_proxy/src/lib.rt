@@ -2,8 +2,12 @@
 #![tactic(auto)]
 
 mod checks;
+mod conf_form;
+mod conf_values;
+mod draft;
 mod judging;
 mod machine;
+mod pieces;
 mod script_form;
 mod tables;
 mod targets;
