@@ -3,11 +3,12 @@
 //! `Text`, the numbers of connections, checks and the like, addresses, requests, helper replies and
 //! answers, lists of them, their copies, and a counter of steps. Contracts see a text as the list of
 //! its bytes, a number as a number, and a list as a list. The grammars of decimal numbers, escaped
-//! words, addresses and request targets are definitions of `specs/`.
+//! words, addresses, ranges, lines of squid.conf and request targets are definitions of `specs/`.
 #![tactic(auto)]
 
 mod addresses;
 mod bytes;
+mod config_lines;
 mod counting;
 mod decimals;
 mod helpers;
@@ -18,6 +19,7 @@ mod requests;
 
 pub use addresses::{Addr, Addrs, Range, Ranges};
 pub use bytes::{Text, Texts};
+pub use config_lines::{Lexed, Line, LineFault, Lines};
 pub use counting::Steps;
 pub use decimals::number_of;
 pub use helpers::{Answer, Answers, Cause, Pair, Pairs, Reply, What, Word};

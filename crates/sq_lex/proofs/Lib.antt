@@ -1,0 +1,4 @@
+pub mod JoinLaws
+pub mod LexLaws
+pub mod LineLaws
+pub mod WordLaws
