@@ -99,12 +99,20 @@ word_in bytes = after_name (take_while is_word_byte bytes) (drop (prefix_len is_
 abbrev pub in_front : List Pair → Option (List Pair) → Option (List Pair)
 in_front pairs more = option_map (λ others. pairs ++ others) more
 
+-- a space, or a word
+abbrev pub piece_in : List ℕ → Option Found
+piece_in [] = None
+piece_in (b ∷ bs) = if b == 32 then Some ([], bs) else word_in (b ∷ bs)
+
 -- the pairs of words and spaces; there are no more words and spaces than `most`
 unfoldable pub pairs_in : ℕ → List ℕ → Option (List Pair)
 pairs_in most [] = Some []
 pairs_in zero (b ∷ bs) = None
-pairs_in (suc most) (b ∷ bs) =
-    if b == 32 then pairs_in most bs else option_and_then (λ w. in_front w.0 (pairs_in most w.1)) (word_in (b ∷ bs))
+pairs_in (suc most) (b ∷ bs) = option_and_then (λ w. in_front w.0 (pairs_in most w.1)) (piece_in (b ∷ bs))
+
+-- the pairs of all words of these bytes
+abbrev pub pairs_of : List ℕ → Option (List Pair)
+pairs_of bytes = pairs_in (length bytes) bytes
 
 -- the result with this name
 abbrev pub result_of : List ℕ → Option Word
@@ -120,7 +128,7 @@ with_pairs word pairs = option_map (λ ps. record { word = word; pairs = ps }) p
 -- behind a result: its end, and words
 abbrev pub after_result : Option Word → List ℕ → Option Reply
 after_result None bytes = None
-after_result (Some word) bytes = if ends_word bytes then with_pairs word (pairs_in (length bytes) bytes) else None
+after_result (Some word) bytes = if ends_word bytes then with_pairs word (pairs_of bytes) else None
 
 -- a result and its words
 unfoldable pub result_in : List ℕ → Option Reply
