@@ -64,7 +64,7 @@ key_is_false true x w e = cc
 key_is_false false x w e = cc
 
 -- without a byte in front of it, no word stands there
-no_word : (b : ℕ) (bs : List ℕ) (w : Found) → (b == 32) ≡ false → after_name [] (b ∷ bs) ≡ Some w → ⊥
+pub no_word : (b : ℕ) (bs : List ℕ) (w : Found) → (b == 32) ≡ false → after_name [] (b ∷ bs) ≡ Some w → ⊥
 no_word b bs w h e = key_is_false (b == 61) (value_in [] bs) w (rw h at e)
 
 word_by : (t : Bool) (b : ℕ) (bs : List ℕ) (w : Found) → is_word_byte b ≡ t → (b == 32) ≡ false → word_in (b ∷ bs) ≡ Some w → length w.1 ≤ length bs
