@@ -40,7 +40,7 @@ distinct-push [] a d h = refl
 distinct-push (b ∷ answers) a d h =
     rw (has_answer-push answers a b.class b.key, eq-turned a.class b.class, bytes-turned a.key b.key)
     (both-of (has_answer answers b.class b.key) (are_distinct answers) (b.class == a.class && bytes_eq b.key a.key) (has_answer answers a.class a.key)
-      (are_distinct (answers ++ a ∷ [])) d h (distinct-push answers a))
+    (are_distinct (answers ++ a ∷ [])) d h (distinct-push answers a))
 
 -- what a push that may fail leaves is distinct
 pub distinct-after : {E : Type 0} (result : Result (Unit {0}) E) (old new : List Answer) (a : Answer) → OnOk result (new ≡ old ++ a ∷ []) → OnErr result (new ≡ old)

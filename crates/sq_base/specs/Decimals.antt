@@ -1,5 +1,5 @@
 -- Decimal numbers: digits without leading zeros, as in journals, scripts and parts of addresses.
-use Rattle.std.specs.Prelude.{◌≡◌, ℕ, ◌+◌, ◌-◌, ◌*◌, ◌^◌, List, [], ◌∷◌, Bool, if◌then◌else◌, ◌&&◌, nat_lt, Some, None, decimal, bytes_eq}
+use Rattle.std.specs.Prelude.{ℕ, ◌+◌, ◌-◌, ◌*◌, ◌^◌, List, [], ◌∷◌, if◌then◌else◌, ◌&&◌, nat_lt, Some, None, decimal, bytes_eq}
 use Rattle.std.specs.declared.option.Option.{Option}
 
 -- the value of these digits, read after the number so far

@@ -6,7 +6,6 @@ use Rattle.std.specs.declared.option.Option.{Option}
 use Rattle.percent_encoding.specs.Percent.{percent_decode}
 use Rattle.sq_base.specs.Replies.{reply_limit, channel_limit, is_line_byte, is_word_byte, is_value_byte, is_key, meant, channel_text, result_text, Answer}
 use Rattle.sq_base.specs.declared.helpers.Pair.{Pair}
-use Rattle.sq_base.specs.declared.helpers.Reply.{Reply}
 use Rattle.sq_base.specs.declared.helpers.Word.{Word}
 
 -- a byte between quotes: as itself, or behind a `\`

@@ -1,5 +1,5 @@
 -- What stands between quotes, as marks.
-use Rattle.std.proofs.Common.{◌≡◌, ℕ, ◌+◌, ◌++◌, List, [], ◌∷◌, length, Bool, true, false, not, ◌&&◌, ◌||◌, ◌==◌, if◌then◌else◌, Some, None, map, refl, sym, ap, ◌∙◌, arith, ⊎_elim}
+use Rattle.std.proofs.Common.{◌≡◌, ℕ, ◌+◌, ◌++◌, List, [], ◌∷◌, length, Bool, true, false, not, ◌||◌, ◌==◌, Some, map, refl, sym, ap, ◌∙◌, arith, ⊎_elim}
 use Rattle.std.proofs.lemmas.Bool.{and_parts, and_from, eqb-true}
 use Rattle.std.proofs.lemmas.Bool.Decides.{nat_tests}
 use Rattle.std.specs.List.{list_all, flat_map}
@@ -113,9 +113,9 @@ quoted_sound true (b ∷ bs) n e =
     is_escaped b bs n more.0 parts.0 more.2 (quoted_sound false bs more.0 more.1)
 quoted_sound false (b ∷ bs) n e =
     ⊎_elim
-      (λ h. closes_here b bs n h.0 h.1)
-      (λ h.
-        let parts = if_some (is_line_byte b) _ n h.1 in
-        let more = map_some (λ m. m + 1) (quoted_len (b == 92) bs) n parts.1 in
-        byte_by (b == 92) b bs n more.0 refl parts.0 h.0 more.2 (quoted_sound (b == 92) bs more.0 more.1))
-      (chosen (b == 34) (Some 0) _ (Some n) e)
+    (λ h. closes_here b bs n h.0 h.1)
+    (λ h.
+    let parts = if_some (is_line_byte b) _ n h.1 in
+    let more = map_some (λ m. m + 1) (quoted_len (b == 92) bs) n parts.1 in
+    byte_by (b == 92) b bs n more.0 refl parts.0 h.0 more.2 (quoted_sound (b == 92) bs more.0 more.1))
+    (chosen (b == 34) (Some 0) _ (Some n) e)

@@ -1,20 +1,14 @@
 -- What is read is spelled by the grammar.
-use Rattle.std.proofs.Common.{◌≡◌, ℕ, zero, suc, ◌+◌, ◌<◌, ◌≤◌, ◌++◌, List, [], ◌∷◌, length, drop, take, Bool, true, false, not, ◌&&◌, ◌||◌, ◌==◌, if◌then◌else◌, Some, None, is_some, IfSome, map, replicate, nat_le, refl, sym, ap, subst, ◌∙◌, ⊎_elim, arith, append_assoc, append-nil, decimal}
+use Rattle.std.proofs.Common.{◌≡◌, ℕ, zero, suc, ◌+◌, ◌<◌, ◌++◌, List, [], ◌∷◌, drop, take, Bool, true, false, not, ◌&&◌, ◌||◌, ◌==◌, Some, None, map, replicate, refl, sym, ap, ◌∙◌, ⊎_elim, arith, append_assoc}
 use Rattle.std.proofs.Math.Seq.{take-append_seam, drop-append-add}
-use Rattle.std.proofs.lemmas.Bool.{and_parts, and_from, not_from_false, eqb-true, leb-true}
-use Rattle.std.proofs.lemmas.Bool.Decides.{nat_tests}
+use Rattle.std.proofs.lemmas.Bool.{and_parts, and_from, not_from_false, eqb-true}
 use Rattle.std.proofs.lemmas.List.{take-append-drop}
-use Rattle.std.specs.List.{list_all, flat_map, prefix_len, take_while}
-use Rattle.std.specs.Str.{bytes_eq}
-use Rattle.std.specs.Option.{option_map, option_and_then}
+use Rattle.std.specs.List.{list_all, prefix_len}
 use Rattle.std.specs.declared.option.Option.{Option}
 use Rattle.percent_encoding.specs.Percent.{percent_decode}
 use Rattle.sq_base.specs.declared.helpers.Pair.{Pair}
-use Rattle.sq_base.specs.declared.helpers.Reply.{Reply}
-use Rattle.sq_base.specs.declared.helpers.Word.{Word}
-use Rattle.sq_base.specs.declared.helpers.Word.TheVariants.{Yes, No, Broken}
-use Rattle.sq_base.specs.Replies.{Found, Answer, is_line_byte, is_word_byte, is_value_byte, is_key, ends_word, quoted_len, unquoted, pair_before, quoted_in, plain_in, value_in, after_name, word_in, piece_in, pairs_in, pairs_of, in_front}
-use Rattle.sq_base.specs.ReplyGrammar.{Mark, ReplyWord, Bare, Plain, Quoted, SpacedWord, mark_byte, is_mark, word_text, word_pairs, is_bare, is_plain, is_reply_word, words_text, words_pairs, are_reply_words}
+use Rattle.sq_base.specs.Replies.{Found, is_word_byte, is_value_byte, is_key, ends_word, quoted_len, unquoted, pair_before, quoted_in, plain_in, value_in, after_name, word_in, piece_in, pairs_in, in_front}
+use Rattle.sq_base.specs.ReplyGrammar.{ReplyWord, Bare, Plain, Quoted, SpacedWord, mark_byte, is_mark, word_text, word_pairs, is_bare, is_plain, is_reply_word, words_text, words_pairs, are_reply_words}
 use Rattle.sq_reply.proofs.ByteLaws.{if_some, map_some, then_some, chosen, front_passes}
 use Rattle.sq_reply.proofs.MarkLaws.{marks_text, marks_unquoted, QuotedAt, quoted_sound}
 use Rattle.sq_reply.proofs.WordLaws.{no_word}
@@ -99,9 +93,9 @@ unfolding value_in
 value_sound key [] w h e = plain_sound key [] w h refl e
 value_sound key (b ∷ bs) w h e =
     ⊎_elim
-      (λ q. value_at_quote key b bs w (eqb-true b 34 q.0) (quoted_found_by key bs (quoted_len false bs) w h refl q.1))
-      (λ q. plain_sound key (b ∷ bs) w h (not_from_false (b == 34) q.0) q.1)
-      (chosen (b == 34) _ _ (Some w) e)
+    (λ q. value_at_quote key b bs w (eqb-true b 34 q.0) (quoted_found_by key bs (quoted_len false bs) w h refl q.1))
+    (λ q. plain_sound key (b ∷ bs) w h (not_from_false (b == 34) q.0) q.1)
+    (chosen (b == 34) _ _ (Some w) e)
 
 -- a word at the front
 pub record WordAt (bytes : List ℕ) (w : Found) : Type 0 where
@@ -125,12 +119,12 @@ after_sound : (name rest : List ℕ) (w : Found) → is_bare name ≡ true → a
 after_sound name [] w h e = bare_at name [] w h refl e
 after_sound name (c ∷ cs) w h e =
     ⊎_elim
-      (λ q. bare_at name (c ∷ cs) w h q.0 q.1)
-      (λ q.
-        let parts = if_some (c == 61 && is_key name) (value_in name cs) w q.1 in
-        let both = and_parts (c == 61) (is_key name) parts.0 in
-        valued_at name cs c w (eqb-true c 61 both.0) (value_sound name cs w both.1 parts.1))
-      (chosen (c == 32) _ _ (Some w) e)
+    (λ q. bare_at name (c ∷ cs) w h q.0 q.1)
+    (λ q.
+    let parts = if_some (c == 61 && is_key name) (value_in name cs) w q.1 in
+    let both = and_parts (c == 61) (is_key name) parts.0 in
+    valued_at name cs c w (eqb-true c 61 both.0) (value_sound name cs w both.1 parts.1))
+    (chosen (c == 32) _ _ (Some w) e)
 
 bare_take : (n b : ℕ) (bs : List ℕ) → 0 < n → list_all is_word_byte (take n (b ∷ bs)) ≡ true → is_bare (take n (b ∷ bs)) ≡ true
 bare_take zero b bs h k = absurd (omega arith)
@@ -219,8 +213,8 @@ tail_sound true (suc n) (b ∷ bs) ps h e =
     let w = first.0 in
     let more = map_some (λ others. w.0 ++ others) (pairs_in n w.1) ps first.2 in
     ⊎_elim
-      (λ q. wider (b ∷ bs) ps (space_first b bs ps more.0 w q.0 q.1 more.2 (tail_sound true n w.1 more.0 refl more.1)))
-      (λ q.
-        let at = word_by (is_word_byte b) b bs w refl q.0 q.1 in
-        add_word (b ∷ bs) ps more.0 w at (tail_sound false n w.1 more.0 at.ends more.1) more.2)
-      (chosen (b == 32) _ _ (Some w) first.1)
+    (λ q. wider (b ∷ bs) ps (space_first b bs ps more.0 w q.0 q.1 more.2 (tail_sound true n w.1 more.0 refl more.1)))
+    (λ q.
+    let at = word_by (is_word_byte b) b bs w refl q.0 q.1 in
+    add_word (b ∷ bs) ps more.0 w at (tail_sound false n w.1 more.0 at.ends more.1) more.2)
+    (chosen (b == 32) _ _ (Some w) first.1)

@@ -1,14 +1,14 @@
 -- A line of the grammar is read as what it says.
-use Rattle.std.proofs.Common.{◌≡◌, ℕ, zero, suc, ◌<◌, ◌≤◌, ◌^◌, ◌++◌, List, [], ◌∷◌, length, Bool, true, false, not, ◌&&◌, ◌==◌, if◌then◌else◌, Some, None, is_some, IfSome, replicate, nat_le, refl, sym, ap, ◌∙◌, arith, append_assoc, append-nil, decimal}
+use Rattle.std.proofs.Common.{◌≡◌, ℕ, zero, suc, ◌<◌, ◌≤◌, ◌^◌, ◌++◌, List, [], ◌∷◌, length, Bool, true, false, Some, None, is_some, IfSome, replicate, nat_le, refl, sym, ap, ◌∙◌, arith, append_assoc, append-nil, decimal}
 use Rattle.std.proofs.lemmas.Bool.{and_parts, and_from, le-leb}
 use Rattle.std.proofs.lemmas.List.Folds.{list_all-append}
-use Rattle.std.specs.List.{list_all, flat_map}
+use Rattle.std.specs.List.{list_all}
 use Rattle.std.specs.declared.option.Option.{Option}
 use Rattle.sq_base.specs.declared.helpers.Reply.{Reply}
 use Rattle.sq_base.specs.declared.helpers.Word.{Word}
 use Rattle.sq_base.specs.declared.helpers.Word.TheVariants.{Yes, No, Broken}
 use Rattle.sq_base.specs.Replies.{Answer, reply_limit, channel_limit, is_line_byte, is_word_byte, is_value_byte, is_key, line_in, without_cr, reply_of, channel_text, result_text}
-use Rattle.sq_base.specs.ReplyGrammar.{Mark, Itself, Escaped, ReplyWord, Bare, Plain, Quoted, SpacedWord, ReplyLine, IsReplyLine, Says, is_mark, word_text, is_bare, is_plain, is_reply_word, spaced_text, words_text, words_pairs, are_reply_words, cr_text, line_text, line_answer}
+use Rattle.sq_base.specs.ReplyGrammar.{Mark, Itself, Escaped, ReplyWord, Bare, Plain, Quoted, SpacedWord, ReplyLine, IsReplyLine, Says, is_mark, word_text, is_plain, is_reply_word, spaced_text, words_text, words_pairs, are_reply_words, cr_text, line_text, line_answer}
 use Rattle.sq_reply.proofs.ByteLaws.{all_are, key_bytes, number_bytes, word_is_line, value_is_line, line_no_cr}
 use Rattle.sq_reply.proofs.MarkLaws.{marks_text}
 use Rattle.sq_reply.proofs.TreeReads.{plain_bytes, bare_bytes, tail_text, tail_ends, tail_reads, result_reads, channel_reads}
@@ -90,10 +90,10 @@ core_text l = channel_text l.channel ++ result_text l.result ++ words_text l.wor
 core_line : (l : ReplyLine) → IfSome l.channel (λ n. n < channel_limit) → are_reply_words l.words ≡ true → are_line_bytes (core_text l) ≡ true
 core_line l h k =
     both_lines (channel_text l.channel ++ result_text l.result ++ words_text l.words) (replicate l.spaces 32)
-      (both_lines (channel_text l.channel ++ result_text l.result) (words_text l.words)
-        (both_lines (channel_text l.channel) (result_text l.result) (channel_line l.channel h) (result_line l.result))
-        (words_line l.words k))
-      (spaces_line l.spaces)
+    (both_lines (channel_text l.channel ++ result_text l.result) (words_text l.words)
+    (both_lines (channel_text l.channel) (result_text l.result) (channel_line l.channel h) (result_line l.result))
+    (words_line l.words k))
+    (spaces_line l.spaces)
 
 core_regroup : (channel result words spaces : List ℕ) → channel ++ result ++ words ++ spaces ≡ channel ++ (result ++ (words ++ spaces))
 core_regroup channel result words spaces = simp append_assoc
@@ -104,7 +104,7 @@ core_reads l h k =
     let reply : Reply = record { word = l.result; pairs = words_pairs l.words } in
     ap (line_in (is_some l.channel)) (core_regroup (channel_text l.channel) (result_text l.result) (words_text l.words) (replicate l.spaces 32))
     ∙ channel_reads l.channel (result_text l.result ++ tail) reply h
-        (result_reads l.result tail (words_pairs l.words) (tail_ends l.words l.spaces) (tail_reads l.words l.spaces k))
+    (result_reads l.result tail (words_pairs l.words) (tail_ends l.words l.spaces) (tail_reads l.words l.spaces k))
 
 short_reads : (with_channel : Bool) (line : List ℕ) → length line ≤ reply_limit → reply_of with_channel line ≡ line_in with_channel (without_cr line)
 unfolding reply_of

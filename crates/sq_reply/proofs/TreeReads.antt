@@ -1,10 +1,9 @@
 -- What the grammar spells is read.
-use Rattle.std.proofs.Common.{◌≡◌, ℕ, zero, suc, ◌+◌, ◌<◌, ◌≤◌, ◌^◌, ◌++◌, List, [], ◌∷◌, length, drop, take, Bool, true, false, not, ◌&&◌, ◌||◌, ◌==◌, if◌then◌else◌, Some, None, is_some, IfSome, map, replicate, nat_le, refl, sym, ap, subst, ◌∙◌, arith, append_assoc, append-nil, decimal}
-use Rattle.std.proofs.Math.Seq.{drop-append_seam, take-append_seam, drop-append-add}
-use Rattle.std.proofs.lemmas.Bool.{and_parts, and_from, not-true, le-leb}
+use Rattle.std.proofs.Common.{◌≡◌, ℕ, zero, suc, ◌+◌, ◌<◌, ◌^◌, ◌++◌, List, [], ◌∷◌, length, drop, true, false, not, ◌==◌, Some, None, is_some, IfSome, map, replicate, refl, sym, ap, ◌∙◌, arith, append_assoc, append-nil, decimal}
+use Rattle.std.proofs.Math.Seq.{take-append_seam, drop-append-add}
+use Rattle.std.proofs.lemmas.Bool.{and_parts, not-true}
 use Rattle.std.proofs.lemmas.Bool.Decides.{nat_tests}
-use Rattle.std.proofs.lemmas.List.Folds.{list_all-append}
-use Rattle.std.specs.List.{list_all, flat_map, prefix_len, take_while}
+use Rattle.std.specs.List.{list_all, prefix_len, take_while}
 use Rattle.std.specs.declared.option.Option.{Option}
 use Rattle.percent_encoding.specs.Percent.{percent_decode}
 use Rattle.sq_base.proofs.NumberLaws.{number_again}
@@ -13,11 +12,11 @@ use Rattle.sq_base.specs.declared.helpers.Reply.{Reply}
 use Rattle.sq_base.specs.declared.helpers.Word.{Word}
 use Rattle.sq_base.specs.declared.helpers.Word.TheVariants.{Yes, No, Broken}
 use Rattle.sq_base.specs.Decimals.{number_of}
-use Rattle.sq_base.specs.Replies.{Found, Answer, reply_limit, channel_limit, is_line_byte, is_word_byte, is_value_byte, is_key, ends_word, quoted_len, unquoted, pair_before, quoted_in, plain_in, value_in, after_name, word_in, piece_in, pairs_of, in_front, result_of, with_pairs, after_result, result_in, on_channel, after_channel, line_in, without_cr, reply_of, channel_text, result_text}
-use Rattle.sq_base.specs.ReplyGrammar.{Mark, Itself, Escaped, ReplyWord, Bare, Plain, Quoted, SpacedWord, ReplyLine, IsReplyLine, Says, mark_text, mark_byte, is_mark, word_text, word_pairs, is_bare, is_plain, is_reply_word, spaced_text, words_text, words_pairs, are_reply_words, cr_text, line_text, line_answer}
-use Rattle.sq_reply.proofs.ByteLaws.{stops, cut_front, cut_back, all_are, key_bytes, end_stops, number_bytes, word_no_space, word_is_line, value_is_line, line_no_cr}
+use Rattle.sq_base.specs.Replies.{channel_limit, is_word_byte, is_value_byte, is_key, ends_word, unquoted, pair_before, quoted_in, plain_in, value_in, after_name, word_in, piece_in, pairs_of, in_front, result_of, after_result, result_in, on_channel, after_channel, line_in, channel_text, result_text}
+use Rattle.sq_base.specs.ReplyGrammar.{Mark, ReplyWord, Bare, Plain, Quoted, SpacedWord, mark_byte, is_mark, word_text, word_pairs, is_bare, is_plain, is_reply_word, words_text, words_pairs, are_reply_words}
+use Rattle.sq_reply.proofs.ByteLaws.{stops, cut_front, cut_back, key_bytes, end_stops, number_bytes, word_no_space}
 use Rattle.sq_reply.proofs.MarkLaws.{marks_text, marks_unquoted, marks_len}
-use Rattle.sq_reply.proofs.WordLaws.{without_cr-last, pairs_end, pairs_next, in_front-nil}
+use Rattle.sq_reply.proofs.WordLaws.{pairs_end, pairs_next, in_front-nil}
 
 -- a pair whose word ends there
 pair_ends : (key value rest : List ℕ) → ends_word rest ≡ true → pair_before key value rest ≡ Some (record { key = key; value = value } ∷ [], rest)

@@ -1,11 +1,11 @@
 -- Words and spaces of a line, one at a time.
-use Rattle.std.proofs.Common.{◌≡◌, ℕ, zero, suc, ◌+◌, ◌≤◌, ◌<◌, ◌++◌, List, [], ◌∷◌, length, drop, take, Bool, true, false, not, ◌&&◌, ◌||◌, ◌==◌, if◌then◌else◌, Some, None, is_some, refl, sym, ap, subst, ◌∙◌, arith, append_assoc, length-drop}
+use Rattle.std.proofs.Common.{◌≡◌, ℕ, zero, suc, ◌+◌, ◌≤◌, ◌<◌, ◌++◌, List, [], ◌∷◌, length, drop, take, Bool, true, false, ◌&&◌, ◌||◌, ◌==◌, if◌then◌else◌, Some, None, is_some, refl, sym, ap, ◌∙◌, arith, append_assoc, length-drop}
 use borrow.Author.Tests.{eqb-true}
 use Rattle.std.specs.Option.{option_map, option_and_then}
-use Rattle.std.specs.List.{prefix_len, take_while}
+use Rattle.std.specs.List.{prefix_len}
 use Rattle.std.specs.declared.option.Option.{Option}
 use Rattle.sq_base.specs.declared.helpers.Pair.{Pair}
-use Rattle.sq_base.specs.Replies.{Found, is_key, is_word_byte, is_value_byte, ends_word, quoted_len, pair_before, quoted_in, plain_in, value_in, after_name, word_in, piece_in, pairs_in, pairs_of, in_front, without_cr}
+use Rattle.sq_base.specs.Replies.{Found, is_key, is_word_byte, is_value_byte, quoted_len, quoted_in, plain_in, value_in, after_name, word_in, piece_in, pairs_in, pairs_of, in_front, without_cr}
 use Rattle.sq_reply.specs.Words.{has_any, pairs_of_one}
 use Rattle.sq_reply.specs.declared.words.Written.{Written}
 
@@ -46,8 +46,8 @@ unfolding value_in
 value_le key [] w e = plain_le key [] w e
 value_le key (b ∷ bs) w e =
     chosen_le (b == 34) _ _ w (length (b ∷ bs)) e
-      (λ h. let le = quoted_le key bs (quoted_len false bs) w h in omega arith)
-      (λ h. plain_le key (b ∷ bs) w h)
+    (λ h. let le = quoted_le key bs (quoted_len false bs) w h in omega arith)
+    (λ h. plain_le key (b ∷ bs) w h)
 
 self_le : (rest : List ℕ) (w : Found) → Some ([], rest) ≡ Some w → length w.1 ≤ length rest
 self_le rest w e = let le = pair_rest true [] rest w e in rw le (omega arith)
@@ -56,8 +56,8 @@ after_le : (name rest : List ℕ) (w : Found) → after_name name rest ≡ Some 
 after_le name [] w e = self_le [] w e
 after_le name (b ∷ bs) w e =
     chosen_le (b == 32) _ _ w (length (b ∷ bs)) e (λ h. self_le (b ∷ bs) w h)
-      (λ h. chosen_le (b == 61 && is_key name) (value_in name bs) None w (length (b ∷ bs)) h
-        (λ k. let le = value_le name bs w k in omega arith) (λ k. absurd (cc)))
+    (λ h. chosen_le (b == 61 && is_key name) (value_in name bs) None w (length (b ∷ bs)) h
+    (λ k. let le = value_le name bs w k in omega arith) (λ k. absurd (cc)))
 
 key_is_false : (t : Bool) (x : Option Found) (w : Found) → (if t && false then x else None) ≡ Some w → ⊥
 key_is_false true x w e = cc
@@ -102,13 +102,13 @@ pairs_more zero (suc m) (b ∷ bs) h k = absurd (omega arith)
 pairs_more (suc n) zero (b ∷ bs) h k = absurd (omega arith)
 pairs_more (suc n) (suc m) (b ∷ bs) h k =
     and_then_same (piece_in (b ∷ bs)) (λ w. in_front w.0 (pairs_in n w.1)) (λ w. in_front w.0 (pairs_in m w.1))
-      (λ w e. let le = piece_le b bs w e in ap (in_front w.0) (pairs_more n m w.1 (omega arith) (omega arith)))
+    (λ w e. let le = piece_le b bs w e in ap (in_front w.0) (pairs_more n m w.1 (omega arith) (omega arith)))
 
 pairs_cons : (b : ℕ) (bs : List ℕ) → pairs_of (b ∷ bs) ≡ option_and_then (λ w. in_front w.0 (pairs_of w.1)) (piece_in (b ∷ bs))
 unfolding pairs_in
 pairs_cons b bs =
     and_then_same (piece_in (b ∷ bs)) (λ w. in_front w.0 (pairs_in (length bs) w.1)) (λ w. in_front w.0 (pairs_of w.1))
-      (λ w e. ap (in_front w.0) (pairs_more (length bs) (length w.1) w.1 (piece_le b bs w e) (omega arith)))
+    (λ w e. ap (in_front w.0) (pairs_more (length bs) (length w.1) w.1 (piece_le b bs w e) (omega arith)))
 
 -- the end
 pub pairs_end : (bytes : List ℕ) → (length bytes == 0) ≡ true → pairs_of bytes ≡ Some []

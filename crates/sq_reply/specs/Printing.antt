@@ -1,5 +1,5 @@
 -- What printing knows of a reply's values.
-use Rattle.std.specs.Prelude.{ℕ, List, [], ◌∷◌, ◌<◌}
+use Rattle.std.specs.Prelude.{ℕ, List, ◌<◌}
 use Rattle.std.specs.List.{AllByRecursion}
 use Rattle.sq_base.specs.declared.helpers.Pair.{Pair}
 

@@ -25,11 +25,7 @@ fn has_pairs(bytes: &[u8]) -> Option<bool>
     Some(any)
 }
 
-fn put_pair(
-    alloc: Global,
-    pairs: &mut Pairs,
-    written: Option<Written>,
-) -> Result<(), WantOfMemory>
+fn put_pair(alloc: Global, pairs: &mut Pairs, written: Option<Written>) -> Result<(), WantOfMemory>
     ensures { OnOk result (pairs.new ≡ pairs.old ++ pairs_of_one written.entry) }
 {
     let Some(written) = written else {

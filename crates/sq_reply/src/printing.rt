@@ -1,8 +1,8 @@
 //! Writing of reply lines and question lines.
-ghost use Rattle.std.specs.Prelude.{◌≡◌, ◌++◌, ◌≤◌, true, length, is_some, Some, IfOk, OnOk};
+ghost use Rattle.std.specs.Prelude.{◌≡◌, ◌++◌, ◌≤◌, true, length, is_some, Some, ◌<◌, IfSome, IfOk, OnOk};
 ghost use Rattle.std.specs.List.{flat_map};
 ghost use Rattle.percent_encoding.specs.Percent.{percent_encode_byte};
-ghost use Rattle.sq_base.specs.Replies.{reply_limit, channel_text, result_text, quoted_byte, value_text, pair_text, reply_of, reply_text, question_text, have_keys};
+ghost use Rattle.sq_base.specs.Replies.{reply_limit, channel_limit, channel_text, result_text, quoted_byte, value_text, pair_text, reply_of, reply_text, question_text, have_keys};
 ghost use Rattle.sq_reply.specs.Printing.{AreBytes, HaveBytes};
 
 use itoa::Buffer;
@@ -11,7 +11,8 @@ use sq_base::{Pair, Reply, Text, WantOfMemory, Word};
 use std::alloc::Global;
 
 fn put_channel(text: &mut Text, channel: Option<u32>) -> Result<(), WantOfMemory>
-    ensures { OnOk result (text.new ≡ text.old ++ channel_text channel) }
+    ensures text { OnOk result (text.new ≡ text.old ++ channel_text channel) }
+    ensures number { IfSome channel (λ n. n < channel_limit) }
 {
     let Some(number) = channel else {
         return Ok(());
@@ -94,23 +95,27 @@ fn put_pairs(text: &mut Text, pairs: &[Pair]) -> Result<(), WantOfMemory>
     Ok(())
 }
 
-/// Writes a reply line without its LF, for a channel where it has one. What is written, where it is no
-/// longer than a line may be, reads as the same.
 #[tactic(auto, unfolding(sq_base::specs::Replies::reply_text))]
-pub fn print_reply(
-    alloc: Global,
-    channel: Option<u32>,
-    reply: &Reply,
-) -> Result<Text, WantOfMemory>
-    requires { have_keys reply.now.pairs ≡ true }
+fn written(alloc: Global, channel: Option<u32>, reply: &Reply) -> Result<Text, WantOfMemory>
     ensures text { IfOk result (λ t. t ≡ reply_text channel reply.now) }
-    ensures again { IfOk result (λ t. length t ≤ reply_limit → reply_of (is_some channel) t ≡ Some (channel, reply.now)) }
+    ensures number { IfSome channel (λ n. n < channel_limit) }
+    ensures small { OnOk result (HaveBytes reply.now.pairs) }
 {
     let mut text = Text::new(alloc);
     put_channel(&mut text, channel)?;
     put_result(&mut text, reply.word)?;
     put_pairs(&mut text, reply.pairs.as_slice())?;
     Ok(text)
+}
+
+/// Writes a reply line without its LF, for a channel where it has one. What is written, where it is no
+/// longer than a line may be, reads as the same.
+pub fn print_reply(alloc: Global, channel: Option<u32>, reply: &Reply) -> Result<Text, WantOfMemory>
+    requires { have_keys reply.now.pairs ≡ true }
+    ensures text { IfOk result (λ t. t ≡ reply_text channel reply.now) }
+    ensures again { IfOk result (λ t. length t ≤ reply_limit → reply_of (is_some channel) t ≡ Some (channel, reply.now)) }
+{
+    written(alloc, channel, reply)
 }
 
 /// Writes a question line with its LF, for a channel where it has one.

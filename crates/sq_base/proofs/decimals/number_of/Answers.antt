@@ -1,4 +1,4 @@
-use Rattle.std.proofs.Common.{◌≡◌, ◌≤◌, ◌+◌, ◌*◌, ◌∷◌, ◌∙◌, sym, ap, arith, drop, length, get_or, drop-cons, add-one, true, false, decimal}
+use Rattle.std.proofs.Common.{◌≡◌, ◌+◌, ◌*◌, ◌∷◌, ◌∙◌, sym, ap, arith, drop, get_or, drop-cons, add-one, true, false, decimal}
 use Rattle.std.proofs.Math.ListN.{drop_of_length-le}
 use Rattle.std.specs.Str.{bytes_eq}
 use Rattle.sq_base.specs.Decimals.{read_on}

@@ -1,7 +1,6 @@
-use Rattle.std.proofs.Common.{◌≡◌, ◌∙◌, ◌||◌, sym, ap, arith}
-use Rattle.std.specs.Option.{option_map}
-use Rattle.sq_base.specs.Replies.{pairs_of, in_front}
-use Rattle.sq_reply.specs.Words.{found, has_any, pairs_of_one}
+use Rattle.std.proofs.Common.{◌∙◌, ◌||◌, sym, ap}
+use Rattle.sq_base.specs.Replies.{pairs_of}
+use Rattle.sq_reply.specs.Words.{found, pairs_of_one}
 use Rattle.sq_reply.proofs.WordLaws.{any_with, any_with-in_front, any_with-none, any_of_one, pairs_next, pairs_stop, pairs_end, piece_less}
 use Rattle.sq_reply.proofs.pairs.has_pairs.Goals as goal
 

@@ -1,4 +1,4 @@
-use Rattle.std.proofs.Common.{◌≡◌, ◌∙◌, ◌++◌, [], sym, ap, append-nil, Some}
+use Rattle.std.proofs.Common.{◌∙◌, sym, ap, append-nil, Some}
 use Rattle.sq_base.specs.Replies.{pairs_of, in_front}
 use Rattle.sq_reply.specs.Words.{found, pairs_of_one}
 use Rattle.sq_reply.proofs.WordLaws.{in_front-append, pairs_next, pairs_stop, pairs_end, piece_less}

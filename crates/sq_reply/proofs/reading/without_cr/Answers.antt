@@ -1,4 +1,4 @@
-use Rattle.std.proofs.Common.{◌≡◌, ◌∙◌, ℕ, List, [], ◌∷◌, length, sym, ap, refl, arith, true, false}
+use Rattle.std.proofs.Common.{arith}
 use Rattle.std.proofs.lemmas.Grind.{common_steps}
 use Rattle.sq_base.specs.Replies.{without_cr}
 use Rattle.sq_reply.proofs.WordLaws.{without_cr-last}

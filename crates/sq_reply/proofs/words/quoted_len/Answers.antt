@@ -1,4 +1,4 @@
-use Rattle.std.proofs.Common.{◌≡◌, ◌∙◌, ◌+◌, ◌∷◌, ℕ, List, Some, None, sym, ap, arith, drop, get_or, drop-cons, add-one, true, false}
+use Rattle.std.proofs.Common.{◌≡◌, ◌∙◌, ◌+◌, ◌∷◌, ℕ, Some, sym, ap, arith, drop, get_or, drop-cons, add-one}
 use Rattle.std.proofs.Math.ListN.{drop_of_length-le}
 use Rattle.sq_base.specs.Replies.{quoted_len}
 use Rattle.sq_reply.proofs.QuoteLaws.{front, quote_here, quote_fails, quote_later, quote_ends}
