@@ -4,5 +4,7 @@ pub mod Distinct
 pub mod Escapes
 pub mod Lines
 pub mod Ranges
+pub mod Replies
+pub mod ReplyGrammar
 pub mod Requests
 pub mod Targets

@@ -1,0 +1,10 @@
+pub mod ByteLaws
+pub mod MarkLaws
+pub mod PrintTrees
+pub mod QuoteLaws
+pub mod ReadLines
+pub mod ReadTrees
+pub mod ReplyFacts
+pub mod TreeLines
+pub mod TreeReads
+pub mod WordLaws
