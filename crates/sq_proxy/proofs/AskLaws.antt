@@ -28,13 +28,14 @@ use Rattle.sq_proxy.proofs.Rows.{rows-length, rows-same}
 use Rattle.sq_proxy.proofs.SeenLaws.{verdict-seen, request-method, request-port}
 
 -- what `ask` leaves
-pub record Begun (old new : View) (now c : ℕ) (method target : List ℕ) (fields : List Field) (p : Peer) (port : ℕ) : Type 0 where
+pub record Begun (old new : View) (now c : ℕ) (method target : List ℕ) (fields : List Field) (p : Peer) (port number : ℕ) : Type 0 where
+  pub number_is : number ≡ suc (length old.checks)
   pub peer_is : value_at old.peers c ≡ Some p
   pub no_check : value_at old.asked c ≡ None
   pub room : suc (length old.checks) < last_number
   pub port_is : option_map (λ r. r.port) (target_of method target) ≡ Some port
   pub checks_are : new.checks ≡ old.checks ++ (record { conn = c; epoch = 1; done = false; outcome = Some (verdict old.config (seen method port p.addr)) }) ∷ []
-  pub asked_are : (j : ℕ) → value_at new.asked j ≡ cond (is_eq (nat_cmp c j)) (Some (suc (length old.checks))) (value_at old.asked j)
+  pub asked_are : (j : ℕ) → value_at new.asked j ≡ cond (is_eq (nat_cmp c j)) (Some number) (value_at old.asked j)
   pub config_is : new.config ≡ old.config
   pub peers_is : new.peers ≡ old.peers
   pub latest_is : new.latest ≡ max now old.latest
@@ -110,19 +111,20 @@ new-row configs h moment c method target fields t o is =
     ∙ ap (λ d. record { conn = c; epoch = 1; done = d; outcome = Some (outcome_of configs (Some a)) }) early
     ∙ ap (λ x. record { conn = c; epoch = 1; done = false; outcome = Some x }) is
 
-pub ask-made : (old new : View) (now c : ℕ) (method target : List ℕ) (fields : List Field) (p : Peer) (port : ℕ) → Begun old new now c method target fields p port
-    → IsMade old new now (Ask c method target fields) (told.Check (suc (length old.checks)))
-ask-made old new now c method target fields p port k = record {
+pub ask-made : (old new : View) (now c : ℕ) (method target : List ℕ) (fields : List Field) (p : Peer) (port number : ℕ) → Begun old new now c method target fields p port number
+    → IsMade old new now (Ask c method target fields) (told.Check number)
+ask-made old new now c method target fields p port number k = record {
   answers = λ configs h legal s.
     let peer : peer_at h c ≡ Some p = sym (s.peers_are c) ∙ k.peer_is in
     let none : open_check h c ≡ None = sym (s.asked_are c) ∙ k.no_check in
     let many : length old.checks ≡ ask_count h = ap length s.checks_are ∙ rows-length (check_held configs h) (ask_count h) in
     let room = k.room in
     let few : nat_le last_number (suc (ask_count h)) ≡ false = grind (arith, nat_tests) in
-    rw (peer, none, few, many) refl;
+    let given : suc (ask_count h) ≡ number = ap suc (sym many) ∙ sym k.number_is in
+    rw (peer, none, few, given) refl;
   stands = λ configs h legal s.
     let moment = max now old.latest in
-    let t = told.Check (suc (length old.checks)) in
+    let t = told.Check number in
     let f = check_held configs h in
     let g = check_held configs (entry_at moment (Ask c method target fields) t ∷ h) in
     let peer : peer_at h c ≡ Some p = sym (s.peers_are c) ∙ k.peer_is in
@@ -134,7 +136,7 @@ ask-made old new now c method target fields p port k = record {
       config_is = rw k.config_is s.config_is;
       peers_are = λ j. rw k.peers_is (s.peers_are j);
       count_is = rw k.peers_is s.count_is;
-      asked_are = λ j. k.asked_are j ∙ rw (same-key c j, many, s.asked_are j) refl;
+      asked_are = λ j. k.asked_are j ∙ rw (same-key c j, k.number_is, many, s.asked_are j) refl;
       checks_are =
           k.checks_are
           ∙ ap (λ l. l ++ (record { conn = c; epoch = 1; done = false; outcome = Some (verdict old.config (seen method port p.addr)) }) ∷ []) s.checks_are
@@ -146,14 +148,15 @@ ask-made old new now c method target fields p port k = record {
 }
 
 -- numbers of checks have run out
-pub ask-spent : (v : View) (c : ℕ) (method target : List ℕ) (fields : List Field) (p : Peer) → value_at v.peers c ≡ Some p → value_at v.asked c ≡ None
-    → last_number ≤ suc (length v.checks) → IsRefused v v (Ask c method target fields) (refusal.Spent (suc (length v.checks)))
-ask-spent v c method target fields p peer_is no_check spent = record {
+pub ask-spent : (v : View) (c number : ℕ) (method target : List ℕ) (fields : List Field) (p : Peer) → value_at v.peers c ≡ Some p → value_at v.asked c ≡ None
+    → number ≡ suc (length v.checks) → last_number ≤ number → IsRefused v v (Ask c method target fields) (refusal.Spent number)
+ask-spent v c number method target fields p peer_is no_check number_is spent = record {
   answers = λ configs h legal s.
     let peer : peer_at h c ≡ Some p = sym (s.peers_are c) ∙ peer_is in
     let none : open_check h c ≡ None = sym (s.asked_are c) ∙ no_check in
     let many : length v.checks ≡ ask_count h = ap length s.checks_are ∙ rows-length (check_held configs h) (ask_count h) in
     let past : nat_le last_number (suc (ask_count h)) ≡ true = grind (arith, nat_tests) in
-    rw (peer, none, past, many) refl;
+    let given : suc (ask_count h) ≡ number = ap suc (sym many) ∙ sym number_is in
+    rw (peer, none, past, given) refl;
   unchanged = refl;
 }

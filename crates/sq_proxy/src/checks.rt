@@ -1,5 +1,5 @@
 //! The checks in the order of their numbers.
-ghost use Rattle.std.specs.Prelude.{◌≡◌, ◌<◌, ◌++◌, ◌∷◌, [], List, true, false, suc, Some, None, length, slice_get, slice_set, OnOk, OnErr, MatchOption};
+ghost use Rattle.std.specs.Prelude.{◌≡◌, ◌+◌, ◌<◌, ◌^◌, ◌++◌, ◌∷◌, [], List, true, false, suc, Some, None, length, slice_get, slice_set, OnOk, OnErr, MatchOption};
 
 use sq_base::{CheckNo, ConnNo, EpochNo, WantOfMemory};
 use sq_rules::Outcome;
@@ -23,12 +23,14 @@ pub struct Checks {
 }
 
 impl Model for Checks {
-    ghost use Rattle.std.specs.Prelude.{List};
+    ghost use Rattle.std.specs.Prelude.{ℕ, List, length, ◌<◌, ◌^◌};
     ghost use Rattle.sq_proxy.specs.declared.checks.Held.{Held};
 
     ghost Value = { List Held };
 
     ghost view = { λ c. c.rows.items };
+
+    ghost invariant = { λ c. length c.rows.items < 2 ^ 63 };
 }
 
 impl Checks {
@@ -46,13 +48,15 @@ impl Checks {
 
     /// How many have begun.
     pub fn len(&self) -> usize
-        ensures { result ≡ length self.now }
+        ensures len { result ≡ length self.now }
+        ensures small { result < 2 ^ 63 }
     {
         self.rows.len()
     }
 
     /// Puts a check at the end.
     pub fn push(&mut self, held: Held) -> Result<(), WantOfMemory>
+        requires { length self.old + 1 < 2 ^ 63 }
         ensures ok { OnOk result (self.new ≡ self.old ++ held ∷ []) }
         ensures err { OnErr result (self.new ≡ self.old) }
     {

@@ -1,5 +1,5 @@
 //! The machine that runs a script's events over one configuration.
-ghost use Rattle.std.specs.Prelude.{◌≡◌, ◌++◌, ◌∷◌, [], ℕ, true, false, cond, max, Some, is_some, bytes_eq, codes, pos, OnOk, OnErr};
+ghost use Rattle.std.specs.Prelude.{◌≡◌, ◌++◌, ◌∷◌, [], ℕ, true, false, cond, max, Some, is_some, bytes_eq, codes, pos, length, ◌+◌, ◌<◌, ◌^◌, OnOk, OnErr};
 ghost use Rattle.std.specs.Ordering.{nat_cmp, is_eq};
 ghost use Rattle.sq_proxy.specs.ScriptForm.{target_port};
 ghost use Rattle.sq_proxy.specs.Tables.{value_at};
@@ -185,6 +185,7 @@ fn begin(
     check: CheckNo,
     held: Held,
 ) -> Result<(), WantOfMemory>
+    requires { length checks.old + 1 < 2 ^ 63 }
     ensures checks { OnOk result (checks.new ≡ checks.old ++ held ∷ []) }
     ensures asked { OnOk result ((c : ℕ) → value_at asked.new c ≡ cond (is_eq (nat_cmp held.conn c)) (Some check) (value_at asked.old c)) }
     ensures no_checks { OnErr result (checks.new ≡ checks.old) }
