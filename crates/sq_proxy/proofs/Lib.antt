@@ -9,3 +9,5 @@ pub mod DraftLaws
 pub mod FormLaws
 pub mod PortLaws
 pub mod TargetLaws
+pub mod EscapeLaws
+pub mod SpaceLaws

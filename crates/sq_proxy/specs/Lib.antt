@@ -6,3 +6,4 @@ pub mod Machines
 pub mod ScriptForm
 pub mod Seen
 pub mod Tables
+pub mod Words
