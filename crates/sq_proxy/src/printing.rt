@@ -187,7 +187,8 @@ fn put_answer(alloc: Global, to: &mut Text, answer: &Told) -> Result<(), WantOfM
 pub fn put_entry(alloc: Global, to: &mut Text, entry: &Entry) -> Result<(), WantOfMemory>
     ensures { OnOk result (to.new ≡ to.old ++ entry_text entry.now) }
 {
-    put_word(alloc, to, &Word::Number(entry.moment.0))?;
+    let moment = entry.moment;
+    put_word(alloc, to, &Word::Number(moment.0))?;
     put_event(alloc, to, &entry.event)?;
     put_words(alloc, to, &[Word::Plain(b"=>")])?;
     put_answer(alloc, to, &entry.answer)?;
