@@ -11,3 +11,5 @@ pub mod PortLaws
 pub mod TargetLaws
 pub mod EscapeLaws
 pub mod SpaceLaws
+pub mod HalfwayLaws
+pub mod PlayLaws

@@ -1,8 +1,12 @@
 pub mod ConfForm
 pub mod Cuts
+pub mod Ends
 pub mod EntryText
 pub mod Forms
 pub mod Machines
+pub mod Pieces
+pub mod Plain
+pub mod RunText
 pub mod ScriptForm
 pub mod Seen
 pub mod Tables

@@ -6,7 +6,7 @@ use percent_encoding::{AsciiSet, CONTROLS, ascii_set, percent_encode};
 use sq_base::{Text, WantOfMemory};
 
 /// The bytes that are escaped beside those past ASCII.
-const ESCAPES: AsciiSet = ascii_set!(CONTROLS.add(b' ').add(b'%').add(b'>'));
+pub const ESCAPES: AsciiSet = ascii_set!(CONTROLS.add(b' ').add(b'%').add(b'>'));
 
 // Puts the escaped bytes at the text's end, piece by piece.
 fn escape_onto(to: &mut Text, bytes: &[u8]) -> Result<(), WantOfMemory>

@@ -1,5 +1,6 @@
 //! The texts of entries.
 ghost use Rattle.std.specs.Prelude.{◌≡◌, ◌++◌, ◌∷◌, [], map, OnOk, IfOk};
+ghost use Rattle.sq_proxy.specs.Machines.{entry_at};
 ghost use Rattle.sq_proxy.specs.Words.{word_text};
 ghost use Rattle.sq_proxy.specs.EntryText.{after_spaces, event_words, answer_words, entry_text, field_word};
 ghost use Rattle.sq_rules.specs.OutcomeText.{outcome_words, why_words, cause_word};
@@ -7,8 +8,8 @@ ghost use Rattle.sq_rules.specs.OutcomeText.{outcome_words, why_words, cause_wor
 use crate::escapes::put_text;
 use itoa::Buffer;
 use sq_addr::print_addr;
-use sq_base::{Addr, Cause, Field, Text, WantOfMemory};
-use sq_rules::{Entry, Event, Outcome, Told, Why};
+use sq_base::{Addr, Cause, Field, Moment, Text, WantOfMemory};
+use sq_rules::{Event, Outcome, Told, Why};
 use std::alloc::Global;
 
 /// A word of a line, and what it says.
@@ -183,15 +184,20 @@ fn put_answer(alloc: Global, to: &mut Text, answer: &Told) -> Result<(), WantOfM
     }
 }
 
-/// Puts the text of an entry at the end.
-pub fn put_entry(alloc: Global, to: &mut Text, entry: &Entry) -> Result<(), WantOfMemory>
-    ensures { OnOk result (to.new ≡ to.old ++ entry_text entry.now) }
+/// Puts the text of the entry of these at the end.
+pub fn put_entry(
+    alloc: Global,
+    to: &mut Text,
+    moment: Moment,
+    event: &Event,
+    answer: &Told,
+) -> Result<(), WantOfMemory>
+    ensures { OnOk result (to.new ≡ to.old ++ entry_text (entry_at moment event.now answer.now)) }
 {
-    let moment = entry.moment;
     put_word(alloc, to, &Word::Number(moment.0))?;
-    put_event(alloc, to, &entry.event)?;
+    put_event(alloc, to, event)?;
     put_words(alloc, to, &[Word::Plain(b"=>")])?;
-    put_answer(alloc, to, &entry.answer)?;
+    put_answer(alloc, to, answer)?;
     to.push(b'\n')?;
     Ok(())
 }

@@ -1,0 +1,67 @@
+-- How a command ends: its last line, its exit status, and the bytes that it wrote.
+use Rattle.std.specs.Prelude.{◌≡◌, ◌⊎◌, ℕ, ◌≤◌, List, [], ◌∷◌, ◌++◌, codes, decimal}
+use Rattle.std.specs.declared.option.Option.{Option}
+use Rattle.std.specs.Io.KnownBytes.{Appends}
+use Rattle.sq_base.specs.Escapes.{text_word}
+use Rattle.sq_outside.specs.Causes.{Rose}
+use Rattle.sq_outside.specs.Output.{Grew, IsPrefix, IsWritten}
+use Rattle.sq_proxy.specs.declared.ends.Part.{Part}
+use Rattle.sq_proxy.specs.declared.ends.Part.TheVariants as part
+use Rattle.sq_proxy.specs.declared.ends.Status.{Status}
+use Rattle.sq_proxy.specs.declared.ends.Status.TheVariants.{Ok, Usage, Script, ReadFault, WriteFault, Missing, WantOfMemory, Unbuilt}
+
+abbrev pub usage_line : List ℕ
+usage_line = codes "usage: aclproxy parse CONF | replay CONF SCRIPT | verify CONF JOURNAL | rehearse N | serve CONF [--port P] [--workers W] [--utc-offset M]" ++ 10 ∷ []
+
+abbrev pub part_word : Part → List ℕ
+part_word part.Conf = codes "conf"
+part_word part.Script = codes "script"
+
+-- the last line of a command that ends so
+abbrev pub last_line : Status → List ℕ
+last_line Ok = []
+last_line Usage = usage_line
+last_line (Script line) = codes "error script " ++ decimal line ++ 10 ∷ []
+last_line ReadFault = codes "error read" ++ 10 ∷ []
+last_line WriteFault = []
+last_line (Missing name) = codes "error missing " ++ text_word name ++ 10 ∷ []
+last_line WantOfMemory = []
+last_line (Unbuilt p) = codes "error unbuilt " ++ part_word p ++ 10 ∷ []
+
+-- the exit status of the process
+abbrev pub code_of : Status → ℕ
+code_of Ok = 0
+code_of Usage = 1
+code_of (Script line) = 3
+code_of ReadFault = 4
+code_of WriteFault = 5
+code_of (Missing name) = 7
+code_of WantOfMemory = 10
+code_of (Unbuilt p) = 11
+
+-- a command may end otherwise by these alone
+abbrev pub IsFault : Status → Type 0
+IsFault ReadFault = Unit {0}
+IsFault WriteFault = Unit {0}
+IsFault WantOfMemory = Unit {0}
+IsFault status = ⊥
+
+-- it ends so, or by a fault
+abbrev pub EndsBy : Status → Status → Type 0
+EndsBy end status = (status ≡ end) ⊎ IsFault status
+
+-- it ends so, or by want of memory
+abbrev pub EndsWithoutFault : Status → Status → Type 0
+EndsWithoutFault end status = (status ≡ end) ⊎ (status ≡ WantOfMemory)
+
+-- it misses a file by this name alone
+abbrev pub IfMissing : Status → (List ℕ → Type 0) → Type 0
+IfMissing (Missing name) P = P name
+IfMissing status P = Unit {0}
+
+-- the counts of the files and of the sink never fall, and a fault comes only where its count rose
+pub record HasCauses (files_before files_now out_before out_now : ℕ) (status : Status) : Type 0 where
+  pub files_later : files_before ≤ files_now
+  pub out_later : out_before ≤ out_now
+  pub read : status ≡ ReadFault → Rose files_before files_now
+  pub write : status ≡ WriteFault → Rose out_before out_now

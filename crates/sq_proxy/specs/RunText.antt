@@ -1,0 +1,120 @@
+-- What a run of a script over a configuration comes to: its history, whose text is written, and its end.
+use Rattle.std.specs.Prelude.{◌≡◌, ◌⊎◌, ℕ, ◌+◌, List, [], ◌∷◌, ◌++◌, Result, Ok, Err, Some, None, max, pos, codes, bytes_eq, ◌&&◌, if◌then◌else◌}
+use Rattle.std.specs.declared.option.Option.{Option}
+use Rattle.std.specs.Io.KnownBytes.{Appends}
+use Rattle.sq_outside.specs.Output.{Grew, IsPrefix, IsWritten}
+use Rattle.sq_rules.specs.declared.entries.Event.{Event}
+use Rattle.sq_rules.specs.declared.entries.Event.TheVariants.{Begin}
+use Rattle.sq_rules.specs.declared.entries.Told.TheVariants as told
+use Rattle.sq_rules.specs.Configurations.{Configuration}
+use Rattle.sq_rules.specs.Entries.{Noted, History}
+use Rattle.sq_rules.specs.Machine.{Next, gives, refuses, nothing, next}
+use Rattle.sq_rules.specs.Readings.{latest}
+use Rattle.sq_proxy.specs.declared.ends.Part.TheVariants as part
+use Rattle.sq_proxy.specs.declared.ends.Status.{Status}
+use Rattle.sq_proxy.specs.declared.ends.Status.TheVariants as ends
+use Rattle.sq_proxy.specs.declared.script_form.Dated.{Dated}
+use Rattle.sq_proxy.specs.ConfForm.{conf_of}
+use Rattle.sq_proxy.specs.EntryText.{written}
+use Rattle.sq_proxy.specs.Ends.{last_line}
+use Rattle.sq_proxy.specs.Machines.{entry_at}
+use Rattle.sq_proxy.specs.ScriptForm.{script_of}
+
+-- a history, the newest entry first, and how the run ends
+pub record Ran : Type 0 where
+  pub history : History
+  pub end : Status
+
+-- a run that ends before the machine begins
+abbrev pub stopped : Status → Ran
+stopped end = record { history = []; end = end }
+
+-- an answer is an entry, and a refusal ends the run at its line
+abbrev pub answered : History → ℕ → ℕ → Event → Next → Result History Status
+answered h number moment event (gives t) = Ok (entry_at moment event t ∷ h)
+answered h number moment event (refuses r) = Err (ends.Script number)
+answered h number moment event nothing = Err (ends.Script number)
+
+-- line `number` of a script, at the greatest moment so far
+abbrev pub line_step : List Configuration → History → ℕ → Dated → Result History Status
+line_step configs h number d = answered h number (max d.moment (latest h)) d.event (next configs h d.event)
+
+abbrev pub goes_on : History → Result History Status → (History → Ran) → Ran
+goes_on h (Ok t) go = go t
+goes_on h (Err end) go = record { history = h; end = end }
+
+-- the run of these lines, from a number on
+abbrev pub run_lines : List Configuration → History → ℕ → List Dated → Ran
+run_lines configs h number [] = record { history = h; end = ends.Ok }
+run_lines configs h number (d ∷ lines) = goes_on h (line_step configs h number d) (λ t. run_lines configs t (number + 1) lines)
+
+-- the machine begins at the first line's moment, and at 0 for an empty script
+abbrev pub first_moment : List Dated → ℕ
+first_moment [] = 0
+first_moment (d ∷ lines) = d.moment
+
+-- the history of a machine that has begun, with offset 0
+abbrev pub begun : ℕ → History
+begun moment = entry_at moment (Begin (pos 0)) (told.Epoch 1) ∷ []
+
+-- the run of a script
+abbrev pub run_script : Configuration → List Dated → Ran
+run_script config lines = run_lines (config ∷ []) (begun (first_moment lines)) 1 lines
+
+-- the files that are there, as the text of each name
+abbrev pub Disk : Type 0
+Disk = List ℕ → Option (List ℕ)
+
+-- the command `replay CONF SCRIPT`
+pub record Replay : Type 0 where
+  pub conf : List ℕ
+  pub script : List ℕ
+
+-- the command that the words are, the program's name left out
+abbrev pub command_of : List (List ℕ) → Option Replay
+command_of (word ∷ conf ∷ script ∷ []) = if bytes_eq word (codes "replay") then Some (record { conf = conf; script = script }) else None
+command_of words = None
+
+abbrev pub with_script : Configuration → Option (List Dated) → Ran
+with_script config None = stopped (ends.Unbuilt part.Script)
+with_script config (Some lines) = run_script config lines
+
+abbrev pub with_script_text : Configuration → List ℕ → Option (List ℕ) → Ran
+with_script_text config name None = stopped (ends.Missing name)
+with_script_text config name (Some text) = with_script config (script_of text)
+
+abbrev pub with_conf : Disk → List ℕ → Option Configuration → Ran
+with_conf disk script None = stopped (ends.Unbuilt part.Conf)
+with_conf disk script (Some config) = with_script_text config script (disk script)
+
+abbrev pub with_conf_text : Disk → Replay → Option (List ℕ) → Ran
+with_conf_text disk r None = stopped (ends.Missing r.conf)
+with_conf_text disk r (Some text) = with_conf disk r.script (conf_of text)
+
+abbrev pub run_command : Disk → Option Replay → Ran
+run_command disk None = stopped ends.Usage
+run_command disk (Some r) = with_conf_text disk r (disk r.conf)
+
+-- what the words come to over these files
+abbrev pub run_of : Disk → List (List ℕ) → Ran
+run_of disk words = run_command disk (command_of words)
+
+-- a front of this text was written
+abbrev pub WrotePart : Option (List ℕ) → Option (List ℕ) → List ℕ → Type 0
+WrotePart base contents text = Grew base contents (λ part. IsPrefix part text)
+
+-- the run was made and its text written, or a fault ended it and a front of its text was written
+abbrev pub Runs : Option (List ℕ) → Option (List ℕ) → Ran → Status → Type 0
+Runs base contents ran ends.ReadFault = WrotePart base contents (written ran.history)
+Runs base contents ran ends.WriteFault = WrotePart base contents (written ran.history)
+Runs base contents ran ends.WantOfMemory = WrotePart base contents (written ran.history)
+Runs base contents ran end = (end ≡ ran.end) × Appends base contents (written ran.history)
+
+-- the bytes that a command which ends so wrote; the two numbers are the sink's count before and after
+abbrev pub IsOutput : Ran → ℕ → ℕ → Status → List ℕ → Type 0
+IsOutput ran before now ends.Ok bytes = bytes ≡ written ran.history
+IsOutput ran before now ends.WriteFault bytes = IsPrefix bytes (written ran.history)
+IsOutput ran before now ends.WantOfMemory bytes = IsPrefix bytes (written ran.history)
+IsOutput ran before now ends.ReadFault bytes =
+    (part : List ℕ) × IsPrefix part (written ran.history) × IsWritten before now (part ++ last_line ends.ReadFault) bytes
+IsOutput ran before now end bytes = IsWritten before now (written ran.history ++ last_line end) bytes

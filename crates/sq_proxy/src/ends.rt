@@ -1,0 +1,52 @@
+//! How a command ends.
+ghost use Rattle.std.specs.Prelude.{◌≡◌};
+
+use sq_base::Text;
+
+/// A file of a command.
+#[derive(Clone, Copy, PartialEq, Eq, Debug)]
+pub enum Part {
+    Conf,
+    Script,
+}
+
+/// How a command ends. Each has an exit status and, but for three, a last line.
+#[derive(Drop, Debug)]
+pub enum Status {
+    /// The input was read to its end.
+    Ok,
+    /// The words are no command that is built.
+    Usage,
+    /// The event of this line of the script was refused.
+    Script(u64),
+    /// A file could not be read.
+    ReadFault,
+    /// The output could not be written.
+    WriteFault,
+    /// There is no file of this name.
+    Missing(Text),
+    /// There was no memory.
+    WantOfMemory,
+    /// A file is outside the form that is built.
+    Unbuilt(Part),
+}
+
+impl Status {
+    ghost use Rattle.sq_proxy.specs.Ends.{code_of};
+
+    /// The exit status of the process.
+    pub fn code(&self) -> u8
+        ensures { result ≡ code_of self.now }
+    {
+        match self {
+            Status::Ok => 0,
+            Status::Usage => 1,
+            Status::Script(_) => 3,
+            Status::ReadFault => 4,
+            Status::WriteFault => 5,
+            Status::Missing(_) => 7,
+            Status::WantOfMemory => 10,
+            Status::Unbuilt(_) => 11,
+        }
+    }
+}

@@ -1,0 +1,119 @@
+//! The last line of a command, which takes no memory.
+ghost use Rattle.std.specs.Prelude.{◌≡◌, ◌≤◌, ◌++◌, ◌∷◌, [], decimal, OnOk, OnErr};
+ghost use Rattle.std.specs.Io.KnownBytes.{Appends};
+ghost use Rattle.sq_base.specs.Escapes.{escaped, text_word};
+ghost use Rattle.sq_outside.specs.Causes.{HasCause};
+ghost use Rattle.sq_outside.specs.Output.{Grew, IsPrefix, IsWritten};
+ghost use Rattle.sq_proxy.specs.Ends.{last_line, part_word};
+
+use crate::ends::{Part, Status};
+use crate::escapes::ESCAPES;
+use itoa::Buffer;
+use percent_encoding::percent_encode;
+
+use sq_outside::{Failed, Sink, write_all, write_line};
+
+/// What a command answers to words that are none.
+const USAGE: &[u8] = b"usage: aclproxy parse CONF | replay CONF SCRIPT | verify CONF JOURNAL | rehearse N | serve CONF [--port P] [--workers W] [--utc-offset M]";
+
+// Writes bytes escaped, piece by piece.
+fn write_escaped<O: Sink>(out: &mut O, bytes: &[u8]) -> Result<(), Failed>
+    ensures ok { OnOk result (Appends (O.contents out.old) (O.contents out.new) (escaped bytes.now)) }
+    ensures err { OnErr result (Grew (O.contents out.old) (O.contents out.new) (λ part. IsPrefix part (escaped bytes.now))) }
+    ensures cause { HasCause (O.faults out.old) (O.faults out.new) result }
+{
+    for piece in percent_encode(bytes, ESCAPES) {
+        match write_all(out, piece.as_bytes()) {
+            Ok(()) => {}
+            Err(Failed) => return Err(Failed),
+        }
+    }
+    Ok(())
+}
+
+// Writes the word of a text.
+#[tactic(auto, unfolding(sq_base::specs::Escapes::text_word))]
+fn write_text<O: Sink>(out: &mut O, bytes: &[u8]) -> Result<(), Failed>
+    ensures ok { OnOk result (Appends (O.contents out.old) (O.contents out.new) (text_word bytes.now)) }
+    ensures err { OnErr result (Grew (O.contents out.old) (O.contents out.new) (λ part. IsPrefix part (text_word bytes.now))) }
+    ensures cause { HasCause (O.faults out.old) (O.faults out.new) result }
+{
+    if bytes.is_empty() {
+        return write_all(out, b"-");
+    }
+    if bytes == b"-".as_slice() {
+        return write_all(out, b"%2D");
+    }
+    write_escaped(out, bytes)
+}
+
+// Writes a line that ends with the word of a text.
+fn write_text_line<O: Sink>(out: &mut O, head: &[u8], bytes: &[u8]) -> Result<(), Failed>
+    ensures ok { OnOk result (Appends (O.contents out.old) (O.contents out.new) (head.now ++ text_word bytes.now ++ 10 ∷ [])) }
+    ensures err { OnErr result (Grew (O.contents out.old) (O.contents out.new)
+        (λ part. IsPrefix part (head.now ++ text_word bytes.now ++ 10 ∷ []))) }
+    ensures cause { HasCause (O.faults out.old) (O.faults out.new) result }
+{
+    match write_all(out, head) {
+        Ok(()) => {}
+        Err(Failed) => return Err(Failed),
+    }
+    match write_text(out, bytes) {
+        Ok(()) => {}
+        Err(Failed) => return Err(Failed),
+    }
+    match write_all(out, b"\n") {
+        Ok(()) => Ok(()),
+        Err(Failed) => Err(Failed),
+    }
+}
+
+// Writes a line that ends with a number.
+fn write_number_line<O: Sink>(out: &mut O, head: &[u8], number: u64) -> Result<(), Failed>
+    ensures ok { OnOk result (Appends (O.contents out.old) (O.contents out.new) (head.now ++ decimal number ++ 10 ∷ [])) }
+    ensures err { OnErr result (Grew (O.contents out.old) (O.contents out.new)
+        (λ part. IsPrefix part (head.now ++ decimal number ++ 10 ∷ []))) }
+    ensures cause { HasCause (O.faults out.old) (O.faults out.new) result }
+{
+    let mut buffer = Buffer::new();
+    write_line(out, head, buffer.format(number).as_bytes())
+}
+
+// The word of a part.
+fn part_word(part: Part) -> &'static [u8]
+    ensures { result.now ≡ part_word part }
+{
+    match part {
+        Part::Conf => b"conf".as_slice(),
+        Part::Script => b"script".as_slice(),
+    }
+}
+
+// Writes the last line of a status.
+fn write_last_line<O: Sink>(out: &mut O, status: &Status) -> Result<(), Failed>
+    ensures ok { OnOk result (Appends (O.contents out.old) (O.contents out.new) (last_line status.now)) }
+    ensures err { OnErr result (Grew (O.contents out.old) (O.contents out.new) (λ part. IsPrefix part (last_line status.now))) }
+    ensures cause { HasCause (O.faults out.old) (O.faults out.new) result }
+{
+    match status {
+        Status::Usage => write_line(out, USAGE, b""),
+        Status::Script(line) => write_number_line(out, b"error script ", *line),
+        Status::ReadFault => write_line(out, b"error read", b""),
+        Status::Missing(name) => write_text_line(out, b"error missing ", name.as_bytes()),
+        Status::Unbuilt(part) => write_line(out, b"error unbuilt ", part_word(*part)),
+        Status::Ok => write_all(out, b""),
+        Status::WriteFault => write_all(out, b""),
+        Status::WantOfMemory => write_all(out, b""),
+    }
+}
+
+/// Writes the last line, and hands the status on whether or not that succeeds.
+pub fn finish<O: Sink>(out: &mut O, status: Status) -> Status
+    ensures same { result ≡ status }
+    ensures written { Grew (O.contents out.old) (O.contents out.new)
+        (IsWritten (O.faults out.old) (O.faults out.new) (last_line status)) }
+    ensures later { O.faults out.old ≤ O.faults out.new }
+{
+    let _ = write_last_line(out, &status);
+    status
+}
