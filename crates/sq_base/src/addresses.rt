@@ -1,5 +1,6 @@
 //! IP addresses and ranges of them.
 ghost use Rattle.std.specs.Prelude.{◌≡◌};
+ghost use Rattle.sq_base.specs.Addresses.{is_at_most};
 
 use crate::listed::Listed;
 use crate::memory::{Copying, WantOfMemory};
@@ -38,6 +39,28 @@ pub struct Range {
 
 /// A list of ranges.
 pub type Ranges = Listed<Range>;
+
+impl Range {
+    ghost use Rattle.sq_base.specs.Ranges.{in_range};
+
+    /// Whether the address stands in it.
+    pub fn holds(&self, address: Addr) -> bool
+        ensures { result ≡ in_range self.now address }
+    {
+        is_at_most(self.first, address) && is_at_most(address, self.last)
+    }
+}
+
+// Whether the one stands no later than the other.
+fn is_at_most(one: Addr, other: Addr) -> bool
+    ensures { result ≡ is_at_most one other }
+{
+    if one.v6 {
+        other.v6 && one.number <= other.number
+    } else {
+        other.v6 || one.number <= other.number
+    }
+}
 
 impl Copying for Addr {
     fn copy(&self, _alloc: Global) -> Result<Addr, WantOfMemory> {
