@@ -41,7 +41,9 @@ pub fn read_v6(text: &[u8]) -> Option<u128>
 
 /// The address that the text spells.
 pub fn read_addr(text: &[u8]) -> Result<Addr, BadAddress>
-    ensures read { MatchResult result (λ a. address_of text.now ≡ Some a) (λ _. address_of text.now ≡ None) }
+    ensures read { MatchResult result
+        (λ a. address_of text.now ≡ Some a)
+        (λ _. address_of text.now ≡ None) }
     ensures spelled { IfOk result (λ a. Spells text.now a) }
     ensures unspelled { OnErr result ((a : Address) → ¬ (Spells text.now a)) }
 {

@@ -9,7 +9,9 @@ use sq_base::{Addr, Range, number_of};
 /// The range that the text gives: one address, a block, a span or `all`.
 #[tactic(auto, unfolding(sq_base::specs::Ranges::range_of))]
 pub fn read_range(text: &[u8]) -> Result<Range, BadAddress>
-    ensures { MatchResult result (λ r. range_of text.now ≡ Some r) (λ _. range_of text.now ≡ None) }
+    ensures { MatchResult result
+        (λ r. range_of text.now ≡ Some r)
+        (λ _. range_of text.now ≡ None) }
 {
     if text == b"all".as_slice() {
         return Ok(Range {

@@ -1,5 +1,6 @@
 //! IP addresses and ranges of them.
 ghost use Rattle.std.specs.Prelude.{◌≡◌};
+ghost use Rattle.sq_base.specs.Addresses.{is_at_most};
 
 use crate::listed::Listed;
 use crate::memory::{Copying, WantOfMemory};
@@ -26,21 +27,6 @@ impl Model for Addr {
     ghost inverse = { λ a. record { v6 = a.v6; number = a.number } };
 }
 
-impl Addr {
-    ghost use Rattle.sq_base.specs.Addresses.{is_at_most};
-
-    /// Whether it stands no later than the other.
-    pub fn is_at_most(self, other: Addr) -> bool
-        ensures { result ≡ is_at_most self other }
-    {
-        if self.v6 == other.v6 {
-            self.number <= other.number
-        } else {
-            other.v6
-        }
-    }
-}
-
 /// A list of addresses.
 pub type Addrs = Listed<Addr>;
 
@@ -57,11 +43,22 @@ pub type Ranges = Listed<Range>;
 impl Range {
     ghost use Rattle.sq_base.specs.Ranges.{in_range};
 
-    /// Whether the address stands in the range.
-    pub fn has(&self, addr: Addr) -> bool
-        ensures { result ≡ in_range self.now addr }
+    /// Whether the address stands in it.
+    pub fn holds(&self, address: Addr) -> bool
+        ensures { result ≡ in_range self.now address }
     {
-        self.first.is_at_most(addr) && addr.is_at_most(self.last)
+        is_at_most(self.first, address) && is_at_most(address, self.last)
+    }
+}
+
+// Whether the one stands no later than the other.
+fn is_at_most(one: Addr, other: Addr) -> bool
+    ensures { result ≡ is_at_most one other }
+{
+    if one.v6 {
+        other.v6 && one.number <= other.number
+    } else {
+        other.v6 || one.number <= other.number
     }
 }
 

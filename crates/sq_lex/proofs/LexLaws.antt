@@ -1,5 +1,5 @@
 -- Lines of words, one after the other.
-use Rattle.std.proofs.Common.{◌≡◌, ℕ, ◌+◌, ◌++◌, List, [], ◌∷◌, Bool, true, false, refl, sym, ◌∙◌, ap, append_assoc}
+use Rattle.std.proofs.Common.{◌++◌, List}
 use Rattle.sq_base.specs.Lines.{lexed_to}
 use Rattle.sq_base.specs.declared.config_lines.Line.{Line}
 use Rattle.sq_base.specs.declared.config_lines.Lexed.{Lexed}

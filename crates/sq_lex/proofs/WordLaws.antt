@@ -1,5 +1,5 @@
 -- The words of a line, byte by byte.
-use Rattle.std.proofs.Common.{◌≡◌, ◌≢◌, ℕ, ◌+◌, ◌<◌, ◌≤◌, ◌++◌, List, [], ◌∷◌, Bool, true, false, not, ◌&&◌, ◌==◌, All, length, get_or, drop, take_while, filter, refl, sym, ◌∙◌, ap, subst, append_assoc, arith, ne_eqb, eqb-true, one-add}
+use Rattle.std.proofs.Common.{◌≡◌, ℕ, ◌+◌, ◌<◌, ◌≤◌, ◌++◌, List, [], ◌∷◌, Bool, true, false, not, ◌&&◌, ◌==◌, All, length, get_or, drop, take_while, filter, refl, sym, ◌∙◌, ap, append_assoc, arith, eqb-true, one-add}
 use Rattle.std.proofs.Math.ListN.{drop_of_length-le}
 use Rattle.std.proofs.lemmas.List.{append-nil}
 use Rattle.std.proofs.lemmas.List.Elements.{All-append}
@@ -114,46 +114,42 @@ words_skip words words' word word' line i h s blank none e f =
       kept = refl;
     })
 
+both_hold : (a b : Bool) → (a && b) ≡ true → (a ≡ true) × (b ≡ true)
+both_hold true b e = (refl, e)
+both_hold false b e = (e, cc)
+
 -- `#` where no word is under way begins a comment
 pub words_stop : (words : List (List ℕ)) (word line : List ℕ) (i : ℕ) → i < length line → WordsSoFar words word (drop i line) line
-    → get_or line i 0 ≡ 35 → (length word == 0) ≡ true → words ≡ words_of line
-words_stop words word line i h s hash none =
+    → (get_or line i 0 == 35 && length word == 0) ≡ true → words ≡ words_of line
+words_stop words word line i h s begins =
+    let parts = both_hold (get_or line i 0 == 35) (length word == 0) begins in
+    let hash : get_or line i 0 ≡ 35 = eqb-true (get_or line i 0) 35 parts.0 in
     let rest = drop (i + 1) line in
     let shown : words_of (word ++ drop i line) ≡ [] =
-    ap (λ t. words_of (t ++ drop i line)) (no_word word none) ∙ ap words_of (cons_at line i 35 h hash) ∙ words_comment rest in
+    ap (λ t. words_of (t ++ drop i line)) (no_word word parts.1) ∙ ap words_of (cons_at line i 35 h hash) ∙ words_comment rest in
     sym (append-nil words) ∙ ap (λ t. words ++ t) (sym shown) ∙ s.all
 
-kept_longer : (word : List ℕ) (b : ℕ) → (length word == 0) ≡ false → begins_comment word ≡ false → begins_comment (word ++ b ∷ []) ≡ false
-kept_longer [] b some h = cc
-kept_longer (c ∷ cs) b some h = h
+first_fails : (a : Bool) → (a && true) ≡ false → a ≡ false
+first_fails true e = e
+first_fails false e = refl
 
-kept_begun : (word : List ℕ) (b : ℕ) → b ≢ 35 → begins_comment word ≡ false → begins_comment (word ++ b ∷ []) ≡ false
-kept_begun [] b other h = ne_eqb b 35 other
-kept_begun (c ∷ cs) b other h = h
+kept_longer : (word : List ℕ) (b : ℕ) → (b == 35 && length word == 0) ≡ false → begins_comment word ≡ false → begins_comment (word ++ b ∷ []) ≡ false
+kept_longer [] b e h = first_fails (b == 35) e
+kept_longer (c ∷ cs) b e h = h
 
-more_with : (words words' : List (List ℕ)) (word word' line : List ℕ) (i : ℕ) → i < length line → WordsSoFar words word (drop i line) line
-    → is_blank (get_or line i 0) ≡ false → words' ≡ words → word' ≡ word ++ get_or line i 0 ∷ [] → begins_comment (word ++ get_or line i 0 ∷ []) ≡ false
+-- every other byte belongs to the word: inside one, also `#`
+pub words_longer : (words words' : List (List ℕ)) (word word' line : List ℕ) (i : ℕ) → i < length line → WordsSoFar words word (drop i line) line
+    → is_blank (get_or line i 0) ≡ false → (get_or line i 0 == 35 && length word == 0) ≡ false → words' ≡ words → word' ≡ word ++ get_or line i 0 ∷ []
     → WordsSoFar words' word' (drop (i + 1) line) line
-more_with words words' word word' line i h s plain e f kept =
+words_longer words words' word word' line i h s plain goes e f =
     let b = get_or line i 0 in
     let shown : (word ++ b ∷ []) ++ drop (i + 1) line ≡ word ++ drop i line =
     append_assoc word (b ∷ []) (drop (i + 1) line) ∙ ap (λ t. word ++ t) (sym (cons_at line i b h refl)) in
     rw (e, f) (record {
       all = ap (λ t. words ++ words_of t) shown ∙ s.all;
       plain = All-append (λ c. is_blank c ≡ false) word (b ∷ []) s.plain (one_fails is_blank b plain);
-      kept = kept;
+      kept = kept_longer word b goes s.kept;
     })
-
--- every other byte belongs to the word: inside one, also `#`
-pub words_longer : (words words' : List (List ℕ)) (word word' line : List ℕ) (i : ℕ) → i < length line → WordsSoFar words word (drop i line) line
-    → is_blank (get_or line i 0) ≡ false → (length word == 0) ≡ false → words' ≡ words → word' ≡ word ++ get_or line i 0 ∷ []
-    → WordsSoFar words' word' (drop (i + 1) line) line
-words_longer words words' word word' line i h s plain some e f = more_with words words' word word' line i h s plain e f (kept_longer word (get_or line i 0) some s.kept)
-
-pub words_begun : (words words' : List (List ℕ)) (word word' line : List ℕ) (i : ℕ) → i < length line → WordsSoFar words word (drop i line) line
-    → is_blank (get_or line i 0) ≡ false → get_or line i 0 ≢ 35 → words' ≡ words → word' ≡ word ++ get_or line i 0 ∷ []
-    → WordsSoFar words' word' (drop (i + 1) line) line
-words_begun words words' word word' line i h s plain other e f = more_with words words' word word' line i h s plain e f (kept_begun word (get_or line i 0) other s.kept)
 
 at_end : (words : List (List ℕ)) (word line : List ℕ) (i : ℕ) → length line ≤ i → WordsSoFar words word (drop i line) line → words ++ words_of word ≡ words_of line
 at_end words word line i h s = ap (λ t. words ++ words_of t) (sym (ap (λ t. word ++ t) (drop_of_length-le line h) ∙ append-nil word)) ∙ s.all

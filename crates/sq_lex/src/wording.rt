@@ -1,5 +1,5 @@
 //! The words of a line.
-ghost use Rattle.std.specs.Prelude.{◌≡◌, IfOk};
+ghost use Rattle.std.specs.Prelude.{◌≡◌, ◌&&◌, ◌==◌, length, IfOk};
 ghost use Rattle.sq_base.specs.Lines.{is_blank, is_comment, words_of};
 
 use sq_base::{Listed, Text, Texts, WantOfMemory};
@@ -9,6 +9,13 @@ fn is_blank(byte: u8) -> bool
     ensures { result ≡ is_blank byte }
 {
     byte == b' ' || byte == b'\t'
+}
+
+// Whether the byte begins a comment: `#` where no word is under way.
+fn begins_comment(word: &Text, byte: u8) -> bool
+    ensures { result ≡ (byte == 35 && length word.now == 0) }
+{
+    byte == b'#' && word.is_empty()
 }
 
 /// Whether the first word begins a comment.
@@ -35,7 +42,7 @@ pub fn words_of(alloc: Global, line: &[u8]) -> Result<Texts, WantOfMemory>
                 words.push(word)?;
                 word = Text::new(alloc);
             }
-        } else if byte == b'#' && word.is_empty() {
+        } else if begins_comment(&word, byte) {
             return Ok(words);
         } else {
             word.push(byte)?;

@@ -13,7 +13,7 @@ use sq_rules::{Acl, Body, Config, Leaf, Outcome, PortRange, Rule, Term, Why};
 fn src_holds(ranges: &[Range], addr: Addr) -> bool
     ensures { result ≡ list_any (λ r. in_range r addr) ranges.now }
 {
-    ranges.iter().any(|r| r.has(addr))
+    ranges.iter().any(|r| r.holds(addr))
 }
 
 fn port_holds(ranges: &[PortRange], port: u16) -> bool

@@ -1,12 +1,12 @@
 use Rattle.std.proofs.Common.{sym, ◌∙◌}
-use Rattle.sq_lex.proofs.WordLaws.{words_end, words_skip, words_stop, words_longer, words_begun, words_last_one, words_no_more}
+use Rattle.sq_lex.proofs.WordLaws.{words_end, words_skip, words_stop, words_longer, words_last_one, words_no_more}
 use Rattle.sq_lex.proofs.wording.words_of.Goals as goal
-use Rattle.sq_lex.proofs.wording.words_of.Goals.{then-is_blank+then-not-is_empty+in_ok-push, then-is_blank+else-not-is_empty, else-is_blank+else-byte-eq35+in_ok-push-2, else-byte-eq35-via-then-byte-eq35+else-is_empty, else-byte-eq35-via-else-byte-eq35, then-not-is_empty-2+in_ok-push-3, else-not-is_empty-2}
+use Rattle.sq_lex.proofs.wording.words_of.Goals.{then-is_blank+then-not-is_empty+in_ok-push, then-is_blank+else-not-is_empty, else-is_blank+else-begins_comment+in_ok-push-2, then-not-is_empty-2+in_ok-push-3, else-not-is_empty-2}
 
-pub returns-then-is_empty : goal.returns-then-is_empty
-returns-then-is_empty c =
-    words_stop c.loop-byte.words c.loop-byte.word c.args.line.now c.loop-byte.byte-index c.loop-byte-test.true c.loop-byte.invariant c.if-byte-eq35.true
-    (sym c.is_empty-then-byte-eq35.ensures ∙ c.if-is_empty.true)
+pub returns-then-begins_comment : goal.returns-then-begins_comment
+returns-then-begins_comment c =
+    words_stop c.loop-byte.words c.loop-byte.word c.args.line.now c.loop-byte.byte-index c.loop-byte-test.true c.loop-byte.invariant
+    (sym c.begins_comment.ensures ∙ c.if-begins_comment.true)
 
 pub loop-byte-preserved : goal.loop-byte-preserved
 loop-byte-preserved c =
@@ -19,17 +19,10 @@ loop-byte-preserved c =
           words_skip c.loop-byte.words c.if-is_blank.words c.loop-byte.word c.if-is_blank.word c.args.line.now c.loop-byte.byte-index c.loop-byte-test.true c.loop-byte.invariant
           (sym c.is_blank.ensures ∙ w.if-is_blank.true) (sym w.is_empty.ensures ∙ w.if-not-is_empty.false)
           w.words-is w.word-is
-      | else-is_blank+else-byte-eq35+in_ok-push-2 w ↦
-          elim w.else-byte-eq35.branch [
-            | else-byte-eq35-via-then-byte-eq35+else-is_empty v ↦
-                words_longer c.loop-byte.words c.if-is_blank.words c.loop-byte.word c.if-is_blank.word c.args.line.now c.loop-byte.byte-index c.loop-byte-test.true c.loop-byte.invariant
-                (sym c.is_blank.ensures ∙ w.if-is_blank.false) (sym v.is_empty-then-byte-eq35.ensures ∙ v.if-is_empty.false)
-                w.words-is (w.word-is ∙ w.in_ok-push-2.ensures.ok)
-            | else-byte-eq35-via-else-byte-eq35 v ↦
-                words_begun c.loop-byte.words c.if-is_blank.words c.loop-byte.word c.if-is_blank.word c.args.line.now c.loop-byte.byte-index c.loop-byte-test.true c.loop-byte.invariant
-                (sym c.is_blank.ensures ∙ w.if-is_blank.false) v.if-byte-eq35.false
-                w.words-is (w.word-is ∙ w.in_ok-push-2.ensures.ok)
-          ]
+      | else-is_blank+else-begins_comment+in_ok-push-2 w ↦
+          words_longer c.loop-byte.words c.if-is_blank.words c.loop-byte.word c.if-is_blank.word c.args.line.now c.loop-byte.byte-index c.loop-byte-test.true c.loop-byte.invariant
+          (sym c.is_blank.ensures ∙ w.if-is_blank.false) (sym w.begins_comment.ensures ∙ w.if-begins_comment.false)
+          w.words-is (w.word-is ∙ w.in_ok-push-2.ensures.ok)
     ]
 
 pub returns : goal.returns
