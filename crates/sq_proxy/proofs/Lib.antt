@@ -13,3 +13,4 @@ pub mod EscapeLaws
 pub mod SpaceLaws
 pub mod HalfwayLaws
 pub mod PlayLaws
+pub mod PlainLaws

@@ -1,5 +1,7 @@
 -- A run line by line.
-use Rattle.std.proofs.Common.{◌≡◌, ◌⊎◌, ℕ, ◌+◌, ◌≤◌, List, [], ◌∷◌, ◌++◌, Bool, true, false, not, ◌&&◌, is_some, max, Some, None, Result, Ok, Err, refl, sym, ap, ◌∙◌, arith, subst, append_assoc, append-nil, codes}
+use Rattle.std.proofs.Common.{◌≡◌, ◌⊎◌, ℕ, ◌+◌, ◌≤◌, List, [], ◌∷◌, ◌++◌, Bool, true, false, not, ◌&&◌, is_some, max, Some, None, Result, Ok, Err, refl, sym, ap, ◌∙◌, arith, ◌<◌, length, get_or, drop, add-one, drop-cons, subst, codes, pos}
+use Rattle.std.proofs.Math.ListN.{drop_of_length-le}
+use Rattle.sq_proxy.specs.Plain.{are_plain}
 use Rattle.std.proofs.KnownBytes.{Appends-trans}
 use Rattle.std.specs.Io.KnownBytes.{Appends}
 use Rattle.std.specs.Option.{option_map}
@@ -11,6 +13,7 @@ use Rattle.sq_base.specs.Targets.{Target, target_of}
 use Rattle.sq_rules.specs.declared.entries.Event.{Event}
 use Rattle.sq_rules.specs.declared.entries.Event.TheVariants.{Begin, Open, Close, Ask, Step, Take}
 use Rattle.sq_rules.specs.declared.entries.Told.{Told}
+use Rattle.sq_rules.specs.declared.entries.Told.TheVariants as told
 use Rattle.sq_rules.specs.declared.refusals.Refusal.{Refusal}
 use Rattle.sq_rules.specs.Configurations.{Configuration}
 use Rattle.sq_rules.specs.Entries.{Noted, History}
@@ -21,7 +24,7 @@ use Rattle.sq_proxy.specs.declared.ends.Status.TheVariants as ends
 use Rattle.sq_proxy.specs.declared.script_form.Dated.{Dated}
 use Rattle.sq_proxy.specs.EntryText.{entry_text, written}
 use Rattle.sq_proxy.specs.Machines.{View, StandsFor, IsMade, IsRefused, entry_at, is_plain}
-use Rattle.sq_proxy.specs.RunText.{Ran, answered, line_step, goes_on, run_lines, WrotePart, Runs}
+use Rattle.sq_proxy.specs.RunText.{Ran, answered, line_step, goes_on, run_lines, run_script, begun, first_moment, WrotePart, Runs}
 use Rattle.sq_proxy.specs.ScriptForm.{target_port}
 use Rattle.sq_proxy.proofs.TargetLaws.{port_is}
 
@@ -56,7 +59,7 @@ plain-begin (Step c) p = refl
 plain-begin (Take c) p = refl
 
 some-port : (o : Option Target) (q : Option ℕ) → option_map (λ r. r.port) o ≡ q → is_some q ≡ true → is_some o ≡ true
-some-port None q e p = rw e p
+some-port None q e p = ap is_some e ∙ p
 some-port (Some t) q e p = refl
 
 first-of : (a b : Bool) → (a && b) ≡ true → a ≡ true
@@ -88,3 +91,109 @@ legal-more : (configs : List Configuration) (h : History) (moment : ℕ) (event 
     → next configs h event ≡ gives t → Legal configs (entry_at moment event t ∷ h)
 legal-more configs [] moment event t legal p l n = absurd legal
 legal-more configs (e ∷ h) moment event t legal p l n = (legal, plain-begin event p, plain-target event p, l, n)
+
+-- a front of the run's text was written
+pub going-part : (v : View) (base contents : Option (List ℕ)) (configs : List Configuration) (whole : Ran) (number : ℕ) (lines : List Dated)
+    → Going v base contents configs whole number lines → WrotePart base contents (written whole.history)
+going-part v base contents configs whole number lines g =
+    Grew-of base contents (written g.history) (λ part. IsPrefix part (written whole.history)) g.wrote
+    (subst (λ (r : Ran). IsPrefix (written g.history) (written r.history)) g.same (run-grows configs g.history number lines))
+
+-- no line is left
+pub going-done : (v : View) (base contents : Option (List ℕ)) (configs : List Configuration) (whole : Ran) (number : ℕ)
+    → Going v base contents configs whole number [] → Runs base contents whole ends.Ok
+going-done v base contents configs whole number g =
+    subst (λ (r : Ran). Runs base contents r ends.Ok) g.same (refl, g.wrote)
+
+-- the next line is refused
+pub going-refused : (v w : View) (base contents : Option (List ℕ)) (configs : List Configuration) (whole : Ran) (number : ℕ) (d : Dated) (lines : List Dated) (r : Refusal)
+    → Going v base contents configs whole number (d ∷ lines) → IsRefused v w d.event r → Runs base contents whole (ends.Script number)
+going-refused v w base contents configs whole number d lines r g k =
+    let h = g.history in
+    let run = λ (n : Next). goes_on h (answered h number (max d.moment (latest h)) d.event n) (λ t. run_lines configs t (number + 1) lines) in
+    let same : run (refuses r) ≡ whole = ap run (sym (k.answers configs h g.legal g.stands)) ∙ g.same in
+    subst (λ (x : Ran). Runs base contents x (ends.Script number)) same (refl, g.wrote)
+
+-- the next line is made
+pub record Goes (v w : View) (base contents : Option (List ℕ)) (configs : List Configuration) (whole : Ran) (number : ℕ) (d : Dated) (lines : List Dated) (t : Told) : Type 0 where
+  pub history : History
+  pub legal : Legal configs (entry_at w.latest d.event t ∷ history)
+  pub stands : StandsFor w configs (entry_at w.latest d.event t ∷ history)
+  pub wrote : Appends base contents (written history)
+  pub same : run_lines configs (entry_at w.latest d.event t ∷ history) (number + 1) lines ≡ whole
+
+pub going-made : (v w : View) (base contents : Option (List ℕ)) (configs : List Configuration) (whole : Ran) (number : ℕ) (d : Dated) (lines : List Dated) (t : Told)
+    → Going v base contents configs whole number (d ∷ lines) → is_plain d.event ≡ true → IsMade v w d.moment d.event t → Goes v w base contents configs whole number d lines t
+going-made v w base contents configs whole number d lines t g plain k =
+    let h = g.history in
+    let moment = max d.moment v.latest in
+    let go = λ (x : History). run_lines configs x (number + 1) lines in
+    let run = λ (n : Next). goes_on h (answered h number (max d.moment (latest h)) d.event n) go in
+    let stands = k.stands configs h g.legal g.stands in
+    let is : w.latest ≡ moment = stands.latest_is in
+    let next_is = k.answers configs h g.legal g.stands in
+    let same : go (entry_at (max d.moment (latest h)) d.event t ∷ h) ≡ whole = ap run (sym next_is) ∙ g.same in
+    let at : max d.moment (latest h) ≡ w.latest = ap (max d.moment) (sym g.stands.latest_is) ∙ sym is in
+    let late : latest h ≤ moment = let l : v.latest ≡ latest h = g.stands.latest_is in omega arith in
+    record {
+      history = h;
+      legal = subst (λ m. Legal configs (entry_at m d.event t ∷ h)) (sym is) (legal-more configs h moment d.event t g.legal plain late next_is);
+      stands = subst (λ m. StandsFor w configs (entry_at m d.event t ∷ h)) (sym is) stands;
+      wrote = g.wrote;
+      same = ap (λ m. go (entry_at m d.event t ∷ h)) (sym at) ∙ same;
+    }
+
+-- and its text is written
+pub goes-told : (v w : View) (base before contents : Option (List ℕ)) (configs : List Configuration) (whole : Ran) (number : ℕ) (d : Dated) (lines : List Dated) (t : Told)
+    → Goes v w base before configs whole number d lines t → Appends before contents (entry_text (entry_at w.latest d.event t))
+    → Going w base contents configs whole (number + 1) lines
+goes-told v w base before contents configs whole number d lines t g wrote = record {
+  history = entry_at w.latest d.event t ∷ g.history;
+  legal = g.legal;
+  stands = g.stands;
+  wrote = Appends-trans base before contents (written g.history) (entry_text (entry_at w.latest d.event t)) g.wrote wrote;
+  same = g.same;
+}
+
+-- or a front of it
+pub goes-part : (v w : View) (base before contents : Option (List ℕ)) (configs : List Configuration) (whole : Ran) (number : ℕ) (d : Dated) (lines : List Dated) (t : Told)
+    → Goes v w base before configs whole number d lines t → Grew before contents (λ part. IsPrefix part (entry_text (entry_at w.latest d.event t)))
+    → WrotePart base contents (written whole.history)
+goes-part v w base before contents configs whole number d lines t g grew =
+    let h = entry_at w.latest d.event t ∷ g.history in
+    Grew-map base contents _ _
+      (λ bytes p. IsPrefix-trans bytes (written h) (written whole.history) p
+        (subst (λ (r : Ran). IsPrefix (written h) (written r.history)) g.same (run-grows configs h (number + 1) lines)))
+      (Grew-after base before contents (written g.history) (entry_text (entry_at w.latest d.event t)) g.wrote grew)
+
+-- the lines from a place on begin with the one that stands there
+pub lines-at : (lines : List Dated) (i : ℕ) (d : Dated) → i < length lines → d ≡ get_or lines i d → drop i lines ≡ d ∷ drop (i + 1) lines
+lines-at lines i d l e =
+    let cons : drop i lines ≡ get_or lines i d ∷ drop (i + 1) lines = rw (add-one) (drop-cons lines i d l) in
+    cons ∙ ap (λ x. x ∷ drop (i + 1) lines) (sym e)
+
+-- the state before the next line
+pub going-at : (v : View) (base contents : Option (List ℕ)) (configs : List Configuration) (whole : Ran) (number i : ℕ) (lines : List Dated) (d : Dated)
+    → i < length lines → d ≡ get_or lines i d → Going v base contents configs whole number (drop i lines) → Going v base contents configs whole number (d ∷ drop (i + 1) lines)
+going-at v base contents configs whole number i lines d l e g = subst (Going v base contents configs whole number) (lines-at lines i d l e) g
+
+pub going-end : (v : View) (base contents : Option (List ℕ)) (configs : List Configuration) (whole : Ran) (number i : ℕ) (lines : List Dated)
+    → length lines ≤ i → Going v base contents configs whole number (drop i lines) → Runs base contents whole ends.Ok
+going-end v base contents configs whole number i lines l g =
+    going-done v base contents configs whole number (subst (Going v base contents configs whole number) (drop_of_length-le lines l) g)
+
+pub plain-at : (lines : List Dated) (i : ℕ) (d : Dated) → i < length lines → d ≡ get_or lines i d → are_plain (drop i lines) ≡ true → is_plain d.event ≡ true
+plain-at lines i d l e p = first-of (is_plain d.event) (are_plain (drop (i + 1) lines)) (ap are_plain (sym (lines-at lines i d l e)) ∙ p)
+
+pub plain-after : (lines : List Dated) (i : ℕ) (d : Dated) → i < length lines → d ≡ get_or lines i d → are_plain (drop i lines) ≡ true → are_plain (drop (i + 1) lines) ≡ true
+plain-after lines i d l e p = second-of (is_plain d.event) (are_plain (drop (i + 1) lines)) (ap are_plain (sym (lines-at lines i d l e)) ∙ p)
+
+-- a front of the first entry's text is one of the run's
+pub begin-part : (a b : Option (List ℕ)) (config : Configuration) (lines : List Dated) (m : ℕ) → m ≡ first_moment lines
+    → Grew a b (λ part. IsPrefix part (entry_text (entry_at m (Begin (pos 0)) (told.Epoch 1)))) → WrotePart a b (written (run_script config lines).history)
+begin-part a b config lines m e grew =
+    Grew-map a b _ _
+      (λ bytes p. IsPrefix-trans bytes (entry_text (entry_at (first_moment lines) (Begin (pos 0)) (told.Epoch 1))) _
+        (subst (λ n. IsPrefix bytes (entry_text (entry_at n (Begin (pos 0)) (told.Epoch 1)))) e p)
+        (run-grows (config ∷ []) (begun (first_moment lines)) 1 lines))
+      grew

@@ -1,9 +1,11 @@
 -- How a command ends: its last line, its exit status, and the bytes that it wrote.
-use Rattle.std.specs.Prelude.{◌≡◌, ◌⊎◌, ℕ, ◌≤◌, List, [], ◌∷◌, ◌++◌, codes, decimal}
+use Rattle.std.specs.Prelude.{◌≡◌, ◌⊎◌, ℕ, ◌≤◌, List, [], ◌∷◌, ◌++◌, codes, decimal, Result}
+use Rattle.std.specs.declared.result.Result.TheVariants as result
 use Rattle.std.specs.declared.option.Option.{Option}
 use Rattle.std.specs.Io.KnownBytes.{Appends}
 use Rattle.sq_base.specs.Escapes.{text_word}
 use Rattle.sq_outside.specs.Causes.{Rose}
+use Rattle.sq_outside.specs.Told.{Texts, IsNotTold}
 use Rattle.sq_outside.specs.Output.{Grew, IsPrefix, IsWritten}
 use Rattle.sq_proxy.specs.declared.ends.Part.{Part}
 use Rattle.sq_proxy.specs.declared.ends.Part.TheVariants as part
@@ -65,3 +67,30 @@ pub record HasCauses (files_before files_now out_before out_now : ℕ) (status :
   pub out_later : out_before ≤ out_now
   pub read : status ≡ ReadFault → Rose files_before files_now
   pub write : status ≡ WriteFault → Rose out_before out_now
+
+-- a run of a script ends by these alone
+abbrev pub IsPlayEnd : Status → Type 0
+IsPlayEnd Ok = Unit {0}
+IsPlayEnd (Script line) = Unit {0}
+IsPlayEnd WriteFault = Unit {0}
+IsPlayEnd WantOfMemory = Unit {0}
+IsPlayEnd status = ⊥
+
+-- a file that cannot be had ends a command by these alone, and misses only this name
+abbrev pub IsOpenEnd : Texts → List ℕ → Status → Type 0
+IsOpenEnd texts name ReadFault = Unit {0}
+IsOpenEnd texts name WantOfMemory = Unit {0}
+IsOpenEnd texts name (Unbuilt p) = Unit {0}
+IsOpenEnd texts name (Missing other) = (other ≡ name) × IsNotTold texts name
+IsOpenEnd texts name status = ⊥
+
+-- it misses this name, or there was no memory to say so
+abbrev pub IsMissingOr : List ℕ → Status → Type 0
+IsMissingOr name (Missing other) = other ≡ name
+IsMissingOr name WantOfMemory = Unit {0}
+IsMissingOr name status = ⊥
+
+-- reading a file comes to what the stage is, or to a fault
+abbrev pub Comes : {A : Type 0} → Result A Status → Result A Status → Type 0
+Comes (result.Ok a) stage = stage ≡ result.Ok a
+Comes (result.Err end) stage = (stage ≡ result.Err end) ⊎ IsFault end

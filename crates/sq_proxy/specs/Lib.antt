@@ -4,6 +4,7 @@ pub mod Ends
 pub mod EntryText
 pub mod Forms
 pub mod Machines
+pub mod Making
 pub mod Pieces
 pub mod Plain
 pub mod RunText

@@ -10,6 +10,7 @@ use Rattle.sq_rules.specs.Configurations.{Configuration}
 use Rattle.sq_rules.specs.Entries.{Noted, History}
 use Rattle.sq_rules.specs.Machine.{Next, gives, refuses, nothing, next}
 use Rattle.sq_rules.specs.Readings.{latest}
+use Rattle.sq_proxy.specs.declared.ends.Part.{Part}
 use Rattle.sq_proxy.specs.declared.ends.Part.TheVariants as part
 use Rattle.sq_proxy.specs.declared.ends.Status.{Status}
 use Rattle.sq_proxy.specs.declared.ends.Status.TheVariants as ends
@@ -75,25 +76,39 @@ abbrev pub command_of : List (List ℕ) → Option Replay
 command_of (word ∷ conf ∷ script ∷ []) = if bytes_eq word (codes "replay") then Some (record { conf = conf; script = script }) else None
 command_of words = None
 
-abbrev pub with_script : Configuration → Option (List Dated) → Ran
-with_script config None = stopped (ends.Unbuilt part.Script)
-with_script config (Some lines) = run_script config lines
+-- the file is one that the command names
+abbrev pub IsNamed : Option Replay → List ℕ → Type 0
+IsNamed None name = ⊥
+IsNamed (Some r) name = (name ≡ r.conf) ⊎ (name ≡ r.script)
 
-abbrev pub with_script_text : Configuration → List ℕ → Option (List ℕ) → Ran
-with_script_text config name None = stopped (ends.Missing name)
-with_script_text config name (Some text) = with_script config (script_of text)
+-- what a text of the form states, or that it is outside the form
+abbrev pub built : {A : Type 0} → Part → Option A → Result A Status
+built p None = Err (ends.Unbuilt p)
+built p (Some a) = Ok a
 
-abbrev pub with_conf : Disk → List ℕ → Option Configuration → Ran
-with_conf disk script None = stopped (ends.Unbuilt part.Conf)
-with_conf disk script (Some config) = with_script_text config script (disk script)
+-- the configuration of a file that has this text, if it is there
+abbrev pub conf_stage : List ℕ → Option (List ℕ) → Result Configuration Status
+conf_stage name None = Err (ends.Missing name)
+conf_stage name (Some text) = built part.Conf (conf_of text)
 
-abbrev pub with_conf_text : Disk → Replay → Option (List ℕ) → Ran
-with_conf_text disk r None = stopped (ends.Missing r.conf)
-with_conf_text disk r (Some text) = with_conf disk r.script (conf_of text)
+-- the script of a file that has this text, if it is there
+abbrev pub script_stage : List ℕ → Option (List ℕ) → Result (List Dated) Status
+script_stage name None = Err (ends.Missing name)
+script_stage name (Some text) = built part.Script (script_of text)
+
+-- one stage after another
+abbrev pub staged : {A : Type 0} → Result A Status → (A → Ran) → Ran
+staged (Ok a) go = go a
+staged (Err end) go = stopped end
+
+-- first the configuration is read, then the script, and then it is run
+abbrev pub run_replay : Disk → Replay → Ran
+run_replay disk r =
+    staged (conf_stage r.conf (disk r.conf)) (λ config. staged (script_stage r.script (disk r.script)) (λ lines. run_script config lines))
 
 abbrev pub run_command : Disk → Option Replay → Ran
 run_command disk None = stopped ends.Usage
-run_command disk (Some r) = with_conf_text disk r (disk r.conf)
+run_command disk (Some r) = run_replay disk r
 
 -- what the words come to over these files
 abbrev pub run_of : Disk → List (List ℕ) → Ran

@@ -2,6 +2,7 @@
 #![tactic(auto)]
 
 mod checks;
+mod command;
 mod conf_form;
 mod conf_values;
 mod draft;
@@ -14,6 +15,7 @@ mod pieces;
 mod play;
 mod printing;
 mod script_form;
+mod stages;
 mod tables;
 mod targets;
 mod unformed;

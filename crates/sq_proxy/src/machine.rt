@@ -20,6 +20,13 @@ const CONN_LIMIT: usize = 65_536;
 /// The number that is never given.
 const LAST_NUMBER: u64 = 0x7FFF_FFFF_FFFF_FFFF;
 
+/// Why an event was not made.
+#[derive(Clone, Copy, PartialEq, Eq, Debug)]
+pub enum Stop {
+    Refused,
+    WantOfMemory,
+}
+
 /// The machine.
 #[derive(Drop)]
 pub struct Machine {
@@ -48,6 +55,7 @@ fn later(now: Moment, latest: Moment) -> Moment
 impl Machine {
     ghost use Rattle.sq_rules.specs.declared.entries.Told.TheVariants as told;
     ghost use Rattle.sq_proxy.specs.Machines.{IsCall, StandsFor, entry_at, is_plain};
+    ghost use Rattle.sq_proxy.specs.Making.{IsMaking};
 
     /// The machine that begins at this moment, at offset 0.
     pub fn new(alloc: Global, config: Config, now: Moment) -> Machine
@@ -70,7 +78,19 @@ impl Machine {
     }
 
     /// Makes an event, or refuses it and changes nothing.
-    pub fn apply(&mut self, event: &Event, now: Moment) -> Result<Told, Refusal>
+    pub fn make(&mut self, event: &Event, now: Moment) -> Result<Told, Stop>
+        requires { is_plain event.now ≡ true }
+        ensures { IsMaking self.old self.new now event.now result }
+    {
+        match self.apply(event, now) {
+            Ok(told) => Ok(told),
+            Err(Refusal::WantOfMemory) => Err(Stop::WantOfMemory),
+            Err(_) => Err(Stop::Refused),
+        }
+    }
+
+    // The same with the refusal.
+    fn apply(&mut self, event: &Event, now: Moment) -> Result<Told, Refusal>
         requires { is_plain event.now ≡ true }
         ensures { IsCall self.old self.new now event.now result }
     {

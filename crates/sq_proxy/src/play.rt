@@ -6,6 +6,7 @@ ghost use Rattle.sq_outside.specs.Output.{Grew, IsPrefix};
 ghost use Rattle.sq_rules.specs.Configurations.{Configuration};
 ghost use Rattle.sq_rules.specs.Entries.{History};
 ghost use Rattle.sq_rules.specs.Machine.{Legal};
+ghost use Rattle.sq_proxy.specs.Ends.{IsPlayEnd};
 ghost use Rattle.sq_proxy.specs.EntryText.{entry_text, written};
 ghost use Rattle.sq_proxy.specs.Machines.{StandsFor, entry_at};
 ghost use Rattle.sq_proxy.specs.RunText.{run_script, run_lines, first_moment, Runs, WrotePart};
@@ -13,12 +14,12 @@ ghost use Rattle.sq_proxy.specs.Plain.{are_plain};
 ghost use Rattle.sq_proxy.specs.declared.ends.Status.TheVariants as ends;
 
 use crate::ends::Status;
-use crate::machine::Machine;
+use crate::machine::{Machine, Stop};
 use crate::printing::put_entry;
 use crate::script_form::Dated;
 use sq_base::{EpochNo, Moment, Text, WantOfMemory};
 use sq_outside::{Failed, Sink, write_all};
-use sq_rules::{Config, Event, Offset, Refusal, Told};
+use sq_rules::{Config, Event, Offset, Told};
 use std::alloc::Global;
 
 /// Why an entry was not written.
@@ -60,14 +61,14 @@ fn play_lines<O: Sink>(alloc: Global, machine: &mut Machine, script: &[Dated], o
         → Appends base (O.contents out.old) (written h) → Runs base (O.contents out.new) (run_lines configs h 1 script.now) result }
     ensures later { O.faults out.old ≤ O.faults out.new }
     ensures write { result ≡ ends.WriteFault → Rose (O.faults out.old) (O.faults out.new) }
-    ensures no_read { result ≡ ends.ReadFault → ⊥ }
+    ensures end { IsPlayEnd result }
 {
     let mut number = 1;
     for dated in script {
-        let told = match machine.apply(&dated.event, dated.moment) {
+        let told = match machine.make(&dated.event, dated.moment) {
             Ok(told) => told,
-            Err(Refusal::WantOfMemory) => return Status::WantOfMemory,
-            Err(_) => return Status::Script(number),
+            Err(Stop::WantOfMemory) => return Status::WantOfMemory,
+            Err(Stop::Refused) => return Status::Script(number),
         };
         match tell(alloc, machine.latest(), &dated.event, &told, out) {
             Ok(()) => {}
@@ -95,7 +96,7 @@ pub fn play<O: Sink>(alloc: Global, config: Config, script: &[Dated], out: &mut 
     ensures runs { Runs (O.contents out.old) (O.contents out.new) (run_script config script.now) result }
     ensures later { O.faults out.old ≤ O.faults out.new }
     ensures write { result ≡ ends.WriteFault → Rose (O.faults out.old) (O.faults out.new) }
-    ensures no_read { result ≡ ends.ReadFault → ⊥ }
+    ensures end { IsPlayEnd result }
 {
     let moment = first_moment(script);
     let begin = Event::Begin { offset: Offset(0) };
