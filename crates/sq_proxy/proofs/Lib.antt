@@ -14,3 +14,4 @@ pub mod SpaceLaws
 pub mod HalfwayLaws
 pub mod PlayLaws
 pub mod PlainLaws
+pub mod EndLaws

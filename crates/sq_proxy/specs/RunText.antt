@@ -3,6 +3,7 @@ use Rattle.std.specs.Prelude.{◌≡◌, ◌⊎◌, ℕ, ◌+◌, List, [], ◌�
 use Rattle.std.specs.declared.option.Option.{Option}
 use Rattle.std.specs.Io.KnownBytes.{Appends}
 use Rattle.sq_outside.specs.Output.{Grew, IsPrefix, IsWritten}
+use Rattle.sq_outside.specs.Told.{Texts, IsNotTold}
 use Rattle.sq_rules.specs.declared.entries.Event.{Event}
 use Rattle.sq_rules.specs.declared.entries.Event.TheVariants.{Begin}
 use Rattle.sq_rules.specs.declared.entries.Told.TheVariants as told
@@ -133,3 +134,9 @@ IsOutput ran before now ends.WantOfMemory bytes = IsPrefix bytes (written ran.hi
 IsOutput ran before now ends.ReadFault bytes =
     (part : List ℕ) × IsPrefix part (written ran.history) × IsWritten before now (part ++ last_line ends.ReadFault) bytes
 IsOutput ran before now end bytes = IsWritten before now (written ran.history ++ last_line end) bytes
+
+-- a replay ends by no usage, and misses only a file that it names and that is not told
+abbrev pub IsReplayEnd : Texts → Replay → Status → Type 0
+IsReplayEnd texts r ends.Usage = ⊥
+IsReplayEnd texts r (ends.Missing name) = ((name ≡ r.conf) ⊎ (name ≡ r.script)) × IsNotTold texts name
+IsReplayEnd texts r status = Unit {0}

@@ -1,4 +1,9 @@
 //! The program's commands over files and a sink that are handed in.
+//!
+//! `proxy` is the top call. It promises what it writes and how it ends, for every list of words, all
+//! files and every sink: a run's text is that of the machine's history, whose answers are each the next
+//! one by the definitions of the rules; each status has its cause.
+//! `replay CONF SCRIPT` is built so far, over configurations and scripts of a small form.
 #![tactic(auto)]
 
 mod checks;
@@ -18,4 +23,8 @@ mod script_form;
 mod stages;
 mod tables;
 mod targets;
+mod top;
 mod unformed;
+
+pub use ends::{Part, Status};
+pub use top::proxy;

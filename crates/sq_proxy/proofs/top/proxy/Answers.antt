@@ -1,0 +1,11 @@
+use Rattle.sq_proxy.specs.RunText.{run_of}
+use Rattle.sq_proxy.proofs.EndLaws.{joined-told}
+use Rattle.sq_proxy.proofs.top.proxy.Goals as goal
+
+pub returns-clause-bytes : goal.returns-clause-bytes
+returns-clause-bytes g c =
+    let contents = g.O.Sink.contents in
+    let faults = g.O.Sink.faults in
+    joined-told (g.F.Files.texts c.args.files.now) (contents c.args.out.now) (contents c.run-status.new.out) (contents c.finish.new.out)
+        (λ disk. run_of disk c.args.words.now) (faults c.args.out.now) (faults c.run-status.new.out) (faults c.finish.new.out)
+        c.run-status.result c.finish.result c.finish.ensures.same c.run-status.ensures.causes.out_later c.run-status.ensures.runs c.finish.ensures.written
