@@ -1,0 +1,4 @@
+pub mod Causing
+pub mod Opening
+pub mod Places
+pub mod Writing
