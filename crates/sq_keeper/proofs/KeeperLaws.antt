@@ -4,7 +4,7 @@ use Rattle.std.specs.declared.option.Option.{Option}
 use Rattle.std.specs.Io.KnownBytes.{Consumes, Keeps}
 use Rattle.std.proofs.KnownBytes.{Consumes-nil, Consumes-trans, Consumes-kept}
 use Rattle.sq_keeper.specs.declared.desk.Handed.{Handed}
-use Rattle.sq_keeper.specs.declared.desk.Handed.TheVariants.{Died}
+use Rattle.sq_keeper.specs.declared.desk.Handed.TheVariants.{Stop, Died}
 use Rattle.sq_keeper.specs.declared.keeper.KeeperEnd.TheVariants.{Ended, ReadFault, Told, WantOfMemory}
 use Rattle.sq_keeper.specs.Handing.{Adds}
 use Rattle.sq_keeper.specs.Lines.{lines_handed, ReadsLines}
@@ -43,6 +43,11 @@ goes_on proc a b c x y z line longer bytes s k w =
       gathers = w.1 ∙ ap (λ l. walk_line l bytes) s.gathers ∙ sym (walk_line-append [] s.read bytes);
     }
 
+stopped : (proc : ℕ) (line read bytes : List ℕ) → line ≡ walk_line [] read
+    → walk_handed proc [] read ++ (walk_handed proc line bytes ++ Stop proc ∷ []) ≡ walk_handed proc [] (read ++ bytes) ++ Stop proc ∷ []
+stopped proc line read bytes e =
+    sym (append_assoc (walk_handed proc [] read) (walk_handed proc line bytes) (Stop proc ∷ [])) ∙ ap (λ l. l ++ Stop proc ∷ []) (joined proc line read bytes e)
+
 -- more bytes, up to the LF at which the desk wanted no more
 pub is_told : (proc : ℕ) (a b c : Option (List ℕ)) (x y z : Option (List Handed)) (line longer bytes : List ℕ)
     → SoFar proc a b x y line → Consumes b c bytes → Walks proc line longer bytes y z false → ReadsLines proc a c x z Told
@@ -51,14 +56,14 @@ is_told proc a b c x y z line longer bytes s k w =
     let more = w.1 in
     record {
       read = s.read ++ bytes;
-      handed = walk_handed proc [] (s.read ++ (front ++ 10 ∷ []));
+      handed = walk_handed proc [] (s.read ++ (front ++ 10 ∷ [])) ++ Stop proc ∷ [];
       consumed = Consumes-trans a b c s.read bytes s.consumed k;
-      adds = subst (Adds x z) (joined proc line s.read (front ++ 10 ∷ []) s.gathers) (adds_more x y z _ _ s.adds w.3);
+      adds = subst (Adds x z) (stopped proc line s.read (front ++ 10 ∷ []) s.gathers) (adds_more x y z _ _ s.adds w.3);
       hands = (
         s.read ++ front,
         more,
         ap (λ l. s.read ++ l) w.2 ∙ sym (append_assoc s.read front (10 ∷ more)),
-        walk_all proc (s.read ++ (front ++ 10 ∷ [])) ∙ ap (lines_handed proc) (sym (append_assoc s.read front (10 ∷ []))),
+        ap (λ l. l ++ Stop proc ∷ []) (walk_all proc (s.read ++ (front ++ 10 ∷ [])) ∙ ap (lines_handed proc) (sym (append_assoc s.read front (10 ∷ [])))),
       );
     }
 

@@ -2,7 +2,7 @@
 use Rattle.std.specs.Prelude.{◌≡◌, ℕ, List, [], ◌∷◌, ◌++◌, Some, IfSome}
 use Rattle.std.specs.declared.option.Option.{Option}
 use Rattle.sq_keeper.specs.declared.desk.Handed.{Handed}
-use Rattle.sq_keeper.specs.declared.desk.Handed.TheVariants.{Line}
+use Rattle.sq_keeper.specs.declared.desk.Handed.TheVariants.{Line, Stop}
 use Rattle.sq_keeper.specs.declared.desk.LineEnd.{LineEnd}
 use Rattle.sq_keeper.specs.declared.desk.LineEnd.TheVariants.{Go, End, WantOfMemory}
 
@@ -10,8 +10,8 @@ use Rattle.sq_keeper.specs.declared.desk.LineEnd.TheVariants.{Go, End, WantOfMem
 abbrev pub Adds : Option (List Handed) → Option (List Handed) → List Handed → Type 0
 Adds old new more = IfSome new (λ now. (before : List Handed) × (old ≡ Some before) × (now ≡ before ++ more))
 
--- what the desk took of a line
+-- what a call of `line` adds: the line where it was taken, and that no more are wanted
 abbrev pub taken : ℕ → List ℕ → LineEnd → List Handed
 taken proc bytes Go = Line proc bytes ∷ []
-taken proc bytes End = Line proc bytes ∷ []
+taken proc bytes End = Line proc bytes ∷ Stop proc ∷ []
 taken proc bytes WantOfMemory = []

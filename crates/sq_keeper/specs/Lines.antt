@@ -4,7 +4,7 @@ use Rattle.std.specs.List.{slice_split}
 use Rattle.std.specs.Io.KnownBytes.{Consumes}
 use Rattle.std.specs.declared.option.Option.{Option}
 use Rattle.sq_keeper.specs.declared.desk.Handed.{Handed}
-use Rattle.sq_keeper.specs.declared.desk.Handed.TheVariants.{Line, Died}
+use Rattle.sq_keeper.specs.declared.desk.Handed.TheVariants.{Line, Stop, Died}
 use Rattle.sq_keeper.specs.declared.keeper.KeeperEnd.{KeeperEnd}
 use Rattle.sq_keeper.specs.declared.keeper.KeeperEnd.TheVariants.{Ended, ReadFault, Told, WantOfMemory}
 use Rattle.sq_keeper.specs.Handing.{Adds}
@@ -29,11 +29,11 @@ abbrev pub lines_handed : ℕ → List ℕ → List Handed
 lines_handed proc bytes = map (λ l. Line proc (cut l)) (ended_lines bytes)
 
 -- what was handed on of the bytes that were read: each line, and then the death; where the desk ended
--- the reading, each line up to some LF; nothing where there was no memory
+-- the reading, each line up to some LF, and that no more were wanted; nothing where there was no memory
 abbrev pub Hands : ℕ → List ℕ → KeeperEnd → List Handed → Type 0
 Hands proc read Ended handed = handed ≡ lines_handed proc read ++ Died proc ∷ []
 Hands proc read ReadFault handed = handed ≡ lines_handed proc read ++ Died proc ∷ []
-Hands proc read Told handed = (front more : List ℕ) × (read ≡ front ++ 10 ∷ more) × (handed ≡ lines_handed proc (front ++ 10 ∷ []))
+Hands proc read Told handed = (front more : List ℕ) × (read ≡ front ++ 10 ∷ more) × (handed ≡ lines_handed proc (front ++ 10 ∷ []) ++ Stop proc ∷ [])
 Hands proc read WantOfMemory handed = (read ≡ []) × (handed ≡ [])
 
 -- some bytes of the source were read, and their lines were handed to the desk

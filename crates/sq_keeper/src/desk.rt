@@ -18,11 +18,13 @@ pub enum LineEnd {
     WantOfMemory,
 }
 
-/// What a desk was handed.
+/// What a desk was handed, and where it wanted no more.
 #[derive(Drop, Debug, PartialEq, Eq)]
 pub enum Handed {
     /// A line of this process.
     Line(ProcNo, Text),
+    /// The desk wanted no line of this process after the last.
+    Stop(ProcNo),
     /// This process died.
     Died(ProcNo),
 }

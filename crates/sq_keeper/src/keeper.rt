@@ -3,7 +3,7 @@ ghost use Rattle.std.specs.Prelude.{◌≡◌, ◌≤◌, ◌∷◌, ◌++◌, [
 ghost use Rattle.std.specs.Io.KnownBytes.{IsAtEnd};
 ghost use Rattle.sq_keeper.specs.Handing.{Adds};
 ghost use Rattle.sq_keeper.specs.Lines.{ReadsLines};
-ghost use Rattle.sq_keeper.specs.Walk.{step_line, step_handed, Walks};
+ghost use Rattle.sq_keeper.specs.Walk.{step_line, step_handed, closing, Walks};
 ghost use Rattle.sq_keeper.specs.declared.desk.Handed.TheVariants as handed;
 ghost use Rattle.sq_outside.specs.Causes.{Rose};
 
@@ -32,7 +32,7 @@ pub enum KeeperEnd {
 
 /// Hands a line on until the desk has memory for it. Answers whether it wants more lines.
 fn hand<R: Wait, K: LineDesk>(rt: &R, proc: ProcNo, line: &[u8], desk: &mut K) -> bool
-    ensures adds { Adds (K.handed desk.old) (K.handed desk.new) (handed.Line proc line.now ∷ []) }
+    ensures adds { Adds (K.handed desk.old) (K.handed desk.new) (handed.Line proc line.now ∷ closing proc result) }
     ensures later { K.refused desk.old ≤ K.refused desk.new }
     ensures told { result ≡ false → Rose (K.refused desk.old) (K.refused desk.new) }
 {
@@ -54,7 +54,7 @@ fn take_byte<R: Wait, K: LineDesk>(
     byte: u8,
     desk: &mut K,
 ) -> bool
-    ensures adds { Adds (K.handed desk.old) (K.handed desk.new) (step_handed proc line.old byte) }
+    ensures adds { Adds (K.handed desk.old) (K.handed desk.new) (step_handed proc line.old byte ++ closing proc result) }
     ensures line { line.new ≡ step_line line.old byte }
     ensures later { K.refused desk.old ≤ K.refused desk.new }
     ensures told { result ≡ false → Rose (K.refused desk.old) (K.refused desk.new) }
