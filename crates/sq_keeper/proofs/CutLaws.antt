@@ -1,5 +1,5 @@
 -- The front of a line that is handed on.
-use Rattle.std.proofs.Common.{◌≡◌, ℕ, ◌+◌, ◌<◌, ◌≤◌, ◌++◌, List, [], ◌∷◌, length, take, refl, sym, ap, ◌∙◌, ⊎_elim, arith}
+use Rattle.std.proofs.Common.{◌≡◌, ℕ, ◌≤◌, ◌++◌, List, [], length, take, refl, sym, ap, ◌∙◌, ⊎_elim, arith}
 use Rattle.std.proofs.lemmas.Bool.{cases_lt}
 use Rattle.std.proofs.lemmas.List.{take_at, take-append-le, length-take-le}
 use Rattle.std.proofs.lemmas.Grind.{common_steps}
@@ -32,6 +32,6 @@ cut_front xs ys h = take-append-le line_room xs ys h
 pub cut_again : (xs ys : List ℕ) → cut (cut xs ++ ys) ≡ cut (xs ++ ys)
 cut_again xs ys =
     ⊎_elim
-      (λ less. ap (λ l. cut (l ++ ys)) (cut_whole xs (omega arith)))
-      (λ more. cut_full (cut xs) ys (cut_len xs more) ∙ sym (cut_front xs ys more))
-      (cases_lt (length xs) line_room)
+    (λ less. ap (λ l. cut (l ++ ys)) (cut_whole xs (omega arith)))
+    (λ more. cut_full (cut xs) ys (cut_len xs more) ∙ sym (cut_front xs ys more))
+    (cases_lt (length xs) line_room)

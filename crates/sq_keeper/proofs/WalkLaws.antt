@@ -1,10 +1,8 @@
 -- Lines gathered a byte at a time are the lines of all bytes.
-use Rattle.std.proofs.Common.{◌≡◌, ℕ, zero, suc, ◌+◌, ◌-◌, ◌<◌, ◌≤◌, ◌++◌, List, [], ◌∷◌, length, take, map, Bool, true, false, ◌==◌, if◌then◌else◌, All, refl, sym, ap, ◌∙◌, arith, append_assoc, append-nil}
-use Rattle.std.proofs.lemmas.Bool.{eqb-true}
+use Rattle.std.proofs.Common.{◌≡◌, ℕ, suc, ◌-◌, ◌<◌, ◌++◌, List, [], ◌∷◌, length, take, map, Bool, true, false, All, refl, sym, ap, ◌∙◌, arith, append_assoc, append-nil}
 use Rattle.std.proofs.lemmas.List.Elements.{All-append, All-cons, All-nil}
 use Rattle.std.proofs.lemmas.List.Splits.{slice_split_none, slice_split_at, length-slice_split}
-use Rattle.std.specs.List.{slice_split, count_by}
-use Rattle.sq_keeper.specs.declared.desk.Handed.{Handed}
+use Rattle.std.specs.List.{slice_split}
 use Rattle.sq_keeper.specs.declared.desk.Handed.TheVariants.{Line}
 use Rattle.sq_keeper.specs.Lines.{is_end, cut, ended_lines, lines_handed}
 use Rattle.sq_keeper.specs.Walk.{step_line, step_handed, walk_line, walk_handed}

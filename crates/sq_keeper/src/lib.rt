@@ -10,6 +10,8 @@
 mod desk;
 mod keeper;
 mod line;
+mod mem_desk;
 
 pub use desk::{Handed, LineDesk, LineEnd};
 pub use keeper::{KeeperEnd, read_lines};
+pub use mem_desk::MemDesk;

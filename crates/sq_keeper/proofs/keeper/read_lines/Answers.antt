@@ -1,4 +1,4 @@
-use Rattle.std.proofs.Common.{◌≡◌, ◌∙◌, ◌≤◌, [], sym, ap, arith, take, subst}
+use Rattle.std.proofs.Common.{[], arith, take, subst}
 use Rattle.std.specs.Io.KnownBytes.{Consumes}
 use Rattle.sq_keeper.proofs.KeeperLaws.{begins, goes_on, is_told, is_ended, is_failed}
 use Rattle.sq_keeper.proofs.keeper.read_lines.Goals as goal
@@ -14,7 +14,7 @@ loop-init g c =
 pub returns-in-Err-clause-lines : goal.returns-in-Err-clause-lines
 returns-in-Err-clause-lines g c =
     is_failed c.args.proc _ _ (g.S.Source.left c.read.new.self) _ _ (g.K.LineDesk.handed c.died.new.self) c.loop.line
-      c.loop.invariant.read c.in-Err.ensures.bytes c.died.ensures.handed
+    c.loop.invariant.read c.in-Err.ensures.bytes c.died.ensures.handed
 
 pub returns-in-Ok-eq0-clause-lines : goal.returns-in-Ok-eq0-clause-lines
 returns-in-Ok-eq0-clause-lines g c =
@@ -26,15 +26,15 @@ returns-in-Ok-eq0-clause-lines g c =
 pub returns-then-not-take_bytes-clause-lines : goal.returns-then-not-take_bytes-clause-lines
 returns-then-not-take_bytes-clause-lines g c =
     is_told c.args.proc _ (g.S.Source.left c.loop.from) (g.S.Source.left c.read.new.self) _ (g.K.LineDesk.handed c.loop.desk) (g.K.LineDesk.handed c.take_bytes.new.desk)
-      c.loop.line c.take_bytes.new.line _
-      c.loop.invariant.read c.in-Ok-read.ensures.bytes.0 c.if-not-take_bytes.ensures.walks
+    c.loop.line c.take_bytes.new.line _
+    c.loop.invariant.read c.in-Ok-read.ensures.bytes.0 c.if-not-take_bytes.ensures.walks
 
 pub loop-preserved : goal.loop-preserved
 loop-preserved g c =
     record {
       read = goes_on c.args.proc _ (g.S.Source.left c.loop.from) (g.S.Source.left c.read.new.self) _ (g.K.LineDesk.handed c.loop.desk) (g.K.LineDesk.handed c.take_bytes.new.desk)
-        c.loop.line c.take_bytes.new.line _
-        c.loop.invariant.read c.in-Ok-read.ensures.bytes.0 c.if-not-take_bytes.ensures.walks;
+          c.loop.line c.take_bytes.new.line _
+          c.loop.invariant.read c.in-Ok-read.ensures.bytes.0 c.if-not-take_bytes.ensures.walks;
       faults = omega arith;
       refused = omega arith;
     }
