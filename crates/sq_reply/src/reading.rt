@@ -1,6 +1,6 @@
 //! Reading of reply lines.
 ghost use Rattle.std.specs.Prelude.{◌≡◌, ◌↔◌, ◌^◌, true, IfOk, IsErrOf, Some, None};
-ghost use Rattle.sq_base.specs.Replies.{Answer, result_of, result_in, line_in, without_cr, reply_of};
+ghost use Rattle.sq_base.specs.Replies.{Answer, result_of, result_in, line_in, without_cr, reply_of, have_keys};
 ghost use Rattle.sq_base.specs.ReplyGrammar.{Says};
 ghost use Rattle.sq_reply.specs.Reading.{ReadsAs};
 
@@ -108,6 +108,8 @@ pub fn read_reply(
     ensures found { IfOk result (λ x. Says with_channel line.now x) }
     // What the line says by the grammar is read, unless memory runs out; so it says one thing at most.
     ensures only { (x : Answer) → Says with_channel line.now x → ReadsAs result (Some x) }
+    // So the reply can be printed.
+    ensures keys { IfOk result (λ x. have_keys x.1.pairs ≡ true) }
     // The reading as a function.
     ensures read { IfOk result (λ x. reply_of with_channel line.now ≡ Some x) }
     ensures bad { IsErrOf result ReplyFault.Bad ↔ (reply_of with_channel line.now ≡ None) }
