@@ -16,3 +16,8 @@ pub only_from : (with_channel : Bool) (line : List ℕ) (result : Result Answer 
 only_from with_channel line (Ok y) h x s = sym (said_reads with_channel line x s) ∙ h
 only_from with_channel line (Err Bad) h x s = sym (said_reads with_channel line x s) ∙ h
 only_from with_channel line (Err WantOfMemory) h x s = refl
+
+pub one_from : (with_channel : Bool) (line : List ℕ) (x y : Answer) → Says with_channel line x → Says with_channel line y → x ≡ y
+one_from with_channel line x y s t =
+    let same : Some x ≡ Some y = sym (said_reads with_channel line x s) ∙ said_reads with_channel line y t in
+    cc

@@ -106,7 +106,9 @@ pub fn read_reply(
 ) -> Result<(Option<u32>, Reply), ReplyFault>
     // What is read is what the line says by the grammar.
     ensures found { IfOk result (λ x. Says with_channel line.now x) }
-    // What the line says by the grammar is read, unless memory runs out; so it says one thing at most.
+    // A line says one thing at most.
+    ensures one { (x y : Answer) → Says with_channel line.now x → Says with_channel line.now y → x ≡ y }
+    // What the line says by the grammar is read, unless memory runs out.
     ensures only { (x : Answer) → Says with_channel line.now x → ReadsAs result (Some x) }
     // So the reply can be printed.
     ensures keys { IfOk result (λ x. have_keys x.1.pairs ≡ true) }
