@@ -1,5 +1,5 @@
 -- What the grammar says of an answer that reading gave.
-use Rattle.std.proofs.Common.{ℕ, List, Bool, Some, Ok, Err, Result, IfOk, refl, sym, ◌∙◌}
+use Rattle.std.proofs.Common.{◌≡◌, ℕ, List, Bool, Some, Ok, Err, Result, IfOk, refl, sym, ◌∙◌}
 use Rattle.sq_base.specs.Replies.{Answer, reply_of}
 use Rattle.sq_base.specs.ReplyGrammar.{Says}
 use Rattle.sq_reply.specs.Reading.{ReadsAs}
