@@ -1,4 +1,5 @@
 pub mod ByteLaws
+pub mod KeyLaws
 pub mod MarkLaws
 pub mod PrintTrees
 pub mod QuoteLaws

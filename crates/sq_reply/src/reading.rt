@@ -1,6 +1,6 @@
 //! Reading of reply lines.
 ghost use Rattle.std.specs.Prelude.{◌≡◌, ◌↔◌, ◌^◌, true, IfOk, IsErrOf, Some, None};
-ghost use Rattle.sq_base.specs.Replies.{Answer, result_of, result_in, line_in, without_cr, reply_of};
+ghost use Rattle.sq_base.specs.Replies.{Answer, result_of, result_in, line_in, without_cr, reply_of, have_keys};
 ghost use Rattle.sq_base.specs.ReplyGrammar.{Says};
 ghost use Rattle.sq_reply.specs.Reading.{ReadsAs};
 
@@ -106,8 +106,12 @@ pub fn read_reply(
 ) -> Result<(Option<u32>, Reply), ReplyFault>
     // What is read is what the line says by the grammar.
     ensures found { IfOk result (λ x. Says with_channel line.now x) }
-    // What the line says by the grammar is read, unless memory runs out; so it says one thing at most.
+    // A line says one thing at most.
+    ensures one { (x y : Answer) → Says with_channel line.now x → Says with_channel line.now y → x ≡ y }
+    // What the line says by the grammar is read, unless memory runs out.
     ensures only { (x : Answer) → Says with_channel line.now x → ReadsAs result (Some x) }
+    // So the reply can be printed.
+    ensures keys { IfOk result (λ x. have_keys x.1.pairs ≡ true) }
     // The reading as a function.
     ensures read { IfOk result (λ x. reply_of with_channel line.now ≡ Some x) }
     ensures bad { IsErrOf result ReplyFault.Bad ↔ (reply_of with_channel line.now ≡ None) }
