@@ -15,3 +15,4 @@ pub mod HalfwayLaws
 pub mod PlayLaws
 pub mod PlainLaws
 pub mod EndLaws
+pub mod DirectRuns

@@ -37,15 +37,15 @@ unfolding word_in
 word-has P form has [] = tt
 word-has P form has (w ∷ ws) = map-has P (λ x. P x.0) (form w) (λ x. (x, ws)) (has w) (λ a p. p)
 
-first-of : (a b : Bool) → (a && b) ≡ true → a ≡ true
+pub first-of : (a b : Bool) → (a && b) ≡ true → a ≡ true
 first-of true b p = refl
 first-of false b p = p
 
-second-of : (a b : Bool) → (a && b) ≡ true → b ≡ true
+pub second-of : (a b : Bool) → (a && b) ≡ true → b ≡ true
 second-of true b p = p
 second-of false b p = cc
 
-not-true : (a : Bool) → not a ≡ true → a ≡ false
+pub not-true : (a : Bool) → not a ≡ true → a ≡ false
 not-true true p = sym p
 not-true false p = refl
 

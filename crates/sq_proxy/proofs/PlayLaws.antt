@@ -26,6 +26,7 @@ use Rattle.sq_proxy.specs.EntryText.{entry_text, written}
 use Rattle.sq_proxy.specs.Machines.{View, StandsFor, IsMade, IsRefused, entry_at, is_plain}
 use Rattle.sq_proxy.specs.RunText.{Ran, answered, line_step, goes_on, run_lines, run_script, begun, first_moment, WrotePart, Runs}
 use Rattle.sq_proxy.specs.ScriptForm.{target_port}
+use Rattle.sq_proxy.proofs.PlainLaws.{first-of, second-of, not-true}
 use Rattle.sq_proxy.proofs.TargetLaws.{port_is}
 
 -- the text of a history goes on in that of a run from it
@@ -62,18 +63,6 @@ some-port : (o : Option Target) (q : Option ℕ) → option_map (λ r. r.port) o
 some-port None q e p = ap is_some e ∙ p
 some-port (Some t) q e p = refl
 
-first-of : (a b : Bool) → (a && b) ≡ true → a ≡ true
-first-of true b p = refl
-first-of false b p = p
-
-second-of : (a b : Bool) → (a && b) ≡ true → b ≡ true
-second-of true b p = p
-second-of false b p = cc
-
-not-true : (a : Bool) → not a ≡ true → a ≡ false
-not-true true p = sym p
-not-true false p = refl
-
 port-of-some : (m t : List ℕ) (o : Option ℕ) → bytes_eq m (codes "CONNECT") ≡ false → target_port t ≡ o → is_some o ≡ true → is_some (target_of m t) ≡ true
 port-of-some m t None c e p = cc
 port-of-some m t (Some q) c e p = some-port (target_of m t) (Some q) (port_is m t q c e) refl
@@ -87,7 +76,7 @@ plain-target (Ask c m t f) p =
 plain-target (Step c) p = refl
 plain-target (Take c) p = refl
 
-legal-more : (configs : List Configuration) (h : History) (moment : ℕ) (event : Event) (t : Told) → Legal configs h → is_plain event ≡ true → latest h ≤ moment
+pub legal-more : (configs : List Configuration) (h : History) (moment : ℕ) (event : Event) (t : Told) → Legal configs h → is_plain event ≡ true → latest h ≤ moment
     → next configs h event ≡ gives t → Legal configs (entry_at moment event t ∷ h)
 legal-more configs [] moment event t legal p l n = absurd legal
 legal-more configs (e ∷ h) moment event t legal p l n = (legal, plain-begin event p, plain-target event p, l, n)

@@ -8,8 +8,9 @@ use Rattle.sq_rules.specs.declared.entries.Event.{Event}
 use Rattle.sq_rules.specs.declared.entries.Event.TheVariants.{Begin}
 use Rattle.sq_rules.specs.declared.entries.Told.TheVariants as told
 use Rattle.sq_rules.specs.Configurations.{Configuration}
+use Rattle.sq_rules.specs.Direct.{IsDirect}
 use Rattle.sq_rules.specs.Entries.{Noted, History}
-use Rattle.sq_rules.specs.Machine.{Next, gives, refuses, nothing, next}
+use Rattle.sq_rules.specs.Machine.{Next, gives, refuses, nothing, next, Legal}
 use Rattle.sq_rules.specs.Readings.{latest}
 use Rattle.sq_proxy.specs.declared.ends.Part.{Part}
 use Rattle.sq_proxy.specs.declared.ends.Part.TheVariants as part
@@ -140,3 +141,13 @@ abbrev pub IsReplayEnd : Texts → Replay → Status → Type 0
 IsReplayEnd texts r ends.Usage = ⊥
 IsReplayEnd texts r (ends.Missing name) = ((name ≡ r.conf) ⊎ (name ≡ r.script)) × IsNotTold texts name
 IsReplayEnd texts r status = Unit {0}
+
+-- the history of the run is legal, and each verdict in it is the direct evaluation of the configuration
+abbrev pub IsDirectRun : Configuration → List Dated → Type 0
+IsDirectRun config lines =
+    Legal (config ∷ []) (run_script config lines).history × IsDirect (config ∷ []) (run_script config lines).history
+
+-- so it is where both files are there and have their form
+abbrev pub RunsDirectly : Disk → List (List ℕ) → Type 0
+RunsDirectly disk words = (r : Replay) (config : Configuration) (lines : List Dated) → command_of words ≡ Some r
+    → conf_stage r.conf (disk r.conf) ≡ Ok config → script_stage r.script (disk r.script) ≡ Ok lines → IsDirectRun config lines

@@ -5,7 +5,7 @@ ghost use Rattle.sq_outside.specs.Told.{IsNotTold};
 ghost use Rattle.sq_outside.specs.Output.{Grew};
 ghost use Rattle.sq_proxy.specs.declared.ends.Status.TheVariants as ends;
 ghost use Rattle.sq_proxy.specs.Ends.{EndsBy, EndsWithoutFault, HasCauses, IfMissing};
-ghost use Rattle.sq_proxy.specs.RunText.{command_of, run_of, run_replay, Runs, IsOutput, IsNamed, IsReplayEnd};
+ghost use Rattle.sq_proxy.specs.RunText.{command_of, run_of, run_replay, Runs, IsOutput, IsNamed, IsReplayEnd, RunsDirectly};
 
 use crate::command::{Replay, command};
 use crate::ends::Status;
@@ -60,6 +60,9 @@ pub fn proxy<F: Files, O: Sink>(alloc: Global, words: &[Text], files: &mut F, ou
     ensures complete { IfSome (F.texts files.old) (λ disk.
         (Rose (F.faults files.old) (F.faults files.new) → ⊥) → (Rose (O.faults out.old) (O.faults out.new) → ⊥)
         → EndsWithoutFault (run_of disk words.now).end result) }
+    // The history of the run is legal, and each verdict in it is the direct evaluation of the configuration
+    // current when its check began, over what the check saw then.
+    ensures direct { IfSome (F.texts files.old) (λ disk. RunsDirectly disk words.now) }
     ensures usage { (result ≡ ends.Usage) ↔ (command_of words.now ≡ None) }
     ensures missing { IfMissing result (λ name. IsNamed (command_of words.now) name × IsNotTold (F.texts files.old) name) }
     ensures read { result ≡ ends.ReadFault → Rose (F.faults files.old) (F.faults files.new) }

@@ -1,5 +1,5 @@
 -- Laws of the readings of a history.
-use Rattle.std.proofs.Common.{◌≡◌, ℕ, ◌<◌, ◌≤◌, List, [], ◌∷◌, Bool, true, false, ◌==◌, ◌&&◌, Some, None, suc, zero, refl, arith, ap, ◌∙◌, ◌⊎◌, inl, inr, if◌then◌else◌, nat_le}
+use Rattle.std.proofs.Common.{◌≡◌, ℕ, ◌<◌, ◌≤◌, List, [], ◌∷◌, Bool, true, false, ◌==◌, ◌&&◌, Some, None, suc, zero, refl, sym, unwrap_or, arith, ap, ◌∙◌, ◌⊎◌, inl, inr, if◌then◌else◌, nat_le}
 use Rattle.std.proofs.lemmas.Bool.Decides.{nat_tests}
 use Rattle.std.specs.Option.{option_or}
 use Rattle.std.specs.declared.option.Option.{Option}
@@ -8,7 +8,7 @@ use Rattle.sq_rules.specs.declared.entries.Event.TheVariants.{Begin, Open, Close
 use Rattle.sq_rules.specs.declared.entries.Told.{Told}
 use Rattle.sq_rules.specs.declared.entries.Told.TheVariants as told
 use Rattle.sq_rules.specs.Entries.{Noted, History}
-use Rattle.sq_rules.specs.Readings.{ask_of, ask_count, asked_at, numbered, conn_of, check_open, is_open_on, is_done, done_after, count_after}
+use Rattle.sq_rules.specs.Readings.{Asked, ask_of, ask_count, asked_at, numbered, conn_of, check_open, is_open_on, is_done, done_after, count_after}
 
 -- no check has this number yet
 pub record IsUnborn (n count : ℕ) : Type 0 where
@@ -66,3 +66,25 @@ is_done-after h (Take k) answer n before u pos = before u
 pub is_done-unborn : (h : History) (n : ℕ) → IsUnborn n (ask_count h) → (n ≡ 0 → ⊥) → is_done h n ≡ false
 is_done-unborn [] n u pos = refl
 is_done-unborn (e ∷ h) n u pos = is_done-after h e.event e.answer n (λ v. is_done-unborn h n v pos) u pos
+
+some-same : (x a : Asked) → Some x ≡ Some a → x.epoch ≡ 1 → a.epoch ≡ 1
+some-same x a e one = sym (ap (λ o. (unwrap_or o x).epoch) e) ∙ one
+
+new-epoch : (b : Bool) (x : Asked) (o : Option Asked) (a : Asked) → x.epoch ≡ 1 → ((y : Asked) → o ≡ Some y → y.epoch ≡ 1)
+    → option_or (if b then Some x else None) o ≡ Some a → a.epoch ≡ 1
+new-epoch true x o a one before e = some-same x a e one
+new-epoch false x o a one before e = before a e
+
+epoch-after : (h : History) (moment : ℕ) (event : Event) (n : ℕ) (a : Asked) → ((b : Asked) → ask_of h n ≡ Some b → b.epoch ≡ 1)
+    → option_or (numbered n (ask_count h) (asked_at h moment event)) (ask_of h n) ≡ Some a → a.epoch ≡ 1
+epoch-after h moment (Ask c method target fields) n a before e = new-epoch (n == suc (ask_count h)) _ (ask_of h n) a refl before e
+epoch-after h moment (Begin offset) n a before e = before a e
+epoch-after h moment (Open c addr port) n a before e = before a e
+epoch-after h moment (Close c) n a before e = before a e
+epoch-after h moment (Step k) n a before e = before a e
+epoch-after h moment (Take k) n a before e = before a e
+
+-- every check began in the first epoch
+pub asked-epoch : (h : History) (n : ℕ) (a : Asked) → ask_of h n ≡ Some a → a.epoch ≡ 1
+asked-epoch [] n a e = cc
+asked-epoch (x ∷ h) n a e = epoch-after h x.moment x.event n a (asked-epoch h n) e

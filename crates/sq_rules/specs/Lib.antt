@@ -1,4 +1,5 @@
 pub mod Configurations
+pub mod Direct
 pub mod Entries
 pub mod Leaves
 pub mod Limits
