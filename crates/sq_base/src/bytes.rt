@@ -12,6 +12,7 @@ use crate::memory::{Copying, WantOfMemory};
 use std::alloc::Global;
 use std::cmp::Ordering;
 use std::convert::AsSlice;
+use std::fmt;
 use std::hash::{Hash, Hasher};
 use std::marker::Model;
 
@@ -103,6 +104,21 @@ impl Text {
         ensures err { OnErr result (self.new ≡ self.old) }
     {
         self.bytes.extend_from_slice(bytes)?;
+        Ok(())
+    }
+}
+
+impl fmt::Display for Text {
+    /// Visible ASCII as it is, and any other byte as `\\x` and two hexadecimal digits.
+    fn fmt<W: fmt::Write>(&self, f: &mut fmt::Formatter<W>) -> fmt::Result {
+        for &byte in self.bytes.as_slice() {
+            if byte.is_ascii_graphic() {
+                let letter = byte as char;
+                write!(f, "{letter}")?;
+            } else {
+                write!(f, "\\x{byte:02x}")?;
+            }
+        }
         Ok(())
     }
 }
