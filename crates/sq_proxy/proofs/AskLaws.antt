@@ -1,10 +1,10 @@
 -- What `ask` leaves, and what it means.
-use Rattle.std.proofs.Common.{◌≡◌, ℕ, ◌<◌, ◌≤◌, List, [], ◌∷◌, ◌++◌, length, Bool, true, false, cond, if◌then◌else◌, ◌==◌, nat_le, max, Some, None, suc, zero, refl, sym, ap, ◌∙◌, arith, inr}
+use Rattle.std.proofs.Common.{◌≡◌, ℕ, ◌<◌, ◌≤◌, List, [], ◌∷◌, ◌++◌, length, Bool, true, false, cond, if◌then◌else◌, ◌==◌, nat_le, max, Some, None, suc, refl, sym, ap, ◌∙◌, arith, inr}
 use Rattle.std.proofs.lemmas.Bool.Decides.{nat_tests}
 use Rattle.std.specs.Option.{option_or, option_map}
 use Rattle.std.specs.Ordering.{nat_cmp, is_eq}
 use Rattle.std.specs.declared.option.Option.{Option}
-use Rattle.sq_base.specs.Targets.{Target, target_of}
+use Rattle.sq_base.specs.Targets.{target_of}
 use Rattle.sq_base.specs.declared.requests.Field.{Field}
 use Rattle.sq_rules.specs.declared.entries.Event.TheVariants.{Ask}
 use Rattle.sq_rules.specs.declared.entries.Told.{Told}
@@ -15,13 +15,13 @@ use Rattle.sq_rules.specs.declared.sights.Peer.{Peer}
 use Rattle.sq_rules.specs.Configurations.{Configuration}
 use Rattle.sq_rules.specs.Entries.{History}
 use Rattle.sq_rules.specs.Limits.{last_number}
-use Rattle.sq_rules.specs.Machine.{gives, Legal, outcome_of, epoch_of, config_of, judged_by}
-use Rattle.sq_rules.specs.Readings.{Asked, peer_at, peer_or_nobody, ask_count, ask_of, conn_of, open_check, check_open, is_open_on, is_number, is_done, numbered, sight_of, current}
+use Rattle.sq_rules.specs.Machine.{outcome_of, epoch_of, config_of, judged_by}
+use Rattle.sq_rules.specs.Readings.{Asked, peer_at, peer_or_nobody, ask_count, ask_of, conn_of, open_check, is_open_on, is_number, is_done, sight_of, current}
 use Rattle.sq_rules.specs.Verdicts.{verdict}
-use Rattle.sq_rules.proofs.ReadingLaws.{IsUnborn, is_done-unborn}
+use Rattle.sq_rules.proofs.ReadingLaws.{is_done-unborn}
 use Rattle.sq_proxy.specs.Seen.{seen}
 use Rattle.sq_proxy.specs.declared.checks.Held.{Held}
-use Rattle.sq_proxy.specs.Machines.{View, StandsFor, IsMade, IsRefused, check_held, number_or_none, entry_at}
+use Rattle.sq_proxy.specs.Machines.{View, IsMade, IsRefused, check_held, number_or_none, entry_at}
 use Rattle.sq_proxy.specs.Tables.{value_at, rows}
 use Rattle.sq_proxy.proofs.MachineLaws.{same-key}
 use Rattle.sq_proxy.proofs.Rows.{rows-length, rows-same}
@@ -115,36 +115,36 @@ pub ask-made : (old new : View) (now c : ℕ) (method target : List ℕ) (fields
     → IsMade old new now (Ask c method target fields) (told.Check number)
 ask-made old new now c method target fields p port number k = record {
   answers = λ configs h legal s.
-    let peer : peer_at h c ≡ Some p = sym (s.peers_are c) ∙ k.peer_is in
-    let none : open_check h c ≡ None = sym (s.asked_are c) ∙ k.no_check in
-    let many : length old.checks ≡ ask_count h = ap length s.checks_are ∙ rows-length (check_held configs h) (ask_count h) in
-    let room = k.room in
-    let few : nat_le last_number (suc (ask_count h)) ≡ false = grind (arith, nat_tests) in
-    let given : suc (ask_count h) ≡ number = ap suc (sym many) ∙ sym k.number_is in
-    rw (peer, none, few, given) refl;
+      let peer : peer_at h c ≡ Some p = sym (s.peers_are c) ∙ k.peer_is in
+      let none : open_check h c ≡ None = sym (s.asked_are c) ∙ k.no_check in
+      let many : length old.checks ≡ ask_count h = ap length s.checks_are ∙ rows-length (check_held configs h) (ask_count h) in
+      let room = k.room in
+      let few : nat_le last_number (suc (ask_count h)) ≡ false = grind (arith, nat_tests) in
+      let given : suc (ask_count h) ≡ number = ap suc (sym many) ∙ sym k.number_is in
+      rw (peer, none, few, given) refl;
   stands = λ configs h legal s.
-    let moment = max now old.latest in
-    let t = told.Check number in
-    let f = check_held configs h in
-    let g = check_held configs (entry_at moment (Ask c method target fields) t ∷ h) in
-    let peer : peer_at h c ≡ Some p = sym (s.peers_are c) ∙ k.peer_is in
-    let none : open_check h c ≡ None = sym (s.asked_are c) ∙ k.no_check in
-    let many : length old.checks ≡ ask_count h = ap length s.checks_are ∙ rows-length f (ask_count h) in
-    let row = new-row configs h moment c method target fields t (verdict old.config (seen method port p.addr))
-        (judged-is configs old.config h moment c method target fields p port s.config_is peer k.port_is) in
-    record {
-      config_is = rw k.config_is s.config_is;
-      peers_are = λ j. rw k.peers_is (s.peers_are j);
-      count_is = rw k.peers_is s.count_is;
-      asked_are = λ j. k.asked_are j ∙ rw (same-key c j, k.number_is, many, s.asked_are j) refl;
-      checks_are =
-          k.checks_are
-          ∙ ap (λ l. l ++ (record { conn = c; epoch = 1; done = false; outcome = Some (verdict old.config (seen method port p.addr)) }) ∷ []) s.checks_are
-          ∙ ap (λ r. rows f (ask_count h) ++ r ∷ []) (sym row)
-          ∙ ap (λ l. l ++ g (suc (ask_count h)) ∷ [])
-              (sym (rows-same f g (ask_count h) (λ j le. earlier-row configs h moment c method target fields t j none (grind (arith, nat_tests)))));
-      latest_is = k.latest_is;
-    };
+      let moment = max now old.latest in
+      let t = told.Check number in
+      let f = check_held configs h in
+      let g = check_held configs (entry_at moment (Ask c method target fields) t ∷ h) in
+      let peer : peer_at h c ≡ Some p = sym (s.peers_are c) ∙ k.peer_is in
+      let none : open_check h c ≡ None = sym (s.asked_are c) ∙ k.no_check in
+      let many : length old.checks ≡ ask_count h = ap length s.checks_are ∙ rows-length f (ask_count h) in
+      let row = new-row configs h moment c method target fields t (verdict old.config (seen method port p.addr))
+      (judged-is configs old.config h moment c method target fields p port s.config_is peer k.port_is) in
+      record {
+        config_is = rw k.config_is s.config_is;
+        peers_are = λ j. rw k.peers_is (s.peers_are j);
+        count_is = rw k.peers_is s.count_is;
+        asked_are = λ j. k.asked_are j ∙ rw (same-key c j, k.number_is, many, s.asked_are j) refl;
+        checks_are =
+            k.checks_are
+            ∙ ap (λ l. l ++ (record { conn = c; epoch = 1; done = false; outcome = Some (verdict old.config (seen method port p.addr)) }) ∷ []) s.checks_are
+            ∙ ap (λ r. rows f (ask_count h) ++ r ∷ []) (sym row)
+            ∙ ap (λ l. l ++ g (suc (ask_count h)) ∷ [])
+            (sym (rows-same f g (ask_count h) (λ j le. earlier-row configs h moment c method target fields t j none (grind (arith, nat_tests)))));
+        latest_is = k.latest_is;
+      };
 }
 
 -- numbers of checks have run out
@@ -152,11 +152,11 @@ pub ask-spent : (v : View) (c number : ℕ) (method target : List ℕ) (fields :
     → number ≡ suc (length v.checks) → last_number ≤ number → IsRefused v v (Ask c method target fields) (refusal.Spent number)
 ask-spent v c number method target fields p peer_is no_check number_is spent = record {
   answers = λ configs h legal s.
-    let peer : peer_at h c ≡ Some p = sym (s.peers_are c) ∙ peer_is in
-    let none : open_check h c ≡ None = sym (s.asked_are c) ∙ no_check in
-    let many : length v.checks ≡ ask_count h = ap length s.checks_are ∙ rows-length (check_held configs h) (ask_count h) in
-    let past : nat_le last_number (suc (ask_count h)) ≡ true = grind (arith, nat_tests) in
-    let given : suc (ask_count h) ≡ number = ap suc (sym many) ∙ sym number_is in
-    rw (peer, none, past, given) refl;
+      let peer : peer_at h c ≡ Some p = sym (s.peers_are c) ∙ peer_is in
+      let none : open_check h c ≡ None = sym (s.asked_are c) ∙ no_check in
+      let many : length v.checks ≡ ask_count h = ap length s.checks_are ∙ rows-length (check_held configs h) (ask_count h) in
+      let past : nat_le last_number (suc (ask_count h)) ≡ true = grind (arith, nat_tests) in
+      let given : suc (ask_count h) ≡ number = ap suc (sym many) ∙ sym number_is in
+      rw (peer, none, past, given) refl;
   unchanged = refl;
 }

@@ -1,5 +1,5 @@
 -- The history of a run is legal, and so each verdict in it is direct.
-use Rattle.std.proofs.Common.{◌≡◌, ℕ, ◌+◌, ◌≤◌, List, [], ◌∷◌, Bool, true, false, if◌then◌else◌, max, Some, None, IfSome, Result, Ok, Err, refl, sym, ap, ◌∙◌, arith, subst, length, nat_le}
+use Rattle.std.proofs.Common.{◌≡◌, ℕ, ◌+◌, ◌≤◌, List, [], ◌∷◌, Bool, true, false, if◌then◌else◌, max, Some, None, IfSome, Ok, refl, ap, arith, subst, length, nat_le}
 use Rattle.std.specs.declared.option.Option.{Option}
 use Rattle.sq_rules.specs.declared.entries.Event.{Event}
 use Rattle.sq_rules.specs.Configurations.{Configuration}
@@ -10,7 +10,6 @@ use Rattle.sq_rules.specs.Readings.{latest}
 use Rattle.sq_rules.proofs.DirectLaws.{legal-direct}
 use Rattle.sq_proxy.specs.declared.ends.Part.{Part}
 use Rattle.sq_proxy.specs.declared.ends.Part.TheVariants as part
-use Rattle.sq_proxy.specs.declared.ends.Status.{Status}
 use Rattle.sq_proxy.specs.declared.script_form.Dated.{Dated}
 use Rattle.sq_proxy.specs.Machines.{entry_at, is_plain}
 use Rattle.sq_proxy.specs.Plain.{are_plain}
@@ -33,8 +32,8 @@ pub legal-lines : (configs : List Configuration) (h : History) (number : ℕ) (l
 legal-lines configs h number [] legal plain = legal
 legal-lines configs h number (d ∷ lines) legal plain =
     legal-answered configs h number (max d.moment (latest h)) d.event (next configs h d.event) (λ t. run_lines configs t (number + 1) lines) legal
-      (first-of (is_plain d.event) (are_plain lines) plain) (omega arith) refl
-      (λ t more. legal-lines configs t (number + 1) lines more (second-of (is_plain d.event) (are_plain lines) plain))
+    (first-of (is_plain d.event) (are_plain lines) plain) (omega arith) refl
+    (λ t more. legal-lines configs t (number + 1) lines more (second-of (is_plain d.event) (are_plain lines) plain))
 
 direct-run : (config : Configuration) (lines : List Dated) → are_plain lines ≡ true → IsDirectRun config lines
 direct-run config lines plain =

@@ -1,16 +1,14 @@
 -- A script of the form has only events that the machine makes.
-use Rattle.std.proofs.Common.{◌≡◌, ℕ, List, [], ◌∷◌, ◌++◌, Bool, true, false, not, ◌&&◌, is_some, IfSome, Some, None, if◌then◌else◌, refl, sym, ap, ◌∙◌, codes}
+use Rattle.std.proofs.Common.{◌≡◌, ℕ, List, [], ◌∷◌, Bool, true, false, not, ◌&&◌, is_some, IfSome, Some, None, if◌then◌else◌, refl, sym, ◌∙◌, codes}
 use Rattle.std.specs.Option.{option_map}
 use Rattle.std.specs.declared.option.Option.{Option}
 use Rattle.std.specs.Str.{bytes_eq}
 use Rattle.std.specs.List.{slice_split}
 use Rattle.std.proofs.lemmas.List.Folds.{list_all-append}
 use Rattle.sq_base.specs.Decimals.{number_of}
-use Rattle.sq_base.specs.declared.requests.Field.{Field}
 use Rattle.sq_rules.specs.declared.entries.Event.{Event}
-use Rattle.sq_rules.specs.declared.entries.Event.TheVariants.{Open, Ask, Step, Take}
 use Rattle.sq_proxy.specs.declared.script_form.Dated.{Dated}
-use Rattle.sq_proxy.specs.Forms.{◌>>=◌, Words, Reads, is_newline, is_space, word_in, whole, over_lines}
+use Rattle.sq_proxy.specs.Forms.{◌>>=◌, Words, is_newline, is_space, word_in, whole, over_lines}
 use Rattle.sq_proxy.specs.Machines.{is_plain}
 use Rattle.sq_proxy.specs.Plain.{are_plain}
 use Rattle.sq_proxy.specs.ScriptForm.{number_in, method_of, simple_target, target_port, v4_address, open_in, ask_in, step_in, take_in, event_in, dated_of, script_line, script_in}
@@ -64,16 +62,16 @@ open-plain : (ws : Words) → IfSome (open_in ws) IsPlainRead
 unfolding open_in
 open-plain ws =
     bind-has (λ _. Unit {0}) IsPlainRead (number_in ws) _ (any-has _) (λ conn _.
-      bind-has (λ _. Unit {0}) IsPlainRead (word_in v4_address conn.1) _ (any-has _) (λ addr _.
-        bind-has (λ _. Unit {0}) IsPlainRead (word_in (number_of 65536) addr.1) _ (any-has _) (λ port _. refl)))
+    bind-has (λ _. Unit {0}) IsPlainRead (word_in v4_address conn.1) _ (any-has _) (λ addr _.
+    bind-has (λ _. Unit {0}) IsPlainRead (word_in (number_of 65536) addr.1) _ (any-has _) (λ port _. refl)))
 
 ask-plain : (ws : Words) → IfSome (ask_in ws) IsPlainRead
 unfolding ask_in
 ask-plain ws =
     bind-has (λ _. Unit {0}) IsPlainRead (number_in ws) _ (any-has _) (λ conn _.
-      bind-has (λ m. bytes_eq m.0 (codes "CONNECT") ≡ false) IsPlainRead (word_in method_of conn.1) _ (word-has _ method_of method-has conn.1) (λ method p.
-        bind-has (λ t. is_some (target_port t.0) ≡ true) IsPlainRead (word_in simple_target method.1) _ (word-has _ simple_target target-has method.1) (λ target q.
-          rw (p, q) refl)))
+    bind-has (λ m. bytes_eq m.0 (codes "CONNECT") ≡ false) IsPlainRead (word_in method_of conn.1) _ (word-has _ method_of method-has conn.1) (λ method p.
+    bind-has (λ t. is_some (target_port t.0) ≡ true) IsPlainRead (word_in simple_target method.1) _ (word-has _ simple_target target-has method.1) (λ target q.
+    rw (p, q) refl)))
 
 step-plain : (ws : Words) → IfSome (step_in ws) IsPlainRead
 unfolding step_in
@@ -104,8 +102,8 @@ dated-plain : (ws : Words) → IfSome (dated_of ws) (λ d. is_plain d.event ≡ 
 unfolding dated_of
 dated-plain ws =
     bind-has (λ _. Unit {0}) (λ (d : Dated). is_plain d.event ≡ true) (number_in ws) _ (any-has _) (λ moment _.
-      bind-has (λ event. is_plain event ≡ true) (λ (d : Dated). is_plain d.event ≡ true) (event_in moment.1 >>= whole) _
-        (bind-has IsPlainRead (λ event. is_plain event ≡ true) (event_in moment.1) whole (event-plain moment.1) whole-plain) (λ event p. p))
+    bind-has (λ event. is_plain event ≡ true) (λ (d : Dated). is_plain d.event ≡ true) (event_in moment.1 >>= whole) _
+    (bind-has IsPlainRead (λ event. is_plain event ≡ true) (event_in moment.1) whole (event-plain moment.1) whole-plain) (λ event p. p))
 
 over-has : {S : Type 0} (P : S → Type 0) (step : S → Words → Option S) → ((s : S) (ws : Words) → P s → IfSome (step s ws) P)
     → (s : S) (ls : List (List ℕ)) → P s → IfSome (over_lines step s ls) P
@@ -120,7 +118,7 @@ ArePlain lines = are_plain lines ≡ true
 line-plain : (lines : List Dated) (ws : Words) → ArePlain lines → IfSome (script_line lines ws) ArePlain
 line-plain lines ws p =
     map-has (λ (d : Dated). is_plain d.event ≡ true) ArePlain (dated_of ws) _ (dated-plain ws)
-      (λ d q. list_all-append (λ (x : Dated). is_plain x.event) lines (d ∷ []) ∙ rw (p, q) refl)
+    (λ d q. list_all-append (λ (x : Dated). is_plain x.event) lines (d ∷ []) ∙ rw (p, q) refl)
 
 -- a script that was read is plain
 pub script-plain : (text : List ℕ) → IfSome (script_in text) (λ lines. are_plain lines ≡ true)

@@ -1,5 +1,5 @@
 -- A run line by line.
-use Rattle.std.proofs.Common.{◌≡◌, ◌⊎◌, ℕ, ◌+◌, ◌≤◌, List, [], ◌∷◌, ◌++◌, Bool, true, false, not, ◌&&◌, is_some, max, Some, None, Result, Ok, Err, refl, sym, ap, ◌∙◌, arith, ◌<◌, length, get_or, drop, add-one, drop-cons, subst, codes, pos}
+use Rattle.std.proofs.Common.{◌≡◌, ℕ, ◌+◌, ◌≤◌, List, [], ◌∷◌, ◌++◌, true, false, is_some, max, Some, None, refl, sym, ap, ◌∙◌, arith, ◌<◌, length, get_or, drop, add-one, drop-cons, subst, codes, pos}
 use Rattle.std.proofs.Math.ListN.{drop_of_length-le}
 use Rattle.sq_proxy.specs.Plain.{are_plain}
 use Rattle.std.proofs.KnownBytes.{Appends-trans}
@@ -16,15 +16,14 @@ use Rattle.sq_rules.specs.declared.entries.Told.{Told}
 use Rattle.sq_rules.specs.declared.entries.Told.TheVariants as told
 use Rattle.sq_rules.specs.declared.refusals.Refusal.{Refusal}
 use Rattle.sq_rules.specs.Configurations.{Configuration}
-use Rattle.sq_rules.specs.Entries.{Noted, History}
+use Rattle.sq_rules.specs.Entries.{History}
 use Rattle.sq_rules.specs.Machine.{Next, gives, refuses, nothing, next, Legal, is_begin, has_target}
 use Rattle.sq_rules.specs.Readings.{latest}
-use Rattle.sq_proxy.specs.declared.ends.Status.{Status}
 use Rattle.sq_proxy.specs.declared.ends.Status.TheVariants as ends
 use Rattle.sq_proxy.specs.declared.script_form.Dated.{Dated}
 use Rattle.sq_proxy.specs.EntryText.{entry_text, written}
 use Rattle.sq_proxy.specs.Machines.{View, StandsFor, IsMade, IsRefused, entry_at, is_plain}
-use Rattle.sq_proxy.specs.RunText.{Ran, answered, line_step, goes_on, run_lines, run_script, begun, first_moment, WrotePart, Runs}
+use Rattle.sq_proxy.specs.RunText.{Ran, answered, goes_on, run_lines, run_script, begun, first_moment, WrotePart, Runs}
 use Rattle.sq_proxy.specs.ScriptForm.{target_port}
 use Rattle.sq_proxy.proofs.PlainLaws.{first-of, second-of, not-true}
 use Rattle.sq_proxy.proofs.TargetLaws.{port_is}
@@ -151,9 +150,9 @@ pub goes-part : (v w : View) (base before contents : Option (List ℕ)) (configs
 goes-part v w base before contents configs whole number d lines t g grew =
     let h = entry_at w.latest d.event t ∷ g.history in
     Grew-map base contents _ _
-      (λ bytes p. IsPrefix-trans bytes (written h) (written whole.history) p
-        (subst (λ (r : Ran). IsPrefix (written h) (written r.history)) g.same (run-grows configs h (number + 1) lines)))
-      (Grew-after base before contents (written g.history) (entry_text (entry_at w.latest d.event t)) g.wrote grew)
+    (λ bytes p. IsPrefix-trans bytes (written h) (written whole.history) p
+    (subst (λ (r : Ran). IsPrefix (written h) (written r.history)) g.same (run-grows configs h (number + 1) lines)))
+    (Grew-after base before contents (written g.history) (entry_text (entry_at w.latest d.event t)) g.wrote grew)
 
 -- the lines from a place on begin with the one that stands there
 pub lines-at : (lines : List Dated) (i : ℕ) (d : Dated) → i < length lines → d ≡ get_or lines i d → drop i lines ≡ d ∷ drop (i + 1) lines
@@ -182,7 +181,7 @@ pub begin-part : (a b : Option (List ℕ)) (config : Configuration) (lines : Lis
     → Grew a b (λ part. IsPrefix part (entry_text (entry_at m (Begin (pos 0)) (told.Epoch 1)))) → WrotePart a b (written (run_script config lines).history)
 begin-part a b config lines m e grew =
     Grew-map a b _ _
-      (λ bytes p. IsPrefix-trans bytes (entry_text (entry_at (first_moment lines) (Begin (pos 0)) (told.Epoch 1))) _
-        (subst (λ n. IsPrefix bytes (entry_text (entry_at n (Begin (pos 0)) (told.Epoch 1)))) e p)
-        (run-grows (config ∷ []) (begun (first_moment lines)) 1 lines))
-      grew
+    (λ bytes p. IsPrefix-trans bytes (entry_text (entry_at (first_moment lines) (Begin (pos 0)) (told.Epoch 1))) _
+    (subst (λ n. IsPrefix bytes (entry_text (entry_at n (Begin (pos 0)) (told.Epoch 1)))) e p)
+    (run-grows (config ∷ []) (begun (first_moment lines)) 1 lines))
+    grew

@@ -1,11 +1,10 @@
 -- Tables with a row for each number.
-use Rattle.std.proofs.Common.{◌≡◌, ℕ, ◌+◌, ◌<◌, ◌≤◌, List, [], ◌∷◌, ◌++◌, length, set, Some, None, suc, zero, refl, sym, ap, ◌∙◌, arith, length-append, ⊎_elim}
+use Rattle.std.proofs.Common.{◌≡◌, ℕ, ◌<◌, ◌≤◌, List, [], ◌∷◌, ◌++◌, length, set, Some, None, suc, zero, refl, sym, ap, ◌∙◌, arith, length-append, ⊎_elim}
 use Rattle.std.proofs.lemmas.Bool.{cases_lt}
 use Rattle.std.proofs.lemmas.List.{set-append_left}
 use Rattle.std.proofs.Math.Seq.{set-append_seam}
-use Rattle.std.specs.declared.option.Option.{Option}
 use Rattle.std.specs.List.{slice_get}
-use Rattle.sq_proxy.specs.Tables.{rows, row_at}
+use Rattle.sq_proxy.specs.Tables.{rows}
 
 pub rows-length : {A : Type 0} (f : ℕ → A) (n : ℕ) → length (rows f n) ≡ n
 rows-length f zero = refl
@@ -36,10 +35,10 @@ pub rows-get : {A : Type 0} (f : ℕ → A) (n i : ℕ) → i < n → slice_get 
 rows-get f zero i l = absurd (omega arith)
 rows-get f (suc n) i l =
     ⊎_elim (λ under. get-front (rows f n) (f (suc n)) i (omega (arith, rows-length f n)) ∙ rows-get f n i under)
-      (λ over.
-        let here : i ≡ n = omega arith in
-        ap (slice_get (rows f n ++ f (suc n) ∷ [])) (here ∙ sym (rows-length f n)) ∙ get-last (rows f n) (f (suc n)) ∙ ap (λ k. Some (f (suc k))) (sym here))
-      (cases_lt i n)
+    (λ over.
+    let here : i ≡ n = omega arith in
+    ap (slice_get (rows f n ++ f (suc n) ∷ [])) (here ∙ sym (rows-length f n)) ∙ get-last (rows f n) (f (suc n)) ∙ ap (λ k. Some (f (suc k))) (sym here))
+    (cases_lt i n)
 
 -- there is no row past the last
 pub rows-past : {A : Type 0} (f : ℕ → A) (n i : ℕ) → n ≤ i → slice_get (rows f n) i ≡ None
@@ -51,14 +50,14 @@ pub rows-set : {A : Type 0} (f g : ℕ → A) (n i : ℕ) (a : A) → i < n → 
 rows-set f g zero i a l e same = absurd (omega arith)
 rows-set f g (suc n) i a l e same =
     ⊎_elim
-      (λ under.
-        set-append_left (rows f n) (f (suc n) ∷ []) i a (omega (arith, rows-length f n))
-        ∙ ap (λ l. l ++ f (suc n) ∷ []) (rows-set f g n i a under e (λ k le other. same k (omega arith) other))
-        ∙ ap (λ x. rows g n ++ x ∷ []) (sym (same (suc n) (omega arith) (λ q. absurd (omega arith)))))
-      (λ over.
-        let here : i ≡ n = omega arith in
-        ap (λ k. set (rows f n ++ f (suc n) ∷ []) k a) (here ∙ sym (rows-length f n))
-        ∙ set-append_seam (rows f n) (f (suc n)) [] a
-        ∙ ap (λ l. l ++ a ∷ []) (sym (rows-same f g n (λ k le. same k (omega arith) (λ q. absurd (omega arith)))))
-        ∙ ap (λ x. rows g n ++ x ∷ []) (sym e ∙ ap (λ k. g (suc k)) here))
-      (cases_lt i n)
+    (λ under.
+    set-append_left (rows f n) (f (suc n) ∷ []) i a (omega (arith, rows-length f n))
+    ∙ ap (λ l. l ++ f (suc n) ∷ []) (rows-set f g n i a under e (λ k le other. same k (omega arith) other))
+    ∙ ap (λ x. rows g n ++ x ∷ []) (sym (same (suc n) (omega arith) (λ q. absurd (omega arith)))))
+    (λ over.
+    let here : i ≡ n = omega arith in
+    ap (λ k. set (rows f n ++ f (suc n) ∷ []) k a) (here ∙ sym (rows-length f n))
+    ∙ set-append_seam (rows f n) (f (suc n)) [] a
+    ∙ ap (λ l. l ++ a ∷ []) (sym (rows-same f g n (λ k le. same k (omega arith) (λ q. absurd (omega arith)))))
+    ∙ ap (λ x. rows g n ++ x ∷ []) (sym e ∙ ap (λ k. g (suc k)) here))
+    (cases_lt i n)

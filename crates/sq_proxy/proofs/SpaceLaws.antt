@@ -1,5 +1,5 @@
 -- Words behind spaces.
-use Rattle.std.proofs.Common.{◌≡◌, ℕ, ◌+◌, ◌<◌, List, [], ◌∷◌, ◌++◌, length, map, drop, get_or, suc, refl, sym, ap, ◌∙◌, append_assoc, drop-cons, codes}
+use Rattle.std.proofs.Common.{◌≡◌, ℕ, ◌<◌, List, [], ◌∷◌, ◌++◌, length, map, drop, get_or, suc, refl, sym, ap, ◌∙◌, append_assoc, drop-cons, codes}
 use Rattle.sq_proxy.specs.EntryText.{after_spaces}
 
 -- one word more was put
@@ -16,7 +16,7 @@ spaces-both (x ∷ xs) ys = ap (λ l. 32 ∷ (x ++ l)) (spaces-both xs ys) ∙ a
 -- the pieces of an entry's text are the whole
 pub entry-whole : (old moment : List ℕ) (event answer : List (List ℕ))
     → ((((old ++ moment) ++ after_spaces event) ++ after_spaces (codes "=>" ∷ [])) ++ after_spaces answer) ++ 10 ∷ []
-      ≡ old ++ (moment ++ after_spaces (event ++ codes "=>" ∷ answer) ++ 10 ∷ [])
+    ≡ old ++ (moment ++ after_spaces (event ++ codes "=>" ∷ answer) ++ 10 ∷ [])
 entry-whole old moment event answer = rw (spaces-both event (codes "=>" ∷ answer)) (simp append_assoc)
 
 pub entry-put : (old moment a b d e f : List ℕ) (event answer : List (List ℕ)) → a ≡ old ++ moment → b ≡ a ++ after_spaces event

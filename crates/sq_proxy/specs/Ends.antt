@@ -1,12 +1,9 @@
 -- How a command ends: its last line, its exit status, and the bytes that it wrote.
 use Rattle.std.specs.Prelude.{◌≡◌, ◌⊎◌, ℕ, ◌≤◌, List, [], ◌∷◌, ◌++◌, codes, decimal, Result}
 use Rattle.std.specs.declared.result.Result.TheVariants as result
-use Rattle.std.specs.declared.option.Option.{Option}
-use Rattle.std.specs.Io.KnownBytes.{Appends}
 use Rattle.sq_base.specs.Escapes.{text_word}
 use Rattle.sq_outside.specs.Causes.{Rose}
 use Rattle.sq_outside.specs.Told.{Texts, IsNotTold}
-use Rattle.sq_outside.specs.Output.{Grew, IsPrefix, IsWritten}
 use Rattle.sq_proxy.specs.declared.ends.Part.{Part}
 use Rattle.sq_proxy.specs.declared.ends.Part.TheVariants as part
 use Rattle.sq_proxy.specs.declared.ends.Status.{Status}

@@ -1,5 +1,5 @@
 -- What a run of a script over a configuration comes to: its history, whose text is written, and its end.
-use Rattle.std.specs.Prelude.{◌≡◌, ◌⊎◌, ℕ, ◌+◌, List, [], ◌∷◌, ◌++◌, Result, Ok, Err, Some, None, max, pos, codes, bytes_eq, ◌&&◌, if◌then◌else◌}
+use Rattle.std.specs.Prelude.{◌≡◌, ◌⊎◌, ℕ, ◌+◌, List, [], ◌∷◌, ◌++◌, Result, Ok, Err, Some, None, max, pos, codes, bytes_eq, if◌then◌else◌}
 use Rattle.std.specs.declared.option.Option.{Option}
 use Rattle.std.specs.Io.KnownBytes.{Appends}
 use Rattle.sq_outside.specs.Output.{Grew, IsPrefix, IsWritten}
@@ -9,7 +9,7 @@ use Rattle.sq_rules.specs.declared.entries.Event.TheVariants.{Begin}
 use Rattle.sq_rules.specs.declared.entries.Told.TheVariants as told
 use Rattle.sq_rules.specs.Configurations.{Configuration}
 use Rattle.sq_rules.specs.Direct.{IsDirect}
-use Rattle.sq_rules.specs.Entries.{Noted, History}
+use Rattle.sq_rules.specs.Entries.{History}
 use Rattle.sq_rules.specs.Machine.{Next, gives, refuses, nothing, next, Legal}
 use Rattle.sq_rules.specs.Readings.{latest}
 use Rattle.sq_proxy.specs.declared.ends.Part.{Part}

@@ -10,11 +10,11 @@ use crate::ends::{Part, Status};
 use crate::escapes::ESCAPES;
 use itoa::Buffer;
 use percent_encoding::percent_encode;
-
 use sq_outside::{Failed, Sink, write_all, write_line};
 
 /// What a command answers to words that are none.
-const USAGE: &[u8] = b"usage: aclproxy parse CONF | replay CONF SCRIPT | verify CONF JOURNAL | rehearse N | serve CONF [--port P] [--workers W] [--utc-offset M]";
+const USAGE: &[u8] =
+    b"usage: aclproxy parse CONF | replay CONF SCRIPT | verify CONF JOURNAL | rehearse N | serve CONF [--port P] [--workers W] [--utc-offset M]";
 
 // Writes bytes escaped, piece by piece.
 fn write_escaped<O: Sink>(out: &mut O, bytes: &[u8]) -> Result<(), Failed>

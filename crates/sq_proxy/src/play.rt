@@ -55,7 +55,12 @@ fn tell<O: Sink>(
 }
 
 // Runs the lines of a script.
-fn play_lines<O: Sink>(alloc: Global, machine: &mut Machine, script: &[Dated], out: &mut O) -> Status
+fn play_lines<O: Sink>(
+    alloc: Global,
+    machine: &mut Machine,
+    script: &[Dated],
+    out: &mut O,
+) -> Status
     requires { are_plain script.now ≡ true }
     ensures runs { (base : Option (List ℕ)) (configs : List Configuration) (h : History) → Legal configs h → StandsFor machine.old configs h
         → Appends base (O.contents out.old) (written h) → Runs base (O.contents out.new) (run_lines configs h 1 script.now) result }

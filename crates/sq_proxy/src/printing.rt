@@ -68,7 +68,11 @@ fn put_event(alloc: Global, to: &mut Text, event: &Event) -> Result<(), WantOfMe
     ensures { OnOk result (to.new ≡ to.old ++ after_spaces (event_words event.now)) }
 {
     match event {
-        Event::Begin { offset } => put_words(alloc, to, &[Word::Plain(b"begin"), Word::Offset(offset.0)]),
+        Event::Begin { offset } => put_words(
+            alloc,
+            to,
+            &[Word::Plain(b"begin"), Word::Offset(offset.0)],
+        ),
         Event::Open { conn, addr, port } => put_words(
             alloc,
             to,
@@ -79,7 +83,11 @@ fn put_event(alloc: Global, to: &mut Text, event: &Event) -> Result<(), WantOfMe
                 Word::Number(*port as u64),
             ],
         ),
-        Event::Close { conn } => put_words(alloc, to, &[Word::Plain(b"close"), Word::Number(conn.0)]),
+        Event::Close { conn } => put_words(
+            alloc,
+            to,
+            &[Word::Plain(b"close"), Word::Number(conn.0)],
+        ),
         Event::Ask {
             conn,
             method,
@@ -98,8 +106,16 @@ fn put_event(alloc: Global, to: &mut Text, event: &Event) -> Result<(), WantOfMe
             )?;
             put_fields(alloc, to, fields.as_slice())
         }
-        Event::Step { check } => put_words(alloc, to, &[Word::Plain(b"step"), Word::Number(check.0)]),
-        Event::Take { check } => put_words(alloc, to, &[Word::Plain(b"take"), Word::Number(check.0)]),
+        Event::Step { check } => put_words(
+            alloc,
+            to,
+            &[Word::Plain(b"step"), Word::Number(check.0)],
+        ),
+        Event::Take { check } => put_words(
+            alloc,
+            to,
+            &[Word::Plain(b"take"), Word::Number(check.0)],
+        ),
     }
 }
 
@@ -161,24 +177,12 @@ fn put_answer(alloc: Global, to: &mut Text, answer: &Told) -> Result<(), WantOfM
     ensures { OnOk result (to.new ≡ to.old ++ after_spaces (answer_words answer.now)) }
 {
     match answer {
-        Told::Epoch(epoch) => put_words(
-            alloc,
-            to,
-            &[Word::Plain(b"epoch"), Word::Number(epoch.0)],
-        ),
+        Told::Epoch(epoch) => put_words(alloc, to, &[Word::Plain(b"epoch"), Word::Number(epoch.0)]),
         Told::Fine => put_words(alloc, to, &[Word::Plain(b"ok")]),
-        Told::Check(check) => put_words(
-            alloc,
-            to,
-            &[Word::Plain(b"check"), Word::Number(check.0)],
-        ),
+        Told::Check(check) => put_words(alloc, to, &[Word::Plain(b"check"), Word::Number(check.0)]),
         Told::Done => put_words(alloc, to, &[Word::Plain(b"done")]),
         Told::Judged { epoch, outcome } => {
-            put_words(
-                alloc,
-                to,
-                &[Word::Plain(b"epoch"), Word::Number(epoch.0)],
-            )?;
+            put_words(alloc, to, &[Word::Plain(b"epoch"), Word::Number(epoch.0)])?;
             put_outcome(alloc, to, outcome)
         }
     }

@@ -17,7 +17,12 @@ use sq_outside::{Files, Sink};
 use std::alloc::Global;
 
 // Runs a script over a configuration, each in a file.
-fn replay<F: Files, O: Sink>(alloc: Global, command: &Replay<'_>, files: &mut F, out: &mut O) -> Status
+fn replay<F: Files, O: Sink>(
+    alloc: Global,
+    command: &Replay<'_>,
+    files: &mut F,
+    out: &mut O,
+) -> Status
     ensures runs { IfSome (F.texts files.old) (λ disk. Runs (O.contents out.old) (O.contents out.new)
         (run_replay disk (record { conf = command.now.conf.now; script = command.now.script.now })) result) }
     ensures end { IsReplayEnd (F.texts files.old) (record { conf = command.now.conf.now; script = command.now.script.now }) result }

@@ -8,12 +8,11 @@ use Rattle.sq_rules.specs.declared.entries.Told.{Told}
 use Rattle.sq_rules.specs.declared.entries.Told.TheVariants as told
 use Rattle.sq_rules.specs.declared.outcomes.Outcome.{Outcome}
 use Rattle.sq_rules.specs.declared.refusals.Refusal.{Refusal}
-use Rattle.sq_rules.specs.declared.refusals.Refusal.TheVariants as refusal
 use Rattle.sq_rules.specs.Configurations.{Configuration}
 use Rattle.sq_rules.specs.Direct.{IsVerdict, IsDirectAnswer, IsDirect}
-use Rattle.sq_rules.specs.Entries.{Noted, History}
-use Rattle.sq_rules.specs.Machine.{Next, gives, refuses, next, unless, Legal, config_of, outcome_of, epoch_of, judged_by}
-use Rattle.sq_rules.specs.Readings.{Asked, ask_of, ask_count, asked_at, numbered, conn_of, check_open, is_open_on, is_done}
+use Rattle.sq_rules.specs.Entries.{History}
+use Rattle.sq_rules.specs.Machine.{gives, next, unless, Legal, config_of, outcome_of, epoch_of, judged_by}
+use Rattle.sq_rules.specs.Readings.{Asked, ask_of, check_open, is_open_on, is_done}
 use Rattle.sq_rules.proofs.ReadingLaws.{asked-epoch}
 
 -- what was taken of an open check that is done

@@ -1,5 +1,5 @@
 -- Laws of the readings of a history.
-use Rattle.std.proofs.Common.{◌≡◌, ℕ, ◌<◌, ◌≤◌, List, [], ◌∷◌, Bool, true, false, ◌==◌, ◌&&◌, Some, None, suc, zero, refl, sym, unwrap_or, arith, ap, ◌∙◌, ◌⊎◌, inl, inr, if◌then◌else◌, nat_le}
+use Rattle.std.proofs.Common.{◌≡◌, ℕ, ◌<◌, [], ◌∷◌, Bool, true, false, ◌==◌, ◌&&◌, Some, None, suc, refl, sym, unwrap_or, arith, ap, ◌∙◌, ◌⊎◌, inl, inr, if◌then◌else◌, nat_le}
 use Rattle.std.proofs.lemmas.Bool.Decides.{nat_tests}
 use Rattle.std.specs.Option.{option_or}
 use Rattle.std.specs.declared.option.Option.{Option}
@@ -7,8 +7,8 @@ use Rattle.sq_rules.specs.declared.entries.Event.{Event}
 use Rattle.sq_rules.specs.declared.entries.Event.TheVariants.{Begin, Open, Close, Ask, Step, Take}
 use Rattle.sq_rules.specs.declared.entries.Told.{Told}
 use Rattle.sq_rules.specs.declared.entries.Told.TheVariants as told
-use Rattle.sq_rules.specs.Entries.{Noted, History}
-use Rattle.sq_rules.specs.Readings.{Asked, ask_of, ask_count, asked_at, numbered, conn_of, check_open, is_open_on, is_done, done_after, count_after}
+use Rattle.sq_rules.specs.Entries.{History}
+use Rattle.sq_rules.specs.Readings.{Asked, ask_of, ask_count, asked_at, numbered, check_open, is_done, done_after, count_after}
 
 -- no check has this number yet
 pub record IsUnborn (n count : ℕ) : Type 0 where

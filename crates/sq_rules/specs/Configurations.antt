@@ -1,5 +1,5 @@
 -- A configuration as a value, and what holds of every one (configuration reference, `acl`, `http_access`).
-use Rattle.std.specs.Prelude.{◌≡◌, ℕ, ◌≤◌, List, [], ◌∷◌, length, Bool, true, false, not, ◌&&◌, ◌||◌, nat_lt, bytes_eq}
+use Rattle.std.specs.Prelude.{◌≡◌, ℕ, ◌≤◌, List, [], ◌∷◌, length, Bool, true, not, ◌&&◌, nat_lt, bytes_eq}
 use Rattle.std.specs.List.{list_all, list_any}
 use Rattle.sq_rules.specs.declared.configs.Acl.{Acl}
 use Rattle.sq_rules.specs.declared.configs.Rule.{Rule}

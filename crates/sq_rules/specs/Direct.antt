@@ -7,7 +7,7 @@ use Rattle.sq_rules.specs.declared.entries.Told.{Told}
 use Rattle.sq_rules.specs.declared.entries.Told.TheVariants as told
 use Rattle.sq_rules.specs.declared.outcomes.Outcome.{Outcome}
 use Rattle.sq_rules.specs.Configurations.{Configuration}
-use Rattle.sq_rules.specs.Entries.{Noted, History}
+use Rattle.sq_rules.specs.Entries.{History}
 use Rattle.sq_rules.specs.Machine.{config_of}
 use Rattle.sq_rules.specs.Readings.{Asked, ask_of}
 use Rattle.sq_rules.specs.Verdicts.{verdict}

@@ -1,5 +1,5 @@
 use Rattle.std.proofs.Common.{◌≡◌, ◌+◌, drop}
-use Rattle.sq_rules.specs.Verdicts.{rules_from, default_of, verdict}
+use Rattle.sq_rules.specs.Verdicts.{rules_from, default_of}
 use Rattle.sq_proxy.specs.Seen.{seen}
 use Rattle.sq_proxy.proofs.judging.judge.Given as goal
 

@@ -1,4 +1,4 @@
-use Rattle.std.proofs.Common.{◌≡◌, ◌++◌, ◌∙◌, ap, arith, subst}
+use Rattle.std.proofs.Common.{◌≡◌, ◌∙◌, ap, arith, subst}
 use Rattle.std.specs.Io.KnownBytes.{Appends}
 use Rattle.percent_encoding.specs.Iter.{encoded_text}
 use Rattle.sq_base.specs.Escapes.{escaped}
@@ -27,7 +27,7 @@ returns-in-Err-clause-err g c =
     ap encoded_text c.into_iter-piece-iterator.ensures.into_iter_gives ∙ c.percent_encode-piece-items.ensures.text ∙ encodes c.args.bytes.now in
     subst (λ whole. Grew a d (λ part. IsPrefix part whole)) start
     (halfway-part a b d _ _ c.in-Some.piece.now _ c.loop-piece.invariant.going c.in-Some.ensures.steps
-      (subst (λ p. Grew b d (λ part. IsPrefix part p)) c.as_bytes.ensures.value c.in-Err.ensures.err))
+    (subst (λ p. Grew b d (λ part. IsPrefix part p)) c.as_bytes.ensures.value c.in-Err.ensures.err))
 
 pub returns-clause-ok : goal.returns-clause-ok
 returns-clause-ok g c =

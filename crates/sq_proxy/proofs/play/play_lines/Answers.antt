@@ -1,4 +1,4 @@
-use Rattle.std.proofs.Common.{◌≡◌, ◌+◌, ◌<◌, ℕ, length, drop, true, arith, subst, ap, ◌∙◌}
+use Rattle.std.proofs.Common.{◌≡◌, ◌+◌, ℕ, drop, true, arith, subst}
 use Rattle.std.specs.Io.KnownBytes.{Appends}
 use Rattle.sq_outside.specs.Output.{Grew, IsPrefix}
 use Rattle.sq_proxy.specs.EntryText.{entry_text}
@@ -22,7 +22,7 @@ returns-in-Err-Refused-clause-runs g c = λ base configs h legal stands wrote.
     let refused = rw c.in-Err-Refused.field-0-is at c.in-Err-Refused.ensures in
     going-refused c.loop-dated.machine c.make.new.self base before configs whole c.loop-dated.number d (drop (i + 1) lines) refused.0
     (going-at c.loop-dated.machine base before configs whole c.loop-dated.number i lines d c.loop-dated-test.true c.dated-item.is
-      (c.loop-dated.invariant.goes base configs h legal stands wrote)) refused.1
+    (c.loop-dated.invariant.goes base configs h legal stands wrote)) refused.1
 
 pub returns-in-Err-Failed-clause-runs : goal.returns-in-Err-Failed-clause-runs
 returns-in-Err-Failed-clause-runs g c = λ base configs h legal stands wrote.
@@ -36,8 +36,8 @@ returns-in-Err-Failed-clause-runs g c = λ base configs h legal stands wrote.
     let part = subst (λ (m : ℕ). Grew before after (λ part. IsPrefix part (entry_text (entry_at m d.event c.in-Ok.told)))) c.latest.ensures c.in-Err-Failed.ensures.err in
     goes-part c.loop-dated.machine c.make.new.self base before after configs whole c.loop-dated.number d (drop (i + 1) lines) c.in-Ok.told
     (going-made c.loop-dated.machine c.make.new.self base before configs whole c.loop-dated.number d (drop (i + 1) lines) c.in-Ok.told
-      (going-at c.loop-dated.machine base before configs whole c.loop-dated.number i lines d c.loop-dated-test.true c.dated-item.is
-        (c.loop-dated.invariant.goes base configs h legal stands wrote)) plain c.in-Ok.ensures) part
+    (going-at c.loop-dated.machine base before configs whole c.loop-dated.number i lines d c.loop-dated-test.true c.dated-item.is
+    (c.loop-dated.invariant.goes base configs h legal stands wrote)) plain c.in-Ok.ensures) part
 
 pub returns-in-Err-WantOfMemory-tell-clause-runs : goal.returns-in-Err-WantOfMemory-tell-clause-runs
 returns-in-Err-WantOfMemory-tell-clause-runs g c = λ base configs h legal stands wrote.
@@ -51,8 +51,8 @@ returns-in-Err-WantOfMemory-tell-clause-runs g c = λ base configs h legal stand
     let part = subst (λ (m : ℕ). Grew before after (λ part. IsPrefix part (entry_text (entry_at m d.event c.in-Ok.told)))) c.latest.ensures c.in-Err-WantOfMemory-tell.ensures.err in
     goes-part c.loop-dated.machine c.make.new.self base before after configs whole c.loop-dated.number d (drop (i + 1) lines) c.in-Ok.told
     (going-made c.loop-dated.machine c.make.new.self base before configs whole c.loop-dated.number d (drop (i + 1) lines) c.in-Ok.told
-      (going-at c.loop-dated.machine base before configs whole c.loop-dated.number i lines d c.loop-dated-test.true c.dated-item.is
-        (c.loop-dated.invariant.goes base configs h legal stands wrote)) plain c.in-Ok.ensures) part
+    (going-at c.loop-dated.machine base before configs whole c.loop-dated.number i lines d c.loop-dated-test.true c.dated-item.is
+    (c.loop-dated.invariant.goes base configs h legal stands wrote)) plain c.in-Ok.ensures) part
 
 pub loop-dated-preserved : goal.loop-dated-preserved
 loop-dated-preserved g c =
@@ -67,15 +67,15 @@ loop-dated-preserved g c =
       counted = omega arith;
       later = omega (arith, c.in-Ok-tell.ensures.later);
       goes = λ base configs h legal stands wrote.
-        let whole = run_lines configs h 1 lines in
-        let told = subst (λ (m : ℕ). Appends before after (entry_text (entry_at m d.event c.in-Ok.told))) c.latest.ensures c.in-Ok-tell.ensures.ok in
-        goes-told c.loop-dated.machine c.make.new.self base before after configs whole c.loop-dated.number d (drop (i + 1) lines) c.in-Ok.told
-        (going-made c.loop-dated.machine c.make.new.self base before configs whole c.loop-dated.number d (drop (i + 1) lines) c.in-Ok.told
+          let whole = run_lines configs h 1 lines in
+          let told = subst (λ (m : ℕ). Appends before after (entry_text (entry_at m d.event c.in-Ok.told))) c.latest.ensures c.in-Ok-tell.ensures.ok in
+          goes-told c.loop-dated.machine c.make.new.self base before after configs whole c.loop-dated.number d (drop (i + 1) lines) c.in-Ok.told
+          (going-made c.loop-dated.machine c.make.new.self base before configs whole c.loop-dated.number d (drop (i + 1) lines) c.in-Ok.told
           (going-at c.loop-dated.machine base before configs whole c.loop-dated.number i lines d c.loop-dated-test.true c.dated-item.is
-            (c.loop-dated.invariant.goes base configs h legal stands wrote)) plain c.in-Ok.ensures) told;
+          (c.loop-dated.invariant.goes base configs h legal stands wrote)) plain c.in-Ok.ensures) told;
     }
 
 pub returns-clause-runs : goal.returns-clause-runs
 returns-clause-runs g c = λ base configs h legal stands wrote.
     going-end c.loop-dated.machine base (g.O.Sink.contents c.loop-dated.out) configs (run_lines configs h 1 c.args.script.now) c.loop-dated.number
-        c.loop-dated.dated-index c.args.script.now c.loop-dated-test.false (c.loop-dated.invariant.goes base configs h legal stands wrote)
+    c.loop-dated.dated-index c.args.script.now c.loop-dated-test.false (c.loop-dated.invariant.goes base configs h legal stands wrote)

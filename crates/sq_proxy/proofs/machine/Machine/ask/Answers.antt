@@ -1,6 +1,4 @@
-use Rattle.std.proofs.Common.{◌≡◌, ◌+◌, ◌≤◌, ◌<◌, ◌∷◌, [], ◌++◌, false, Some, None, suc, length, rules, arith, sym, ◌∙◌, ap}
-use Rattle.std.specs.Option.{option_map}
-use Rattle.sq_base.specs.Targets.{target_of}
+use Rattle.std.proofs.Common.{◌≡◌, ◌+◌, ◌∷◌, [], ◌++◌, false, Some, None, rules, arith, ◌∙◌, ap}
 use Rattle.sq_rules.specs.Verdicts.{verdict}
 use Rattle.sq_proxy.specs.Seen.{seen}
 use Rattle.sq_proxy.specs.Tables.{value_at}

@@ -1,4 +1,4 @@
-use Rattle.std.proofs.Common.{◌≡◌, Some, rules, sym, ◌∙◌}
+use Rattle.std.proofs.Common.{◌≡◌, Some, rules, sym}
 use Rattle.sq_proxy.proofs.TakeLaws.{take-early, take-made}
 use Rattle.sq_proxy.proofs.MachineLaws.{take-unknown}
 use Rattle.sq_proxy.proofs.machine.Machine.take.Goals as goal
