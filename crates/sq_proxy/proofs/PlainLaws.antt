@@ -105,19 +105,19 @@ dated-plain ws =
     bind-has (λ event. is_plain event ≡ true) (λ (d : Dated). is_plain d.event ≡ true) (event_in moment.1 >>= whole) _
     (bind-has IsPlainRead (λ event. is_plain event ≡ true) (event_in moment.1) whole (event-plain moment.1) whole-plain) (λ event p. p))
 
-over-has : {S : Type 0} (P : S → Type 0) (step : S → Words → Option S) → ((s : S) (ws : Words) → P s → IfSome (step s ws) P)
+over-has : {S : Type 0} (P : S → Type 0) (step : S → List ℕ → Option S) → ((s : S) (l : List ℕ) → P s → IfSome (step s l) P)
     → (s : S) (ls : List (List ℕ)) → P s → IfSome (over_lines step s ls) P
 over-has P step k s [] p = tt
 over-has P step k s ([] ∷ []) p = p
 over-has P step k s ((b ∷ bs) ∷ []) p = tt
-over-has P step k s (l ∷ m ∷ ls) p = bind-has P P (step s (slice_split is_space l)) _ (k s _ p) (λ t q. over-has P step k t (m ∷ ls) q)
+over-has P step k s (l ∷ m ∷ ls) p = bind-has P P (step s l) _ (k s _ p) (λ t q. over-has P step k t (m ∷ ls) q)
 
 abbrev ArePlain : List Dated → Type 0
 ArePlain lines = are_plain lines ≡ true
 
-line-plain : (lines : List Dated) (ws : Words) → ArePlain lines → IfSome (script_line lines ws) ArePlain
-line-plain lines ws p =
-    map-has (λ (d : Dated). is_plain d.event ≡ true) ArePlain (dated_of ws) _ (dated-plain ws)
+line-plain : (lines : List Dated) (line : List ℕ) → ArePlain lines → IfSome (script_line lines line) ArePlain
+line-plain lines line p =
+    map-has (λ (d : Dated). is_plain d.event ≡ true) ArePlain (dated_of (slice_split is_space line)) _ (dated-plain (slice_split is_space line))
     (λ d q. list_all-append (λ (x : Dated). is_plain x.event) lines (d ∷ []) ∙ rw (p, q) refl)
 
 -- a script that was read is plain

@@ -1,5 +1,5 @@
 -- A run line by line.
-use Rattle.std.proofs.Common.{◌≡◌, ℕ, ◌+◌, ◌≤◌, List, [], ◌∷◌, ◌++◌, true, false, is_some, max, Some, None, refl, sym, ap, ◌∙◌, arith, ◌<◌, length, get_or, drop, add-one, drop-cons, subst, codes, pos}
+use Rattle.std.proofs.Common.{◌≡◌, ℕ, ◌+◌, ◌≤◌, List, [], ◌∷◌, ◌++◌, true, false, is_some, max, Some, None, refl, sym, ap, ◌∙◌, arith, ◌<◌, length, get_or, drop, add-one, drop-cons, append-nil, subst, codes, pos}
 use Rattle.std.proofs.Math.ListN.{drop_of_length-le}
 use Rattle.sq_proxy.specs.Plain.{are_plain}
 use Rattle.std.proofs.KnownBytes.{Appends-trans}
@@ -7,8 +7,8 @@ use Rattle.std.specs.Io.KnownBytes.{Appends}
 use Rattle.std.specs.Option.{option_map}
 use Rattle.std.specs.declared.option.Option.{Option}
 use Rattle.std.specs.Str.{bytes_eq}
-use Rattle.sq_outside.specs.Output.{Grew, IsPrefix}
-use Rattle.sq_outside.proofs.Writing.{Grew-after, Grew-map, Grew-of, IsPrefix-refl, IsPrefix-trans, IsPrefix-front}
+use Rattle.sq_outside.specs.Output.{Grew, IsPrefix, IsProperPrefix}
+use Rattle.sq_outside.proofs.Writing.{Grew-proper_after, Grew-map, Grew-of, IsPrefix-refl, IsPrefix-trans, IsPrefix-front, IsProperPrefix-more}
 use Rattle.sq_base.specs.Targets.{Target, target_of}
 use Rattle.sq_rules.specs.declared.entries.Event.{Event}
 use Rattle.sq_rules.specs.declared.entries.Event.TheVariants.{Begin, Open, Close, Ask, Step, Take}
@@ -143,16 +143,29 @@ goes-told v w base before contents configs whole number d lines t g wrote = reco
   same = g.same;
 }
 
--- or a front of it
+proper-in : (part mid whole : List ℕ) → IsProperPrefix part mid → IsPrefix mid whole → IsProperPrefix part whole
+proper-in part mid whole p (rest, e) = subst (IsProperPrefix part) (sym e) (IsProperPrefix-more part mid rest p)
+
+-- or a part of it
 pub goes-part : (v w : View) (base before contents : Option (List ℕ)) (configs : List Configuration) (whole : Ran) (number : ℕ) (d : Dated) (lines : List Dated) (t : Told)
-    → Goes v w base before configs whole number d lines t → Grew before contents (λ part. IsPrefix part (entry_text (entry_at w.latest d.event t)))
-    → WrotePart base contents (written whole.history)
+    → Goes v w base before configs whole number d lines t → Grew before contents (λ part. IsProperPrefix part (entry_text (entry_at w.latest d.event t)))
+    → Grew base contents (λ part. IsProperPrefix part (written whole.history))
 goes-part v w base before contents configs whole number d lines t g grew =
     let h = entry_at w.latest d.event t ∷ g.history in
     Grew-map base contents _ _
-    (λ bytes p. IsPrefix-trans bytes (written h) (written whole.history) p
-    (subst (λ (r : Ran). IsPrefix (written h) (written r.history)) g.same (run-grows configs h (number + 1) lines)))
-    (Grew-after base before contents (written g.history) (entry_text (entry_at w.latest d.event t)) g.wrote grew)
+      (λ bytes p. proper-in bytes (written h) (written whole.history) p
+        (subst (λ (r : Ran). IsPrefix (written h) (written r.history)) g.same (run-grows configs h (number + 1) lines)))
+      (Grew-proper_after base before contents (written g.history) (entry_text (entry_at w.latest d.event t)) g.wrote grew)
+
+-- or nothing
+pub goes-untold : (v w : View) (base before contents : Option (List ℕ)) (configs : List Configuration) (whole : Ran) (number : ℕ) (d : Dated) (lines : List Dated) (t : Told)
+    → Goes v w base before configs whole number d lines t → Appends before contents [] → WrotePart base contents (written whole.history)
+goes-untold v w base before contents configs whole number d lines t g wrote =
+    let h = entry_at w.latest d.event t ∷ g.history in
+    (written g.history ++ [], Appends-trans base before contents (written g.history) [] g.wrote wrote,
+      subst (λ x. IsPrefix x (written whole.history)) (sym (append-nil (written g.history)))
+      (IsPrefix-trans (written g.history) (written h) (written whole.history) (IsPrefix-front (written g.history) (entry_text (entry_at w.latest d.event t)))
+        (subst (λ (r : Ran). IsPrefix (written h) (written r.history)) g.same (run-grows configs h (number + 1) lines))))
 
 -- the lines from a place on begin with the one that stands there
 pub lines-at : (lines : List Dated) (i : ℕ) (d : Dated) → i < length lines → d ≡ get_or lines i d → drop i lines ≡ d ∷ drop (i + 1) lines
@@ -176,12 +189,13 @@ plain-at lines i d l e p = first-of (is_plain d.event) (are_plain (drop (i + 1) 
 pub plain-after : (lines : List Dated) (i : ℕ) (d : Dated) → i < length lines → d ≡ get_or lines i d → are_plain (drop i lines) ≡ true → are_plain (drop (i + 1) lines) ≡ true
 plain-after lines i d l e p = second-of (is_plain d.event) (are_plain (drop (i + 1) lines)) (ap are_plain (sym (lines-at lines i d l e)) ∙ p)
 
--- a front of the first entry's text is one of the run's
+-- a part of the first entry's text is one of the run's
 pub begin-part : (a b : Option (List ℕ)) (config : Configuration) (lines : List Dated) (m : ℕ) → m ≡ first_moment lines
-    → Grew a b (λ part. IsPrefix part (entry_text (entry_at m (Begin (pos 0)) (told.Epoch 1)))) → WrotePart a b (written (run_script config lines).history)
+    → Grew a b (λ part. IsProperPrefix part (entry_text (entry_at m (Begin (pos 0)) (told.Epoch 1))))
+    → Grew a b (λ part. IsProperPrefix part (written (run_script config lines).history))
 begin-part a b config lines m e grew =
     Grew-map a b _ _
-    (λ bytes p. IsPrefix-trans bytes (entry_text (entry_at (first_moment lines) (Begin (pos 0)) (told.Epoch 1))) _
-    (subst (λ n. IsPrefix bytes (entry_text (entry_at n (Begin (pos 0)) (told.Epoch 1)))) e p)
-    (run-grows (config ∷ []) (begun (first_moment lines)) 1 lines))
-    grew
+      (λ bytes p. proper-in bytes (entry_text (entry_at (first_moment lines) (Begin (pos 0)) (told.Epoch 1))) _
+        (subst (λ n. IsProperPrefix bytes (entry_text (entry_at n (Begin (pos 0)) (told.Epoch 1)))) e p)
+        (run-grows (config ∷ []) (begun (first_moment lines)) 1 lines))
+      grew

@@ -6,6 +6,7 @@ use Rattle.std.specs.List.{list_all, list_any, position, slice_split, after_firs
 use Rattle.std.specs.Option.{option_map}
 use Rattle.std.specs.declared.option.Option.{Option}
 use Rattle.sq_base.specs.Decimals.{number_of}
+use Rattle.sq_base.specs.Lines.{line_limit}
 use Rattle.sq_base.specs.Ranges.{range_of, is_slash}
 use Rattle.sq_base.specs.declared.addresses.Range.{Range}
 use Rattle.sq_rules.specs.declared.configs.Acl.{Acl}
@@ -17,7 +18,7 @@ use Rattle.sq_rules.specs.declared.leaves.Leaf.TheVariants as leaf
 use Rattle.sq_rules.specs.declared.leaves.PortRange.{PortRange}
 use Rattle.sq_rules.specs.Configurations.{Configuration}
 use Rattle.sq_rules.specs.Limits.{acl_limit, name_limit, rule_limit, text_limit}
-use Rattle.sq_proxy.specs.Forms.{◌>>=◌, Words, is_newline, some_of, over_lines}
+use Rattle.sq_proxy.specs.Forms.{◌>>=◌, Words, is_newline, is_space, some_of, over_lines}
 
 -- what the lines so far state
 pub record Stated : Type 0 where
@@ -108,6 +109,10 @@ conf_line s (directive ∷ words) =
     if bytes_eq directive (codes "acl") then acl_line s words
     else (if bytes_eq directive (codes "http_access") then rule_line s words else None)
 
+-- a line within the limit, as its words
+unfoldable pub sized_line : Stated → List ℕ → Option Stated
+sized_line s line = if nat_le (length line) line_limit then conf_line s (slice_split is_space line) else None
+
 abbrev pub nothing_stated : Stated
 nothing_stated = record { acls = []; rules = [] }
 
@@ -116,7 +121,7 @@ configuration text s = record { source = text; acls = s.acls; rules = s.rules }
 
 -- the configuration that a text of this form states
 unfoldable pub conf_in : List ℕ → Option Configuration
-conf_in text = option_map (configuration text) (over_lines conf_line nothing_stated (slice_split is_newline text))
+conf_in text = option_map (configuration text) (over_lines sized_line nothing_stated (slice_split is_newline text))
 
 -- the same for a text within the limit
 abbrev pub conf_of : List ℕ → Option Configuration

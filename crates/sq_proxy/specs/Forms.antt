@@ -46,11 +46,11 @@ some_of form [] = None
 some_of form (w ∷ ws) = each_on form [] (w ∷ ws)
 
 -- A state that each line changes in turn. LF ends each line, so the last piece of the text is empty.
-abbrev pub over_lines : {S : Type 0} → (S → Words → Option S) → S → List (List ℕ) → Option S
+abbrev pub over_lines : {S : Type 0} → (S → List ℕ → Option S) → S → List (List ℕ) → Option S
 over_lines step s [] = None
 over_lines step s ([] ∷ []) = Some s
 over_lines step s ((b ∷ bs) ∷ []) = None
-over_lines step s (l ∷ m ∷ ls) = step s (slice_split is_space l) >>= λ next. over_lines step next (m ∷ ls)
+over_lines step s (l ∷ m ∷ ls) = step s l >>= λ next. over_lines step next (m ∷ ls)
 
 -- What a function returned is what reading gives, unless memory ran out.
 abbrev pub Fails : {Y : Type 0} → Unformed → Option Y → Type 0

@@ -11,4 +11,5 @@ pub mod RunText
 pub mod ScriptForm
 pub mod Seen
 pub mod Tables
+pub mod Telling
 pub mod Words

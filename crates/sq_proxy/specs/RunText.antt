@@ -2,7 +2,7 @@
 use Rattle.std.specs.Prelude.{◌≡◌, ◌⊎◌, ℕ, ◌+◌, List, [], ◌∷◌, ◌++◌, Result, Ok, Err, Some, None, max, pos, codes, bytes_eq, if◌then◌else◌}
 use Rattle.std.specs.declared.option.Option.{Option}
 use Rattle.std.specs.Io.KnownBytes.{Appends}
-use Rattle.sq_outside.specs.Output.{Grew, IsPrefix, IsWritten}
+use Rattle.sq_outside.specs.Output.{Grew, IsPrefix, IsProperPrefix, IsWritten}
 use Rattle.sq_outside.specs.Told.{Texts, IsNotTold}
 use Rattle.sq_rules.specs.declared.entries.Event.{Event}
 use Rattle.sq_rules.specs.declared.entries.Event.TheVariants.{Begin}
@@ -120,21 +120,24 @@ run_of disk words = run_command disk (command_of words)
 abbrev pub WrotePart : Option (List ℕ) → Option (List ℕ) → List ℕ → Type 0
 WrotePart base contents text = Grew base contents (λ part. IsPrefix part text)
 
--- the run was made and its text written, or a fault ended it and a front of its text was written
+-- The run was made and its text written. A fault of reading comes before anything is written, and another fault in the midst of the text.
 abbrev pub Runs : Option (List ℕ) → Option (List ℕ) → Ran → Status → Type 0
-Runs base contents ran ends.ReadFault = WrotePart base contents (written ran.history)
-Runs base contents ran ends.WriteFault = WrotePart base contents (written ran.history)
+Runs base contents ran ends.ReadFault = Appends base contents []
+Runs base contents ran ends.WriteFault = Grew base contents (λ part. IsProperPrefix part (written ran.history))
 Runs base contents ran ends.WantOfMemory = WrotePart base contents (written ran.history)
 Runs base contents ran end = (end ≡ ran.end) × Appends base contents (written ran.history)
+
+-- the text of the run, and then the last line, or a part of it where the sink's count rose
+abbrev pub EndsWith : List ℕ → ℕ → ℕ → Status → List ℕ → Type 0
+EndsWith text before now end bytes = (part : List ℕ) × (bytes ≡ text ++ part) × IsWritten before now (last_line end) part
 
 -- the bytes that a command which ends so wrote; the two numbers are the sink's count before and after
 abbrev pub IsOutput : Ran → ℕ → ℕ → Status → List ℕ → Type 0
 IsOutput ran before now ends.Ok bytes = bytes ≡ written ran.history
-IsOutput ran before now ends.WriteFault bytes = IsPrefix bytes (written ran.history)
+IsOutput ran before now ends.WriteFault bytes = IsProperPrefix bytes (written ran.history)
 IsOutput ran before now ends.WantOfMemory bytes = IsPrefix bytes (written ran.history)
-IsOutput ran before now ends.ReadFault bytes =
-    (part : List ℕ) × IsPrefix part (written ran.history) × IsWritten before now (part ++ last_line ends.ReadFault) bytes
-IsOutput ran before now end bytes = IsWritten before now (written ran.history ++ last_line end) bytes
+IsOutput ran before now ends.ReadFault bytes = EndsWith [] before now ends.ReadFault bytes
+IsOutput ran before now end bytes = EndsWith (written ran.history) before now end bytes
 
 -- a replay ends by no usage, and misses only a file that it names and that is not told
 abbrev pub IsReplayEnd : Texts → Replay → Status → Type 0

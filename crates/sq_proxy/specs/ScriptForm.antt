@@ -12,7 +12,7 @@ use Rattle.sq_rules.specs.declared.entries.Event.{Event}
 use Rattle.sq_rules.specs.declared.entries.Event.TheVariants.{Open, Ask, Step, Take}
 use Rattle.sq_rules.specs.Limits.{text_limit}
 use Rattle.sq_proxy.specs.declared.script_form.Dated.{Dated}
-use Rattle.sq_proxy.specs.Forms.{◌>>=◌, Words, Reads, is_newline, word_in, whole, over_lines}
+use Rattle.sq_proxy.specs.Forms.{◌>>=◌, Words, Reads, is_newline, is_space, word_in, whole, over_lines}
 
 abbrev pub number_in : Reads ℕ
 number_in = word_in (number_of number_limit)
@@ -92,8 +92,8 @@ unfoldable pub dated_of : Words → Option Dated
 dated_of ws =
     number_in ws >>= λ moment. event_in moment.1 >>= whole >>= λ event. Some (record { moment = moment.0; event = event })
 
-abbrev pub script_line : List Dated → Words → Option (List Dated)
-script_line lines ws = option_map (λ d. lines ++ d ∷ []) (dated_of ws)
+abbrev pub script_line : List Dated → List ℕ → Option (List Dated)
+script_line lines line = option_map (λ d. lines ++ d ∷ []) (dated_of (slice_split is_space line))
 
 -- the lines of a script of this form
 unfoldable pub script_in : List ℕ → Option (List Dated)

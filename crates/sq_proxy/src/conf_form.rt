@@ -1,7 +1,7 @@
 //! The reader of configurations of the form that is built: lines `acl` and `http_access`.
 ghost use Rattle.std.specs.Prelude.{◌≡◌, ◌==◌, true, length, nat_lt, bytes_eq, IfOk};
 ghost use Rattle.std.specs.List.{slice_split, list_all, list_any};
-ghost use Rattle.sq_proxy.specs.ConfForm.{is_name, is_name_byte, predefined, acl_line, rule_line, conf_line, conf_in, place_of, term_at, term_of, action_of, nothing_stated};
+ghost use Rattle.sq_proxy.specs.ConfForm.{is_name, is_name_byte, predefined, acl_line, rule_line, conf_line, sized_line, conf_in, place_of, term_at, term_of, action_of, nothing_stated};
 ghost use Rattle.sq_proxy.specs.Forms.{Gives, Makes, some_of, over_lines, is_newline, is_space};
 
 use crate::conf_values::leaf;
@@ -11,6 +11,9 @@ use crate::unformed::Unformed;
 use sq_base::{Listed, Text};
 use sq_rules::{Acl, Body, Config, Rule, Term, Terms};
 use std::alloc::Global;
+
+/// The bytes that a line may have, its end left out.
+const LINE_LIMIT: usize = 65_536;
 
 /// The configuration that a text states. The text becomes its source, without a copy.
 #[tactic(auto, unfolding(crate::specs::ConfForm::conf_in))]
@@ -24,7 +27,7 @@ pub fn read_conf(alloc: Global, text: Text) -> Result<Config, Unformed>
 // What the lines of a text state.
 #[tactic(auto, using(crate::proofs::FormLaws::last_line, crate::proofs::FormLaws::open_line, crate::proofs::FormLaws::next_line))]
 fn stated(alloc: Global, text: &[u8]) -> Result<Draft, Unformed>
-    ensures { Gives (λ d. d) result (over_lines conf_line nothing_stated (slice_split is_newline text.now)) }
+    ensures { Gives (λ d. d) result (over_lines sized_line nothing_stated (slice_split is_newline text.now)) }
 {
     let mut lines = Pieces::new(text, b'\n');
     let mut draft = Draft::new(alloc);
@@ -36,9 +39,20 @@ fn stated(alloc: Global, text: &[u8]) -> Result<Draft, Unformed>
                 Err(Unformed::Outside)
             };
         }
-        conf_line(alloc, &mut draft, line)?;
+        sized_line(alloc, &mut draft, line)?;
     }
     Err(Unformed::Outside)
+}
+
+// A line within the limit.
+#[tactic(auto, unfolding(crate::specs::ConfForm::sized_line))]
+fn sized_line(alloc: Global, draft: &mut Draft, line: &[u8]) -> Result<(), Unformed>
+    ensures { Makes result draft.new (sized_line draft.old line.now) }
+{
+    if line.len() > LINE_LIMIT {
+        return Err(Unformed::Outside);
+    }
+    conf_line(alloc, draft, line)
 }
 
 #[tactic(auto, unfolding(crate::specs::ConfForm::conf_line))]

@@ -11,6 +11,7 @@ ghost use Rattle.sq_proxy.specs.EntryText.{entry_text, written};
 ghost use Rattle.sq_proxy.specs.Machines.{StandsFor, entry_at};
 ghost use Rattle.sq_proxy.specs.RunText.{run_script, run_lines, first_moment, Runs, WrotePart};
 ghost use Rattle.sq_proxy.specs.Plain.{are_plain};
+ghost use Rattle.sq_proxy.specs.Telling.{Tells};
 ghost use Rattle.sq_proxy.specs.declared.ends.Status.TheVariants as ends;
 
 use crate::ends::Status;
@@ -37,9 +38,7 @@ fn tell<O: Sink>(
     answer: &Told,
     out: &mut O,
 ) -> Result<(), Untold>
-    ensures ok { OnOk result (Appends (O.contents out.old) (O.contents out.new) (entry_text (entry_at moment event.now answer.now))) }
-    ensures err { OnErr result (Grew (O.contents out.old) (O.contents out.new)
-        (λ part. IsPrefix part (entry_text (entry_at moment event.now answer.now)))) }
+    ensures told { Tells (O.contents out.old) (O.contents out.new) result (entry_text (entry_at moment event.now answer.now)) }
     ensures later { O.faults out.old ≤ O.faults out.new }
     ensures failed { IsErrOf result Untold.Failed → Rose (O.faults out.old) (O.faults out.new) }
 {

@@ -1,5 +1,5 @@
 -- Entries of a journal, and what holds of each.
-use Rattle.std.specs.Prelude.{◌≡◌, ℕ, List, Bool, true, false, not, ◌&&◌}
+use Rattle.std.specs.Prelude.{◌≡◌, ℕ, List, Bool, true, false, not, ◌&&◌, ◌==◌}
 use Rattle.sq_base.specs.Requests.{have_plain_names}
 use Rattle.sq_rules.specs.declared.entries.Event.{Event}
 use Rattle.sq_rules.specs.declared.entries.Event.TheVariants.{Begin, Open, Close, Ask, Step, Take}
@@ -30,7 +30,7 @@ is_outcome o = not (must_deny o.why && o.allow)
 
 -- the answer is one that its event may have
 abbrev pub is_row : Event → Told → Bool
-is_row (Begin offset) (told.Epoch e) = true
+is_row (Begin offset) (told.Epoch e) = e == 1
 is_row (Open conn addr port) told.Fine = true
 is_row (Close conn) told.Fine = true
 is_row (Ask conn method target fields) (told.Check n) = true

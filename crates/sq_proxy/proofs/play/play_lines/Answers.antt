@@ -1,10 +1,10 @@
-use Rattle.std.proofs.Common.{◌≡◌, ◌+◌, ℕ, drop, true, arith, subst}
+use Rattle.std.proofs.Common.{[], ◌≡◌, ◌+◌, ℕ, drop, true, arith, subst}
 use Rattle.std.specs.Io.KnownBytes.{Appends}
-use Rattle.sq_outside.specs.Output.{Grew, IsPrefix}
+use Rattle.sq_outside.specs.Output.{Grew, IsProperPrefix}
 use Rattle.sq_proxy.specs.EntryText.{entry_text}
 use Rattle.sq_proxy.specs.Machines.{entry_at, is_plain}
 use Rattle.sq_proxy.specs.RunText.{run_lines}
-use Rattle.sq_proxy.proofs.PlayLaws.{going-part, going-refused, going-made, goes-told, goes-part, going-at, going-end, plain-at, plain-after}
+use Rattle.sq_proxy.proofs.PlayLaws.{going-part, going-refused, going-made, goes-told, goes-part, goes-untold, going-at, going-end, plain-at, plain-after}
 use Rattle.sq_proxy.proofs.play.play_lines.Goals as goal
 
 pub returns-in-Err-WantOfMemory-clause-runs : goal.returns-in-Err-WantOfMemory-clause-runs
@@ -33,7 +33,7 @@ returns-in-Err-Failed-clause-runs g c = λ base configs h legal stands wrote.
     let after = g.O.Sink.contents c.tell.new.out in
     let whole = run_lines configs h 1 lines in
     let plain : is_plain d.event ≡ true = plain-at lines i d c.loop-dated-test.true c.dated-item.is c.loop-dated.invariant.plain in
-    let part = subst (λ (m : ℕ). Grew before after (λ part. IsPrefix part (entry_text (entry_at m d.event c.in-Ok.told)))) c.latest.ensures c.in-Err-Failed.ensures.err in
+    let part = subst (λ (m : ℕ). Grew before after (λ part. IsProperPrefix part (entry_text (entry_at m d.event c.in-Ok.told)))) c.latest.ensures (rw c.in-Err-Failed.field-0-is at c.in-Err-Failed.ensures.told) in
     goes-part c.loop-dated.machine c.make.new.self base before after configs whole c.loop-dated.number d (drop (i + 1) lines) c.in-Ok.told
     (going-made c.loop-dated.machine c.make.new.self base before configs whole c.loop-dated.number d (drop (i + 1) lines) c.in-Ok.told
     (going-at c.loop-dated.machine base before configs whole c.loop-dated.number i lines d c.loop-dated-test.true c.dated-item.is
@@ -48,11 +48,11 @@ returns-in-Err-WantOfMemory-tell-clause-runs g c = λ base configs h legal stand
     let after = g.O.Sink.contents c.tell.new.out in
     let whole = run_lines configs h 1 lines in
     let plain : is_plain d.event ≡ true = plain-at lines i d c.loop-dated-test.true c.dated-item.is c.loop-dated.invariant.plain in
-    let part = subst (λ (m : ℕ). Grew before after (λ part. IsPrefix part (entry_text (entry_at m d.event c.in-Ok.told)))) c.latest.ensures c.in-Err-WantOfMemory-tell.ensures.err in
-    goes-part c.loop-dated.machine c.make.new.self base before after configs whole c.loop-dated.number d (drop (i + 1) lines) c.in-Ok.told
+    let nothing : Appends before after [] = rw c.in-Err-WantOfMemory-tell.field-0-is at c.in-Err-WantOfMemory-tell.ensures.told in
+    goes-untold c.loop-dated.machine c.make.new.self base before after configs whole c.loop-dated.number d (drop (i + 1) lines) c.in-Ok.told
     (going-made c.loop-dated.machine c.make.new.self base before configs whole c.loop-dated.number d (drop (i + 1) lines) c.in-Ok.told
     (going-at c.loop-dated.machine base before configs whole c.loop-dated.number i lines d c.loop-dated-test.true c.dated-item.is
-    (c.loop-dated.invariant.goes base configs h legal stands wrote)) plain c.in-Ok.ensures) part
+    (c.loop-dated.invariant.goes base configs h legal stands wrote)) plain c.in-Ok.ensures) nothing
 
 pub loop-dated-preserved : goal.loop-dated-preserved
 loop-dated-preserved g c =
@@ -68,7 +68,7 @@ loop-dated-preserved g c =
       later = omega (arith, c.in-Ok-tell.ensures.later);
       goes = λ base configs h legal stands wrote.
           let whole = run_lines configs h 1 lines in
-          let told = subst (λ (m : ℕ). Appends before after (entry_text (entry_at m d.event c.in-Ok.told))) c.latest.ensures c.in-Ok-tell.ensures.ok in
+          let told = subst (λ (m : ℕ). Appends before after (entry_text (entry_at m d.event c.in-Ok.told))) c.latest.ensures c.in-Ok-tell.ensures.told in
           goes-told c.loop-dated.machine c.make.new.self base before after configs whole c.loop-dated.number d (drop (i + 1) lines) c.in-Ok.told
           (going-made c.loop-dated.machine c.make.new.self base before configs whole c.loop-dated.number d (drop (i + 1) lines) c.in-Ok.told
           (going-at c.loop-dated.machine base before configs whole c.loop-dated.number i lines d c.loop-dated-test.true c.dated-item.is
