@@ -1,0 +1,4 @@
+pub mod AddLaws
+pub mod CutLaws
+pub mod KeeperLaws
+pub mod WalkLaws

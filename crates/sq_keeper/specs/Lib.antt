@@ -1,0 +1,4 @@
+pub mod Handing
+pub mod Lines
+pub mod Memory
+pub mod Walk

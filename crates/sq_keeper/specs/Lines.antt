@@ -1,0 +1,45 @@
+-- Lines: what stands before each LF. Squid's helper protocol page: one line, one request or reply.
+use Rattle.std.specs.Prelude.{◌≡◌, ℕ, ◌-◌, List, [], ◌∷◌, ◌++◌, length, take, map, Bool, ◌==◌}
+use Rattle.std.specs.List.{slice_split}
+use Rattle.std.specs.Io.KnownBytes.{Consumes}
+use Rattle.std.specs.declared.option.Option.{Option}
+use Rattle.sq_keeper.specs.declared.desk.Handed.{Handed}
+use Rattle.sq_keeper.specs.declared.desk.Handed.TheVariants.{Line, Stop, Died}
+use Rattle.sq_keeper.specs.declared.keeper.KeeperEnd.{KeeperEnd}
+use Rattle.sq_keeper.specs.declared.keeper.KeeperEnd.TheVariants.{Ended, ReadFault, Told, WantOfMemory}
+use Rattle.sq_keeper.specs.Handing.{Adds}
+
+-- a line is handed on up to this many bytes: one more than a reply line may have
+abbrev pub line_room : ℕ
+line_room = 65537
+
+abbrev pub is_end : ℕ → Bool
+is_end b = b == 10
+
+-- the front of a line that is handed on
+unfoldable pub cut : List ℕ → List ℕ
+cut line = take line_room line
+
+-- the lines that LF ends: all that LFs part but the last, which no LF ends
+unfoldable pub ended_lines : List ℕ → List (List ℕ)
+ended_lines bytes = take (length (slice_split is_end bytes) - 1) (slice_split is_end bytes)
+
+-- these lines, as a desk is handed them
+abbrev pub lines_handed : ℕ → List ℕ → List Handed
+lines_handed proc bytes = map (λ l. Line proc (cut l)) (ended_lines bytes)
+
+-- what was handed on of the bytes that were read: each line, and then the death; where the desk ended
+-- the reading, each line up to some LF, and that no more were wanted; nothing where there was no memory
+abbrev pub Hands : ℕ → List ℕ → KeeperEnd → List Handed → Type 0
+Hands proc read Ended handed = handed ≡ lines_handed proc read ++ Died proc ∷ []
+Hands proc read ReadFault handed = handed ≡ lines_handed proc read ++ Died proc ∷ []
+Hands proc read Told handed = (front more : List ℕ) × (read ≡ front ++ 10 ∷ more) × (handed ≡ lines_handed proc (front ++ 10 ∷ []) ++ Stop proc ∷ [])
+Hands proc read WantOfMemory handed = (read ≡ []) × (handed ≡ [])
+
+-- some bytes of the source were read, and their lines were handed to the desk
+pub record ReadsLines (proc : ℕ) (left_before left_now : Option (List ℕ)) (before now : Option (List Handed)) (result : KeeperEnd) : Type 0 where
+  pub read : List ℕ
+  pub handed : List Handed
+  pub consumed : Consumes left_before left_now read
+  pub adds : Adds before now handed
+  pub hands : Hands proc read result handed
