@@ -10,6 +10,10 @@ mod addresses;
 #[cfg(test)]
 mod fixtures;
 #[cfg(test)]
+mod keepers;
+#[cfg(test)]
 mod lines;
+#[cfg(test)]
+mod plain;
 #[cfg(test)]
 mod replies;
