@@ -1,0 +1,188 @@
+//! What a keeper reads of a helper's process, and hands to a desk.
+use crate::fixtures::long_text;
+use KeeperEnd::{Ended, ReadFault, Told};
+use sq_base::{ProcNo, Text};
+use sq_keeper::{Handed, KeeperEnd, MemDesk, read_lines};
+use sq_outside::MemSource;
+use std::alloc::Global;
+use std::test::Fail;
+
+/// A process that writes these bytes, of which a read gives at most `step`, and the listed reads fail;
+/// and a desk that ends the reading at the line behind `wants` others, and has no memory at the listed
+/// calls.
+#[derive(Clone, Copy)]
+struct Case {
+    written: &'static [u8],
+    step: usize,
+    fails: &'static [u64],
+    wants: u64,
+    lacks: &'static [u64],
+}
+
+/// How the reading ends, and what the desk was handed: lines as `7 line|`, a stop and a death as words.
+type Outcome = (KeeperEnd, &'static [u8]);
+
+static CASES: [(Case, Outcome); 11] = [
+    (
+        Case {
+            written: b"",
+            step: 9,
+            fails: &[],
+            wants: 9,
+            lacks: &[],
+        },
+        (Ended, b"7 died|"),
+    ),
+    (
+        Case {
+            written: b"OK\n\nER",
+            step: 9,
+            fails: &[],
+            wants: 9,
+            lacks: &[],
+        },
+        (Ended, b"7 OK|7 |7 died|"),
+    ),
+    (
+        Case {
+            written: b"OK\n\nER",
+            step: 1,
+            fails: &[],
+            wants: 9,
+            lacks: &[],
+        },
+        (Ended, b"7 OK|7 |7 died|"),
+    ),
+    (
+        Case {
+            written: b"OK\r\n\0\n",
+            step: 9,
+            fails: &[],
+            wants: 9,
+            lacks: &[],
+        },
+        (Ended, b"7 OK\r|7 \0|7 died|"),
+    ),
+    (
+        Case {
+            written: b"OK\nERR\n",
+            step: 9,
+            fails: &[1],
+            wants: 9,
+            lacks: &[],
+        },
+        (ReadFault, b"7 died|"),
+    ),
+    (
+        Case {
+            written: b"OK\nERR\n",
+            step: 4,
+            fails: &[2],
+            wants: 9,
+            lacks: &[],
+        },
+        (ReadFault, b"7 OK|7 died|"),
+    ),
+    (
+        Case {
+            written: b"OK\nERR\n",
+            step: 9,
+            fails: &[2],
+            wants: 9,
+            lacks: &[],
+        },
+        (ReadFault, b"7 OK|7 ERR|7 died|"),
+    ),
+    (
+        Case {
+            written: b"OK\nERR\n",
+            step: 9,
+            fails: &[],
+            wants: 0,
+            lacks: &[],
+        },
+        (Told, b"7 OK|7 stop|"),
+    ),
+    (
+        Case {
+            written: b"OK\nERR\nBH\n",
+            step: 1,
+            fails: &[],
+            wants: 1,
+            lacks: &[],
+        },
+        (Told, b"7 OK|7 ERR|7 stop|"),
+    ),
+    (
+        Case {
+            written: b"OK\nERR\n",
+            step: 9,
+            fails: &[],
+            wants: 9,
+            lacks: &[1, 2, 4],
+        },
+        (Ended, b"7 OK|7 ERR|7 died|"),
+    ),
+    (
+        Case {
+            written: b"OK\nERR\n",
+            step: 9,
+            fails: &[],
+            wants: 0,
+            lacks: &[1],
+        },
+        (Told, b"7 OK|7 stop|"),
+    ),
+];
+
+fn put(shown: &mut Text, alloc: Global, proc: ProcNo, what: &[u8]) -> Result<(), Fail> {
+    let number = format!(in alloc; "{} ", proc.0)?;
+    shown.append(number.as_bytes())?;
+    shown.append(what)?;
+    shown.append(b"|")?;
+    Ok(())
+}
+
+/// What the desk was handed, as the table writes it down.
+fn shown(alloc: Global, handed: &[Handed]) -> Result<Text, Fail> {
+    let mut shown = Text::new(alloc);
+    for one in handed {
+        match one {
+            Handed::Line(proc, line) => put(&mut shown, alloc, *proc, line.as_bytes())?,
+            Handed::Stop(proc) => put(&mut shown, alloc, *proc, b"stop")?,
+            Handed::Died(proc) => put(&mut shown, alloc, *proc, b"died")?,
+        }
+    }
+    Ok(shown)
+}
+
+#[test]
+fn keepers_hand_on_lines_and_then_one_death(rt: HostRuntime) -> Result<(), Fail> {
+    let alloc = rt.alloc();
+    for &(case, (end, handed)) in &CASES {
+        let text = Vec::from_slice(alloc, case.written)?;
+        let fails = Vec::from_slice(alloc, case.fails)?;
+        let lacks = Vec::from_slice(alloc, case.lacks)?;
+        let mut source = MemSource::new(text, case.step, fails);
+        let mut desk = MemDesk::new(alloc, case.wants, lacks);
+        let ended = read_lines(&rt, alloc, &mut source, ProcNo(7), &mut desk);
+        assert_eq!(rt; ended, end, "at {handed:?}");
+        let shown = shown(alloc, desk.handed().ok_or("not all was kept")?)?;
+        assert_eq!(rt; shown.as_bytes(), handed, "at {handed:?}");
+    }
+    Ok(())
+}
+
+#[test]
+fn keepers_hand_on_65537_bytes_of_a_longer_line(rt: HostRuntime) -> Result<(), Fail> {
+    let alloc = rt.alloc();
+    let written = long_text(alloc, b"OK\nOK ", 65535, b"\n")?;
+    let mut source = MemSource::new(written.into_vec(), 5000, Vec::new(alloc));
+    let mut desk = MemDesk::new(alloc, 9, Vec::new(alloc));
+    let ended = read_lines(&rt, alloc, &mut source, ProcNo(1), &mut desk);
+    assert_eq!(rt; ended, Ended);
+    let wanted = long_text(alloc, b"1 OK|1 OK ", 65534, b"|1 died|")?;
+    let shown = shown(alloc, desk.handed().ok_or("not all was kept")?)?;
+    assert!(rt; shown == wanted);
+    Ok(())
+}

@@ -1,0 +1,19 @@
+//! Tests of what a configuration and its helpers are written in: addresses, lines, replies.
+//!
+//! It has no public call. Each test is one table, whose expected values come from the public standards
+//! (RFC 4291, RFC 5952, Squid's configuration reference and helper protocol), or calls each public
+//! function of a crate once with ample memory and compares its answer.
+#![tactic(auto)]
+
+#[cfg(test)]
+mod addresses;
+#[cfg(test)]
+mod fixtures;
+#[cfg(test)]
+mod keepers;
+#[cfg(test)]
+mod lines;
+#[cfg(test)]
+mod plain;
+#[cfg(test)]
+mod replies;
