@@ -153,19 +153,21 @@ pub goes-part : (v w : View) (base before contents : Option (List ℕ)) (configs
 goes-part v w base before contents configs whole number d lines t g grew =
     let h = entry_at w.latest d.event t ∷ g.history in
     Grew-map base contents _ _
-      (λ bytes p. proper-in bytes (written h) (written whole.history) p
-        (subst (λ (r : Ran). IsPrefix (written h) (written r.history)) g.same (run-grows configs h (number + 1) lines)))
-      (Grew-proper_after base before contents (written g.history) (entry_text (entry_at w.latest d.event t)) g.wrote grew)
+    (λ bytes p. proper-in bytes (written h) (written whole.history) p
+    (subst (λ (r : Ran). IsPrefix (written h) (written r.history)) g.same (run-grows configs h (number + 1) lines)))
+    (Grew-proper_after base before contents (written g.history) (entry_text (entry_at w.latest d.event t)) g.wrote grew)
 
 -- or nothing
 pub goes-untold : (v w : View) (base before contents : Option (List ℕ)) (configs : List Configuration) (whole : Ran) (number : ℕ) (d : Dated) (lines : List Dated) (t : Told)
     → Goes v w base before configs whole number d lines t → Appends before contents [] → WrotePart base contents (written whole.history)
 goes-untold v w base before contents configs whole number d lines t g wrote =
-    let h = entry_at w.latest d.event t ∷ g.history in
-    (written g.history ++ [], Appends-trans base before contents (written g.history) [] g.wrote wrote,
+    let h = entry_at w.latest d.event t ∷ g.history in (
+      written g.history ++ [],
+      Appends-trans base before contents (written g.history) [] g.wrote wrote,
       subst (λ x. IsPrefix x (written whole.history)) (sym (append-nil (written g.history)))
-      (IsPrefix-trans (written g.history) (written h) (written whole.history) (IsPrefix-front (written g.history) (entry_text (entry_at w.latest d.event t)))
-        (subst (λ (r : Ran). IsPrefix (written h) (written r.history)) g.same (run-grows configs h (number + 1) lines))))
+          (IsPrefix-trans (written g.history) (written h) (written whole.history) (IsPrefix-front (written g.history) (entry_text (entry_at w.latest d.event t)))
+          (subst (λ (r : Ran). IsPrefix (written h) (written r.history)) g.same (run-grows configs h (number + 1) lines))),
+    )
 
 -- the lines from a place on begin with the one that stands there
 pub lines-at : (lines : List Dated) (i : ℕ) (d : Dated) → i < length lines → d ≡ get_or lines i d → drop i lines ≡ d ∷ drop (i + 1) lines
@@ -195,7 +197,7 @@ pub begin-part : (a b : Option (List ℕ)) (config : Configuration) (lines : Lis
     → Grew a b (λ part. IsProperPrefix part (written (run_script config lines).history))
 begin-part a b config lines m e grew =
     Grew-map a b _ _
-      (λ bytes p. proper-in bytes (entry_text (entry_at (first_moment lines) (Begin (pos 0)) (told.Epoch 1))) _
-        (subst (λ n. IsProperPrefix bytes (entry_text (entry_at n (Begin (pos 0)) (told.Epoch 1)))) e p)
-        (run-grows (config ∷ []) (begun (first_moment lines)) 1 lines))
-      grew
+    (λ bytes p. proper-in bytes (entry_text (entry_at (first_moment lines) (Begin (pos 0)) (told.Epoch 1))) _
+    (subst (λ n. IsProperPrefix bytes (entry_text (entry_at n (Begin (pos 0)) (told.Epoch 1)))) e p)
+    (run-grows (config ∷ []) (begun (first_moment lines)) 1 lines))
+    grew
