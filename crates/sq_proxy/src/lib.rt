@@ -1,8 +1,8 @@
 //! The program's commands over files and a sink that are handed in.
 //!
-//! `proxy` is the top call. It promises what it writes and how it ends, for every list of words, all
-//! files and every sink: a run's text is that of the machine's history, whose answers are each the next
-//! one by the definitions of the rules; each status has its cause.
+//! `proxy` is the top call. It takes any list of words, any files and any sink. Each status has its
+//! cause. Where files and sink tell their bytes, it promises what it writes and how it ends: a run's text
+//! is that of the machine's history, whose answers are each the next one by the definitions of the rules.
 //! `replay CONF SCRIPT` is built so far, over configurations and scripts of a small form.
 #![tactic(auto)]
 

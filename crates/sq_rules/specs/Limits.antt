@@ -1,7 +1,7 @@
 -- Limits of a machine and of a configuration.
 use Rattle.std.specs.Prelude.{ℕ, ◌-◌, ◌^◌}
 
--- the last number that is never given
+-- the number that is never given: those below it are
 abbrev pub last_number : ℕ
 last_number = 2 ^ 63 - 1
 
