@@ -1,6 +1,5 @@
 -- What the desk in memory tells, and how it answers.
-use Rattle.std.specs.Prelude.{ℕ, List, Bool, ◌==◌, if◌then◌else◌, Some, None}
-use Rattle.std.specs.List.{list_any}
+use Rattle.std.specs.Prelude.{ℕ, List, if◌then◌else◌, Some, None}
 use Rattle.std.specs.declared.option.Option.{Option}
 use Rattle.sq_keeper.specs.declared.desk.Handed.{Handed}
 use Rattle.sq_keeper.specs.declared.mem_desk.MemDesk.{MemDesk}
@@ -23,7 +22,3 @@ desk_calls d = d.calls.made
 -- the numbers of the calls of `line` at which it has no memory
 abbrev pub desk_lacks : MemDesk → List ℕ
 desk_lacks d = d.calls.fails.items
-
--- the number is among these
-unfoldable pub is_listed : List ℕ → ℕ → Bool
-is_listed numbers n = list_any (λ k. k == n) numbers

@@ -2,6 +2,7 @@
 ghost use Rattle.std.specs.Prelude.{◌≡◌, ◌+◌, ◌<◌, ◌≤◌, [], ◌∷◌, true, Some};
 ghost use Rattle.std.specs.Option.{option_copied};
 ghost use Rattle.sq_keeper.specs.Handing.{Adds, taken};
+ghost use Rattle.sq_outside.specs.Calls.{is_listed, next_call};
 ghost use Rattle.sq_outside.specs.Causes.{Rose};
 
 use crate::desk::{Handed, LineDesk, LineEnd};
@@ -21,7 +22,7 @@ pub struct MemDesk {
 }
 
 impl MemDesk {
-    ghost use Rattle.sq_keeper.specs.Memory.{desk_handed, desk_refused, desk_wants, desk_lacks, desk_calls, is_listed};
+    ghost use Rattle.sq_keeper.specs.Memory.{desk_handed, desk_refused, desk_wants, desk_lacks, desk_calls};
 
     /// A desk that was handed nothing. After `wants` lines it ends the reading at the next; it has no
     /// memory at the calls of `line` with these numbers, from 1.
@@ -30,6 +31,7 @@ impl MemDesk {
         ensures refused { desk_refused result ≡ 0 }
         ensures wants { desk_wants result ≡ wants }
         ensures lacks { desk_lacks result ≡ lacks.items }
+        ensures calls { desk_calls result ≡ 0 }
     {
         MemDesk {
             alloc,
@@ -52,10 +54,10 @@ impl MemDesk {
     }
 
     /// Counts a call of `line`. Answers whether it is listed as one that has no memory.
-    #[tactic(auto, unfolding(crate::specs::Memory::is_listed))]
     fn lacks(&mut self) -> bool
         ensures listed { result ≡ is_listed (desk_lacks self.old) (desk_calls self.new) }
         ensures handed { desk_handed self.new ≡ desk_handed self.old }
+        ensures calls { desk_calls self.new ≡ next_call (desk_calls self.old) }
         ensures refused { desk_refused self.old ≤ desk_refused self.new }
         ensures wants { desk_wants self.new ≡ desk_wants self.old }
         ensures list { desk_lacks self.new ≡ desk_lacks self.old }
@@ -77,7 +79,7 @@ impl MemDesk {
 }
 
 impl LineDesk for MemDesk {
-    ghost use Rattle.sq_keeper.specs.Memory.{desk_handed, desk_refused, desk_wants, desk_lacks, desk_calls, is_listed};
+    ghost use Rattle.sq_keeper.specs.Memory.{desk_handed, desk_refused, desk_wants, desk_lacks, desk_calls};
 
     ghost refused = { desk_refused };
 
@@ -88,7 +90,10 @@ impl LineDesk for MemDesk {
         ensures later { desk_refused self.old ≤ desk_refused self.new }
         ensures refused { result ≡ LineEnd.End → Rose (desk_refused self.old) (desk_refused self.new) }
         ensures ends { result ≡ LineEnd.End → desk_wants self.old ≡ 0 }
+        ensures ended { result ≡ LineEnd.End → desk_wants self.new ≡ desk_wants self.old }
         ensures goes { result ≡ LineEnd.Go → desk_wants self.old ≡ desk_wants self.new + 1 }
+        ensures waits { result ≡ LineEnd.WantOfMemory → desk_wants self.new ≡ desk_wants self.old }
+        ensures calls { desk_calls self.new ≡ next_call (desk_calls self.old) }
         ensures lacks { is_listed (desk_lacks self.old) (desk_calls self.new) ≡ true → result ≡ LineEnd.WantOfMemory }
         ensures list { desk_lacks self.new ≡ desk_lacks self.old }
     {
@@ -111,6 +116,8 @@ impl LineDesk for MemDesk {
     fn died(&mut self, proc: ProcNo)
         ensures handed { Adds (desk_handed self.old) (desk_handed self.new) (Handed.Died proc ∷ []) }
         ensures later { desk_refused self.old ≤ desk_refused self.new }
+        ensures wants { desk_wants self.new ≡ desk_wants self.old }
+        ensures calls { desk_calls self.new ≡ desk_calls self.old }
         ensures list { desk_lacks self.new ≡ desk_lacks self.old }
     {
         self.keep(Handed::Died(proc));

@@ -1,8 +1,9 @@
 -- What the forms in memory tell, their room, and the calls of them that are to fail.
-use Rattle.std.specs.Prelude.{ℕ, ◌-◌, List, length, drop, min, map, reverse, bytes_eq, vec_len}
+use Rattle.std.specs.Prelude.{ℕ, ◌-◌, List, length, drop, min, map, reverse, Bool, ◌||◌, ◌&&◌, ◌==◌, nat_lt, is_some, bytes_eq, vec_len}
 use Rattle.std.specs.List.{find}
 use Rattle.std.specs.Option.{option_map}
 use Rattle.std.specs.declared.option.Option.{Option}
+use Rattle.sq_outside.specs.Calls.{next_call, is_listed}
 use Rattle.sq_outside.specs.declared.mem_files.MemFile.{MemFile}
 use Rattle.sq_outside.specs.declared.mem_files.MemFiles.{MemFiles}
 use Rattle.sq_outside.specs.declared.mem_files.MemOpening.{MemOpening}
@@ -26,6 +27,14 @@ source_step s = s.step
 abbrev pub source_fails : MemSource → List ℕ
 source_fails s = s.calls.fails.items
 
+-- how many reads were made
+abbrev pub source_calls : MemSource → ℕ
+source_calls s = s.calls.made
+
+-- the next read fails: it is listed
+abbrev pub source_fails_next : MemSource → Bool
+source_fails_next s = is_listed (source_fails s) (next_call (source_calls s))
+
 abbrev pub source_faults : MemSource → ℕ
 source_faults s = s.calls.faults
 
@@ -48,6 +57,14 @@ sink_step s = s.step
 -- the numbers of the writes that are to fail
 abbrev pub sink_fails : MemSink → List ℕ
 sink_fails s = s.calls.fails.items
+
+-- how many writes were made
+abbrev pub sink_calls : MemSink → ℕ
+sink_calls s = s.calls.made
+
+-- the next write, of so many bytes, fails: it is listed, or there are bytes and no room is left
+abbrev pub sink_fails_next : MemSink → ℕ → Bool
+sink_fails_next s count = is_listed (sink_fails s) (next_call (sink_calls s)) || nat_lt 0 count && sink_room s == 0
 
 abbrev pub sink_faults : MemSink → ℕ
 sink_faults s = s.calls.faults
@@ -83,6 +100,18 @@ files_step s = s.step
 -- the numbers of the openings that are to fail
 abbrev pub files_fails : MemFiles → List ℕ
 files_fails s = s.calls.fails.items
+
+-- how many openings were tried
+abbrev pub files_calls : MemFiles → ℕ
+files_calls s = s.calls.made
+
+-- the next opening is listed
+abbrev pub files_lists_next : MemFiles → Bool
+files_lists_next s = is_listed (files_fails s) (next_call (files_calls s))
+
+-- the next opening, of this name, fails: it is listed, or there is such a file and no room is left
+abbrev pub files_fails_next : MemFiles → List ℕ → Bool
+files_fails_next s name = files_lists_next s || is_some (text_at (files_list s) name) && files_room s == 0
 
 abbrev pub files_faults : MemFiles → ℕ
 files_faults s = s.calls.faults

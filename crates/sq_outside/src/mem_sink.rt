@@ -1,7 +1,8 @@
 //! `MemSink`: a sink in memory.
-ghost use Rattle.std.specs.Prelude.{◌≡◌, ◌+◌, ◌<◌, ◌≤◌, [], length, vec_len, vec_capacity, max, Some, IfOk, OnErr};
+ghost use Rattle.std.specs.Prelude.{◌≡◌, ◌+◌, ◌<◌, ◌≤◌, [], length, vec_len, vec_capacity, max, Some, IfOk, OnErr, is_err};
 ghost use Rattle.std.specs.Io.{WritesAtMost};
 ghost use Rattle.std.specs.Io.KnownBytes.{WriteAppends};
+ghost use Rattle.sq_outside.specs.Calls.{next_call, counted};
 ghost use Rattle.sq_outside.specs.Causes.{HasCause};
 
 use crate::calls::Calls;
@@ -22,7 +23,7 @@ pub struct MemSink {
 }
 
 impl MemSink {
-    ghost use Rattle.sq_outside.specs.Memory.{sink_bytes, sink_room, sink_step, sink_fails, sink_faults};
+    ghost use Rattle.sq_outside.specs.Memory.{sink_bytes, sink_room, sink_step, sink_fails, sink_calls, sink_faults};
 
     /// A sink with this room, of which the listed writes are to fail. A step of 0 counts as 1.
     pub fn new(
@@ -35,6 +36,7 @@ impl MemSink {
         ensures room { IfOk result (λ s. sink_room s ≡ room) }
         ensures step { IfOk result (λ s. sink_step s ≡ max step 1) }
         ensures fails { IfOk result (λ s. sink_fails s ≡ fails.items) }
+        ensures calls { IfOk result (λ s. sink_calls s ≡ 0) }
         ensures faults { IfOk result (λ s. sink_faults s ≡ 0) }
     {
         let bytes = Vec::with_capacity(alloc, room)?;
@@ -55,7 +57,7 @@ impl MemSink {
 }
 
 impl Sink for MemSink {
-    ghost use Rattle.sq_outside.specs.Memory.{sink_bytes, sink_room, sink_takes, sink_step, sink_fails, sink_faults};
+    ghost use Rattle.sq_outside.specs.Memory.{sink_bytes, sink_room, sink_takes, sink_step, sink_fails, sink_calls, sink_fails_next, sink_faults};
 
     ghost contents = { λ s. Some (sink_bytes s) };
 
@@ -71,8 +73,13 @@ impl Sink for MemSink {
         ensures count { IfOk result (λ n. n ≡ sink_takes self.old (length bytes.now)) }
         ensures room { IfOk result (λ n. sink_room self.new + n ≡ sink_room self.old) }
         ensures kept { OnErr result (sink_room self.new ≡ sink_room self.old) }
-        // With an empty list a call fails only where no room is left.
+        // A call fails where it is listed, or has bytes and no room is left, and only there; each failure is counted.
+        ensures fails { is_err result ≡ sink_fails_next self.old (length bytes.now) }
+        ensures counts { sink_faults self.new ≡ counted (sink_fails_next self.old (length bytes.now)) (sink_faults self.old) }
+        ensures calls { sink_calls self.new ≡ next_call (sink_calls self.old) }
+        // With an empty list a call fails only where it has bytes and no room is left.
         ensures quiet { sink_fails self.old ≡ [] → 0 < sink_room self.old → sink_faults self.new ≡ sink_faults self.old }
+        ensures quiet_none { sink_fails self.old ≡ [] → length bytes.now ≡ 0 → sink_faults self.new ≡ sink_faults self.old }
         ensures list { sink_fails self.new ≡ sink_fails self.old }
         ensures step { sink_step self.new ≡ sink_step self.old }
     {

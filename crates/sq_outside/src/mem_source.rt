@@ -1,7 +1,8 @@
 //! `MemSource`: a source in memory.
-ghost use Rattle.std.specs.Prelude.{◌≡◌, ◌+◌, ◌^◌, ◌<◌, ◌≤◌, [], List, length, take, drop, min, max, vec_len, Some, IfOk};
+ghost use Rattle.std.specs.Prelude.{◌≡◌, ◌+◌, ◌^◌, ◌<◌, ◌≤◌, [], List, length, take, drop, min, max, vec_len, Some, IfOk, is_err};
 ghost use Rattle.std.specs.Io.{ReadsAtMost};
 ghost use Rattle.std.specs.Io.KnownBytes.{ReadConsumes};
+ghost use Rattle.sq_outside.specs.Calls.{next_call, counted};
 ghost use Rattle.sq_outside.specs.Causes.{HasCause};
 
 use crate::calls::Calls;
@@ -29,13 +30,14 @@ pub struct MemSource {
 }
 
 impl MemSource {
-    ghost use Rattle.sq_outside.specs.Memory.{source_left, source_step, source_fails, source_faults};
+    ghost use Rattle.sq_outside.specs.Memory.{source_left, source_step, source_fails, source_calls, source_faults};
 
     /// A source of this text, of which the listed reads are to fail. A step of 0 counts as 1.
     pub fn new(text: Vec<u8>, step: usize, fails: Vec<u64>) -> MemSource
         ensures left { source_left result ≡ text.items }
         ensures step { source_step result ≡ max step 1 }
         ensures fails { source_fails result ≡ fails.items }
+        ensures calls { source_calls result ≡ 0 }
         ensures faults { source_faults result ≡ 0 }
     {
         MemSource {
@@ -48,7 +50,7 @@ impl MemSource {
 }
 
 impl Source for MemSource {
-    ghost use Rattle.sq_outside.specs.Memory.{source_left, source_gives, source_step, source_fails, source_faults};
+    ghost use Rattle.sq_outside.specs.Memory.{source_left, source_gives, source_step, source_fails, source_calls, source_fails_next, source_faults};
 
     ghost left = { λ s. Some (source_left s) };
 
@@ -61,6 +63,10 @@ impl Source for MemSource {
         ensures bytes { ReadConsumes (Some (source_left self.old)) (Some (source_left self.new)) result into.new }
         ensures cause { HasCause (source_faults self.old) (source_faults self.new) result }
         ensures count { IfOk result (λ n. n ≡ source_gives self.old (length into.old)) }
+        // A call fails where it is listed, and only there; each failure is counted.
+        ensures fails { is_err result ≡ source_fails_next self.old }
+        ensures counts { source_faults self.new ≡ counted (source_fails_next self.old) (source_faults self.old) }
+        ensures calls { source_calls self.new ≡ next_call (source_calls self.old) }
         // With an empty list no call fails.
         ensures quiet { source_fails self.old ≡ [] → source_faults self.new ≡ source_faults self.old }
         ensures list { source_fails self.new ≡ source_fails self.old }

@@ -82,7 +82,8 @@ pub trait Files {
     /// How often it has failed, and how many sources came back that had failed.
     ghost faults: { Self → ℕ };
 
-    /// Opens the file of this name, with the count 0. It is `Missing` exactly where no such file is told.
+    /// Opens the file of this name, with the count 0. It is `Missing` only where no such file is told, and
+    /// a file that was opened is told, with the text that the source has left.
     fn open(&mut self, alloc: Global, name: &Text) -> Result<Self::Src, NoOpen>
         ensures opened { IfOk result (λ source. GivesText (texts self.old) name.now (Self.Src.left source)) }
         ensures opened_list { Opens Self.Src.left (opened self.old) (opened self.new) name.now result }
