@@ -45,7 +45,7 @@ fn a_configuration_outside_the_form_is_not_run(rt: HostRuntime) -> Result<(), Fa
 fn a_script_outside_the_form_is_not_run(rt: HostRuntime) -> Result<(), Fail> {
     for text in [
         outside("an unknown event", "0 fly 1\n"),
-        outside("a line that is told by the machine alone", "0 act 1\n"),
+        outside("an action of the machine", "0 act 1\n"),
         outside("an answer", "0 open 1 10.1.2.3 4000 => ok\n"),
         outside("an IPv6 address", "0 open 1 ::1 4000\n"),
         outside(
