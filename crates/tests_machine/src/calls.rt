@@ -1,0 +1,189 @@
+//! Public calls of the forms in memory, the adapters and the configuration, once each.
+
+use crate::fixtures::file;
+use sq_base::{Listed, Text};
+use sq_outside::{
+    COUNT_LIMIT, Calls, Failed, Files, MemFiles, MemSink, MemSource, NoOpen, RealFiles, RealSink,
+    RealSource, Sink, Source, read_file, read_whole, write_all, write_line,
+};
+use sq_proxy::{Part, Status};
+use sq_rules::{Acl, Body, Config, Leaf, PortRange, Rule, Term};
+use std::io::{self, ErrorKind, Read, Write};
+use std::test::Fail;
+
+#[test]
+fn a_counter_fails_where_it_is_listed(rt: HostRuntime) -> Result<(), Fail> {
+    let mut calls = Calls::new(Vec::from_slice(rt.alloc(), &[2])?);
+    assert_eq!(rt; calls.next(), Ok(()));
+    assert_eq!(rt; calls.next(), Err(Failed));
+    assert_eq!(rt; calls.next(), Ok(()));
+    assert_eq!(rt; calls.faults(), 1);
+    calls.raise();
+    assert_eq!(rt; calls.faults(), 2);
+    assert_eq!(rt; COUNT_LIMIT, 9_223_372_036_854_775_807);
+    Ok(())
+}
+
+#[test]
+fn devices_in_memory_give_and_take_bytes(rt: HostRuntime) -> Result<(), Fail> {
+    let alloc = rt.alloc();
+    let mut source = MemSource::new(Vec::from_slice(alloc, b"hello")?, 3, Vec::new(alloc));
+    let mut into = [0u8; 4];
+    assert_eq!(rt; source.read(&mut into), Ok(3));
+    assert_eq!(rt; &into, b"hel\0");
+    let rest = read_whole(alloc, 2, &mut source)
+        .ok()
+        .flatten()
+        .ok_or("the rest")?;
+    assert_eq!(rt; rest.as_bytes(), b"lo".as_slice());
+
+    let mut sink = MemSink::new(alloc, 16, 3, Vec::new(alloc))?;
+    assert_eq!(rt; sink.write(b"hello"), Ok(3));
+    assert_eq!(rt; write_all(&mut sink, b"p "), Ok(()));
+    assert_eq!(rt; write_line(&mut sink, b"a ", b"friend"), Ok(()));
+    assert_eq!(rt; sink.bytes(), b"help a friend\n".as_slice());
+
+    let mut list = Vec::new(alloc);
+    list.push(file(alloc, "c", "text", &[])?)?;
+    let mut files = MemFiles::new(alloc, list, 3, 2, Vec::new(alloc))?;
+    let name = Text::from_slice(alloc, b"c")?;
+    let mut opened = files.open(alloc, &name).map_err(|_| "not opened")?;
+    assert_eq!(rt; opened.read(&mut into), Ok(3));
+    files.give_back(opened);
+    let text = read_file(alloc, 4, &name, &mut files)
+        .ok()
+        .flatten()
+        .ok_or("the text")?;
+    assert_eq!(rt; text.as_bytes(), b"text".as_slice());
+    Ok(())
+}
+
+// A reader and writer that is interrupted at each second call.
+#[derive(Drop)]
+struct Stutters<T> {
+    inner: T,
+    waits: bool,
+}
+
+impl<T> Stutters<T> {
+    // Whether this call is interrupted.
+    fn turn(&mut self) -> io::Result<()> {
+        self.waits = !self.waits;
+        if self.waits {
+            Err(ErrorKind::Interrupted.into())
+        } else {
+            Ok(())
+        }
+    }
+}
+
+impl<T: Read> Read for Stutters<T> {
+    fn read(&mut self, buf: &mut [u8]) -> io::Result<usize> {
+        self.turn()?;
+        self.inner.read(buf)
+    }
+}
+
+impl<T: Write> Write for Stutters<T> {
+    fn write(&mut self, buf: &[u8]) -> io::Result<usize> {
+        self.turn()?;
+        self.inner.write(buf)
+    }
+
+    fn flush(&mut self) -> io::Result<()> {
+        self.inner.flush()
+    }
+}
+
+#[test]
+fn adapters_reach_what_stands_behind_them(rt: HostRuntime) -> Result<(), Fail> {
+    let alloc = rt.alloc();
+    let mut source = RealSource::new(Stutters {
+        inner: b"hello".as_slice(),
+        waits: false,
+    });
+    let text = read_whole(alloc, 5, &mut source)
+        .ok()
+        .flatten()
+        .ok_or("the text")?;
+    assert_eq!(rt; text.as_bytes(), b"hello".as_slice());
+
+    let mut bytes = [0u8; 8];
+    let mut sink = RealSink::new(Stutters {
+        inner: bytes.as_mut_slice(),
+        waits: false,
+    });
+    assert_eq!(rt; write_all(&mut sink, b"help me"), Ok(()));
+    assert_eq!(rt; &bytes, b"help me\0");
+
+    let mut files = RealFiles::new(&rt);
+    let empty = Text::from_slice(alloc, b"/dev/null")?;
+    let text = read_file(alloc, 5, &empty, &mut files)
+        .ok()
+        .flatten()
+        .ok_or("no byte")?;
+    assert!(rt; text.is_empty());
+    let missing = Text::from_slice(alloc, b"/dev/null.none")?;
+    assert_eq!(rt;
+        read_file(alloc, 5, &missing, &mut files).err(),
+        Some(NoOpen::Missing)
+    );
+    let folder = Text::from_slice(alloc, b"/")?;
+    assert_eq!(rt;
+        read_file(alloc, 5, &folder, &mut files).err(),
+        Some(NoOpen::Failed)
+    );
+    let unreadable = Text::from_slice(alloc, b"/dev/\xff")?;
+    assert_eq!(rt;
+        read_file(alloc, 5, &unreadable, &mut files).err(),
+        Some(NoOpen::Failed)
+    );
+    Ok(())
+}
+
+#[test]
+fn a_configuration_gives_its_parts_back(rt: HostRuntime) -> Result<(), Fail> {
+    let alloc = rt.alloc();
+    let source = Text::from_slice(alloc, b"acl web port 80\nhttp_access allow !web\n")?;
+    let mut ports = Listed::new(alloc);
+    ports.push(PortRange {
+        first: 80,
+        last: 80,
+    })?;
+    let mut acls = Listed::new(alloc);
+    acls.push(Acl {
+        name: Text::from_slice(alloc, b"web")?,
+        body: Body::Leaf(Leaf::Port(ports)),
+    })?;
+    let mut terms = Listed::new(alloc);
+    terms.push(Term {
+        acl: 0,
+        negated: true,
+    })?;
+    let mut rules = Listed::new(alloc);
+    rules.push(Rule { allow: true, terms })?;
+    let config = Config::new(source, acls, rules);
+    assert!(rt; config.source().as_bytes().starts_with(b"acl web port"));
+    assert!(rt; matches!(config.acls(), [acl] if acl.name.as_bytes() == b"web".as_slice()));
+    assert!(rt; matches!(config.rules(), [rule] if rule.allow && rule.terms.len() == 1));
+    Ok(())
+}
+
+#[test]
+fn each_status_has_its_code(rt: HostRuntime) -> Result<(), Fail> {
+    let name = Text::from_slice(rt.alloc(), b"c")?;
+    for (status, code) in [
+        (Status::Ok, 0),
+        (Status::Usage, 1),
+        (Status::Script(1), 3),
+        (Status::ReadFault, 4),
+        (Status::WriteFault, 5),
+        (Status::Missing(name), 7),
+        (Status::WantOfMemory, 10),
+        (Status::Unbuilt(Part::Conf), 11),
+        (Status::Unbuilt(Part::Script), 11),
+    ] {
+        assert_eq!(rt; status.code(), code);
+    }
+    Ok(())
+}

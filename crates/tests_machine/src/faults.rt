@@ -1,0 +1,215 @@
+//! Devices that fail: each call of each of them in turn, and a sink that is full.
+
+use crate::fixtures::{Job, Ran, run};
+use sq_base::WantOfMemory;
+use sq_proxy::Status;
+use std::alloc::Global;
+use std::process::Abort;
+use std::test::Fail;
+
+const CONF: &str = "acl lan src 10.0.0.0/8\nhttp_access allow lan\n";
+
+const SCRIPT: &str = "0 open 1 10.1.2.3 4000\n0 ask 1 GET http://a.example/\n0 step 1\n0 take 1\n";
+
+const RUN: &str = "0 begin 0 => epoch 1\n\
+    0 open 1 10.1.2.3 4000 => ok\n\
+    0 ask 1 GET http://a.example/ => check 1\n\
+    0 step 1 => done\n\
+    0 take 1 => epoch 1 allowed rule 1\n";
+
+/// Calls of a device, at most.
+const LIMIT: u64 = 100;
+
+// A device whose calls fail.
+#[derive(Clone, Copy, Debug)]
+enum Device {
+    Files,
+    Conf,
+    Script,
+    Sink,
+}
+
+// The job of `CONF` and `SCRIPT` with no fault.
+fn job<'a>() -> Job<'a> {
+    Job {
+        words: &["replay", "c", "s"],
+        conf: CONF,
+        script: SCRIPT,
+        openings: &[],
+        conf_reads: &[],
+        script_reads: &[],
+        writes: &[],
+        room: 4096,
+    }
+}
+
+// Runs the job with the listed calls of a device failing.
+fn run_failing(alloc: Global, device: Device, calls: &[u64]) -> Result<Ran, WantOfMemory> {
+    let job = job();
+    let job = match device {
+        Device::Files => Job {
+            openings: calls,
+            ..job
+        },
+        Device::Conf => Job {
+            conf_reads: calls,
+            ..job
+        },
+        Device::Script => Job {
+            script_reads: calls,
+            ..job
+        },
+        Device::Sink => Job {
+            writes: calls,
+            ..job
+        },
+    };
+    let ran = run(alloc, &job)?;
+    match ran.status {
+        Status::WantOfMemory => Err(WantOfMemory),
+        _ => Ok(ran),
+    }
+}
+
+// Ends the process unless this is what a fault of the device comes to: nothing but the last line where
+// a file was not read, and otherwise a front of the run's text.
+fn check_fault(rt: &impl Abort, device: Device, call: u64, ran: &Ran) {
+    if let Device::Sink = device {
+        assert_eq!(rt; ran.status.code(), 5, "write {call}");
+        assert!(rt; RUN.as_bytes().starts_with(ran.out.bytes()), "write {call}");
+        assert!(rt; ran.out.bytes().len() < RUN.len(), "write {call}");
+    } else {
+        assert_eq!(rt; ran.status.code(), 4, "{device:?}, call {call}");
+        assert_eq!(rt;
+            str::from_utf8(ran.out.bytes()),
+            Ok("error read\n"),
+            "{device:?}, call {call}"
+        );
+    }
+}
+
+// Lets each call of a device fail in turn, until no call fails, and gives the number of those that did.
+fn failing_calls(rt: &impl Abort, alloc: Global, device: Device) -> Result<u64, WantOfMemory> {
+    for call in 1..LIMIT {
+        let ran = run_failing(alloc, device, &[call])?;
+        if ran.status.code() == 0 {
+            assert_eq!(rt;
+                str::from_utf8(ran.out.bytes()),
+                Ok(RUN),
+                "{device:?}, call {call}"
+            );
+            return Ok(call - 1);
+        }
+        check_fault(rt, device, call, &ran);
+    }
+    Ok(LIMIT)
+}
+
+#[test]
+fn each_call_of_a_device_that_fails_ends_the_run_with_its_status(
+    rt: HostRuntime,
+) -> Result<(), Fail> {
+    // Two files are opened, each is read in pieces and once more at its end, and the run is written in
+    // pieces.
+    for (device, least) in [
+        (Device::Files, 2),
+        (Device::Conf, 8),
+        (Device::Script, 12),
+        (Device::Sink, 21),
+    ] {
+        let failed = failing_calls(&rt, rt.alloc(), device)?;
+        assert!(rt;
+            least <= failed && failed < LIMIT,
+            "{device:?}: {failed} calls"
+        );
+    }
+    Ok(())
+}
+
+// A job whose output is cut off, with the status and the bytes that stand.
+#[derive(Drop)]
+struct Cut<'a> {
+    job: Job<'a>,
+    code: u8,
+    out: &'a str,
+}
+
+#[test]
+fn what_fits_is_written_and_a_last_line_that_fails_leaves_the_status(
+    rt: HostRuntime,
+) -> Result<(), Fail> {
+    for cut in &[
+        Cut {
+            job: Job { room: 30, ..job() },
+            code: 5,
+            out: "0 begin 0 => epoch 1\n0 open 1 ",
+        },
+        Cut {
+            job: Job { room: 0, ..job() },
+            code: 5,
+            out: "",
+        },
+        Cut {
+            job: Job {
+                room: 10,
+                words: &[],
+                ..job()
+            },
+            code: 1,
+            out: "usage: acl",
+        },
+        Cut {
+            job: Job {
+                writes: &[2],
+                words: &[],
+                ..job()
+            },
+            code: 1,
+            out: "usage: ",
+        },
+        Cut {
+            job: Job {
+                writes: &[1],
+                words: &["replay", "x", "s"],
+                ..job()
+            },
+            code: 7,
+            out: "",
+        },
+        Cut {
+            job: Job {
+                writes: &[2],
+                openings: &[1],
+                ..job()
+            },
+            code: 4,
+            out: "error r",
+        },
+        Cut {
+            job: Job {
+                room: 4,
+                script: "0 fly 1\n",
+                ..job()
+            },
+            code: 11,
+            out: "erro",
+        },
+        Cut {
+            job: Job {
+                room: 25,
+                script: "0 step 1\n",
+                ..job()
+            },
+            code: 3,
+            out: "0 begin 0 => epoch 1\nerro",
+        },
+    ] {
+        let ran = run(rt.alloc(), &cut.job)?;
+        if let Status::WantOfMemory = ran.status {
+            return Err(WantOfMemory.into());
+        }
+        assert_eq!(rt; ran.status.code(), cut.code, "{}", cut.out);
+        assert_eq!(rt; str::from_utf8(ran.out.bytes()), Ok(cut.out));
+    }
+    Ok(())
+}

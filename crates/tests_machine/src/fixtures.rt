@@ -1,0 +1,132 @@
+//! Cases of the top call, and their check.
+
+use sq_base::{Text, WantOfMemory};
+use sq_outside::{MemFile, MemFiles, MemSink};
+use sq_proxy::{Status, proxy};
+use std::alloc::Global;
+use std::process::Abort;
+
+/// The bytes that a source gives and a sink takes in a call.
+pub const STEP: usize = 7;
+
+/// Openings for which the files have room.
+const OPENINGS: usize = 8;
+
+/// The words, the files `c` and `s`, the calls of each device that fail, counted from 1, and the bytes
+/// for which the sink has room.
+#[derive(Drop)]
+pub struct Job<'a> {
+    pub words: &'a [&'a str],
+    pub conf: &'a str,
+    pub script: &'a str,
+    pub openings: &'a [u64],
+    pub conf_reads: &'a [u64],
+    pub script_reads: &'a [u64],
+    pub writes: &'a [u64],
+    pub room: usize,
+}
+
+/// What came of a job.
+#[derive(Drop)]
+pub struct Ran {
+    pub status: Status,
+    pub out: MemSink,
+}
+
+/// Words and files, with the exit status and all the bytes that must come of them.
+#[derive(Drop)]
+pub struct Case<'a> {
+    pub shows: &'a str,
+    pub words: &'a [&'a str],
+    pub conf: &'a str,
+    pub script: &'a str,
+    pub code: u8,
+    pub out: &'a str,
+}
+
+// The texts of these words.
+fn texts(alloc: Global, words: &[&str]) -> Result<Vec<Text>, WantOfMemory> {
+    let mut texts = Vec::new(alloc);
+    for word in words {
+        texts.push(Text::from_slice(alloc, word.as_bytes())?)?;
+    }
+    Ok(texts)
+}
+
+/// A file of this name and text, of which the listed reads fail.
+pub fn file(alloc: Global, name: &str, text: &str, fails: &[u64]) -> Result<MemFile, WantOfMemory> {
+    let name = Text::from_slice(alloc, name.as_bytes())?;
+    let text = Text::from_slice(alloc, text.as_bytes())?;
+    let fails = Vec::from_slice(alloc, fails)?;
+    Ok(MemFile { name, text, fails })
+}
+
+// The files of a job.
+fn files(alloc: Global, job: &Job<'_>) -> Result<MemFiles, WantOfMemory> {
+    let mut files = Vec::new(alloc);
+    files.push(file(alloc, "c", job.conf, job.conf_reads)?)?;
+    files.push(file(alloc, "s", job.script, job.script_reads)?)?;
+    let openings = Vec::from_slice(alloc, job.openings)?;
+    MemFiles::new(alloc, files, STEP, OPENINGS, openings)
+}
+
+/// Runs a job.
+pub fn run(alloc: Global, job: &Job<'_>) -> Result<Ran, WantOfMemory> {
+    let words = texts(alloc, job.words)?;
+    let mut files = files(alloc, job)?;
+    let mut out = MemSink::new(alloc, job.room, STEP, Vec::from_slice(alloc, job.writes)?)?;
+    let status = proxy(alloc, words.as_slice(), &mut files, &mut out);
+    Ok(Ran { status, out })
+}
+
+/// Ends the process unless all devices work and the case comes to its status and bytes. It answers want
+/// of memory where the run did, once what was written is a front of those bytes.
+pub fn check(rt: &impl Abort, alloc: Global, case: &Case<'_>) -> Result<(), WantOfMemory> {
+    let ran = run(
+        alloc,
+        &Job {
+            words: case.words,
+            conf: case.conf,
+            script: case.script,
+            openings: &[],
+            conf_reads: &[],
+            script_reads: &[],
+            writes: &[],
+            room: 4096,
+        },
+    )?;
+    if let Status::WantOfMemory = ran.status {
+        assert!(rt;
+            case.out.as_bytes().starts_with(ran.out.bytes()),
+            "{}",
+            case.shows
+        );
+        return Err(WantOfMemory);
+    }
+    assert_eq!(rt; ran.status.code(), case.code, "{}", case.shows);
+    assert_eq!(rt;
+        str::from_utf8(ran.out.bytes()),
+        Ok(case.out),
+        "{}",
+        case.shows
+    );
+    Ok(())
+}
+
+/// The case of `replay c s`.
+pub fn replay<'a>(
+    shows: &'a str,
+    conf: &'a str,
+    script: &'a str,
+    code: u8,
+    out: &'a str,
+) -> Case<'a> {
+    Case {
+        shows,
+        words: &["replay", "c", "s"],
+        conf,
+        script,
+        code,
+        out,
+    }
+}
