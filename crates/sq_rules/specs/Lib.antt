@@ -1,9 +1,13 @@
+pub mod Classes
 pub mod Configurations
 pub mod Entries
 pub mod Leaves
 pub mod Limits
 pub mod Machine
 pub mod OutcomeText
+pub mod Patterns
+pub mod Rates
 pub mod Readings
 pub mod Sights
+pub mod Times
 pub mod Verdicts
