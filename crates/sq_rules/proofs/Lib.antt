@@ -1,0 +1,3 @@
+pub mod AclLaws
+pub mod ListLaws
+pub mod NameLaws

@@ -1,6 +1,7 @@
 -- A configuration as a value, and what holds of every one (configuration reference, `acl`,
 -- `http_access`, `external_acl_type`, `delay_pools`, `delay_class`, `delay_access`, `delay_parameters`).
-use Rattle.std.specs.Prelude.{◌≡◌, ℕ, ◌+◌, ◌≤◌, List, [], ◌∷◌, ◌++◌, length, Bool, true, false, not, ◌&&◌, ◌||◌, ◌==◌, nat_lt, nat_le, max, suc, bytes_eq, slice_index_or}
+use Rattle.std.specs.Prelude.{◌≡◌, ℕ, ◌+◌, ◌≤◌, List, [], ◌∷◌, ◌++◌, length, Bool, true, false, not, ◌&&◌, ◌||◌, ◌==◌, nat_lt, nat_le, max, suc, bytes_eq, slice_index_or, if◌then◌else◌, Some, None}
+use Rattle.std.specs.declared.option.Option.{Option}
 use Rattle.std.specs.List.{list_all, list_any}
 use Rattle.sq_rules.specs.Classes.{HelperClass}
 use Rattle.sq_rules.specs.Limits.{acl_limit, class_limit, initial_limit, nesting_limit, pool_limit, rule_limit, text_limit}
@@ -28,23 +29,35 @@ abbrev pub plain : List ℕ → List Acl → List Rule → Configuration
 plain source acls rules =
     record { source = source; classes = []; acls = acls; rules = rules; pools = []; initial = 50; port = 3128; notices = [] }
 
+-- one of these has the name
+abbrev pub is_named : {A : Type 0} → (A → List ℕ) → List A → List ℕ → Bool
+is_named name_of list name = list_any (λ a. bytes_eq (name_of a) name) list
+
+-- no two of these have one name
+abbrev pub have_own_names : {A : Type 0} → (A → List ℕ) → List A → Bool
+have_own_names name_of [] = true
+have_own_names name_of (a ∷ list) = not (is_named name_of list (name_of a)) && have_own_names name_of list
+
+-- the place of the first with this name, where they stand from this place on
+abbrev pub place_from : {A : Type 0} → (A → List ℕ) → ℕ → List A → List ℕ → Option ℕ
+place_from name_of place [] name = None
+place_from name_of place (a ∷ list) name = if bytes_eq (name_of a) name then Some place else place_from name_of (suc place) list name
+
 -- an acl of this name is among these
 abbrev pub has_name : List Acl → List ℕ → Bool
-has_name acls name = list_any (λ a. bytes_eq a.name name) acls
+has_name acls name = is_named (λ a. a.name) acls name
 
 -- no two acls have one name
 abbrev pub are_unique : List Acl → Bool
-are_unique [] = true
-are_unique (a ∷ acls) = not (has_name acls a.name) && are_unique acls
+are_unique acls = have_own_names (λ a. a.name) acls
 
 -- a class of this name is among these
 abbrev pub has_class : List HelperClass → List ℕ → Bool
-has_class classes name = list_any (λ c. bytes_eq c.name name) classes
+has_class classes name = is_named (λ c. c.name) classes name
 
 -- no two classes have one name
 abbrev pub are_distinct : List HelperClass → Bool
-are_distinct [] = true
-are_distinct (c ∷ classes) = not (has_class classes c.name) && are_distinct classes
+are_distinct classes = have_own_names (λ c. c.name) classes
 
 -- each term names one of this many acls
 abbrev pub are_known : ℕ → List Term → Bool
@@ -117,16 +130,16 @@ abbrev pub slow_ones : List Acl → List Bool
 slow_ones acls = slow_on [] acls
 
 -- a rule of a pool names acls that are there and are not slow
-abbrev pub is_fast_rule : List Bool → Rule → Bool
-is_fast_rule slow r = are_known (length slow) r.terms && not (some_slow slow r.terms)
+abbrev pub is_fast_rule : List Acl → Rule → Bool
+is_fast_rule acls r = is_known_rule (length acls) r && not (some_slow (slow_ones acls) r.terms)
 
 -- the class is 1, 2 or 3, and there are as many limits as it has buckets
 abbrev pub has_buckets : ℕ → ℕ → Bool
 has_buckets class pairs = nat_le 1 class && nat_le class 3 && pairs == class
 
 -- a pool has a class with its limits, and fast rules
-abbrev pub is_pool : List Bool → Pool → Bool
-is_pool slow p = has_buckets p.class (length p.pairs) && list_all (is_fast_rule slow) p.lists
+abbrev pub is_pool : List Acl → Pool → Bool
+is_pool acls p = has_buckets p.class (length p.pairs) && list_all (is_fast_rule acls) p.lists
 
 -- what holds of every configuration
 pub record IsConfiguration (c : Configuration) : Type 0 where
@@ -136,7 +149,7 @@ pub record IsConfiguration (c : Configuration) : Type 0 where
   pub members : are_known_bodies (length c.classes) 0 c.acls ≡ true
   pub shallow : are_shallow c.acls ≡ true
   pub places : list_all (is_known_rule (length c.acls)) c.rules ≡ true
-  pub pools_are : list_all (is_pool (slow_ones c.acls)) c.pools ≡ true
+  pub pools_are : list_all (is_pool c.acls) c.pools ≡ true
   pub few_classes : length c.classes ≤ class_limit
   pub few_acls : length c.acls ≤ acl_limit
   pub few_rules : length c.rules ≤ rule_limit

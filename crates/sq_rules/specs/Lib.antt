@@ -1,13 +1,16 @@
+pub mod Building
 pub mod Classes
 pub mod Configurations
 pub mod Entries
 pub mod Leaves
 pub mod Limits
 pub mod Machine
+pub mod Names
 pub mod OutcomeText
 pub mod Patterns
 pub mod Rates
 pub mod Readings
 pub mod Sights
+pub mod Tables
 pub mod Times
 pub mod Verdicts

@@ -1,11 +1,15 @@
 //! The configuration: classes of helpers, acls, rules and delay pools, with every named place there.
-ghost use Rattle.std.specs.Prelude.{◌≡◌, ◌≤◌, length};
+ghost use Rattle.std.specs.Prelude.{◌≡◌, ◌≢◌, ◌≤◌, length, Ok, Err, IfOk, IfErr};
+ghost use Rattle.sq_rules.specs.Building.{built, AreWithin};
 ghost use Rattle.sq_rules.specs.Configurations.{IsConfiguration, plain};
 ghost use Rattle.sq_rules.specs.Limits.{acl_limit, class_limit, initial_limit, pool_limit, rule_limit, text_limit};
 
+use crate::building::{acls_of, classes_of, rules_of};
 use crate::classes::{Class, Classes};
+use crate::fast_lists::pools_of;
 use crate::leaves::Leaf;
 use crate::notices::{Notice, Notices};
+use crate::parts::{BuildFault, Parts};
 use crate::pools::{Pool, Pools};
 use sq_base::{Listed, Text, Texts};
 use std::alloc::Global;
@@ -98,6 +102,29 @@ impl Config {
             port: 3128,
             notices: Listed::new(alloc),
         }
+    }
+
+    /// The configuration that the parts state, or their first fault in the order of the parts.
+    #[tactic(auto, unfolding(crate::specs::Building::built))]
+    pub fn build(alloc: Global, parts: Parts) -> Result<Config, BuildFault>
+        requires { AreWithin parts }
+        ensures ok { IfOk result (λ c. built parts ≡ Ok c) }
+        ensures err { IfErr result (λ e. e ≢ BuildFault.WantOfMemory → built parts ≡ Err e) }
+    {
+        let classes = classes_of(alloc, parts.classes)?;
+        let acls = acls_of(alloc, &classes, parts.acls)?;
+        let rules = rules_of(alloc, &acls, parts.rules)?;
+        let pools = pools_of(alloc, &acls, parts.pools)?;
+        Ok(Config {
+            source: parts.source,
+            classes: classes.into_classes(),
+            acls: acls.into_acls(),
+            rules,
+            pools,
+            initial: parts.initial,
+            port: parts.port,
+            notices: parts.notices,
+        })
     }
 
     /// The bytes of the file that states it.

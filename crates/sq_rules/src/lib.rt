@@ -7,12 +7,19 @@
 //! entries says of connections and checks (`Readings`), and what the machine answers next (`Machine`).
 #![tactic(auto)]
 
+mod acl_table;
+mod building;
+mod class_table;
 mod classes;
 mod configs;
 mod entries;
+mod fast_lists;
 mod leaves;
+mod names;
+mod nesting;
 mod notices;
 mod outcomes;
+mod parts;
 mod pools;
 mod refusals;
 mod sights;
@@ -23,6 +30,10 @@ pub use entries::{Entry, Event, Offset, Told};
 pub use leaves::{Find, Finds, Hour, Hours, Leaf, Numbers, PortRange, PortRanges};
 pub use notices::{Notice, Notices};
 pub use outcomes::{Outcome, Why};
+pub use parts::{
+    AclPart, AclParts, BodyPart, BuildFault, LineParts, Parts, PoolPart, PoolParts, RulePart,
+    RuleParts, TermPart, TermParts,
+};
 pub use pools::{Limit, Limits, Pool, Pools};
 pub use refusals::Refusal;
 pub use sights::{Peer, Sight};
