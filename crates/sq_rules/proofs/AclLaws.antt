@@ -1,5 +1,5 @@
 -- Nestings, slow acls and members of a list that has one acl more at the end.
-use Rattle.std.proofs.Common.{◌≡◌, ℕ, ◌+◌, suc, List, [], ◌∷◌, ◌++◌, length, Bool, true, false, ◌&&◌, refl, ap, sym, ◌∙◌, arith, Option, Some, None, if◌then◌else◌, nat_le, subst}
+use Rattle.std.proofs.Common.{◌≡◌, ℕ, ◌+◌, suc, List, [], ◌∷◌, ◌++◌, length, Bool, true, false, ◌&&◌, refl, sym, arith, Some, nat_le}
 use Rattle.std.proofs.lemmas.Bool.Decides.{nat_tests}
 use Rattle.sq_rules.proofs.ListLaws.{all_push}
 use Rattle.sq_rules.specs.Configurations.{are_known_bodies, are_shallow, is_known_body, is_slow, nesting_of, nestings, nestings_on, slow_on, slow_ones}

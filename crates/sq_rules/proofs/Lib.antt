@@ -1,3 +1,4 @@
 pub mod AclLaws
 pub mod ListLaws
 pub mod NameLaws
+pub mod ThreadLaws

@@ -1,7 +1,7 @@
 -- The configuration that parts state, or their first fault: the parts in their order, and in each its
 -- names from left to right (configuration reference, `acl`, `http_access`, `external_acl_type`,
 -- `delay_access`).
-use Rattle.std.specs.Prelude.{◌≡◌, ◌≢◌, ℕ, ◌≤◌, List, [], ◌∷◌, ◌++◌, length, Bool, false, if◌then◌else◌, nat_le, Some, None, Ok, Err, MatchResult, slice_index_or}
+use Rattle.std.specs.Prelude.{◌≡◌, ◌≢◌, ℕ, ◌≤◌, List, [], ◌∷◌, ◌++◌, length, false, if◌then◌else◌, nat_le, Some, None, Ok, Err, MatchResult, slice_index_or}
 use Rattle.std.specs.declared.option.Option.{Option}
 use Rattle.std.specs.declared.result.Result.{Result}
 use Rattle.sq_rules.specs.Classes.{HelperClass}

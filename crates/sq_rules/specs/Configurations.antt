@@ -1,6 +1,6 @@
 -- A configuration as a value, and what holds of every one (configuration reference, `acl`,
 -- `http_access`, `external_acl_type`, `delay_pools`, `delay_class`, `delay_access`, `delay_parameters`).
-use Rattle.std.specs.Prelude.{◌≡◌, ℕ, ◌+◌, ◌≤◌, List, [], ◌∷◌, ◌++◌, length, Bool, true, false, not, ◌&&◌, ◌||◌, ◌==◌, nat_lt, nat_le, max, suc, bytes_eq, slice_index_or, if◌then◌else◌, Some, None}
+use Rattle.std.specs.Prelude.{◌≡◌, ℕ, ◌≤◌, List, [], ◌∷◌, ◌++◌, length, Bool, true, false, not, ◌&&◌, ◌==◌, nat_lt, nat_le, max, suc, bytes_eq, slice_index_or, if◌then◌else◌, Some, None}
 use Rattle.std.specs.declared.option.Option.{Option}
 use Rattle.std.specs.List.{list_all, list_any}
 use Rattle.sq_rules.specs.Classes.{HelperClass}

@@ -1,5 +1,5 @@
 -- Entries of a journal, and what holds of each.
-use Rattle.std.specs.Prelude.{◌≡◌, ℕ, List, Bool, true, false, not, ◌||◌, ◌&&◌}
+use Rattle.std.specs.Prelude.{◌≡◌, ℕ, List, Bool, true, false, not, ◌&&◌}
 use Rattle.sq_base.specs.Requests.{have_plain_names}
 use Rattle.sq_rules.specs.declared.entries.Event.{Event}
 use Rattle.sq_rules.specs.declared.entries.Event.TheVariants.{Begin, Open, Close, Ask, Step, Take}

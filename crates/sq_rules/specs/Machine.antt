@@ -1,5 +1,5 @@
 -- What the machine answers next, and which histories are legal.
-use Rattle.std.specs.Prelude.{◌≡◌, ℕ, ◌≤◌, List, [], ◌∷◌, Bool, true, false, if◌then◌else◌, nat_lt, nat_le, Some, None, is_some, is_none, slice_get, ◌-◌, suc}
+use Rattle.std.specs.Prelude.{◌≡◌, ℕ, ◌≤◌, List, [], ◌∷◌, Bool, true, false, if◌then◌else◌, nat_le, Some, None, is_some, is_none, slice_get, ◌-◌, suc}
 use Rattle.std.specs.declared.option.Option.{Option}
 use Rattle.sq_base.specs.Targets.{target_of}
 use Rattle.sq_rules.specs.declared.entries.Event.{Event}
@@ -11,9 +11,9 @@ use Rattle.sq_rules.specs.declared.outcomes.Why.TheVariants as why
 use Rattle.sq_rules.specs.declared.refusals.Refusal.{Refusal}
 use Rattle.sq_rules.specs.declared.refusals.Refusal.TheVariants as refusal
 use Rattle.sq_rules.specs.Configurations.{Configuration}
-use Rattle.sq_rules.specs.Entries.{Noted, History}
+use Rattle.sq_rules.specs.Entries.{History}
 use Rattle.sq_rules.specs.Limits.{conn_limit, last_number}
-use Rattle.sq_rules.specs.Readings.{peer_at, open_count, ask_count, ask_of, Asked, open_check, check_open, is_done, current}
+use Rattle.sq_rules.specs.Readings.{peer_at, open_count, ask_count, ask_of, Asked, open_check, check_open, is_done}
 use Rattle.sq_rules.specs.Verdicts.{verdict}
 
 -- an answer, a refusal, or nothing, for an event that may only stand first

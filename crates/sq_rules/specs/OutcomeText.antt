@@ -1,5 +1,5 @@
 -- The words of an outcome, as a journal, a script's output and a denial have them.
-use Rattle.std.specs.Prelude.{List, [], ◌∷◌, ◌++◌, ℕ, Bool, if◌then◌else◌, codes, decimal}
+use Rattle.std.specs.Prelude.{List, [], ◌∷◌, ℕ, Bool, if◌then◌else◌, codes, decimal}
 use Rattle.sq_base.specs.Escapes.{text_word}
 use Rattle.sq_base.specs.declared.helpers.Cause.{Cause}
 use Rattle.sq_base.specs.declared.helpers.Cause.TheVariants as cause

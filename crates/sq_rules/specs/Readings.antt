@@ -10,7 +10,7 @@ use Rattle.sq_rules.specs.declared.entries.Told.{Told}
 use Rattle.sq_rules.specs.declared.entries.Told.TheVariants as told
 use Rattle.sq_rules.specs.declared.sights.Peer.{Peer}
 use Rattle.sq_rules.specs.declared.sights.Sight.{Sight}
-use Rattle.sq_rules.specs.Entries.{Noted, History}
+use Rattle.sq_rules.specs.Entries.{History}
 use Rattle.sq_rules.specs.Sights.{request_of, minute_of_week}
 
 -- the client of connection c after an event, where it was this before

@@ -1,8 +1,8 @@
-use Rattle.std.proofs.Common.{◌≡◌, ◌++◌, ◌∷◌, [], length, None, Some, arith}
+use Rattle.std.proofs.Common.{◌≡◌, ◌++◌, ◌∷◌, [], None, Some, arith}
 use Rattle.std.proofs.lemmas.Grind.{common_steps}
 use Rattle.sq_rules.proofs.AclLaws.{depths_push, shallow_push, slow_push}
 use Rattle.sq_rules.proofs.NameLaws.{known_push, own_push}
-use Rattle.sq_rules.specs.Configurations.{is_slow, nesting_of, place_from}
+use Rattle.sq_rules.specs.Configurations.{nesting_of, place_from}
 use Rattle.sq_rules.specs.Tables.{allowed}
 use Rattle.sq_rules.specs.declared.configs.Acl.{Acl}
 use Rattle.sq_rules.proofs.acl_table.AclTable.with.Goals as goal

@@ -1,5 +1,3 @@
-use Rattle.std.proofs.Common.{arith}
-use Rattle.std.proofs.lemmas.Grind.{common_steps}
 use Rattle.sq_rules.proofs.configs.Config.build.Goals as goal
 
 pub invariant_of-result : goal.invariant_of-result
