@@ -2,3 +2,4 @@ pub mod AclLaws
 pub mod ListLaws
 pub mod NameLaws
 pub mod ThreadLaws
+pub mod PredefinedTexts

@@ -8,6 +8,7 @@ pub mod Machine
 pub mod Names
 pub mod OutcomeText
 pub mod Patterns
+pub mod Predefined
 pub mod Rates
 pub mod Readings
 pub mod Sights

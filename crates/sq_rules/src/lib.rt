@@ -21,6 +21,7 @@ mod notices;
 mod outcomes;
 mod parts;
 mod pools;
+mod predefined;
 mod refusals;
 mod sights;
 
@@ -35,5 +36,6 @@ pub use parts::{
     RuleParts, TermPart, TermParts,
 };
 pub use pools::{Limit, Limits, Pool, Pools};
+pub use predefined::predefined_acls;
 pub use refusals::Refusal;
 pub use sights::{Peer, Sight};
