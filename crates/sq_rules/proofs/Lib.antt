@@ -3,3 +3,4 @@ pub mod ListLaws
 pub mod NameLaws
 pub mod ThreadLaws
 pub mod PredefinedTexts
+pub mod PlainLaws

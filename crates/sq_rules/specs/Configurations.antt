@@ -74,6 +74,16 @@ is_known_body classes before (body.External class arguments) = nat_lt class clas
 is_known_body classes before (body.AnyOf terms) = are_known before terms
 is_known_body classes before (body.AllOf lines) = list_all (are_known before) lines
 
+abbrev pub is_leaf_body : Body → Bool
+is_leaf_body (body.Leaf l) = true
+is_leaf_body (body.External class arguments) = false
+is_leaf_body (body.AnyOf terms) = false
+is_leaf_body (body.AllOf lines) = false
+
+-- an acl is a list of values
+abbrev pub is_leaf : Acl → Bool
+is_leaf a = is_leaf_body a.body
+
 -- each of these acls, the first of which stands at this place, names only what there is before it
 abbrev pub are_known_bodies : ℕ → ℕ → List Acl → Bool
 are_known_bodies classes place [] = true
