@@ -19,7 +19,7 @@ use Rattle.sq_rules.specs.Machine.{outcome_of, epoch_of, config_of, judged_by}
 use Rattle.sq_rules.specs.Readings.{Asked, peer_at, peer_or_nobody, ask_count, ask_of, conn_of, open_check, is_open_on, is_number, is_done, sight_of, current}
 use Rattle.sq_rules.specs.Verdicts.{verdict}
 use Rattle.sq_rules.proofs.ReadingLaws.{is_done-unborn}
-use Rattle.sq_proxy.specs.Seen.{seen}
+use Rattle.sq_proxy.specs.Seen.{seen, are_simple}
 use Rattle.sq_proxy.specs.declared.checks.Held.{Held}
 use Rattle.sq_proxy.specs.Machines.{View, IsMade, IsRefused, check_held, number_or_none, entry_at}
 use Rattle.sq_proxy.specs.Tables.{value_at, rows}
@@ -33,6 +33,7 @@ pub record Begun (old new : View) (now c : ℕ) (method target : List ℕ) (fiel
   pub peer_is : value_at old.peers c ≡ Some p
   pub no_check : value_at old.asked c ≡ None
   pub room : suc (length old.checks) < last_number
+  pub simple : are_simple old.config.acls ≡ true
   pub port_is : option_map (λ r. r.port) (target_of method target) ≡ Some port
   pub checks_are : new.checks ≡ old.checks ++ (record { conn = c; epoch = 1; done = false; outcome = Some (verdict old.config (seen method port p.addr)) }) ∷ []
   pub asked_are : (j : ℕ) → value_at new.asked j ≡ cond (is_eq (nat_cmp c j)) (Some number) (value_at old.asked j)
@@ -49,12 +50,12 @@ asked_now h moment c method target fields = record {
 
 -- the verdict over what the check saw
 judged-is : (configs : List Configuration) (config : Configuration) (h : History) (moment c : ℕ) (method target : List ℕ) (fields : List Field) (p : Peer) (port : ℕ)
-    → config_of configs 1 ≡ Some config → peer_at h c ≡ Some p → option_map (λ r. r.port) (target_of method target) ≡ Some port
+    → are_simple config.acls ≡ true → config_of configs 1 ≡ Some config → peer_at h c ≡ Some p → option_map (λ r. r.port) (target_of method target) ≡ Some port
     → outcome_of configs (Some (asked_now h moment c method target fields)) ≡ verdict config (seen method port p.addr)
-judged-is configs config h moment c method target fields p port is peer at =
+judged-is configs config h moment c method target fields p port simple is peer at =
     let s = sight_of h moment (peer_or_nobody (peer_at h c)) method target fields in
     ap (λ o. judged_by o (asked_now h moment c method target fields)) is
-    ∙ verdict-seen config s
+    ∙ verdict-seen config s simple
     ∙ ap (λ m. verdict config (seen m s.request.port s.addr)) (request-method method target fields)
     ∙ ap (λ q. verdict config (seen method q s.addr)) (request-port method target fields port at)
     ∙ ap (λ o. verdict config (seen method port (peer_or_nobody o).addr)) peer
@@ -131,7 +132,7 @@ ask-made old new now c method target fields p port number k = record {
       let none : open_check h c ≡ None = sym (s.asked_are c) ∙ k.no_check in
       let many : length old.checks ≡ ask_count h = ap length s.checks_are ∙ rows-length f (ask_count h) in
       let row = new-row configs h moment c method target fields t (verdict old.config (seen method port p.addr))
-      (judged-is configs old.config h moment c method target fields p port s.config_is peer k.port_is) in
+      (judged-is configs old.config h moment c method target fields p port k.simple s.config_is peer k.port_is) in
       record {
         config_is = rw k.config_is s.config_is;
         peers_are = λ j. rw k.peers_is (s.peers_are j);

@@ -16,7 +16,7 @@ use Rattle.sq_rules.specs.declared.configs.Term.{Term}
 use Rattle.sq_rules.specs.declared.leaves.Leaf.{Leaf}
 use Rattle.sq_rules.specs.declared.leaves.Leaf.TheVariants as leaf
 use Rattle.sq_rules.specs.declared.leaves.PortRange.{PortRange}
-use Rattle.sq_rules.specs.Configurations.{Configuration}
+use Rattle.sq_rules.specs.Configurations.{Configuration, plain}
 use Rattle.sq_rules.specs.Limits.{acl_limit, name_limit, rule_limit, text_limit}
 use Rattle.sq_proxy.specs.Forms.{◌>>=◌, Words, is_newline, is_space, some_of, over_lines}
 
@@ -117,7 +117,7 @@ abbrev pub nothing_stated : Stated
 nothing_stated = record { acls = []; rules = [] }
 
 abbrev pub configuration : List ℕ → Stated → Configuration
-configuration text s = record { source = text; acls = s.acls; rules = s.rules }
+configuration text s = plain text s.acls s.rules
 
 -- the configuration that a text of this form states
 unfoldable pub conf_in : List ℕ → Option Configuration

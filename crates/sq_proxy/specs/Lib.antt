@@ -1,5 +1,6 @@
 pub mod ConfForm
 pub mod Cuts
+pub mod Drafts
 pub mod Ends
 pub mod EntryText
 pub mod Forms

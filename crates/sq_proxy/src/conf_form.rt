@@ -1,8 +1,9 @@
 //! The reader of configurations of the form that is built: lines `acl` and `http_access`.
 ghost use Rattle.std.specs.Prelude.{◌≡◌, ◌==◌, true, length, nat_lt, bytes_eq, IfOk};
 ghost use Rattle.std.specs.List.{slice_split, list_all, list_any};
-ghost use Rattle.sq_proxy.specs.ConfForm.{is_name, is_name_byte, predefined, acl_line, rule_line, conf_line, sized_line, conf_in, place_of, term_at, term_of, action_of, nothing_stated};
+ghost use Rattle.sq_proxy.specs.ConfForm.{is_name, is_name_byte, predefined, acl_line, rule_line, conf_line, sized_line, conf_of, place_of, term_at, term_of, action_of, nothing_stated};
 ghost use Rattle.sq_proxy.specs.Forms.{Gives, Makes, some_of, over_lines, is_newline, is_space};
+ghost use Rattle.sq_proxy.specs.Seen.{are_simple};
 
 use crate::conf_values::leaf;
 use crate::draft::Draft;
@@ -12,16 +13,23 @@ use sq_base::{Listed, Text};
 use sq_rules::{Acl, Body, Config, Rule, Term, Terms};
 use std::alloc::Global;
 
+/// The bytes that a text may have.
+const TEXT_LIMIT: usize = 1_048_576;
+
 /// The bytes that a line may have, its end left out.
 const LINE_LIMIT: usize = 65_536;
 
-/// The configuration that a text states. The text becomes its source, without a copy.
+/// The configuration that a text within the limit states. The text becomes its source, without a copy.
 #[tactic(auto, unfolding(crate::specs::ConfForm::conf_in))]
 pub fn read_conf(alloc: Global, text: Text) -> Result<Config, Unformed>
-    ensures { Gives (λ c. c) result (conf_in text) }
+    ensures read { Gives (λ c. c) result (conf_of text) }
+    ensures simple { IfOk result (λ c. are_simple c.acls ≡ true) }
 {
+    if text.len() > TEXT_LIMIT {
+        return Err(Unformed::Outside);
+    }
     let draft = stated(alloc, text.as_bytes())?;
-    Ok(draft.finish(text))
+    Ok(draft.finish(alloc, text))
 }
 
 // What the lines of a text state.

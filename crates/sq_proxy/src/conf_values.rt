@@ -1,10 +1,11 @@
 //! Values of acls: blocks of addresses, ports and methods.
-ghost use Rattle.std.specs.Prelude.{◌≡◌, ◌==◌, ◌||◌};
+ghost use Rattle.std.specs.Prelude.{◌≡◌, ◌==◌, ◌||◌, true, IfOk};
 ghost use Rattle.std.specs.List.{list_all, list_any, position, after_first};
 ghost use Rattle.std.specs.Char.{is_ascii_uppercase};
 ghost use Rattle.sq_base.specs.Ranges.{is_slash};
 ghost use Rattle.sq_proxy.specs.ConfForm.{src_value, port_value, method_value, leaf_of, is_block_byte};
 ghost use Rattle.sq_proxy.specs.Forms.{Gives, some_of};
+ghost use Rattle.sq_proxy.specs.Seen.{is_seen};
 
 use crate::pieces::Pieces;
 use crate::unformed::Unformed;
@@ -16,7 +17,8 @@ use std::alloc::Global;
 /// The leaf of a type and its values.
 #[tactic(auto, unfolding(crate::specs::ConfForm::leaf_of))]
 pub fn leaf(alloc: Global, name: &[u8], words: &mut Pieces) -> Result<Leaf, Unformed>
-    ensures { Gives (λ l. l) result (leaf_of name.now words.old) }
+    ensures read { Gives (λ l. l) result (leaf_of name.now words.old) }
+    ensures seen { IfOk result (λ l. is_seen l ≡ true) }
 {
     if name == b"src".as_slice() {
         return Ok(Leaf::Src(src_values(alloc, words)?));

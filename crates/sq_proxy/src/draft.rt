@@ -1,15 +1,17 @@
 //! `Draft`: the acls and rules that the lines so far state.
-ghost use Rattle.std.specs.Prelude.{◌≡◌, ◌++◌, ◌∷◌, [], true, length, nat_lt, None, OnOk, OnErr};
+ghost use Rattle.std.specs.Prelude.{◌≡◌, ◌≤◌, ◌++◌, ◌∷◌, [], true, length, nat_lt, None, OnOk, OnErr};
 ghost use Rattle.sq_rules.specs.Configurations.{is_known_rule};
-ghost use Rattle.sq_rules.specs.Limits.{rule_limit};
+ghost use Rattle.sq_rules.specs.Limits.{rule_limit, text_limit};
 ghost use Rattle.sq_proxy.specs.ConfForm.{Stated, place_of, has_room, nothing_stated, configuration};
+ghost use Rattle.sq_proxy.specs.Seen.{is_simple, are_simple};
 
 use sq_base::{Listed, Text, WantOfMemory};
 use sq_rules::{Acl, Acls, Config, Rule, Rules};
 use std::alloc::Global;
 use std::marker::Model;
 
-/// Acls and rules that a configuration may have, with room for the six predefined acls.
+/// Acls and rules that a configuration may have, with room for the six predefined acls. The acls are
+/// lists of the types src, port and method.
 #[derive(Drop)]
 pub struct Draft {
     acls: Acls,
@@ -17,16 +19,14 @@ pub struct Draft {
 }
 
 impl Model for Draft {
-    ghost use Rattle.std.specs.Prelude.{◌≤◌, ◌+◌, [], length};
-    ghost use Rattle.sq_rules.specs.Configurations.{IsConfiguration};
-    ghost use Rattle.sq_rules.specs.Limits.{acl_limit};
     ghost use Rattle.sq_proxy.specs.ConfForm.{Stated};
+    ghost use Rattle.sq_proxy.specs.Drafts.{IsDraft};
 
     ghost Value = { Stated };
 
     ghost view = { λ d. record { acls = d.acls; rules = d.rules } };
 
-    ghost invariant = { λ d. IsConfiguration (record { source = []; acls = d.acls; rules = d.rules }) × (length d.acls + 6 ≤ acl_limit) };
+    ghost invariant = { λ d. IsDraft d.acls d.rules };
 }
 
 impl Draft {
@@ -64,9 +64,10 @@ impl Draft {
         self.rules.len() < 10000
     }
 
-    /// One acl more, of a new name.
+    /// One acl more, of a new name and one of the three types.
     pub fn push_acl(&mut self, acl: Acl) -> Result<(), WantOfMemory>
         requires named { place_of self.old.acls acl.name ≡ None }
+        requires simple { is_simple acl.body ≡ true }
         requires room { has_room self.old ≡ true }
         ensures ok { OnOk result (self.new ≡ record self.old { acls = self.old.acls ++ acl ∷ [] }) }
         ensures err { OnErr result (self.new ≡ self.old) }
@@ -85,10 +86,13 @@ impl Draft {
     }
 
     /// What was stated, as the configuration of a file with these bytes.
-    pub fn finish(self, source: Text) -> Config
-        ensures { result ≡ configuration source self }
+    #[tactic(auto, using(crate::proofs::DraftLaws::draft_is))]
+    pub fn finish(self, alloc: Global, source: Text) -> Config
+        requires { length source ≤ text_limit }
+        ensures value { result ≡ configuration source self }
+        ensures simple { are_simple result.acls ≡ true }
     {
-        Config::new(source, self.acls, self.rules)
+        Config::new(alloc, source, self.acls, self.rules)
     }
 }
 

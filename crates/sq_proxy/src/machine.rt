@@ -2,6 +2,7 @@
 ghost use Rattle.std.specs.Prelude.{◌≡◌, ◌++◌, ◌∷◌, [], ℕ, true, false, cond, max, Some, is_some, bytes_eq, codes, pos, length, ◌+◌, ◌<◌, ◌^◌, OnOk, OnErr};
 ghost use Rattle.std.specs.Ordering.{nat_cmp, is_eq};
 ghost use Rattle.sq_proxy.specs.ScriptForm.{target_port};
+ghost use Rattle.sq_proxy.specs.Seen.{are_simple};
 ghost use Rattle.sq_proxy.specs.Tables.{value_at};
 ghost use Rattle.sq_rules.specs.declared.entries.Event.TheVariants as event;
 
@@ -27,7 +28,7 @@ pub enum Stop {
     WantOfMemory,
 }
 
-/// The machine.
+/// The machine. The acls of its configuration are lists of the types src, port and method.
 #[derive(Drop)]
 pub struct Machine {
     config: Config,
@@ -38,11 +39,15 @@ pub struct Machine {
 }
 
 impl Model for Machine {
+    ghost use Rattle.std.specs.Prelude.{◌≡◌, true};
     ghost use Rattle.sq_proxy.specs.Machines.{View};
+    ghost use Rattle.sq_proxy.specs.Seen.{are_simple};
 
     ghost Value = { View };
 
     ghost view = { λ m. record { config = m.config; peers = m.peers; asked = m.asked; checks = m.checks; latest = m.latest } };
+
+    ghost invariant = { λ m. are_simple m.config.acls ≡ true };
 }
 
 // The later of two moments.
@@ -59,6 +64,7 @@ impl Machine {
 
     /// The machine that begins at this moment, at offset 0.
     pub fn new(alloc: Global, config: Config, now: Moment) -> Machine
+        requires { are_simple config.acls ≡ true }
         ensures { StandsFor result (config ∷ []) (entry_at now (event.Begin (pos 0)) (told.Epoch 1) ∷ []) }
     {
         Machine {

@@ -11,6 +11,7 @@ ghost use Rattle.sq_proxy.specs.EntryText.{entry_text, written};
 ghost use Rattle.sq_proxy.specs.Machines.{StandsFor, entry_at};
 ghost use Rattle.sq_proxy.specs.RunText.{run_script, run_lines, first_moment, Runs, WrotePart};
 ghost use Rattle.sq_proxy.specs.Plain.{are_plain};
+ghost use Rattle.sq_proxy.specs.Seen.{are_simple};
 ghost use Rattle.sq_proxy.specs.Telling.{Tells};
 ghost use Rattle.sq_proxy.specs.declared.ends.Status.TheVariants as ends;
 
@@ -96,7 +97,8 @@ fn first_moment(script: &[Dated]) -> Moment
 
 /// Runs a script from the beginning.
 pub fn play<O: Sink>(alloc: Global, config: Config, script: &[Dated], out: &mut O) -> Status
-    requires { are_plain script.now ≡ true }
+    requires simple { are_simple config.acls ≡ true }
+    requires plain { are_plain script.now ≡ true }
     ensures runs { Runs (O.contents out.old) (O.contents out.new) (run_script config script.now) result }
     ensures later { O.faults out.old ≤ O.faults out.new }
     ensures write { result ≡ ends.WriteFault → Rose (O.faults out.old) (O.faults out.new) }

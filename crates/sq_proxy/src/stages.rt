@@ -5,6 +5,7 @@ ghost use Rattle.sq_proxy.specs.declared.ends.Status.TheVariants as ends;
 ghost use Rattle.sq_proxy.specs.Ends.{Comes, IsMissingOr, IsOpenEnd};
 ghost use Rattle.sq_proxy.specs.Plain.{are_plain};
 ghost use Rattle.sq_proxy.specs.RunText.{conf_stage, script_stage};
+ghost use Rattle.sq_proxy.specs.Seen.{are_simple};
 
 use crate::conf_form::read_conf;
 use crate::ends::{Part, Status};
@@ -31,6 +32,7 @@ fn missing(alloc: Global, name: &Text) -> Status
 /// Reads the configuration of the file of this name.
 pub fn open_conf<F: Files>(alloc: Global, name: &Text, files: &mut F) -> Result<Config, Status>
     ensures comes { IfSome (F.texts files.old) (λ disk. Comes result (conf_stage name.now (disk name.now))) }
+    ensures simple { IfOk result (λ config. are_simple config.acls ≡ true) }
     ensures end { IfErr result (IsOpenEnd (F.texts files.old) name.now) }
     ensures later { F.faults files.old ≤ F.faults files.new }
     ensures read { IfErr result (λ end. end ≡ ends.ReadFault → Rose (F.faults files.old) (F.faults files.new)) }

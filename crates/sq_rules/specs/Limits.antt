@@ -24,3 +24,27 @@ rule_limit = 10000
 -- bytes of a name
 abbrev pub name_limit : ℕ
 name_limit = 255
+
+-- classes of helpers
+abbrev pub class_limit : ℕ
+class_limit = 64
+
+-- delay pools
+abbrev pub pool_limit : ℕ
+pool_limit = 64
+
+-- tokens that a format states
+abbrev pub token_limit : ℕ
+token_limit = 32
+
+-- how deep groups nest
+abbrev pub nesting_limit : ℕ
+nesting_limit = 32
+
+-- numbers of `delay_parameters`
+abbrev pub delay_limit : ℕ
+delay_limit = 1000000000000000
+
+-- the percentage at which a bucket opens
+abbrev pub initial_limit : ℕ
+initial_limit = 100

@@ -1,5 +1,5 @@
 -- The direct evaluation of a configuration over what a check sees (configuration reference, `http_access`).
-use Rattle.std.specs.Prelude.{ℕ, ◌+◌, List, [], ◌∷◌, Bool, true, false, not, map, Some, None, slice_get}
+use Rattle.std.specs.Prelude.{ℕ, ◌+◌, zero, suc, List, [], ◌∷◌, Bool, true, false, not, map, Some, None, slice_get}
 use Rattle.std.specs.declared.option.Option.{Option}
 use Rattle.sq_rules.specs.declared.configs.Acl.{Acl}
 use Rattle.sq_rules.specs.declared.configs.Body.{Body}
@@ -21,15 +21,6 @@ abbrev pub value_if : Bool → Value
 value_if true = Hit
 value_if false = Miss
 
--- the value of an acl
-abbrev pub body_value : Body → Sight → Value
-body_value (body.Leaf l) s = value_if (holds l s)
-
--- the value of the acl at a place; where none stands, nothing matches
-abbrev pub acl_value : Option Acl → Sight → Value
-acl_value None s = Miss
-acl_value (Some a) s = body_value a.body s
-
 -- `!` exchanges a match and a mismatch
 abbrev pub negated : Value → Value
 negated Hit = Miss
@@ -39,15 +30,38 @@ abbrev pub turned : Bool → Value → Value
 turned true v = negated v
 turned false v = v
 
--- the value of a term
-abbrev pub term_value : List Acl → Sight → Term → Value
-term_value acls s t = turned t.negated (acl_value (slice_get acls t.acl) s)
-
 -- the first value that is no match, or a match
 abbrev pub both : List Value → Value
 both [] = Hit
 both (Hit ∷ values) = both values
 both (Miss ∷ values) = Miss
+
+-- the first value that is no mismatch, or a mismatch
+abbrev pub either : List Value → Value
+either [] = Miss
+either (Hit ∷ values) = Hit
+either (Miss ∷ values) = either values
+
+-- the value of an acl, where its members have these: some member of any-of, all members of some line of all-of
+abbrev pub body_value : (Term → Value) → Body → Sight → Value
+body_value member (body.Leaf l) s = value_if (holds l s)
+body_value member (body.External class arguments) s = Miss
+body_value member (body.AnyOf terms) s = either (map member terms)
+body_value member (body.AllOf lines) s = either (map (λ l. both (map member l)) lines)
+
+-- the value of the acl at a place; where none stands, nothing matches
+abbrev pub acl_value : (Term → Value) → Option Acl → Sight → Value
+acl_value member None s = Miss
+acl_value member (Some a) s = body_value member a.body s
+
+-- the value of a member of an acl with so many acls before it, since members stand before their group
+abbrev pub member_value : ℕ → List Acl → Sight → Term → Value
+member_value zero acls s t = Miss
+member_value (suc before) acls s t = turned t.negated (acl_value (member_value before acls s) (slice_get acls t.acl) s)
+
+-- the value of a term
+abbrev pub term_value : List Acl → Sight → Term → Value
+term_value acls s t = turned t.negated (acl_value (member_value t.acl acls s) (slice_get acls t.acl) s)
 
 -- the value of a rule: its terms from left to right
 abbrev pub rule_value : List Acl → Sight → Rule → Value

@@ -1,16 +1,31 @@
-//! The configuration: acls and rules, with every named place there.
-ghost use Rattle.std.specs.Prelude.{◌≡◌, ◌≤◌, length};
-ghost use Rattle.sq_rules.specs.Configurations.{IsConfiguration};
-ghost use Rattle.sq_rules.specs.Limits.{rule_limit};
+//! The configuration: classes of helpers, acls, rules and delay pools, with every named place there.
+ghost use Rattle.std.specs.Prelude.{◌≡◌, ◌≢◌, ◌≤◌, length, Ok, Err, IfOk, IfErr};
+ghost use Rattle.sq_rules.specs.Building.{built, AreWithin};
+ghost use Rattle.sq_rules.specs.Configurations.{IsConfiguration, plain};
+ghost use Rattle.sq_rules.specs.Limits.{acl_limit, class_limit, initial_limit, pool_limit, rule_limit, text_limit};
 
+use crate::building::{acls_of, classes_of, rules_of};
+use crate::classes::{Class, Classes};
+use crate::fast_lists::pools_of;
 use crate::leaves::Leaf;
-use sq_base::{Listed, Text};
+use crate::notices::{Notice, Notices};
+use crate::parts::{BuildFault, Parts};
+use crate::pools::{Pool, Pools};
+use sq_base::{Listed, Text, Texts};
+use std::alloc::Global;
 use std::marker::Model;
 
 /// What an acl is.
 #[derive(Drop, Debug)]
 pub enum Body {
+    /// A list of values, which a request and its client meet or not.
     Leaf(Leaf),
+    /// A question to a helper of this class, by its place from 0, with these arguments.
+    External { class: u32, arguments: Texts },
+    /// A group of which some member has to hold.
+    AnyOf(Terms),
+    /// A group of which all members of some line have to hold.
+    AllOf(Lines),
 }
 
 /// An acl: a name, and what it holds of.
@@ -23,7 +38,7 @@ pub struct Acl {
 /// A list of acls.
 pub type Acls = Listed<Acl>;
 
-/// A term of a rule: an acl by its place, from 0, and whether `!` stands before it.
+/// A term of a rule or a group: an acl by its place, from 0, and whether `!` stands before it.
 #[derive(Clone, Copy, Debug, PartialEq, Eq)]
 pub struct Term {
     pub acl: u32,
@@ -33,7 +48,10 @@ pub struct Term {
 /// A list of terms.
 pub type Terms = Listed<Term>;
 
-/// A rule of `http_access`: its action, and the terms that all have to hold.
+/// The lines of `all-of`, each with its terms.
+pub type Lines = Listed<Terms>;
+
+/// A rule: its action, and the terms that all have to hold.
 #[derive(Drop, Debug)]
 pub struct Rule {
     pub allow: bool,
@@ -43,12 +61,18 @@ pub struct Rule {
 /// A list of rules.
 pub type Rules = Listed<Rule>;
 
-/// A configuration. Names of acls are unique, and each term names an acl that is there.
+/// A configuration. Names are unique, each named place is there and each member of a group stands
+/// before it, groups nest 32 deep at the most, and rules of pools reach no external acl.
 #[derive(Drop, Debug)]
 pub struct Config {
     source: Text,
+    classes: Classes,
     acls: Acls,
     rules: Rules,
+    pools: Pools,
+    initial: u8,
+    port: u16,
+    notices: Notices,
 }
 
 impl Model for Config {
@@ -56,34 +80,73 @@ impl Model for Config {
 
     ghost Value = { Configuration };
 
-    ghost view = { λ c. record { source = c.source; acls = c.acls; rules = c.rules } };
+    ghost view = { λ c. record { source = c.source; classes = c.classes; acls = c.acls; rules = c.rules; pools = c.pools; initial = c.initial; port = c.port; notices = c.notices } };
 
-    ghost invariant = { λ c. IsConfiguration (record { source = c.source; acls = c.acls; rules = c.rules }) };
+    ghost invariant = { λ c. IsConfiguration (record { source = c.source; classes = c.classes; acls = c.acls; rules = c.rules; pools = c.pools; initial = c.initial; port = c.port; notices = c.notices }) };
 }
 
 impl Config {
-    /// The configuration with these acls and rules, which a file with these bytes states.
-    pub fn new(source: Text, acls: Acls, rules: Rules) -> Config
-        requires { IsConfiguration (record { source = source; acls = acls; rules = rules }) }
-        ensures { result ≡ record { source = source; acls = acls; rules = rules } }
+    /// The configuration with these acls and rules and nothing more, which a file with these bytes
+    /// states.
+    pub fn new(alloc: Global, source: Text, acls: Acls, rules: Rules) -> Config
+        requires { IsConfiguration (plain source acls rules) }
+        ensures { result ≡ plain source acls rules }
     {
         Config {
             source,
+            classes: Listed::new(alloc),
             acls,
             rules,
+            pools: Listed::new(alloc),
+            initial: 50,
+            port: 3128,
+            notices: Listed::new(alloc),
         }
+    }
+
+    /// The configuration that the parts state, or their first fault in the order of the parts.
+    #[tactic(auto, unfolding(crate::specs::Building::built))]
+    pub fn build(alloc: Global, parts: Parts) -> Result<Config, BuildFault>
+        requires { AreWithin parts }
+        ensures ok { IfOk result (λ c. built parts ≡ Ok c) }
+        ensures err { IfErr result (λ e. e ≢ BuildFault.WantOfMemory → built parts ≡ Err e) }
+    {
+        let classes = classes_of(alloc, parts.classes)?;
+        let acls = acls_of(alloc, &classes, parts.acls)?;
+        let rules = rules_of(alloc, &acls, parts.rules)?;
+        let pools = pools_of(alloc, &acls, parts.pools)?;
+        Ok(Config {
+            source: parts.source,
+            classes: classes.into_classes(),
+            acls: acls.into_acls(),
+            rules,
+            pools,
+            initial: parts.initial,
+            port: parts.port,
+            notices: parts.notices,
+        })
     }
 
     /// The bytes of the file that states it.
     pub fn source(&self) -> &Text
-        ensures { result.now ≡ self.now.source }
+        ensures value { result.now ≡ self.now.source }
+        ensures short { length result.now ≤ text_limit }
     {
         &self.source
     }
 
+    /// The classes of helpers, in the order of the file.
+    pub fn classes(&self) -> &[Class]
+        ensures classes { result.now ≡ self.now.classes }
+        ensures few { length result.now ≤ class_limit }
+    {
+        self.classes.as_slice()
+    }
+
     /// The acls, in the order of their first lines.
     pub fn acls(&self) -> &[Acl]
-        ensures { result.now ≡ self.now.acls }
+        ensures acls { result.now ≡ self.now.acls }
+        ensures few { length result.now ≤ acl_limit }
     {
         self.acls.as_slice()
     }
@@ -94,5 +157,42 @@ impl Config {
         ensures few { length result.now ≤ rule_limit }
     {
         self.rules.as_slice()
+    }
+
+    /// The delay pools, in the order of their numbers.
+    pub fn pools(&self) -> &[Pool]
+        ensures pools { result.now ≡ self.now.pools }
+        ensures few { length result.now ≤ pool_limit }
+    {
+        self.pools.as_slice()
+    }
+
+    /// The percentage of its limit at which a bucket opens.
+    pub fn initial(&self) -> u8
+        ensures value { result ≡ self.now.initial }
+        ensures bound { result ≤ initial_limit }
+    {
+        self.initial
+    }
+
+    /// The port at which the server listens.
+    pub fn port(&self) -> u16
+        ensures { result ≡ self.now.port }
+    {
+        self.port
+    }
+
+    /// The lines that were read without effect.
+    pub fn notices(&self) -> &[Notice]
+        ensures { result.now ≡ self.now.notices }
+    {
+        self.notices.as_slice()
+    }
+
+    /// What holds of it: it changes nothing, and its contract says it to a proof.
+    pub fn facts(&self)
+        ensures { IsConfiguration self.now }
+    {
+        let _initial = self.initial;
     }
 }

@@ -1,21 +1,41 @@
 //! The configuration as a value, the machine's events, and the definitions that all contracts cite.
 //!
-//! `Config` holds what a configuration file says, with the invariant that every name is unique and
-//! every named place exists. `Entry` is one line of a journal: a moment, an event and its answer.
-//! The definitions of `specs/` say what a rule decides (`Verdicts`), what a history of entries says of
-//! connections and checks (`Readings`), and what the machine answers next (`Machine`).
+//! `Config` holds what a configuration file says, with the invariant that every name is unique, every
+//! named place exists and is earlier, groups nest 32 deep at the most, and rules of delay pools ask no
+//! helper. `Entry` is one line of a journal: a moment, an event and its answer. The definitions of
+//! `specs/` say when a leaf acl holds (`Leaves`), what a rule decides (`Verdicts`), what a history of
+//! entries says of connections and checks (`Readings`), and what the machine answers next (`Machine`).
 #![tactic(auto)]
 
+mod acl_table;
+mod building;
+mod class_table;
+mod classes;
 mod configs;
 mod entries;
+mod fast_lists;
 mod leaves;
+mod names;
+mod nesting;
+mod notices;
 mod outcomes;
+mod parts;
+mod pools;
+mod predefined;
 mod refusals;
 mod sights;
 
-pub use configs::{Acl, Acls, Body, Config, Rule, Rules, Term, Terms};
+pub use classes::{Class, Classes, Token, Tokens};
+pub use configs::{Acl, Acls, Body, Config, Lines, Rule, Rules, Term, Terms};
 pub use entries::{Entry, Event, Offset, Told};
-pub use leaves::{Leaf, PortRange, PortRanges};
+pub use leaves::{Find, Finds, Hour, Hours, Leaf, Numbers, PortRange, PortRanges};
+pub use notices::{Notice, Notices};
 pub use outcomes::{Outcome, Why};
+pub use parts::{
+    AclPart, AclParts, BodyPart, BuildFault, LineParts, Parts, PoolPart, PoolParts, RulePart,
+    RuleParts, TermPart, TermParts,
+};
+pub use pools::{Limit, Limits, Pool, Pools};
+pub use predefined::predefined_acls;
 pub use refusals::Refusal;
 pub use sights::{Peer, Sight};

@@ -25,6 +25,7 @@ returns c =
       peer_is = peer;
       no_check = none;
       room = omega arith;
+      simple = c.self.invariant;
       port_is = port_is c.args.method.now c.args.target.now c.in-Some-target_port.port c.requires.method port;
       checks_are = c.in-Ok.ensures.checks ∙ ap (λ o. c.self.inside.checks ++ (record { conn = c.args.conn; epoch = 1; done = false; outcome = Some o }) ∷ []) judged;
       asked_are = c.in-Ok.ensures.asked;

@@ -1,0 +1,136 @@
+-- The configuration that parts state, or their first fault: the parts in their order, and in each its
+-- names from left to right (configuration reference, `acl`, `http_access`, `external_acl_type`,
+-- `delay_access`).
+use Rattle.std.specs.Prelude.{◌≡◌, ◌≢◌, ℕ, ◌≤◌, List, [], ◌∷◌, ◌++◌, length, false, if◌then◌else◌, nat_le, Some, None, Ok, Err, MatchResult, slice_index_or}
+use Rattle.std.specs.declared.option.Option.{Option}
+use Rattle.std.specs.declared.result.Result.{Result}
+use Rattle.sq_rules.specs.Classes.{HelperClass}
+use Rattle.sq_rules.specs.Configurations.{Configuration, has_buckets, has_class, has_name, nesting_of, nestings, place_from, slow_ones}
+use Rattle.sq_rules.specs.Limits.{acl_limit, class_limit, initial_limit, nesting_limit, pool_limit, rule_limit, text_limit}
+use Rattle.sq_rules.specs.declared.configs.Acl.{Acl}
+use Rattle.sq_rules.specs.declared.configs.Body.{Body}
+use Rattle.sq_rules.specs.declared.configs.Body.TheVariants as body
+use Rattle.sq_rules.specs.declared.configs.Rule.{Rule}
+use Rattle.sq_rules.specs.declared.configs.Term.{Term}
+use Rattle.sq_rules.specs.declared.parts.AclPart.{AclPart}
+use Rattle.sq_rules.specs.declared.parts.BodyPart.{BodyPart}
+use Rattle.sq_rules.specs.declared.parts.BodyPart.TheVariants as part
+use Rattle.sq_rules.specs.declared.parts.BuildFault.{BuildFault}
+use Rattle.sq_rules.specs.declared.parts.BuildFault.TheVariants as fault
+use Rattle.sq_rules.specs.declared.parts.Parts.{Parts}
+use Rattle.sq_rules.specs.declared.parts.PoolPart.{PoolPart}
+use Rattle.sq_rules.specs.declared.parts.RulePart.{RulePart}
+use Rattle.sq_rules.specs.declared.parts.TermPart.{TermPart}
+use Rattle.sq_rules.specs.declared.pools.Pool.{Pool}
+
+-- one step after another, up to the first fault
+infixl 10 ◌>>=◌
+abbrev pub ◌>>=◌ : {A B : Type 0} → Result A BuildFault → (A → Result B BuildFault) → Result B BuildFault
+(Ok x) >>= f = f x
+(Err e) >>= f = Err e
+
+-- what a call answered is what was made, unless memory ran out
+abbrev pub IsMade : {A : Type 0} → Result A BuildFault → Result A BuildFault → Type 0
+IsMade result made = MatchResult result (λ x. made ≡ Ok x) (λ e. e ≢ fault.WantOfMemory → made ≡ Err e)
+
+-- each of some parts in turn, behind those that are made
+abbrev pub each_made : {A B : Type 0} → (A → Result B BuildFault) → List B → List A → Result (List B) BuildFault
+each_made make done [] = Ok done
+each_made make done (x ∷ xs) = make x >>= λ y. each_made make (done ++ y ∷ []) xs
+
+-- the place of the acl with this name
+abbrev pub place_of : List Acl → List ℕ → Option ℕ
+place_of acls name = place_from (λ a. a.name) 0 acls name
+
+-- the place of the class with this name
+abbrev pub class_place : List HelperClass → List ℕ → Option ℕ
+class_place classes name = place_from (λ c. c.name) 0 classes name
+
+abbrev pub term_at : TermPart → Option ℕ → Result Term BuildFault
+term_at t None = Err (fault.UndefinedAcl t.acl)
+term_at t (Some place) = Ok (record { acl = place; negated = t.negated })
+
+-- a term names one of these acls
+abbrev pub term_made : List Acl → TermPart → Result Term BuildFault
+term_made acls t = term_at t (place_of acls t.acl)
+
+abbrev pub terms_made : List Acl → List TermPart → Result (List Term) BuildFault
+terms_made acls terms = each_made (term_made acls) [] terms
+
+abbrev pub external_at : List ℕ → List (List ℕ) → Option ℕ → Result Body BuildFault
+external_at class arguments None = Err (fault.UndefinedClass class)
+external_at class arguments (Some place) = Ok (body.External place arguments)
+
+-- what an acl is, over these classes and the acls before it
+abbrev pub body_made : List HelperClass → List Acl → BodyPart → Result Body BuildFault
+body_made classes acls (part.Leaf l) = Ok (body.Leaf l)
+body_made classes acls (part.External class arguments) = external_at class arguments (class_place classes class)
+body_made classes acls (part.AnyOf terms) = terms_made acls terms >>= λ made. Ok (body.AnyOf made)
+body_made classes acls (part.AllOf lines) = each_made (terms_made acls) [] lines >>= λ made. Ok (body.AllOf made)
+
+-- one acl more, where it doesn't nest too deep
+abbrev pub with_acl : List Acl → List ℕ → Body → Result (List Acl) BuildFault
+with_acl acls name b =
+    if nat_le (nesting_of (nestings acls) b) nesting_limit then Ok (acls ++ (record { name = name; body = b }) ∷ []) else Err (fault.TooDeep name)
+
+-- the next acl has a name of its own
+abbrev pub next_acl : List HelperClass → List Acl → AclPart → Result (List Acl) BuildFault
+next_acl classes acls a =
+    if has_name acls a.name then Err (fault.Duplicate a.name) else (body_made classes acls a.body >>= with_acl acls a.name)
+
+-- some acls, behind those before them
+abbrev pub acls_made : List HelperClass → List Acl → List AclPart → Result (List Acl) BuildFault
+acls_made classes acls [] = Ok acls
+acls_made classes acls (a ∷ parts) = next_acl classes acls a >>= λ more. acls_made classes more parts
+
+-- the next class has a name of its own
+abbrev pub next_class : List HelperClass → HelperClass → Result (List HelperClass) BuildFault
+next_class classes c = if has_class classes c.name then Err (fault.Duplicate c.name) else Ok (classes ++ c ∷ [])
+
+-- some classes, behind those before them
+abbrev pub classes_made : List HelperClass → List HelperClass → Result (List HelperClass) BuildFault
+classes_made classes [] = Ok classes
+classes_made classes (c ∷ parts) = next_class classes c >>= λ more. classes_made more parts
+
+abbrev pub rule_made : List Acl → RulePart → Result Rule BuildFault
+rule_made acls r = terms_made acls r.terms >>= λ made. Ok (record { allow = r.allow; terms = made })
+
+-- the term of a pool's rule names no slow acl
+abbrev pub unless_slow : List Acl → TermPart → Term → Result Term BuildFault
+unless_slow acls t made = if slice_index_or (slow_ones acls) made.acl false then Err (fault.SlowInFastList t.acl) else Ok made
+
+abbrev pub fast_term_made : List Acl → TermPart → Result Term BuildFault
+fast_term_made acls t = term_made acls t >>= unless_slow acls t
+
+abbrev pub fast_rule_made : List Acl → RulePart → Result Rule BuildFault
+fast_rule_made acls r = each_made (fast_term_made acls) [] r.terms >>= λ made. Ok (record { allow = r.allow; terms = made })
+
+-- the pool at a place has its class and limits, and fast rules
+abbrev pub pool_made : List Acl → ℕ → PoolPart → Result Pool BuildFault
+pool_made acls place p =
+    if has_buckets p.class (length p.pairs)
+    then (each_made (fast_rule_made acls) [] p.lists >>= λ made. Ok (record { class = p.class; pairs = p.pairs; lists = made }))
+    else Err (fault.PoolIncomplete place)
+
+-- some pools, behind those before them
+abbrev pub pools_made : List Acl → List Pool → List PoolPart → Result (List Pool) BuildFault
+pools_made acls pools [] = Ok pools
+pools_made acls pools (p ∷ parts) = pool_made acls (length pools) p >>= λ made. pools_made acls (pools ++ made ∷ []) parts
+
+-- the configuration that the parts state, or their first fault
+unfoldable pub built : Parts → Result Configuration BuildFault
+built p = do
+  classes ← classes_made [] p.classes
+  acls ← acls_made classes [] p.acls
+  rules ← each_made (rule_made acls) [] p.rules
+  pools ← pools_made acls [] p.pools
+  Ok (record { source = p.source; classes = classes; acls = acls; rules = rules; pools = pools; initial = p.initial; port = p.port; notices = p.notices })
+
+-- the numbers and lengths of the parts lie within their limits
+pub record AreWithin (p : Parts) : Type 0 where
+  pub short : length p.source ≤ text_limit
+  pub few_classes : length p.classes ≤ class_limit
+  pub few_acls : length p.acls ≤ acl_limit
+  pub few_rules : length p.rules ≤ rule_limit
+  pub few_pools : length p.pools ≤ pool_limit
+  pub initial_is : p.initial ≤ initial_limit

@@ -1,0 +1,134 @@
+//! From names to places: the parts of a configuration over the tables of its classes and acls.
+ghost use Rattle.std.specs.Prelude.{◌≡◌, ◌≤◌, ◌∷◌, [], true, false, length, IfOk};
+ghost use Rattle.std.specs.List.{list_all};
+ghost use Rattle.sq_rules.specs.Building.{acls_made, body_made, classes_made, each_made, rule_made, term_made, terms_made, IsMade};
+ghost use Rattle.sq_rules.specs.Configurations.{are_known, are_known_bodies, is_known_body, is_known_rule};
+ghost use Rattle.sq_rules.specs.Limits.{acl_limit, class_limit};
+
+use crate::acl_table::AclTable;
+use crate::class_table::ClassTable;
+use crate::classes::Classes;
+use crate::configs::{Body, Lines, Rule, Rules, Term, Terms};
+use crate::parts::{
+    AclParts, BodyPart, BuildFault, LineParts, RulePart, RuleParts, TermPart, TermParts,
+};
+use sq_base::Listed;
+use std::alloc::Global;
+
+fn term_of(acls: &AclTable, part: TermPart) -> Result<Term, BuildFault>
+    ensures made { IsMade result (term_made acls.now part) }
+    ensures known { IfOk result (λ t. are_known (length acls.now) (t ∷ []) ≡ true) }
+{
+    match acls.place(&part.acl) {
+        None => Err(BuildFault::UndefinedAcl(part.acl)),
+        Some(acl) => Ok(Term {
+            acl,
+            negated: part.negated,
+        }),
+    }
+}
+
+fn terms_of(alloc: Global, acls: &AclTable, parts: TermParts) -> Result<Terms, BuildFault>
+    ensures made { IsMade result (terms_made acls.now parts) }
+    ensures known { IfOk result (λ terms. are_known (length acls.now) terms ≡ true) }
+{
+    let mut terms = Listed::new(alloc);
+    for part in parts.into_vec() {
+        let term = term_of(acls, part)?;
+        terms.push(term)?;
+    }
+    Ok(terms)
+}
+
+fn lines_of(alloc: Global, acls: &AclTable, parts: LineParts) -> Result<Lines, BuildFault>
+    ensures made { IsMade result (each_made (terms_made acls.now) [] parts) }
+    ensures known { IfOk result (λ lines. list_all (are_known (length acls.now)) lines ≡ true) }
+{
+    let mut lines = Listed::new(alloc);
+    for part in parts.into_vec() {
+        let terms = terms_of(alloc, acls, part)?;
+        lines.push(terms)?;
+    }
+    Ok(lines)
+}
+
+fn body_of(
+    alloc: Global,
+    classes: &ClassTable,
+    acls: &AclTable,
+    part: BodyPart,
+) -> Result<Body, BuildFault>
+    ensures made { IsMade result (body_made classes.now acls.now part) }
+    ensures known { IfOk result (λ b. is_known_body (length classes.now) (length acls.now) b ≡ true) }
+{
+    match part {
+        BodyPart::Leaf(leaf) => Ok(Body::Leaf(leaf)),
+        BodyPart::External { class, arguments } => match classes.place(&class) {
+            None => Err(BuildFault::UndefinedClass(class)),
+            Some(class) => Ok(Body::External { class, arguments }),
+        },
+        BodyPart::AnyOf(terms) => Ok(Body::AnyOf(terms_of(alloc, acls, terms)?)),
+        BodyPart::AllOf(lines) => Ok(Body::AllOf(lines_of(alloc, acls, lines)?)),
+    }
+}
+
+/// The classes, each with a name of its own.
+#[tactic(auto, using(crate::proofs::NameLaws::place_tells))]
+pub fn classes_of(alloc: Global, parts: Classes) -> Result<ClassTable, BuildFault>
+    requires { length parts ≤ class_limit }
+    ensures made { IsMade result (classes_made [] parts) }
+    ensures count { IfOk result (λ t. length t ≡ length parts) }
+{
+    let mut classes = ClassTable::new(alloc);
+    for part in parts.into_vec() {
+        if classes.place(&part.name).is_some() {
+            return Err(BuildFault::Duplicate(part.name));
+        }
+        classes = classes.with(alloc, part)?;
+    }
+    Ok(classes)
+}
+
+/// The acls over these classes, each over those before it.
+#[tactic(auto, using(crate::proofs::NameLaws::place_tells))]
+pub fn acls_of(alloc: Global, classes: &ClassTable, parts: AclParts) -> Result<AclTable, BuildFault>
+    requires { length parts ≤ acl_limit }
+    ensures made { IsMade result (acls_made classes.now [] parts) }
+    ensures count { IfOk result (λ t. length t ≡ length parts) }
+    ensures known { IfOk result (λ acls. are_known_bodies (length classes.now) 0 acls ≡ true) }
+{
+    let mut acls = AclTable::new(alloc);
+    for part in parts.into_vec() {
+        if acls.place(&part.name).is_some() {
+            return Err(BuildFault::Duplicate(part.name));
+        }
+        let body = body_of(alloc, classes, &acls, part.body)?;
+        acls = acls.with(alloc, part.name, body)?;
+    }
+    Ok(acls)
+}
+
+fn rule_of(alloc: Global, acls: &AclTable, part: RulePart) -> Result<Rule, BuildFault>
+    ensures made { IsMade result (rule_made acls.now part) }
+    ensures known { IfOk result (λ r. is_known_rule (length acls.now) r ≡ true) }
+{
+    let terms = terms_of(alloc, acls, part.terms)?;
+    Ok(Rule {
+        allow: part.allow,
+        terms,
+    })
+}
+
+/// The rules over these acls.
+pub fn rules_of(alloc: Global, acls: &AclTable, parts: RuleParts) -> Result<Rules, BuildFault>
+    ensures made { IsMade result (each_made (rule_made acls.now) [] parts) }
+    ensures count { IfOk result (λ rules. length rules ≡ length parts) }
+    ensures known { IfOk result (λ rules. list_all (is_known_rule (length acls.now)) rules ≡ true) }
+{
+    let mut rules = Listed::new(alloc);
+    for part in parts.into_vec() {
+        let rule = rule_of(alloc, acls, part)?;
+        rules.push(rule)?;
+    }
+    Ok(rules)
+}

@@ -1,0 +1,75 @@
+//! The classes of a configuration under way.
+ghost use Rattle.std.specs.Prelude.{◌≡◌, ◌∷◌, ◌++◌, ◌<◌, [], true, length, None, IfOk, IfSome};
+ghost use Rattle.sq_rules.specs.Building.{class_place};
+ghost use Rattle.sq_rules.specs.Configurations.{are_distinct};
+ghost use Rattle.sq_rules.specs.Limits.{class_limit};
+
+use crate::classes::{Class, Classes};
+use crate::names::Names;
+use sq_base::{Copying, Listed, Text, WantOfMemory};
+use std::alloc::Global;
+use std::marker::Model;
+
+/// Classes with names of their own, and their places by name. A contract sees the classes.
+#[derive(Drop)]
+pub struct ClassTable {
+    classes: Classes,
+    places: Names,
+}
+
+impl Model for ClassTable {
+    ghost use Rattle.std.specs.Prelude.{◌≡◌, List, true};
+    ghost use Rattle.sq_rules.specs.Classes.{HelperClass};
+    ghost use Rattle.sq_rules.specs.Configurations.{are_distinct};
+    ghost use Rattle.sq_rules.specs.Names.{KnowsPlaces};
+
+    ghost Value = { List HelperClass };
+
+    ghost view = { λ t. t.classes };
+
+    ghost invariant = { λ t. KnowsPlaces (λ c. c.name) t.places t.classes × (are_distinct t.classes ≡ true) };
+}
+
+impl ClassTable {
+    /// No class yet.
+    pub fn new(alloc: Global) -> ClassTable
+        ensures { result ≡ [] }
+    {
+        ClassTable {
+            classes: Listed::new(alloc),
+            places: Names::new(alloc),
+        }
+    }
+
+    /// The place of the class with this name.
+    pub fn place(&self, name: &Text) -> Option<u32>
+        ensures value { result ≡ class_place self.now name.now }
+        ensures within { IfSome result (λ place. place < length self.now) }
+    {
+        self.places.place(name)
+    }
+
+    /// The table with one class more.
+    pub fn with(self, alloc: Global, class: Class) -> Result<ClassTable, WantOfMemory>
+        requires few { length self < class_limit }
+        requires free { class_place self class.name ≡ None }
+        ensures { IfOk result (λ t. t ≡ self ++ class ∷ []) }
+    {
+        let ClassTable {
+            mut classes,
+            mut places,
+        } = self;
+        let name = class.name.copy(alloc)?;
+        places.put(name, classes.len() as u32)?;
+        classes.push(class)?;
+        Ok(ClassTable { classes, places })
+    }
+
+    /// The classes alone.
+    pub fn into_classes(self) -> Classes
+        ensures classes { result ≡ self }
+        ensures distinct { are_distinct result ≡ true }
+    {
+        self.classes
+    }
+}

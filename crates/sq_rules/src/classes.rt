@@ -1,0 +1,73 @@
+//! Classes of helpers, as `external_acl_type` states them.
+use sq_base::{Listed, Text, Texts};
+use std::marker::Model;
+
+/// A part of a key's format: what stands in its place.
+#[derive(Drop, Debug, PartialEq, Eq)]
+pub enum Token {
+    /// `%>a`, `%SRC`: the client's address.
+    ClientAddr,
+    /// `%>p`, `%SRCPORT`: the client's port.
+    ClientPort,
+    /// `%>rm`, `%METHOD`: the method.
+    Method,
+    /// `%>ru`, `%URI`: the target as it was sent.
+    Uri,
+    /// `%>rs`, `%PROTO`: the scheme.
+    Scheme,
+    /// `%>rd`, `%DST`: the host in lower case.
+    Host,
+    /// `%>rP`, `%PORT`: the destination port.
+    Port,
+    /// `%>rp`, `%PATH`: the path with its query.
+    Path,
+    /// `%>{Name}`: the values of the fields of this name.
+    Header(Text),
+    /// `%ACL`: the acl's name.
+    AclName,
+    /// `%DATA`: the acl's arguments.
+    Arguments,
+    /// `%%`: the byte `%`.
+    Percent,
+}
+
+/// A list of tokens.
+pub type Tokens = Listed<Token>;
+
+/// A class of helpers: its name, its options, the format of its keys, and the words of its program.
+#[derive(Drop, Debug)]
+pub struct Class {
+    pub name: Text,
+    /// Seconds for which an OK is fresh.
+    pub ttl: u32,
+    /// Seconds for which an ERR is fresh.
+    pub negative_ttl: u32,
+    /// Percentage remaining of the ttl in which a refresh begins without waiting.
+    pub grace: u32,
+    /// Greatest number of kept verdicts; 0 keeps none.
+    pub cache: u32,
+    /// Greatest number of processes.
+    pub children_max: u32,
+    /// Processes that are started when the epoch begins, at most `children_max`.
+    pub startup: u32,
+    /// Channels of a process; 0 means no channel numbers, and one question at a time.
+    pub concurrency: u32,
+    /// Questions that may wait beside those for which a process has room.
+    pub queue_size: u32,
+    pub format: Tokens,
+    /// The helper and its arguments.
+    pub words: Texts,
+}
+
+impl Model for Class {
+    ghost use Rattle.sq_rules.specs.Classes.{HelperClass, IsClass};
+
+    ghost Value = { HelperClass };
+
+    ghost view = { λ c. record { name = c.name; ttl = c.ttl; negative_ttl = c.negative_ttl; grace = c.grace; cache = c.cache; children_max = c.children_max; startup = c.startup; concurrency = c.concurrency; queue_size = c.queue_size; format = c.format; words = c.words } };
+
+    ghost invariant = { λ c. IsClass (record { name = c.name; ttl = c.ttl; negative_ttl = c.negative_ttl; grace = c.grace; cache = c.cache; children_max = c.children_max; startup = c.startup; concurrency = c.concurrency; queue_size = c.queue_size; format = c.format; words = c.words }) };
+}
+
+/// A list of classes.
+pub type Classes = Listed<Class>;

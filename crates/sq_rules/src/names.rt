@@ -1,0 +1,51 @@
+//! Places by name.
+ghost use Rattle.std.specs.Prelude.{◌≡◌, [], cond, ℕ, List, Some, bytes_eq, OnOk};
+ghost use Rattle.sq_rules.specs.Names.{place_at};
+
+use sq_base::{Text, WantOfMemory};
+use std::alloc::Global;
+use std::collections::BTreeMap;
+use std::marker::Model;
+
+/// The places of names. A contract sees each name with its place.
+#[derive(Drop)]
+pub struct Names {
+    places: BTreeMap<Text, u32>,
+}
+
+impl Model for Names {
+    ghost use Rattle.std.specs.Prelude.{List, ℕ};
+
+    ghost Value = { List (List ℕ × ℕ) };
+
+    ghost view = { λ n. n.places.entries };
+}
+
+impl Names {
+    /// No names yet.
+    pub fn new(alloc: Global) -> Names
+        ensures { result ≡ [] }
+    {
+        Names {
+            places: BTreeMap::new(alloc),
+        }
+    }
+
+    /// The place of a name.
+    pub fn place(&self, name: &Text) -> Option<u32>
+        ensures { result ≡ place_at self.now name.now }
+    {
+        self.places.get(name).copied()
+    }
+
+    /// Puts the place of a name.
+    pub fn put(&mut self, name: Text, place: u32) -> Result<(), WantOfMemory>
+        ensures { OnOk result ((q : List ℕ) → place_at self.new q ≡ cond (bytes_eq name q) (Some place) (place_at self.old q)) }
+    {
+        match self.places.insert(name, place) {
+            Ok(_) => {}
+            Err(_) => return Err(WantOfMemory),
+        }
+        Ok(())
+    }
+}

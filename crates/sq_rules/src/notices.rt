@@ -1,0 +1,12 @@
+//! Lines of a configuration that are read without effect.
+use sq_base::{Listed, Text};
+
+/// A line, from 1, and its directive, which has no effect here or only in part.
+#[derive(Drop, Debug, PartialEq, Eq)]
+pub struct Notice {
+    pub line: u32,
+    pub directive: Text,
+}
+
+/// A list of notices.
+pub type Notices = Listed<Notice>;

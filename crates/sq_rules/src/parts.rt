@@ -1,0 +1,102 @@
+//! What a configuration is built from: acls and classes are named by their names.
+use crate::classes::Classes;
+use crate::leaves::Leaf;
+use crate::notices::Notices;
+use crate::pools::Limits;
+use sq_base::{Listed, Text, Texts, WantOfMemory};
+
+/// A term: the name of an acl, and whether `!` stands before it.
+#[derive(Drop, Debug)]
+pub struct TermPart {
+    pub acl: Text,
+    pub negated: bool,
+}
+
+/// A list of terms.
+pub type TermParts = Listed<TermPart>;
+
+/// The lines of `all-of`, each with its terms.
+pub type LineParts = Listed<TermParts>;
+
+/// What an acl is, where names stand for acls and classes.
+#[derive(Drop, Debug)]
+pub enum BodyPart {
+    Leaf(Leaf),
+    External { class: Text, arguments: Texts },
+    AnyOf(TermParts),
+    AllOf(LineParts),
+}
+
+/// An acl.
+#[derive(Drop, Debug)]
+pub struct AclPart {
+    pub name: Text,
+    pub body: BodyPart,
+}
+
+/// A list of acls.
+pub type AclParts = Listed<AclPart>;
+
+/// A rule.
+#[derive(Drop, Debug)]
+pub struct RulePart {
+    pub allow: bool,
+    pub terms: TermParts,
+}
+
+/// A list of rules.
+pub type RuleParts = Listed<RulePart>;
+
+/// A delay pool.
+#[derive(Drop, Debug)]
+pub struct PoolPart {
+    pub class: u8,
+    pub pairs: Limits,
+    pub lists: RuleParts,
+}
+
+/// A list of pools.
+pub type PoolParts = Listed<PoolPart>;
+
+/// The parts of a configuration, in the order in which they are looked through for a fault.
+#[derive(Drop, Debug)]
+pub struct Parts {
+    pub source: Text,
+    pub classes: Classes,
+    pub acls: AclParts,
+    pub rules: RuleParts,
+    pub pools: PoolParts,
+    pub initial: u8,
+    pub port: u16,
+    pub notices: Notices,
+}
+
+/// Why parts are no configuration.
+#[derive(Drop, Debug, PartialEq, Eq)]
+pub enum BuildFault {
+    /// An earlier class or an earlier acl has this name.
+    Duplicate(Text),
+    /// No acl, or for a group no earlier acl, has this name.
+    UndefinedAcl(Text),
+    /// No class has this name.
+    UndefinedClass(Text),
+    /// This acl, which a rule of a pool names, asks a helper or reaches one that does.
+    SlowInFastList(Text),
+    /// The acl of this name nests more than 32 deep.
+    TooDeep(Text),
+    /// The pool at this place, from 0, has no class from 1 to 3 or another number of limits.
+    PoolIncomplete(u32),
+    /// There was no memory.
+    WantOfMemory,
+}
+
+impl From<WantOfMemory> for BuildFault {
+    ghost use Rattle.std.specs.Prelude.{◌≡◌};
+    ghost use Rattle.sq_rules.specs.declared.parts.BuildFault.TheVariants as fault;
+
+    ghost from_gives = { λ _ e. e ≡ fault.WantOfMemory };
+
+    fn from(_error: WantOfMemory) -> BuildFault {
+        BuildFault::WantOfMemory
+    }
+}

@@ -1,0 +1,38 @@
+//! Delay pools, as the directives `delay_class`, `delay_access` and `delay_parameters` state them.
+use crate::configs::Rules;
+use sq_base::Listed;
+use std::marker::Model;
+
+/// What a bucket gains in a second, and what it holds at the most, in bytes.
+#[derive(Clone, Copy, Debug, PartialEq, Eq)]
+pub struct Limit {
+    pub restore: u64,
+    pub max: u64,
+}
+
+impl Model for Limit {
+    ghost use Rattle.sq_rules.specs.Rates.{Rate, IsRate};
+
+    ghost Value = { Rate };
+
+    ghost view = { λ l. record { restore = l.restore; max = l.max } };
+
+    ghost invariant = { λ l. IsRate (record { restore = l.restore; max = l.max }) };
+
+    ghost inverse = { λ r. record { restore = r.restore; max = r.max } };
+}
+
+/// The limits of a pool's buckets, in the order of `delay_parameters`; None is no limit.
+pub type Limits = Listed<Option<Limit>>;
+
+/// A delay pool: its class from 1 to 3, a limit for each of that class's buckets, and the rules that
+/// say whom it delays.
+#[derive(Drop, Debug)]
+pub struct Pool {
+    pub class: u8,
+    pub pairs: Limits,
+    pub lists: Rules,
+}
+
+/// A list of pools.
+pub type Pools = Listed<Pool>;

@@ -1,0 +1,4 @@
+pub mod ManyLaws
+pub mod PlaceLaws
+pub mod ReadLaws
+pub mod ThreadLaws

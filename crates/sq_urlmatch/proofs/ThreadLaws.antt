@@ -1,0 +1,116 @@
+-- That a program crosses threads, and with it patterns and a setup, from their parts.
+use denote.Param.Send.{IsSend, IsSync, sendable, view_send, view_sync}
+use denote.Param.SendFields.{FieldsHave, declared_send, declared_sync}
+use Rattle.std.proofs.Crossing.{crosses, Vec-send, Vec-sync}
+use Rattle.sq_rules.proofs.ThreadLaws.{config_send, config_sync}
+use Rattle.regex_hir.specs.contracts.hir.Hir as hir
+use Rattle.regex_hir.proofs.hir.Hir.TheLaws.TheKnot as knot
+use Rattle.regex_dfa.specs.contracts.dfa.Dfa as dfa
+use Rattle.regex_literal.specs.contracts.byte_set.ByteSet as byte_set
+use Rattle.regex_literal.specs.contracts.prefilter.Prefilter as prefilter
+use Rattle.regex_literal.specs.contracts.caseless.Caseless as caseless
+use Rattle.regex_extract.specs.contracts.frames.Frame as frame
+use Rattle.regex_meta.specs.contracts.plan.Plan as plan
+use Rattle.regex_meta.specs.contracts.plan.Plans as plans
+use Rattle.regex_meta.specs.contracts.signs.Signs as signs
+use Rattle.regex_meta.specs.contracts.program.Program as program
+use Rattle.sq_urlmatch.specs.contracts.patterns.Patterns as patterns
+use Rattle.sq_urlmatch.specs.contracts.patterns.Patterns.TheInside as patterns_inside
+use Rattle.sq_urlmatch.specs.contracts.setup.Setup as setup
+use Rattle.sq_urlmatch.specs.contracts.setup.Setup.TheInside as setup_inside
+
+pub hir_send : IsSend hir.the_row
+hir_send = search (sendable, crosses, knot.crosses) depth 40 fits 20000
+
+pub dfa_send : IsSend dfa.the_row
+dfa_send = search (sendable, crosses) depth 40 fits 20000
+
+pub byte_set_send : IsSend byte_set.the_row
+byte_set_send = search (sendable, crosses) depth 40 fits 20000
+
+pub prefilter_send : IsSend prefilter.the_row
+prefilter_send = search (sendable, crosses) depth 40 fits 20000
+
+pub caseless_send : IsSend caseless.the_row
+caseless_send = search (sendable, crosses) depth 40 fits 20000
+
+pub frame_send : IsSend frame.the_row
+frame_send = search (sendable, crosses) depth 40 fits 20000
+
+pub plan_send : IsSend plan.the_row
+plan_send = search (sendable, crosses, prefilter_send, frame_send, hir_send) depth 40 fits 20000
+
+pub plans_send : IsSend plans.the_row
+plans_send = search (sendable, crosses, plan_send) depth 40 fits 20000
+
+pub signs_send : IsSend signs.the_row
+signs_send = search (sendable, crosses, caseless_send, hir_send) depth 40 fits 20000
+
+pub program_send : IsSend program.the_row
+program_send =
+    let parts : FieldsHave IsSend (program.the_type).parts = (search (sendable, crosses, hir_send) depth 40 fits 20000, (search (sendable, crosses, dfa_send) depth 40 fits 20000, (search (sendable, crosses, plans_send) depth 40 fits 20000, (search (sendable, crosses, signs_send) depth 40 fits 20000, (search (sendable, crosses, byte_set_send) depth 40 fits 20000, (search (sendable, crosses) depth 40 fits 20000, (search (sendable, crosses) depth 40 fits 20000, (search (sendable, crosses) depth 40 fits 20000, tt)))))))) in
+    declared_send program.the_type parts
+
+pub hir_sync : IsSync hir.the_row
+hir_sync = search (sendable, crosses, knot.crosses) depth 40 fits 20000
+
+pub dfa_sync : IsSync dfa.the_row
+dfa_sync = search (sendable, crosses) depth 40 fits 20000
+
+pub byte_set_sync : IsSync byte_set.the_row
+byte_set_sync = search (sendable, crosses) depth 40 fits 20000
+
+pub prefilter_sync : IsSync prefilter.the_row
+prefilter_sync = search (sendable, crosses) depth 40 fits 20000
+
+pub caseless_sync : IsSync caseless.the_row
+caseless_sync = search (sendable, crosses) depth 40 fits 20000
+
+pub frame_sync : IsSync frame.the_row
+frame_sync = search (sendable, crosses) depth 40 fits 20000
+
+pub plan_sync : IsSync plan.the_row
+plan_sync = search (sendable, crosses, prefilter_sync, frame_sync, hir_sync) depth 40 fits 20000
+
+pub plans_sync : IsSync plans.the_row
+plans_sync = search (sendable, crosses, plan_sync) depth 40 fits 20000
+
+pub signs_sync : IsSync signs.the_row
+signs_sync = search (sendable, crosses, caseless_sync, hir_sync) depth 40 fits 20000
+
+pub program_sync : IsSync program.the_row
+program_sync =
+    let parts : FieldsHave IsSync (program.the_type).parts = (search (sendable, crosses, hir_sync) depth 40 fits 20000, (search (sendable, crosses, dfa_sync) depth 40 fits 20000, (search (sendable, crosses, plans_sync) depth 40 fits 20000, (search (sendable, crosses, signs_sync) depth 40 fits 20000, (search (sendable, crosses, byte_set_sync) depth 40 fits 20000, (search (sendable, crosses) depth 40 fits 20000, (search (sendable, crosses) depth 40 fits 20000, (search (sendable, crosses) depth 40 fits 20000, tt)))))))) in
+    declared_sync program.the_type parts
+
+patterns_inside_send : IsSend patterns_inside.the_row
+patterns_inside_send =
+    let parts : FieldsHave IsSend (patterns_inside.the_type).parts = (search (sendable, Vec-send, program_send), tt) in
+    declared_send patterns_inside.the_type parts
+
+pub patterns_send : IsSend patterns.the_row
+patterns_send = view_send _ _ _ _ _ patterns_inside_send
+
+setup_inside_send : IsSend setup_inside.the_row
+setup_inside_send =
+    let parts : FieldsHave IsSend (setup_inside.the_type).parts = (search (sendable, crosses, config_send, config_sync) depth 40 fits 20000, (search (sendable, patterns_send), tt)) in
+    declared_send setup_inside.the_type parts
+
+pub setup_send : IsSend setup.the_row
+setup_send = view_send _ _ _ _ _ setup_inside_send
+
+patterns_inside_sync : IsSync patterns_inside.the_row
+patterns_inside_sync =
+    let parts : FieldsHave IsSync (patterns_inside.the_type).parts = (search (sendable, Vec-sync, program_sync), tt) in
+    declared_sync patterns_inside.the_type parts
+
+pub patterns_sync : IsSync patterns.the_row
+patterns_sync = view_sync _ _ _ _ _ patterns_inside_sync
+
+setup_inside_sync : IsSync setup_inside.the_row
+setup_inside_sync =
+    let parts : FieldsHave IsSync (setup_inside.the_type).parts = (search (sendable, crosses, config_send, config_sync) depth 40 fits 20000, (search (sendable, patterns_sync), tt)) in
+    declared_sync setup_inside.the_type parts
+
+pub setup_sync : IsSync setup.the_row
+setup_sync = view_sync _ _ _ _ _ setup_inside_sync

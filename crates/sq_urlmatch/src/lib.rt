@@ -1,0 +1,16 @@
+//! The patterns of `url_regex` acls: read and compiled once for a configuration, and kept with it.
+//!
+//! `Setup::make` takes a configuration and answers it with its compiled patterns, or names the first
+//! pattern that the grammar does not read. `Setup::is_match` and `Patterns::is_match` say whether some
+//! pattern of an acl is found in a text. A pattern means what the crate regex reads in it. Nothing is
+//! compiled again for a match, and a match takes memory for a searcher, and none for each byte.
+#![tactic(auto)]
+
+mod crossing;
+mod patterns;
+mod programs;
+mod setup;
+mod trees;
+
+pub use patterns::Patterns;
+pub use setup::{Setup, SetupFault};
