@@ -162,7 +162,7 @@ fn a_configuration_gives_its_parts_back(rt: HostRuntime) -> Result<(), Fail> {
     })?;
     let mut rules = Listed::new(alloc);
     rules.push(Rule { allow: true, terms })?;
-    let config = Config::new(source, acls, rules);
+    let config = Config::new(alloc, source, acls, rules);
     assert!(rt; config.source().as_bytes().starts_with(b"acl web port"));
     assert!(rt; matches!(config.acls(), [acl] if acl.name.as_bytes() == b"web".as_slice()));
     assert!(rt; matches!(config.rules(), [rule] if rule.allow && rule.terms.len() == 1));
