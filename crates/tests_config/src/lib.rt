@@ -8,15 +8,11 @@
 #[cfg(test)]
 mod addresses;
 #[cfg(test)]
-mod configurations;
-#[cfg(test)]
 mod fixtures;
 #[cfg(test)]
 mod keepers;
 #[cfg(test)]
 mod lines;
-#[cfg(test)]
-mod patterns;
 #[cfg(test)]
 mod plain;
 #[cfg(test)]
