@@ -1,0 +1,8 @@
+//! Requests, read from their heads and made of their parts.
+//!
+//! `head_end` tells where the head at the front of some bytes ends.
+#![tactic(auto)]
+
+mod ending;
+
+pub use ending::head_end;
