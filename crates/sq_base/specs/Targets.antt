@@ -1,6 +1,6 @@
 -- Request targets: RFC 9112 section 3.2 (absolute-form and authority-form) over RFC 3986 section 3,
 -- without user information and fragments.
-use Rattle.std.specs.Prelude.{ℕ, List, [], ◌∷◌, length, Bool, false, not, if◌then◌else◌, ◌&&◌, ◌||◌, ◌==◌, nat_lt, nat_le, nat_eq, Some, None, drop, codes, bytes_eq}
+use Rattle.std.specs.Prelude.{ℕ, ◌+◌, List, [], ◌∷◌, length, Bool, false, not, if◌then◌else◌, ◌&&◌, ◌||◌, ◌==◌, nat_lt, nat_le, nat_eq, Some, None, take, drop, position, codes, bytes_eq}
 use Rattle.std.specs.List.{list_all, take_while, before_first, after_first, prefix_len, starts_with}
 use Rattle.std.specs.Char.{is_ascii_alphabetic, is_ascii_alphanumeric, is_ascii_digit, is_ascii_graphic}
 use Rattle.std.specs.Str.{str_to_ascii_lowercase}
@@ -62,11 +62,16 @@ named (b ∷ bs) rest =
     if list_all is_host_byte (b ∷ bs)
     then Some (record { name = str_to_ascii_lowercase (b ∷ bs); literal = option_map v4 (v4_of (b ∷ bs)); rest = rest }) else None
 
+-- a literal IPv6 address behind `[`, by the place of the `]`
+abbrev pub in_brackets : List ℕ → Option ℕ → Option Host
+in_brackets inside None = None
+in_brackets inside (Some n) = bracketed (take n inside) (drop (n + 1) inside) (v6_of (take n inside))
+
 -- the host at the front of an authority
 unfoldable pub host_in : List ℕ → Option Host
 host_in [] = None
 host_in (b ∷ bs) =
-    if b == 91 then bracketed (before_first is_bracket bs) (after_first is_bracket bs) (v6_of (before_first is_bracket bs))
+    if b == 91 then in_brackets bs (position is_bracket bs)
     else named (take_while before_port (b ∷ bs)) (drop (prefix_len before_port (b ∷ bs)) (b ∷ bs))
 
 -- the number of one to five digits, at most 65535

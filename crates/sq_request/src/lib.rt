@@ -4,5 +4,8 @@
 #![tactic(auto)]
 
 mod ending;
+mod hosts;
+mod ports;
+mod targets;
 
 pub use ending::head_end;
