@@ -1,3 +1,5 @@
 pub mod EndLaws
+pub mod FieldLaws
+pub mod HeadLaws
 pub mod PortLaws
 pub mod TargetLaws
