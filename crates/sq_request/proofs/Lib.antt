@@ -3,3 +3,4 @@ pub mod FieldLaws
 pub mod HeadLaws
 pub mod PortLaws
 pub mod TargetLaws
+pub mod WrittenLaws

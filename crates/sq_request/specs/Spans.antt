@@ -33,3 +33,9 @@ CoversHead head headers s = (h : RequestHead) × Covers head headers s h
 -- each head that the bytes are has more fields than this
 abbrev pub HasMoreThan : ℕ → List ℕ → Type 0
 HasMoreThan room head = (h : RequestHead) → IsWhole head h → room < length h.fields
+
+-- the spans cover these parts of a head's first line
+pub record CoversLine (head : List ℕ) (s : RequestSpans) (m t : List ℕ) (n : ℕ) : Type 0 where
+  pub method : span_bytes head s.method ≡ m
+  pub target : span_bytes head s.path ≡ t
+  pub minor : s.version ≡ n

@@ -2,10 +2,10 @@
 ghost use Rattle.std.specs.Prelude.{◌≡◌, ◌↔◌, ◌≤◌, ◌++◌, length, map, take, All, Some, IsTrue, IfOk, IfErr, OnOk};
 ghost use Rattle.std.specs.List.{flat_map};
 ghost use Rattle.http_header.specs.Token.{IsToken};
-ghost use Rattle.httparse.specs.Spans.{header_bytes, IsHeaderWithin};
+ghost use Rattle.httparse.specs.Spans.{header_bytes, IsWithin, IsHeaderWithin};
 ghost use Rattle.sq_request.specs.Heads.{IsWritten, HasRequest, request_with, head_text, field_line};
 ghost use Rattle.sq_request.specs.Refusals.{RefusesParts};
-ghost use Rattle.sq_request.specs.Spans.{pair_of};
+ghost use Rattle.sq_request.specs.Spans.{pair_of, CoversLine};
 
 use crate::building::build;
 use crate::faults::BadRequest;
@@ -13,7 +13,7 @@ use crate::reading::MOST_FIELDS;
 use crate::spanning::parse_whole;
 use http::Method;
 use http::method::MethodError;
-use httparse::spans::{EMPTY_HEADER_SPAN, HeaderSpan};
+use httparse::spans::{EMPTY_HEADER_SPAN, HeaderSpan, RequestSpans};
 use sq_base::{Field, Fields, Request, Text, WantOfMemory};
 use std::alloc::Global;
 
@@ -65,10 +65,19 @@ fn is_written(
     let Some(spans) = parse_whole(head, room) else {
         return Ok(false);
     };
-    Ok(spans.method.of(head) == method
-        && spans.path.of(head) == target
-        && spans.version == minor
-        && are_covered(head, &room[..spans.headers], fields))
+    if !has_line(head, spans, method, target, minor) {
+        return Ok(false);
+    }
+    Ok(are_covered(head, &room[..spans.headers], fields))
+}
+
+// Whether the spans cover these parts of a head's first line.
+fn has_line(head: &[u8], spans: RequestSpans, method: &[u8], target: &[u8], minor: u8) -> bool
+    requires method { IsWithin (length head.now) spans.method }
+    requires target { IsWithin (length head.now) spans.path }
+    ensures { IsTrue result ↔ CoversLine head.now spans method.now target.now minor }
+{
+    spans.method.of(head) == method && spans.path.of(head) == target && spans.version == minor
 }
 
 // Whether the bytes are a method.
@@ -91,15 +100,18 @@ fn are_covered(head: &[u8], spans: &[HeaderSpan], fields: &[Field]) -> bool
         return false;
     }
     for (i, span) in spans.iter().enumerate() {
-        let field = &fields[i];
-        if span.name.of(head) != field.name.as_bytes() {
-            return false;
-        }
-        if span.value.of(head) != field.value.as_bytes() {
+        if !is_covered(head, span, &fields[i]) {
             return false;
         }
     }
     true
+}
+
+fn is_covered(head: &[u8], span: &HeaderSpan, field: &Field) -> bool
+    requires { IsHeaderWithin (length head.now) span.now }
+    ensures { IsTrue result ↔ (header_bytes head.now span.now ≡ pair_of field.now) }
+{
+    span.name.of(head) == field.name.as_bytes() && span.value.of(head) == field.value.as_bytes()
 }
 
 // The head of these parts.
