@@ -1,5 +1,5 @@
 -- The end of a head, found line by line.
-use Rattle.std.proofs.Common.{◌≡◌, ℕ, zero, suc, ◌+◌, ◌-◌, ◌<◌, ◌≤◌, List, [], ◌∷◌, Bool, true, false, not, if◌then◌else◌, ◌&&◌, ◌||◌, length, take, drop, Some, None, Option, option_map, refl, sym, ap, ◌∙◌, arith, nat_lt, ltb-true, get_or, length-take, length-drop}
+use Rattle.std.proofs.Common.{◌≡◌, ℕ, suc, ◌+◌, ◌-◌, ◌<◌, ◌≤◌, List, [], ◌∷◌, Bool, true, false, not, if◌then◌else◌, ◌&&◌, ◌||◌, length, take, drop, Some, None, Option, option_map, refl, sym, ap, ◌∙◌, arith, nat_lt, ltb-true, get_or, length-take, length-drop}
 use Rattle.std.proofs.lemmas.Bool.Decides.{nat_tests}
 use Rattle.std.proofs.lemmas.List.{take_all}
 use Rattle.std.proofs.lemmas.Option.{cond_some}
@@ -35,8 +35,11 @@ placed : (b : Bool) (n m : ℕ) → (if nat_lt (if not b then 1 + n else 0) (suc
 placed true n m = rw (test-front m) refl
 placed false n m = rw (test-suc n m) (elim (nat_lt n m) as (λ t. (if t then Some (1 + n) else None) ≡ option_map (λ k. 1 + k) (if t then Some n else None)) [ true ↦ refl | false ↦ refl ])
 
-position-cons : {A : Type 0} (p : A → Bool) (x : A) (xs : List A) → position p (x ∷ xs) ≡ (if p x then Some 0 else option_map (λ n. 1 + n) (position p xs))
+pub position-cons : {A : Type 0} (p : A → Bool) (x : A) (xs : List A) → position p (x ∷ xs) ≡ (if p x then Some 0 else option_map (λ n. 1 + n) (position p xs))
 position-cons p x xs = placed (p x) (position_or_len p xs) (length xs)
+
+pub position-below : (p : ℕ → Bool) (xs : List ℕ) (k : ℕ) → position p xs ≡ Some k → k < length xs
+position-below p xs k h = let parts = cond_some _ _ _ h in omega (arith, parts.1, ltb-true _ _ parts.0)
 
 one_more : (n : ℕ) (l : List ℕ) (ls : List (List ℕ)) → length l + 1 + bytes_of (take n ls) ≡ bytes_of (take (1 + n) (l ∷ ls))
 one_more n l ls = let e : 1 + n ≡ suc n = omega arith in rw e (sym (sum_by-cons (λ line. length line + 1) l (take n ls)))
@@ -144,10 +147,10 @@ pub no_end : (passed : ℕ) (begun : Bool) (rest bytes : List ℕ) → LeavesEnd
 no_end passed begun rest bytes h none = sym h.ends ∙ ap (λ ls. option_map (λ n. passed + n) (ends_from begun ls)) (lines_none rest none)
 
 -- the first line of the rest
-line_first : (begun : Bool) (n : ℕ) (rest : List ℕ) → position is_lf rest ≡ Some n → n < length rest
+pub line_first : (begun : Bool) (n : ℕ) (rest : List ℕ) → position is_lf rest ≡ Some n → n < length rest
     → ends_from begun (ended_lines rest)
     ≡ (if begun && is_empty_line (take n rest) then Some (n + 1)
-       else option_map (λ m. n + 1 + m) (ends_from (begun || not (is_empty_line (take n rest))) (ended_lines (drop (n + 1) rest))))
+    else option_map (λ m. n + 1 + m) (ends_from (begun || not (is_empty_line (take n rest))) (ended_lines (drop (n + 1) rest))))
 line_first begun n rest at below =
     let count : length (take n rest) ≡ n = omega (arith, length-take n rest) in
     ap (ends_from begun) (lines_next rest n at) ∙ rw count refl

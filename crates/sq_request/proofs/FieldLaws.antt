@@ -1,10 +1,9 @@
 -- The fields of a head: how many there are, and their names.
-use Rattle.std.proofs.Common.{◌≡◌, ℕ, suc, ◌+◌, ◌<◌, ◌≤◌, List, [], ◌∷◌, ◌++◌, Bool, true, false, not, ◌&&◌, ◌||◌, ◌==◌, IsTrue, if◌then◌else◌, All, length, take, map, min, subst, ne_eqb, inl, inr, refl, sym, ap, ◌∙◌, arith, length-take}
+use Rattle.std.proofs.Common.{◌≡◌, ℕ, suc, ◌+◌, ◌≤◌, List, [], ◌∷◌, ◌++◌, true, not, ◌==◌, IsTrue, if◌then◌else◌, All, length, take, map, subst, ne_eqb, inl, inr, refl, sym, ap, ◌∙◌, arith, length-take}
 use Rattle.std.proofs.lemmas.Bool.{cases_eq}
 use Rattle.std.proofs.lemmas.List.{length-map}
-use Rattle.std.proofs.lemmas.List.Elements.{All-head, All-tail}
 use Rattle.std.proofs.lemmas.List.Sums.{sum_by-append}
-use Rattle.std.specs.List.{count_by, flat_map, list_all}
+use Rattle.std.specs.List.{count_by, flat_map}
 use Rattle.httparse.specs.Ascii.{space, colon}
 use Rattle.httparse.specs.Grammar.{LineEnd, crlf, lf, print_end, print_blank, print_version, print_field, print_section, print_request, RequestHead, is_token_byte, AllPass, IsField, IsToken}
 use Rattle.httparse.specs.Grammar as grammar
@@ -12,7 +11,7 @@ use Rattle.httparse.specs.Spans.{name_and_value}
 use Rattle.sq_base.specs.Lines.{is_lf}
 use Rattle.sq_base.specs.Requests.{has_no_colon, have_plain_names}
 use Rattle.sq_base.specs.declared.requests.Field.{Field}
-use Rattle.sq_request.specs.Heads.{IsWhole, field_of, fields_of}
+use Rattle.sq_request.specs.Heads.{IsWhole, field_of}
 use Rattle.sq_request.specs.Spans.{pair_of}
 
 count-append : (xs ys : List ℕ) → count_by is_lf (xs ++ ys) ≡ count_by is_lf xs + count_by is_lf ys

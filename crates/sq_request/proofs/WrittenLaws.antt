@@ -1,17 +1,17 @@
 -- When the head that is written of some parts reads as these parts.
-use Rattle.std.proofs.Common.{◌≡◌, ◌↔◌, ℕ, ◌+◌, ◌<◌, ◌≤◌, List, [], ◌∷◌, Bool, true, false, IsTrue, length, take, map, get_or, refl, sym, subst, ap, ◌∙◌, arith}
+use Rattle.std.proofs.Common.{◌≡◌, ◌↔◌, ℕ, ◌<◌, List, [], Bool, true, false, IsTrue, length, take, map, get_or, sym, subst, ap, ◌∙◌}
 use Rattle.std.proofs.lemmas.List.{get_or-map}
 use Rattle.http_header.specs.Token as http
-use Rattle.httparse.specs.Grammar.{RequestHead, is_token_byte, IsToken}
-use Rattle.httparse.specs.Spans.{span_bytes, header_bytes, name_and_value}
+use Rattle.httparse.specs.Grammar.{is_token_byte, IsToken}
+use Rattle.httparse.specs.Spans.{header_bytes, name_and_value}
 use Rattle.httparse.specs.declared.spans.HeaderSpan.{HeaderSpan}
 use Rattle.httparse.specs.declared.spans.RequestSpans.{RequestSpans}
 use Rattle.httparse.proofs.GrammarLemmas.{request_unique}
 use Rattle.sq_base.specs.Requests.{have_plain_names}
 use Rattle.sq_base.specs.declared.requests.Field.{Field}
 use Rattle.sq_request.proofs.FieldLaws.{plain_names, fields_from_pairs, pairs_from_fields}
-use Rattle.sq_request.specs.Heads.{IsWhole, fields_of, head_text, HasParts, IsWritten}
-use Rattle.sq_request.specs.Spans.{pair_of, Covers, CoversHead, CoversLine}
+use Rattle.sq_request.specs.Heads.{IsWhole, head_text, IsWritten}
+use Rattle.sq_request.specs.Spans.{pair_of, CoversHead, CoversLine}
 
 token_of : (bytes : List ℕ) → IsToken bytes → http.IsToken bytes
 unfolding is_token_byte http.is_token_byte
@@ -30,8 +30,7 @@ covers_parts : (head : List ℕ) (headers : List HeaderSpan) (s : RequestSpans) 
     → IsWritten m t n fs → CoversLine head s m t n × (map (header_bytes head) (take s.headers headers) ≡ map pair_of fs)
 covers_parts head headers s m t n fs at e w =
     let whole : IsWhole head w.0 = subst (λ x. IsWhole x w.0) (sym e) w.1 in
-    let same : at.0 ≡ w.0 = (request_unique head at.0 w.0 [] [] at.1.whole whole).0 in
-    (
+    let same : at.0 ≡ w.0 = (request_unique head at.0 w.0 [] [] at.1.whole whole).0 in (
       record {
         method = at.1.method ∙ ap (λ h. h.method) same ∙ w.2.method;
         target = at.1.target ∙ ap (λ h. h.target) same ∙ w.2.target;

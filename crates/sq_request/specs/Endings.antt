@@ -1,6 +1,6 @@
 -- Where the head of a message ends: RFC 9112 section 2.1, with lines that end in LF alone and empty
 -- lines in front of the head allowed, as its section 2.2 does.
-use Rattle.std.specs.Prelude.{ℕ, ◌+◌, ◌-◌, List, [], ◌∷◌, length, Bool, true, false, not, ◌==◌, take, drop, position, sum_by, Some, None}
+use Rattle.std.specs.Prelude.{◌≡◌, ℕ, ◌+◌, ◌-◌, List, [], ◌∷◌, length, Bool, true, false, ◌==◌, take, drop, position, sum_by, Some}
 use Rattle.std.specs.List.{slice_split, prefix_len}
 use Rattle.std.specs.Option.{option_map}
 use Rattle.std.specs.declared.option.Option.{Option}
@@ -31,3 +31,7 @@ head_lines lines = option_map (λ n. empty_front lines + n + 1) (position is_emp
 -- the place after the first empty line that follows a line with bytes
 unfoldable pub head_end : List ℕ → Option ℕ
 head_end bytes = option_map (λ n. bytes_of (take n (ended_lines bytes))) (head_lines (ended_lines bytes))
+
+-- the bytes end where a head at their front ends
+abbrev pub IsWholeHead : List ℕ → Type 0
+IsWholeHead bytes = head_end bytes ≡ Some (length bytes)

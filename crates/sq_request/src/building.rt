@@ -11,7 +11,13 @@ use sq_base::{Fields, Request, Text, WantOfMemory};
 use std::alloc::Global;
 
 /// The request of these parts, where the target has the form that the method takes.
-pub fn build(alloc: Global, method: &[u8], target: &[u8], minor: u8, fields: Fields) -> Result<Request, BadRequest>
+pub fn build(
+    alloc: Global,
+    method: &[u8],
+    target: &[u8],
+    minor: u8,
+    fields: Fields,
+) -> Result<Request, BadRequest>
     requires { have_plain_names fields ≡ true }
     ensures built { IfOk result (λ r. request_with method.now target.now minor fields ≡ Some r) }
     ensures refused { IfErr result (RefusesTarget method.now target.now minor fields) }

@@ -1,13 +1,14 @@
 //! Where a head ends.
-ghost use Rattle.std.specs.Prelude.{◌≡◌, ◌<◌, ◌≤◌, length, position, IfSome};
+ghost use Rattle.std.specs.Prelude.{◌≡◌, ◌<◌, ◌≤◌, length, take, position, IfSome};
 ghost use Rattle.sq_base.specs.Lines.{is_lf};
-ghost use Rattle.sq_request.specs.Endings.{is_empty_line, head_end};
+ghost use Rattle.sq_request.specs.Endings.{is_empty_line, head_end, IsWholeHead};
 
 /// The place after the first empty line that follows a line with bytes. Lines end with LF, and one CR
 /// before it is dropped. It takes no memory.
 pub fn head_end(bytes: &[u8]) -> Option<usize>
     ensures place { result ≡ head_end bytes.now }
     ensures inside { IfSome result (λ n. n ≤ length bytes.now) }
+    ensures whole { IfSome result (λ n. IsWholeHead (take n bytes.now)) }
 {
     let mut rest = bytes;
     let mut passed = 0;

@@ -3,7 +3,7 @@ ghost use Rattle.std.specs.Prelude.{◌≡◌, ◌↔◌, ◌≤◌, ◌++◌, l
 ghost use Rattle.std.specs.List.{flat_map};
 ghost use Rattle.http_header.specs.Token.{IsToken};
 ghost use Rattle.httparse.specs.Spans.{header_bytes, IsWithin, IsHeaderWithin};
-ghost use Rattle.sq_request.specs.Heads.{IsWritten, HasRequest, request_with, head_text, field_line};
+ghost use Rattle.sq_request.specs.Heads.{most_fields, IsWritten, HasRequest, request_with, head_text, field_line};
 ghost use Rattle.sq_request.specs.Refusals.{RefusesParts};
 ghost use Rattle.sq_request.specs.Spans.{pair_of, CoversLine};
 
@@ -28,7 +28,7 @@ pub fn make_request(
 ) -> Result<Request, BadRequest>
     requires { minor ≤ 1 }
     ensures written { OnOk result (IsWritten method.now target.now minor fields) }
-    ensures few { OnOk result (length fields ≤ 128) }
+    ensures few { OnOk result (length fields ≤ most_fields) }
     ensures made { IfOk result (λ r. request_with method.now target.now minor fields ≡ Some r) }
     ensures read { IfOk result (HasRequest (head_text method.now target.now minor fields)) }
     ensures refused { IfErr result (RefusesParts method.now target.now minor fields) }

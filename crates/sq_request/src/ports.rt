@@ -12,20 +12,8 @@ pub fn port_after(default: u16, rest: &[u8]) -> Option<u16>
 {
     match rest {
         [] => Some(default),
-        [byte] => {
-            if *byte == b':' {
-                Some(default)
-            } else {
-                None
-            }
-        }
-        [byte, digits @ ..] => {
-            if *byte == b':' {
-                port_of(digits)
-            } else {
-                None
-            }
-        }
+        [byte] => { if *byte == b':' { Some(default) } else { None } }
+        [byte, digits @ ..] => { if *byte == b':' { port_of(digits) } else { None } }
     }
 }
 

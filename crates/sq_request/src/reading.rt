@@ -1,6 +1,6 @@
 //! Requests read from their heads.
-ghost use Rattle.std.specs.Prelude.{◌≡◌, length, Some, IfOk, IfErr};
-ghost use Rattle.sq_request.specs.Endings.{head_end};
+ghost use Rattle.std.specs.Prelude.{IfOk, IfErr};
+ghost use Rattle.sq_request.specs.Endings.{IsWholeHead};
 ghost use Rattle.sq_request.specs.Heads.{HasRequest};
 ghost use Rattle.sq_request.specs.Refusals.{RefusesHead};
 
@@ -16,7 +16,7 @@ pub const MOST_FIELDS: usize = 128;
 
 /// The request of a whole head: bytes that end where `head_end` says that a head ends.
 pub fn read_request(alloc: Global, head: &[u8]) -> Result<Request, BadRequest>
-    requires { head_end head.now ≡ Some (length head.now) }
+    requires { IsWholeHead head.now }
     ensures read { IfOk result (HasRequest head.now) }
     ensures refused { IfErr result (RefusesHead head.now) }
 {

@@ -1,4 +1,4 @@
-use Rattle.std.proofs.Common.{◌≡◌, ◌<◌, ◌∙◌, IsTrue, length, arith, sym, subst, ap}
+use Rattle.std.proofs.Common.{◌<◌, ◌∙◌, IsTrue, length, arith, sym, subst, ap}
 use Rattle.sq_request.proofs.WrittenLaws.{map_at}
 use Rattle.sq_request.specs.Spans.{pair_of}
 use Rattle.sq_request.proofs.making.are_covered.Goals as goal

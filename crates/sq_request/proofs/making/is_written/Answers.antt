@@ -12,7 +12,7 @@ pub returns-then-not-has_line : goal.returns-then-not-has_line
 returns-then-not-has_line c = (
   λ h. absurd (cc),
   line_differs c.as_bytes-head.result.now c.parse_whole.new.room c.in-Some.spans c.args.method.now c.args.target.now c.args.minor c.args.fields.now c.has_line.result c.in-Some.ensures.found
-  (c.as_bytes-head.ensures.value ∙ c.in_ok-head.ensures) c.has_line.ensures c.if-not-has_line.true,
+      (c.as_bytes-head.ensures.value ∙ c.in_ok-head.ensures) c.has_line.ensures c.if-not-has_line.true,
 )
 
 pub returns : goal.returns
