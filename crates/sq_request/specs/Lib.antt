@@ -1,0 +1,5 @@
+pub mod Endings
+pub mod Heads
+pub mod Parts
+pub mod Refusals
+pub mod Spans

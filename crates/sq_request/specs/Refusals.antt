@@ -1,0 +1,29 @@
+-- When a head is refused, and when parts are.
+use Rattle.std.specs.Prelude.{◌≡◌, ℕ, ◌<◌, ◌≤◌, List, length, None, ⊤}
+use Rattle.httparse.specs.Grammar.{RequestHead}
+use Rattle.sq_base.specs.declared.requests.Field.{Field}
+use Rattle.sq_request.specs.declared.faults.BadRequest.{BadRequest}
+use Rattle.sq_request.specs.declared.faults.BadRequest.TheVariants.{BadHead, TooManyFields, BadTarget, WantOfMemory}
+use Rattle.sq_request.specs.Heads.{most_fields, IsWhole, HasTooManyFields, HasBadTarget, IsWritten, request_with}
+
+-- the bytes are refused so
+abbrev pub RefusesHead : List ℕ → BadRequest → Type 0
+RefusesHead head BadHead = (h : RequestHead) → ¬ (IsWhole head h)
+RefusesHead head TooManyFields = HasTooManyFields head
+RefusesHead head BadTarget = HasBadTarget head
+RefusesHead head WantOfMemory = ⊤
+
+-- parts are refused so, the head that is written of them first
+abbrev pub RefusesParts : List ℕ → List ℕ → ℕ → List Field → BadRequest → Type 0
+RefusesParts method target minor fields BadHead = ¬ (IsWritten method target minor fields)
+RefusesParts method target minor fields TooManyFields = IsWritten method target minor fields × (most_fields < length fields)
+RefusesParts method target minor fields BadTarget =
+    IsWritten method target minor fields × (length fields ≤ most_fields) × (request_with method target minor fields ≡ None)
+RefusesParts method target minor fields WantOfMemory = ⊤
+
+-- the target is refused so
+abbrev pub RefusesTarget : List ℕ → List ℕ → ℕ → List Field → BadRequest → Type 0
+RefusesTarget method target minor fields BadHead = ⊥
+RefusesTarget method target minor fields TooManyFields = ⊥
+RefusesTarget method target minor fields BadTarget = request_with method target minor fields ≡ None
+RefusesTarget method target minor fields WantOfMemory = ⊤

@@ -1,0 +1,24 @@
+//! Requests, read from their heads and made of their parts.
+//!
+//! `head_end` tells where the head at the front of some bytes ends. `read_request` reads a whole head:
+//! the answer is the request of the one head of the grammar of `httparse` that these bytes are.
+//! `make_request` makes a request of its parts, and judges it by the head that is written of them, which
+//! has to read as these very parts. Both refuse for the head first, then for more than 128 fields, then
+//! for the target, each exactly where it is so; the parts of the target are those of the definitions in
+//! `sq_base`, and each request carries that fact with it.
+#![tactic(auto)]
+
+mod building;
+mod ending;
+mod faults;
+mod hosts;
+mod making;
+mod ports;
+mod reading;
+mod spanning;
+mod targets;
+
+pub use ending::head_end;
+pub use faults::BadRequest;
+pub use making::make_request;
+pub use reading::read_request;
