@@ -10,13 +10,16 @@ use sq_rules::Config;
 use std::alloc::Global;
 use std::marker::Model;
 use std::sync::Arc;
+use thiserror::Error;
 
 /// Why a configuration was not set up.
-#[derive(Clone, Copy, PartialEq, Eq, Debug)]
+#[derive(Clone, Copy, PartialEq, Eq, Debug, Error)]
 pub enum SetupFault {
     /// Of the acl at this place, the pattern at this place is none; both count from 0.
+    #[error("of acl {0}, pattern {1} is none, both counted from 0")]
     BadPattern(u32, u32),
     /// There was no memory, or a pattern takes more of it than a pattern may.
+    #[error("out of memory")]
     WantOfMemory,
 }
 

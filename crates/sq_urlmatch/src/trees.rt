@@ -11,7 +11,7 @@ use std::alloc::Global;
 /// Why a pattern was not read.
 #[derive(Clone, Copy, PartialEq, Eq, Debug)]
 pub enum TreeFault {
-    /// The grammar does not read it, or its groups nest too deep.
+    /// The grammar does not read it, or its parts nest too deep.
     BadPattern,
     WantOfMemory,
 }
