@@ -1,8 +1,10 @@
 pub mod AclLaws
 pub mod DirectLaws
 pub mod ListLaws
+pub mod MemberLaws
 pub mod NameLaws
 pub mod PlainLaws
 pub mod PredefinedTexts
 pub mod ReadingLaws
+pub mod ScanLaws
 pub mod ThreadLaws
