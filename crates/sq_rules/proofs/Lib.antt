@@ -7,4 +7,5 @@ pub mod PlainLaws
 pub mod PredefinedTexts
 pub mod ReadingLaws
 pub mod ScanLaws
+pub mod TableLaws
 pub mod ThreadLaws

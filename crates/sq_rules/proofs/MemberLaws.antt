@@ -1,6 +1,6 @@
 -- A member more, a further line and further values: what they do to an acl's nesting, and to whether it
 -- is slow.
-use Rattle.std.proofs.Common.{◌≡◌, ℕ, ◌+◌, suc, max, List, [], ◌∷◌, ◌++◌, Bool, true, false, ◌||◌, refl, sym, ap, ◌∙◌, arith}
+use Rattle.std.proofs.Common.{◌≡◌, ℕ, suc, max, List, [], ◌∷◌, ◌++◌, Bool, true, false, ◌||◌, refl, ap, ◌∙◌, arith}
 use Rattle.std.specs.Prelude.{slice_index_or}
 use Rattle.std.proofs.lemmas.List.Folds.{list_any-append}
 use Rattle.std.specs.List.{list_any}

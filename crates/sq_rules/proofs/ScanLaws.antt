@@ -1,7 +1,7 @@
 -- A list that is read off another from left to right, each element from those before: when an element
 -- of the other changes.
-use Rattle.std.proofs.Common.{◌≡◌, ℕ, ◌+◌, ◌≤◌, ◌<◌, suc, zero, List, [], ◌∷◌, ◌++◌, length, take, drop, set, get_or, Bool, true, false, ◌&&◌, refl, sym, ap, subst, ◌∙◌, arith, Option, Some, None, slice_get}
-use Rattle.std.proofs.lemmas.List.{append_assoc, append-nil, length-append, length-take-le, length_push, set_split, take_all, take_at, take-take, take-append-drop, take-set, get_or-take, get_or_push}
+use Rattle.std.proofs.Common.{◌≡◌, ℕ, ◌+◌, ◌≤◌, ◌<◌, suc, zero, List, [], ◌∷◌, ◌++◌, length, take, drop, set, get_or, Bool, false, ◌&&◌, refl, sym, ap, subst, ◌∙◌, arith, Some, slice_get}
+use Rattle.std.proofs.lemmas.List.{length-take-le, length_push, set_split, take_all, take_at, take-take, take-append-drop, get_or-take, get_or_push}
 use Rattle.std.proofs.lemmas.List.Folds.{list_all-append}
 use Rattle.std.proofs.lemmas.Option.{slice_get_within}
 use Rattle.std.specs.List.{list_all}
@@ -33,7 +33,7 @@ scan_front f before (x ∷ xs) =
 pub scan_take : {A X : Type 0} (f : List X → A → X) (xs : List A) (n : ℕ) → n ≤ length xs → scan f [] (take n xs) ≡ take n (scan f [] xs)
 scan_take f xs n within =
     let front = scan f [] (take n xs) in
-    let long : length front ≡ n = scan_length f [] (take n xs) ∙ length-take-le n xs within in
+    let long : length front ≡ n = omega (arith, scan_length f [] (take n xs), length-take-le n xs within) in
     let whole : scan f [] xs ≡ scan f front (drop n xs) = ap (scan f []) (sym (take-append-drop n xs)) ∙ scan_append f [] (take n xs) (drop n xs) in
     sym (ap (take n) whole ∙ subst (λ k. take k (scan f front (drop n xs)) ≡ front) long (scan_front f front (drop n xs)))
 

@@ -13,7 +13,7 @@ use crate::member_faults::MemberFault;
 use crate::names::Names;
 use crate::nesting::{is_slow, nesting_of};
 use crate::parts::BuildFault;
-use crate::rechecks::{depths_with, slow_with};
+use crate::rechecks::{depths_with, renew, slow_with};
 use sq_base::{Copying, Listed, Text, WantOfMemory};
 use std::alloc::Global;
 use std::marker::Model;
@@ -182,12 +182,8 @@ impl AclTable {
         let acls = self.acls.as_slice();
         let depths = depths_with(alloc, self.nestings.as_slice(), acls, place as usize, term)?;
         self.acls[place as usize].add_member(alloc, term)?;
-        if let Some(depths) = depths {
-            self.nestings = depths.into_vec();
-        }
-        if let Some(slow) = slow {
-            self.slow = slow.into_vec();
-        }
+        renew(&mut self.nestings, depths);
+        renew(&mut self.slow, slow);
         Ok(())
     }
 

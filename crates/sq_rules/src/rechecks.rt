@@ -2,7 +2,7 @@
 //! nest deeper, or to ask a helper, are the acls behind it looked at again.
 ghost use Rattle.std.specs.Prelude.{◌≡◌, ◌≢◌, ◌<◌, ◌+◌, ◌++◌, ◌∷◌, [], true, false, suc, length, nat_le, IfOk, IfErr, IfSome, take, drop};
 ghost use Rattle.std.specs.List.{list_all};
-ghost use Rattle.sq_rules.specs.Changes.{is_group, with_member_at, AreDepths, AreSlowOnes};
+ghost use Rattle.sq_rules.specs.Changes.{is_group, or_before, with_member_at, AreDepths, AreSlowOnes};
 ghost use Rattle.sq_rules.specs.Configurations.{are_shallow, nestings, nestings_on, slow_on, slow_ones};
 ghost use Rattle.sq_rules.specs.Limits.{nesting_limit};
 
@@ -56,6 +56,7 @@ fn slow_after(
 }
 
 /// Which acls are slow, where the group at a place has this member too; None where they are the same.
+#[tactic(auto, using(crate::proofs::TableLaws::slow_length))]
 pub fn slow_with(
     alloc: Global,
     slow: &[bool],
@@ -67,7 +68,10 @@ pub fn slow_with(
     requires within { place < length acls.now }
     ensures { IfOk result (λ new. AreSlowOnes new acls.now (with_member_at place term acls.now)) }
 {
-    if slow[place] || !is_group(&acls[place].body) || !is_slow_at(&slow[..place], term) {
+    let grows = is_group(&acls[place].body);
+    let asks = is_slow_at(&slow[..place], term);
+    let asked = slow[place];
+    if !grows || !asks || asked {
         return Ok(None);
     }
     Ok(Some(slow_after(alloc, slow, acls, place, true)?))
@@ -103,6 +107,7 @@ fn depths_after(
 
 /// How deep the acls nest, where the group at a place has this member too and none is too deep then;
 /// None where they nest as before.
+#[tactic(auto, using(crate::proofs::TableLaws::nestings_length))]
 pub fn depths_with(
     alloc: Global,
     depths: &[u32],
@@ -118,14 +123,23 @@ pub fn depths_with(
     ensures not_slow { IfErr result (λ e. e ≢ MemberFault.Slow) }
     ensures deep { IfErr result (λ e. e ≡ MemberFault.Deep → are_shallow (with_member_at place term acls.now) ≡ false) }
 {
-    if !is_group(&acls[place].body) {
+    let grows = is_group(&acls[place].body);
+    let below = nesting_at(&depths[..place], term);
+    let depth = depths[place];
+    if !grows || below < depth {
         return Ok(None);
     }
-    let Some(depth) = group_over(nesting_at(&depths[..place], term)) else {
+    let Some(depth) = group_over(below) else {
         return Err(MemberFault::Deep);
     };
-    if depth <= depths[place] {
-        return Ok(None);
-    }
     Ok(Some(depths_after(alloc, depths, acls, place, depth)?))
+}
+
+/// Puts what is new in the place of what was.
+pub fn renew<T: Drop>(known: &mut Vec<T>, new: Option<Listed<T>>)
+    ensures { known.new.items ≡ or_before known.old.items new }
+{
+    if let Some(new) = new {
+        *known = new.into_vec();
+    }
 }
