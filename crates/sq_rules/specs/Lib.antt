@@ -1,4 +1,5 @@
 pub mod Building
+pub mod Changes
 pub mod Classes
 pub mod Configurations
 pub mod Direct
