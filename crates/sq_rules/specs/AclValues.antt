@@ -11,7 +11,7 @@ use Rattle.sq_base.specs.Ranges.{range_of, is_dash}
 use Rattle.sq_base.specs.declared.addresses.Range.{Range}
 use Rattle.sq_rules.specs.ConfNumbers.{digits_of}
 use Rattle.sq_rules.specs.Patterns.{is_pattern}
-use Rattle.sq_rules.specs.Steps.{Words, ◌>>=◌, unless, needed, word, no_more, over, begins}
+use Rattle.sq_rules.specs.Steps.{Words, ◌>>=◌, unless, needed, word, is_empty, no_more, over, begins}
 use Rattle.sq_rules.specs.Times.{Period}
 use Rattle.sq_rules.specs.declared.kinds.Kind.{Kind}
 use Rattle.sq_rules.specs.declared.kinds.Kind.TheVariants.{BadValue, BadPattern, BadTime, MissingWord}
@@ -154,11 +154,6 @@ find_step s w =
     else (if bytes_eq w (codes "+i") then Ok (record s { fold = false })
     else with_find s (record { pattern = w; fold = s.fold }))
 
--- a line has one pattern or more
-abbrev pub some_finds : List Find → Result (List Find) Kind
-some_finds [] = Err MissingWord
-some_finds (f ∷ finds) = Ok (f ∷ finds)
-
--- url_regex: patterns and switches; case is on at first
+-- url_regex: switches and one pattern or more; case is on at first
 unfoldable pub find_values : Words → Result (List Find) Kind
-find_values ws = over find_step (record { fold = false; finds = [] }) ws >>= λ s. some_finds s.finds
+find_values ws = over find_step (record { fold = false; finds = [] }) ws >>= λ s. unless (not (is_empty s.finds)) MissingWord (Ok s.finds)

@@ -11,7 +11,7 @@ use Rattle.sq_rules.specs.Classes.{HelperClass}
 use Rattle.sq_rules.specs.ConfNumbers.{number_in}
 use Rattle.sq_rules.specs.Drafts.{Drafts}
 use Rattle.sq_rules.specs.Limits.{class_limit, name_limit, token_limit}
-use Rattle.sq_rules.specs.Steps.{Words, ◌>>=◌, unless, word, over, begins}
+use Rattle.sq_rules.specs.Steps.{Words, ◌>>=◌, unless, word, is_empty, over, begins}
 use Rattle.sq_rules.specs.declared.classes.Token.{Token}
 use Rattle.sq_rules.specs.declared.classes.Token.TheVariants as token
 use Rattle.sq_rules.specs.declared.directives.ClassOption.{ClassOption}
@@ -135,10 +135,6 @@ has_equals w = list_any is_equals w
 -- a word that is an option where no token stands yet
 abbrev pub is_option : List ℕ → Bool
 is_option w = has_equals w || bytes_eq w (codes "ipv4") || bytes_eq w (codes "ipv6")
-
-abbrev pub is_empty : {A : Type 0} → List A → Bool
-is_empty [] = true
-is_empty (x ∷ xs) = false
 
 -- the helper, or an argument of it
 abbrev pub with_word : ClassDraft → List ℕ → ClassDraft

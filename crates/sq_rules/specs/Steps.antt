@@ -31,10 +31,13 @@ abbrev pub word : Words → Result (List ℕ × Words) Kind
 word [] = Err MissingWord
 word (w ∷ ws) = Ok (w, ws)
 
+abbrev pub is_empty : {A : Type 0} → List A → Bool
+is_empty [] = true
+is_empty (x ∷ xs) = false
+
 -- no word is left; one more would be too many
 abbrev pub no_more : {A : Type 0} → Words → A → Result A Kind
-no_more [] x = Ok x
-no_more (w ∷ ws) x = Err BadValue
+no_more ws x = unless (is_empty ws) BadValue (Ok x)
 
 -- a state that each word changes in turn
 abbrev pub over : {S : Type 0} → (S → List ℕ → Result S Kind) → S → Words → Result S Kind
