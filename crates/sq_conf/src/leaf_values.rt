@@ -1,6 +1,6 @@
 //! Values of leaf acls.
-ghost use Rattle.std.specs.Prelude.{◌≡◌, ◌==◌};
-ghost use Rattle.std.specs.List.{list_any};
+ghost use Rattle.std.specs.Prelude.{◌≡◌, ◌==◌, [], codes};
+ghost use Rattle.std.specs.List.{list_all, list_any};
 ghost use Rattle.sq_conf.specs.Forms.{Gives};
 ghost use Rattle.sq_rules.specs.AclValues.{is_unquoted, range_value, plain_value, port_number, ports_of, port_value, is_token_byte, is_token, method_value, maxconn_value, maxconn_values};
 ghost use Rattle.sq_rules.specs.Steps.{some_of, over, one_more};
@@ -135,14 +135,17 @@ fn is_token_byte(byte: u8) -> bool
     byte.is_ascii_alphanumeric() || is_mark(byte)
 }
 
+fn are_token_bytes(word: &[u8]) -> bool
+    ensures { result ≡ list_all is_token_byte word.now }
+{
+    word.iter().all(|&byte| is_token_byte(byte))
+}
+
 /// A token of HTTP.
 pub fn is_token(word: &[u8]) -> bool
     ensures { result ≡ is_token word.now }
 {
-    match word {
-        [] => false,
-        _ => word.iter().all(|&byte| is_token_byte(byte)),
-    }
+    1 <= word.len() && are_token_bytes(word)
 }
 
 fn method_value(alloc: Global, word: &Text) -> Result<Text, ReadFault>

@@ -1,20 +1,24 @@
 //! Numbers of words, which may have leading zeros.
-ghost use Rattle.std.specs.Prelude.{◌≡◌, ◌≤◌, ◌<◌, ◌^◌, ◌==◌, IfSome, IfOk, position};
-ghost use Rattle.std.specs.List.{before_first, after_first, list_any};
+ghost use Rattle.std.specs.Prelude.{◌≡◌, ◌≤◌, IfSome, IfOk};
+ghost use Rattle.std.specs.Char.{is_ascii_digit};
+ghost use Rattle.std.specs.List.{list_all};
 ghost use Rattle.sq_conf.specs.Forms.{Gives};
 ghost use Rattle.sq_rules.specs.ConfNumbers.{is_digits, digits_of, number_in};
 
 use crate::faults::ReadFault;
 use sq_rules::Kind;
 
+fn are_digits(word: &[u8]) -> bool
+    ensures { result ≡ list_all is_ascii_digit word.now }
+{
+    word.iter().all(|byte| byte.is_ascii_digit())
+}
+
 /// One decimal digit or more.
 pub fn is_digits(word: &[u8]) -> bool
     ensures { result ≡ is_digits word.now }
 {
-    match word {
-        [] => false,
-        _ => word.iter().all(|byte| byte.is_ascii_digit()),
-    }
+    1 <= word.len() && are_digits(word)
 }
 
 /// The number of decimal digits, where it is at most this.

@@ -1,5 +1,5 @@
 -- Values of leaf acls (configuration reference, `acl`).
-use Rattle.std.specs.Prelude.{ℕ, ◌+◌, ◌*◌, List, [], ◌∷◌, ◌++◌, length, Bool, true, false, not, if◌then◌else◌, ◌||◌, ◌==◌, nat_lt, nat_le, Some, None, Ok, Err, codes, bytes_eq, bit_or}
+use Rattle.std.specs.Prelude.{ℕ, ◌+◌, ◌*◌, List, [], ◌∷◌, ◌++◌, length, Bool, true, false, not, if◌then◌else◌, ◌&&◌, ◌||◌, ◌==◌, nat_lt, nat_le, Some, None, Ok, Err, codes, bytes_eq, bit_or}
 use Rattle.std.specs.Char.{is_ascii_alphanumeric}
 use Rattle.std.specs.List.{list_all, list_any, before_first, after_first}
 use Rattle.std.specs.Option.{option_map, option_and_then}
@@ -54,8 +54,7 @@ is_token_byte b = is_ascii_alphanumeric b || list_any (λ c. c == b) (codes "!#$
 
 -- one such byte or more
 abbrev pub is_token : List ℕ → Bool
-is_token [] = false
-is_token (b ∷ bs) = list_all is_token_byte (b ∷ bs)
+is_token w = nat_le 1 (length w) && list_all is_token_byte w
 
 -- method: a token
 abbrev pub method_value : List ℕ → Result (List ℕ) Kind

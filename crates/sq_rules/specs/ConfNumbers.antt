@@ -1,6 +1,6 @@
 -- Numbers of a configuration: those of options, delay directives and http_port may have leading
 -- zeros (configuration reference, `external_acl_type`, `delay_parameters`, `http_port`).
-use Rattle.std.specs.Prelude.{ℕ, suc, List, [], ◌∷◌, Bool, false, if◌then◌else◌, ◌&&◌, ◌||◌, nat_le, Some, None, is_some, drop, codes, bytes_eq, Ok}
+use Rattle.std.specs.Prelude.{ℕ, suc, List, [], ◌∷◌, length, Bool, if◌then◌else◌, ◌&&◌, ◌||◌, nat_le, Some, None, is_some, drop, codes, bytes_eq, Ok}
 use Rattle.std.specs.Char.{is_ascii_digit}
 use Rattle.std.specs.List.{list_all, before_first, after_first}
 use Rattle.std.specs.declared.option.Option.{Option}
@@ -16,8 +16,7 @@ use Rattle.sq_rules.specs.declared.kinds.Kind.TheVariants.{BadNumber}
 
 -- one decimal digit or more
 abbrev pub is_digits : List ℕ → Bool
-is_digits [] = false
-is_digits (b ∷ bs) = list_all is_ascii_digit (b ∷ bs)
+is_digits w = nat_le 1 (length w) && list_all is_ascii_digit w
 
 -- the number of decimal digits, where it is at most this
 unfoldable pub digits_of : ℕ → List ℕ → Option ℕ
