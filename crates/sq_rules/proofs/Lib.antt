@@ -2,8 +2,11 @@ mod ConfTexts
 pub mod AclLaws
 pub mod DirectLaws
 pub mod ListLaws
+pub mod MemberLaws
 pub mod NameLaws
 pub mod PlainLaws
 pub mod PredefinedTexts
 pub mod ReadingLaws
+pub mod ScanLaws
+pub mod TableLaws
 pub mod ThreadLaws

@@ -1,6 +1,7 @@
 pub mod AclLines
 pub mod AclValues
 pub mod Building
+pub mod Changes
 pub mod ClassLines
 pub mod Classes
 pub mod ConfNumbers
