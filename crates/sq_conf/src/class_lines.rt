@@ -1,15 +1,15 @@
 //! Lines `external_acl_type`.
-ghost use Rattle.std.specs.Prelude.{◌≡◌, ◌≤◌, true, length, nat_lt, None, IfOk};
+ghost use Rattle.std.specs.Prelude.{◌≡◌, ◌≤◌, true, length, nat_lt, codes, None, IfOk, OnOk};
 ghost use Rattle.sq_conf.specs.Forms.{Gives, Makes};
 ghost use Rattle.sq_rules.specs.Building.{class_place};
-ghost use Rattle.sq_rules.specs.ClassLines.{class_line, class_name};
+ghost use Rattle.sq_rules.specs.ClassLines.{class_line, class_name, class_of, with_class, with_notice_if};
 ghost use Rattle.sq_rules.specs.Limits.{class_limit, name_limit};
 
 use crate::class_drafts::ClassDraft;
 use crate::faults::ReadFault;
 use crate::port_lines::note_if;
 use crate::words::Words;
-use sq_base::{Copying, Text};
+use sq_base::{Copying, Text, WantOfMemory};
 use sq_drafts::Builder;
 use sq_rules::Kind;
 use std::alloc::Global;
@@ -35,6 +35,26 @@ fn class_name(builder: &Builder, word: &Text) -> Result<(), ReadFault>
     Ok(())
 }
 
+// One class more, with a notice where an option has no effect.
+fn add_class(
+    alloc: Global,
+    builder: &mut Builder,
+    line: u32,
+    name: &Text,
+    draft: ClassDraft,
+) -> Result<(), WantOfMemory>
+    requires short { length name.now ≤ name_limit }
+    requires free { class_place builder.old.classes name.now ≡ None }
+    requires room { nat_lt (length builder.old.classes) class_limit ≡ true }
+    ensures { OnOk result (builder.new ≡ with_notice_if draft.noted line (codes "external_acl_type") (with_class (class_of name.now draft) builder.old)) }
+{
+    let noted = draft.is_noted();
+    let name = name.copy(alloc)?;
+    let class = draft.finish(name)?;
+    builder.push_class(alloc, class)?;
+    note_if(alloc, builder, noted, line, b"external_acl_type")
+}
+
 /// `external_acl_type NAME [option ...] [%token ...] helper [argument ...]`
 #[tactic(auto, unfolding(sq_rules::specs::ClassLines::class_line))]
 pub fn class_line(
@@ -52,10 +72,6 @@ pub fn class_line(
     if !draft.has_helper() {
         return Err(ReadFault::Fault(Kind::MissingWord));
     }
-    let noted = draft.is_noted();
-    let name = name.copy(alloc)?;
-    let class = draft.finish(name)?;
-    builder.push_class(alloc, class)?;
-    note_if(alloc, builder, noted, line, b"external_acl_type")?;
+    add_class(alloc, builder, line, name, draft)?;
     Ok(())
 }

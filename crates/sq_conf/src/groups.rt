@@ -14,12 +14,7 @@ use sq_rules::{Kind, MemberFault, Term};
 use std::alloc::Global;
 
 // Puts a member into the group at a place.
-fn add_member(
-    alloc: Global,
-    builder: &mut Builder,
-    place: u32,
-    term: Term,
-) -> Result<(), ReadFault>
+fn add_member(alloc: Global, builder: &mut Builder, place: u32, term: Term) -> Result<(), ReadFault>
     requires within { place < length builder.old.acls }
     requires earlier { term.acl < place }
     ensures made { Makes result builder.new (sound (with_body place (with_member term) builder.old)) }
@@ -35,12 +30,7 @@ fn add_member(
 
 // One member of the group at a place.
 #[tactic(auto, unfolding(sq_rules::specs::AclLines::member))]
-fn member(
-    alloc: Global,
-    builder: &mut Builder,
-    place: u32,
-    word: &Text,
-) -> Result<(), ReadFault>
+fn member(alloc: Global, builder: &mut Builder, place: u32, word: &Text) -> Result<(), ReadFault>
     requires { place < length builder.old.acls }
     ensures made { Makes result builder.new (member place builder.old word.now) }
     ensures count { length builder.new.acls ≡ length builder.old.acls }

@@ -121,7 +121,7 @@ fn finish(alloc: Global, builder: Builder, bytes: &[u8]) -> Result<Setup, ConfFa
 }
 
 // The configuration with its patterns compiled; all of them are patterns.
-#[tactic(auto, using(crate::proofs::PatternLaws::no_fault))]
+#[tactic(auto, using(sq_urlmatch::proofs::PatternLaws::no_fault))]
 fn set_up(alloc: Global, config: Config) -> Result<Setup, ConfFault>
     requires { all_patterns config.acls ≡ true }
     ensures ok { IfOk result (λ s. s ≡ config) }

@@ -72,7 +72,7 @@ maxconn_values ws = do
 
 -- the weekdays of a letter as the bits of a number, Sunday the lowest: S M T W H F A, and D for
 -- Monday to Friday
-abbrev pub day_bits : ℕ → Option ℕ
+unfoldable pub day_bits : ℕ → Option ℕ
 day_bits b =
     if b == 83 then Some 1
     else (if b == 77 then Some 2
