@@ -1,13 +1,13 @@
 -- Lines `acl NAME TYPE VALUE ...` and `http_access allow|deny TERM ...` (configuration reference,
 -- `acl`, `http_access`).
-use Rattle.std.specs.Prelude.{ℕ, List, [], ◌∷◌, ◌++◌, length, Bool, true, false, not, if◌then◌else◌, ◌&&◌, ◌||◌, ◌==◌, nat_lt, nat_le, Some, None, Ok, Err, is_some, is_none, codes, bytes_eq, slice_get}
+use Rattle.std.specs.Prelude.{ℕ, List, [], ◌∷◌, ◌++◌, length, Bool, true, false, not, if◌then◌else◌, ◌&&◌, ◌||◌, ◌==◌, nat_lt, nat_le, Some, None, Ok, Err, is_some, is_none, codes, bytes_eq}
 use Rattle.std.specs.declared.option.Option.{Option}
 use Rattle.std.specs.declared.result.Result.{Result}
 use Rattle.sq_rules.specs.AclValues.{is_unquoted, range_value, plain_value, port_value, method_value, maxconn_values, time_values, find_values}
 use Rattle.sq_rules.specs.Building.{place_of, class_place}
 use Rattle.sq_rules.specs.Changes.{type_at}
 use Rattle.sq_rules.specs.Configurations.{are_shallow}
-use Rattle.sq_rules.specs.Drafts.{Drafts, are_fast, type_of_body, with_acl_more, with_body, with_leaf, with_line, with_member}
+use Rattle.sq_rules.specs.Drafts.{Drafts, are_fast, with_acl_more, with_body, with_leaf, with_line, with_member}
 use Rattle.sq_rules.specs.Limits.{acl_limit, name_limit, rule_limit}
 use Rattle.sq_rules.specs.Steps.{Words, ◌>>=◌, unless, needed, word, over, over_some, some_of, one_more, begins}
 use Rattle.sq_rules.specs.declared.acl_types.AclType.{AclType}

@@ -1,4 +1,4 @@
-use Rattle.std.proofs.Common.{◌≡◌, [], drop, length, true, false}
+use Rattle.std.proofs.Common.{◌≡◌, drop, length, true, false}
 use Rattle.sq_rules.specs.Configurations.{are_known, slow_ones, some_slow}
 use Rattle.sq_rules.specs.PoolLines.{fast_term}
 use Rattle.sq_rules.specs.Steps.{over, one_more, some_of}

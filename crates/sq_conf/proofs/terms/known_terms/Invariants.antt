@@ -1,4 +1,4 @@
-use Rattle.std.proofs.Common.{◌≡◌, [], drop, length, true}
+use Rattle.std.proofs.Common.{◌≡◌, drop, length, true}
 use Rattle.sq_rules.specs.AclLines.{known_term, known_terms}
 use Rattle.sq_rules.specs.Configurations.{are_known}
 use Rattle.sq_rules.specs.Steps.{over, one_more}
