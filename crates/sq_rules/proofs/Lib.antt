@@ -1,3 +1,4 @@
+mod ConfTexts
 pub mod AclLaws
 pub mod DirectLaws
 pub mod ListLaws
