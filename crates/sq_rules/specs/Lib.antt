@@ -2,7 +2,9 @@ pub mod Building
 pub mod Classes
 pub mod Configurations
 pub mod Direct
+pub mod Drafts
 pub mod Entries
+pub mod Kinds
 pub mod Leaves
 pub mod Limits
 pub mod Machine

@@ -8,12 +8,14 @@
 #![tactic(auto)]
 
 mod acl_table;
+mod acl_types;
 mod building;
 mod class_table;
 mod classes;
 mod configs;
 mod entries;
 mod fast_lists;
+mod kinds;
 mod leaves;
 mod names;
 mod nesting;
@@ -25,9 +27,11 @@ mod predefined;
 mod refusals;
 mod sights;
 
+pub use acl_types::AclType;
 pub use classes::{Class, Classes, Token, Tokens};
 pub use configs::{Acl, Acls, Body, Config, Lines, Rule, Rules, Term, Terms};
 pub use entries::{Entry, Event, Offset, Told};
+pub use kinds::{ConfError, Kind};
 pub use leaves::{Find, Finds, Hour, Hours, Leaf, Numbers, PortRange, PortRanges};
 pub use notices::{Notice, Notices};
 pub use outcomes::{Outcome, Why};

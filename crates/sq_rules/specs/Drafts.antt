@@ -1,0 +1,193 @@
+-- A configuration as far as some of its lines state it, and what a line changes (configuration
+-- reference, `acl`, `http_access`, `external_acl_type`, `delay_pools`, `delay_class`, `delay_access`,
+-- `delay_parameters`, `delay_initial_bucket_level`, `http_port`).
+use Rattle.std.specs.Prelude.{ℕ, List, [], ◌∷◌, ◌++◌, length, map, Bool, true, false, not, ◌&&◌, replicate, set, Some, None, is_some, slice_get, slice_index_or}
+use Rattle.std.specs.List.{list_all}
+use Rattle.std.specs.declared.option.Option.{Option}
+use Rattle.sq_rules.specs.Classes.{HelperClass}
+use Rattle.sq_rules.specs.Configurations.{Configuration, slow_ones, some_slow}
+use Rattle.sq_rules.specs.Patterns.{is_pattern}
+use Rattle.sq_rules.specs.Predefined.{predefined}
+use Rattle.sq_rules.specs.Rates.{Rate}
+use Rattle.sq_rules.specs.declared.acl_types.AclType.{AclType}
+use Rattle.sq_rules.specs.declared.acl_types.AclType.TheVariants as type
+use Rattle.sq_rules.specs.declared.configs.Acl.{Acl}
+use Rattle.sq_rules.specs.declared.configs.Body.{Body}
+use Rattle.sq_rules.specs.declared.configs.Body.TheVariants as body
+use Rattle.sq_rules.specs.declared.configs.Rule.{Rule}
+use Rattle.sq_rules.specs.declared.configs.Term.{Term}
+use Rattle.sq_rules.specs.declared.leaves.Leaf.{Leaf}
+use Rattle.sq_rules.specs.declared.leaves.Leaf.TheVariants as leaf
+use Rattle.sq_rules.specs.declared.notices.Notice.{Notice}
+use Rattle.sq_rules.specs.declared.parts.AclPart.{AclPart}
+use Rattle.sq_rules.specs.declared.parts.BodyPart.{BodyPart}
+use Rattle.sq_rules.specs.declared.parts.BodyPart.TheVariants as part
+use Rattle.sq_rules.specs.declared.pools.Pool.{Pool}
+
+-- a delay pool as far as it is stated
+pub record PoolDraft : Type 0 where
+  pub class : Option ℕ
+  pub pairs : Option (List (Option Rate))
+  pub lists : List Rule
+
+-- what the lines so far state; the pools are counted once `delay_pools` stands
+pub record Drafts : Type 0 where
+  pub classes : List HelperClass
+  pub acls : List Acl
+  pub rules : List Rule
+  pub counted : Bool
+  pub pools : List PoolDraft
+  pub initial : ℕ
+  pub port : Option ℕ
+  pub notices : List Notice
+
+abbrev pub leaf_of : BodyPart → Body
+leaf_of (part.Leaf l) = body.Leaf l
+leaf_of p = body.AnyOf []
+
+-- the predefined acls, which are all leaves
+abbrev pub predefined_ones : List Acl
+predefined_ones = map (λ a. record { name = a.name; body = leaf_of a.body }) predefined
+
+-- what stands before the first line
+unfoldable pub begun : Drafts
+begun = record { classes = []; acls = predefined_ones; rules = []; counted = false; pools = []; initial = 50; port = None; notices = [] }
+
+abbrev pub type_of_leaf : Leaf → AclType
+type_of_leaf (leaf.Src values) = type.Src
+type_of_leaf (leaf.Dst values) = type.Dst
+type_of_leaf (leaf.DstDomain values) = type.DstDomain
+type_of_leaf (leaf.Port values) = type.Port
+type_of_leaf (leaf.Method values) = type.Method
+type_of_leaf (leaf.Proto values) = type.Proto
+type_of_leaf (leaf.Time values) = type.Time
+type_of_leaf (leaf.UrlRegex values) = type.UrlRegex
+type_of_leaf (leaf.MaxConn values) = type.MaxConn
+
+-- the type of an acl
+abbrev pub type_of_body : Body → AclType
+type_of_body (body.Leaf l) = type_of_leaf l
+type_of_body (body.External class arguments) = type.External
+type_of_body (body.AnyOf terms) = type.AnyOf
+type_of_body (body.AllOf lines) = type.AllOf
+
+-- the values of both, which are of one type
+abbrev pub joined_leaves : Leaf → Leaf → Leaf
+joined_leaves (leaf.Src a) (leaf.Src b) = leaf.Src (a ++ b)
+joined_leaves (leaf.Dst a) (leaf.Dst b) = leaf.Dst (a ++ b)
+joined_leaves (leaf.DstDomain a) (leaf.DstDomain b) = leaf.DstDomain (a ++ b)
+joined_leaves (leaf.Port a) (leaf.Port b) = leaf.Port (a ++ b)
+joined_leaves (leaf.Method a) (leaf.Method b) = leaf.Method (a ++ b)
+joined_leaves (leaf.Proto a) (leaf.Proto b) = leaf.Proto (a ++ b)
+joined_leaves (leaf.Time a) (leaf.Time b) = leaf.Time (a ++ b)
+joined_leaves (leaf.UrlRegex a) (leaf.UrlRegex b) = leaf.UrlRegex (a ++ b)
+joined_leaves (leaf.MaxConn a) (leaf.MaxConn b) = leaf.MaxConn (a ++ b)
+joined_leaves a b = a
+
+-- an acl with further values
+abbrev pub with_leaf : Leaf → Body → Body
+with_leaf more (body.Leaf l) = body.Leaf (joined_leaves l more)
+with_leaf more b = b
+
+-- a term more in the last of some lines
+abbrev pub in_last : Term → List (List Term) → List (List Term)
+in_last t [] = (t ∷ []) ∷ []
+in_last t (l ∷ []) = (l ++ t ∷ []) ∷ []
+in_last t (l ∷ m ∷ lines) = l ∷ in_last t (m ∷ lines)
+
+-- a group with a member more; of all-of, in its last line
+abbrev pub with_member : Term → Body → Body
+with_member t (body.AnyOf terms) = body.AnyOf (terms ++ t ∷ [])
+with_member t (body.AllOf lines) = body.AllOf (in_last t lines)
+with_member t b = b
+
+-- a group to which a line of members is added: of all-of, one line more, that has no member yet
+abbrev pub with_line : Body → Body
+with_line (body.AllOf lines) = body.AllOf (lines ++ [] ∷ [])
+with_line b = b
+
+-- the acl at a place, changed
+abbrev pub changed_acl : (Body → Body) → Option Acl → List Acl → ℕ → List Acl
+changed_acl change None acls place = acls
+changed_acl change (Some a) acls place = set acls place (record a { body = change a.body })
+
+-- acls of which the one at a place is changed
+abbrev pub change_body : ℕ → (Body → Body) → List Acl → List Acl
+change_body place change acls = changed_acl change (slice_get acls place) acls place
+
+-- the drafts with this acl changed
+abbrev pub with_body : ℕ → (Body → Body) → Drafts → Drafts
+with_body place change d = record d { acls = change_body place change d.acls }
+
+-- the drafts with one acl more
+abbrev pub with_acl_more : List ℕ → Body → Drafts → Drafts
+with_acl_more name b d = record d { acls = d.acls ++ (record { name = name; body = b }) ∷ [] }
+
+-- each pattern of the leaf is one
+abbrev pub are_patterns : Leaf → Bool
+are_patterns (leaf.UrlRegex finds) = list_all is_pattern finds
+are_patterns l = true
+
+-- no term of the rule is slow
+abbrev pub is_fast : List Bool → Rule → Bool
+is_fast slow r = not (some_slow slow r.terms)
+
+-- no rule of a pool asks a helper or reaches an acl that does
+abbrev pub are_fast : List Acl → List PoolDraft → Bool
+are_fast acls pools = list_all (λ p. list_all (is_fast (slow_ones acls)) p.lists) pools
+
+abbrev pub no_pool : PoolDraft
+no_pool = record { class = None; pairs = None; lists = [] }
+
+-- the pools that `delay_pools` counts
+abbrev pub with_pools : ℕ → Drafts → Drafts
+with_pools count d = record d { counted = true; pools = replicate count no_pool }
+
+abbrev pub changed_pool : (PoolDraft → PoolDraft) → Option PoolDraft → List PoolDraft → ℕ → List PoolDraft
+changed_pool change None pools place = pools
+changed_pool change (Some p) pools place = set pools place (change p)
+
+-- the drafts with the pool at a place, from 0, changed
+abbrev pub with_pool : ℕ → (PoolDraft → PoolDraft) → Drafts → Drafts
+with_pool place change d = record d { pools = changed_pool change (slice_get d.pools place) d.pools place }
+
+-- the pool at a place
+abbrev pub pool_at : List PoolDraft → ℕ → PoolDraft
+pool_at pools place = slice_index_or pools place no_pool
+
+-- the pool has its class and its limits
+abbrev pub is_complete : PoolDraft → Bool
+is_complete p = is_some p.class && is_some p.pairs
+
+-- every pool has
+abbrev pub are_complete : List PoolDraft → Bool
+are_complete pools = list_all is_complete pools
+
+abbrev pub or_zero : Option ℕ → ℕ
+or_zero None = 0
+or_zero (Some n) = n
+
+abbrev pub or_none : Option (List (Option Rate)) → List (Option Rate)
+or_none None = []
+or_none (Some pairs) = pairs
+
+-- a pool that is complete
+abbrev pub pool_of_draft : PoolDraft → Pool
+pool_of_draft p = record { class = or_zero p.class; pairs = or_none p.pairs; lists = p.lists }
+
+abbrev pub port_or_default : Option ℕ → ℕ
+port_or_default None = 3128
+port_or_default (Some n) = n
+
+-- the configuration that all lines of a text state
+unfoldable pub finished : List ℕ → Drafts → Configuration
+finished source d = record {
+  source = source;
+  classes = d.classes;
+  acls = d.acls;
+  rules = d.rules;
+  pools = map pool_of_draft d.pools;
+  initial = d.initial;
+  port = port_or_default d.port;
+  notices = d.notices;
+}
