@@ -1,6 +1,7 @@
 mod ConfTexts
 pub mod AclLaws
 pub mod DirectLaws
+pub mod FactLaws
 pub mod ListLaws
 pub mod MemberLaws
 pub mod NameLaws

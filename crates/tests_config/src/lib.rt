@@ -1,9 +1,10 @@
 //! Tests of what a configuration and its helpers are written in: addresses, lines, whole
 //! texts, replies.
+//! Tests of what a configuration, its helpers and its clients write: addresses, lines, replies, heads.
 //!
 //! It has no public call. Each test is one table, whose expected values come from the public standards
-//! (RFC 4291, RFC 5952, Squid's configuration reference and helper protocol), or calls each public
-//! function of a crate once with ample memory and compares its answer.
+//! (RFC 4291, RFC 5952, RFC 9110, RFC 9112, Squid's configuration reference and helper protocol), or
+//! calls each public function of a crate once with ample memory and compares its answer.
 #![tactic(auto)]
 
 #[cfg(test)]
@@ -22,3 +23,6 @@ mod plain;
 mod replies;
 #[cfg(test)]
 mod script_lines;
+mod requests;
+#[cfg(test)]
+mod values;
