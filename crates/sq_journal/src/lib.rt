@@ -6,10 +6,14 @@
 //! the line, and no memory but that of the entry's texts.
 #![tactic(auto)]
 
+mod answers;
 mod escapes;
 mod events;
 mod faults;
+mod helper_answers;
 mod helper_events;
+mod outcomes;
+mod rows;
 mod values;
 mod words;
 
