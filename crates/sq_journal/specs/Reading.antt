@@ -44,6 +44,18 @@ Gives view (Ok x) read = read ≡ Some (view x)
 Gives view (Err BadEntry) read = read ≡ None
 Gives view (Err WantOfMemory) read = Unit {0}
 
+-- The words after one that says no more than itself.
+abbrev pub Passes : Result (Unit {0}) EntryFault → Words → Option Words → Type 0
+Passes (Ok done) left read = read ≡ Some left
+Passes (Err BadEntry) left read = read ≡ None
+Passes (Err WantOfMemory) left read = Unit {0}
+
+-- A function returned this, or memory ran out.
+abbrev pub Is : {X : Type 0} → X → Result X EntryFault → Type 0
+Is x (Ok y) = y ≡ x
+Is x (Err BadEntry) = ⊥
+Is x (Err WantOfMemory) = Unit {0}
+
 -- one word
 unfoldable pub word_in : {A : Type 0} → (List ℕ → Option A) → Reads A
 word_in of [] = None
