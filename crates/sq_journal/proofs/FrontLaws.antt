@@ -1,5 +1,5 @@
 -- A list compared front by front.
-use Rattle.std.proofs.Common.{◌≡◌, ℕ, List, [], ◌∷◌, ◌++◌, Bool, true, false, ◌&&◌, length, take, drop, refl, sym, ap, ◌∙◌, bytes_eq, nat_eq}
+use Rattle.std.proofs.Common.{◌≡◌, ℕ, List, [], ◌∷◌, ◌++◌, Bool, true, false, ◌&&◌, length, take, drop, refl, bytes_eq, nat_eq}
 
 and_front : (a b c d : Bool) → b ≡ (c && d) → (a && b) ≡ ((a && c) && d)
 and_front true b c d e = e

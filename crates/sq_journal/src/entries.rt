@@ -11,7 +11,7 @@ ghost use Rattle.sq_journal.specs.Values.{IsNumber, IsEvent, IsNoted};
 use crate::answers::told;
 use crate::events::event;
 use crate::faults::EntryFault;
-use crate::printing::{Piece, put_event, put_name, put_piece};
+use crate::printing::{put_event, put_moment, put_name};
 use crate::rows::is_row;
 use crate::told_printing::put_told;
 use crate::values::number;
@@ -25,7 +25,7 @@ pub fn print_entry(alloc: Global, entry: &Entry) -> Result<Text, WantOfMemory>
     ensures { IfOk result (λ text. text ≡ entry_text entry.now) }
 {
     let mut text = Text::new(alloc);
-    put_piece(alloc, &mut text, &Piece::Number(entry.moment.0))?;
+    put_moment(&mut text, entry.moment)?;
     put_event(alloc, &mut text, &entry.event)?;
     put_name(alloc, &mut text, b"=>")?;
     put_told(alloc, &mut text, &entry.answer)?;

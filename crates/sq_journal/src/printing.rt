@@ -9,7 +9,7 @@ ghost use Rattle.sq_rules.specs.declared.entries.Event.TheVariants as event;
 use crate::escapes::put_text;
 use itoa::Buffer;
 use sq_addr::print_addr;
-use sq_base::{Addr, ConnNo, Field, SeatNo, Text, WantOfMemory};
+use sq_base::{Addr, ConnNo, Field, Moment, SeatNo, Text, WantOfMemory};
 use sq_rules::Event;
 use std::alloc::Global;
 
@@ -24,8 +24,8 @@ pub enum Piece<'a> {
     Channel(Option<u32>),
 }
 
-/// Puts a word at the end.
-pub fn put_piece(alloc: Global, to: &mut Text, piece: &Piece<'_>) -> Result<(), WantOfMemory>
+// Puts a word at the end.
+fn put_piece(alloc: Global, to: &mut Text, piece: &Piece<'_>) -> Result<(), WantOfMemory>
     ensures { OnOk result (to.new ≡ to.old ++ piece_text piece.now) }
 {
     match piece {
@@ -40,6 +40,13 @@ pub fn put_piece(alloc: Global, to: &mut Text, piece: &Piece<'_>) -> Result<(), 
         Piece::Channel(None) => to.append(b"-"),
         Piece::Channel(Some(number)) => to.append(Buffer::new().format(*number).as_bytes()),
     }
+}
+
+/// Puts a moment.
+pub fn put_moment(to: &mut Text, moment: Moment) -> Result<(), WantOfMemory>
+    ensures { OnOk result (to.new ≡ to.old ++ decimal moment) }
+{
+    to.append(Buffer::new().format(moment.0).as_bytes())
 }
 
 /// Puts each word after a space.

@@ -1,6 +1,5 @@
 use Rattle.std.proofs.Common.{◌≡◌, ◌++◌, ◌∙◌, ◌&&◌, true, false, length, take, drop, sym, ap, bytes_eq}
 use Rattle.percent_encoding.specs.Iter.{encoded_text}
-use Rattle.sq_base.specs.Escapes.{escaped}
 use Rattle.sq_journal.proofs.EscapeLaws.{encodes}
 use Rattle.sq_journal.proofs.FrontLaws.{front_first}
 use Rattle.sq_journal.proofs.escapes.is_escape_of.Goals as goal
