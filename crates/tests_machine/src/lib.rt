@@ -16,4 +16,6 @@ mod fixtures;
 #[cfg(test)]
 mod forms;
 #[cfg(test)]
+mod journal;
+#[cfg(test)]
 mod runs;
