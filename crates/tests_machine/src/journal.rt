@@ -13,7 +13,7 @@ struct Row<'a> {
     wrong: &'a [&'a str],
 }
 
-fn row<'a>(right: &'a str, wrong: &'a [&'a str]) -> Row<'a> {
+fn case<'a>(right: &'a str, wrong: &'a [&'a str]) -> Row<'a> {
     Row { right, wrong }
 }
 
@@ -40,7 +40,7 @@ fn check(rt: &impl Abort, alloc: Global, row: &Row<'_>) -> Result<(), WantOfMemo
 
 #[test]
 fn words_stand_in_their_places_with_one_space_between(rt: HostRuntime) -> Result<(), Fail> {
-    let row = row(
+    let row = case(
         "0 begin 0 => epoch 1",
         &[
             "",
@@ -73,7 +73,7 @@ fn words_stand_in_their_places_with_one_space_between(rt: HostRuntime) -> Result
 #[test]
 fn a_number_has_one_spelling_and_is_below_its_limit(rt: HostRuntime) -> Result<(), Fail> {
     for row in [
-        row(
+        case(
             "9223372036854775807 close 9223372036854775807 => ok",
             &[
                 "9223372036854775808 close 1 => ok",
@@ -87,7 +87,7 @@ fn a_number_has_one_spelling_and_is_below_its_limit(rt: HostRuntime) -> Result<(
                 "1 close 0x1 => ok",
             ],
         ),
-        row(
+        case(
             "1 grant 1 9223372036854775807 => granted 9223372036854775807",
             &[
                 "1 grant 1 9223372036854775808 => granted 1",
@@ -97,7 +97,7 @@ fn a_number_has_one_spelling_and_is_below_its_limit(rt: HostRuntime) -> Result<(
                 "1 grant 1 1 => ok",
             ],
         ),
-        row(
+        case(
             "0 begin -840 => epoch 1",
             &[
                 "0 begin -841 => epoch 1",
@@ -121,7 +121,7 @@ fn a_number_has_one_spelling_and_is_below_its_limit(rt: HostRuntime) -> Result<(
 #[test]
 fn an_address_has_one_spelling(rt: HostRuntime) -> Result<(), Fail> {
     for row in [
-        row(
+        case(
             "5 open 1 10.1.2.3 4000 => ok",
             &[
                 "5 open 1 10.1.2 4000 => ok",
@@ -135,7 +135,7 @@ fn an_address_has_one_spelling(rt: HostRuntime) -> Result<(), Fail> {
                 "5 open 1 10.1.2.3 4000 => check 1",
             ],
         ),
-        row(
+        case(
             "5 open 1 2001:db8::1 65535 => ok",
             &[
                 "5 open 1 2001:DB8::1 65535 => ok",
@@ -156,7 +156,7 @@ fn an_address_has_one_spelling(rt: HostRuntime) -> Result<(), Fail> {
 #[test]
 fn a_text_has_one_word(rt: HostRuntime) -> Result<(), Fail> {
     for row in [
-        row(
+        case(
             "5 ask 1 GET http://h/ Host:%20h => check 1",
             &[
                 "5 ask 1 GET http://h/ Host: h => check 1",
@@ -175,7 +175,7 @@ fn a_text_has_one_word(rt: HostRuntime) -> Result<(), Fail> {
                 "5 ask 1 GET http://h/ => ok",
             ],
         ),
-        row(
+        case(
             "5 ask 1 - %2D X:%3E%25 Y: :Z W:a:b => check 0",
             &[
                 "5 ask 1 - %2d => check 0",
@@ -184,7 +184,7 @@ fn a_text_has_one_word(rt: HostRuntime) -> Result<(), Fail> {
                 "5 ask 1 %2D%2 - => check 0",
             ],
         ),
-        row(
+        case(
             "5 reconfigure acl%20a%20port%2080%0A => epoch 2",
             &[
                 "5 reconfigure acl%20a%20port%2080%0a => epoch 2",
@@ -203,15 +203,15 @@ fn a_text_has_one_word(rt: HostRuntime) -> Result<(), Fail> {
 #[test]
 fn a_step_and_a_take_have_their_answers(rt: HostRuntime) -> Result<(), Fail> {
     for row in [
-        row(
+        case(
             "5 step 1 => took v",
             &["5 step 1 => took", "5 step 1 => took v v"],
         ),
-        row(
+        case(
             "5 step 1 => waits 3",
             &["5 step 1 => wait 3", "5 step 1 => waits v"],
         ),
-        row(
+        case(
             "5 step 0 => done",
             &[
                 "5 step 1 => ok",
@@ -219,7 +219,7 @@ fn a_step_and_a_take_have_their_answers(rt: HostRuntime) -> Result<(), Fail> {
                 "5 step 1 => epoch 1 denied empty",
             ],
         ),
-        row(
+        case(
             "5 take 1 => epoch 1 allowed rule 0",
             &[
                 "5 take 1 => epoch 1",
@@ -227,7 +227,7 @@ fn a_step_and_a_take_have_their_answers(rt: HostRuntime) -> Result<(), Fail> {
                 "5 take 1 => done",
             ],
         ),
-        row(
+        case(
             "5 take 1 => epoch 1 denied rule 4294967295",
             &[
                 "5 take 1 => epoch 1 denied rule 4294967296",
@@ -237,19 +237,19 @@ fn a_step_and_a_take_have_their_answers(rt: HostRuntime) -> Result<(), Fail> {
                 "5 take 1 => epoch 1 denied rules 1",
             ],
         ),
-        row(
+        case(
             "5 take 1 => epoch 1 allowed default",
             &["5 take 1 => epoch 1 allowed default 1"],
         ),
-        row(
+        case(
             "5 take 1 => epoch 1 denied default",
             &["5 take 1 => epoch 1 Denied default"],
         ),
-        row(
+        case(
             "5 take 1 => epoch 1 denied empty",
             &["5 take 1 => epoch 1 allowed empty"],
         ),
-        row(
+        case(
             "5 take 1 => epoch 1 denied fault 2 odd%20one Bh",
             &[
                 "5 take 1 => epoch 1 allowed fault 2 odd Bh",
@@ -258,12 +258,12 @@ fn a_step_and_a_take_have_their_answers(rt: HostRuntime) -> Result<(), Fail> {
                 "5 take 1 => epoch 1 denied fault 2 Bh",
             ],
         ),
-        row("5 take 1 => epoch 1 denied fault 2 odd BadReply", &[]),
-        row("5 take 1 => epoch 1 denied fault 2 odd Stray", &[]),
-        row("5 take 1 => epoch 1 denied fault 2 odd Died", &[]),
-        row("5 take 1 => epoch 1 denied fault 2 odd NoHelper", &[]),
-        row("5 take 1 => epoch 1 denied fault 2 odd QueueFull", &[]),
-        row("5 take 1 => epoch 1 denied fault 2 odd KeyTooLong", &[]),
+        case("5 take 1 => epoch 1 denied fault 2 odd BadReply", &[]),
+        case("5 take 1 => epoch 1 denied fault 2 odd Stray", &[]),
+        case("5 take 1 => epoch 1 denied fault 2 odd Died", &[]),
+        case("5 take 1 => epoch 1 denied fault 2 odd NoHelper", &[]),
+        case("5 take 1 => epoch 1 denied fault 2 odd QueueFull", &[]),
+        case("5 take 1 => epoch 1 denied fault 2 odd KeyTooLong", &[]),
     ] {
         check(&rt, rt.alloc(), &row)?;
     }
@@ -273,15 +273,15 @@ fn a_step_and_a_take_have_their_answers(rt: HostRuntime) -> Result<(), Fail> {
 #[test]
 fn events_of_helpers_and_acts_have_their_answers(rt: HostRuntime) -> Result<(), Fail> {
     for row in [
-        row(
+        case(
             "5 started 1 v => proc 1",
             &["5 started 1 => proc 1", "5 started 1 v => ok"],
         ),
-        row(
+        case(
             "5 startfail 1 v => ok",
             &["5 startfail 1 v => proc 1", "5 startfail v => ok"],
         ),
-        row(
+        case(
             "5 line 1 OK => reply 7 ok",
             &[
                 "5 line 1 OK => reply 7 OK",
@@ -289,22 +289,22 @@ fn events_of_helpers_and_acts_have_their_answers(rt: HostRuntime) -> Result<(), 
                 "5 line 1 OK => ok",
             ],
         ),
-        row(
+        case(
             "5 line 1 - => reply 7 err",
             &["5 line 1 => reply 7 err", "5 line 1 - => reply 7"],
         ),
-        row(
+        case(
             "5 line 1 0%20BH => reply 7 bh",
             &["5 line 1 0 BH => reply 7 bh"],
         ),
-        row("5 line 1 %0D => bad", &["5 line 1 %0D => bad 1"]),
-        row("5 line 1 9 => stray", &["5 line 1 9 => strays"]),
-        row("5 died 1 => ok", &["5 died 1 => died", "5 died => ok"]),
-        row(
+        case("5 line 1 %0D => bad", &["5 line 1 %0D => bad 1"]),
+        case("5 line 1 9 => stray", &["5 line 1 9 => strays"]),
+        case("5 died 1 => ok", &["5 died 1 => died", "5 died => ok"]),
+        case(
             "5 act => start 1 v",
             &["5 act 1 => start 1 v", "5 act => start 1", "5 act => ok"],
         ),
-        row(
+        case(
             "5 act => send 1 2 - k",
             &[
                 "5 act => send 1 2 k",
@@ -313,11 +313,11 @@ fn events_of_helpers_and_acts_have_their_answers(rt: HostRuntime) -> Result<(), 
                 "5 act => send 1 2 - k k",
             ],
         ),
-        row(
+        case(
             "5 act => send 1 2 4294967295 -",
             &["5 act => send 1 2 4294967296 -", "5 act => send 1 2 00 -"],
         ),
-        row("5 act => stop 1", &["5 act => stop", "5 died 1 => stop 1"]),
+        case("5 act => stop 1", &["5 act => stop", "5 died 1 => stop 1"]),
     ] {
         check(&rt, rt.alloc(), &row)?;
     }
@@ -327,7 +327,7 @@ fn events_of_helpers_and_acts_have_their_answers(rt: HostRuntime) -> Result<(), 
 #[test]
 fn seats_have_their_answers_and_pools_count_from_1(rt: HostRuntime) -> Result<(), Fail> {
     for row in [
-        row(
+        case(
             "5 seat 1 => seat 1 1",
             &[
                 "5 seat 1 => seat 1 0",
@@ -335,12 +335,12 @@ fn seats_have_their_answers_and_pools_count_from_1(rt: HostRuntime) -> Result<()
                 "5 seat 1 1 => seat 1 1",
             ],
         ),
-        row(
+        case(
             "5 seat 1 => seat 1 4294967296",
             &["5 seat 1 => seat 1 4294967297"],
         ),
-        row("5 seat 1 => none", &["5 seat 1 => -", "5 seat 1 => ok"]),
-        row("5 leave 1 => ok", &["5 leave => ok", "5 leave 1 => none"]),
+        case("5 seat 1 => none", &["5 seat 1 => -", "5 seat 1 => ok"]),
+        case("5 leave 1 => ok", &["5 leave => ok", "5 leave 1 => none"]),
     ] {
         check(&rt, rt.alloc(), &row)?;
     }
