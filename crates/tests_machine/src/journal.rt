@@ -218,7 +218,7 @@ fn the_empty_text_and_the_dash_have_their_words(rt: HostRuntime) -> Result<(), F
 // The moment of a moment and an event, where the line is these.
 fn moment_of(alloc: Global, line: &str) -> Result<Option<u64>, WantOfMemory> {
     match read_event(alloc, line.as_bytes()) {
-        Ok((moment, _)) => Ok(Some(moment.0)),
+        Ok((moment, _event)) => Ok(Some(moment.0)),
         Err(EntryFault::BadEntry) => Ok(None),
         Err(EntryFault::WantOfMemory) => Err(WantOfMemory),
     }
