@@ -77,10 +77,11 @@ dated_words moment event = decimal moment ∷ event_words event
 abbrev pub entry_words : Noted → Words
 entry_words e = decimal e.moment ∷ event_words e.event ++ codes "=>" ∷ told_words e.answer
 
--- the text of an event, and that of an answer
+-- the text of an event
 abbrev pub event_text : Event → List ℕ
 event_text event = line_of (event_words event)
 
+-- the text of an answer
 abbrev pub told_text : Told → List ℕ
 told_text answer = line_of (told_words answer)
 

@@ -8,6 +8,7 @@ use Rattle.std.specs.declared.option.Option.{Option}
 abbrev pub Words : Type 0
 Words = List (List ℕ)
 
+-- a space
 abbrev pub is_space : ℕ → Bool
 is_space b = b == 32
 

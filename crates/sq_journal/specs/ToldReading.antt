@@ -29,6 +29,7 @@ result_of word =
 unfoldable pub channel_of : List ℕ → Option (Option ℕ)
 channel_of word = if bytes_eq word (codes "-") then Some None else option_map Some (number_of (2 ^ 32) word)
 
+-- the number before, if there is one
 abbrev pub one_less : ℕ → Option ℕ
 one_less zero = None
 one_less (suc n) = Some n
@@ -37,9 +38,11 @@ one_less (suc n) = Some n
 unfoldable pub pool_of : List ℕ → Option ℕ
 pool_of word = number_of (2 ^ 32 + 1) word >>= one_less
 
+-- `allowed` or `denied`
 unfoldable pub action_of : List ℕ → Option Bool
 action_of word = if bytes_eq word (codes "allowed") then Some true else (if bytes_eq word (codes "denied") then Some false else None)
 
+-- a cause, in its letters
 unfoldable pub cause_of : List ℕ → Option Cause
 cause_of word =
     if bytes_eq word (codes "Bh") then Some cause.Bh
@@ -51,9 +54,11 @@ cause_of word =
     else (if bytes_eq word (codes "KeyTooLong") then Some cause.KeyTooLong
     else None))))))
 
+-- rule N
 unfoldable pub rule_in : Reads Why
 rule_in = fields1 why.Rule (below_in (2 ^ 32))
 
+-- fault N ACL CAUSE
 unfoldable pub fault_in : Reads Why
 fault_in = fields3 why.Fault (below_in (2 ^ 32)) text_in (word_in cause_of)
 
@@ -67,9 +72,11 @@ why_in (name ∷ ws) =
     else (if bytes_eq name (codes "fault") then fault_in ws
     else None)))
 
+-- an outcome of its parts
 abbrev pub outcome_from : Bool → Why → Outcome
 outcome_from allow reason = record { allow = allow; why = reason }
 
+-- an outcome
 unfoldable pub outcome_in : Reads Outcome
 outcome_in = fields2 outcome_from (word_in action_of) why_in
 
@@ -78,40 +85,51 @@ abbrev pub epoch_told : ℕ → Words → Option (Told × Words)
 epoch_told epoch [] = Some (told.Epoch epoch, [])
 epoch_told epoch (w ∷ ws) = outcome_in (w ∷ ws) >>= λ outcome. Some (told.Judged epoch outcome.0, outcome.1)
 
+-- epoch EPOCH, or epoch EPOCH OUTCOME
 unfoldable pub epoch_in : Reads Told
 epoch_in ws = number_in ws >>= λ epoch. epoch_told epoch.0 epoch.1
 
+-- check CHECK
 unfoldable pub check_in : Reads Told
 check_in = fields1 told.Check number_in
 
+-- took CLASS
 unfoldable pub took_in : Reads Told
 took_in = fields1 told.Took text_in
 
+-- waits QUESTION
 unfoldable pub waits_in : Reads Told
 waits_in = fields1 told.Waits number_in
 
+-- proc PROC
 unfoldable pub proc_in : Reads Told
 proc_in = fields1 told.Proc number_in
 
+-- reply QUESTION RESULT
 unfoldable pub reply_in : Reads Told
 reply_in = fields2 told.Reply number_in (word_in result_of)
 
+-- start EPOCH CLASS
 unfoldable pub start_in : Reads Told
 start_in = fields2 told.Start number_in text_in
 
+-- send PROC QUESTION CHANNEL KEY
 unfoldable pub send_in : Reads Told
 send_in = fields4 told.Send number_in number_in (word_in channel_of) text_in
 
+-- stop PROC
 unfoldable pub stop_in : Reads Told
 stop_in = fields1 told.Stop number_in
 
+-- seat SEAT POOL
 unfoldable pub seat_told_in : Reads Told
 seat_told_in = fields2 told.Seat number_in (word_in pool_of)
 
+-- granted N
 unfoldable pub granted_in : Reads Told
 granted_in = fields1 told.Granted number_in
 
--- an answer to an event of pools, of helpers, and of clients, by its name
+-- an answer to an event of pools, by its name
 unfoldable pub pool_told_in : List ℕ → Reads Told
 pool_told_in name ws =
     if bytes_eq name (codes "seat") then seat_told_in ws
@@ -119,6 +137,7 @@ pool_told_in name ws =
     else (if bytes_eq name (codes "granted") then granted_in ws
     else None))
 
+-- an answer to an event of helpers and acts by its name, and else of pools
 unfoldable pub helper_told_in : List ℕ → Reads Told
 helper_told_in name ws =
     if bytes_eq name (codes "proc") then proc_in ws
@@ -130,6 +149,7 @@ helper_told_in name ws =
     else (if bytes_eq name (codes "stop") then stop_in ws
     else pool_told_in name ws))))))
 
+-- an answer, by its name
 unfoldable pub told_in : Reads Told
 told_in [] = None
 told_in (name ∷ ws) =

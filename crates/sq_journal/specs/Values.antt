@@ -16,16 +16,20 @@ use Rattle.sq_rules.specs.Entries.{Noted, IsEntry, is_event, is_amount}
 abbrev pub IsNumber : ℕ → Type 0
 IsNumber n = n < 2 ^ 63
 
+-- each is below 256
 abbrev pub AreBytes : List ℕ → Type 0
 AreBytes bytes = All (λ b. b < 256) bytes
 
+-- a field of bytes
 abbrev pub IsField : Field → Type 0
 IsField f = AreBytes f.name × AreBytes f.value
 
+-- each field is of bytes
 abbrev pub AreFields : List Field → Type 0
 AreFields [] = Unit {0}
 AreFields (f ∷ fields) = IsField f × AreFields fields
 
+-- minutes from -840 to 840
 abbrev pub IsOffset : ℤ → Type 0
 IsOffset minutes = (negsuc 839 ≤ℤ minutes) × (minutes ≤ℤ pos 840)
 
@@ -51,12 +55,14 @@ HoldsValues (Leave seat) = IsNumber seat
 abbrev pub IsEvent : Event → Type 0
 IsEvent event = HoldsValues event × (is_event event ≡ true)
 
+-- a reason as a value of its type
 abbrev pub IsWhy : Why → Type 0
 IsWhy (why.Rule number) = number < 2 ^ 32
 IsWhy why.Default = Unit {0}
 IsWhy why.Empty = Unit {0}
 IsWhy (why.Fault rule acl cause) = (rule < 2 ^ 32) × AreBytes acl
 
+-- a channel, where there is one, below 2^32
 abbrev pub IsChannel : Option ℕ → Type 0
 IsChannel None = Unit {0}
 IsChannel (Some channel) = channel < 2 ^ 32
