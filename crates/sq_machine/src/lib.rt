@@ -1,0 +1,7 @@
+//! scratch
+#![tactic(auto)]
+
+mod counts;
+mod tables;
+
+pub use counts::Counts;
