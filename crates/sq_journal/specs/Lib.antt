@@ -1,0 +1,6 @@
+pub mod EntryText
+pub mod FieldReading
+pub mod Lines
+pub mod Reading
+pub mod ToldReading
+pub mod Values
