@@ -1,5 +1,6 @@
 pub mod AclLaws
 pub mod DirectLaws
+pub mod FactLaws
 pub mod ListLaws
 pub mod NameLaws
 pub mod PlainLaws

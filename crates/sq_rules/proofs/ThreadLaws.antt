@@ -1,4 +1,4 @@
--- That a configuration crosses threads, from its parts.
+-- That a configuration and the facts of a check cross threads, from their parts.
 use denote.Param.Send.{IsSend, IsSync, sendable, view_send, view_sync}
 use denote.Param.SendFields.{FieldsHave, declared_send, declared_sync}
 use Rattle.std.proofs.Crossing.{crosses}
@@ -11,6 +11,8 @@ use Rattle.sq_rules.specs.contracts.pools.Pool as pool
 use Rattle.sq_rules.specs.contracts.notices.Notice as notice
 use Rattle.sq_rules.specs.contracts.configs.Config as config
 use Rattle.sq_rules.specs.contracts.configs.Config.TheInside as inside
+use Rattle.sq_rules.specs.contracts.facts.Facts as facts
+use Rattle.sq_rules.specs.contracts.facts.Facts.TheInside as facts_inside
 
 token_send : IsSend token.the_row
 token_send = search (sendable, crosses) depth 40 fits 20000
@@ -69,3 +71,15 @@ inside_sync =
 
 pub config_sync : IsSync config.the_row
 config_sync = view_sync _ _ _ _ _ inside_sync
+
+facts_inside_send : IsSend facts_inside.the_row
+facts_inside_send = search (sendable, crosses) depth 40 fits 20000
+
+pub facts_send : IsSend facts.the_row
+facts_send = view_send _ _ _ _ _ facts_inside_send
+
+facts_inside_sync : IsSync facts_inside.the_row
+facts_inside_sync = search (sendable, crosses) depth 40 fits 20000
+
+pub facts_sync : IsSync facts.the_row
+facts_sync = view_sync _ _ _ _ _ facts_inside_sync

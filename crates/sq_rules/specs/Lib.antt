@@ -4,6 +4,7 @@ pub mod Configurations
 pub mod Direct
 pub mod Drafts
 pub mod Entries
+pub mod Facts
 pub mod Kinds
 pub mod Leaves
 pub mod Limits

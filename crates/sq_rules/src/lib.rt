@@ -2,8 +2,9 @@
 //!
 //! `Config` holds what a configuration file says, with the invariant that every name is unique, every
 //! named place exists and is earlier, groups nest 32 deep at the most, and rules of delay pools ask no
-//! helper. `Entry` is one line of a journal: a moment, an event and its answer. The definitions of
-//! `specs/` say when a leaf acl holds (`Leaves`), what a rule decides (`Verdicts`), what a history of
+//! helper. `Entry` is one line of a journal: a moment, an event and its answer. `Facts` are the truth
+//! values of the leaf acls that a check looks at. The definitions of `specs/` say when a leaf acl holds
+//! (`Leaves`), which facts a check has (`Facts`), what a rule decides (`Verdicts`), what a history of
 //! entries says of connections and checks (`Readings`), and what the machine answers next (`Machine`).
 #![tactic(auto)]
 
@@ -14,6 +15,7 @@ mod class_table;
 mod classes;
 mod configs;
 mod entries;
+mod facts;
 mod fast_lists;
 mod kinds;
 mod leaves;
@@ -31,6 +33,7 @@ pub use acl_types::AclType;
 pub use classes::{Class, Classes, Token, Tokens};
 pub use configs::{Acl, Acls, Body, Config, Lines, Rule, Rules, Term, Terms};
 pub use entries::{Entry, Event, Offset, Told};
+pub use facts::Facts;
 pub use kinds::{ConfError, Kind};
 pub use leaves::{Find, Finds, Hour, Hours, Leaf, Numbers, PortRange, PortRanges};
 pub use notices::{Notice, Notices};

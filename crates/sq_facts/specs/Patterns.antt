@@ -1,0 +1,20 @@
+-- Which acls have patterns (configuration reference, `acl`, type url_regex).
+use Rattle.std.specs.Prelude.{Bool, true, false, not}
+use Rattle.sq_rules.specs.declared.configs.Acl.{Acl}
+use Rattle.sq_rules.specs.declared.configs.Body.{Body}
+use Rattle.sq_rules.specs.declared.configs.Body.TheVariants as body
+use Rattle.sq_rules.specs.declared.leaves.Leaf.{Leaf}
+use Rattle.sq_rules.specs.declared.leaves.Leaf.TheVariants as leaf
+
+-- a leaf whose values are no patterns
+abbrev pub is_plain : Leaf → Bool
+is_plain (leaf.UrlRegex finds) = false
+is_plain l = true
+
+abbrev pub body_has_patterns : Body → Bool
+body_has_patterns (body.Leaf l) = not (is_plain l)
+body_has_patterns b = false
+
+-- an acl whose values are patterns
+abbrev pub has_patterns : Acl → Bool
+has_patterns a = body_has_patterns a.body
