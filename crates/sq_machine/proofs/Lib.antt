@@ -1,1 +1,5 @@
+pub mod CheckLaws
+pub mod Defaults
+pub mod JudgingLaws
+pub mod MachineLaws
 pub mod TableLaws

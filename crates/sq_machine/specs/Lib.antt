@@ -1,2 +1,4 @@
 pub mod Counts
+pub mod Judging
+pub mod Machines
 pub mod Tables
