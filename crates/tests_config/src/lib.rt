@@ -17,3 +17,5 @@ mod lines;
 mod plain;
 #[cfg(test)]
 mod replies;
+#[cfg(test)]
+mod script_lines;
