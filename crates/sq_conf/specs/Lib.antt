@@ -1,0 +1,2 @@
+pub mod ClassDrafts
+pub mod Forms
