@@ -17,7 +17,7 @@ above : (b : ℕ) → 128 ≤ b → should_percent_encode ESCAPES b ≡ is_escap
 unfolding should_percent_encode
 above b le = grind (arith, nat_tests)
 
-same_test : (b : ℕ) → should_percent_encode ESCAPES b ≡ is_escaped b
+pub same_test : (b : ℕ) → should_percent_encode ESCAPES b ≡ is_escaped b
 same_test b = ⊎_elim (λ under. agree_below_at (should_percent_encode ESCAPES) is_escaped 128 b below under) (λ over. above b over) (cases_lt b 128)
 
 pub encodes : (bytes : List ℕ) → percent_encode ESCAPES bytes ≡ escaped bytes

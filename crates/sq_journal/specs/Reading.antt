@@ -1,23 +1,13 @@
 -- Entries read from words, word by word.
-use Rattle.std.specs.Prelude.{◌≡◌, ℕ, ◌+◌, ◌^◌, ℤ, pos, negsuc, List, [], ◌∷◌, ◌==◌, Bool, true, false, if◌then◌else◌, Some, None, Result, Ok, Err, zero, suc, codes, bytes_eq, take, drop, position}
+use Rattle.std.specs.Prelude.{◌≡◌, ℕ, ◌+◌, ◌^◌, ℤ, pos, negsuc, List, [], ◌∷◌, ◌==◌, Bool, if◌then◌else◌, ◌&&◌, ◌||◌, nat_lt, Some, None, Result, Ok, Err, zero, suc, codes, bytes_eq, take, drop, position}
 use Rattle.std.specs.Option.{option_map}
 use Rattle.std.specs.declared.option.Option.{Option}
 use Rattle.sq_base.specs.Addresses.{Address, address_of, address_text}
 use Rattle.sq_base.specs.Decimals.{number_of, number_limit}
 use Rattle.sq_base.specs.Escapes.{text_of}
-use Rattle.sq_base.specs.declared.helpers.Cause.{Cause}
-use Rattle.sq_base.specs.declared.helpers.Cause.TheVariants as cause
-use Rattle.sq_base.specs.declared.helpers.Word.{Word}
-use Rattle.sq_base.specs.declared.helpers.Word.TheVariants as reply
 use Rattle.sq_base.specs.declared.requests.Field.{Field}
 use Rattle.sq_rules.specs.declared.entries.Event.{Event}
 use Rattle.sq_rules.specs.declared.entries.Event.TheVariants.{Begin, Open, Close, Ask, Step, Take, Started, StartFail, Line, Died, Act, Reconfigure, Seat, Grant, Leave}
-use Rattle.sq_rules.specs.declared.entries.Told.{Told}
-use Rattle.sq_rules.specs.declared.entries.Told.TheVariants as told
-use Rattle.sq_rules.specs.declared.outcomes.Outcome.{Outcome}
-use Rattle.sq_rules.specs.declared.outcomes.Why.{Why}
-use Rattle.sq_rules.specs.declared.outcomes.Why.TheVariants as why
-use Rattle.sq_rules.specs.Entries.{Noted, is_row}
 use Rattle.sq_journal.specs.declared.faults.EntryFault.{EntryFault}
 use Rattle.sq_journal.specs.declared.faults.EntryFault.TheVariants.{BadEntry, WantOfMemory}
 use Rattle.sq_journal.specs.Lines.{Words}
@@ -43,6 +33,18 @@ abbrev pub Gives : {X Y : Type 0} → (X → Y) → Result X EntryFault → Opti
 Gives view (Ok x) read = read ≡ Some (view x)
 Gives view (Err BadEntry) read = read ≡ None
 Gives view (Err WantOfMemory) read = Unit {0}
+
+-- The words after one that says no more than itself.
+abbrev pub Passes : Result (Unit {0}) EntryFault → Words → Option Words → Type 0
+Passes (Ok done) left read = read ≡ Some left
+Passes (Err BadEntry) left read = read ≡ None
+Passes (Err WantOfMemory) left read = Unit {0}
+
+-- A function returned this, or memory ran out.
+abbrev pub Is : {X : Type 0} → X → Result X EntryFault → Type 0
+Is x (Ok y) = y ≡ x
+Is x (Err BadEntry) = ⊥
+Is x (Err WantOfMemory) = Unit {0}
 
 -- one word
 unfoldable pub word_in : {A : Type 0} → (List ℕ → Option A) → Reads A
@@ -86,9 +88,13 @@ unfoldable pub offset_of : List ℕ → Option ℤ
 offset_of [] = None
 offset_of (b ∷ rest) = if b == 45 then number_of 841 rest >>= negative else option_map pos (number_of 841 (b ∷ rest))
 
+-- the number has the bits of its kind, as each that is read has
+abbrev pub has_bits : Address → Bool
+has_bits a = (a.v6 || nat_lt a.number (2 ^ 32)) && nat_lt a.number (2 ^ 128)
+
 abbrev pub address_if : List ℕ → Option Address → Option Address
 address_if word None = None
-address_if word (Some a) = if bytes_eq word (address_text a) then Some a else None
+address_if word (Some a) = if has_bits a && bytes_eq word (address_text a) then Some a else None
 
 -- the address whose printed text the word is
 unfoldable pub printed_address : List ℕ → Option Address

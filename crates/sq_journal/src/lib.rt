@@ -6,11 +6,19 @@
 //! the line, and no memory but that of the entry's texts.
 #![tactic(auto)]
 
+mod answers;
+mod entries;
 mod escapes;
 mod events;
 mod faults;
+mod helper_answers;
 mod helper_events;
+mod outcomes;
+mod printing;
+mod rows;
+mod told_printing;
 mod values;
 mod words;
 
+pub use entries::{print_entry, read_entry, read_event};
 pub use faults::EntryFault;
