@@ -1,5 +1,6 @@
 //! The text in which patterns are looked for.
 ghost use Rattle.std.specs.Prelude.{◌≡◌, IfOk, true};
+ghost use Rattle.std.specs.Cow.{cow_slice_items};
 ghost use Rattle.std.specs.List.{list_any};
 ghost use Rattle.percent_encoding.specs.Percent.{percent_decode};
 ghost use Rattle.sq_facts.specs.Patterns.{has_patterns};
@@ -8,15 +9,21 @@ use percent_encoding::percent_decode;
 use sq_base::{Text, WantOfMemory};
 use sq_rules::{Acl, Body, Leaf};
 use std::alloc::Global;
+use std::borrow::CowSlice;
 
-/// The target, percent-decoded where some acl has patterns.
-pub fn subject_of(alloc: Global, acls: &[Acl], target: &Text) -> Result<Text, WantOfMemory>
-    ensures { IfOk result (λ t. list_any has_patterns acls.now ≡ true → t ≡ percent_decode target.now) }
+/// The target, percent-decoded where some acl has patterns. A target without escapes is not copied.
+pub fn subject_of<'a>(
+    alloc: Global,
+    acls: &[Acl],
+    target: &'a Text,
+) -> Result<CowSlice<'a, u8, Global>, WantOfMemory>
+    ensures { IfOk result (λ t. list_any has_patterns acls.now ≡ true → cow_slice_items t ≡ percent_decode target.now) }
 {
+    let bytes = target.as_bytes();
     if some_have_patterns(acls) {
-        decoded(alloc, target.as_bytes())
+        Ok(percent_decode(bytes).into_cow(alloc)?)
     } else {
-        Ok(Text::new(alloc))
+        Ok(CowSlice::Borrowed(bytes))
     }
 }
 
@@ -33,13 +40,4 @@ fn has_patterns(acl: &Acl) -> bool
         Body::Leaf(Leaf::UrlRegex(_)) => true,
         _ => false,
     }
-}
-
-// The bytes with each escape read, in one piece of memory.
-fn decoded(alloc: Global, bytes: &[u8]) -> Result<Text, WantOfMemory>
-    ensures { IfOk result (λ t. t ≡ percent_decode bytes.now) }
-{
-    let mut out = Vec::with_capacity(alloc, bytes.len())?;
-    percent_decode(bytes).append_to(&mut out)?;
-    Ok(Text::from_vec(out))
 }

@@ -1,4 +1,5 @@
--- When a head is refused, and when parts are.
+-- When a head is refused, and when parts are: RFC 9112 section 3 for its request line and target, RFC
+-- 9110 section 5.4 for how many fields it may have.
 use Rattle.std.specs.Prelude.{◌≡◌, ℕ, ◌<◌, ◌≤◌, List, length, None, ⊤}
 use Rattle.httparse.specs.Grammar.{RequestHead}
 use Rattle.sq_base.specs.declared.requests.Field.{Field}

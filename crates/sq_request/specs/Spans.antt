@@ -1,4 +1,5 @@
--- Where the parts of a whole head are.
+-- Where the parts of a whole head are: its request line (RFC 9112 section 3) and its field lines
+-- (section 5).
 use Rattle.std.specs.Prelude.{◌≡◌, ℕ, ◌<◌, ◌≤◌, List, length, map, take, All}
 use Rattle.httparse.specs.Grammar.{RequestHead}
 use Rattle.httparse.specs.Spans.{span_bytes, header_bytes, name_and_value, IsWithin, IsHeaderWithin}

@@ -1,6 +1,6 @@
 use Rattle.std.proofs.Common.{◌≡◌, map, take}
 use Rattle.sq_rules.specs.Facts.{acl_fact}
-use Rattle.sq_facts.proofs.reading.read_facts.Given as goal
+use Rattle.sq_facts.proofs.reading.facts_over.Given as goal
 
 -- the facts so far are those of the acls so far
 abbrev pub invariant-loop-place : goal.invariant-loop-place
