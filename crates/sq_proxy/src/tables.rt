@@ -1,5 +1,5 @@
 //! Values by number.
-ghost use Rattle.std.specs.Prelude.{◌≡◌, ◌+◌, [], cond, if◌then◌else◌, ℕ, Some, None, length, is_none, is_some, OnOk, OnErr};
+ghost use Rattle.std.specs.Prelude.{◌≡◌, ◌+◌, [], true, cond, if◌then◌else◌, ℕ, Some, None, length, is_none, is_some, OnOk, OnErr};
 ghost use Rattle.std.specs.Ordering.{nat_cmp, is_eq};
 ghost use Rattle.sq_proxy.specs.Tables.{value_at};
 
@@ -67,7 +67,7 @@ impl<V: Copy + Drop> Table<V> {
     {
         match self.map.get_mut(&number) {
             Some(place) => *place = value,
-            None => {}
+            None => unreachable!(),
         }
     }
 

@@ -14,10 +14,13 @@ returns c =
     rw (← c.self.view_is) (open-made _ _ _ _ (record { addr = c.args.addr; port = c.args.port }) record {
       was = free;
       room = omega arith;
-      peers_are = c.in-Ok.ensures.ok;
+      peers_are = c.in-Ok.ensures.peers;
       count_is = c.in-Ok.ensures.len;
+      counts_are = c.in-Ok.ensures.counts;
       config_is = search rules;
+      offset_is = search rules;
       asked_is = search rules;
       checks_is = search rules;
+      begun_is = search rules;
       latest_is = c.later-self-inside.ensures;
     })

@@ -1,5 +1,0 @@
-pub mod CheckLaws
-pub mod Defaults
-pub mod JudgingLaws
-pub mod MachineLaws
-pub mod TableLaws

@@ -1,4 +1,0 @@
-pub mod Counts
-pub mod Judging
-pub mod Machines
-pub mod Tables
