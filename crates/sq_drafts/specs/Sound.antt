@@ -4,7 +4,7 @@ use Rattle.std.specs.Prelude.{◌≡◌, ℕ, ◌≤◌, List, Bool, true, false
 use Rattle.std.specs.List.{list_all}
 use Rattle.sq_rules.specs.Changes.{all_patterns}
 use Rattle.sq_rules.specs.Configurations.{are_known_bodies, is_fast_rule, is_known_rule}
-use Rattle.sq_rules.specs.Drafts.{Drafts, PoolDraft}
+use Rattle.sq_rules.specs.Drafts.{Drafts, PoolDraft, is_fast}
 use Rattle.sq_rules.specs.Limits.{acl_limit, class_limit, initial_limit, pool_limit, rule_limit}
 use Rattle.sq_rules.specs.Rates.{Rate}
 use Rattle.sq_rules.specs.declared.configs.Acl.{Acl}
@@ -20,6 +20,12 @@ has_room_for (Some class) (Some pairs) = nat_le 1 class && nat_le class 3 && len
 abbrev pub is_pool_draft : List Acl → PoolDraft → Bool
 is_pool_draft acls p = has_room_for p.class p.pairs && list_all (is_fast_rule acls) p.lists
 
+-- no rule of a pool is slow, where the acls that are slow are new or as before
+abbrev pub stay_fast : Option (List Bool) → List PoolDraft → Bool
+stay_fast None pools = true
+stay_fast (Some slow) pools = list_all (λ p. list_all (is_fast slow) p.lists) pools
+
+-- what holds of drafts, beside names of their own and the nesting
 pub record IsSound (d : Drafts) : Type 0 where
   pub members : are_known_bodies (length d.classes) 0 d.acls ≡ true
   pub patterns : all_patterns d.acls ≡ true

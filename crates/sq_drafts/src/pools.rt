@@ -1,6 +1,8 @@
 //! Delay pools under way.
 ghost use Rattle.std.specs.Prelude.{◌≡◌, ◌++◌, ◌∷◌, [], cond, true, false, is_some, map, replicate, slice_index_or, Some, None, IfOk, IfErr, OnOk, OnErr};
 ghost use Rattle.std.specs.List.{list_all};
+ghost use Rattle.sq_drafts.specs.Sound.{stay_fast};
+ghost use Rattle.sq_rules.specs.Configurations.{some_slow};
 ghost use Rattle.sq_rules.specs.Drafts.{are_complete, is_complete, is_fast, no_pool, pool_of_draft};
 
 use crate::faults::FinishFault;
@@ -104,29 +106,24 @@ fn is_slow_at(slow: &[bool], term: Term) -> bool
     }
 }
 
-fn is_fast_rule(slow: &[bool], rule: &Rule) -> bool
-    ensures { result ≡ is_fast slow.now rule.now }
+fn some_slow(slow: &[bool], terms: &[Term]) -> bool
+    ensures { result ≡ some_slow slow.now terms.now }
 {
-    !rule
-        .terms
-        .as_slice()
-        .iter()
-        .any(|term| is_slow_at(slow, *term))
+    terms.iter().any(|term| is_slow_at(slow, *term))
 }
 
 fn are_fast_rules(slow: &[bool], rules: &[Rule]) -> bool
     ensures { result ≡ list_all (is_fast slow.now) rules.now }
 {
     for rule in rules {
-        if !is_fast_rule(slow, rule) {
+        if some_slow(slow, rule.terms.as_slice()) {
             return false;
         }
     }
     true
 }
 
-/// Whether no rule of a pool names a slow acl, where these flags say which are.
-pub fn are_fast_pools(slow: &[bool], pools: &[StatedPool]) -> bool
+fn are_fast_pools(slow: &[bool], pools: &[StatedPool]) -> bool
     ensures { result ≡ list_all (λ p. list_all (is_fast slow.now) p.lists) pools.now }
 {
     for pool in pools {
@@ -137,12 +134,22 @@ pub fn are_fast_pools(slow: &[bool], pools: &[StatedPool]) -> bool
     true
 }
 
+/// Whether no rule of a pool names a slow acl, where these are slow, or the same as before.
+pub fn stay_fast(slow: &Option<Listed<bool>>, pools: &[StatedPool]) -> bool
+    ensures { result ≡ stay_fast slow.now pools.now }
+{
+    match slow {
+        None => true,
+        Some(slow) => are_fast_pools(slow.as_slice(), pools),
+    }
+}
+
 /// So many pools of which nothing is stated.
 pub fn new_pools(alloc: Global, count: u8) -> Result<Vec<StatedPool>, WantOfMemory>
     ensures { IfOk result (λ pools. pools.items ≡ replicate count no_pool) }
 {
     let mut pools = Vec::with_capacity(alloc, count as usize)?;
-    for _ in 0..count {
+    for _place in 0..count {
         pools.push(StatedPool::new(alloc))?;
     }
     Ok(pools)

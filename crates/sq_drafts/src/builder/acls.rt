@@ -8,7 +8,7 @@ ghost use Rattle.sq_rules.specs.Limits.{acl_limit};
 ghost use Rattle.sq_rules.specs.declared.configs.Body.TheVariants as body;
 
 use crate::builder::Builder;
-use crate::pools::are_fast_pools;
+use crate::pools::stay_fast;
 use sq_base::{Listed, Text, Texts, WantOfMemory};
 use sq_rules::{AclType, Body, Leaf, MemberFault, Term};
 use std::alloc::Global;
@@ -108,6 +108,7 @@ impl Builder {
         requires { place < length self.old.acls }
         ensures ok { OnOk result (self.new ≡ with_body place with_line self.old) }
         ensures err { OnErr result (self.new ≡ self.old) }
+        ensures count { length self.new.acls ≡ length self.old.acls }
     {
         self.acls.open_line(alloc, place)
     }
@@ -124,12 +125,11 @@ impl Builder {
         ensures not_slow { IfErr result (λ e. e ≡ MemberFault.Deep → are_fast (with_member_at place term self.old.acls) self.old.pools ≡ true) }
         ensures deep { IfErr result (λ e. e ≡ MemberFault.Deep → are_shallow (with_member_at place term self.old.acls) ≡ false) }
         ensures err { OnErr result (self.new ≡ self.old) }
+        ensures count { length self.new.acls ≡ length self.old.acls }
     {
         let slow = self.acls.slow_with(alloc, place, term)?;
-        if let Some(flags) = &slow {
-            if !are_fast_pools(flags.as_slice(), self.pools.as_slice()) {
-                return Err(MemberFault::Slow);
-            }
+        if !stay_fast(&slow, self.pools.as_slice()) {
+            return Err(MemberFault::Slow);
         }
         self.acls.add_member(alloc, place, term, slow)
     }
