@@ -1,6 +1,9 @@
 pub mod CheckLaws
 pub mod Defaults
+pub mod EscapeLaws
 pub mod HalfwayLaws
 pub mod JudgingLaws
 pub mod MachineLaws
+pub mod MakingLaws
+pub mod PageLaws
 pub mod TableLaws

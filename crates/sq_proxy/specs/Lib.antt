@@ -3,8 +3,10 @@ pub mod Counts
 pub mod Ends
 pub mod Judging
 pub mod Machines
+pub mod Making
 pub mod Outputs
 pub mod ParseText
 pub mod Pieces
 pub mod RunText
+pub mod Runs
 pub mod Tables

@@ -2,6 +2,8 @@
 use Rattle.std.specs.Prelude.{◌≡◌, ℕ, ◌∷◌, List, Result, Ok, Err}
 use Rattle.sq_rules.specs.declared.entries.Event.{Event}
 use Rattle.sq_rules.specs.declared.entries.Told.{Told}
+use Rattle.sq_rules.specs.declared.refusals.Refusal.{Refusal}
+use Rattle.sq_rules.specs.declared.refusals.Refusal.TheVariants as refusal
 use Rattle.sq_rules.specs.Configurations.{Configuration}
 use Rattle.sq_rules.specs.Entries.{History}
 use Rattle.sq_rules.specs.Machine.{Legal}
@@ -31,3 +33,9 @@ IsMaking old new now event (Err stop.Refused) =
 IsMaking old new now event (Err stop.Unbuilt) =
     (configs : List Configuration) (h : History) (number : ℕ) → Stands old configs h → event_step configs h number now event ≡ Err (ends.Unbuilt part.Script)
 IsMaking old new now event (Err stop.WantOfMemory) = Unit {0}
+
+-- a call of the machine, without the refusal's name
+abbrev pub named : Result Told Refusal → Result Told Stop
+named (Ok told) = Ok told
+named (Err refusal.WantOfMemory) = Err stop.WantOfMemory
+named (Err r) = Err stop.Refused

@@ -79,6 +79,32 @@ fn write_number_line<O: Sink>(out: &mut O, head: &[u8], number: u64) -> Result<(
     write_line(out, head, buffer.format(number).as_bytes())
 }
 
+// Writes a line that ends with two words.
+fn write_pair_line<O: Sink>(
+    out: &mut O,
+    head: &[u8],
+    first: &[u8],
+    second: &[u8],
+) -> Result<(), Failed>
+    ensures ok { OnOk result (Appends (O.contents out.old) (O.contents out.new) (head.now ++ first.now ++ (32 ∷ (second.now ++ 10 ∷ [])))) }
+    ensures err { OnErr result (Grew (O.contents out.old) (O.contents out.new)
+        (λ part. IsPrefix part (head.now ++ first.now ++ (32 ∷ (second.now ++ 10 ∷ []))))) }
+    ensures cause { HasCause (O.faults out.old) (O.faults out.new) result }
+{
+    match write_all(out, head) {
+        Ok(()) => {}
+        Err(Failed) => return Err(Failed),
+    }
+    match write_all(out, first) {
+        Ok(()) => {}
+        Err(Failed) => return Err(Failed),
+    }
+    match write_line(out, b" ", second) {
+        Ok(()) => Ok(()),
+        Err(Failed) => Err(Failed),
+    }
+}
+
 // Writes the line of a configuration's fault.
 fn write_config_line<O: Sink>(out: &mut O, line: u32, kind: u8) -> Result<(), Failed>
     ensures ok { OnOk result (Appends (O.contents out.old) (O.contents out.new) (config_line line kind)) }
@@ -87,15 +113,9 @@ fn write_config_line<O: Sink>(out: &mut O, line: u32, kind: u8) -> Result<(), Fa
 {
     let mut first = Buffer::new();
     let mut second = Buffer::new();
-    match write_all(out, b"error config ") {
-        Ok(()) => {}
-        Err(Failed) => return Err(Failed),
-    }
-    match write_all(out, first.format(line).as_bytes()) {
-        Ok(()) => {}
-        Err(Failed) => return Err(Failed),
-    }
-    write_line(out, b" ", second.format(kind).as_bytes())
+    let line = first.format(line).as_bytes();
+    let kind = second.format(kind).as_bytes();
+    write_pair_line(out, b"error config ", line, kind)
 }
 
 // The word of a part.

@@ -8,10 +8,12 @@
 mod counts;
 mod ends;
 mod escapes;
+mod events;
 mod judging;
 mod last_line;
 mod machine;
 mod page;
+mod replay;
 mod sighting;
 mod tables;
 

@@ -3,6 +3,7 @@ ghost use Rattle.std.specs.Prelude.{◌≡◌, ◌+◌, ◌∷◌, [], ℕ, List
 ghost use Rattle.std.specs.Ordering.{nat_cmp, is_eq};
 ghost use Rattle.sq_base.specs.Addresses.{Address};
 ghost use Rattle.sq_base.specs.declared.requests.Field.{Field};
+ghost use Rattle.sq_rules.specs.Entries.{is_row};
 ghost use Rattle.sq_rules.specs.Readings.{is_address, is_number};
 ghost use Rattle.sq_rules.specs.Sights.{request_of};
 ghost use Rattle.sq_rules.specs.Verdicts.{verdict};
@@ -112,7 +113,8 @@ impl Machine {
         port: u16,
         now: Moment,
     ) -> Result<Told, Refusal>
-        ensures { IsCall self.old self.new now (event.Open conn addr port) result }
+        ensures call { IsCall self.old self.new now (event.Open conn addr port) result }
+        ensures row { IfOk result (λ t. is_row (event.Open conn addr port) t ≡ true) }
     {
         if self.peers.get(conn.0 as u128).is_some() {
             return Err(Refusal::ConnInUse(conn));
@@ -130,7 +132,8 @@ impl Machine {
 
     /// A connection closes, and its open check is dropped.
     pub fn close(&mut self, conn: ConnNo, now: Moment) -> Result<Told, Refusal>
-        ensures { IsCall self.old self.new now (event.Close conn) result }
+        ensures call { IsCall self.old self.new now (event.Close conn) result }
+        ensures row { IfOk result (λ t. is_row (event.Close conn) t ≡ true) }
     {
         let Some(peer) = self.peers.get(conn.0 as u128) else {
             return Err(Refusal::UnknownConn(conn));
@@ -150,8 +153,9 @@ impl Machine {
         request: Request,
         now: Moment,
     ) -> Result<Told, Refusal>
-        ensures { (method target : List ℕ) (fields : List Field) → request ≡ request_of method target fields
+        ensures call { (method target : List ℕ) (fields : List Field) → request ≡ request_of method target fields
             → IsCall self.old self.new now (event.Ask conn method target fields) result }
+        ensures row { IfOk result (λ t. (method target : List ℕ) (fields : List Field) → is_row (event.Ask conn method target fields) t ≡ true) }
     {
         let Some(peer) = self.peers.get(conn.0 as u128) else {
             return Err(Refusal::UnknownConn(conn));
@@ -192,7 +196,8 @@ impl Machine {
 
     /// A check goes on: over leaf acls it has its outcome.
     pub fn step(&mut self, check: CheckNo, now: Moment) -> Result<Told, Refusal>
-        ensures { IsCall self.old self.new now (event.Step check) result }
+        ensures call { IsCall self.old self.new now (event.Step check) result }
+        ensures row { IfOk result (λ t. is_row (event.Step check) t ≡ true) }
     {
         let Some(row) = self.checks.get(check.0 as u128) else {
             return Err(Refusal::UnknownCheck(check));
@@ -209,7 +214,8 @@ impl Machine {
 
     /// The outcome of a check is taken, and the check ends.
     pub fn take(&mut self, check: CheckNo, now: Moment) -> Result<Told, Refusal>
-        ensures { IsCall self.old self.new now (event.Take check) result }
+        ensures call { IsCall self.old self.new now (event.Take check) result }
+        ensures row { IfOk result (λ t. is_row (event.Take check) t ≡ true) }
     {
         let Some(row) = self.checks.get(check.0 as u128) else {
             return Err(Refusal::UnknownCheck(check));

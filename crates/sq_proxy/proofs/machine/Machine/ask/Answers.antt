@@ -6,8 +6,8 @@ use Rattle.sq_proxy.specs.Tables.{value_at}
 use Rattle.sq_proxy.proofs.MachineLaws.{ask-made}
 use Rattle.sq_proxy.proofs.machine.Machine.ask.Goals as goal
 
-pub returns : goal.returns
-returns c = λ method target fields e.
+pub returns-clause-call : goal.returns-clause-call
+returns-clause-call c = λ method target fields e.
     let peer : value_at c.self.inside.peers c.args.conn ≡ Some c.in-Some.peer = search rules in
     let none : value_at c.self.inside.asked c.args.conn ≡ None = search rules in
     let config = c.self.inside.setup in

@@ -3,8 +3,8 @@ use Rattle.sq_proxy.specs.Tables.{value_at}
 use Rattle.sq_proxy.proofs.MachineLaws.{close-made}
 use Rattle.sq_proxy.proofs.machine.Machine.close.Goals as goal
 
-pub returns : goal.returns
-returns c =
+pub returns-clause-call : goal.returns-clause-call
+returns-clause-call c =
     let was : value_at c.self.inside.peers c.args.conn ≡ Some c.in-Some.peer = search rules in
     rw (← c.self.view_is) (close-made _ _ _ _ c.in-Some.peer record {
       was = was;
