@@ -1,1 +1,2 @@
+mod DayLaws
 mod NumberLaws

@@ -1,5 +1,5 @@
 -- What holds of a class of helpers as far as a line states it.
-use Rattle.std.specs.Prelude.{ℕ, ◌≤◌, length, IfSome}
+use Rattle.std.specs.Prelude.{◌≤◌, length, IfSome}
 use Rattle.sq_rules.specs.ClassLines.{ClassDraft}
 use Rattle.sq_rules.specs.Limits.{token_limit}
 

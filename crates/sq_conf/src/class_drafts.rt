@@ -153,7 +153,7 @@ impl ClassDraft {
 
     /// Whether the helper stands.
     pub fn has_helper(&self) -> bool
-        ensures { is_empty self.now.words ≡ not result }
+        ensures { result ≡ not (is_empty self.now.words) }
     {
         has_words(self.words.as_slice())
     }
@@ -169,7 +169,8 @@ impl ClassDraft {
     #[tactic(auto, unfolding(sq_rules::specs::ClassLines::class_of))]
     pub fn finish(self, name: Text) -> Result<Class, WantOfMemory>
         requires { length name ≤ name_limit }
-        ensures { IfOk result (λ c. c ≡ class_of name self) }
+        ensures value { IfOk result (λ c. c ≡ class_of name self) }
+        ensures named { IfOk result (λ c. c.name ≡ name) }
     {
         let format = with_arguments(self.format)?;
         Ok(Class {
@@ -198,7 +199,7 @@ fn has_no_token(format: &[Token]) -> bool
 }
 
 fn has_words(words: &[Text]) -> bool
-    ensures { is_empty words.now ≡ not result }
+    ensures { result ≡ not (is_empty words.now) }
 {
     match words {
         [] => false,

@@ -15,6 +15,7 @@ use std::alloc::Global;
 const ALL_DAYS: u8 = 127;
 
 // The weekdays of a letter as bits, Sunday the lowest.
+#[tactic(auto, unfolding(sq_rules::specs::AclValues::day_bits))]
 fn day_bits(letter: u8) -> Option<u8>
     ensures bits { result ≡ day_bits letter }
     ensures seven { IfSome result (λ d. d < 128) }
@@ -33,7 +34,7 @@ fn day_bits(letter: u8) -> Option<u8>
 }
 
 // The weekdays of one letter or more.
-#[tactic(auto, using(crate::proofs::NumberLaws::seven_days), unfolding(sq_rules::specs::AclValues::days_of))]
+#[tactic(auto, unfolding(sq_rules::specs::AclValues::days_of))]
 fn days_of(word: &[u8]) -> Option<u8>
     ensures bits { result ≡ days_of word.now }
     ensures seven { IfSome result (λ d. d < 128) }

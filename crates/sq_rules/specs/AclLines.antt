@@ -1,12 +1,13 @@
 -- Lines `acl NAME TYPE VALUE ...` and `http_access allow|deny TERM ...` (configuration reference,
 -- `acl`, `http_access`).
-use Rattle.std.specs.Prelude.{ℕ, List, [], ◌∷◌, ◌++◌, length, Bool, true, false, not, if◌then◌else◌, ◌&&◌, ◌||◌, ◌==◌, nat_lt, nat_le, Some, None, Ok, Err, is_some, is_none, codes, bytes_eq, slice_get}
+use Rattle.std.specs.Prelude.{ℕ, List, [], ◌∷◌, ◌++◌, length, Bool, true, false, not, if◌then◌else◌, ◌&&◌, ◌||◌, ◌==◌, nat_lt, nat_le, Some, None, Ok, Err, is_some, is_none, codes, bytes_eq}
 use Rattle.std.specs.declared.option.Option.{Option}
 use Rattle.std.specs.declared.result.Result.{Result}
 use Rattle.sq_rules.specs.AclValues.{is_unquoted, range_value, plain_value, port_value, method_value, maxconn_values, time_values, find_values}
 use Rattle.sq_rules.specs.Building.{place_of, class_place}
+use Rattle.sq_rules.specs.Changes.{type_at}
 use Rattle.sq_rules.specs.Configurations.{are_shallow}
-use Rattle.sq_rules.specs.Drafts.{Drafts, are_fast, type_of_body, with_acl_more, with_body, with_leaf, with_line, with_member}
+use Rattle.sq_rules.specs.Drafts.{Drafts, are_fast, with_acl_more, with_body, with_leaf, with_line, with_member}
 use Rattle.sq_rules.specs.Limits.{acl_limit, name_limit, rule_limit}
 use Rattle.sq_rules.specs.Steps.{Words, ◌>>=◌, unless, needed, word, over, over_some, some_of, one_more, begins}
 use Rattle.sq_rules.specs.declared.acl_types.AclType.{AclType}
@@ -64,14 +65,14 @@ type_place type.AllOf = 11
 abbrev pub same_type : AclType → AclType → Bool
 same_type a b = type_place a == type_place b
 
-abbrev pub is_of_type : AclType → Option Acl → Bool
+abbrev pub is_of_type : AclType → Option AclType → Bool
 is_of_type type None = true
-is_of_type type (Some a) = same_type (type_of_body a.body) type
+is_of_type type (Some other) = same_type other type
 
 -- the acl at the place, where there is one, has this type
 abbrev pub has_type : List Acl → AclType → Option ℕ → Bool
 has_type acls type None = true
-has_type acls type (Some place) = is_of_type type (slice_get acls place)
+has_type acls type (Some place) = is_of_type type (type_at acls place)
 
 -- a name with `!` before it or without
 abbrev pub is_negated : List ℕ → Bool

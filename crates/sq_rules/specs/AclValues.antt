@@ -1,5 +1,5 @@
 -- Values of leaf acls (configuration reference, `acl`).
-use Rattle.std.specs.Prelude.{ℕ, ◌+◌, ◌*◌, List, [], ◌∷◌, ◌++◌, length, Bool, true, false, not, if◌then◌else◌, ◌&&◌, ◌||◌, ◌==◌, nat_lt, nat_le, Some, None, Ok, Err, codes, bytes_eq, bit_or}
+use Rattle.std.specs.Prelude.{ℕ, ◌+◌, ◌*◌, List, [], ◌∷◌, ◌++◌, length, Bool, true, false, not, if◌then◌else◌, ◌&&◌, ◌||◌, ◌==◌, nat_lt, nat_le, Some, None, Ok, codes, bytes_eq, bit_or}
 use Rattle.std.specs.Char.{is_ascii_alphanumeric}
 use Rattle.std.specs.List.{list_all, list_any, before_first, after_first}
 use Rattle.std.specs.Option.{option_map, option_and_then}
@@ -72,7 +72,7 @@ maxconn_values ws = do
 
 -- the weekdays of a letter as the bits of a number, Sunday the lowest: S M T W H F A, and D for
 -- Monday to Friday
-abbrev pub day_bits : ℕ → Option ℕ
+unfoldable pub day_bits : ℕ → Option ℕ
 day_bits b =
     if b == 83 then Some 1
     else (if b == 77 then Some 2

@@ -177,10 +177,10 @@ class_of name s = record {
 }
 
 -- a name that no class has, and room for one more
-abbrev pub class_named : {A : Type 0} → List HelperClass → List ℕ → Result A Kind → Result A Kind
-class_named classes w rest =
+abbrev pub class_name : List HelperClass → List ℕ → Result (List ℕ) Kind
+class_name classes w =
     unless (nat_le (length w) name_limit) BadValue
-    (unless (is_none (class_place classes w)) DuplicateClass (unless (nat_lt (length classes) class_limit) TooMany rest))
+    (unless (is_none (class_place classes w)) DuplicateClass (unless (nat_lt (length classes) class_limit) TooMany (Ok w)))
 
 -- one notice more
 abbrev pub with_notice : ℕ → List ℕ → Drafts → Drafts
@@ -196,7 +196,8 @@ with_class c d = record d { classes = d.classes ++ c ∷ [] }
 -- external_acl_type NAME ...
 unfoldable pub class_line : ℕ → Drafts → Words → Result Drafts Kind
 class_line line d ws = do
-  name ← word ws
-  s ← class_named d.classes name.0 (over class_step default_class name.1)
+  first ← word ws
+  name ← class_name d.classes first.0
+  s ← over class_step default_class first.1
   unless (not (is_empty s.words)) MissingWord
-      (Ok (with_notice_if s.noted line (codes "external_acl_type") (with_class (class_of name.0 s) d)))
+      (Ok (with_notice_if s.noted line (codes "external_acl_type") (with_class (class_of name s) d)))

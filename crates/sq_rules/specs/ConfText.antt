@@ -1,6 +1,6 @@
 -- What a text of a configuration states, or its first fault: the lines in their order, and in each its
 -- words from the left (configuration reference).
-use Rattle.std.specs.Prelude.{◌≡◌, ℕ, List, [], ◌∷◌, length, if◌then◌else◌, nat_lt, Some, None, Ok, Err, codes, bytes_eq}
+use Rattle.std.specs.Prelude.{◌≡◌, ℕ, List, [], ◌∷◌, length, Bool, if◌then◌else◌, ◌||◌, nat_lt, Some, None, Ok, Err, codes, bytes_eq}
 use Rattle.std.specs.List.{list_any}
 use Rattle.std.specs.declared.option.Option.{Option}
 use Rattle.std.specs.declared.result.Result.{Result}
@@ -21,17 +21,30 @@ use Rattle.sq_rules.specs.declared.kinds.ConfError.{ConfError}
 use Rattle.sq_rules.specs.declared.kinds.Kind.{Kind}
 use Rattle.sq_rules.specs.declared.kinds.Kind.TheVariants as kind
 
--- directives that are read without effect
-abbrev pub without_effect : List (List ℕ)
-without_effect =
-    codes "access_log" ∷ codes "cache" ∷ codes "cache_dir" ∷ codes "cache_effective_group" ∷ codes "cache_effective_user" ∷ codes "cache_log"
-    ∷ codes "cache_mem" ∷ codes "cache_mgr" ∷ codes "cache_replacement_policy" ∷ codes "cache_store_log" ∷ codes "coredump_dir"
-    ∷ codes "dns_nameservers" ∷ codes "error_directory" ∷ codes "hosts_file" ∷ codes "logfile_rotate" ∷ codes "maximum_object_size"
-    ∷ codes "maximum_object_size_in_memory" ∷ codes "memory_replacement_policy" ∷ codes "minimum_object_size" ∷ codes "pid_filename"
-    ∷ codes "refresh_pattern" ∷ codes "shutdown_lifetime" ∷ codes "strip_query_terms" ∷ codes "visible_hostname" ∷ []
+-- directives of the cache, of what it keeps, and others, that are read without effect
+abbrev pub of_cache : List (List ℕ)
+of_cache =
+    codes "cache" ∷ codes "cache_dir" ∷ codes "cache_effective_group" ∷ codes "cache_effective_user" ∷ codes "cache_log" ∷ codes "cache_mem"
+    ∷ codes "cache_mgr" ∷ codes "cache_replacement_policy" ∷ codes "cache_store_log" ∷ []
 
-unfoldable pub directive_without_effect : List ℕ → Result Directive Kind
-directive_without_effect w = if list_any (λ d. bytes_eq w d) without_effect then Ok directive.NoEffect else Err kind.UnknownDirective
+abbrev pub of_objects : List (List ℕ)
+of_objects =
+    codes "maximum_object_size" ∷ codes "maximum_object_size_in_memory" ∷ codes "memory_replacement_policy" ∷ codes "minimum_object_size"
+    ∷ codes "refresh_pattern" ∷ codes "strip_query_terms" ∷ []
+
+abbrev pub of_program : List (List ℕ)
+of_program =
+    codes "access_log" ∷ codes "coredump_dir" ∷ codes "dns_nameservers" ∷ codes "error_directory" ∷ codes "hosts_file"
+    ∷ codes "logfile_rotate" ∷ codes "pid_filename" ∷ codes "shutdown_lifetime" ∷ codes "visible_hostname" ∷ []
+
+abbrev pub is_among : List (List ℕ) → List ℕ → Bool
+is_among names w = list_any (λ name. bytes_eq w name) names
+
+unfoldable pub is_without_effect : List ℕ → Bool
+is_without_effect w = is_among of_cache w || is_among of_objects w || is_among of_program w
+
+abbrev pub directive_without_effect : List ℕ → Result Directive Kind
+directive_without_effect w = if is_without_effect w then Ok directive.NoEffect else Err kind.UnknownDirective
 
 -- the directive of this name
 unfoldable pub directive_of : List ℕ → Result Directive Kind

@@ -1,4 +1,5 @@
-//! Tests of what a configuration and its helpers are written in: addresses, lines, replies.
+//! Tests of what a configuration and its helpers are written in: addresses, lines, whole
+//! texts, replies.
 //!
 //! It has no public call. Each test is one table, whose expected values come from the public standards
 //! (RFC 4291, RFC 5952, Squid's configuration reference and helper protocol), or calls each public
@@ -7,6 +8,8 @@
 
 #[cfg(test)]
 mod addresses;
+#[cfg(test)]
+mod configs;
 #[cfg(test)]
 mod fixtures;
 #[cfg(test)]

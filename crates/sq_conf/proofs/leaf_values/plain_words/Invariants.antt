@@ -1,6 +1,6 @@
 use Rattle.std.proofs.Common.{◌≡◌, [], drop}
 use Rattle.sq_rules.specs.AclValues.{plain_value}
-use Rattle.sq_rules.specs.Steps.{over, one_more, some_of}
+use Rattle.sq_rules.specs.Steps.{over, one_more}
 use Rattle.sq_conf.proofs.leaf_values.plain_words.Given as goal
 
 -- the values so far, and those of the words that are left, are all

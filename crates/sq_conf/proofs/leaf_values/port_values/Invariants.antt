@@ -1,4 +1,4 @@
-use Rattle.std.proofs.Common.{◌≡◌, [], drop}
+use Rattle.std.proofs.Common.{◌≡◌, drop}
 use Rattle.sq_rules.specs.AclValues.{port_value}
 use Rattle.sq_rules.specs.Steps.{over, one_more, some_of}
 use Rattle.sq_conf.proofs.leaf_values.port_values.Given as goal

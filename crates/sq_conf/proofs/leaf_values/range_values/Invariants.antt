@@ -1,4 +1,4 @@
-use Rattle.std.proofs.Common.{◌≡◌, [], drop}
+use Rattle.std.proofs.Common.{◌≡◌, drop}
 use Rattle.sq_rules.specs.AclValues.{range_value}
 use Rattle.sq_rules.specs.Steps.{over, one_more, some_of}
 use Rattle.sq_conf.proofs.leaf_values.range_values.Given as goal
