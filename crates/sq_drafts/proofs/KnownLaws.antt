@@ -17,6 +17,7 @@ use Rattle.sq_rules.specs.declared.configs.Body.{Body}
 use Rattle.sq_rules.specs.declared.configs.Body.TheVariants as body
 use Rattle.sq_rules.specs.declared.configs.Rule.{Rule}
 use Rattle.sq_rules.specs.declared.configs.Term.{Term}
+use Rattle.sq_rules.specs.declared.leaves.Find.{Find}
 use Rattle.sq_rules.specs.declared.leaves.Leaf.{Leaf}
 use Rattle.sq_rules.specs.declared.leaves.Leaf.TheVariants as leaf
 
@@ -75,88 +76,27 @@ member_known classes k t (body.External class arguments) one known = known
 member_known classes k t (body.AnyOf terms) one known = all_push (λ u. nat_lt u.acl k) terms t known one
 member_known classes k t (body.AllOf lines) one known = last_known k t lines one known
 
+regexes_joined : (a : List Find) (m : Leaf) → list_all is_pattern a ≡ true → are_patterns m ≡ true → are_patterns (joined_leaves (leaf.UrlRegex a) m) ≡ true
+regexes_joined a (leaf.UrlRegex b) p q = list_all-append is_pattern a b ∙ both_true (list_all is_pattern a) (list_all is_pattern b) p q
+regexes_joined a (leaf.Src b) p q = p
+regexes_joined a (leaf.Dst b) p q = p
+regexes_joined a (leaf.DstDomain b) p q = p
+regexes_joined a (leaf.Port b) p q = p
+regexes_joined a (leaf.Method b) p q = p
+regexes_joined a (leaf.Proto b) p q = p
+regexes_joined a (leaf.Time b) p q = p
+regexes_joined a (leaf.MaxConn b) p q = p
+
 joined_patterns : (l m : Leaf) → are_patterns l ≡ true → are_patterns m ≡ true → are_patterns (joined_leaves l m) ≡ true
-joined_patterns (leaf.Src a) (leaf.Src b) p q = refl
-joined_patterns (leaf.Src a) (leaf.Dst b) p q = refl
-joined_patterns (leaf.Src a) (leaf.DstDomain b) p q = refl
-joined_patterns (leaf.Src a) (leaf.Port b) p q = refl
-joined_patterns (leaf.Src a) (leaf.Method b) p q = refl
-joined_patterns (leaf.Src a) (leaf.Proto b) p q = refl
-joined_patterns (leaf.Src a) (leaf.Time b) p q = refl
-joined_patterns (leaf.Src a) (leaf.UrlRegex b) p q = refl
-joined_patterns (leaf.Src a) (leaf.MaxConn b) p q = refl
-joined_patterns (leaf.Dst a) (leaf.Src b) p q = refl
-joined_patterns (leaf.Dst a) (leaf.Dst b) p q = refl
-joined_patterns (leaf.Dst a) (leaf.DstDomain b) p q = refl
-joined_patterns (leaf.Dst a) (leaf.Port b) p q = refl
-joined_patterns (leaf.Dst a) (leaf.Method b) p q = refl
-joined_patterns (leaf.Dst a) (leaf.Proto b) p q = refl
-joined_patterns (leaf.Dst a) (leaf.Time b) p q = refl
-joined_patterns (leaf.Dst a) (leaf.UrlRegex b) p q = refl
-joined_patterns (leaf.Dst a) (leaf.MaxConn b) p q = refl
-joined_patterns (leaf.DstDomain a) (leaf.Src b) p q = refl
-joined_patterns (leaf.DstDomain a) (leaf.Dst b) p q = refl
-joined_patterns (leaf.DstDomain a) (leaf.DstDomain b) p q = refl
-joined_patterns (leaf.DstDomain a) (leaf.Port b) p q = refl
-joined_patterns (leaf.DstDomain a) (leaf.Method b) p q = refl
-joined_patterns (leaf.DstDomain a) (leaf.Proto b) p q = refl
-joined_patterns (leaf.DstDomain a) (leaf.Time b) p q = refl
-joined_patterns (leaf.DstDomain a) (leaf.UrlRegex b) p q = refl
-joined_patterns (leaf.DstDomain a) (leaf.MaxConn b) p q = refl
-joined_patterns (leaf.Port a) (leaf.Src b) p q = refl
-joined_patterns (leaf.Port a) (leaf.Dst b) p q = refl
-joined_patterns (leaf.Port a) (leaf.DstDomain b) p q = refl
-joined_patterns (leaf.Port a) (leaf.Port b) p q = refl
-joined_patterns (leaf.Port a) (leaf.Method b) p q = refl
-joined_patterns (leaf.Port a) (leaf.Proto b) p q = refl
-joined_patterns (leaf.Port a) (leaf.Time b) p q = refl
-joined_patterns (leaf.Port a) (leaf.UrlRegex b) p q = refl
-joined_patterns (leaf.Port a) (leaf.MaxConn b) p q = refl
-joined_patterns (leaf.Method a) (leaf.Src b) p q = refl
-joined_patterns (leaf.Method a) (leaf.Dst b) p q = refl
-joined_patterns (leaf.Method a) (leaf.DstDomain b) p q = refl
-joined_patterns (leaf.Method a) (leaf.Port b) p q = refl
-joined_patterns (leaf.Method a) (leaf.Method b) p q = refl
-joined_patterns (leaf.Method a) (leaf.Proto b) p q = refl
-joined_patterns (leaf.Method a) (leaf.Time b) p q = refl
-joined_patterns (leaf.Method a) (leaf.UrlRegex b) p q = refl
-joined_patterns (leaf.Method a) (leaf.MaxConn b) p q = refl
-joined_patterns (leaf.Proto a) (leaf.Src b) p q = refl
-joined_patterns (leaf.Proto a) (leaf.Dst b) p q = refl
-joined_patterns (leaf.Proto a) (leaf.DstDomain b) p q = refl
-joined_patterns (leaf.Proto a) (leaf.Port b) p q = refl
-joined_patterns (leaf.Proto a) (leaf.Method b) p q = refl
-joined_patterns (leaf.Proto a) (leaf.Proto b) p q = refl
-joined_patterns (leaf.Proto a) (leaf.Time b) p q = refl
-joined_patterns (leaf.Proto a) (leaf.UrlRegex b) p q = refl
-joined_patterns (leaf.Proto a) (leaf.MaxConn b) p q = refl
-joined_patterns (leaf.Time a) (leaf.Src b) p q = refl
-joined_patterns (leaf.Time a) (leaf.Dst b) p q = refl
-joined_patterns (leaf.Time a) (leaf.DstDomain b) p q = refl
-joined_patterns (leaf.Time a) (leaf.Port b) p q = refl
-joined_patterns (leaf.Time a) (leaf.Method b) p q = refl
-joined_patterns (leaf.Time a) (leaf.Proto b) p q = refl
-joined_patterns (leaf.Time a) (leaf.Time b) p q = refl
-joined_patterns (leaf.Time a) (leaf.UrlRegex b) p q = refl
-joined_patterns (leaf.Time a) (leaf.MaxConn b) p q = refl
-joined_patterns (leaf.UrlRegex a) (leaf.Src b) p q = p
-joined_patterns (leaf.UrlRegex a) (leaf.Dst b) p q = p
-joined_patterns (leaf.UrlRegex a) (leaf.DstDomain b) p q = p
-joined_patterns (leaf.UrlRegex a) (leaf.Port b) p q = p
-joined_patterns (leaf.UrlRegex a) (leaf.Method b) p q = p
-joined_patterns (leaf.UrlRegex a) (leaf.Proto b) p q = p
-joined_patterns (leaf.UrlRegex a) (leaf.Time b) p q = p
-joined_patterns (leaf.UrlRegex a) (leaf.UrlRegex b) p q = list_all-append is_pattern a b ∙ both_true (list_all is_pattern a) (list_all is_pattern b) p q
-joined_patterns (leaf.UrlRegex a) (leaf.MaxConn b) p q = p
-joined_patterns (leaf.MaxConn a) (leaf.Src b) p q = refl
-joined_patterns (leaf.MaxConn a) (leaf.Dst b) p q = refl
-joined_patterns (leaf.MaxConn a) (leaf.DstDomain b) p q = refl
-joined_patterns (leaf.MaxConn a) (leaf.Port b) p q = refl
-joined_patterns (leaf.MaxConn a) (leaf.Method b) p q = refl
-joined_patterns (leaf.MaxConn a) (leaf.Proto b) p q = refl
-joined_patterns (leaf.MaxConn a) (leaf.Time b) p q = refl
-joined_patterns (leaf.MaxConn a) (leaf.UrlRegex b) p q = refl
-joined_patterns (leaf.MaxConn a) (leaf.MaxConn b) p q = refl
+joined_patterns (leaf.Src a) m p q = grind arith
+joined_patterns (leaf.Dst a) m p q = grind arith
+joined_patterns (leaf.DstDomain a) m p q = grind arith
+joined_patterns (leaf.Port a) m p q = grind arith
+joined_patterns (leaf.Method a) m p q = grind arith
+joined_patterns (leaf.Proto a) m p q = grind arith
+joined_patterns (leaf.Time a) m p q = grind arith
+joined_patterns (leaf.UrlRegex a) m p q = regexes_joined a m p q
+joined_patterns (leaf.MaxConn a) m p q = grind arith
 
 pub leaf_patterns : (more : Leaf) (b : Body) → are_patterns more ≡ true → has_patterns b ≡ true → has_patterns (with_leaf more b) ≡ true
 leaf_patterns more (body.Leaf l) p q = joined_patterns l more q p

@@ -131,8 +131,8 @@ none_stated acls zero = refl
 none_stated acls (suc n) = none_stated acls n
 
 -- pools of which nothing is stated
-pub IsSound-count : (d : Drafts) (n : ℕ) (pools : List PoolDraft) → IsSound d → pools ≡ replicate n no_pool → n ≤ pool_limit → IsSound (record d { counted = true; pools = pools })
-IsSound-count d n pools sound made few = record {
+pub IsSound-count : (d : Drafts) (counted : Bool) (n : ℕ) (pools : List PoolDraft) → IsSound d → pools ≡ replicate n no_pool → n ≤ pool_limit → IsSound (record d { counted = counted; pools = pools })
+IsSound-count d counted n pools sound made few = record {
   members = sound.members;
   patterns = sound.patterns;
   places = sound.places;
