@@ -110,6 +110,10 @@ entry_only (Ok x) line g e h is = same_some x e (sym g ∙ entry_cut e line h is
 entry_only (Err BadEntry) line g e h is = no_some e (sym g ∙ entry_cut e line h is)
 entry_only (Err WantOfMemory) line g e h is = tt
 
+-- no two entries have one text
+pub entry_one : (a b : Noted) → IsNoted a → IsNoted b → entry_text a ≡ entry_text b → a ≡ b
+entry_one a b h k e = same_some a b (sym (entry_cut a (entry_text a) h refl) ∙ entry_cut b (entry_text a) k e)
+
 dated_line_takes : (line : List ℕ) (y : ℕ × Event) → AreBytes line → dated_of (words_of line) ≡ Some y → IsNumber y.0 × IsEvent y.1 × (line ≡ dated_text y.0 y.1)
 dated_line_takes line y small h =
     let t = dated_takes (words_of line) y (words_bytes line small) h in

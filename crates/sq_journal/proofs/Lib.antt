@@ -6,6 +6,7 @@ pub mod EventLaws
 pub mod FieldLaws
 pub mod FrontLaws
 pub mod LineLaws
+pub mod RangeLaws
 pub mod ToldLaws
 pub mod ToldWordLaws
 pub mod WordLaws

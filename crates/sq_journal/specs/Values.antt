@@ -1,6 +1,6 @@
--- What the numbers and texts of events and answers are: each number is below its type's limit, and each
--- text is of bytes. Every value of the types is so.
-use Rattle.std.specs.Prelude.{◌≡◌, ℕ, ◌<◌, ◌^◌, ℤ, negsuc, pos, ◌≤ℤ◌, List, [], ◌∷◌, All, true, Some, None}
+-- What the numbers and texts of events and answers are: each number is below its type's limit, each amount
+-- within its own, and each text is of bytes. Every entry is so.
+use Rattle.std.specs.Prelude.{◌≡◌, ℕ, ◌<◌, ◌^◌, ℤ, negsuc, pos, ◌≤ℤ◌, List, [], ◌∷◌, All, Bool, true, Some, None}
 use Rattle.std.specs.declared.option.Option.{Option}
 use Rattle.sq_base.specs.Addresses.{IsAddress}
 use Rattle.sq_base.specs.declared.requests.Field.{Field}
@@ -10,7 +10,7 @@ use Rattle.sq_rules.specs.declared.entries.Told.{Told}
 use Rattle.sq_rules.specs.declared.entries.Told.TheVariants as told
 use Rattle.sq_rules.specs.declared.outcomes.Why.{Why}
 use Rattle.sq_rules.specs.declared.outcomes.Why.TheVariants as why
-use Rattle.sq_rules.specs.Entries.{Noted, IsEntry, is_event}
+use Rattle.sq_rules.specs.Entries.{Noted, IsEntry, is_event, is_amount}
 
 -- a number of a connection, a check and the like, a moment, or an amount
 abbrev pub IsNumber : ℕ → Type 0
@@ -80,6 +80,11 @@ IsTold (told.Stop proc) = IsNumber proc
 IsTold (told.Seat seat pool) = IsNumber seat × (pool < 2 ^ 32)
 IsTold told.NoSeat = Unit {0}
 IsTold (told.Granted bytes) = IsNumber bytes
+
+-- an amount that was granted is within its limit
+abbrev pub has_amount : Told → Bool
+has_amount (told.Granted bytes) = is_amount bytes
+has_amount answer = true
 
 -- an entry as a value of its type
 pub record IsNoted (e : Noted) : Type 0 where

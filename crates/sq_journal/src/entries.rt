@@ -38,6 +38,8 @@ pub fn read_entry(alloc: Global, line: &[u8]) -> Result<Entry, EntryFault>
     ensures found { IfOk result (λ e. IsNoted e × (line.now ≡ entry_text e)) }
     // What is printed so is read, unless memory runs out: there is no other entry, and no fault.
     ensures only { (e : Noted) → IsNoted e → line.now ≡ entry_text e → Is e result }
+    // No two entries have one text.
+    ensures one { (a b : Noted) → IsNoted a → IsNoted b → entry_text a ≡ entry_text b → a ≡ b }
 {
     entry(alloc, line)
 }

@@ -15,6 +15,7 @@ mod helper_answers;
 mod helper_events;
 mod outcomes;
 mod printing;
+mod ranges;
 mod rows;
 mod told_printing;
 mod values;
@@ -22,3 +23,4 @@ mod words;
 
 pub use entries::{print_entry, read_entry, read_event};
 pub use faults::EntryFault;
+pub use ranges::holds_values;
