@@ -11,6 +11,7 @@ abbrev pub is_plain : Leaf → Bool
 is_plain (leaf.UrlRegex finds) = false
 is_plain l = true
 
+-- a leaf whose values are patterns
 abbrev pub body_has_patterns : Body → Bool
 body_has_patterns (body.Leaf l) = not (is_plain l)
 body_has_patterns b = false

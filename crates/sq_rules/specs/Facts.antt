@@ -13,6 +13,7 @@ body_fact s (body.External class arguments) = false
 body_fact s (body.AnyOf terms) = false
 body_fact s (body.AllOf lines) = false
 
+-- the fact of an acl
 abbrev pub acl_fact : Sight → Acl → Bool
 acl_fact s a = body_fact s a.body
 

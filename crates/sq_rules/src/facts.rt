@@ -7,7 +7,7 @@ use std::sync::ledger::Ledger;
 
 /// One truth value for each acl, by its place. That of an acl that is no leaf says nothing. A contract
 /// sees their list.
-#[derive(Drop, Debug)]
+#[derive(Drop)]
 pub struct Facts {
     values: Vec<bool>,
 }

@@ -1,9 +1,10 @@
 //! Tests of what a configuration and its helpers are written in: addresses, lines, whole
+//! Tests of what a configuration, its helpers and its clients write: addresses, lines, replies, heads.
 //! texts, replies.
 //!
 //! It has no public call. Each test is one table, whose expected values come from the public standards
-//! (RFC 4291, RFC 5952, Squid's configuration reference and helper protocol), or calls each public
-//! function of a crate once with ample memory and compares its answer.
+//! (RFC 4291, RFC 5952, RFC 9110, RFC 9112, Squid's configuration reference and helper protocol), or
+//! calls each public function of a crate once with ample memory and compares its answer.
 #![tactic(auto)]
 
 #[cfg(test)]
@@ -21,4 +22,7 @@ mod plain;
 #[cfg(test)]
 mod replies;
 #[cfg(test)]
+#[cfg(test)]
+mod requests;
 mod script_lines;
+mod values;
