@@ -6,4 +6,5 @@ pub mod JudgingLaws
 pub mod MachineLaws
 pub mod MakingLaws
 pub mod PageLaws
+pub mod RunLaws
 pub mod TableLaws

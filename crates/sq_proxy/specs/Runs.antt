@@ -1,7 +1,8 @@
 -- A run under way: the machine, what was written, and what the script has left.
-use Rattle.std.specs.Prelude.{◌≡◌, ℕ, ◌≤◌, List, Result, Ok, Err, IfSome}
+use Rattle.std.specs.Prelude.{◌≡◌, ℕ, ℤ, ◌≤◌, List, [], ◌∷◌, Result, Ok, Err, Some, IfSome}
 use Rattle.std.specs.declared.option.Option.{Option}
 use Rattle.sq_outside.specs.Causes.{Rose}
+use Rattle.sq_outside.specs.SourceLines.{lines}
 use Rattle.sq_rules.specs.Configurations.{Configuration}
 use Rattle.sq_rules.specs.Entries.{History}
 use Rattle.sq_journal.specs.EntryText.{written}
@@ -10,7 +11,7 @@ use Rattle.sq_proxy.specs.declared.ends.Status.TheVariants as ends
 use Rattle.sq_proxy.specs.Machines.{View}
 use Rattle.sq_proxy.specs.Making.{Stands}
 use Rattle.sq_proxy.specs.Outputs.{Wrote, WroteFront, WrotePart, Reaches}
-use Rattle.sq_proxy.specs.RunText.{Ran}
+use Rattle.sq_proxy.specs.RunText.{Ran, begun, run_lines}
 
 -- the machine stands for the legal history, whose lines were written since `base` but for what the page holds
 pub record At (v : View) (base contents : Option (List ℕ)) (page : List ℕ) (configs : List Configuration) (h : History) : Type 0 where
@@ -44,3 +45,40 @@ pub record RunHasCauses (script_before script_now out_before out_now : ℕ) (sta
   pub out_later : out_before ≤ out_now
   pub read : status ≡ ends.ReadFault → Rose script_before script_now
   pub write : status ≡ ends.WriteFault → Rose out_before out_now
+
+-- what the script has left runs, from this history, number and place on, to the whole
+pub record Same (left : Option (List ℕ)) (run : Ran) (configs : List Configuration) (h : History) (number place : ℕ) : Type 0 where
+  pub bytes : List ℕ
+  pub left_is : left ≡ Some bytes
+  pub same : run_lines configs h number place (lines bytes) ≡ run
+
+-- the state that a run has come to
+pub record Going (v : View) (first left base contents : Option (List ℕ)) (page : List ℕ) (configs : List Configuration) (run : List ℕ → Ran) (number place : ℕ) : Type 0 where
+  pub history : History
+  pub at : At v base contents page configs history
+  pub rest : IfSome first (λ bytes. Same left (run bytes) configs history number place)
+
+-- a run of a script ends by these alone
+abbrev pub IsRunEnd : Status → Type 0
+IsRunEnd ends.Ok = Unit {0}
+IsRunEnd (ends.Script line) = Unit {0}
+IsRunEnd ends.ReadFault = Unit {0}
+IsRunEnd ends.WriteFault = Unit {0}
+IsRunEnd ends.WantOfMemory = Unit {0}
+IsRunEnd (ends.Unbuilt p) = Unit {0}
+IsRunEnd end = ⊥
+
+-- the machine has begun, with its line on the page; or a fault came first
+abbrev pub Begins : Option (List ℕ) → Option (List ℕ) → List ℕ → Configuration → ℕ → ℤ → Result View Status → Type 0
+Begins base contents page config now offset (Ok v) = At v base contents page (config ∷ []) (begun now offset)
+Begins base contents page config now offset (Err ends.WriteFault) = WrotePart base contents (written (begun now offset))
+Begins base contents page config now offset (Err ends.WantOfMemory) = WroteFront base contents page (written (begun now offset))
+Begins base contents page config now offset (Err end) = ⊥
+
+-- a step ends a run by these alone
+abbrev pub IsStepEnd : Status → Type 0
+IsStepEnd (ends.Script line) = Unit {0}
+IsStepEnd ends.WriteFault = Unit {0}
+IsStepEnd ends.WantOfMemory = Unit {0}
+IsStepEnd (ends.Unbuilt p) = Unit {0}
+IsStepEnd end = ⊥

@@ -1,6 +1,5 @@
-//! Tests of what a configuration and its helpers are written in: addresses, lines, whole
-//! Tests of what a configuration, its helpers and its clients write: addresses, lines, replies, heads.
-//! texts, replies.
+//! Tests of what a configuration, its helpers and its clients write: addresses, lines, whole texts,
+//! replies, heads.
 //!
 //! It has no public call. Each test is one table, whose expected values come from the public standards
 //! (RFC 4291, RFC 5952, RFC 9110, RFC 9112, Squid's configuration reference and helper protocol), or
@@ -22,7 +21,8 @@ mod plain;
 #[cfg(test)]
 mod replies;
 #[cfg(test)]
-#[cfg(test)]
 mod requests;
+#[cfg(test)]
 mod script_lines;
+#[cfg(test)]
 mod values;
