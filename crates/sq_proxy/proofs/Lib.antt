@@ -1,3 +1,4 @@
+pub mod BeginLaws
 pub mod CheckLaws
 pub mod Defaults
 pub mod EscapeLaws

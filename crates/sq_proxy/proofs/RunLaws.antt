@@ -160,7 +160,7 @@ going-next v w (Some whole) left after base before contents old_page page line c
 }
 
 -- where a step stops a run
-stop-reaches : (base contents : Option (List ℕ)) (page : List ℕ) (h : History) (step : Result History Status) (go : History → Ran) (run : Ran) (end : Status)
+pub stop-reaches : (base contents : Option (List ℕ)) (page : List ℕ) (h : History) (step : Result History Status) (go : History → Ran) (run : Ran) (end : Status)
     → ((t : History) → IsPrefix (written t) (written (go t).history)) → goes_on h step go ≡ run → IsStepEnd end → Stops base contents page h step end → Reaches base contents page run end
 stop-reaches base contents page h step go run ends.WriteFault more same is stops =
     subst (λ (x : Ran). Reaches base contents page x ends.WriteFault) same (part-more base contents (step_text h step) _ (going-grows h step go more) stops)

@@ -1,6 +1,7 @@
 pub mod Commands
 pub mod Counts
 pub mod Ends
+pub mod Firsts
 pub mod Judging
 pub mod Machines
 pub mod Making

@@ -5,6 +5,7 @@
 //! is that of the machine's history, whose answers are each the next one by the definitions of the rules.
 #![tactic(auto)]
 
+mod beginning;
 mod counts;
 mod ends;
 mod escapes;

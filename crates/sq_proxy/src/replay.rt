@@ -1,4 +1,4 @@
-//! The run of a script over a configuration, line by line.
+//! The lines of a script, run one after another.
 ghost use Rattle.std.specs.Prelude.{◌≡◌, ◌+◌, ◌++◌, ◌≤◌, ℕ, List, Option, true, IfErr, IfOk, IsErrOf, OnOk};
 ghost use Rattle.std.specs.Io.KnownBytes.{prepend_known};
 ghost use Rattle.sq_outside.specs.Causes.{Rose};
@@ -67,8 +67,8 @@ pub fn tell<O: Sink>(
     }
 }
 
-// Runs the event of line `number`, at this moment.
-fn run_event<O: Sink>(
+/// Runs the event of line `number`, at this moment.
+pub fn run_event<O: Sink>(
     alloc: Global,
     number: u64,
     now: Moment,
@@ -119,8 +119,8 @@ fn run_line<O: Sink>(
     }
 }
 
-// Runs the lines that are left, from line 2 on. `place` bytes came before them.
-fn run_rest<S: Source, O: Sink>(
+/// Runs the lines that are left, from line 2 on. `place` bytes came before them.
+pub fn run_rest<S: Source, O: Sink>(
     alloc: Global,
     place: u64,
     machine: &mut Machine,
@@ -154,3 +154,4 @@ fn run_rest<S: Source, O: Sink>(
         number += 1;
     }
 }
+
