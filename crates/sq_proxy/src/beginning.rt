@@ -6,7 +6,7 @@ ghost use Rattle.sq_outside.specs.SourceLines.{lines, total_limit};
 ghost use Rattle.sq_rules.specs.Entries.{is_event};
 ghost use Rattle.sq_proxy.specs.Judging.{only_leaves};
 ghost use Rattle.sq_proxy.specs.Outputs.{Reaches, Wrote};
-ghost use Rattle.sq_proxy.specs.RunText.{begun, run_first, run_from, run_lines, run_script};
+ghost use Rattle.sq_proxy.specs.RunText.{begun, run_first, run_from, run_lines, run_script, run_stated, stated};
 ghost use Rattle.sq_proxy.specs.Firsts.{first_kind};
 ghost use Rattle.sq_proxy.specs.Runs.{Begins, IsRunEnd, IsStepEnd, RunHasCauses, RunsOver};
 ghost use Rattle.sq_proxy.specs.declared.ends.Status.TheVariants as ends;
@@ -177,6 +177,32 @@ fn run_first<S: Source, O: Sink>(
     }
 }
 
+// Runs a script from this first line on.
+fn run_stated<S: Source, O: Sink>(
+    alloc: Global,
+    setup: Setup,
+    line: &[u8],
+    place: u64,
+    held: &mut Held,
+    script: &mut S,
+    page: &mut Vec<u8>,
+    out: &mut O,
+) -> Status
+    requires leaves { only_leaves setup ≡ true }
+    requires place { place ≤ total_limit }
+    ensures runs { (base : Option (List ℕ)) → Wrote base (O.contents out.old) page.old.items []
+        → RunsOver (prepend_known held.old (S.left script.old)) base (O.contents out.new) page.new.items
+            (λ bytes. run_stated setup place (lines bytes) (stated line.now)) result }
+    ensures causes { RunHasCauses (S.faults script.old) (S.faults script.new) (O.faults out.old) (O.faults out.new) result }
+    ensures end { IsRunEnd result }
+{
+    match read_event(alloc, line) {
+        Ok((now, event)) => run_first(alloc, setup, now, event, place, held, script, page, out),
+        Err(EntryFault::BadEntry) => Status::Script(1),
+        Err(EntryFault::WantOfMemory) => Status::WantOfMemory,
+    }
+}
+
 /// Runs a script over a configuration. What is not written at the end is on the page.
 pub fn run<S: Source, O: Sink>(
     alloc: Global,
@@ -204,9 +230,5 @@ pub fn run<S: Source, O: Sink>(
         Err(Unread::Failed) => return Status::ReadFault,
         Err(Unread::WantOfMemory) => return Status::WantOfMemory,
     }
-    match read_event(alloc, line.as_slice()) {
-        Ok((now, event)) => run_first(alloc, setup, now, event, place, &mut held, script, page, out),
-        Err(EntryFault::BadEntry) => Status::Script(1),
-        Err(EntryFault::WantOfMemory) => Status::WantOfMemory,
-    }
+    run_stated(alloc, setup, line.as_slice(), place, &mut held, script, page, out)
 }

@@ -1,4 +1,4 @@
-use Rattle.std.proofs.Common.{◌≡◌, ◌+◌, ℕ, length, arith, subst, sym, ap, ◌∙◌, Some}
+use Rattle.std.proofs.Common.{◌≡◌, ◌+◌, ℕ, length, arith, subst, sym, ap}
 use Rattle.std.specs.Io.KnownBytes.{prepend_known}
 use Rattle.sq_outside.specs.SourceLines.{Finds, Moves}
 use Rattle.sq_outside.specs.declared.lines.Found.TheVariants as found
@@ -14,13 +14,12 @@ returns-in-Ok-End-clause-runs g c = λ base w.
     let found = subst (λ l. Finds 0 l after line found.End) (not-held c.in-Ok.held left c.in-Ok.ensures) (subst (Finds 0 (prepend_known c.in-Ok.held left) after line) c.in-Ok-End.field-0-is c.in-Ok-End.ensures.found) in
     none-over left after base _ _ line c.args.setup c.run_empty.result found (c.run_empty.ensures.runs base w)
 
-pub returns-in-Ok-read_event-clause-runs : goal.returns-in-Ok-read_event-clause-runs
-returns-in-Ok-read_event-clause-runs g c = λ base w.
+pub returns-clause-runs : goal.returns-clause-runs
+returns-clause-runs g c = λ base w.
     let left = g.S.Source.left c.args.script.now in
     let after = prepend_known c.next_line.new.held (g.S.Source.left c.next_line.new.source) in
     let line = c.next_line.new.line.items in
     let found = subst (λ l. Finds 0 l after line found.Whole) (not-held c.in-Ok.held left c.in-Ok.ensures) (subst (Finds 0 (prepend_known c.in-Ok.held left) after line) c.in-Ok-Whole.field-0-is c.in-Ok-Whole.ensures.found) in
     let moved = subst (Moves 0 c.next_line.new.place line) c.in-Ok-Whole.field-0-is c.in-Ok-Whole.ensures.place in
     let place : c.next_line.new.place ≡ length line + 1 = omega (arith, moved.0) in
-    let state : stated line ≡ Some (c.in-Ok-read_event.now, c.in-Ok-read_event.event) = ap stated (sym c.as_slice.ensures.value) ∙ c.in-Ok-read_event.ensures'.read in
-    stated-over left after base _ _ line c.args.setup c.next_line.new.place (Some (c.in-Ok-read_event.now, c.in-Ok-read_event.event)) c.run_first.result found state place (c.run_first.ensures.runs base w)
+    stated-over left after base _ _ line c.args.setup c.next_line.new.place (stated c.as_slice.result.now) c.run_stated.result found (ap stated (sym c.as_slice.ensures.value)) place (c.run_stated.ensures.runs base w)
