@@ -1,6 +1,8 @@
 pub mod BeginLaws
 pub mod CheckLaws
 pub mod Defaults
+pub mod DirectRuns
+pub mod EndLaws
 pub mod EscapeLaws
 pub mod HalfwayLaws
 pub mod JudgingLaws
@@ -8,4 +10,6 @@ pub mod MachineLaws
 pub mod MakingLaws
 pub mod PageLaws
 pub mod RunLaws
+pub mod SettleLaws
+pub mod StageLaws
 pub mod TableLaws

@@ -11,6 +11,8 @@ use Rattle.sq_journal.specs.EntryText.{written}
 use Rattle.sq_proxy.specs.declared.ends.Part.TheVariants as part
 use Rattle.sq_proxy.specs.declared.ends.Status.{Status}
 use Rattle.sq_proxy.specs.declared.ends.Status.TheVariants as ends
+use Rattle.sq_proxy.specs.declared.command.Command as Words
+use Rattle.sq_proxy.specs.declared.command.Command.TheVariants as words
 use Rattle.sq_proxy.specs.Judging.{only_leaves}
 use Rattle.sq_proxy.specs.ParseText.{parse_text}
 use Rattle.sq_proxy.specs.RunText.{Ran, run_script}
@@ -104,3 +106,8 @@ IsDirectOrNone config text = ((run_script config (lines text)).history ≡ []) �
 abbrev pub RunsDirectly : Disk → List (List ℕ) → Type 0
 RunsDirectly disk words = (conf script text : List ℕ) (config : Configuration) → command_of words ≡ Some (Replay conf script)
     → over_leaves (conf_stage conf (disk conf)) ≡ Ok config → disk script ≡ Some text → IsDirectOrNone config text
+
+-- the command that the code reads
+abbrev pub shown_command : Words.Command → Command
+shown_command (words.Parse conf) = Parse conf.now
+shown_command (words.Replay conf script) = Replay conf.now script.now

@@ -101,3 +101,21 @@ IsMissingOr name status = ⊥
 abbrev pub Comes : {A : Type 0} → Result A Status → Result A Status → Type 0
 Comes (result.Ok a) stage = stage ≡ result.Ok a
 Comes (result.Err end) stage = (stage ≡ result.Err end) ⊎ IsFault end
+
+-- a text that is no configuration ends a command by these alone
+abbrev pub IsConfEnd : Status → Type 0
+IsConfEnd (Config line kind) = Unit {0}
+IsConfEnd WantOfMemory = Unit {0}
+IsConfEnd status = ⊥
+
+-- a command over one file misses only this one, and is no usage
+abbrev pub IsPlayedEnd : Texts → List ℕ → Status → Type 0
+IsPlayedEnd texts name Usage = ⊥
+IsPlayedEnd texts name (Missing other) = (other ≡ name) × IsNotTold texts name
+IsPlayedEnd texts name status = Unit {0}
+
+-- a replay misses only a file that it names, and is no usage
+abbrev pub IsReplayEnd : Texts → List ℕ → List ℕ → Status → Type 0
+IsReplayEnd texts conf script Usage = ⊥
+IsReplayEnd texts conf script (Missing other) = ((other ≡ conf) ⊎ (other ≡ script)) × IsNotTold texts other
+IsReplayEnd texts conf script status = Unit {0}

@@ -1,5 +1,5 @@
 -- What was written of a command's text, and what of it a page still holds.
-use Rattle.std.specs.Prelude.{◌≡◌, ℕ, List, ◌++◌}
+use Rattle.std.specs.Prelude.{◌≡◌, ◌⊎◌, ℕ, List, ◌++◌, Bool, true, false}
 use Rattle.std.specs.declared.option.Option.{Option}
 use Rattle.std.specs.Io.KnownBytes.{Appends}
 use Rattle.sq_outside.specs.Output.{Grew, IsPrefix, IsProperPrefix, IsWritten}
@@ -34,11 +34,11 @@ Reaches base contents page ran ends.WriteFault = WrotePart base contents (writte
 Reaches base contents page ran end = (end ≡ ran.end) × Wrote base contents page (written ran.history)
 
 -- The command's text was written and it ended so; or a fault ended it before, and a front was written.
-abbrev pub Comes : Option (List ℕ) → Option (List ℕ) → Output → Status → Type 0
-Comes base contents output ends.ReadFault = Grew base contents (λ part. IsPrefix part output.text)
-Comes base contents output ends.WantOfMemory = Grew base contents (λ part. IsPrefix part output.text)
-Comes base contents output ends.WriteFault = WrotePart base contents output.text
-Comes base contents output end = (end ≡ output.end) × Appends base contents output.text
+abbrev pub Delivers : Option (List ℕ) → Option (List ℕ) → Output → Status → Type 0
+Delivers base contents output ends.ReadFault = Grew base contents (λ part. IsPrefix part output.text)
+Delivers base contents output ends.WantOfMemory = Grew base contents (λ part. IsPrefix part output.text)
+Delivers base contents output ends.WriteFault = WrotePart base contents output.text
+Delivers base contents output end = (end ≡ output.end) × Appends base contents output.text
 
 -- a text, and then the last line, or a part of it where the sink's count rose
 abbrev pub EndsWith : List ℕ → ℕ → ℕ → Status → List ℕ → Type 0
@@ -57,3 +57,17 @@ pub record HoldsFront (old new text : List ℕ) : Type 0 where
   pub front : List ℕ
   pub begins : IsPrefix front text
   pub page_is : new ≡ old ++ front
+
+-- a run that ended so ends a command so, or by a fault of writing
+abbrev pub IsSettled : Status → Status → Type 0
+IsSettled end result = (result ≡ end) ⊎ (result ≡ ends.WriteFault)
+
+abbrev pub is_write_fault : Status → Bool
+is_write_fault ends.WriteFault = true
+is_write_fault end = false
+
+-- how a run ends whose last page could not be written: a fault that came before stays
+abbrev pub failed_end : Status → Status
+failed_end ends.ReadFault = ends.ReadFault
+failed_end ends.WantOfMemory = ends.WantOfMemory
+failed_end end = ends.WriteFault

@@ -4,15 +4,19 @@ use Rattle.std.specs.List.{flat_map}
 use Rattle.sq_rules.specs.Configurations.{Configuration}
 use Rattle.sq_rules.specs.declared.notices.Notice.{Notice}
 
+-- a word and a number
+abbrev pub count : List ℕ → ℕ → List ℕ
+count word number = word ++ decimal number
+
 -- `notice LINE DIRECTIVE`
 abbrev pub notice_line : Notice → List ℕ
-notice_line n = codes "notice " ++ decimal n.line ++ 32 ∷ n.directive ++ 10 ∷ []
+notice_line n = count (codes "notice ") n.line ++ 32 ∷ [] ++ n.directive ++ 10 ∷ []
 
 -- `ok acls A rules R classes C pools P`
 abbrev pub counts_line : Configuration → List ℕ
 counts_line c =
-    codes "ok acls " ++ decimal (length c.acls) ++ codes " rules " ++ decimal (length c.rules)
-    ++ codes " classes " ++ decimal (length c.classes) ++ codes " pools " ++ decimal (length c.pools) ++ 10 ∷ []
+    count (codes "ok acls ") (length c.acls) ++ count (codes " rules ") (length c.rules)
+    ++ count (codes " classes ") (length c.classes) ++ count (codes " pools ") (length c.pools) ++ 10 ∷ []
 
 -- what `parse` writes
 abbrev pub parse_text : Configuration → List ℕ

@@ -6,6 +6,7 @@
 #![tactic(auto)]
 
 mod beginning;
+mod command;
 mod counts;
 mod ends;
 mod escapes;
@@ -14,8 +15,12 @@ mod judging;
 mod last_line;
 mod machine;
 mod page;
+mod parsing;
 mod replay;
 mod sighting;
+mod stages;
 mod tables;
+mod top;
 
 pub use ends::{Part, Status};
+pub use top::proxy;
