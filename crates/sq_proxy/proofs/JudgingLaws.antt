@@ -24,7 +24,6 @@ pub second-of : (a b : Bool) → (a && b) ≡ true → b ≡ true
 second-of true b e = e
 second-of false b e = cc
 
-
 leaf-value : (m : Term → Value) (a : Acl) (s : Sight) (b : Body) → a.body ≡ b → is_leaf a ≡ true → acl_value m (Some a) s ≡ value_if (acl_fact s a)
 leaf-value m a s (body.Leaf l) e h = rw e refl
 leaf-value m a s (body.External class arguments) e h = absurd (cc)

@@ -17,9 +17,11 @@ page-written base a b page now text w wrote none = record {
 
 -- a part of the page was written
 pub page-failed : (base a b : Option (List ℕ)) (page text : List ℕ) → Wrote base a page text → Grew a b (λ part. IsProperPrefix part page) → WrotePart base b text
-page-failed base a b page text w (part, wrote, short) =
-    (w.done ++ part, Appends-trans base a b w.done part w.appends wrote,
-    subst (IsProperPrefix (w.done ++ part)) w.whole (IsProperPrefix-after w.done part page short))
+page-failed base a b page text w (part, wrote, short) = (
+  w.done ++ part,
+  Appends-trans base a b w.done part w.appends wrote,
+  subst (IsProperPrefix (w.done ++ part)) w.whole (IsProperPrefix-after w.done part page short),
+)
 
 -- the page holds a line more
 pub page-more : (base a : Option (List ℕ)) (page now line text : List ℕ) → Wrote base a page text → now ≡ page ++ line → Wrote base a now (text ++ line)

@@ -89,7 +89,7 @@ fn run_from<S: Source, O: Sink>(
     requires place { place ≤ total_limit }
     ensures runs { (base : Option (List ℕ)) → Wrote base (O.contents out.old) page.old.items []
         → RunsOver (prepend_known held.old (S.left script.old)) base (O.contents out.new) page.new.items
-            (λ bytes. run_from setup place (lines bytes) now event) result }
+        (λ bytes. run_from setup place (lines bytes) now event) result }
     ensures causes { RunHasCauses (S.faults script.old) (S.faults script.new) (O.faults out.old) (O.faults out.new) result }
     ensures end { IsRunEnd result }
 {
@@ -120,7 +120,7 @@ fn run_begun<S: Source, O: Sink>(
     requires place { place ≤ total_limit }
     ensures runs { (base : Option (List ℕ)) → Wrote base (O.contents out.old) page.old.items []
         → RunsOver (prepend_known held.old (S.left script.old)) base (O.contents out.new) page.new.items
-            (λ bytes. run_lines (setup ∷ []) (begun now offset) 2 place (lines bytes)) result }
+        (λ bytes. run_lines (setup ∷ []) (begun now offset) 2 place (lines bytes)) result }
     ensures causes { RunHasCauses (S.faults script.old) (S.faults script.new) (O.faults out.old) (O.faults out.new) result }
     ensures end { IsRunEnd result }
 {
@@ -164,7 +164,7 @@ fn run_first<S: Source, O: Sink>(
     requires place { place ≤ total_limit }
     ensures runs { (base : Option (List ℕ)) → Wrote base (O.contents out.old) page.old.items []
         → RunsOver (prepend_known held.old (S.left script.old)) base (O.contents out.new) page.new.items
-            (λ bytes. run_first setup place (lines bytes) now event) result }
+        (λ bytes. run_first setup place (lines bytes) now event) result }
     ensures causes { RunHasCauses (S.faults script.old) (S.faults script.new) (O.faults out.old) (O.faults out.new) result }
     ensures end { IsRunEnd result }
 {
@@ -192,7 +192,7 @@ fn run_stated<S: Source, O: Sink>(
     requires place { place ≤ total_limit }
     ensures runs { (base : Option (List ℕ)) → Wrote base (O.contents out.old) page.old.items []
         → RunsOver (prepend_known held.old (S.left script.old)) base (O.contents out.new) page.new.items
-            (λ bytes. run_stated setup place (lines bytes) (stated line.now)) result }
+        (λ bytes. run_stated setup place (lines bytes) (stated line.now)) result }
     ensures causes { RunHasCauses (S.faults script.old) (S.faults script.new) (O.faults out.old) (O.faults out.new) result }
     ensures end { IsRunEnd result }
 {
@@ -230,5 +230,14 @@ pub fn run<S: Source, O: Sink>(
         Err(Unread::Failed) => return Status::ReadFault,
         Err(Unread::WantOfMemory) => return Status::WantOfMemory,
     }
-    run_stated(alloc, setup, line.as_slice(), place, &mut held, script, page, out)
+    run_stated(
+        alloc,
+        setup,
+        line.as_slice(),
+        place,
+        &mut held,
+        script,
+        page,
+        out,
+    )
 }

@@ -34,12 +34,7 @@ fn named(answer: Result<Told, Refusal>) -> Result<Told, Stop>
 
 /// Makes the event of a script's line, or says why not. `begin` stands in the first line alone, which is
 /// run without this call, and `act` in none.
-pub fn make(
-    alloc: Global,
-    machine: &mut Machine,
-    event: &Event,
-    now: Moment,
-) -> Result<Told, Stop>
+pub fn make(alloc: Global, machine: &mut Machine, event: &Event, now: Moment) -> Result<Told, Stop>
     ensures making { IsMaking machine.old machine.new now event.now result }
     ensures row { IfOk result (λ told. is_row event.now told ≡ true) }
 {

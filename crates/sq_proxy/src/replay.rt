@@ -23,12 +23,7 @@ use sq_rules::{Entry, Event, Told};
 use std::alloc::Global;
 
 // The text of an entry.
-fn text_of(
-    alloc: Global,
-    moment: Moment,
-    event: Event,
-    answer: Told,
-) -> Result<Text, WantOfMemory>
+fn text_of(alloc: Global, moment: Moment, event: Event, answer: Told) -> Result<Text, WantOfMemory>
     requires event { is_event event ≡ true }
     requires row { is_row event answer ≡ true }
     ensures { IfOk result (λ text. text ≡ entry_text (entry_at moment event answer)) }
@@ -132,7 +127,7 @@ pub fn run_rest<S: Source, O: Sink>(
     requires { place ≤ total_limit }
     ensures runs { (base : Option (List ℕ)) (configs : List Configuration) (h : History) → At machine.old base (O.contents out.old) page.old.items configs h
         → RunsOver (prepend_known held.old (S.left script.old)) base (O.contents out.new) page.new.items
-            (λ bytes. run_lines configs h 2 place (lines bytes)) result }
+        (λ bytes. run_lines configs h 2 place (lines bytes)) result }
     ensures causes { RunHasCauses (S.faults script.old) (S.faults script.new) (O.faults out.old) (O.faults out.new) result }
     ensures end { IsRunEnd result }
 {
@@ -154,4 +149,3 @@ pub fn run_rest<S: Source, O: Sink>(
         number += 1;
     }
 }
-

@@ -132,12 +132,7 @@ fn parse<F: Files, O: Sink>(alloc: Global, conf: &Text, files: &mut F, out: &mut
 }
 
 // Does what the words say, but for the last line.
-fn run_words<F: Files, O: Sink>(
-    alloc: Global,
-    words: &[Text],
-    files: &mut F,
-    out: &mut O,
-) -> Status
+fn run_words<F: Files, O: Sink>(alloc: Global, words: &[Text], files: &mut F, out: &mut O) -> Status
     ensures delivers { IfSome (F.texts files.old) (λ disk. Delivers (O.contents out.old) (O.contents out.new) (output_of disk words.now) result) }
     ensures usage { (result ≡ ends.Usage) ↔ (command_of words.now ≡ None) }
     ensures missing { IfMissing result (λ name. IsNamed (command_of words.now) name × IsNotTold (F.texts files.old) name) }

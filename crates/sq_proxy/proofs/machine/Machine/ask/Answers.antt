@@ -15,10 +15,10 @@ returns-clause-call c = λ method target fields e.
     let r = request_of method target fields in
     let minute = c.minute_of_week.ensures ∙ ap (λ m. minute_of_week m c.self.inside.offset) c.later-moment.ensures in
     let ruled =
-        c.in-Ok.ensures
-        ∙ ap (λ q. verdict config (seen q p c.minute_of_week.result c.count.result)) e
-        ∙ ap (λ m. verdict config (seen r p m c.count.result)) minute
-        ∙ ap (λ n. verdict config (seen r p (minute_of_week (max c.args.now c.self.inside.latest) c.self.inside.offset) n)) c.count.ensures in
+    c.in-Ok.ensures
+    ∙ ap (λ q. verdict config (seen q p c.minute_of_week.result c.count.result)) e
+    ∙ ap (λ m. verdict config (seen r p m c.count.result)) minute
+    ∙ ap (λ n. verdict config (seen r p (minute_of_week (max c.args.now c.self.inside.latest) c.self.inside.offset) n)) c.count.ensures in
     rw (← c.self.view_is) (ask-made _ _ _ _ method target fields c.in-Some.peer _ _ record {
       number_is = c.number_after-number.ensures;
       peer_is = peer;
