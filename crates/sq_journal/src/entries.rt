@@ -50,6 +50,8 @@ pub fn read_event(alloc: Global, line: &[u8]) -> Result<(Moment, Event), EntryFa
     ensures found { IfOk result (λ r. IsNumber r.0 × IsEvent r.1 × (line.now ≡ dated_text r.0 r.1)) }
     // What is printed so is read, unless memory runs out: there is no other event, and no fault.
     ensures only { (moment : ℕ) (event : Event) → IsNumber moment → IsEvent event → line.now ≡ dated_text moment event → Is (moment, event) result }
+    // So it is what the reading of the line's words gives.
+    ensures read { Gives (λ r. r) result (dated_of (words_of line.now)) }
 {
     dated(alloc, line)
 }

@@ -1,62 +1,137 @@
 -- The history of a run is legal, and so each verdict in it is direct.
-use Rattle.std.proofs.Common.{◌≡◌, ℕ, ◌+◌, ◌≤◌, List, [], ◌∷◌, Bool, true, false, if◌then◌else◌, max, Some, None, IfSome, Ok, refl, ap, arith, subst, length, nat_le}
+use Rattle.std.proofs.Common.{◌≡◌, ◌⊎◌, inl, inr, ℕ, ℤ, ◌+◌, List, [], ◌∷◌, length, Bool, true, false, if◌then◌else◌, max, Some, None, IfSome, Ok, Err, Result, is_some, pos, refl, sym, ap, ◌∙◌, arith, subst}
+use Rattle.std.proofs.lemmas.Option.{none-some}
 use Rattle.std.specs.declared.option.Option.{Option}
+use Rattle.sq_base.specs.Requests.{HttpRequest}
+use Rattle.sq_base.specs.declared.requests.Field.{Field}
+use Rattle.sq_outside.specs.SourceLines.{Line, lines, is_readable}
+use Rattle.sq_request.specs.Written.{made_request}
 use Rattle.sq_rules.specs.declared.entries.Event.{Event}
+use Rattle.sq_rules.specs.declared.entries.Event.TheVariants.{Begin, Open, Close, Ask, Step, Take, Started, StartFail, Line as HelperLine, Died, Act, Reconfigure, Seat, Grant, Leave}
+use Rattle.sq_rules.specs.declared.entries.Told.{Told}
 use Rattle.sq_rules.specs.Configurations.{Configuration}
 use Rattle.sq_rules.specs.Entries.{History}
-use Rattle.sq_rules.specs.Limits.{text_limit}
-use Rattle.sq_rules.specs.Machine.{Next, gives, refuses, nothing, next, Legal}
+use Rattle.sq_rules.specs.Machine.{Next, gives, refuses, nothing, next, Legal, is_begin, has_target}
 use Rattle.sq_rules.specs.Readings.{latest}
 use Rattle.sq_rules.proofs.DirectLaws.{legal-direct}
-use Rattle.sq_proxy.specs.declared.ends.Part.{Part}
-use Rattle.sq_proxy.specs.declared.ends.Part.TheVariants as part
-use Rattle.sq_proxy.specs.declared.script_form.Dated.{Dated}
-use Rattle.sq_proxy.specs.Machines.{entry_at, is_plain}
-use Rattle.sq_proxy.specs.Plain.{are_plain}
-use Rattle.sq_proxy.specs.RunText.{Ran, Disk, RunsDirectly, IsDirectRun, answered, goes_on, run_lines, run_script, begun, first_moment, built, script_stage}
-use Rattle.sq_proxy.specs.ScriptForm.{script_in, script_of}
-use Rattle.sq_proxy.proofs.PlainLaws.{first-of, second-of, script-plain}
-use Rattle.sq_proxy.proofs.PlayLaws.{legal-more}
+use Rattle.sq_proxy.specs.declared.ends.Status.{Status}
+use Rattle.sq_proxy.specs.declared.ends.Status.TheVariants as ends
+use Rattle.sq_proxy.specs.Commands.{Disk, IsDirectOrNone, RunsDirectly}
+use Rattle.sq_proxy.specs.Machines.{entry_at}
+use Rattle.sq_proxy.specs.RunText.{Ran, answered, asked_next, begun, event_step, goes_on, line_step, run_first, run_from, run_lines, run_script, run_stated, stated, stated_step}
+use Rattle.sq_proxy.proofs.MakingLaws.{legal-more, made-of}
 
-legal-answered : (configs : List Configuration) (h : History) (number moment : ℕ) (event : Event) (n : Next) (go : History → Ran) → Legal configs h → is_plain event ≡ true
-    → latest h ≤ moment → next configs h event ≡ n → ((t : History) → Legal configs t → Legal configs (go t).history)
-    → Legal configs (goes_on h (answered h number moment event n) go).history
-legal-answered configs h number moment event (gives t) go legal plain late e more =
-    more (entry_at moment event t ∷ h) (legal-more configs h moment event t legal plain late e)
-legal-answered configs h number moment event (refuses r) go legal plain late e more = legal
-legal-answered configs h number moment event nothing go legal plain late e more = legal
+-- an answer is the machine's next, and the history goes on with it
+record Goes (h : History) (moment : ℕ) (event : Event) (n : Next) (t : History) : Type 0 where
+  pub told : Told
+  pub next_is : n ≡ gives told
+  pub history_is : entry_at moment event told ∷ h ≡ t
+
+answered-ok : (h : History) (number moment : ℕ) (event : Event) (n : Next) (t : History) → answered h number moment event n ≡ Ok t → Goes h moment event n t
+answered-ok h number moment event (gives u) t e = record { told = u; next_is = refl; history_is = cc }
+answered-ok h number moment event (refuses r) t e = absurd (cc)
+answered-ok h number moment event nothing t e = absurd (cc)
+
+asked-legal : (configs : List Configuration) (h : History) (number now : ℕ) (event : Event) (t : History) → Legal configs h → is_begin event ≡ false → has_target event ≡ true
+    → asked_next configs h number now event ≡ Ok t → Legal configs t
+asked-legal configs h number now event t legal b p e =
+    let g = answered-ok h number (max now (latest h)) event (next configs h event) t e in
+    subst (Legal configs) g.history_is (legal-more configs h (max now (latest h)) event g.told legal b p (omega arith) g.next_is)
+
+if-ok : {A : Type 0} (b : Bool) (step : Result A Status) (end : Status) (t : A) → (if b then step else Err end) ≡ Ok t → (b ≡ true) × (step ≡ Ok t)
+if-ok true step end t e = (refl, e)
+if-ok false step end t e = absurd (cc)
+
+some-target : (method target : List ℕ) (fields : List Field) (o : Option HttpRequest) → made_request method target 1 fields ≡ o → is_some o ≡ true → has_target (Ask 0 method target fields) ≡ true
+some-target method target fields None e s = absurd (cc)
+some-target method target fields (Some r) e s = (made-of method target fields r e).has_form
+
+event-legal : (configs : List Configuration) (h : History) (number now : ℕ) (event : Event) (t : History) → Legal configs h → event_step configs h number now event ≡ Ok t → Legal configs t
+event-legal configs h number now (Begin offset) t legal e = absurd (cc)
+event-legal configs h number now Act t legal e = absurd (cc)
+event-legal configs h number now (Ask conn method target fields) t legal e =
+    let made = if-ok (is_some (made_request method target 1 fields)) (asked_next configs h number now (Ask conn method target fields)) (ends.Script number) t e in
+    asked-legal configs h number now (Ask conn method target fields) t legal refl (some-target method target fields (made_request method target 1 fields) refl made.0) made.1
+event-legal configs h number now (Open c a p) t legal e = asked-legal configs h number now (Open c a p) t legal refl refl e
+event-legal configs h number now (Close c) t legal e = asked-legal configs h number now (Close c) t legal refl refl e
+event-legal configs h number now (Step c) t legal e = asked-legal configs h number now (Step c) t legal refl refl e
+event-legal configs h number now (Take c) t legal e = asked-legal configs h number now (Take c) t legal refl refl e
+event-legal configs h number now (Started x c) t legal e = absurd (cc)
+event-legal configs h number now (StartFail x c) t legal e = absurd (cc)
+event-legal configs h number now (HelperLine q b) t legal e = absurd (cc)
+event-legal configs h number now (Died q) t legal e = absurd (cc)
+event-legal configs h number now (Reconfigure x) t legal e = absurd (cc)
+event-legal configs h number now (Seat c) t legal e = absurd (cc)
+event-legal configs h number now (Grant s w) t legal e = absurd (cc)
+event-legal configs h number now (Leave s) t legal e = absurd (cc)
+
+stated-legal : (configs : List Configuration) (h : History) (number : ℕ) (o : Option (ℕ × Event)) (t : History) → Legal configs h → stated_step configs h number o ≡ Ok t → Legal configs t
+stated-legal configs h number None t legal e = absurd (cc)
+stated-legal configs h number (Some (now, event)) t legal e = event-legal configs h number now event t legal e
+
+goes-legal : (configs : List Configuration) (h : History) (step step' : Result History Status) (go : History → Ran) → step ≡ step' → Legal configs h
+    → ((t : History) → step ≡ Ok t → Legal configs (go t).history) → Legal configs (goes_on h step' go).history
+goes-legal configs h step (Ok t) go same legal more = more t same
+goes-legal configs h step (Err end) go same legal more = legal
 
 -- a run from a legal history is legal
-pub legal-lines : (configs : List Configuration) (h : History) (number : ℕ) (lines : List Dated) → Legal configs h → are_plain lines ≡ true
-    → Legal configs (run_lines configs h number lines).history
-legal-lines configs h number [] legal plain = legal
-legal-lines configs h number (d ∷ lines) legal plain =
-    legal-answered configs h number (max d.moment (latest h)) d.event (next configs h d.event) (λ t. run_lines configs t (number + 1) lines) legal
-    (first-of (is_plain d.event) (are_plain lines) plain) (omega arith) refl
-    (λ t more. legal-lines configs t (number + 1) lines more (second-of (is_plain d.event) (are_plain lines) plain))
+pub legal-lines : (configs : List Configuration) (h : History) (number place : ℕ) (ls : List Line) → Legal configs h → Legal configs (run_lines configs h number place ls).history
+legal-lines configs h number place [] legal = legal
+legal-lines configs h number place (l ∷ ls) legal =
+    let step = line_step configs h number place l in
+    goes-legal configs h step step (λ t. run_lines configs t (number + 1) (place + length l.bytes + 1) ls) refl legal
+    (λ t e. legal-lines configs t (number + 1) (place + length l.bytes + 1) ls
+    (stated-legal configs h number (stated l.bytes) t legal (if-ok (is_readable place l) (stated_step configs h number (stated l.bytes)) (ends.Script number) t e).1))
 
-direct-run : (config : Configuration) (lines : List Dated) → are_plain lines ≡ true → IsDirectRun config lines
-direct-run config lines plain =
-    let legal = legal-lines (config ∷ []) (begun (first_moment lines)) 1 lines (refl, refl) plain in
-    (legal, legal-direct (config ∷ []) config (run_script config lines).history refl legal)
+-- a legal history, or none
+abbrev pub LegalOrNone : List Configuration → History → Type 0
+LegalOrNone configs h = (h ≡ []) ⊎ Legal configs h
 
-built-some : {A : Type 0} (p : Part) (o : Option A) (a : A) → built p o ≡ Ok a → o ≡ Some a
-built-some p None a e = absurd (cc)
-built-some p (Some b) a e = let same : b ≡ a = cc in ap Some same
+begun-legal : (config : Configuration) (now : ℕ) (offset : ℤ) → Legal (config ∷ []) (begun now offset)
+begun-legal config now offset = (refl, refl)
 
-if-some : {A : Type 0} (b : Bool) (o : Option A) (a : A) → (if b then o else None) ≡ Some a → o ≡ Some a
-if-some true o a e = e
-if-some false o a e = absurd (cc)
+from-legal : (config : Configuration) (place now : ℕ) (ls : List Line) (event : Event) → Legal (config ∷ []) (run_from config place ls now event).history
+from-legal config place now ls event =
+    let h = begun now (pos 0) in
+    let step = event_step (config ∷ []) h 1 now event in
+    goes-legal (config ∷ []) h step step (λ t. run_lines (config ∷ []) t 2 place ls) refl (begun-legal config now (pos 0))
+    (λ t e. legal-lines (config ∷ []) t 2 place ls (event-legal (config ∷ []) h 1 now event t (begun-legal config now (pos 0)) e))
 
-stage-plain : (name : List ℕ) (text : Option (List ℕ)) (lines : List Dated) → script_stage name text ≡ Ok lines → are_plain lines ≡ true
-stage-plain name None lines e = absurd (cc)
-stage-plain name (Some text) lines e =
-    subst (λ o. IfSome o (λ s. are_plain s ≡ true)) (if-some (nat_le (length text) text_limit) (script_in text) lines (built-some part.Script (script_of text) lines e)) (script-plain text)
+first-legal : (config : Configuration) (place now : ℕ) (ls : List Line) (event : Event) → LegalOrNone (config ∷ []) (run_first config place ls now event).history
+first-legal config place now ls (Begin offset) = inr (legal-lines (config ∷ []) (begun now offset) 2 place ls (begun-legal config now offset))
+first-legal config place now ls Act = inl refl
+first-legal config place now ls (Open c a p) = inr (from-legal config place now ls (Open c a p))
+first-legal config place now ls (Close c) = inr (from-legal config place now ls (Close c))
+first-legal config place now ls (Ask c m t f) = inr (from-legal config place now ls (Ask c m t f))
+first-legal config place now ls (Step c) = inr (from-legal config place now ls (Step c))
+first-legal config place now ls (Take c) = inr (from-legal config place now ls (Take c))
+first-legal config place now ls (Started e c) = inr (from-legal config place now ls (Started e c))
+first-legal config place now ls (StartFail e c) = inr (from-legal config place now ls (StartFail e c))
+first-legal config place now ls (HelperLine q b) = inr (from-legal config place now ls (HelperLine q b))
+first-legal config place now ls (Died q) = inr (from-legal config place now ls (Died q))
+first-legal config place now ls (Reconfigure t) = inr (from-legal config place now ls (Reconfigure t))
+first-legal config place now ls (Seat c) = inr (from-legal config place now ls (Seat c))
+first-legal config place now ls (Grant s w) = inr (from-legal config place now ls (Grant s w))
+first-legal config place now ls (Leave s) = inr (from-legal config place now ls (Leave s))
 
--- each run over files of their form is direct
-pub runs-directly : (disk : Disk) (words : List (List ℕ)) → RunsDirectly disk words
-runs-directly disk words = λ r config lines command conf script. direct-run config lines (stage-plain r.script (disk r.script) lines script)
+stated-run : (config : Configuration) (place : ℕ) (ls : List Line) (o : Option (ℕ × Event)) → LegalOrNone (config ∷ []) (run_stated config place ls o).history
+stated-run config place ls None = inl refl
+stated-run config place ls (Some (now, event)) = first-legal config place now ls event
 
+readable-run : (config : Configuration) (b : Bool) (place : ℕ) (ls : List Line) (o : Option (ℕ × Event))
+    → LegalOrNone (config ∷ []) (if b then run_stated config place ls o else record { history = []; end = ends.Script 1 }).history
+readable-run config true place ls o = stated-run config place ls o
+readable-run config false place ls o = inl refl
+
+script-legal : (config : Configuration) (ls : List Line) → LegalOrNone (config ∷ []) (run_script config ls).history
+script-legal config [] = inr (begun-legal config 0 (pos 0))
+script-legal config (l ∷ ls) = readable-run config (is_readable 0 l) (length l.bytes + 1) ls (stated l.bytes)
+
+direct-of : (config : Configuration) (text : List ℕ) → LegalOrNone (config ∷ []) (run_script config (lines text)).history → IsDirectOrNone config text
+direct-of config text (inl none) = inl none
+direct-of config text (inr legal) = inr (legal, legal-direct (config ∷ []) config (run_script config (lines text)).history refl legal)
+
+-- each run over files that are there is direct
 pub runs-directly-told : (texts : Option Disk) (words : List (List ℕ)) → IfSome texts (λ disk. RunsDirectly disk words)
 runs-directly-told None words = tt
-runs-directly-told (Some disk) words = runs-directly disk words
+runs-directly-told (Some disk) words = λ conf script text config command conf_is there. direct-of config text (script-legal config (lines text))

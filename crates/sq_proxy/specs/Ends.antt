@@ -4,10 +4,11 @@ use Rattle.std.specs.declared.result.Result.TheVariants as result
 use Rattle.sq_base.specs.Escapes.{text_word}
 use Rattle.sq_outside.specs.Causes.{Rose}
 use Rattle.sq_outside.specs.Told.{Texts, IsNotTold}
+use Rattle.sq_rules.specs.Kinds.{kind_number}
 use Rattle.sq_proxy.specs.declared.ends.Part.{Part}
 use Rattle.sq_proxy.specs.declared.ends.Part.TheVariants as part
 use Rattle.sq_proxy.specs.declared.ends.Status.{Status}
-use Rattle.sq_proxy.specs.declared.ends.Status.TheVariants.{Ok, Usage, Script, ReadFault, WriteFault, Missing, WantOfMemory, Unbuilt}
+use Rattle.sq_proxy.specs.declared.ends.Status.TheVariants.{Ok, Usage, Config, Script, ReadFault, WriteFault, Missing, WantOfMemory, Unbuilt}
 
 abbrev pub usage_line : List ℕ
 usage_line = codes "usage: aclproxy parse CONF | replay CONF SCRIPT | verify CONF JOURNAL | rehearse N | serve CONF [--port P] [--workers W] [--utc-offset M]" ++ 10 ∷ []
@@ -16,10 +17,15 @@ abbrev pub part_word : Part → List ℕ
 part_word part.Conf = codes "conf"
 part_word part.Script = codes "script"
 
+-- the line of a configuration's fault
+abbrev pub config_line : ℕ → ℕ → List ℕ
+config_line line kind = codes "error config " ++ decimal line ++ (32 ∷ (decimal kind ++ 10 ∷ []))
+
 -- the last line of a command that ends so
 abbrev pub last_line : Status → List ℕ
 last_line Ok = []
 last_line Usage = usage_line
+last_line (Config line kind) = config_line line (kind_number kind)
 last_line (Script line) = codes "error script " ++ decimal line ++ 10 ∷ []
 last_line ReadFault = codes "error read" ++ 10 ∷ []
 last_line WriteFault = []
@@ -31,6 +37,7 @@ last_line (Unbuilt p) = codes "error unbuilt " ++ part_word p ++ 10 ∷ []
 abbrev pub code_of : Status → ℕ
 code_of Ok = 0
 code_of Usage = 1
+code_of (Config line kind) = 2
 code_of (Script line) = 3
 code_of ReadFault = 4
 code_of WriteFault = 5
@@ -69,6 +76,8 @@ pub record HasCauses (files_before files_now out_before out_now : ℕ) (status :
 abbrev pub IsPlayEnd : Status → Type 0
 IsPlayEnd Ok = Unit {0}
 IsPlayEnd (Script line) = Unit {0}
+IsPlayEnd ReadFault = Unit {0}
+IsPlayEnd (Unbuilt p) = Unit {0}
 IsPlayEnd WriteFault = Unit {0}
 IsPlayEnd WantOfMemory = Unit {0}
 IsPlayEnd status = ⊥
@@ -78,6 +87,7 @@ abbrev pub IsOpenEnd : Texts → List ℕ → Status → Type 0
 IsOpenEnd texts name ReadFault = Unit {0}
 IsOpenEnd texts name WantOfMemory = Unit {0}
 IsOpenEnd texts name (Unbuilt p) = Unit {0}
+IsOpenEnd texts name (Config line kind) = Unit {0}
 IsOpenEnd texts name (Missing other) = (other ≡ name) × IsNotTold texts name
 IsOpenEnd texts name status = ⊥
 
@@ -91,3 +101,21 @@ IsMissingOr name status = ⊥
 abbrev pub Comes : {A : Type 0} → Result A Status → Result A Status → Type 0
 Comes (result.Ok a) stage = stage ≡ result.Ok a
 Comes (result.Err end) stage = (stage ≡ result.Err end) ⊎ IsFault end
+
+-- a text that is no configuration ends a command by these alone
+abbrev pub IsConfEnd : Status → Type 0
+IsConfEnd (Config line kind) = Unit {0}
+IsConfEnd WantOfMemory = Unit {0}
+IsConfEnd status = ⊥
+
+-- a command over one file misses only this one, and is no usage
+abbrev pub IsPlayedEnd : Texts → List ℕ → Status → Type 0
+IsPlayedEnd texts name Usage = ⊥
+IsPlayedEnd texts name (Missing other) = (other ≡ name) × IsNotTold texts name
+IsPlayedEnd texts name status = Unit {0}
+
+-- a replay misses only a file that it names, and is no usage
+abbrev pub IsReplayEnd : Texts → List ℕ → List ℕ → Status → Type 0
+IsReplayEnd texts conf script Usage = ⊥
+IsReplayEnd texts conf script (Missing other) = ((other ≡ conf) ⊎ (other ≡ script)) × IsNotTold texts other
+IsReplayEnd texts conf script status = Unit {0}

@@ -2,6 +2,7 @@
 ghost use Rattle.std.specs.Prelude.{◌≡◌};
 
 use sq_base::Text;
+use sq_rules::Kind;
 
 /// A file of a command.
 #[derive(Clone, Copy, PartialEq, Eq, Debug)]
@@ -17,6 +18,8 @@ pub enum Status {
     Ok,
     /// The words are no command that is built.
     Usage,
+    /// The configuration is faulty at this line, from 1, or as a whole, at line 0.
+    Config { line: u32, kind: Kind },
     /// The event of this line of the script was refused.
     Script(u64),
     /// A file could not be read.
@@ -41,6 +44,7 @@ impl Status {
         match self {
             Status::Ok => 0,
             Status::Usage => 1,
+            Status::Config { line: _, kind: _ } => 2,
             Status::Script(_) => 3,
             Status::ReadFault => 4,
             Status::WriteFault => 5,

@@ -1,33 +1,5 @@
-//! Texts escaped as one word of a line.
-ghost use Rattle.std.specs.Prelude.{◌≡◌, ◌++◌, OnOk};
-ghost use Rattle.sq_base.specs.Escapes.{escaped, text_word};
-
-use percent_encoding::{AsciiSet, CONTROLS, ascii_set, percent_encode};
-use sq_base::{Text, WantOfMemory};
+//! Bytes that are escaped in a word of a line.
+use percent_encoding::{AsciiSet, CONTROLS, ascii_set};
 
 /// The bytes that are escaped beside those past ASCII.
 pub const ESCAPES: AsciiSet = ascii_set!(CONTROLS.add(b' ').add(b'%').add(b'>'));
-
-// Puts the escaped bytes at the text's end, piece by piece.
-fn escape_onto(to: &mut Text, bytes: &[u8]) -> Result<(), WantOfMemory>
-    ensures { OnOk result (to.new ≡ to.old ++ escaped bytes.now) }
-{
-    for piece in percent_encode(bytes, ESCAPES) {
-        to.append(piece.as_bytes())?;
-    }
-    Ok(())
-}
-
-/// Puts the word of a text at the end.
-#[tactic(auto, unfolding(sq_base::specs::Escapes::text_word))]
-pub fn put_text(to: &mut Text, bytes: &[u8]) -> Result<(), WantOfMemory>
-    ensures { OnOk result (to.new ≡ to.old ++ text_word bytes.now) }
-{
-    if bytes.is_empty() {
-        return to.append(b"-");
-    }
-    if bytes == b"-".as_slice() {
-        return to.append(b"%2D");
-    }
-    escape_onto(to, bytes)
-}

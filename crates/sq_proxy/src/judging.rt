@@ -1,121 +1,136 @@
-//! The verdict of a configuration over a request's method and port and a client's address, which are
-//! all that acls of the types src, port and method read.
-ghost use Rattle.std.specs.Prelude.{◌≡◌, ◌&&◌, true, map, nat_le, bytes_eq};
-ghost use Rattle.std.specs.List.{list_any};
-ghost use Rattle.sq_base.specs.Ranges.{in_range};
-ghost use Rattle.sq_rules.specs.Leaves.{holds};
-ghost use Rattle.sq_rules.specs.Verdicts.{term_value, both, default_of, verdict};
-ghost use Rattle.sq_proxy.specs.Seen.{seen, is_hit, is_seen, is_simple, are_simple};
+//! The verdict of rules over the facts of a check. Their terms all name leaf acls.
+ghost use Rattle.std.specs.Prelude.{◌≡◌, ◌<◌, ◌≤◌, true, length};
+ghost use Rattle.std.specs.List.{list_all};
+ghost use Rattle.sq_rules.specs.Configurations.{are_known, is_known_rule};
+ghost use Rattle.sq_rules.specs.Limits.{rule_limit};
+ghost use Rattle.sq_rules.specs.Verdicts.{default_of};
+ghost use Rattle.sq_proxy.specs.Judging.{first_rule, is_leaf_at, is_leaf_rule, is_leaf_term, only_leaves, rule_holds, shown, term_holds};
 
-use sq_base::{Addr, Range, Text};
-use sq_rules::{Acl, Body, Config, Leaf, Outcome, PortRange, Rule, Term, Why};
+use sq_base::Steps;
+use sq_rules::{Acl, Body, Config, Facts, Outcome, Rule, Term, Why};
+use std::marker::Brand;
+use std::sync::ledger::{Blank, Ledger};
 
-fn src_holds(ranges: &[Range], addr: Addr) -> bool
-    ensures { result ≡ list_any (λ r. in_range r addr) ranges.now }
-{
-    ranges.iter().any(|r| r.holds(addr))
+/// What rules over leaf acls decide.
+#[derive(Clone, Copy, Debug, PartialEq, Eq)]
+pub enum Ruled {
+    /// The rule of this number, from 1, holds.
+    Rule { rule: u32, allow: bool },
+    /// No rule holds: the opposite of the last one.
+    Default { allow: bool },
+    /// There is no rule.
+    Empty,
 }
 
-fn port_holds(ranges: &[PortRange], port: u16) -> bool
-    ensures { result ≡ list_any (λ r. nat_le r.first port && nat_le port r.last) ranges.now }
-{
-    ranges.iter().any(|r| r.first <= port && port <= r.last)
-}
-
-fn method_holds(methods: &[Text], method: &[u8]) -> bool
-    ensures { result ≡ list_any (λ m. bytes_eq m method.now) methods.now }
-{
-    methods.iter().any(|m| m.as_bytes() == method)
-}
-
-fn leaf_holds(leaf: &Leaf, method: &[u8], port: u16, addr: Addr) -> bool
-    requires { is_seen leaf.now ≡ true }
-    ensures { result ≡ holds leaf.now (seen method.now port addr) }
-{
-    match leaf {
-        Leaf::Src(ranges) => src_holds(ranges.as_slice(), addr),
-        Leaf::Port(ranges) => port_holds(ranges.as_slice(), port),
-        Leaf::Method(methods) => method_holds(methods.as_slice(), method),
-        Leaf::Dst(_) => unreachable!(),
-        Leaf::DstDomain(_) => unreachable!(),
-        Leaf::Proto(_) => unreachable!(),
-        Leaf::Time(_) => unreachable!(),
-        Leaf::UrlRegex(_) => unreachable!(),
-        Leaf::MaxConn(_) => unreachable!(),
+impl Ruled {
+    /// The outcome.
+    pub fn outcome(self) -> Outcome
+        ensures { result ≡ shown self }
+    {
+        match self {
+            Ruled::Rule { rule, allow } => Outcome {
+                allow,
+                why: Why::Rule(rule),
+            },
+            Ruled::Default { allow } => Outcome {
+                allow,
+                why: Why::Default,
+            },
+            Ruled::Empty => Outcome {
+                allow: false,
+                why: Why::Empty,
+            },
+        }
     }
 }
 
-// The leaf that a simple acl is.
-fn leaf_in(body: &Body) -> &Leaf
-    requires { is_simple body.now ≡ true }
-    ensures leaf { body.now ≡ Body.Leaf result.now }
-    ensures seen { is_seen result.now ≡ true }
-{
-    match body {
-        Body::Leaf(leaf) => leaf,
-        Body::External {
-            class: _,
-            arguments: _,
-        } => unreachable!(),
-        Body::AnyOf(_) => unreachable!(),
-        Body::AllOf(_) => unreachable!(),
-    }
-}
-
-#[tactic(auto, using(crate::proofs::SeenLaws::simple_at))]
-fn term_holds(acls: &[Acl], term: Term, method: &[u8], port: u16, addr: Addr) -> bool
-    requires { are_simple acls.now ≡ true }
-    ensures { result ≡ is_hit (term_value acls.now (seen method.now port addr) term) }
+// Whether a term names a leaf acl.
+fn is_leaf_term(acls: &[Acl], term: Term) -> bool
+    ensures { result ≡ is_leaf_term acls.now term }
 {
     match acls.get(term.acl as usize) {
-        None => term.negated,
-        Some(acl) => leaf_holds(leaf_in(&acl.body), method, port, addr) != term.negated,
+        None => false,
+        Some(acl) => match &acl.body {
+            Body::Leaf(_) => true,
+            _ => false,
+        },
     }
 }
 
-fn rule_holds(acls: &[Acl], terms: &[Term], method: &[u8], port: u16, addr: Addr) -> bool
-    requires { are_simple acls.now ≡ true }
-    ensures { result ≡ is_hit (both (map (term_value acls.now (seen method.now port addr)) terms.now)) }
+// Whether each term of a rule does.
+fn is_leaf_rule(acls: &[Acl], rule: &Rule) -> bool
+    ensures { result ≡ is_leaf_rule acls.now rule.now }
+{
+    rule.terms.as_slice().iter().all(|t| is_leaf_term(acls, *t))
+}
+
+/// Whether each term of the rules names a leaf acl.
+pub fn only_leaves(config: &Config) -> bool
+    ensures { result ≡ only_leaves config.now }
+{
+    let acls = config.acls();
+    config.rules().iter().all(|r| is_leaf_rule(acls, r))
+}
+
+// Whether a term holds.
+fn term_holds<L: Ledger>(facts: &Facts, term: Term, steps: &mut Steps<L>) -> bool
+    requires { term.acl < length facts.now }
+    ensures { result ≡ term_holds facts.now term }
+{
+    facts.look(term.acl, steps) != term.negated
+}
+
+// Whether a rule holds: its terms from left to right.
+fn rule_holds<L: Ledger>(facts: &Facts, terms: &[Term], steps: &mut Steps<L>) -> bool
+    requires { are_known (length facts.now) terms.now ≡ true }
+    ensures { result ≡ list_all (term_holds facts.now) terms.now }
 {
     for term in terms {
-        if !term_holds(acls, *term, method, port, addr) {
+        if !term_holds(facts, *term, steps) {
             return false;
         }
     }
     true
 }
 
-fn default_outcome(rules: &[Rule]) -> Outcome
-    ensures { result ≡ default_of rules.now }
+// What is decided where no rule holds.
+fn default_of(rules: &[Rule]) -> Ruled
+    ensures { shown result ≡ default_of rules.now }
 {
     match rules.split_last() {
-        None => Outcome {
-            allow: false,
-            why: Why::Empty,
-        },
-        Some((last, _)) => Outcome {
-            allow: !last.allow,
-            why: Why::Default,
-        },
+        None => Ruled::Empty,
+        Some((last, _)) => Ruled::Default { allow: !last.allow },
     }
 }
 
-/// The outcome of a check of this method and port by a client of this address.
-pub fn judge(config: &Config, method: &[u8], port: u16, addr: Addr) -> Outcome
-    requires { are_simple config.now.acls ≡ true }
-    ensures { result ≡ verdict config.now (seen method.now port addr) }
+// The first rule that holds decides.
+fn first_rule<L: Ledger>(facts: &Facts, rules: &[Rule], blank: Blank) -> Ruled
+    requires name { blank.name ≡ L.name }
+    requires parts { blank.parts ≡ L.parts }
+    requires whole { 0 < blank.parts }
+    requires known { list_all (is_known_rule (length facts.now)) rules.now ≡ true }
+    requires few { length rules.now ≤ rule_limit }
+    ensures { shown result ≡ first_rule facts.now (default_of rules.now) 1 rules.now }
 {
-    let acls = config.acls();
-    let rules = config.rules();
+    let mut steps = Steps::<L>::open(blank);
     let mut number = 1;
     for rule in rules {
-        if rule_holds(acls, rule.terms.as_slice(), method, port, addr) {
-            return Outcome {
+        if rule_holds(facts, rule.terms.as_slice(), &mut steps) {
+            return Ruled::Rule {
+                rule: number,
                 allow: rule.allow,
-                why: Why::Rule(number),
             };
         }
         number += 1;
     }
-    default_outcome(rules)
+    default_of(rules)
+}
+
+/// What the rules decide over the facts of a check.
+pub fn judge(config: &Config, facts: &Facts) -> Ruled
+    requires { length facts.now ≡ length config.now.acls }
+    ensures { shown result ≡ first_rule facts.now (default_of config.now.rules) 1 config.now.rules }
+{
+    config.facts();
+    first_rule::<Brand>(facts, config.rules(), Blank::new(1))
 }

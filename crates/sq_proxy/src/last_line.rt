@@ -4,7 +4,7 @@ ghost use Rattle.std.specs.Io.KnownBytes.{Appends};
 ghost use Rattle.sq_base.specs.Escapes.{escaped, text_word};
 ghost use Rattle.sq_outside.specs.Causes.{HasCause};
 ghost use Rattle.sq_outside.specs.Output.{Grew, IsPrefix, IsWritten};
-ghost use Rattle.sq_proxy.specs.Ends.{last_line, part_word};
+ghost use Rattle.sq_proxy.specs.Ends.{config_line, last_line, part_word};
 
 use crate::ends::{Part, Status};
 use crate::escapes::ESCAPES;
@@ -79,6 +79,45 @@ fn write_number_line<O: Sink>(out: &mut O, head: &[u8], number: u64) -> Result<(
     write_line(out, head, buffer.format(number).as_bytes())
 }
 
+// Writes a line that ends with two words.
+fn write_pair_line<O: Sink>(
+    out: &mut O,
+    head: &[u8],
+    first: &[u8],
+    second: &[u8],
+) -> Result<(), Failed>
+    ensures ok { OnOk result (Appends (O.contents out.old) (O.contents out.new) (head.now ++ first.now ++ (32 ∷ (second.now ++ 10 ∷ [])))) }
+    ensures err { OnErr result (Grew (O.contents out.old) (O.contents out.new)
+        (λ part. IsPrefix part (head.now ++ first.now ++ (32 ∷ (second.now ++ 10 ∷ []))))) }
+    ensures cause { HasCause (O.faults out.old) (O.faults out.new) result }
+{
+    match write_all(out, head) {
+        Ok(()) => {}
+        Err(Failed) => return Err(Failed),
+    }
+    match write_all(out, first) {
+        Ok(()) => {}
+        Err(Failed) => return Err(Failed),
+    }
+    match write_line(out, b" ", second) {
+        Ok(()) => Ok(()),
+        Err(Failed) => Err(Failed),
+    }
+}
+
+// Writes the line of a configuration's fault.
+fn write_config_line<O: Sink>(out: &mut O, line: u32, kind: u8) -> Result<(), Failed>
+    ensures ok { OnOk result (Appends (O.contents out.old) (O.contents out.new) (config_line line kind)) }
+    ensures err { OnErr result (Grew (O.contents out.old) (O.contents out.new) (λ part. IsPrefix part (config_line line kind))) }
+    ensures cause { HasCause (O.faults out.old) (O.faults out.new) result }
+{
+    let mut first = Buffer::new();
+    let mut second = Buffer::new();
+    let line = first.format(line).as_bytes();
+    let kind = second.format(kind).as_bytes();
+    write_pair_line(out, b"error config ", line, kind)
+}
+
 // The word of a part.
 fn part_word(part: Part) -> &'static [u8]
     ensures { result.now ≡ part_word part }
@@ -97,6 +136,7 @@ fn write_last_line<O: Sink>(out: &mut O, status: &Status) -> Result<(), Failed>
 {
     match status {
         Status::Usage => write_line(out, USAGE, b""),
+        Status::Config { line, kind } => write_config_line(out, *line, kind.number()),
         Status::Script(line) => write_number_line(out, b"error script ", *line),
         Status::ReadFault => write_line(out, b"error read", b""),
         Status::Missing(name) => write_text_line(out, b"error missing ", name.as_bytes()),

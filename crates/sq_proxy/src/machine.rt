@@ -1,17 +1,26 @@
-//! The machine that runs a script's events over one configuration.
-ghost use Rattle.std.specs.Prelude.{◌≡◌, ◌++◌, ◌∷◌, [], ℕ, true, false, cond, max, Some, is_some, bytes_eq, codes, pos, length, ◌+◌, ◌<◌, ◌^◌, OnOk, OnErr};
+//! The machine that runs events over one configuration.
+ghost use Rattle.std.specs.Prelude.{◌≡◌, ◌+◌, ◌∷◌, [], ℕ, List, cond, if◌then◌else◌, length, max, suc, true, Some, None, IfOk, OnOk, OnErr};
 ghost use Rattle.std.specs.Ordering.{nat_cmp, is_eq};
-ghost use Rattle.sq_proxy.specs.ScriptForm.{target_port};
-ghost use Rattle.sq_proxy.specs.Seen.{are_simple};
-ghost use Rattle.sq_proxy.specs.Tables.{value_at};
+ghost use Rattle.sq_base.specs.Addresses.{Address};
+ghost use Rattle.sq_base.specs.declared.requests.Field.{Field};
+ghost use Rattle.sq_rules.specs.Entries.{is_row};
+ghost use Rattle.sq_rules.specs.Readings.{is_address, is_number};
+ghost use Rattle.sq_rules.specs.Sights.{request_of};
+ghost use Rattle.sq_rules.specs.Verdicts.{verdict};
 ghost use Rattle.sq_rules.specs.declared.entries.Event.TheVariants as event;
+ghost use Rattle.sq_proxy.specs.Counts.{tally};
+ghost use Rattle.sq_proxy.specs.Judging.{only_leaves, shown};
+ghost use Rattle.sq_proxy.specs.Machines.{seen};
+ghost use Rattle.sq_proxy.specs.Tables.{value_at};
 
-use crate::checks::{Checks, Held};
-use crate::judging::judge;
+use crate::counts::Counts;
+use crate::judging::{Ruled, judge};
+use crate::sighting::minute_of_week;
 use crate::tables::Table;
-use crate::targets::target_port;
-use sq_base::{Addr, CheckNo, ConnNo, EpochNo, Fields, Moment, Text, WantOfMemory};
-use sq_rules::{Config, Event, Peer, Refusal, Told};
+use sq_base::{Addr, CheckNo, ConnNo, EpochNo, Moment, Request, WantOfMemory};
+use sq_facts::read_facts;
+use sq_rules::{Offset, Peer, Refusal, Sight, Told};
+use sq_urlmatch::Setup;
 use std::alloc::Global;
 use std::marker::Model;
 
@@ -21,33 +30,37 @@ const CONN_LIMIT: usize = 65_536;
 /// The number that is never given.
 const LAST_NUMBER: u64 = 0x7FFF_FFFF_FFFF_FFFF;
 
-/// Why an event was not made.
-#[derive(Clone, Copy, PartialEq, Eq, Debug)]
-pub enum Stop {
-    Refused,
-    WantOfMemory,
+/// An open check: its connection, whether a step said that it is done, and what was decided.
+#[derive(Clone, Copy, Debug, PartialEq, Eq)]
+pub struct Row {
+    pub conn: ConnNo,
+    pub done: bool,
+    pub ruled: Ruled,
 }
 
-/// The machine. The acls of its configuration are lists of the types src, port and method.
+/// The machine. The terms of its rules all name leaf acls.
 #[derive(Drop)]
 pub struct Machine {
-    config: Config,
+    setup: Setup,
+    offset: Offset,
     peers: Table<Peer>,
+    counts: Counts,
     asked: Table<CheckNo>,
-    checks: Checks,
+    checks: Table<Row>,
+    begun: CheckNo,
     latest: Moment,
 }
 
 impl Model for Machine {
     ghost use Rattle.std.specs.Prelude.{◌≡◌, true};
+    ghost use Rattle.sq_proxy.specs.Judging.{only_leaves};
     ghost use Rattle.sq_proxy.specs.Machines.{View};
-    ghost use Rattle.sq_proxy.specs.Seen.{are_simple};
 
     ghost Value = { View };
 
-    ghost view = { λ m. record { config = m.config; peers = m.peers; asked = m.asked; checks = m.checks; latest = m.latest } };
+    ghost view = { λ m. record { config = m.setup; offset = m.offset; peers = m.peers; counts = m.counts; asked = m.asked; checks = m.checks; begun = m.begun; latest = m.latest } };
 
-    ghost invariant = { λ m. are_simple m.config.acls ≡ true };
+    ghost invariant = { λ m. only_leaves m.setup ≡ true };
 }
 
 // The later of two moments.
@@ -57,21 +70,30 @@ fn later(now: Moment, latest: Moment) -> Moment
     Moment(now.0.max(latest.0))
 }
 
+// The number that comes next.
+fn number_after(begun: CheckNo) -> u64
+    ensures { result ≡ suc begun }
+{
+    begun.0 + 1
+}
+
 impl Machine {
     ghost use Rattle.sq_rules.specs.declared.entries.Told.TheVariants as told;
-    ghost use Rattle.sq_proxy.specs.Machines.{IsCall, StandsFor, entry_at, is_plain};
-    ghost use Rattle.sq_proxy.specs.Making.{IsMaking};
+    ghost use Rattle.sq_proxy.specs.Machines.{IsCall, StandsFor, entry_at};
 
-    /// The machine that begins at this moment, at offset 0.
-    pub fn new(alloc: Global, config: Config, now: Moment) -> Machine
-        requires { are_simple config.acls ≡ true }
-        ensures { StandsFor result (config ∷ []) (entry_at now (event.Begin (pos 0)) (told.Epoch 1) ∷ []) }
+    /// The machine that begins at this moment, at this offset of local time.
+    pub fn new(alloc: Global, setup: Setup, offset: Offset, now: Moment) -> Machine
+        requires { only_leaves setup ≡ true }
+        ensures { StandsFor result (setup ∷ []) (entry_at now (event.Begin offset) (told.Epoch 1) ∷ []) }
     {
         Machine {
-            config,
+            setup,
+            offset,
             peers: Table::new(alloc),
+            counts: Counts::new(alloc),
             asked: Table::new(alloc),
-            checks: Checks::new(alloc),
+            checks: Table::new(alloc),
+            begun: CheckNo(0),
             latest: now,
         }
     }
@@ -83,57 +105,24 @@ impl Machine {
         self.latest
     }
 
-    /// Makes an event, or refuses it and changes nothing.
-    pub fn make(&mut self, event: &Event, now: Moment) -> Result<Told, Stop>
-        requires { is_plain event.now ≡ true }
-        ensures { IsMaking self.old self.new now event.now result }
+    /// A client's connection opens.
+    pub fn open(
+        &mut self,
+        conn: ConnNo,
+        addr: Addr,
+        port: u16,
+        now: Moment,
+    ) -> Result<Told, Refusal>
+        ensures call { IsCall self.old self.new now (event.Open conn addr port) result }
+        ensures row { IfOk result (λ t. is_row (event.Open conn addr port) t ≡ true) }
     {
-        match self.apply(event, now) {
-            Ok(told) => Ok(told),
-            Err(Refusal::WantOfMemory) => Err(Stop::WantOfMemory),
-            Err(_) => Err(Stop::Refused),
-        }
-    }
-
-    // The same with the refusal.
-    fn apply(&mut self, event: &Event, now: Moment) -> Result<Told, Refusal>
-        requires { is_plain event.now ≡ true }
-        ensures { IsCall self.old self.new now event.now result }
-    {
-        match event {
-            Event::Open { conn, addr, port } => self.open(*conn, *addr, *port, now),
-            Event::Ask {
-                conn,
-                method,
-                target,
-                fields,
-            } => self.ask(*conn, method, target, fields, now),
-            Event::Step { check } => self.step(*check, now),
-            Event::Take { check } => self.take(*check, now),
-            Event::Begin { offset: _ } => unreachable!(),
-            Event::Close { conn: _ } => unreachable!(),
-            Event::Started { epoch: _, class: _ } => unreachable!(),
-            Event::StartFail { epoch: _, class: _ } => unreachable!(),
-            Event::Line { proc: _, bytes: _ } => unreachable!(),
-            Event::Died { proc: _ } => unreachable!(),
-            Event::Act => unreachable!(),
-            Event::Reconfigure { text: _ } => unreachable!(),
-            Event::Seat { conn: _ } => unreachable!(),
-            Event::Grant { seat: _, wanted: _ } => unreachable!(),
-            Event::Leave { seat: _ } => unreachable!(),
-        }
-    }
-
-    fn open(&mut self, conn: ConnNo, addr: Addr, port: u16, now: Moment) -> Result<Told, Refusal>
-        ensures { IsCall self.old self.new now (event.Open conn addr port) result }
-    {
-        if self.peers.get(conn).is_some() {
+        if self.peers.get(conn.0 as u128).is_some() {
             return Err(Refusal::ConnInUse(conn));
         }
         if self.peers.len() >= CONN_LIMIT {
             return Err(Refusal::TooManyConns(65_536));
         }
-        match self.peers.put(conn, Peer { addr, port }) {
+        match enter(&mut self.peers, &mut self.counts, conn, Peer { addr, port }) {
             Ok(()) => {}
             Err(WantOfMemory) => return Err(Refusal::WantOfMemory),
         }
@@ -141,97 +130,188 @@ impl Machine {
         Ok(Told::Fine)
     }
 
-    fn ask(
-        &mut self,
-        conn: ConnNo,
-        method: &Text,
-        target: &Text,
-        fields: &Fields,
-        now: Moment,
-    ) -> Result<Told, Refusal>
-        requires method { bytes_eq method.now (codes "CONNECT") ≡ false }
-        requires target { is_some (target_port target.now) ≡ true }
-        ensures { IsCall self.old self.new now (event.Ask conn method.now target.now fields.now) result }
+    /// A connection closes, and its open check is dropped.
+    pub fn close(&mut self, conn: ConnNo, now: Moment) -> Result<Told, Refusal>
+        ensures call { IsCall self.old self.new now (event.Close conn) result }
+        ensures row { IfOk result (λ t. is_row (event.Close conn) t ≡ true) }
     {
-        let Some(peer) = self.peers.get(conn) else {
+        let Some(peer) = self.peers.get(conn.0 as u128) else {
             return Err(Refusal::UnknownConn(conn));
         };
-        if let Some(check) = self.asked.get(conn) {
+        self.peers.remove(conn.0 as u128);
+        self.counts.lower(peer.addr);
+        drop_check(&mut self.checks, &mut self.asked, conn);
+        self.latest = later(now, self.latest);
+        Ok(Told::Fine)
+    }
+
+    /// A request arrives on a connection, and its check begins: what it sees is read now.
+    pub fn ask(
+        &mut self,
+        alloc: Global,
+        conn: ConnNo,
+        request: Request,
+        now: Moment,
+    ) -> Result<Told, Refusal>
+        ensures call { (method target : List ℕ) (fields : List Field) → request ≡ request_of method target fields
+            → IsCall self.old self.new now (event.Ask conn method target fields) result }
+        ensures row { IfOk result (λ t. (method target : List ℕ) (fields : List Field) → is_row (event.Ask conn method target fields) t ≡ true) }
+    {
+        let Some(peer) = self.peers.get(conn.0 as u128) else {
+            return Err(Refusal::UnknownConn(conn));
+        };
+        if let Some(check) = self.asked.get(conn.0 as u128) {
             return Err(Refusal::CheckOpen(check));
         }
-        let number = self.checks.len() as u64 + 1;
+        let number = number_after(self.begun);
         if number >= LAST_NUMBER {
             return Err(Refusal::Spent(number));
         }
-        let Some(port) = target_port(target.as_bytes()) else {
-            unreachable!();
-        };
         let check = CheckNo(number);
-        let held = Held {
-            conn,
-            epoch: EpochNo(1),
-            done: false,
-            outcome: Some(judge(&self.config, method.as_bytes(), port, peer.addr)),
+        let moment = later(now, self.latest);
+        let ruled = match decide(
+            alloc,
+            &self.setup,
+            request,
+            peer,
+            minute_of_week(moment, self.offset),
+            self.counts.count(peer.addr),
+        ) {
+            Ok(ruled) => ruled,
+            Err(WantOfMemory) => return Err(Refusal::WantOfMemory),
         };
-        match begin(&mut self.checks, &mut self.asked, check, held) {
+        let row = Row {
+            conn,
+            done: false,
+            ruled,
+        };
+        match begin(&mut self.checks, &mut self.asked, check, row) {
             Ok(()) => {}
             Err(WantOfMemory) => return Err(Refusal::WantOfMemory),
         }
-        self.latest = later(now, self.latest);
+        self.begun = check;
+        self.latest = moment;
         Ok(Told::Check(check))
     }
 
-    fn step(&mut self, check: CheckNo, now: Moment) -> Result<Told, Refusal>
-        ensures { IsCall self.old self.new now (event.Step check) result }
+    /// A check goes on: over leaf acls it has its outcome.
+    pub fn step(&mut self, check: CheckNo, now: Moment) -> Result<Told, Refusal>
+        ensures call { IsCall self.old self.new now (event.Step check) result }
+        ensures row { IfOk result (λ t. is_row (event.Step check) t ≡ true) }
     {
-        let Some(place) = self.checks.open_place(check) else {
+        let Some(row) = self.checks.get(check.0 as u128) else {
             return Err(Refusal::UnknownCheck(check));
         };
-        self.checks.finish(place);
+        let done = Row {
+            conn: row.conn,
+            done: true,
+            ruled: row.ruled,
+        };
+        self.checks.change(check.0 as u128, done);
         self.latest = later(now, self.latest);
         Ok(Told::Done)
     }
 
-    fn take(&mut self, check: CheckNo, now: Moment) -> Result<Told, Refusal>
-        ensures { IsCall self.old self.new now (event.Take check) result }
+    /// The outcome of a check is taken, and the check ends.
+    pub fn take(&mut self, check: CheckNo, now: Moment) -> Result<Told, Refusal>
+        ensures call { IsCall self.old self.new now (event.Take check) result }
+        ensures row { IfOk result (λ t. is_row (event.Take check) t ≡ true) }
     {
-        let Some(place) = self.checks.open_place(check) else {
+        let Some(row) = self.checks.get(check.0 as u128) else {
             return Err(Refusal::UnknownCheck(check));
         };
-        let held = self.checks.held(place);
-        if !held.done {
+        if !row.done {
             return Err(Refusal::NotDone(check));
         }
-        let conn = held.conn;
-        let epoch = held.epoch;
-        let Some(outcome) = self.checks.take(place) else {
-            unreachable!();
-        };
-        self.asked.remove(conn);
+        self.checks.remove(check.0 as u128);
+        self.asked.remove(row.conn.0 as u128);
         self.latest = later(now, self.latest);
-        Ok(Told::Judged { epoch, outcome })
+        Ok(Told::Judged {
+            epoch: EpochNo(1),
+            outcome: row.ruled.outcome(),
+        })
     }
 }
 
-// Puts a check at the end of the checks, and notes it as the open one of its connection.
-fn begin(
-    checks: &mut Checks,
-    asked: &mut Table<CheckNo>,
-    check: CheckNo,
-    held: Held,
-) -> Result<(), WantOfMemory>
-    requires { length checks.old + 1 < 2 ^ 63 }
-    ensures checks { OnOk result (checks.new ≡ checks.old ++ held ∷ []) }
-    ensures asked { OnOk result ((c : ℕ) → value_at asked.new c ≡ cond (is_eq (nat_cmp held.conn c)) (Some check) (value_at asked.old c)) }
-    ensures no_checks { OnErr result (checks.new ≡ checks.old) }
-    ensures no_asked { OnErr result (asked.new ≡ asked.old) }
+// What the rules decide over what a check sees.
+fn decide(
+    alloc: Global,
+    setup: &Setup,
+    request: Request,
+    peer: Peer,
+    minute: u32,
+    conns: u32,
+) -> Result<Ruled, WantOfMemory>
+    requires { only_leaves setup.now ≡ true }
+    ensures { IfOk result (λ r. shown r ≡ verdict setup.now (seen request peer minute conns)) }
 {
-    let conn = held.conn;
-    checks.push(held)?;
-    match asked.put(conn, check) {
+    let sight = Sight {
+        request,
+        addr: peer.addr,
+        port: peer.port,
+        minute,
+        conns,
+    };
+    let facts = read_facts(alloc, setup, &sight)?;
+    Ok(judge(setup.config(), &facts))
+}
+
+// Notes the client of a connection, and counts it.
+fn enter(
+    peers: &mut Table<Peer>,
+    counts: &mut Counts,
+    conn: ConnNo,
+    peer: Peer,
+) -> Result<(), WantOfMemory>
+    requires { value_at peers.old conn ≡ None }
+    ensures peers { OnOk result ((c : ℕ) → value_at peers.new c ≡ cond (is_eq (nat_cmp conn c)) (Some peer) (value_at peers.old c)) }
+    ensures len { OnOk result (length peers.new ≡ length peers.old + 1) }
+    ensures counts { OnOk result ((a : Address) → tally counts.new a ≡ (if is_address a peer.addr then suc (tally counts.old a) else tally counts.old a)) }
+    ensures no_peers { OnErr result ((c : ℕ) → value_at peers.new c ≡ value_at peers.old c) }
+    ensures no_len { OnErr result (length peers.new ≡ length peers.old) }
+    ensures no_counts { OnErr result (counts.new ≡ counts.old) }
+{
+    let addr = peer.addr;
+    peers.put(conn.0 as u128, peer)?;
+    match counts.raise(addr) {
         Ok(()) => Ok(()),
         Err(WantOfMemory) => {
-            checks.pop();
+            peers.remove(conn.0 as u128);
+            Err(WantOfMemory)
+        }
+    }
+}
+
+// Ends the open check of a connection, if it has one.
+fn drop_check(checks: &mut Table<Row>, asked: &mut Table<CheckNo>, conn: ConnNo)
+    ensures checks { (n : ℕ) → value_at checks.new n ≡ (if is_number n (value_at asked.old conn) then None else value_at checks.old n) }
+    ensures asked { (c : ℕ) → value_at asked.new c ≡ cond (is_eq (nat_cmp conn c)) None (value_at asked.old c) }
+{
+    if let Some(check) = asked.get(conn.0 as u128) {
+        checks.remove(check.0 as u128);
+    }
+    asked.remove(conn.0 as u128);
+}
+
+// Puts a check among the open ones, and notes it as that of its connection.
+fn begin(
+    checks: &mut Table<Row>,
+    asked: &mut Table<CheckNo>,
+    check: CheckNo,
+    row: Row,
+) -> Result<(), WantOfMemory>
+    requires { value_at asked.old row.conn ≡ None }
+    ensures checks { OnOk result ((n : ℕ) → value_at checks.new n ≡ cond (is_eq (nat_cmp check n)) (Some row) (value_at checks.old n)) }
+    ensures asked { OnOk result ((c : ℕ) → value_at asked.new c ≡ cond (is_eq (nat_cmp row.conn c)) (Some check) (value_at asked.old c)) }
+    ensures no_checks { OnErr result (checks.new ≡ checks.old) }
+    ensures no_asked { OnErr result ((c : ℕ) → value_at asked.new c ≡ value_at asked.old c) }
+{
+    let conn = row.conn.0 as u128;
+    asked.put(conn, check)?;
+    match checks.put(check.0 as u128, row) {
+        Ok(()) => Ok(()),
+        Err(WantOfMemory) => {
+            asked.remove(conn);
             Err(WantOfMemory)
         }
     }

@@ -1,71 +1,164 @@
 //! The top call.
-ghost use Rattle.std.specs.Prelude.{◌≡◌, ◌≤◌, ◌↔◌, None, Some, IfSome, MatchOption};
+ghost use Rattle.std.specs.Prelude.{◌≡◌, ◌≤◌, ◌↔◌, ◌⊎◌, [], ℕ, List, Option, true, None, Some, IfSome};
 ghost use Rattle.sq_outside.specs.Causes.{Rose};
 ghost use Rattle.sq_outside.specs.Told.{IsNotTold};
 ghost use Rattle.sq_outside.specs.Output.{Grew};
+ghost use Rattle.sq_outside.specs.SourceLines.{lines};
 ghost use Rattle.sq_proxy.specs.declared.ends.Status.TheVariants as ends;
-ghost use Rattle.sq_proxy.specs.Ends.{EndsBy, EndsWithoutFault, HasCauses, IfMissing};
-ghost use Rattle.sq_proxy.specs.RunText.{command_of, run_of, run_replay, Runs, IsOutput, IsNamed, IsReplayEnd, RunsDirectly};
+ghost use Rattle.sq_proxy.specs.Commands.{command_of, output_of, parse_output, ran_output, replay_output, script_stage, staged, IsNamed, RunsDirectly};
+ghost use Rattle.sq_proxy.specs.Ends.{EndsBy, EndsWithoutFault, HasCauses, IfMissing, IsPlayedEnd, IsReplayEnd};
+ghost use Rattle.sq_proxy.specs.Judging.{only_leaves};
+ghost use Rattle.sq_proxy.specs.Outputs.{Delivers, IsOutput, IsSettled, Reaches, failed_end, is_write_fault};
+ghost use Rattle.sq_proxy.specs.RunText.{run_script, Ran};
 
-use crate::command::{Replay, command};
-use crate::ends::Status;
+use crate::beginning::run;
+use crate::command::{Command, read_command};
+use crate::ends::{Part, Status};
+use crate::judging::only_leaves;
 use crate::last_line::finish;
-use crate::play::play;
-use crate::stages::{open_conf, open_script};
-use sq_base::Text;
-use sq_outside::{Files, Sink};
+use crate::page::write_page;
+use crate::parsing::parse_text;
+use crate::stages::{missing, open_conf};
+use sq_base::{Text, WantOfMemory};
+use sq_outside::{Failed, Files, NoOpen, Sink, write_all};
+use sq_urlmatch::Setup;
 use std::alloc::Global;
+
+// Whether a run ended since its output could not be written.
+fn is_write_fault(end: &Status) -> bool
+    ensures { result ≡ is_write_fault end.now }
+{
+    match end {
+        Status::WriteFault => true,
+        _ => false,
+    }
+}
+
+// How a run ends whose last page could not be written: a fault that came before stays.
+fn failed_end(end: Status) -> Status
+    ensures { result ≡ failed_end end }
+{
+    match end {
+        Status::ReadFault => Status::ReadFault,
+        Status::WantOfMemory => Status::WantOfMemory,
+        _ => Status::WriteFault,
+    }
+}
+
+// Writes what the page holds at the end of a run.
+fn settle<O: Sink>(page: &mut Vec<u8>, out: &mut O, end: Status) -> Status
+    ensures delivers { (base : Option (List ℕ)) (ran : Ran) → Reaches base (O.contents out.old) page.old.items ran end
+        → Delivers base (O.contents out.new) (ran_output ran) result }
+    ensures same { IsSettled end result }
+    ensures later { O.faults out.old ≤ O.faults out.new }
+    ensures write { result ≡ ends.WriteFault → (end ≡ ends.WriteFault) ⊎ Rose (O.faults out.old) (O.faults out.new) }
+{
+    if is_write_fault(&end) {
+        return end;
+    }
+    match write_page(page, out) {
+        Ok(()) => end,
+        Err(Failed) => failed_end(end),
+    }
+}
+
+// Runs the script of the file of this name over a configuration.
+fn play<F: Files, O: Sink>(
+    alloc: Global,
+    setup: Setup,
+    script: &Text,
+    files: &mut F,
+    out: &mut O,
+) -> Status
+    requires { only_leaves setup ≡ true }
+    ensures delivers { IfSome (F.texts files.old) (λ disk. Delivers (O.contents out.old) (O.contents out.new)
+        (staged (script_stage script.now (disk script.now)) (λ text. ran_output (run_script setup (lines text)))) result) }
+    ensures end { IsPlayedEnd (F.texts files.old) script.now result }
+    ensures causes { HasCauses (F.faults files.old) (F.faults files.new) (O.faults out.old) (O.faults out.new) result }
+{
+    let mut source = match files.open(alloc, script) {
+        Ok(source) => source,
+        Err(NoOpen::Missing) => return missing(alloc, script),
+        Err(NoOpen::Failed) => return Status::ReadFault,
+        Err(NoOpen::WantOfMemory) => return Status::WantOfMemory,
+    };
+    let mut page = Vec::new(alloc);
+    let end = run(alloc, setup, &mut source, &mut page, out);
+    files.give_back(source);
+    settle(&mut page, out, end)
+}
 
 // Runs a script over a configuration, each in a file.
 fn replay<F: Files, O: Sink>(
     alloc: Global,
-    command: &Replay<'_>,
+    conf: &Text,
+    script: &Text,
     files: &mut F,
     out: &mut O,
 ) -> Status
-    ensures runs { IfSome (F.texts files.old) (λ disk. Runs (O.contents out.old) (O.contents out.new)
-        (run_replay disk (record { conf = command.now.conf.now; script = command.now.script.now })) result) }
-    ensures end { IsReplayEnd (F.texts files.old) (record { conf = command.now.conf.now; script = command.now.script.now }) result }
+    ensures delivers { IfSome (F.texts files.old) (λ disk. Delivers (O.contents out.old) (O.contents out.new)
+        (replay_output disk conf.now script.now) result) }
+    ensures end { IsReplayEnd (F.texts files.old) conf.now script.now result }
     ensures causes { HasCauses (F.faults files.old) (F.faults files.new) (O.faults out.old) (O.faults out.new) result }
 {
-    let config = match open_conf(alloc, command.conf, files) {
-        Ok(config) => config,
+    let setup = match open_conf(alloc, conf, files) {
+        Ok(setup) => setup,
         Err(end) => return end,
     };
-    let script = match open_script(alloc, command.script, files) {
-        Ok(script) => script,
+    if !only_leaves(setup.config()) {
+        return Status::Unbuilt(Part::Conf);
+    }
+    play(alloc, setup, script, files, out)
+}
+
+// Reads a configuration, and writes what it counts.
+fn parse<F: Files, O: Sink>(alloc: Global, conf: &Text, files: &mut F, out: &mut O) -> Status
+    ensures delivers { IfSome (F.texts files.old) (λ disk. Delivers (O.contents out.old) (O.contents out.new) (parse_output disk conf.now) result) }
+    ensures end { IsPlayedEnd (F.texts files.old) conf.now result }
+    ensures causes { HasCauses (F.faults files.old) (F.faults files.new) (O.faults out.old) (O.faults out.new) result }
+{
+    let setup = match open_conf(alloc, conf, files) {
+        Ok(setup) => setup,
         Err(end) => return end,
     };
-    play(alloc, config, script.as_slice(), out)
+    let text = match parse_text(alloc, setup.config()) {
+        Ok(text) => text,
+        Err(WantOfMemory) => return Status::WantOfMemory,
+    };
+    match write_all(out, text.as_bytes()) {
+        Ok(()) => Status::Ok,
+        Err(Failed) => Status::WriteFault,
+    }
 }
 
 // Does what the words say, but for the last line.
-fn run<F: Files, O: Sink>(alloc: Global, words: &[Text], files: &mut F, out: &mut O) -> Status
-    ensures runs { IfSome (F.texts files.old) (λ disk. Runs (O.contents out.old) (O.contents out.new) (run_of disk words.now) result) }
+fn run_words<F: Files, O: Sink>(alloc: Global, words: &[Text], files: &mut F, out: &mut O) -> Status
+    ensures delivers { IfSome (F.texts files.old) (λ disk. Delivers (O.contents out.old) (O.contents out.new) (output_of disk words.now) result) }
     ensures usage { (result ≡ ends.Usage) ↔ (command_of words.now ≡ None) }
     ensures missing { IfMissing result (λ name. IsNamed (command_of words.now) name × IsNotTold (F.texts files.old) name) }
     ensures causes { HasCauses (F.faults files.old) (F.faults files.new) (O.faults out.old) (O.faults out.new) result }
 {
-    match command(words) {
-        Some(command) => replay(alloc, &command, files, out),
+    match read_command(words) {
+        Some(Command::Parse { conf }) => parse(alloc, conf, files, out),
+        Some(Command::Replay { conf, script }) => replay(alloc, conf, script, files, out),
         None => Status::Usage,
     }
 }
 
-/// Does what the words say, over these files, and writes what comes of it: `replay CONF SCRIPT` runs the
-/// script over the configuration and writes a line for each event. The words are those after the
-/// program's name.
+/// Does what the words say, over these files, and writes what comes of it: `parse CONF` reads the
+/// configuration and counts what it states, and `replay CONF SCRIPT` runs the script over the
+/// configuration and writes a line for each event. The words are those after the program's name.
 pub fn proxy<F: Files, O: Sink>(alloc: Global, words: &[Text], files: &mut F, out: &mut O) -> Status
-    // What it writes, where the files and the sink tell: the text of the run, and the last line.
+    // What it writes, where the files and the sink tell: the command's text, and the last line.
     ensures bytes { IfSome (F.texts files.old) (λ disk. Grew (O.contents out.old) (O.contents out.new)
-        (IsOutput (run_of disk words.now) (O.faults out.old) (O.faults out.new) result)) }
+        (IsOutput (output_of disk words.now) (O.faults out.old) (O.faults out.new) result)) }
     // How it ends, where the files tell: so, or by a fault.
-    ensures ended { IfSome (F.texts files.old) (λ disk. EndsBy (run_of disk words.now).end result) }
+    ensures ended { IfSome (F.texts files.old) (λ disk. EndsBy (output_of disk words.now).end result) }
     // How it ends, where the files tell and no count rises: so, or by want of memory.
     ensures complete { IfSome (F.texts files.old) (λ disk.
         (Rose (F.faults files.old) (F.faults files.new) → ⊥) → (Rose (O.faults out.old) (O.faults out.new) → ⊥)
-        → EndsWithoutFault (run_of disk words.now).end result) }
-    // The history of the run is legal, and each verdict in it is the direct evaluation of the configuration
+        → EndsWithoutFault (output_of disk words.now).end result) }
+    // The history of a run is legal, and each verdict in it is the direct evaluation of the configuration
     // current when its check began, over what the check saw then.
     ensures direct { IfSome (F.texts files.old) (λ disk. RunsDirectly disk words.now) }
     ensures usage { (result ≡ ends.Usage) ↔ (command_of words.now ≡ None) }
@@ -75,6 +168,6 @@ pub fn proxy<F: Files, O: Sink>(alloc: Global, words: &[Text], files: &mut F, ou
     ensures files_later { F.faults files.old ≤ F.faults files.new }
     ensures out_later { O.faults out.old ≤ O.faults out.new }
 {
-    let status = run(alloc, words, files, out);
+    let status = run_words(alloc, words, files, out);
     finish(out, status)
 }

@@ -7,7 +7,7 @@ use sq_outside::{
     RealSource, Sink, Source, read_file, read_whole, write_all, write_line,
 };
 use sq_proxy::{Part, Status};
-use sq_rules::{Acl, Body, Config, Leaf, PortRange, Rule, Term};
+use sq_rules::{Acl, Body, Config, Kind, Leaf, PortRange, Rule, Term};
 use std::io::{self, ErrorKind, Read, Write};
 use std::test::Fail;
 
@@ -172,9 +172,11 @@ fn a_configuration_gives_its_parts_back(rt: HostRuntime) -> Result<(), Fail> {
 #[test]
 fn each_status_has_its_code(rt: HostRuntime) -> Result<(), Fail> {
     let name = Text::from_slice(rt.alloc(), b"c")?;
+    let kind = Kind::BadValue;
     for (status, code) in [
         (Status::Ok, 0),
         (Status::Usage, 1),
+        (Status::Config { line: 1, kind }, 2),
         (Status::Script(1), 3),
         (Status::ReadFault, 4),
         (Status::WriteFault, 5),

@@ -24,7 +24,34 @@ fn words_that_are_no_command_and_files_that_are_not_there(rt: HostRuntime) -> Re
     for case in &[
         words("no words", &[], 1, USAGE),
         words("another command", &["rehearse", "x"], 1, USAGE),
-        words("a command that is not built", &["parse", "c"], 1, USAGE),
+        words(
+            "a command that is not built",
+            &["verify", "c", "s"],
+            1,
+            USAGE,
+        ),
+        words("no configuration to read", &["parse"], 1, USAGE),
+        words(
+            "an empty configuration",
+            &["parse", "c"],
+            0,
+            "ok acls 6 rules 0 classes 0 pools 0\n",
+        ),
+        words(
+            "no configuration that is there",
+            &["parse", "d"],
+            7,
+            "error missing d\n",
+        ),
+        Case {
+            shows: "what is read without effect, and the counts",
+            words: &["parse", "c"],
+            conf: "visible_hostname a\nacl a port 80\nhttp_access deny a\ndelay_pools 1\ndelay_class 1 1\n\
+                delay_parameters 1 -1/-1\nexternal_acl_type v %DST /bin/h\nhttp_port 3128 name=x\n",
+            script: "",
+            code: 0,
+            out: "notice 1 visible_hostname\nnotice 8 http_port\nok acls 7 rules 1 classes 1 pools 1\n",
+        },
         words("a word too few", &["replay", "c"], 1, USAGE),
         words("a word too many", &["replay", "c", "s", "s"], 1, USAGE),
         words("a word in other letters", &["Replay", "c", "s"], 1, USAGE),
@@ -73,10 +100,10 @@ fn words_that_are_no_command_and_files_that_are_not_there(rt: HostRuntime) -> Re
         Case {
             shows: "the configuration is judged before the script is opened",
             words: &["replay", "c", "none"],
-            conf: "http_port 3128\n",
+            conf: "acl a src x\n",
             script: "",
-            code: 11,
-            out: "error unbuilt conf\n",
+            code: 2,
+            out: "error config 1 8\n",
         },
     ] {
         check(&rt, rt.alloc(), case)?;

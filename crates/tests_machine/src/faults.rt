@@ -71,20 +71,28 @@ fn run_failing(alloc: Global, device: Device, calls: &[u64]) -> Result<Ran, Want
     }
 }
 
-// Ends the process unless this is what a fault of the device comes to: nothing but the last line where
-// a file was not read, and otherwise a front of the run's text.
+/// The last line where a file was not read.
+const LAST: &str = "error read\n";
+
+// Ends the process unless this is what a fault of the device comes to: a front of the run's text, and
+// then the last line where a file was not read. A script is read as it runs.
 fn check_fault(rt: &impl Abort, device: Device, call: u64, ran: &Ran) {
+    let out = ran.out.bytes();
     if let Device::Sink = device {
         assert_eq!(rt; ran.status.code(), 5, "write {call}");
-        assert!(rt; RUN.as_bytes().starts_with(ran.out.bytes()), "write {call}");
-        assert!(rt; ran.out.bytes().len() < RUN.len(), "write {call}");
-    } else {
-        assert_eq!(rt; ran.status.code(), 4, "{device:?}, call {call}");
-        assert_eq!(rt;
-            str::from_utf8(ran.out.bytes()),
-            Ok("error read\n"),
-            "{device:?}, call {call}"
-        );
+        assert!(rt; RUN.as_bytes().starts_with(out), "write {call}");
+        assert!(rt; out.len() < RUN.len(), "write {call}");
+        return;
+    }
+    assert_eq!(rt; ran.status.code(), 4, "{device:?}, call {call}");
+    assert!(rt; out.ends_with(LAST.as_bytes()), "{device:?}, call {call}");
+    let front = &out[..out.len().saturating_sub(LAST.len())];
+    assert!(rt;
+        RUN.as_bytes().starts_with(front),
+        "{device:?}, call {call}"
+    );
+    if !matches!(device, Device::Script) {
+        assert!(rt; front.is_empty(), "{device:?}, call {call}");
     }
 }
 
@@ -191,7 +199,7 @@ fn what_fits_is_written_and_a_last_line_that_fails_leaves_the_status(
                 script: "0 fly 1\n",
                 ..job()
             },
-            code: 11,
+            code: 3,
             out: "erro",
         },
         Cut {

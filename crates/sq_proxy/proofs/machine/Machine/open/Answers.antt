@@ -3,21 +3,24 @@ use Rattle.sq_proxy.specs.Tables.{value_at}
 use Rattle.sq_proxy.proofs.MachineLaws.{open-full, open-made}
 use Rattle.sq_proxy.proofs.machine.Machine.open.Goals as goal
 
-pub returns-then-len-ge-CONN_LIMIT : goal.returns-then-len-ge-CONN_LIMIT
-returns-then-len-ge-CONN_LIMIT c =
+pub returns-then-len-ge-CONN_LIMIT-clause-call : goal.returns-then-len-ge-CONN_LIMIT-clause-call
+returns-then-len-ge-CONN_LIMIT-clause-call c =
     let free : value_at c.self.inside.peers c.args.conn ≡ None = search rules in
     rw (← c.self.view_is) (open-full _ _ _ _ free (omega arith))
 
-pub returns : goal.returns
-returns c =
+pub returns-clause-call : goal.returns-clause-call
+returns-clause-call c =
     let free : value_at c.self.inside.peers c.args.conn ≡ None = search rules in
     rw (← c.self.view_is) (open-made _ _ _ _ (record { addr = c.args.addr; port = c.args.port }) record {
       was = free;
       room = omega arith;
-      peers_are = c.in-Ok.ensures.ok;
+      peers_are = c.in-Ok.ensures.peers;
       count_is = c.in-Ok.ensures.len;
+      counts_are = c.in-Ok.ensures.counts;
       config_is = search rules;
+      offset_is = search rules;
       asked_is = search rules;
       checks_is = search rules;
+      begun_is = search rules;
       latest_is = c.later-self-inside.ensures;
     })

@@ -1,18 +1,24 @@
-use Rattle.std.proofs.Common.{rules}
+use Rattle.std.proofs.Common.{◌≡◌, None, Some, rules}
+use Rattle.sq_proxy.specs.Tables.{value_at}
 use Rattle.sq_proxy.proofs.MachineLaws.{step-unknown, step-made}
 use Rattle.sq_proxy.proofs.machine.Machine.step.Goals as goal
 
-pub returns-in_default : goal.returns-in_default
-returns-in_default c = step-unknown _ _ (rw (← c.self.view_is) c.in_default.ensures)
+pub returns-in_default-clause-call : goal.returns-in_default-clause-call
+returns-in_default-clause-call c =
+    let none : value_at c.self.inside.checks c.check.inside.0 ≡ None = search rules in
+    rw (← c.self.view_is, ← c.check.view_is) (step-unknown _ _ none)
 
-pub returns : goal.returns
-returns c = step-made _ _ _ _ c.in-Some.place (rw (← c.self.view_is) record {
-  within = c.in-Some.ensures.0;
-  number = c.in-Some.ensures.1;
-  is_open = c.in-Some.ensures.2;
-  checks_are = c.finish.ensures;
-  config_is = search rules;
-  peers_is = search rules;
-  asked_is = search rules;
-  latest_is = c.later-self-inside.ensures;
-})
+pub returns-clause-call : goal.returns-clause-call
+returns-clause-call c =
+    let was : value_at c.self.inside.checks c.check.inside.0 ≡ Some c.in-Some.row = search rules in
+    rw (← c.self.view_is, ← c.check.view_is) (step-made _ _ _ _ c.in-Some.row record {
+      was = was;
+      checks_are = c.change.ensures.value;
+      config_is = search rules;
+      offset_is = search rules;
+      peers_is = search rules;
+      counts_is = search rules;
+      asked_is = search rules;
+      begun_is = search rules;
+      latest_is = c.later-self-inside.ensures;
+    })

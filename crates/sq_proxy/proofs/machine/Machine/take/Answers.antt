@@ -1,29 +1,32 @@
-use Rattle.std.proofs.Common.{◌≡◌, Some, rules, sym}
-use Rattle.sq_proxy.proofs.TakeLaws.{take-early, take-made}
-use Rattle.sq_proxy.proofs.MachineLaws.{take-unknown}
+use Rattle.std.proofs.Common.{◌≡◌, None, Some, rules, ap, ◌∙◌}
+use Rattle.sq_proxy.specs.Judging.{shown}
+use Rattle.sq_proxy.specs.Tables.{value_at}
+use Rattle.sq_proxy.proofs.MachineLaws.{take-unknown, take-early, take-made}
 use Rattle.sq_proxy.proofs.machine.Machine.take.Goals as goal
 
-pub returns-in_default : goal.returns-in_default
-returns-in_default c = take-unknown _ _ (rw (← c.self.view_is) c.in_default.ensures)
+pub returns-in_default-clause-call : goal.returns-in_default-clause-call
+returns-in_default-clause-call c =
+    let none : value_at c.self.inside.checks c.check.inside.0 ≡ None = search rules in
+    rw (← c.self.view_is, ← c.check.view_is) (take-unknown _ _ none)
 
-pub returns-then-not-held : goal.returns-then-not-held
-returns-then-not-held c =
-    rw (← c.self.view_is) (take-early _ _ c.in-Some.place c.held-held.result.now c.in-Some.ensures.0 c.in-Some.ensures.1 c.in-Some.ensures.2 c.held-held.ensures (search rules))
+pub returns-then-not-row-clause-call : goal.returns-then-not-row-clause-call
+returns-then-not-row-clause-call c =
+    let was : value_at c.self.inside.checks c.check.inside.0 ≡ Some c.in-Some.row = search rules in
+    rw (← c.self.view_is, ← c.check.view_is) (take-early _ _ c.in-Some.row was (search rules))
 
-pub returns : goal.returns
-returns c =
-    let held = c.held-held.result.now in
-    let taken : held.outcome ≡ Some c.in-Some-take.outcome = sym (c.in-Some-take.ensures.outcome held c.held-held.ensures) in
-    rw (← c.self.view_is) (take-made _ _ _ _ c.in-Some.place held c.in-Some-take.outcome record {
-      within = c.in-Some.ensures.0;
-      number = c.in-Some.ensures.1;
-      is_open = c.in-Some.ensures.2;
-      held_is = c.held-held.ensures;
+pub returns-clause-call : goal.returns-clause-call
+returns-clause-call c =
+    let was : value_at c.self.inside.checks c.check.inside.0 ≡ Some c.in-Some.row = search rules in
+    let ruled = c.outcome.ensures ∙ ap (λ x. shown x.ruled) c.row.view_is in
+    rw (← c.self.view_is, ← c.check.view_is) (rw ruled (take-made _ _ _ _ c.in-Some.row record {
+      was = was;
       done = search rules;
-      outcome = taken;
-      checks_are = c.in-Some-take.ensures.row held c.held-held.ensures;
-      asked_are = c.remove.ensures;
+      checks_are = c.remove.ensures.value;
+      asked_are = rw (← ap (λ x. x.conn) c.row.view_is) c.remove-2.ensures.value;
       config_is = search rules;
+      offset_is = search rules;
       peers_is = search rules;
+      counts_is = search rules;
+      begun_is = search rules;
       latest_is = c.later-self-inside.ensures;
-    })
+    }))
