@@ -22,6 +22,13 @@ impl Builder {
         self.acls.place(name)
     }
 
+    /// How many acls there are.
+    pub fn acl_count(&self) -> usize
+        ensures { result ≡ length self.now.acls }
+    {
+        self.acls.len()
+    }
+
     /// Whether one acl more may stand.
     pub fn has_room_for_acl(&self) -> bool
         ensures { result ≡ nat_lt (length self.now.acls) acl_limit }
