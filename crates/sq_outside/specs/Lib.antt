@@ -1,7 +1,9 @@
 pub mod Calls
 pub mod Causes
+pub mod Holding
 pub mod Input
 pub mod Memory
 pub mod Output
+pub mod SourceLines
 pub mod System
 pub mod Told

@@ -11,7 +11,7 @@ use Rattle.sq_outside.specs.Output.{Grew, IsPrefix, IsProperPrefix}
 use Rattle.sq_outside.proofs.Writing.{Grew-proper_after, Grew-map, Grew-of, IsPrefix-refl, IsPrefix-trans, IsPrefix-front, IsProperPrefix-more}
 use Rattle.sq_base.specs.Targets.{Target, target_of}
 use Rattle.sq_rules.specs.declared.entries.Event.{Event}
-use Rattle.sq_rules.specs.declared.entries.Event.TheVariants.{Begin, Open, Close, Ask, Step, Take}
+use Rattle.sq_rules.specs.declared.entries.Event.TheVariants.{Begin, Open, Close, Ask, Step, Take, Started, StartFail, Line, Died, Act, Reconfigure, Seat, Grant, Leave}
 use Rattle.sq_rules.specs.declared.entries.Told.{Told}
 use Rattle.sq_rules.specs.declared.entries.Told.TheVariants as told
 use Rattle.sq_rules.specs.declared.refusals.Refusal.{Refusal}
@@ -57,6 +57,15 @@ plain-begin (Close c) p = refl
 plain-begin (Ask c m t f) p = refl
 plain-begin (Step c) p = refl
 plain-begin (Take c) p = refl
+plain-begin (Started k class) p = refl
+plain-begin (StartFail k class) p = refl
+plain-begin (Line k bytes) p = refl
+plain-begin (Died k) p = refl
+plain-begin Act p = refl
+plain-begin (Reconfigure text) p = refl
+plain-begin (Seat k) p = refl
+plain-begin (Grant k wanted) p = refl
+plain-begin (Leave k) p = refl
 
 some-port : (o : Option Target) (q : Option ℕ) → option_map (λ r. r.port) o ≡ q → is_some q ≡ true → is_some o ≡ true
 some-port None q e p = ap is_some e ∙ p
@@ -74,6 +83,15 @@ plain-target (Ask c m t f) p =
     port-of-some m t (target_port t) (not-true _ (first-of _ _ p)) refl (first-of _ _ (second-of _ _ p))
 plain-target (Step c) p = refl
 plain-target (Take c) p = refl
+plain-target (Started k class) p = refl
+plain-target (StartFail k class) p = refl
+plain-target (Line k bytes) p = refl
+plain-target (Died k) p = refl
+plain-target Act p = refl
+plain-target (Reconfigure text) p = refl
+plain-target (Seat k) p = refl
+plain-target (Grant k wanted) p = refl
+plain-target (Leave k) p = refl
 
 pub legal-more : (configs : List Configuration) (h : History) (moment : ℕ) (event : Event) (t : Told) → Legal configs h → is_plain event ≡ true → latest h ≤ moment
     → next configs h event ≡ gives t → Legal configs (entry_at moment event t ∷ h)

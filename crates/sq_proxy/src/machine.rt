@@ -112,6 +112,15 @@ impl Machine {
             Event::Take { check } => self.take(*check, now),
             Event::Begin { offset: _ } => unreachable!(),
             Event::Close { conn: _ } => unreachable!(),
+            Event::Started { epoch: _, class: _ } => unreachable!(),
+            Event::StartFail { epoch: _, class: _ } => unreachable!(),
+            Event::Line { proc: _, bytes: _ } => unreachable!(),
+            Event::Died { proc: _ } => unreachable!(),
+            Event::Act => unreachable!(),
+            Event::Reconfigure { text: _ } => unreachable!(),
+            Event::Seat { conn: _ } => unreachable!(),
+            Event::Grant { seat: _, wanted: _ } => unreachable!(),
+            Event::Leave { seat: _ } => unreachable!(),
         }
     }
 

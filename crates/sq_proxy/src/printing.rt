@@ -1,14 +1,15 @@
 //! The texts of entries.
-ghost use Rattle.std.specs.Prelude.{◌≡◌, ◌++◌, ◌∷◌, [], map, OnOk, IfOk};
+ghost use Rattle.std.specs.Prelude.{◌≡◌, ◌++◌, ◌∷◌, [], map, decimal, OnOk, IfOk};
+ghost use Rattle.sq_base.specs.Escapes.{text_word};
 ghost use Rattle.sq_proxy.specs.Machines.{entry_at};
 ghost use Rattle.sq_proxy.specs.Words.{word_text};
-ghost use Rattle.sq_proxy.specs.EntryText.{after_spaces, event_words, answer_words, entry_text, field_word};
+ghost use Rattle.sq_proxy.specs.EntryText.{after_spaces, event_words, answer_words, entry_text, field_word, result_word};
 ghost use Rattle.sq_rules.specs.OutcomeText.{outcome_words, why_words, cause_word};
 
 use crate::escapes::put_text;
 use itoa::Buffer;
 use sq_addr::print_addr;
-use sq_base::{Addr, Cause, Field, Moment, Text, WantOfMemory};
+use sq_base::{Addr, Cause, Field, Moment, Text, WantOfMemory, Word as Res};
 use sq_rules::{Event, Outcome, Told, Why};
 use std::alloc::Global;
 
@@ -20,6 +21,7 @@ pub enum Word<'a> {
     Offset(i32),
     Address(Addr),
     Escaped(&'a [u8]),
+    Channel(Option<u32>),
 }
 
 // Puts a word at the end.
@@ -35,6 +37,8 @@ fn put_word(alloc: Global, to: &mut Text, word: &Word<'_>) -> Result<(), WantOfM
             to.append(text.as_bytes())
         }
         Word::Escaped(bytes) => put_text(to, bytes),
+        Word::Channel(None) => to.append(b"-"),
+        Word::Channel(Some(number)) => to.append(Buffer::new().format(*number).as_bytes()),
     }
 }
 
@@ -83,11 +87,7 @@ fn put_event(alloc: Global, to: &mut Text, event: &Event) -> Result<(), WantOfMe
                 Word::Number(*port as u64),
             ],
         ),
-        Event::Close { conn } => put_words(
-            alloc,
-            to,
-            &[Word::Plain(b"close"), Word::Number(conn.0)],
-        ),
+        Event::Close { conn } => put_number(alloc, to, b"close", conn.0),
         Event::Ask {
             conn,
             method,
@@ -106,17 +106,58 @@ fn put_event(alloc: Global, to: &mut Text, event: &Event) -> Result<(), WantOfMe
             )?;
             put_fields(alloc, to, fields.as_slice())
         }
-        Event::Step { check } => put_words(
+        Event::Step { check } => put_number(alloc, to, b"step", check.0),
+        Event::Take { check } => put_number(alloc, to, b"take", check.0),
+        Event::Started { epoch, class } => put_pair(alloc, to, b"started", epoch.0, class),
+        Event::StartFail { epoch, class } => put_pair(alloc, to, b"startfail", epoch.0, class),
+        Event::Line { proc, bytes } => put_pair(alloc, to, b"line", proc.0, bytes),
+        Event::Died { proc } => put_number(alloc, to, b"died", proc.0),
+        Event::Act => put_words(alloc, to, &[Word::Plain(b"act")]),
+        Event::Reconfigure { text } => put_words(
             alloc,
             to,
-            &[Word::Plain(b"step"), Word::Number(check.0)],
+            &[Word::Plain(b"reconfigure"), Word::Escaped(text.as_bytes())],
         ),
-        Event::Take { check } => put_words(
+        Event::Seat { conn } => put_number(alloc, to, b"seat", conn.0),
+        Event::Grant { seat, wanted } => put_words(
             alloc,
             to,
-            &[Word::Plain(b"take"), Word::Number(check.0)],
+            &[
+                Word::Plain(b"grant"),
+                Word::Number(seat.0),
+                Word::Number(*wanted),
+            ],
         ),
+        Event::Leave { seat } => put_number(alloc, to, b"leave", seat.0),
     }
+}
+
+// Puts a name and a number.
+fn put_number(alloc: Global, to: &mut Text, name: &[u8], number: u64) -> Result<(), WantOfMemory>
+    ensures { OnOk result (to.new ≡ to.old ++ after_spaces (name.now ∷ decimal number ∷ [])) }
+{
+    put_words(alloc, to, &[Word::Plain(name), Word::Number(number)])
+}
+
+// Puts a name, a number and a text.
+fn put_pair<'a>(
+    alloc: Global,
+    to: &mut Text,
+    name: &'a [u8],
+    number: u64,
+    text: &'a Text,
+) -> Result<(), WantOfMemory>
+    ensures { OnOk result (to.new ≡ to.old ++ after_spaces (name.now ∷ decimal number ∷ text_word text.now ∷ [])) }
+{
+    put_words(
+        alloc,
+        to,
+        &[
+            Word::Plain(name),
+            Word::Number(number),
+            Word::Escaped(text.as_bytes()),
+        ],
+    )
 }
 
 // Puts the words of an outcome.
@@ -172,19 +213,77 @@ fn cause_word(cause: Cause) -> &'static [u8]
     }
 }
 
+// The word of a reply's result.
+fn result_word(word: Res) -> &'static [u8]
+    ensures { result.now ≡ result_word word }
+{
+    match word {
+        Res::Yes => b"ok".as_slice(),
+        Res::No => b"err".as_slice(),
+        Res::Broken => b"bh".as_slice(),
+    }
+}
+
 // Puts the words of an answer.
 fn put_answer(alloc: Global, to: &mut Text, answer: &Told) -> Result<(), WantOfMemory>
     ensures { OnOk result (to.new ≡ to.old ++ after_spaces (answer_words answer.now)) }
 {
     match answer {
-        Told::Epoch(epoch) => put_words(alloc, to, &[Word::Plain(b"epoch"), Word::Number(epoch.0)]),
+        Told::Epoch(epoch) => put_number(alloc, to, b"epoch", epoch.0),
         Told::Fine => put_words(alloc, to, &[Word::Plain(b"ok")]),
-        Told::Check(check) => put_words(alloc, to, &[Word::Plain(b"check"), Word::Number(check.0)]),
+        Told::Check(check) => put_number(alloc, to, b"check", check.0),
+        Told::Took(class) => put_words(
+            alloc,
+            to,
+            &[Word::Plain(b"took"), Word::Escaped(class.as_bytes())],
+        ),
+        Told::Waits(question) => put_number(alloc, to, b"waits", question.0),
         Told::Done => put_words(alloc, to, &[Word::Plain(b"done")]),
         Told::Judged { epoch, outcome } => {
-            put_words(alloc, to, &[Word::Plain(b"epoch"), Word::Number(epoch.0)])?;
+            put_number(alloc, to, b"epoch", epoch.0)?;
             put_outcome(alloc, to, outcome)
         }
+        Told::Proc(proc) => put_number(alloc, to, b"proc", proc.0),
+        Told::Reply { question, word } => put_words(
+            alloc,
+            to,
+            &[
+                Word::Plain(b"reply"),
+                Word::Number(question.0),
+                Word::Plain(result_word(*word)),
+            ],
+        ),
+        Told::Bad => put_words(alloc, to, &[Word::Plain(b"bad")]),
+        Told::Stray => put_words(alloc, to, &[Word::Plain(b"stray")]),
+        Told::Start { epoch, class } => put_pair(alloc, to, b"start", epoch.0, class),
+        Told::Send {
+            proc,
+            question,
+            channel,
+            key,
+        } => put_words(
+            alloc,
+            to,
+            &[
+                Word::Plain(b"send"),
+                Word::Number(proc.0),
+                Word::Number(question.0),
+                Word::Channel(*channel),
+                Word::Escaped(key.as_bytes()),
+            ],
+        ),
+        Told::Stop(proc) => put_number(alloc, to, b"stop", proc.0),
+        Told::Seat { seat, pool } => put_words(
+            alloc,
+            to,
+            &[
+                Word::Plain(b"seat"),
+                Word::Number(seat.0),
+                Word::Number(*pool as u64 + 1),
+            ],
+        ),
+        Told::NoSeat => put_words(alloc, to, &[Word::Plain(b"none")]),
+        Told::Granted(count) => put_number(alloc, to, b"granted", *count),
     }
 }
 

@@ -1,7 +1,10 @@
 pub mod EndLaws
 pub mod FieldLaws
 pub mod HeadLaws
+pub mod MadeLaws
 pub mod PortLaws
 pub mod TargetLaws
+pub mod TrimLaws
 pub mod WholeLaws
 pub mod WrittenLaws
+pub mod WrittenRows

@@ -3,3 +3,4 @@ pub mod Heads
 pub mod Parts
 pub mod Refusals
 pub mod Spans
+pub mod Written

@@ -1,11 +1,12 @@
 //! Requests made of their parts.
-ghost use Rattle.std.specs.Prelude.{◌≡◌, ◌↔◌, ◌≤◌, ◌++◌, length, map, take, All, Some, IsTrue, IfOk, IfErr, OnOk};
+ghost use Rattle.std.specs.Prelude.{◌≡◌, ◌≢◌, ◌↔◌, ◌≤◌, ◌++◌, length, map, take, All, Some, None, IsTrue, IfOk, IfErr, OnOk};
 ghost use Rattle.std.specs.List.{flat_map};
 ghost use Rattle.http_header.specs.Token.{IsToken};
 ghost use Rattle.httparse.specs.Spans.{header_bytes, IsWithin, IsHeaderWithin};
 ghost use Rattle.sq_request.specs.Heads.{most_fields, IsWritten, HasRequest, request_with, head_text, field_line};
 ghost use Rattle.sq_request.specs.Refusals.{RefusesParts};
 ghost use Rattle.sq_request.specs.Spans.{pair_of, CoversLine};
+ghost use Rattle.sq_request.specs.Written.{made_request};
 
 use crate::building::build;
 use crate::faults::BadRequest;
@@ -29,9 +30,12 @@ pub fn make_request(
     requires { minor ≤ 1 }
     ensures written { OnOk result (IsWritten method.now target.now minor fields) }
     ensures few { OnOk result (length fields ≤ most_fields) }
-    ensures made { IfOk result (λ r. request_with method.now target.now minor fields ≡ Some r) }
+    ensures made { IfOk result (λ r. made_request method.now target.now minor fields ≡ Some r) }
+    ensures shown { IfOk result (λ r. request_with method.now target.now minor fields ≡ Some r) }
     ensures read { IfOk result (HasRequest (head_text method.now target.now minor fields)) }
     ensures refused { IfErr result (RefusesParts method.now target.now minor fields) }
+    ensures unmade { IfErr result (λ e. e ≢ BadRequest.WantOfMemory
+        → made_request method.now target.now minor fields ≡ None) }
 {
     if !is_written(alloc, method, target, minor, fields.as_slice())? {
         return Err(BadRequest::BadHead);

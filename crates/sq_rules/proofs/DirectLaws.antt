@@ -3,7 +3,7 @@ use Rattle.std.proofs.Common.{◌≡◌, ℕ, List, [], ◌∷◌, Bool, true, f
 use Rattle.std.specs.Option.{option_map}
 use Rattle.std.specs.declared.option.Option.{Option}
 use Rattle.sq_rules.specs.declared.entries.Event.{Event}
-use Rattle.sq_rules.specs.declared.entries.Event.TheVariants.{Begin, Open, Close, Ask, Step, Take}
+use Rattle.sq_rules.specs.declared.entries.Event.TheVariants.{Begin, Open, Close, Ask, Step, Take, Started, StartFail, Line, Died, Act, Reconfigure, Seat, Grant, Leave}
 use Rattle.sq_rules.specs.declared.entries.Told.{Told}
 use Rattle.sq_rules.specs.declared.entries.Told.TheVariants as told
 use Rattle.sq_rules.specs.declared.outcomes.Outcome.{Outcome}
@@ -55,6 +55,18 @@ direct-take configs config h n (told.Epoch x) is e = tt
 direct-take configs config h n told.Fine is e = tt
 direct-take configs config h n (told.Check x) is e = tt
 direct-take configs config h n told.Done is e = tt
+direct-take configs config h n (told.Took class) is e = tt
+direct-take configs config h n (told.Waits q) is e = tt
+direct-take configs config h n (told.Proc k) is e = tt
+direct-take configs config h n (told.Reply q word) is e = tt
+direct-take configs config h n told.Bad is e = tt
+direct-take configs config h n told.Stray is e = tt
+direct-take configs config h n (told.Start k class) is e = tt
+direct-take configs config h n (told.Send k q channel key) is e = tt
+direct-take configs config h n (told.Stop k) is e = tt
+direct-take configs config h n (told.Seat k pool) is e = tt
+direct-take configs config h n told.NoSeat is e = tt
+direct-take configs config h n (told.Granted k) is e = tt
 
 direct-answer : (configs : List Configuration) (config : Configuration) (h : History) (event : Event) (t : Told) → config_of configs 1 ≡ Some config
     → next configs h event ≡ gives t → IsDirectAnswer configs h event t
@@ -64,6 +76,15 @@ direct-answer configs config h (Open c addr port) t is e = tt
 direct-answer configs config h (Close c) t is e = tt
 direct-answer configs config h (Ask c method target fields) t is e = tt
 direct-answer configs config h (Step n) t is e = tt
+direct-answer configs config h (Started k class) t is e = tt
+direct-answer configs config h (StartFail k class) t is e = tt
+direct-answer configs config h (Line k bytes) t is e = tt
+direct-answer configs config h (Died k) t is e = tt
+direct-answer configs config h Act t is e = tt
+direct-answer configs config h (Reconfigure text) t is e = tt
+direct-answer configs config h (Seat k) t is e = tt
+direct-answer configs config h (Grant k wanted) t is e = tt
+direct-answer configs config h (Leave k) t is e = tt
 
 begin-answer : (configs : List Configuration) (h : History) (event : Event) (t : Told) → t ≡ told.Epoch 1 → IsDirectAnswer configs h event t
 begin-answer configs h (Take n) (told.Judged epoch o) e = absurd (cc)
@@ -71,11 +92,32 @@ begin-answer configs h (Take n) (told.Epoch x) e = tt
 begin-answer configs h (Take n) told.Fine e = tt
 begin-answer configs h (Take n) (told.Check x) e = tt
 begin-answer configs h (Take n) told.Done e = tt
+begin-answer configs h (Take n) (told.Took class) e = tt
+begin-answer configs h (Take n) (told.Waits q) e = tt
+begin-answer configs h (Take n) (told.Proc k) e = tt
+begin-answer configs h (Take n) (told.Reply q word) e = tt
+begin-answer configs h (Take n) told.Bad e = tt
+begin-answer configs h (Take n) told.Stray e = tt
+begin-answer configs h (Take n) (told.Start k class) e = tt
+begin-answer configs h (Take n) (told.Send k q channel key) e = tt
+begin-answer configs h (Take n) (told.Stop k) e = tt
+begin-answer configs h (Take n) (told.Seat k pool) e = tt
+begin-answer configs h (Take n) told.NoSeat e = tt
+begin-answer configs h (Take n) (told.Granted k) e = tt
 begin-answer configs h (Begin offset) t e = tt
 begin-answer configs h (Open c addr port) t e = tt
 begin-answer configs h (Close c) t e = tt
 begin-answer configs h (Ask c method target fields) t e = tt
 begin-answer configs h (Step n) t e = tt
+begin-answer configs h (Started k class) t e = tt
+begin-answer configs h (StartFail k class) t e = tt
+begin-answer configs h (Line k bytes) t e = tt
+begin-answer configs h (Died k) t e = tt
+begin-answer configs h Act t e = tt
+begin-answer configs h (Reconfigure text) t e = tt
+begin-answer configs h (Seat k) t e = tt
+begin-answer configs h (Grant k wanted) t e = tt
+begin-answer configs h (Leave k) t e = tt
 
 pub legal-direct : (configs : List Configuration) (config : Configuration) (h : History) → config_of configs 1 ≡ Some config → Legal configs h → IsDirect configs h
 legal-direct configs config [] is legal = tt

@@ -82,3 +82,18 @@ names_push f (y ∷ xs) x own new =
 pub own_push : {A : Type 0} (f : A → List ℕ) (xs ys : List A) (x : A) → have_own_names f xs ≡ true → place_from f 0 xs (f x) ≡ None → ys ≡ xs ++ x ∷ [] → have_own_names f ys ≡ true
 own_push f xs ys x own none longer =
     let new : is_named f xs (f x) ≡ false = sym (place_tells f 0 xs (f x)) ∙ ap is_some none in rw longer (names_push f xs x own new)
+
+none_or : (a b c : Bool) → (a || (b || c)) ≡ false → b ≡ false
+none_or a b c e = grind (arith, e)
+
+freed : (m o : Bool) (n : ℕ) (b : Bool) (p : Option ℕ) → (not m && o) ≡ true → (m ≡ false → b ≡ false) → (o ≡ true → p ≡ None) → (if b then Some n else p) ≡ None
+freed true o n b p own k h = cc
+freed false o n b p own k h = rw (k refl) (h own)
+
+-- of names of their own, none stands before its own element
+pub own_free : {A : Type 0} (f : A → List ℕ) (n : ℕ) (xs ys : List A) (x : A) → have_own_names f (xs ++ x ∷ ys) ≡ true → place_from f n xs (f x) ≡ None
+own_free f n [] ys x own = refl
+own_free f n (z ∷ xs) ys x own =
+    freed (is_named f (xs ++ x ∷ ys) (f z)) (have_own_names f (xs ++ x ∷ ys)) n (bytes_eq (f z) (f x)) (place_from f (suc n) xs (f x)) own
+    (λ none. bytes_turned (f z) (f x) ∙ none_or (is_named f xs (f z)) (bytes_eq (f x) (f z)) (is_named f ys (f z)) (sym (list_any-append (λ a. bytes_eq (f a) (f z)) xs (x ∷ ys)) ∙ none))
+    (own_free f (suc n) xs ys x)

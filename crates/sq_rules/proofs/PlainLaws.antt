@@ -1,5 +1,5 @@
 -- Acls of values and rules over them are a configuration.
-use Rattle.std.proofs.Common.{◌≡◌, ℕ, ◌≤◌, suc, List, [], ◌∷◌, ◌++◌, length, Bool, true, false, ◌&&◌, refl, arith, nat_le}
+use Rattle.std.proofs.Common.{◌≡◌, ℕ, ◌≤◌, suc, List, [], ◌∷◌, ◌++◌, length, Bool, true, ◌&&◌, refl, arith, nat_le}
 use Rattle.std.specs.List.{list_all}
 use Rattle.sq_rules.proofs.ListLaws.{all_push}
 use Rattle.sq_rules.specs.Configurations.{IsConfiguration, are_known_bodies, are_unique, is_known_body, is_known_rule, is_leaf, is_leaf_body, nesting_of, nestings_on, plain}

@@ -4,7 +4,7 @@ use Rattle.std.proofs.lemmas.Bool.Decides.{nat_tests}
 use Rattle.std.specs.Option.{option_or}
 use Rattle.std.specs.declared.option.Option.{Option}
 use Rattle.sq_rules.specs.declared.entries.Event.{Event}
-use Rattle.sq_rules.specs.declared.entries.Event.TheVariants.{Begin, Open, Close, Ask, Step, Take}
+use Rattle.sq_rules.specs.declared.entries.Event.TheVariants.{Begin, Open, Close, Ask, Step, Take, Started, StartFail, Line, Died, Act, Reconfigure, Seat, Grant, Leave}
 use Rattle.sq_rules.specs.declared.entries.Told.{Told}
 use Rattle.sq_rules.specs.declared.entries.Told.TheVariants as told
 use Rattle.sq_rules.specs.Entries.{History}
@@ -31,6 +31,15 @@ ask_of-after h moment (Open c addr port) n before u = before u
 ask_of-after h moment (Close c) n before u = before u
 ask_of-after h moment (Step k) n before u = before u
 ask_of-after h moment (Take k) n before u = before u
+ask_of-after h moment (Started k class) n before u = before u
+ask_of-after h moment (StartFail k class) n before u = before u
+ask_of-after h moment (Line k bytes) n before u = before u
+ask_of-after h moment (Died k) n before u = before u
+ask_of-after h moment Act n before u = before u
+ask_of-after h moment (Reconfigure text) n before u = before u
+ask_of-after h moment (Seat k) n before u = before u
+ask_of-after h moment (Grant k wanted) n before u = before u
+ask_of-after h moment (Leave k) n before u = before u
 
 past : (n count : ℕ) → (n ≡ 0) ⊎ (count < n) → (n ≡ 0 → ⊥) → nat_le n count ≡ false
 past n count (inl e) pos = absurd (pos e)
@@ -60,7 +69,28 @@ is_done-after h (Step k) (told.Epoch e) n before u pos = before u
 is_done-after h (Step k) told.Fine n before u pos = before u
 is_done-after h (Step k) (told.Check c) n before u pos = before u
 is_done-after h (Step k) (told.Judged e o) n before u pos = before u
+is_done-after h (Step k) (told.Took class) n before u pos = before u
+is_done-after h (Step k) (told.Waits q) n before u pos = before u
+is_done-after h (Step k) (told.Proc j) n before u pos = before u
+is_done-after h (Step k) (told.Reply q word) n before u pos = before u
+is_done-after h (Step k) told.Bad n before u pos = before u
+is_done-after h (Step k) told.Stray n before u pos = before u
+is_done-after h (Step k) (told.Start j class) n before u pos = before u
+is_done-after h (Step k) (told.Send j q channel jey) n before u pos = before u
+is_done-after h (Step k) (told.Stop j) n before u pos = before u
+is_done-after h (Step k) (told.Seat j pool) n before u pos = before u
+is_done-after h (Step k) told.NoSeat n before u pos = before u
+is_done-after h (Step k) (told.Granted j) n before u pos = before u
 is_done-after h (Take k) answer n before u pos = before u
+is_done-after h (Started k class) answer n before u pos = before u
+is_done-after h (StartFail k class) answer n before u pos = before u
+is_done-after h (Line k bytes) answer n before u pos = before u
+is_done-after h (Died k) answer n before u pos = before u
+is_done-after h Act answer n before u pos = before u
+is_done-after h (Reconfigure text) answer n before u pos = before u
+is_done-after h (Seat k) answer n before u pos = before u
+is_done-after h (Grant k wanted) answer n before u pos = before u
+is_done-after h (Leave k) answer n before u pos = before u
 
 -- nor did a step of it say that it is done
 pub is_done-unborn : (h : History) (n : ℕ) → IsUnborn n (ask_count h) → (n ≡ 0 → ⊥) → is_done h n ≡ false
@@ -83,6 +113,15 @@ epoch-after h moment (Open c addr port) n a before e = before a e
 epoch-after h moment (Close c) n a before e = before a e
 epoch-after h moment (Step k) n a before e = before a e
 epoch-after h moment (Take k) n a before e = before a e
+epoch-after h moment (Started k class) n a before e = before a e
+epoch-after h moment (StartFail k class) n a before e = before a e
+epoch-after h moment (Line k bytes) n a before e = before a e
+epoch-after h moment (Died k) n a before e = before a e
+epoch-after h moment Act n a before e = before a e
+epoch-after h moment (Reconfigure text) n a before e = before a e
+epoch-after h moment (Seat k) n a before e = before a e
+epoch-after h moment (Grant k wanted) n a before e = before a e
+epoch-after h moment (Leave k) n a before e = before a e
 
 -- every check began in the first epoch
 pub asked-epoch : (h : History) (n : ℕ) (a : Asked) → ask_of h n ≡ Some a → a.epoch ≡ 1

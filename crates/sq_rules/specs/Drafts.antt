@@ -1,7 +1,7 @@
 -- A configuration as far as some of its lines state it, and what a line changes (configuration
 -- reference, `acl`, `http_access`, `external_acl_type`, `delay_pools`, `delay_class`, `delay_access`,
 -- `delay_parameters`, `delay_initial_bucket_level`, `http_port`).
-use Rattle.std.specs.Prelude.{ℕ, List, [], ◌∷◌, ◌++◌, length, map, Bool, true, false, not, ◌&&◌, replicate, set, Some, None, is_some, slice_get, slice_index_or}
+use Rattle.std.specs.Prelude.{ℕ, List, [], ◌∷◌, ◌++◌, map, Bool, true, false, not, ◌&&◌, replicate, set, Some, None, is_some, slice_get, slice_index_or}
 use Rattle.std.specs.List.{list_all}
 use Rattle.std.specs.declared.option.Option.{Option}
 use Rattle.sq_rules.specs.Classes.{HelperClass}
@@ -19,7 +19,6 @@ use Rattle.sq_rules.specs.declared.configs.Term.{Term}
 use Rattle.sq_rules.specs.declared.leaves.Leaf.{Leaf}
 use Rattle.sq_rules.specs.declared.leaves.Leaf.TheVariants as leaf
 use Rattle.sq_rules.specs.declared.notices.Notice.{Notice}
-use Rattle.sq_rules.specs.declared.parts.AclPart.{AclPart}
 use Rattle.sq_rules.specs.declared.parts.BodyPart.{BodyPart}
 use Rattle.sq_rules.specs.declared.parts.BodyPart.TheVariants as part
 use Rattle.sq_rules.specs.declared.pools.Pool.{Pool}

@@ -1,5 +1,11 @@
+pub mod AclLines
+pub mod AclValues
 pub mod Building
+pub mod Changes
+pub mod ClassLines
 pub mod Classes
+pub mod ConfNumbers
+pub mod ConfText
 pub mod Configurations
 pub mod Direct
 pub mod Drafts
@@ -12,10 +18,12 @@ pub mod Machine
 pub mod Names
 pub mod OutcomeText
 pub mod Patterns
+pub mod PoolLines
 pub mod Predefined
 pub mod Rates
 pub mod Readings
 pub mod Sights
+pub mod Steps
 pub mod Tables
 pub mod Times
 pub mod Verdicts

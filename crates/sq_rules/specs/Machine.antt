@@ -16,7 +16,7 @@ use Rattle.sq_rules.specs.Limits.{conn_limit, last_number}
 use Rattle.sq_rules.specs.Readings.{peer_at, open_count, ask_count, ask_of, Asked, open_check, check_open, is_done}
 use Rattle.sq_rules.specs.Verdicts.{verdict}
 
--- an answer, a refusal, or nothing, for an event that may only stand first
+-- an answer, a refusal, or nothing, for an event that may only stand first or is not built yet
 pub data Next : Type 0 where
   gives : Told → Next
   refuses : Refusal → Next
@@ -51,7 +51,6 @@ unless_open (Some n) rest = refuses (refusal.CheckOpen n)
 
 -- what the machine answers to an event, after this history
 abbrev pub next : List Configuration → History → Event → Next
-next configs h (Begin offset) = nothing
 next configs h (Open c addr port) =
     unless (is_some (peer_at h c)) (refusal.ConnInUse c)
     (unless (nat_le conn_limit (open_count h)) (refusal.TooManyConns conn_limit)
@@ -71,6 +70,7 @@ next configs h (Take n) =
     unless (if check_open h n then false else true) (refusal.UnknownCheck n)
     (unless (if is_done h n then false else true) (refusal.NotDone n)
     (gives (told.Judged (epoch_of (ask_of h n)) (outcome_of configs (ask_of h n)))))
+next configs h event = nothing
 
 abbrev pub is_begin : Event → Bool
 is_begin (Begin offset) = true

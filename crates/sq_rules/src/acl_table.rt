@@ -1,14 +1,20 @@
 //! The acls of a configuration under way.
-ghost use Rattle.std.specs.Prelude.{◌≡◌, ◌∷◌, ◌++◌, ◌<◌, [], true, false, length, None, IfOk, IfSome, slice_index_or};
+ghost use Rattle.std.specs.Prelude.{◌≡◌, ◌≢◌, ◌∷◌, ◌++◌, ◌<◌, [], true, false, length, nat_le, Some, None, IfOk, IfErr, IfSome, OnOk, OnErr, slice_index_or};
 ghost use Rattle.sq_rules.specs.Building.{place_of, with_acl, IsMade};
-ghost use Rattle.sq_rules.specs.Configurations.{are_shallow, are_unique, slow_ones};
-ghost use Rattle.sq_rules.specs.Limits.{acl_limit};
+ghost use Rattle.sq_rules.specs.Changes.{type_at, with_member_at, AreSlowOnes};
+ghost use Rattle.sq_rules.specs.Configurations.{are_shallow, are_unique, nesting_of, nestings, slow_ones};
+ghost use Rattle.sq_rules.specs.Drafts.{change_body, with_leaf, with_line};
+ghost use Rattle.sq_rules.specs.Limits.{acl_limit, nesting_limit};
 
-use crate::configs::{Acl, Acls, Body};
+use crate::acl_types::AclType;
+use crate::configs::{Acl, Acls, Body, Term};
+use crate::leaves::Leaf;
+use crate::member_faults::MemberFault;
 use crate::names::Names;
 use crate::nesting::{is_slow, nesting_of};
 use crate::parts::BuildFault;
-use sq_base::{Copying, Listed, Text};
+use crate::rechecks::{depths_with, renew, slow_with};
+use sq_base::{Copying, Listed, Text, WantOfMemory};
 use std::alloc::Global;
 use std::marker::Model;
 
@@ -16,10 +22,10 @@ use std::marker::Model;
 /// a helper or reaches an acl that does. A contract sees the acls.
 #[derive(Drop)]
 pub struct AclTable {
-    acls: Acls,
+    acls: Vec<Acl>,
     places: Names,
-    nestings: Listed<u32>,
-    slow: Listed<bool>,
+    nestings: Vec<u32>,
+    slow: Vec<bool>,
 }
 
 impl Model for AclTable {
@@ -29,9 +35,9 @@ impl Model for AclTable {
 
     ghost Value = { List Acl };
 
-    ghost view = { λ t. t.acls };
+    ghost view = { λ t. t.acls.items };
 
-    ghost invariant = { λ t. KnowsAcls t.acls t.places t.nestings t.slow };
+    ghost invariant = { λ t. KnowsAcls t.acls.items t.places t.nestings.items t.slow.items };
 }
 
 impl AclTable {
@@ -40,11 +46,18 @@ impl AclTable {
         ensures { result ≡ [] }
     {
         AclTable {
-            acls: Listed::new(alloc),
+            acls: Vec::new(alloc),
             places: Names::new(alloc),
-            nestings: Listed::new(alloc),
-            slow: Listed::new(alloc),
+            nestings: Vec::new(alloc),
+            slow: Vec::new(alloc),
         }
+    }
+
+    /// How many acls there are.
+    pub fn len(&self) -> usize
+        ensures { result ≡ length self.now }
+    {
+        self.acls.len()
     }
 
     /// The place of the acl with this name.
@@ -53,6 +66,14 @@ impl AclTable {
         ensures within { IfSome result (λ place. place < length self.now) }
     {
         self.places.place(name)
+    }
+
+    /// The type of the acl at a place.
+    pub fn acl_type(&self, place: u32) -> AclType
+        requires { place < length self.now }
+        ensures { type_at self.now place ≡ Some result }
+    {
+        self.acls[place as usize].body.acl_type()
     }
 
     /// Whether the acl at a place asks a helper or reaches one that does.
@@ -65,34 +86,105 @@ impl AclTable {
         }
     }
 
+    /// One acl more, which nests no deeper than it may.
+    pub fn push(&mut self, alloc: Global, name: Text, body: Body) -> Result<(), WantOfMemory>
+        requires few { length self.old < acl_limit }
+        requires free { place_of self.old name ≡ None }
+        requires shallow { nat_le (nesting_of (nestings self.old) body) nesting_limit ≡ true }
+        ensures ok { OnOk result (self.new ≡ self.old ++ (record { name = name; body = body }) ∷ []) }
+        ensures err { OnErr result (self.new ≡ self.old) }
+    {
+        let Some(nesting) = nesting_of(self.nestings.as_slice(), &body) else {
+            unreachable!();
+        };
+        let asks = is_slow(self.slow.as_slice(), &body);
+        let key = name.copy(alloc)?;
+        self.acls.reserve(1)?;
+        self.nestings.reserve(1)?;
+        self.slow.reserve(1)?;
+        let place = self.acls.len() as u32;
+        self.places.put(key, place)?;
+        self.nestings.push_reserved(nesting);
+        self.slow.push_reserved(asks);
+        self.acls.push_reserved(Acl { name, body });
+        Ok(())
+    }
+
     /// The table with one acl more, which must not nest too deep.
-    pub fn with(self, alloc: Global, name: Text, body: Body) -> Result<AclTable, BuildFault>
+    pub fn with(mut self, alloc: Global, name: Text, body: Body) -> Result<AclTable, BuildFault>
         requires few { length self < acl_limit }
         requires free { place_of self name ≡ None }
         ensures made { IsMade result (with_acl self name body) }
         ensures longer { IfOk result (λ t. t ≡ self ++ (record { name = name; body = body }) ∷ []) }
     {
-        let AclTable {
-            mut acls,
-            mut places,
-            mut nestings,
-            mut slow,
-        } = self;
-        let Some(nesting) = nesting_of(nestings.as_slice(), &body) else {
+        if nesting_of(self.nestings.as_slice(), &body).is_none() {
             return Err(BuildFault::TooDeep(name));
-        };
-        let asks = is_slow(slow.as_slice(), &body);
-        let key = name.copy(alloc)?;
-        places.put(key, acls.len() as u32)?;
-        nestings.push(nesting)?;
-        slow.push(asks)?;
-        acls.push(Acl { name, body })?;
-        Ok(AclTable {
-            acls,
-            places,
-            nestings,
-            slow,
-        })
+        }
+        self.push(alloc, name, body)?;
+        Ok(self)
+    }
+
+    /// Puts further values into the leaf at a place.
+    pub fn join_leaf(&mut self, alloc: Global, place: u32, more: Leaf) -> Result<(), WantOfMemory>
+        requires { place < length self.old }
+        ensures ok { OnOk result (self.new ≡ change_body place (with_leaf more) self.old) }
+        ensures err { OnErr result (self.new ≡ self.old) }
+    {
+        self.acls[place as usize].join(alloc, more)
+    }
+
+    /// Opens a further line of members of the acl at a place; only that of `all-of` counts.
+    pub fn open_line(&mut self, alloc: Global, place: u32) -> Result<(), WantOfMemory>
+        requires { place < length self.old }
+        ensures ok { OnOk result (self.new ≡ change_body place with_line self.old) }
+        ensures err { OnErr result (self.new ≡ self.old) }
+    {
+        self.acls[place as usize].open_line(alloc)
+    }
+
+    /// Which acls ask a helper or reach one that does, where the group at a place has this member too;
+    /// None where they are the same as without it.
+    pub fn slow_with(
+        &self,
+        alloc: Global,
+        place: u32,
+        term: Term,
+    ) -> Result<Option<Listed<bool>>, WantOfMemory>
+        requires { place < length self.now }
+        ensures { IfOk result (λ new. AreSlowOnes new self.now (with_member_at place term self.now)) }
+    {
+        slow_with(
+            alloc,
+            self.slow.as_slice(),
+            self.acls.as_slice(),
+            place as usize,
+            term,
+        )
+    }
+
+    /// Puts a member into the group at a place, where no acl nests too deep then. `slow` is what
+    /// `slow_with` answers of it.
+    pub fn add_member(
+        &mut self,
+        alloc: Global,
+        place: u32,
+        term: Term,
+        slow: Option<Listed<bool>>,
+    ) -> Result<(), MemberFault>
+        requires within { place < length self.old }
+        requires slow { AreSlowOnes slow self.old (with_member_at place term self.old) }
+        ensures ok { OnOk result (self.new ≡ with_member_at place term self.old) }
+        ensures shallow { OnOk result (are_shallow (with_member_at place term self.old) ≡ true) }
+        ensures not_slow { IfErr result (λ e. e ≢ MemberFault.Slow) }
+        ensures deep { IfErr result (λ e. e ≡ MemberFault.Deep → are_shallow (with_member_at place term self.old) ≡ false) }
+        ensures err { OnErr result (self.new ≡ self.old) }
+    {
+        let acls = self.acls.as_slice();
+        let depths = depths_with(alloc, self.nestings.as_slice(), acls, place as usize, term)?;
+        self.acls[place as usize].add_member(alloc, term)?;
+        renew(&mut self.nestings, depths);
+        renew(&mut self.slow, slow);
+        Ok(())
     }
 
     /// The acls alone.
@@ -101,6 +193,6 @@ impl AclTable {
         ensures unique { are_unique result ≡ true }
         ensures shallow { are_shallow result ≡ true }
     {
-        self.acls
+        Listed::from_vec(self.acls)
     }
 }

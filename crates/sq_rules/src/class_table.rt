@@ -1,5 +1,5 @@
 //! The classes of a configuration under way.
-ghost use Rattle.std.specs.Prelude.{◌≡◌, ◌∷◌, ◌++◌, ◌<◌, [], true, length, None, IfOk, IfSome};
+ghost use Rattle.std.specs.Prelude.{◌≡◌, ◌∷◌, ◌++◌, ◌<◌, [], true, length, None, IfOk, IfSome, OnOk, OnErr};
 ghost use Rattle.sq_rules.specs.Building.{class_place};
 ghost use Rattle.sq_rules.specs.Configurations.{are_distinct};
 ghost use Rattle.sq_rules.specs.Limits.{class_limit};
@@ -13,7 +13,7 @@ use std::marker::Model;
 /// Classes with names of their own, and their places by name. A contract sees the classes.
 #[derive(Drop)]
 pub struct ClassTable {
-    classes: Classes,
+    classes: Vec<Class>,
     places: Names,
 }
 
@@ -25,9 +25,9 @@ impl Model for ClassTable {
 
     ghost Value = { List HelperClass };
 
-    ghost view = { λ t. t.classes };
+    ghost view = { λ t. t.classes.items };
 
-    ghost invariant = { λ t. KnowsPlaces (λ c. c.name) t.places t.classes × (are_distinct t.classes ≡ true) };
+    ghost invariant = { λ t. KnowsPlaces (λ c. c.name) t.places t.classes.items × (are_distinct t.classes.items ≡ true) };
 }
 
 impl ClassTable {
@@ -36,7 +36,7 @@ impl ClassTable {
         ensures { result ≡ [] }
     {
         ClassTable {
-            classes: Listed::new(alloc),
+            classes: Vec::new(alloc),
             places: Names::new(alloc),
         }
     }
@@ -49,20 +49,36 @@ impl ClassTable {
         self.places.place(name)
     }
 
+    /// How many classes there are.
+    pub fn len(&self) -> usize
+        ensures { result ≡ length self.now }
+    {
+        self.classes.len()
+    }
+
+    /// One class more.
+    pub fn push(&mut self, alloc: Global, class: Class) -> Result<(), WantOfMemory>
+        requires few { length self.old < class_limit }
+        requires free { class_place self.old class.name ≡ None }
+        ensures ok { OnOk result (self.new ≡ self.old ++ class ∷ []) }
+        ensures err { OnErr result (self.new ≡ self.old) }
+    {
+        let name = class.name.copy(alloc)?;
+        self.classes.reserve(1)?;
+        let place = self.classes.len() as u32;
+        self.places.put(name, place)?;
+        self.classes.push_reserved(class);
+        Ok(())
+    }
+
     /// The table with one class more.
-    pub fn with(self, alloc: Global, class: Class) -> Result<ClassTable, WantOfMemory>
+    pub fn with(mut self, alloc: Global, class: Class) -> Result<ClassTable, WantOfMemory>
         requires few { length self < class_limit }
         requires free { class_place self class.name ≡ None }
         ensures { IfOk result (λ t. t ≡ self ++ class ∷ []) }
     {
-        let ClassTable {
-            mut classes,
-            mut places,
-        } = self;
-        let name = class.name.copy(alloc)?;
-        places.put(name, classes.len() as u32)?;
-        classes.push(class)?;
-        Ok(ClassTable { classes, places })
+        self.push(alloc, class)?;
+        Ok(self)
     }
 
     /// The classes alone.
@@ -70,6 +86,6 @@ impl ClassTable {
         ensures classes { result ≡ self }
         ensures distinct { are_distinct result ≡ true }
     {
-        self.classes
+        Listed::from_vec(self.classes)
     }
 }

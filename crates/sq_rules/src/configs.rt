@@ -104,6 +104,32 @@ impl Config {
         }
     }
 
+    /// The configuration of these parts, where they are one.
+    pub fn of_parts(
+        source: Text,
+        classes: Classes,
+        acls: Acls,
+        rules: Rules,
+        pools: Pools,
+        initial: u8,
+        port: u16,
+        notices: Notices,
+    ) -> Config
+        requires { IsConfiguration (record { source = source; classes = classes; acls = acls; rules = rules; pools = pools; initial = initial; port = port; notices = notices }) }
+        ensures { result ≡ record { source = source; classes = classes; acls = acls; rules = rules; pools = pools; initial = initial; port = port; notices = notices } }
+    {
+        Config {
+            source,
+            classes,
+            acls,
+            rules,
+            pools,
+            initial,
+            port,
+            notices,
+        }
+    }
+
     /// The configuration that the parts state, or their first fault in the order of the parts.
     #[tactic(auto, unfolding(crate::specs::Building::built))]
     pub fn build(alloc: Global, parts: Parts) -> Result<Config, BuildFault>

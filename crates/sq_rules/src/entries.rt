@@ -1,6 +1,8 @@
 //! Events of the machine, its answers, and entries of a journal.
 use crate::outcomes::Outcome;
-use sq_base::{Addr, CheckNo, ConnNo, EpochNo, Fields, Moment, Text};
+use sq_base::{
+    Addr, CheckNo, ConnNo, EpochNo, Fields, Moment, ProcNo, QuestionNo, SeatNo, Text, Word,
+};
 use std::marker::Model;
 
 /// Minutes by which local time is ahead of UTC, from -840 to 840.
@@ -51,6 +53,44 @@ pub enum Event {
     Take {
         check: CheckNo,
     },
+    /// A helper process of a class of this epoch runs.
+    Started {
+        epoch: EpochNo,
+        class: Text,
+    },
+    /// A helper process of a class of this epoch could not be started.
+    StartFail {
+        epoch: EpochNo,
+        class: Text,
+    },
+    /// A helper process wrote a line, given without its end.
+    Line {
+        proc: ProcNo,
+        bytes: Text,
+    },
+    /// A helper process ended.
+    Died {
+        proc: ProcNo,
+    },
+    /// The machine is asked for the next act that is due.
+    Act,
+    /// A new configuration begins an epoch: its source, or in a script the name of its file.
+    Reconfigure {
+        text: Text,
+    },
+    /// The connection asks for a seat in the delay pool of its last taken record.
+    Seat {
+        conn: ConnNo,
+    },
+    /// A seat wants so many bytes, at most 2^63 - 1.
+    Grant {
+        seat: SeatNo,
+        wanted: u64,
+    },
+    /// A seat is given up.
+    Leave {
+        seat: SeatNo,
+    },
 }
 
 /// The machine's answer to an event.
@@ -62,10 +102,51 @@ pub enum Told {
     Fine,
     /// The number of the check that begins.
     Check(CheckNo),
+    /// The check took an answer of this class from the answers that are kept.
+    Took(Text),
+    /// The check waits for this question.
+    Waits(QuestionNo),
     /// The check has its outcome.
     Done,
     /// The epoch of a check, and its outcome.
-    Judged { epoch: EpochNo, outcome: Outcome },
+    Judged {
+        epoch: EpochNo,
+        outcome: Outcome,
+    },
+    /// The number of the helper process.
+    Proc(ProcNo),
+    /// The line replied to this question, with this result.
+    Reply {
+        question: QuestionNo,
+        word: Word,
+    },
+    /// The line is outside the grammar of replies.
+    Bad,
+    /// The line is for a channel that has no question.
+    Stray,
+    /// A helper process of this class of this epoch is to be started.
+    Start {
+        epoch: EpochNo,
+        class: Text,
+    },
+    /// A question is to be sent to a process, with its channel where the class has channels.
+    Send {
+        proc: ProcNo,
+        question: QuestionNo,
+        channel: Option<u32>,
+        key: Text,
+    },
+    /// A process is to be stopped.
+    Stop(ProcNo),
+    /// The number of the seat, and its pool by its place from 0.
+    Seat {
+        seat: SeatNo,
+        pool: u32,
+    },
+    /// The connection's record has no pool; printed `none`.
+    NoSeat,
+    /// So many bytes were granted, at most 2^63 - 1.
+    Granted(u64),
 }
 
 /// One line of a journal: a moment, an event, and the answer that it had.

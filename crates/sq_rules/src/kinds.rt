@@ -2,6 +2,8 @@
 ghost use Rattle.std.specs.Prelude.{◌≡◌};
 ghost use Rattle.sq_rules.specs.Kinds.{kind_number};
 
+use std::fmt;
+
 /// What is wrong with a line of a configuration, in the order of their numbers.
 #[derive(Clone, Copy, Debug, PartialEq, Eq)]
 pub enum Kind {
@@ -83,4 +85,12 @@ impl Kind {
 pub struct ConfError {
     pub line: u32,
     pub kind: Kind,
+}
+
+impl fmt::Display for ConfError {
+    /// The line and the kind by their numbers.
+    fn fmt<W: fmt::Write>(&self, f: &mut fmt::Formatter<W>) -> fmt::Result {
+        let number = self.kind.number();
+        write!(f, "line {}, kind {number}", self.line)
+    }
 }

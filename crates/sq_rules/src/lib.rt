@@ -8,17 +8,20 @@
 //! entries says of connections and checks (`Readings`), and what the machine answers next (`Machine`).
 #![tactic(auto)]
 
+mod acl_changes;
 mod acl_table;
 mod acl_types;
 mod building;
 mod class_table;
 mod classes;
 mod configs;
+mod directives;
 mod entries;
 mod facts;
 mod fast_lists;
 mod kinds;
 mod leaves;
+mod member_faults;
 mod names;
 mod nesting;
 mod notices;
@@ -26,16 +29,21 @@ mod outcomes;
 mod parts;
 mod pools;
 mod predefined;
+mod rechecks;
 mod refusals;
 mod sights;
 
+pub use acl_table::AclTable;
 pub use acl_types::AclType;
+pub use class_table::ClassTable;
 pub use classes::{Class, Classes, Token, Tokens};
 pub use configs::{Acl, Acls, Body, Config, Lines, Rule, Rules, Term, Terms};
+pub use directives::{ClassOption, Directive};
 pub use entries::{Entry, Event, Offset, Told};
 pub use facts::Facts;
 pub use kinds::{ConfError, Kind};
 pub use leaves::{Find, Finds, Hour, Hours, Leaf, Numbers, PortRange, PortRanges};
+pub use member_faults::MemberFault;
 pub use notices::{Notice, Notices};
 pub use outcomes::{Outcome, Why};
 pub use parts::{

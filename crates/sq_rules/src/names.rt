@@ -1,5 +1,5 @@
 //! Places by name.
-ghost use Rattle.std.specs.Prelude.{◌≡◌, [], cond, ℕ, List, Some, bytes_eq, OnOk};
+ghost use Rattle.std.specs.Prelude.{◌≡◌, [], cond, ℕ, List, Some, bytes_eq, OnOk, OnErr};
 ghost use Rattle.sq_rules.specs.Names.{place_at};
 
 use sq_base::{Text, WantOfMemory};
@@ -40,7 +40,8 @@ impl Names {
 
     /// Puts the place of a name.
     pub fn put(&mut self, name: Text, place: u32) -> Result<(), WantOfMemory>
-        ensures { OnOk result ((q : List ℕ) → place_at self.new q ≡ cond (bytes_eq name q) (Some place) (place_at self.old q)) }
+        ensures ok { OnOk result ((q : List ℕ) → place_at self.new q ≡ cond (bytes_eq name q) (Some place) (place_at self.old q)) }
+        ensures err { OnErr result (self.new ≡ self.old) }
     {
         match self.places.insert(name, place) {
             Ok(_) => {}

@@ -9,8 +9,8 @@ use crate::configs::{Body, Term, Terms};
 /// How deep groups may nest.
 const NESTING_LIMIT: u32 = 32;
 
-// The nesting of a term's acl.
-fn nesting_at(before: &[u32], term: Term) -> u32
+/// The nesting of a term's acl.
+pub fn nesting_at(before: &[u32], term: Term) -> u32
     ensures { result ≡ slice_index_or before.now term.acl 0 }
 {
     match before.get(term.acl as usize) {
@@ -41,8 +41,8 @@ fn deepest_line(before: &[u32], lines: &[Terms]) -> u32
     greatest
 }
 
-// The nesting of a group over its deepest member, where it is none too deep.
-fn group_over(deepest: u32) -> Option<u32>
+/// The nesting of a group over its deepest member, where it is none too deep.
+pub fn group_over(deepest: u32) -> Option<u32>
     ensures { result ≡ allowed (suc deepest) }
 {
     if deepest < NESTING_LIMIT {
@@ -67,8 +67,8 @@ pub fn nesting_of(before: &[u32], body: &Body) -> Option<u32>
     }
 }
 
-// Whether a term's acl is slow.
-fn is_slow_at(before: &[bool], term: Term) -> bool
+/// Whether a term's acl is slow.
+pub fn is_slow_at(before: &[bool], term: Term) -> bool
     ensures { result ≡ slice_index_or before.now term.acl false }
 {
     match before.get(term.acl as usize) {

@@ -47,3 +47,15 @@ pub fn tree_of(alloc: Global, pattern: &[u8], fold: bool) -> Result<Parsed, Tree
         },
     }
 }
+
+/// Whether a text is a pattern: the grammar reads it, and its parts don't nest too deep. It is not
+/// compiled.
+pub fn is_pattern(alloc: Global, pattern: &[u8], fold: bool) -> Result<bool, WantOfMemory>
+    ensures { IfOk result (λ b. b ≡ is_pattern (record { pattern = pattern.now; fold = fold })) }
+{
+    match tree_of(alloc, pattern, fold) {
+        Ok(_) => Ok(true),
+        Err(TreeFault::BadPattern) => Ok(false),
+        Err(TreeFault::WantOfMemory) => Err(WantOfMemory),
+    }
+}

@@ -1,4 +1,5 @@
-//! Tests of what a configuration, its helpers and its clients write: addresses, lines, replies, heads.
+//! Tests of what a configuration, its helpers and its clients write: addresses, lines, whole texts,
+//! replies, heads.
 //!
 //! It has no public call. Each test is one table, whose expected values come from the public standards
 //! (RFC 4291, RFC 5952, RFC 9110, RFC 9112, Squid's configuration reference and helper protocol), or
@@ -7,6 +8,8 @@
 
 #[cfg(test)]
 mod addresses;
+#[cfg(test)]
+mod configs;
 #[cfg(test)]
 mod fixtures;
 #[cfg(test)]
@@ -19,5 +22,7 @@ mod plain;
 mod replies;
 #[cfg(test)]
 mod requests;
+#[cfg(test)]
+mod script_lines;
 #[cfg(test)]
 mod values;

@@ -2,7 +2,8 @@
 //!
 //! It has no public call. A test is a table of cases, each with all the bytes that must be written and
 //! the exit status, or lets each call of a device fail in turn. `calls` makes each public call of the
-//! forms in memory, the adapters and the configuration once with ample memory.
+//! forms in memory, the adapters and the configuration once with ample memory. `journal` and
+//! `journal_answers` have the lines of journals.
 #![tactic(auto)]
 
 #[cfg(test)]
@@ -15,5 +16,9 @@ mod faults;
 mod fixtures;
 #[cfg(test)]
 mod forms;
+#[cfg(test)]
+mod journal;
+#[cfg(test)]
+mod journal_answers;
 #[cfg(test)]
 mod runs;

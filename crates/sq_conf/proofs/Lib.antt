@@ -1,0 +1,2 @@
+mod DayLaws
+mod NumberLaws

@@ -1,0 +1,8 @@
+use Rattle.std.proofs.Common.{◌≡◌, drop}
+use Rattle.sq_rules.specs.AclValues.{range_value}
+use Rattle.sq_rules.specs.Steps.{over, one_more, some_of}
+use Rattle.sq_conf.proofs.leaf_values.range_values.Given as goal
+
+-- the values so far, and those of the words that are left, are all
+abbrev pub invariant-loop-word : goal.invariant-loop-word
+invariant-loop-word l = over (one_more range_value) l.values (drop l.word-index l.words) ≡ some_of range_value l.words

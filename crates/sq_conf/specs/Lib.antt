@@ -1,0 +1,4 @@
+pub mod ClassDrafts
+pub mod Forms
+pub mod Targets
+pub mod Texts

@@ -1,0 +1,31 @@
+//! The reader of configurations: a text of squid.conf as a `Setup`, or its first fault.
+//!
+//! `read_config` takes the lines in their order, and in each its words from the left: each is tried
+//! first for its form, and then for what it names. What the lines state so far is kept by `sq_drafts`
+//! with maps of names, so the time is nearly in proportion to the text. It promises that the answer is
+//! exactly the one that the definition gives (`conf_gives`, `conf_refuses` of `sq_rules`), unless
+//! memory runs out.
+#![tactic(auto)]
+
+mod acl_lines;
+mod class_drafts;
+mod class_lines;
+mod class_options;
+mod cuts;
+mod directives;
+mod faults;
+mod finds;
+mod groups;
+mod leaf_values;
+mod numbers;
+mod pairs;
+mod pool_lines;
+mod port_lines;
+mod reading;
+mod terms;
+mod times;
+mod tokens;
+mod words;
+
+pub use faults::ConfFault;
+pub use reading::read_config;

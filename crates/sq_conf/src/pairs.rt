@@ -1,0 +1,74 @@
+//! Pairs of `delay_parameters`, and PORT of `http_port`.
+ghost use Rattle.std.specs.Prelude.{◌≡◌};
+ghost use Rattle.sq_conf.specs.Forms.{Gives};
+ghost use Rattle.sq_rules.specs.ConfNumbers.{pair_of, rate_of, port_place, port_text, has_host};
+
+use crate::cuts::{before, behind};
+use crate::faults::ReadFault;
+use crate::numbers::digits_of;
+use sq_rules::{Kind, Limit};
+
+const DELAY_LIMIT: u64 = 1_000_000_000_000_000;
+
+/// `none`, or RESTORE/MAX, where -1 as RESTORE is no limit.
+#[tactic(auto, unfolding(sq_rules::specs::ConfNumbers::pair_of))]
+pub fn pair_of(word: &[u8]) -> Result<Option<Limit>, ReadFault>
+    ensures { Gives (λ p. p) result (pair_of word.now) }
+{
+    if word == b"none".as_slice() {
+        return Ok(None);
+    }
+    match rate_of(before(word, b'/'), behind(word, b'/')) {
+        Some(pair) => Ok(pair),
+        None => Err(ReadFault::Fault(Kind::BadNumber)),
+    }
+}
+
+// What stands before and behind the `/`.
+fn rate_of(restore: &[u8], max: &[u8]) -> Option<Option<Limit>>
+    ensures { result ≡ rate_of restore.now max.now }
+{
+    let most = digits_of(max, DELAY_LIMIT);
+    if restore == b"-1".as_slice() {
+        return if max == b"-1".as_slice() || most.is_some() {
+            Some(None)
+        } else {
+            None
+        };
+    }
+    let restore = digits_of(restore, DELAY_LIMIT)?;
+    let max = most?;
+    Some(Some(Limit { restore, max }))
+}
+
+// The place behind the last `:`, or 0.
+fn port_place(word: &[u8]) -> usize
+    ensures { result ≡ port_place 0 0 word.now }
+{
+    let mut found = 0;
+    for (place, &byte) in word.iter().enumerate() {
+        if byte == b':' {
+            found = place + 1;
+        }
+    }
+    found
+}
+
+/// PORT of PORT or HOST:PORT.
+#[tactic(auto, unfolding(sq_rules::specs::ConfNumbers::port_text))]
+pub fn port_text(word: &[u8]) -> &[u8]
+    ensures { result.now ≡ port_text word.now }
+{
+    match word.get(port_place(word)..) {
+        Some(port) => port,
+        None => b"".as_slice(),
+    }
+}
+
+/// Whether a host stands before PORT.
+#[tactic(auto, unfolding(sq_rules::specs::ConfNumbers::has_host))]
+pub fn has_host(word: &[u8]) -> bool
+    ensures { result ≡ has_host word.now }
+{
+    1 <= port_place(word)
+}

@@ -1,0 +1,3 @@
+pub mod KnownLaws
+pub mod ListLaws
+pub mod SoundLaws

@@ -1,0 +1,31 @@
+-- A line as words with one space between them.
+use Rattle.std.specs.Prelude.{ℕ, List, [], ◌∷◌, ◌++◌, Bool, ◌==◌, Some, None}
+use Rattle.std.specs.List.{slice_split, join_with_byte}
+use Rattle.std.specs.Borrow.{Bor}
+use Rattle.std.specs.declared.option.Option.{Option}
+
+-- a list of words
+abbrev pub Words : Type 0
+Words = List (List ℕ)
+
+-- a space
+abbrev pub is_space : ℕ → Bool
+is_space b = b == 32
+
+-- the words of a line
+unfoldable pub words_of : List ℕ → Words
+words_of line = slice_split is_space line
+
+-- the words of what is left of a line
+abbrev pub words_left : Option (Bor (List ℕ)) → Words
+words_left None = []
+words_left (Some rest) = words_of rest.now
+
+-- the line of some words
+abbrev pub line_of : Words → List ℕ
+line_of ws = join_with_byte 32 ws
+
+-- each word after a space
+abbrev pub after_spaces : Words → List ℕ
+after_spaces [] = []
+after_spaces (w ∷ ws) = 32 ∷ (w ++ after_spaces ws)

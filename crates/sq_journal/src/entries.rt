@@ -1,0 +1,108 @@
+//! Entries printed and read.
+ghost use Rattle.std.specs.Prelude.{◌≡◌, ℕ, IfOk};
+ghost use Rattle.sq_rules.specs.Entries.{Noted};
+ghost use Rattle.sq_rules.specs.declared.entries.Event.{Event};
+ghost use Rattle.sq_journal.specs.EntryText.{entry_text, dated_text};
+ghost use Rattle.sq_journal.specs.Lines.{words_of};
+ghost use Rattle.sq_journal.specs.Reading.{Gives, Is, Passes, dated_of};
+ghost use Rattle.sq_journal.specs.ToldReading.{entry_of, after_arrow};
+ghost use Rattle.sq_journal.specs.Values.{IsNumber, IsEvent, IsNoted};
+
+use crate::answers::told;
+use crate::events::event;
+use crate::faults::EntryFault;
+use crate::printing::{put_event, put_moment, put_name};
+use crate::rows::is_row;
+use crate::told_printing::put_told;
+use crate::values::number;
+use crate::words::Words;
+use sq_base::{Moment, Text, WantOfMemory};
+use sq_rules::{Entry, Event};
+use std::alloc::Global;
+
+/// The text of an entry: its line without LF.
+pub fn print_entry(alloc: Global, entry: &Entry) -> Result<Text, WantOfMemory>
+    ensures { IfOk result (λ text. text ≡ entry_text entry.now) }
+{
+    let mut text = Text::new(alloc);
+    put_moment(&mut text, entry.moment)?;
+    put_event(alloc, &mut text, &entry.event)?;
+    put_name(alloc, &mut text, b"=>")?;
+    put_told(alloc, &mut text, &entry.answer)?;
+    Ok(text)
+}
+
+/// The entry whose text the line is, which stands without its LF.
+pub fn read_entry(alloc: Global, line: &[u8]) -> Result<Entry, EntryFault>
+    // What is read is printed so.
+    ensures found { IfOk result (λ e. IsNoted e × (line.now ≡ entry_text e)) }
+    // What is printed so is read, unless memory runs out: there is no other entry, and no fault.
+    ensures only { (e : Noted) → IsNoted e → line.now ≡ entry_text e → Is e result }
+    // No two entries have one text.
+    ensures one { (a b : Noted) → IsNoted a → IsNoted b → entry_text a ≡ entry_text b → a ≡ b }
+{
+    entry(alloc, line)
+}
+
+/// The moment and the event whose text the line is, as a script's line has them, without its LF.
+pub fn read_event(alloc: Global, line: &[u8]) -> Result<(Moment, Event), EntryFault>
+    // What is read is printed so.
+    ensures found { IfOk result (λ r. IsNumber r.0 × IsEvent r.1 × (line.now ≡ dated_text r.0 r.1)) }
+    // What is printed so is read, unless memory runs out: there is no other event, and no fault.
+    ensures only { (moment : ℕ) (event : Event) → IsNumber moment → IsEvent event → line.now ≡ dated_text moment event → Is (moment, event) result }
+{
+    dated(alloc, line)
+}
+
+// The entry of the line's words.
+#[tactic(auto, unfolding(crate::specs::ToldReading::entry_of))]
+fn entry(alloc: Global, line: &[u8]) -> Result<Entry, EntryFault>
+    ensures { Gives (λ e. e) result (entry_of (words_of line.now)) }
+{
+    let mut words = Words::new(line);
+    let moment = Moment(number(&mut words)?);
+    let event = event(alloc, &mut words)?;
+    arrow(&mut words)?;
+    let answer = told(alloc, &mut words)?;
+    if words.is_done() && is_row(&event, &answer) {
+        Ok(Entry {
+            moment,
+            event,
+            answer,
+        })
+    } else {
+        Err(EntryFault::BadEntry)
+    }
+}
+
+// The word between an event and its answer.
+#[tactic(auto, unfolding(crate::specs::ToldReading::after_arrow))]
+fn arrow(words: &mut Words) -> Result<(), EntryFault>
+    ensures { Passes result words.new (after_arrow words.old) }
+{
+    match words.next() {
+        None => Err(EntryFault::BadEntry),
+        Some(word) => {
+            if word == b"=>".as_slice() {
+                Ok(())
+            } else {
+                Err(EntryFault::BadEntry)
+            }
+        }
+    }
+}
+
+// The moment and the event of the line's words.
+#[tactic(auto, unfolding(crate::specs::Reading::dated_of))]
+fn dated(alloc: Global, line: &[u8]) -> Result<(Moment, Event), EntryFault>
+    ensures { Gives (λ r. r) result (dated_of (words_of line.now)) }
+{
+    let mut words = Words::new(line);
+    let moment = Moment(number(&mut words)?);
+    let event = event(alloc, &mut words)?;
+    if words.is_done() {
+        Ok((moment, event))
+    } else {
+        Err(EntryFault::BadEntry)
+    }
+}

@@ -1,0 +1,203 @@
+-- Lines `external_acl_type NAME [option ...] [%token ...] helper [argument ...]` (configuration
+-- reference, `external_acl_type`).
+use Rattle.std.specs.Prelude.{ℕ, ◌*◌, List, [], ◌∷◌, ◌++◌, length, Bool, true, false, not, if◌then◌else◌, ◌&&◌, ◌||◌, ◌==◌, nat_lt, nat_le, nat_eq, Some, None, Ok, Err, is_none, codes, bytes_eq, drop}
+use Rattle.std.specs.List.{list_any, before_first, after_first, starts_with}
+use Rattle.std.specs.declared.option.Option.{Option}
+use Rattle.std.specs.declared.result.Result.{Result}
+use Rattle.sq_base.specs.Lines.{but_last, ends_in}
+use Rattle.sq_rules.specs.AclValues.{is_token}
+use Rattle.sq_rules.specs.Building.{class_place}
+use Rattle.sq_rules.specs.Classes.{HelperClass}
+use Rattle.sq_rules.specs.ConfNumbers.{number_in}
+use Rattle.sq_rules.specs.Drafts.{Drafts}
+use Rattle.sq_rules.specs.Limits.{class_limit, name_limit, token_limit}
+use Rattle.sq_rules.specs.Steps.{Words, ◌>>=◌, unless, word, is_empty, over, begins}
+use Rattle.sq_rules.specs.declared.classes.Token.{Token}
+use Rattle.sq_rules.specs.declared.classes.Token.TheVariants as token
+use Rattle.sq_rules.specs.declared.directives.ClassOption.{ClassOption}
+use Rattle.sq_rules.specs.declared.directives.ClassOption.TheVariants as option
+use Rattle.sq_rules.specs.declared.kinds.Kind.{Kind}
+use Rattle.sq_rules.specs.declared.kinds.Kind.TheVariants.{BadValue, DuplicateClass, MissingWord, TooMany, UnknownOption, UnknownToken}
+
+-- what the words of a line so far state; `noted` is true where an option has no effect
+pub record ClassDraft : Type 0 where
+  pub ttl : ℕ
+  pub negative_ttl : Option ℕ
+  pub grace : ℕ
+  pub cache : ℕ
+  pub children_max : ℕ
+  pub startup : ℕ
+  pub concurrency : ℕ
+  pub queue_size : Option ℕ
+  pub noted : Bool
+  pub format : List Token
+  pub words : List (List ℕ)
+
+-- the defaults
+unfoldable pub default_class : ClassDraft
+default_class =
+    record {
+      ttl = 3600;
+      negative_ttl = None;
+      grace = 0;
+      cache = 262144;
+      children_max = 5;
+      startup = 0;
+      concurrency = 0;
+      queue_size = None;
+      noted = false;
+      format = [];
+      words = [];
+    }
+
+abbrev pub is_equals : ℕ → Bool
+is_equals b = b == 61
+
+-- an option that is a whole word, and has no effect
+abbrev pub is_fixed_option : List ℕ → Bool
+is_fixed_option w =
+    bytes_eq w (codes "protocol=3.0") || bytes_eq w (codes "quote=url") || bytes_eq w (codes "ipv4") || bytes_eq w (codes "ipv6")
+
+-- the option with this name before its `=`
+unfoldable pub option_named : List ℕ → Result ClassOption Kind
+option_named name =
+    if bytes_eq name (codes "ttl") then Ok option.Ttl
+    else (if bytes_eq name (codes "negative_ttl") then Ok option.NegativeTtl
+    else (if bytes_eq name (codes "grace") then Ok option.Grace
+    else (if bytes_eq name (codes "cache") then Ok option.Cache
+    else (if bytes_eq name (codes "children-max") then Ok option.ChildrenMax
+    else (if bytes_eq name (codes "children-startup") then Ok option.ChildrenStartup
+    else (if bytes_eq name (codes "children-idle") then Ok option.ChildrenIdle
+    else (if bytes_eq name (codes "concurrency") then Ok option.Concurrency
+    else (if bytes_eq name (codes "queue-size") then Ok option.QueueSize
+    else Err UnknownOption))))))))
+
+unfoldable pub option_of : List ℕ → Result ClassOption Kind
+option_of w = if is_fixed_option w then Ok option.NoEffect else option_named (before_first is_equals w)
+
+-- a number up to the most
+abbrev pub up_to : ℕ → List ℕ → Result ℕ Kind
+up_to most w = number_in 0 most w
+
+-- the option with its value; of several, the last counts
+unfoldable pub with_option : ClassOption → List ℕ → ClassDraft → Result ClassDraft Kind
+with_option option.Ttl w s = up_to 2147483647 w >>= λ n. Ok (record s { ttl = n })
+with_option option.NegativeTtl w s = up_to 2147483647 w >>= λ n. Ok (record s { negative_ttl = Some n })
+with_option option.Grace w s = up_to 100 w >>= λ n. Ok (record s { grace = n })
+with_option option.Cache w s = up_to 16777216 w >>= λ n. Ok (record s { cache = n })
+with_option option.ChildrenMax w s = number_in 1 1024 w >>= λ n. Ok (record s { children_max = n })
+with_option option.ChildrenStartup w s = up_to 1024 w >>= λ n. Ok (record s { startup = n })
+with_option option.ChildrenIdle w s = up_to 1024 w >>= λ n. Ok (record s { noted = true })
+with_option option.Concurrency w s = up_to 1024 w >>= λ n. Ok (record s { concurrency = n })
+with_option option.QueueSize w s = up_to 1000000 w >>= λ n. Ok (record s { queue_size = Some n })
+with_option option.NoEffect w s = Ok (record s { noted = true })
+
+-- an option and its value
+unfoldable pub option_step : ClassDraft → List ℕ → Result ClassDraft Kind
+option_step s w = option_of w >>= λ o. with_option o (after_first is_equals w) s
+
+-- what stands in `%>{` and `}`
+abbrev pub field_name : List ℕ → List ℕ
+field_name w = but_last (drop 3 w)
+
+-- a token for a field of the request
+abbrev pub is_field : List ℕ → Bool
+is_field w = starts_with nat_eq w (codes "%>{") && ends_in 125 w && is_token (field_name w)
+
+abbrev pub field_token : List ℕ → Result Token Kind
+field_token w = if is_field w then Ok (token.Header (field_name w)) else Err UnknownToken
+
+-- what a token stands for
+unfoldable pub token_of : List ℕ → Result Token Kind
+token_of w =
+    if bytes_eq w (codes "%>a") || bytes_eq w (codes "%SRC") then Ok token.ClientAddr
+    else (if bytes_eq w (codes "%>p") || bytes_eq w (codes "%SRCPORT") then Ok token.ClientPort
+    else (if bytes_eq w (codes "%>rm") || bytes_eq w (codes "%METHOD") then Ok token.Method
+    else (if bytes_eq w (codes "%>ru") || bytes_eq w (codes "%URI") then Ok token.Uri
+    else (if bytes_eq w (codes "%>rs") || bytes_eq w (codes "%PROTO") then Ok token.Scheme
+    else (if bytes_eq w (codes "%>rd") || bytes_eq w (codes "%DST") then Ok token.Host
+    else (if bytes_eq w (codes "%>rP") || bytes_eq w (codes "%PORT") then Ok token.Port
+    else (if bytes_eq w (codes "%>rp") || bytes_eq w (codes "%PATH") then Ok token.Path
+    else (if bytes_eq w (codes "%ACL") then Ok token.AclName
+    else (if bytes_eq w (codes "%DATA") then Ok token.Arguments
+    else (if bytes_eq w (codes "%%") then Ok token.Percent
+    else field_token w))))))))))
+
+-- a token more
+unfoldable pub token_step : ClassDraft → List ℕ → Result ClassDraft Kind
+token_step s w = do
+  token ← token_of w
+  unless (nat_lt (length s.format) token_limit) TooMany (Ok (record s { format = s.format ++ token ∷ [] }))
+
+abbrev pub has_equals : List ℕ → Bool
+has_equals w = list_any is_equals w
+
+-- a word that is an option where no token stands yet
+abbrev pub is_option : List ℕ → Bool
+is_option w = has_equals w || bytes_eq w (codes "ipv4") || bytes_eq w (codes "ipv6")
+
+-- the helper, or an argument of it
+abbrev pub with_word : ClassDraft → List ℕ → ClassDraft
+with_word s w = record s { words = s.words ++ w ∷ [] }
+
+-- options, then tokens, then the helper and its arguments
+unfoldable pub class_step : ClassDraft → List ℕ → Result ClassDraft Kind
+class_step s w =
+    if not (is_empty s.words) then Ok (with_word s w)
+    else (if begins 37 w then token_step s w
+    else (if is_empty s.format && is_option w then option_step s w
+    else Ok (with_word s w)))
+
+abbrev pub is_arguments : Token → Bool
+is_arguments token.Arguments = true
+is_arguments t = false
+
+-- `%DATA` stands in each format
+abbrev pub with_arguments : List Token → List Token
+with_arguments format = if list_any is_arguments format then format else format ++ token.Arguments ∷ []
+
+abbrev pub or_else : ℕ → Option ℕ → ℕ
+or_else default None = default
+or_else default (Some n) = n
+
+-- the class that a line states
+unfoldable pub class_of : List ℕ → ClassDraft → HelperClass
+class_of name s = record {
+  name = name;
+  ttl = s.ttl;
+  negative_ttl = or_else s.ttl s.negative_ttl;
+  grace = s.grace;
+  cache = s.cache;
+  children_max = s.children_max;
+  startup = s.startup;
+  concurrency = s.concurrency;
+  queue_size = or_else (2 * s.children_max) s.queue_size;
+  format = with_arguments s.format;
+  words = s.words;
+}
+
+-- a name that no class has, and room for one more
+abbrev pub class_name : List HelperClass → List ℕ → Result (List ℕ) Kind
+class_name classes w =
+    unless (nat_le (length w) name_limit) BadValue
+    (unless (is_none (class_place classes w)) DuplicateClass (unless (nat_lt (length classes) class_limit) TooMany (Ok w)))
+
+-- one notice more
+abbrev pub with_notice : ℕ → List ℕ → Drafts → Drafts
+with_notice line directive d = record d { notices = d.notices ++ (record { line = line; directive = directive }) ∷ [] }
+
+abbrev pub with_notice_if : Bool → ℕ → List ℕ → Drafts → Drafts
+with_notice_if true line directive d = with_notice line directive d
+with_notice_if false line directive d = d
+
+abbrev pub with_class : HelperClass → Drafts → Drafts
+with_class c d = record d { classes = d.classes ++ c ∷ [] }
+
+-- external_acl_type NAME ...
+unfoldable pub class_line : ℕ → Drafts → Words → Result Drafts Kind
+class_line line d ws = do
+  first ← word ws
+  name ← class_name d.classes first.0
+  s ← over class_step default_class first.1
+  unless (not (is_empty s.words)) MissingWord
+      (Ok (with_notice_if s.noted line (codes "external_acl_type") (with_class (class_of name s) d)))
