@@ -9,6 +9,8 @@
 #[cfg(test)]
 mod addresses;
 #[cfg(test)]
+mod config_limits;
+#[cfg(test)]
 mod configs;
 #[cfg(test)]
 mod fixtures;
