@@ -1,5 +1,5 @@
 -- Where each pattern of each acl is one, no acl has a pattern that is none.
-use Rattle.std.proofs.Common.{◌≡◌, ℕ, suc, List, [], ◌∷◌, Bool, true, false, ◌&&◌, Option, None, Some, refl, arith, if◌then◌else◌}
+use Rattle.std.proofs.Common.{◌≡◌, ℕ, suc, List, [], ◌∷◌, Bool, true, false, ◌&&◌, Option, None, Some, refl, if◌then◌else◌}
 use Rattle.std.specs.List.{list_all}
 use Rattle.sq_rules.specs.Changes.{all_patterns, has_patterns}
 use Rattle.sq_rules.specs.Drafts.{are_patterns}
