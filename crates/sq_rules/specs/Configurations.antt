@@ -151,7 +151,8 @@ has_buckets class pairs = nat_le 1 class && nat_le class 3 && pairs == class
 abbrev pub is_pool : List Acl → Pool → Bool
 is_pool acls p = has_buckets p.class (length p.pairs) && list_all (is_fast_rule acls) p.lists
 
--- what holds of every configuration
+-- what holds of every configuration; the ranges of a class's options, of a pool's rates and of the
+-- periods of `time` are held by the invariants of these types
 pub record IsConfiguration (c : Configuration) : Type 0 where
   pub short : length c.source ≤ text_limit
   pub class_names : are_distinct c.classes ≡ true

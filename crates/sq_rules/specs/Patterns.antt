@@ -16,7 +16,7 @@ options fold = record default_config { flags = record default_config.flags { cas
 unfoldable pub reading : Find → Option (Nested Re × Names)
 reading f = read (options f.fold) (chars f.pattern)
 
--- the grammar reads the pattern, and its groups nest at most 250 deep
+-- the grammar reads the pattern, and its syntax nests at most 250 deep
 abbrev pub reads_well : Option (Nested Re × Names) → Bool
 reads_well None = false
 reads_well (Some r) = nat_le r.0.depth 250

@@ -4,6 +4,7 @@ use crate::leaves::Leaf;
 use crate::notices::Notices;
 use crate::pools::Limits;
 use sq_base::{Listed, Text, Texts, WantOfMemory};
+use thiserror::Error;
 
 /// A term: the name of an acl, and whether `!` stands before it.
 #[derive(Drop, Debug)]
@@ -72,21 +73,28 @@ pub struct Parts {
 }
 
 /// Why parts are no configuration.
-#[derive(Drop, Debug, PartialEq, Eq)]
+#[derive(Drop, Debug, PartialEq, Eq, Error)]
 pub enum BuildFault {
     /// An earlier class or an earlier acl has this name.
+    #[error("{0}: an earlier class or acl has this name")]
     Duplicate(Text),
     /// No acl, or for a group no earlier acl, has this name.
+    #[error("{0}: no acl has this name, or none before the group")]
     UndefinedAcl(Text),
     /// No class has this name.
+    #[error("{0}: no class has this name")]
     UndefinedClass(Text),
     /// This acl, which a rule of a pool names, asks a helper or reaches one that does.
+    #[error("{0}: a rule of a delay pool names this acl, which asks a helper or reaches one that does")]
     SlowInFastList(Text),
     /// The acl of this name nests more than 32 deep.
+    #[error("{0}: this acl nests more than 32 deep")]
     TooDeep(Text),
     /// The pool at this place, from 0, has no class from 1 to 3 or another number of limits.
+    #[error("the pool at place {0}, from 0, has no class from 1 to 3 or another number of limits")]
     PoolIncomplete(u32),
     /// There was no memory.
+    #[error("out of memory")]
     WantOfMemory,
 }
 

@@ -14,6 +14,8 @@ use Rattle.regex_meta.specs.contracts.plan.Plan as plan
 use Rattle.regex_meta.specs.contracts.plan.Plans as plans
 use Rattle.regex_meta.specs.contracts.signs.Signs as signs
 use Rattle.regex_meta.specs.contracts.program.Program as program
+use Rattle.sq_urlmatch.specs.contracts.compiled.Compiled as compiled
+use Rattle.sq_urlmatch.specs.contracts.compiled.Compiled.TheInside as compiled_inside
 use Rattle.sq_urlmatch.specs.contracts.patterns.Patterns as patterns
 use Rattle.sq_urlmatch.specs.contracts.patterns.Patterns.TheInside as patterns_inside
 use Rattle.sq_urlmatch.specs.contracts.setup.Setup as setup
@@ -83,9 +85,17 @@ program_sync =
     let parts : FieldsHave IsSync (program.the_type).parts = (search (sendable, crosses, hir_sync) depth 40 fits 20000, (search (sendable, crosses, dfa_sync) depth 40 fits 20000, (search (sendable, crosses, plans_sync) depth 40 fits 20000, (search (sendable, crosses, signs_sync) depth 40 fits 20000, (search (sendable, crosses, byte_set_sync) depth 40 fits 20000, (search (sendable, crosses) depth 40 fits 20000, (search (sendable, crosses) depth 40 fits 20000, (search (sendable, crosses) depth 40 fits 20000, tt)))))))) in
     declared_sync program.the_type parts
 
+compiled_inside_send : IsSend compiled_inside.the_row
+compiled_inside_send =
+    let parts : FieldsHave IsSend (compiled_inside.the_type).parts = (search (sendable, crosses) depth 40 fits 20000, (search (sendable, Vec-send, program_send), tt)) in
+    declared_send compiled_inside.the_type parts
+
+pub compiled_send : IsSend compiled.the_row
+compiled_send = view_send _ _ _ _ _ compiled_inside_send
+
 patterns_inside_send : IsSend patterns_inside.the_row
 patterns_inside_send =
-    let parts : FieldsHave IsSend (patterns_inside.the_type).parts = (search (sendable, Vec-send, program_send), tt) in
+    let parts : FieldsHave IsSend (patterns_inside.the_type).parts = (search (sendable, Vec-send, compiled_send), tt) in
     declared_send patterns_inside.the_type parts
 
 pub patterns_send : IsSend patterns.the_row
@@ -99,9 +109,17 @@ setup_inside_send =
 pub setup_send : IsSend setup.the_row
 setup_send = view_send _ _ _ _ _ setup_inside_send
 
+compiled_inside_sync : IsSync compiled_inside.the_row
+compiled_inside_sync =
+    let parts : FieldsHave IsSync (compiled_inside.the_type).parts = (search (sendable, crosses) depth 40 fits 20000, (search (sendable, Vec-sync, program_sync), tt)) in
+    declared_sync compiled_inside.the_type parts
+
+pub compiled_sync : IsSync compiled.the_row
+compiled_sync = view_sync _ _ _ _ _ compiled_inside_sync
+
 patterns_inside_sync : IsSync patterns_inside.the_row
 patterns_inside_sync =
-    let parts : FieldsHave IsSync (patterns_inside.the_type).parts = (search (sendable, Vec-sync, program_sync), tt) in
+    let parts : FieldsHave IsSync (patterns_inside.the_type).parts = (search (sendable, Vec-sync, compiled_sync), tt) in
     declared_sync patterns_inside.the_type parts
 
 pub patterns_sync : IsSync patterns.the_row

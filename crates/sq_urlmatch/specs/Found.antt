@@ -1,5 +1,5 @@
 -- Where trees and programs are found, and the patterns that they stand for.
-use Rattle.std.specs.Prelude.{◌≡◌, ◌<◌, ℕ, suc, Bool, List, [], ◌∷◌, All, map, is_some, Some, None, if◌then◌else◌, slice_get, slice_index_or}
+use Rattle.std.specs.Prelude.{◌≡◌, ◌<◌, ℕ, suc, Bool, List, [], ◌∷◌, All, map, is_some, Some, None, if◌then◌else◌, slice_get}
 use Rattle.std.specs.List.{list_any}
 use Rattle.std.specs.declared.option.Option.{Option}
 use Rattle.regex_hir.specs.Find.{find}
@@ -59,13 +59,9 @@ finds_of (Some a) = finds_in a.body
 abbrev pub finds_at : List Acl → ℕ → List Find
 finds_at acls place = finds_of (slice_get acls place)
 
--- some program of the list at a place is found in the text
-abbrev pub found_at : List (List Program) → ℕ → List ℕ → Bool
-found_at lists place text = some_program text (slice_index_or lists place [])
-
--- the programs at each place are found where the patterns of the acl are
-abbrev pub FindAll : List Acl → List (List Program) → Type 0
-FindAll acls lists = (text : List ℕ) → All (λ b. b < 256) text → map (some_program text) lists ≡ map (λ a. some_found (finds_in a.body) text) acls
+-- the patterns of each acl
+abbrev pub finds_of_each : List Acl → List (List Find)
+finds_of_each acls = map (λ a. finds_in a.body) acls
 
 -- the first that is no pattern, where the first of these stands at this place
 abbrev pub first_bad : ℕ → List Find → Option ℕ

@@ -6,6 +6,7 @@
 //! compiled again for a match, and a match takes memory for a searcher, and none for each byte.
 #![tactic(auto)]
 
+mod compiled;
 mod crossing;
 mod patterns;
 mod programs;

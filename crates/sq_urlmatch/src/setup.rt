@@ -42,15 +42,16 @@ pub struct Setup {
 }
 
 impl Model for Setup {
+    ghost use Rattle.std.specs.Prelude.{◌≡◌};
     ghost use Rattle.std.specs.Arc.{arc_value};
     ghost use Rattle.sq_rules.specs.Configurations.{Configuration};
-    ghost use Rattle.sq_urlmatch.specs.Found.{FindAll};
+    ghost use Rattle.sq_urlmatch.specs.Found.{finds_of_each};
 
     ghost Value = { Configuration };
 
     ghost view = { λ s. arc_value s.config };
 
-    ghost invariant = { λ s. FindAll (arc_value s.config).acls s.patterns };
+    ghost invariant = { λ s. s.patterns ≡ finds_of_each (arc_value s.config).acls };
 }
 
 impl Setup {
