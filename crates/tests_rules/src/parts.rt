@@ -1,0 +1,267 @@
+//! Parts of configurations: what they state, and their first faults.
+ghost use Rattle.std.specs.Prelude.{◌≡◌, ◌∷◌, [], IfOk};
+
+use sq_base::{Listed, Text, Texts};
+use sq_rules::{
+    AclPart, AclParts, BodyPart, BuildFault, Class, Classes, Config, Leaf, Limits, LineParts,
+    Parts, PoolPart, PoolParts, RulePart, RuleParts, TermPart, TermParts,
+};
+use std::alloc::Global;
+use std::test::Fail;
+
+/// What is shown, the parts, and their first fault with the name that it names, or nothing. Each name is
+/// one byte, and a term a name with `!` before it or not. A word for each part: `C` and a class; a
+/// list as `L` and its name, `E`, its name and a class, `G`, its name and terms, or `A`, its name and
+/// lines of terms that `/` divides; `R` and the terms of a rule; `P`, the class and the count of limits of
+/// a pool, and the terms of its rule.
+static PARTS: [(&str, &str, &str); 27] = [
+    ("nothing is a configuration", "", ""),
+    (
+        "each kind of part",
+        "Cc La Ebc Gga!b Ahag/!g Ra!h R P22a",
+        "",
+    ),
+    ("a list twice", "La Lb La", "Duplicate a"),
+    ("a group with the name of a list", "La Gaa", "Duplicate a"),
+    ("names have case", "La LA", ""),
+    ("a class twice", "Cc Cc", "Duplicate c"),
+    ("a class and a list of one name", "Cc Lc", ""),
+    ("a rule over no list", "La Ra!b", "UndefinedAcl b"),
+    ("a group over a later list", "Gga La", "UndefinedAcl a"),
+    ("a group over itself", "Ggg", "UndefinedAcl g"),
+    ("a line over no list", "La Aga/b", "UndefinedAcl b"),
+    ("a rule of a pool over no list", "P11a", "UndefinedAcl a"),
+    ("a list that asks no class", "Cc Ead", "UndefinedClass d"),
+    (
+        "a pool's rule asks a helper",
+        "Cc Eac P11a",
+        "SlowInFastList a",
+    ),
+    (
+        "a pool's rule reaches a helper",
+        "Cc Eac Lb Agb/b!a Ghg P11b!h",
+        "SlowInFastList h",
+    ),
+    ("a rule for requests asks a helper", "Cc Eac Ra P11", ""),
+    ("a pool without a class", "P00", "PoolIncomplete 0"),
+    ("a pool of class 4", "P44", "PoolIncomplete 0"),
+    ("a limit too few", "P11 P32", "PoolIncomplete 1"),
+    ("a limit too many", "P23", "PoolIncomplete 0"),
+    ("a class before a list", "La La Cc Cc", "Duplicate c"),
+    ("a list before a rule", "Rb Ggc", "UndefinedAcl c"),
+    ("a rule before a pool", "P99 Rb", "UndefinedAcl b"),
+    ("a pool's class before its rule", "P99b", "PoolIncomplete 0"),
+    (
+        "the first list with a fault",
+        "La Ggab La",
+        "UndefinedAcl b",
+    ),
+    ("the first term with a fault", "Ra!b!c", "UndefinedAcl a"),
+    ("the first of two rules", "La Rab Rc", "UndefinedAcl b"),
+];
+
+/// A text of one byte.
+fn text(alloc: Global, byte: u8) -> Result<Text, Fail>
+    ensures { IfOk result (λ t. t ≡ byte ∷ []) }
+{
+    Ok(Text::from_slice(alloc, &[byte])?)
+}
+
+/// The terms that the bytes name.
+fn terms(alloc: Global, bytes: &[u8]) -> Result<TermParts, Fail> {
+    let mut terms = TermParts::new(alloc);
+    let mut negated = false;
+    for &byte in bytes {
+        if byte != b'!' {
+            terms.push(TermPart {
+                acl: text(alloc, byte)?,
+                negated,
+            })?;
+        }
+        negated = byte == b'!';
+    }
+    Ok(terms)
+}
+
+/// The lines that the bytes name.
+fn lines(alloc: Global, bytes: &[u8]) -> Result<LineParts, Fail> {
+    let mut lines = LineParts::new(alloc);
+    for line in bytes.split(|&byte| byte == b'/') {
+        lines.push(terms(alloc, line)?)?;
+    }
+    Ok(lines)
+}
+
+/// A class with the defaults.
+fn class(alloc: Global, name: u8) -> Result<Class, Fail> {
+    Ok(Class {
+        name: text(alloc, name)?,
+        ttl: 3600,
+        negative_ttl: 3600,
+        grace: 0,
+        cache: 262144,
+        children_max: 5,
+        startup: 0,
+        concurrency: 0,
+        queue_size: 10,
+        format: Listed::new(alloc),
+        words: Texts::new(alloc),
+    })
+}
+
+/// What a list of this kind is.
+fn body(alloc: Global, kind: u8, rest: &[u8]) -> Result<BodyPart, Fail> {
+    Ok(match (kind, rest) {
+        (b'E', &[class]) => BodyPart::External {
+            class: text(alloc, class)?,
+            arguments: Texts::new(alloc),
+        },
+        (b'G', _) => BodyPart::AnyOf(terms(alloc, rest)?),
+        (b'A', _) => BodyPart::AllOf(lines(alloc, rest)?),
+        _ => BodyPart::Leaf(Leaf::Method(Texts::new(alloc))),
+    })
+}
+
+/// A rule that denies.
+fn rule(alloc: Global, bytes: &[u8]) -> Result<RulePart, Fail> {
+    let terms = terms(alloc, bytes)?;
+    Ok(RulePart {
+        allow: false,
+        terms,
+    })
+}
+
+/// A pool of this class with so many limits that are none.
+fn pool(alloc: Global, class: u8, count: u8, bytes: &[u8]) -> Result<PoolPart, Fail> {
+    let mut pairs = Limits::new(alloc);
+    for _ in 0..count {
+        pairs.push(None)?;
+    }
+    let mut lists = RuleParts::new(alloc);
+    lists.push(rule(alloc, bytes)?)?;
+    Ok(PoolPart {
+        class,
+        pairs,
+        lists,
+    })
+}
+
+/// Adds the part that the bytes state.
+fn add(alloc: Global, parts: &mut Parts, bytes: &[u8]) -> Result<(), Fail> {
+    match bytes {
+        &[b'C', name] => parts.classes.push(class(alloc, name)?)?,
+        &[b'R', ref rest @ ..] => parts.rules.push(rule(alloc, rest)?)?,
+        &[b'P', class, count, ref rest @ ..] => {
+            let (class, count) = (class.saturating_sub(b'0'), count.saturating_sub(b'0'));
+            parts.pools.push(pool(alloc, class, count, rest)?)?;
+        }
+        &[kind, name, ref rest @ ..] => parts.acls.push(AclPart {
+            name: text(alloc, name)?,
+            body: body(alloc, kind, rest)?,
+        })?,
+        _ => {}
+    }
+    Ok(())
+}
+
+/// The parts of a configuration that states nothing.
+fn no_parts(alloc: Global) -> Parts {
+    Parts {
+        source: Text::new(alloc),
+        classes: Classes::new(alloc),
+        acls: AclParts::new(alloc),
+        rules: RuleParts::new(alloc),
+        pools: PoolParts::new(alloc),
+        initial: 50,
+        port: 3128,
+        notices: Listed::new(alloc),
+    }
+}
+
+/// A refusal's name, and the name that it names.
+fn named(alloc: Global, refusal: &str, name: &[u8]) -> Result<Text, Fail> {
+    let mut text = Text::from_slice(alloc, refusal.as_bytes())?;
+    text.push(b' ')?;
+    text.append(name)?;
+    Ok(text)
+}
+
+/// The digit of a place.
+fn digit(place: u32) -> &'static [u8] {
+    match place {
+        0 => b"0",
+        1 => b"1",
+        _ => b"?",
+    }
+}
+
+/// The fault of parts as the table has it, where they are no more than there may be.
+fn fault(alloc: Global, parts: Parts) -> Result<Text, Fail> {
+    if parts.source.len() > 1_048_576
+        || parts.classes.len() > 64
+        || parts.acls.len() > 4_096
+        || parts.rules.len() > 10_000
+        || parts.pools.len() > 64
+        || parts.initial > 100
+    {
+        return Err(Fail::new("too many parts"));
+    }
+    match Config::build(alloc, parts) {
+        Ok(_) => Ok(Text::new(alloc)),
+        Err(BuildFault::Duplicate(name)) => named(alloc, "Duplicate", name.as_bytes()),
+        Err(BuildFault::UndefinedAcl(name)) => named(alloc, "UndefinedAcl", name.as_bytes()),
+        Err(BuildFault::UndefinedClass(name)) => named(alloc, "UndefinedClass", name.as_bytes()),
+        Err(BuildFault::SlowInFastList(name)) => named(alloc, "SlowInFastList", name.as_bytes()),
+        Err(BuildFault::TooDeep(name)) => named(alloc, "TooDeep", name.as_bytes()),
+        Err(BuildFault::PoolIncomplete(place)) => named(alloc, "PoolIncomplete", digit(place)),
+        Err(BuildFault::WantOfMemory) => Err(Fail::new("out of memory")),
+    }
+}
+
+#[test]
+fn parts_have_this_first_fault(rt: HostRuntime) -> Result<(), Fail> {
+    let alloc = rt.alloc();
+    for &(why, stated, wanted) in &PARTS {
+        let mut parts = no_parts(alloc);
+        for part in stated.split_whitespace() {
+            add(alloc, &mut parts, part.as_bytes())?;
+        }
+        assert_eq!(rt; fault(alloc, parts)?.as_bytes(), wanted.as_bytes(), "{why}");
+    }
+    Ok(())
+}
+
+/// Groups that nest so deep, each named by a byte one above its member's, where the last has another
+/// member.
+static DEPTHS: [(u8, u8, &str); 3] = [
+    (32, b'0', ""),
+    (33, b'0', "TooDeep Q"),
+    (33, b'~', "UndefinedAcl ~"),
+];
+
+#[test]
+fn groups_nest_32_deep_and_no_deeper(rt: HostRuntime) -> Result<(), Fail> {
+    let alloc = rt.alloc();
+    for &(depth, other, wanted) in &DEPTHS {
+        let mut parts = no_parts(alloc);
+        add(alloc, &mut parts, b"L0")?;
+        for n in 1..depth {
+            add(
+                alloc,
+                &mut parts,
+                &[b'G', b'0' + n % 64, b'0' + (n - 1) % 64, b'0'],
+            )?;
+        }
+        add(
+            alloc,
+            &mut parts,
+            &[b'G', b'0' + depth % 64, b'0' + (depth - 1) % 64, other],
+        )?;
+        assert_eq!(rt;
+            fault(alloc, parts)?.as_bytes(),
+            wanted.as_bytes(),
+            "{depth}"
+        );
+    }
+    Ok(())
+}
