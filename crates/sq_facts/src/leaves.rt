@@ -1,7 +1,8 @@
 //! The fact of one acl.
-ghost use Rattle.std.specs.Prelude.{◌≡◌, Some, IfOk, slice_get, true, false};
+ghost use Rattle.std.specs.Prelude.{◌≡◌, ◌<◌, if◌then◌else◌, length, Some, None, IfOk, slice_get, true, false};
+ghost use Rattle.std.specs.List.{list_any};
 ghost use Rattle.percent_encoding.specs.Percent.{percent_decode};
-ghost use Rattle.sq_rules.specs.Facts.{acl_fact};
+ghost use Rattle.sq_rules.specs.Facts.{acl_fact, facts_of};
 ghost use Rattle.sq_rules.specs.Leaves.{holds};
 ghost use Rattle.sq_facts.specs.Patterns.{has_patterns, is_plain};
 
@@ -14,27 +15,37 @@ use sq_values::{
 use std::alloc::Global;
 
 /// Whether the acl at a place holds of what a check sees; of an acl that is no leaf, false.
-pub fn acl_fact(
+pub fn fact_at(
     alloc: Global,
-    setup: &Setup,
-    place: u32,
-    acl: &Acl,
+    setup: &mut Setup,
+    place: usize,
     sight: &Sight,
     subject: &[u8],
 ) -> Result<bool, WantOfMemory>
-    requires here { slice_get setup.now.acls place ≡ Some acl.now }
-    requires decoded { has_patterns acl.now ≡ true → subject.now ≡ percent_decode sight.now.request.target }
-    ensures { IfOk result (λ b. b ≡ acl_fact sight.now acl.now) }
+    requires here { place < length setup.old.acls }
+    requires decoded { list_any has_patterns setup.old.acls ≡ true → subject.now ≡ percent_decode sight.now.request.target }
+    ensures fact { IfOk result (λ b. slice_get (facts_of setup.old.acls sight.now) place ≡ Some b) }
+    ensures same { setup.new ≡ setup.old }
+{
+    match plain_fact(&setup.config().acls()[place], sight) {
+        Some(fact) => Ok(fact),
+        None => setup.is_match(alloc, place as u32, subject),
+    }
+}
+
+// The fact of an acl, where that needs no patterns.
+fn plain_fact(acl: &Acl, sight: &Sight) -> Option<bool>
+    ensures { result ≡ (if has_patterns acl.now then None else Some (acl_fact sight.now acl.now)) }
 {
     match &acl.body {
-        Body::Leaf(Leaf::UrlRegex(_)) => setup.is_match(alloc, place, subject),
-        Body::Leaf(leaf) => Ok(plain_fact(leaf, sight)),
-        _ => Ok(false),
+        Body::Leaf(Leaf::UrlRegex(_)) => None,
+        Body::Leaf(leaf) => Some(leaf_fact(leaf, sight)),
+        _ => Some(false),
     }
 }
 
 // Whether a leaf without patterns holds.
-fn plain_fact(leaf: &Leaf, sight: &Sight) -> bool
+fn leaf_fact(leaf: &Leaf, sight: &Sight) -> bool
     requires { is_plain leaf.now ≡ true }
     ensures { result ≡ holds leaf.now sight.now }
 {

@@ -171,7 +171,7 @@ impl Machine {
         let moment = later(now, self.latest);
         let ruled = match decide(
             alloc,
-            &self.setup,
+            &mut self.setup,
             request,
             peer,
             minute_of_week(moment, self.offset),
@@ -236,14 +236,15 @@ impl Machine {
 // What the rules decide over what a check sees.
 fn decide(
     alloc: Global,
-    setup: &Setup,
+    setup: &mut Setup,
     request: Request,
     peer: Peer,
     minute: u32,
     conns: u32,
 ) -> Result<Ruled, WantOfMemory>
-    requires { only_leaves setup.now ≡ true }
-    ensures { IfOk result (λ r. shown r ≡ verdict setup.now (seen request peer minute conns)) }
+    requires { only_leaves setup.old ≡ true }
+    ensures ruled { IfOk result (λ r. shown r ≡ verdict setup.old (seen request peer minute conns)) }
+    ensures same { setup.new ≡ setup.old }
 {
     let sight = Sight {
         request,

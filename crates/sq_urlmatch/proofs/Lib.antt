@@ -1,4 +1,5 @@
 pub mod ManyLaws
+pub mod MatcherLaws
 pub mod PatternLaws
 pub mod PlaceLaws
 pub mod ReadLaws

@@ -12,7 +12,8 @@ use Rattle.regex_meta.specs.declared.program.Program.{Program}
 use Rattle.regex_syntax.proofs.GrammarLemmas.{list_any-map}
 use Rattle.sq_rules.specs.Patterns.{is_found, is_pattern}
 use Rattle.sq_rules.specs.declared.leaves.Find.{Find}
-use Rattle.sq_urlmatch.specs.Found.{AreFoundAlike, FindSome, IsFoundAlike, first_bad, program_found, tree_found}
+use Rattle.sq_urlmatch.specs.Found.{AreFoundAlike, FindSome, IsFoundAlike, first_bad, tree_found}
+use Rattle.sq_urlmatch.specs.Programs.{program_found}
 
 same_tests : (x y : Bool) → (x ≡ true → y ≡ true) → (y ≡ true → x ≡ true) → x ≡ y
 same_tests true y there back = sym (there refl)

@@ -6,6 +6,7 @@ use Rattle.sq_rules.proofs.ThreadLaws.{config_send, config_sync}
 use Rattle.regex_hir.specs.contracts.hir.Hir as hir
 use Rattle.regex_hir.proofs.hir.Hir.TheLaws.TheKnot as knot
 use Rattle.regex_dfa.specs.contracts.dfa.Dfa as dfa
+use Rattle.regex_dfa.specs.contracts.forward.Forward as forward
 use Rattle.regex_literal.specs.contracts.byte_set.ByteSet as byte_set
 use Rattle.regex_literal.specs.contracts.prefilter.Prefilter as prefilter
 use Rattle.regex_literal.specs.contracts.caseless.Caseless as caseless
@@ -16,6 +17,7 @@ use Rattle.regex_meta.specs.contracts.signs.Signs as signs
 use Rattle.regex_meta.specs.contracts.program.Program as program
 use Rattle.sq_urlmatch.specs.contracts.compiled.Compiled as compiled
 use Rattle.sq_urlmatch.specs.contracts.compiled.Compiled.TheInside as compiled_inside
+use Rattle.sq_urlmatch.specs.contracts.matcher.Matcher as matcher
 use Rattle.sq_urlmatch.specs.contracts.patterns.Patterns as patterns
 use Rattle.sq_urlmatch.specs.contracts.patterns.Patterns.TheInside as patterns_inside
 use Rattle.sq_urlmatch.specs.contracts.setup.Setup as setup
@@ -85,9 +87,17 @@ program_sync =
     let parts : FieldsHave IsSync (program.the_type).parts = (search (sendable, crosses, hir_sync) depth 40 fits 20000, (search (sendable, crosses, dfa_sync) depth 40 fits 20000, (search (sendable, crosses, plans_sync) depth 40 fits 20000, (search (sendable, crosses, signs_sync) depth 40 fits 20000, (search (sendable, crosses, byte_set_sync) depth 40 fits 20000, (search (sendable, crosses) depth 40 fits 20000, (search (sendable, crosses) depth 40 fits 20000, (search (sendable, crosses) depth 40 fits 20000, tt)))))))) in
     declared_sync program.the_type parts
 
+forward_send : IsSend forward.the_row
+forward_send = search (sendable, crosses) depth 40 fits 20000
+
+matcher_send : IsSend matcher.the_row
+matcher_send =
+    let parts : FieldsHave IsSend (matcher.the_type).parts = (search (sendable, program_send), (search (sendable, forward_send), tt)) in
+    declared_send matcher.the_type parts
+
 compiled_inside_send : IsSend compiled_inside.the_row
 compiled_inside_send =
-    let parts : FieldsHave IsSend (compiled_inside.the_type).parts = (search (sendable, crosses) depth 40 fits 20000, (search (sendable, Vec-send, program_send), tt)) in
+    let parts : FieldsHave IsSend (compiled_inside.the_type).parts = (search (sendable, crosses) depth 40 fits 20000, (search (sendable, Vec-send, matcher_send), tt)) in
     declared_send compiled_inside.the_type parts
 
 pub compiled_send : IsSend compiled.the_row
@@ -109,9 +119,17 @@ setup_inside_send =
 pub setup_send : IsSend setup.the_row
 setup_send = view_send _ _ _ _ _ setup_inside_send
 
+forward_sync : IsSync forward.the_row
+forward_sync = search (sendable, crosses) depth 40 fits 20000
+
+matcher_sync : IsSync matcher.the_row
+matcher_sync =
+    let parts : FieldsHave IsSync (matcher.the_type).parts = (search (sendable, program_sync), (search (sendable, forward_sync), tt)) in
+    declared_sync matcher.the_type parts
+
 compiled_inside_sync : IsSync compiled_inside.the_row
 compiled_inside_sync =
-    let parts : FieldsHave IsSync (compiled_inside.the_type).parts = (search (sendable, crosses) depth 40 fits 20000, (search (sendable, Vec-sync, program_sync), tt)) in
+    let parts : FieldsHave IsSync (compiled_inside.the_type).parts = (search (sendable, crosses) depth 40 fits 20000, (search (sendable, Vec-sync, matcher_sync), tt)) in
     declared_sync compiled_inside.the_type parts
 
 pub compiled_sync : IsSync compiled.the_row

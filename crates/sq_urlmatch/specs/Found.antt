@@ -1,11 +1,9 @@
--- Where trees and programs are found, and the patterns that they stand for.
+-- Where trees and programs are found, by the patterns that they stand for.
 use Rattle.std.specs.Prelude.{◌≡◌, ◌<◌, ℕ, suc, Bool, List, [], ◌∷◌, All, map, is_some, Some, None, if◌then◌else◌, slice_get}
-use Rattle.std.specs.List.{list_any}
 use Rattle.std.specs.declared.option.Option.{Option}
 use Rattle.regex_hir.specs.Find.{find}
 use Rattle.regex_hir.specs.Meaning.{meaning}
 use Rattle.regex_hir.specs.declared.hir.Hir.{Hir}
-use Rattle.regex_meta.specs.Programs.{pattern_of}
 use Rattle.regex_meta.specs.declared.program.Program.{Program}
 use Rattle.sq_rules.specs.Patterns.{is_found, is_pattern, some_found}
 use Rattle.sq_rules.specs.declared.configs.Acl.{Acl}
@@ -14,6 +12,7 @@ use Rattle.sq_rules.specs.declared.configs.Body.TheVariants as body
 use Rattle.sq_rules.specs.declared.leaves.Find.{Find}
 use Rattle.sq_rules.specs.declared.leaves.Leaf.{Leaf}
 use Rattle.sq_rules.specs.declared.leaves.Leaf.TheVariants as leaf
+use Rattle.sq_urlmatch.specs.Programs.{some_program}
 use Rattle.sq_urlmatch.specs.declared.setup.SetupFault.{SetupFault}
 use Rattle.sq_urlmatch.specs.declared.setup.SetupFault.TheVariants.{BadPattern}
 
@@ -28,14 +27,6 @@ IsFoundAlike f tree = (text : List ℕ) → All (λ b. b < 256) text → tree_fo
 -- each tree is found in the same texts as the pattern in its place
 abbrev pub AreFoundAlike : List Find → List Hir → Type 0
 AreFoundAlike finds trees = (text : List ℕ) → All (λ b. b < 256) text → map (tree_found text) trees ≡ map (λ f. is_found f text) finds
-
--- the program is found in the text
-abbrev pub program_found : List ℕ → Program → Bool
-program_found text p = is_some (find (pattern_of p) text 0)
-
--- some program is found in the text
-abbrev pub some_program : List ℕ → List Program → Bool
-some_program text programs = list_any (program_found text) programs
 
 -- some program is found in the same texts as some pattern
 abbrev pub FindSome : List Find → List Program → Type 0

@@ -8,6 +8,7 @@
 
 mod compiled;
 mod crossing;
+mod matcher;
 mod patterns;
 mod programs;
 mod setup;

@@ -10,6 +10,11 @@ use sq_rules::{Acl, Body, Find, Leaf};
 use std::alloc::Global;
 use std::marker::Model;
 
+/// How many bytes the matches of a configuration may keep of what they learn, and those of one acl.
+const ROOM: usize = 64 << 20;
+
+const ROOM_OF_ACL: usize = 8 << 20;
+
 /// The patterns of each acl, compiled, by its place. A contract sees the patterns.
 #[derive(Drop)]
 pub struct Patterns {
@@ -35,6 +40,12 @@ fn finds_of(acl: &Acl) -> &[Find]
     }
 }
 
+// How much of the room each acl with patterns may take.
+fn room_of(acls: &[Acl]) -> usize {
+    let count = acls.iter().filter(|acl| !finds_of(acl).is_empty()).count();
+    (ROOM / count.max(1)).min(ROOM_OF_ACL)
+}
+
 impl Patterns {
     /// Compiles the patterns of each acl, or names the first that is none.
     pub fn of(alloc: Global, acls: &[Acl]) -> Result<Patterns, SetupFault>
@@ -43,9 +54,10 @@ impl Patterns {
         ensures good { IfOk result (λ _. fault_from 0 acls.now ≡ None) }
         ensures bad { IfErr result (λ e. e ≢ SetupFault.WantOfMemory → fault_from 0 acls.now ≡ Some e) }
     {
+        let room = room_of(acls);
         let mut lists = Vec::new(alloc);
         for (place, acl) in acls.iter().enumerate() {
-            let compiled = Compiled::make(alloc, place as u32, finds_of(acl))?;
+            let compiled = Compiled::make(alloc, place as u32, finds_of(acl), room)?;
             let Ok(()) = lists.push(compiled) else {
                 return Err(SetupFault::WantOfMemory);
             };
@@ -54,10 +66,17 @@ impl Patterns {
     }
 
     /// Whether some pattern of the acl at a place is found in a text; an acl of another type has none.
-    pub fn is_match(&self, alloc: Global, acl: u32, subject: &[u8]) -> Result<bool, WantOfMemory>
-        ensures { IfOk result (λ b. b ≡ some_found (slice_index_or self.now acl []) subject.now) }
+    /// What the match learns is kept for the next.
+    pub fn is_match(
+        &mut self,
+        alloc: Global,
+        acl: u32,
+        subject: &[u8],
+    ) -> Result<bool, WantOfMemory>
+        ensures found { IfOk result (λ b. b ≡ some_found (slice_index_or self.old acl []) subject.now) }
+        ensures same { self.new ≡ self.old }
     {
-        match self.lists.get(acl as usize) {
+        match self.lists.get_mut(acl as usize) {
             None => Ok(false),
             Some(compiled) => compiled.is_match(alloc, subject),
         }

@@ -76,8 +76,15 @@ impl Setup {
     }
 
     /// Whether some pattern of the acl at a place is found in a text; an acl of another type has none.
-    pub fn is_match(&self, alloc: Global, acl: u32, subject: &[u8]) -> Result<bool, WantOfMemory>
-        ensures { IfOk result (λ b. b ≡ some_found (finds_at self.now.acls acl) subject.now) }
+    /// What the match learns is kept for the next.
+    pub fn is_match(
+        &mut self,
+        alloc: Global,
+        acl: u32,
+        subject: &[u8],
+    ) -> Result<bool, WantOfMemory>
+        ensures found { IfOk result (λ b. b ≡ some_found (finds_at self.old.acls acl) subject.now) }
+        ensures same { self.new ≡ self.old }
     {
         self.patterns.is_match(alloc, acl, subject)
     }

@@ -1,7 +1,11 @@
-use Rattle.std.proofs.Common.{◌≡◌, map, take}
-use Rattle.sq_rules.specs.Facts.{acl_fact}
+use Rattle.std.proofs.Common.{◌≡◌, take, length}
+use Rattle.sq_rules.specs.Facts.{facts_of}
 use Rattle.sq_facts.proofs.reading.facts_over.Given as goal
 
 -- the facts so far are those of the acls so far
 abbrev pub invariant-loop-place : goal.invariant-loop-place
-invariant-loop-place l = l.values.items ≡ map (acl_fact l.sight) (take l.place l.acls)
+invariant-loop-place l = record {
+  made : l.values.items ≡ take l.place (facts_of l.fn.setup.acls l.sight);
+  same : l.setup ≡ l.fn.setup;
+  count : l.count ≡ length l.fn.setup.acls;
+}
