@@ -138,17 +138,22 @@ fn are_facts<L: Ledger>(
 }
 
 /// Whether these are the facts of a sight.
-fn finds_facts(alloc: Global, setup: &Setup, sight: &Sight, wanted: &[bool]) -> Result<bool, Fail> {
+fn finds_facts(
+    alloc: Global,
+    setup: &mut Setup,
+    sight: &Sight,
+    wanted: &[bool],
+) -> Result<bool, Fail> {
     let facts = read_facts(alloc, setup, sight)?;
     Ok(are_facts::<Brand>(setup, sight, &facts, wanted, Blank::new(1)))
 }
 
 #[test]
 fn leaf_acls_hold_where_the_reference_says(rt: HostRuntime) -> Result<(), Fail> {
-    let setup = setup(rt.alloc(), acls(rt.alloc())?)?;
+    let mut setup = setup(rt.alloc(), acls(rt.alloc())?)?;
     for (method, target, n, wanted) in &FACTS {
         let sight = sight(rt.alloc(), method, target, *n)?;
-        let found = finds_facts(rt.alloc(), &setup, &sight, wanted)?;
+        let found = finds_facts(rt.alloc(), &mut setup, &sight, wanted)?;
         assert!(rt; found, "at {method:?}, {target:?}");
     }
     Ok(())

@@ -9,7 +9,7 @@ use std::test::Fail;
 
 /// Patterns of the second of two lists, `-i` or `+i` before each, a text, and whether some pattern is
 /// found in it.
-static FOUND: [(&str, &str, bool); 17] = [
+static FOUND: [(&str, &str, bool); 21] = [
     ("+i example", "http://a.example/", true),
     ("+i example", "http://a.EXAMPLE/", false),
     ("-i example", "http://a.EXAMPLE/", true),
@@ -25,8 +25,23 @@ static FOUND: [(&str, &str, bool); 17] = [
     ("-i one +i two", "http://TWO.example/", false),
     ("+i one|two +i three", "http://three/", true),
     ("+i one +i two +i three", "http://four/", false),
+    ("+i \\bads\\b", "http://a.example/ads/", true),
+    ("+i \\bads\\b", "http://a.example/éads/", false),
+    ("-i É", "http://a.example/é", true),
+    ("+i \\w{4}$", "http://a.example/éads", true),
     ("", "http://a.example/", false),
     ("", "", false),
+];
+
+/// Texts in turn for one list of patterns, and whether some pattern is found in each.
+static IN_TURN: [(&str, bool); 7] = [
+    ("http://a.example/", false),
+    ("http://a.example/ads/", false),
+    ("http://a.example/ads1/", true),
+    ("http://a.DoubleClick.example/", true),
+    ("http://a.example/b.gif", true),
+    ("http://a.example/b.gif?", false),
+    ("", false),
 ];
 
 /// Patterns of two lists, and the first list and pattern that is none.
@@ -86,16 +101,28 @@ fn setup(alloc: Global, first: &str, second: &str) -> Result<Result<Setup, Setup
 fn patterns_are_found_in_these_texts(rt: HostRuntime) -> Result<(), Fail> {
     let alloc = rt.alloc();
     for &(patterns, subject, found) in &FOUND {
-        let setup = setup(alloc, "+i never", patterns)??;
+        let mut setup = setup(alloc, "+i never", patterns)??;
         let subject = subject.as_bytes();
         assert_eq!(rt; setup.is_match(alloc, 1, subject)?, found, "{patterns}");
-        assert_eq!(rt;
-            setup.patterns.is_match(alloc, 1, subject)?,
-            found,
-            "{patterns}"
-        );
         assert_eq!(rt; setup.is_match(alloc, 0, subject)?, false, "{patterns}");
         assert_eq!(rt; setup.is_match(alloc, 2, subject)?, false, "{patterns}");
+    }
+    Ok(())
+}
+
+#[test]
+fn a_list_finds_its_patterns_in_texts_in_turn(rt: HostRuntime) -> Result<(), Fail> {
+    let alloc = rt.alloc();
+    let patterns = "+i /ads[0-9]+/ -i doubleclick +i [.]gif$";
+    let mut setup = setup(alloc, "+i never", patterns)??;
+    for _ in 0..2 {
+        for &(subject, found) in &IN_TURN {
+            assert_eq!(rt;
+                setup.is_match(alloc, 1, subject.as_bytes())?,
+                found,
+                "{subject}"
+            );
+        }
     }
     Ok(())
 }

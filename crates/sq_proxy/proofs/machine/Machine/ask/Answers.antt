@@ -15,7 +15,7 @@ returns-clause-call c = λ method target fields e.
     let r = request_of method target fields in
     let minute = c.minute_of_week.ensures ∙ ap (λ m. minute_of_week m c.self.inside.offset) c.later-moment.ensures in
     let ruled =
-    c.in-Ok.ensures
+    c.in-Ok.ensures.ruled
     ∙ ap (λ q. verdict config (seen q p c.minute_of_week.result c.count.result)) e
     ∙ ap (λ m. verdict config (seen r p m c.count.result)) minute
     ∙ ap (λ n. verdict config (seen r p (minute_of_week (max c.args.now c.self.inside.latest) c.self.inside.offset) n)) c.count.ensures in
@@ -29,7 +29,7 @@ returns-clause-call c = λ method target fields e.
       ruled_is = ruled;
       checks_are = c.in-Ok-begin.ensures.checks;
       asked_are = c.in-Ok-begin.ensures.asked;
-      config_is = search rules;
+      config_is = c.in-Ok.ensures.same;
       offset_is = search rules;
       peers_is = search rules;
       counts_is = search rules;
