@@ -3,6 +3,7 @@ pub mod AclLaws
 pub mod DirectLaws
 pub mod FactLaws
 pub mod ListLaws
+pub mod MadeLaws
 pub mod MemberLaws
 pub mod NameLaws
 pub mod PlainLaws
