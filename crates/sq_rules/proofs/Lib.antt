@@ -6,7 +6,6 @@ pub mod ListLaws
 pub mod MadeLaws
 pub mod MemberLaws
 pub mod NameLaws
-pub mod PlainLaws
 pub mod PredefinedTexts
 pub mod ReadingLaws
 pub mod ScanLaws

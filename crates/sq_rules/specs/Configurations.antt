@@ -24,11 +24,6 @@ pub record Configuration : Type 0 where
   pub port : ℕ
   pub notices : List Notice
 
--- acls and rules alone, with the defaults of everything else
-abbrev pub plain : List ℕ → List Acl → List Rule → Configuration
-plain source acls rules =
-    record { source = source; classes = []; acls = acls; rules = rules; pools = []; initial = 50; port = 3128; notices = [] }
-
 -- one of these has the name
 abbrev pub is_named : {A : Type 0} → (A → List ℕ) → List A → List ℕ → Bool
 is_named name_of list name = list_any (λ a. bytes_eq (name_of a) name) list
