@@ -1,6 +1,6 @@
 //! Words cut at a byte.
 ghost use Rattle.std.specs.Prelude.{◌≡◌, ◌<◌, ◌==◌, length, position, IfSome};
-ghost use Rattle.std.specs.List.{before_first, after_first, list_any};
+ghost use Rattle.std.specs.List.{before_first, after_first, after_last, list_any};
 
 /// What stands before the first such byte; all where there is none.
 pub fn before(word: &[u8], wanted: u8) -> &[u8]
@@ -26,6 +26,17 @@ pub fn behind(word: &[u8], wanted: u8) -> &[u8]
         }
         None => b"".as_slice(),
     }
+}
+
+/// What stands behind the last such byte; all where there is none.
+pub fn behind_last(word: &[u8], wanted: u8) -> &[u8]
+    ensures { result.now ≡ after_last (λ b. b == wanted) word.now }
+{
+    let mut start = word.len();
+    while start > 0 && word[start - 1] != wanted {
+        start -= 1;
+    }
+    &word[start..]
 }
 
 /// Whether it holds such a byte.

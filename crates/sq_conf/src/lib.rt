@@ -2,9 +2,10 @@
 //!
 //! `read_config` takes the lines in their order, and in each its words from the left: each is tried
 //! first for its form, and then for what it names. What the lines state so far is kept by `sq_drafts`
-//! with maps of names, so the time is nearly in proportion to the text. It promises that the answer is
-//! exactly the one that the definition gives (`conf_gives`, `conf_refuses` of `sq_rules`), unless
-//! memory runs out.
+//! with maps of names, so that most texts are read in about the time of their length; one that makes
+//! early groups nest deeper, or reach a helper, at line after line takes quadratic time. The patterns are
+//! compiled at the end. It promises that the answer is exactly the one that the definition gives
+//! (`conf_gives`, `conf_refuses` of `sq_rules`), unless memory runs out.
 #![tactic(auto)]
 
 mod acl_lines;

@@ -1,9 +1,9 @@
 //! Pairs of `delay_parameters`, and PORT of `http_port`.
 ghost use Rattle.std.specs.Prelude.{◌≡◌};
 ghost use Rattle.sq_conf.specs.Forms.{Gives};
-ghost use Rattle.sq_rules.specs.ConfNumbers.{pair_of, rate_of, port_place, port_text, has_host};
+ghost use Rattle.sq_rules.specs.ConfNumbers.{pair_of, rate_of, port_text, has_host};
 
-use crate::cuts::{before, behind};
+use crate::cuts::{before, behind, behind_last, holds};
 use crate::faults::ReadFault;
 use crate::numbers::digits_of;
 use sq_rules::{Kind, Limit};
@@ -41,28 +41,12 @@ fn rate_of(restore: &[u8], max: &[u8]) -> Option<Option<Limit>>
     Some(Some(Limit { restore, max }))
 }
 
-// The place behind the last `:`, or 0.
-fn port_place(word: &[u8]) -> usize
-    ensures { result ≡ port_place 0 0 word.now }
-{
-    let mut found = 0;
-    for (place, &byte) in word.iter().enumerate() {
-        if byte == b':' {
-            found = place + 1;
-        }
-    }
-    found
-}
-
 /// PORT of PORT or HOST:PORT.
 #[tactic(auto, unfolding(sq_rules::specs::ConfNumbers::port_text))]
 pub fn port_text(word: &[u8]) -> &[u8]
     ensures { result.now ≡ port_text word.now }
 {
-    match word.get(port_place(word)..) {
-        Some(port) => port,
-        None => b"".as_slice(),
-    }
+    behind_last(word, b':')
 }
 
 /// Whether a host stands before PORT.
@@ -70,5 +54,5 @@ pub fn port_text(word: &[u8]) -> &[u8]
 pub fn has_host(word: &[u8]) -> bool
     ensures { result ≡ has_host word.now }
 {
-    1 <= port_place(word)
+    holds(word, b':')
 }

@@ -44,7 +44,7 @@ pub fn note_if(
     }
 }
 
-// A mode that asks for interception or TLS.
+// A mode of interception, of a reverse proxy or of TLS that is opened.
 fn is_refused_mode(word: &[u8]) -> bool
     ensures { result ≡ is_refused_mode word.now }
 {

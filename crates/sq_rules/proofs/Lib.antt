@@ -3,9 +3,9 @@ pub mod AclLaws
 pub mod DirectLaws
 pub mod FactLaws
 pub mod ListLaws
+pub mod MadeLaws
 pub mod MemberLaws
 pub mod NameLaws
-pub mod PlainLaws
 pub mod PredefinedTexts
 pub mod ReadingLaws
 pub mod ScanLaws

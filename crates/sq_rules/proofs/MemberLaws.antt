@@ -5,21 +5,25 @@ use Rattle.std.specs.Prelude.{slice_index_or}
 use Rattle.std.proofs.lemmas.List.Folds.{list_any-append}
 use Rattle.std.specs.List.{list_any}
 use Rattle.sq_rules.specs.Changes.{is_group}
-use Rattle.sq_rules.specs.Configurations.{deepest, deepest_line, is_slow, nesting_of, some_slow}
+use Rattle.sq_rules.specs.Configurations.{deepest, greatest_of, is_slow, nesting_of, some_slow}
 use Rattle.sq_rules.specs.Drafts.{in_last, with_leaf, with_line, with_member}
 use Rattle.sq_rules.specs.declared.configs.Body.{Body}
 use Rattle.sq_rules.specs.declared.configs.Body.TheVariants as body
 use Rattle.sq_rules.specs.declared.configs.Term.{Term}
 use Rattle.sq_rules.specs.declared.leaves.Leaf.{Leaf}
 
-deepest_more : (before : List ℕ) (n : ℕ) (terms : List Term) (t : Term) → deepest before n (terms ++ t ∷ []) ≡ max (deepest before n terms) (slice_index_or before t.acl 0)
-deepest_more before n [] t = refl
-deepest_more before n (u ∷ terms) t = deepest_more before (max n (slice_index_or before u.acl 0)) terms t
+-- one thing more at the end
+greatest_push : {A : Type 0} (f : A → ℕ) (xs : List A) (x : A) → greatest_of f (xs ++ x ∷ []) ≡ max (greatest_of f xs) (f x)
+greatest_push f [] x = omega arith
+greatest_push f (y ∷ xs) x = omega (arith, greatest_push f xs x)
 
-deepest_in_last : (before : List ℕ) (n : ℕ) (lines : List (List Term)) (t : Term) → deepest_line before n (in_last t lines) ≡ max (deepest_line before n lines) (slice_index_or before t.acl 0)
-deepest_in_last before n [] t = refl
-deepest_in_last before n (l ∷ []) t = deepest_more before n l t
-deepest_in_last before n (l ∷ m ∷ lines) t = deepest_in_last before (deepest before n l) (m ∷ lines) t
+deepest_more : (before : List ℕ) (terms : List Term) (t : Term) → deepest before (terms ++ t ∷ []) ≡ max (deepest before terms) (slice_index_or before t.acl 0)
+deepest_more before terms t = greatest_push (λ u. slice_index_or before u.acl 0) terms t
+
+deepest_in_last : (before : List ℕ) (lines : List (List Term)) (t : Term) → greatest_of (deepest before) (in_last t lines) ≡ max (greatest_of (deepest before) lines) (slice_index_or before t.acl 0)
+deepest_in_last before [] t = omega arith
+deepest_in_last before (l ∷ []) t = omega (arith, deepest_more before l t)
+deepest_in_last before (l ∷ m ∷ lines) t = omega (arith, deepest_in_last before (m ∷ lines) t)
 
 one_up : (m a b : ℕ) → m ≡ max a b → suc m ≡ max (suc a) (suc b)
 one_up m a b e = omega arith
@@ -27,8 +31,8 @@ one_up m a b e = omega arith
 pub member_depth : (before : List ℕ) (t : Term) (b : Body) → is_group b ≡ true → nesting_of before (with_member t b) ≡ max (nesting_of before b) (suc (slice_index_or before t.acl 0))
 member_depth before t (body.Leaf l) group = cc
 member_depth before t (body.External class arguments) group = cc
-member_depth before t (body.AnyOf terms) group = one_up (deepest before 0 (terms ++ t ∷ [])) (deepest before 0 terms) (slice_index_or before t.acl 0) (deepest_more before 0 terms t)
-member_depth before t (body.AllOf lines) group = one_up (deepest_line before 0 (in_last t lines)) (deepest_line before 0 lines) (slice_index_or before t.acl 0) (deepest_in_last before 0 lines t)
+member_depth before t (body.AnyOf terms) group = one_up (deepest before (terms ++ t ∷ [])) (deepest before terms) (slice_index_or before t.acl 0) (deepest_more before terms t)
+member_depth before t (body.AllOf lines) group = one_up (greatest_of (deepest before) (in_last t lines)) (greatest_of (deepest before) lines) (slice_index_or before t.acl 0) (deepest_in_last before lines t)
 
 no_or : (a b : Bool) → (a || (b || false)) ≡ (a || b)
 no_or a b = grind arith
@@ -64,15 +68,17 @@ member_none t (body.External class arguments) none = refl
 member_none t (body.AnyOf terms) none = cc
 member_none t (body.AllOf lines) none = cc
 
-deepest_opened : (before : List ℕ) (n : ℕ) (lines : List (List Term)) → deepest_line before n (lines ++ [] ∷ []) ≡ deepest_line before n lines
-deepest_opened before n [] = refl
-deepest_opened before n (l ∷ lines) = deepest_opened before (deepest before n l) lines
+no_more : (a b : ℕ) → a ≡ max b 0 → a ≡ b
+no_more a b e = omega arith
+
+deepest_opened : (before : List ℕ) (lines : List (List Term)) → greatest_of (deepest before) (lines ++ [] ∷ []) ≡ greatest_of (deepest before) lines
+deepest_opened before lines = no_more (greatest_of (deepest before) (lines ++ [] ∷ [])) (greatest_of (deepest before) lines) (greatest_push (deepest before) lines [])
 
 pub line_depth : (before : List ℕ) (b : Body) → nesting_of before (with_line b) ≡ nesting_of before b
 line_depth before (body.Leaf l) = refl
 line_depth before (body.External class arguments) = refl
 line_depth before (body.AnyOf terms) = refl
-line_depth before (body.AllOf lines) = ap suc (deepest_opened before 0 lines)
+line_depth before (body.AllOf lines) = ap suc (deepest_opened before lines)
 
 or_no : (a : Bool) → (a || (false || false)) ≡ a
 or_no a = grind arith

@@ -74,10 +74,11 @@ abbrev pub has_type : List Acl → AclType → Option ℕ → Bool
 has_type acls type None = true
 has_type acls type (Some place) = is_of_type type (type_at acls place)
 
--- a name with `!` before it or without
+-- the word begins with `!`
 abbrev pub is_negated : List ℕ → Bool
 is_negated w = begins 33 w
 
+-- the name: the word without `!` at its front
 abbrev pub term_name : List ℕ → List ℕ
 term_name [] = []
 term_name (b ∷ bs) = if b == 33 then bs else (b ∷ bs)
@@ -86,7 +87,7 @@ abbrev pub term_from : Bool → Option ℕ → Result Term Kind
 term_from negated None = Err UndefinedAcl
 term_from negated (Some place) = Ok (record { acl = place; negated = negated })
 
--- TERM: an acl that stands
+-- TERM: NAME or !NAME of an acl that stands
 unfoldable pub known_term : List Acl → List ℕ → Result Term Kind
 known_term acls w = term_from (is_negated w) (place_of acls (term_name w))
 

@@ -18,7 +18,7 @@ use Rattle.sq_rules.specs.declared.kinds.Kind.TheVariants.{BadValue, BadPattern,
 use Rattle.sq_rules.specs.declared.leaves.Find.{Find}
 use Rattle.sq_rules.specs.declared.leaves.PortRange.{PortRange}
 
--- a word that begins with `"` would name a file of values, which is not read
+-- the word does not begin with `"`; one that does would name a file of values, which is not read
 abbrev pub is_unquoted : List ℕ → Bool
 is_unquoted w = not (begins 34 w)
 
@@ -26,7 +26,7 @@ is_unquoted w = not (begins 34 w)
 abbrev pub range_value : List ℕ → Result Range Kind
 range_value w = needed BadValue (range_of w)
 
--- dstdomain and proto: any word
+-- dstdomain, proto and the arguments of external: any word that does not begin with `"`
 abbrev pub plain_value : List ℕ → Result (List ℕ) Kind
 plain_value w = unless (is_unquoted w) BadValue (Ok w)
 

@@ -1,7 +1,7 @@
 -- The configuration that parts state, or their first fault: the parts in their order, and in each its
 -- names from left to right (configuration reference, `acl`, `http_access`, `external_acl_type`,
 -- `delay_access`).
-use Rattle.std.specs.Prelude.{◌≡◌, ◌≢◌, ℕ, ◌≤◌, List, [], ◌∷◌, ◌++◌, length, false, if◌then◌else◌, nat_le, Some, None, Ok, Err, MatchResult, slice_index_or}
+use Rattle.std.specs.Prelude.{◌≡◌, ◌≢◌, ℕ, ◌≤◌, List, [], ◌∷◌, ◌++◌, length, suc, false, if◌then◌else◌, nat_le, Some, None, Ok, Err, MatchResult, slice_index_or}
 use Rattle.std.specs.declared.option.Option.{Option}
 use Rattle.std.specs.declared.result.Result.{Result}
 use Rattle.sq_rules.specs.Classes.{HelperClass}
@@ -33,10 +33,10 @@ abbrev pub ◌>>=◌ : {A B : Type 0} → Result A BuildFault → (A → Result 
 abbrev pub IsMade : {A : Type 0} → Result A BuildFault → Result A BuildFault → Type 0
 IsMade result made = MatchResult result (λ x. made ≡ Ok x) (λ e. e ≢ fault.WantOfMemory → made ≡ Err e)
 
--- each of some parts in turn, behind those that are made
-abbrev pub each_made : {A B : Type 0} → (A → Result B BuildFault) → List B → List A → Result (List B) BuildFault
-each_made make done [] = Ok done
-each_made make done (x ∷ xs) = make x >>= λ y. each_made make (done ++ y ∷ []) xs
+-- what is made of each of some parts, or the fault of the first that has one
+abbrev pub each_made : {A B : Type 0} → (A → Result B BuildFault) → List A → Result (List B) BuildFault
+each_made make [] = Ok []
+each_made make (x ∷ xs) = make x >>= λ y. each_made make xs >>= λ ys. Ok (y ∷ ys)
 
 -- the place of the acl with this name
 abbrev pub place_of : List Acl → List ℕ → Option ℕ
@@ -55,7 +55,7 @@ abbrev pub term_made : List Acl → TermPart → Result Term BuildFault
 term_made acls t = term_at t (place_of acls t.acl)
 
 abbrev pub terms_made : List Acl → List TermPart → Result (List Term) BuildFault
-terms_made acls terms = each_made (term_made acls) [] terms
+terms_made acls terms = each_made (term_made acls) terms
 
 abbrev pub external_at : List ℕ → List (List ℕ) → Option ℕ → Result Body BuildFault
 external_at class arguments None = Err (fault.UndefinedClass class)
@@ -66,7 +66,7 @@ abbrev pub body_made : List HelperClass → List Acl → BodyPart → Result Bod
 body_made classes acls (part.Leaf l) = Ok (body.Leaf l)
 body_made classes acls (part.External class arguments) = external_at class arguments (class_place classes class)
 body_made classes acls (part.AnyOf terms) = terms_made acls terms >>= λ made. Ok (body.AnyOf made)
-body_made classes acls (part.AllOf lines) = each_made (terms_made acls) [] lines >>= λ made. Ok (body.AllOf made)
+body_made classes acls (part.AllOf lines) = each_made (terms_made acls) lines >>= λ made. Ok (body.AllOf made)
 
 -- one acl more, where it doesn't nest too deep
 abbrev pub with_acl : List Acl → List ℕ → Body → Result (List Acl) BuildFault
@@ -103,27 +103,27 @@ abbrev pub fast_term_made : List Acl → TermPart → Result Term BuildFault
 fast_term_made acls t = term_made acls t >>= unless_slow acls t
 
 abbrev pub fast_rule_made : List Acl → RulePart → Result Rule BuildFault
-fast_rule_made acls r = each_made (fast_term_made acls) [] r.terms >>= λ made. Ok (record { allow = r.allow; terms = made })
+fast_rule_made acls r = each_made (fast_term_made acls) r.terms >>= λ made. Ok (record { allow = r.allow; terms = made })
 
 -- the pool at a place has its class and limits, and fast rules
 abbrev pub pool_made : List Acl → ℕ → PoolPart → Result Pool BuildFault
 pool_made acls place p =
     if has_buckets p.class (length p.pairs)
-    then (each_made (fast_rule_made acls) [] p.lists >>= λ made. Ok (record { class = p.class; pairs = p.pairs; lists = made }))
+    then (each_made (fast_rule_made acls) p.lists >>= λ made. Ok (record { class = p.class; pairs = p.pairs; lists = made }))
     else Err (fault.PoolIncomplete place)
 
--- some pools, behind those before them
-abbrev pub pools_made : List Acl → List Pool → List PoolPart → Result (List Pool) BuildFault
-pools_made acls pools [] = Ok pools
-pools_made acls pools (p ∷ parts) = pool_made acls (length pools) p >>= λ made. pools_made acls (pools ++ made ∷ []) parts
+-- the pools, the first of which stands at this place
+abbrev pub pools_made : List Acl → ℕ → List PoolPart → Result (List Pool) BuildFault
+pools_made acls place [] = Ok []
+pools_made acls place (p ∷ parts) = pool_made acls place p >>= λ made. pools_made acls (suc place) parts >>= λ others. Ok (made ∷ others)
 
 -- the configuration that the parts state, or their first fault
 unfoldable pub built : Parts → Result Configuration BuildFault
 built p = do
   classes ← classes_made [] p.classes
   acls ← acls_made classes [] p.acls
-  rules ← each_made (rule_made acls) [] p.rules
-  pools ← pools_made acls [] p.pools
+  rules ← each_made (rule_made acls) p.rules
+  pools ← pools_made acls 0 p.pools
   Ok (record { source = p.source; classes = classes; acls = acls; rules = rules; pools = pools; initial = p.initial; port = p.port; notices = p.notices })
 
 -- the numbers and lengths of the parts lie within their limits

@@ -1,8 +1,8 @@
 -- Numbers of a configuration: those of options, delay directives and http_port may have leading
 -- zeros (configuration reference, `external_acl_type`, `delay_parameters`, `http_port`).
-use Rattle.std.specs.Prelude.{ℕ, suc, List, [], ◌∷◌, length, Bool, if◌then◌else◌, ◌&&◌, ◌||◌, nat_le, Some, None, is_some, drop, codes, bytes_eq, Ok}
+use Rattle.std.specs.Prelude.{ℕ, List, length, Bool, if◌then◌else◌, ◌&&◌, ◌||◌, nat_le, Some, None, is_some, codes, bytes_eq, Ok}
 use Rattle.std.specs.Char.{is_ascii_digit}
-use Rattle.std.specs.List.{list_all, before_first, after_first}
+use Rattle.std.specs.List.{list_all, list_any, before_first, after_first, after_last}
 use Rattle.std.specs.declared.option.Option.{Option}
 use Rattle.std.specs.declared.result.Result.{Result}
 use Rattle.sq_base.specs.Addresses.{is_colon}
@@ -30,18 +30,13 @@ from_least least (Some n) = if nat_le least n then Some n else None
 unfoldable pub number_in : ℕ → ℕ → List ℕ → Result ℕ Kind
 number_in least most w = needed BadNumber (from_least least (digits_of most w))
 
--- the place behind the last `:`, where the first of these bytes stands at a place; else where it was
-abbrev pub port_place : ℕ → ℕ → List ℕ → ℕ
-port_place found place [] = found
-port_place found place (b ∷ bs) = port_place (if is_colon b then suc place else found) (suc place) bs
-
--- PORT of PORT or HOST:PORT
+-- PORT of PORT or HOST:PORT: what stands behind the last `:`, or the whole word where none stands
 unfoldable pub port_text : List ℕ → List ℕ
-port_text w = drop (port_place 0 0 w) w
+port_text w = after_last is_colon w
 
--- the word states a host
+-- the word states a host: a `:` stands in it
 unfoldable pub has_host : List ℕ → Bool
-has_host w = nat_le 1 (port_place 0 0 w)
+has_host w = list_any is_colon w
 
 -- both numbers are there
 abbrev pub both_rates : Option ℕ → Option ℕ → Option (Option Rate)

@@ -24,11 +24,6 @@ pub record Configuration : Type 0 where
   pub port : ℕ
   pub notices : List Notice
 
--- acls and rules alone, with the defaults of everything else
-abbrev pub plain : List ℕ → List Acl → List Rule → Configuration
-plain source acls rules =
-    record { source = source; classes = []; acls = acls; rules = rules; pools = []; initial = 50; port = 3128; notices = [] }
-
 -- one of these has the name
 abbrev pub is_named : {A : Type 0} → (A → List ℕ) → List A → List ℕ → Bool
 is_named name_of list name = list_any (λ a. bytes_eq (name_of a) name) list
@@ -89,22 +84,21 @@ abbrev pub are_known_bodies : ℕ → ℕ → List Acl → Bool
 are_known_bodies classes place [] = true
 are_known_bodies classes place (a ∷ acls) = is_known_body classes place a.body && are_known_bodies classes (suc place) acls
 
--- the greatest of a number and the nestings of the terms, where the acls before have these
-abbrev pub deepest : List ℕ → ℕ → List Term → ℕ
-deepest before n [] = n
-deepest before n (t ∷ terms) = deepest before (max n (slice_index_or before t.acl 0)) terms
+-- the greatest of the numbers that some things have; 0 where there is none
+abbrev pub greatest_of : {A : Type 0} → (A → ℕ) → List A → ℕ
+greatest_of number [] = 0
+greatest_of number (x ∷ xs) = max (number x) (greatest_of number xs)
 
--- the same over lines of terms
-abbrev pub deepest_line : List ℕ → ℕ → List (List Term) → ℕ
-deepest_line before n [] = n
-deepest_line before n (l ∷ lines) = deepest_line before (deepest before n l) lines
+-- the greatest of the nestings of the terms, where the acls before have these
+abbrev pub deepest : List ℕ → List Term → ℕ
+deepest before terms = greatest_of (λ t. slice_index_or before t.acl 0) terms
 
 -- how deep an acl nests: a group once more than its deepest member
 abbrev pub nesting_of : List ℕ → Body → ℕ
 nesting_of before (body.Leaf l) = 0
 nesting_of before (body.External class arguments) = 0
-nesting_of before (body.AnyOf terms) = suc (deepest before 0 terms)
-nesting_of before (body.AllOf lines) = suc (deepest_line before 0 lines)
+nesting_of before (body.AnyOf terms) = suc (deepest before terms)
+nesting_of before (body.AllOf lines) = suc (greatest_of (deepest before) lines)
 
 -- the nestings of some acls, behind those of the acls before them
 abbrev pub nestings_on : List ℕ → List Acl → List ℕ

@@ -1,5 +1,7 @@
 -- The numbers of the faults of a configuration's text.
-use Rattle.std.specs.Prelude.{ℕ}
+use Rattle.std.specs.Prelude.{ℕ, List, ◌++◌, codes}
+use Rattle.std.specs.Fmt.{decimal}
+use Rattle.sq_rules.specs.declared.kinds.ConfError.{ConfError}
 use Rattle.sq_rules.specs.declared.kinds.Kind.{Kind}
 use Rattle.sq_rules.specs.declared.kinds.Kind.TheVariants as kind
 
@@ -25,3 +27,7 @@ kind_number kind.TooMany = 17
 kind_number kind.TooDeep = 18
 kind_number kind.NotUtf8 = 19
 kind_number kind.BadTime = 20
+
+-- a fault as it is printed: its line and its kind by their numbers
+abbrev pub fault_text : ConfError → List ℕ
+fault_text e = codes "line " ++ (decimal e.line ++ (codes ", kind " ++ decimal (kind_number e.kind)))

@@ -105,12 +105,13 @@ initial_line d ws = do
   level ← number_in 0 initial_limit first.0
   no_more first.1 (with_initial level d)
 
--- a mode of `http_port` that asks for interception or TLS
+-- a mode of `http_port` that is refused: of interception (intercept, tproxy), of a reverse proxy (accel)
+-- or of TLS that is opened (ssl-bump)
 abbrev pub is_refused_mode : List ℕ → Bool
 is_refused_mode w =
     bytes_eq w (codes "intercept") || bytes_eq w (codes "tproxy") || bytes_eq w (codes "accel") || bytes_eq w (codes "ssl-bump")
 
--- a further word of `http_port`, which has no effect
+-- a further word of `http_port`, which is no refused mode: it has no effect, and that is noted
 abbrev pub mode_step : Bool → List ℕ → Result Bool Kind
 mode_step noted w = unless (not (is_refused_mode w)) BadValue (Ok true)
 

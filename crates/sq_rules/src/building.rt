@@ -28,6 +28,7 @@ fn term_of(acls: &AclTable, part: TermPart) -> Result<Term, BuildFault>
     }
 }
 
+#[tactic(auto, using(crate::proofs::MadeLaws::made_first))]
 fn terms_of(alloc: Global, acls: &AclTable, parts: TermParts) -> Result<Terms, BuildFault>
     ensures made { IsMade result (terms_made acls.now parts) }
     ensures known { IfOk result (λ terms. are_known (length acls.now) terms ≡ true) }
@@ -40,8 +41,9 @@ fn terms_of(alloc: Global, acls: &AclTable, parts: TermParts) -> Result<Terms, B
     Ok(terms)
 }
 
+#[tactic(auto, using(crate::proofs::MadeLaws::made_first))]
 fn lines_of(alloc: Global, acls: &AclTable, parts: LineParts) -> Result<Lines, BuildFault>
-    ensures made { IsMade result (each_made (terms_made acls.now) [] parts) }
+    ensures made { IsMade result (each_made (terms_made acls.now) parts) }
     ensures known { IfOk result (λ lines. list_all (are_known (length acls.now)) lines ≡ true) }
 {
     let mut lines = Listed::new(alloc);
@@ -120,8 +122,9 @@ fn rule_of(alloc: Global, acls: &AclTable, part: RulePart) -> Result<Rule, Build
 }
 
 /// The rules over these acls.
+#[tactic(auto, using(crate::proofs::MadeLaws::made_first))]
 pub fn rules_of(alloc: Global, acls: &AclTable, parts: RuleParts) -> Result<Rules, BuildFault>
-    ensures made { IsMade result (each_made (rule_made acls.now) [] parts) }
+    ensures made { IsMade result (each_made (rule_made acls.now) parts) }
     ensures count { IfOk result (λ rules. length rules ≡ length parts) }
     ensures known { IfOk result (λ rules. list_all (is_known_rule (length acls.now)) rules ≡ true) }
 {

@@ -1,7 +1,7 @@
 //! The configuration: classes of helpers, acls, rules and delay pools, with every named place there.
 ghost use Rattle.std.specs.Prelude.{◌≡◌, ◌≢◌, ◌≤◌, length, Ok, Err, IfOk, IfErr};
 ghost use Rattle.sq_rules.specs.Building.{built, AreWithin};
-ghost use Rattle.sq_rules.specs.Configurations.{IsConfiguration, plain};
+ghost use Rattle.sq_rules.specs.Configurations.{IsConfiguration};
 ghost use Rattle.sq_rules.specs.Limits.{acl_limit, class_limit, initial_limit, pool_limit, rule_limit, text_limit};
 
 use crate::building::{acls_of, classes_of, rules_of};
@@ -86,24 +86,6 @@ impl Model for Config {
 }
 
 impl Config {
-    /// The configuration with these acls and rules and nothing more, which a file with these bytes
-    /// states.
-    pub fn new(alloc: Global, source: Text, acls: Acls, rules: Rules) -> Config
-        requires { IsConfiguration (plain source acls rules) }
-        ensures { result ≡ plain source acls rules }
-    {
-        Config {
-            source,
-            classes: Listed::new(alloc),
-            acls,
-            rules,
-            pools: Listed::new(alloc),
-            initial: 50,
-            port: 3128,
-            notices: Listed::new(alloc),
-        }
-    }
-
     /// The configuration of these parts, where they are one.
     pub fn of_parts(
         source: Text,

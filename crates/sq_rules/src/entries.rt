@@ -102,7 +102,8 @@ pub enum Told {
     Fine,
     /// The number of the check that begins.
     Check(CheckNo),
-    /// The check took an answer of this class from the answers that are kept.
+    /// The check took an answer for a class of this name without a wait: one that was kept, or a fault
+    /// where its key is too long or the class's queue is full.
     Took(Text),
     /// The check waits for this question.
     Waits(QuestionNo),
@@ -122,7 +123,8 @@ pub enum Told {
     },
     /// The line is outside the grammar of replies.
     Bad,
-    /// The line is for a channel that has no question.
+    /// The line is in the grammar of replies, and no question that was sent to its process waits for
+    /// it: none on its channel, or none at all where the class has no channels.
     Stray,
     /// A helper process of this class of this epoch is to be started.
     Start {

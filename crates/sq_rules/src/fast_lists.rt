@@ -31,8 +31,9 @@ fn fast_term_of(acls: &AclTable, part: TermPart) -> Result<Term, BuildFault>
     }
 }
 
+#[tactic(auto, using(crate::proofs::MadeLaws::made_first))]
 fn fast_terms_of(alloc: Global, acls: &AclTable, parts: TermParts) -> Result<Terms, BuildFault>
-    ensures made { IsMade result (each_made (fast_term_made acls.now) [] parts) }
+    ensures made { IsMade result (each_made (fast_term_made acls.now) parts) }
     ensures known { IfOk result (λ terms. are_known (length acls.now) terms ≡ true) }
     ensures fast { IfOk result (λ terms. some_slow (slow_ones acls.now) terms ≡ false) }
 {
@@ -55,8 +56,9 @@ fn fast_rule_of(alloc: Global, acls: &AclTable, part: RulePart) -> Result<Rule, 
     })
 }
 
+#[tactic(auto, using(crate::proofs::MadeLaws::made_first))]
 fn fast_rules_of(alloc: Global, acls: &AclTable, parts: RuleParts) -> Result<Rules, BuildFault>
-    ensures made { IsMade result (each_made (fast_rule_made acls.now) [] parts) }
+    ensures made { IsMade result (each_made (fast_rule_made acls.now) parts) }
     ensures fast { IfOk result (λ rules. list_all (is_fast_rule acls.now) rules ≡ true) }
 {
     let mut rules = Listed::new(alloc);
@@ -90,9 +92,10 @@ fn pool_of(alloc: Global, acls: &AclTable, place: u32, part: PoolPart) -> Result
 }
 
 /// The pools over these acls, in the order of their numbers.
+#[tactic(auto, using(crate::proofs::MadeLaws::pools_first))]
 pub fn pools_of(alloc: Global, acls: &AclTable, parts: PoolParts) -> Result<Pools, BuildFault>
     requires { length parts ≤ pool_limit }
-    ensures made { IsMade result (pools_made acls.now [] parts) }
+    ensures made { IsMade result (pools_made acls.now 0 parts) }
     ensures count { IfOk result (λ pools. length pools ≡ length parts) }
     ensures are_pools { IfOk result (λ pools. list_all (is_pool acls.now) pools ≡ true) }
 {

@@ -88,6 +88,11 @@ pub struct ConfError {
 }
 
 impl fmt::Display for ConfError {
+    ghost use Rattle.std.specs.Prelude.{Some};
+    ghost use Rattle.sq_rules.specs.Kinds.{fault_text};
+
+    ghost output = { λ e. Some (fault_text e) };
+
     /// The line and the kind by their numbers.
     fn fmt<W: fmt::Write>(&self, f: &mut fmt::Formatter<W>) -> fmt::Result {
         let number = self.kind.number();

@@ -1,7 +1,7 @@
 //! How deep an acl nests, and whether it asks a helper, by what is known of the acls before it.
 ghost use Rattle.std.specs.Prelude.{◌≡◌, ◌+◌, suc, false, slice_index_or};
 ghost use Rattle.std.specs.List.{list_any};
-ghost use Rattle.sq_rules.specs.Configurations.{deepest, deepest_line, nesting_of, is_slow, some_slow};
+ghost use Rattle.sq_rules.specs.Configurations.{deepest, greatest_of, nesting_of, is_slow, some_slow};
 ghost use Rattle.sq_rules.specs.Tables.{allowed};
 
 use crate::configs::{Body, Term, Terms};
@@ -19,11 +19,11 @@ pub fn nesting_at(before: &[u32], term: Term) -> u32
     }
 }
 
-// The greatest of a number and the nestings of the terms.
-fn deepest(before: &[u32], least: u32, terms: &[Term]) -> u32
-    ensures { result ≡ deepest before.now least terms.now }
+// The greatest of the nestings of the terms.
+fn deepest(before: &[u32], terms: &[Term]) -> u32
+    ensures { result ≡ deepest before.now terms.now }
 {
-    let mut greatest = least;
+    let mut greatest = 0;
     for term in terms {
         greatest = greatest.max(nesting_at(before, *term));
     }
@@ -32,11 +32,11 @@ fn deepest(before: &[u32], least: u32, terms: &[Term]) -> u32
 
 // The same over lines of terms.
 fn deepest_line(before: &[u32], lines: &[Terms]) -> u32
-    ensures { result ≡ deepest_line before.now 0 lines.now }
+    ensures { result ≡ greatest_of (deepest before.now) lines.now }
 {
     let mut greatest = 0;
     for line in lines {
-        greatest = deepest(before, greatest, line.as_slice());
+        greatest = greatest.max(deepest(before, line.as_slice()));
     }
     greatest
 }
@@ -62,7 +62,7 @@ pub fn nesting_of(before: &[u32], body: &Body) -> Option<u32>
             class: _,
             arguments: _,
         } => Some(0),
-        Body::AnyOf(terms) => group_over(deepest(before, 0, terms.as_slice())),
+        Body::AnyOf(terms) => group_over(deepest(before, terms.as_slice())),
         Body::AllOf(lines) => group_over(deepest_line(before, lines.as_slice())),
     }
 }

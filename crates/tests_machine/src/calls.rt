@@ -1,13 +1,13 @@
-//! Public calls of the forms in memory, the adapters and the configuration, once each.
+//! Public calls of the forms in memory and the adapters, once each.
 
 use crate::fixtures::file;
-use sq_base::{Listed, Text};
+use sq_base::Text;
 use sq_outside::{
     COUNT_LIMIT, Calls, Failed, Files, MemFiles, MemSink, MemSource, NoOpen, RealFiles, RealSink,
     RealSource, Sink, Source, read_file, read_whole, write_all, write_line,
 };
 use sq_proxy::{Part, Status};
-use sq_rules::{Acl, Body, Config, Kind, Leaf, PortRange, Rule, Term};
+use sq_rules::Kind;
 use std::io::{self, ErrorKind, Read, Write};
 use std::test::Fail;
 
@@ -138,34 +138,6 @@ fn adapters_reach_what_stands_behind_them(rt: HostRuntime) -> Result<(), Fail> {
         read_file(alloc, 5, &unreadable, &mut files).err(),
         Some(NoOpen::Failed)
     );
-    Ok(())
-}
-
-#[test]
-fn a_configuration_gives_its_parts_back(rt: HostRuntime) -> Result<(), Fail> {
-    let alloc = rt.alloc();
-    let source = Text::from_slice(alloc, b"acl web port 80\nhttp_access allow !web\n")?;
-    let mut ports = Listed::new(alloc);
-    ports.push(PortRange {
-        first: 80,
-        last: 80,
-    })?;
-    let mut acls = Listed::new(alloc);
-    acls.push(Acl {
-        name: Text::from_slice(alloc, b"web")?,
-        body: Body::Leaf(Leaf::Port(ports)),
-    })?;
-    let mut terms = Listed::new(alloc);
-    terms.push(Term {
-        acl: 0,
-        negated: true,
-    })?;
-    let mut rules = Listed::new(alloc);
-    rules.push(Rule { allow: true, terms })?;
-    let config = Config::new(alloc, source, acls, rules);
-    assert!(rt; config.source().as_bytes().starts_with(b"acl web port"));
-    assert!(rt; matches!(config.acls(), [acl] if acl.name.as_bytes() == b"web".as_slice()));
-    assert!(rt; matches!(config.rules(), [rule] if rule.allow && rule.terms.len() == 1));
     Ok(())
 }
 
