@@ -2,7 +2,7 @@
 use Rattle.std.specs.Prelude.{ℕ, ◌+◌, ℤ, List, [], ◌∷◌, length, Result, Ok, Err, Some, None, is_some, max, pos, if◌then◌else◌}
 use Rattle.std.specs.declared.option.Option.{Option}
 use Rattle.sq_base.specs.declared.requests.Field.{Field}
-use Rattle.sq_outside.specs.SourceLines.{Line, is_readable, lines}
+use Rattle.sq_outside.specs.SourceLines.{Line, is_readable}
 use Rattle.sq_request.specs.Written.{made_request}
 use Rattle.sq_rules.specs.declared.entries.Event.{Event}
 use Rattle.sq_rules.specs.declared.entries.Event.TheVariants.{Begin, Open, Close, Ask, Step, Take, Act}
