@@ -2,7 +2,8 @@
 //!
 //! `print_entry` gives the one text of an entry, a line without its LF; `read_entry` reads exactly the
 //! texts that some entry has, and gives that entry; `read_event` does the same for a moment and an
-//! event, as a script's line has them. No entry has two spellings.
+//! event, as a script's line has them. No entry has two spellings. `holds_values` says that every entry
+//! is one of those of which these calls speak, and `ESCAPES` is the set of bytes that are escaped.
 //!
 //! A reader goes over each word of the line a fixed number of times. It allocates the texts and the list
 //! of fields that it gives, and for a while the whole text of a field and the printed text of an
