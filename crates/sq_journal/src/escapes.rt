@@ -8,7 +8,8 @@ use percent_encoding::{AsciiSet, CONTROLS, ascii_set, percent_decode, percent_en
 use sq_base::{Text, WantOfMemory};
 use std::alloc::Global;
 
-/// The bytes that are escaped beside those past ASCII.
+/// The bytes that are escaped in the word of a text, beside those past ASCII: control bytes, space, `%`
+/// and `>`. Crates that write such words in pieces hand this set to `percent_encode`.
 pub const ESCAPES: AsciiSet = ascii_set!(CONTROLS.add(b' ').add(b'%').add(b'>'));
 
 // Puts the escaped bytes at the text's end, piece by piece.

@@ -2,8 +2,13 @@
 //!
 //! `print_entry` gives the one text of an entry, a line without its LF; `read_entry` reads exactly the
 //! texts that some entry has, and gives that entry; `read_event` does the same for a moment and an
-//! event, as a script's line has them. No entry has two spellings. Readers take time in proportion to
-//! the line, and no memory but that of the entry's texts.
+//! event, as a script's line has them. No entry has two spellings. `holds_values` says that every entry
+//! is one of those of which these calls speak, and `ESCAPES` is the set of bytes that are escaped.
+//!
+//! A reader goes over each word of the line a fixed number of times. It allocates the texts and the list
+//! of fields that it gives, and for a while the whole text of a field and the printed text of an
+//! address: all in proportion to the line. A line that it refuses may take memory too, and so may end
+//! by want of it. No clause says what a call costs.
 #![tactic(auto)]
 
 mod answers;
@@ -22,5 +27,6 @@ mod values;
 mod words;
 
 pub use entries::{print_entry, read_entry, read_event};
+pub use escapes::ESCAPES;
 pub use faults::EntryFault;
 pub use ranges::holds_values;

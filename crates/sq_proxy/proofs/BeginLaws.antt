@@ -1,11 +1,11 @@
 -- A run from its beginning.
-use Rattle.std.proofs.Common.{◌≡◌, ℕ, ℤ, pos, ◌+◌, List, [], ◌∷◌, length, Bool, true, false, if◌then◌else◌, Ok, Err, Some, None, refl, sym, ap, ◌∙◌, subst}
+use Rattle.std.proofs.Common.{◌≡◌, ℕ, ℤ, pos, ◌+◌, List, [], ◌∷◌, length, if◌then◌else◌, Ok, Err, Some, None, refl, sym, ap, ◌∙◌, subst}
 use Rattle.std.specs.Io.KnownBytes.{prepend_known}
 use Rattle.std.specs.declared.option.Option.{Option}
 use Rattle.sq_outside.specs.Output.{IsPrefix}
-use Rattle.sq_outside.specs.SourceLines.{Line, lines, is_readable, Finds}
+use Rattle.sq_outside.specs.SourceLines.{Line, lines, Finds}
 use Rattle.sq_outside.specs.declared.lines.Found.TheVariants as found
-use Rattle.sq_outside.proofs.Writing.{IsPrefix-refl, IsPrefix-trans}
+use Rattle.sq_outside.proofs.Writing.{IsPrefix-trans}
 use Rattle.sq_rules.specs.declared.entries.Event.{Event}
 use Rattle.sq_rules.specs.declared.entries.Event.TheVariants.{Begin, Open, Close, Ask, Step, Take, Started, StartFail, Line as HelperLine, Died, Act, Reconfigure, Seat, Grant, Leave}
 use Rattle.sq_rules.specs.Configurations.{Configuration}

@@ -1,5 +1,5 @@
 -- How the readings of checks change with an entry.
-use Rattle.std.proofs.Common.{◌≡◌, ℕ, ◌<◌, ◌≤◌, ◌∷◌, [], List, Bool, true, false, if◌then◌else◌, ◌==◌, ◌&&◌, nat_le, Some, None, suc, refl, sym, ap, ◌∙◌, arith, inr, unwrap_or, subst}
+use Rattle.std.proofs.Common.{◌≡◌, ℕ, ◌≤◌, ◌∷◌, [], List, Bool, true, false, if◌then◌else◌, ◌==◌, ◌&&◌, nat_le, Some, None, suc, refl, sym, ap, ◌∙◌, arith, inr}
 use Rattle.std.proofs.lemmas.Bool.Decides.{nat_tests}
 use Rattle.std.proofs.lemmas.Option.{none-some, same_Some}
 use Rattle.std.specs.Option.{option_or, option_map}
@@ -12,7 +12,7 @@ use Rattle.sq_rules.specs.declared.entries.Told.TheVariants as told
 use Rattle.sq_rules.specs.Configurations.{Configuration}
 use Rattle.sq_rules.specs.Entries.{History, Noted}
 use Rattle.sq_rules.specs.Machine.{outcome_of}
-use Rattle.sq_rules.specs.Readings.{Asked, ask_of, asked_at, ask_count, numbered, conn_of, open_check, open_check_after, check_open, is_open_on, is_number, is_done, done_after, count_after, peer_at, peer_or_nobody, sight_of, current}
+use Rattle.sq_rules.specs.Readings.{Asked, ask_of, asked_at, ask_count, numbered, conn_of, open_check, open_check_after, check_open, is_open_on, is_number, is_done, peer_at, peer_or_nobody, sight_of, current}
 use Rattle.sq_rules.proofs.ReadingLaws.{is_done-unborn}
 use Rattle.sq_proxy.specs.Machines.{HeldCheck, held_check, number_or_none, entry_at}
 

@@ -1,6 +1,5 @@
 -- The history of a run is legal, and so each verdict in it is direct.
-use Rattle.std.proofs.Common.{◌≡◌, ◌⊎◌, inl, inr, ℕ, ℤ, ◌+◌, List, [], ◌∷◌, length, Bool, true, false, if◌then◌else◌, max, Some, None, IfSome, Ok, Err, Result, is_some, pos, refl, sym, ap, ◌∙◌, arith, subst}
-use Rattle.std.proofs.lemmas.Option.{none-some}
+use Rattle.std.proofs.Common.{◌≡◌, ◌⊎◌, inl, inr, ℕ, ℤ, ◌+◌, List, [], ◌∷◌, length, Bool, true, false, if◌then◌else◌, max, Some, None, IfSome, Ok, Err, Result, is_some, pos, refl, arith, subst}
 use Rattle.std.specs.declared.option.Option.{Option}
 use Rattle.sq_base.specs.Requests.{HttpRequest}
 use Rattle.sq_base.specs.declared.requests.Field.{Field}

@@ -1,12 +1,10 @@
 -- Over leaf acls the facts of a check decide as the direct evaluation does.
-use Rattle.std.proofs.Common.{◌≡◌, ℕ, ◌+◌, zero, suc, List, [], ◌∷◌, Bool, true, false, ◌&&◌, not, if◌then◌else◌, Some, None, refl, sym, ap, ◌∙◌, map, length}
+use Rattle.std.proofs.Common.{◌≡◌, ℕ, ◌+◌, zero, suc, List, [], ◌∷◌, Bool, true, false, ◌&&◌, not, if◌then◌else◌, Some, refl, ap, ◌∙◌, map, length}
 use Rattle.std.specs.List.{list_all, slice_get, slice_index_or}
-use Rattle.std.specs.declared.option.Option.{Option}
 use Rattle.std.proofs.lemmas.List.{length-map}
 use Rattle.sq_rules.specs.Configurations.{Configuration, is_leaf}
 use Rattle.sq_rules.specs.Facts.{acl_fact, facts_of}
-use Rattle.sq_rules.specs.Leaves.{holds}
-use Rattle.sq_rules.specs.Verdicts.{Value, Hit, Miss, value_if, body_value, acl_value, member_value, turned, term_value, both, rule_value, decided, rules_from, default_of, verdict}
+use Rattle.sq_rules.specs.Verdicts.{Value, Hit, value_if, acl_value, member_value, turned, term_value, both, decided, rules_from, default_of, verdict}
 use Rattle.sq_rules.specs.declared.configs.Acl.{Acl}
 use Rattle.sq_rules.specs.declared.configs.Body.{Body}
 use Rattle.sq_rules.specs.declared.configs.Body.TheVariants as body

@@ -3,7 +3,6 @@ pub mod CheckLaws
 pub mod Defaults
 pub mod DirectRuns
 pub mod EndLaws
-pub mod EscapeLaws
 pub mod HalfwayLaws
 pub mod JudgingLaws
 pub mod MachineLaws

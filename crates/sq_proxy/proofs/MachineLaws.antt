@@ -1,5 +1,5 @@
 -- From what the machine's calls leave to what they mean.
-use Rattle.std.proofs.Common.{◌≡◌, ℕ, ◌+◌, ◌-◌, ◌<◌, ◌≤◌, ◌∷◌, List, length, Bool, true, false, cond, if◌then◌else◌, ◌==◌, nat_le, max, Some, None, is_some, suc, refl, sym, ap, ◌∙◌, arith}
+use Rattle.std.proofs.Common.{◌≡◌, ℕ, ◌+◌, ◌-◌, ◌<◌, ◌≤◌, List, length, Bool, true, false, cond, if◌then◌else◌, ◌==◌, nat_le, max, Some, None, is_some, suc, refl, sym, ap, ◌∙◌, arith}
 use Rattle.std.proofs.lemmas.Bool.Decides.{nat_tests}
 use Rattle.std.proofs.lemmas.Option.{none-some, same_Some}
 use Rattle.std.specs.Option.{option_map}
@@ -8,26 +8,24 @@ use Rattle.std.specs.declared.option.Option.{Option}
 use Rattle.sq_base.specs.Addresses.{Address}
 use Rattle.sq_base.specs.declared.requests.Field.{Field}
 use Rattle.sq_rules.specs.declared.entries.Event.TheVariants.{Open, Close, Ask, Step, Take}
-use Rattle.sq_rules.specs.declared.entries.Told.{Told}
 use Rattle.sq_rules.specs.declared.entries.Told.TheVariants as told
 use Rattle.sq_rules.specs.declared.outcomes.Outcome.{Outcome}
 use Rattle.sq_rules.specs.declared.refusals.Refusal.TheVariants as refusal
 use Rattle.sq_rules.specs.declared.sights.Peer.{Peer}
-use Rattle.sq_rules.specs.declared.sights.Sight.{Sight}
 use Rattle.sq_rules.specs.Configurations.{Configuration}
 use Rattle.sq_rules.specs.Entries.{History}
-use Rattle.sq_rules.specs.Limits.{conn_limit, last_number}
-use Rattle.sq_rules.specs.Machine.{Legal, outcome_of, epoch_of, config_of, judged_by}
-use Rattle.sq_rules.specs.Readings.{Asked, peer_at, peer_or_nobody, open_count, conns_of, is_address, ask_count, ask_of, conn_of, open_check, check_open, is_number, is_done, sight_of, offset_of, latest}
+use Rattle.sq_rules.specs.Limits.{last_number}
+use Rattle.sq_rules.specs.Machine.{outcome_of, epoch_of, judged_by}
+use Rattle.sq_rules.specs.Readings.{Asked, peer_at, peer_or_nobody, open_count, conns_of, is_address, ask_count, ask_of, conn_of, open_check, check_open, is_number, is_done, sight_of}
 use Rattle.sq_rules.specs.Sights.{request_of, minute_of_week}
 use Rattle.sq_rules.specs.Verdicts.{verdict}
 use Rattle.sq_rules.proofs.ReadingLaws.{asked-epoch}
 use Rattle.sq_proxy.specs.Counts.{tally}
 use Rattle.sq_proxy.specs.Judging.{shown}
-use Rattle.sq_proxy.specs.Machines.{View, HeldCheck, StandsFor, IsMade, IsRefused, held, held_check, number_or_none, entry_at, seen}
+use Rattle.sq_proxy.specs.Machines.{View, HeldCheck, StandsFor, IsMade, IsRefused, held, held_check, number_or_none, seen}
 use Rattle.sq_proxy.specs.Tables.{value_at}
 use Rattle.sq_proxy.specs.declared.machine.Row.{Row}
-use Rattle.sq_proxy.proofs.CheckLaws.{IsOpenOn, open-check-on, close-held, take-held, step-held, ask-held, asked_now, finished}
+use Rattle.sq_proxy.proofs.CheckLaws.{open-check-on, close-held, take-held, step-held, ask-held, asked_now, finished}
 use Rattle.sq_proxy.proofs.TableLaws.{same-key}
 
 -- what `open` leaves

@@ -15,14 +15,14 @@ use Rattle.sq_rules.specs.declared.refusals.Refusal.{Refusal}
 use Rattle.sq_rules.specs.declared.refusals.Refusal.TheVariants as refusal
 use Rattle.sq_rules.specs.Configurations.{Configuration}
 use Rattle.sq_rules.specs.Entries.{History}
-use Rattle.sq_rules.specs.Machine.{Legal, gives, refuses, next, is_begin, has_target}
+use Rattle.sq_rules.specs.Machine.{Legal, gives, next, is_begin, has_target}
 use Rattle.sq_rules.specs.Readings.{latest}
 use Rattle.sq_rules.specs.Sights.{request_of}
 use Rattle.sq_rules.specs.Sights as sights
 use Rattle.sq_proxy.specs.declared.ends.Status.TheVariants as ends
-use Rattle.sq_proxy.specs.Machines.{View, StandsFor, IsMade, IsRefused, IsCall, entry_at}
+use Rattle.sq_proxy.specs.Machines.{View, IsMade, IsRefused, IsCall, entry_at}
 use Rattle.sq_proxy.specs.Making.{Stands, Steps, IsMaking, named}
-use Rattle.sq_proxy.specs.RunText.{answered, asked_next, event_step, is_request}
+use Rattle.sq_proxy.specs.RunText.{answered, asked_next, event_step}
 
 -- a legal history stays so with the machine's next answer at a moment that is not earlier
 pub legal-more : (configs : List Configuration) (h : History) (moment : ℕ) (event : Event) (t : Told) → Legal configs h → is_begin event ≡ false → has_target event ≡ true

@@ -1,9 +1,9 @@
 -- What a page holds of a text, and what was written of it.
-use Rattle.std.proofs.Common.{◌≡◌, ℕ, ◌<◌, List, [], ◌∷◌, ◌++◌, length, refl, sym, ap, ◌∙◌, append-nil, append_assoc, subst}
+use Rattle.std.proofs.Common.{◌≡◌, ℕ, List, [], ◌++◌, sym, ap, ◌∙◌, append-nil, append_assoc, subst}
 use Rattle.std.proofs.KnownBytes.{Appends-trans}
 use Rattle.std.specs.Io.KnownBytes.{Appends}
 use Rattle.std.specs.declared.option.Option.{Option}
-use Rattle.sq_outside.specs.Output.{Grew, IsPrefix, IsProperPrefix}
+use Rattle.sq_outside.specs.Output.{Grew, IsProperPrefix}
 use Rattle.sq_outside.proofs.Writing.{IsPrefix-after, IsProperPrefix-after}
 use Rattle.sq_proxy.specs.Outputs.{Wrote, WroteFront, WrotePart, HoldsFront}
 

@@ -1,10 +1,8 @@
 -- A run under way: each step adds to the text, and what is left runs to the whole.
-use Rattle.std.proofs.Common.{◌≡◌, ℕ, ◌+◌, ◌<◌, List, [], ◌∷◌, ◌++◌, append_assoc, length-append, arith, length, Bool, true, false, if◌then◌else◌, Ok, Err, Result, Some, None, IfSome, is_some, max, refl, sym, ap, ◌∙◌, subst}
-use Rattle.std.proofs.lemmas.Option.{none-some, same_Some}
+use Rattle.std.proofs.Common.{◌≡◌, ℕ, ◌+◌, List, [], ◌∷◌, ◌++◌, append_assoc, length-append, arith, length, Bool, true, false, if◌then◌else◌, Ok, Err, Result, Some, None, IfSome, is_some, max, refl, sym, ap, ◌∙◌, subst}
 use Rattle.std.specs.declared.option.Option.{Option}
-use Rattle.sq_base.specs.declared.requests.Field.{Field}
-use Rattle.sq_outside.specs.Output.{Grew, IsPrefix, IsProperPrefix}
-use Rattle.sq_outside.specs.SourceLines.{Line, lines, is_readable, IsLine, IsFaulty, Finds, Moves}
+use Rattle.sq_outside.specs.Output.{IsPrefix, IsProperPrefix}
+use Rattle.sq_outside.specs.SourceLines.{Line, lines, is_readable, IsLine, IsFaulty, Finds}
 use Rattle.sq_outside.specs.declared.lines.Found.TheVariants as found
 use Rattle.sq_outside.proofs.Writing.{IsPrefix-refl, IsPrefix-front, IsPrefix-trans, Grew-map}
 use Rattle.sq_request.specs.Written.{made_request}
@@ -15,13 +13,12 @@ use Rattle.sq_rules.specs.Entries.{History}
 use Rattle.sq_rules.specs.Machine.{Next, gives, refuses, nothing, next}
 use Rattle.sq_rules.specs.Readings.{latest}
 use Rattle.sq_journal.specs.EntryText.{entry_line, written}
-use Rattle.sq_proxy.specs.declared.ends.Part.{Part}
 use Rattle.sq_proxy.specs.declared.ends.Status.{Status}
 use Rattle.sq_proxy.specs.declared.ends.Status.TheVariants as ends
 use Rattle.sq_proxy.specs.Machines.{View, entry_at}
-use Rattle.sq_proxy.specs.Outputs.{Wrote, WroteFront, WrotePart, Reaches}
-use Rattle.sq_proxy.specs.Runs.{At, Going, Same, Stops, Goes, RunsOver, IsStepEnd, step_text}
-use Rattle.sq_proxy.specs.RunText.{Ran, answered, asked_next, event_step, goes_on, is_request, line_step, run_lines, stated, stated_step}
+use Rattle.sq_proxy.specs.Outputs.{WroteFront, WrotePart, Reaches}
+use Rattle.sq_proxy.specs.Runs.{At, Going, Same, Stops, RunsOver, IsStepEnd, step_text}
+use Rattle.sq_proxy.specs.RunText.{Ran, answered, asked_next, event_step, goes_on, line_step, run_lines, stated, stated_step}
 
 answered-grows : (h : History) (number moment : ℕ) (event : Event) (n : Next) → IsPrefix (written h) (step_text h (answered h number moment event n))
 answered-grows h number moment event (gives t) = IsPrefix-front (written h) (entry_line (entry_at moment event t))

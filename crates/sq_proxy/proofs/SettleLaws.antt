@@ -1,16 +1,15 @@
 -- The end of a command: what its page held is written.
-use Rattle.std.proofs.Common.{◌≡◌, ◌⊎◌, inl, inr, ℕ, List, [], ◌++◌, Bool, true, false, Some, None, IfSome, IsSome, refl, sym, ap, ◌∙◌, subst, append-nil}
+use Rattle.std.proofs.Common.{◌≡◌, inl, inr, ℕ, List, [], ◌++◌, true, false, Some, None, IfSome, IsSome, refl, sym, ap, ◌∙◌, subst, append-nil}
 use Rattle.std.proofs.KnownBytes.{Appends-nil}
 use Rattle.std.specs.Io.KnownBytes.{Appends}
 use Rattle.std.specs.declared.option.Option.{Option}
 use Rattle.sq_outside.specs.Output.{Grew, IsPrefix}
-use Rattle.sq_outside.specs.SourceLines.{lines}
 use Rattle.sq_outside.specs.Told.{Texts, GivesText}
 use Rattle.sq_outside.proofs.Writing.{IsPrefix-trans, IsProperPrefix-front, Grew-map}
 use Rattle.sq_journal.specs.EntryText.{written}
 use Rattle.sq_proxy.specs.declared.ends.Status.{Status}
 use Rattle.sq_proxy.specs.declared.ends.Status.TheVariants as ends
-use Rattle.sq_proxy.specs.Commands.{Output, ran_output, script_stage, staged}
+use Rattle.sq_proxy.specs.Commands.{ran_output, script_stage, staged}
 use Rattle.sq_proxy.specs.Outputs.{Wrote, WroteFront, WrotePart, Reaches, Delivers, IsSettled, is_write_fault, failed_end}
 use Rattle.sq_proxy.specs.Runs.{RunsOver}
 use Rattle.sq_proxy.specs.RunText.{Ran}

@@ -1,15 +1,12 @@
 -- The files of a command, read and judged.
-use Rattle.std.proofs.Common.{◌≡◌, ℕ, ◌<◌, List, length, true, nat_lt, if◌then◌else◌, Ok, Err, Some, None, IfSome, inl, refl, ap, ◌∙◌, sym, subst, arith}
+use Rattle.std.proofs.Common.{◌≡◌, ℕ, ◌<◌, List, length, true, nat_lt, Err, Some, None, IfSome, inl, refl, ap, ◌∙◌, arith}
 use Rattle.std.proofs.lemmas.Bool.Decides.{nat_tests}
-use Rattle.std.specs.declared.option.Option.{Option}
 use Rattle.sq_outside.specs.Input.{ReadsFile}
 use Rattle.sq_outside.specs.Told.{Texts}
 use Rattle.sq_rules.specs.ConfText.{conf_result}
 use Rattle.sq_rules.specs.Configurations.{Configuration}
 use Rattle.sq_rules.specs.Limits.{text_limit}
-use Rattle.sq_rules.specs.declared.kinds.ConfError.{ConfError}
 use Rattle.sq_rules.specs.declared.kinds.Kind.TheVariants as kind
-use Rattle.sq_proxy.specs.declared.ends.Status.{Status}
 use Rattle.sq_proxy.specs.declared.ends.Status.TheVariants as ends
 use Rattle.sq_proxy.specs.Commands.{conf_read, conf_stage}
 use Rattle.sq_proxy.specs.Ends.{Comes}

@@ -1,4 +1,4 @@
--- How a command ends: its last line, its exit status, and the bytes that it wrote.
+-- How a command ends: its last line and its exit status, the causes of faults, and the ends that a command and each part of it may have.
 use Rattle.std.specs.Prelude.{◌≡◌, ◌⊎◌, ℕ, ◌≤◌, List, [], ◌∷◌, ◌++◌, codes, decimal, Result}
 use Rattle.std.specs.declared.result.Result.TheVariants as result
 use Rattle.sq_base.specs.Escapes.{text_word}
@@ -72,21 +72,10 @@ pub record HasCauses (files_before files_now out_before out_now : ℕ) (status :
   pub read : status ≡ ReadFault → Rose files_before files_now
   pub write : status ≡ WriteFault → Rose out_before out_now
 
--- a run of a script ends by these alone
-abbrev pub IsPlayEnd : Status → Type 0
-IsPlayEnd Ok = Unit {0}
-IsPlayEnd (Script line) = Unit {0}
-IsPlayEnd ReadFault = Unit {0}
-IsPlayEnd (Unbuilt p) = Unit {0}
-IsPlayEnd WriteFault = Unit {0}
-IsPlayEnd WantOfMemory = Unit {0}
-IsPlayEnd status = ⊥
-
--- a file that cannot be had ends a command by these alone, and misses only this name
+-- a configuration that cannot be had of its file ends a command by these alone, and misses only this name
 abbrev pub IsOpenEnd : Texts → List ℕ → Status → Type 0
 IsOpenEnd texts name ReadFault = Unit {0}
 IsOpenEnd texts name WantOfMemory = Unit {0}
-IsOpenEnd texts name (Unbuilt p) = Unit {0}
 IsOpenEnd texts name (Config line kind) = Unit {0}
 IsOpenEnd texts name (Missing other) = (other ≡ name) × IsNotTold texts name
 IsOpenEnd texts name status = ⊥

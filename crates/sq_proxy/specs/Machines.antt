@@ -1,5 +1,5 @@
 -- The machine as contracts see it, and what it means that it stands for a history.
-use Rattle.std.specs.Prelude.{◌≡◌, ℕ, ℤ, List, ◌∷◌, length, Bool, true, false, if◌then◌else◌, Some, None, Result, Ok, Err, max}
+use Rattle.std.specs.Prelude.{◌≡◌, ℕ, ℤ, List, ◌∷◌, length, Bool, if◌then◌else◌, Some, None, Result, Ok, Err, max}
 use Rattle.std.specs.Option.{option_map}
 use Rattle.std.specs.declared.option.Option.{Option}
 use Rattle.sq_base.specs.Addresses.{Address}

@@ -40,11 +40,12 @@ Delivers base contents output ends.WantOfMemory = Grew base contents (λ part. I
 Delivers base contents output ends.WriteFault = WrotePart base contents output.text
 Delivers base contents output end = (end ≡ output.end) × Appends base contents output.text
 
--- a text, and then the last line, or a part of it where the sink's count rose
+-- a text, and then the last line, or a front of it where the sink's count rose between the two numbers
 abbrev pub EndsWith : List ℕ → ℕ → ℕ → Status → List ℕ → Type 0
 EndsWith text before now end bytes = (part : List ℕ) × (bytes ≡ text ++ part) × IsWritten before now (last_line end) part
 
--- the bytes that a command which ends so wrote; the two numbers are the sink's count before and after
+-- the bytes that a command which ends so wrote; the two numbers are the sink's count before and after the whole call, so
+-- a last line may be cut short where the count rose at an earlier write
 abbrev pub IsOutput : Output → ℕ → ℕ → Status → List ℕ → Type 0
 IsOutput output before now ends.Ok bytes = bytes ≡ output.text
 IsOutput output before now ends.WriteFault bytes = IsProperPrefix bytes output.text
@@ -66,7 +67,7 @@ abbrev pub is_write_fault : Status → Bool
 is_write_fault ends.WriteFault = true
 is_write_fault end = false
 
--- how a run ends whose last page could not be written: a fault that came before stays
+-- how a run ends whose last page could not be written: a read fault and want of memory stay, and any other end becomes a write fault
 abbrev pub failed_end : Status → Status
 failed_end ends.ReadFault = ends.ReadFault
 failed_end ends.WantOfMemory = ends.WantOfMemory

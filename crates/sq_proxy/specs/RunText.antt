@@ -2,14 +2,14 @@
 use Rattle.std.specs.Prelude.{ℕ, ◌+◌, ℤ, List, [], ◌∷◌, length, Result, Ok, Err, Some, None, is_some, max, pos, if◌then◌else◌}
 use Rattle.std.specs.declared.option.Option.{Option}
 use Rattle.sq_base.specs.declared.requests.Field.{Field}
-use Rattle.sq_outside.specs.SourceLines.{Line, is_readable, lines}
+use Rattle.sq_outside.specs.SourceLines.{Line, is_readable}
 use Rattle.sq_request.specs.Written.{made_request}
 use Rattle.sq_rules.specs.declared.entries.Event.{Event}
-use Rattle.sq_rules.specs.declared.entries.Event.TheVariants.{Begin, Open, Close, Ask, Step, Take, Started, StartFail, Line as HelperLine, Died, Act, Reconfigure, Seat, Grant, Leave}
+use Rattle.sq_rules.specs.declared.entries.Event.TheVariants.{Begin, Open, Close, Ask, Step, Take, Act}
 use Rattle.sq_rules.specs.declared.entries.Told.TheVariants as told
 use Rattle.sq_rules.specs.Configurations.{Configuration}
 use Rattle.sq_rules.specs.Entries.{History}
-use Rattle.sq_rules.specs.Machine.{Next, gives, refuses, nothing, next}
+use Rattle.sq_rules.specs.Machine.{Next, gives, next}
 use Rattle.sq_rules.specs.Readings.{latest}
 use Rattle.sq_journal.specs.Lines.{words_of}
 use Rattle.sq_journal.specs.Reading.{dated_of}
@@ -31,11 +31,10 @@ stopped end = record { history = []; end = end }
 abbrev pub stated : List ℕ → Option (ℕ × Event)
 stated bytes = dated_of (words_of bytes)
 
--- an answer is an entry, and a refusal ends the run at its line; so does an event that is not built yet
+-- an answer is an entry, and without one the run ends at this line
 abbrev pub answered : History → ℕ → ℕ → Event → Next → Result History Status
 answered h number moment event (gives t) = Ok (entry_at moment event t ∷ h)
-answered h number moment event (refuses r) = Err (ends.Script number)
-answered h number moment event nothing = Err (ends.Unbuilt part.Script)
+answered h number moment event n = Err (ends.Script number)
 
 -- the event of line `number`, at the greatest moment so far
 abbrev pub asked_next : List Configuration → History → ℕ → ℕ → Event → Result History Status
@@ -45,13 +44,18 @@ asked_next configs h number now event = answered h number (max now (latest h)) e
 abbrev pub is_request : List ℕ → List ℕ → List Field → Result History Status → ℕ → Result History Status
 is_request method target fields step number = if is_some (made_request method target 1 fields) then step else Err (ends.Script number)
 
--- the event of a line of the script, behind the first: `begin` may stand in the first alone, and `act` in none
+-- the event of a line of the script, behind the first: `begin` may stand in the first alone, and `act` in none; the machine is asked
+-- for the events of connections and checks, and the other events are not built yet and end the run
 abbrev pub event_step : List Configuration → History → ℕ → ℕ → Event → Result History Status
 event_step configs h number now (Begin offset) = Err (ends.Script number)
 event_step configs h number now Act = Err (ends.Script number)
+event_step configs h number now (Open conn addr port) = asked_next configs h number now (Open conn addr port)
+event_step configs h number now (Close conn) = asked_next configs h number now (Close conn)
 event_step configs h number now (Ask conn method target fields) =
     is_request method target fields (asked_next configs h number now (Ask conn method target fields)) number
-event_step configs h number now event = asked_next configs h number now event
+event_step configs h number now (Step check) = asked_next configs h number now (Step check)
+event_step configs h number now (Take check) = asked_next configs h number now (Take check)
+event_step configs h number now event = Err (ends.Unbuilt part.Script)
 
 abbrev pub stated_step : List Configuration → History → ℕ → Option (ℕ × Event) → Result History Status
 stated_step configs h number None = Err (ends.Script number)

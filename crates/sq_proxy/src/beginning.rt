@@ -32,7 +32,7 @@ pub enum First {
     Begin { offset: Offset },
     /// An act, which no line of a script states.
     Act,
-    /// An event that the machine makes, or refuses.
+    /// Any other event, which a machine that began at its moment is asked to make.
     Other,
 }
 

@@ -14,13 +14,13 @@ pub enum Part {
 /// How a command ends. Each has an exit status and, but for three, a last line.
 #[derive(Drop, Debug)]
 pub enum Status {
-    /// The input was read to its end.
+    /// The files were read to their end, and what the command comes to was written.
     Ok,
     /// The words are no command that is built.
     Usage,
     /// The configuration is faulty at this line, from 1, or as a whole, at line 0.
     Config { line: u32, kind: Kind },
-    /// The event of this line of the script was refused.
+    /// This line of the script, from 1, is outside the grammar or over a limit, or its event was refused.
     Script(u64),
     /// A file could not be read.
     ReadFault,
@@ -30,7 +30,7 @@ pub enum Status {
     Missing(Text),
     /// There was no memory.
     WantOfMemory,
-    /// A file is outside the form that is built.
+    /// Rules name a list that is not built, or a line of the script has an event that is not.
     Unbuilt(Part),
 }
 

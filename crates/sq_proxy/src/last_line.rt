@@ -7,9 +7,9 @@ ghost use Rattle.sq_outside.specs.Output.{Grew, IsPrefix, IsWritten};
 ghost use Rattle.sq_proxy.specs.Ends.{config_line, last_line, part_word};
 
 use crate::ends::{Part, Status};
-use crate::escapes::ESCAPES;
 use itoa::Buffer;
 use percent_encoding::percent_encode;
+use sq_journal::ESCAPES;
 use sq_outside::{Failed, Sink, write_all, write_line};
 
 /// What a command answers to words that are none.

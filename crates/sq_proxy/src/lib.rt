@@ -9,7 +9,6 @@ mod beginning;
 mod command;
 mod counts;
 mod ends;
-mod escapes;
 mod events;
 mod judging;
 mod last_line;

@@ -16,7 +16,8 @@ pub enum Untold {
     WantOfMemory,
 }
 
-/// Writes what a page holds. Where that fails, nothing of the page is kept.
+/// Writes what a page holds, and empties it. Where that fails, the page stays, and it is not known which
+/// front of it was written.
 pub fn write_page<O: Sink>(page: &mut Vec<u8>, out: &mut O) -> Result<(), Failed>
     ensures ok { OnOk result ((base : Option (List ℕ)) (text : List ℕ) → Wrote base (O.contents out.old) page.old.items text → Wrote base (O.contents out.new) page.new.items text) }
     ensures empty { OnOk result (page.new.items ≡ []) }

@@ -34,7 +34,8 @@ fn is_write_fault(end: &Status) -> bool
     }
 }
 
-// How a run ends whose last page could not be written: a fault that came before stays.
+// How a run ends whose last page could not be written: a read fault and want of memory stay, and any
+// other end becomes a write fault.
 fn failed_end(end: Status) -> Status
     ensures { result ≡ failed_end end }
 {

@@ -1,4 +1,4 @@
-use Rattle.std.proofs.Common.{ℕ, Some, sym, ap, List}
+use Rattle.std.proofs.Common.{sym, ap}
 use Rattle.sq_outside.specs.SourceLines.{lines}
 use Rattle.sq_proxy.specs.RunText.{run_stated}
 use Rattle.sq_proxy.proofs.BeginLaws.{over-same}

@@ -1,6 +1,5 @@
-use Rattle.std.proofs.Common.{refl, subst, sym, ap, ◌∙◌, ◌≡◌, Some}
+use Rattle.std.proofs.Common.{refl, subst, sym, ◌≡◌, Some}
 use Rattle.sq_request.specs.Written.{made_request}
-use Rattle.sq_rules.specs.declared.entries.Event.TheVariants.{Ask}
 use Rattle.sq_proxy.specs.Making.{IsMaking}
 use Rattle.sq_proxy.proofs.MakingLaws.{call-making, ask-asks, made-of}
 use Rattle.sq_proxy.proofs.events.ask.Goals as goal

@@ -3,7 +3,7 @@ use Rattle.std.specs.Io.KnownBytes.{Appends}
 use Rattle.percent_encoding.specs.Iter.{encoded_text}
 use Rattle.sq_base.specs.Escapes.{escaped}
 use Rattle.sq_outside.specs.Output.{Grew, IsPrefix}
-use Rattle.sq_proxy.proofs.EscapeLaws.{encodes}
+use Rattle.sq_journal.proofs.EscapeLaws.{encodes}
 use Rattle.sq_proxy.proofs.HalfwayLaws.{halfway-more, halfway-done, halfway-part}
 use Rattle.sq_proxy.proofs.last_line.write_escaped.Goals as goal
 

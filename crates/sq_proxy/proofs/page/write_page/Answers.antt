@@ -1,4 +1,4 @@
-use Rattle.std.proofs.Common.{subst, ℕ, List}
+use Rattle.std.proofs.Common.{subst}
 use Rattle.std.specs.Io.KnownBytes.{Appends}
 use Rattle.sq_outside.specs.Output.{Grew, IsProperPrefix}
 use Rattle.sq_proxy.proofs.PageLaws.{page-written, page-failed}

@@ -1,9 +1,8 @@
 use Rattle.std.proofs.Common.{subst, sym, ap, ◌∙◌, Ok, Err, ◌∷◌}
 use Rattle.sq_journal.specs.EntryText.{written}
 use Rattle.sq_proxy.specs.Machines.{entry_at}
-use Rattle.sq_proxy.specs.Outputs.{WrotePart, WroteFront}
+use Rattle.sq_proxy.specs.Outputs.{WrotePart}
 use Rattle.sq_proxy.specs.Runs.{step_text}
-use Rattle.sq_proxy.specs.RunText.{event_step}
 use Rattle.sq_proxy.proofs.RunLaws.{event-grows}
 use Rattle.sq_proxy.proofs.replay.run_event.Goals as goal
 

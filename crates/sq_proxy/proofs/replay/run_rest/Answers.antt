@@ -1,4 +1,4 @@
-use Rattle.std.proofs.Common.{◌≡◌, ◌+◌, ℕ, arith, subst, sym, ap, ◌∙◌}
+use Rattle.std.proofs.Common.{arith, subst, sym, ap, ◌∙◌}
 use Rattle.std.specs.Io.KnownBytes.{prepend_known}
 use Rattle.sq_outside.specs.SourceLines.{Finds, Moves}
 use Rattle.sq_proxy.specs.Runs.{Stops}

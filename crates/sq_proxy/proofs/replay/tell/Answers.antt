@@ -1,6 +1,6 @@
-use Rattle.std.proofs.Common.{subst, ◌∙◌, ◌++◌, [], ◌∷◌, ℕ, List, Option, OnOk, IsErrOf}
+use Rattle.std.proofs.Common.{subst, ◌∙◌, ◌++◌, [], ◌∷◌, ℕ, List, Option, IsErrOf}
 use Rattle.sq_proxy.specs.declared.page.Untold.TheVariants as untold
-use Rattle.sq_proxy.specs.Outputs.{Wrote, WrotePart, WroteFront}
+use Rattle.sq_proxy.specs.Outputs.{Wrote, WrotePart}
 use Rattle.sq_proxy.proofs.replay.tell.Goals as goal
 
 pub returns-in-Ok-clause-failed : goal.returns-in-Ok-clause-failed

@@ -1,4 +1,4 @@
-use Rattle.std.proofs.Common.{inl, ap, refl, rules}
+use Rattle.std.proofs.Common.{inl, ap, rules}
 use Rattle.sq_proxy.specs.Commands.{conf_read}
 use Rattle.sq_proxy.proofs.stages.judge_text.Goals as goal
 

@@ -1,4 +1,3 @@
-use Rattle.std.proofs.Common.{ℕ, List}
 use Rattle.sq_outside.specs.SourceLines.{lines}
 use Rattle.sq_proxy.specs.RunText.{run_script}
 use Rattle.sq_proxy.proofs.SettleLaws.{nothing-yet, play-over}
