@@ -1,2 +1,3 @@
 mod DayLaws
 mod NumberLaws
+mod TokenLaws

@@ -1,9 +1,10 @@
 //! `ClassDraft`: a class of helpers as far as its line states it.
-ghost use Rattle.std.specs.Prelude.{◌≡◌, ◌+◌, ◌≤◌, not, length, IfOk};
+ghost use Rattle.std.specs.Prelude.{◌≡◌, ◌≤◌, true, not, length, IfOk};
 ghost use Rattle.std.specs.List.{list_any};
 ghost use Rattle.sq_conf.specs.Forms.{Gives, Makes};
-ghost use Rattle.sq_rules.specs.ClassLines.{class_of, class_step, default_class, is_arguments, option_step, token_step, up_to, with_arguments, with_option};
-ghost use Rattle.sq_rules.specs.Limits.{name_limit};
+ghost use Rattle.sq_rules.specs.ClassLines.{class_of, class_step, default_class, option_step, token_step, up_to, with_arguments, with_option};
+ghost use Rattle.sq_rules.specs.Classes.{has_few_tokens, is_arguments};
+ghost use Rattle.sq_rules.specs.Limits.{name_limit, token_limit};
 ghost use Rattle.sq_rules.specs.Steps.{is_empty, over};
 
 use crate::class_options::{is_option, option_of};
@@ -216,7 +217,7 @@ fn has_arguments(format: &[Token]) -> bool
 // `%DATA` stands in each format.
 fn with_arguments(mut format: Tokens) -> Result<Tokens, WantOfMemory>
     ensures read { IfOk result (λ f. f ≡ with_arguments format) }
-    ensures bound { IfOk result (λ f. length f ≤ length format + 1) }
+    ensures few { IfOk result (λ f. length format ≤ token_limit → has_few_tokens f ≡ true) }
 {
     if !has_arguments(format.as_slice()) {
         format.push(Token::Arguments)?;

@@ -3,7 +3,8 @@ ghost use Rattle.std.specs.Prelude.{◌≡◌, ◌==◌, ◌||◌, Some, None, b
 ghost use Rattle.std.specs.List.{starts_with};
 ghost use Rattle.sq_base.specs.Lines.{but_last, ends_in};
 ghost use Rattle.sq_conf.specs.Forms.{Gives};
-ghost use Rattle.sq_rules.specs.ClassLines.{field_name, is_field, field_token, token_of, is_arguments};
+ghost use Rattle.sq_rules.specs.ClassLines.{field_name, is_field, field_token, token_of};
+ghost use Rattle.sq_rules.specs.Classes.{is_arguments};
 
 use crate::faults::ReadFault;
 use crate::leaf_values::is_token;

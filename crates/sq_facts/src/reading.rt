@@ -12,8 +12,9 @@ use sq_rules::{Facts, Sight};
 use sq_urlmatch::Setup;
 use std::alloc::Global;
 
-/// Whether each leaf acl holds of what a check sees. It takes memory once for the facts and once for a
-/// target with escapes where some acl has patterns. What the patterns learn of the target is kept.
+/// Whether each leaf acl holds of what a check sees, or want of memory. It takes memory for the facts, for
+/// a target with escapes where some acl has patterns, and for what patterns learn of the target, which
+/// the setup keeps.
 pub fn read_facts(alloc: Global, setup: &mut Setup, sight: &Sight) -> Result<Facts, WantOfMemory>
     ensures facts { IfOk result (λ f. f ≡ facts_of setup.old.acls sight.now) }
     ensures same { setup.new ≡ setup.old }

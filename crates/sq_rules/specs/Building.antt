@@ -1,6 +1,6 @@
 -- The configuration that parts state, or their first fault: the parts in their order, and in each its
--- names from left to right (configuration reference, `acl`, `http_access`, `external_acl_type`,
--- `delay_access`).
+-- names from left to right; that an acl nests too deep comes after the names in it (configuration
+-- reference, `acl`, `http_access`, `external_acl_type`, `delay_access`).
 use Rattle.std.specs.Prelude.{◌≡◌, ◌≢◌, ℕ, ◌≤◌, List, [], ◌∷◌, ◌++◌, length, suc, false, if◌then◌else◌, nat_le, Some, None, Ok, Err, MatchResult, slice_index_or}
 use Rattle.std.specs.declared.option.Option.{Option}
 use Rattle.std.specs.declared.result.Result.{Result}

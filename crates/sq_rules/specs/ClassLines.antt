@@ -7,7 +7,7 @@ use Rattle.std.specs.declared.result.Result.{Result}
 use Rattle.sq_base.specs.Lines.{but_last, ends_in}
 use Rattle.sq_rules.specs.AclValues.{is_token}
 use Rattle.sq_rules.specs.Building.{class_place}
-use Rattle.sq_rules.specs.Classes.{HelperClass}
+use Rattle.sq_rules.specs.Classes.{HelperClass, is_arguments}
 use Rattle.sq_rules.specs.ConfNumbers.{number_in}
 use Rattle.sq_rules.specs.Drafts.{Drafts}
 use Rattle.sq_rules.specs.Limits.{class_limit, name_limit, token_limit}
@@ -147,10 +147,6 @@ class_step s w =
     else (if begins 37 w then token_step s w
     else (if is_empty s.format && is_option w then option_step s w
     else Ok (with_word s w)))
-
-abbrev pub is_arguments : Token → Bool
-is_arguments token.Arguments = true
-is_arguments t = false
 
 -- `%DATA` stands in each format
 abbrev pub with_arguments : List Token → List Token

@@ -1,7 +1,8 @@
 -- Classes of helpers (configuration reference, `external_acl_type`).
-use Rattle.std.specs.Prelude.{ℕ, ◌+◌, ◌≤◌, List, length}
+use Rattle.std.specs.Prelude.{◌≡◌, ℕ, suc, ◌≤◌, List, [], ◌∷◌, length, Bool, true, false, not, ◌&&◌, ◌||◌, nat_le}
 use Rattle.sq_rules.specs.Limits.{name_limit, token_limit}
 use Rattle.sq_rules.specs.declared.classes.Token.{Token}
+use Rattle.sq_rules.specs.declared.classes.Token.TheVariants as token
 
 -- a class: its name, its options, the format of its keys, and the words of its program
 pub record HelperClass : Type 0 where
@@ -17,8 +18,22 @@ pub record HelperClass : Type 0 where
   pub format : List Token
   pub words : List (List ℕ)
 
--- each option lies in its range, the name is short, and the tokens are few; one more token may stand
--- behind them, which the reader adds for an acl's arguments
+-- the token of an acl's arguments
+abbrev pub is_arguments : Token → Bool
+is_arguments token.Arguments = true
+is_arguments t = false
+
+-- that token stands at the end alone, where it may have been added
+abbrev pub ends_in_arguments : List Token → Bool
+ends_in_arguments [] = false
+ends_in_arguments (t ∷ []) = is_arguments t
+ends_in_arguments (t ∷ u ∷ format) = not (is_arguments t) && ends_in_arguments (u ∷ format)
+
+-- the tokens that were written are few; one more may have been added
+abbrev pub has_few_tokens : List Token → Bool
+has_few_tokens format = nat_le (length format) token_limit || (nat_le (length format) (suc token_limit) && ends_in_arguments format)
+
+-- each option lies in its range, the name is short, and the tokens are few
 pub record IsClass (c : HelperClass) : Type 0 where
   pub short_name : length c.name ≤ name_limit
   pub ttl_is : c.ttl ≤ 2147483647
@@ -30,4 +45,4 @@ pub record IsClass (c : HelperClass) : Type 0 where
   pub startup_is : c.startup ≤ 1024
   pub concurrency_is : c.concurrency ≤ 1024
   pub queue_size_is : c.queue_size ≤ 1000000
-  pub few_tokens : length c.format ≤ token_limit + 1
+  pub few_tokens : has_few_tokens c.format ≡ true

@@ -93,7 +93,7 @@ greatest_of number (x ∷ xs) = max (number x) (greatest_of number xs)
 abbrev pub deepest : List ℕ → List Term → ℕ
 deepest before terms = greatest_of (λ t. slice_index_or before t.acl 0) terms
 
--- how deep an acl nests: a group once more than its deepest member
+-- how deep an acl nests: a group one more than its deepest member
 abbrev pub nesting_of : List ℕ → Body → ℕ
 nesting_of before (body.Leaf l) = 0
 nesting_of before (body.External class arguments) = 0

@@ -28,6 +28,6 @@ kind_number kind.TooDeep = 18
 kind_number kind.NotUtf8 = 19
 kind_number kind.BadTime = 20
 
--- a fault as it is printed: its line and its kind by their numbers
+-- a fault as it is displayed: its line and its kind by their numbers
 abbrev pub fault_text : ConfError → List ℕ
 fault_text e = codes "line " ++ (decimal e.line ++ (codes ", kind " ++ decimal (kind_number e.kind)))

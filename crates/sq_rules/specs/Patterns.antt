@@ -21,7 +21,7 @@ abbrev pub reads_well : Option (Nested Re × Names) → Bool
 reads_well None = false
 reads_well (Some r) = nat_le r.0.depth 250
 
--- a pattern is a text of characters that the grammar reads
+-- a pattern is UTF-8 that the grammar reads and that does not nest too deep
 unfoldable pub is_pattern : Find → Bool
 is_pattern f = is_utf8 f.pattern && reads_well (reading f)
 

@@ -48,7 +48,7 @@ pub struct Class {
     pub cache: u32,
     /// Greatest number of processes.
     pub children_max: u32,
-    /// Processes that are started when the epoch begins, at most `children_max`.
+    /// Processes to start when the epoch begins; no more than `children_max` are started.
     pub startup: u32,
     /// Channels of a process; 0 means no channel numbers, and one question at a time.
     pub concurrency: u32,

@@ -112,7 +112,8 @@ impl Config {
         }
     }
 
-    /// The configuration that the parts state, or their first fault in the order of the parts.
+    /// The configuration that the parts state, or their first fault in the order of the parts; last comes
+    /// want of memory. It asks that the numbers and lengths of the parts are within their limits.
     #[tactic(auto, unfolding(crate::specs::Building::built))]
     pub fn build(alloc: Global, parts: Parts) -> Result<Config, BuildFault>
         requires { AreWithin parts }

@@ -13,15 +13,17 @@ pub enum Kind {
     UnknownDirective,
     /// 3: the line ends where a word is needed.
     MissingWord,
-    /// 4: a number is not decimal digits, or out of its range.
+    /// 4: a number of an option, of delay pools or of `http_port`, or a pair of such, is not decimal digits
+    /// or out of its range.
     BadNumber,
     /// 5: the acl's type is none of the types.
     UnknownAclType,
     /// 6: the acl's name stands with another type.
     TypeClash,
-    /// 7: no acl of that name stands before.
+    /// 7: no acl of that name stands before, or none whose first line is before the group's.
     UndefinedAcl,
-    /// 8: a value is outside its form, or a word too many.
+    /// 8: a name, an action, a mode or a value is outside its form, a word is one too many, or a line stands
+    /// again that may stand once.
     BadValue,
     /// 9: no class of that name stands before.
     UndefinedClass,
@@ -33,7 +35,7 @@ pub enum Kind {
     UnknownToken,
     /// 13: a rule of a delay pool asks a helper or reaches an acl that does.
     SlowInFastList,
-    /// 14: the pattern of `url_regex` is none.
+    /// 14: the syntax does not read a pattern of `url_regex`, or it nests more than 250 deep.
     BadPattern,
     /// 15: the number of a delay pool is 0 or above that of `delay_pools`.
     PoolOutOfRange,

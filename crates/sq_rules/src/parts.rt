@@ -75,8 +75,8 @@ pub struct Parts {
 /// Why parts are no configuration.
 #[derive(Drop, Debug, PartialEq, Eq, Error)]
 pub enum BuildFault {
-    /// An earlier class or an earlier acl has this name.
-    #[error("{0}: an earlier class or acl has this name")]
+    /// A class has the name of an earlier class, or an acl that of an earlier acl.
+    #[error("{0}: an earlier class, or for an acl an earlier acl, has this name")]
     Duplicate(Text),
     /// No acl, or for a group no earlier acl, has this name.
     #[error("{0}: no acl has this name, or none before the group")]
@@ -90,8 +90,9 @@ pub enum BuildFault {
     /// The acl of this name nests more than 32 deep.
     #[error("{0}: this acl nests more than 32 deep")]
     TooDeep(Text),
-    /// The pool at this place, from 0, has no class from 1 to 3 or another number of limits.
-    #[error("the pool at place {0}, from 0, has no class from 1 to 3 or another number of limits")]
+    /// The pool at this place, from 0, has no class from 1 to 3, or not as many limits as its class has
+    /// buckets.
+    #[error("the pool at place {0}, from 0, has no class from 1 to 3, or not as many limits as that has buckets")]
     PoolIncomplete(u32),
     /// There was no memory.
     #[error("out of memory")]

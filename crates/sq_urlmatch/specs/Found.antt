@@ -1,4 +1,5 @@
--- Where trees and programs are found, by the patterns that they stand for.
+-- Where trees and programs are found, by the patterns that they stand for, and the patterns of acls
+-- (configuration reference, `acl`, type url_regex).
 use Rattle.std.specs.Prelude.{◌≡◌, ◌<◌, ℕ, suc, Bool, List, [], ◌∷◌, All, map, is_some, Some, None, if◌then◌else◌, slice_get}
 use Rattle.std.specs.declared.option.Option.{Option}
 use Rattle.regex_hir.specs.Find.{find}

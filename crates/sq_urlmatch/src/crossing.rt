@@ -1,4 +1,4 @@
-//! That a setup and its patterns may be handed to and shared with other threads.
+//! That a setup and its patterns may cross threads: be handed to another, or stand behind a lock.
 use crate::patterns::Patterns;
 use crate::setup::Setup;
 

@@ -18,7 +18,8 @@ pub struct Matcher {
 }
 
 impl Matcher {
-    /// The rows may take about this many bytes. Where a text needs more, they are emptied.
+    /// The rows may take about `room` bytes, and as much again where a pattern has a word boundary of
+    /// Unicode. Where a text needs more, they are emptied.
     pub fn new(alloc: Global, program: Program, room: usize) -> Result<Matcher, WantOfMemory>
         ensures { IfOk result (λ m. m.program ≡ program) }
     {

@@ -66,7 +66,7 @@ impl Patterns {
     }
 
     /// Whether some pattern of the acl at a place is found in a text; an acl of another type has none.
-    /// What the match learns is kept for the next.
+    /// What the match learns is kept for the next. It may want memory.
     pub fn is_match(
         &mut self,
         alloc: Global,

@@ -18,7 +18,7 @@ pub enum SetupFault {
     /// Of the acl at this place, the pattern at this place is none; both count from 0.
     #[error("of acl {0}, pattern {1} is none, both counted from 0")]
     BadPattern(u32, u32),
-    /// There was no memory, or a pattern takes more of it than a pattern may.
+    /// There was no memory, or a pattern takes over 10 MiB compiled.
     #[error("out of memory")]
     WantOfMemory,
 }
@@ -34,7 +34,8 @@ impl From<WantOfMemory> for SetupFault {
     }
 }
 
-/// A configuration that threads share, and its compiled patterns. A contract sees the configuration.
+/// A configuration, which threads may share, and its compiled patterns, which serve one match at a time.
+/// A contract sees the configuration.
 #[derive(Drop)]
 pub struct Setup {
     pub config: Arc<Config>,
@@ -55,7 +56,7 @@ impl Model for Setup {
 }
 
 impl Setup {
-    /// Compiles the patterns of a configuration, or names the first that is none.
+    /// Compiles the patterns of a configuration, or names the first that is none, or wants memory.
     pub fn make(alloc: Global, config: Config) -> Result<Setup, SetupFault>
         ensures ok { IfOk result (λ s. s ≡ config) }
         ensures good { IfOk result (λ _. fault_from 0 config.acls ≡ None) }
@@ -76,7 +77,7 @@ impl Setup {
     }
 
     /// Whether some pattern of the acl at a place is found in a text; an acl of another type has none.
-    /// What the match learns is kept for the next.
+    /// What the match learns is kept for the next. It may want memory.
     pub fn is_match(
         &mut self,
         alloc: Global,

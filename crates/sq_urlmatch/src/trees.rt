@@ -48,8 +48,8 @@ pub fn tree_of(alloc: Global, pattern: &[u8], fold: bool) -> Result<Parsed, Tree
     }
 }
 
-/// Whether a text is a pattern: the grammar reads it, and its parts don't nest too deep. It is not
-/// compiled.
+/// Whether a text is a pattern: it is UTF-8, the grammar reads it, and its parts nest at most 250 deep.
+/// `fold` is true where case is off. It is not compiled.
 pub fn is_pattern(alloc: Global, pattern: &[u8], fold: bool) -> Result<bool, WantOfMemory>
     ensures { IfOk result (λ b. b ≡ is_pattern (record { pattern = pattern.now; fold = fold })) }
 {
