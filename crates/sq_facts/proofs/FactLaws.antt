@@ -9,7 +9,6 @@ use Rattle.sq_rules.specs.Patterns.{some_found}
 use Rattle.sq_rules.specs.declared.configs.Acl.{Acl}
 use Rattle.sq_rules.specs.declared.configs.Body.{Body}
 use Rattle.sq_rules.specs.declared.configs.Body.TheVariants as body
-use Rattle.sq_rules.specs.declared.leaves.Leaf.{Leaf}
 use Rattle.sq_rules.specs.declared.leaves.Leaf.TheVariants as leaf
 use Rattle.sq_rules.specs.declared.sights.Sight.{Sight}
 use Rattle.sq_urlmatch.specs.Found.{finds_at, finds_in, finds_of}

@@ -1,5 +1,5 @@
 -- From matchers to the programs that they search for.
-use Rattle.std.proofs.Common.{◌≡◌, ℕ, ◌+◌, ◌<◌, suc, List, ◌∷◌, ◌||◌, Bool, true, false, drop, get_or, length, map, refl, sym, ap, ◌∙◌, subst, drop-cons, add-one}
+use Rattle.std.proofs.Common.{◌≡◌, ℕ, ◌+◌, ◌<◌, suc, List, ◌||◌, Bool, true, false, drop, get_or, length, sym, ap, ◌∙◌, subst, drop-cons, add-one}
 use Rattle.std.proofs.Math.ListN.{get_or-map}
 use Rattle.std.proofs.lemmas.List.{length-map}
 use Rattle.sq_urlmatch.specs.Matchers.{programs_in}

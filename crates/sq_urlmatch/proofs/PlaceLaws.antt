@@ -1,10 +1,8 @@
 -- From the patterns of all acls to those at a place.
-use Rattle.std.proofs.Common.{◌≡◌, ℕ, ◌<◌, zero, suc, List, [], ◌∷◌, All, map, refl, get_or, Fits, w8}
+use Rattle.std.proofs.Common.{◌≡◌, ℕ, ◌<◌, zero, suc, List, [], ◌∷◌, All, refl, get_or, Fits, w8}
 use Rattle.std.proofs.lemmas.List.Elements.{All-from_get_or}
-use Rattle.std.specs.List.{slice_get}
 use Rattle.sq_rules.specs.declared.configs.Acl.{Acl}
-use Rattle.sq_rules.specs.declared.leaves.Find.{Find}
-use Rattle.sq_urlmatch.specs.Found.{finds_at, finds_in, finds_of, finds_of_each}
+use Rattle.sq_urlmatch.specs.Found.{finds_at, finds_of_each}
 
 -- of the patterns of each acl those at a place are the patterns of the acl there
 pub finds_in_place : (acls : List Acl) (place : ℕ) → get_or (finds_of_each acls) place [] ≡ finds_at acls place

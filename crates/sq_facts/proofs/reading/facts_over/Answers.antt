@@ -1,4 +1,4 @@
-use Rattle.std.proofs.Common.{◌∙◌, ap, sym}
+use Rattle.std.proofs.Common.{◌∙◌, sym}
 use Rattle.sq_rules.specs.Facts.{facts_of}
 use Rattle.sq_facts.proofs.FactLaws.{take_more}
 use Rattle.sq_facts.proofs.reading.facts_over.Goals as goal
