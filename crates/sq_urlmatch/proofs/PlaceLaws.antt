@@ -1,6 +1,5 @@
 -- From the patterns of all acls to those at a place.
-use Rattle.std.proofs.Common.{◌≡◌, ℕ, ◌<◌, zero, suc, List, [], ◌∷◌, All, refl, get_or, Fits, w8}
-use Rattle.std.proofs.lemmas.List.Elements.{All-from_get_or}
+use Rattle.std.proofs.Common.{◌≡◌, ℕ, zero, suc, List, [], ◌∷◌, refl, get_or}
 use Rattle.sq_rules.specs.declared.configs.Acl.{Acl}
 use Rattle.sq_urlmatch.specs.Found.{finds_at, finds_of_each}
 
@@ -9,7 +8,3 @@ pub finds_in_place : (acls : List Acl) (place : ℕ) → get_or (finds_of_each a
 finds_in_place [] place = refl
 finds_in_place (a ∷ acls) zero = refl
 finds_in_place (a ∷ acls) (suc place) = finds_in_place acls place
-
--- bytes that a slice holds are below 256
-pub all_bytes : (text : List ℕ) → ((k : ℕ) → Fits w8 (get_or text k 0)) → All (λ b. b < 256) text
-all_bytes text fits = All-from_get_or (λ b. b < 256) text 0 (λ k within. (fits k).fits)
