@@ -1,1 +1,1 @@
-pub mod ReadLaws
+mod ReadLaws

@@ -10,9 +10,9 @@ use Rattle.std.specs.Net.Grammar.{IsDotted, IsColonHex}
 use Rattle.std.specs.Net.Reader.{read_ipv4, read_ipv6, whole_value}
 use Rattle.sq_base.specs.Addresses.{Address, v4, v6, IsAddress, number_on, Spells, v4_of, v6_of, either_of, address_of, four_octets, eight_groups, v4_text, v6_text, address_text}
 
-append-none : {A : Type 0} (xs : List A) → xs ++ [] ≡ xs
-append-none [] = refl
-append-none (x ∷ xs) = ap (λ t. x ∷ t) (append-none xs)
+append_none : {A : Type 0} (xs : List A) → xs ++ [] ≡ xs
+append_none [] = refl
+append_none (x ∷ xs) = ap (λ t. x ∷ t) (append_none xs)
 
 -- a value that was read from the whole text left nothing of it
 whole_some : {A : Type 0} (r : Option (A × List ℕ)) (x : A) → whole_value r ≡ Some x → r ≡ Some (x, [])
@@ -26,7 +26,7 @@ unfolding v4_of
 v4_spelled text n e =
     map_some (number_on 256 0) (whole_value (read_ipv4 text)) n e λ octets read value.
     let (front, split, dotted) = read_ipv4_sound text octets [] (whole_some (read_ipv4 text) octets read) in
-    (octets, subst (λ t. IsDotted t octets) (sym (split ∙ append-none front)) dotted, value)
+    (octets, subst (λ t. IsDotted t octets) (sym (split ∙ append_none front)) dotted, value)
 
 -- what is read as IPv6 is spelled so
 pub v6_spelled : (text : List ℕ) (n : ℕ) → v6_of text ≡ Some n → (groups : List ℕ) × IsColonHex text groups × (number_on 65536 0 groups ≡ n)
@@ -34,21 +34,21 @@ unfolding v6_of
 v6_spelled text n e =
     map_some (number_on 65536 0) (whole_value (read_ipv6 text)) n e λ groups read value.
     let (front, split, spelled) = read_ipv6_sound text groups [] (whole_some (read_ipv6 text) groups read) in
-    (groups, subst (λ t. IsColonHex t groups) (sym (split ∙ append-none front)) spelled, value)
+    (groups, subst (λ t. IsColonHex t groups) (sym (split ∙ append_none front)) spelled, value)
 
 -- what is spelled as IPv4 is read so
 pub v4_read : (text octets : List ℕ) → IsDotted text octets → v4_of text ≡ Some (number_on 256 0 octets)
 unfolding v4_of
 v4_read text octets h =
     let read = read_ipv4_complete text octets [] h (lit≤ tt) in
-    ap (λ r. option_map (number_on 256 0) (whole_value r)) (ap read_ipv4 (sym (append-none text)) ∙ read)
+    ap (λ r. option_map (number_on 256 0) (whole_value r)) (ap read_ipv4 (sym (append_none text)) ∙ read)
 
 -- what is spelled as IPv6 is read so
 pub v6_read : (text groups : List ℕ) → IsColonHex text groups → v6_of text ≡ Some (number_on 65536 0 groups)
 unfolding v6_of
 v6_read text groups h =
     let read = read_ipv6_complete text groups [] h EndsGroups-nil in
-    ap (λ r. option_map (number_on 65536 0) (whole_value r)) (ap read_ipv6 (sym (append-none text)) ∙ read)
+    ap (λ r. option_map (number_on 65536 0) (whole_value r)) (ap read_ipv6 (sym (append_none text)) ∙ read)
 
 not_v4_at : (text groups : List ℕ) (o : Option ℕ) → IsColonHex text groups → v4_of text ≡ o → o ≡ None
 not_v4_at text groups None h e = refl
@@ -80,7 +80,8 @@ read_is_spelled text a e = either_spelled text a (v4_of text) (v6_of text) refl 
 pub none_is_spelled : (text : List ℕ) → address_of text ≡ None → (a : Address) → ¬ (Spells text a)
 none_is_spelled text e a s = none-some a (sym e ∙ spelled_is_read text a s)
 
-octets_fit : (n : ℕ) → n < 2 ^ 32 → (k : ℕ) → get_or (four_octets n) k 0 < 2 ^ 8
+-- each octet of an IPv4 address fits eight bits
+pub octets_fit : (n : ℕ) → n < 2 ^ 32 → (k : ℕ) → get_or (four_octets n) k 0 < 2 ^ 8
 octets_fit n h zero = omega arith
 octets_fit n h (suc zero) = omega arith
 octets_fit n h (suc (suc zero)) = omega arith
@@ -110,7 +111,8 @@ groups_number n =
     )
     (omega arith)
 
-groups_fit : (n : ℕ) → n < 2 ^ 128 → (k : ℕ) → get_or (eight_groups n) k 0 < 2 ^ 16
+-- each group of an IPv6 address fits sixteen bits
+pub groups_fit : (n : ℕ) → n < 2 ^ 128 → (k : ℕ) → get_or (eight_groups n) k 0 < 2 ^ 16
 groups_fit n h zero = omega arith
 groups_fit n h (suc zero) = omega arith
 groups_fit n h (suc (suc zero)) = omega arith

@@ -1,4 +1,5 @@
 pub mod AddressLaws
-pub mod DistinctLaws
+pub mod CommonLaws
+mod DistinctLaws
 pub mod NumberLaws
 pub mod RangeLaws

@@ -7,6 +7,7 @@ use Rattle.std.specs.declared.option.Option.{Option}
 use Rattle.std.specs.Net.Grammar.{IsDotted, IsColonHex}
 use Rattle.std.specs.Net.Reader.{read_ipv4, read_ipv6, whole_value}
 use Rattle.std.specs.Net.Text.{ipv4_text, hex_groups_text}
+use Rattle.sq_base.specs.Bytes.{colon}
 
 -- an address: its kind, and its bits as a number
 pub record Address : Type 0 where
@@ -29,7 +30,7 @@ abbrev pub is_at_most : Address → Address → Bool
 is_at_most a b = (not a.v6 && b.v6) || (not (a.v6 || b.v6) && nat_le a.number b.number) || ((a.v6 && b.v6) && nat_le a.number b.number)
 
 abbrev pub is_colon : ℕ → Bool
-is_colon b = b == 58
+is_colon b = b == colon
 
 -- digits of a base as one number, the highest first, read after the number so far
 abbrev pub number_on : ℕ → ℕ → List ℕ → ℕ

@@ -2,11 +2,12 @@
 use Rattle.std.specs.Prelude.{ℕ, Bool, ◌||◌, ◌==◌, nat_le, List, [], ◌∷◌, if◌then◌else◌, Some, None, codes, bytes_eq}
 use Rattle.std.specs.List.{flat_map}
 use Rattle.std.specs.declared.option.Option.{Option}
+use Rattle.sq_base.specs.Bytes.{space, percent, greater, delete}
 use Rattle.percent_encoding.specs.Percent.{percent_encode_byte, percent_decode}
 
 -- a byte that is no visible ASCII, and `%` and `>`
 abbrev pub is_escaped : ℕ → Bool
-is_escaped b = nat_le b 32 || nat_le 127 b || b == 37 || b == 62
+is_escaped b = nat_le b space || nat_le delete b || b == percent || b == greater
 
 -- each such byte becomes `%` and two upper-case hexadecimal digits
 abbrev pub escaped_byte : ℕ → List ℕ

@@ -1,10 +1,14 @@
 pub mod Addresses
+pub mod Bytes
 pub mod Decimals
 pub mod Distinct
 pub mod Escapes
 pub mod Lines
+pub mod NameTables
 pub mod Ranges
 pub mod Replies
 pub mod ReplyGrammar
 pub mod Requests
+pub mod Results
 pub mod Targets
+pub mod Texts

@@ -4,17 +4,22 @@ use Rattle.std.specs.Prelude.{ℕ, ◌+◌, ◌-◌, List, [], ◌∷◌, ◌++�
 use Rattle.std.specs.List.{slice_split}
 use Rattle.std.specs.Str.{is_utf8}
 use Rattle.std.specs.declared.option.Option.{Option}
+use Rattle.sq_base.specs.Bytes.{tab, lf, cr, space, hash, backslash}
 use Rattle.sq_base.specs.declared.config_lines.Line.{Line}
 use Rattle.sq_base.specs.declared.config_lines.LineFault.{LineFault}
 use Rattle.sq_base.specs.declared.config_lines.LineFault.TheVariants as faults
 use Rattle.sq_base.specs.declared.config_lines.Lexed.{Lexed}
 
 abbrev pub is_lf : ℕ → Bool
-is_lf b = b == 10
+is_lf b = b == lf
+
+-- the lines that LF ends: all that LFs part but the last, which no LF ends
+abbrev pub ended_lines : List ℕ → List (List ℕ)
+ended_lines bytes = take (length (slice_split is_lf bytes) - 1) (slice_split is_lf bytes)
 
 -- a space or a tab
 abbrev pub is_blank : ℕ → Bool
-is_blank b = b == 32 || b == 9
+is_blank b = b == space || b == tab
 
 abbrev pub is_byte : ℕ → Option ℕ → Bool
 is_byte b None = false
@@ -29,17 +34,17 @@ but_last line = take (length line - 1) line
 
 -- a CR at the end is dropped
 abbrev pub without_cr : List ℕ → List ℕ
-without_cr line = if ends_in 13 line then but_last line else line
+without_cr line = if ends_in cr line then but_last line else line
 
 -- each piece but the last was ended by LF, and one CR before it belongs to the end
-abbrev pub ended : List (List ℕ) → List (List ℕ)
-ended [] = []
-ended (l ∷ []) = l ∷ []
-ended (l ∷ m ∷ ls) = without_cr l ∷ ended (m ∷ ls)
+abbrev pub trimmed_lines : List (List ℕ) → List (List ℕ)
+trimmed_lines [] = []
+trimmed_lines (l ∷ []) = l ∷ []
+trimmed_lines (l ∷ m ∷ ls) = without_cr l ∷ trimmed_lines (m ∷ ls)
 
 -- the lines as they stand in the file
 unfoldable pub file_lines : List ℕ → List (List ℕ)
-file_lines text = ended (slice_split is_lf text)
+file_lines text = trimmed_lines (slice_split is_lf text)
 
 abbrev pub is_word : List ℕ → Bool
 is_word [] = false
@@ -48,7 +53,7 @@ is_word (b ∷ bs) = true
 -- a word that begins with `#`
 abbrev pub begins_comment : List ℕ → Bool
 begins_comment [] = false
-begins_comment (b ∷ bs) = b == 35
+begins_comment (b ∷ bs) = b == hash
 
 -- what stands between blanks
 abbrev pub pieces : List ℕ → List (List ℕ)
@@ -68,7 +73,7 @@ is_comment line = first_begins (pieces line)
 
 -- a line of the file goes on with the next
 abbrev pub goes_on : List ℕ → Bool
-goes_on line = ends_in 92 line && not (is_comment line)
+goes_on line = ends_in backslash line && not (is_comment line)
 
 -- lines of the file joined to one, with the number of the first of them
 pub record Joined : Type 0 where
@@ -84,17 +89,17 @@ with_front n front (j ∷ js) = (record { number = n; text = front ++ j.text }) 
 abbrev pub joined : ℕ → List (List ℕ) → List Joined
 joined n [] = []
 joined n (l ∷ ls) =
-    if goes_on l then with_front n (but_last l ++ 32 ∷ []) (joined (n + 1) ls)
+    if goes_on l then with_front n (but_last l ++ space ∷ []) (joined (n + 1) ls)
     else ((record { number = n; text = l }) ∷ joined (n + 1) ls)
 
 -- a joined line may have so many bytes
-abbrev pub line_limit : ℕ
-line_limit = 65536
+abbrev pub conf_line_limit : ℕ
+conf_line_limit = 65536
 
 -- the fault of a joined line
 abbrev pub fault_of : Joined → Option LineFault
 fault_of j =
-    if nat_lt line_limit (length j.text) then Some (faults.LineTooLong j.number)
+    if nat_lt conf_line_limit (length j.text) then Some (faults.LineTooLong j.number)
     else (if is_utf8 j.text then None else Some (faults.NotUtf8 j.number))
 
 abbrev pub lexed_to : List Line → Option LineFault → Lexed

@@ -5,6 +5,7 @@ use Rattle.std.specs.Int.{is_power_of_two}
 use Rattle.std.specs.List.{position}
 use Rattle.std.specs.Option.{option_map}
 use Rattle.std.specs.declared.option.Option.{Option}
+use Rattle.sq_base.specs.Bytes.{dash, slash}
 use Rattle.sq_base.specs.Addresses.{Address, v4, v6, is_at_most, v4_of, address_of}
 use Rattle.sq_base.specs.Decimals.{number_of}
 use Rattle.sq_base.specs.declared.addresses.Range.{Range}
@@ -55,15 +56,15 @@ span_of a b = None
 
 -- the range of a text by the places of its first `/` and its first `-`
 abbrev pub range_at : List ℕ → Option ℕ → Option ℕ → Option Range
-range_at text (Some slash) dash = block_of (address_of (take slash text)) (drop (slash + 1) text)
-range_at text None (Some dash) = span_of (address_of (take dash text)) (address_of (drop (dash + 1) text))
+range_at text (Some n) to = block_of (address_of (take n text)) (drop (n + 1) text)
+range_at text None (Some n) = span_of (address_of (take n text)) (address_of (drop (n + 1) text))
 range_at text None None = option_map single (address_of text)
 
 abbrev pub is_slash : ℕ → Bool
-is_slash b = b == 47
+is_slash b = b == slash
 
 abbrev pub is_dash : ℕ → Bool
-is_dash b = b == 45
+is_dash b = b == dash
 
 -- the range with this text
 unfoldable pub range_of : List ℕ → Option Range

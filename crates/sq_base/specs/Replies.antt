@@ -5,6 +5,7 @@ use Rattle.std.specs.List.{list_all, list_any, take_while, prefix_len, flat_map}
 use Rattle.std.specs.Char.{is_ascii_alphanumeric}
 use Rattle.std.specs.Option.{option_and_then, option_map}
 use Rattle.std.specs.declared.option.Option.{Option}
+use Rattle.sq_base.specs.Bytes.{nul, lf, cr, space, quote, dash, equals, backslash, underscore, letter_n, letter_r}
 use Rattle.percent_encoding.specs.Percent.{percent_encode_byte, percent_decode}
 use Rattle.sq_base.specs.Decimals.{number_of}
 use Rattle.sq_base.specs.declared.helpers.Pair.{Pair}
@@ -22,19 +23,19 @@ channel_limit = 2 ^ 32
 
 -- a byte of a reply line: neither NUL, LF nor CR
 abbrev pub is_line_byte : ℕ → Bool
-is_line_byte b = not (b == 0 || b == 10 || b == 13)
+is_line_byte b = not (b == nul || b == lf || b == cr)
 
 -- a byte of a bare word: not a space, `"` or `=` either
 abbrev pub is_word_byte : ℕ → Bool
-is_word_byte b = is_line_byte b && not (b == 32 || b == 34 || b == 61)
+is_word_byte b = is_line_byte b && not (b == space || b == quote || b == equals)
 
 -- a byte of a value without quotes: not a space
 abbrev pub is_value_byte : ℕ → Bool
-is_value_byte b = is_line_byte b && not (b == 32)
+is_value_byte b = is_line_byte b && not (b == space)
 
 -- a byte of a key: a letter, a digit, `_` or `-`
 abbrev pub is_key_byte : ℕ → Bool
-is_key_byte b = is_ascii_alphanumeric b || b == 95 || b == 45
+is_key_byte b = is_ascii_alphanumeric b || b == underscore || b == dash
 
 -- the key of a pair: one such byte or more
 abbrev pub is_key : List ℕ → Bool
@@ -44,24 +45,24 @@ is_key (b ∷ bs) = list_all is_key_byte (b ∷ bs)
 -- a space, or the end
 abbrev pub ends_word : List ℕ → Bool
 ends_word [] = true
-ends_word (b ∷ bs) = b == 32
+ends_word (b ∷ bs) = b == space
 
 -- the byte for which a `\` and this byte stand
 abbrev pub meant : ℕ → ℕ
-meant b = if b == 114 then 13 else (if b == 110 then 10 else b)
+meant b = if b == letter_r then cr else (if b == letter_n then lf else b)
 
 -- how many bytes stand before the closing quote; `after` says that a `\` stands right before
 unfoldable pub quoted_len : Bool → List ℕ → Option ℕ
 quoted_len after [] = None
 quoted_len after (b ∷ bs) =
-    if not after && b == 34 then Some 0
-    else (if is_line_byte b then option_map (λ n. n + 1) (quoted_len (not after && b == 92) bs) else None)
+    if not after && b == quote then Some 0
+    else (if is_line_byte b then option_map (λ n. n + 1) (quoted_len (not after && b == backslash) bs) else None)
 
 -- the bytes for which those between quotes stand; `after` says that a `\` stands right before
 unfoldable pub unquoted : Bool → List ℕ → List ℕ
 unquoted after [] = []
 unquoted true (b ∷ bs) = meant b ∷ unquoted false bs
-unquoted false (b ∷ bs) = if b == 92 then unquoted true bs else b ∷ unquoted false bs
+unquoted false (b ∷ bs) = if b == backslash then unquoted true bs else b ∷ unquoted false bs
 
 -- the pairs of one word, and what stands behind it
 abbrev pub Found : Type 0
@@ -83,17 +84,17 @@ plain_in key bytes = pair_before key (percent_decode (take_while is_value_byte b
 -- a pair whose value begins here
 unfoldable pub value_in : List ℕ → List ℕ → Option Found
 value_in key [] = plain_in key []
-value_in key (b ∷ bs) = if b == 34 then quoted_in key bs (quoted_len false bs) else plain_in key (b ∷ bs)
+value_in key (b ∷ bs) = if b == quote then quoted_in key bs (quoted_len false bs) else plain_in key (b ∷ bs)
 
 -- behind the first bytes of a word: its end, and so it was bare, or `=` and a value
 abbrev pub after_name : List ℕ → List ℕ → Option Found
 after_name name [] = Some ([], [])
 after_name name (b ∷ bs) =
-    if b == 32 then Some ([], b ∷ bs) else (if b == 61 && is_key name then value_in name bs else None)
+    if b == space then Some ([], b ∷ bs) else (if b == equals && is_key name then value_in name bs else None)
 
 -- a word
-unfoldable pub word_in : List ℕ → Option Found
-word_in bytes = after_name (take_while is_word_byte bytes) (drop (prefix_len is_word_byte bytes) bytes)
+unfoldable pub reply_word_in : List ℕ → Option Found
+reply_word_in bytes = after_name (take_while is_word_byte bytes) (drop (prefix_len is_word_byte bytes) bytes)
 
 -- these pairs, in front of more
 abbrev pub in_front : List Pair → Option (List Pair) → Option (List Pair)
@@ -102,7 +103,7 @@ in_front pairs more = option_map (λ others. pairs ++ others) more
 -- a space, or a word
 abbrev pub piece_in : List ℕ → Option Found
 piece_in [] = None
-piece_in (b ∷ bs) = if b == 32 then Some ([], bs) else word_in (b ∷ bs)
+piece_in (b ∷ bs) = if b == space then Some ([], bs) else reply_word_in (b ∷ bs)
 
 -- the pairs of words and spaces; there are no more words and spaces than `most`
 unfoldable pub pairs_in : ℕ → List ℕ → Option (List Pair)
@@ -145,23 +146,23 @@ on_channel channel reply = option_map (λ r. (channel, r)) reply
 abbrev pub after_channel : Option ℕ → List ℕ → Option Answer
 after_channel None bytes = None
 after_channel (Some n) [] = None
-after_channel (Some n) (b ∷ bs) = if b == 32 then on_channel (Some n) (result_in bs) else None
+after_channel (Some n) (b ∷ bs) = if b == space then on_channel (Some n) (result_in bs) else None
 
 -- a line without its size and its CR, with a channel or without
-unfoldable pub line_in : Bool → List ℕ → Option Answer
-line_in false bytes = on_channel None (result_in bytes)
-line_in true bytes =
+unfoldable pub reply_line_in : Bool → List ℕ → Option Answer
+reply_line_in false bytes = on_channel None (result_in bytes)
+reply_line_in true bytes =
     after_channel (number_of channel_limit (take_while is_word_byte bytes)) (drop (prefix_len is_word_byte bytes) bytes)
 
 -- a line without the CR at its end, where there is one
-unfoldable pub without_cr : List ℕ → List ℕ
-without_cr [] = []
-without_cr (b ∷ []) = if b == 13 then [] else b ∷ []
-without_cr (b ∷ c ∷ bs) = b ∷ without_cr (c ∷ bs)
+unfoldable pub without_last_cr : List ℕ → List ℕ
+without_last_cr [] = []
+without_last_cr (b ∷ []) = if b == cr then [] else b ∷ []
+without_last_cr (b ∷ c ∷ bs) = b ∷ without_last_cr (c ∷ bs)
 
 -- the channel and the reply of a line without its LF
 unfoldable pub reply_of : Bool → List ℕ → Option Answer
-reply_of with_channel line = if nat_le (length line) reply_limit then line_in with_channel (without_cr line) else None
+reply_of with_channel line = if nat_le (length line) reply_limit then reply_line_in with_channel (without_last_cr line) else None
 
 -- a channel and a space, or nothing
 abbrev pub channel_text : Option ℕ → List ℕ
@@ -176,8 +177,8 @@ result_text Broken = codes "BH"
 -- a byte between quotes
 abbrev pub quoted_byte : ℕ → List ℕ
 quoted_byte b =
-    if b == 13 then codes "\\r"
-    else (if b == 10 then codes "\\n" else (if b == 34 || b == 92 then 92 ∷ b ∷ [] else b ∷ []))
+    if b == cr then codes "\\r"
+    else (if b == lf then codes "\\n" else (if b == quote || b == backslash then backslash ∷ b ∷ [] else b ∷ []))
 
 -- a value: in quotes, or, where it holds NUL, without them and with each byte escaped
 unfoldable pub value_text : List ℕ → List ℕ

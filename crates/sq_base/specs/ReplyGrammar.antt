@@ -3,6 +3,7 @@
 use Rattle.std.specs.Prelude.{◌≡◌, ℕ, ◌<◌, ◌≤◌, List, [], ◌∷◌, ◌++◌, length, Bool, true, false, not, if◌then◌else◌, ◌&&◌, ◌||◌, ◌==◌, IfSome, codes, is_some, map, replicate}
 use Rattle.std.specs.List.{list_all, flat_map}
 use Rattle.std.specs.declared.option.Option.{Option}
+use Rattle.sq_base.specs.Bytes.{cr, space, quote, backslash}
 use Rattle.percent_encoding.specs.Percent.{percent_decode}
 use Rattle.sq_base.specs.Replies.{reply_limit, channel_limit, is_line_byte, is_word_byte, is_value_byte, is_key, meant, channel_text, result_text, Answer}
 use Rattle.sq_base.specs.declared.helpers.Pair.{Pair}
@@ -34,7 +35,7 @@ pub record ReplyLine : Type 0 where
 
 abbrev pub mark_text : Mark → List ℕ
 mark_text (Itself b) = b ∷ []
-mark_text (Escaped b) = 92 ∷ b ∷ []
+mark_text (Escaped b) = backslash ∷ b ∷ []
 
 abbrev pub mark_byte : Mark → ℕ
 mark_byte (Itself b) = b
@@ -42,7 +43,7 @@ mark_byte (Escaped b) = meant b
 
 -- no bare `"` or `\` stands between quotes
 abbrev pub is_mark : Mark → Bool
-is_mark (Itself b) = is_line_byte b && not (b == 34 || b == 92)
+is_mark (Itself b) = is_line_byte b && not (b == quote || b == backslash)
 is_mark (Escaped b) = is_line_byte b
 
 abbrev pub word_text : ReplyWord → List ℕ
@@ -62,17 +63,17 @@ is_bare [] = false
 is_bare (b ∷ bs) = list_all is_word_byte (b ∷ bs)
 
 -- bytes without a space, the first of which is no `"`
-abbrev pub is_plain : List ℕ → Bool
-is_plain [] = true
-is_plain (b ∷ bs) = not (b == 34) && list_all is_value_byte (b ∷ bs)
+abbrev pub is_plain_value : List ℕ → Bool
+is_plain_value [] = true
+is_plain_value (b ∷ bs) = not (b == quote) && list_all is_value_byte (b ∷ bs)
 
 abbrev pub is_reply_word : ReplyWord → Bool
 is_reply_word (Bare word) = is_bare word
-is_reply_word (Plain key value) = is_key key && is_plain value
+is_reply_word (Plain key value) = is_key key && is_plain_value value
 is_reply_word (Quoted key marks) = is_key key && list_all is_mark marks
 
 abbrev pub spaced_text : SpacedWord → List ℕ
-spaced_text s = codes " " ++ replicate s.more 32 ++ word_text s.word
+spaced_text s = codes " " ++ replicate s.more space ++ word_text s.word
 
 abbrev pub words_text : List SpacedWord → List ℕ
 words_text words = flat_map spaced_text words
@@ -84,11 +85,11 @@ abbrev pub are_reply_words : List SpacedWord → Bool
 are_reply_words words = list_all (λ s. is_reply_word s.word) words
 
 abbrev pub cr_text : Bool → List ℕ
-cr_text cr = if cr then 13 ∷ [] else []
+cr_text ends = if ends then cr ∷ [] else []
 
 -- the bytes of a line without its LF
 abbrev pub line_text : ReplyLine → List ℕ
-line_text l = channel_text l.channel ++ result_text l.result ++ words_text l.words ++ replicate l.spaces 32 ++ cr_text l.cr
+line_text l = channel_text l.channel ++ result_text l.result ++ words_text l.words ++ replicate l.spaces space ++ cr_text l.cr
 
 -- what a line says
 abbrev pub line_answer : ReplyLine → Answer

@@ -2,6 +2,7 @@
 use Rattle.std.specs.Prelude.{◌≡◌, ℕ, List, Bool, true, not, ◌==◌, Some}
 use Rattle.std.specs.List.{list_all}
 use Rattle.std.specs.declared.option.Option.{Option}
+use Rattle.sq_base.specs.Bytes.{colon}
 use Rattle.sq_base.specs.Addresses.{Address}
 use Rattle.sq_base.specs.Targets.{Target, target_of}
 use Rattle.sq_base.specs.declared.requests.Field.{Field}
@@ -24,7 +25,7 @@ shown_target r = record { scheme = r.scheme; host = r.host; literal = r.literal;
 
 -- no byte of it is `:`
 abbrev pub has_no_colon : List ℕ → Bool
-has_no_colon name = list_all (λ b. not (b == 58)) name
+has_no_colon name = list_all (λ b. not (b == colon)) name
 
 abbrev pub have_plain_names : List Field → Bool
 have_plain_names fields = list_all (λ f. has_no_colon f.name) fields

@@ -6,8 +6,9 @@ use Rattle.std.specs.Char.{is_ascii_alphabetic, is_ascii_alphanumeric, is_ascii_
 use Rattle.std.specs.Str.{str_to_ascii_lowercase}
 use Rattle.std.specs.Option.{option_map}
 use Rattle.std.specs.declared.option.Option.{Option}
+use Rattle.sq_base.specs.Bytes.{hash, plus, dash, dot, slash, question, open_bracket, close_bracket, underscore}
 use Rattle.sq_base.specs.Addresses.{Address, v4, v6, v4_of, v6_of, is_colon}
-use Rattle.sq_base.specs.Decimals.{read_on}
+use Rattle.sq_base.specs.Decimals.{port_limit, read_on}
 
 -- the parts of a target: scheme and host in lower case, and the address that the host spells
 pub record Target : Type 0 where
@@ -19,10 +20,10 @@ pub record Target : Type 0 where
 
 -- visible ASCII but `#`, which would begin a fragment
 abbrev pub is_target_byte : ℕ → Bool
-is_target_byte b = is_ascii_graphic b && not (b == 35)
+is_target_byte b = is_ascii_graphic b && not (b == hash)
 
 abbrev pub is_scheme_byte : ℕ → Bool
-is_scheme_byte b = is_ascii_alphanumeric b || b == 43 || b == 45 || b == 46
+is_scheme_byte b = is_ascii_alphanumeric b || b == plus || b == dash || b == dot
 
 -- a letter, and then letters, digits, `+`, `-` and `.`
 abbrev pub is_scheme : List ℕ → Bool
@@ -31,18 +32,18 @@ is_scheme (b ∷ bs) = is_ascii_alphabetic b && list_all is_scheme_byte bs
 
 -- a byte of a host's name: a letter, a digit, `-`, `.` or `_`
 abbrev pub is_host_byte : ℕ → Bool
-is_host_byte b = is_ascii_alphanumeric b || b == 45 || b == 46 || b == 95
+is_host_byte b = is_ascii_alphanumeric b || b == dash || b == dot || b == underscore
 
 -- a byte that does not end an authority
 abbrev pub in_authority : ℕ → Bool
-in_authority b = not (b == 47 || b == 63)
+in_authority b = not (b == slash || b == question)
 
 -- a byte that stands before a port
 abbrev pub before_port : ℕ → Bool
 before_port b = not (is_colon b)
 
 abbrev pub is_bracket : ℕ → Bool
-is_bracket b = b == 93
+is_bracket b = b == close_bracket
 
 -- a host, the address that it spells, and what stands after it in the authority
 pub record Host : Type 0 where
@@ -56,9 +57,9 @@ bracketed text rest None = None
 bracketed text rest (Some n) = Some (record { name = str_to_ascii_lowercase text; literal = Some (v6 n); rest = rest })
 
 -- a name or a literal IPv4 address
-abbrev pub named : List ℕ → List ℕ → Option Host
-named [] rest = None
-named (b ∷ bs) rest =
+abbrev pub named_host : List ℕ → List ℕ → Option Host
+named_host [] rest = None
+named_host (b ∷ bs) rest =
     if list_all is_host_byte (b ∷ bs)
     then Some (record { name = str_to_ascii_lowercase (b ∷ bs); literal = option_map v4 (v4_of (b ∷ bs)); rest = rest }) else None
 
@@ -71,13 +72,13 @@ in_brackets inside (Some n) = bracketed (take n inside) (drop (n + 1) inside) (v
 unfoldable pub host_in : List ℕ → Option Host
 host_in [] = None
 host_in (b ∷ bs) =
-    if b == 91 then in_brackets bs (position is_bracket bs)
-    else named (take_while before_port (b ∷ bs)) (drop (prefix_len before_port (b ∷ bs)) (b ∷ bs))
+    if b == open_bracket then in_brackets bs (position is_bracket bs)
+    else named_host (take_while before_port (b ∷ bs)) (drop (prefix_len before_port (b ∷ bs)) (b ∷ bs))
 
--- the number of one to five digits, at most 65535
+-- the number of one to five digits, as a port may have it
 unfoldable pub port_of : List ℕ → Option ℕ
 port_of word =
-    if nat_le 1 (length word) && nat_le (length word) 5 && list_all is_ascii_digit word && nat_lt (read_on 0 word) 65536
+    if nat_le 1 (length word) && nat_le (length word) 5 && list_all is_ascii_digit word && nat_lt (read_on 0 word) port_limit
     then Some (read_on 0 word) else None
 
 -- the port that stands after a host; the default where there is none, or an empty one

@@ -1,11 +1,13 @@
 //! `Text`: bytes that contracts see as a list of numbers.
-ghost use Rattle.std.specs.Prelude.{◌≡◌, ◌++◌, ◌∷◌, [], ◌==◌, ◌<◌, length, nat_eq, IfOk, OnOk, OnErr, All, refl};
+ghost use Rattle.std.specs.Prelude.{◌≡◌, ◌++◌, ◌∷◌, [], ◌==◌, ◌<◌, length, nat_eq, IfOk, OnOk, OnErr, All, false, refl};
+ghost use Rattle.std.specs.Fmt.{WritesOnOk, digit_glyph};
 ghost use Rattle.std.specs.Ordering.{nat_cmp, as_partial_cmp};
 ghost use Rattle.std.specs.Hash as fed;
 ghost use Rattle.std.specs.Cmp.Lexicographic.{pointwise, slice_cmp};
 ghost use Rattle.std.specs.Cmp.{partial_order_from_own_ties};
 ghost use Rattle.std.specs.Cmp.Rules.{comparing, hashing};
 ghost use Rattle.std.proofs.Common.{rules};
+ghost use Rattle.sq_base.specs.Texts.{shown_byte};
 
 use crate::listed::Listed;
 use crate::memory::{Copying, WantOfMemory};
@@ -109,17 +111,39 @@ impl Text {
 }
 
 impl fmt::Display for Text {
+    ghost use Rattle.std.specs.Prelude.{Some};
+    ghost use Rattle.sq_base.specs.Texts.{shown};
+
+    ghost output = { λ t. Some (shown t) };
+
     /// Visible ASCII as it is, and any other byte as `\\x` and two hexadecimal digits.
     fn fmt<W: fmt::Write>(&self, f: &mut fmt::Formatter<W>) -> fmt::Result {
         for &byte in self.bytes.as_slice() {
-            if byte.is_ascii_graphic() {
-                let letter = byte as char;
-                write!(f, "{letter}")?;
-            } else {
-                write!(f, "\\x{byte:02x}")?;
-            }
+            show_byte(byte, f)?;
         }
         Ok(())
+    }
+}
+
+fn show_byte<W: fmt::Write>(byte: u8, f: &mut fmt::Formatter<W>) -> fmt::Result
+    ensures { WritesOnOk W.write_str_gives f.old result (shown_byte byte) f.new }
+{
+    if byte.is_ascii_graphic() {
+        return f.write_char(char::from(byte));
+    }
+    f.write_str("\\x")?;
+    f.write_char(hex_digit(byte / 16))?;
+    f.write_char(hex_digit(byte % 16))
+}
+
+fn hex_digit(digit: u8) -> char
+    requires { digit < 16 }
+    ensures { result ≡ digit_glyph false digit }
+{
+    if digit < 10 {
+        char::from(b'0' + digit)
+    } else {
+        char::from(b'a' - 10 + digit)
     }
 }
 

@@ -4,6 +4,9 @@ ghost use Rattle.sq_base.specs.Decimals.{number_of};
 
 use itoa::Buffer;
 
+/// Ports are below this.
+pub const PORT_LIMIT: u64 = 65536;
+
 /// The number below the limit whose decimal text the word is. It takes no memory.
 pub fn number_of(word: &[u8], limit: u64) -> Option<u64>
     ensures read { result ≡ number_of limit word.now }

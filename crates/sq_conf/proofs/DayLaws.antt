@@ -1,9 +1,7 @@
 -- Weekdays letter by letter.
-use Rattle.std.proofs.Common.{◌≡◌, ℕ, ◌+◌, ◌<◌, List, ◌∷◌, Some, length, get_or, drop, drop-cons, add-one, bit_or, refl, sym, ap, ◌∙◌}
+use Rattle.std.proofs.Common.{◌≡◌, ℕ, ◌+◌, ◌<◌, List, ◌∷◌, Some, length, get_or, drop, bit_or, refl, sym, ap, ◌∙◌}
+use Rattle.sq_base.proofs.CommonLaws.{cons_at}
 use Rattle.sq_rules.specs.AclValues.{day_bits, days_on}
-
-cons_at : (word : List ℕ) (at b : ℕ) → at < length word → get_or word at 0 ≡ b → drop at word ≡ b ∷ drop (at + 1) word
-cons_at word at b h e = rw (add-one, drop-cons word at 0, e)
 
 -- the weekdays of one letter more
 pub days_step : (days more at b : ℕ) (word : List ℕ) → at < length word → get_or word at 0 ≡ b → day_bits b ≡ Some more

@@ -1,3 +1,2 @@
 mod DayLaws
 mod NumberLaws
-mod TokenLaws

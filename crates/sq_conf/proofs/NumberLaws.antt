@@ -1,13 +1,10 @@
 -- Numbers with leading zeros.
-use Rattle.std.proofs.Common.{◌≡◌, ℕ, ◌<◌, List, Bool, true, false, Some, None, ◌&&◌, if◌then◌else◌, nat_le, bit_or, arith, refl}
+use Rattle.std.proofs.Common.{◌≡◌, ℕ, ◌<◌, List, None, nat_le, bit_or, arith}
 use Rattle.std.proofs.lemmas.Bool.Decides.{nat_tests}
 use Rattle.std.proofs.lemmas.Nat.{or_lt}
+use Rattle.sq_base.proofs.CommonLaws.{left_out}
 use Rattle.sq_base.specs.Decimals.{read_on}
 use Rattle.sq_rules.specs.ConfNumbers.{digits_of, is_digits}
-
-left_out : (a b : Bool) (n : ℕ) → b ≡ false → (if a && b then Some n else None) ≡ None
-left_out true b n q = rw q refl
-left_out false b n q = refl
 
 -- a number above the most
 pub digits_past : (most : ℕ) (word : List ℕ) → most < read_on 0 word → digits_of most word ≡ None

@@ -2,8 +2,7 @@
 ghost use Rattle.std.specs.Prelude.{◌≡◌, ◌≤◌, true, not, length, IfOk};
 ghost use Rattle.std.specs.List.{list_any};
 ghost use Rattle.sq_conf.specs.Forms.{Gives, Makes};
-ghost use Rattle.sq_rules.specs.ClassLines.{class_of, class_step, default_class, option_step, token_step, up_to, with_arguments, with_option};
-ghost use Rattle.sq_rules.specs.Classes.{has_few_tokens, is_arguments};
+ghost use Rattle.sq_rules.specs.ClassLines.{class_of, class_step, default_class, option_step, token_step, up_to, with_option};
 ghost use Rattle.sq_rules.specs.Limits.{name_limit, token_limit};
 ghost use Rattle.sq_rules.specs.Steps.{is_empty, over};
 
@@ -11,14 +10,15 @@ use crate::class_options::{is_option, option_of};
 use crate::cuts::behind;
 use crate::faults::ReadFault;
 use crate::numbers::number_in;
-use crate::tokens::{is_arguments, token_of};
+use crate::tokens::token_of;
 use crate::words::begins;
 use sq_base::{Copying, Listed, Text, Texts, WantOfMemory};
-use sq_rules::{Class, ClassOption, Kind, Token, Tokens};
+use sq_rules::{
+    CACHE_LIMIT, CHILDREN_LIMIT, Class, ClassOption, GRACE_LIMIT, Kind, QUEUE_LIMIT, SECONDS_LIMIT,
+    TOKEN_LIMIT, Token, Tokens, with_arguments,
+};
 use std::alloc::Global;
 use std::marker::Model;
-
-const TOKEN_LIMIT: usize = 32;
 
 /// What the words of a line so far state; `noted` is true where an option has no effect.
 #[derive(Drop)]
@@ -83,18 +83,22 @@ impl ClassDraft {
         ensures { Makes result self.new (with_option option value.now self.old) }
     {
         match option {
-            ClassOption::Ttl => self.ttl = up_to(value, 2_147_483_647)?,
-            ClassOption::NegativeTtl => self.negative_ttl = Some(up_to(value, 2_147_483_647)?),
-            ClassOption::Grace => self.grace = up_to(value, 100)?,
-            ClassOption::Cache => self.cache = up_to(value, 16_777_216)?,
-            ClassOption::ChildrenMax => self.children_max = number_in(value, 1, 1024)? as u32,
-            ClassOption::ChildrenStartup => self.startup = up_to(value, 1024)?,
+            ClassOption::Ttl => self.ttl = up_to(value, SECONDS_LIMIT)?,
+            ClassOption::NegativeTtl => self.negative_ttl = Some(up_to(value, SECONDS_LIMIT)?),
+            ClassOption::Grace => self.grace = up_to(value, GRACE_LIMIT)?,
+            ClassOption::Cache => self.cache = up_to(value, CACHE_LIMIT)?,
+            ClassOption::ChildrenMax => self.children_max = number_in(
+                value,
+                1,
+                CHILDREN_LIMIT as u64,
+            )? as u32,
+            ClassOption::ChildrenStartup => self.startup = up_to(value, CHILDREN_LIMIT)?,
             ClassOption::ChildrenIdle => {
-                up_to(value, 1024)?;
+                up_to(value, CHILDREN_LIMIT)?;
                 self.noted = true;
             }
-            ClassOption::Concurrency => self.concurrency = up_to(value, 1024)?,
-            ClassOption::QueueSize => self.queue_size = Some(up_to(value, 1_000_000)?),
+            ClassOption::Concurrency => self.concurrency = up_to(value, CHILDREN_LIMIT)?,
+            ClassOption::QueueSize => self.queue_size = Some(up_to(value, QUEUE_LIMIT)?),
             ClassOption::NoEffect => self.noted = true,
         }
         Ok(())
@@ -206,21 +210,4 @@ fn has_words(words: &[Text]) -> bool
         [] => false,
         [_, ..] => true,
     }
-}
-
-fn has_arguments(format: &[Token]) -> bool
-    ensures { result ≡ list_any is_arguments format.now }
-{
-    format.iter().any(|token| is_arguments(token))
-}
-
-// `%DATA` stands in each format.
-fn with_arguments(mut format: Tokens) -> Result<Tokens, WantOfMemory>
-    ensures read { IfOk result (λ f. f ≡ with_arguments format) }
-    ensures few { IfOk result (λ f. length format ≤ token_limit → has_few_tokens f ≡ true) }
-{
-    if !has_arguments(format.as_slice()) {
-        format.push(Token::Arguments)?;
-    }
-    Ok(format)
 }

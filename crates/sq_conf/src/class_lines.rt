@@ -11,10 +11,8 @@ use crate::port_lines::note_if;
 use crate::words::Words;
 use sq_base::{Copying, Text, WantOfMemory};
 use sq_drafts::Builder;
-use sq_rules::Kind;
+use sq_rules::{Kind, NAME_LIMIT};
 use std::alloc::Global;
-
-const NAME_LIMIT: usize = 255;
 
 // A name that no class has, and room for one more.
 fn class_name(builder: &Builder, word: &Text) -> Result<(), ReadFault>

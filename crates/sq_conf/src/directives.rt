@@ -1,69 +1,64 @@
 //! Directives by their names.
 ghost use Rattle.std.specs.Prelude.{◌≡◌};
+ghost use Rattle.sq_base.specs.NameTables.{beside, is_among};
 ghost use Rattle.sq_conf.specs.Forms.{Gives};
-ghost use Rattle.sq_rules.specs.ConfText.{directive_of, directive_without_effect, is_among, is_without_effect, of_cache, of_objects, of_program};
+ghost use Rattle.sq_rules.specs.ConfText.{directive_of, directives, without_effect};
 
 use crate::faults::ReadFault;
+use sq_base::{is_among, named};
 use sq_rules::{Directive, Kind};
 
-// A directive of the cache.
-fn is_of_cache(word: &[u8]) -> bool
-    ensures { result ≡ is_among of_cache word.now }
+const DIRECTIVES: [(&[u8], Directive); 9] = [
+    (b"acl", Directive::Acl),
+    (b"http_access", Directive::HttpAccess),
+    (b"external_acl_type", Directive::ExternalAclType),
+    (b"delay_pools", Directive::DelayPools),
+    (b"delay_class", Directive::DelayClass),
+    (b"delay_access", Directive::DelayAccess),
+    (b"delay_parameters", Directive::DelayParameters),
+    (b"delay_initial_bucket_level", Directive::InitialLevel),
+    (b"http_port", Directive::HttpPort),
+];
+
+const WITHOUT_EFFECT: [&[u8]; 24] = [
+    b"cache",
+    b"cache_dir",
+    b"cache_effective_group",
+    b"cache_effective_user",
+    b"cache_log",
+    b"cache_mem",
+    b"cache_mgr",
+    b"cache_replacement_policy",
+    b"cache_store_log",
+    b"maximum_object_size",
+    b"maximum_object_size_in_memory",
+    b"memory_replacement_policy",
+    b"minimum_object_size",
+    b"refresh_pattern",
+    b"strip_query_terms",
+    b"access_log",
+    b"coredump_dir",
+    b"dns_nameservers",
+    b"error_directory",
+    b"hosts_file",
+    b"logfile_rotate",
+    b"pid_filename",
+    b"shutdown_lifetime",
+    b"visible_hostname",
+];
+
+// A directive with an effect.
+fn with_effect(word: &[u8]) -> Option<Directive>
+    ensures { result ≡ beside directives word.now }
 {
-    word == b"cache".as_slice()
-        || word == b"cache_dir".as_slice()
-        || word == b"cache_effective_group".as_slice()
-        || word == b"cache_effective_user".as_slice()
-        || word == b"cache_log".as_slice()
-        || word == b"cache_mem".as_slice()
-        || word == b"cache_mgr".as_slice()
-        || word == b"cache_replacement_policy".as_slice()
-        || word == b"cache_store_log".as_slice()
+    named(&DIRECTIVES, word)
 }
 
-// A directive of what the cache keeps.
-fn is_of_objects(word: &[u8]) -> bool
-    ensures { result ≡ is_among of_objects word.now }
-{
-    word == b"maximum_object_size".as_slice()
-        || word == b"maximum_object_size_in_memory".as_slice()
-        || word == b"memory_replacement_policy".as_slice()
-        || word == b"minimum_object_size".as_slice()
-        || word == b"refresh_pattern".as_slice()
-        || word == b"strip_query_terms".as_slice()
-}
-
-// A directive of logs and of the program.
-fn is_of_program(word: &[u8]) -> bool
-    ensures { result ≡ is_among of_program word.now }
-{
-    word == b"access_log".as_slice()
-        || word == b"coredump_dir".as_slice()
-        || word == b"dns_nameservers".as_slice()
-        || word == b"error_directory".as_slice()
-        || word == b"hosts_file".as_slice()
-        || word == b"logfile_rotate".as_slice()
-        || word == b"pid_filename".as_slice()
-        || word == b"shutdown_lifetime".as_slice()
-        || word == b"visible_hostname".as_slice()
-}
-
-// A directive that is read without effect.
-#[tactic(auto, unfolding(sq_rules::specs::ConfText::is_without_effect))]
+// A directive of the cache or of the program, which is read without effect.
 fn is_without_effect(word: &[u8]) -> bool
-    ensures { result ≡ is_without_effect word.now }
+    ensures { result ≡ is_among without_effect word.now }
 {
-    is_of_cache(word) || is_of_objects(word) || is_of_program(word)
-}
-
-fn directive_without_effect(word: &[u8]) -> Result<Directive, ReadFault>
-    ensures { Gives (λ d. d) result (directive_without_effect word.now) }
-{
-    if is_without_effect(word) {
-        Ok(Directive::NoEffect)
-    } else {
-        Err(ReadFault::Fault(Kind::UnknownDirective))
-    }
+    is_among(&WITHOUT_EFFECT, word)
 }
 
 /// The directive of this name.
@@ -71,32 +66,12 @@ fn directive_without_effect(word: &[u8]) -> Result<Directive, ReadFault>
 pub fn directive_of(word: &[u8]) -> Result<Directive, ReadFault>
     ensures { Gives (λ d. d) result (directive_of word.now) }
 {
-    if word == b"acl".as_slice() {
-        return Ok(Directive::Acl);
+    if let Some(directive) = with_effect(word) {
+        return Ok(directive);
     }
-    if word == b"http_access".as_slice() {
-        return Ok(Directive::HttpAccess);
+    if is_without_effect(word) {
+        Ok(Directive::NoEffect)
+    } else {
+        Err(ReadFault::Fault(Kind::UnknownDirective))
     }
-    if word == b"external_acl_type".as_slice() {
-        return Ok(Directive::ExternalAclType);
-    }
-    if word == b"delay_pools".as_slice() {
-        return Ok(Directive::DelayPools);
-    }
-    if word == b"delay_class".as_slice() {
-        return Ok(Directive::DelayClass);
-    }
-    if word == b"delay_access".as_slice() {
-        return Ok(Directive::DelayAccess);
-    }
-    if word == b"delay_parameters".as_slice() {
-        return Ok(Directive::DelayParameters);
-    }
-    if word == b"delay_initial_bucket_level".as_slice() {
-        return Ok(Directive::InitialLevel);
-    }
-    if word == b"http_port".as_slice() {
-        return Ok(Directive::HttpPort);
-    }
-    directive_without_effect(word)
 }

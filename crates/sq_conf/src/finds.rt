@@ -6,10 +6,12 @@ ghost use Rattle.sq_rules.specs.AclValues.{find_values};
 ghost use Rattle.sq_rules.specs.Patterns.{is_pattern};
 
 use crate::faults::ReadFault;
-use sq_base::{Copying, Listed, Text};
+use sq_base::{Copying, Listed, Text, named};
 use sq_rules::{Find, Finds, Kind};
 use sq_urlmatch::is_pattern;
 use std::alloc::Global;
+
+const CASE_SWITCHES: [(&[u8], bool); 2] = [(b"-i", true), (b"+i", false)];
 
 // The text as a pattern.
 fn find(alloc: Global, word: &Text, fold: bool) -> Result<Find, ReadFault>
@@ -33,12 +35,9 @@ pub fn find_values(alloc: Global, words: &[Text]) -> Result<Finds, ReadFault>
     let mut fold = false;
     let mut finds = Listed::new(alloc);
     for word in words {
-        if word.as_bytes() == b"-i".as_slice() {
-            fold = true;
-        } else if word.as_bytes() == b"+i".as_slice() {
-            fold = false;
-        } else {
-            finds.push(find(alloc, word, fold)?)?;
+        match named(&CASE_SWITCHES, word.as_bytes()) {
+            Some(switched) => fold = switched,
+            None => finds.push(find(alloc, word, fold)?)?,
         }
     }
     if finds.is_empty() {

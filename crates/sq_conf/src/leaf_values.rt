@@ -9,8 +9,8 @@ use crate::cuts::{before, behind, holds};
 use crate::faults::ReadFault;
 use crate::words::{Words, begins};
 use sq_addr::read_range;
-use sq_base::{Copying, Listed, Range, Ranges, Text, Texts, number_of};
-use sq_rules::{Kind, Numbers, PortRange, PortRanges};
+use sq_base::{Copying, Listed, PORT_LIMIT, Range, Ranges, Text, Texts, number_of};
+use sq_rules::{Kind, MAXCONN_LIMIT, Numbers, PortRange, PortRanges};
 use std::alloc::Global;
 
 /// Whether it doesn't begin with `"`.
@@ -76,7 +76,7 @@ pub fn plain_values(alloc: Global, words: &[Text]) -> Result<Texts, ReadFault>
 fn port_number(word: &[u8]) -> Option<u16>
     ensures { result ≡ port_number word.now }
 {
-    let port = number_of(word, 65536)?;
+    let port = number_of(word, PORT_LIMIT)?;
     Some(port as u16)
 }
 
@@ -174,7 +174,7 @@ pub fn method_values(alloc: Global, words: &[Text]) -> Result<Texts, ReadFault>
 fn maxconn_value(word: &[u8]) -> Result<u32, ReadFault>
     ensures { Gives (λ n. n) result (maxconn_value word.now) }
 {
-    match number_of(word, 2_147_483_648) {
+    match number_of(word, MAXCONN_LIMIT) {
         Some(number) => Ok(number as u32),
         None => Err(ReadFault::Fault(Kind::BadValue)),
     }

@@ -3,7 +3,7 @@ ghost use Rattle.std.specs.Prelude.{◌≡◌, ◌≤◌, IfSome, IfOk};
 ghost use Rattle.std.specs.Char.{is_ascii_digit};
 ghost use Rattle.std.specs.List.{list_all};
 ghost use Rattle.sq_conf.specs.Forms.{Gives};
-ghost use Rattle.sq_rules.specs.ConfNumbers.{is_digits, digits_of, number_in};
+ghost use Rattle.sq_rules.specs.ConfNumbers.{is_digits, digits_of, number_between};
 
 use crate::faults::ReadFault;
 use sq_rules::Kind;
@@ -42,9 +42,9 @@ pub fn digits_of(word: &[u8], most: u64) -> Option<u64>
 }
 
 /// A number from the least to the most.
-#[tactic(auto, unfolding(sq_rules::specs::ConfNumbers::number_in))]
+#[tactic(auto, unfolding(sq_rules::specs::ConfNumbers::number_between))]
 pub fn number_in(word: &[u8], least: u64, most: u64) -> Result<u64, ReadFault>
-    ensures read { Gives (λ n. n) result (number_in least most word.now) }
+    ensures read { Gives (λ n. n) result (number_between least most word.now) }
     ensures low { IfOk result (λ n. least ≤ n) }
     ensures high { IfOk result (λ n. n ≤ most) }
 {

@@ -1,19 +1,17 @@
 //! Pairs of `delay_parameters`, and PORT of `http_port`.
 ghost use Rattle.std.specs.Prelude.{◌≡◌};
 ghost use Rattle.sq_conf.specs.Forms.{Gives};
-ghost use Rattle.sq_rules.specs.ConfNumbers.{pair_of, rate_of, port_text, has_host};
+ghost use Rattle.sq_rules.specs.ConfNumbers.{limit_pair_of, rate_of, port_text, has_host};
 
 use crate::cuts::{before, behind, behind_last, holds};
 use crate::faults::ReadFault;
 use crate::numbers::digits_of;
-use sq_rules::{Kind, Limit};
-
-const DELAY_LIMIT: u64 = 1_000_000_000_000_000;
+use sq_rules::{DELAY_LIMIT, Kind, Limit};
 
 /// `none`, or RESTORE/MAX, where -1 as RESTORE is no limit.
-#[tactic(auto, unfolding(sq_rules::specs::ConfNumbers::pair_of))]
+#[tactic(auto, unfolding(sq_rules::specs::ConfNumbers::limit_pair_of))]
 pub fn pair_of(word: &[u8]) -> Result<Option<Limit>, ReadFault>
-    ensures { Gives (λ p. p) result (pair_of word.now) }
+    ensures { Gives (λ p. p) result (limit_pair_of word.now) }
 {
     if word == b"none".as_slice() {
         return Ok(None);

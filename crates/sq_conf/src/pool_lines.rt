@@ -4,7 +4,7 @@ ghost use Rattle.sq_conf.specs.Forms.{Gives, Makes};
 ghost use Rattle.sq_rules.specs.Configurations.{are_known, slow_ones, some_slow};
 ghost use Rattle.sq_rules.specs.Drafts.{pool_at};
 ghost use Rattle.sq_rules.specs.Limits.{pool_limit};
-ghost use Rattle.sq_rules.specs.PoolLines.{class_for_pairs, fast_term, initial_line, pairs_of, pool_access_line, pool_class_line, pool_number, pool_pairs_line, pool_place, pools_line};
+ghost use Rattle.sq_rules.specs.PoolLines.{class_for_pairs, fast_term, initial_line, limit_pairs_of, pool_access_line, pool_class_line, pool_number, pool_pairs_line, pool_place, pools_line};
 ghost use Rattle.sq_rules.specs.Steps.{some_of};
 
 use crate::faults::ReadFault;
@@ -14,7 +14,7 @@ use crate::terms::{action, known_term};
 use crate::words::Words;
 use sq_base::{Listed, Text};
 use sq_drafts::Builder;
-use sq_rules::{Kind, Limits, Rule, Term, Terms};
+use sq_rules::{INITIAL_LIMIT, Kind, Limits, POOL_LIMIT, Rule, Term, Terms};
 use std::alloc::Global;
 
 // How many pools there are.
@@ -26,7 +26,7 @@ fn pool_number(word: &[u8]) -> Result<u8, ReadFault>
     if !is_digits(word) {
         return Err(ReadFault::Fault(Kind::BadNumber));
     }
-    match digits_of(word, 64) {
+    match digits_of(word, POOL_LIMIT) {
         Some(number) => Ok(number as u8),
         None => Err(ReadFault::Fault(Kind::TooMany)),
     }
@@ -56,7 +56,7 @@ fn pool_place(count: u8, word: &[u8]) -> Result<u8, ReadFault>
     if !is_digits(word) {
         return Err(ReadFault::Fault(Kind::BadNumber));
     }
-    match digits_of(word, 64) {
+    match digits_of(word, POOL_LIMIT) {
         None => Err(ReadFault::Fault(Kind::PoolOutOfRange)),
         Some(number) => {
             if 1 <= number && number <= count as u64 {
@@ -146,9 +146,9 @@ fn class_for_pairs(builder: &Builder, place: u8) -> Result<u8, ReadFault>
 }
 
 // So many pairs.
-#[tactic(auto, unfolding(sq_rules::specs::PoolLines::pairs_of))]
+#[tactic(auto, unfolding(sq_rules::specs::PoolLines::limit_pairs_of))]
 fn pairs_of(alloc: Global, count: u8, words: &[Text]) -> Result<Limits, ReadFault>
-    ensures read { Gives (λ p. p) result (pairs_of count words.now) }
+    ensures read { Gives (λ p. p) result (limit_pairs_of count words.now) }
     ensures count { IfOk result (λ p. length p ≡ count) }
 {
     let mut pairs = Listed::new(alloc);
@@ -187,7 +187,7 @@ pub fn initial_line(builder: &mut Builder, words: &[Text]) -> Result<(), ReadFau
     ensures { Makes result builder.new (initial_line builder.old words.now) }
 {
     let mut words = Words::new(words);
-    let level = number_in(words.next()?.as_bytes(), 0, 100)?;
+    let level = number_in(words.next()?.as_bytes(), 0, INITIAL_LIMIT)?;
     words.no_more()?;
     builder.set_initial(level as u8);
     Ok(())

@@ -2,17 +2,20 @@
 ghost use Rattle.std.specs.Prelude.{◌≡◌, OnOk, Ok};
 ghost use Rattle.sq_conf.specs.Forms.{Gives, Makes};
 ghost use Rattle.sq_rules.specs.ClassLines.{with_notice, with_notice_if};
-ghost use Rattle.sq_rules.specs.PoolLines.{is_refused_mode, mode_step, port_line, with_port};
+ghost use Rattle.sq_rules.specs.PoolLines.{mode_step, port_line, with_http_port};
 ghost use Rattle.sq_rules.specs.Steps.{over};
 
 use crate::faults::ReadFault;
 use crate::numbers::number_in;
 use crate::pairs::{has_host, port_text};
 use crate::words::Words;
-use sq_base::{Text, WantOfMemory};
+use sq_base::{PORT_LIMIT, Text, WantOfMemory, is_among};
 use sq_drafts::Builder;
 use sq_rules::{Kind, Notice};
 use std::alloc::Global;
+
+// Modes of interception, of a reverse proxy and of TLS that is opened.
+const REFUSED_MODES: [&[u8]; 4] = [b"intercept", b"tproxy", b"accel", b"ssl-bump"];
 
 /// Notes that a line has no effect, or only in part.
 pub fn note(
@@ -44,23 +47,13 @@ pub fn note_if(
     }
 }
 
-// A mode of interception, of a reverse proxy or of TLS that is opened.
-fn is_refused_mode(word: &[u8]) -> bool
-    ensures { result ≡ is_refused_mode word.now }
-{
-    word == b"intercept".as_slice()
-        || word == b"tproxy".as_slice()
-        || word == b"accel".as_slice()
-        || word == b"ssl-bump".as_slice()
-}
-
 // Whether there is something to note, with the words behind the port.
 fn modes(noted: bool, words: &[Text]) -> Result<bool, ReadFault>
     ensures { Gives (λ n. n) result (over mode_step noted words.now) }
 {
     let mut so_far = noted;
     for word in words {
-        if is_refused_mode(word.as_bytes()) {
+        if is_among(&REFUSED_MODES, word.as_bytes()) {
             return Err(ReadFault::Fault(Kind::BadValue));
         }
         so_far = true;
@@ -70,7 +63,7 @@ fn modes(noted: bool, words: &[Text]) -> Result<bool, ReadFault>
 
 // Only the first port counts.
 fn set_port(builder: &mut Builder, port: u16)
-    ensures { builder.new ≡ with_port port builder.old }
+    ensures { builder.new ≡ with_http_port port builder.old }
 {
     if !builder.has_port() {
         builder.set_port(port);
@@ -89,7 +82,7 @@ pub fn port_line(
 {
     let mut words = Words::new(words);
     let first = words.next()?.as_bytes();
-    let port = number_in(port_text(first), 1, 65535)?;
+    let port = number_in(port_text(first), 1, PORT_LIMIT - 1)?;
     let noted = modes(has_host(first), words.rest())?;
     set_port(builder, port as u16);
     note_if(alloc, builder, noted, line, b"http_port")?;

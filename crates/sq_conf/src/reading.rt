@@ -19,11 +19,9 @@ use crate::words::Words;
 use sq_base::{Line, LineFault, Text};
 use sq_drafts::{Builder, FinishFault};
 use sq_lex::lex;
-use sq_rules::{ConfError, Config, Directive, Kind};
+use sq_rules::{ConfError, Config, Directive, Kind, TEXT_LIMIT};
 use sq_urlmatch::{Setup, SetupFault};
 use std::alloc::Global;
-
-const TEXT_LIMIT: usize = 1_048_576;
 
 // What the words behind a directive change.
 #[tactic(auto, unfolding(sq_rules::specs::ConfText::by_directive))]

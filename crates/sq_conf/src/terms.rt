@@ -8,25 +8,37 @@ ghost use Rattle.sq_rules.specs.Configurations.{are_known};
 
 use crate::faults::ReadFault;
 use crate::words::begins;
-use sq_base::{Listed, Text};
+use sq_base::{Listed, Text, named};
 use sq_drafts::Builder;
-use sq_rules::{AclType, Kind, Term, Terms};
+use sq_rules::{AclType, Kind, NAME_LIMIT, Term, Terms};
 use std::alloc::Global;
 
-const NAME_LIMIT: usize = 255;
+const ACTIONS: [(&[u8], bool); 2] = [(b"allow", true), (b"deny", false)];
+
+const ACL_TYPES: [(&[u8], AclType); 12] = [
+    (b"src", AclType::Src),
+    (b"dst", AclType::Dst),
+    (b"dstdomain", AclType::DstDomain),
+    (b"port", AclType::Port),
+    (b"method", AclType::Method),
+    (b"proto", AclType::Proto),
+    (b"time", AclType::Time),
+    (b"url_regex", AclType::UrlRegex),
+    (b"maxconn", AclType::MaxConn),
+    (b"external", AclType::External),
+    (b"any-of", AclType::AnyOf),
+    (b"all-of", AclType::AllOf),
+];
 
 /// `allow` is true, `deny` false.
 #[tactic(auto, unfolding(sq_rules::specs::AclLines::action))]
 pub fn action(word: &[u8]) -> Result<bool, ReadFault>
     ensures { Gives (λ a. a) result (action word.now) }
 {
-    if word == b"allow".as_slice() {
-        return Ok(true);
+    match named(&ACTIONS, word) {
+        Some(allow) => Ok(allow),
+        None => Err(ReadFault::Fault(Kind::BadValue)),
     }
-    if word == b"deny".as_slice() {
-        return Ok(false);
-    }
-    Err(ReadFault::Fault(Kind::BadValue))
 }
 
 fn is_name(word: &[u8]) -> bool
@@ -55,43 +67,10 @@ pub fn acl_named(builder: &Builder, word: &Text) -> Result<Option<u32>, ReadFaul
 pub fn acl_type(word: &[u8]) -> Result<AclType, ReadFault>
     ensures { Gives (λ t. t) result (acl_type word.now) }
 {
-    if word == b"src".as_slice() {
-        return Ok(AclType::Src);
+    match named(&ACL_TYPES, word) {
+        Some(kind) => Ok(kind),
+        None => Err(ReadFault::Fault(Kind::UnknownAclType)),
     }
-    if word == b"dst".as_slice() {
-        return Ok(AclType::Dst);
-    }
-    if word == b"dstdomain".as_slice() {
-        return Ok(AclType::DstDomain);
-    }
-    if word == b"port".as_slice() {
-        return Ok(AclType::Port);
-    }
-    if word == b"method".as_slice() {
-        return Ok(AclType::Method);
-    }
-    if word == b"proto".as_slice() {
-        return Ok(AclType::Proto);
-    }
-    if word == b"time".as_slice() {
-        return Ok(AclType::Time);
-    }
-    if word == b"url_regex".as_slice() {
-        return Ok(AclType::UrlRegex);
-    }
-    if word == b"maxconn".as_slice() {
-        return Ok(AclType::MaxConn);
-    }
-    if word == b"external".as_slice() {
-        return Ok(AclType::External);
-    }
-    if word == b"any-of".as_slice() {
-        return Ok(AclType::AnyOf);
-    }
-    if word == b"all-of".as_slice() {
-        return Ok(AclType::AllOf);
-    }
-    Err(ReadFault::Fault(Kind::UnknownAclType))
 }
 
 // The place of a type in their order.

@@ -2,35 +2,38 @@
 ghost use Rattle.std.specs.Prelude.{◌≡◌, ◌<◌, ◌≤◌, IfSome};
 ghost use Rattle.sq_conf.specs.Forms.{Gives};
 ghost use Rattle.sq_rules.specs.AclValues.{day_bits, days_on, days_of, short_number, minute_of, period_of, hours_value, behind_days, by_first, time_value, time_values};
+ghost use Rattle.sq_rules.specs.Times.{day_minutes};
 
 use crate::cuts::{before, behind};
 use crate::faults::ReadFault;
 use crate::leaf_values::is_unquoted;
 use crate::numbers::digits_of;
 use crate::words::Words;
-use sq_base::{Listed, Text};
-use sq_rules::{Hour, Hours, Kind};
+use sq_base::{Listed, Text, named};
+use sq_rules::{DAY_MINUTES, Hour, Hours, Kind};
 use std::alloc::Global;
 
 const ALL_DAYS: u8 = 127;
 
-// The weekdays of a letter as bits, Sunday the lowest.
+// The weekdays of each letter as bits, Sunday the lowest.
+const DAY_LETTERS: [(&[u8], u8); 8] = [
+    (b"S", 1),
+    (b"M", 2),
+    (b"T", 4),
+    (b"W", 8),
+    (b"H", 16),
+    (b"F", 32),
+    (b"A", 64),
+    (b"D", 62),
+];
+
+// The weekdays of a letter.
 #[tactic(auto, unfolding(sq_rules::specs::AclValues::day_bits))]
 fn day_bits(letter: u8) -> Option<u8>
     ensures bits { result ≡ day_bits letter }
     ensures seven { IfSome result (λ d. d < 128) }
 {
-    match letter {
-        b'S' => Some(1),
-        b'M' => Some(2),
-        b'T' => Some(4),
-        b'W' => Some(8),
-        b'H' => Some(16),
-        b'F' => Some(32),
-        b'A' => Some(64),
-        b'D' => Some(62),
-        _ => None,
-    }
+    named(&DAY_LETTERS, &[letter])
 }
 
 // The weekdays of one letter or more.
@@ -66,12 +69,12 @@ fn short_number(word: &[u8], most: u64) -> Option<u64>
 #[tactic(auto, unfolding(sq_rules::specs::AclValues::minute_of))]
 fn minute_of(word: &[u8]) -> Option<u32>
     ensures read { result ≡ minute_of word.now }
-    ensures bound { IfSome result (λ m. m ≤ 1440) }
+    ensures bound { IfSome result (λ m. m ≤ day_minutes) }
 {
     let hour = short_number(before(word, b':'), 24)?;
     let minute = short_number(behind(word, b':'), 59)?;
     let minute = hour * 60 + minute;
-    if minute <= 1440 {
+    if minute <= DAY_MINUTES as u64 {
         Some(minute as u32)
     } else {
         None
@@ -115,7 +118,7 @@ fn behind_days(days: u8, words: &[Text]) -> Result<Hour, ReadFault>
         [] => Ok(Hour {
             days,
             first: 0,
-            last: 1440,
+            last: DAY_MINUTES,
         }),
         [word, rest @ ..] => {
             let hours = hours_value(days, word.as_bytes())?;

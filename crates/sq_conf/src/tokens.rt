@@ -2,9 +2,10 @@
 ghost use Rattle.std.specs.Prelude.{◌≡◌, ◌==◌, ◌||◌, Some, None, bytes_eq, codes, nat_eq};
 ghost use Rattle.std.specs.List.{starts_with};
 ghost use Rattle.sq_base.specs.Lines.{but_last, ends_in};
+ghost use Rattle.sq_base.specs.NameTables.{beside};
 ghost use Rattle.sq_conf.specs.Forms.{Gives};
-ghost use Rattle.sq_rules.specs.ClassLines.{field_name, is_field, field_token, token_of};
-ghost use Rattle.sq_rules.specs.Classes.{is_arguments};
+ghost use Rattle.sq_rules.specs.ClassLines.{field_name, field_token, is_field, token_of, whole_tokens};
+ghost use Rattle.sq_rules.specs.Steps.{needed};
 
 use crate::faults::ReadFault;
 use crate::leaf_values::is_token;
@@ -39,8 +40,9 @@ fn is_field(word: &[u8]) -> bool
     word.starts_with(b"%>{") && ends_in(word, b'}') && is_token(field_name(word))
 }
 
+// The token for a field of the request.
 fn field_token(alloc: Global, word: &[u8]) -> Result<Token, ReadFault>
-    ensures { Gives (λ t. t) result (field_token word.now) }
+    ensures { Gives (λ t. t) result (needed Kind.UnknownToken (field_token word.now)) }
 {
     if is_field(word) {
         Ok(Token::Header(Text::from_slice(alloc, field_name(word))?))
@@ -56,53 +58,53 @@ fn is_either(word: &[u8], short: &[u8], long: &[u8]) -> bool
     word == short || word == long
 }
 
+// A token that is a whole word.
+fn whole_token(word: &[u8]) -> Option<Token>
+    ensures { result ≡ beside whole_tokens word.now }
+{
+    if is_either(word, b"%>a", b"%SRC") {
+        return Some(Token::ClientAddr);
+    }
+    if is_either(word, b"%>p", b"%SRCPORT") {
+        return Some(Token::ClientPort);
+    }
+    if is_either(word, b"%>rm", b"%METHOD") {
+        return Some(Token::Method);
+    }
+    if is_either(word, b"%>ru", b"%URI") {
+        return Some(Token::Uri);
+    }
+    if is_either(word, b"%>rs", b"%PROTO") {
+        return Some(Token::Scheme);
+    }
+    if is_either(word, b"%>rd", b"%DST") {
+        return Some(Token::Host);
+    }
+    if is_either(word, b"%>rP", b"%PORT") {
+        return Some(Token::Port);
+    }
+    if is_either(word, b"%>rp", b"%PATH") {
+        return Some(Token::Path);
+    }
+    if word == b"%ACL".as_slice() {
+        return Some(Token::AclName);
+    }
+    if word == b"%DATA".as_slice() {
+        return Some(Token::Arguments);
+    }
+    if word == b"%%".as_slice() {
+        return Some(Token::Percent);
+    }
+    None
+}
+
 /// What a token stands for.
 #[tactic(auto, unfolding(sq_rules::specs::ClassLines::token_of))]
 pub fn token_of(alloc: Global, word: &[u8]) -> Result<Token, ReadFault>
     ensures { Gives (λ t. t) result (token_of word.now) }
 {
-    if is_either(word, b"%>a", b"%SRC") {
-        return Ok(Token::ClientAddr);
-    }
-    if is_either(word, b"%>p", b"%SRCPORT") {
-        return Ok(Token::ClientPort);
-    }
-    if is_either(word, b"%>rm", b"%METHOD") {
-        return Ok(Token::Method);
-    }
-    if is_either(word, b"%>ru", b"%URI") {
-        return Ok(Token::Uri);
-    }
-    if is_either(word, b"%>rs", b"%PROTO") {
-        return Ok(Token::Scheme);
-    }
-    if is_either(word, b"%>rd", b"%DST") {
-        return Ok(Token::Host);
-    }
-    if is_either(word, b"%>rP", b"%PORT") {
-        return Ok(Token::Port);
-    }
-    if is_either(word, b"%>rp", b"%PATH") {
-        return Ok(Token::Path);
-    }
-    if word == b"%ACL".as_slice() {
-        return Ok(Token::AclName);
-    }
-    if word == b"%DATA".as_slice() {
-        return Ok(Token::Arguments);
-    }
-    if word == b"%%".as_slice() {
-        return Ok(Token::Percent);
-    }
-    field_token(alloc, word)
-}
-
-/// Whether it stands for the acl's arguments.
-pub fn is_arguments(token: &Token) -> bool
-    ensures { result ≡ is_arguments token.now }
-{
-    match token {
-        Token::Arguments => true,
-        _ => false,
+    match whole_token(word) {
+        Some(token) => Ok(token),
+        None => field_token(alloc, word),
     }
 }

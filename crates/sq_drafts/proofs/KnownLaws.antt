@@ -1,11 +1,12 @@
 -- Members, rules and patterns that stay, where acls change or one more stands.
 use Rattle.std.proofs.Common.{◌≡◌, ℕ, ◌+◌, ◌≤◌, suc, zero, List, [], ◌∷◌, ◌++◌, length, set, Bool, true, false, ◌||◌, not, refl, sym, ap, ◌∙◌, arith, Some, slice_get, nat_lt}
+use Rattle.std.proofs.lemmas.Bool.{and_from}
 use Rattle.std.proofs.lemmas.Bool.Decides.{nat_tests}
 use Rattle.std.proofs.lemmas.List.{get_or_append_left, length_push}
 use Rattle.std.proofs.lemmas.List.Folds.{list_all-append}
 use Rattle.std.specs.List.{list_all}
 use Rattle.std.specs.Prelude.{slice_index_or}
-use Rattle.sq_drafts.proofs.ListLaws.{all_from, both_true, first_true, second_true}
+use Rattle.sq_drafts.proofs.ListLaws.{all_from, first_true, second_true}
 use Rattle.sq_rules.proofs.AclLaws.{slow_push}
 use Rattle.sq_rules.proofs.ListLaws.{all_push}
 use Rattle.sq_rules.specs.Changes.{has_patterns}
@@ -29,9 +30,9 @@ known_set classes n k (a ∷ acls) zero x y known is here step =
     let at : n ≡ k = omega arith in
     let same : x ≡ a = cc in
     let one : is_known_body classes k x.body ≡ true = rw (← at, same) (first_true (is_known_body classes n a.body) (are_known_bodies classes (suc n) acls) known) in
-    both_true (is_known_body classes n y.body) (are_known_bodies classes (suc n) acls) (rw at (step one)) (second_true (is_known_body classes n a.body) (are_known_bodies classes (suc n) acls) known)
+    and_from (is_known_body classes n y.body) (are_known_bodies classes (suc n) acls) (rw at (step one)) (second_true (is_known_body classes n a.body) (are_known_bodies classes (suc n) acls) known)
 known_set classes n k (a ∷ acls) (suc p) x y known is here step =
-    both_true (is_known_body classes n a.body) (are_known_bodies classes (suc n) (set acls p y)) (first_true (is_known_body classes n a.body) (are_known_bodies classes (suc n) acls) known)
+    and_from (is_known_body classes n a.body) (are_known_bodies classes (suc n) (set acls p y)) (first_true (is_known_body classes n a.body) (are_known_bodies classes (suc n) acls) known)
     (known_set classes (suc n) k acls p x y (second_true (is_known_body classes n a.body) (are_known_bodies classes (suc n) acls) known) is (omega arith) step)
 
 less_more : (i m n : ℕ) → m ≤ n → nat_lt i m ≡ true → nat_lt i n ≡ true
@@ -47,7 +48,7 @@ body_wider m n k (body.AllOf lines) more known = known
 pub known_wider : (m n k : ℕ) (acls : List Acl) → m ≤ n → are_known_bodies m k acls ≡ true → are_known_bodies n k acls ≡ true
 known_wider m n k [] more known = refl
 known_wider m n k (a ∷ acls) more known =
-    both_true (is_known_body n k a.body) (are_known_bodies n (suc k) acls) (body_wider m n k a.body more (first_true (is_known_body m k a.body) (are_known_bodies m (suc k) acls) known))
+    and_from (is_known_body n k a.body) (are_known_bodies n (suc k) acls) (body_wider m n k a.body more (first_true (is_known_body m k a.body) (are_known_bodies m (suc k) acls) known))
     (known_wider m n (suc k) acls more (second_true (is_known_body m k a.body) (are_known_bodies m (suc k) acls) known))
 
 pub leaf_known : (classes k : ℕ) (more : Leaf) (b : Body) → is_known_body classes k b ≡ true → is_known_body classes k (with_leaf more b) ≡ true
@@ -63,11 +64,11 @@ line_known classes k (body.AnyOf terms) known = known
 line_known classes k (body.AllOf lines) known = all_push (are_known k) lines [] known refl
 
 last_known : (k : ℕ) (t : Term) (lines : List (List Term)) → nat_lt t.acl k ≡ true → list_all (are_known k) lines ≡ true → list_all (are_known k) (in_last t lines) ≡ true
-last_known k t [] one known = both_true (are_known k (t ∷ [])) true (both_true (nat_lt t.acl k) true one refl) refl
+last_known k t [] one known = and_from (are_known k (t ∷ [])) true (and_from (nat_lt t.acl k) true one refl) refl
 last_known k t (l ∷ []) one known =
-    both_true (are_known k (l ++ t ∷ [])) true (all_push (λ u. nat_lt u.acl k) l t (first_true (are_known k l) true known) one) refl
+    and_from (are_known k (l ++ t ∷ [])) true (all_push (λ u. nat_lt u.acl k) l t (first_true (are_known k l) true known) one) refl
 last_known k t (l ∷ m ∷ lines) one known =
-    both_true (are_known k l) (list_all (are_known k) (in_last t (m ∷ lines))) (first_true (are_known k l) (list_all (are_known k) (m ∷ lines)) known)
+    and_from (are_known k l) (list_all (are_known k) (in_last t (m ∷ lines))) (first_true (are_known k l) (list_all (are_known k) (m ∷ lines)) known)
     (last_known k t (m ∷ lines) one (second_true (are_known k l) (list_all (are_known k) (m ∷ lines)) known))
 
 pub member_known : (classes k : ℕ) (t : Term) (b : Body) → nat_lt t.acl k ≡ true → is_known_body classes k b ≡ true → is_known_body classes k (with_member t b) ≡ true
@@ -77,7 +78,7 @@ member_known classes k t (body.AnyOf terms) one known = all_push (λ u. nat_lt u
 member_known classes k t (body.AllOf lines) one known = last_known k t lines one known
 
 regexes_joined : (a : List Find) (m : Leaf) → list_all is_pattern a ≡ true → are_patterns m ≡ true → are_patterns (joined_leaves (leaf.UrlRegex a) m) ≡ true
-regexes_joined a (leaf.UrlRegex b) p q = list_all-append is_pattern a b ∙ both_true (list_all is_pattern a) (list_all is_pattern b) p q
+regexes_joined a (leaf.UrlRegex b) p q = list_all-append is_pattern a b ∙ and_from (list_all is_pattern a) (list_all is_pattern b) p q
 regexes_joined a (leaf.Src b) p q = p
 regexes_joined a (leaf.Dst b) p q = p
 regexes_joined a (leaf.DstDomain b) p q = p
@@ -138,6 +139,6 @@ fast_longer acls a r long fast =
     let longer : slow_ones acls ++ s ∷ [] ≡ slow_ones (acls ++ a ∷ []) = slow_push (slow_ones acls) (slow_ones acls ++ s ∷ []) acls (acls ++ a ∷ []) a s refl refl refl refl in
     let known : is_known_rule (length acls) r ≡ true = first_true (is_known_rule (length acls) r) (not (some_slow (slow_ones acls) r.terms)) fast in
     let same : some_slow (slow_ones (acls ++ a ∷ [])) r.terms ≡ some_slow (slow_ones acls) r.terms = ap (λ l. some_slow l r.terms) (sym longer) ∙ terms_longer (slow_ones acls) s (length acls) r.terms (sym long) known in
-    both_true (is_known_rule (length (acls ++ a ∷ [])) r) (not (some_slow (slow_ones (acls ++ a ∷ [])) r.terms))
+    and_from (is_known_rule (length (acls ++ a ∷ [])) r) (not (some_slow (slow_ones (acls ++ a ∷ [])) r.terms))
     (rule_wider (length acls) (length (acls ++ a ∷ [])) r (omega (arith, length_push acls a)) known)
     (ap not same ∙ second_true (is_known_rule (length acls) r) (not (some_slow (slow_ones acls) r.terms)) fast)

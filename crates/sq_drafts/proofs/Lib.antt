@@ -1,3 +1,3 @@
-pub mod KnownLaws
-pub mod ListLaws
-pub mod SoundLaws
+mod KnownLaws
+mod ListLaws
+mod SoundLaws

@@ -1,10 +1,9 @@
 -- Tests of each element of a list, where one element changes.
 use Rattle.std.proofs.Common.{◌≡◌, ℕ, ◌<◌, length, sym, subst, Result, Ok, Err, OnOk, OnErr, suc, zero, List, [], ◌∷◌, set, Bool, true, ◌&&◌, refl, arith, Some, slice_get}
+use Rattle.std.proofs.lemmas.Bool.{and_from}
 use Rattle.std.specs.List.{list_all}
 
-pub both_true : (a b : Bool) → a ≡ true → b ≡ true → (a && b) ≡ true
-both_true a b p q = grind (arith, p, q)
-
+-- what both of two tests say of the first, and of the second
 pub first_true : (a b : Bool) → (a && b) ≡ true → a ≡ true
 first_true a b e = grind (arith, e)
 
@@ -18,21 +17,21 @@ all_at p (y ∷ xs) (suc i) x all is = all_at p xs i x (second_true (p y) (list_
 
 pub all_set : {A : Type 0} (p : A → Bool) (xs : List A) (i : ℕ) (y : A) → list_all p xs ≡ true → p y ≡ true → list_all p (set xs i y) ≡ true
 all_set p [] i y all one = refl
-all_set p (x ∷ xs) zero y all one = both_true (p y) (list_all p xs) one (second_true (p x) (list_all p xs) all)
+all_set p (x ∷ xs) zero y all one = and_from (p y) (list_all p xs) one (second_true (p x) (list_all p xs) all)
 all_set p (x ∷ xs) (suc i) y all one =
-    both_true (p x) (list_all p (set xs i y)) (first_true (p x) (list_all p xs) all) (all_set p xs i y (second_true (p x) (list_all p xs) all) one)
+    and_from (p x) (list_all p (set xs i y)) (first_true (p x) (list_all p xs) all) (all_set p xs i y (second_true (p x) (list_all p xs) all) one)
 
 -- what follows at each element
 pub all_from : {A : Type 0} (p q : A → Bool) (xs : List A) → ((x : A) → p x ≡ true → q x ≡ true) → list_all p xs ≡ true → list_all q xs ≡ true
 all_from p q [] then_so all = refl
 all_from p q (x ∷ xs) then_so all =
-    both_true (q x) (list_all q xs) (then_so x (first_true (p x) (list_all p xs) all)) (all_from p q xs then_so (second_true (p x) (list_all p xs) all))
+    and_from (q x) (list_all q xs) (then_so x (first_true (p x) (list_all p xs) all)) (all_from p q xs then_so (second_true (p x) (list_all p xs) all))
 
 -- what follows at each element of two tests
 pub all_from_both : {A : Type 0} (p q r : A → Bool) (xs : List A) → ((x : A) → p x ≡ true → q x ≡ true → r x ≡ true) → list_all p xs ≡ true → list_all q xs ≡ true → list_all r xs ≡ true
 all_from_both p q r [] then_so one other = refl
 all_from_both p q r (x ∷ xs) then_so one other =
-    both_true (r x) (list_all r xs) (then_so x (first_true (p x) (list_all p xs) one) (first_true (q x) (list_all q xs) other))
+    and_from (r x) (list_all r xs) (then_so x (first_true (p x) (list_all p xs) one) (first_true (q x) (list_all q xs) other))
     (all_from_both p q r xs then_so (second_true (p x) (list_all p xs) one) (second_true (q x) (list_all q xs) other))
 
 -- the element at a place

@@ -1,12 +1,13 @@
 -- What holds of the drafts, after each of their changes.
 use Rattle.std.proofs.Common.{◌≡◌, ℕ, ◌≤◌, ◌<◌, suc, zero, List, [], ◌∷◌, ◌++◌, length, replicate, set, take, Bool, true, ◌&&◌, not, refl, sym, ap, subst, ◌∙◌, arith, Option, Some, None, slice_get, nat_lt, Result, Ok, Err, OnOk, OnErr, is_some, map}
+use Rattle.std.proofs.lemmas.Bool.{and_from}
 use Rattle.std.proofs.lemmas.Bool.Decides.{nat_tests}
 use Rattle.std.proofs.lemmas.List.{length-replicate, length-set, length_push}
 use Rattle.std.proofs.lemmas.List.Folds.{list_all-map}
 use Rattle.std.proofs.lemmas.Option.{get_or_from_slice_get}
 use Rattle.std.specs.List.{list_all}
 use Rattle.sq_drafts.proofs.KnownLaws.{fast_longer, known_set, known_wider, leaf_known, leaf_patterns, line_known, line_patterns, member_known, member_patterns, rule_wider}
-use Rattle.sq_drafts.proofs.ListLaws.{all_at, all_from, all_from_both, all_set, both_true, by_either, first_true, found, second_true}
+use Rattle.sq_drafts.proofs.ListLaws.{all_at, all_from, all_from_both, all_set, by_either, first_true, found, second_true}
 use Rattle.sq_drafts.specs.Sound.{IsSound, has_room_for, is_pool_draft, stay_fast}
 use Rattle.sq_rules.proofs.AclLaws.{known_longer}
 use Rattle.sq_rules.proofs.ListLaws.{all_push}
@@ -14,11 +15,11 @@ use Rattle.sq_rules.proofs.MemberLaws.{leaf_slow, line_slow}
 use Rattle.sq_rules.proofs.PredefinedTexts.{cache_objects, managers}
 use Rattle.sq_rules.proofs.TableLaws.{changed_at, slow_length, slow_same}
 use Rattle.sq_rules.specs.Changes.{AreSlowOnes, all_patterns, has_patterns, with_member_at}
-use Rattle.sq_rules.specs.Classes.{HelperClass}
+use Rattle.sq_rules.specs.Classes.{Class}
 use Rattle.sq_rules.specs.Configurations.{are_known_bodies, has_buckets, is_fast_rule, is_known_body, is_known_rule, is_pool, is_slow, slow_ones, some_slow}
 use Rattle.sq_rules.specs.Drafts.{Drafts, PoolDraft, are_complete, are_fast, are_patterns, change_body, is_complete, is_fast, no_pool, or_none, or_zero, pool_at, pool_of_draft, predefined_ones, with_leaf, with_line, with_member, with_pool}
 use Rattle.sq_rules.specs.Limits.{acl_limit, class_limit, pool_limit}
-use Rattle.sq_rules.specs.Rates.{Rate}
+use Rattle.sq_rules.specs.Rates.{Limit}
 use Rattle.sq_rules.specs.declared.configs.Acl.{Acl}
 use Rattle.sq_rules.specs.declared.configs.Body.{Body}
 use Rattle.sq_rules.specs.declared.configs.Rule.{Rule}
@@ -26,20 +27,20 @@ use Rattle.sq_rules.specs.declared.configs.Term.{Term}
 use Rattle.sq_rules.specs.declared.leaves.Leaf.{Leaf}
 
 -- changes that may fail, of the acls and of the classes
-pub IsSound-by : {V E : Type 0} (r : Result V E) (d : Drafts) (acls changed : List Acl) → IsSound d → OnOk r (acls ≡ changed) → OnErr r (acls ≡ d.acls) → IsSound (record d { acls = changed }) → IsSound (record d { acls = acls })
-IsSound-by r d acls changed sound ok err after = by_either (λ l. IsSound (record d { acls = l })) r d.acls changed acls sound ok err after
+pub IsSound_by : {V E : Type 0} (r : Result V E) (d : Drafts) (acls changed : List Acl) → IsSound d → OnOk r (acls ≡ changed) → OnErr r (acls ≡ d.acls) → IsSound (record d { acls = changed }) → IsSound (record d { acls = acls })
+IsSound_by r d acls changed sound ok err after = by_either (λ l. IsSound (record d { acls = l })) r d.acls changed acls sound ok err after
 
-pub IsSound-class_by : {V E : Type 0} (r : Result V E) (d : Drafts) (classes changed : List HelperClass) → IsSound d → OnOk r (classes ≡ changed) → OnErr r (classes ≡ d.classes) → IsSound (record d { classes = changed }) →
+pub IsSound_class_by : {V E : Type 0} (r : Result V E) (d : Drafts) (classes changed : List Class) → IsSound d → OnOk r (classes ≡ changed) → OnErr r (classes ≡ d.classes) → IsSound (record d { classes = changed }) →
     IsSound (record d { classes = classes })
-IsSound-class_by r d classes changed sound ok err after = by_either (λ l. IsSound (record d { classes = l })) r d.classes changed classes sound ok err after
+IsSound_class_by r d classes changed sound ok err after = by_either (λ l. IsSound (record d { classes = l })) r d.classes changed classes sound ok err after
 
 abbrev pool_over : ℕ → List Bool → PoolDraft → Bool
 pool_over count slow p = has_room_for p.class p.pairs && list_all (λ r. is_known_rule count r && not (some_slow slow r.terms)) p.lists
 
 -- acls of which as many stand and the same are slow
-pub IsSound-alike : (d : Drafts) (acls : List Acl) → IsSound d → length acls ≡ length d.acls → slow_ones acls ≡ slow_ones d.acls → are_known_bodies (length d.classes) 0 acls ≡ true →
+pub IsSound_alike : (d : Drafts) (acls : List Acl) → IsSound d → length acls ≡ length d.acls → slow_ones acls ≡ slow_ones d.acls → are_known_bodies (length d.classes) 0 acls ≡ true →
     all_patterns acls ≡ true → IsSound (record d { acls = acls })
-IsSound-alike d acls sound long slow known patterns = record {
+IsSound_alike d acls sound long slow known patterns = record {
   members = known;
   patterns = patterns;
   places = rw long sound.places;
@@ -60,33 +61,33 @@ pub patterns_set : (d : Drafts) (p : ℕ) (x y : Acl) → IsSound d → slice_ge
 patterns_set d p x y sound is step = all_set (λ a. has_patterns a.body) d.acls p y sound.patterns (step (all_at (λ a. has_patterns a.body) d.acls p x sound.patterns is))
 
 -- an acl whose body changes, and isn't slow otherwise
-pub IsSound-body : (d : Drafts) (p : ℕ) (x : Acl) (f : Body → Body) → IsSound d → slice_get d.acls p ≡ Some x → is_slow (take p (slow_ones d.acls)) (f x.body) ≡ is_slow (take p (slow_ones d.acls)) x.body →
+pub IsSound_body : (d : Drafts) (p : ℕ) (x : Acl) (f : Body → Body) → IsSound d → slice_get d.acls p ≡ Some x → is_slow (take p (slow_ones d.acls)) (f x.body) ≡ is_slow (take p (slow_ones d.acls)) x.body →
     (is_known_body (length d.classes) p x.body ≡ true → is_known_body (length d.classes) p (f x.body) ≡ true) → (has_patterns x.body ≡ true → has_patterns (f x.body) ≡ true) →
     IsSound (record d { acls = change_body p f d.acls })
-IsSound-body d p x f sound is slow known patterns =
+IsSound_body d p x f sound is slow known patterns =
     let y : Acl = record x { body = f x.body } in
     subst (λ l. IsSound (record d { acls = l })) (sym (changed_at d.acls p x f is))
-    (IsSound-alike d (set d.acls p y) sound (length-set d.acls p y) (slow_same d.acls p x y is slow) (members_set d p x y sound is known) (patterns_set d p x y sound is patterns))
+    (IsSound_alike d (set d.acls p y) sound (length-set d.acls p y) (slow_same d.acls p x y is slow) (members_set d p x y sound is known) (patterns_set d p x y sound is patterns))
 
-pub IsSound-leaf : (d : Drafts) (p : ℕ) (more : Leaf) → IsSound d → p < length d.acls → are_patterns more ≡ true → IsSound (record d { acls = change_body p (with_leaf more) d.acls })
-IsSound-leaf d p more sound within good =
+pub IsSound_leaf : (d : Drafts) (p : ℕ) (more : Leaf) → IsSound d → p < length d.acls → are_patterns more ≡ true → IsSound (record d { acls = change_body p (with_leaf more) d.acls })
+IsSound_leaf d p more sound within good =
     let at = found d.acls p within in
-    IsSound-body d p at.0 (with_leaf more) sound at.1 (leaf_slow (take p (slow_ones d.acls)) more at.0.body) (leaf_known (length d.classes) p more at.0.body) (leaf_patterns more at.0.body good)
+    IsSound_body d p at.0 (with_leaf more) sound at.1 (leaf_slow (take p (slow_ones d.acls)) more at.0.body) (leaf_known (length d.classes) p more at.0.body) (leaf_patterns more at.0.body good)
 
-pub IsSound-line : (d : Drafts) (p : ℕ) → IsSound d → p < length d.acls → IsSound (record d { acls = change_body p with_line d.acls })
-IsSound-line d p sound within =
+pub IsSound_line : (d : Drafts) (p : ℕ) → IsSound d → p < length d.acls → IsSound (record d { acls = change_body p with_line d.acls })
+IsSound_line d p sound within =
     let at = found d.acls p within in
-    IsSound-body d p at.0 with_line sound at.1 (line_slow (take p (slow_ones d.acls)) at.0.body) (line_known (length d.classes) p at.0.body) (line_patterns at.0.body)
+    IsSound_body d p at.0 with_line sound at.1 (line_slow (take p (slow_ones d.acls)) at.0.body) (line_known (length d.classes) p at.0.body) (line_patterns at.0.body)
 
 pool_longer : (acls : List Acl) (a : Acl) (p : PoolDraft) → is_pool_draft acls p ≡ true → is_pool_draft (acls ++ a ∷ []) p ≡ true
 pool_longer acls a p good =
-    both_true (has_room_for p.class p.pairs) (list_all (is_fast_rule (acls ++ a ∷ [])) p.lists) (first_true (has_room_for p.class p.pairs) (list_all (is_fast_rule acls) p.lists) good)
+    and_from (has_room_for p.class p.pairs) (list_all (is_fast_rule (acls ++ a ∷ [])) p.lists) (first_true (has_room_for p.class p.pairs) (list_all (is_fast_rule acls) p.lists) good)
     (all_from (is_fast_rule acls) (is_fast_rule (acls ++ a ∷ [])) p.lists (λ r. fast_longer acls a r (slow_length acls)) (second_true (has_room_for p.class p.pairs) (list_all (is_fast_rule acls) p.lists) good))
 
 -- one acl more
-pub IsSound-push : (d : Drafts) (a : Acl) → IsSound d → nat_lt (length d.acls) acl_limit ≡ true → is_known_body (length d.classes) (length d.acls) a.body ≡ true → has_patterns a.body ≡ true →
+pub IsSound_push : (d : Drafts) (a : Acl) → IsSound d → nat_lt (length d.acls) acl_limit ≡ true → is_known_body (length d.classes) (length d.acls) a.body ≡ true → has_patterns a.body ≡ true →
     IsSound (record d { acls = d.acls ++ a ∷ [] })
-IsSound-push d a sound room known good = record {
+IsSound_push d a sound room known good = record {
   members = known_longer (length d.classes) 0 (length d.acls) d.acls a sound.members (omega arith) known;
   patterns = all_push (λ b. has_patterns b.body) d.acls a sound.patterns good;
   places = all_from (is_known_rule (length d.acls)) (is_known_rule (length (d.acls ++ a ∷ []))) d.rules (λ r. rule_wider (length d.acls) (length (d.acls ++ a ∷ [])) r (omega (arith, length_push d.acls a))) sound.places;
@@ -99,8 +100,8 @@ IsSound-push d a sound room known good = record {
 }
 
 -- one class more
-pub IsSound-class : (d : Drafts) (c : HelperClass) → IsSound d → nat_lt (length d.classes) class_limit ≡ true → IsSound (record d { classes = d.classes ++ c ∷ [] })
-IsSound-class d c sound room = record {
+pub IsSound_class : (d : Drafts) (c : Class) → IsSound d → nat_lt (length d.classes) class_limit ≡ true → IsSound (record d { classes = d.classes ++ c ∷ [] })
+IsSound_class d c sound room = record {
   members = known_wider (length d.classes) (length (d.classes ++ c ∷ [])) 0 d.acls (omega (arith, length_push d.classes c)) sound.members;
   patterns = sound.patterns;
   places = sound.places;
@@ -113,8 +114,8 @@ IsSound-class d c sound room = record {
 }
 
 -- one pool put in
-pub IsSound-pool : (d : Drafts) (p : ℕ) (y : PoolDraft) → IsSound d → is_pool_draft d.acls y ≡ true → IsSound (record d { pools = set d.pools p y })
-IsSound-pool d p y sound good = record {
+pub IsSound_pool : (d : Drafts) (p : ℕ) (y : PoolDraft) → IsSound d → is_pool_draft d.acls y ≡ true → IsSound (record d { pools = set d.pools p y })
+IsSound_pool d p y sound good = record {
   members = sound.members;
   patterns = sound.patterns;
   places = sound.places;
@@ -131,8 +132,8 @@ none_stated acls zero = refl
 none_stated acls (suc n) = none_stated acls n
 
 -- pools of which nothing is stated
-pub IsSound-count : (d : Drafts) (counted : Bool) (n : ℕ) (pools : List PoolDraft) → IsSound d → pools ≡ replicate n no_pool → n ≤ pool_limit → IsSound (record d { counted = counted; pools = pools })
-IsSound-count d counted n pools sound made few = record {
+pub IsSound_count : (d : Drafts) (counted : Bool) (n : ℕ) (pools : List PoolDraft) → IsSound d → pools ≡ replicate n no_pool → n ≤ pool_limit → IsSound (record d { counted = counted; pools = pools })
+IsSound_count d counted n pools sound made few = record {
   members = sound.members;
   patterns = sound.patterns;
   places = sound.places;
@@ -146,17 +147,17 @@ IsSound-count d counted n pools sound made few = record {
 
 fast_again : (acls after : List Acl) (r : Rule) → length after ≡ length acls → is_fast_rule acls r ≡ true → is_fast (slow_ones after) r ≡ true → is_fast_rule after r ≡ true
 fast_again acls after r long was fast =
-    both_true (is_known_rule (length after) r) (is_fast (slow_ones after) r) (rw long (first_true (is_known_rule (length acls) r) (not (some_slow (slow_ones acls) r.terms)) was)) fast
+    and_from (is_known_rule (length after) r) (is_fast (slow_ones after) r) (rw long (first_true (is_known_rule (length acls) r) (not (some_slow (slow_ones acls) r.terms)) was)) fast
 
 pool_again : (acls after : List Acl) (p : PoolDraft) → length after ≡ length acls → is_pool_draft acls p ≡ true → list_all (is_fast (slow_ones after)) p.lists ≡ true → is_pool_draft after p ≡ true
 pool_again acls after p long was fast =
-    both_true (has_room_for p.class p.pairs) (list_all (is_fast_rule after) p.lists) (first_true (has_room_for p.class p.pairs) (list_all (is_fast_rule acls) p.lists) was)
+    and_from (has_room_for p.class p.pairs) (list_all (is_fast_rule after) p.lists) (first_true (has_room_for p.class p.pairs) (list_all (is_fast_rule acls) p.lists) was)
     (all_from_both (is_fast_rule acls) (is_fast (slow_ones after)) (is_fast_rule after) p.lists (λ r. fast_again acls after r long) (second_true (has_room_for p.class p.pairs) (list_all (is_fast_rule acls) p.lists) was) fast)
 
 -- one member more, over which the pools stay fast
-pub IsSound-member : (d : Drafts) (p : ℕ) (t : Term) → IsSound d → p < length d.acls → t.acl < p → are_fast (with_member_at p t d.acls) d.pools ≡ true →
+pub IsSound_member : (d : Drafts) (p : ℕ) (t : Term) → IsSound d → p < length d.acls → t.acl < p → are_fast (with_member_at p t d.acls) d.pools ≡ true →
     IsSound (record d { acls = with_member_at p t d.acls })
-IsSound-member d p t sound within earlier fast =
+IsSound_member d p t sound within earlier fast =
     let at = found d.acls p within in
     let x = at.0 in
     let is = at.1 in
@@ -189,14 +190,14 @@ member_fast d p t None sound same =
     ap (λ s. list_all (λ q. list_all (is_fast s) q.lists) d.pools) (sym same) ∙ pools_fast d.acls d.pools sound.pools_are
 member_fast d p t (Some slow) sound same = ap (λ s. list_all (λ q. list_all (is_fast s) q.lists) d.pools) (sym same)
 
-buckets : (class : Option ℕ) (pairs : Option (List (Option Rate))) → has_room_for class pairs ≡ true → (is_some class && is_some pairs) ≡ true → has_buckets (or_zero class) (length (or_none pairs)) ≡ true
+buckets : (class : Option ℕ) (pairs : Option (List (Option Limit))) → has_room_for class pairs ≡ true → (is_some class && is_some pairs) ≡ true → has_buckets (or_zero class) (length (or_none pairs)) ≡ true
 buckets None pairs room full = cc
 buckets (Some class) None room full = cc
 buckets (Some class) (Some pairs) room full = room
 
 pool_finished : (acls : List Acl) (p : PoolDraft) → is_pool_draft acls p ≡ true → is_complete p ≡ true → is_pool acls (pool_of_draft p) ≡ true
 pool_finished acls p good full =
-    both_true (has_buckets (or_zero p.class) (length (or_none p.pairs))) (list_all (is_fast_rule acls) p.lists)
+    and_from (has_buckets (or_zero p.class) (length (or_none p.pairs))) (list_all (is_fast_rule acls) p.lists)
     (buckets p.class p.pairs (first_true (has_room_for p.class p.pairs) (list_all (is_fast_rule acls) p.lists) good) full)
     (second_true (has_room_for p.class p.pairs) (list_all (is_fast_rule acls) p.lists) good)
 
@@ -205,7 +206,7 @@ pub pools_finished : (acls : List Acl) (pools : List PoolDraft) → list_all (is
 pools_finished acls pools good full =
     list_all-map (is_pool acls) pool_of_draft pools ∙ all_from_both (is_pool_draft acls) is_complete (λ p. is_pool acls (pool_of_draft p)) pools (pool_finished acls) good full
 
-unset : (class : Option ℕ) (pairs : Option (List (Option Rate))) (n : ℕ) → has_room_for class pairs ≡ true → class ≡ None → 1 ≤ n → n ≤ 3 → has_room_for (Some n) pairs ≡ true
+unset : (class : Option ℕ) (pairs : Option (List (Option Limit))) (n : ℕ) → has_room_for class pairs ≡ true → class ≡ None → 1 ≤ n → n ≤ 3 → has_room_for (Some n) pairs ≡ true
 unset None None n room none low high = grind (arith, nat_tests)
 unset None (Some pairs) n room none low high = cc
 unset (Some class) pairs n room none low high = cc
@@ -213,28 +214,28 @@ unset (Some class) pairs n room none low high = cc
 -- a class is set
 pub class_set : (acls : List Acl) (p : PoolDraft) (n : ℕ) → is_pool_draft acls p ≡ true → p.class ≡ None → 1 ≤ n → n ≤ 3 → is_pool_draft acls (record p { class = Some n }) ≡ true
 class_set acls p n good none low high =
-    both_true (has_room_for (Some n) p.pairs) (list_all (is_fast_rule acls) p.lists)
+    and_from (has_room_for (Some n) p.pairs) (list_all (is_fast_rule acls) p.lists)
     (unset p.class p.pairs n (first_true (has_room_for p.class p.pairs) (list_all (is_fast_rule acls) p.lists) good) none low high)
     (second_true (has_room_for p.class p.pairs) (list_all (is_fast_rule acls) p.lists) good)
 
-fits : (class : Option ℕ) (old pairs : Option (List (Option Rate))) (new : List (Option Rate)) → has_room_for class old ≡ true → class ≡ Some (length new) → pairs ≡ Some new → has_room_for class pairs ≡ true
+fits : (class : Option ℕ) (old pairs : Option (List (Option Limit))) (new : List (Option Limit)) → has_room_for class old ≡ true → class ≡ Some (length new) → pairs ≡ Some new → has_room_for class pairs ≡ true
 fits None old pairs new room has is = cc
 fits (Some n) None (Some q) new room has is = grind (arith, nat_tests, room)
 fits (Some n) (Some m) (Some q) new room has is = grind (arith, nat_tests, room)
 fits (Some n) old None new room has is = cc
 
 -- parameters are set
-pub pairs_set : (acls : List Acl) (p : PoolDraft) (new : List (Option Rate)) → is_pool_draft acls p ≡ true → p.class ≡ Some (length new) → is_pool_draft acls (record p { pairs = Some new }) ≡ true
+pub pairs_set : (acls : List Acl) (p : PoolDraft) (new : List (Option Limit)) → is_pool_draft acls p ≡ true → p.class ≡ Some (length new) → is_pool_draft acls (record p { pairs = Some new }) ≡ true
 pairs_set acls p new good has =
-    both_true (has_room_for p.class (Some new)) (list_all (is_fast_rule acls) p.lists)
+    and_from (has_room_for p.class (Some new)) (list_all (is_fast_rule acls) p.lists)
     (fits p.class p.pairs (Some new) new (first_true (has_room_for p.class p.pairs) (list_all (is_fast_rule acls) p.lists) good) has refl)
     (second_true (has_room_for p.class p.pairs) (list_all (is_fast_rule acls) p.lists) good)
 
 -- one rule more of a pool
 pub list_push : (acls : List Acl) (p : PoolDraft) (r : Rule) → is_pool_draft acls p ≡ true → is_known_rule (length acls) r ≡ true → is_fast (slow_ones acls) r ≡ true → is_pool_draft acls (record p { lists = p.lists ++ r ∷ [] }) ≡ true
 list_push acls p r good known fast =
-    both_true (has_room_for p.class p.pairs) (list_all (is_fast_rule acls) (p.lists ++ r ∷ [])) (first_true (has_room_for p.class p.pairs) (list_all (is_fast_rule acls) p.lists) good)
-    (all_push (is_fast_rule acls) p.lists r (second_true (has_room_for p.class p.pairs) (list_all (is_fast_rule acls) p.lists) good) (both_true (is_known_rule (length acls) r) (is_fast (slow_ones acls) r) known fast))
+    and_from (has_room_for p.class p.pairs) (list_all (is_fast_rule acls) (p.lists ++ r ∷ [])) (first_true (has_room_for p.class p.pairs) (list_all (is_fast_rule acls) p.lists) good)
+    (all_push (is_fast_rule acls) p.lists r (second_true (has_room_for p.class p.pairs) (list_all (is_fast_rule acls) p.lists) good) (and_from (is_known_rule (length acls) r) (is_fast (slow_ones acls) r) known fast))
 
 -- the pool at a place, and the drafts with it changed
 pub at_place : (pools : List PoolDraft) (p : ℕ) (x : PoolDraft) → slice_get pools p ≡ Some x → pool_at pools p ≡ x

@@ -6,11 +6,11 @@ use Rattle.sq_rules.specs.Changes.{all_patterns}
 use Rattle.sq_rules.specs.Configurations.{are_known_bodies, is_fast_rule, is_known_rule}
 use Rattle.sq_rules.specs.Drafts.{Drafts, PoolDraft, is_fast}
 use Rattle.sq_rules.specs.Limits.{acl_limit, class_limit, initial_limit, pool_limit, rule_limit}
-use Rattle.sq_rules.specs.Rates.{Rate}
+use Rattle.sq_rules.specs.Rates.{Limit}
 use Rattle.sq_rules.specs.declared.configs.Acl.{Acl}
 
 -- the class is 1, 2 or 3, and limits that stand are as many as it has buckets
-abbrev pub has_room_for : Option ℕ → Option (List (Option Rate)) → Bool
+abbrev pub has_room_for : Option ℕ → Option (List (Option Limit)) → Bool
 has_room_for None None = true
 has_room_for None (Some pairs) = false
 has_room_for (Some class) None = nat_le 1 class && nat_le class 3

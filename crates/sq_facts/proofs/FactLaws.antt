@@ -12,7 +12,7 @@ use Rattle.sq_rules.specs.declared.configs.Body.TheVariants as body
 use Rattle.sq_rules.specs.declared.leaves.Leaf.TheVariants as leaf
 use Rattle.sq_rules.specs.declared.sights.Sight.{Sight}
 use Rattle.sq_urlmatch.specs.Found.{finds_at, finds_in, finds_of}
-use Rattle.sq_facts.specs.Patterns.{body_has_patterns, has_patterns}
+use Rattle.sq_facts.specs.Patterns.{body_has_patterns, acl_has_patterns}
 
 -- a test that asks patterns was left open because of them
 pub asks_patterns : (has : Bool) (fact : Bool) → None ≡ (if has then None else Some fact) → has ≡ true
@@ -35,11 +35,11 @@ body_pattern (body.AnyOf terms) s subject has e = cc
 body_pattern (body.AllOf lines) s subject has e = cc
 
 -- where the acl at a place has patterns, they are its fact
-pub pattern_fact : (acls : List Acl) (k : ℕ) (a : Acl) (s : Sight) (subject : List ℕ) → slice_get acls k ≡ Some a → has_patterns a ≡ true →
-    (list_any has_patterns acls ≡ true → subject ≡ percent_decode s.request.target) →
+pub pattern_fact : (acls : List Acl) (k : ℕ) (a : Acl) (s : Sight) (subject : List ℕ) → slice_get acls k ≡ Some a → acl_has_patterns a ≡ true →
+    (list_any acl_has_patterns acls ≡ true → subject ≡ percent_decode s.request.target) →
     slice_get (facts_of acls s) k ≡ Some (some_found (finds_at acls k) subject)
 pattern_fact acls k a s subject here has decoded =
-    let e = decoded (any_passes_from_place has_patterns acls k a here has) in
+    let e = decoded (any_passes_from_place acl_has_patterns acls k a here has) in
     slice_get-map (acl_fact s) acls k ∙ ap (λ o. option_map (acl_fact s) o) here
     ∙ ap Some (body_pattern a.body s subject has e ∙ ap (λ o. some_found (finds_of o) subject) (sym here))
 

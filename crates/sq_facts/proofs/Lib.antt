@@ -1,1 +1,1 @@
-pub mod FactLaws
+mod FactLaws

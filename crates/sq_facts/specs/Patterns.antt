@@ -7,15 +7,15 @@ use Rattle.sq_rules.specs.declared.leaves.Leaf.{Leaf}
 use Rattle.sq_rules.specs.declared.leaves.Leaf.TheVariants as leaf
 
 -- a leaf whose values are no patterns
-abbrev pub is_plain : Leaf → Bool
-is_plain (leaf.UrlRegex finds) = false
-is_plain l = true
+abbrev pub is_plain_leaf : Leaf → Bool
+is_plain_leaf (leaf.UrlRegex finds) = false
+is_plain_leaf l = true
 
 -- a leaf whose values are patterns
 abbrev pub body_has_patterns : Body → Bool
-body_has_patterns (body.Leaf l) = not (is_plain l)
+body_has_patterns (body.Leaf l) = not (is_plain_leaf l)
 body_has_patterns b = false
 
 -- an acl whose values are patterns
-abbrev pub has_patterns : Acl → Bool
-has_patterns a = body_has_patterns a.body
+abbrev pub acl_has_patterns : Acl → Bool
+acl_has_patterns a = body_has_patterns a.body

@@ -4,7 +4,7 @@ ghost use Rattle.std.specs.List.{list_any};
 ghost use Rattle.percent_encoding.specs.Percent.{percent_decode};
 ghost use Rattle.sq_rules.specs.Facts.{acl_fact, facts_of};
 ghost use Rattle.sq_rules.specs.Leaves.{holds};
-ghost use Rattle.sq_facts.specs.Patterns.{has_patterns, is_plain};
+ghost use Rattle.sq_facts.specs.Patterns.{acl_has_patterns, is_plain_leaf};
 
 use sq_base::WantOfMemory;
 use sq_rules::{Acl, Body, Leaf, Sight};
@@ -23,7 +23,7 @@ pub fn fact_at(
     subject: &[u8],
 ) -> Result<bool, WantOfMemory>
     requires here { place < length setup.old.acls }
-    requires decoded { list_any has_patterns setup.old.acls ≡ true → subject.now ≡ percent_decode sight.now.request.target }
+    requires decoded { list_any acl_has_patterns setup.old.acls ≡ true → subject.now ≡ percent_decode sight.now.request.target }
     ensures fact { IfOk result (λ b. slice_get (facts_of setup.old.acls sight.now) place ≡ Some b) }
     ensures same { setup.new ≡ setup.old }
 {
@@ -35,7 +35,7 @@ pub fn fact_at(
 
 // The fact of an acl, where that needs no patterns.
 fn plain_fact(acl: &Acl, sight: &Sight) -> Option<bool>
-    ensures { result ≡ (if has_patterns acl.now then None else Some (acl_fact sight.now acl.now)) }
+    ensures { result ≡ (if acl_has_patterns acl.now then None else Some (acl_fact sight.now acl.now)) }
 {
     match &acl.body {
         Body::Leaf(Leaf::UrlRegex(_)) => None,
@@ -46,7 +46,7 @@ fn plain_fact(acl: &Acl, sight: &Sight) -> Option<bool>
 
 // Whether a leaf without patterns holds.
 fn leaf_fact(leaf: &Leaf, sight: &Sight) -> bool
-    requires { is_plain leaf.now ≡ true }
+    requires { is_plain_leaf leaf.now ≡ true }
     ensures { result ≡ holds leaf.now sight.now }
 {
     match leaf {

@@ -3,7 +3,7 @@ ghost use Rattle.std.specs.Prelude.{◌≡◌, true, IfOk};
 ghost use Rattle.std.specs.List.{list_any};
 ghost use Rattle.percent_encoding.specs.Percent.{percent_decode};
 ghost use Rattle.sq_rules.specs.Facts.{facts_of};
-ghost use Rattle.sq_facts.specs.Patterns.{has_patterns};
+ghost use Rattle.sq_facts.specs.Patterns.{acl_has_patterns};
 
 use crate::leaves::fact_at;
 use crate::subject::subject_of;
@@ -30,7 +30,7 @@ fn facts_over(
     sight: &Sight,
     subject: &[u8],
 ) -> Result<Facts, WantOfMemory>
-    requires { list_any has_patterns setup.old.acls ≡ true → subject.now ≡ percent_decode sight.now.request.target }
+    requires { list_any acl_has_patterns setup.old.acls ≡ true → subject.now ≡ percent_decode sight.now.request.target }
     ensures facts { IfOk result (λ f. f ≡ facts_of setup.old.acls sight.now) }
     ensures same { setup.new ≡ setup.old }
 {

@@ -3,7 +3,7 @@ ghost use Rattle.std.specs.Prelude.{◌≡◌, IfOk, true};
 ghost use Rattle.std.specs.Cow.{cow_slice_items};
 ghost use Rattle.std.specs.List.{list_any};
 ghost use Rattle.percent_encoding.specs.Percent.{percent_decode};
-ghost use Rattle.sq_facts.specs.Patterns.{has_patterns};
+ghost use Rattle.sq_facts.specs.Patterns.{acl_has_patterns};
 
 use percent_encoding::percent_decode;
 use sq_base::{Text, WantOfMemory};
@@ -17,7 +17,7 @@ pub fn subject_of<'a>(
     acls: &[Acl],
     target: &'a Text,
 ) -> Result<CowSlice<'a, u8, Global>, WantOfMemory>
-    ensures { IfOk result (λ t. list_any has_patterns acls.now ≡ true → cow_slice_items t ≡ percent_decode target.now) }
+    ensures { IfOk result (λ t. list_any acl_has_patterns acls.now ≡ true → cow_slice_items t ≡ percent_decode target.now) }
 {
     let bytes = target.as_bytes();
     if some_have_patterns(acls) {
@@ -28,13 +28,13 @@ pub fn subject_of<'a>(
 }
 
 fn some_have_patterns(acls: &[Acl]) -> bool
-    ensures { result ≡ list_any has_patterns acls.now }
+    ensures { result ≡ list_any acl_has_patterns acls.now }
 {
     acls.iter().any(has_patterns)
 }
 
 fn has_patterns(acl: &Acl) -> bool
-    ensures { result ≡ has_patterns acl.now }
+    ensures { result ≡ acl_has_patterns acl.now }
 {
     match &acl.body {
         Body::Leaf(Leaf::UrlRegex(_)) => true,

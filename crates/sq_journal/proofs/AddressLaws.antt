@@ -1,15 +1,18 @@
 -- The word of an address.
-use Rattle.std.proofs.Common.{◌≡◌, ℕ, ◌^◌, ◌<◌, List, Bool, true, false, Some, None, Option, nat_lt, bytes_eq, get_or, zero, suc, arith, refl, subst, inl, inr, ltb-true}
+use Rattle.std.proofs.Common.{◌≡◌, ℕ, ◌^◌, List, Bool, true, false, Some, None, Option, nat_lt, bytes_eq, arith, refl, subst, inl, inr, ltb-true}
 use Rattle.std.proofs.lemmas.Bool.Decides.{nat_tests}
 use Rattle.std.proofs.lemmas.List.Elements.{All-weaker}
 use Rattle.std.proofs.NetLemmas.Alphabet.{All-ipv4_text, All-hex_groups_text, IsDigitOrDot, IsHexOrColon}
+use Rattle.std.proofs.lemmas.Option.{none-some}
+use Rattle.std.proofs.lemmas.Bool.{and_parts}
+use Rattle.sq_base.proofs.CommonLaws.{if_both_some}
 use Rattle.sq_base.specs.Addresses.{Address, IsAddress, address_of, address_text, v4_text, v6_text, four_octets, eight_groups}
-use Rattle.sq_base.proofs.AddressLaws.{text_reads_back}
+use Rattle.sq_base.proofs.AddressLaws.{text_reads_back, octets_fit, groups_fit}
 use Rattle.sq_journal.specs.Lines.{is_space}
 use Rattle.sq_journal.specs.Reading.{printed_address, address_if, has_bits}
-use Rattle.sq_journal.specs.Values.{AreBytes}
-use Rattle.sq_journal.proofs.LineLaws.{IsPlain, and_parts}
-use Rattle.sq_journal.proofs.WordLaws.{ExactWord, no_some, word_is, word_same, chosen}
+use Rattle.sq_base.specs.Texts.{AreBytes}
+use Rattle.sq_journal.proofs.LineLaws.{IsPlain}
+use Rattle.sq_journal.proofs.WordLaws.{ExactWord, word_is, word_same}
 
 bits_at : (v6 : Bool) (n : ℕ) → IsAddress (record { v6 = v6; number = n }) → has_bits (record { v6 = v6; number = n }) ≡ true
 bits_at true n h = h.1
@@ -33,32 +36,14 @@ address_again a h =
     rw (read, bits_of_address a h, word_same (address_text a)) refl
 
 taken_at : (w : List ℕ) (o : Option Address) (a : Address) → address_if w o ≡ Some a → (w ≡ address_text a) × IsAddress a
-taken_at w None a e = no_some a e
+taken_at w None a e = absurd (none-some a e)
 taken_at w (Some b) a e =
-    let c = chosen (has_bits b) (bytes_eq w (address_text b)) b a e in
+    let c = if_both_some (has_bits b) (bytes_eq w (address_text b)) b a e in
     subst (λ x. (w ≡ address_text x) × IsAddress x) c.2 (word_is w (address_text b) c.1, address_with_bits b c.0)
 
 address_takes : (w : List ℕ) (a : Address) → AreBytes w → printed_address w ≡ Some a → (w ≡ address_text a) × IsAddress a
 unfolding printed_address
 address_takes w a small e = taken_at w (address_of w) a e
-
-octets_fit : (n : ℕ) → n < 2 ^ 32 → (k : ℕ) → get_or (four_octets n) k 0 < 2 ^ 8
-octets_fit n h zero = omega arith
-octets_fit n h (suc zero) = omega arith
-octets_fit n h (suc (suc zero)) = omega arith
-octets_fit n h (suc (suc (suc zero))) = omega arith
-octets_fit n h (suc (suc (suc (suc k)))) = omega arith
-
-groups_fit : (n : ℕ) → n < 2 ^ 128 → (k : ℕ) → get_or (eight_groups n) k 0 < 2 ^ 16
-groups_fit n h zero = omega arith
-groups_fit n h (suc zero) = omega arith
-groups_fit n h (suc (suc zero)) = omega arith
-groups_fit n h (suc (suc (suc zero))) = omega arith
-groups_fit n h (suc (suc (suc (suc zero)))) = omega arith
-groups_fit n h (suc (suc (suc (suc (suc zero))))) = omega arith
-groups_fit n h (suc (suc (suc (suc (suc (suc zero)))))) = omega arith
-groups_fit n h (suc (suc (suc (suc (suc (suc (suc zero))))))) = omega arith
-groups_fit n h (suc (suc (suc (suc (suc (suc (suc (suc k)))))))) = omega arith
 
 dot_plain : (b : ℕ) → IsDigitOrDot b → is_space b ≡ false
 dot_plain b (inl r) = grind (arith, nat_tests)
@@ -68,12 +53,13 @@ colon_plain : (b : ℕ) → IsHexOrColon b → is_space b ≡ false
 colon_plain b (inl r) = grind (arith, nat_tests)
 colon_plain b (inr r) = grind (arith, nat_tests)
 
-plain_at : (v6 : Bool) (n : ℕ) → IsAddress (record { v6 = v6; number = n }) → IsPlain (address_text (record { v6 = v6; number = n }))
+address_plain : (v6 : Bool) (n : ℕ) → IsAddress (record { v6 = v6; number = n }) → IsPlain (address_text (record { v6 = v6; number = n }))
 unfolding v4_text v6_text
-plain_at false n h =
+address_plain false n h =
     All-weaker IsDigitOrDot (λ b. is_space b ≡ false) dot_plain _ (All-ipv4_text (four_octets n) (octets_fit n (ltb-true n (2 ^ 32) (h.0 refl))))
-plain_at true n h =
+address_plain true n h =
     All-weaker IsHexOrColon (λ b. is_space b ≡ false) colon_plain _ (All-hex_groups_text (eight_groups n) (groups_fit n (ltb-true n (2 ^ 128) h.1)))
 
+-- the words of addresses
 pub address_exact : ExactWord printed_address address_text IsAddress
-address_exact = record { again = address_again; takes = address_takes; plain = λ a h. plain_at a.v6 a.number h }
+address_exact = record { again = address_again; takes = address_takes; plain = λ a h. address_plain a.v6 a.number h }

@@ -1,21 +1,26 @@
 -- Header fields of an `ask`, up to the first word that is none.
-use Rattle.std.proofs.Common.{◌≡◌, ℕ, ◌+◌, ◌<◌, List, [], ◌∷◌, ◌++◌, length, Bool, true, false, not, ◌&&◌, Some, None, Option, cond, suc, nat_lt, codes, map, take, drop, position, arith, refl, sym, ap, subst, ◌∙◌, length-append, ltb-true}
+use Rattle.std.proofs.Common.{◌≡◌, ℕ, ◌+◌, ◌<◌, List, [], ◌∷◌, ◌++◌, length, Bool, true, false, not, Some, None, Option, cond, suc, nat_lt, codes, map, take, drop, position, option_and_then, arith, refl, sym, ap, subst, ◌∙◌, length-append, ltb-true}
 use Rattle.std.proofs.Math.Seq.{take-append_seam}
 use Rattle.std.proofs.lemmas.Bool.Decides.{nat_tests}
 use Rattle.std.proofs.lemmas.List.{drop-drop}
 use Rattle.std.proofs.lemmas.List.Elements.{All-append, All-cons, All-take, All-drop}
 use Rattle.std.proofs.lemmas.List.Sums.{split_at_first, passes_at_first}
 use Rattle.std.specs.List.{position_or_len, prefix_len, before_first, after_first}
+use Rattle.std.proofs.lemmas.Option.{same_Some, none-some}
+use Rattle.std.proofs.lemmas.Bool.{and_from, and_parts}
+use Rattle.sq_base.proofs.CommonLaws.{then_some}
 use Rattle.sq_base.specs.Requests.{has_no_colon, have_plain_names}
 use Rattle.sq_base.specs.Escapes.{text_of, text_word}
 use Rattle.sq_base.specs.declared.requests.Field.{Field}
 use Rattle.sq_journal.specs.EntryText.{field_word}
-use Rattle.sq_journal.specs.Lines.{Words}
-use Rattle.sq_journal.specs.Reading.{◌>>=◌, is_colon, field_at, cut_field, field_of, fields_of, with_field}
-use Rattle.sq_journal.specs.Values.{AreBytes, IsField, AreFields}
-use Rattle.sq_journal.proofs.FieldLaws.{bind_some, bind_is}
-use Rattle.sq_journal.proofs.LineLaws.{AreWords, ArePlain, and_parts}
-use Rattle.sq_journal.proofs.WordLaws.{ExactWord, text_exact, no_arrow, no_some, same_some}
+use Rattle.sq_rules.specs.Steps.{Words}
+use Rattle.sq_journal.specs.Reading.{field_at, cut_field, field_from, fields_from, fields_in, with_field}
+use Rattle.sq_base.specs.Addresses.{is_colon}
+use Rattle.sq_base.specs.Texts.{AreBytes}
+use Rattle.sq_journal.specs.Values.{IsField, AreFields}
+use Rattle.sq_journal.proofs.FieldLaws.{IsRead, TakesOnly, bind_is}
+use Rattle.sq_journal.proofs.LineLaws.{AreWords, ArePlain}
+use Rattle.sq_journal.proofs.WordLaws.{ExactWord, text_exact, no_arrow}
 
 -- a field of bytes, whose name has no `:`
 abbrev pub FitsField : Field → Type 0
@@ -23,9 +28,6 @@ FitsField f = IsField f × (has_no_colon f.name ≡ true)
 
 abbrev not_colon : ℕ → Bool
 not_colon b = not (is_colon b)
-
-both_true : (a b : Bool) → a ≡ true → b ≡ true → (a && b) ≡ true
-both_true a b p q = rw (p, q) refl
 
 -- the first colon stands behind a name without one
 name_len : (name more : List ℕ) → has_no_colon name ≡ true → prefix_len not_colon (name ++ 58 ∷ more) ≡ length name
@@ -43,6 +45,7 @@ drop_seam : (xs ys : List ℕ) → drop (length xs) (xs ++ ys) ≡ ys
 drop_seam [] ys = refl
 drop_seam (x ∷ xs) ys = drop_seam xs ys
 
+-- the text of a field is cut into that field
 pub cut_again : (f : Field) → has_no_colon f.name ≡ true → cut_field (f.name ++ 58 ∷ f.value) ≡ Some f
 unfolding cut_field
 cut_again f h =
@@ -56,7 +59,7 @@ cut_again f h =
 -- before the first colon stands none
 front_at : (b : ℕ) (bs : List ℕ) (t : Bool) (k : ℕ) → not_colon b ≡ t → k ≡ suc (prefix_len not_colon bs) → has_no_colon (take (prefix_len not_colon bs) bs) ≡ true
     → has_no_colon (take (cond t k 0) (b ∷ bs)) ≡ true
-front_at b bs true k e n h = rw n (both_true (not_colon b) (has_no_colon (take (prefix_len not_colon bs) bs)) e h)
+front_at b bs true k e n h = rw n (and_from (not_colon b) (has_no_colon (take (prefix_len not_colon bs) bs)) e h)
 front_at b bs false k e n h = refl
 
 front_plain : (text : List ℕ) → has_no_colon (take (prefix_len not_colon text) text) ≡ true
@@ -67,68 +70,71 @@ at_colon : (b : ℕ) → is_colon b ≡ true → b ≡ 58
 at_colon b h = grind (arith, nat_tests, h)
 
 cond_found : (t : Bool) (n m k : ℕ) → nat_lt n m ≡ t → cond t (Some n) None ≡ Some k → (k ≡ n) × (k < m)
-cond_found true n m k is e = let same : n ≡ k = same_some n k e in (sym same, omega (arith, ltb-true n m is, same))
-cond_found false n m k is e = no_some k e
+cond_found true n m k is e = let same : n ≡ k = same_Some n k e in (sym same, omega (arith, ltb-true n m is, same))
+cond_found false n m k is e = absurd (none-some k e)
 
 cut_found : (text : List ℕ) (k : ℕ) → position is_colon text ≡ Some k → (k ≡ position_or_len is_colon text) × (k < length text)
 cut_found text k e = cond_found (nat_lt (position_or_len is_colon text) (length text)) (position_or_len is_colon text) (length text) k refl e
 
-cut_at : (text : List ℕ) (o : Option ℕ) (f : Field) → position is_colon text ≡ o → field_at text o ≡ Some f
+cut_by_place : (text : List ℕ) (o : Option ℕ) (f : Field) → position is_colon text ≡ o → field_at text o ≡ Some f
     → (text ≡ f.name ++ 58 ∷ f.value) × (has_no_colon f.name ≡ true) × (AreBytes text → IsField f)
-cut_at text None f is e = no_some f e
-cut_at text (Some k) f is e =
+cut_by_place text None f is e = absurd (none-some f e)
+cut_by_place text (Some k) f is e =
     let c = cut_found text k is in
     let inside : position_or_len is_colon text < length text = omega (arith, c.0, c.1) in
     let whole = split_at_first is_colon text 0 inside in
     let colon = at_colon _ (passes_at_first is_colon text 0 inside) in
     let parts : text ≡ take k text ++ 58 ∷ drop (k + 1) text = rw c.0 (subst (λ b. text ≡ before_first is_colon text ++ b ∷ after_first is_colon text) colon whole) in
     let name : has_no_colon (take k text) ≡ true = rw c.0 (front_plain text) in
-    subst (λ g. (text ≡ g.name ++ 58 ∷ g.value) × (has_no_colon g.name ≡ true) × (AreBytes text → IsField g)) (same_some (record { name = take k text; value = drop (k + 1) text }) f e)
+    subst (λ g. (text ≡ g.name ++ 58 ∷ g.value) × (has_no_colon g.name ≡ true) × (AreBytes text → IsField g)) (same_Some (record { name = take k text; value = drop (k + 1) text }) f e)
     (parts, name, λ small. (All-take (λ b. b < 256) k text small, All-drop (λ b. b < 256) (k + 1) text small))
 
+-- a text that is cut is that of the field
 pub cut_takes : (text : List ℕ) (f : Field) → cut_field text ≡ Some f → (text ≡ f.name ++ 58 ∷ f.value) × (has_no_colon f.name ≡ true) × (AreBytes text → IsField f)
 unfolding cut_field
-cut_takes text f e = cut_at text (position is_colon text) f refl e
+cut_takes text f e = cut_by_place text (position is_colon text) f refl e
 
 field_bytes : (f : Field) → IsField f → AreBytes (f.name ++ 58 ∷ f.value)
 field_bytes f h = All-append (λ b. b < 256) f.name (58 ∷ f.value) h.0 (All-cons (λ b. b < 256) 58 f.value (omega arith) h.1)
 
-field_again : (f : Field) → FitsField f → field_of (field_word f) ≡ Some f
-unfolding field_of
+field_again : (f : Field) → FitsField f → field_from (field_word f) ≡ Some f
+unfolding field_from
 field_again f h =
     bind_is (text_of (field_word f)) cut_field (f.name ++ 58 ∷ f.value) f (text_exact.again (f.name ++ 58 ∷ f.value) (field_bytes f h.0)) (cut_again f h.1)
 
-field_takes : (w : List ℕ) (f : Field) → AreBytes w → field_of w ≡ Some f → (w ≡ field_word f) × FitsField f
-unfolding field_of
+field_takes : (w : List ℕ) (f : Field) → AreBytes w → field_from w ≡ Some f → (w ≡ field_word f) × FitsField f
+unfolding field_from
 field_takes w f small e =
-    let s = bind_some (text_of w) cut_field f e in
+    let s = then_some cut_field (text_of w) f e in
     let t = text_exact.takes w s.0 small s.1 in
     let c = cut_takes s.0 f s.2 in
     (t.0 ∙ ap text_word c.0, (c.2 t.1, c.1))
 
-pub field_exact : ExactWord field_of field_word FitsField
+-- the words of fields
+pub field_exact : ExactWord field_from field_word FitsField
 field_exact = record { again = field_again; takes = field_takes; plain = λ f h. text_exact.plain (f.name ++ 58 ∷ f.value) (field_bytes f h.0) }
 
 -- no field stands next
 abbrev pub EndsFields : Words → Type 0
 EndsFields [] = Unit {0}
-EndsFields (w ∷ ws) = field_of w ≡ None
+EndsFields (w ∷ ws) = field_from w ≡ None
 
 -- `=>` is no field
 pub arrow_ends : (ws : Words) → EndsFields (codes "=>" ∷ ws)
-unfolding field_of
-arrow_ends ws = ap (λ o. o >>= cut_field) no_arrow
+unfolding field_from
+arrow_ends ws = ap (option_and_then cut_field) no_arrow
 
-ended : (rest : Words) → EndsFields rest → fields_of rest ≡ ([], rest)
-ended [] h = refl
-ended (w ∷ ws) h = ap (λ o. with_field o (w ∷ ws) (fields_of ws)) h
+none_next : (rest : Words) → EndsFields rest → fields_from rest ≡ ([], rest)
+none_next [] h = refl
+none_next (w ∷ ws) h = ap (λ o. with_field o (w ∷ ws) (fields_from ws)) h
 
-pub fields_again : (fs : List Field) (rest : Words) → AreFields fs → have_plain_names fs ≡ true → EndsFields rest → fields_of (map field_word fs ++ rest) ≡ (fs, rest)
-fields_again [] rest small names end = ended rest end
+-- fields that were written are read, where no field follows
+pub fields_again : (fs : List Field) (rest : Words) → AreFields fs → have_plain_names fs ≡ true → EndsFields rest → fields_from (map field_word fs ++ rest) ≡ (fs, rest)
+fields_again [] rest small names end = none_next rest end
 fields_again (f ∷ fs) rest small names end =
     let both = and_parts (has_no_colon f.name) (have_plain_names fs) names in
-    let first : field_of (field_word f) ≡ Some f = field_again f (small.0, both.0) in
-    ap (λ o. with_field o (field_word f ∷ map field_word fs ++ rest) (fields_of (map field_word fs ++ rest))) first
+    let first : field_from (field_word f) ≡ Some f = field_again f (small.0, both.0) in
+    ap (λ o. with_field o (field_word f ∷ map field_word fs ++ rest) (fields_from (map field_word fs ++ rest))) first
     ∙ ap (λ p. (f ∷ p.0, p.1)) (fields_again fs rest small.1 both.1 end)
 
 -- the fields that were read, and the words that were left
@@ -138,22 +144,36 @@ pub record AreRead (ws : Words) (fs : List Field) (rest : Words) : Type 0 where
   pub names : have_plain_names fs ≡ true
   pub left : AreWords rest
 
-with_read : (w : List ℕ) (ws : Words) (o : Option Field) → field_of w ≡ o → AreBytes w → AreWords ws → AreRead ws (fields_of ws).0 (fields_of ws).1
-    → AreRead (w ∷ ws) (with_field o (w ∷ ws) (fields_of ws)).0 (with_field o (w ∷ ws) (fields_of ws)).1
+with_read : (w : List ℕ) (ws : Words) (o : Option Field) → field_from w ≡ o → AreBytes w → AreWords ws → AreRead ws (fields_from ws).0 (fields_from ws).1
+    → AreRead (w ∷ ws) (with_field o (w ∷ ws) (fields_from ws)).0 (with_field o (w ∷ ws) (fields_from ws)).1
 with_read w ws None is small smalls more = record { whole = refl; fit = tt; names = refl; left = (small, smalls) }
 with_read w ws (Some f) is small smalls more =
     let t = field_takes w f small is in
     record {
       whole = ap (λ v. v ∷ ws) t.0 ∙ ap (λ l. field_word f ∷ l) more.whole;
       fit = (t.1.0, more.fit);
-      names = both_true (has_no_colon f.name) (have_plain_names (fields_of ws).0) t.1.1 more.names;
+      names = and_from (has_no_colon f.name) (have_plain_names (fields_from ws).0) t.1.1 more.names;
       left = more.left;
     }
 
-pub fields_read : (ws : Words) → AreWords ws → AreRead ws (fields_of ws).0 (fields_of ws).1
+-- the fields that stand first, whatever the words
+pub fields_read : (ws : Words) → AreWords ws → AreRead ws (fields_from ws).0 (fields_from ws).1
 fields_read [] small = record { whole = refl; fit = tt; names = refl; left = tt }
-fields_read (w ∷ ws) small = with_read w ws (field_of w) refl small.0 small.1 (fields_read ws small.1)
+fields_read (w ∷ ws) small = with_read w ws (field_from w) refl small.0 small.1 (fields_read ws small.1)
 
+-- no word of a field has a space
 pub fields_plain : (fs : List Field) → AreFields fs → ArePlain (map field_word fs)
 fields_plain [] small = tt
 fields_plain (f ∷ fs) small = (text_exact.plain (f.name ++ 58 ∷ f.value) (field_bytes f small.0), fields_plain fs small.1)
+
+-- the fields of an event
+abbrev pub FitFields : List Field → Type 0
+FitFields fs = AreFields fs × (have_plain_names fs ≡ true)
+
+-- no fields are read but those that were written
+pub fields_takes : TakesOnly fields_in (map field_word) FitFields
+fields_takes = record {
+  of = λ ws y small e.
+      let t = fields_read ws small in
+      subst (λ z. IsRead (map field_word) FitFields ws z) (same_Some (fields_from ws) y e) (t.whole, (t.fit, t.names), t.left);
+}

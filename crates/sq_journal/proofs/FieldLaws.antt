@@ -1,29 +1,35 @@
 -- Values in turn: what is written of them is read, whatever follows, and nothing else is.
-use Rattle.std.proofs.Common.{◌≡◌, ℕ, List, [], ◌∷◌, ◌++◌, Bool, true, false, Some, None, Option, if◌then◌else◌, bytes_eq, option_map, refl, sym, ap, subst, ◌∙◌, append_assoc}
-use Rattle.sq_journal.specs.Lines.{Words}
-use Rattle.sq_journal.specs.Reading.{◌>>=◌, Reads, word_in, fields1, fields2, fields3, fields4}
-use Rattle.sq_journal.proofs.LineLaws.{AreWords}
-use Rattle.sq_journal.proofs.WordLaws.{ExactWord, same_some, no_some, word_is}
+use Rattle.std.proofs.Common.{◌≡◌, ℕ, List, [], ◌∷◌, ◌++◌, Bool, true, false, Some, Option, cond, bytes_eq, option_map, option_and_then, refl, sym, ap, subst, ◌∙◌, append_assoc}
+use Rattle.std.proofs.lemmas.Option.{same_Some, none-some}
+use Rattle.sq_base.proofs.CommonLaws.{then_some, map_some}
+use Rattle.sq_base.specs.NameTables.{beside}
+use Rattle.sq_rules.specs.Steps.{Words}
+use Rattle.sq_journal.specs.Reading.{Reads, word_in, then_in, fields1, fields2, fields3, fields4}
+use Rattle.sq_journal.proofs.LineLaws.{AreWords, IsPlain}
+use Rattle.sq_journal.proofs.WordLaws.{ExactWord, word_is}
 
 -- the words that were read are those of the value, and it fits
-abbrev pub IsTaken : {A : Type 0} → (A → Words) → (A → Type 0) → Words → A × Words → Type 0
-IsTaken words Fits ws y = (ws ≡ words y.0 ++ y.1) × Fits y.0 × AreWords y.1
+abbrev pub IsRead : {A : Type 0} → (A → Words) → (A → Type 0) → Words → A × Words → Type 0
+IsRead words Fits ws y = (ws ≡ words y.0 ++ y.1) × Fits y.0 × AreWords y.1
 
--- what was written is read, whatever follows, and nothing else is
+-- what is read behind some words is, with them, what was written
+abbrev pub TakesAfter : {A : Type 0} → Words → Reads A → (A → Words) → (A → Type 0) → Type 0
+TakesAfter lead read words Fits = (ws : Words) (y : _ × Words) → AreWords ws → read ws ≡ Some y → IsRead words Fits (lead ++ ws) y
+
+-- nothing is read but what was written
+pub record TakesOnly {A : Type 0} (read : Reads A) (words : A → Words) (Fits : A → Type 0) : Type 0 where
+  pub of : TakesAfter [] read words Fits
+
+-- and what was written is read, whatever follows
 pub record Exact {A : Type 0} (read : Reads A) (words : A → Words) (Fits : A → Type 0) : Type 0 where
   pub again : (x : A) (rest : Words) → Fits x → read (words x ++ rest) ≡ Some (x, rest)
-  pub takes : (ws : Words) (y : A × Words) → AreWords ws → read ws ≡ Some y → IsTaken words Fits ws y
+  pub takes : TakesOnly read words Fits
 
-pub bind_some : {A B : Type 0} (o : Option A) (f : A → Option B) (b : B) → (o >>= f) ≡ Some b → (a : A) × (o ≡ Some a) × (f a ≡ Some b)
-bind_some None f b e = no_some b e
-bind_some (Some a) f b e = (a, refl, e)
+-- one step after another, where both give something
+pub bind_is : {A B : Type 0} (o : Option A) (f : A → Option B) (a : A) (b : B) → o ≡ Some a → f a ≡ Some b → option_and_then f o ≡ Some b
+bind_is o f a b p q = ap (option_and_then f) p ∙ q
 
-pub bind_is : {A B : Type 0} (o : Option A) (f : A → Option B) (a : A) (b : B) → o ≡ Some a → f a ≡ Some b → (o >>= f) ≡ Some b
-bind_is o f a b p q = ap (λ x. x >>= f) p ∙ q
-
-pub map_some : {A B : Type 0} (o : Option A) (f : A → B) (b : B) → option_map f o ≡ Some b → (a : A) × (o ≡ Some a) × (f a ≡ b)
-map_some None f b e = no_some b e
-map_some (Some a) f b e = (a, refl, same_some (f a) b e)
+-- ---- one word
 
 one_again : {A : Type 0} (of : List ℕ → Option A) (word : A → List ℕ) (Fits : A → Type 0) → ExactWord of word Fits
     → (x : A) (rest : Words) → Fits x → word_in of (word x ∷ rest) ≡ Some (x, rest)
@@ -31,116 +37,93 @@ unfolding word_in
 one_again of word Fits exact x rest h = ap (λ o. option_map (λ v. (v, rest)) o) (exact.again x h)
 
 one_takes : {A : Type 0} (of : List ℕ → Option A) (word : A → List ℕ) (Fits : A → Type 0) → ExactWord of word Fits
-    → (ws : Words) (y : A × Words) → AreWords ws → word_in of ws ≡ Some y → IsTaken (λ x. word x ∷ []) Fits ws y
+    → (ws : Words) (y : A × Words) → AreWords ws → word_in of ws ≡ Some y → IsRead (λ x. word x ∷ []) Fits ws y
 unfolding word_in
-one_takes of word Fits exact [] y small e = no_some y e
+one_takes of word Fits exact [] y small e = absurd (none-some y e)
 one_takes of word Fits exact (w ∷ ws) y small e =
-    let s = map_some (of w) (λ x. (x, ws)) y e in
+    let s = map_some (λ x. (x, ws)) (of w) y e in
     let t = exact.takes w s.0 small.0 s.1 in
-    subst (λ z. IsTaken (λ x. word x ∷ []) Fits (w ∷ ws) z) s.2 (ap (λ v. v ∷ ws) t.0, t.1, small.1)
+    subst (λ z. IsRead (λ x. word x ∷ []) Fits (w ∷ ws) z) (sym s.2) (ap (λ v. v ∷ ws) t.0, t.1, small.1)
 
--- one word
+-- a word that is exact is so among others
 pub one_word : {A : Type 0} (of : List ℕ → Option A) (word : A → List ℕ) (Fits : A → Type 0) → ExactWord of word Fits
     → Exact (word_in of) (λ x. word x ∷ []) Fits
-one_word of word Fits exact = record { again = one_again of word Fits exact; takes = one_takes of word Fits exact }
+one_word of word Fits exact = record { again = one_again of word Fits exact; takes = record { of = one_takes of word Fits exact } }
 
--- words that were read one after the other
-then_words : (ws r s u v : Words) → ws ≡ u ++ r → r ≡ v ++ s → ws ≡ (u ++ v) ++ s
-then_words ws r s u v p q = p ∙ ap (λ l. u ++ l) q ∙ sym (append_assoc u v s)
-
--- and what stood before them
-after_lead : (lead ws rest whole front : Words) → ws ≡ front ++ rest → whole ≡ lead ++ front → lead ++ ws ≡ whole ++ rest
-after_lead lead ws rest whole front p q = ap (λ l. lead ++ l) p ∙ sym (append_assoc lead front rest) ∙ sym (ap (λ l. l ++ rest) q)
+-- ---- values in turn
 
 -- a value without fields
 pub fields0_takes : {X : Type 0} (x : X) (lead : Words) (words : X → Words) (Fits : X → Type 0) → words x ≡ lead → Fits x
-    → (ws : Words) (y : X × Words) → AreWords ws → Some (x, ws) ≡ Some y → IsTaken words Fits (lead ++ ws) y
+    → TakesAfter lead (λ ws. Some (x, ws)) words Fits
 fields0_takes x lead words Fits shape fits ws y small e =
-    subst (λ z. IsTaken words Fits (lead ++ ws) z) (same_some (x, ws) y e) (sym (ap (λ l. l ++ ws) shape), fits, small)
+    subst (λ z. IsRead words Fits (lead ++ ws) z) (same_Some (x, ws) y e) (sym (ap (λ l. l ++ ws) shape), fits, small)
 
-pub fields1_takes : {A X : Type 0} (make : A → X) (f : Reads A) (wf : A → Words) (Pf : A → Type 0) → Exact f wf Pf
+-- words behind others that were read first
+behind_lead : (lead front rest ws : Words) → ws ≡ front ++ rest → (lead ++ front) ++ rest ≡ lead ++ ws
+behind_lead lead front rest ws e = append_assoc lead front rest ∙ ap (λ l. lead ++ l) (sym e)
+
+-- one value, and what is made of it
+pub fields1_takes : {A X : Type 0} (make : A → X) (f : Reads A) (wf : A → Words) (Pf : A → Type 0) → TakesOnly f wf Pf
     → (lead : Words) (words : X → Words) (Fits : X → Type 0) → ((a : A) → words (make a) ≡ lead ++ wf a) → ((a : A) → Pf a → Fits (make a))
-    → (ws : Words) (y : X × Words) → AreWords ws → fields1 make f ws ≡ Some y → IsTaken words Fits (lead ++ ws) y
+    → TakesAfter lead (fields1 make f) words Fits
 fields1_takes make f wf Pf ef lead words Fits shape fits ws y small e =
-    let s = bind_some (f ws) _ y e in
-    let t = ef.takes ws s.0 small s.1 in
-    subst (λ z. IsTaken words Fits (lead ++ ws) z) (same_some (make s.0.0, s.0.1) y s.2)
-    (after_lead lead ws s.0.1 (words (make s.0.0)) (wf s.0.0) t.0 (shape s.0.0), fits s.0.0 t.1, t.2)
+    let s = map_some _ (f ws) y e in
+    let t = ef.of ws s.0 small s.1 in
+    subst (λ z. IsRead words Fits (lead ++ ws) z) (sym s.2)
+    (sym (behind_lead lead (wf s.0.0) s.0.1 ws t.0) ∙ ap (λ l. l ++ s.0.1) (sym (shape s.0.0)), fits s.0.0 t.1, t.2)
 
-pub fields2_takes : {A B X : Type 0} (make : A → B → X) (f : Reads A) (wf : A → Words) (Pf : A → Type 0) → Exact f wf Pf
-    → (g : Reads B) (wg : B → Words) (Pg : B → Type 0) → Exact g wg Pg
-    → (lead : Words) (words : X → Words) (Fits : X → Type 0) → ((a : A) (b : B) → words (make a b) ≡ lead ++ (wf a ++ wg b)) → ((a : A) (b : B) → Pf a → Pg b → Fits (make a b))
-    → (ws : Words) (y : X × Words) → AreWords ws → fields2 make f g ws ≡ Some y → IsTaken words Fits (lead ++ ws) y
-fields2_takes make f wf Pf ef g wg Pg eg lead words Fits shape fits ws y small e =
-    let s = bind_some (f ws) _ y e in
-    let t = ef.takes ws s.0 small s.1 in
-    let r = bind_some (g s.0.1) _ y s.2 in
-    let u = eg.takes s.0.1 r.0 t.2 r.1 in
-    subst (λ z. IsTaken words Fits (lead ++ ws) z) (same_some (make s.0.0 r.0.0, r.0.1) y r.2) (
-      after_lead lead ws r.0.1 (words (make s.0.0 r.0.0)) (wf s.0.0 ++ wg r.0.0) (then_words ws s.0.1 r.0.1 (wf s.0.0) (wg r.0.0) t.0 u.0) (shape s.0.0 r.0.0),
-      fits s.0.0 r.0.0 t.1 u.1,
-      u.2,
-    )
+-- a value, and by it what follows
+pub then_takes : {A X : Type 0} (f : Reads A) (wf : A → Words) (Pf : A → Type 0) → TakesOnly f wf Pf → (g : A → Reads X) (lead : Words) (words : X → Words) (Fits : X → Type 0)
+    → ((a : A) → Pf a → TakesAfter (lead ++ wf a) (g a) words Fits) → TakesAfter lead (then_in f g) words Fits
+then_takes f wf Pf ef g lead words Fits more ws y small e =
+    let s = then_some _ (f ws) y e in
+    let t = ef.of ws s.0 small s.1 in
+    subst (λ l. IsRead words Fits l y) (behind_lead lead (wf s.0.0) s.0.1 ws t.0) (more s.0.0 t.1 s.0.1 y t.2 s.2)
 
-pub fields3_takes : {A B C X : Type 0} (make : A → B → C → X) (f : Reads A) (wf : A → Words) (Pf : A → Type 0) → Exact f wf Pf
-    → (g : Reads B) (wg : B → Words) (Pg : B → Type 0) → Exact g wg Pg → (h : Reads C) (wh : C → Words) (Ph : C → Type 0) → Exact h wh Ph
-    → (lead : Words) (words : X → Words) (Fits : X → Type 0) → ((a : A) (b : B) (c : C) → words (make a b c) ≡ lead ++ ((wf a ++ wg b) ++ wh c))
+-- two, three and four values
+pub fields2_takes : {A B X : Type 0} (make : A → B → X) (f : Reads A) (wf : A → Words) (Pf : A → Type 0) → TakesOnly f wf Pf
+    → (g : Reads B) (wg : B → Words) (Pg : B → Type 0) → TakesOnly g wg Pg
+    → (lead : Words) (words : X → Words) (Fits : X → Type 0) → ((a : A) (b : B) → words (make a b) ≡ (lead ++ wf a) ++ wg b) → ((a : A) (b : B) → Pf a → Pg b → Fits (make a b))
+    → TakesAfter lead (fields2 make f g) words Fits
+fields2_takes make f wf Pf ef g wg Pg eg lead words Fits shape fits =
+    then_takes f wf Pf ef (λ a. fields1 (make a) g) lead words Fits
+    (λ a p. fields1_takes (make a) g wg Pg eg (lead ++ wf a) words Fits (shape a) (λ b. fits a b p))
+
+pub fields3_takes : {A B C X : Type 0} (make : A → B → C → X) (f : Reads A) (wf : A → Words) (Pf : A → Type 0) → TakesOnly f wf Pf
+    → (g : Reads B) (wg : B → Words) (Pg : B → Type 0) → TakesOnly g wg Pg → (h : Reads C) (wh : C → Words) (Ph : C → Type 0) → TakesOnly h wh Ph
+    → (lead : Words) (words : X → Words) (Fits : X → Type 0) → ((a : A) (b : B) (c : C) → words (make a b c) ≡ ((lead ++ wf a) ++ wg b) ++ wh c)
     → ((a : A) (b : B) (c : C) → Pf a → Pg b → Ph c → Fits (make a b c))
-    → (ws : Words) (y : X × Words) → AreWords ws → fields3 make f g h ws ≡ Some y → IsTaken words Fits (lead ++ ws) y
-fields3_takes make f wf Pf ef g wg Pg eg h wh Ph eh lead words Fits shape fits ws y small e =
-    let s = bind_some (f ws) _ y e in
-    let t = ef.takes ws s.0 small s.1 in
-    let r = bind_some (g s.0.1) _ y s.2 in
-    let u = eg.takes s.0.1 r.0 t.2 r.1 in
-    let q = bind_some (h r.0.1) _ y r.2 in
-    let v = eh.takes r.0.1 q.0 u.2 q.1 in
-    let two = then_words ws s.0.1 r.0.1 (wf s.0.0) (wg r.0.0) t.0 u.0 in
-    let three = then_words ws r.0.1 q.0.1 (wf s.0.0 ++ wg r.0.0) (wh q.0.0) two v.0 in
-    subst (λ z. IsTaken words Fits (lead ++ ws) z) (same_some (make s.0.0 r.0.0 q.0.0, q.0.1) y q.2)
-    (after_lead lead ws q.0.1 (words (make s.0.0 r.0.0 q.0.0)) ((wf s.0.0 ++ wg r.0.0) ++ wh q.0.0) three (shape s.0.0 r.0.0 q.0.0), fits s.0.0 r.0.0 q.0.0 t.1 u.1 v.1, v.2)
+    → TakesAfter lead (fields3 make f g h) words Fits
+fields3_takes make f wf Pf ef g wg Pg eg h wh Ph eh lead words Fits shape fits =
+    then_takes f wf Pf ef (λ a. fields2 (make a) g h) lead words Fits
+    (λ a p. fields2_takes (make a) g wg Pg eg h wh Ph eh (lead ++ wf a) words Fits (shape a) (λ b c. fits a b c p))
 
-pub fields4_takes : {A B C D X : Type 0} (make : A → B → C → D → X) (f : Reads A) (wf : A → Words) (Pf : A → Type 0) → Exact f wf Pf
-    → (g : Reads B) (wg : B → Words) (Pg : B → Type 0) → Exact g wg Pg → (h : Reads C) (wh : C → Words) (Ph : C → Type 0) → Exact h wh Ph
-    → (k : Reads D) (wk : D → Words) (Pk : D → Type 0) → Exact k wk Pk
-    → (lead : Words) (words : X → Words) (Fits : X → Type 0) → ((a : A) (b : B) (c : C) (d : D) → words (make a b c d) ≡ lead ++ (((wf a ++ wg b) ++ wh c) ++ wk d))
+pub fields4_takes : {A B C D X : Type 0} (make : A → B → C → D → X) (f : Reads A) (wf : A → Words) (Pf : A → Type 0) → TakesOnly f wf Pf
+    → (g : Reads B) (wg : B → Words) (Pg : B → Type 0) → TakesOnly g wg Pg → (h : Reads C) (wh : C → Words) (Ph : C → Type 0) → TakesOnly h wh Ph
+    → (k : Reads D) (wk : D → Words) (Pk : D → Type 0) → TakesOnly k wk Pk
+    → (lead : Words) (words : X → Words) (Fits : X → Type 0) → ((a : A) (b : B) (c : C) (d : D) → words (make a b c d) ≡ (((lead ++ wf a) ++ wg b) ++ wh c) ++ wk d)
     → ((a : A) (b : B) (c : C) (d : D) → Pf a → Pg b → Ph c → Pk d → Fits (make a b c d))
-    → (ws : Words) (y : X × Words) → AreWords ws → fields4 make f g h k ws ≡ Some y → IsTaken words Fits (lead ++ ws) y
-fields4_takes make f wf Pf ef g wg Pg eg h wh Ph eh k wk Pk ek lead words Fits shape fits ws y small e =
-    let s = bind_some (f ws) _ y e in
-    let t = ef.takes ws s.0 small s.1 in
-    let r = bind_some (g s.0.1) _ y s.2 in
-    let u = eg.takes s.0.1 r.0 t.2 r.1 in
-    let q = bind_some (h r.0.1) _ y r.2 in
-    let v = eh.takes r.0.1 q.0 u.2 q.1 in
-    let p = bind_some (k q.0.1) _ y q.2 in
-    let x = ek.takes q.0.1 p.0 v.2 p.1 in
-    let two = then_words ws s.0.1 r.0.1 (wf s.0.0) (wg r.0.0) t.0 u.0 in
-    let three = then_words ws r.0.1 q.0.1 (wf s.0.0 ++ wg r.0.0) (wh q.0.0) two v.0 in
-    let four = then_words ws q.0.1 p.0.1 ((wf s.0.0 ++ wg r.0.0) ++ wh q.0.0) (wk p.0.0) three x.0 in
-    subst (λ z. IsTaken words Fits (lead ++ ws) z) (same_some (make s.0.0 r.0.0 q.0.0 p.0.0, p.0.1) y p.2) (
-      after_lead lead ws p.0.1 (words (make s.0.0 r.0.0 q.0.0 p.0.0)) (((wf s.0.0 ++ wg r.0.0) ++ wh q.0.0) ++ wk p.0.0) four (shape s.0.0 r.0.0 q.0.0 p.0.0),
-      fits s.0.0 r.0.0 q.0.0 p.0.0 t.1 u.1 v.1 x.1,
-      x.2,
-    )
+    → TakesAfter lead (fields4 make f g h k) words Fits
+fields4_takes make f wf Pf ef g wg Pg eg h wh Ph eh k wk Pk ek lead words Fits shape fits =
+    then_takes f wf Pf ef (λ a. fields3 (make a) g h k) lead words Fits
+    (λ a p. fields3_takes (make a) g wg Pg eg h wh Ph eh k wk Pk ek (lead ++ wf a) words Fits (shape a) (λ b c d. fits a b c d p))
 
 pub fields1_again : {A X : Type 0} (make : A → X) (f : Reads A) (wf : A → Words) (Pf : A → Type 0) → Exact f wf Pf
     → (a : A) (rest : Words) → Pf a → fields1 make f (wf a ++ rest) ≡ Some (make a, rest)
-fields1_again make f wf Pf ef a rest p = bind_is (f (wf a ++ rest)) _ (a, rest) _ (ef.again a rest p) refl
+fields1_again make f wf Pf ef a rest p = ap (option_map (λ r. (make r.0, r.1))) (ef.again a rest p)
 
 pub fields2_again : {A B X : Type 0} (make : A → B → X) (f : Reads A) (wf : A → Words) (Pf : A → Type 0) → Exact f wf Pf
     → (g : Reads B) (wg : B → Words) (Pg : B → Type 0) → Exact g wg Pg
     → (a : A) (b : B) (rest : Words) → Pf a → Pg b → fields2 make f g (wf a ++ (wg b ++ rest)) ≡ Some (make a b, rest)
 fields2_again make f wf Pf ef g wg Pg eg a b rest p q =
-    bind_is (f (wf a ++ (wg b ++ rest))) _ (a, wg b ++ rest) _ (ef.again a (wg b ++ rest) p)
-    (bind_is (g (wg b ++ rest)) _ (b, rest) _ (eg.again b rest q) refl)
+    bind_is (f (wf a ++ (wg b ++ rest))) _ (a, wg b ++ rest) _ (ef.again a (wg b ++ rest) p) (fields1_again (make a) g wg Pg eg b rest q)
 
 pub fields3_again : {A B C X : Type 0} (make : A → B → C → X) (f : Reads A) (wf : A → Words) (Pf : A → Type 0) → Exact f wf Pf
     → (g : Reads B) (wg : B → Words) (Pg : B → Type 0) → Exact g wg Pg → (h : Reads C) (wh : C → Words) (Ph : C → Type 0) → Exact h wh Ph
     → (a : A) (b : B) (c : C) (rest : Words) → Pf a → Pg b → Ph c → fields3 make f g h (wf a ++ (wg b ++ (wh c ++ rest))) ≡ Some (make a b c, rest)
 fields3_again make f wf Pf ef g wg Pg eg h wh Ph eh a b c rest p q r =
     bind_is (f (wf a ++ (wg b ++ (wh c ++ rest)))) _ (a, wg b ++ (wh c ++ rest)) _ (ef.again a (wg b ++ (wh c ++ rest)) p)
-    (bind_is (g (wg b ++ (wh c ++ rest))) _ (b, wh c ++ rest) _ (eg.again b (wh c ++ rest) q)
-    (bind_is (h (wh c ++ rest)) _ (c, rest) _ (eh.again c rest r) refl))
+    (fields2_again (make a) g wg Pg eg h wh Ph eh b c rest q r)
 
 pub fields4_again : {A B C D X : Type 0} (make : A → B → C → D → X) (f : Reads A) (wf : A → Words) (Pf : A → Type 0) → Exact f wf Pf
     → (g : Reads B) (wg : B → Words) (Pg : B → Type 0) → Exact g wg Pg → (h : Reads C) (wh : C → Words) (Ph : C → Type 0) → Exact h wh Ph
@@ -149,19 +132,54 @@ pub fields4_again : {A B C D X : Type 0} (make : A → B → C → D → X) (f :
     → fields4 make f g h k (wf a ++ (wg b ++ (wh c ++ (wk d ++ rest)))) ≡ Some (make a b c d, rest)
 fields4_again make f wf Pf ef g wg Pg eg h wh Ph eh k wk Pk ek a b c d rest p q r s =
     bind_is (f (wf a ++ (wg b ++ (wh c ++ (wk d ++ rest))))) _ (a, wg b ++ (wh c ++ (wk d ++ rest))) _ (ef.again a (wg b ++ (wh c ++ (wk d ++ rest))) p)
-    (bind_is (g (wg b ++ (wh c ++ (wk d ++ rest)))) _ (b, wh c ++ (wk d ++ rest)) _ (eg.again b (wh c ++ (wk d ++ rest)) q)
-    (bind_is (h (wh c ++ (wk d ++ rest))) _ (c, wk d ++ rest) _ (eh.again c (wk d ++ rest) r)
-    (bind_is (k (wk d ++ rest)) _ (d, rest) _ (ek.again d rest s) refl)))
+    (fields3_again (make a) g wg Pg eg h wh Ph eh k wk Pk ek b c d rest q r s)
 
-named_at : {X : Type 0} (key name : List ℕ) (rest : Words) (found other : Option (X × Words)) (words : X → Words) (Fits : X → Type 0) (y : X × Words) (t : Bool)
-    → bytes_eq name key ≡ t → (found ≡ Some y → IsTaken words Fits (key ∷ rest) y) → (other ≡ Some y → IsTaken words Fits (name ∷ rest) y)
-    → (if t then found else other) ≡ Some y → IsTaken words Fits (name ∷ rest) y
-named_at key name rest found other words Fits y true is f g e =
-    subst (λ w. IsTaken words Fits (w ∷ rest) y) (sym (word_is name key is)) (f e)
-named_at key name rest found other words Fits y false is f g e = g e
+-- ---- names
 
--- a choice by name
-pub named : {X : Type 0} (key name : List ℕ) (rest : Words) (found other : Option (X × Words)) (words : X → Words) (Fits : X → Type 0) (y : X × Words)
-    → (found ≡ Some y → IsTaken words Fits (key ∷ rest) y) → (other ≡ Some y → IsTaken words Fits (name ∷ rest) y)
-    → (if bytes_eq name key then found else other) ≡ Some y → IsTaken words Fits (name ∷ rest) y
-named key name rest found other words Fits y f g e = named_at key name rest found other words Fits y (bytes_eq name key) refl f g e
+-- each row of a table is so
+abbrev pub EachRow : {A : Type 0} → (List ℕ → A → Type 0) → List (List ℕ × A) → Type 0
+EachRow P [] = Unit {0}
+EachRow P (row ∷ rows) = P row.0 row.1 × EachRow P rows
+
+-- what holds of a row, before what holds of the others
+infixr 5 ◌⊗◌
+abbrev pub ◌⊗◌ : {A B : Type 0} → A → B → A × B
+a ⊗ b = (a, b)
+
+row_is : {A : Type 0} (P : List ℕ → A → Type 0) (key word : List ℕ) (v x : A) (other : Option A) (t : Bool) → bytes_eq word key ≡ t → P key v → (other ≡ Some x → P word x)
+    → cond t (Some v) other ≡ Some x → P word x
+row_is P key word v x other true is p more e = subst (λ z. P word z) (same_Some v x e) (subst (λ w. P w v) (sym (word_is word key is)) p)
+row_is P key word v x other false is p more e = more e
+
+-- what stands beside a word in a table is as its row is
+pub beside_is : {A : Type 0} (P : List ℕ → A → Type 0) (table : List (List ℕ × A)) → EachRow P table → (word : List ℕ) (x : A) → beside table word ≡ Some x → P word x
+beside_is P [] rows word x e = absurd (none-some x e)
+beside_is P (row ∷ table) rows word x e =
+    row_is P row.0 word row.1 x (beside table word) (bytes_eq word row.0) refl rows.0 (beside_is P table rows.1 word x) e
+
+name_takes : {K X : Type 0} (table : List (List ℕ × K)) (after : K → Reads X) (words : X → Words) (Fits : X → Type 0)
+    → EachRow (λ w k. TakesAfter (w ∷ []) (after k) words Fits) table → TakesAfter [] (then_in (word_in (beside table)) after) words Fits
+unfolding word_in
+name_takes table after words Fits rows [] y small e = absurd (none-some y e)
+name_takes table after words Fits rows (w ∷ ws) y small e =
+    let s = then_some _ (option_map (λ k. (k, ws)) (beside table w)) y e in
+    let k = map_some _ (beside table w) s.0 s.1 in
+    beside_is (λ v x. TakesAfter (v ∷ []) (after x) words Fits) table rows w k.0 k.1 ws y small.1 (subst (λ r. after r.0 r.1 ≡ Some y) k.2 s.2)
+
+-- what is told by its name is taken, where it is so behind each name
+pub by_name : {K X : Type 0} (table : List (List ℕ × K)) (after : K → Reads X) (words : X → Words) (Fits : X → Type 0)
+    → EachRow (λ w k. TakesAfter (w ∷ []) (after k) words Fits) table → TakesOnly (then_in (word_in (beside table)) after) words Fits
+by_name table after words Fits rows = record { of = name_takes table after words Fits rows }
+
+-- every value fits
+abbrev pub Any : {A : Type 0} → A → Type 0
+Any x = Unit {0}
+
+-- a word that is a name of a table is exact, where the table has each value's word
+pub name_exact : {A : Type 0} (table : List (List ℕ × A)) (word : A → List ℕ) → EachRow (λ w x. w ≡ word x) table → ((x : A) → beside table (word x) ≡ Some x) → ((x : A) → IsPlain (word x))
+    → ExactWord (beside table) word Any
+name_exact table word rows again plain = record {
+  again = λ x h. again x;
+  takes = λ w x small e. (beside_is (λ v y. v ≡ word y) table rows w x e, tt);
+  plain = λ x h. plain x;
+}

@@ -1,12 +1,12 @@
-pub mod AddressLaws
-pub mod AskLaws
-pub mod EntryLaws
+mod AddressLaws
+mod AskLaws
+mod EntryLaws
 pub mod EscapeLaws
-pub mod EventLaws
-pub mod FieldLaws
-pub mod FrontLaws
-pub mod LineLaws
-pub mod RangeLaws
-pub mod ToldLaws
-pub mod ToldWordLaws
-pub mod WordLaws
+mod EventLaws
+mod FieldLaws
+mod FrontLaws
+mod LineLaws
+mod RangeLaws
+mod ToldLaws
+mod ToldWordLaws
+mod WordLaws

@@ -1,60 +1,55 @@
 -- Answers: what is written of one is read, and nothing else is.
-use Rattle.std.proofs.Common.{◌≡◌, ℕ, ◌+◌, ◌^◌, ◌<◌, List, [], ◌∷◌, ◌++◌, Some, codes, decimal, arith, refl, sym, ap, subst, ◌∙◌, append-nil}
+use Rattle.std.proofs.Common.{◌≡◌, ℕ, ◌+◌, ◌^◌, ◌<◌, [], ◌∷◌, ◌++◌, Some, codes, decimal, arith, refl, sym, ap, ◌∙◌, append-nil, option_map}
+use Rattle.sq_base.specs.NameTables.{beside}
 use Rattle.sq_rules.specs.declared.entries.Told.{Told}
 use Rattle.sq_rules.specs.declared.entries.Told.TheVariants as told
 use Rattle.sq_rules.specs.declared.outcomes.Outcome.{Outcome}
 use Rattle.sq_rules.specs.declared.outcomes.Why.{Why}
 use Rattle.sq_rules.specs.declared.outcomes.Why.TheVariants as why
 use Rattle.sq_rules.specs.OutcomeText.{cause_word, action_word, why_words, outcome_words}
+use Rattle.sq_journal.specs.declared.names.ToldName.TheVariants as name
 use Rattle.sq_journal.specs.EntryText.{result_word, channel_word, told_words}
-use Rattle.sq_journal.specs.Lines.{Words}
+use Rattle.sq_rules.specs.Steps.{Words}
+use Rattle.sq_journal.specs.Names.{told_names, why_names, action_names, cause_names, result_names}
 use Rattle.sq_journal.specs.Reading.{word_in, below_in, number_in}
-use Rattle.sq_journal.specs.ToldReading.{result_of, channel_of, pool_of, action_of, cause_of, rule_in, fault_in, why_in, outcome_from, outcome_in, epoch_told, epoch_in, check_in, took_in, waits_in, proc_in, reply_in, start_in, send_in, stop_in, seat_told_in, granted_in, pool_told_in, helper_told_in, told_in}
+use Rattle.sq_journal.specs.ToldReading.{channel_of, pool_named, why_after, why_in, outcome_from, outcome_in, epoch_told, told_after, told_in}
 use Rattle.sq_journal.specs.Values.{IsNumber, IsWhy, IsChannel, IsTold}
 use Rattle.sq_journal.proofs.EventLaws.{below_word, number, text, number_plain}
-use Rattle.sq_journal.proofs.FieldLaws.{IsTaken, Exact, one_word, bind_some, bind_is, fields0_takes, fields1_takes, fields2_takes, fields3_takes, fields4_takes, fields1_again, fields2_again, fields3_again, fields4_again, named}
-use Rattle.sq_journal.proofs.LineLaws.{ArePlain, AreWords, plain_word}
-use Rattle.sq_journal.proofs.ToldWordLaws.{Any, result_exact, channel_exact, pool_exact, action_exact, cause_exact}
-use Rattle.sq_journal.proofs.WordLaws.{decimal_plain, text_exact, same_some, no_some}
+use Rattle.sq_journal.proofs.FieldLaws.{◌⊗◌, Any, TakesAfter, TakesOnly, Exact, EachRow, one_word, by_name, bind_is, fields0_takes, fields1_takes, fields2_takes, fields3_takes, fields4_takes, then_takes, fields1_again, fields2_again, fields3_again, fields4_again}
+use Rattle.sq_journal.proofs.LineLaws.{ArePlain, plain_word}
+use Rattle.sq_journal.proofs.ToldWordLaws.{result_exact, channel_exact, pool_exact, action_exact, cause_exact}
+use Rattle.sq_journal.proofs.WordLaws.{decimal_plain, text_exact}
 
 rule_number : Exact (below_in (2 ^ 32)) (λ n. decimal n ∷ []) (λ n. n < 2 ^ 32)
 rule_number = below_word (2 ^ 32) (omega arith)
 
-result : Exact (word_in result_of) (λ w. result_word w ∷ []) Any
-result = one_word result_of result_word Any result_exact
+result : Exact (word_in (beside result_names)) (λ w. result_word w ∷ []) Any
+result = one_word (beside result_names) result_word Any result_exact
 
 channel : Exact (word_in channel_of) (λ c. channel_word c ∷ []) IsChannel
 channel = one_word channel_of channel_word IsChannel channel_exact
 
-pool : Exact (word_in pool_of) (λ n. decimal (n + 1) ∷ []) (λ n. n < 2 ^ 32)
-pool = one_word pool_of (λ n. decimal (n + 1)) (λ n. n < 2 ^ 32) pool_exact
+pool : Exact (word_in pool_named) (λ n. decimal (n + 1) ∷ []) (λ n. n < 2 ^ 32)
+pool = one_word pool_named (λ n. decimal (n + 1)) (λ n. n < 2 ^ 32) pool_exact
 
-action : Exact (word_in action_of) (λ b. action_word b ∷ []) Any
-action = one_word action_of action_word Any action_exact
+action : Exact (word_in (beside action_names)) (λ b. action_word b ∷ []) Any
+action = one_word (beside action_names) action_word Any action_exact
 
-cause : Exact (word_in cause_of) (λ c. cause_word c ∷ []) Any
-cause = one_word cause_of cause_word Any cause_exact
+cause : Exact (word_in (beside cause_names)) (λ c. cause_word c ∷ []) Any
+cause = one_word (beside cause_names) cause_word Any cause_exact
 
-rule_takes : (ws : Words) (y : Why × Words) → AreWords ws → rule_in ws ≡ Some y → IsTaken why_words IsWhy (codes "rule" ∷ ws) y
-unfolding rule_in
-rule_takes = fields1_takes why.Rule _ _ _ rule_number (codes "rule" ∷ []) why_words IsWhy (λ a. refl) (λ a p. p)
-
-fault_takes : (ws : Words) (y : Why × Words) → AreWords ws → fault_in ws ≡ Some y → IsTaken why_words IsWhy (codes "fault" ∷ ws) y
-unfolding fault_in
-fault_takes = fields3_takes why.Fault _ _ _ rule_number _ _ _ text _ _ _ cause (codes "fault" ∷ []) why_words IsWhy (λ a b c. refl) (λ a b c p q r. (p, q))
-
-why_takes : (ws : Words) (y : Why × Words) → AreWords ws → why_in ws ≡ Some y → IsTaken why_words IsWhy ws y
-unfolding why_in
-why_takes [] y small e = no_some y e
-why_takes (name ∷ ws) y small e =
-    named (codes "rule") name ws _ _ why_words IsWhy y (rule_takes ws y small.1)
-    (named (codes "default") name ws _ _ why_words IsWhy y (fields0_takes why.Default (codes "default" ∷ []) why_words IsWhy refl tt ws y small.1)
-    (named (codes "empty") name ws _ _ why_words IsWhy y (fields0_takes why.Empty (codes "empty" ∷ []) why_words IsWhy refl tt ws y small.1)
-    (named (codes "fault") name ws _ _ why_words IsWhy y (fault_takes ws y small.1)
-    (λ n. no_some y n)))) e
+why_takes : TakesOnly why_in why_words IsWhy
+unfolding why_in why_after
+why_takes =
+    by_name why_names why_after why_words IsWhy
+    (fields1_takes why.Rule _ _ _ rule_number.takes (codes "rule" ∷ []) why_words IsWhy (λ a. refl) (λ a p. p)
+    ⊗ fields0_takes why.Default (codes "default" ∷ []) why_words IsWhy refl tt
+    ⊗ fields0_takes why.Empty (codes "empty" ∷ []) why_words IsWhy refl tt
+    ⊗ fields3_takes why.Fault _ _ _ rule_number.takes _ _ _ text.takes _ _ _ cause.takes (codes "fault" ∷ []) why_words IsWhy (λ a b c. refl) (λ a b c p q r. (p, q))
+    ⊗ tt)
 
 why_again : (w : Why) (rest : Words) → IsWhy w → why_in (why_words w ++ rest) ≡ Some (w, rest)
-unfolding why_in rule_in fault_in
+unfolding why_in word_in why_after
 why_again (why.Rule n) rest h = fields1_again why.Rule _ _ _ rule_number n rest h
 why_again why.Default rest h = refl
 why_again why.Empty rest h = refl
@@ -66,122 +61,61 @@ reasons = record { again = why_again; takes = why_takes }
 abbrev FitsOutcome : Outcome → Type 0
 FitsOutcome o = IsWhy o.why
 
-outcome_takes : (ws : Words) (y : Outcome × Words) → AreWords ws → outcome_in ws ≡ Some y → IsTaken outcome_words FitsOutcome ws y
+outcome_takes : TakesOnly outcome_in outcome_words FitsOutcome
 unfolding outcome_in
-outcome_takes = fields2_takes outcome_from _ _ _ action _ _ _ reasons [] outcome_words FitsOutcome (λ a b. refl) (λ a b p q. q)
+outcome_takes = record { of = fields2_takes outcome_from _ _ _ action.takes _ _ _ reasons.takes [] outcome_words FitsOutcome (λ a b. refl) (λ a b p q. q) }
 
 outcome_again : (o : Outcome) → FitsOutcome o → outcome_in (outcome_words o) ≡ Some (o, [])
 unfolding outcome_in
 outcome_again o h =
     ap outcome_in (sym (append-nil (outcome_words o))) ∙ fields2_again outcome_from _ _ _ action _ _ _ reasons o.allow o.why [] tt h
 
-abbrev Taken : Words → Told × Words → Type 0
-Taken ws y = IsTaken told_words IsTold ws y
+-- an epoch alone, or with an outcome
+epoch_takes : (epoch : ℕ) → IsNumber epoch → TakesAfter (codes "epoch" ∷ decimal epoch ∷ []) (epoch_told epoch) told_words IsTold
+epoch_takes epoch h [] y small e = fields0_takes (told.Epoch epoch) (codes "epoch" ∷ decimal epoch ∷ []) told_words IsTold refl h [] y small e
+epoch_takes epoch h (w ∷ ws) y small e =
+    fields1_takes (told.Judged epoch) _ _ _ outcome_takes (codes "epoch" ∷ decimal epoch ∷ []) told_words IsTold (λ o. refl) (λ o p. (h, p)) (w ∷ ws) y small e
 
-epoch_at : (epoch : ℕ) (ws rest : Words) (y : Told × Words) → IsNumber epoch → AreWords rest → ws ≡ decimal epoch ∷ rest → epoch_told epoch rest ≡ Some y
-    → Taken (codes "epoch" ∷ ws) y
-epoch_at epoch ws [] y h small is e = subst (λ z. Taken (codes "epoch" ∷ ws) z) (same_some (told.Epoch epoch, []) y e) (ap (λ l. codes "epoch" ∷ l) is, h, tt)
-epoch_at epoch ws (w ∷ more) y h small is e =
-    let s = bind_some (outcome_in (w ∷ more)) _ y e in
-    let t = outcome_takes (w ∷ more) s.0 small s.1 in
-    subst (λ z. Taken (codes "epoch" ∷ ws) z) (same_some (told.Judged epoch s.0.0, s.0.1) y s.2)
-    (ap (λ l. codes "epoch" ∷ l) (is ∙ ap (λ l. decimal epoch ∷ l) t.0), (h, t.1), t.2)
+-- what stands behind each answer's name
+told_rows : EachRow (λ w k. TakesAfter (w ∷ []) (told_after k) told_words IsTold) told_names
+unfolding told_after
+told_rows =
+    then_takes number_in (λ n. decimal n ∷ []) IsNumber number.takes epoch_told (codes "epoch" ∷ []) told_words IsTold epoch_takes
+    ⊗ fields0_takes told.Fine (codes "ok" ∷ []) told_words IsTold refl tt
+    ⊗ fields1_takes told.Check _ _ _ number.takes (codes "check" ∷ []) told_words IsTold (λ a. refl) (λ a p. p)
+    ⊗ fields1_takes told.Took _ _ _ text.takes (codes "took" ∷ []) told_words IsTold (λ a. refl) (λ a p. p)
+    ⊗ fields1_takes told.Waits _ _ _ number.takes (codes "waits" ∷ []) told_words IsTold (λ a. refl) (λ a p. p)
+    ⊗ fields0_takes told.Done (codes "done" ∷ []) told_words IsTold refl tt
+    ⊗ fields1_takes told.Proc _ _ _ number.takes (codes "proc" ∷ []) told_words IsTold (λ a. refl) (λ a p. p)
+    ⊗ fields2_takes told.Reply _ _ _ number.takes _ _ _ result.takes (codes "reply" ∷ []) told_words IsTold (λ a b. refl) (λ a b p q. p)
+    ⊗ fields0_takes told.Bad (codes "bad" ∷ []) told_words IsTold refl tt
+    ⊗ fields0_takes told.Stray (codes "stray" ∷ []) told_words IsTold refl tt
+    ⊗ fields2_takes told.Start _ _ _ number.takes _ _ _ text.takes (codes "start" ∷ []) told_words IsTold (λ a b. refl) (λ a b p q. (p, q))
+    ⊗ fields4_takes told.Send _ _ _ number.takes _ _ _ number.takes _ _ _ channel.takes _ _ _ text.takes (codes "send" ∷ []) told_words IsTold (λ a b c d. refl) (λ a b c d p q r s. (p, q, r, s))
+    ⊗ fields1_takes told.Stop _ _ _ number.takes (codes "stop" ∷ []) told_words IsTold (λ a. refl) (λ a p. p)
+    ⊗ fields2_takes told.Seat _ _ _ number.takes _ _ _ pool.takes (codes "seat" ∷ []) told_words IsTold (λ a b. refl) (λ a b p q. (p, q))
+    ⊗ fields0_takes told.NoSeat (codes "none" ∷ []) told_words IsTold refl tt
+    ⊗ fields1_takes told.Granted _ _ _ number.takes (codes "granted" ∷ []) told_words IsTold (λ a. refl) (λ a p. p)
+    ⊗ tt
 
-epoch_takes : (ws : Words) (y : Told × Words) → AreWords ws → epoch_in ws ≡ Some y → Taken (codes "epoch" ∷ ws) y
-unfolding epoch_in
-epoch_takes ws y small e =
-    let s = bind_some (number_in ws) _ y e in
-    let t = number.takes ws s.0 small s.1 in
-    epoch_at s.0.0 ws s.0.1 y t.1 t.2 t.0 s.2
-
-check_takes : (ws : Words) (y : Told × Words) → AreWords ws → check_in ws ≡ Some y → Taken (codes "check" ∷ ws) y
-unfolding check_in
-check_takes = fields1_takes told.Check _ _ _ number (codes "check" ∷ []) told_words IsTold (λ a. refl) (λ a p. p)
-
-took_takes : (ws : Words) (y : Told × Words) → AreWords ws → took_in ws ≡ Some y → Taken (codes "took" ∷ ws) y
-unfolding took_in
-took_takes = fields1_takes told.Took _ _ _ text (codes "took" ∷ []) told_words IsTold (λ a. refl) (λ a p. p)
-
-waits_takes : (ws : Words) (y : Told × Words) → AreWords ws → waits_in ws ≡ Some y → Taken (codes "waits" ∷ ws) y
-unfolding waits_in
-waits_takes = fields1_takes told.Waits _ _ _ number (codes "waits" ∷ []) told_words IsTold (λ a. refl) (λ a p. p)
-
-proc_takes : (ws : Words) (y : Told × Words) → AreWords ws → proc_in ws ≡ Some y → Taken (codes "proc" ∷ ws) y
-unfolding proc_in
-proc_takes = fields1_takes told.Proc _ _ _ number (codes "proc" ∷ []) told_words IsTold (λ a. refl) (λ a p. p)
-
-reply_takes : (ws : Words) (y : Told × Words) → AreWords ws → reply_in ws ≡ Some y → Taken (codes "reply" ∷ ws) y
-unfolding reply_in
-reply_takes = fields2_takes told.Reply _ _ _ number _ _ _ result (codes "reply" ∷ []) told_words IsTold (λ a b. refl) (λ a b p q. p)
-
-start_takes : (ws : Words) (y : Told × Words) → AreWords ws → start_in ws ≡ Some y → Taken (codes "start" ∷ ws) y
-unfolding start_in
-start_takes = fields2_takes told.Start _ _ _ number _ _ _ text (codes "start" ∷ []) told_words IsTold (λ a b. refl) (λ a b p q. (p, q))
-
-send_takes : (ws : Words) (y : Told × Words) → AreWords ws → send_in ws ≡ Some y → Taken (codes "send" ∷ ws) y
-unfolding send_in
-send_takes =
-    fields4_takes told.Send _ _ _ number _ _ _ number _ _ _ channel _ _ _ text (codes "send" ∷ []) told_words IsTold (λ a b c d. refl) (λ a b c d p q r s. (p, q, r, s))
-
-stop_takes : (ws : Words) (y : Told × Words) → AreWords ws → stop_in ws ≡ Some y → Taken (codes "stop" ∷ ws) y
-unfolding stop_in
-stop_takes = fields1_takes told.Stop _ _ _ number (codes "stop" ∷ []) told_words IsTold (λ a. refl) (λ a p. p)
-
-seat_takes : (ws : Words) (y : Told × Words) → AreWords ws → seat_told_in ws ≡ Some y → Taken (codes "seat" ∷ ws) y
-unfolding seat_told_in
-seat_takes = fields2_takes told.Seat _ _ _ number _ _ _ pool (codes "seat" ∷ []) told_words IsTold (λ a b. refl) (λ a b p q. (p, q))
-
-granted_takes : (ws : Words) (y : Told × Words) → AreWords ws → granted_in ws ≡ Some y → Taken (codes "granted" ∷ ws) y
-unfolding granted_in
-granted_takes = fields1_takes told.Granted _ _ _ number (codes "granted" ∷ []) told_words IsTold (λ a. refl) (λ a p. p)
-
-bare_takes : (t : Told) (name : List ℕ) → told_words t ≡ name ∷ [] → IsTold t → (ws : Words) (y : Told × Words) → AreWords ws → Some (t, ws) ≡ Some y → Taken (name ∷ ws) y
-bare_takes t name shape fits ws y small e = fields0_takes t (name ∷ []) told_words IsTold shape fits ws y small e
-
-pool_takes : (name : List ℕ) (ws : Words) (y : Told × Words) → AreWords ws → pool_told_in name ws ≡ Some y → Taken (name ∷ ws) y
-unfolding pool_told_in
-pool_takes name ws y small =
-    named (codes "seat") name ws _ _ told_words IsTold y (seat_takes ws y small)
-    (named (codes "none") name ws _ _ told_words IsTold y (bare_takes told.NoSeat (codes "none") refl tt ws y small)
-    (named (codes "granted") name ws _ _ told_words IsTold y (granted_takes ws y small)
-    (λ e. no_some y e)))
-
-helper_takes : (name : List ℕ) (ws : Words) (y : Told × Words) → AreWords ws → helper_told_in name ws ≡ Some y → Taken (name ∷ ws) y
-unfolding helper_told_in
-helper_takes name ws y small =
-    named (codes "proc") name ws _ _ told_words IsTold y (proc_takes ws y small)
-    (named (codes "reply") name ws _ _ told_words IsTold y (reply_takes ws y small)
-    (named (codes "bad") name ws _ _ told_words IsTold y (bare_takes told.Bad (codes "bad") refl tt ws y small)
-    (named (codes "stray") name ws _ _ told_words IsTold y (bare_takes told.Stray (codes "stray") refl tt ws y small)
-    (named (codes "start") name ws _ _ told_words IsTold y (start_takes ws y small)
-    (named (codes "send") name ws _ _ told_words IsTold y (send_takes ws y small)
-    (named (codes "stop") name ws _ _ told_words IsTold y (stop_takes ws y small)
-    (pool_takes name ws y small)))))))
-
-pub told_takes : (ws : Words) (y : Told × Words) → AreWords ws → told_in ws ≡ Some y → Taken ws y
+-- no answer is read but one that was written
+pub told_takes : TakesOnly told_in told_words IsTold
 unfolding told_in
-told_takes [] y small e = no_some y e
-told_takes (name ∷ ws) y small e =
-    named (codes "epoch") name ws _ _ told_words IsTold y (epoch_takes ws y small.1)
-    (named (codes "ok") name ws _ _ told_words IsTold y (bare_takes told.Fine (codes "ok") refl tt ws y small.1)
-    (named (codes "check") name ws _ _ told_words IsTold y (check_takes ws y small.1)
-    (named (codes "took") name ws _ _ told_words IsTold y (took_takes ws y small.1)
-    (named (codes "waits") name ws _ _ told_words IsTold y (waits_takes ws y small.1)
-    (named (codes "done") name ws _ _ told_words IsTold y (bare_takes told.Done (codes "done") refl tt ws y small.1)
-    (helper_takes name ws y small.1)))))) e
+told_takes = by_name told_names told_after told_words IsTold told_rows
 
-judged_again : (epoch : ℕ) (o : Outcome) → IsNumber epoch → FitsOutcome o → epoch_in (decimal epoch ∷ outcome_words o) ≡ Some (told.Judged epoch o, [])
-unfolding epoch_in
+judged_again : (epoch : ℕ) (o : Outcome) → IsNumber epoch → FitsOutcome o → told_after name.Epoch (decimal epoch ∷ outcome_words o) ≡ Some (told.Judged epoch o, [])
+unfolding told_after
 judged_again epoch o h k =
     bind_is (number_in (decimal epoch ∷ outcome_words o)) _ (epoch, outcome_words o) _ (number.again epoch (outcome_words o) h)
-    (bind_is (outcome_in (outcome_words o)) _ (o, []) _ (outcome_again o k) refl)
+    (ap (option_map (λ r. (told.Judged epoch r.0, r.1))) (outcome_again o k))
 
-bare_epoch_again : (epoch : ℕ) → IsNumber epoch → epoch_in (decimal epoch ∷ []) ≡ Some (told.Epoch epoch, [])
-unfolding epoch_in
+bare_epoch_again : (epoch : ℕ) → IsNumber epoch → told_after name.Epoch (decimal epoch ∷ []) ≡ Some (told.Epoch epoch, [])
+unfolding told_after
 bare_epoch_again epoch h = bind_is (number_in (decimal epoch ∷ [])) _ (epoch, []) _ (number.again epoch [] h) refl
 
+-- an answer that was written is read
 pub told_again : (t : Told) → IsTold t → told_in (told_words t) ≡ Some (t, [])
-unfolding told_in helper_told_in pool_told_in check_in took_in waits_in proc_in reply_in start_in send_in stop_in seat_told_in granted_in
+unfolding told_in word_in told_after
 told_again (told.Epoch e) h = bare_epoch_again e h
 told_again told.Fine h = refl
 told_again (told.Check n) h = fields1_again told.Check _ _ _ number n [] h

@@ -1,57 +1,73 @@
 -- Single words of answers.
-use Rattle.std.proofs.Common.{◌≡◌, ℕ, ◌+◌, ◌^◌, ◌<◌, List, [], ◌∷◌, Bool, true, false, Some, None, Option, zero, suc, if◌then◌else◌, decimal, codes, bytes_eq, nat_eq, All, arith, refl, ap, subst, ◌∙◌}
+use Rattle.std.proofs.Common.{◌≡◌, ℕ, ◌+◌, ◌^◌, ◌<◌, List, [], ◌∷◌, Bool, true, false, Some, None, Option, zero, suc, if◌then◌else◌, decimal, codes, bytes_eq, nat_eq, All, option_map, option_and_then, arith, refl, sym, ap, subst, ◌∙◌}
 use Rattle.std.proofs.lemmas.Bool.Decides.{nat_tests}
 use Rattle.std.proofs.lemmas.List.Elements.{All-head}
 use Rattle.std.specs.Int.{IsInRange}
+use Rattle.std.proofs.lemmas.Option.{same_Some, none-some}
+use Rattle.sq_base.proofs.CommonLaws.{then_some, map_some}
 use Rattle.sq_base.specs.Decimals.{number_of}
 use Rattle.sq_base.specs.declared.helpers.Cause.{Cause}
 use Rattle.sq_base.specs.declared.helpers.Cause.TheVariants as cause
 use Rattle.sq_base.specs.declared.helpers.Word.{Word}
 use Rattle.sq_base.specs.declared.helpers.Word.TheVariants as reply
+use Rattle.sq_base.specs.NameTables.{beside}
 use Rattle.sq_rules.specs.OutcomeText.{cause_word, action_word}
 use Rattle.sq_journal.specs.EntryText.{result_word, channel_word}
-use Rattle.sq_journal.specs.Reading.{◌>>=◌}
-use Rattle.sq_journal.specs.ToldReading.{result_of, channel_of, pool_of, one_less, action_of, cause_of}
-use Rattle.sq_journal.specs.Values.{AreBytes, IsChannel}
-use Rattle.sq_journal.proofs.FieldLaws.{bind_some, map_some}
+use Rattle.sq_journal.specs.Names.{result_names, action_names, cause_names}
+use Rattle.sq_journal.specs.ToldReading.{channel_of, pool_named, one_less}
+use Rattle.sq_base.specs.Texts.{AreBytes}
+use Rattle.sq_journal.specs.Values.{IsChannel}
+use Rattle.sq_journal.proofs.FieldLaws.{◌⊗◌, Any, name_exact}
 use Rattle.sq_journal.proofs.LineLaws.{IsPlain, plain_word}
-use Rattle.sq_journal.proofs.WordLaws.{ExactWord, number_exact, decimal_plain, all_digits, same_some, no_some, word_is}
+use Rattle.sq_journal.proofs.WordLaws.{ExactWord, number_exact, decimal_plain, all_digits, word_is}
 
--- every value fits
-abbrev pub Any : {A : Type 0} → A → Type 0
-Any x = Unit {0}
+result_plain : (x : Word) → IsPlain (result_word x)
+result_plain reply.Yes = plain_word (codes "ok") refl
+result_plain reply.No = plain_word (codes "err") refl
+result_plain reply.Broken = plain_word (codes "bh") refl
 
-pick_at : {A : Type 0} (w key : List ℕ) (t : Bool) (v : A) (other : Option A) (x : A) (P : Type 0) → bytes_eq w key ≡ t → (w ≡ key → v ≡ x → P) → (other ≡ Some x → P)
-    → (if t then Some v else other) ≡ Some x → P
-pick_at w key true v other x P is f g e = f (word_is w key is) (same_some v x e)
-pick_at w key false v other x P is f g e = g e
+result_named : (x : Word) → beside result_names (result_word x) ≡ Some x
+result_named reply.Yes = refl
+result_named reply.No = refl
+result_named reply.Broken = refl
 
--- a value by its word
-pick : {A : Type 0} (w key : List ℕ) (v : A) (other : Option A) (x : A) (P : Type 0) → (w ≡ key → v ≡ x → P) → (other ≡ Some x → P)
-    → (if bytes_eq w key then Some v else other) ≡ Some x → P
-pick w key v other x P f g e = pick_at w key (bytes_eq w key) v other x P refl f g e
+-- the words of results
+pub result_exact : ExactWord (beside result_names) result_word Any
+result_exact = name_exact result_names result_word (refl ⊗ refl ⊗ refl ⊗ tt) result_named result_plain
 
-result_takes : (w : List ℕ) (x : Word) → AreBytes w → result_of w ≡ Some x → (w ≡ result_word x) × Any x
-unfolding result_of
-result_takes w x small =
-    pick w (codes "ok") reply.Yes _ x _ (λ e s. (e ∙ ap result_word s, tt))
-    (pick w (codes "err") reply.No _ x _ (λ e s. (e ∙ ap result_word s, tt))
-    (pick w (codes "bh") reply.Broken _ x _ (λ e s. (e ∙ ap result_word s, tt))
-    (λ e. no_some x e)))
+action_plain : (x : Bool) → IsPlain (action_word x)
+action_plain true = plain_word (codes "allowed") refl
+action_plain false = plain_word (codes "denied") refl
 
-result_again : (x : Word) → Any x → result_of (result_word x) ≡ Some x
-unfolding result_of
-result_again reply.Yes h = refl
-result_again reply.No h = refl
-result_again reply.Broken h = refl
+action_again : (x : Bool) → beside action_names (action_word x) ≡ Some x
+action_again true = refl
+action_again false = refl
 
-result_plain : (x : Word) → Any x → IsPlain (result_word x)
-result_plain reply.Yes h = plain_word (codes "ok") refl
-result_plain reply.No h = plain_word (codes "err") refl
-result_plain reply.Broken h = plain_word (codes "bh") refl
+-- the words of what was decided
+pub action_exact : ExactWord (beside action_names) action_word Any
+action_exact = name_exact action_names action_word (refl ⊗ refl ⊗ tt) action_again action_plain
 
-pub result_exact : ExactWord result_of result_word Any
-result_exact = record { again = result_again; takes = result_takes; plain = result_plain }
+cause_plain : (x : Cause) → IsPlain (cause_word x)
+cause_plain cause.Bh = plain_word (codes "Bh") refl
+cause_plain cause.BadReply = plain_word (codes "BadReply") refl
+cause_plain cause.Stray = plain_word (codes "Stray") refl
+cause_plain cause.Died = plain_word (codes "Died") refl
+cause_plain cause.NoHelper = plain_word (codes "NoHelper") refl
+cause_plain cause.QueueFull = plain_word (codes "QueueFull") refl
+cause_plain cause.KeyTooLong = plain_word (codes "KeyTooLong") refl
+
+cause_again : (x : Cause) → beside cause_names (cause_word x) ≡ Some x
+cause_again cause.Bh = refl
+cause_again cause.BadReply = refl
+cause_again cause.Stray = refl
+cause_again cause.Died = refl
+cause_again cause.NoHelper = refl
+cause_again cause.QueueFull = refl
+cause_again cause.KeyTooLong = refl
+
+-- the words of causes
+pub cause_exact : ExactWord (beside cause_names) cause_word Any
+cause_exact = name_exact cause_names cause_word (refl ⊗ refl ⊗ refl ⊗ refl ⊗ refl ⊗ refl ⊗ refl ⊗ tt) cause_again cause_plain
 
 no_dash : (w : List ℕ) → All (λ b. IsInRange 48 57 b) w → bytes_eq w (codes "-") ≡ false
 no_dash [] h = refl
@@ -65,95 +81,48 @@ unfolding channel_of
 channel_again None h = refl
 channel_again (Some n) h = rw (no_dash (decimal n) (all_digits n (omega (arith, h))), (number_exact (2 ^ 32) (omega arith)).again n h) refl
 
+channel_at : (w : List ℕ) (t : Bool) (x : Option ℕ) → bytes_eq w (codes "-") ≡ t → AreBytes w → (if t then Some None else option_map Some (number_of (2 ^ 32) w)) ≡ Some x
+    → (w ≡ channel_word x) × IsChannel x
+channel_at w true x is small e =
+    subst (λ y. (w ≡ channel_word y) × IsChannel y) (same_Some None x e) (word_is w (codes "-") is, tt)
+channel_at w false x is small e =
+    let s = map_some Some (number_of (2 ^ 32) w) x e in
+    let t = (number_exact (2 ^ 32) (omega arith)).takes w s.0 small s.1 in
+    subst (λ y. (w ≡ channel_word y) × IsChannel y) (sym s.2) (t.0, t.1)
+
 channel_takes : (w : List ℕ) (x : Option ℕ) → AreBytes w → channel_of w ≡ Some x → (w ≡ channel_word x) × IsChannel x
 unfolding channel_of
-channel_takes w x small =
-    pick w (codes "-") None _ x _ (λ e s. (e ∙ ap channel_word s, subst IsChannel s tt))
-    (λ e.
-    let s = map_some (number_of (2 ^ 32) w) Some x e in
-    let t = (number_exact (2 ^ 32) (omega arith)).takes w s.0 small s.1 in
-    subst (λ y. (w ≡ channel_word y) × IsChannel y) s.2 (t.0, t.1))
+channel_takes w x small e = channel_at w (bytes_eq w (codes "-")) x refl small e
 
 channel_plain : (x : Option ℕ) → IsChannel x → IsPlain (channel_word x)
 channel_plain None h = plain_word (codes "-") refl
 channel_plain (Some n) h = decimal_plain n (omega (arith, h))
 
+-- the words of channels
 pub channel_exact : ExactWord channel_of channel_word IsChannel
 channel_exact = record { again = channel_again; takes = channel_takes; plain = channel_plain }
 
 less_of_more : (n : ℕ) → one_less (n + 1) ≡ Some n
 less_of_more n = let e : n + 1 ≡ suc n = omega arith in rw e refl
 
-pool_at : (w : List ℕ) (k n : ℕ) → w ≡ decimal k → k < 2 ^ 32 + 1 → one_less k ≡ Some n → (w ≡ decimal (n + 1)) × (n < 2 ^ 32)
-pool_at w zero n is l e = no_some n e
-pool_at w (suc m) n is l e =
-    let same : m ≡ n = same_some m n e in
+pool_word_at : (w : List ℕ) (k n : ℕ) → w ≡ decimal k → k < 2 ^ 32 + 1 → one_less k ≡ Some n → (w ≡ decimal (n + 1)) × (n < 2 ^ 32)
+pool_word_at w zero n is l e = absurd (none-some n e)
+pool_word_at w (suc m) n is l e =
+    let same : m ≡ n = same_Some m n e in
     let more : suc m ≡ n + 1 = omega (arith, same) in
     (is ∙ ap decimal more, omega (arith, same, l))
 
-pool_again : (n : ℕ) → n < 2 ^ 32 → pool_of (decimal (n + 1)) ≡ Some n
-unfolding pool_of
-pool_again n h = ap (λ o. o >>= one_less) ((number_exact (2 ^ 32 + 1) (omega arith)).again (n + 1) (omega (arith, h))) ∙ less_of_more n
+pool_word_again : (n : ℕ) → n < 2 ^ 32 → pool_named (decimal (n + 1)) ≡ Some n
+unfolding pool_named
+pool_word_again n h = ap (option_and_then one_less) ((number_exact (2 ^ 32 + 1) (omega arith)).again (n + 1) (omega (arith, h))) ∙ less_of_more n
 
-pool_takes : (w : List ℕ) (n : ℕ) → AreBytes w → pool_of w ≡ Some n → (w ≡ decimal (n + 1)) × (n < 2 ^ 32)
-unfolding pool_of
-pool_takes w n small e =
-    let s = bind_some (number_of (2 ^ 32 + 1) w) one_less n e in
+pool_word_takes : (w : List ℕ) (n : ℕ) → AreBytes w → pool_named w ≡ Some n → (w ≡ decimal (n + 1)) × (n < 2 ^ 32)
+unfolding pool_named
+pool_word_takes w n small e =
+    let s = then_some one_less (number_of (2 ^ 32 + 1) w) n e in
     let t = (number_exact (2 ^ 32 + 1) (omega arith)).takes w s.0 small s.1 in
-    pool_at w s.0 n t.0 t.1 s.2
+    pool_word_at w s.0 n t.0 t.1 s.2
 
-pub pool_exact : ExactWord pool_of (λ n. decimal (n + 1)) (λ n. n < 2 ^ 32)
-pool_exact = record { again = pool_again; takes = pool_takes; plain = λ n h. decimal_plain (n + 1) (omega (arith, h)) }
-
-action_takes : (w : List ℕ) (x : Bool) → AreBytes w → action_of w ≡ Some x → (w ≡ action_word x) × Any x
-unfolding action_of
-action_takes w x small =
-    pick w (codes "allowed") true _ x _ (λ e s. (e ∙ ap action_word s, tt))
-    (pick w (codes "denied") false _ x _ (λ e s. (e ∙ ap action_word s, tt))
-    (λ e. no_some x e))
-
-action_again : (x : Bool) → Any x → action_of (action_word x) ≡ Some x
-unfolding action_of
-action_again true h = refl
-action_again false h = refl
-
-action_plain : (x : Bool) → Any x → IsPlain (action_word x)
-action_plain true h = plain_word (codes "allowed") refl
-action_plain false h = plain_word (codes "denied") refl
-
-pub action_exact : ExactWord action_of action_word Any
-action_exact = record { again = action_again; takes = action_takes; plain = action_plain }
-
-cause_takes : (w : List ℕ) (x : Cause) → AreBytes w → cause_of w ≡ Some x → (w ≡ cause_word x) × Any x
-unfolding cause_of
-cause_takes w x small =
-    pick w (codes "Bh") cause.Bh _ x _ (λ e s. (e ∙ ap cause_word s, tt))
-    (pick w (codes "BadReply") cause.BadReply _ x _ (λ e s. (e ∙ ap cause_word s, tt))
-    (pick w (codes "Stray") cause.Stray _ x _ (λ e s. (e ∙ ap cause_word s, tt))
-    (pick w (codes "Died") cause.Died _ x _ (λ e s. (e ∙ ap cause_word s, tt))
-    (pick w (codes "NoHelper") cause.NoHelper _ x _ (λ e s. (e ∙ ap cause_word s, tt))
-    (pick w (codes "QueueFull") cause.QueueFull _ x _ (λ e s. (e ∙ ap cause_word s, tt))
-    (pick w (codes "KeyTooLong") cause.KeyTooLong _ x _ (λ e s. (e ∙ ap cause_word s, tt))
-    (λ e. no_some x e)))))))
-
-cause_again : (x : Cause) → Any x → cause_of (cause_word x) ≡ Some x
-unfolding cause_of
-cause_again cause.Bh h = refl
-cause_again cause.BadReply h = refl
-cause_again cause.Stray h = refl
-cause_again cause.Died h = refl
-cause_again cause.NoHelper h = refl
-cause_again cause.QueueFull h = refl
-cause_again cause.KeyTooLong h = refl
-
-cause_plain : (x : Cause) → Any x → IsPlain (cause_word x)
-cause_plain cause.Bh h = plain_word (codes "Bh") refl
-cause_plain cause.BadReply h = plain_word (codes "BadReply") refl
-cause_plain cause.Stray h = plain_word (codes "Stray") refl
-cause_plain cause.Died h = plain_word (codes "Died") refl
-cause_plain cause.NoHelper h = plain_word (codes "NoHelper") refl
-cause_plain cause.QueueFull h = plain_word (codes "QueueFull") refl
-cause_plain cause.KeyTooLong h = plain_word (codes "KeyTooLong") refl
-
-pub cause_exact : ExactWord cause_of cause_word Any
-cause_exact = record { again = cause_again; takes = cause_takes; plain = cause_plain }
+-- the words of pools
+pub pool_exact : ExactWord pool_named (λ n. decimal (n + 1)) (λ n. n < 2 ^ 32)
+pool_exact = record { again = pool_word_again; takes = pool_word_takes; plain = λ n h. decimal_plain (n + 1) (omega (arith, h)) }

@@ -1,5 +1,5 @@
 -- Single words: what is written of a value is read, and nothing else.
-use Rattle.std.proofs.Common.{◌≡◌, ℕ, ◌^◌, ◌<◌, ◌≤◌, ℤ, pos, negsuc, List, [], ◌∷◌, Bool, true, false, ◌==◌, ◌&&◌, Some, None, Option, zero, suc, if◌then◌else◌, nat_lt, decimal, codes, bytes_eq, All, arith, refl, sym, ap, subst, ◌∙◌, inl, inr, ltb-true, option_map}
+use Rattle.std.proofs.Common.{◌≡◌, ℕ, ◌^◌, ◌<◌, ◌≤◌, ℤ, pos, negsuc, List, [], ◌∷◌, Bool, true, false, ◌==◌, Some, None, Option, zero, suc, if◌then◌else◌, decimal, codes, bytes_eq, All, arith, refl, sym, ap, subst, ◌∙◌, inl, inr, option_map, option_and_then}
 use Rattle.std.proofs.Math.Dec.{le→leb, leb→le}
 use Rattle.std.proofs.lemmas.Bool.Decides.{nat_tests}
 use Rattle.std.proofs.lemmas.Fmt.{decimal_is_IsNumeral}
@@ -11,13 +11,16 @@ use Rattle.std.specs.Int.{IsInRange}
 use Rattle.percent_encoding.specs.AsciiSet.{should_percent_encode}
 use Rattle.percent_encoding.specs.Percent.{percent_decode, percent_encode_byte}
 use Rattle.percent_encoding.proofs.PercentLemmas.{round_trip, All-percent_decode, All-percent_encode, IsEscapeByte}
-use Rattle.sq_base.specs.Decimals.{number_of, read_on}
+use Rattle.std.proofs.lemmas.Option.{same_Some, none-some}
+use Rattle.sq_base.specs.Decimals.{number_of}
 use Rattle.sq_base.specs.Escapes.{is_escaped, escaped, text_word, text_of, unescaped}
-use Rattle.sq_base.proofs.NumberLaws.{number_again}
+use Rattle.sq_base.proofs.CommonLaws.{if_some}
+use Rattle.sq_base.proofs.NumberLaws.{number_again, number_sound}
 use Rattle.sq_journal.specs.declared.escapes.TheConstants.{ESCAPES}
 use Rattle.sq_journal.specs.Lines.{is_space}
-use Rattle.sq_journal.specs.Reading.{◌>>=◌, offset_of, negative}
-use Rattle.sq_journal.specs.Values.{AreBytes, IsOffset}
+use Rattle.sq_journal.specs.Reading.{offset_from, negative}
+use Rattle.sq_base.specs.Texts.{AreBytes}
+use Rattle.sq_journal.specs.Values.{IsOffset}
 use Rattle.sq_journal.proofs.EscapeLaws.{same_test, encodes}
 use Rattle.sq_journal.proofs.LineLaws.{IsPlain, plain_word}
 
@@ -27,42 +30,22 @@ pub record ExactWord {A : Type 0} (of : List ℕ → Option A) (word : A → Lis
   pub takes : (w : List ℕ) (x : A) → AreBytes w → of w ≡ Some x → (w ≡ word x) × Fits x
   pub plain : (x : A) → Fits x → IsPlain (word x)
 
-pub same_some : {A : Type 0} (x y : A) → Some x ≡ Some y → x ≡ y
-same_some x y e = cc
-
-pub no_some : {A : Type 0} {P : Type 0} (y : A) → None ≡ Some y → P
-no_some y e = absurd (cc)
-
+-- words that compare as the same are the same
 pub word_is : (v w : List ℕ) → bytes_eq v w ≡ true → v ≡ w
 word_is v w h = (bytes_eq-Decides v w).0 h
 
+-- a word compares as the same as itself
 pub word_same : (w : List ℕ) → bytes_eq w w ≡ true
 word_same w = (bytes_eq-Decides w w).1 refl
-
--- a value that is given where two tests hold
-pub chosen : {A : Type 0} (a b : Bool) (m n : A) → (if a && b then Some m else None) ≡ Some n → (a ≡ true) × (b ≡ true) × (m ≡ n)
-chosen true true m n e = (refl, refl, same_some m n e)
-chosen true false m n e = no_some n e
-chosen false b m n e = no_some n e
-
--- and where one does
-pub chosen_one : {A : Type 0} (b : Bool) (m n : A) → (if b then Some m else None) ≡ Some n → (b ≡ true) × (m ≡ n)
-chosen_one true m n e = (refl, same_some m n e)
-chosen_one false m n e = no_some n e
-
-number_sound : (limit : ℕ) (word : List ℕ) (n : ℕ) → number_of limit word ≡ Some n → (word ≡ decimal n) × (n < limit)
-unfolding number_of
-number_sound limit word n e =
-    let m = read_on 0 word in
-    let c = chosen (nat_lt m limit) (bytes_eq (decimal m) word) m n e in
-    (sym (word_is (decimal m) word c.1) ∙ ap decimal c.2, subst (λ k. k < limit) c.2 (ltb-true m limit c.0))
 
 digit_plain : (c : ℕ) → IsInRange 48 57 c → is_space c ≡ false
 digit_plain c h = grind (arith, nat_tests)
 
+-- no digit of a number is a space
 pub decimal_plain : (n : ℕ) → n < 2 ^ 64 → IsPlain (decimal n)
 decimal_plain n h = All-from_get_or (λ b. is_space b ≡ false) (decimal n) 0 (λ i l. digit_plain _ (digit_at (decimal n) i (decimal_is_IsNumeral n h).0.1 l))
 
+-- the words of numbers below a limit
 pub number_exact : (limit : ℕ) → limit ≤ 2 ^ 64 → ExactWord (number_of limit) decimal (λ n. n < limit)
 number_exact limit top = record {
   again = λ n h. number_again limit n h top;
@@ -70,53 +53,54 @@ number_exact limit top = record {
   plain = λ n h. decimal_plain n (omega (arith, h, top));
 }
 
-minus : (rest : List ℕ) (o : Option ℕ) (z : ℤ) → number_of 841 rest ≡ o → (o >>= negative) ≡ Some z → (45 ∷ rest ≡ signed_decimal z) × IsOffset z
-minus rest None z is e = no_some z e
-minus rest (Some zero) z is e = no_some z e
-minus rest (Some (suc n)) z is e =
+below_zero : (rest : List ℕ) (o : Option ℕ) (z : ℤ) → number_of 841 rest ≡ o → option_and_then negative o ≡ Some z → (45 ∷ rest ≡ signed_decimal z) × IsOffset z
+below_zero rest None z is e = absurd (none-some z e)
+below_zero rest (Some zero) z is e = absurd (none-some z e)
+below_zero rest (Some (suc n)) z is e =
     let s = number_sound 841 rest (suc n) is in
-    subst (λ y. (45 ∷ rest ≡ signed_decimal y) × IsOffset y) (same_some (negsuc n) z e) (ap (λ l. 45 ∷ l) s.0, (record { le = le→leb n 839 (omega (arith, s.1)) }, record { le = tt }))
+    subst (λ y. (45 ∷ rest ≡ signed_decimal y) × IsOffset y) (same_Some (negsuc n) z e) (ap (λ l. 45 ∷ l) s.0, (record { le = le→leb n 839 (omega (arith, s.1)) }, record { le = tt }))
 
-plus : (word : List ℕ) (o : Option ℕ) (z : ℤ) → number_of 841 word ≡ o → option_map pos o ≡ Some z → (word ≡ signed_decimal z) × IsOffset z
-plus word None z is e = no_some z e
-plus word (Some n) z is e =
+from_zero : (word : List ℕ) (o : Option ℕ) (z : ℤ) → number_of 841 word ≡ o → option_map pos o ≡ Some z → (word ≡ signed_decimal z) × IsOffset z
+from_zero word None z is e = absurd (none-some z e)
+from_zero word (Some n) z is e =
     let s = number_sound 841 word n is in
-    subst (λ y. (word ≡ signed_decimal y) × IsOffset y) (same_some (pos n) z e) (s.0, (record { le = tt }, record { le = le→leb n 840 (omega (arith, s.1)) }))
+    subst (λ y. (word ≡ signed_decimal y) × IsOffset y) (same_Some (pos n) z e) (s.0, (record { le = tt }, record { le = le→leb n 840 (omega (arith, s.1)) }))
 
 offset_at : (b : ℕ) (rest : List ℕ) (t : Bool) (z : ℤ) → (b == 45) ≡ t
-    → (if t then number_of 841 rest >>= negative else option_map pos (number_of 841 (b ∷ rest))) ≡ Some z → (b ∷ rest ≡ signed_decimal z) × IsOffset z
+    → (if t then option_and_then negative (number_of 841 rest) else option_map pos (number_of 841 (b ∷ rest))) ≡ Some z → (b ∷ rest ≡ signed_decimal z) × IsOffset z
 offset_at b rest true z is e =
-    let m = minus rest (number_of 841 rest) z refl e in
+    let m = below_zero rest (number_of 841 rest) z refl e in
     let first : b ≡ 45 = grind (arith, nat_tests, is) in
     (ap (λ c. c ∷ rest) first ∙ m.0, m.1)
-offset_at b rest false z is e = plus (b ∷ rest) (number_of 841 (b ∷ rest)) z refl e
+offset_at b rest false z is e = from_zero (b ∷ rest) (number_of 841 (b ∷ rest)) z refl e
 
-offset_takes : (w : List ℕ) (z : ℤ) → offset_of w ≡ Some z → (w ≡ signed_decimal z) × IsOffset z
-unfolding offset_of
-offset_takes [] z e = no_some z e
+offset_takes : (w : List ℕ) (z : ℤ) → offset_from w ≡ Some z → (w ≡ signed_decimal z) × IsOffset z
+unfolding offset_from
+offset_takes [] z e = absurd (none-some z e)
 offset_takes (b ∷ rest) z e = offset_at b rest (b == 45) z refl e
 
 empty_number : (n : ℕ) → number_of 841 [] ≡ Some n → ⊥
 unfolding number_of digits
 empty_number n e = absurd (cc)
 
-below_again : (n : ℕ) → n < 840 → offset_of (45 ∷ decimal (suc n)) ≡ Some (negsuc n)
-unfolding offset_of
+below_again : (n : ℕ) → n < 840 → offset_from (45 ∷ decimal (suc n)) ≡ Some (negsuc n)
+unfolding offset_from
 below_again n h = rw (number_again 841 (suc n) (omega arith) (omega arith)) refl
 
 -- digits, whose first byte is no `-`
-digits_read : (w : List ℕ) (n : ℕ) → All (λ b. IsInRange 48 57 b) w → number_of 841 w ≡ Some n → offset_of w ≡ Some (pos n)
-unfolding offset_of
+digits_read : (w : List ℕ) (n : ℕ) → All (λ b. IsInRange 48 57 b) w → number_of 841 w ≡ Some n → offset_from w ≡ Some (pos n)
+unfolding offset_from
 digits_read [] n h e = absurd (empty_number n e)
 digits_read (b ∷ rest) n h e =
     let head : IsInRange 48 57 b = All-head (λ c. IsInRange 48 57 c) b rest h in
     let first : (b == 45) ≡ false = grind (arith, nat_tests) in
     rw (first, e) refl
 
+-- the text of a number is of digits
 pub all_digits : (n : ℕ) → n < 2 ^ 64 → All (λ b. IsInRange 48 57 b) (decimal n)
 all_digits n h = All-from_get_or (λ b. IsInRange 48 57 b) (decimal n) 0 (λ i l. digit_at (decimal n) i (decimal_is_IsNumeral n h).0.1 l)
 
-offset_again : (z : ℤ) → IsOffset z → offset_of (signed_decimal z) ≡ Some z
+offset_again : (z : ℤ) → IsOffset z → offset_from (signed_decimal z) ≡ Some z
 offset_again (pos n) h =
     let small : n < 841 = omega (arith, leb→le n 840 h.1.le) in
     digits_read (decimal n) n (all_digits n (omega arith)) (number_again 841 n small (omega arith))
@@ -126,7 +110,8 @@ offset_plain : (z : ℤ) → IsOffset z → IsPlain (signed_decimal z)
 offset_plain (pos n) h = decimal_plain n (omega (arith, leb→le n 840 h.1.le))
 offset_plain (negsuc n) h = All-cons (λ b. is_space b ≡ false) 45 (decimal (suc n)) refl (decimal_plain (suc n) (omega (arith, leb→le n 839 h.0.le)))
 
-pub offset_exact : ExactWord offset_of signed_decimal IsOffset
+-- the words of offsets
+pub offset_exact : ExactWord offset_from signed_decimal IsOffset
 offset_exact = record { again = offset_again; takes = λ w z small e. offset_takes w z e; plain = offset_plain }
 
 -- the text of escaped bytes reads back
@@ -166,8 +151,9 @@ unescaped_bytes word false small = All-percent_decode word small
 text_takes : (w bytes : List ℕ) → AreBytes w → text_of w ≡ Some bytes → (w ≡ text_word bytes) × AreBytes bytes
 unfolding text_of
 text_takes w bytes small e =
-    let c = chosen_one (bytes_eq w (text_word (unescaped w))) (unescaped w) bytes e in
-    (word_is w (text_word (unescaped w)) c.0 ∙ ap text_word c.1, subst AreBytes c.1 (unescaped_bytes w (bytes_eq w (codes "-")) small))
+    let c = if_some (bytes_eq w (text_word (unescaped w))) (Some (unescaped w)) bytes e in
+    let is : unescaped w ≡ bytes = same_Some (unescaped w) bytes c.1 in
+    (word_is w (text_word (unescaped w)) c.0 ∙ ap text_word is, subst AreBytes is (unescaped_bytes w (bytes_eq w (codes "-")) small))
 
 kept_plain : (b : ℕ) → should_percent_encode ESCAPES b ≡ false → is_space b ≡ false
 kept_plain b h = let kept : is_escaped b ≡ false = sym (same_test b) ∙ h in grind (arith, nat_tests, kept)
@@ -189,6 +175,7 @@ unfolding text_word
 text_plain [] = plain_word (codes "-") refl
 text_plain (b ∷ bs) = plain_at (b ∷ bs) (bytes_eq (b ∷ bs) (codes "-"))
 
+-- the words of texts
 pub text_exact : ExactWord text_of text_word AreBytes
 text_exact = record {
   again = λ bytes small. text_reads (text_word bytes) bytes (unescaped_word bytes small) refl;

@@ -4,6 +4,7 @@ use Rattle.std.specs.Prelude.{ℕ, ◌+◌, List, [], ◌∷◌, ◌++◌, map, 
 use Rattle.std.specs.Fmt.{signed_decimal}
 use Rattle.std.specs.declared.option.Option.{Option}
 use Rattle.sq_base.specs.Addresses.{address_text}
+use Rattle.sq_base.specs.Bytes.{lf, colon}
 use Rattle.sq_base.specs.Escapes.{text_word}
 use Rattle.sq_base.specs.declared.helpers.Word.{Word}
 use Rattle.sq_base.specs.declared.helpers.Word.TheVariants as reply
@@ -14,11 +15,12 @@ use Rattle.sq_rules.specs.declared.entries.Told.{Told}
 use Rattle.sq_rules.specs.declared.entries.Told.TheVariants as told
 use Rattle.sq_rules.specs.Entries.{Noted, History}
 use Rattle.sq_rules.specs.OutcomeText.{outcome_words}
-use Rattle.sq_journal.specs.Lines.{Words, line_of}
+use Rattle.sq_journal.specs.Lines.{line_of}
+use Rattle.sq_rules.specs.Steps.{Words}
 
 -- a field's word: name, `:` and value
 abbrev pub field_word : Field → List ℕ
-field_word f = text_word (f.name ++ 58 ∷ f.value)
+field_word f = text_word (f.name ++ colon ∷ f.value)
 
 -- the words of an event
 abbrev pub event_words : Event → Words
@@ -95,7 +97,7 @@ entry_text e = line_of (entry_words e)
 
 -- the line of an entry
 abbrev pub entry_line : Noted → List ℕ
-entry_line e = entry_text e ++ 10 ∷ []
+entry_line e = entry_text e ++ lf ∷ []
 
 -- the lines of a history, the oldest entry first
 abbrev pub written : History → List ℕ

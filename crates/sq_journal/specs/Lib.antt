@@ -1,6 +1,6 @@
 pub mod EntryText
-pub mod FieldReading
 pub mod Lines
+pub mod Names
 pub mod Printing
 pub mod Reading
 pub mod ToldReading

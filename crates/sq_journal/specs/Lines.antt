@@ -3,29 +3,27 @@ use Rattle.std.specs.Prelude.{ℕ, List, [], ◌∷◌, ◌++◌, Bool, ◌==◌
 use Rattle.std.specs.List.{slice_split, join_with_byte}
 use Rattle.std.specs.Borrow.{Bor}
 use Rattle.std.specs.declared.option.Option.{Option}
-
--- a list of words
-abbrev pub Words : Type 0
-Words = List (List ℕ)
+use Rattle.sq_base.specs.Bytes.{space}
+use Rattle.sq_rules.specs.Steps.{Words}
 
 -- a space
 abbrev pub is_space : ℕ → Bool
-is_space b = b == 32
+is_space b = b == space
 
 -- the words of a line
-unfoldable pub words_of : List ℕ → Words
-words_of line = slice_split is_space line
+unfoldable pub spaced_words : List ℕ → Words
+spaced_words line = slice_split is_space line
 
 -- the words of what is left of a line
 abbrev pub words_left : Option (Bor (List ℕ)) → Words
 words_left None = []
-words_left (Some rest) = words_of rest.now
+words_left (Some rest) = spaced_words rest.now
 
 -- the line of some words
 abbrev pub line_of : Words → List ℕ
-line_of ws = join_with_byte 32 ws
+line_of ws = join_with_byte space ws
 
 -- each word after a space
 abbrev pub after_spaces : Words → List ℕ
 after_spaces [] = []
-after_spaces (w ∷ ws) = 32 ∷ (w ++ after_spaces ws)
+after_spaces (w ∷ ws) = space ∷ (w ++ after_spaces ws)

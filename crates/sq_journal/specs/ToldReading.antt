@@ -1,12 +1,9 @@
 -- Answers and entries read from words, word by word.
-use Rattle.std.specs.Prelude.{ℕ, ◌+◌, ◌^◌, List, [], ◌∷◌, Bool, true, false, if◌then◌else◌, Some, None, zero, suc, codes, bytes_eq}
-use Rattle.std.specs.Option.{option_map}
+use Rattle.std.specs.Prelude.{ℕ, ◌+◌, ◌^◌, List, [], ◌∷◌, Bool, if◌then◌else◌, Some, None, zero, suc, codes, bytes_eq, option_map, option_and_then}
 use Rattle.std.specs.declared.option.Option.{Option}
 use Rattle.sq_base.specs.Decimals.{number_of}
-use Rattle.sq_base.specs.declared.helpers.Cause.{Cause}
-use Rattle.sq_base.specs.declared.helpers.Cause.TheVariants as cause
-use Rattle.sq_base.specs.declared.helpers.Word.{Word}
-use Rattle.sq_base.specs.declared.helpers.Word.TheVariants as reply
+use Rattle.sq_base.specs.NameTables.{beside}
+use Rattle.sq_base.specs.Replies.{channel_limit}
 use Rattle.sq_rules.specs.declared.entries.Event.{Event}
 use Rattle.sq_rules.specs.declared.entries.Told.{Told}
 use Rattle.sq_rules.specs.declared.entries.Told.TheVariants as told
@@ -14,20 +11,17 @@ use Rattle.sq_rules.specs.declared.outcomes.Outcome.{Outcome}
 use Rattle.sq_rules.specs.declared.outcomes.Why.{Why}
 use Rattle.sq_rules.specs.declared.outcomes.Why.TheVariants as why
 use Rattle.sq_rules.specs.Entries.{Noted, is_row}
-use Rattle.sq_journal.specs.Lines.{Words}
-use Rattle.sq_journal.specs.Reading.{◌>>=◌, Reads, word_in, below_in, number_in, text_in, whole, fields1, fields2, fields3, fields4, event_in}
-
--- the result of a reply
-unfoldable pub result_of : List ℕ → Option Word
-result_of word =
-    if bytes_eq word (codes "ok") then Some reply.Yes
-    else (if bytes_eq word (codes "err") then Some reply.No
-    else (if bytes_eq word (codes "bh") then Some reply.Broken
-    else None))
+use Rattle.sq_rules.specs.Steps.{Words}
+use Rattle.sq_journal.specs.declared.names.ToldName.{ToldName}
+use Rattle.sq_journal.specs.declared.names.ToldName.TheVariants as name
+use Rattle.sq_journal.specs.declared.names.WhyName.{WhyName}
+use Rattle.sq_journal.specs.declared.names.WhyName.TheVariants as reason
+use Rattle.sq_journal.specs.Names.{told_names, why_names, action_names, cause_names, result_names, arrow_names}
+use Rattle.sq_journal.specs.Reading.{Reads, word_in, then_in, below_in, number_in, text_in, whole, fields1, fields2, fields3, fields4, event_in}
 
 -- a channel, or `-`
 unfoldable pub channel_of : List ℕ → Option (Option ℕ)
-channel_of word = if bytes_eq word (codes "-") then Some None else option_map Some (number_of (2 ^ 32) word)
+channel_of word = if bytes_eq word (codes "-") then Some None else option_map Some (number_of channel_limit word)
 
 -- the number before, if there is one
 abbrev pub one_less : ℕ → Option ℕ
@@ -35,42 +29,19 @@ one_less zero = None
 one_less (suc n) = Some n
 
 -- a pool's place, of its number from 1
-unfoldable pub pool_of : List ℕ → Option ℕ
-pool_of word = number_of (2 ^ 32 + 1) word >>= one_less
+unfoldable pub pool_named : List ℕ → Option ℕ
+pool_named word = option_and_then one_less (number_of (2 ^ 32 + 1) word)
 
--- `allowed` or `denied`
-unfoldable pub action_of : List ℕ → Option Bool
-action_of word = if bytes_eq word (codes "allowed") then Some true else (if bytes_eq word (codes "denied") then Some false else None)
-
--- a cause, in its letters
-unfoldable pub cause_of : List ℕ → Option Cause
-cause_of word =
-    if bytes_eq word (codes "Bh") then Some cause.Bh
-    else (if bytes_eq word (codes "BadReply") then Some cause.BadReply
-    else (if bytes_eq word (codes "Stray") then Some cause.Stray
-    else (if bytes_eq word (codes "Died") then Some cause.Died
-    else (if bytes_eq word (codes "NoHelper") then Some cause.NoHelper
-    else (if bytes_eq word (codes "QueueFull") then Some cause.QueueFull
-    else (if bytes_eq word (codes "KeyTooLong") then Some cause.KeyTooLong
-    else None))))))
-
--- rule N
-unfoldable pub rule_in : Reads Why
-rule_in = fields1 why.Rule (below_in (2 ^ 32))
-
--- fault N ACL CAUSE
-unfoldable pub fault_in : Reads Why
-fault_in = fields3 why.Fault (below_in (2 ^ 32)) text_in (word_in cause_of)
+-- what stands after a reason's name
+unfoldable pub why_after : WhyName → Reads Why
+why_after reason.Rule = fields1 why.Rule (below_in (2 ^ 32))
+why_after reason.Default = λ ws. Some (why.Default, ws)
+why_after reason.Empty = λ ws. Some (why.Empty, ws)
+why_after reason.Fault = fields3 why.Fault (below_in (2 ^ 32)) text_in (word_in (beside cause_names))
 
 -- why a check was decided so
 unfoldable pub why_in : Reads Why
-why_in [] = None
-why_in (name ∷ ws) =
-    if bytes_eq name (codes "rule") then rule_in ws
-    else (if bytes_eq name (codes "default") then Some (why.Default, ws)
-    else (if bytes_eq name (codes "empty") then Some (why.Empty, ws)
-    else (if bytes_eq name (codes "fault") then fault_in ws
-    else None)))
+why_in = then_in (word_in (beside why_names)) why_after
 
 -- an outcome of its parts
 abbrev pub outcome_from : Bool → Why → Outcome
@@ -78,101 +49,48 @@ outcome_from allow reason = record { allow = allow; why = reason }
 
 -- an outcome
 unfoldable pub outcome_in : Reads Outcome
-outcome_in = fields2 outcome_from (word_in action_of) why_in
+outcome_in = fields2 outcome_from (word_in (beside action_names)) why_in
 
 -- an epoch alone, or with the outcome of a check
-abbrev pub epoch_told : ℕ → Words → Option (Told × Words)
+abbrev pub epoch_told : ℕ → Reads Told
 epoch_told epoch [] = Some (told.Epoch epoch, [])
-epoch_told epoch (w ∷ ws) = outcome_in (w ∷ ws) >>= λ outcome. Some (told.Judged epoch outcome.0, outcome.1)
+epoch_told epoch (w ∷ ws) = fields1 (told.Judged epoch) outcome_in (w ∷ ws)
 
--- epoch EPOCH, or epoch EPOCH OUTCOME
-unfoldable pub epoch_in : Reads Told
-epoch_in ws = number_in ws >>= λ epoch. epoch_told epoch.0 epoch.1
-
--- check CHECK
-unfoldable pub check_in : Reads Told
-check_in = fields1 told.Check number_in
-
--- took CLASS
-unfoldable pub took_in : Reads Told
-took_in = fields1 told.Took text_in
-
--- waits QUESTION
-unfoldable pub waits_in : Reads Told
-waits_in = fields1 told.Waits number_in
-
--- proc PROC
-unfoldable pub proc_in : Reads Told
-proc_in = fields1 told.Proc number_in
-
--- reply QUESTION RESULT
-unfoldable pub reply_in : Reads Told
-reply_in = fields2 told.Reply number_in (word_in result_of)
-
--- start EPOCH CLASS
-unfoldable pub start_in : Reads Told
-start_in = fields2 told.Start number_in text_in
-
--- send PROC QUESTION CHANNEL KEY
-unfoldable pub send_in : Reads Told
-send_in = fields4 told.Send number_in number_in (word_in channel_of) text_in
-
--- stop PROC
-unfoldable pub stop_in : Reads Told
-stop_in = fields1 told.Stop number_in
-
--- seat SEAT POOL
-unfoldable pub seat_told_in : Reads Told
-seat_told_in = fields2 told.Seat number_in (word_in pool_of)
-
--- granted N
-unfoldable pub granted_in : Reads Told
-granted_in = fields1 told.Granted number_in
-
--- an answer to an event of pools, by its name
-unfoldable pub pool_told_in : List ℕ → Reads Told
-pool_told_in name ws =
-    if bytes_eq name (codes "seat") then seat_told_in ws
-    else (if bytes_eq name (codes "none") then Some (told.NoSeat, ws)
-    else (if bytes_eq name (codes "granted") then granted_in ws
-    else None))
-
--- an answer to an event of helpers and acts by its name, and else of pools
-unfoldable pub helper_told_in : List ℕ → Reads Told
-helper_told_in name ws =
-    if bytes_eq name (codes "proc") then proc_in ws
-    else (if bytes_eq name (codes "reply") then reply_in ws
-    else (if bytes_eq name (codes "bad") then Some (told.Bad, ws)
-    else (if bytes_eq name (codes "stray") then Some (told.Stray, ws)
-    else (if bytes_eq name (codes "start") then start_in ws
-    else (if bytes_eq name (codes "send") then send_in ws
-    else (if bytes_eq name (codes "stop") then stop_in ws
-    else pool_told_in name ws))))))
+-- what stands after an answer's name
+unfoldable pub told_after : ToldName → Reads Told
+told_after name.Epoch = then_in number_in epoch_told
+told_after name.Fine = λ ws. Some (told.Fine, ws)
+told_after name.Check = fields1 told.Check number_in
+told_after name.Took = fields1 told.Took text_in
+told_after name.Waits = fields1 told.Waits number_in
+told_after name.Done = λ ws. Some (told.Done, ws)
+told_after name.Proc = fields1 told.Proc number_in
+told_after name.Reply = fields2 told.Reply number_in (word_in (beside result_names))
+told_after name.Bad = λ ws. Some (told.Bad, ws)
+told_after name.Stray = λ ws. Some (told.Stray, ws)
+told_after name.Start = fields2 told.Start number_in text_in
+told_after name.Send = fields4 told.Send number_in number_in (word_in channel_of) text_in
+told_after name.Stop = fields1 told.Stop number_in
+told_after name.Seat = fields2 told.Seat number_in (word_in pool_named)
+told_after name.NoSeat = λ ws. Some (told.NoSeat, ws)
+told_after name.Granted = fields1 told.Granted number_in
 
 -- an answer, by its name
 unfoldable pub told_in : Reads Told
-told_in [] = None
-told_in (name ∷ ws) =
-    if bytes_eq name (codes "epoch") then epoch_in ws
-    else (if bytes_eq name (codes "ok") then Some (told.Fine, ws)
-    else (if bytes_eq name (codes "check") then check_in ws
-    else (if bytes_eq name (codes "took") then took_in ws
-    else (if bytes_eq name (codes "waits") then waits_in ws
-    else (if bytes_eq name (codes "done") then Some (told.Done, ws)
-    else helper_told_in name ws)))))
+told_in = then_in (word_in (beside told_names)) told_after
 
--- the words after `=>`
-unfoldable pub after_arrow : Words → Option Words
-after_arrow [] = None
-after_arrow (w ∷ ws) = if bytes_eq w (codes "=>") then Some ws else None
+-- the word between an event and its answer
+abbrev pub arrow_in : Reads (Unit {0})
+arrow_in = word_in (beside arrow_names)
 
--- the entry, where the answer is one that the event may have
-abbrev pub noted_if : Bool → ℕ → Event → Told → Option Noted
-noted_if true moment event answer = Some (record { moment = moment; event = event; answer = answer })
-noted_if false moment event answer = None
+-- an entry of its parts
+abbrev pub noted_from : ℕ → Event → Unit {0} → Told → Noted
+noted_from moment event arrow answer = record { moment = moment; event = event; answer = answer }
+
+-- the entry, where its answer is one that its event may have
+abbrev pub with_row : Noted → Option Noted
+with_row e = if is_row e.event e.answer then Some e else None
 
 -- the entry of some words
 unfoldable pub entry_of : Words → Option Noted
-entry_of ws =
-    number_in ws >>= λ moment. event_in moment.1 >>= λ event. after_arrow event.1 >>= λ rest. told_in rest >>= whole >>= λ answer.
-    noted_if (is_row event.0 answer) moment.0 event.0 answer
+entry_of ws = option_and_then with_row (option_and_then whole (fields4 noted_from number_in event_in arrow_in told_in ws))

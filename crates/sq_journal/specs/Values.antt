@@ -1,8 +1,11 @@
 -- What the numbers and texts of events and answers are: each number is below its type's limit, each amount
 -- within its own, and each text is of bytes. Every entry is so.
-use Rattle.std.specs.Prelude.{◌≡◌, ℕ, ◌<◌, ◌^◌, ℤ, negsuc, pos, ◌≤ℤ◌, List, [], ◌∷◌, All, Bool, true, Some, None}
+use Rattle.std.specs.Prelude.{◌≡◌, ℕ, ◌<◌, ◌^◌, ℤ, negsuc, pos, ◌≤ℤ◌, List, [], ◌∷◌, Bool, true, Some, None}
 use Rattle.std.specs.declared.option.Option.{Option}
 use Rattle.sq_base.specs.Addresses.{IsAddress}
+use Rattle.sq_base.specs.Decimals.{number_limit, port_limit}
+use Rattle.sq_base.specs.Replies.{channel_limit}
+use Rattle.sq_base.specs.Texts.{AreBytes}
 use Rattle.sq_base.specs.declared.requests.Field.{Field}
 use Rattle.sq_rules.specs.declared.entries.Event.{Event}
 use Rattle.sq_rules.specs.declared.entries.Event.TheVariants.{Begin, Open, Close, Ask, Step, Take, Started, StartFail, Line, Died, Act, Reconfigure, Seat, Grant, Leave}
@@ -14,11 +17,7 @@ use Rattle.sq_rules.specs.Entries.{Noted, IsEntry, is_event, is_amount}
 
 -- a number of a connection, a check and the like, a moment, or an amount
 abbrev pub IsNumber : ℕ → Type 0
-IsNumber n = n < 2 ^ 63
-
--- each is below 256
-abbrev pub AreBytes : List ℕ → Type 0
-AreBytes bytes = All (λ b. b < 256) bytes
+IsNumber n = n < number_limit
 
 -- a field of bytes
 abbrev pub IsField : Field → Type 0
@@ -36,7 +35,7 @@ IsOffset minutes = (negsuc 839 ≤ℤ minutes) × (minutes ≤ℤ pos 840)
 -- what an event holds
 abbrev pub HoldsValues : Event → Type 0
 HoldsValues (Begin offset) = IsOffset offset
-HoldsValues (Open conn addr port) = IsNumber conn × IsAddress addr × (port < 2 ^ 16)
+HoldsValues (Open conn addr port) = IsNumber conn × IsAddress addr × (port < port_limit)
 HoldsValues (Close conn) = IsNumber conn
 HoldsValues (Ask conn method target fields) = IsNumber conn × AreBytes method × AreBytes target × AreFields fields
 HoldsValues (Step check) = IsNumber check
@@ -62,10 +61,10 @@ IsWhy why.Default = Unit {0}
 IsWhy why.Empty = Unit {0}
 IsWhy (why.Fault rule acl cause) = (rule < 2 ^ 32) × AreBytes acl
 
--- a channel, where there is one, below 2^32
+-- a channel, where there is one, below its limit
 abbrev pub IsChannel : Option ℕ → Type 0
 IsChannel None = Unit {0}
-IsChannel (Some channel) = channel < 2 ^ 32
+IsChannel (Some channel) = channel < channel_limit
 
 -- an answer as a value of its type
 abbrev pub IsTold : Told → Type 0

@@ -1,52 +1,80 @@
-//! Answers read from words: those to events of connections and their checks.
+//! Answers read from words.
 ghost use Rattle.std.specs.Prelude.{◌≡◌};
-ghost use Rattle.sq_journal.specs.Reading.{Takes};
-ghost use Rattle.sq_journal.specs.ToldReading.{told_in, epoch_in, check_in, took_in, waits_in};
+ghost use Rattle.sq_journal.specs.Reading.{ReadsFront, ReadsWithoutMemory, word_in};
+ghost use Rattle.sq_journal.specs.ToldReading.{told_in, told_after, epoch_told, channel_of, pool_named};
+ghost use Rattle.sq_journal.specs.declared.names.ToldName.TheVariants as name;
 
 use crate::faults::EntryFault;
-use crate::helper_answers::helper_told;
+use crate::names::{ToldName, result_word, told_name};
 use crate::outcomes::outcome;
 use crate::values::{number, text};
 use crate::words::Words;
-use sq_base::{CheckNo, EpochNo, QuestionNo};
+use sq_base::{CheckNo, EpochNo, ProcNo, QuestionNo, SeatNo, number_of};
 use sq_rules::Told;
 use std::alloc::Global;
 
 /// An answer, by its name.
 #[tactic(auto, unfolding(crate::specs::ToldReading::told_in))]
 pub fn told(alloc: Global, words: &mut Words) -> Result<Told, EntryFault>
-    ensures { Takes (λ t. t) result words.new (told_in words.old) }
+    ensures { ReadsFront result words.new (told_in words.old) }
 {
-    let Some(name) = words.next() else {
-        return Err(EntryFault::BadEntry);
-    };
-    if name == b"epoch".as_slice() {
-        return epoch(alloc, words);
+    let name = told_name(words)?;
+    told_after(alloc, name, words)
+}
+
+// What stands after an answer's name.
+#[tactic(auto, unfolding(crate::specs::ToldReading::told_after))]
+fn told_after(alloc: Global, name: ToldName, words: &mut Words) -> Result<Told, EntryFault>
+    ensures { ReadsFront result words.new (told_after name words.old) }
+{
+    match name {
+        ToldName::Epoch => epoch(alloc, words),
+        ToldName::Fine => Ok(Told::Fine),
+        ToldName::Check => {
+            let check = CheckNo(number(words)?);
+            Ok(Told::Check(check))
+        }
+        ToldName::Took => took(alloc, words),
+        ToldName::Waits => {
+            let question = QuestionNo(number(words)?);
+            Ok(Told::Waits(question))
+        }
+        ToldName::Done => Ok(Told::Done),
+        ToldName::Proc => {
+            let proc = ProcNo(number(words)?);
+            Ok(Told::Proc(proc))
+        }
+        ToldName::Reply => reply(words),
+        ToldName::Bad => Ok(Told::Bad),
+        ToldName::Stray => Ok(Told::Stray),
+        ToldName::Start => start(alloc, words),
+        ToldName::Send => send(alloc, words),
+        ToldName::Stop => {
+            let proc = ProcNo(number(words)?);
+            Ok(Told::Stop(proc))
+        }
+        ToldName::Seat => seat(words),
+        ToldName::NoSeat => Ok(Told::NoSeat),
+        ToldName::Granted => {
+            let bytes = number(words)?;
+            Ok(Told::Granted(bytes))
+        }
     }
-    if name == b"ok".as_slice() {
-        return Ok(Told::Fine);
-    }
-    if name == b"check".as_slice() {
-        return check(words);
-    }
-    if name == b"took".as_slice() {
-        return took(alloc, words);
-    }
-    if name == b"waits".as_slice() {
-        return waits(words);
-    }
-    if name == b"done".as_slice() {
-        return Ok(Told::Done);
-    }
-    helper_told(alloc, name, words)
 }
 
 // `epoch EPOCH`, or `epoch EPOCH OUTCOME`
-#[tactic(auto, unfolding(crate::specs::ToldReading::epoch_in))]
+#[tactic(auto, unfolding(crate::specs::ToldReading::told_after))]
 fn epoch(alloc: Global, words: &mut Words) -> Result<Told, EntryFault>
-    ensures { Takes (λ t. t) result words.new (epoch_in words.old) }
+    ensures { ReadsFront result words.new (told_after name.Epoch words.old) }
 {
     let epoch = EpochNo(number(words)?);
+    epoch_told(alloc, epoch, words)
+}
+
+// An epoch alone, or with the outcome of a check.
+fn epoch_told(alloc: Global, epoch: EpochNo, words: &mut Words) -> Result<Told, EntryFault>
+    ensures { ReadsFront result words.new (epoch_told epoch words.old) }
+{
     match words.peek() {
         None => Ok(Told::Epoch(epoch)),
         Some(_) => {
@@ -56,29 +84,90 @@ fn epoch(alloc: Global, words: &mut Words) -> Result<Told, EntryFault>
     }
 }
 
-// `check CHECK`
-#[tactic(auto, unfolding(crate::specs::ToldReading::check_in))]
-fn check(words: &mut Words) -> Result<Told, EntryFault>
-    ensures { Takes (λ t. t) result words.new (check_in words.old) }
-{
-    let check = CheckNo(number(words)?);
-    Ok(Told::Check(check))
-}
-
 // `took CLASS`
-#[tactic(auto, unfolding(crate::specs::ToldReading::took_in))]
+#[tactic(auto, unfolding(crate::specs::ToldReading::told_after))]
 fn took(alloc: Global, words: &mut Words) -> Result<Told, EntryFault>
-    ensures { Takes (λ t. t) result words.new (took_in words.old) }
+    ensures { ReadsFront result words.new (told_after name.Took words.old) }
 {
     let class = text(alloc, words)?;
     Ok(Told::Took(class))
 }
 
-// `waits QUESTION`
-#[tactic(auto, unfolding(crate::specs::ToldReading::waits_in))]
-fn waits(words: &mut Words) -> Result<Told, EntryFault>
-    ensures { Takes (λ t. t) result words.new (waits_in words.old) }
+// `reply QUESTION RESULT`
+#[tactic(auto, unfolding(crate::specs::ToldReading::told_after))]
+fn reply(words: &mut Words) -> Result<Told, EntryFault>
+    ensures { ReadsFront result words.new (told_after name.Reply words.old) }
 {
     let question = QuestionNo(number(words)?);
-    Ok(Told::Waits(question))
+    let word = result_word(words)?;
+    Ok(Told::Reply { question, word })
+}
+
+// `start EPOCH CLASS`
+#[tactic(auto, unfolding(crate::specs::ToldReading::told_after))]
+fn start(alloc: Global, words: &mut Words) -> Result<Told, EntryFault>
+    ensures { ReadsFront result words.new (told_after name.Start words.old) }
+{
+    let epoch = EpochNo(number(words)?);
+    let class = text(alloc, words)?;
+    Ok(Told::Start { epoch, class })
+}
+
+// `send PROC QUESTION CHANNEL KEY`
+#[tactic(auto, unfolding(crate::specs::ToldReading::told_after))]
+fn send(alloc: Global, words: &mut Words) -> Result<Told, EntryFault>
+    ensures { ReadsFront result words.new (told_after name.Send words.old) }
+{
+    let proc = ProcNo(number(words)?);
+    let question = QuestionNo(number(words)?);
+    let channel = channel(words)?;
+    let key = text(alloc, words)?;
+    Ok(Told::Send {
+        proc,
+        question,
+        channel,
+        key,
+    })
+}
+
+// A channel, or `-`.
+#[tactic(auto, unfolding(crate::specs::Reading::word_in, crate::specs::ToldReading::channel_of))]
+fn channel(words: &mut Words) -> Result<Option<u32>, EntryFault>
+    ensures { ReadsWithoutMemory result words.new (word_in channel_of words.old) }
+{
+    let Some(word) = words.next() else {
+        return Err(EntryFault::BadEntry);
+    };
+    if word == b"-".as_slice() {
+        return Ok(None);
+    }
+    match number_of(word, 4294967296) {
+        None => Err(EntryFault::BadEntry),
+        Some(number) => Ok(Some(number as u32)),
+    }
+}
+
+// `seat SEAT POOL`
+#[tactic(auto, unfolding(crate::specs::ToldReading::told_after))]
+fn seat(words: &mut Words) -> Result<Told, EntryFault>
+    ensures { ReadsFront result words.new (told_after name.Seat words.old) }
+{
+    let seat = SeatNo(number(words)?);
+    let pool = pool(words)?;
+    Ok(Told::Seat { seat, pool })
+}
+
+// A pool by its number from 1, given by its place.
+#[tactic(auto, unfolding(crate::specs::Reading::word_in, crate::specs::ToldReading::pool_named))]
+fn pool(words: &mut Words) -> Result<u32, EntryFault>
+    ensures { ReadsWithoutMemory result words.new (word_in pool_named words.old) }
+{
+    match words.next() {
+        None => Err(EntryFault::BadEntry),
+        Some(word) => match number_of(word, 4294967297) {
+            None => Err(EntryFault::BadEntry),
+            Some(0) => Err(EntryFault::BadEntry),
+            Some(number) => Ok((number - 1) as u32),
+        },
+    }
 }

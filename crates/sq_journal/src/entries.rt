@@ -3,14 +3,15 @@ ghost use Rattle.std.specs.Prelude.{◌≡◌, ℕ, IfOk};
 ghost use Rattle.sq_rules.specs.Entries.{Noted};
 ghost use Rattle.sq_rules.specs.declared.entries.Event.{Event};
 ghost use Rattle.sq_journal.specs.EntryText.{entry_text, dated_text};
-ghost use Rattle.sq_journal.specs.Lines.{words_of};
-ghost use Rattle.sq_journal.specs.Reading.{Gives, Is, Passes, dated_of};
-ghost use Rattle.sq_journal.specs.ToldReading.{entry_of, after_arrow};
+ghost use Rattle.sq_journal.specs.Lines.{spaced_words};
+ghost use Rattle.sq_journal.specs.Reading.{ReadsText, Is, dated_of};
+ghost use Rattle.sq_journal.specs.ToldReading.{entry_of};
 ghost use Rattle.sq_journal.specs.Values.{IsNumber, IsEvent, IsNoted};
 
 use crate::answers::told;
 use crate::events::event;
 use crate::faults::EntryFault;
+use crate::names::arrow;
 use crate::printing::{put_event, put_moment, put_name};
 use crate::rows::is_row;
 use crate::told_printing::put_told;
@@ -50,8 +51,10 @@ pub fn read_event(alloc: Global, line: &[u8]) -> Result<(Moment, Event), EntryFa
     ensures found { IfOk result (λ r. IsNumber r.0 × IsEvent r.1 × (line.now ≡ dated_text r.0 r.1)) }
     // What is printed so is read, unless memory runs out: there is no other event, and no fault.
     ensures only { (moment : ℕ) (event : Event) → IsNumber moment → IsEvent event → line.now ≡ dated_text moment event → Is (moment, event) result }
+    // A line is one event: no two events with their moments have one text.
+    ensures one { (m n : ℕ) (a b : Event) → IsNumber m → IsNumber n → IsEvent a → IsEvent b → dated_text m a ≡ dated_text n b → (m ≡ n) × (a ≡ b) }
     // So it is what the reading of the line's words gives.
-    ensures read { Gives (λ r. r) result (dated_of (words_of line.now)) }
+    ensures read { ReadsText result (dated_of (spaced_words line.now)) }
 {
     dated(alloc, line)
 }
@@ -59,7 +62,7 @@ pub fn read_event(alloc: Global, line: &[u8]) -> Result<(Moment, Event), EntryFa
 // The entry of the line's words.
 #[tactic(auto, unfolding(crate::specs::ToldReading::entry_of))]
 fn entry(alloc: Global, line: &[u8]) -> Result<Entry, EntryFault>
-    ensures { Gives (λ e. e) result (entry_of (words_of line.now)) }
+    ensures { ReadsText result (entry_of (spaced_words line.now)) }
 {
     let mut words = Words::new(line);
     let moment = Moment(number(&mut words)?);
@@ -77,27 +80,10 @@ fn entry(alloc: Global, line: &[u8]) -> Result<Entry, EntryFault>
     }
 }
 
-// The word between an event and its answer.
-#[tactic(auto, unfolding(crate::specs::ToldReading::after_arrow))]
-fn arrow(words: &mut Words) -> Result<(), EntryFault>
-    ensures { Passes result words.new (after_arrow words.old) }
-{
-    match words.next() {
-        None => Err(EntryFault::BadEntry),
-        Some(word) => {
-            if word == b"=>".as_slice() {
-                Ok(())
-            } else {
-                Err(EntryFault::BadEntry)
-            }
-        }
-    }
-}
-
 // The moment and the event of the line's words.
 #[tactic(auto, unfolding(crate::specs::Reading::dated_of))]
 fn dated(alloc: Global, line: &[u8]) -> Result<(Moment, Event), EntryFault>
-    ensures { Gives (λ r. r) result (dated_of (words_of line.now)) }
+    ensures { ReadsText result (dated_of (spaced_words line.now)) }
 {
     let mut words = Words::new(line);
     let moment = Moment(number(&mut words)?);

@@ -1,7 +1,7 @@
 //! Texts as escaped words.
 ghost use Rattle.std.specs.Prelude.{◌≡◌, ◌++◌, IfOk, OnOk, bytes_eq};
 ghost use Rattle.sq_base.specs.Escapes.{escaped, text_word, text_of, unescaped};
-ghost use Rattle.sq_journal.specs.Reading.{Gives};
+ghost use Rattle.sq_journal.specs.Reading.{ReadsText};
 
 use crate::faults::EntryFault;
 use percent_encoding::{AsciiSet, CONTROLS, ascii_set, percent_decode, percent_encode};
@@ -39,7 +39,7 @@ pub fn put_text(to: &mut Text, bytes: &[u8]) -> Result<(), WantOfMemory>
 /// The text whose word this is.
 #[tactic(auto, unfolding(sq_base::specs::Escapes::text_of))]
 pub fn read_text(alloc: Global, word: &[u8]) -> Result<Text, EntryFault>
-    ensures { Gives (λ t. t) result (text_of word.now) }
+    ensures { ReadsText result (text_of word.now) }
 {
     let text = unescaped(alloc, word)?;
     if is_word_of(word, text.as_bytes()) {

@@ -1,58 +1,80 @@
-//! Events read from words: those of connections and their checks.
-ghost use Rattle.std.specs.Prelude.{◌≡◌};
-ghost use Rattle.sq_journal.specs.Reading.{Takes, begin_in, open_in, close_in, ask_in, step_in, take_in, event_in, fields_of};
-ghost use Rattle.sq_journal.specs.FieldReading.{TakesFields};
+//! Events read from words.
+ghost use Rattle.std.specs.Prelude.{◌≡◌, Some};
+ghost use Rattle.sq_journal.specs.Reading.{ReadsFront, event_after, event_in, fields_from};
+ghost use Rattle.sq_journal.specs.declared.names.EventName.TheVariants as name;
 
 use crate::faults::EntryFault;
-use crate::helper_events::helper_event;
+use crate::names::{EventName, event_name};
 use crate::values::{address, below, number, offset, read_field, text};
 use crate::words::Words;
-use sq_base::{CheckNo, ConnNo, Fields, Listed};
+use sq_base::{CheckNo, ConnNo, EpochNo, Fields, Listed, ProcNo, SeatNo};
 use sq_rules::Event;
 use std::alloc::Global;
 
 /// An event, by its name.
 #[tactic(auto, unfolding(crate::specs::Reading::event_in))]
 pub fn event(alloc: Global, words: &mut Words) -> Result<Event, EntryFault>
-    ensures { Takes (λ e. e) result words.new (event_in words.old) }
+    ensures { ReadsFront result words.new (event_in words.old) }
 {
-    let Some(name) = words.next() else {
-        return Err(EntryFault::BadEntry);
-    };
-    if name == b"begin".as_slice() {
-        return begin(words);
+    let name = event_name(words)?;
+    event_after(alloc, name, words)
+}
+
+// What stands after an event's name.
+#[tactic(auto, unfolding(crate::specs::Reading::event_after))]
+fn event_after(alloc: Global, name: EventName, words: &mut Words) -> Result<Event, EntryFault>
+    ensures { ReadsFront result words.new (event_after name words.old) }
+{
+    match name {
+        EventName::Begin => begin(words),
+        EventName::Open => open(alloc, words),
+        EventName::Close => {
+            let conn = ConnNo(number(words)?);
+            Ok(Event::Close { conn })
+        }
+        EventName::Ask => ask(alloc, words),
+        EventName::Step => {
+            let check = CheckNo(number(words)?);
+            Ok(Event::Step { check })
+        }
+        EventName::Take => {
+            let check = CheckNo(number(words)?);
+            Ok(Event::Take { check })
+        }
+        EventName::Started => started(alloc, words),
+        EventName::StartFail => start_fail(alloc, words),
+        EventName::Line => line(alloc, words),
+        EventName::Died => {
+            let proc = ProcNo(number(words)?);
+            Ok(Event::Died { proc })
+        }
+        EventName::Act => Ok(Event::Act),
+        EventName::Reconfigure => reconfigure(alloc, words),
+        EventName::Seat => {
+            let conn = ConnNo(number(words)?);
+            Ok(Event::Seat { conn })
+        }
+        EventName::Grant => grant(words),
+        EventName::Leave => {
+            let seat = SeatNo(number(words)?);
+            Ok(Event::Leave { seat })
+        }
     }
-    if name == b"open".as_slice() {
-        return open(alloc, words);
-    }
-    if name == b"close".as_slice() {
-        return close(words);
-    }
-    if name == b"ask".as_slice() {
-        return ask(alloc, words);
-    }
-    if name == b"step".as_slice() {
-        return step(words);
-    }
-    if name == b"take".as_slice() {
-        return take(words);
-    }
-    helper_event(alloc, name, words)
 }
 
 // `begin OFFSET`
-#[tactic(auto, unfolding(crate::specs::Reading::begin_in))]
+#[tactic(auto, unfolding(crate::specs::Reading::event_after))]
 fn begin(words: &mut Words) -> Result<Event, EntryFault>
-    ensures { Takes (λ e. e) result words.new (begin_in words.old) }
+    ensures { ReadsFront result words.new (event_after name.Begin words.old) }
 {
     let offset = offset(words)?;
     Ok(Event::Begin { offset })
 }
 
 // `open CONN ADDR PORT`
-#[tactic(auto, unfolding(crate::specs::Reading::open_in))]
+#[tactic(auto, unfolding(crate::specs::Reading::event_after))]
 fn open(alloc: Global, words: &mut Words) -> Result<Event, EntryFault>
-    ensures { Takes (λ e. e) result words.new (open_in words.old) }
+    ensures { ReadsFront result words.new (event_after name.Open words.old) }
 {
     let conn = ConnNo(number(words)?);
     let addr = address(alloc, words)?;
@@ -60,19 +82,10 @@ fn open(alloc: Global, words: &mut Words) -> Result<Event, EntryFault>
     Ok(Event::Open { conn, addr, port })
 }
 
-// `close CONN`
-#[tactic(auto, unfolding(crate::specs::Reading::close_in))]
-fn close(words: &mut Words) -> Result<Event, EntryFault>
-    ensures { Takes (λ e. e) result words.new (close_in words.old) }
-{
-    let conn = ConnNo(number(words)?);
-    Ok(Event::Close { conn })
-}
-
 // `ask CONN METHOD TARGET FIELD ..`
-#[tactic(auto, unfolding(crate::specs::Reading::ask_in))]
+#[tactic(auto, unfolding(crate::specs::Reading::event_after))]
 fn ask(alloc: Global, words: &mut Words) -> Result<Event, EntryFault>
-    ensures { Takes (λ e. e) result words.new (ask_in words.old) }
+    ensures { ReadsFront result words.new (event_after name.Ask words.old) }
 {
     let conn = ConnNo(number(words)?);
     let method = text(alloc, words)?;
@@ -88,7 +101,7 @@ fn ask(alloc: Global, words: &mut Words) -> Result<Event, EntryFault>
 
 // The fields at the front, up to the first word that is no field's.
 fn fields(alloc: Global, words: &mut Words) -> Result<Fields, EntryFault>
-    ensures { TakesFields result words.new (fields_of words.old) }
+    ensures { ReadsFront result words.new (Some (fields_from words.old)) }
 {
     let mut fields = Listed::new(alloc);
     while let Some(word) = words.peek() {
@@ -104,20 +117,51 @@ fn fields(alloc: Global, words: &mut Words) -> Result<Fields, EntryFault>
     Ok(fields)
 }
 
-// `step CHECK`
-#[tactic(auto, unfolding(crate::specs::Reading::step_in))]
-fn step(words: &mut Words) -> Result<Event, EntryFault>
-    ensures { Takes (λ e. e) result words.new (step_in words.old) }
+// `started EPOCH CLASS`
+#[tactic(auto, unfolding(crate::specs::Reading::event_after))]
+fn started(alloc: Global, words: &mut Words) -> Result<Event, EntryFault>
+    ensures { ReadsFront result words.new (event_after name.Started words.old) }
 {
-    let check = CheckNo(number(words)?);
-    Ok(Event::Step { check })
+    let epoch = EpochNo(number(words)?);
+    let class = text(alloc, words)?;
+    Ok(Event::Started { epoch, class })
 }
 
-// `take CHECK`
-#[tactic(auto, unfolding(crate::specs::Reading::take_in))]
-fn take(words: &mut Words) -> Result<Event, EntryFault>
-    ensures { Takes (λ e. e) result words.new (take_in words.old) }
+// `startfail EPOCH CLASS`
+#[tactic(auto, unfolding(crate::specs::Reading::event_after))]
+fn start_fail(alloc: Global, words: &mut Words) -> Result<Event, EntryFault>
+    ensures { ReadsFront result words.new (event_after name.StartFail words.old) }
 {
-    let check = CheckNo(number(words)?);
-    Ok(Event::Take { check })
+    let epoch = EpochNo(number(words)?);
+    let class = text(alloc, words)?;
+    Ok(Event::StartFail { epoch, class })
+}
+
+// `line PROC BYTES`
+#[tactic(auto, unfolding(crate::specs::Reading::event_after))]
+fn line(alloc: Global, words: &mut Words) -> Result<Event, EntryFault>
+    ensures { ReadsFront result words.new (event_after name.Line words.old) }
+{
+    let proc = ProcNo(number(words)?);
+    let bytes = text(alloc, words)?;
+    Ok(Event::Line { proc, bytes })
+}
+
+// `reconfigure TEXT`
+#[tactic(auto, unfolding(crate::specs::Reading::event_after))]
+fn reconfigure(alloc: Global, words: &mut Words) -> Result<Event, EntryFault>
+    ensures { ReadsFront result words.new (event_after name.Reconfigure words.old) }
+{
+    let text = text(alloc, words)?;
+    Ok(Event::Reconfigure { text })
+}
+
+// `grant SEAT WANTED`
+#[tactic(auto, unfolding(crate::specs::Reading::event_after))]
+fn grant(words: &mut Words) -> Result<Event, EntryFault>
+    ensures { ReadsFront result words.new (event_after name.Grant words.old) }
+{
+    let seat = SeatNo(number(words)?);
+    let wanted = number(words)?;
+    Ok(Event::Grant { seat, wanted })
 }

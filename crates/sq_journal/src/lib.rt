@@ -2,8 +2,9 @@
 //!
 //! `print_entry` gives the one text of an entry, a line without its LF; `read_entry` reads exactly the
 //! texts that some entry has, and gives that entry; `read_event` does the same for a moment and an
-//! event, as a script's line has them. No entry has two spellings. `holds_values` says that every entry
-//! is one of those of which these calls speak, and `ESCAPES` is the set of bytes that are escaped.
+//! event, as a script's line has them. No entry has two spellings, and no line two meanings.
+//! `holds_values` says that every entry is one of those of which these calls speak, and `ESCAPES` is the
+//! set of bytes that are escaped.
 //!
 //! A reader goes over each word of the line a fixed number of times. It allocates the texts and the list
 //! of fields that it gives, and for a while the whole text of a field and the printed text of an
@@ -16,8 +17,7 @@ mod entries;
 mod escapes;
 mod events;
 mod faults;
-mod helper_answers;
-mod helper_events;
+mod names;
 mod outcomes;
 mod printing;
 mod ranges;

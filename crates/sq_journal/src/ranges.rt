@@ -1,7 +1,8 @@
 //! That every entry is made of values of its types: numbers below their limits, and bytes.
 ghost use Rattle.std.specs.Prelude.{◌≡◌, true};
 ghost use Rattle.sq_rules.specs.Entries.{is_event};
-ghost use Rattle.sq_journal.specs.Values.{AreBytes, AreFields, HoldsValues, IsTold, IsWhy, IsNoted, IsChannel, has_amount};
+ghost use Rattle.sq_base.specs.Texts.{AreBytes};
+ghost use Rattle.sq_journal.specs.Values.{AreFields, HoldsValues, IsTold, IsWhy, IsNoted, IsChannel, has_amount};
 
 use sq_base::{Field, Text};
 use sq_rules::{Entry, Event, Told, Why};

@@ -1,7 +1,8 @@
 //! Values of single words: numbers, offsets, addresses, texts and fields.
 ghost use Rattle.std.specs.Prelude.{◌≡◌, ◌<◌, ◌^◌, IfOk, IfSome, length, position};
 ghost use Rattle.sq_base.specs.Decimals.{number_of};
-ghost use Rattle.sq_journal.specs.Reading.{Takes, Gives, word_in, below_in, number_in, text_in, offset_of, negative, printed_address, cut_field, field_of, field_at, is_colon};
+ghost use Rattle.sq_journal.specs.Reading.{ReadsFront, ReadsWithoutMemory, ReadsText, word_in, below_in, number_in, text_in, offset_from, negative, printed_address, cut_field, field_from, field_at};
+ghost use Rattle.sq_base.specs.Addresses.{is_colon};
 ghost use Rattle.sq_journal.specs.Values.{IsOffset};
 
 use crate::escapes::read_text;
@@ -18,7 +19,7 @@ pub const LIMIT: u64 = 1 << 63;
 /// A number below the limit.
 #[tactic(auto, unfolding(crate::specs::Reading::word_in))]
 pub fn below(words: &mut Words, limit: u64) -> Result<u64, EntryFault>
-    ensures read { Takes (λ n. n) result words.new (below_in limit words.old) }
+    ensures read { ReadsWithoutMemory result words.new (below_in limit words.old) }
     ensures bound { IfOk result (λ n. n < limit) }
 {
     match words.next() {
@@ -32,7 +33,7 @@ pub fn below(words: &mut Words, limit: u64) -> Result<u64, EntryFault>
 
 /// A number of a connection and the like, a moment or an amount.
 pub fn number(words: &mut Words) -> Result<u64, EntryFault>
-    ensures read { Takes (λ n. n) result words.new (number_in words.old) }
+    ensures read { ReadsWithoutMemory result words.new (number_in words.old) }
     ensures bound { IfOk result (λ n. n < 2 ^ 63) }
 {
     below(words, LIMIT)
@@ -41,7 +42,7 @@ pub fn number(words: &mut Words) -> Result<u64, EntryFault>
 /// A text.
 #[tactic(auto, unfolding(crate::specs::Reading::word_in))]
 pub fn text(alloc: Global, words: &mut Words) -> Result<Text, EntryFault>
-    ensures { Takes (λ t. t) result words.new (text_in words.old) }
+    ensures { ReadsFront result words.new (text_in words.old) }
 {
     match words.next() {
         None => Err(EntryFault::BadEntry),
@@ -52,7 +53,7 @@ pub fn text(alloc: Global, words: &mut Words) -> Result<Text, EntryFault>
 /// An offset of local time.
 #[tactic(auto, unfolding(crate::specs::Reading::word_in))]
 pub fn offset(words: &mut Words) -> Result<Offset, EntryFault>
-    ensures { Takes (λ o. o) result words.new (word_in offset_of words.old) }
+    ensures { ReadsWithoutMemory result words.new (word_in offset_from words.old) }
 {
     match words.next() {
         None => Err(EntryFault::BadEntry),
@@ -64,9 +65,9 @@ pub fn offset(words: &mut Words) -> Result<Offset, EntryFault>
 }
 
 // Minutes from -840 to 840.
-#[tactic(auto, unfolding(crate::specs::Reading::offset_of))]
+#[tactic(auto, unfolding(crate::specs::Reading::offset_from))]
 fn minutes(word: &[u8]) -> Option<i32>
-    ensures read { result ≡ offset_of word.now }
+    ensures read { result ≡ offset_from word.now }
     ensures bound { IfSome result (λ m. IsOffset m) }
 {
     let (&first, rest) = word.split_first()?;
@@ -92,7 +93,7 @@ fn below_zero(number: u64) -> Option<i32>
 /// An address, in the spelling in which it is printed.
 #[tactic(auto, unfolding(crate::specs::Reading::word_in))]
 pub fn address(alloc: Global, words: &mut Words) -> Result<Addr, EntryFault>
-    ensures { Takes (λ a. a) result words.new (word_in printed_address words.old) }
+    ensures { ReadsFront result words.new (word_in printed_address words.old) }
 {
     match words.next() {
         None => Err(EntryFault::BadEntry),
@@ -103,7 +104,7 @@ pub fn address(alloc: Global, words: &mut Words) -> Result<Addr, EntryFault>
 // The address whose printed text the word is.
 #[tactic(auto, unfolding(crate::specs::Reading::printed_address))]
 fn read_printed(alloc: Global, word: &[u8]) -> Result<Addr, EntryFault>
-    ensures { Gives (λ a. a) result (printed_address word.now) }
+    ensures { ReadsText result (printed_address word.now) }
 {
     match read_addr(word) {
         Err(_) => Err(EntryFault::BadEntry),
@@ -119,9 +120,9 @@ fn read_printed(alloc: Global, word: &[u8]) -> Result<Addr, EntryFault>
 }
 
 /// The field whose word this is.
-#[tactic(auto, unfolding(crate::specs::Reading::field_of))]
+#[tactic(auto, unfolding(crate::specs::Reading::field_from))]
 pub fn read_field(alloc: Global, word: &[u8]) -> Result<Field, EntryFault>
-    ensures { Gives (λ f. f) result (field_of word.now) }
+    ensures { ReadsText result (field_from word.now) }
 {
     let text = read_text(alloc, word)?;
     cut_field(alloc, text.as_bytes())
@@ -130,7 +131,7 @@ pub fn read_field(alloc: Global, word: &[u8]) -> Result<Field, EntryFault>
 // The field, cut at the first `:` of its text.
 #[tactic(auto, unfolding(crate::specs::Reading::cut_field))]
 fn cut_field(alloc: Global, text: &[u8]) -> Result<Field, EntryFault>
-    ensures { Gives (λ f. f) result (cut_field text.now) }
+    ensures { ReadsText result (cut_field text.now) }
 {
     match colon_in(text) {
         None => Err(EntryFault::BadEntry),

@@ -1,6 +1,6 @@
 //! A cursor over the words of a line.
 ghost use Rattle.std.specs.Prelude.{◌≡◌, ◌∷◌, [], ◌==◌, length, MatchOption};
-ghost use Rattle.sq_journal.specs.Lines.{words_of, words_left};
+ghost use Rattle.sq_journal.specs.Lines.{spaced_words, words_left};
 
 use memchr::memchr;
 use std::marker::Model;
@@ -23,7 +23,7 @@ impl<'a> Model for Words<'a> {
 impl<'a> Words<'a> {
     /// The words between the spaces of a line: one more than there are spaces.
     pub fn new(line: &'a [u8]) -> Words<'a>
-        ensures { result ≡ words_of line.now }
+        ensures { result ≡ spaced_words line.now }
     {
         Words { rest: Some(line) }
     }
@@ -67,9 +67,9 @@ impl<'a> Words<'a> {
 }
 
 // What stands before the first space, and what stands behind it.
-#[tactic(auto, unfolding(crate::specs::Lines::words_of))]
+#[tactic(auto, unfolding(crate::specs::Lines::spaced_words))]
 fn first_word(text: &[u8]) -> (&[u8], Option<&[u8]>)
-    ensures { words_of text.now ≡ result.0.now ∷ words_left result.1 }
+    ensures { spaced_words text.now ≡ result.0.now ∷ words_left result.1 }
 {
     match memchr(b' ', text) {
         None => (text, None),

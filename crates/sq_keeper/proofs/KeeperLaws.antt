@@ -10,7 +10,7 @@ use Rattle.sq_keeper.specs.Handing.{Adds}
 use Rattle.sq_keeper.specs.Lines.{lines_handed, ReadsLines}
 use Rattle.sq_keeper.specs.Walk.{walk_line, walk_handed, Walks}
 use Rattle.sq_keeper.proofs.AddLaws.{adds_none, adds_more}
-use Rattle.sq_keeper.proofs.WalkLaws.{walk_line-append, walk_handed-append, walk_none, line_none, walk_all}
+use Rattle.sq_keeper.proofs.WalkLaws.{walk_line_append, walk_handed_append, walk_none, line_none, walk_all}
 
 -- these bytes were read, and their lines handed on
 pub record SoFar (proc : ℕ) (left_before left_now : Option (List ℕ)) (before now : Option (List Handed)) (line : List ℕ) : Type 0 where
@@ -30,7 +30,7 @@ begins proc left handed line e =
 
 joined : (proc : ℕ) (line read bytes : List ℕ) → line ≡ walk_line [] read → walk_handed proc [] read ++ walk_handed proc line bytes ≡ walk_handed proc [] (read ++ bytes)
 joined proc line read bytes e =
-    ap (λ l. walk_handed proc [] read ++ walk_handed proc l bytes) e ∙ sym (walk_handed-append proc [] read bytes)
+    ap (λ l. walk_handed proc [] read ++ walk_handed proc l bytes) e ∙ sym (walk_handed_append proc [] read bytes)
 
 -- more bytes, all of which were taken
 pub goes_on : (proc : ℕ) (a b c : Option (List ℕ)) (x y z : Option (List Handed)) (line longer bytes : List ℕ)
@@ -40,7 +40,7 @@ goes_on proc a b c x y z line longer bytes s k w =
       read = s.read ++ bytes;
       consumed = Consumes-trans a b c s.read bytes s.consumed k;
       adds = subst (Adds x z) (joined proc line s.read bytes s.gathers) (adds_more x y z _ _ s.adds w.0);
-      gathers = w.1 ∙ ap (λ l. walk_line l bytes) s.gathers ∙ sym (walk_line-append [] s.read bytes);
+      gathers = w.1 ∙ ap (λ l. walk_line l bytes) s.gathers ∙ sym (walk_line_append [] s.read bytes);
     }
 
 stopped : (proc : ℕ) (line read bytes : List ℕ) → line ≡ walk_line [] read

@@ -1,4 +1,4 @@
-pub mod AddLaws
-pub mod CutLaws
-pub mod KeeperLaws
-pub mod WalkLaws
+mod AddLaws
+mod CutLaws
+mod KeeperLaws
+mod WalkLaws

@@ -4,29 +4,30 @@ use Rattle.std.proofs.lemmas.List.Elements.{All-append, All-cons, All-nil}
 use Rattle.std.proofs.lemmas.List.Splits.{slice_split_none, slice_split_at, length-slice_split}
 use Rattle.std.specs.List.{slice_split}
 use Rattle.sq_keeper.specs.declared.desk.Handed.TheVariants.{Line}
-use Rattle.sq_keeper.specs.Lines.{is_end, cut, ended_lines, lines_handed}
+use Rattle.sq_base.specs.Lines.{is_lf, ended_lines}
+use Rattle.sq_keeper.specs.Lines.{cut, lines_handed}
 use Rattle.sq_keeper.specs.Walk.{step_line, step_handed, walk_line, walk_handed}
 use Rattle.sq_keeper.proofs.CutLaws.{cut_none, cut_again}
 
-pub walk_line-append : (line xs ys : List ℕ) → walk_line line (xs ++ ys) ≡ walk_line (walk_line line xs) ys
+pub walk_line_append : (line xs ys : List ℕ) → walk_line line (xs ++ ys) ≡ walk_line (walk_line line xs) ys
 unfolding walk_line
-walk_line-append line [] ys = refl
-walk_line-append line (x ∷ xs) ys = walk_line-append (step_line line x) xs ys
+walk_line_append line [] ys = refl
+walk_line_append line (x ∷ xs) ys = walk_line_append (step_line line x) xs ys
 
-pub walk_handed-append : (proc : ℕ) (line xs ys : List ℕ) → walk_handed proc line (xs ++ ys) ≡ walk_handed proc line xs ++ walk_handed proc (walk_line line xs) ys
+pub walk_handed_append : (proc : ℕ) (line xs ys : List ℕ) → walk_handed proc line (xs ++ ys) ≡ walk_handed proc line xs ++ walk_handed proc (walk_line line xs) ys
 unfolding walk_line walk_handed
-walk_handed-append proc line [] ys = refl
-walk_handed-append proc line (x ∷ xs) ys =
-    ap (λ l. step_handed proc line x ++ l) (walk_handed-append proc (step_line line x) xs ys)
+walk_handed_append proc line [] ys = refl
+walk_handed_append proc line (x ∷ xs) ys =
+    ap (λ l. step_handed proc line x ++ l) (walk_handed_append proc (step_line line x) xs ys)
     ∙ sym (append_assoc (step_handed proc line x) (walk_handed proc (step_line line x) xs) (walk_handed proc (walk_line (step_line line x) xs) ys))
 
-pub walk_line-one : (line : List ℕ) (b : ℕ) → walk_line line (b ∷ []) ≡ step_line line b
+pub walk_line_one : (line : List ℕ) (b : ℕ) → walk_line line (b ∷ []) ≡ step_line line b
 unfolding walk_line
-walk_line-one line b = refl
+walk_line_one line b = refl
 
-pub walk_handed-one : (proc : ℕ) (line : List ℕ) (b : ℕ) → walk_handed proc line (b ∷ []) ≡ step_handed proc line b
+pub walk_handed_one : (proc : ℕ) (line : List ℕ) (b : ℕ) → walk_handed proc line (b ∷ []) ≡ step_handed proc line b
 unfolding walk_handed
-walk_handed-one proc line b = append-nil (step_handed proc line b)
+walk_handed_one proc line b = append-nil (step_handed proc line b)
 
 pub walk_none : (proc : ℕ) (line : List ℕ) → walk_handed proc line [] ≡ []
 unfolding walk_handed
@@ -37,7 +38,7 @@ unfolding walk_line
 line_none line = refl
 
 abbrev NotEnd : ℕ → Type 0
-NotEnd b = is_end b ≡ false
+NotEnd b = is_lf b ≡ false
 
 -- no LF
 abbrev NoEnd : List ℕ → Type 0
@@ -50,20 +51,18 @@ front_cons x (y ∷ parts) h =
     let less : suc (length parts) - 1 ≡ length parts = omega arith in
     rw (more, less) refl
 
-some_part : (bytes : List ℕ) → 0 < length (slice_split is_end bytes)
-some_part bytes = omega (arith, length-slice_split is_end bytes)
+some_part : (bytes : List ℕ) → 0 < length (slice_split is_lf bytes)
+some_part bytes = omega (arith, length-slice_split is_lf bytes)
 
 none_ended : (line : List ℕ) → NoEnd line → ended_lines (line ++ []) ≡ []
-unfolding ended_lines
-none_ended line h = ap (λ l. take (length (slice_split is_end l) - 1) (slice_split is_end l)) (append-nil line) ∙ ap (λ (ps : List (List ℕ)). take (length ps - 1) ps) (slice_split_none is_end line h)
+none_ended line h = ap (λ l. take (length (slice_split is_lf l) - 1) (slice_split is_lf l)) (append-nil line) ∙ ap (λ (ps : List (List ℕ)). take (length ps - 1) ps) (slice_split_none is_lf line h)
 
-one_ended : (line : List ℕ) (b : ℕ) (bs : List ℕ) → NoEnd line → is_end b ≡ true → ended_lines (line ++ b ∷ bs) ≡ line ∷ ended_lines bs
-unfolding ended_lines
+one_ended : (line : List ℕ) (b : ℕ) (bs : List ℕ) → NoEnd line → is_lf b ≡ true → ended_lines (line ++ b ∷ bs) ≡ line ∷ ended_lines bs
 one_ended line b bs h e =
-    ap (λ (ps : List (List ℕ)). take (length ps - 1) ps) (slice_split_at is_end line b bs h e)
-    ∙ front_cons line (slice_split is_end bs) (some_part bs)
+    ap (λ (ps : List (List ℕ)). take (length ps - 1) ps) (slice_split_at is_lf line b bs h e)
+    ∙ front_cons line (slice_split is_lf bs) (some_part bs)
 
-gathered_by : (t : Bool) (proc : ℕ) (line : List ℕ) (b : ℕ) (bs : List ℕ) → is_end b ≡ t → NoEnd line
+gathered_by : (t : Bool) (proc : ℕ) (line : List ℕ) (b : ℕ) (bs : List ℕ) → is_lf b ≡ t → NoEnd line
     → ((longer : List ℕ) → NoEnd longer → walk_handed proc (cut longer) bs ≡ lines_handed proc (longer ++ bs))
     → step_handed proc (cut line) b ++ walk_handed proc (step_line (cut line) b) bs ≡ lines_handed proc (line ++ b ∷ bs)
 gathered_by true proc line b bs e h more =
@@ -85,7 +84,7 @@ gathered_by false proc line b bs e h more =
 gathered : (proc : ℕ) (line bs : List ℕ) → NoEnd line → walk_handed proc (cut line) bs ≡ lines_handed proc (line ++ bs)
 unfolding walk_handed
 gathered proc line [] h = sym (ap (map (λ l. Line proc (cut l))) (none_ended line h))
-gathered proc line (b ∷ bs) h = gathered_by (is_end b) proc line b bs refl h (λ longer k. gathered proc longer bs k)
+gathered proc line (b ∷ bs) h = gathered_by (is_lf b) proc line b bs refl h (λ longer k. gathered proc longer bs k)
 
 -- all that is handed on
 pub walk_all : (proc : ℕ) (bytes : List ℕ) → walk_handed proc [] bytes ≡ lines_handed proc bytes
@@ -95,9 +94,9 @@ walk_all proc bytes = ap (λ l. walk_handed proc l bytes) (sym cut_none) ∙ gat
 pub one_more_handed : (proc : ℕ) (before line front : List ℕ) (b : ℕ) → line ≡ walk_line before front → walk_handed proc before front ++ step_handed proc line b ≡ walk_handed proc before (front ++ b ∷ [])
 one_more_handed proc before line front b e =
     ap (λ l. walk_handed proc before front ++ step_handed proc l b) e
-    ∙ sym (ap (λ l. walk_handed proc before front ++ l) (walk_handed-one proc (walk_line before front) b))
-    ∙ sym (walk_handed-append proc before front (b ∷ []))
+    ∙ sym (ap (λ l. walk_handed proc before front ++ l) (walk_handed_one proc (walk_line before front) b))
+    ∙ sym (walk_handed_append proc before front (b ∷ []))
 
 pub one_more_line : (before line front : List ℕ) (b : ℕ) → line ≡ walk_line before front → step_line line b ≡ walk_line before (front ++ b ∷ [])
 one_more_line before line front b e =
-    ap (λ l. step_line l b) e ∙ sym (walk_line-one (walk_line before front) b) ∙ sym (walk_line-append before front (b ∷ []))
+    ap (λ l. step_line l b) e ∙ sym (walk_line_one (walk_line before front) b) ∙ sym (walk_line_append before front (b ∷ []))

@@ -1,8 +1,8 @@
 -- Lines: what stands before each LF. Squid's helper protocol page: one line, one request or reply.
-use Rattle.std.specs.Prelude.{◌≡◌, ℕ, ◌-◌, List, [], ◌∷◌, ◌++◌, length, take, map, Bool, ◌==◌}
-use Rattle.std.specs.List.{slice_split}
+use Rattle.std.specs.Prelude.{◌≡◌, ℕ, List, [], ◌∷◌, ◌++◌, take, map}
 use Rattle.std.specs.Io.KnownBytes.{Consumes}
 use Rattle.std.specs.declared.option.Option.{Option}
+use Rattle.sq_base.specs.Lines.{ended_lines}
 use Rattle.sq_keeper.specs.declared.desk.Handed.{Handed}
 use Rattle.sq_keeper.specs.declared.desk.Handed.TheVariants.{Line, Stop, Died}
 use Rattle.sq_keeper.specs.declared.keeper.KeeperEnd.{KeeperEnd}
@@ -13,16 +13,9 @@ use Rattle.sq_keeper.specs.Handing.{Adds}
 abbrev pub line_room : ℕ
 line_room = 65537
 
-abbrev pub is_end : ℕ → Bool
-is_end b = b == 10
-
 -- the front of a line that is handed on
 unfoldable pub cut : List ℕ → List ℕ
 cut line = take line_room line
-
--- the lines that LF ends: all that LFs part but the last, which no LF ends
-unfoldable pub ended_lines : List ℕ → List (List ℕ)
-ended_lines bytes = take (length (slice_split is_end bytes) - 1) (slice_split is_end bytes)
 
 -- these lines, as a desk is handed them
 abbrev pub lines_handed : ℕ → List ℕ → List Handed

@@ -4,15 +4,16 @@ use Rattle.std.specs.declared.option.Option.{Option}
 use Rattle.sq_keeper.specs.Handing.{Adds}
 use Rattle.sq_keeper.specs.declared.desk.Handed.{Handed}
 use Rattle.sq_keeper.specs.declared.desk.Handed.TheVariants.{Line, Stop}
-use Rattle.sq_keeper.specs.Lines.{is_end, cut}
+use Rattle.sq_base.specs.Lines.{is_lf}
+use Rattle.sq_keeper.specs.Lines.{cut}
 
 -- the line so far, after a byte
 abbrev pub step_line : List ℕ → ℕ → List ℕ
-step_line line b = if is_end b then [] else cut (line ++ b ∷ [])
+step_line line b = if is_lf b then [] else cut (line ++ b ∷ [])
 
 -- what is handed on at a byte
 abbrev pub step_handed : ℕ → List ℕ → ℕ → List Handed
-step_handed proc line b = if is_end b then Line proc line ∷ [] else []
+step_handed proc line b = if is_lf b then Line proc line ∷ [] else []
 
 -- the line so far, after bytes
 unfoldable pub walk_line : List ℕ → List ℕ → List ℕ

@@ -104,6 +104,8 @@ pub fn read_lines<R: Wait + Sync, S: Source, K: LineDesk>(
     ensures told { result ≡ KeeperEnd.Told → Rose (K.refused desk.old) (K.refused desk.new) }
     ensures memory { result ≡ KeeperEnd.WantOfMemory → (from.new ≡ from.old) × (desk.new ≡ desk.old) }
     ensures faults_later { S.faults from.old ≤ S.faults from.new }
+    // The first read that fails ends the reading: where it ended otherwise, none failed.
+    ensures quiet { (result ≡ KeeperEnd.ReadFault → ⊥) → S.faults from.new ≡ S.faults from.old }
     ensures refused_later { K.refused desk.old ≤ K.refused desk.new }
 {
     let Ok(mut line) = Line::new(alloc) else {

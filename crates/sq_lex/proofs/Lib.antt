@@ -1,4 +1,4 @@
-pub mod JoinLaws
-pub mod LexLaws
-pub mod LineLaws
-pub mod WordLaws
+mod JoinLaws
+mod LexLaws
+mod LineLaws
+mod WordLaws

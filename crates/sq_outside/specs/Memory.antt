@@ -15,6 +15,10 @@ use Rattle.sq_outside.specs.Told.{Opening}
 abbrev pub source_left : MemSource → List ℕ
 source_left s = drop s.at s.text.items
 
+-- all the bytes of the source, from its beginning
+abbrev pub source_text : MemSource → List ℕ
+source_text s = s.text.items
+
 -- how many bytes a read into so many places gives, where it does not fail
 abbrev pub source_gives : MemSource → ℕ → ℕ
 source_gives s places = min (min (length (source_left s)) places) s.step

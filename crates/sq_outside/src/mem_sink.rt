@@ -54,6 +54,13 @@ impl MemSink {
     {
         self.bytes.as_slice()
     }
+
+    /// The bytes that were written, taken over. It takes no memory.
+    pub fn into_bytes(self) -> Vec<u8>
+        ensures { result.items ≡ sink_bytes self }
+    {
+        self.bytes
+    }
 }
 
 impl Sink for MemSink {

@@ -1,26 +1,15 @@
 //! Adapters over the system's files and streams: the trusted edge. They tell what std's objects tell.
-ghost use Rattle.std.specs.Prelude.{◌≡◌, ◌-◌, ◌^◌, ◌≤◌, None};
-ghost use Rattle.sq_outside.specs.Causes.{raised};
+ghost use Rattle.std.specs.Prelude.{◌≡◌, ◌-◌, ◌^◌, ◌≤◌, None, Err, IfOk, IsErrOf};
+ghost use Rattle.std.specs.Str.{IsUtf8};
+ghost use Rattle.sq_outside.specs.Causes.{OpenHasCause, raised};
+ghost use Rattle.sq_outside.specs.Told.{GivesText, IsNotTold, Opens};
 
-use crate::calls::COUNT_LIMIT;
+use crate::again::{raise, read_again, write_again};
 use crate::traits::{Failed, Files, NoOpen, Sink, Source};
 use sq_base::Text;
 use std::alloc::Global;
 use std::io::{ErrorKind, Read, Write};
 use std::{fs, rt};
-
-/// How often a call that was interrupted is made again.
-const TRIES: u32 = 1000;
-
-/// One more fault.
-fn raise(faults: &mut u64)
-    requires { faults.old ≤ 2 ^ 63 - 1 }
-    ensures { faults.new ≡ raised faults.old }
-{
-    if *faults < COUNT_LIMIT {
-        *faults += 1;
-    }
-}
 
 /// A source over a reader of std.
 #[derive(Drop)]
@@ -45,20 +34,14 @@ impl<R> RealSource<R> {
 impl<R: Read> Source for RealSource<R> {
     ghost left = { λ s. R.remaining s.inner };
 
+    ghost origin = { λ _. None };
+
     ghost faults = { λ s. s.faults };
 
     ghost capped = { λ s. s.capped };
 
     fn read(&mut self, into: &mut [u8]) -> Result<usize, Failed> {
-        for _ in 0..TRIES {
-            match self.inner.read(into) {
-                Ok(count) => return Ok(count),
-                Err(e) if e.kind() == ErrorKind::Interrupted => {}
-                Err(_) => break,
-            }
-        }
-        raise(&mut self.faults);
-        Err(Failed)
+        read_again(&mut self.inner, into, &mut self.faults)
     }
 }
 
@@ -90,15 +73,7 @@ impl<W: Write> Sink for RealSink<W> {
     ghost capped = { λ s. s.capped };
 
     fn write(&mut self, bytes: &[u8]) -> Result<usize, Failed> {
-        for _ in 0..TRIES {
-            match self.inner.write(bytes) {
-                Ok(count) if count > 0 || bytes.is_empty() => return Ok(count),
-                Err(e) if e.kind() == ErrorKind::Interrupted => {}
-                _ => break,
-            }
-        }
-        raise(&mut self.faults);
-        Err(Failed)
+        write_again(&mut self.inner, bytes, &mut self.faults)
     }
 }
 
@@ -122,17 +97,28 @@ impl<'a, R> RealFiles<'a, R> {
 }
 
 impl<'a, R: rt::Files> Files for RealFiles<'a, R> {
+    ghost use Rattle.sq_outside.specs.System.{reader_of, reader_faults, system_faults, no_texts, no_openings};
+
     type Src = RealSource<R::File>;
 
-    ghost texts = { λ _. None };
+    ghost texts = { λ _. no_texts };
 
-    ghost opened = { λ _. None };
+    ghost opened = { λ _. no_openings };
 
     ghost faults = { λ s. s.faults };
 
     ghost capped = { λ s. s.capped };
 
-    fn open(&mut self, _alloc: Global, name: &Text) -> Result<RealSource<R::File>, NoOpen> {
+    fn open(&mut self, _alloc: Global, name: &Text) -> Result<RealSource<R::File>, NoOpen>
+        ensures opened { IfOk result (λ source. GivesText no_texts name.now (R.File.remaining (reader_of source))) }
+        ensures opened_list { Opens (λ source. R.File.remaining (reader_of source)) no_openings no_openings name.now result }
+        ensures fresh { IfOk result (λ source. reader_faults source ≡ 0) }
+        ensures missing { IsErrOf result NoOpen.Missing → IsNotTold no_texts name.now }
+        ensures texts { no_texts ≡ no_texts }
+        ensures cause { OpenHasCause (system_faults self.old) (system_faults self.new) result }
+        // Std opens names that are UTF-8 alone: any other name is a fault, and not missing.
+        ensures utf8 { (IsUtf8 name.now → ⊥) → result ≡ Err NoOpen.Failed }
+    {
         let Ok(path) = str::from_utf8(name.as_bytes()) else {
             raise(&mut self.faults);
             return Err(NoOpen::Failed);

@@ -4,6 +4,7 @@ ghost use Rattle.std.specs.declared.option.Option.{Option};
 ghost use Rattle.std.specs.Io.{ReadsAtMost, WritesAtMost};
 ghost use Rattle.std.specs.Io.KnownBytes.{ReadConsumes, WriteAppends};
 ghost use Rattle.sq_outside.specs.Causes.{HasCause, OpenHasCause, TakesBack, count_limit};
+ghost use Rattle.sq_outside.specs.Dials.{Origin};
 ghost use Rattle.sq_outside.specs.Told.{Texts, GivesText, IsNotTold, Openings, Opens};
 
 use sq_base::{Text, WantOfMemory};
@@ -39,6 +40,9 @@ pub trait Source {
     /// The bytes that reads will give from here on, where the source tells them.
     ghost left: { Self → Option (List ℕ) };
 
+    /// What was dialled for it, with all its bytes from the beginning, where it was dialled and tells that.
+    ghost origin: { Self → Option Origin };
+
     /// How often it has failed.
     ghost faults: { Self → ℕ };
 
@@ -46,6 +50,7 @@ pub trait Source {
     fn read(&mut self, into: &mut [u8]) -> Result<usize, Failed>
         ensures bound { ReadsAtMost result into.new }
         ensures bytes { ReadConsumes (left self.old) (left self.new) result into.new }
+        ensures origin { origin self.new ≡ origin self.old }
         ensures cause { HasCause (faults self.old) (faults self.new) result };
 
     ghost capped: { (source : Self) → faults source ≤ count_limit };

@@ -1,14 +1,14 @@
-pub mod BeginLaws
-pub mod CheckLaws
-pub mod Defaults
-pub mod DirectRuns
-pub mod EndLaws
-pub mod HalfwayLaws
-pub mod JudgingLaws
-pub mod MachineLaws
-pub mod MakingLaws
-pub mod PageLaws
-pub mod RunLaws
-pub mod SettleLaws
-pub mod StageLaws
-pub mod TableLaws
+mod BeginLaws
+mod CheckLaws
+mod DirectRuns
+mod EndLaws
+mod FreshLaws
+mod HalfwayLaws
+mod MachineLaws
+mod MakingLaws
+mod OpenedLaws
+mod PageLaws
+mod RunLaws
+mod SettleLaws
+mod StageLaws
+mod TableLaws

@@ -1,10 +1,10 @@
 -- A run under way: each step adds to the text, and what is left runs to the whole.
-use Rattle.std.proofs.Common.{◌≡◌, ℕ, ◌+◌, List, [], ◌∷◌, ◌++◌, append_assoc, length-append, arith, length, Bool, true, false, if◌then◌else◌, Ok, Err, Result, Some, None, IfSome, is_some, max, refl, sym, ap, ◌∙◌, subst}
+use Rattle.std.proofs.Common.{inl, inr, ◌≡◌, ℕ, ◌+◌, List, [], ◌∷◌, ◌++◌, append_assoc, length-append, arith, length, Bool, true, false, if◌then◌else◌, Ok, Err, Result, Some, None, IfSome, is_some, max, refl, sym, ap, ◌∙◌, subst}
 use Rattle.std.specs.declared.option.Option.{Option}
 use Rattle.sq_outside.specs.Output.{IsPrefix, IsProperPrefix}
 use Rattle.sq_outside.specs.SourceLines.{Line, lines, is_readable, IsLine, IsFaulty, Finds}
 use Rattle.sq_outside.specs.declared.lines.Found.TheVariants as found
-use Rattle.sq_outside.proofs.Writing.{IsPrefix-refl, IsPrefix-front, IsPrefix-trans, Grew-map}
+use Rattle.sq_outside.proofs.Writing.{IsPrefix_refl, IsPrefix_front, IsPrefix_trans, Grew_map}
 use Rattle.sq_request.specs.Written.{made_request}
 use Rattle.sq_rules.specs.declared.entries.Event.{Event}
 use Rattle.sq_rules.specs.declared.entries.Event.TheVariants.{Begin, Open, Close, Ask, Step, Take, Started, StartFail, Line as HelperLine, Died, Act, Reconfigure, Seat, Grant, Leave}
@@ -12,176 +12,194 @@ use Rattle.sq_rules.specs.Configurations.{Configuration}
 use Rattle.sq_rules.specs.Entries.{History}
 use Rattle.sq_rules.specs.Machine.{Next, gives, refuses, nothing, next}
 use Rattle.sq_rules.specs.Readings.{latest}
-use Rattle.sq_journal.specs.EntryText.{entry_line, written}
+use Rattle.sq_journal.specs.EntryText.{entry_line, entry_text, written}
 use Rattle.sq_proxy.specs.declared.ends.Status.{Status}
 use Rattle.sq_proxy.specs.declared.ends.Status.TheVariants as ends
+use Rattle.sq_proxy.specs.Ends.{End, Done, Refused, Faulted, Reading, Writing, Lacking, end_of}
 use Rattle.sq_proxy.specs.Machines.{View, entry_at}
-use Rattle.sq_proxy.specs.Outputs.{WroteFront, WrotePart, Reaches}
-use Rattle.sq_proxy.specs.Runs.{At, Going, Same, Stops, RunsOver, IsStepEnd, step_text}
-use Rattle.sq_proxy.specs.RunText.{Ran, answered, asked_next, event_step, goes_on, line_step, run_lines, stated, stated_step}
+use Rattle.sq_proxy.specs.Outputs.{EndsLine, WroteFront, WroteLines, WrotePart, Reaches, ReachesAs}
+use Rattle.sq_proxy.specs.Runs.{At, Going, Same, Stops, StopsAs, RunsOver, step_text}
+use Rattle.sq_proxy.specs.RunText.{Ran, answered, asked_next, event_step, run_on, line_step, run_lines, stated, stated_step}
 
-answered-grows : (h : History) (number moment : ℕ) (event : Event) (n : Next) → IsPrefix (written h) (step_text h (answered h number moment event n))
-answered-grows h number moment event (gives t) = IsPrefix-front (written h) (entry_line (entry_at moment event t))
-answered-grows h number moment event (refuses r) = IsPrefix-refl (written h)
-answered-grows h number moment event nothing = IsPrefix-refl (written h)
+answered_grows : (h : History) (number moment : ℕ) (event : Event) (n : Next) → IsPrefix (written h) (step_text h (answered h number moment event n))
+answered_grows h number moment event (gives t) = IsPrefix_front (written h) (entry_line (entry_at moment event t))
+answered_grows h number moment event (refuses r) = IsPrefix_refl (written h)
+answered_grows h number moment event nothing = IsPrefix_refl (written h)
 
-if-grows : (h : History) (number : ℕ) (b : Bool) (step : Result History Status) → IsPrefix (written h) (step_text h step)
+if_grows : (h : History) (number : ℕ) (b : Bool) (step : Result History Status) → IsPrefix (written h) (step_text h step)
     → IsPrefix (written h) (step_text h (if b then step else Err (ends.Script number)))
-if-grows h number true step p = p
-if-grows h number false step p = IsPrefix-refl (written h)
+if_grows h number true step p = p
+if_grows h number false step p = IsPrefix_refl (written h)
 
 -- a step only adds to the text
-pub event-grows : (configs : List Configuration) (h : History) (number now : ℕ) (event : Event) → IsPrefix (written h) (step_text h (event_step configs h number now event))
-event-grows configs h number now (Begin offset) = IsPrefix-refl (written h)
-event-grows configs h number now Act = IsPrefix-refl (written h)
-event-grows configs h number now (Ask conn method target fields) =
-    if-grows h number (is_some (made_request method target 1 fields)) (asked_next configs h number now (Ask conn method target fields))
-    (answered-grows h number (max now (latest h)) (Ask conn method target fields) (next configs h (Ask conn method target fields)))
-event-grows configs h number now (Open c a p) = answered-grows h number (max now (latest h)) (Open c a p) (next configs h (Open c a p))
-event-grows configs h number now (Close c) = answered-grows h number (max now (latest h)) (Close c) (next configs h (Close c))
-event-grows configs h number now (Step c) = answered-grows h number (max now (latest h)) (Step c) (next configs h (Step c))
-event-grows configs h number now (Take c) = answered-grows h number (max now (latest h)) (Take c) (next configs h (Take c))
-event-grows configs h number now (Started e c) = IsPrefix-refl (written h)
-event-grows configs h number now (StartFail e c) = IsPrefix-refl (written h)
-event-grows configs h number now (HelperLine q b) = IsPrefix-refl (written h)
-event-grows configs h number now (Died q) = IsPrefix-refl (written h)
-event-grows configs h number now (Reconfigure t) = IsPrefix-refl (written h)
-event-grows configs h number now (Seat c) = IsPrefix-refl (written h)
-event-grows configs h number now (Grant s w) = IsPrefix-refl (written h)
-event-grows configs h number now (Leave s) = IsPrefix-refl (written h)
+pub event_grows : (configs : List Configuration) (h : History) (number now : ℕ) (event : Event) → IsPrefix (written h) (step_text h (event_step configs h number now event))
+event_grows configs h number now (Begin offset) = IsPrefix_refl (written h)
+event_grows configs h number now Act = IsPrefix_refl (written h)
+event_grows configs h number now (Ask conn method target fields) =
+    if_grows h number (is_some (made_request method target 1 fields)) (asked_next configs h number now (Ask conn method target fields))
+    (answered_grows h number (max now (latest h)) (Ask conn method target fields) (next configs h now (Ask conn method target fields)))
+event_grows configs h number now (Open c a p) = answered_grows h number (max now (latest h)) (Open c a p) (next configs h now (Open c a p))
+event_grows configs h number now (Close c) = answered_grows h number (max now (latest h)) (Close c) (next configs h now (Close c))
+event_grows configs h number now (Step c) = answered_grows h number (max now (latest h)) (Step c) (next configs h now (Step c))
+event_grows configs h number now (Take c) = answered_grows h number (max now (latest h)) (Take c) (next configs h now (Take c))
+event_grows configs h number now (Started e c) = IsPrefix_refl (written h)
+event_grows configs h number now (StartFail e c) = IsPrefix_refl (written h)
+event_grows configs h number now (HelperLine q b) = IsPrefix_refl (written h)
+event_grows configs h number now (Died q) = IsPrefix_refl (written h)
+event_grows configs h number now (Reconfigure t) = IsPrefix_refl (written h)
+event_grows configs h number now (Seat c) = IsPrefix_refl (written h)
+event_grows configs h number now (Grant s w) = IsPrefix_refl (written h)
+event_grows configs h number now (Leave s) = IsPrefix_refl (written h)
 
-pub stated-grows : (configs : List Configuration) (h : History) (number : ℕ) (o : Option (ℕ × Event)) → IsPrefix (written h) (step_text h (stated_step configs h number o))
-stated-grows configs h number None = IsPrefix-refl (written h)
-stated-grows configs h number (Some (now, event)) = event-grows configs h number now event
+pub stated_grows : (configs : List Configuration) (h : History) (number : ℕ) (o : Option (ℕ × Event)) → IsPrefix (written h) (step_text h (stated_step configs h number o))
+stated_grows configs h number None = IsPrefix_refl (written h)
+stated_grows configs h number (Some (now, event)) = event_grows configs h number now event
 
 -- a step's text begins the text of what goes on from it
-pub going-grows : (h : History) (step : Result History Status) (go : History → Ran) → ((t : History) → IsPrefix (written t) (written (go t).history))
-    → IsPrefix (step_text h step) (written (goes_on h step go).history)
-going-grows h (Ok t) go more = more t
-going-grows h (Err end) go more = IsPrefix-refl (written h)
+pub going_grows : (h : History) (step : Result History Status) (go : History → Ran) → ((t : History) → IsPrefix (written t) (written (go t).history))
+    → IsPrefix (step_text h step) (written (run_on h step go).history)
+going_grows h (Ok t) go more = more t
+going_grows h (Err end) go more = IsPrefix_refl (written h)
 
-line-grows : (configs : List Configuration) (h : History) (number place : ℕ) (l : Line) → IsPrefix (written h) (step_text h (line_step configs h number place l))
-line-grows configs h number place l =
-    if-grows h number (is_readable place l) (stated_step configs h number (stated l.bytes)) (stated-grows configs h number (stated l.bytes))
+line_grows : (configs : List Configuration) (h : History) (number place : ℕ) (l : Line) → IsPrefix (written h) (step_text h (line_step configs h number place l))
+line_grows configs h number place l =
+    if_grows h number (is_readable place l) (stated_step configs h number (stated l.bytes)) (stated_grows configs h number (stated l.bytes))
 
 -- a run only adds to the text
-pub run-grows : (configs : List Configuration) (h : History) (number place : ℕ) (ls : List Line) → IsPrefix (written h) (written (run_lines configs h number place ls).history)
-run-grows configs h number place [] = IsPrefix-refl (written h)
-run-grows configs h number place (l ∷ ls) =
-    IsPrefix-trans (written h) (step_text h (line_step configs h number place l)) _ (line-grows configs h number place l)
-    (going-grows h (line_step configs h number place l) (λ t. run_lines configs t (number + 1) (place + length l.bytes + 1) ls)
-    (λ t. run-grows configs t (number + 1) (place + length l.bytes + 1) ls))
+pub run_grows : (configs : List Configuration) (h : History) (number place : ℕ) (ls : List Line) → IsPrefix (written h) (written (run_lines configs h number place ls).history)
+run_grows configs h number place [] = IsPrefix_refl (written h)
+run_grows configs h number place (l ∷ ls) =
+    IsPrefix_trans (written h) (step_text h (line_step configs h number place l)) _ (line_grows configs h number place l)
+    (going_grows h (line_step configs h number place l) (λ t. run_lines configs t (number + 1) (place + length l.bytes + 1) ls)
+    (λ t. run_grows configs t (number + 1) (place + length l.bytes + 1) ls))
 
 -- a front of a text is a front of a longer one
-pub front-more : (base contents : Option (List ℕ)) (page text whole : List ℕ) → IsPrefix text whole → WroteFront base contents page text → WroteFront base contents page whole
-front-more base contents page text whole p w = record { front = w.front; begins = IsPrefix-trans w.front text whole w.begins p; wrote = w.wrote }
+pub front_more : (base contents : Option (List ℕ)) (page text whole : List ℕ) → IsPrefix text whole → WroteFront base contents page text → WroteFront base contents page whole
+front_more base contents page text whole p w = record { front = w.front; begins = IsPrefix_trans w.front text whole w.begins p; wrote = w.wrote }
 
-proper-more : (part text whole : List ℕ) → IsPrefix text whole → IsProperPrefix part text → IsProperPrefix part whole
-proper-more part text whole (more, e) (rest, f, l) =
+proper_more : (part text whole : List ℕ) → IsPrefix text whole → IsProperPrefix part text → IsProperPrefix part whole
+proper_more part text whole (more, e) (rest, f, l) =
     (rest ++ more, e ∙ ap (λ t. t ++ more) f ∙ append_assoc part rest more, omega (arith, length-append rest more, l))
 
-pub part-more : (base contents : Option (List ℕ)) (text whole : List ℕ) → IsPrefix text whole → WrotePart base contents text → WrotePart base contents whole
-part-more base contents text whole p w = Grew-map base contents _ _ (λ bytes q. proper-more bytes text whole p q) w
+pub part_more : (base contents : Option (List ℕ)) (text whole : List ℕ) → IsPrefix text whole → WrotePart base contents text → WrotePart base contents whole
+part_more base contents text whole p w = Grew_map base contents _ _ (λ bytes q. proper_more bytes text whole p q) w
 
 -- nothing is left
-run-ended : (configs : List Configuration) (h : History) (number place : ℕ) (run : Ran) (bytes : List ℕ) → run_lines configs h number place (lines bytes) ≡ run → bytes ≡ []
+run_ended : (configs : List Configuration) (h : History) (number place : ℕ) (run : Ran) (bytes : List ℕ) → run_lines configs h number place (lines bytes) ≡ run → bytes ≡ []
     → run ≡ record { history = h; end = ends.Ok }
-run-ended configs h number place run bytes same e = sym same ∙ ap (λ b. run_lines configs h number place (lines b)) e
+run_ended configs h number place run bytes same e = sym same ∙ ap (λ b. run_lines configs h number place (lines b)) e
 
-pub going-end : (v : View) (first left after base contents : Option (List ℕ)) (page line : List ℕ) (configs : List Configuration) (run : List ℕ → Ran) (number place : ℕ)
+pub going_end : (v : View) (first left after base contents : Option (List ℕ)) (page line : List ℕ) (configs : List Configuration) (run : List ℕ → Ran) (number place : ℕ)
     → Going v first left base contents page configs run number place → Finds place left after line found.End → RunsOver first base contents page run ends.Ok
-going-end v None left after base contents page line configs run number place g f = tt
-going-end v (Some whole) left after base contents page line configs run number place g f =
+going_end v None left after base contents page line configs run number place g f = tt
+going_end v (Some whole) left after base contents page line configs run number place g f =
     let r = g.rest in
     let none = (subst (λ l. Finds place l after line found.End) r.left_is f).0 in
-    let is = run-ended configs g.history number place (run whole) r.bytes r.same none in
+    let is = run_ended configs g.history number place (run whole) r.bytes r.same none in
     subst (λ (x : Ran). Reaches base contents page x ends.Ok) (sym is) (refl, g.at.wrote)
 
-faulty-run : (configs : List Configuration) (h : History) (number place : ℕ) (run : Ran) (bytes : List ℕ) → run_lines configs h number place (lines bytes) ≡ run → IsFaulty place bytes
+faulty_run : (configs : List Configuration) (h : History) (number place : ℕ) (run : Ran) (bytes : List ℕ) → run_lines configs h number place (lines bytes) ≡ run → IsFaulty place bytes
     → run ≡ record { history = h; end = ends.Script number }
-faulty-run configs h number place run bytes same f =
+faulty_run configs h number place run bytes same f =
     sym same ∙ ap (run_lines configs h number place) f.first
-    ∙ ap (λ b. goes_on h (if b then stated_step configs h number (stated f.line.bytes) else Err (ends.Script number)) (λ t. run_lines configs t (number + 1) (place + length f.line.bytes + 1) f.rest)) f.faulty
+    ∙ ap (λ b. run_on h (if b then stated_step configs h number (stated f.line.bytes) else Err (ends.Script number)) (λ t. run_lines configs t (number + 1) (place + length f.line.bytes + 1) f.rest)) f.faulty
 
-pub going-faulty : (v : View) (first left after base contents : Option (List ℕ)) (page line : List ℕ) (configs : List Configuration) (run : List ℕ → Ran) (number place : ℕ)
+pub going_faulty : (v : View) (first left after base contents : Option (List ℕ)) (page line : List ℕ) (configs : List Configuration) (run : List ℕ → Ran) (number place : ℕ)
     → Going v first left base contents page configs run number place → Finds place left after line found.Faulty → RunsOver first base contents page run (ends.Script number)
-going-faulty v None left after base contents page line configs run number place g f = tt
-going-faulty v (Some whole) left after base contents page line configs run number place g f =
+going_faulty v None left after base contents page line configs run number place g f = tt
+going_faulty v (Some whole) left after base contents page line configs run number place g f =
     let r = g.rest in
-    let is = faulty-run configs g.history number place (run whole) r.bytes r.same (subst (λ l. Finds place l after line found.Faulty) r.left_is f) in
+    let is = faulty_run configs g.history number place (run whole) r.bytes r.same (subst (λ l. Finds place l after line found.Faulty) r.left_is f) in
     subst (λ (x : Ran). Reaches base contents page x (ends.Script number)) (sym is) (refl, g.at.wrote)
 
--- a fault came before the next line
-pub going-front : (v : View) (first left base contents : Option (List ℕ)) (page : List ℕ) (configs : List Configuration) (run : List ℕ → Ran) (number place : ℕ)
+-- memory ran out before the next line
+pub going_front : (v : View) (first left base contents : Option (List ℕ)) (page : List ℕ) (configs : List Configuration) (run : List ℕ → Ran) (number place : ℕ)
     → Going v first left base contents page configs run number place → IfSome first (λ bytes. WroteFront base contents page (written (run bytes).history))
-going-front v None left base contents page configs run number place g = tt
-going-front v (Some whole) left base contents page configs run number place g = record {
+going_front v None left base contents page configs run number place g = tt
+going_front v (Some whole) left base contents page configs run number place g = record {
   front = written g.history;
-  begins = subst (λ (x : Ran). IsPrefix (written g.history) (written x.history)) g.rest.same (run-grows configs g.history number place (lines g.rest.bytes));
+  begins = subst (λ (x : Ran). IsPrefix (written g.history) (written x.history)) g.rest.same (run_grows configs g.history number place (lines g.rest.bytes));
+  wrote = g.at.wrote;
+}
+
+lines_last : (text line : List ℕ) → EndsLine (text ++ (line ++ 10 ∷ []))
+lines_last text line = inr (text ++ line, sym (append_assoc text line (10 ∷ [])))
+
+-- the text of a history is whole lines
+written_lines : (h : History) → EndsLine (written h)
+written_lines [] = inl refl
+written_lines (e ∷ h) = lines_last (written h) (entry_text e)
+
+-- a fault of reading came before the next line
+pub going_lines : (v : View) (first left base contents : Option (List ℕ)) (page : List ℕ) (configs : List Configuration) (run : List ℕ → Ran) (number place : ℕ)
+    → Going v first left base contents page configs run number place → IfSome first (λ bytes. WroteLines base contents page (written (run bytes).history))
+going_lines v None left base contents page configs run number place g = tt
+going_lines v (Some whole) left base contents page configs run number place g = record {
+  front = written g.history;
+  begins = subst (λ (x : Ran). IsPrefix (written g.history) (written x.history)) g.rest.same (run_grows configs g.history number place (lines g.rest.bytes));
+  lines = written_lines g.history;
   wrote = g.at.wrote;
 }
 
 -- the next line is the first of what is left
-next-run : (configs : List Configuration) (h : History) (number place : ℕ) (run : Ran) (bytes : List ℕ) (after : Option (List ℕ)) (line : List ℕ)
+next_run : (configs : List Configuration) (h : History) (number place : ℕ) (run : Ran) (bytes : List ℕ) (after : Option (List ℕ)) (line : List ℕ)
     → run_lines configs h number place (lines bytes) ≡ run → (f : IsLine place bytes after line)
-    → goes_on h (stated_step configs h number (stated line)) (λ t. run_lines configs t (number + 1) (place + length line + 1) (lines f.rest)) ≡ run
-next-run configs h number place run bytes after line same f =
+    → run_on h (stated_step configs h number (stated line)) (λ t. run_lines configs t (number + 1) (place + length line + 1) (lines f.rest)) ≡ run
+next_run configs h number place run bytes after line same f =
     sym (ap (run_lines configs h number place) f.first
-    ∙ ap (λ b. goes_on h (if b then stated_step configs h number (stated line) else Err (ends.Script number)) (λ t. run_lines configs t (number + 1) (place + length line + 1) (lines f.rest))) f.readable)
+    ∙ ap (λ b. run_on h (if b then stated_step configs h number (stated line) else Err (ends.Script number)) (λ t. run_lines configs t (number + 1) (place + length line + 1) (lines f.rest))) f.readable)
     ∙ same
 
-next-same : (configs : List Configuration) (h t : History) (number place after_place : ℕ) (run : Ran) (left after : Option (List ℕ)) (line : List ℕ)
+next_same : (configs : List Configuration) (h t : History) (number place after_place : ℕ) (run : Ran) (left after : Option (List ℕ)) (line : List ℕ)
     → Same left run configs h number place → Finds place left after line found.Whole → after_place ≡ place + length line + 1 → stated_step configs h number (stated line) ≡ Ok t
     → Same after run configs t (number + 1) after_place
-next-same configs h t number place after_place run left after line s f moved step =
+next_same configs h t number place after_place run left after line s f moved step =
     let found = subst (λ l. Finds place l after line found.Whole) s.left_is f in
     record {
       bytes = found.rest;
       left_is = found.left;
       same =
           ap (λ p. run_lines configs t (number + 1) p (lines found.rest)) moved
-          ∙ sym (ap (λ r. goes_on h r (λ u. run_lines configs u (number + 1) (place + length line + 1) (lines found.rest))) step)
-          ∙ next-run configs h number place run s.bytes after line s.same found;
+          ∙ sym (ap (λ r. run_on h r (λ u. run_lines configs u (number + 1) (place + length line + 1) (lines found.rest))) step)
+          ∙ next_run configs h number place run s.bytes after line s.same found;
     }
 
 -- the next line was run
-pub going-next : (v w : View) (first left after base before contents : Option (List ℕ)) (old_page page line : List ℕ) (configs : List Configuration) (run : List ℕ → Ran) (number place after_place : ℕ) (t : History)
+pub going_next : (v w : View) (first left after base before contents : Option (List ℕ)) (old_page page line : List ℕ) (configs : List Configuration) (run : List ℕ → Ran) (number place after_place : ℕ) (t : History)
     → (g : Going v first left base before old_page configs run number place) → Finds place left after line found.Whole → after_place ≡ place + length line + 1
     → stated_step configs g.history number (stated line) ≡ Ok t → At w base contents page configs t
     → Going w first after base contents page configs run (number + 1) after_place
-going-next v w None left after base before contents old_page page line configs run number place after_place t g f moved step at = record { history = t; at = at; rest = tt }
-going-next v w (Some whole) left after base before contents old_page page line configs run number place after_place t g f moved step at = record {
+going_next v w None left after base before contents old_page page line configs run number place after_place t g f moved step at = record { history = t; at = at; rest = tt }
+going_next v w (Some whole) left after base before contents old_page page line configs run number place after_place t g f moved step at = record {
   history = t;
   at = at;
-  rest = next-same configs g.history t number place after_place (run whole) left after line g.rest f moved step;
+  rest = next_same configs g.history t number place after_place (run whole) left after line g.rest f moved step;
 }
 
 -- where a step stops a run
-pub stop-reaches : (base contents : Option (List ℕ)) (page : List ℕ) (h : History) (step : Result History Status) (go : History → Ran) (run : Ran) (end : Status)
-    → ((t : History) → IsPrefix (written t) (written (go t).history)) → goes_on h step go ≡ run → IsStepEnd end → Stops base contents page h step end → Reaches base contents page run end
-stop-reaches base contents page h step go run ends.WriteFault more same is stops =
-    subst (λ (x : Ran). Reaches base contents page x ends.WriteFault) same (part-more base contents (step_text h step) _ (going-grows h step go more) stops)
-stop-reaches base contents page h step go run ends.WantOfMemory more same is stops =
-    subst (λ (x : Ran). Reaches base contents page x ends.WantOfMemory) same (front-more base contents page (step_text h step) _ (going-grows h step go more) stops)
-stop-reaches base contents page h step go run (ends.Script n) more same is (e, wrote) =
-    let at : goes_on h (Err (ends.Script n)) go ≡ run = ap (λ s. goes_on h s go) (sym e) ∙ same in
-    subst (λ (x : Ran). Reaches base contents page x (ends.Script n)) at (refl, wrote)
-stop-reaches base contents page h step go run (ends.Unbuilt p) more same is (e, wrote) =
-    let at : goes_on h (Err (ends.Unbuilt p)) go ≡ run = ap (λ s. goes_on h s go) (sym e) ∙ same in
-    subst (λ (x : Ran). Reaches base contents page x (ends.Unbuilt p)) at (refl, wrote)
-stop-reaches base contents page h step go run ends.Ok more same is stops = absurd is
-stop-reaches base contents page h step go run ends.Usage more same is stops = absurd is
-stop-reaches base contents page h step go run (ends.Config l k) more same is stops = absurd is
-stop-reaches base contents page h step go run ends.ReadFault more same is stops = absurd is
-stop-reaches base contents page h step go run (ends.Missing n) more same is stops = absurd is
+stop_as : (k : End) (base contents : Option (List ℕ)) (page : List ℕ) (h : History) (step : Result History Status) (go : History → Ran) (run : Ran) (end : Status)
+    → ((t : History) → IsPrefix (written t) (written (go t).history)) → run_on h step go ≡ run → StopsAs k base contents page h step end → ReachesAs k base contents page run end
+stop_as Done base contents page h step go run end more same stops = absurd stops
+stop_as (Faulted Reading) base contents page h step go run end more same stops = absurd stops
+stop_as (Faulted Writing) base contents page h step go run end more same stops =
+    subst (λ (x : Ran). WrotePart base contents (written x.history)) same (part_more base contents (step_text h step) _ (going_grows h step go more) stops)
+stop_as (Faulted Lacking) base contents page h step go run end more same stops =
+    subst (λ (x : Ran). WroteFront base contents page (written x.history)) same (front_more base contents page (step_text h step) _ (going_grows h step go more) stops)
+stop_as Refused base contents page h step go run end more same (e, wrote) =
+    let at : run_on h (Err end) go ≡ run = ap (λ s. run_on h s go) (sym e) ∙ same in
+    subst (λ (x : Ran). ReachesAs Refused base contents page x end) at (refl, wrote)
 
-pub going-stop : (v : View) (first left after base before contents : Option (List ℕ)) (old_page page line : List ℕ) (configs : List Configuration) (run : List ℕ → Ran) (number place : ℕ) (end : Status)
-    → (g : Going v first left base before old_page configs run number place) → Finds place left after line found.Whole → IsStepEnd end
+pub stop_reaches : (base contents : Option (List ℕ)) (page : List ℕ) (h : History) (step : Result History Status) (go : History → Ran) (run : Ran) (end : Status)
+    → ((t : History) → IsPrefix (written t) (written (go t).history)) → run_on h step go ≡ run → Stops base contents page h step end → Reaches base contents page run end
+stop_reaches base contents page h step go run end more same stops = stop_as (end_of end) base contents page h step go run end more same stops
+
+pub going_stop : (v : View) (first left after base before contents : Option (List ℕ)) (old_page page line : List ℕ) (configs : List Configuration) (run : List ℕ → Ran) (number place : ℕ) (end : Status)
+    → (g : Going v first left base before old_page configs run number place) → Finds place left after line found.Whole
     → Stops base contents page g.history (stated_step configs g.history number (stated line)) end → RunsOver first base contents page run end
-going-stop v None left after base before contents old_page page line configs run number place end g f is stops = tt
-going-stop v (Some whole) left after base before contents old_page page line configs run number place end g f is stops =
+going_stop v None left after base before contents old_page page line configs run number place end g f stops = tt
+going_stop v (Some whole) left after base before contents old_page page line configs run number place end g f stops =
     let r = g.rest in
     let found = subst (λ l. Finds place l after line found.Whole) r.left_is f in
-    stop-reaches base contents page g.history (stated_step configs g.history number (stated line)) (λ t. run_lines configs t (number + 1) (place + length line + 1) (lines found.rest)) (run whole) end
-    (λ t. run-grows configs t (number + 1) (place + length line + 1) (lines found.rest))
-    (next-run configs g.history number place (run whole) r.bytes after line r.same found) is stops
+    stop_reaches base contents page g.history (stated_step configs g.history number (stated line)) (λ t. run_lines configs t (number + 1) (place + length line + 1) (lines found.rest)) (run whole) end
+    (λ t. run_grows configs t (number + 1) (place + length line + 1) (lines found.rest))
+    (next_run configs g.history number place (run whole) r.bytes after line r.same found) stops

@@ -1,16 +1,18 @@
 -- The end of a command: what its page held is written.
-use Rattle.std.proofs.Common.{◌≡◌, inl, inr, ℕ, List, [], ◌++◌, true, false, Some, None, IfSome, IsSome, refl, sym, ap, ◌∙◌, subst, append-nil}
+use Rattle.std.proofs.Common.{◌≡◌, inl, inr, ℕ, ◌≤◌, arith, List, [], ◌++◌, true, false, Some, None, IfSome, IsSome, refl, sym, ap, ◌∙◌, subst, append-nil}
 use Rattle.std.proofs.KnownBytes.{Appends-nil}
 use Rattle.std.specs.Io.KnownBytes.{Appends}
 use Rattle.std.specs.declared.option.Option.{Option}
+use Rattle.sq_outside.specs.Causes.{Rose}
 use Rattle.sq_outside.specs.Output.{Grew, IsPrefix}
 use Rattle.sq_outside.specs.Told.{Texts, GivesText}
-use Rattle.sq_outside.proofs.Writing.{IsPrefix-trans, IsProperPrefix-front, Grew-map}
+use Rattle.sq_outside.proofs.Writing.{IsPrefix_trans, IsProperPrefix_front, Grew_map}
 use Rattle.sq_journal.specs.EntryText.{written}
 use Rattle.sq_proxy.specs.declared.ends.Status.{Status}
 use Rattle.sq_proxy.specs.declared.ends.Status.TheVariants as ends
-use Rattle.sq_proxy.specs.Commands.{ran_output, script_stage, staged}
-use Rattle.sq_proxy.specs.Outputs.{Wrote, WroteFront, WrotePart, Reaches, Delivers, IsSettled, is_write_fault, failed_end}
+use Rattle.sq_proxy.specs.Commands.{Output, ran_output, script_stage, staged}
+use Rattle.sq_proxy.specs.Ends.{End, Done, Refused, Faulted, Fault, Reading, Writing, Lacking, IsToldEnd, end_of, status_of}
+use Rattle.sq_proxy.specs.Outputs.{Wrote, WroteFront, WroteLines, WrotePart, Reaches, ReachesAs, Delivers, DeliversAs, IsLines, IsSettled, is_write_end, is_write_fault, failed_as, failed_end}
 use Rattle.sq_proxy.specs.Runs.{RunsOver}
 use Rattle.sq_proxy.specs.RunText.{Ran}
 
@@ -22,76 +24,136 @@ Flushes a b page now = (base : Option (List ℕ)) (text : List ℕ) → Wrote ba
 abbrev pub Breaks : Option (List ℕ) → Option (List ℕ) → List ℕ → Type 0
 Breaks a b page = (base : Option (List ℕ)) (text : List ℕ) → Wrote base a page text → WrotePart base b text
 
-all-written : (base b : Option (List ℕ)) (now text : List ℕ) → now ≡ [] → Wrote base b now text → Appends base b text
-all-written base b now text e w = subst (Appends base b) (sym (append-nil w.done) ∙ ap (λ p. w.done ++ p) (sym e) ∙ w.whole) w.appends
+all_written : (base b : Option (List ℕ)) (now text : List ℕ) → now ≡ [] → Wrote base b now text → Appends base b text
+all_written base b now text e w = subst (Appends base b) (sym (append-nil w.done) ∙ ap (λ p. w.done ++ p) (sym e) ∙ w.whole) w.appends
 
-front-written : (base a b : Option (List ℕ)) (page now text : List ℕ) → Flushes a b page now → now ≡ [] → WroteFront base a page text → Grew base b (λ part. IsPrefix part text)
-front-written base a b page now text flush e w = (w.front, all-written base b now w.front e (flush base w.front w.wrote), w.begins)
+front_written : (base a b : Option (List ℕ)) (page now text : List ℕ) → Flushes a b page now → now ≡ [] → WroteFront base a page text → Grew base b (λ part. IsPrefix part text)
+front_written base a b page now text flush e w = (w.front, all_written base b now w.front e (flush base w.front w.wrote), w.begins)
 
-front-broken : (base a b : Option (List ℕ)) (page text : List ℕ) → Breaks a b page → WroteFront base a page text → Grew base b (λ part. IsPrefix part text)
-front-broken base a b page text break w =
-    Grew-map base b _ _ (λ bytes p. IsPrefix-trans bytes w.front text (IsProperPrefix-front bytes w.front p) w.begins) (break base w.front w.wrote)
+front_broken : (base a b : Option (List ℕ)) (page text : List ℕ) → Breaks a b page → WroteFront base a page text → Grew base b (λ part. IsPrefix part text)
+front_broken base a b page text break w =
+    Grew_map base b _ _ (λ bytes p. IsPrefix_trans bytes w.front text (IsProperPrefix_front bytes w.front p) w.begins) (break base w.front w.wrote)
 
-pub settled-fault : (base a : Option (List ℕ)) (page : List ℕ) (ran : Ran) (end : Status) → is_write_fault end ≡ true → Reaches base a page ran end → Delivers base a (ran_output ran) end
-settled-fault base a page ran ends.WriteFault e r = r
-settled-fault base a page ran ends.Ok e r = absurd (cc)
-settled-fault base a page ran ends.Usage e r = absurd (cc)
-settled-fault base a page ran (ends.Config l k) e r = absurd (cc)
-settled-fault base a page ran (ends.Script n) e r = absurd (cc)
-settled-fault base a page ran ends.ReadFault e r = absurd (cc)
-settled-fault base a page ran (ends.Missing n) e r = absurd (cc)
-settled-fault base a page ran ends.WantOfMemory e r = absurd (cc)
-settled-fault base a page ran (ends.Unbuilt q) e r = absurd (cc)
+lines_written : (base a b : Option (List ℕ)) (page now text : List ℕ) (before after : ℕ) → Flushes a b page now → now ≡ [] → WroteLines base a page text
+    → Grew base b (IsLines before after text)
+lines_written base a b page now text before after flush e w = (w.front, all_written base b now w.front e (flush base w.front w.wrote), (w.begins, inl w.lines))
 
-pub settled-ok : (base a b : Option (List ℕ)) (page now : List ℕ) (ran : Ran) (end : Status) → is_write_fault end ≡ false → Flushes a b page now → now ≡ []
-    → Reaches base a page ran end → Delivers base b (ran_output ran) end
-settled-ok base a b page now ran ends.WriteFault e flush n r = absurd (cc)
-settled-ok base a b page now ran ends.ReadFault e flush n r = front-written base a b page now (written ran.history) flush n r
-settled-ok base a b page now ran ends.WantOfMemory e flush n r = front-written base a b page now (written ran.history) flush n r
-settled-ok base a b page now ran ends.Ok e flush n (same, w) = (same, all-written base b now (written ran.history) n (flush base (written ran.history) w))
-settled-ok base a b page now ran ends.Usage e flush n (same, w) = (same, all-written base b now (written ran.history) n (flush base (written ran.history) w))
-settled-ok base a b page now ran (ends.Config l k) e flush n (same, w) = (same, all-written base b now (written ran.history) n (flush base (written ran.history) w))
-settled-ok base a b page now ran (ends.Script m) e flush n (same, w) = (same, all-written base b now (written ran.history) n (flush base (written ran.history) w))
-settled-ok base a b page now ran (ends.Missing m) e flush n (same, w) = (same, all-written base b now (written ran.history) n (flush base (written ran.history) w))
-settled-ok base a b page now ran (ends.Unbuilt q) e flush n (same, w) = (same, all-written base b now (written ran.history) n (flush base (written ran.history) w))
+lines_broken : (base a b : Option (List ℕ)) (page text : List ℕ) (before after : ℕ) → Breaks a b page → Rose before after → WroteLines base a page text
+    → Grew base b (IsLines before after text)
+lines_broken base a b page text before after break rose w =
+    Grew_map base b _ _ (λ bytes p. (IsPrefix_trans bytes w.front text (IsProperPrefix_front bytes w.front p) w.begins, inr rose)) (break base w.front w.wrote)
 
-pub settled-err : (base a b : Option (List ℕ)) (page : List ℕ) (ran : Ran) (end : Status) → is_write_fault end ≡ false → Breaks a b page
-    → Reaches base a page ran end → Delivers base b (ran_output ran) (failed_end end)
-settled-err base a b page ran ends.WriteFault e break r = absurd (cc)
-settled-err base a b page ran ends.ReadFault e break r = front-broken base a b page (written ran.history) break r
-settled-err base a b page ran ends.WantOfMemory e break r = front-broken base a b page (written ran.history) break r
-settled-err base a b page ran ends.Ok e break (same, w) = break base (written ran.history) w
-settled-err base a b page ran ends.Usage e break (same, w) = break base (written ran.history) w
-settled-err base a b page ran (ends.Config l k) e break (same, w) = break base (written ran.history) w
-settled-err base a b page ran (ends.Script m) e break (same, w) = break base (written ran.history) w
-settled-err base a b page ran (ends.Missing m) e break (same, w) = break base (written ran.history) w
-settled-err base a b page ran (ends.Unbuilt q) e break (same, w) = break base (written ran.history) w
+-- a run whose output could not be written stays so
+settled_fault_as : (k : End) (base a : Option (List ℕ)) (before now : ℕ) (page : List ℕ) (ran : Ran) (end : Status) → is_write_end k ≡ true → ReachesAs k base a page ran end
+    → DeliversAs k base a before now (ran_output ran) end
+settled_fault_as Done base a before now page ran end e r = absurd (cc)
+settled_fault_as Refused base a before now page ran end e r = absurd (cc)
+settled_fault_as (Faulted Reading) base a before now page ran end e r = absurd (cc)
+settled_fault_as (Faulted Writing) base a before now page ran end e r = r
+settled_fault_as (Faulted Lacking) base a before now page ran end e r = absurd (cc)
 
-pub failed-settled : (end : Status) → IsSettled end (failed_end end)
-failed-settled ends.WriteFault = inr refl
-failed-settled ends.ReadFault = inl refl
-failed-settled ends.WantOfMemory = inl refl
-failed-settled ends.Ok = inr refl
-failed-settled ends.Usage = inr refl
-failed-settled (ends.Config l k) = inr refl
-failed-settled (ends.Script m) = inr refl
-failed-settled (ends.Missing m) = inr refl
-failed-settled (ends.Unbuilt q) = inr refl
+pub settled_fault : (base a : Option (List ℕ)) (before now : ℕ) (page : List ℕ) (ran : Ran) (end : Status) → is_write_fault end ≡ true → Reaches base a page ran end
+    → Delivers base a before now (ran_output ran) end
+settled_fault base a before now page ran end e r = settled_fault_as (end_of end) base a before now page ran end e r
+
+-- the last page was written
+settled_ok_as : (k : End) (base a b : Option (List ℕ)) (before after : ℕ) (page now : List ℕ) (ran : Ran) (end : Status) → is_write_end k ≡ false → Flushes a b page now → now ≡ []
+    → ReachesAs k base a page ran end → DeliversAs k base b before after (ran_output ran) end
+settled_ok_as Done base a b before after page now ran end e flush n (same, w) = (same, all_written base b now (written ran.history) n (flush base (written ran.history) w))
+settled_ok_as Refused base a b before after page now ran end e flush n (same, w) = (same, all_written base b now (written ran.history) n (flush base (written ran.history) w))
+settled_ok_as (Faulted Reading) base a b before after page now ran end e flush n r = lines_written base a b page now (written ran.history) before after flush n r
+settled_ok_as (Faulted Writing) base a b before after page now ran end e flush n r = absurd (cc)
+settled_ok_as (Faulted Lacking) base a b before after page now ran end e flush n r = front_written base a b page now (written ran.history) flush n r
+
+pub settled_ok : (base a b : Option (List ℕ)) (before after : ℕ) (page now : List ℕ) (ran : Ran) (end : Status) → is_write_fault end ≡ false → Flushes a b page now → now ≡ []
+    → Reaches base a page ran end → Delivers base b before after (ran_output ran) end
+settled_ok base a b before after page now ran end e flush n r = settled_ok_as (end_of end) base a b before after page now ran end e flush n r
+
+-- the last page could not be written
+settled_err_as : (k : End) (base a b : Option (List ℕ)) (before after : ℕ) (page : List ℕ) (ran : Ran) (end : Status) → is_write_end k ≡ false → Breaks a b page → Rose before after
+    → ReachesAs k base a page ran end → Delivers base b before after (ran_output ran) (failed_as k)
+settled_err_as Done base a b before after page ran end e break rose (same, w) = break base (written ran.history) w
+settled_err_as Refused base a b before after page ran end e break rose (same, w) = break base (written ran.history) w
+settled_err_as (Faulted Reading) base a b before after page ran end e break rose r = lines_broken base a b page (written ran.history) before after break rose r
+settled_err_as (Faulted Writing) base a b before after page ran end e break rose r = absurd (cc)
+settled_err_as (Faulted Lacking) base a b before after page ran end e break rose r = front_broken base a b page (written ran.history) break r
+
+pub settled_err : (base a b : Option (List ℕ)) (before after : ℕ) (page : List ℕ) (ran : Ran) (end : Status) → is_write_fault end ≡ false → Breaks a b page → Rose before after
+    → Reaches base a page ran end → Delivers base b before after (ran_output ran) (failed_end end)
+settled_err base a b before after page ran end e break rose r = settled_err_as (end_of end) base a b before after page ran end e break rose r
+
+-- a fault is the status of its kind
+pub fault_is : (end : Status) (fault : Fault) → end_of end ≡ Faulted fault → end ≡ status_of fault
+fault_is ends.ReadFault fault e = cc
+fault_is ends.WriteFault fault e = cc
+fault_is ends.WantOfMemory fault e = cc
+fault_is ends.Ok fault e = absurd (cc)
+fault_is ends.Usage fault e = absurd (cc)
+fault_is (ends.Config l k) fault e = absurd (cc)
+fault_is (ends.Script n) fault e = absurd (cc)
+fault_is (ends.Missing n) fault e = absurd (cc)
+fault_is (ends.Unbuilt q) fault e = absurd (cc)
+
+failed_settled_as : (k : End) (end : Status) → end_of end ≡ k → IsSettled end (failed_as k)
+failed_settled_as Done end e = inr refl
+failed_settled_as Refused end e = inr refl
+failed_settled_as (Faulted fault) end e = inl (sym (fault_is end fault e))
+
+pub failed_settled : (end : Status) → IsSettled end (failed_end end)
+failed_settled end = failed_settled_as (end_of end) end refl
+
+-- it is a fault
+failed_untold_as : (k : End) → IsToldEnd (end_of (failed_as k)) → ⊥
+failed_untold_as Done told = told
+failed_untold_as Refused told = told
+failed_untold_as (Faulted Reading) told = told
+failed_untold_as (Faulted Writing) told = told
+failed_untold_as (Faulted Lacking) told = told
+
+pub failed_untold : (end result : Status) → result ≡ failed_end end → IsToldEnd (end_of result) → ⊥
+failed_untold end result e told = failed_untold_as (end_of end) (subst (λ (s : Status). IsToldEnd (end_of s)) e told)
+
+-- what was delivered, over a longer time
+delivers_later_as : (k : End) (base contents : Option (List ℕ)) (before mid now : ℕ) (o : Output) (end : Status) → before ≤ mid → DeliversAs k base contents mid now o end
+    → DeliversAs k base contents before now o end
+delivers_later_as Done base contents before mid now o end le d = d
+delivers_later_as Refused base contents before mid now o end le d = d
+delivers_later_as (Faulted Reading) base contents before mid now o end le (part, grew, (front, lines)) =
+    (part, grew, (front, elim lines [ inl whole ↦ inl whole | inr rose ↦ inr (omega (arith, rose)) ]))
+delivers_later_as (Faulted Writing) base contents before mid now o end le d = d
+delivers_later_as (Faulted Lacking) base contents before mid now o end le d = d
+
+pub delivers_later : (base contents : Option (List ℕ)) (before mid now : ℕ) (o : Output) (end : Status) → before ≤ mid → Delivers base contents mid now o end
+    → Delivers base contents before now o end
+delivers_later base contents before mid now o end le d = delivers_later_as (end_of end) base contents before mid now o end le d
 
 -- nothing was written yet
-pub nothing-yet : (a : Option (List ℕ)) (page : List ℕ) → page ≡ [] → Wrote a a page []
-nothing-yet a page e = record { done = []; appends = Appends-nil a; whole = e }
+pub nothing_yet : (a : Option (List ℕ)) (page : List ℕ) → page ≡ [] → Wrote a a page []
+nothing_yet a page e = record { done = []; appends = Appends-nil a; whole = e }
 
-play-text : (file left a b mid : Option (List ℕ)) (name page : List ℕ) (run : List ℕ → Ran) (end result : Status) → left ≡ file → IsSome left → RunsOver left a mid page run end
-    → ((base : Option (List ℕ)) (ran : Ran) → Reaches base mid page ran end → Delivers base b (ran_output ran) result)
-    → Delivers a b (staged (script_stage name file) (λ text. ran_output (run text))) result
-play-text file None a b mid name page run end result e some runs settle = absurd (cc)
-play-text file (Some bytes) a b mid name page run end result e some runs settle =
-    subst (λ f. Delivers a b (staged (script_stage name f) (λ text. ran_output (run text))) result) e (settle a (run bytes) runs)
+play_text : (file left a b mid : Option (List ℕ)) (before later now : ℕ) (name page : List ℕ) (run : List ℕ → Ran) (end result : Status) → left ≡ file → IsSome left → before ≤ later
+    → RunsOver left a mid page run end
+    → ((base : Option (List ℕ)) (ran : Ran) → Reaches base mid page ran end → Delivers base b later now (ran_output ran) result)
+    → Delivers a b before now (staged (script_stage name file) (λ text. ran_output (run text))) result
+play_text file None a b mid before later now name page run end result e some le runs settle = absurd (cc)
+play_text file (Some bytes) a b mid before later now name page run end result e some le runs settle =
+    subst (λ f. Delivers a b before now (staged (script_stage name f) (λ text. ran_output (run text))) result) e
+    (delivers_later a b before later now (ran_output (run bytes)) result le (settle a (run bytes) runs))
 
 -- the script's text was run
-pub play-over : (texts : Texts) (left a b mid : Option (List ℕ)) (name page : List ℕ) (run : List ℕ → Ran) (end result : Status) → GivesText texts name left → RunsOver left a mid page run end
-    → ((base : Option (List ℕ)) (ran : Ran) → Reaches base mid page ran end → Delivers base b (ran_output ran) result)
-    → IfSome texts (λ disk. Delivers a b (staged (script_stage name (disk name)) (λ text. ran_output (run text))) result)
-play-over None left a b mid name page run end result gives runs settle = tt
-play-over (Some disk) left a b mid name page run end result (e, some) runs settle = play-text (disk name) left a b mid name page run end result e some runs settle
+pub play_over : (texts : Texts) (left a b mid : Option (List ℕ)) (before later now : ℕ) (name page : List ℕ) (run : List ℕ → Ran) (end result : Status) → GivesText texts name left → before ≤ later
+    → RunsOver left a mid page run end
+    → ((base : Option (List ℕ)) (ran : Ran) → Reaches base mid page ran end → Delivers base b later now (ran_output ran) result)
+    → IfSome texts (λ disk. Delivers a b before now (staged (script_stage name (disk name)) (λ text. ran_output (run text))) result)
+play_over None left a b mid before later now name page run end result gives le runs settle = tt
+play_over (Some disk) left a b mid before later now name page run end result (e, some) le runs settle =
+    play_text (disk name) left a b mid before later now name page run end result e some le runs settle
+
+-- a result that is told is the end that it was settled from
+pub told_end : (end result : Status) → IsSettled end result → IsToldEnd (end_of result) → result ≡ end
+told_end end result (inl same) told = same
+told_end end result (inr write) told = absurd (subst (λ (s : Status). IsToldEnd (end_of s)) write told)
+
+-- an end that is told is no write fault
+pub told_no_write : (end : Status) → IsToldEnd (end_of end) → end ≡ ends.WriteFault → ⊥
+told_no_write end told e = subst (λ (s : Status). IsToldEnd (end_of s)) e told

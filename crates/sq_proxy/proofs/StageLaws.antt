@@ -12,12 +12,12 @@ use Rattle.sq_proxy.specs.Commands.{conf_read, conf_stage}
 use Rattle.sq_proxy.specs.Ends.{Comes}
 
 -- a text past its limit
-too-long : (bytes : List ℕ) → text_limit < length bytes → conf_result bytes ≡ Err (record { line = 0; kind = kind.TooMany })
+pub too_long : (bytes : List ℕ) → text_limit < length bytes → conf_result bytes ≡ Err (record { line = 0; kind = kind.TooMany })
 unfolding conf_result
-too-long bytes l = let long : nat_lt text_limit (length bytes) ≡ true = grind (arith, nat_tests) in rw long refl
+too_long bytes l = let long : nat_lt text_limit (length bytes) ≡ true = grind (arith, nat_tests) in rw long refl
 
-pub long-conf : (texts : Texts) (name : List ℕ) → ReadsFile text_limit texts name None
+pub long_conf : (texts : Texts) (name : List ℕ) → ReadsFile text_limit texts name None
     → IfSome texts (λ disk. Comes {A = Configuration} (Err (ends.Config 0 kind.TooMany)) (conf_stage name (disk name)))
-long-conf None name r = tt
-long-conf (Some disk) name (bytes, there, long) =
-    inl (ap (conf_stage name) there ∙ ap conf_read (too-long bytes long))
+long_conf None name r = tt
+long_conf (Some disk) name (bytes, there, long) =
+    inl (ap (conf_stage name) there ∙ ap conf_read (too_long bytes long))

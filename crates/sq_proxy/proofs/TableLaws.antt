@@ -5,8 +5,8 @@ use Rattle.std.specs.Ordering.{nat_cmp, is_eq}
 use Rattle.std.specs.declared.option.Option.{Option}
 use Rattle.sq_proxy.specs.Tables.{value_at}
 
-pub same-key : (a b : ℕ) → is_eq (nat_cmp a b) ≡ (a == b)
-same-key a b = grind arith
+pub same_key : (a b : ℕ) → is_eq (nat_cmp a b) ≡ (a == b)
+same_key a b = grind arith
 
 -- the front entry is the one that is changed, or another
 abbrev IsChanged : {A : Type 0} → Bool → Bool → Bool → A → A → Option A → Option A → Type 0

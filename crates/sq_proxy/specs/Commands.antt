@@ -2,7 +2,7 @@
 use Rattle.std.specs.Prelude.{◌≡◌, ◌⊎◌, ℕ, List, [], ◌∷◌, Result, Ok, Err, Some, None, codes, bytes_eq, if◌then◌else◌}
 use Rattle.std.specs.declared.option.Option.{Option}
 use Rattle.sq_outside.specs.SourceLines.{lines}
-use Rattle.sq_rules.specs.Configurations.{Configuration}
+use Rattle.sq_rules.specs.Configurations.{Configuration, asks_nobody}
 use Rattle.sq_rules.specs.ConfText.{conf_result}
 use Rattle.sq_rules.specs.Direct.{IsDirect}
 use Rattle.sq_rules.specs.Machine.{Legal}
@@ -13,7 +13,6 @@ use Rattle.sq_proxy.specs.declared.ends.Status.{Status}
 use Rattle.sq_proxy.specs.declared.ends.Status.TheVariants as ends
 use Rattle.sq_proxy.specs.declared.command.Command as Words
 use Rattle.sq_proxy.specs.declared.command.Command.TheVariants as words
-use Rattle.sq_proxy.specs.Judging.{only_leaves}
 use Rattle.sq_proxy.specs.ParseText.{parse_text}
 use Rattle.sq_proxy.specs.RunText.{Ran, run_script}
 
@@ -65,24 +64,31 @@ abbrev pub conf_stage : List ℕ → Option (List ℕ) → Result Configuration 
 conf_stage name None = Err (ends.Missing name)
 conf_stage name (Some text) = conf_read (conf_result text)
 
-abbrev pub over_leaves : Result Configuration Status → Result Configuration Status
-over_leaves (Ok config) = if only_leaves config then Ok config else Err (ends.Unbuilt part.Conf)
-over_leaves (Err end) = Err end
+abbrev pub without_helpers : Result Configuration Status → Result Configuration Status
+without_helpers (Ok config) = if asks_nobody config then Ok config else Err (ends.Unbuilt part.Conf)
+without_helpers (Err end) = Err end
 
 -- the text of a script's file, if it is there
 abbrev pub script_stage : List ℕ → Option (List ℕ) → Result (List ℕ) Status
 script_stage name None = Err (ends.Missing name)
 script_stage name (Some text) = Ok text
 
--- what `parse` comes to
-abbrev pub parse_output : Disk → List ℕ → Output
-parse_output disk conf = staged (conf_stage conf (disk conf)) (λ config. record { text = parse_text config; end = ends.Ok })
+-- what `parse` comes to, where this is the text of CONF's file, if it is there
+abbrev pub parse_over : Option (List ℕ) → List ℕ → Output
+parse_over text conf = staged (conf_stage conf text) (λ config. record { text = parse_text config; end = ends.Ok })
 
--- what `replay` comes to: the configuration is read and judged, then the script is opened and run
+abbrev pub parse_output : Disk → List ℕ → Output
+parse_output disk conf = parse_over (disk conf) conf
+
+-- what `replay` comes to, where these are the texts of the two files, if they are there: the configuration is read and judged, then
+-- the script is opened and run
+abbrev pub replay_over : Option (List ℕ) → Option (List ℕ) → List ℕ → List ℕ → Output
+replay_over conf_text script_text conf script =
+    staged (without_helpers (conf_stage conf conf_text))
+    (λ config. staged (script_stage script script_text) (λ text. ran_output (run_script config (lines text))))
+
 abbrev pub replay_output : Disk → List ℕ → List ℕ → Output
-replay_output disk conf script =
-    staged (over_leaves (conf_stage conf (disk conf)))
-    (λ config. staged (script_stage script (disk script)) (λ text. ran_output (run_script config (lines text))))
+replay_output disk conf script = replay_over (disk conf) (disk script) conf script
 
 abbrev pub command_output : Disk → Option Command → Output
 command_output disk None = silent ends.Usage
@@ -105,7 +111,7 @@ IsDirectOrNone config text = ((run_script config (lines text)).history ≡ []) �
 -- so it is of each run over a configuration and a script that are there
 abbrev pub RunsDirectly : Disk → List (List ℕ) → Type 0
 RunsDirectly disk words = (conf script text : List ℕ) (config : Configuration) → command_of words ≡ Some (Replay conf script)
-    → over_leaves (conf_stage conf (disk conf)) ≡ Ok config → disk script ≡ Some text → IsDirectOrNone config text
+    → without_helpers (conf_stage conf (disk conf)) ≡ Ok config → disk script ≡ Some text → IsDirectOrNone config text
 
 -- the command that the code reads
 abbrev pub shown_command : Words.Command → Command

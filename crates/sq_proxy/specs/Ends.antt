@@ -1,5 +1,5 @@
 -- How a command ends: its last line and its exit status, the causes of faults, and the ends that a command and each part of it may have.
-use Rattle.std.specs.Prelude.{◌≡◌, ◌⊎◌, ℕ, ◌≤◌, List, [], ◌∷◌, ◌++◌, codes, decimal, Result}
+use Rattle.std.specs.Prelude.{◌≡◌, ◌⊎◌, ℕ, ◌≤◌, List, [], ◌∷◌, ◌++◌, Bool, true, false, codes, decimal, Result}
 use Rattle.std.specs.declared.result.Result.TheVariants as result
 use Rattle.sq_base.specs.Escapes.{text_word}
 use Rattle.sq_outside.specs.Causes.{Rose}
@@ -45,12 +45,57 @@ code_of (Missing name) = 7
 code_of WantOfMemory = 10
 code_of (Unbuilt p) = 11
 
+-- what ended a command from without: a read or a write that failed, or want of memory
+pub data Fault : Type 0 where
+  Reading : Fault
+  Writing : Fault
+  Lacking : Fault
+
+-- how a command ends: it did what it was asked, its input was refused, or a fault ended it
+pub data End : Type 0 where
+  Done : End
+  Refused : End
+  Faulted : Fault → End
+
+-- what kind of end each status is
+abbrev pub end_of : Status → End
+end_of Ok = Done
+end_of Usage = Refused
+end_of (Config line kind) = Refused
+end_of (Script line) = Refused
+end_of ReadFault = Faulted Reading
+end_of WriteFault = Faulted Writing
+end_of (Missing name) = Refused
+end_of WantOfMemory = Faulted Lacking
+end_of (Unbuilt p) = Refused
+
+-- the status of a fault
+abbrev pub status_of : Fault → Status
+status_of Reading = ReadFault
+status_of Writing = WriteFault
+status_of Lacking = WantOfMemory
+
+abbrev pub IsFaultEnd : End → Type 0
+IsFaultEnd Done = ⊥
+IsFaultEnd Refused = ⊥
+IsFaultEnd (Faulted fault) = Unit {0}
+
 -- a command may end otherwise by these alone
 abbrev pub IsFault : Status → Type 0
-IsFault ReadFault = Unit {0}
-IsFault WriteFault = Unit {0}
-IsFault WantOfMemory = Unit {0}
-IsFault status = ⊥
+IsFault status = IsFaultEnd (end_of status)
+
+-- only a refusal has a last line, and a fault of reading
+abbrev pub is_silent : End → Bool
+is_silent Done = true
+is_silent Refused = false
+is_silent (Faulted Reading) = false
+is_silent (Faulted fault) = true
+
+-- no device failed before the last line: it was done or refused
+abbrev pub IsToldEnd : End → Type 0
+IsToldEnd Done = Unit {0}
+IsToldEnd Refused = Unit {0}
+IsToldEnd (Faulted fault) = ⊥
 
 -- it ends so, or by a fault
 abbrev pub EndsBy : Status → Status → Type 0
@@ -65,12 +110,15 @@ abbrev pub IfMissing : Status → (List ℕ → Type 0) → Type 0
 IfMissing (Missing name) P = P name
 IfMissing status P = Unit {0}
 
--- the counts of the files and of the sink never fall, and a fault comes only where its count rose
+-- the counts of the files and of the sink never fall; a fault comes only where its count rose; the files' stays at any end
+-- but a read fault, and the sink's where no fault came
 pub record HasCauses (files_before files_now out_before out_now : ℕ) (status : Status) : Type 0 where
   pub files_later : files_before ≤ files_now
   pub out_later : out_before ≤ out_now
   pub read : status ≡ ReadFault → Rose files_before files_now
   pub write : status ≡ WriteFault → Rose out_before out_now
+  pub files_quiet : (status ≡ ReadFault → ⊥) → files_now ≡ files_before
+  pub out_quiet : IsToldEnd (end_of status) → out_now ≡ out_before
 
 -- a configuration that cannot be had of its file ends a command by these alone, and misses only this name
 abbrev pub IsOpenEnd : Texts → List ℕ → Status → Type 0

@@ -5,6 +5,7 @@ pub mod Firsts
 pub mod Judging
 pub mod Machines
 pub mod Making
+pub mod Opened
 pub mod Outputs
 pub mod ParseText
 pub mod Pieces

@@ -11,10 +11,12 @@ use Rattle.sq_rules.specs.declared.refusals.Refusal.{Refusal}
 use Rattle.sq_rules.specs.declared.refusals.Refusal.TheVariants as refusal
 use Rattle.sq_rules.specs.declared.sights.Peer.{Peer}
 use Rattle.sq_rules.specs.declared.sights.Sight.{Sight}
+use Rattle.sq_rules.specs.Checks.{ask_count, ask_of, conn_of, open_check, check_open, is_done}
 use Rattle.sq_rules.specs.Configurations.{Configuration}
+use Rattle.sq_rules.specs.Connections.{peer_at, open_count, conns_of}
 use Rattle.sq_rules.specs.Entries.{Noted, History}
 use Rattle.sq_rules.specs.Machine.{gives, refuses, next, Legal, config_of, outcome_of}
-use Rattle.sq_rules.specs.Readings.{peer_at, open_count, conns_of, offset_of, ask_count, ask_of, conn_of, open_check, check_open, is_done, latest}
+use Rattle.sq_rules.specs.Readings.{offset_of, latest}
 use Rattle.sq_proxy.specs.Counts.{Tallies, tally}
 use Rattle.sq_proxy.specs.Judging.{shown}
 use Rattle.sq_proxy.specs.Tables.{value_at}
@@ -71,14 +73,14 @@ abbrev pub entry_at : ℕ → Event → Told → Noted
 entry_at moment event told = record { moment = moment; event = event; answer = told }
 
 -- the event is made: for every legal history that the machine stands for, the answer is the next, and the machine stands for the history with the entry added
-pub record IsMade (old new : View) (now : ℕ) (event : Event) (told : Told) : Type 0 where
-  pub answers : (configs : List Configuration) (h : History) → Legal configs h → StandsFor old configs h → next configs h event ≡ gives told
+pub record IsAnswered (old new : View) (now : ℕ) (event : Event) (told : Told) : Type 0 where
+  pub answers : (configs : List Configuration) (h : History) → Legal configs h → StandsFor old configs h → next configs h now event ≡ gives told
   pub stands : (configs : List Configuration) (h : History) → Legal configs h → StandsFor old configs h
       → StandsFor new configs (entry_at (max now old.latest) event told ∷ h)
 
 -- the event is refused so, and nothing changes
-pub record IsRefused (old new : View) (event : Event) (r : Refusal) : Type 0 where
-  pub answers : (configs : List Configuration) (h : History) → Legal configs h → StandsFor old configs h → next configs h event ≡ refuses r
+pub record IsRefused (old new : View) (now : ℕ) (event : Event) (r : Refusal) : Type 0 where
+  pub answers : (configs : List Configuration) (h : History) → Legal configs h → StandsFor old configs h → next configs h now event ≡ refuses r
   pub unchanged : new ≡ old
 
 -- what it stood for, it stands for still
@@ -87,6 +89,6 @@ Stays old new = (configs : List Configuration) (h : History) → StandsFor old c
 
 -- a call for an event: made, refused, or without memory and then it stands for the same histories
 abbrev pub IsCall : View → View → ℕ → Event → Result Told Refusal → Type 0
-IsCall old new now event (Ok told) = IsMade old new now event told
+IsCall old new now event (Ok told) = IsAnswered old new now event told
 IsCall old new now event (Err refusal.WantOfMemory) = Stays old new
-IsCall old new now event (Err r) = IsRefused old new event r
+IsCall old new now event (Err r) = IsRefused old new now event r

@@ -35,7 +35,7 @@ IsMaking old new now event (Err stop.Unbuilt) =
 IsMaking old new now event (Err stop.WantOfMemory) = Unit {0}
 
 -- a call of the machine, without the refusal's name
-abbrev pub named : Result Told Refusal → Result Told Stop
-named (Ok told) = Ok told
-named (Err refusal.WantOfMemory) = Err stop.WantOfMemory
-named (Err r) = Err stop.Refused
+abbrev pub named_refusal : Result Told Refusal → Result Told Stop
+named_refusal (Ok told) = Ok told
+named_refusal (Err refusal.WantOfMemory) = Err stop.WantOfMemory
+named_refusal (Err r) = Err stop.Refused

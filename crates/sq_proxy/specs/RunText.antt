@@ -11,7 +11,7 @@ use Rattle.sq_rules.specs.Configurations.{Configuration}
 use Rattle.sq_rules.specs.Entries.{History}
 use Rattle.sq_rules.specs.Machine.{Next, gives, next}
 use Rattle.sq_rules.specs.Readings.{latest}
-use Rattle.sq_journal.specs.Lines.{words_of}
+use Rattle.sq_journal.specs.Lines.{spaced_words}
 use Rattle.sq_journal.specs.Reading.{dated_of}
 use Rattle.sq_proxy.specs.declared.ends.Part.TheVariants as part
 use Rattle.sq_proxy.specs.declared.ends.Status.{Status}
@@ -29,7 +29,7 @@ stopped end = record { history = []; end = end }
 
 -- the moment and the event that a script's line states
 abbrev pub stated : List ℕ → Option (ℕ × Event)
-stated bytes = dated_of (words_of bytes)
+stated bytes = dated_of (spaced_words bytes)
 
 -- an answer is an entry, and without one the run ends at this line
 abbrev pub answered : History → ℕ → ℕ → Event → Next → Result History Status
@@ -38,7 +38,7 @@ answered h number moment event n = Err (ends.Script number)
 
 -- the event of line `number`, at the greatest moment so far
 abbrev pub asked_next : List Configuration → History → ℕ → ℕ → Event → Result History Status
-asked_next configs h number now event = answered h number (max now (latest h)) event (next configs h event)
+asked_next configs h number now event = answered h number (max now (latest h)) event (next configs h now event)
 
 -- requests of a script have version 1.1
 abbrev pub is_request : List ℕ → List ℕ → List Field → Result History Status → ℕ → Result History Status
@@ -65,28 +65,28 @@ stated_step configs h number (Some (now, event)) = event_step configs h number n
 abbrev pub line_step : List Configuration → History → ℕ → ℕ → Line → Result History Status
 line_step configs h number place l = if is_readable place l then stated_step configs h number (stated l.bytes) else Err (ends.Script number)
 
-abbrev pub goes_on : History → Result History Status → (History → Ran) → Ran
-goes_on h (Ok t) go = go t
-goes_on h (Err end) go = record { history = h; end = end }
+abbrev pub run_on : History → Result History Status → (History → Ran) → Ran
+run_on h (Ok t) go = go t
+run_on h (Err end) go = record { history = h; end = end }
 
 -- the run of these lines, from a number and a place on
 abbrev pub run_lines : List Configuration → History → ℕ → ℕ → List Line → Ran
 run_lines configs h number place [] = record { history = h; end = ends.Ok }
 run_lines configs h number place (l ∷ ls) =
-    goes_on h (line_step configs h number place l) (λ t. run_lines configs t (number + 1) (place + length l.bytes + 1) ls)
+    run_on h (line_step configs h number place l) (λ t. run_lines configs t (number + 1) (place + length l.bytes + 1) ls)
 
 -- the machine has begun
-abbrev pub begun : ℕ → ℤ → History
-begun now offset = entry_at now (Begin offset) (told.Epoch 1) ∷ []
+abbrev pub begun_history : ℕ → ℤ → History
+begun_history now offset = entry_at now (Begin offset) (told.Epoch 1) ∷ []
 
 -- the first line is run by a machine that began at its moment, with offset 0
 abbrev pub run_from : Configuration → ℕ → List Line → ℕ → Event → Ran
 run_from config place ls now event =
-    goes_on (begun now (pos 0)) (event_step (config ∷ []) (begun now (pos 0)) 1 now event) (λ t. run_lines (config ∷ []) t 2 place ls)
+    run_on (begun_history now (pos 0)) (event_step (config ∷ []) (begun_history now (pos 0)) 1 now event) (λ t. run_lines (config ∷ []) t 2 place ls)
 
 -- the first line may say where the machine begins, and `act` is no line of a script
 abbrev pub run_first : Configuration → ℕ → List Line → ℕ → Event → Ran
-run_first config place ls now (Begin offset) = run_lines (config ∷ []) (begun now offset) 2 place ls
+run_first config place ls now (Begin offset) = run_lines (config ∷ []) (begun_history now offset) 2 place ls
 run_first config place ls now Act = stopped (ends.Script 1)
 run_first config place ls now event = run_from config place ls now event
 
@@ -96,5 +96,5 @@ run_stated config place ls (Some (now, event)) = run_first config place ls now e
 
 -- the run of a script's lines; without lines the machine begins at 0
 abbrev pub run_script : Configuration → List Line → Ran
-run_script config [] = record { history = begun 0 (pos 0); end = ends.Ok }
+run_script config [] = record { history = begun_history 0 (pos 0); end = ends.Ok }
 run_script config (l ∷ ls) = if is_readable 0 l then run_stated config (length l.bytes + 1) ls (stated l.bytes) else stopped (ends.Script 1)

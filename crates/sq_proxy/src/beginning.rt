@@ -4,9 +4,9 @@ ghost use Rattle.std.specs.Io.KnownBytes.{prepend_known};
 ghost use Rattle.sq_outside.specs.Causes.{Rose};
 ghost use Rattle.sq_outside.specs.SourceLines.{lines, total_limit};
 ghost use Rattle.sq_rules.specs.Entries.{is_event};
-ghost use Rattle.sq_proxy.specs.Judging.{only_leaves};
+ghost use Rattle.sq_rules.specs.Configurations.{asks_nobody};
 ghost use Rattle.sq_proxy.specs.Outputs.{Reaches, Wrote};
-ghost use Rattle.sq_proxy.specs.RunText.{begun, run_first, run_from, run_lines, run_script, run_stated, stated};
+ghost use Rattle.sq_proxy.specs.RunText.{begun_history, run_first, run_from, run_lines, run_script, run_stated, stated};
 ghost use Rattle.sq_proxy.specs.Firsts.{first_kind};
 ghost use Rattle.sq_proxy.specs.Runs.{Begins, IsRunEnd, IsStepEnd, RunHasCauses, RunsOver};
 ghost use Rattle.sq_proxy.specs.declared.ends.Status.TheVariants as ends;
@@ -56,11 +56,12 @@ fn begin<O: Sink>(
     page: &mut Vec<u8>,
     out: &mut O,
 ) -> Result<Machine, Status>
-    requires { only_leaves setup ≡ true }
+    requires { asks_nobody setup ≡ true }
     ensures begins { (base : Option (List ℕ)) → Wrote base (O.contents out.old) page.old.items []
         → Begins base (O.contents out.new) page.new.items setup now offset result }
     ensures later { O.faults out.old ≤ O.faults out.new }
     ensures write { IsErrOf result ends.WriteFault → Rose (O.faults out.old) (O.faults out.new) }
+    ensures quiet { (IsErrOf result ends.WriteFault → ⊥) → O.faults out.new ≡ O.faults out.old }
     ensures end { IfErr result IsStepEnd }
 {
     let machine = Machine::new(alloc, setup, offset, now);
@@ -84,7 +85,7 @@ fn run_from<S: Source, O: Sink>(
     page: &mut Vec<u8>,
     out: &mut O,
 ) -> Status
-    requires leaves { only_leaves setup ≡ true }
+    requires nobody { asks_nobody setup ≡ true }
     requires event { is_event event ≡ true }
     requires place { place ≤ total_limit }
     ensures runs { (base : Option (List ℕ)) → Wrote base (O.contents out.old) page.old.items []
@@ -116,11 +117,11 @@ fn run_begun<S: Source, O: Sink>(
     page: &mut Vec<u8>,
     out: &mut O,
 ) -> Status
-    requires leaves { only_leaves setup ≡ true }
+    requires nobody { asks_nobody setup ≡ true }
     requires place { place ≤ total_limit }
     ensures runs { (base : Option (List ℕ)) → Wrote base (O.contents out.old) page.old.items []
         → RunsOver (prepend_known held.old (S.left script.old)) base (O.contents out.new) page.new.items
-        (λ bytes. run_lines (setup ∷ []) (begun now offset) 2 place (lines bytes)) result }
+        (λ bytes. run_lines (setup ∷ []) (begun_history now offset) 2 place (lines bytes)) result }
     ensures causes { RunHasCauses (S.faults script.old) (S.faults script.new) (O.faults out.old) (O.faults out.new) result }
     ensures end { IsRunEnd result }
 {
@@ -133,11 +134,12 @@ fn run_begun<S: Source, O: Sink>(
 
 // Runs a script without a line.
 fn run_empty<O: Sink>(alloc: Global, setup: Setup, page: &mut Vec<u8>, out: &mut O) -> Status
-    requires { only_leaves setup ≡ true }
+    requires { asks_nobody setup ≡ true }
     ensures runs { (base : Option (List ℕ)) → Wrote base (O.contents out.old) page.old.items []
         → Reaches base (O.contents out.new) page.new.items (run_script setup []) result }
     ensures later { O.faults out.old ≤ O.faults out.new }
     ensures write { result ≡ ends.WriteFault → Rose (O.faults out.old) (O.faults out.new) }
+    ensures quiet { (result ≡ ends.WriteFault → ⊥) → O.faults out.new ≡ O.faults out.old }
     ensures read { result ≡ ends.ReadFault → ⊥ }
     ensures end { IsRunEnd result }
 {
@@ -159,7 +161,7 @@ fn run_first<S: Source, O: Sink>(
     page: &mut Vec<u8>,
     out: &mut O,
 ) -> Status
-    requires leaves { only_leaves setup ≡ true }
+    requires nobody { asks_nobody setup ≡ true }
     requires event { is_event event ≡ true }
     requires place { place ≤ total_limit }
     ensures runs { (base : Option (List ℕ)) → Wrote base (O.contents out.old) page.old.items []
@@ -188,7 +190,7 @@ fn run_stated<S: Source, O: Sink>(
     page: &mut Vec<u8>,
     out: &mut O,
 ) -> Status
-    requires leaves { only_leaves setup ≡ true }
+    requires nobody { asks_nobody setup ≡ true }
     requires place { place ≤ total_limit }
     ensures runs { (base : Option (List ℕ)) → Wrote base (O.contents out.old) page.old.items []
         → RunsOver (prepend_known held.old (S.left script.old)) base (O.contents out.new) page.new.items
@@ -211,7 +213,7 @@ pub fn run<S: Source, O: Sink>(
     page: &mut Vec<u8>,
     out: &mut O,
 ) -> Status
-    requires { only_leaves setup ≡ true }
+    requires { asks_nobody setup ≡ true }
     ensures runs { (base : Option (List ℕ)) → Wrote base (O.contents out.old) page.old.items []
         → RunsOver (S.left script.old) base (O.contents out.new) page.new.items (λ bytes. run_script setup (lines bytes)) result }
     ensures causes { RunHasCauses (S.faults script.old) (S.faults script.new) (O.faults out.old) (O.faults out.new) result }

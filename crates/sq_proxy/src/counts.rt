@@ -1,7 +1,7 @@
 //! How many connections of each address are open.
 ghost use Rattle.std.specs.Prelude.{◌≡◌, ◌-◌, suc, if◌then◌else◌, OnOk, OnErr};
 ghost use Rattle.sq_base.specs.Addresses.{Address};
-ghost use Rattle.sq_rules.specs.Readings.{is_address};
+ghost use Rattle.sq_rules.specs.Connections.{is_address};
 ghost use Rattle.sq_proxy.specs.Counts.{or_zero, tally, Lowers, Raises};
 ghost use Rattle.sq_proxy.specs.Tables.{value_at};
 

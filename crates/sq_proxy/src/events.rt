@@ -2,7 +2,7 @@
 ghost use Rattle.std.specs.Prelude.{◌≡◌, true, IfOk};
 ghost use Rattle.sq_rules.specs.Entries.{is_row};
 ghost use Rattle.sq_rules.specs.declared.entries.Event.TheVariants as event;
-ghost use Rattle.sq_proxy.specs.Making.{IsMaking, named};
+ghost use Rattle.sq_proxy.specs.Making.{IsMaking, named_refusal};
 
 use crate::machine::Machine;
 use sq_base::{Addr, CheckNo, ConnNo, Copying, Fields, Moment, Text, WantOfMemory};
@@ -23,7 +23,7 @@ pub enum Stop {
 
 // A call of the machine, without the refusal's name.
 fn named(answer: Result<Told, Refusal>) -> Result<Told, Stop>
-    ensures { result ≡ named answer }
+    ensures { result ≡ named_refusal answer }
 {
     match answer {
         Ok(told) => Ok(told),

@@ -1,10 +1,10 @@
 //! The last line of a command, which takes no memory.
-ghost use Rattle.std.specs.Prelude.{◌≡◌, ◌≤◌, ◌++◌, ◌∷◌, [], decimal, OnOk, OnErr};
+ghost use Rattle.std.specs.Prelude.{◌≡◌, ◌≤◌, ◌++◌, ◌∷◌, [], true, decimal, OnOk, OnErr};
 ghost use Rattle.std.specs.Io.KnownBytes.{Appends};
 ghost use Rattle.sq_base.specs.Escapes.{escaped, text_word};
 ghost use Rattle.sq_outside.specs.Causes.{HasCause};
 ghost use Rattle.sq_outside.specs.Output.{Grew, IsPrefix, IsWritten};
-ghost use Rattle.sq_proxy.specs.Ends.{config_line, last_line, part_word};
+ghost use Rattle.sq_proxy.specs.Ends.{config_line, end_of, is_silent, last_line, part_word};
 
 use crate::ends::{Part, Status};
 use itoa::Buffer;
@@ -133,6 +133,7 @@ fn write_last_line<O: Sink>(out: &mut O, status: &Status) -> Result<(), Failed>
     ensures ok { OnOk result (Appends (O.contents out.old) (O.contents out.new) (last_line status.now)) }
     ensures err { OnErr result (Grew (O.contents out.old) (O.contents out.new) (λ part. IsPrefix part (last_line status.now))) }
     ensures cause { HasCause (O.faults out.old) (O.faults out.new) result }
+    ensures silent { is_silent (end_of status.now) ≡ true → out.new ≡ out.old }
 {
     match status {
         Status::Usage => write_line(out, USAGE, b""),
@@ -141,9 +142,9 @@ fn write_last_line<O: Sink>(out: &mut O, status: &Status) -> Result<(), Failed>
         Status::ReadFault => write_line(out, b"error read", b""),
         Status::Missing(name) => write_text_line(out, b"error missing ", name.as_bytes()),
         Status::Unbuilt(part) => write_line(out, b"error unbuilt ", part_word(*part)),
-        Status::Ok => write_all(out, b""),
-        Status::WriteFault => write_all(out, b""),
-        Status::WantOfMemory => write_all(out, b""),
+        Status::Ok => Ok(()),
+        Status::WriteFault => Ok(()),
+        Status::WantOfMemory => Ok(()),
     }
 }
 
@@ -153,6 +154,7 @@ pub fn finish<O: Sink>(out: &mut O, status: Status) -> Status
     ensures written { Grew (O.contents out.old) (O.contents out.new)
         (IsWritten (O.faults out.old) (O.faults out.new) (last_line status)) }
     ensures later { O.faults out.old ≤ O.faults out.new }
+    ensures silent { is_silent (end_of status) ≡ true → out.new ≡ out.old }
 {
     let _ = write_last_line(out, &status);
     status

@@ -4,12 +4,14 @@ ghost use Rattle.std.specs.Ordering.{nat_cmp, is_eq};
 ghost use Rattle.sq_base.specs.Addresses.{Address};
 ghost use Rattle.sq_base.specs.declared.requests.Field.{Field};
 ghost use Rattle.sq_rules.specs.Entries.{is_row};
-ghost use Rattle.sq_rules.specs.Readings.{is_address, is_number};
-ghost use Rattle.sq_rules.specs.Sights.{request_of};
+ghost use Rattle.sq_rules.specs.Connections.{is_address};
+ghost use Rattle.sq_rules.specs.Events.{is_number};
+ghost use Rattle.sq_rules.specs.Sights.{asked_request, unversioned};
 ghost use Rattle.sq_rules.specs.Verdicts.{verdict};
 ghost use Rattle.sq_rules.specs.declared.entries.Event.TheVariants as event;
 ghost use Rattle.sq_proxy.specs.Counts.{tally};
-ghost use Rattle.sq_proxy.specs.Judging.{only_leaves, shown};
+ghost use Rattle.sq_proxy.specs.Judging.{shown};
+ghost use Rattle.sq_rules.specs.Configurations.{asks_nobody};
 ghost use Rattle.sq_proxy.specs.Machines.{seen};
 ghost use Rattle.sq_proxy.specs.Tables.{value_at};
 
@@ -38,7 +40,7 @@ pub struct Row {
     pub ruled: Ruled,
 }
 
-/// The machine. The terms of its rules all name leaf acls.
+/// The machine. Its rules ask no helper.
 #[derive(Drop)]
 pub struct Machine {
     setup: Setup,
@@ -53,14 +55,14 @@ pub struct Machine {
 
 impl Model for Machine {
     ghost use Rattle.std.specs.Prelude.{◌≡◌, true};
-    ghost use Rattle.sq_proxy.specs.Judging.{only_leaves};
+    ghost use Rattle.sq_rules.specs.Configurations.{asks_nobody};
     ghost use Rattle.sq_proxy.specs.Machines.{View};
 
     ghost Value = { View };
 
     ghost view = { λ m. record { config = m.setup; offset = m.offset; peers = m.peers; counts = m.counts; asked = m.asked; checks = m.checks; begun = m.begun; latest = m.latest } };
 
-    ghost invariant = { λ m. only_leaves m.setup ≡ true };
+    ghost invariant = { λ m. asks_nobody m.setup ≡ true };
 }
 
 // The later of two moments.
@@ -83,7 +85,7 @@ impl Machine {
 
     /// The machine that begins at this moment, at this offset of local time.
     pub fn new(alloc: Global, setup: Setup, offset: Offset, now: Moment) -> Machine
-        requires { only_leaves setup ≡ true }
+        requires { asks_nobody setup ≡ true }
         ensures { StandsFor result (setup ∷ []) (entry_at now (event.Begin offset) (told.Epoch 1) ∷ []) }
     {
         Machine {
@@ -120,7 +122,7 @@ impl Machine {
             return Err(Refusal::ConnInUse(conn));
         }
         if self.peers.len() >= CONN_LIMIT {
-            return Err(Refusal::TooManyConns(65_536));
+            return Err(Refusal::TooManyConns(CONN_LIMIT as u32));
         }
         match enter(&mut self.peers, &mut self.counts, conn, Peer { addr, port }) {
             Ok(()) => {}
@@ -153,7 +155,7 @@ impl Machine {
         request: Request,
         now: Moment,
     ) -> Result<Told, Refusal>
-        ensures call { (method target : List ℕ) (fields : List Field) → request ≡ request_of method target fields
+        ensures call { (method target : List ℕ) (fields : List Field) → unversioned request ≡ asked_request method target fields
             → IsCall self.old self.new now (event.Ask conn method target fields) result }
         ensures row { IfOk result (λ t. (method target : List ℕ) (fields : List Field) → is_row (event.Ask conn method target fields) t ≡ true) }
     {
@@ -194,7 +196,7 @@ impl Machine {
         Ok(Told::Check(check))
     }
 
-    /// A check goes on: over leaf acls it has its outcome.
+    /// A check goes on: where nobody is asked it has its outcome.
     pub fn step(&mut self, check: CheckNo, now: Moment) -> Result<Told, Refusal>
         ensures call { IsCall self.old self.new now (event.Step check) result }
         ensures row { IfOk result (λ t. is_row (event.Step check) t ≡ true) }
@@ -242,7 +244,7 @@ fn decide(
     minute: u32,
     conns: u32,
 ) -> Result<Ruled, WantOfMemory>
-    requires { only_leaves setup.old ≡ true }
+    requires { asks_nobody setup.old ≡ true }
     ensures ruled { IfOk result (λ r. shown r ≡ verdict setup.old (seen request peer minute conns)) }
     ensures same { setup.new ≡ setup.old }
 {
@@ -254,7 +256,7 @@ fn decide(
         conns,
     };
     let facts = read_facts(alloc, setup, &sight)?;
-    Ok(judge(setup.config(), &facts))
+    judge(alloc, setup.config(), &facts, &sight)
 }
 
 // Notes the client of a connection, and counts it.

@@ -42,6 +42,7 @@ pub fn put_line<O: Sink>(line: &[u8], page: &mut Vec<u8>, out: &mut O) -> Result
         → WroteFront base (O.contents out.new) page.new.items (text ++ (line.now ++ 10 ∷ [])) }
     ensures later { O.faults out.old ≤ O.faults out.new }
     ensures cause { IsErrOf result Untold.Failed → Rose (O.faults out.old) (O.faults out.new) }
+    ensures quiet { (IsErrOf result Untold.Failed → ⊥) → O.faults out.new ≡ O.faults out.old }
 {
     match add_line(line, page) {
         Ok(()) => {}

@@ -55,6 +55,7 @@ pub fn tell<O: Sink>(
         → WroteFront base (O.contents out.new) page.new.items (text ++ entry_line (entry_at moment event answer)) }
     ensures later { O.faults out.old ≤ O.faults out.new }
     ensures cause { IsErrOf result Untold.Failed → Rose (O.faults out.old) (O.faults out.new) }
+    ensures quiet { (IsErrOf result Untold.Failed → ⊥) → O.faults out.new ≡ O.faults out.old }
 {
     match text_of(alloc, moment, event, answer) {
         Ok(text) => put_line(text.as_bytes(), page, out),
@@ -77,6 +78,7 @@ pub fn run_event<O: Sink>(
         → Goes machine.new base (O.contents out.new) page.new.items configs h (event_step configs h number now event) result }
     ensures later { O.faults out.old ≤ O.faults out.new }
     ensures write { IsErrOf result ends.WriteFault → Rose (O.faults out.old) (O.faults out.new) }
+    ensures quiet { (IsErrOf result ends.WriteFault → ⊥) → O.faults out.new ≡ O.faults out.old }
     ensures end { IfErr result IsStepEnd }
 {
     let told = match make(alloc, machine, &event, now) {
@@ -105,6 +107,7 @@ fn run_line<O: Sink>(
         → Goes machine.new base (O.contents out.new) page.new.items configs h (stated_step configs h number (stated line.now)) result }
     ensures later { O.faults out.old ≤ O.faults out.new }
     ensures write { IsErrOf result ends.WriteFault → Rose (O.faults out.old) (O.faults out.new) }
+    ensures quiet { (IsErrOf result ends.WriteFault → ⊥) → O.faults out.new ≡ O.faults out.old }
     ensures end { IfErr result IsStepEnd }
 {
     match read_event(alloc, line) {

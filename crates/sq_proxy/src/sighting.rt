@@ -3,7 +3,7 @@ ghost use Rattle.std.specs.Prelude.{◌≡◌, ◌≤◌};
 ghost use Rattle.sq_rules.specs.Sights.{local_seconds, minute_of_day, minute_of_week, weekday};
 
 use sq_base::Moment;
-use sq_rules::Offset;
+use sq_rules::{DAY_MINUTES, Offset};
 
 /// The seconds of a day.
 const DAY: i64 = 86_400;
@@ -36,5 +36,5 @@ pub fn minute_of_week(moment: Moment, offset: Offset) -> u32
     ensures { result ≡ minute_of_week moment offset }
 {
     let seconds = local_seconds(moment, offset);
-    (weekday(seconds) * 1440 + minute_of_day(seconds)) as u32
+    (weekday(seconds) * DAY_MINUTES as u64 + minute_of_day(seconds)) as u32
 }

@@ -1,21 +1,19 @@
 //! The files of a command, read and judged.
-ghost use Rattle.std.specs.Prelude.{◌≡◌, ◌≤◌, IfSome, IfErr};
+ghost use Rattle.std.specs.Prelude.{◌≡◌, ◌≤◌, IfSome, IfErr, IsErrOf};
 ghost use Rattle.sq_outside.specs.Causes.{Rose};
 ghost use Rattle.sq_proxy.specs.declared.ends.Status.TheVariants as ends;
 ghost use Rattle.sq_rules.specs.ConfText.{conf_result};
 ghost use Rattle.sq_proxy.specs.Commands.{conf_read, conf_stage};
+ghost use Rattle.sq_proxy.specs.Opened.{Added, IsOnce, first_text};
 ghost use Rattle.sq_proxy.specs.Ends.{Comes, IsConfEnd, IsMissingOr, IsOpenEnd};
 
 use crate::ends::Status;
 use sq_base::{Copying, Text, WantOfMemory};
 use sq_conf::{ConfFault, read_config};
 use sq_outside::{Files, NoOpen, read_file};
-use sq_rules::Kind;
+use sq_rules::{Kind, TEXT_LIMIT};
 use sq_urlmatch::Setup;
 use std::alloc::Global;
-
-/// The bytes that a configuration may have.
-const TEXT_LIMIT: usize = 1_048_576;
 
 /// The status of a file that is not there.
 pub fn missing(alloc: Global, name: &Text) -> Status
@@ -48,7 +46,11 @@ pub fn open_conf<F: Files>(alloc: Global, name: &Text, files: &mut F) -> Result<
     ensures end { IfErr result (IsOpenEnd (F.texts files.old) name.now) }
     ensures later { F.faults files.old ≤ F.faults files.new }
     ensures read { IfErr result (λ end. end ≡ ends.ReadFault → Rose (F.faults files.old) (F.faults files.new)) }
+    ensures quiet { (IsErrOf result ends.ReadFault → ⊥) → F.faults files.new ≡ F.faults files.old }
     ensures texts { F.texts files.new ≡ F.texts files.old }
+    // Where openings are told: the file was opened once at most, and this came of its text.
+    ensures opened { Added (F.opened files.old) (F.opened files.new)
+        (λ more. IsOnce name.now more × Comes result (conf_stage name.now (first_text more))) }
 {
     let text = match read_file(alloc, TEXT_LIMIT, name, files) {
         Ok(Some(text)) => text,

@@ -5,22 +5,23 @@ ghost use Rattle.sq_outside.specs.Told.{IsNotTold};
 ghost use Rattle.sq_outside.specs.Output.{Grew};
 ghost use Rattle.sq_outside.specs.SourceLines.{lines};
 ghost use Rattle.sq_proxy.specs.declared.ends.Status.TheVariants as ends;
-ghost use Rattle.sq_proxy.specs.Commands.{command_of, output_of, parse_output, ran_output, replay_output, script_stage, staged, IsNamed, RunsDirectly};
-ghost use Rattle.sq_proxy.specs.Ends.{EndsBy, EndsWithoutFault, HasCauses, IfMissing, IsPlayedEnd, IsReplayEnd};
-ghost use Rattle.sq_proxy.specs.Judging.{only_leaves};
+ghost use Rattle.sq_proxy.specs.Commands.{command_of, output_of, parse_output, ran_output, replay_output, script_stage, staged, IsNamed, Parse, Replay, RunsDirectly};
+ghost use Rattle.sq_proxy.specs.Ends.{EndsBy, EndsWithoutFault, HasCauses, IfMissing, IsPlayedEnd, IsReplayEnd, IsToldEnd, end_of};
+ghost use Rattle.sq_rules.specs.Configurations.{asks_nobody};
+ghost use Rattle.sq_proxy.specs.Opened.{Added, IsOnce, IsOpened, first_text, opened_output};
 ghost use Rattle.sq_proxy.specs.Outputs.{Delivers, IsOutput, IsSettled, Reaches, failed_end, is_write_fault};
 ghost use Rattle.sq_proxy.specs.RunText.{run_script, Ran};
 
 use crate::beginning::run;
 use crate::command::{Command, read_command};
 use crate::ends::{Part, Status};
-use crate::judging::only_leaves;
 use crate::last_line::finish;
 use crate::page::write_page;
 use crate::parsing::parse_text;
 use crate::stages::{missing, open_conf};
 use sq_base::{Text, WantOfMemory};
 use sq_outside::{Failed, Files, NoOpen, Sink, write_all};
+use sq_rules::asks_nobody;
 use sq_urlmatch::Setup;
 use std::alloc::Global;
 
@@ -34,8 +35,8 @@ fn is_write_fault(end: &Status) -> bool
     }
 }
 
-// How a run ends whose last page could not be written: a read fault and want of memory stay, and any
-// other end becomes a write fault.
+// How a run ends whose last page could not be written: a fault that ended it stays, and any other end
+// becomes a write fault.
 fn failed_end(end: Status) -> Status
     ensures { result ≡ failed_end end }
 {
@@ -49,10 +50,12 @@ fn failed_end(end: Status) -> Status
 // Writes what the page holds at the end of a run.
 fn settle<O: Sink>(page: &mut Vec<u8>, out: &mut O, end: Status) -> Status
     ensures delivers { (base : Option (List ℕ)) (ran : Ran) → Reaches base (O.contents out.old) page.old.items ran end
-        → Delivers base (O.contents out.new) (ran_output ran) result }
+        → Delivers base (O.contents out.new) (O.faults out.old) (O.faults out.new) (ran_output ran) result }
     ensures same { IsSettled end result }
+    ensures read { end ≡ ends.ReadFault → result ≡ ends.ReadFault }
     ensures later { O.faults out.old ≤ O.faults out.new }
     ensures write { result ≡ ends.WriteFault → (end ≡ ends.WriteFault) ⊎ Rose (O.faults out.old) (O.faults out.new) }
+    ensures quiet { IsToldEnd (end_of result) → O.faults out.new ≡ O.faults out.old }
 {
     if is_write_fault(&end) {
         return end;
@@ -71,9 +74,12 @@ fn play<F: Files, O: Sink>(
     files: &mut F,
     out: &mut O,
 ) -> Status
-    requires { only_leaves setup ≡ true }
-    ensures delivers { IfSome (F.texts files.old) (λ disk. Delivers (O.contents out.old) (O.contents out.new)
+    requires { asks_nobody setup ≡ true }
+    ensures delivers { IfSome (F.texts files.old) (λ disk. Delivers (O.contents out.old) (O.contents out.new) (O.faults out.old) (O.faults out.new)
         (staged (script_stage script.now (disk script.now)) (λ text. ran_output (run_script setup (lines text)))) result) }
+    ensures opened { Added (F.opened files.old) (F.opened files.new) (λ more. IsOnce script.now more
+        × Delivers (O.contents out.old) (O.contents out.new) (O.faults out.old) (O.faults out.new)
+        (staged (script_stage script.now (first_text more)) (λ text. ran_output (run_script setup (lines text)))) result) }
     ensures end { IsPlayedEnd (F.texts files.old) script.now result }
     ensures causes { HasCauses (F.faults files.old) (F.faults files.new) (O.faults out.old) (O.faults out.new) result }
 {
@@ -97,8 +103,11 @@ fn replay<F: Files, O: Sink>(
     files: &mut F,
     out: &mut O,
 ) -> Status
-    ensures delivers { IfSome (F.texts files.old) (λ disk. Delivers (O.contents out.old) (O.contents out.new)
+    ensures delivers { IfSome (F.texts files.old) (λ disk. Delivers (O.contents out.old) (O.contents out.new) (O.faults out.old) (O.faults out.new)
         (replay_output disk conf.now script.now) result) }
+    ensures opened { Added (F.opened files.old) (F.opened files.new) (λ more. IsOpened (Some (Replay conf.now script.now)) more
+        × Delivers (O.contents out.old) (O.contents out.new) (O.faults out.old) (O.faults out.new)
+        (opened_output (Some (Replay conf.now script.now)) more) result) }
     ensures end { IsReplayEnd (F.texts files.old) conf.now script.now result }
     ensures causes { HasCauses (F.faults files.old) (F.faults files.new) (O.faults out.old) (O.faults out.new) result }
 {
@@ -106,15 +115,20 @@ fn replay<F: Files, O: Sink>(
         Ok(setup) => setup,
         Err(end) => return end,
     };
-    if !only_leaves(setup.config()) {
-        return Status::Unbuilt(Part::Conf);
+    match asks_nobody(alloc, setup.config()) {
+        Ok(true) => play(alloc, setup, script, files, out),
+        Ok(false) => Status::Unbuilt(Part::Conf),
+        Err(WantOfMemory) => Status::WantOfMemory,
     }
-    play(alloc, setup, script, files, out)
 }
 
 // Reads a configuration, and writes what it counts.
 fn parse<F: Files, O: Sink>(alloc: Global, conf: &Text, files: &mut F, out: &mut O) -> Status
-    ensures delivers { IfSome (F.texts files.old) (λ disk. Delivers (O.contents out.old) (O.contents out.new) (parse_output disk conf.now) result) }
+    ensures delivers { IfSome (F.texts files.old) (λ disk. Delivers (O.contents out.old) (O.contents out.new) (O.faults out.old) (O.faults out.new)
+        (parse_output disk conf.now) result) }
+    ensures opened { Added (F.opened files.old) (F.opened files.new) (λ more. IsOpened (Some (Parse conf.now)) more
+        × Delivers (O.contents out.old) (O.contents out.new) (O.faults out.old) (O.faults out.new)
+        (opened_output (Some (Parse conf.now)) more) result) }
     ensures end { IsPlayedEnd (F.texts files.old) conf.now result }
     ensures causes { HasCauses (F.faults files.old) (F.faults files.new) (O.faults out.old) (O.faults out.new) result }
 {
@@ -134,7 +148,11 @@ fn parse<F: Files, O: Sink>(alloc: Global, conf: &Text, files: &mut F, out: &mut
 
 // Does what the words say, but for the last line.
 fn run_words<F: Files, O: Sink>(alloc: Global, words: &[Text], files: &mut F, out: &mut O) -> Status
-    ensures delivers { IfSome (F.texts files.old) (λ disk. Delivers (O.contents out.old) (O.contents out.new) (output_of disk words.now) result) }
+    ensures delivers { IfSome (F.texts files.old) (λ disk. Delivers (O.contents out.old) (O.contents out.new) (O.faults out.old) (O.faults out.new)
+        (output_of disk words.now) result) }
+    ensures opened { Added (F.opened files.old) (F.opened files.new) (λ more. IsOpened (command_of words.now) more
+        × Delivers (O.contents out.old) (O.contents out.new) (O.faults out.old) (O.faults out.new)
+        (opened_output (command_of words.now) more) result) }
     ensures usage { (result ≡ ends.Usage) ↔ (command_of words.now ≡ None) }
     ensures missing { IfMissing result (λ name. IsNamed (command_of words.now) name × IsNotTold (F.texts files.old) name) }
     ensures causes { HasCauses (F.faults files.old) (F.faults files.new) (O.faults out.old) (O.faults out.new) result }
@@ -153,6 +171,11 @@ pub fn proxy<F: Files, O: Sink>(alloc: Global, words: &[Text], files: &mut F, ou
     // What it writes, where the files and the sink tell: the command's text, and the last line.
     ensures bytes { IfSome (F.texts files.old) (λ disk. Grew (O.contents out.old) (O.contents out.new)
         (IsOutput (output_of disk words.now) (O.faults out.old) (O.faults out.new) result)) }
+    // Where the files tell their openings: each file is opened once at most, CONF first, and what is written
+    // is what comes of the texts that these openings gave.
+    ensures opened { Added (F.opened files.old) (F.opened files.new) (λ more. IsOpened (command_of words.now) more
+        × Grew (O.contents out.old) (O.contents out.new)
+        (IsOutput (opened_output (command_of words.now) more) (O.faults out.old) (O.faults out.new) result)) }
     // How it ends, where the files tell: so, or by a fault.
     ensures ended { IfSome (F.texts files.old) (λ disk. EndsBy (output_of disk words.now).end result) }
     // How it ends, where the files tell and no count rises: so, or by want of memory.
@@ -166,6 +189,9 @@ pub fn proxy<F: Files, O: Sink>(alloc: Global, words: &[Text], files: &mut F, ou
     ensures missing { IfMissing result (λ name. IsNamed (command_of words.now) name × IsNotTold (F.texts files.old) name) }
     ensures read { result ≡ ends.ReadFault → Rose (F.faults files.old) (F.faults files.new) }
     ensures write { result ≡ ends.WriteFault → Rose (O.faults out.old) (O.faults out.new) }
+    // The first fault of a device ends the run: where it ended otherwise, no count rose.
+    ensures files_quiet { (result ≡ ends.ReadFault → ⊥) → F.faults files.new ≡ F.faults files.old }
+    ensures out_quiet { result ≡ ends.Ok → O.faults out.new ≡ O.faults out.old }
     ensures files_later { F.faults files.old ≤ F.faults files.new }
     ensures out_later { O.faults out.old ≤ O.faults out.new }
 {

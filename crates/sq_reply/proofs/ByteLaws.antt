@@ -1,35 +1,16 @@
 -- Bytes by kind: where a front of one kind ends, and what one kind says of another.
-use Rattle.std.proofs.Common.{◌≡◌, ℕ, suc, ◌+◌, ◌<◌, ◌^◌, ◌++◌, List, [], ◌∷◌, length, drop, take, Bool, true, false, not, ◌&&◌, ◌||◌, ◌==◌, if◌then◌else◌, Some, None, refl, sym, ap, ◌∙◌, ◌⊎◌, inl, inr, arith, decimal, rules, nat_lt}
+use Rattle.std.proofs.Common.{◌≡◌, ℕ, suc, ◌+◌, ◌<◌, ◌^◌, ◌++◌, List, [], ◌∷◌, length, drop, take, Bool, true, false, not, ◌||◌, ◌==◌, if◌then◌else◌, refl, ap, ◌∙◌, arith, decimal, rules}
 use Rattle.std.proofs.Math.Seq.{drop-append_seam, take-append_seam}
-use Rattle.std.proofs.lemmas.Bool.{and_parts, and_from, not-true, ltb-true}
+use Rattle.std.proofs.lemmas.Bool.{and_parts, and_from, not-true}
 use Rattle.std.proofs.lemmas.Bool.Decides.{nat_tests}
 use Rattle.std.proofs.lemmas.Slice.Eq.{bytes_eq-Decides}
 use Rattle.std.proofs.lemmas.Str.Parse.{IsNumeralModel, numerals_by_fold}
 use Rattle.std.proofs.lemmas.Fmt.{digits_decimal}
 use Rattle.std.specs.Char.{is_ascii_digit}
 use Rattle.std.specs.List.{list_all, prefix_len}
-use Rattle.std.specs.Option.{option_map, option_and_then}
 use Rattle.std.specs.Str.{bytes_eq, all_ascii_digits}
-use Rattle.std.specs.declared.option.Option.{Option}
-use Rattle.sq_base.specs.Decimals.{read_on, number_of}
+use Rattle.sq_base.specs.Decimals.{read_on}
 use Rattle.sq_base.specs.Replies.{is_line_byte, is_word_byte, is_value_byte, is_key_byte, is_key, ends_word}
-
--- what an answer says of the tests before it
-pub if_some : {A : Type 0} (t : Bool) (x : Option A) (w : A) → (if t then x else None) ≡ Some w → (t ≡ true) × (x ≡ Some w)
-if_some true x w e = (refl, e)
-if_some false x w e = absurd (cc)
-
-pub map_some : {A B : Type 0} (f : A → B) (o : Option A) (w : B) → option_map f o ≡ Some w → (x : A) × (o ≡ Some x) × (w ≡ f x)
-map_some f None w e = absurd (cc)
-map_some f (Some x) w e = (x, refl, cc)
-
-pub then_some : {A B : Type 0} (f : A → Option B) (o : Option A) (w : B) → option_and_then f o ≡ Some w → (x : A) × (o ≡ Some x) × (f x ≡ Some w)
-then_some f None w e = absurd (cc)
-then_some f (Some x) w e = (x, refl, e)
-
-pub chosen : {A : Type 0} (t : Bool) (x y z : A) → (if t then x else y) ≡ z → ((t ≡ true) × (x ≡ z)) ⊎ ((t ≡ false) × (y ≡ z))
-chosen true x y z e = inl (refl, e)
-chosen false x y z e = inr (refl, e)
 
 -- the first of these is of another kind, if there is one
 abbrev pub stops : (ℕ → Bool) → List ℕ → Bool
@@ -107,14 +88,3 @@ number_bytes n h = digits_words (decimal n) (digits_decimal own n h)
 
 pub same_bytes : (xs ys : List ℕ) → bytes_eq xs ys ≡ true → xs ≡ ys
 same_bytes xs ys h = (bytes_eq-Decides xs ys).0 h
-
--- only the number's text is read
-pub number_sound : (limit : ℕ) (word : List ℕ) (n : ℕ) → number_of limit word ≡ Some n → (word ≡ decimal n) × (n < limit)
-unfolding number_of
-number_sound limit word n e =
-    let v = read_on 0 word in
-    let parts = if_some (nat_lt v limit && bytes_eq (decimal v) word) (Some v) n e in
-    let both = and_parts (nat_lt v limit) (bytes_eq (decimal v) word) parts.0 in
-    let same : v ≡ n = cc in
-    let below = ltb-true v limit both.0 in
-    (sym (same_bytes (decimal v) word both.1) ∙ ap decimal same, omega (arith, same, below))

@@ -5,14 +5,14 @@ use Rattle.std.proofs.lemmas.List.Folds.{list_all-append}
 use Rattle.std.specs.List.{list_all}
 use Rattle.sq_base.specs.declared.helpers.Pair.{Pair}
 use Rattle.sq_base.specs.Replies.{Answer, is_key, have_keys, reply_of}
-use Rattle.sq_base.specs.ReplyGrammar.{ReplyWord, Bare, Plain, Quoted, SpacedWord, Says, is_mark, is_plain, is_reply_word, word_pairs, words_pairs, are_reply_words}
+use Rattle.sq_base.specs.ReplyGrammar.{ReplyWord, Bare, Plain, Quoted, SpacedWord, Says, is_mark, is_plain_value, is_reply_word, word_pairs, words_pairs, are_reply_words}
 use Rattle.sq_reply.specs.Reading.{ReadsAs}
 use Rattle.sq_reply.specs.declared.faults.ReplyFault.{ReplyFault}
 use Rattle.sq_reply.proofs.ReadLines.{read_said}
 
 word_keys : (word : ReplyWord) → is_reply_word word ≡ true → have_keys (word_pairs word) ≡ true
 word_keys (Bare name) h = refl
-word_keys (Plain key value) h = and_from (is_key key) true (and_parts (is_key key) (is_plain value) h).0 refl
+word_keys (Plain key value) h = and_from (is_key key) true (and_parts (is_key key) (is_plain_value value) h).0 refl
 word_keys (Quoted key marks) h = and_from (is_key key) true (and_parts (is_key key) (list_all is_mark marks) h).0 refl
 
 words_keys : (words : List SpacedWord) → are_reply_words words ≡ true → have_keys (words_pairs words) ≡ true

@@ -1,11 +1,11 @@
-pub mod ByteLaws
-pub mod KeyLaws
-pub mod MarkLaws
-pub mod PrintTrees
-pub mod QuoteLaws
-pub mod ReadLines
-pub mod ReadTrees
-pub mod ReplyFacts
-pub mod TreeLines
-pub mod TreeReads
-pub mod WordLaws
+mod ByteLaws
+mod KeyLaws
+mod MarkLaws
+mod PrintTrees
+mod QuoteLaws
+mod ReadLines
+mod ReadTrees
+mod ReplyFacts
+mod TreeLines
+mod TreeReads
+mod WordLaws

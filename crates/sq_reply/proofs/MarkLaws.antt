@@ -7,7 +7,7 @@ use Rattle.std.specs.Option.{option_map}
 use Rattle.std.specs.declared.option.Option.{Option}
 use Rattle.sq_base.specs.Replies.{is_line_byte, quoted_len, unquoted, meant}
 use Rattle.sq_base.specs.ReplyGrammar.{Mark, Itself, Escaped, mark_text, mark_byte, is_mark}
-use Rattle.sq_reply.proofs.ByteLaws.{if_some, map_some, chosen}
+use Rattle.sq_base.proofs.CommonLaws.{chosen, if_some, map_some}
 
 abbrev pub marks_text : List Mark → List ℕ
 marks_text marks = flat_map mark_text marks

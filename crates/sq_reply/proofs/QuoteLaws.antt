@@ -8,13 +8,13 @@ use Rattle.sq_base.specs.Replies.{is_line_byte, quoted_len, unquoted, meant}
 abbrev pub front : ℕ → Option ℕ → Option ℕ
 front i place = option_map (λ n. i + n) place
 
-front-one : (i : ℕ) (place : Option ℕ) → front i (option_map (λ n. n + 1) place) ≡ front (i + 1) place
-front-one i None = refl
-front-one i (Some n) = ap (λ (k : ℕ). Some k) (omega arith)
+front_one : (i : ℕ) (place : Option ℕ) → front i (option_map (λ n. n + 1) place) ≡ front (i + 1) place
+front_one i None = refl
+front_one i (Some n) = ap (λ (k : ℕ). Some k) (omega arith)
 
-pub front-start : (place : Option ℕ) → front 0 place ≡ place
-front-start None = refl
-front-start (Some n) = ap (λ (k : ℕ). Some k) (omega arith)
+pub front_start : (place : Option ℕ) → front 0 place ≡ place
+front_start None = refl
+front_start (Some n) = ap (λ (k : ℕ). Some k) (omega arith)
 
 -- the closing quote
 pub quote_here : (after : Bool) (b : ℕ) (bs : List ℕ) → (not after && b == 34) ≡ true → quoted_len after (b ∷ bs) ≡ Some 0
@@ -35,7 +35,7 @@ quote_ends after = refl
 pub quote_later : (i : ℕ) (after : Bool) (b : ℕ) (bs : List ℕ) → (not after && b == 34) ≡ false → is_line_byte b ≡ true
     → front i (quoted_len after (b ∷ bs)) ≡ front (i + 1) (quoted_len (not after && b == 92) bs)
 unfolding quoted_len
-quote_later i after b bs h k = rw (h, k) (front-one i (quoted_len (not after && b == 92) bs))
+quote_later i after b bs h k = rw (h, k) (front_one i (quoted_len (not after && b == 92) bs))
 
 -- the byte behind a `\`
 pub unquoted_meant : (front : List ℕ) (b : ℕ) (bs : List ℕ) → front ++ unquoted true (b ∷ bs) ≡ (front ++ meant b ∷ []) ++ unquoted false bs

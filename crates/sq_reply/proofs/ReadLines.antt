@@ -10,9 +10,11 @@ use Rattle.sq_base.specs.declared.helpers.Reply.{Reply}
 use Rattle.sq_base.specs.declared.helpers.Word.{Word}
 use Rattle.sq_base.specs.declared.helpers.Word.TheVariants.{Yes, No, Broken}
 use Rattle.sq_base.specs.Decimals.{number_of}
-use Rattle.sq_base.specs.Replies.{Answer, reply_limit, channel_limit, is_word_byte, ends_word, pairs_of, result_of, with_pairs, after_result, result_in, on_channel, after_channel, line_in, without_cr, reply_of, channel_text, result_text}
+use Rattle.sq_base.specs.Replies.{Answer, reply_limit, channel_limit, is_word_byte, ends_word, pairs_of, result_of, with_pairs, after_result, result_in, on_channel, after_channel, reply_line_in, without_last_cr, reply_of, channel_text, result_text}
 use Rattle.sq_base.specs.ReplyGrammar.{SpacedWord, ReplyLine, Says, words_text, words_pairs, are_reply_words, cr_text, line_text}
-use Rattle.sq_reply.proofs.ByteLaws.{if_some, map_some, chosen, number_sound, same_bytes}
+use Rattle.sq_base.proofs.CommonLaws.{chosen, if_some, map_some}
+use Rattle.sq_base.proofs.NumberLaws.{number_sound}
+use Rattle.sq_reply.proofs.ByteLaws.{same_bytes}
 use Rattle.sq_reply.proofs.ReadTrees.{TailAt, tail_sound}
 
 result_sound : (name : List ℕ) (r : Word) → result_of name ≡ Some r → name ≡ result_text r
@@ -97,8 +99,8 @@ numbered_sound name (c ∷ cs) (Some n) answer h e =
       means = more.2;
     }
 
-line_sound : (with_channel : Bool) (bytes : List ℕ) (answer : Answer) → line_in with_channel bytes ≡ Some answer → CoreAt with_channel bytes answer
-unfolding line_in
+line_sound : (with_channel : Bool) (bytes : List ℕ) (answer : Answer) → reply_line_in with_channel bytes ≡ Some answer → CoreAt with_channel bytes answer
+unfolding reply_line_in
 line_sound false bytes answer e =
     let make : Reply → Answer = λ r. (None, r) in
     let more = map_some make (result_in bytes) answer e in
@@ -119,19 +121,19 @@ line_sound true bytes answer e =
 
 -- a CR at the end, or none
 abbrev CrAt : List ℕ → Type 0
-CrAt line = (cr : Bool) × (line ≡ without_cr line ++ cr_text cr)
+CrAt line = (cr : Bool) × (line ≡ without_last_cr line ++ cr_text cr)
 
 cr_one : (t : Bool) (b : ℕ) → (b == 13) ≡ t → CrAt (b ∷ [])
-unfolding without_cr
+unfolding without_last_cr
 cr_one true b h =
-    let gone : without_cr (b ∷ []) ≡ [] = rw h refl in
+    let gone : without_last_cr (b ∷ []) ≡ [] = rw h refl in
     (true, ap (λ c. c ∷ []) (eqb-true b 13 h) ∙ ap (λ l. l ++ 13 ∷ []) (sym gone))
 cr_one false b h =
-    let stays : without_cr (b ∷ []) ≡ b ∷ [] = rw h refl in
+    let stays : without_last_cr (b ∷ []) ≡ b ∷ [] = rw h refl in
     (false, ap (λ l. l ++ []) (sym stays))
 
 cr_at : (line : List ℕ) → CrAt line
-unfolding without_cr
+unfolding without_last_cr
 cr_at [] = (false, refl)
 cr_at (b ∷ []) = cr_one (b == 13) b refl
 cr_at (b ∷ c ∷ bs) = let at = cr_at (c ∷ bs) in (at.0, ap (λ l. b ∷ l) at.1)
@@ -139,7 +141,7 @@ cr_at (b ∷ c ∷ bs) = let at = cr_at (c ∷ bs) in (at.0, ap (λ l. b ∷ l) 
 line_regroup : (channel result words spaces cr : List ℕ) → (channel ++ (result ++ (words ++ spaces))) ++ cr ≡ channel ++ result ++ words ++ spaces ++ cr
 line_regroup channel result words spaces cr = simp append_assoc
 
-said_by : (with_channel : Bool) (line : List ℕ) (answer : Answer) (cr : Bool) → length line ≤ reply_limit → line ≡ without_cr line ++ cr_text cr → CoreAt with_channel (without_cr line) answer → Says with_channel line answer
+said_by : (with_channel : Bool) (line : List ℕ) (answer : Answer) (cr : Bool) → length line ≤ reply_limit → line ≡ without_last_cr line ++ cr_text cr → CoreAt with_channel (without_last_cr line) answer → Says with_channel line answer
 said_by with_channel line answer cr short e core =
     let at = core.at in
     let tree : ReplyLine = record { channel = core.channel; result = at.result; words = at.words; spaces = at.spaces; cr = cr } in
@@ -158,6 +160,6 @@ said_by with_channel line answer cr short e core =
 pub read_said : (with_channel : Bool) (line : List ℕ) (answer : Answer) → reply_of with_channel line ≡ Some answer → Says with_channel line answer
 unfolding reply_of
 read_said with_channel line answer e =
-    let parts = if_some (nat_le (length line) reply_limit) (line_in with_channel (without_cr line)) answer e in
+    let parts = if_some (nat_le (length line) reply_limit) (reply_line_in with_channel (without_last_cr line)) answer e in
     let at = cr_at line in
-    said_by with_channel line answer at.0 (leb-true (length line) reply_limit parts.0) at.1 (line_sound with_channel (without_cr line) answer parts.1)
+    said_by with_channel line answer at.0 (leb-true (length line) reply_limit parts.0) at.1 (line_sound with_channel (without_last_cr line) answer parts.1)

@@ -7,9 +7,10 @@ use Rattle.std.specs.List.{list_all, prefix_len}
 use Rattle.std.specs.declared.option.Option.{Option}
 use Rattle.percent_encoding.specs.Percent.{percent_decode}
 use Rattle.sq_base.specs.declared.helpers.Pair.{Pair}
-use Rattle.sq_base.specs.Replies.{Found, is_word_byte, is_value_byte, is_key, ends_word, quoted_len, unquoted, pair_before, quoted_in, plain_in, value_in, after_name, word_in, piece_in, pairs_in, in_front}
-use Rattle.sq_base.specs.ReplyGrammar.{ReplyWord, Bare, Plain, Quoted, SpacedWord, mark_byte, is_mark, word_text, word_pairs, is_bare, is_plain, is_reply_word, words_text, words_pairs, are_reply_words}
-use Rattle.sq_reply.proofs.ByteLaws.{if_some, map_some, then_some, chosen, front_passes}
+use Rattle.sq_base.specs.Replies.{Found, is_word_byte, is_value_byte, is_key, ends_word, quoted_len, unquoted, pair_before, quoted_in, plain_in, value_in, after_name, reply_word_in, piece_in, pairs_in, in_front}
+use Rattle.sq_base.specs.ReplyGrammar.{ReplyWord, Bare, Plain, Quoted, SpacedWord, mark_byte, is_mark, word_text, word_pairs, is_bare, is_plain_value, is_reply_word, words_text, words_pairs, are_reply_words}
+use Rattle.sq_base.proofs.CommonLaws.{chosen, if_some, map_some, then_some}
+use Rattle.sq_reply.proofs.ByteLaws.{front_passes}
 use Rattle.sq_reply.proofs.MarkLaws.{marks_text, marks_unquoted, QuotedAt, quoted_sound}
 use Rattle.sq_reply.proofs.WordLaws.{no_word}
 
@@ -46,7 +47,7 @@ abbrev not_quote : List ℕ → Bool
 not_quote [] = true
 not_quote (b ∷ bs) = not (b == 34)
 
-plain_front : (bytes : List ℕ) (n : ℕ) → list_all is_value_byte (take n bytes) ≡ true → not_quote bytes ≡ true → is_plain (take n bytes) ≡ true
+plain_front : (bytes : List ℕ) (n : ℕ) → list_all is_value_byte (take n bytes) ≡ true → not_quote bytes ≡ true → is_plain_value (take n bytes) ≡ true
 plain_front bytes zero h k = refl
 plain_front [] (suc n) h k = refl
 plain_front (b ∷ bs) (suc n) h k = and_from (not (b == 34)) (list_all is_value_byte (b ∷ take n bs)) k h
@@ -59,7 +60,7 @@ plain_sound key bytes w h k e =
     let p = pair_sound key (percent_decode value) rest w e in
     record {
       word = Plain key value;
-      valid = and_from (is_key key) (is_plain value) h (plain_front bytes n (front_passes is_value_byte bytes) k);
+      valid = and_from (is_key key) (is_plain_value value) h (plain_front bytes n (front_passes is_value_byte bytes) k);
       text = ap (λ l. key ++ 61 ∷ l) (sym (take-append-drop n bytes)) ∙ plain_text key value rest ∙ ap (λ r. (key ++ 61 ∷ [] ++ value) ++ r) (sym p.rest);
       pairs = p.pairs;
       ends = p.ends;
@@ -130,15 +131,15 @@ bare_take : (n b : ℕ) (bs : List ℕ) → 0 < n → list_all is_word_byte (tak
 bare_take zero b bs h k = absurd (omega arith)
 bare_take (suc n) b bs h k = k
 
-word_by : (t : Bool) (b : ℕ) (bs : List ℕ) (w : Found) → is_word_byte b ≡ t → (b == 32) ≡ false → word_in (b ∷ bs) ≡ Some w → WordAt (b ∷ bs) w
-unfolding word_in
+word_by : (t : Bool) (b : ℕ) (bs : List ℕ) (w : Found) → is_word_byte b ≡ t → (b == 32) ≡ false → reply_word_in (b ∷ bs) ≡ Some w → WordAt (b ∷ bs) w
+unfolding reply_word_in
 word_by true b bs w h sp e =
     let n = prefix_len is_word_byte (b ∷ bs) in
     let some : prefix_len is_word_byte (b ∷ bs) ≡ 1 + prefix_len is_word_byte bs = rw h refl in
     let at = after_sound (take n (b ∷ bs)) (drop n (b ∷ bs)) w (bare_take n b bs (omega (arith, some)) (front_passes is_word_byte (b ∷ bs))) e in
     record { word = at.word; valid = at.valid; text = sym (take-append-drop n (b ∷ bs)) ∙ at.text; pairs = at.pairs; ends = at.ends }
 word_by false b bs w h sp e =
-    let shape : word_in (b ∷ bs) ≡ after_name [] (b ∷ bs) = rw h refl in
+    let shape : reply_word_in (b ∷ bs) ≡ after_name [] (b ∷ bs) = rw h refl in
     absurd (no_word b bs w sp (sym shape ∙ e))
 
 -- words and spaces up to the end

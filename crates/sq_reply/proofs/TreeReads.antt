@@ -12,11 +12,11 @@ use Rattle.sq_base.specs.declared.helpers.Reply.{Reply}
 use Rattle.sq_base.specs.declared.helpers.Word.{Word}
 use Rattle.sq_base.specs.declared.helpers.Word.TheVariants.{Yes, No, Broken}
 use Rattle.sq_base.specs.Decimals.{number_of}
-use Rattle.sq_base.specs.Replies.{channel_limit, is_word_byte, is_value_byte, is_key, ends_word, unquoted, pair_before, quoted_in, plain_in, value_in, after_name, word_in, piece_in, pairs_of, in_front, result_of, after_result, result_in, on_channel, after_channel, line_in, channel_text, result_text}
-use Rattle.sq_base.specs.ReplyGrammar.{Mark, ReplyWord, Bare, Plain, Quoted, SpacedWord, mark_byte, is_mark, word_text, word_pairs, is_bare, is_plain, is_reply_word, words_text, words_pairs, are_reply_words}
+use Rattle.sq_base.specs.Replies.{channel_limit, is_word_byte, is_value_byte, is_key, ends_word, unquoted, pair_before, quoted_in, plain_in, value_in, after_name, reply_word_in, piece_in, pairs_of, in_front, result_of, after_result, result_in, on_channel, after_channel, reply_line_in, channel_text, result_text}
+use Rattle.sq_base.specs.ReplyGrammar.{Mark, ReplyWord, Bare, Plain, Quoted, SpacedWord, mark_byte, is_mark, word_text, word_pairs, is_bare, is_plain_value, is_reply_word, words_text, words_pairs, are_reply_words}
 use Rattle.sq_reply.proofs.ByteLaws.{stops, cut_front, cut_back, key_bytes, end_stops, number_bytes, word_no_space}
 use Rattle.sq_reply.proofs.MarkLaws.{marks_text, marks_unquoted, marks_len}
-use Rattle.sq_reply.proofs.WordLaws.{pairs_end, pairs_next, in_front-nil}
+use Rattle.sq_reply.proofs.WordLaws.{pairs_end, pairs_next, in_front_nil}
 
 -- a pair whose word ends there
 pair_ends : (key value rest : List ℕ) → ends_word rest ≡ true → pair_before key value rest ≡ Some (record { key = key; value = value } ∷ [], rest)
@@ -26,17 +26,17 @@ space_no_quote : (c : ℕ) → (c == 32) ≡ true → (c == 34) ≡ false
 space_no_quote c e = grind (arith, nat_tests)
 
 -- a value without quotes
-value_plain : (key value rest : List ℕ) → is_plain value ≡ true → ends_word rest ≡ true → value_in key (value ++ rest) ≡ plain_in key (value ++ rest)
+value_plain : (key value rest : List ℕ) → is_plain_value value ≡ true → ends_word rest ≡ true → value_in key (value ++ rest) ≡ plain_in key (value ++ rest)
 unfolding value_in
 value_plain key [] [] h e = refl
 value_plain key [] (c ∷ cs) h e = rw (space_no_quote c e) refl
 value_plain key (b ∷ bs) rest h e = let both = and_parts (not (b == 34)) _ h in rw (not-true (b == 34) both.0) refl
 
-pub plain_bytes : (value : List ℕ) → is_plain value ≡ true → list_all is_value_byte value ≡ true
+pub plain_bytes : (value : List ℕ) → is_plain_value value ≡ true → list_all is_value_byte value ≡ true
 plain_bytes [] h = refl
 plain_bytes (b ∷ bs) h = (and_parts (not (b == 34)) (list_all is_value_byte (b ∷ bs)) h).1
 
-plain_reads : (key value rest : List ℕ) → is_plain value ≡ true → ends_word rest ≡ true
+plain_reads : (key value rest : List ℕ) → is_plain_value value ≡ true → ends_word rest ≡ true
     → value_in key (value ++ rest) ≡ Some (record { key = key; value = percent_decode value } ∷ [], rest)
 plain_reads key value rest h e =
     let bytes = plain_bytes value h in
@@ -57,8 +57,8 @@ quoted_reads key rest marks h e =
     ∙ ap (λ r. pair_before key (map mark_byte marks) r) (drop-append-add m (34 ∷ rest) 1)
     ∙ pair_ends key (map mark_byte marks) rest e
 
-word_reads : (name rest : List ℕ) → list_all is_word_byte name ≡ true → stops is_word_byte rest ≡ true → word_in (name ++ rest) ≡ after_name name rest
-unfolding word_in
+word_reads : (name rest : List ℕ) → list_all is_word_byte name ≡ true → stops is_word_byte rest ≡ true → reply_word_in (name ++ rest) ≡ after_name name rest
+unfolding reply_word_in
 word_reads name rest h k =
     ap (λ n. after_name n (drop (prefix_len is_word_byte (name ++ rest)) (name ++ rest))) (cut_front is_word_byte name rest h k)
     ∙ ap (λ r. after_name name r) (cut_back is_word_byte name rest h k)
@@ -71,7 +71,7 @@ after_key : (key value : List ℕ) → is_key key ≡ true → after_name key (6
 after_key key value h = rw h refl
 
 -- where a byte of a word stands first, the piece is a word
-piece_word : (bytes more : List ℕ) → is_bare bytes ≡ true → piece_in (bytes ++ more) ≡ word_in (bytes ++ more)
+piece_word : (bytes more : List ℕ) → is_bare bytes ≡ true → piece_in (bytes ++ more) ≡ reply_word_in (bytes ++ more)
 piece_word [] more h = absurd (cc)
 piece_word (b ∷ bs) more h = let both = and_parts (is_word_byte b) _ h in rw (word_no_space b both.0) refl
 
@@ -98,14 +98,14 @@ piece_reads : (word : ReplyWord) (rest : List ℕ) → is_reply_word word ≡ tr
 piece_reads (Bare name) rest h e =
     piece_word name rest h ∙ word_reads name rest (bare_bytes name h) (end_stops is_word_byte rest refl e) ∙ bare_ends name rest e
 piece_reads (Plain key value) rest h e =
-    let both = and_parts (is_key key) (is_plain value) h in
+    let both = and_parts (is_key key) (is_plain_value value) h in
     ap piece_in (plain_text key value rest) ∙ pair_piece key (value ++ rest) both.0 ∙ plain_reads key value rest both.1 e
 piece_reads (Quoted key marks) rest h e =
     let both = and_parts (is_key key) (list_all is_mark marks) h in
     ap piece_in (quoted_text key (marks_text marks) rest) ∙ pair_piece key (34 ∷ (marks_text marks ++ 34 ∷ rest)) both.0 ∙ quoted_reads key rest marks both.1 e
 
 space_reads : (bytes : List ℕ) → pairs_of (32 ∷ bytes) ≡ pairs_of bytes
-space_reads bytes = pairs_next (32 ∷ bytes) ([], bytes) refl ∙ in_front-nil (pairs_of bytes)
+space_reads bytes = pairs_next (32 ∷ bytes) ([], bytes) refl ∙ in_front_nil (pairs_of bytes)
 
 spaces_read : (n : ℕ) (bytes : List ℕ) → pairs_of (replicate n 32 ++ bytes) ≡ pairs_of bytes
 spaces_read zero bytes = refl
@@ -162,8 +162,8 @@ channel_regroup n bytes = simp append_assoc
 
 -- a channel and a result
 pub channel_reads : (channel : Option ℕ) (bytes : List ℕ) (reply : Reply) → IfSome channel (λ n. n < channel_limit) → result_in bytes ≡ Some reply
-    → line_in (is_some channel) (channel_text channel ++ bytes) ≡ Some (channel, reply)
-unfolding line_in
+    → reply_line_in (is_some channel) (channel_text channel ++ bytes) ≡ Some (channel, reply)
+unfolding reply_line_in
 channel_reads None bytes reply h e = ap (on_channel None) e
 channel_reads (Some n) bytes reply h e =
     let small : n < 2 ^ 64 = omega arith in

@@ -5,7 +5,7 @@ use Rattle.std.specs.Option.{option_map, option_and_then}
 use Rattle.std.specs.List.{prefix_len}
 use Rattle.std.specs.declared.option.Option.{Option}
 use Rattle.sq_base.specs.declared.helpers.Pair.{Pair}
-use Rattle.sq_base.specs.Replies.{Found, is_key, is_word_byte, is_value_byte, quoted_len, quoted_in, plain_in, value_in, after_name, word_in, piece_in, pairs_in, pairs_of, in_front, without_cr}
+use Rattle.sq_base.specs.Replies.{Found, is_key, is_word_byte, is_value_byte, quoted_len, quoted_in, plain_in, value_in, after_name, reply_word_in, piece_in, pairs_in, pairs_of, in_front, without_last_cr}
 use Rattle.sq_reply.specs.Words.{has_any, pairs_of_one}
 use Rattle.sq_reply.specs.declared.words.Written.{Written}
 
@@ -18,11 +18,11 @@ later x true ys zs = refl
 later x false ys zs = refl
 
 -- the byte at the end of a line
-pub without_cr-last : (xs : List ℕ) (b : ℕ) → without_cr (xs ++ b ∷ []) ≡ (if b == 13 then xs else xs ++ b ∷ [])
-unfolding without_cr
-without_cr-last [] b = refl
-without_cr-last (x ∷ []) b = one x (b == 13) b
-without_cr-last (x ∷ y ∷ xs) b = ap (λ l. x ∷ l) (without_cr-last (y ∷ xs) b) ∙ later x (b == 13) (y ∷ xs) ((y ∷ xs) ++ b ∷ [])
+pub without_cr_last : (xs : List ℕ) (b : ℕ) → without_last_cr (xs ++ b ∷ []) ≡ (if b == 13 then xs else xs ++ b ∷ [])
+unfolding without_last_cr
+without_cr_last [] b = refl
+without_cr_last (x ∷ []) b = one x (b == 13) b
+without_cr_last (x ∷ y ∷ xs) b = ap (λ l. x ∷ l) (without_cr_last (y ∷ xs) b) ∙ later x (b == 13) (y ∷ xs) ((y ∷ xs) ++ b ∷ [])
 
 -- a pair leaves what stands behind it
 pair_rest : (t : Bool) (ps : List Pair) (rest : List ℕ) (w : Found) → (if t then Some (ps, rest) else None) ≡ Some w → w.1 ≡ rest
@@ -67,8 +67,8 @@ key_is_false false x w e = cc
 pub no_word : (b : ℕ) (bs : List ℕ) (w : Found) → (b == 32) ≡ false → after_name [] (b ∷ bs) ≡ Some w → ⊥
 no_word b bs w h e = key_is_false (b == 61) (value_in [] bs) w (rw h at e)
 
-word_by : (t : Bool) (b : ℕ) (bs : List ℕ) (w : Found) → is_word_byte b ≡ t → (b == 32) ≡ false → word_in (b ∷ bs) ≡ Some w → length w.1 ≤ length bs
-unfolding word_in
+word_by : (t : Bool) (b : ℕ) (bs : List ℕ) (w : Found) → is_word_byte b ≡ t → (b == 32) ≡ false → reply_word_in (b ∷ bs) ≡ Some w → length w.1 ≤ length bs
+unfolding reply_word_in
 word_by true b bs w h sp e =
     let n : ℕ = prefix_len is_word_byte (b ∷ bs) in
     let some : prefix_len is_word_byte (b ∷ bs) ≡ 1 + prefix_len is_word_byte bs = rw h refl in
@@ -76,7 +76,7 @@ word_by true b bs w h sp e =
     let rest = length-drop n (b ∷ bs) in
     omega (arith, le, rest, some)
 word_by false b bs w h sp e =
-    let shape : word_in (b ∷ bs) ≡ after_name [] (b ∷ bs) = rw h refl in
+    let shape : reply_word_in (b ∷ bs) ≡ after_name [] (b ∷ bs) = rw h refl in
     absurd (no_word b bs w sp (sym shape ∙ e))
 
 piece_by : (t : Bool) (b : ℕ) (bs : List ℕ) (w : Found) → (b == 32) ≡ t → piece_in (b ∷ bs) ≡ Some w → length w.1 ≤ length bs
@@ -131,35 +131,35 @@ pub piece_less : (bytes : List ℕ) (w : Found) → piece_in bytes ≡ Some w �
 piece_less [] w e = absurd (cc)
 piece_less (b ∷ bs) w e = let le = piece_le b bs w e in omega arith
 
-pub in_front-nil : (more : Option (List Pair)) → in_front [] more ≡ more
-in_front-nil None = refl
-in_front-nil (Some ps) = refl
+pub in_front_nil : (more : Option (List Pair)) → in_front [] more ≡ more
+in_front_nil None = refl
+in_front_nil (Some ps) = refl
 
-pub in_front-append : (front back : List Pair) (more : Option (List Pair)) → in_front front (in_front back more) ≡ in_front (front ++ back) more
-in_front-append front back None = refl
-in_front-append front back (Some ps) = ap (λ (l : List Pair). Some l) (sym (append_assoc front back ps))
+pub in_front_append : (front back : List Pair) (more : Option (List Pair)) → in_front front (in_front back more) ≡ in_front (front ++ back) more
+in_front_append front back None = refl
+in_front_append front back (Some ps) = ap (λ (l : List Pair). Some l) (sym (append_assoc front back ps))
 
 -- whether there is a pair, where there is one in front or not
 abbrev pub any_with : Bool → Option (List Pair) → Option Bool
 any_with any more = option_map (λ ps. any || has_any ps) more
 
-pub any_with-false : (more : Option (List Pair)) → any_with false more ≡ option_map has_any more
-any_with-false None = refl
-any_with-false (Some ps) = refl
+pub any_with_false : (more : Option (List Pair)) → any_with false more ≡ option_map has_any more
+any_with_false None = refl
+any_with_false (Some ps) = refl
 
 any_more : (any : Bool) (ps others : List Pair) → (any || has_any (ps ++ others)) ≡ ((any || has_any ps) || has_any others)
 any_more true ps others = refl
 any_more false [] others = refl
 any_more false (p ∷ ps) others = refl
 
-pub any_with-in_front : (any : Bool) (ps : List Pair) (more : Option (List Pair)) → any_with any (in_front ps more) ≡ any_with (any || has_any ps) more
-any_with-in_front any ps None = refl
-any_with-in_front any ps (Some others) = ap (λ (t : Bool). Some t) (any_more any ps others)
+pub any_with_in_front : (any : Bool) (ps : List Pair) (more : Option (List Pair)) → any_with any (in_front ps more) ≡ any_with (any || has_any ps) more
+any_with_in_front any ps None = refl
+any_with_in_front any ps (Some others) = ap (λ (t : Bool). Some t) (any_more any ps others)
 
 pub any_of_one : (pair : Option Written) → has_any (pairs_of_one pair) ≡ is_some pair
 any_of_one None = refl
 any_of_one (Some w) = refl
 
-pub any_with-none : (any : Bool) → any_with any (Some []) ≡ Some any
-any_with-none true = refl
-any_with-none false = refl
+pub any_with_none : (any : Bool) → any_with any (Some []) ≡ Some any
+any_with_none true = refl
+any_with_none false = refl

@@ -12,12 +12,12 @@ abbrev pub value_of : Written → List ℕ
 value_of w = if w.in_quotes then unquoted false w.value.now else percent_decode w.value.now
 
 -- the pair that is written so
-abbrev pub pair_of : Written → Pair
-pair_of w = record { key = w.key.now; value = value_of w }
+abbrev pub written_pair : Written → Pair
+written_pair w = record { key = w.key.now; value = value_of w }
 
 abbrev pub pairs_of_one : Option Written → List Pair
 pairs_of_one None = []
-pairs_of_one (Some w) = pair_of w ∷ []
+pairs_of_one (Some w) = written_pair w ∷ []
 
 -- a piece's pairs, and what stands behind it
 abbrev pub found : Piece → Found

@@ -3,7 +3,8 @@ ghost use Rattle.std.specs.Prelude.{◌≡◌, ◌++◌, ◌≤◌, true, length
 ghost use Rattle.std.specs.List.{flat_map};
 ghost use Rattle.percent_encoding.specs.Percent.{percent_encode_byte};
 ghost use Rattle.sq_base.specs.Replies.{reply_limit, channel_limit, channel_text, result_text, quoted_byte, value_text, pair_text, reply_of, reply_text, question_text, have_keys};
-ghost use Rattle.sq_reply.specs.Printing.{AreBytes, HaveBytes};
+ghost use Rattle.sq_base.specs.Texts.{AreBytes};
+ghost use Rattle.sq_reply.specs.Printing.{HaveBytes};
 
 use itoa::Buffer;
 use percent_encoding::percent_encode_byte;

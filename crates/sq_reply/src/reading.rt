@@ -1,6 +1,6 @@
 //! Reading of reply lines.
 ghost use Rattle.std.specs.Prelude.{◌≡◌, ◌↔◌, ◌^◌, true, IfOk, IsErrOf, Some, None};
-ghost use Rattle.sq_base.specs.Replies.{Answer, result_of, result_in, line_in, without_cr, reply_of, have_keys};
+ghost use Rattle.sq_base.specs.Replies.{Answer, result_of, result_in, reply_line_in, without_last_cr, reply_of, have_keys};
 ghost use Rattle.sq_base.specs.ReplyGrammar.{Says};
 ghost use Rattle.sq_reply.specs.Reading.{ReadsAs};
 
@@ -50,9 +50,9 @@ fn reply(alloc: Global, bytes: &[u8]) -> Result<Reply, ReplyFault>
     Ok(Reply { word, pairs })
 }
 
-#[tactic(auto, unfolding(sq_base::specs::Replies::line_in))]
+#[tactic(auto, unfolding(sq_base::specs::Replies::reply_line_in))]
 fn numbered(alloc: Global, line: &[u8]) -> Result<Said, ReplyFault>
-    ensures { ReadsAs result (line_in true line.now) }
+    ensures { ReadsAs result (reply_line_in true line.now) }
 {
     let (name, rest) = line.split_at(word_len(line));
     let Some(number) = number_of(name, CHANNELS) else {
@@ -67,9 +67,9 @@ fn numbered(alloc: Global, line: &[u8]) -> Result<Said, ReplyFault>
     }
 }
 
-#[tactic(auto, unfolding(sq_base::specs::Replies::line_in))]
+#[tactic(auto, unfolding(sq_base::specs::Replies::reply_line_in))]
 fn said(alloc: Global, line: &[u8], with_channel: bool) -> Result<Said, ReplyFault>
-    ensures { ReadsAs result (line_in with_channel line.now) }
+    ensures { ReadsAs result (reply_line_in with_channel line.now) }
 {
     if with_channel {
         return numbered(alloc, line);
@@ -79,7 +79,7 @@ fn said(alloc: Global, line: &[u8], with_channel: bool) -> Result<Said, ReplyFau
 }
 
 fn without_cr(line: &[u8]) -> &[u8]
-    ensures { result.now ≡ without_cr line.now }
+    ensures { result.now ≡ without_last_cr line.now }
 {
     let Some((&last, rest)) = line.split_last() else {
         return line;

@@ -2,7 +2,7 @@
 ghost use Rattle.std.specs.Prelude.{◌≡◌, ℕ, ◌++◌, ◌∷◌, List, false, IfOk};
 ghost use Rattle.percent_encoding.specs.Percent.{percent_decode as decoded};
 ghost use Rattle.sq_base.specs.Replies.{unquoted};
-ghost use Rattle.sq_reply.specs.Words.{value_of, pair_of};
+ghost use Rattle.sq_reply.specs.Words.{value_of, written_pair};
 
 use crate::bytes::meant;
 use crate::words::Written;
@@ -60,7 +60,7 @@ fn value(alloc: Global, written: &Written) -> Result<Text, WantOfMemory>
 
 /// The pair that is written so.
 pub fn pair(alloc: Global, written: &Written) -> Result<Pair, WantOfMemory>
-    ensures { IfOk result (λ p. p ≡ pair_of written.now) }
+    ensures { IfOk result (λ p. p ≡ written_pair written.now) }
 {
     let key = Text::from_slice(alloc, written.key)?;
     let value = value(alloc, written)?;

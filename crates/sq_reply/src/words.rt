@@ -1,7 +1,7 @@
 //! The words of a reply line, found without memory.
 ghost use Rattle.std.specs.Prelude.{◌≡◌, ◌<◌, ◌==◌, ◌&&◌, not, false, length, IfSome};
 ghost use Rattle.std.specs.Option.{option_map};
-ghost use Rattle.sq_base.specs.Replies.{ends_word, quoted_len, pair_before, quoted_in, plain_in, value_in, word_in, piece_in};
+ghost use Rattle.sq_base.specs.Replies.{ends_word, quoted_len, pair_before, quoted_in, plain_in, value_in, reply_word_in, piece_in};
 ghost use Rattle.sq_reply.specs.Words.{value_of, found};
 
 use crate::bytes::{is_key, is_line_byte, value_len, word_len};
@@ -111,9 +111,9 @@ fn value<'a>(key: &'a [u8], bytes: &'a [u8]) -> Option<Piece<'a>>
     }
 }
 
-#[tactic(auto, unfolding(sq_base::specs::Replies::word_in))]
+#[tactic(auto, unfolding(sq_base::specs::Replies::reply_word_in))]
 fn word(bytes: &[u8]) -> Option<Piece<'_>>
-    ensures { option_map found result ≡ word_in bytes.now }
+    ensures { option_map found result ≡ reply_word_in bytes.now }
 {
     let (name, rest) = bytes.split_at(word_len(bytes));
     match rest.split_first() {

@@ -11,11 +11,11 @@ use Rattle.httparse.specs.Spans.{name_and_value}
 use Rattle.sq_base.specs.Lines.{is_lf}
 use Rattle.sq_base.specs.Requests.{has_no_colon, have_plain_names}
 use Rattle.sq_base.specs.declared.requests.Field.{Field}
-use Rattle.sq_request.specs.Heads.{IsWhole, field_of}
-use Rattle.sq_request.specs.Spans.{pair_of}
+use Rattle.sq_request.specs.Heads.{IsHead, field_of}
+use Rattle.sq_request.specs.Spans.{field_pair}
 
-count-append : (xs ys : List ℕ) → count_by is_lf (xs ++ ys) ≡ count_by is_lf xs + count_by is_lf ys
-count-append xs ys = sum_by-append (λ b. if is_lf b then 1 else 0) xs ys
+count_append : (xs ys : List ℕ) → count_by is_lf (xs ++ ys) ≡ count_by is_lf xs + count_by is_lf ys
+count_append xs ys = sum_by-append (λ b. if is_lf b then 1 else 0) xs ys
 
 -- a line's end has one LF
 end_counts : (e : LineEnd) → count_by is_lf (print_end e) ≡ 1
@@ -24,21 +24,21 @@ end_counts lf = refl
 
 field_counts : (f : grammar.Field) → 1 ≤ count_by is_lf (print_field f)
 field_counts f =
-    omega (arith, end_counts f.end, count-append (f.name ++ colon ∷ f.raw) (print_end f.end))
+    omega (arith, end_counts f.end, count_append (f.name ++ colon ∷ f.raw) (print_end f.end))
 
 lines_count : (fields : List grammar.Field) → length fields ≤ count_by is_lf (flat_map print_field fields)
 lines_count [] = omega arith
 lines_count (f ∷ fs) =
-    omega (arith, lines_count fs, field_counts f, count-append (print_field f) (flat_map print_field fs))
+    omega (arith, lines_count fs, field_counts f, count_append (print_field f) (flat_map print_field fs))
 
 -- a head has no more fields than lines
-pub fields_counted : (head : List ℕ) (h : RequestHead) → IsWhole head h → length h.fields ≤ count_by is_lf head
+pub fields_counted : (head : List ℕ) (h : RequestHead) → IsHead head h → length h.fields ≤ count_by is_lf head
 unfolding print_request
 fields_counted head h whole =
     let front = print_blank h.blank ++ h.method ++ space ∷ h.target ++ space ∷ print_version h.minor ++ print_end h.line_end in
     let lines = flat_map print_field h.fields in
     let e : head ≡ (front ++ print_section h.fields h.last) ++ [] = whole.1 in
-    rw e (omega (arith, lines_count h.fields, count-append (front ++ print_section h.fields h.last) [], count-append front (print_section h.fields h.last), count-append lines (print_end h.last)))
+    rw e (omega (arith, lines_count h.fields, count_append (front ++ print_section h.fields h.last) [], count_append front (print_section h.fields h.last), count_append lines (print_end h.last)))
 
 -- so there are as many fields as spans were written
 pub count_of : {A B C : Type 0} (f : A → C) (g : B → C) (n : ℕ) (xs : List A) (ys : List B) → map f (take n xs) ≡ map g ys → n ≤ 128 → length ys ≤ 128
@@ -58,6 +58,7 @@ no_colon : (name : List ℕ) → AllPass is_token_byte name → has_no_colon nam
 no_colon [] h = refl
 no_colon (b ∷ bs) h = rw (token_no_colon b (h 0 0 (omega arith))) (no_colon bs (λ k d below. h (suc k) d (omega arith)))
 
+-- the names of a head's fields have no `:`
 pub plain_names : (fields : List grammar.Field) → All IsField fields → have_plain_names (map field_of fields) ≡ true
 plain_names [] h = refl
 plain_names (f ∷ fs) h = rw (no_colon f.name (h 0 f (omega arith)).name.1) (plain_names fs (λ k d below. h (suc k) d (omega arith)))
@@ -74,10 +75,12 @@ map_same : {A : Type 0} (xs : List A) → map (λ x. x) xs ≡ xs
 map_same [] = refl
 map_same (x ∷ xs) = ap (λ t. x ∷ t) (map_same xs)
 
-pub fields_from_pairs : (fs : List Field) (fields : List grammar.Field) → map pair_of fs ≡ map name_and_value fields → fs ≡ map field_of fields
+-- fields with the same names and values are the same
+pub fields_from_pairs : (fs : List Field) (fields : List grammar.Field) → map field_pair fs ≡ map name_and_value fields → fs ≡ map field_of fields
 unfolding of_pair
 fields_from_pairs fs fields e =
-    sym (map_same fs) ∙ sym (map_back pair_of of_pair (λ f. f) fs (λ f. refl)) ∙ ap (map of_pair) e ∙ map_back name_and_value of_pair field_of fields (λ f. refl)
+    sym (map_same fs) ∙ sym (map_back field_pair of_pair (λ f. f) fs (λ f. refl)) ∙ ap (map of_pair) e ∙ map_back name_and_value of_pair field_of fields (λ f. refl)
 
-pub pairs_from_fields : (fs : List Field) (fields : List grammar.Field) → map field_of fields ≡ fs → map name_and_value fields ≡ map pair_of fs
-pairs_from_fields fs fields e = sym (map_back field_of pair_of name_and_value fields (λ f. refl)) ∙ ap (map pair_of) e
+-- and the other way round
+pub pairs_from_fields : (fs : List Field) (fields : List grammar.Field) → map field_of fields ≡ fs → map name_and_value fields ≡ map field_pair fs
+pairs_from_fields fs fields e = sym (map_back field_of field_pair name_and_value fields (λ f. refl)) ∙ ap (map field_pair) e

@@ -1,10 +1,11 @@
-pub mod EndLaws
-pub mod FieldLaws
-pub mod HeadLaws
-pub mod MadeLaws
-pub mod PortLaws
-pub mod TargetLaws
-pub mod TrimLaws
-pub mod WholeLaws
-pub mod WrittenLaws
-pub mod WrittenRows
+mod EndLaws
+mod FieldLaws
+mod HeadLaws
+mod MadeLaws
+mod OneLaws
+mod PortLaws
+mod TargetLaws
+mod TrimLaws
+mod WholeLaws
+mod WrittenLaws
+mod WrittenRows

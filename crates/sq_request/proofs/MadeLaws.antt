@@ -16,7 +16,7 @@ use Rattle.sq_base.specs.Requests.{HttpRequest}
 use Rattle.sq_request.proofs.TrimLaws.{trim_twice}
 use Rattle.sq_request.specs.declared.faults.BadRequest.{BadRequest}
 use Rattle.sq_request.specs.declared.faults.BadRequest.TheVariants.{BadHead, TooManyFields, BadTarget, WantOfMemory}
-use Rattle.sq_request.specs.Heads.{most_fields, field_of, field_line, head_text, request_with, IsWritten}
+use Rattle.sq_request.specs.Heads.{most_fields, field_of, field_line, head_text, request_with, IsWrittenHead}
 use Rattle.sq_request.specs.Refusals.{RefusesParts}
 use Rattle.sq_request.specs.Written.{made_request, is_written, is_written_target, is_written_field}
 
@@ -79,13 +79,13 @@ fields_written (f ∷ fs) h = and_from _ _ (field_written f (All-head IsField f 
 head_of : List ℕ → List ℕ → ℕ → List Field → RequestHead
 head_of m t n fs = record { blank = []; method = m; target = t; minor = n; line_end = crlf; fields = map tree_of fs; last = crlf }
 
-joined : (a v f e : List ℕ) (d : ℕ) → ((a ++ v) ++ (d ∷ 13 ∷ 10 ∷ f)) ++ e ≡ ((a ++ (v ++ d ∷ [])) ++ (13 ∷ 10 ∷ [])) ++ (f ++ e)
-joined a v f e d = simp append_assoc
+head_joined : (a v f e : List ℕ) (d : ℕ) → ((a ++ v) ++ (d ∷ 13 ∷ 10 ∷ f)) ++ e ≡ ((a ++ (v ++ d ∷ [])) ++ (13 ∷ 10 ∷ [])) ++ (f ++ e)
+head_joined a v f e d = simp append_assoc
 
 text_is : (m t : List ℕ) (n : ℕ) (fs : List Field) → head_text m t n fs ≡ print_request (head_of m t n fs) ++ []
 unfolding head_text print_request head_of
 text_is m t n fs =
-    let same : head_text m t n fs ≡ print_request (head_of m t n fs) = rw (lines_are fs) (joined (m ++ 32 ∷ t) (codes " HTTP/1.") (flat_map print_field (map tree_of fs)) (13 ∷ 10 ∷ []) (48 + n)) in
+    let same : head_text m t n fs ≡ print_request (head_of m t n fs) = rw (lines_are fs) (head_joined (m ++ 32 ∷ t) (codes " HTTP/1.") (flat_map print_field (map tree_of fs)) (13 ∷ 10 ∷ []) (48 + n)) in
     same ∙ sym (append-nil (print_request (head_of m t n fs)))
 
 head_is : (m t : List ℕ) (n : ℕ) (fs : List Field) → is_written m t n fs ≡ true → IsRequestHead (head_of m t n fs)
@@ -104,7 +104,7 @@ head_is m t n fs h =
       fields = fields_are fs minor.1;
     }
 
-writes : (m t : List ℕ) (n : ℕ) (fs : List Field) → is_written m t n fs ≡ true → IsWritten m t n fs
+writes : (m t : List ℕ) (n : ℕ) (fs : List Field) → is_written m t n fs ≡ true → IsWrittenHead m t n fs
 unfolding is_written head_of
 writes m t n fs h =
     let method = and_parts (is_token m) _ h in
@@ -123,13 +123,13 @@ head_written h is =
     (and_from _ _ (lt-ltb _ _ is.target.0) (and_from _ _ (list_all-from_AllPass is_uri_byte h.target is.target.1) (is_utf8-from_IsUtf8 h.target is.target_text)))
     (and_from _ _ (le-leb _ _ is.minor) (fields_written h.fields is.fields)))
 
-written : (m t : List ℕ) (n : ℕ) (fs : List Field) → IsWritten m t n fs → is_written m t n fs ≡ true
-written m t n fs w =
+tested : (m t : List ℕ) (n : ℕ) (fs : List Field) → IsWrittenHead m t n fs → is_written m t n fs ≡ true
+tested m t n fs w =
     rw (← w.2.method, ← w.2.target, ← w.2.minor, ← w.2.fields) (head_written w.0 w.1.0)
 
 -- the test decides
-pub is_written-decides : (m t : List ℕ) (n : ℕ) (fs : List Field) → IsTrue (is_written m t n fs) ↔ IsWritten m t n fs
-is_written-decides m t n fs = (writes m t n fs, written m t n fs)
+pub is_written_decides : (m t : List ℕ) (n : ℕ) (fs : List Field) → IsTrue (is_written m t n fs) ↔ IsWrittenHead m t n fs
+is_written_decides m t n fs = (writes m t n fs, tested m t n fs)
 
 -- ---- the request that is made
 
@@ -137,8 +137,9 @@ is_written-decides m t n fs = (writes m t n fs, written m t n fs)
 made_by : (a b : Bool) (o : Option HttpRequest) → a ≡ true → b ≡ true → (if a && b then o else None) ≡ o
 made_by a b o e f = rw (e, f) refl
 
-pub made_is : (m t : List ℕ) (n : ℕ) (fs : List Field) → IsWritten m t n fs → length fs ≤ most_fields → made_request m t n fs ≡ request_with m t n fs
-made_is m t n fs w few = made_by (is_written m t n fs) (nat_le (length fs) most_fields) (request_with m t n fs) (written m t n fs w) (le-leb _ _ few)
+-- the request that is made of a written head is that of its parts
+pub made_is : (m t : List ℕ) (n : ℕ) (fs : List Field) → IsWrittenHead m t n fs → length fs ≤ most_fields → made_request m t n fs ≡ request_with m t n fs
+made_is m t n fs w few = made_by (is_written m t n fs) (nat_le (length fs) most_fields) (request_with m t n fs) (tested m t n fs w) (le-leb _ _ few)
 
 unmade_by : (a b : Bool) (o : Option HttpRequest) → a ≡ false → (if a && b then o else None) ≡ None
 unmade_by a b o e = rw e refl
@@ -158,7 +159,7 @@ made_parts false b o r e = absurd (cc)
 
 -- what a request that is made says of its parts
 pub made_says : (m t : List ℕ) (n : ℕ) (fs : List Field) (r : HttpRequest) → made_request m t n fs ≡ Some r
-    → IsWritten m t n fs × (length fs ≤ most_fields) × (request_with m t n fs ≡ Some r)
+    → IsWrittenHead m t n fs × (length fs ≤ most_fields) × (request_with m t n fs ≡ Some r)
 made_says m t n fs r e =
     let parts = made_parts (is_written m t n fs) (nat_le (length fs) most_fields) (request_with m t n fs) r e in
     (writes m t n fs parts.0, leb-true _ _ parts.1, parts.2)

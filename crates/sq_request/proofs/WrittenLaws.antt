@@ -10,26 +10,26 @@ use Rattle.httparse.proofs.GrammarLemmas.{request_unique}
 use Rattle.sq_base.specs.Requests.{have_plain_names}
 use Rattle.sq_base.specs.declared.requests.Field.{Field}
 use Rattle.sq_request.proofs.FieldLaws.{plain_names, fields_from_pairs, pairs_from_fields}
-use Rattle.sq_request.specs.Heads.{IsWhole, head_text, IsWritten}
-use Rattle.sq_request.specs.Spans.{pair_of, CoversHead, CoversLine}
+use Rattle.sq_request.specs.Heads.{IsHead, head_text, IsWrittenHead}
+use Rattle.sq_request.specs.Spans.{field_pair, CoversHead, CoversLine}
 
-token_of : (bytes : List ℕ) → IsToken bytes → http.IsToken bytes
+same_token : (bytes : List ℕ) → IsToken bytes → http.IsToken bytes
 unfolding is_token_byte http.is_token_byte
-token_of bytes h = h
+same_token bytes h = h
 
 -- its method is one
-pub written_method : (m t : List ℕ) (n : ℕ) (fs : List Field) → IsWritten m t n fs → http.IsToken m
-written_method m t n fs w = subst http.IsToken w.2.method (token_of w.0.method w.1.0.method)
+pub written_method : (m t : List ℕ) (n : ℕ) (fs : List Field) → IsWrittenHead m t n fs → http.IsToken m
+written_method m t n fs w = subst http.IsToken w.2.method (same_token w.0.method w.1.0.method)
 
 -- its fields have plain names
-pub written_names : (m t : List ℕ) (n : ℕ) (fs : List Field) → IsWritten m t n fs → have_plain_names fs ≡ true
+pub written_names : (m t : List ℕ) (n : ℕ) (fs : List Field) → IsWrittenHead m t n fs → have_plain_names fs ≡ true
 written_names m t n fs w = ap have_plain_names (sym w.2.fields) ∙ plain_names w.0.fields w.1.0.fields
 
 -- the spans of such a head cover its parts
 covers_parts : (head : List ℕ) (headers : List HeaderSpan) (s : RequestSpans) (m t : List ℕ) (n : ℕ) (fs : List Field) → CoversHead head headers s → head ≡ head_text m t n fs
-    → IsWritten m t n fs → CoversLine head s m t n × (map (header_bytes head) (take s.headers headers) ≡ map pair_of fs)
+    → IsWrittenHead m t n fs → CoversLine head s m t n × (map (header_bytes head) (take s.headers headers) ≡ map field_pair fs)
 covers_parts head headers s m t n fs at e w =
-    let whole : IsWhole head w.0 = subst (λ x. IsWhole x w.0) (sym e) w.1 in
+    let whole : IsHead head w.0 = subst (λ x. IsHead x w.0) (sym e) w.1 in
     let same : at.0 ≡ w.0 = (request_unique head at.0 w.0 [] [] at.1.whole whole).0 in (
       record {
         method = at.1.method ∙ ap (λ h. h.method) same ∙ w.2.method;
@@ -41,10 +41,10 @@ covers_parts head headers s m t n fs at e w =
 
 -- spans that cover the parts are those of such a head
 parts_covered : (head : List ℕ) (headers : List HeaderSpan) (s : RequestSpans) (m t : List ℕ) (n : ℕ) (fs : List Field) → CoversHead head headers s → head ≡ head_text m t n fs
-    → CoversLine head s m t n → map (header_bytes head) (take s.headers headers) ≡ map pair_of fs → IsWritten m t n fs
+    → CoversLine head s m t n → map (header_bytes head) (take s.headers headers) ≡ map field_pair fs → IsWrittenHead m t n fs
 parts_covered head headers s m t n fs at e line fields = (
   at.0,
-  subst (λ x. IsWhole x at.0) e at.1.whole,
+  subst (λ x. IsHead x at.0) e at.1.whole,
   record {
     method = sym at.1.method ∙ line.method;
     target = sym at.1.target ∙ line.target;
@@ -53,12 +53,14 @@ parts_covered head headers s m t n fs at e line fields = (
   },
 )
 
+-- a first line that differs is of no such head
 pub line_differs : (head : List ℕ) (headers : List HeaderSpan) (s : RequestSpans) (m t : List ℕ) (n : ℕ) (fs : List Field) (b : Bool) → CoversHead head headers s → head ≡ head_text m t n fs
-    → (IsTrue b ↔ CoversLine head s m t n) → b ≡ false → IsWritten m t n fs → IsTrue false
+    → (IsTrue b ↔ CoversLine head s m t n) → b ≡ false → IsWrittenHead m t n fs → IsTrue false
 line_differs head headers s m t n fs b at e line differs w = subst IsTrue differs (line.1 (covers_parts head headers s m t n fs at e w).0)
 
+-- where the first line is the same, the fields decide
 pub fields_decide : (head : List ℕ) (headers : List HeaderSpan) (s : RequestSpans) (m t : List ℕ) (n : ℕ) (fs : List Field) (a b : Bool) → CoversHead head headers s → head ≡ head_text m t n fs
-    → (IsTrue a ↔ CoversLine head s m t n) → a ≡ true → (IsTrue b ↔ (map (header_bytes head) (take s.headers headers) ≡ map pair_of fs)) → IsTrue b ↔ IsWritten m t n fs
+    → (IsTrue a ↔ CoversLine head s m t n) → a ≡ true → (IsTrue b ↔ (map (header_bytes head) (take s.headers headers) ≡ map field_pair fs)) → IsTrue b ↔ IsWrittenHead m t n fs
 fields_decide head headers s m t n fs a b at e line holds fields = (
   λ h. parts_covered head headers s m t n fs at e (line.0 holds) (fields.0 h),
   λ w. fields.1 (covers_parts head headers s m t n fs at e w).1,

@@ -1,20 +1,17 @@
 -- Where the head of a message ends: RFC 9112 section 2.1, with lines that end in LF alone and empty
 -- lines in front of the head allowed, as its section 2.2 does.
-use Rattle.std.specs.Prelude.{◌≡◌, ℕ, ◌+◌, ◌-◌, List, [], ◌∷◌, length, Bool, true, false, ◌==◌, take, drop, position, sum_by, Some}
-use Rattle.std.specs.List.{slice_split, prefix_len}
+use Rattle.std.specs.Prelude.{◌≡◌, ℕ, ◌+◌, List, [], ◌∷◌, length, Bool, true, false, ◌==◌, take, drop, position, sum_by, Some}
+use Rattle.std.specs.List.{prefix_len}
 use Rattle.std.specs.Option.{option_map}
 use Rattle.std.specs.declared.option.Option.{Option}
-use Rattle.sq_base.specs.Lines.{is_lf}
+use Rattle.sq_base.specs.Bytes.{cr}
+use Rattle.sq_base.specs.Lines.{ended_lines}
 
 -- a line without its LF that has no byte but one CR at most
 abbrev pub is_empty_line : List ℕ → Bool
 is_empty_line [] = true
-is_empty_line (b ∷ []) = b == 13
+is_empty_line (b ∷ []) = b == cr
 is_empty_line (b ∷ c ∷ bs) = false
-
--- the lines that LF ends, without it
-abbrev pub ended_lines : List ℕ → List (List ℕ)
-ended_lines bytes = take (length (slice_split is_lf bytes) - 1) (slice_split is_lf bytes)
 
 -- the bytes of lines, each with its LF
 abbrev pub bytes_of : List (List ℕ) → ℕ

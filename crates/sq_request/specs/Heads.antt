@@ -5,6 +5,7 @@ use Rattle.std.specs.Option.{option_map}
 use Rattle.std.specs.declared.option.Option.{Option}
 use Rattle.httparse.specs.Grammar.{RequestHead, ReadsRequest, field_value}
 use Rattle.httparse.specs.Grammar as grammar
+use Rattle.sq_base.specs.Bytes.{lf, cr, space, digit_zero, colon}
 use Rattle.sq_base.specs.declared.requests.Field.{Field}
 use Rattle.sq_base.specs.Requests.{HttpRequest}
 use Rattle.sq_base.specs.Targets.{Target, target_of}
@@ -14,8 +15,8 @@ abbrev pub most_fields : ℕ
 most_fields = 128
 
 -- the bytes are a head of the grammar, and nothing more
-abbrev pub IsWhole : List ℕ → RequestHead → Type 0
-IsWhole head h = ReadsRequest head h []
+abbrev pub IsHead : List ℕ → RequestHead → Type 0
+IsHead head h = ReadsRequest head h []
 
 -- a field line's name, and its value without the white space around it
 abbrev pub field_of : grammar.Field → Field
@@ -39,31 +40,31 @@ request_of h = request_with h.method h.target h.minor (fields_of h)
 -- the bytes are a head that has this request
 pub record HasRequest (head : List ℕ) (r : HttpRequest) : Type 0 where
   pub tree : RequestHead
-  pub whole : IsWhole head tree
+  pub whole : IsHead head tree
   pub few : length tree.fields ≤ most_fields
   pub gives : request_of tree ≡ Some r
 
 -- the bytes are a head with too many fields
 pub record HasTooManyFields (head : List ℕ) : Type 0 where
   pub tree : RequestHead
-  pub whole : IsWhole head tree
+  pub whole : IsHead head tree
   pub many : most_fields < length tree.fields
 
 -- the bytes are a head whose target has not the form that its method takes
 pub record HasBadTarget (head : List ℕ) : Type 0 where
   pub tree : RequestHead
-  pub whole : IsWhole head tree
+  pub whole : IsHead head tree
   pub few : length tree.fields ≤ most_fields
   pub bad : request_of tree ≡ None
 
 -- the line of a field
 abbrev pub field_line : Field → List ℕ
-field_line f = f.name ++ 58 ∷ 32 ∷ f.value ++ 13 ∷ 10 ∷ []
+field_line f = f.name ++ colon ∷ space ∷ f.value ++ cr ∷ lf ∷ []
 
 -- the head that is written of these parts
 unfoldable pub head_text : List ℕ → List ℕ → ℕ → List Field → List ℕ
 head_text method target minor fields =
-    method ++ 32 ∷ target ++ codes " HTTP/1." ++ (48 + minor) ∷ 13 ∷ 10 ∷ flat_map field_line fields ++ 13 ∷ 10 ∷ []
+    method ++ space ∷ target ++ codes " HTTP/1." ++ (digit_zero + minor) ∷ cr ∷ lf ∷ flat_map field_line fields ++ cr ∷ lf ∷ []
 
 -- the head has these parts
 pub record HasParts (h : RequestHead) (m t : List ℕ) (n : ℕ) (fs : List Field) : Type 0 where
@@ -73,6 +74,6 @@ pub record HasParts (h : RequestHead) (m t : List ℕ) (n : ℕ) (fs : List Fiel
   pub fields : fields_of h ≡ fs
 
 -- the head that is written of these parts is a head of the grammar, and reads as these parts
-abbrev pub IsWritten : List ℕ → List ℕ → ℕ → List Field → Type 0
-IsWritten method target minor fields =
-    (h : RequestHead) × IsWhole (head_text method target minor fields) h × HasParts h method target minor fields
+abbrev pub IsWrittenHead : List ℕ → List ℕ → ℕ → List Field → Type 0
+IsWrittenHead method target minor fields =
+    (h : RequestHead) × IsHead (head_text method target minor fields) h × HasParts h method target minor fields

@@ -6,11 +6,11 @@ use Rattle.httparse.specs.Spans.{span_bytes, header_bytes, name_and_value, IsWit
 use Rattle.httparse.specs.declared.spans.HeaderSpan.{HeaderSpan}
 use Rattle.httparse.specs.declared.spans.RequestSpans.{RequestSpans}
 use Rattle.sq_base.specs.declared.requests.Field.{Field}
-use Rattle.sq_request.specs.Heads.{IsWhole}
+use Rattle.sq_request.specs.Heads.{IsHead}
 
 -- a field's name and value
-abbrev pub pair_of : Field → List ℕ × List ℕ
-pair_of f = (f.name, f.value)
+abbrev pub field_pair : Field → List ℕ × List ℕ
+field_pair f = (f.name, f.value)
 
 -- the spans lie in so many bytes
 pub record FitsIn (n : ℕ) (headers : List HeaderSpan) (s : RequestSpans) : Type 0 where
@@ -21,7 +21,7 @@ pub record FitsIn (n : ℕ) (headers : List HeaderSpan) (s : RequestSpans) : Typ
 
 -- the bytes are the head h, and the spans cover its parts
 pub record Covers (head : List ℕ) (headers : List HeaderSpan) (s : RequestSpans) (h : RequestHead) : Type 0 where
-  pub whole : IsWhole head h
+  pub whole : IsHead head h
   pub method : span_bytes head s.method ≡ h.method
   pub target : span_bytes head s.path ≡ h.target
   pub minor : s.version ≡ h.minor
@@ -33,7 +33,7 @@ CoversHead head headers s = (h : RequestHead) × Covers head headers s h
 
 -- each head that the bytes are has more fields than this
 abbrev pub HasMoreThan : ℕ → List ℕ → Type 0
-HasMoreThan room head = (h : RequestHead) → IsWhole head h → room < length h.fields
+HasMoreThan room head = (h : RequestHead) → IsHead head h → room < length h.fields
 
 -- the spans cover these parts of a head's first line
 pub record CoversLine (head : List ℕ) (s : RequestSpans) (m t : List ℕ) (n : ℕ) : Type 0 where

@@ -3,7 +3,7 @@ ghost use Rattle.std.specs.Prelude.{◌≡◌, ◌<◌, ◌≤◌, length, posit
 ghost use Rattle.std.specs.List.{list_all, prefix_len};
 ghost use Rattle.std.specs.Option.{option_map};
 ghost use Rattle.sq_base.specs.Addresses.{v4, v4_of, v6_of};
-ghost use Rattle.sq_base.specs.Targets.{before_port, is_host_byte, is_bracket, bracketed, in_brackets, named, host_in};
+ghost use Rattle.sq_base.specs.Targets.{before_port, is_host_byte, is_bracket, bracketed, in_brackets, named_host, host_in};
 ghost use Rattle.sq_request.specs.Parts.{shown_host};
 
 use sq_addr::{read_v4, read_v6};
@@ -69,7 +69,7 @@ fn bracketed<'a>(name: &'a [u8], rest: &'a [u8]) -> Option<Host<'a>>
 }
 
 fn named<'a>(name: &'a [u8], rest: &'a [u8]) -> Option<Host<'a>>
-    ensures { option_map shown_host result ≡ named name.now rest.now }
+    ensures { option_map shown_host result ≡ named_host name.now rest.now }
 {
     match name {
         [] => None,

@@ -4,8 +4,9 @@
 //! the answer is the request of the one head of the grammar of `httparse` that these bytes are.
 //! `make_request` makes a request of its parts, and judges it by the head that is written of them, which
 //! has to read as these very parts. Both refuse for the head first, then for more than 128 fields, then
-//! for the target, each exactly where it is so; the parts of the target are those of the definitions in
-//! `sq_base`, and each request carries that fact with it.
+//! for the target, each exactly where it is so: a head is one request, or is refused in one way. The
+//! parts of the target are those of the definitions in `sq_base`, and each request carries that fact with
+//! it.
 #![tactic(auto)]
 
 mod building;

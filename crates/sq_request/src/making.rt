@@ -3,9 +3,9 @@ ghost use Rattle.std.specs.Prelude.{◌≡◌, ◌≢◌, ◌↔◌, ◌≤◌, 
 ghost use Rattle.std.specs.List.{flat_map};
 ghost use Rattle.http_header.specs.Token.{IsToken};
 ghost use Rattle.httparse.specs.Spans.{header_bytes, IsWithin, IsHeaderWithin};
-ghost use Rattle.sq_request.specs.Heads.{most_fields, IsWritten, HasRequest, request_with, head_text, field_line};
+ghost use Rattle.sq_request.specs.Heads.{most_fields, IsWrittenHead, HasRequest, request_with, head_text, field_line};
 ghost use Rattle.sq_request.specs.Refusals.{RefusesParts};
-ghost use Rattle.sq_request.specs.Spans.{pair_of, CoversLine};
+ghost use Rattle.sq_request.specs.Spans.{field_pair, CoversLine};
 ghost use Rattle.sq_request.specs.Written.{made_request};
 
 use crate::building::build;
@@ -28,7 +28,7 @@ pub fn make_request(
     fields: Fields,
 ) -> Result<Request, BadRequest>
     requires { minor ≤ 1 }
-    ensures written { OnOk result (IsWritten method.now target.now minor fields) }
+    ensures written { OnOk result (IsWrittenHead method.now target.now minor fields) }
     ensures few { OnOk result (length fields ≤ most_fields) }
     ensures made { IfOk result (λ r. made_request method.now target.now minor fields ≡ Some r) }
     ensures shown { IfOk result (λ r. request_with method.now target.now minor fields ≡ Some r) }
@@ -55,7 +55,7 @@ fn is_written(
     fields: &[Field],
 ) -> Result<bool, WantOfMemory>
     requires { minor ≤ 1 }
-    ensures { IfOk result (λ b. IsTrue b ↔ IsWritten method.now target.now minor fields.now) }
+    ensures { IfOk result (λ b. IsTrue b ↔ IsWrittenHead method.now target.now minor fields.now) }
 {
     if !is_method(alloc, method)? {
         return Ok(false);
@@ -98,7 +98,7 @@ fn is_method(alloc: Global, bytes: &[u8]) -> Result<bool, WantOfMemory>
 // Whether the spans cover the names and values of these fields.
 fn are_covered(head: &[u8], spans: &[HeaderSpan], fields: &[Field]) -> bool
     requires { All (IsHeaderWithin (length head.now)) spans.now }
-    ensures { IsTrue result ↔ (map (header_bytes head.now) spans.now ≡ map pair_of fields.now) }
+    ensures { IsTrue result ↔ (map (header_bytes head.now) spans.now ≡ map field_pair fields.now) }
 {
     if spans.len() != fields.len() {
         return false;
@@ -113,7 +113,7 @@ fn are_covered(head: &[u8], spans: &[HeaderSpan], fields: &[Field]) -> bool
 
 fn is_covered(head: &[u8], span: &HeaderSpan, field: &Field) -> bool
     requires { IsHeaderWithin (length head.now) span.now }
-    ensures { IsTrue result ↔ (header_bytes head.now span.now ≡ pair_of field.now) }
+    ensures { IsTrue result ↔ (header_bytes head.now span.now ≡ field_pair field.now) }
 {
     span.name.of(head) == field.name.as_bytes() && span.value.of(head) == field.value.as_bytes()
 }

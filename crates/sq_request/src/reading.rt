@@ -1,8 +1,10 @@
 //! Requests read from their heads.
-ghost use Rattle.std.specs.Prelude.{IfOk, IfErr};
+ghost use Rattle.std.specs.Prelude.{◌≡◌, Result, IfOk, IfErr};
 ghost use Rattle.sq_request.specs.Endings.{IsWholeHead};
 ghost use Rattle.sq_request.specs.Heads.{HasRequest};
-ghost use Rattle.sq_request.specs.Refusals.{RefusesHead};
+ghost use Rattle.sq_request.specs.Refusals.{RefusesHead, ComesTo};
+ghost use Rattle.sq_request.specs.declared.faults.BadRequest.{BadRequest};
+ghost use Rattle.sq_base.specs.Requests.{HttpRequest};
 
 use crate::building::build;
 use crate::faults::BadRequest;
@@ -19,6 +21,8 @@ pub fn read_request(alloc: Global, head: &[u8]) -> Result<Request, BadRequest>
     requires { IsWholeHead head.now }
     ensures read { IfOk result (HasRequest head.now) }
     ensures refused { IfErr result (RefusesHead head.now) }
+    // The bytes are one request at most, and not refused as well, nor in two ways.
+    ensures one { (a b : Result HttpRequest BadRequest) → ComesTo head.now a → ComesTo head.now b → a ≡ b }
 {
     let Ok(mut room) = vec![in alloc; EMPTY_HEADER_SPAN; line_count(head)] else {
         return Err(BadRequest::WantOfMemory);

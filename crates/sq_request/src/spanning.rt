@@ -3,7 +3,7 @@ ghost use Rattle.std.specs.Prelude.{◌≡◌, ◌<◌, length, map, All, IfOk, 
 ghost use Rattle.std.specs.List.{count_by};
 ghost use Rattle.httparse.specs.Spans.{header_bytes, IsHeaderWithin};
 ghost use Rattle.sq_base.specs.Lines.{is_lf};
-ghost use Rattle.sq_request.specs.Spans.{pair_of, FitsIn, CoversHead, HasMoreThan};
+ghost use Rattle.sq_request.specs.Spans.{field_pair, FitsIn, CoversHead, HasMoreThan};
 
 use httparse::Status;
 use httparse::spans::{HeaderSpan, RequestSpans, parse_request};
@@ -39,7 +39,7 @@ pub fn line_count(bytes: &[u8]) -> usize
 /// The fields that the spans cover.
 pub fn copy_fields(alloc: Global, head: &[u8], spans: &[HeaderSpan]) -> Result<Fields, WantOfMemory>
     requires { All (IsHeaderWithin (length head.now)) spans.now }
-    ensures { IfOk result (λ fs. map pair_of fs ≡ map (header_bytes head.now) spans.now) }
+    ensures { IfOk result (λ fs. map field_pair fs ≡ map (header_bytes head.now) spans.now) }
 {
     let mut fields = Fields::new(alloc);
     for span in spans {

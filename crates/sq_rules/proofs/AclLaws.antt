@@ -1,6 +1,8 @@
 -- Nestings, slow acls and members of a list that has one acl more at the end.
-use Rattle.std.proofs.Common.{◌≡◌, ℕ, ◌+◌, suc, List, [], ◌∷◌, ◌++◌, length, Bool, true, false, ◌&&◌, refl, sym, arith, Some, nat_le}
+use Rattle.std.proofs.Common.{◌≡◌, ℕ, ◌+◌, suc, List, [], ◌∷◌, ◌++◌, length, Bool, true, refl, sym, arith, Some, nat_le}
+use Rattle.std.proofs.lemmas.Bool.{and_from}
 use Rattle.std.proofs.lemmas.Bool.Decides.{nat_tests}
+use Rattle.sq_base.proofs.CommonLaws.{and_then_so}
 use Rattle.sq_rules.proofs.ListLaws.{all_push}
 use Rattle.sq_rules.specs.Configurations.{are_known_bodies, are_shallow, is_known_body, is_slow, nesting_of, nestings, nestings_on, slow_on, slow_ones}
 use Rattle.sq_rules.specs.Limits.{nesting_limit}
@@ -34,17 +36,10 @@ shallow_push old acls longer a n shallow known is more =
     let last : nat_le (nesting_of (nestings acls) a.body) nesting_limit ≡ true = rw (← known, ← one.0) one.1 in
     rw (more, nestings_longer [] acls a) (all_push (λ m. nat_le m nesting_limit) (nestings acls) (nesting_of (nestings acls) a.body) shallow last)
 
-both_true : (a b c : Bool) → (a && b) ≡ true → (b ≡ true → c ≡ true) → (a && c) ≡ true
-both_true true b c h k = k h
-both_true false b c h k = h
-
-one_more : (b : Bool) → b ≡ true → (b && true) ≡ true
-one_more b h = grind (arith, h)
-
 -- an acl that names what there is before it may stand behind others
 pub known_longer : (classes place k : ℕ) (acls : List Acl) (a : Acl) → are_known_bodies classes place acls ≡ true → place + length acls ≡ k →
     is_known_body classes k a.body ≡ true → are_known_bodies classes place (acls ++ a ∷ []) ≡ true
-known_longer classes place k [] a known e one = let same : place ≡ k = omega arith in rw same (one_more (is_known_body classes k a.body) one)
+known_longer classes place k [] a known e one = let same : place ≡ k = omega arith in rw same (and_from (is_known_body classes k a.body) true one refl)
 known_longer classes place k (b ∷ acls) a known e one =
-    both_true (is_known_body classes place b.body) (are_known_bodies classes (suc place) acls) (are_known_bodies classes (suc place) (acls ++ a ∷ [])) known
+    and_then_so (is_known_body classes place b.body) (are_known_bodies classes (suc place) acls) (are_known_bodies classes (suc place) (acls ++ a ∷ [])) known
     (λ rest. known_longer classes (suc place) k acls a rest (omega arith) one)

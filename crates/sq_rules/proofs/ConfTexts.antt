@@ -12,8 +12,8 @@ use Rattle.sq_base.specs.Lines.{file_lines, words_of, is_comment, lexed}
 use Rattle.sq_base.specs.Ranges.{range_of, block_size}
 use Rattle.sq_rules.specs.AclLines.{acl_type, known_term, member, any_of, acl_values, acl_line, action, rule_line}
 use Rattle.sq_rules.specs.AclValues.{ports_of, day_bits, days_of, short_number, minute_of, period_of, time_value}
-use Rattle.sq_rules.specs.ConfNumbers.{digits_of, number_in, port_text, has_host}
-use Rattle.sq_rules.specs.ConfText.{conf_refuses, conf_result, directive_of, is_without_effect, by_directive, line_read}
+use Rattle.sq_rules.specs.ConfNumbers.{digits_of, number_between, port_text, has_host}
+use Rattle.sq_rules.specs.ConfText.{conf_refuses, conf_result, directive_of, by_directive, line_read}
 use Rattle.sq_rules.specs.Configurations.{Configuration}
 use Rattle.sq_rules.specs.Drafts.{begun, finished}
 use Rattle.sq_rules.specs.PoolLines.{pool_number, pools_line, port_line}
@@ -52,5 +52,5 @@ counts (Err e) = []
 
 -- a configuration of the kind that is installed
 installed : counts (conf_result (codes "acl localnet src 0.0.0.1-0.255.255.255 # RFC 1122 \"this\" network (LAN)\nacl localnet src 10.0.0.0/8 # RFC 1918 local private network (LAN)\nacl localnet src 100.64.0.0/10\nacl localnet src fc00::/7\nacl SSL_ports port 443\nacl Safe_ports port 80 # http\nacl Safe_ports port 1025-65535 # unregistered ports\nhttp_access deny !Safe_ports\nhttp_access deny CONNECT !SSL_ports\nhttp_access allow localhost manager\nhttp_access deny all\nhttp_port 3128\ncoredump_dir /var/spool/squid\nrefresh_pattern ^ftp: 1440 20% 10080\n")) ≡ 9 ∷ 4 ∷ 2 ∷ []
-unfolding is_utf8 chars encode v4_of v6_of address_of number_of digits read_ipv4 read_octet read_number read_ipv6 read_segments read_segment block_size file_lines words_of is_comment lexed range_of acl_type acl_values acl_line ports_of action known_term rule_line digits_of number_in port_text has_host port_line conf_result directive_of is_without_effect by_directive line_read begun finished
+unfolding is_utf8 chars encode v4_of v6_of address_of number_of digits read_ipv4 read_octet read_number read_ipv6 read_segments read_segment block_size file_lines words_of is_comment lexed range_of acl_type acl_values acl_line ports_of action known_term rule_line digits_of number_between port_text has_host port_line conf_result directive_of by_directive line_read begun finished
 installed = refl

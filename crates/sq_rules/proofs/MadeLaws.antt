@@ -2,7 +2,8 @@
 use Rattle.std.proofs.Common.{◌≡◌, suc, List, [], ◌∷◌, ◌++◌, length, append_assoc, append-nil, refl, subst, ◌∙◌, arith, Ok, Err}
 use Rattle.std.proofs.lemmas.List.{length_push}
 use Rattle.std.specs.declared.result.Result.{Result}
-use Rattle.sq_rules.specs.Building.{◌>>=◌, each_made, pool_made, pools_made}
+use Rattle.sq_base.specs.Results.{◌>>=◌}
+use Rattle.sq_rules.specs.Building.{each_made, pool_made, pools_made}
 use Rattle.sq_rules.specs.declared.configs.Acl.{Acl}
 use Rattle.sq_rules.specs.declared.parts.BuildFault.{BuildFault}
 use Rattle.sq_rules.specs.declared.parts.PoolPart.{PoolPart}

@@ -1,9 +1,10 @@
 -- Names and places in a list that has one element more at the end.
-use Rattle.std.proofs.Common.{◌≡◌, ℕ, ◌+◌, ◌<◌, suc, List, [], ◌∷◌, ◌++◌, length, Bool, true, false, ◌&&◌, ◌||◌, ◌==◌, not, cond, refl, ap, sym, ◌∙◌, arith, Option, Some, None, is_some, if◌then◌else◌, IfSome}
+use Rattle.std.proofs.Common.{◌≡◌, ℕ, ◌+◌, ◌<◌, suc, List, [], ◌∷◌, ◌++◌, length, Bool, true, false, ◌&&◌, ◌||◌, not, cond, refl, ap, sym, ◌∙◌, arith, Option, Some, None, is_some, if◌then◌else◌, IfSome}
 use Rattle.std.proofs.lemmas.List.Folds.{list_any-append}
 use Rattle.std.proofs.lemmas.Slice.Eq.{bytes_eq-Decides}
 use Rattle.std.specs.Option.{option_or}
 use Rattle.std.specs.Str.{bytes_eq}
+use Rattle.sq_base.proofs.CommonLaws.{bytes_turned}
 use Rattle.sq_rules.specs.Configurations.{have_own_names, is_named, place_from}
 use Rattle.sq_rules.specs.Names.{KnowsPlaces, place_at}
 
@@ -36,15 +37,6 @@ place_push f n k [] x name e = let same : n ≡ k = omega arith in rw same refl
 place_push f n k (y ∷ xs) x name e =
     ap (λ o. if bytes_eq (f y) name then Some n else o) (place_push f (suc n) k xs x name (omega arith))
     ∙ first (bytes_eq (f y) name) n (place_from f (suc n) xs name) (if bytes_eq (f x) name then Some k else None)
-
-eq_turned : (a b : ℕ) → (a == b) ≡ (b == a)
-eq_turned a b = grind arith
-
-bytes_turned : (a b : List ℕ) → bytes_eq a b ≡ bytes_eq b a
-bytes_turned [] [] = refl
-bytes_turned [] (y ∷ ys) = refl
-bytes_turned (x ∷ xs) [] = refl
-bytes_turned (x ∷ xs) (y ∷ ys) = rw (eq_turned x y, bytes_turned xs ys) refl
 
 kept_or : (b : Bool) (k : ℕ) (o : Option ℕ) → (b ≡ true → o ≡ None) → cond b (Some k) o ≡ option_or o (if b then Some k else None)
 kept_or true k o none = rw (none refl) refl

@@ -101,10 +101,10 @@ pub too_deep : (before : List ℕ) (acls : List Acl) → list_all (λ n. nat_le 
 too_deep before acls bad = rw (nestings_scan before acls) (scan_fails depth_step (λ n. nat_le n nesting_limit) before acls bad)
 
 -- an acl of the same name, the same nesting and no other answer
-pub KnowsAcls-set : (acls : List Acl) (places : List (List ℕ × ℕ)) (depths : List ℕ) (slow : List Bool) (p : ℕ) (x y : Acl) → KnowsAcls acls places depths slow →
+pub KnowsAcls_set : (acls : List Acl) (places : List (List ℕ × ℕ)) (depths : List ℕ) (slow : List Bool) (p : ℕ) (x y : Acl) → KnowsAcls acls places depths slow →
     slice_get acls p ≡ Some x → y.name ≡ x.name → ((before : List ℕ) → nesting_of before y.body ≡ nesting_of before x.body) →
     ((before : List Bool) → is_slow before y.body ≡ is_slow before x.body) → KnowsAcls (set acls p y) places depths slow
-KnowsAcls-set acls places depths slow p x y knows is named deep asks =
+KnowsAcls_set acls places depths slow p x y knows is named deep asks =
     let nest : nestings (set acls p y) ≡ nestings acls = nestings_same acls p x y is (deep (take p (nestings acls))) in
     record {
       places_are = λ q. knows.places_are q ∙ sym (place_set (λ (a : Acl). a.name) 0 acls p x y q is named);
@@ -195,10 +195,10 @@ too_deep_at before acls i x whole rest within is none =
     ∙ too_deep (before ++ nesting_of before x.body ∷ []) (drop (i + 1) acls) (last_fails (λ n. nat_le n nesting_limit) before (nesting_of before x.body) bad)
 
 -- one member more, with what was computed of it
-pub KnowsAcls-member : (acls : List Acl) (places : List (List ℕ × ℕ)) (depths : List ℕ) (slow : List Bool) (p : ℕ) (t : Term) (x y : Acl) (deeper : Option (List ℕ)) (slower : Option (List Bool)) →
+pub KnowsAcls_member : (acls : List Acl) (places : List (List ℕ × ℕ)) (depths : List ℕ) (slow : List Bool) (p : ℕ) (t : Term) (x y : Acl) (deeper : Option (List ℕ)) (slower : Option (List Bool)) →
     KnowsAcls acls places depths slow → slice_get acls p ≡ Some x → y ≡ record x { body = with_member t x.body } → AreDepths deeper acls (with_member_at p t acls) →
     AreSlowOnes slower acls (with_member_at p t acls) → are_shallow (with_member_at p t acls) ≡ true → KnowsAcls (set acls p y) places (or_before depths deeper) (or_before slow slower)
-KnowsAcls-member acls places depths slow p t x y deeper slower knows is changed deep asks shallow =
+KnowsAcls_member acls places depths slow p t x y deeper slower knows is changed deep asks shallow =
     let now : with_member_at p t acls ≡ set acls p y = changed_at acls p x (with_member t) is ∙ sym (ap (set acls p) changed) in
     let named : y.name ≡ x.name = ap (λ a. a.name) changed in
     record {

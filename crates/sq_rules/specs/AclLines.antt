@@ -1,15 +1,18 @@
 -- Lines `acl NAME TYPE VALUE ...` and `http_access allow|deny TERM ...` (configuration reference,
 -- `acl`, `http_access`).
-use Rattle.std.specs.Prelude.{ℕ, List, [], ◌∷◌, ◌++◌, length, Bool, true, false, not, if◌then◌else◌, ◌&&◌, ◌||◌, ◌==◌, nat_lt, nat_le, Some, None, Ok, Err, is_some, is_none, codes, bytes_eq}
+use Rattle.std.specs.Prelude.{ℕ, List, [], ◌∷◌, ◌++◌, length, Bool, true, false, not, if◌then◌else◌, ◌&&◌, ◌||◌, ◌==◌, nat_lt, nat_le, Some, None, Ok, Err, is_some, is_none, codes}
 use Rattle.std.specs.declared.option.Option.{Option}
 use Rattle.std.specs.declared.result.Result.{Result}
+use Rattle.sq_base.specs.Bytes.{bang}
+use Rattle.sq_base.specs.NameTables.{beside}
+use Rattle.sq_base.specs.Results.{◌>>=◌}
 use Rattle.sq_rules.specs.AclValues.{is_unquoted, range_value, plain_value, port_value, method_value, maxconn_values, time_values, find_values}
 use Rattle.sq_rules.specs.Building.{place_of, class_place}
 use Rattle.sq_rules.specs.Changes.{type_at}
 use Rattle.sq_rules.specs.Configurations.{are_shallow}
 use Rattle.sq_rules.specs.Drafts.{Drafts, are_fast, with_acl_more, with_body, with_leaf, with_line, with_member}
 use Rattle.sq_rules.specs.Limits.{acl_limit, name_limit, rule_limit}
-use Rattle.sq_rules.specs.Steps.{Words, ◌>>=◌, unless, needed, word, over, over_some, some_of, one_more, begins}
+use Rattle.sq_rules.specs.Steps.{Words, unless, needed, word, over, over_some, some_of, one_more, begins}
 use Rattle.sq_rules.specs.declared.acl_types.AclType.{AclType}
 use Rattle.sq_rules.specs.declared.acl_types.AclType.TheVariants as type
 use Rattle.sq_rules.specs.declared.configs.Acl.{Acl}
@@ -23,29 +26,33 @@ use Rattle.sq_rules.specs.declared.leaves.Leaf.TheVariants as leaf
 
 -- a name does not begin with `!`, and is short
 abbrev pub is_name : List ℕ → Bool
-is_name w = not (begins 33 w) && nat_le (length w) name_limit
+is_name w = not (begins bang w) && nat_le (length w) name_limit
 
 -- the place of the acl of this name, or room for one more
 abbrev pub acl_named : List Acl → List ℕ → Result (Option ℕ) Kind
 acl_named acls w =
     unless (is_name w) BadValue (unless (is_some (place_of acls w) || nat_lt (length acls) acl_limit) TooMany (Ok (place_of acls w)))
 
+-- the types by their names
+abbrev pub acl_types : List (List ℕ × AclType)
+acl_types =
+    (codes "src", type.Src)
+    ∷ (codes "dst", type.Dst)
+    ∷ (codes "dstdomain", type.DstDomain)
+    ∷ (codes "port", type.Port)
+    ∷ (codes "method", type.Method)
+    ∷ (codes "proto", type.Proto)
+    ∷ (codes "time", type.Time)
+    ∷ (codes "url_regex", type.UrlRegex)
+    ∷ (codes "maxconn", type.MaxConn)
+    ∷ (codes "external", type.External)
+    ∷ (codes "any-of", type.AnyOf)
+    ∷ (codes "all-of", type.AllOf)
+    ∷ []
+
 -- the type of this name
 unfoldable pub acl_type : List ℕ → Result AclType Kind
-acl_type w =
-    if bytes_eq w (codes "src") then Ok type.Src
-    else (if bytes_eq w (codes "dst") then Ok type.Dst
-    else (if bytes_eq w (codes "dstdomain") then Ok type.DstDomain
-    else (if bytes_eq w (codes "port") then Ok type.Port
-    else (if bytes_eq w (codes "method") then Ok type.Method
-    else (if bytes_eq w (codes "proto") then Ok type.Proto
-    else (if bytes_eq w (codes "time") then Ok type.Time
-    else (if bytes_eq w (codes "url_regex") then Ok type.UrlRegex
-    else (if bytes_eq w (codes "maxconn") then Ok type.MaxConn
-    else (if bytes_eq w (codes "external") then Ok type.External
-    else (if bytes_eq w (codes "any-of") then Ok type.AnyOf
-    else (if bytes_eq w (codes "all-of") then Ok type.AllOf
-    else Err UnknownAclType)))))))))))
+acl_type w = needed UnknownAclType (beside acl_types w)
 
 -- the types in their order
 abbrev pub type_place : AclType → ℕ
@@ -76,12 +83,12 @@ has_type acls type (Some place) = is_of_type type (type_at acls place)
 
 -- the word begins with `!`
 abbrev pub is_negated : List ℕ → Bool
-is_negated w = begins 33 w
+is_negated w = begins bang w
 
 -- the name: the word without `!` at its front
 abbrev pub term_name : List ℕ → List ℕ
 term_name [] = []
-term_name (b ∷ bs) = if b == 33 then bs else (b ∷ bs)
+term_name (b ∷ bs) = if b == bang then bs else (b ∷ bs)
 
 abbrev pub term_from : Bool → Option ℕ → Result Term Kind
 term_from negated None = Err UndefinedAcl
@@ -166,9 +173,13 @@ acl_line d ws = do
   type ← acl_type kind.0
   unless (has_type d.acls type place) TypeClash (acl_values type name.0 place d kind.1)
 
+-- what a rule may do: true allows
+abbrev pub actions : List (List ℕ × Bool)
+actions = (codes "allow", true) ∷ (codes "deny", false) ∷ []
+
 -- allow or deny
 unfoldable pub action : List ℕ → Result Bool Kind
-action w = if bytes_eq w (codes "allow") then Ok true else (if bytes_eq w (codes "deny") then Ok false else Err BadValue)
+action w = needed BadValue (beside actions w)
 
 -- terms of acls that stand
 abbrev pub known_terms : List Acl → Words → Result (List Term) Kind

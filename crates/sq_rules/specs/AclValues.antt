@@ -1,18 +1,22 @@
 -- Values of leaf acls (configuration reference, `acl`).
-use Rattle.std.specs.Prelude.{ℕ, ◌+◌, ◌*◌, List, [], ◌∷◌, ◌++◌, length, Bool, true, false, not, if◌then◌else◌, ◌&&◌, ◌||◌, ◌==◌, nat_lt, nat_le, Some, None, Ok, codes, bytes_eq, bit_or}
+use Rattle.std.specs.Prelude.{ℕ, ◌+◌, ◌*◌, List, [], ◌∷◌, ◌++◌, length, Bool, true, false, not, if◌then◌else◌, ◌&&◌, ◌||◌, ◌==◌, nat_lt, nat_le, Some, None, Ok, codes, bit_or}
 use Rattle.std.specs.Char.{is_ascii_alphanumeric}
 use Rattle.std.specs.List.{list_all, list_any, before_first, after_first}
 use Rattle.std.specs.Option.{option_map, option_and_then}
 use Rattle.std.specs.declared.option.Option.{Option}
 use Rattle.std.specs.declared.result.Result.{Result}
 use Rattle.sq_base.specs.Addresses.{is_colon}
-use Rattle.sq_base.specs.Decimals.{number_of}
+use Rattle.sq_base.specs.Bytes.{quote}
+use Rattle.sq_base.specs.Decimals.{number_of, port_limit}
+use Rattle.sq_base.specs.NameTables.{beside}
 use Rattle.sq_base.specs.Ranges.{range_of, is_dash}
 use Rattle.sq_base.specs.declared.addresses.Range.{Range}
 use Rattle.sq_rules.specs.ConfNumbers.{digits_of}
+use Rattle.sq_rules.specs.Limits.{maxconn_limit}
 use Rattle.sq_rules.specs.Patterns.{is_pattern}
-use Rattle.sq_rules.specs.Steps.{Words, ◌>>=◌, unless, needed, word, is_empty, no_more, over, begins}
-use Rattle.sq_rules.specs.Times.{Period}
+use Rattle.sq_base.specs.Results.{◌>>=◌}
+use Rattle.sq_rules.specs.Steps.{Words, unless, needed, word, is_empty, no_more, over, begins}
+use Rattle.sq_rules.specs.Times.{Hour, day_minutes}
 use Rattle.sq_rules.specs.declared.kinds.Kind.{Kind}
 use Rattle.sq_rules.specs.declared.kinds.Kind.TheVariants.{BadValue, BadPattern, BadTime, MissingWord}
 use Rattle.sq_rules.specs.declared.leaves.Find.{Find}
@@ -20,7 +24,7 @@ use Rattle.sq_rules.specs.declared.leaves.PortRange.{PortRange}
 
 -- the word does not begin with `"`; one that does would name a file of values, which is not read
 abbrev pub is_unquoted : List ℕ → Bool
-is_unquoted w = not (begins 34 w)
+is_unquoted w = not (begins quote w)
 
 -- src and dst: a range of addresses
 abbrev pub range_value : List ℕ → Result Range Kind
@@ -35,9 +39,9 @@ abbrev pub ports_from : Option ℕ → Option ℕ → Option PortRange
 ports_from (Some a) (Some b) = if nat_le a b then Some (record { first = a; last = b }) else None
 ports_from a b = None
 
--- a port is at most 65535
+-- a port without leading zeros
 abbrev pub port_number : List ℕ → Option ℕ
-port_number w = number_of 65536 w
+port_number w = number_of port_limit w
 
 unfoldable pub ports_of : List ℕ → Option PortRange
 ports_of w =
@@ -62,7 +66,7 @@ method_value w = unless (is_token w) BadValue (Ok w)
 
 -- maxconn has one number
 abbrev pub maxconn_value : List ℕ → Result ℕ Kind
-maxconn_value w = needed BadValue (number_of 2147483648 w)
+maxconn_value w = needed BadValue (number_of maxconn_limit w)
 
 unfoldable pub maxconn_values : Words → Result (List ℕ) Kind
 maxconn_values ws = do
@@ -70,18 +74,22 @@ maxconn_values ws = do
   number ← maxconn_value first.0
   no_more first.1 (number ∷ [])
 
--- the weekdays of a letter as the bits of a number, Sunday the lowest: S M T W H F A, and D for
--- Monday to Friday
+-- the weekdays of each letter as the bits of a number, Sunday the lowest; D stands for Monday to Friday
+abbrev pub day_letters : List (List ℕ × ℕ)
+day_letters =
+    (codes "S", 1)
+    ∷ (codes "M", 2)
+    ∷ (codes "T", 4)
+    ∷ (codes "W", 8)
+    ∷ (codes "H", 16)
+    ∷ (codes "F", 32)
+    ∷ (codes "A", 64)
+    ∷ (codes "D", 62)
+    ∷ []
+
+-- the weekdays of a letter
 unfoldable pub day_bits : ℕ → Option ℕ
-day_bits b =
-    if b == 83 then Some 1
-    else (if b == 77 then Some 2
-    else (if b == 84 then Some 4
-    else (if b == 87 then Some 8
-    else (if b == 72 then Some 16
-    else (if b == 70 then Some 32
-    else (if b == 65 then Some 64
-    else (if b == 68 then Some 62 else None)))))))
+day_bits b = beside day_letters (b ∷ [])
 
 -- the weekdays of some letters, with those so far
 abbrev pub days_on : ℕ → List ℕ → Option ℕ
@@ -98,7 +106,7 @@ unfoldable pub short_number : ℕ → List ℕ → Option ℕ
 short_number most w = if nat_le (length w) 2 then digits_of most w else None
 
 abbrev pub minute_at : Option ℕ → Option ℕ → Option ℕ
-minute_at (Some h) (Some m) = if nat_le (h * 60 + m) 1440 then Some (h * 60 + m) else None
+minute_at (Some h) (Some m) = if nat_le (h * 60 + m) day_minutes then Some (h * 60 + m) else None
 minute_at h m = None
 
 -- the minute of the day of `h:m`; 24:00 is the last
@@ -106,35 +114,35 @@ unfoldable pub minute_of : List ℕ → Option ℕ
 minute_of w = minute_at (short_number 24 (before_first is_colon w)) (short_number 59 (after_first is_colon w))
 
 -- from the first to the last minute, which is later
-abbrev pub period_at : ℕ → Option ℕ → Option ℕ → Option Period
+abbrev pub period_at : ℕ → Option ℕ → Option ℕ → Option Hour
 period_at days (Some a) (Some b) = if nat_lt a b then Some (record { days = days; first = a; last = b }) else None
 period_at days a b = None
 
 -- some weekdays, from minute to minute: `h1:m1-h2:m2`
-unfoldable pub period_of : ℕ → List ℕ → Option Period
+unfoldable pub period_of : ℕ → List ℕ → Option Hour
 period_of days w = period_at days (minute_of (before_first is_dash w)) (minute_of (after_first is_dash w))
 
 -- hours of these weekdays
-abbrev pub hours_value : ℕ → List ℕ → Result Period Kind
+abbrev pub hours_value : ℕ → List ℕ → Result Hour Kind
 hours_value days w = unless (is_unquoted w) BadValue (needed BadTime (period_of days w))
 
 -- behind day letters: nothing, and so the whole day, or hours
-abbrev pub behind_days : ℕ → Words → Result Period Kind
-behind_days days [] = Ok (record { days = days; first = 0; last = 1440 })
+abbrev pub behind_days : ℕ → Words → Result Hour Kind
+behind_days days [] = Ok (record { days = days; first = 0; last = day_minutes })
 behind_days days (w ∷ ws) = hours_value days w >>= λ p. no_more ws p
 
 -- the first word is day letters, or else hours of all days
-abbrev pub by_first : Option ℕ → List ℕ → Words → Result Period Kind
+abbrev pub by_first : Option ℕ → List ℕ → Words → Result Hour Kind
 by_first (Some days) w ws = behind_days days ws
 by_first None w ws = hours_value 127 w >>= λ p. no_more ws p
 
 -- time: day letters, hours, or both in this order
-unfoldable pub time_value : Words → Result Period Kind
+unfoldable pub time_value : Words → Result Hour Kind
 time_value ws = do
   first ← word ws
   by_first (days_of first.0) first.0 first.1
 
-abbrev pub time_values : Words → Result (List Period) Kind
+abbrev pub time_values : Words → Result (List Hour) Kind
 time_values ws = time_value ws >>= λ p. Ok (p ∷ [])
 
 -- the patterns of a line so far, and whether case is off for those that follow
@@ -146,12 +154,18 @@ pub record Finding : Type 0 where
 abbrev pub with_find : Finding → Find → Result Finding Kind
 with_find s f = unless (is_pattern f) BadPattern (Ok (record s { finds = s.finds ++ f ∷ [] }))
 
--- `-i` and `+i` switch case off and on; another word is a pattern
+-- the words that switch case off and on
+abbrev pub case_switches : List (List ℕ × Bool)
+case_switches = (codes "-i", true) ∷ (codes "+i", false) ∷ []
+
+-- a switch of case, or else a pattern
+abbrev pub switched : Option Bool → Finding → List ℕ → Result Finding Kind
+switched (Some fold) s w = Ok (record s { fold = fold })
+switched None s w = with_find s (record { pattern = w; fold = s.fold })
+
+-- one word of the line
 unfoldable pub find_step : Finding → List ℕ → Result Finding Kind
-find_step s w =
-    if bytes_eq w (codes "-i") then Ok (record s { fold = true })
-    else (if bytes_eq w (codes "+i") then Ok (record s { fold = false })
-    else with_find s (record { pattern = w; fold = s.fold }))
+find_step s w = switched (beside case_switches w) s w
 
 -- url_regex: switches and one pattern or more; case is on at first
 unfoldable pub find_values : Words → Result (List Find) Kind

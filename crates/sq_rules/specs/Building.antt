@@ -4,7 +4,8 @@
 use Rattle.std.specs.Prelude.{◌≡◌, ◌≢◌, ℕ, ◌≤◌, List, [], ◌∷◌, ◌++◌, length, suc, false, if◌then◌else◌, nat_le, Some, None, Ok, Err, MatchResult, slice_index_or}
 use Rattle.std.specs.declared.option.Option.{Option}
 use Rattle.std.specs.declared.result.Result.{Result}
-use Rattle.sq_rules.specs.Classes.{HelperClass}
+use Rattle.sq_base.specs.Results.{◌>>=◌}
+use Rattle.sq_rules.specs.Classes.{Class, with_arguments}
 use Rattle.sq_rules.specs.Configurations.{Configuration, has_buckets, has_class, has_name, nesting_of, nestings, place_from, slow_ones}
 use Rattle.sq_rules.specs.Limits.{acl_limit, class_limit, initial_limit, nesting_limit, pool_limit, rule_limit, text_limit}
 use Rattle.sq_rules.specs.declared.configs.Acl.{Acl}
@@ -23,12 +24,6 @@ use Rattle.sq_rules.specs.declared.parts.RulePart.{RulePart}
 use Rattle.sq_rules.specs.declared.parts.TermPart.{TermPart}
 use Rattle.sq_rules.specs.declared.pools.Pool.{Pool}
 
--- one step after another, up to the first fault
-infixl 10 ◌>>=◌
-abbrev pub ◌>>=◌ : {A B : Type 0} → Result A BuildFault → (A → Result B BuildFault) → Result B BuildFault
-(Ok x) >>= f = f x
-(Err e) >>= f = Err e
-
 -- what a call answered is what was made, unless memory ran out
 abbrev pub IsMade : {A : Type 0} → Result A BuildFault → Result A BuildFault → Type 0
 IsMade result made = MatchResult result (λ x. made ≡ Ok x) (λ e. e ≢ fault.WantOfMemory → made ≡ Err e)
@@ -43,7 +38,7 @@ abbrev pub place_of : List Acl → List ℕ → Option ℕ
 place_of acls name = place_from (λ a. a.name) 0 acls name
 
 -- the place of the class with this name
-abbrev pub class_place : List HelperClass → List ℕ → Option ℕ
+abbrev pub class_place : List Class → List ℕ → Option ℕ
 class_place classes name = place_from (λ c. c.name) 0 classes name
 
 abbrev pub term_at : TermPart → Option ℕ → Result Term BuildFault
@@ -62,7 +57,7 @@ external_at class arguments None = Err (fault.UndefinedClass class)
 external_at class arguments (Some place) = Ok (body.External place arguments)
 
 -- what an acl is, over these classes and the acls before it
-abbrev pub body_made : List HelperClass → List Acl → BodyPart → Result Body BuildFault
+abbrev pub body_made : List Class → List Acl → BodyPart → Result Body BuildFault
 body_made classes acls (part.Leaf l) = Ok (body.Leaf l)
 body_made classes acls (part.External class arguments) = external_at class arguments (class_place classes class)
 body_made classes acls (part.AnyOf terms) = terms_made acls terms >>= λ made. Ok (body.AnyOf made)
@@ -74,21 +69,25 @@ with_acl acls name b =
     if nat_le (nesting_of (nestings acls) b) nesting_limit then Ok (acls ++ (record { name = name; body = b }) ∷ []) else Err (fault.TooDeep name)
 
 -- the next acl has a name of its own
-abbrev pub next_acl : List HelperClass → List Acl → AclPart → Result (List Acl) BuildFault
+abbrev pub next_acl : List Class → List Acl → AclPart → Result (List Acl) BuildFault
 next_acl classes acls a =
     if has_name acls a.name then Err (fault.Duplicate a.name) else (body_made classes acls a.body >>= with_acl acls a.name)
 
 -- some acls, behind those before them
-abbrev pub acls_made : List HelperClass → List Acl → List AclPart → Result (List Acl) BuildFault
+abbrev pub acls_made : List Class → List Acl → List AclPart → Result (List Acl) BuildFault
 acls_made classes acls [] = Ok acls
 acls_made classes acls (a ∷ parts) = next_acl classes acls a >>= λ more. acls_made classes more parts
 
+-- the class with `%DATA` in its format
+abbrev pub completed : Class → Class
+completed c = record c { format = with_arguments c.format }
+
 -- the next class has a name of its own
-abbrev pub next_class : List HelperClass → HelperClass → Result (List HelperClass) BuildFault
-next_class classes c = if has_class classes c.name then Err (fault.Duplicate c.name) else Ok (classes ++ c ∷ [])
+abbrev pub next_class : List Class → Class → Result (List Class) BuildFault
+next_class classes c = if has_class classes c.name then Err (fault.Duplicate c.name) else Ok (classes ++ completed c ∷ [])
 
 -- some classes, behind those before them
-abbrev pub classes_made : List HelperClass → List HelperClass → Result (List HelperClass) BuildFault
+abbrev pub classes_made : List Class → List Class → Result (List Class) BuildFault
 classes_made classes [] = Ok classes
 classes_made classes (c ∷ parts) = next_class classes c >>= λ more. classes_made more parts
 

@@ -1,17 +1,21 @@
 -- Lines `external_acl_type NAME [option ...] [%token ...] helper [argument ...]` (configuration
 -- reference, `external_acl_type`).
-use Rattle.std.specs.Prelude.{ℕ, ◌*◌, List, [], ◌∷◌, ◌++◌, length, Bool, true, false, not, if◌then◌else◌, ◌&&◌, ◌||◌, ◌==◌, nat_lt, nat_le, nat_eq, Some, None, Ok, Err, is_none, codes, bytes_eq, drop}
+use Rattle.std.specs.Prelude.{ℕ, ◌*◌, List, [], ◌∷◌, ◌++◌, length, Bool, true, false, not, if◌then◌else◌, ◌&&◌, ◌||◌, ◌==◌, nat_lt, nat_le, nat_eq, Some, None, Ok, is_none, codes, drop}
 use Rattle.std.specs.List.{list_any, before_first, after_first, starts_with}
+use Rattle.std.specs.Option.{option_or}
 use Rattle.std.specs.declared.option.Option.{Option}
 use Rattle.std.specs.declared.result.Result.{Result}
+use Rattle.sq_base.specs.Bytes.{close_brace, equals, percent}
 use Rattle.sq_base.specs.Lines.{but_last, ends_in}
+use Rattle.sq_base.specs.NameTables.{beside, is_among}
+use Rattle.sq_base.specs.Results.{◌>>=◌}
 use Rattle.sq_rules.specs.AclValues.{is_token}
 use Rattle.sq_rules.specs.Building.{class_place}
-use Rattle.sq_rules.specs.Classes.{HelperClass, is_arguments}
-use Rattle.sq_rules.specs.ConfNumbers.{number_in}
+use Rattle.sq_rules.specs.Classes.{Class, with_arguments}
+use Rattle.sq_rules.specs.ConfNumbers.{number_between}
 use Rattle.sq_rules.specs.Drafts.{Drafts}
-use Rattle.sq_rules.specs.Limits.{class_limit, name_limit, token_limit}
-use Rattle.sq_rules.specs.Steps.{Words, ◌>>=◌, unless, word, is_empty, over, begins}
+use Rattle.sq_rules.specs.Limits.{cache_limit, children_limit, class_limit, grace_limit, name_limit, queue_limit, seconds_limit, token_limit}
+use Rattle.sq_rules.specs.Steps.{Words, unless, needed, word, is_empty, over, begins}
 use Rattle.sq_rules.specs.declared.classes.Token.{Token}
 use Rattle.sq_rules.specs.declared.classes.Token.TheVariants as token
 use Rattle.sq_rules.specs.declared.directives.ClassOption.{ClassOption}
@@ -51,45 +55,46 @@ default_class =
     }
 
 abbrev pub is_equals : ℕ → Bool
-is_equals b = b == 61
+is_equals b = b == equals
 
--- an option that is a whole word, and has no effect
-abbrev pub is_fixed_option : List ℕ → Bool
-is_fixed_option w =
-    bytes_eq w (codes "protocol=3.0") || bytes_eq w (codes "quote=url") || bytes_eq w (codes "ipv4") || bytes_eq w (codes "ipv6")
+-- options that are whole words, and have no effect
+abbrev pub whole_options : List (List ℕ)
+whole_options = codes "protocol=3.0" ∷ codes "quote=url" ∷ codes "ipv4" ∷ codes "ipv6" ∷ []
 
--- the option with this name before its `=`
-unfoldable pub option_named : List ℕ → Result ClassOption Kind
-option_named name =
-    if bytes_eq name (codes "ttl") then Ok option.Ttl
-    else (if bytes_eq name (codes "negative_ttl") then Ok option.NegativeTtl
-    else (if bytes_eq name (codes "grace") then Ok option.Grace
-    else (if bytes_eq name (codes "cache") then Ok option.Cache
-    else (if bytes_eq name (codes "children-max") then Ok option.ChildrenMax
-    else (if bytes_eq name (codes "children-startup") then Ok option.ChildrenStartup
-    else (if bytes_eq name (codes "children-idle") then Ok option.ChildrenIdle
-    else (if bytes_eq name (codes "concurrency") then Ok option.Concurrency
-    else (if bytes_eq name (codes "queue-size") then Ok option.QueueSize
-    else Err UnknownOption))))))))
+-- options by the names before their `=`
+abbrev pub valued_options : List (List ℕ × ClassOption)
+valued_options =
+    (codes "ttl", option.Ttl)
+    ∷ (codes "negative_ttl", option.NegativeTtl)
+    ∷ (codes "grace", option.Grace)
+    ∷ (codes "cache", option.Cache)
+    ∷ (codes "children-max", option.ChildrenMax)
+    ∷ (codes "children-startup", option.ChildrenStartup)
+    ∷ (codes "children-idle", option.ChildrenIdle)
+    ∷ (codes "concurrency", option.Concurrency)
+    ∷ (codes "queue-size", option.QueueSize)
+    ∷ []
 
+-- the option of a word
 unfoldable pub option_of : List ℕ → Result ClassOption Kind
-option_of w = if is_fixed_option w then Ok option.NoEffect else option_named (before_first is_equals w)
+option_of w =
+    if is_among whole_options w then Ok option.NoEffect else needed UnknownOption (beside valued_options (before_first is_equals w))
 
 -- a number up to the most
 abbrev pub up_to : ℕ → List ℕ → Result ℕ Kind
-up_to most w = number_in 0 most w
+up_to most w = number_between 0 most w
 
 -- the option with its value; of several, the last counts
 unfoldable pub with_option : ClassOption → List ℕ → ClassDraft → Result ClassDraft Kind
-with_option option.Ttl w s = up_to 2147483647 w >>= λ n. Ok (record s { ttl = n })
-with_option option.NegativeTtl w s = up_to 2147483647 w >>= λ n. Ok (record s { negative_ttl = Some n })
-with_option option.Grace w s = up_to 100 w >>= λ n. Ok (record s { grace = n })
-with_option option.Cache w s = up_to 16777216 w >>= λ n. Ok (record s { cache = n })
-with_option option.ChildrenMax w s = number_in 1 1024 w >>= λ n. Ok (record s { children_max = n })
-with_option option.ChildrenStartup w s = up_to 1024 w >>= λ n. Ok (record s { startup = n })
-with_option option.ChildrenIdle w s = up_to 1024 w >>= λ n. Ok (record s { noted = true })
-with_option option.Concurrency w s = up_to 1024 w >>= λ n. Ok (record s { concurrency = n })
-with_option option.QueueSize w s = up_to 1000000 w >>= λ n. Ok (record s { queue_size = Some n })
+with_option option.Ttl w s = up_to seconds_limit w >>= λ n. Ok (record s { ttl = n })
+with_option option.NegativeTtl w s = up_to seconds_limit w >>= λ n. Ok (record s { negative_ttl = Some n })
+with_option option.Grace w s = up_to grace_limit w >>= λ n. Ok (record s { grace = n })
+with_option option.Cache w s = up_to cache_limit w >>= λ n. Ok (record s { cache = n })
+with_option option.ChildrenMax w s = number_between 1 children_limit w >>= λ n. Ok (record s { children_max = n })
+with_option option.ChildrenStartup w s = up_to children_limit w >>= λ n. Ok (record s { startup = n })
+with_option option.ChildrenIdle w s = up_to children_limit w >>= λ n. Ok (record s { noted = true })
+with_option option.Concurrency w s = up_to children_limit w >>= λ n. Ok (record s { concurrency = n })
+with_option option.QueueSize w s = up_to queue_limit w >>= λ n. Ok (record s { queue_size = Some n })
 with_option option.NoEffect w s = Ok (record s { noted = true })
 
 -- an option and its value
@@ -102,26 +107,39 @@ field_name w = but_last (drop 3 w)
 
 -- a token for a field of the request
 abbrev pub is_field : List ℕ → Bool
-is_field w = starts_with nat_eq w (codes "%>{") && ends_in 125 w && is_token (field_name w)
+is_field w = starts_with nat_eq w (codes "%>{") && ends_in close_brace w && is_token (field_name w)
 
-abbrev pub field_token : List ℕ → Result Token Kind
-field_token w = if is_field w then Ok (token.Header (field_name w)) else Err UnknownToken
+-- the tokens that are whole words
+abbrev pub whole_tokens : List (List ℕ × Token)
+whole_tokens =
+    (codes "%>a", token.ClientAddr)
+    ∷ (codes "%SRC", token.ClientAddr)
+    ∷ (codes "%>p", token.ClientPort)
+    ∷ (codes "%SRCPORT", token.ClientPort)
+    ∷ (codes "%>rm", token.Method)
+    ∷ (codes "%METHOD", token.Method)
+    ∷ (codes "%>ru", token.Uri)
+    ∷ (codes "%URI", token.Uri)
+    ∷ (codes "%>rs", token.Scheme)
+    ∷ (codes "%PROTO", token.Scheme)
+    ∷ (codes "%>rd", token.Host)
+    ∷ (codes "%DST", token.Host)
+    ∷ (codes "%>rP", token.Port)
+    ∷ (codes "%PORT", token.Port)
+    ∷ (codes "%>rp", token.Path)
+    ∷ (codes "%PATH", token.Path)
+    ∷ (codes "%ACL", token.AclName)
+    ∷ (codes "%DATA", token.Arguments)
+    ∷ (codes "%%", token.Percent)
+    ∷ []
+
+-- the token for a field of the request
+abbrev pub field_token : List ℕ → Option Token
+field_token w = if is_field w then Some (token.Header (field_name w)) else None
 
 -- what a token stands for
 unfoldable pub token_of : List ℕ → Result Token Kind
-token_of w =
-    if bytes_eq w (codes "%>a") || bytes_eq w (codes "%SRC") then Ok token.ClientAddr
-    else (if bytes_eq w (codes "%>p") || bytes_eq w (codes "%SRCPORT") then Ok token.ClientPort
-    else (if bytes_eq w (codes "%>rm") || bytes_eq w (codes "%METHOD") then Ok token.Method
-    else (if bytes_eq w (codes "%>ru") || bytes_eq w (codes "%URI") then Ok token.Uri
-    else (if bytes_eq w (codes "%>rs") || bytes_eq w (codes "%PROTO") then Ok token.Scheme
-    else (if bytes_eq w (codes "%>rd") || bytes_eq w (codes "%DST") then Ok token.Host
-    else (if bytes_eq w (codes "%>rP") || bytes_eq w (codes "%PORT") then Ok token.Port
-    else (if bytes_eq w (codes "%>rp") || bytes_eq w (codes "%PATH") then Ok token.Path
-    else (if bytes_eq w (codes "%ACL") then Ok token.AclName
-    else (if bytes_eq w (codes "%DATA") then Ok token.Arguments
-    else (if bytes_eq w (codes "%%") then Ok token.Percent
-    else field_token w))))))))))
+token_of w = needed UnknownToken (option_or (beside whole_tokens w) (field_token w))
 
 -- a token more
 unfoldable pub token_step : ClassDraft → List ℕ → Result ClassDraft Kind
@@ -132,9 +150,13 @@ token_step s w = do
 abbrev pub has_equals : List ℕ → Bool
 has_equals w = list_any is_equals w
 
+-- options without `=`
+abbrev pub bare_options : List (List ℕ)
+bare_options = codes "ipv4" ∷ codes "ipv6" ∷ []
+
 -- a word that is an option where no token stands yet
 abbrev pub is_option : List ℕ → Bool
-is_option w = has_equals w || bytes_eq w (codes "ipv4") || bytes_eq w (codes "ipv6")
+is_option w = has_equals w || is_among bare_options w
 
 -- the helper, or an argument of it
 abbrev pub with_word : ClassDraft → List ℕ → ClassDraft
@@ -144,20 +166,16 @@ with_word s w = record s { words = s.words ++ w ∷ [] }
 unfoldable pub class_step : ClassDraft → List ℕ → Result ClassDraft Kind
 class_step s w =
     if not (is_empty s.words) then Ok (with_word s w)
-    else (if begins 37 w then token_step s w
+    else (if begins percent w then token_step s w
     else (if is_empty s.format && is_option w then option_step s w
     else Ok (with_word s w)))
-
--- `%DATA` stands in each format
-abbrev pub with_arguments : List Token → List Token
-with_arguments format = if list_any is_arguments format then format else format ++ token.Arguments ∷ []
 
 abbrev pub or_else : ℕ → Option ℕ → ℕ
 or_else default None = default
 or_else default (Some n) = n
 
 -- the class that a line states
-unfoldable pub class_of : List ℕ → ClassDraft → HelperClass
+unfoldable pub class_of : List ℕ → ClassDraft → Class
 class_of name s = record {
   name = name;
   ttl = s.ttl;
@@ -173,7 +191,7 @@ class_of name s = record {
 }
 
 -- a name that no class has, and room for one more
-abbrev pub class_name : List HelperClass → List ℕ → Result (List ℕ) Kind
+abbrev pub class_name : List Class → List ℕ → Result (List ℕ) Kind
 class_name classes w =
     unless (nat_le (length w) name_limit) BadValue
     (unless (is_none (class_place classes w)) DuplicateClass (unless (nat_lt (length classes) class_limit) TooMany (Ok w)))
@@ -186,7 +204,7 @@ abbrev pub with_notice_if : Bool → ℕ → List ℕ → Drafts → Drafts
 with_notice_if true line directive d = with_notice line directive d
 with_notice_if false line directive d = d
 
-abbrev pub with_class : HelperClass → Drafts → Drafts
+abbrev pub with_class : Class → Drafts → Drafts
 with_class c d = record d { classes = d.classes ++ c ∷ [] }
 
 -- external_acl_type NAME ...

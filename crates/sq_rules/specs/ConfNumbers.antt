@@ -9,7 +9,7 @@ use Rattle.sq_base.specs.Addresses.{is_colon}
 use Rattle.sq_base.specs.Decimals.{read_on}
 use Rattle.sq_base.specs.Ranges.{is_slash}
 use Rattle.sq_rules.specs.Limits.{delay_limit}
-use Rattle.sq_rules.specs.Rates.{Rate}
+use Rattle.sq_rules.specs.Rates.{Limit}
 use Rattle.sq_rules.specs.Steps.{needed}
 use Rattle.sq_rules.specs.declared.kinds.Kind.{Kind}
 use Rattle.sq_rules.specs.declared.kinds.Kind.TheVariants.{BadNumber}
@@ -27,8 +27,8 @@ abbrev pub from_least : ℕ → Option ℕ → Option ℕ
 from_least least None = None
 from_least least (Some n) = if nat_le least n then Some n else None
 
-unfoldable pub number_in : ℕ → ℕ → List ℕ → Result ℕ Kind
-number_in least most w = needed BadNumber (from_least least (digits_of most w))
+unfoldable pub number_between : ℕ → ℕ → List ℕ → Result ℕ Kind
+number_between least most w = needed BadNumber (from_least least (digits_of most w))
 
 -- PORT of PORT or HOST:PORT: what stands behind the last `:`, or the whole word where none stands
 unfoldable pub port_text : List ℕ → List ℕ
@@ -39,18 +39,18 @@ unfoldable pub has_host : List ℕ → Bool
 has_host w = list_any is_colon w
 
 -- both numbers are there
-abbrev pub both_rates : Option ℕ → Option ℕ → Option (Option Rate)
+abbrev pub both_rates : Option ℕ → Option ℕ → Option (Option Limit)
 both_rates (Some r) (Some m) = Some (Some (record { restore = r; max = m }))
 both_rates r m = None
 
 -- what stands before and behind the `/` of a pair: `-1` before it is no limit
-abbrev pub rate_of : List ℕ → List ℕ → Option (Option Rate)
+abbrev pub rate_of : List ℕ → List ℕ → Option (Option Limit)
 rate_of r m =
     if bytes_eq r (codes "-1") then (if bytes_eq m (codes "-1") || is_some (digits_of delay_limit m) then Some None else None)
     else both_rates (digits_of delay_limit r) (digits_of delay_limit m)
 
 -- a pair of `delay_parameters`: `none`, or RESTORE/MAX
-unfoldable pub pair_of : List ℕ → Result (Option Rate) Kind
-pair_of w =
+unfoldable pub limit_pair_of : List ℕ → Result (Option Limit) Kind
+limit_pair_of w =
     if bytes_eq w (codes "none") then Ok None
     else needed BadNumber (rate_of (before_first is_slash w) (after_first is_slash w))

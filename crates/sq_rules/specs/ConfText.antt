@@ -1,10 +1,11 @@
 -- What a text of a configuration states, or its first fault: the lines in their order, and in each its
 -- words from the left (configuration reference).
-use Rattle.std.specs.Prelude.{◌≡◌, ℕ, List, [], ◌∷◌, length, Bool, if◌then◌else◌, ◌||◌, nat_lt, Some, None, Ok, Err, codes, bytes_eq}
-use Rattle.std.specs.List.{list_any}
+use Rattle.std.specs.Prelude.{◌≡◌, ℕ, List, [], ◌∷◌, length, if◌then◌else◌, nat_lt, Some, None, Ok, Err, codes}
 use Rattle.std.specs.declared.option.Option.{Option}
 use Rattle.std.specs.declared.result.Result.{Result}
 use Rattle.sq_base.specs.Lines.{lexed}
+use Rattle.sq_base.specs.NameTables.{beside, is_among}
+use Rattle.sq_base.specs.Results.{◌>>=◌}
 use Rattle.sq_base.specs.declared.config_lines.Line.{Line}
 use Rattle.sq_base.specs.declared.config_lines.LineFault.{LineFault}
 use Rattle.sq_base.specs.declared.config_lines.LineFault.TheVariants as fault
@@ -14,51 +15,47 @@ use Rattle.sq_rules.specs.Configurations.{Configuration}
 use Rattle.sq_rules.specs.Drafts.{Drafts, begun, are_complete, finished}
 use Rattle.sq_rules.specs.Limits.{text_limit}
 use Rattle.sq_rules.specs.PoolLines.{initial_line, pool_access_line, pool_class_line, pool_pairs_line, pools_line, port_line}
-use Rattle.sq_rules.specs.Steps.{Words, ◌>>=◌, word}
+use Rattle.sq_rules.specs.Steps.{Words, word}
 use Rattle.sq_rules.specs.declared.directives.Directive.{Directive}
 use Rattle.sq_rules.specs.declared.directives.Directive.TheVariants as directive
 use Rattle.sq_rules.specs.declared.kinds.ConfError.{ConfError}
 use Rattle.sq_rules.specs.declared.kinds.Kind.{Kind}
 use Rattle.sq_rules.specs.declared.kinds.Kind.TheVariants as kind
 
--- directives of the cache, of what it keeps, and others, that are read without effect
-abbrev pub of_cache : List (List ℕ)
-of_cache =
+-- directives by their names
+abbrev pub directives : List (List ℕ × Directive)
+directives =
+    (codes "acl", directive.Acl)
+    ∷ (codes "http_access", directive.HttpAccess)
+    ∷ (codes "external_acl_type", directive.ExternalAclType)
+    ∷ (codes "delay_pools", directive.DelayPools)
+    ∷ (codes "delay_class", directive.DelayClass)
+    ∷ (codes "delay_access", directive.DelayAccess)
+    ∷ (codes "delay_parameters", directive.DelayParameters)
+    ∷ (codes "delay_initial_bucket_level", directive.InitialLevel)
+    ∷ (codes "http_port", directive.HttpPort)
+    ∷ []
+
+-- directives of the cache and of the program that are read without effect
+abbrev pub without_effect : List (List ℕ)
+without_effect =
     codes "cache" ∷ codes "cache_dir" ∷ codes "cache_effective_group" ∷ codes "cache_effective_user" ∷ codes "cache_log" ∷ codes "cache_mem"
-    ∷ codes "cache_mgr" ∷ codes "cache_replacement_policy" ∷ codes "cache_store_log" ∷ []
-
-abbrev pub of_objects : List (List ℕ)
-of_objects =
-    codes "maximum_object_size" ∷ codes "maximum_object_size_in_memory" ∷ codes "memory_replacement_policy" ∷ codes "minimum_object_size"
-    ∷ codes "refresh_pattern" ∷ codes "strip_query_terms" ∷ []
-
-abbrev pub of_program : List (List ℕ)
-of_program =
-    codes "access_log" ∷ codes "coredump_dir" ∷ codes "dns_nameservers" ∷ codes "error_directory" ∷ codes "hosts_file"
-    ∷ codes "logfile_rotate" ∷ codes "pid_filename" ∷ codes "shutdown_lifetime" ∷ codes "visible_hostname" ∷ []
-
-abbrev pub is_among : List (List ℕ) → List ℕ → Bool
-is_among names w = list_any (λ name. bytes_eq w name) names
-
-unfoldable pub is_without_effect : List ℕ → Bool
-is_without_effect w = is_among of_cache w || is_among of_objects w || is_among of_program w
+    ∷ codes "cache_mgr" ∷ codes "cache_replacement_policy" ∷ codes "cache_store_log" ∷ codes "maximum_object_size"
+    ∷ codes "maximum_object_size_in_memory" ∷ codes "memory_replacement_policy" ∷ codes "minimum_object_size" ∷ codes "refresh_pattern"
+    ∷ codes "strip_query_terms" ∷ codes "access_log" ∷ codes "coredump_dir" ∷ codes "dns_nameservers" ∷ codes "error_directory"
+    ∷ codes "hosts_file" ∷ codes "logfile_rotate" ∷ codes "pid_filename" ∷ codes "shutdown_lifetime" ∷ codes "visible_hostname" ∷ []
 
 abbrev pub directive_without_effect : List ℕ → Result Directive Kind
-directive_without_effect w = if is_without_effect w then Ok directive.NoEffect else Err kind.UnknownDirective
+directive_without_effect w = if is_among without_effect w then Ok directive.NoEffect else Err kind.UnknownDirective
+
+-- a directive with an effect, or one without
+abbrev pub or_without_effect : Option Directive → List ℕ → Result Directive Kind
+or_without_effect (Some d) w = Ok d
+or_without_effect None w = directive_without_effect w
 
 -- the directive of this name
 unfoldable pub directive_of : List ℕ → Result Directive Kind
-directive_of w =
-    if bytes_eq w (codes "acl") then Ok directive.Acl
-    else (if bytes_eq w (codes "http_access") then Ok directive.HttpAccess
-    else (if bytes_eq w (codes "external_acl_type") then Ok directive.ExternalAclType
-    else (if bytes_eq w (codes "delay_pools") then Ok directive.DelayPools
-    else (if bytes_eq w (codes "delay_class") then Ok directive.DelayClass
-    else (if bytes_eq w (codes "delay_access") then Ok directive.DelayAccess
-    else (if bytes_eq w (codes "delay_parameters") then Ok directive.DelayParameters
-    else (if bytes_eq w (codes "delay_initial_bucket_level") then Ok directive.InitialLevel
-    else (if bytes_eq w (codes "http_port") then Ok directive.HttpPort
-    else directive_without_effect w))))))))
+directive_of w = or_without_effect (beside directives w) w
 
 -- what the words behind a directive change
 unfoldable pub by_directive : Directive → ℕ → List ℕ → Drafts → Words → Result Drafts Kind

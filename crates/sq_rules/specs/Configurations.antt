@@ -3,7 +3,7 @@
 use Rattle.std.specs.Prelude.{◌≡◌, ℕ, ◌≤◌, List, [], ◌∷◌, ◌++◌, length, Bool, true, false, not, ◌&&◌, ◌==◌, nat_lt, nat_le, max, suc, bytes_eq, slice_index_or, if◌then◌else◌, Some, None}
 use Rattle.std.specs.declared.option.Option.{Option}
 use Rattle.std.specs.List.{list_all, list_any}
-use Rattle.sq_rules.specs.Classes.{HelperClass}
+use Rattle.sq_rules.specs.Classes.{Class}
 use Rattle.sq_rules.specs.Limits.{acl_limit, class_limit, initial_limit, nesting_limit, pool_limit, rule_limit, text_limit}
 use Rattle.sq_rules.specs.declared.configs.Acl.{Acl}
 use Rattle.sq_rules.specs.declared.configs.Body.{Body}
@@ -16,7 +16,7 @@ use Rattle.sq_rules.specs.declared.pools.Pool.{Pool}
 -- the text of the file, and what it states
 pub record Configuration : Type 0 where
   pub source : List ℕ
-  pub classes : List HelperClass
+  pub classes : List Class
   pub acls : List Acl
   pub rules : List Rule
   pub pools : List Pool
@@ -47,12 +47,12 @@ abbrev pub are_unique : List Acl → Bool
 are_unique acls = have_own_names (λ a. a.name) acls
 
 -- a class of this name is among these
-abbrev pub has_class : List HelperClass → List ℕ → Bool
+abbrev pub has_class : List Class → List ℕ → Bool
 has_class classes name = is_named (λ c. c.name) classes name
 
 -- no two classes have one name
-abbrev pub are_distinct : List HelperClass → Bool
-are_distinct classes = have_own_names (λ c. c.name) classes
+abbrev pub have_distinct_names : List Class → Bool
+have_distinct_names classes = have_own_names (λ c. c.name) classes
 
 -- each term names one of this many acls
 abbrev pub are_known : ℕ → List Term → Bool
@@ -137,6 +137,10 @@ slow_ones acls = slow_on [] acls
 abbrev pub is_fast_rule : List Acl → Rule → Bool
 is_fast_rule acls r = is_known_rule (length acls) r && not (some_slow (slow_ones acls) r.terms)
 
+-- no term of the rules asks a helper, or names a group that reaches one
+abbrev pub asks_nobody : Configuration → Bool
+asks_nobody c = list_all (λ r. not (some_slow (slow_ones c.acls) r.terms)) c.rules
+
 -- the class is 1, 2 or 3, and there are as many limits as it has buckets
 abbrev pub has_buckets : ℕ → ℕ → Bool
 has_buckets class pairs = nat_le 1 class && nat_le class 3 && pairs == class
@@ -149,7 +153,7 @@ is_pool acls p = has_buckets p.class (length p.pairs) && list_all (is_fast_rule 
 -- periods of `time` are held by the invariants of these types
 pub record IsConfiguration (c : Configuration) : Type 0 where
   pub short : length c.source ≤ text_limit
-  pub class_names : are_distinct c.classes ≡ true
+  pub class_names : have_distinct_names c.classes ≡ true
   pub names : are_unique c.acls ≡ true
   pub members : are_known_bodies (length c.classes) 0 c.acls ≡ true
   pub shallow : are_shallow c.acls ≡ true

@@ -1,15 +1,13 @@
--- That every verdict of a history is the direct evaluation of the configuration current when its check
+-- That every verdict of a history without helpers is the direct evaluation of the configuration current when its check
 -- began, over what the check saw then.
-use Rattle.std.specs.Prelude.{◌≡◌, ℕ, List, [], ◌∷◌, Some}
-use Rattle.sq_rules.specs.declared.entries.Event.{Event}
-use Rattle.sq_rules.specs.declared.entries.Event.TheVariants.{Take}
-use Rattle.sq_rules.specs.declared.entries.Told.{Told}
-use Rattle.sq_rules.specs.declared.entries.Told.TheVariants as told
+use Rattle.std.specs.Prelude.{◌≡◌, ℕ, List, [], ◌∷◌, Some, None}
+use Rattle.std.specs.declared.option.Option.{Option}
 use Rattle.sq_rules.specs.declared.outcomes.Outcome.{Outcome}
+use Rattle.sq_rules.specs.Checks.{Asked, ask_of}
 use Rattle.sq_rules.specs.Configurations.{Configuration}
 use Rattle.sq_rules.specs.Entries.{History}
+use Rattle.sq_rules.specs.Events.{Judgement, judgement}
 use Rattle.sq_rules.specs.Machine.{config_of}
-use Rattle.sq_rules.specs.Readings.{Asked, ask_of}
 use Rattle.sq_rules.specs.Verdicts.{verdict}
 
 -- check n began as this, in the epoch that is told, and the outcome is the verdict of that epoch's configuration over what it saw
@@ -21,11 +19,11 @@ pub record IsVerdict (configs : List Configuration) (h : History) (n epoch : ℕ
   pub config_is : config_of configs asked.epoch ≡ Some config
   pub outcome_is : o ≡ verdict config asked.sight
 
-abbrev pub IsDirectAnswer : List Configuration → History → Event → Told → Type 0
-IsDirectAnswer configs h (Take n) (told.Judged epoch o) = IsVerdict configs h n epoch o
-IsDirectAnswer configs h event answer = Unit {0}
+abbrev pub IsDirectAnswer : List Configuration → History → Option Judgement → Type 0
+IsDirectAnswer configs h None = Unit {0}
+IsDirectAnswer configs h (Some j) = IsVerdict configs h j.check j.epoch j.outcome
 
 -- each outcome that was taken is such a verdict
 abbrev pub IsDirect : List Configuration → History → Type 0
 IsDirect configs [] = Unit {0}
-IsDirect configs (e ∷ h) = IsDirectAnswer configs h e.event e.answer × IsDirect configs h
+IsDirect configs (e ∷ h) = IsDirectAnswer configs h (judgement e.event e.answer) × IsDirect configs h

@@ -4,11 +4,11 @@
 use Rattle.std.specs.Prelude.{ℕ, List, [], ◌∷◌, ◌++◌, map, Bool, true, false, not, ◌&&◌, replicate, set, Some, None, is_some, slice_get, slice_index_or}
 use Rattle.std.specs.List.{list_all}
 use Rattle.std.specs.declared.option.Option.{Option}
-use Rattle.sq_rules.specs.Classes.{HelperClass}
+use Rattle.sq_rules.specs.Classes.{Class}
 use Rattle.sq_rules.specs.Configurations.{Configuration, slow_ones, some_slow}
 use Rattle.sq_rules.specs.Patterns.{is_pattern}
 use Rattle.sq_rules.specs.Predefined.{predefined}
-use Rattle.sq_rules.specs.Rates.{Rate}
+use Rattle.sq_rules.specs.Rates.{Limit}
 use Rattle.sq_rules.specs.declared.acl_types.AclType.{AclType}
 use Rattle.sq_rules.specs.declared.acl_types.AclType.TheVariants as type
 use Rattle.sq_rules.specs.declared.configs.Acl.{Acl}
@@ -26,12 +26,12 @@ use Rattle.sq_rules.specs.declared.pools.Pool.{Pool}
 -- a delay pool as far as it is stated
 pub record PoolDraft : Type 0 where
   pub class : Option ℕ
-  pub pairs : Option (List (Option Rate))
+  pub pairs : Option (List (Option Limit))
   pub lists : List Rule
 
 -- what the lines so far state; the pools are counted once `delay_pools` stands
 pub record Drafts : Type 0 where
-  pub classes : List HelperClass
+  pub classes : List Class
   pub acls : List Acl
   pub rules : List Rule
   pub counted : Bool
@@ -166,7 +166,7 @@ abbrev pub or_zero : Option ℕ → ℕ
 or_zero None = 0
 or_zero (Some n) = n
 
-abbrev pub or_none : Option (List (Option Rate)) → List (Option Rate)
+abbrev pub or_none : Option (List (Option Limit)) → List (Option Limit)
 or_none None = []
 or_none (Some pairs) = pairs
 

@@ -5,10 +5,11 @@ use Rattle.std.specs.Str.{str_to_ascii_lowercase, str_eq_ignore_ascii_case}
 use Rattle.std.specs.declared.option.Option.{Option}
 use Rattle.percent_encoding.specs.Percent.{percent_decode}
 use Rattle.sq_base.specs.Addresses.{Address}
+use Rattle.sq_base.specs.Bytes.{dot}
 use Rattle.sq_base.specs.Ranges.{in_range}
 use Rattle.sq_base.specs.declared.addresses.Range.{Range}
 use Rattle.sq_rules.specs.Patterns.{some_found}
-use Rattle.sq_rules.specs.Times.{in_period}
+use Rattle.sq_rules.specs.Times.{in_hour}
 use Rattle.sq_rules.specs.declared.leaves.Leaf.{Leaf}
 use Rattle.sq_rules.specs.declared.leaves.Leaf.TheVariants as leaf
 use Rattle.sq_rules.specs.declared.sights.Sight.{Sight}
@@ -21,7 +22,7 @@ in_ranges ranges (Some a) = list_any (λ r. in_range r a) ranges
 -- the host is the domain; one that begins with `.` stands for itself without it, and for all names below
 abbrev pub in_domain : List ℕ → List ℕ → Bool
 in_domain host [] = bytes_eq [] host
-in_domain host (b ∷ bs) = if b == 46 then bytes_eq bs host || ends_with nat_eq host (b ∷ bs) else bytes_eq (b ∷ bs) host
+in_domain host (b ∷ bs) = if b == dot then bytes_eq bs host || ends_with nat_eq host (b ∷ bs) else bytes_eq (b ∷ bs) host
 
 -- there is a scheme, and it is one of these without case
 abbrev pub has_scheme : List (List ℕ) → List ℕ → Bool
@@ -36,6 +37,6 @@ holds (leaf.DstDomain names) s = list_any (λ n. in_domain s.request.host (str_t
 holds (leaf.Port ranges) s = list_any (λ r. nat_le r.first s.request.port && nat_le s.request.port r.last) ranges
 holds (leaf.Method names) s = list_any (λ m. bytes_eq m s.request.method) names
 holds (leaf.Proto names) s = has_scheme names s.request.scheme
-holds (leaf.Time periods) s = list_any (λ p. in_period p s.minute) periods
+holds (leaf.Time periods) s = list_any (λ p. in_hour p s.minute) periods
 holds (leaf.UrlRegex finds) s = some_found finds (percent_decode s.request.target)
 holds (leaf.MaxConn numbers) s = list_any (λ n. nat_lt n s.conns) numbers

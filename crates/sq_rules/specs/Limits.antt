@@ -48,3 +48,35 @@ delay_limit = 1000000000000000
 -- the percentage at which a bucket opens
 abbrev pub initial_limit : ℕ
 initial_limit = 100
+
+-- seconds for which a verdict of a helper may be fresh
+abbrev pub seconds_limit : ℕ
+seconds_limit = 2147483647
+
+-- the percentage of that time in which a refresh may begin
+abbrev pub grace_limit : ℕ
+grace_limit = 100
+
+-- verdicts of a class that may be kept
+abbrev pub cache_limit : ℕ
+cache_limit = 16777216
+
+-- processes of a class, and channels of a process
+abbrev pub children_limit : ℕ
+children_limit = 1024
+
+-- questions of a class that may wait
+abbrev pub queue_limit : ℕ
+queue_limit = 1000000
+
+-- numbers of `maxconn` are below this
+abbrev pub maxconn_limit : ℕ
+maxconn_limit = 2147483648
+
+-- bytes of the key of a question
+abbrev pub key_limit : ℕ
+key_limit = 8192
+
+-- epochs that may have an open check
+abbrev pub epoch_limit : ℕ
+epoch_limit = 16

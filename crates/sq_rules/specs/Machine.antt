@@ -1,5 +1,5 @@
--- What the machine answers next, and which histories are legal.
-use Rattle.std.specs.Prelude.{◌≡◌, ℕ, ◌≤◌, List, [], ◌∷◌, Bool, true, false, if◌then◌else◌, nat_le, Some, None, is_some, is_none, slice_get, ◌-◌, suc}
+-- What a machine without helpers answers next, and which of its histories are legal. FullNext has the machine with helpers, epochs and pools.
+use Rattle.std.specs.Prelude.{◌≡◌, ℕ, ◌≤◌, List, [], ◌∷◌, Bool, true, false, not, nat_le, Some, None, is_some, is_none, slice_get, zero, suc}
 use Rattle.std.specs.declared.option.Option.{Option}
 use Rattle.sq_base.specs.Targets.{target_of}
 use Rattle.sq_rules.specs.declared.entries.Event.{Event}
@@ -10,26 +10,29 @@ use Rattle.sq_rules.specs.declared.outcomes.Outcome.{Outcome}
 use Rattle.sq_rules.specs.declared.outcomes.Why.TheVariants as why
 use Rattle.sq_rules.specs.declared.refusals.Refusal.{Refusal}
 use Rattle.sq_rules.specs.declared.refusals.Refusal.TheVariants as refusal
+use Rattle.sq_rules.specs.Checks.{ask_count, ask_of, Asked, open_check, check_open, is_done}
 use Rattle.sq_rules.specs.Configurations.{Configuration}
+use Rattle.sq_rules.specs.Connections.{peer_at, open_count}
 use Rattle.sq_rules.specs.Entries.{History}
 use Rattle.sq_rules.specs.Limits.{conn_limit, last_number}
-use Rattle.sq_rules.specs.Readings.{peer_at, open_count, ask_count, ask_of, Asked, open_check, check_open, is_done}
+use Rattle.sq_rules.specs.Readings.{counted_moment}
 use Rattle.sq_rules.specs.Verdicts.{verdict}
 
--- an answer, a refusal, or nothing, for an event that may only stand first or is not built yet
+-- an answer, a refusal, or nothing: for an event that may only stand first or is not built, an act where none is due, and an event that names what is not there
 pub data Next : Type 0 where
   gives : Told → Next
   refuses : Refusal → Next
   nothing : Next
 
 -- the refusal where the test holds, and else the rest
-abbrev pub unless : Bool → Refusal → Next → Next
-unless true r rest = refuses r
-unless false r rest = rest
+abbrev pub refuse_if : Bool → Refusal → Next → Next
+refuse_if true r rest = refuses r
+refuse_if false r rest = rest
 
--- the configuration of an epoch, from 1
+-- the configuration of an epoch: epochs are numbered from 1
 abbrev pub config_of : List Configuration → ℕ → Option Configuration
-config_of configs epoch = slice_get configs (epoch - 1)
+config_of configs zero = None
+config_of configs (suc before) = slice_get configs before
 
 abbrev pub judged_by : Option Configuration → Asked → Outcome
 judged_by None a = record { allow = false; why = why.Empty }
@@ -45,32 +48,36 @@ epoch_of None = 0
 epoch_of (Some a) = a.epoch
 
 -- the refusal of an `ask` whose connection has an open check
-abbrev pub unless_open : Option ℕ → Next → Next
-unless_open None rest = rest
-unless_open (Some n) rest = refuses (refusal.CheckOpen n)
+abbrev pub refuse_open : Option ℕ → Next → Next
+refuse_open None rest = rest
+refuse_open (Some n) rest = refuses (refusal.CheckOpen n)
 
--- what the machine answers to an event, after this history
-abbrev pub next : List Configuration → History → Event → Next
-next configs h (Open c addr port) =
-    unless (is_some (peer_at h c)) (refusal.ConnInUse c)
-    (unless (nat_le conn_limit (open_count h)) (refusal.TooManyConns conn_limit)
+-- what the machine answers to an event at a moment that is none of the past
+unfoldable pub next_at : List Configuration → History → ℕ → Event → Next
+next_at configs h moment (Open c addr port) =
+    refuse_if (is_some (peer_at h c)) (refusal.ConnInUse c)
+    (refuse_if (nat_le conn_limit (open_count h)) (refusal.TooManyConns conn_limit)
     (gives told.Fine))
-next configs h (Close c) =
-    unless (is_none (peer_at h c)) (refusal.UnknownConn c)
+next_at configs h moment (Close c) =
+    refuse_if (is_none (peer_at h c)) (refusal.UnknownConn c)
     (gives told.Fine)
-next configs h (Ask c method target fields) =
-    unless (is_none (peer_at h c)) (refusal.UnknownConn c)
-    (unless_open (open_check h c)
-    (unless (nat_le last_number (suc (ask_count h))) (refusal.Spent (suc (ask_count h)))
+next_at configs h moment (Ask c method target fields) =
+    refuse_if (is_none (peer_at h c)) (refusal.UnknownConn c)
+    (refuse_open (open_check h c)
+    (refuse_if (nat_le last_number (suc (ask_count h))) (refusal.Spent (suc (ask_count h)))
     (gives (told.Check (suc (ask_count h))))))
-next configs h (Step n) =
-    unless (if check_open h n then false else true) (refusal.UnknownCheck n)
+next_at configs h moment (Step n) =
+    refuse_if (not (check_open h n)) (refusal.UnknownCheck n)
     (gives told.Done)
-next configs h (Take n) =
-    unless (if check_open h n then false else true) (refusal.UnknownCheck n)
-    (unless (if is_done h n then false else true) (refusal.NotDone n)
+next_at configs h moment (Take n) =
+    refuse_if (not (check_open h n)) (refusal.UnknownCheck n)
+    (refuse_if (not (is_done h n)) (refusal.NotDone n)
     (gives (told.Judged (epoch_of (ask_of h n)) (outcome_of configs (ask_of h n)))))
-next configs h event = nothing
+next_at configs h moment event = nothing
+
+-- what the machine answers to an event after this history; the moment counts as the greatest so far
+unfoldable pub next : List Configuration → History → ℕ → Event → Next
+next configs h moment event = next_at configs h (counted_moment h moment) event
 
 abbrev pub is_begin : Event → Bool
 is_begin (Begin offset) = true
@@ -86,4 +93,5 @@ abbrev pub Legal : List Configuration → History → Type 0
 Legal configs [] = ⊥
 Legal configs (e ∷ []) = (is_begin e.event ≡ true) × (e.answer ≡ told.Epoch 1)
 Legal configs (e ∷ f ∷ h) =
-    Legal configs (f ∷ h) × (is_begin e.event ≡ false) × (has_target e.event ≡ true) × (f.moment ≤ e.moment) × (next configs (f ∷ h) e.event ≡ gives e.answer)
+    Legal configs (f ∷ h) × (is_begin e.event ≡ false) × (has_target e.event ≡ true) × (f.moment ≤ e.moment)
+    × (next configs (f ∷ h) e.moment e.event ≡ gives e.answer)

@@ -1,16 +1,19 @@
 -- Lines of delay pools, and `http_port` (configuration reference, `delay_pools`, `delay_class`,
 -- `delay_access`, `delay_parameters`, `delay_initial_bucket_level`, `http_port`).
-use Rattle.std.specs.Prelude.{ℕ, ◌-◌, List, [], ◌∷◌, ◌++◌, length, Bool, true, false, not, ◌&&◌, ◌||◌, ◌==◌, nat_lt, nat_le, Some, None, Ok, Err, is_none, codes, bytes_eq, slice_index_or}
+use Rattle.std.specs.Prelude.{ℕ, ◌-◌, List, [], ◌∷◌, ◌++◌, length, Bool, true, false, not, ◌&&◌, ◌==◌, nat_lt, nat_le, Some, None, Ok, Err, is_none, codes, slice_index_or}
 use Rattle.std.specs.declared.option.Option.{Option}
 use Rattle.std.specs.declared.result.Result.{Result}
+use Rattle.sq_base.specs.Decimals.{port_limit}
+use Rattle.sq_base.specs.NameTables.{is_among}
+use Rattle.sq_base.specs.Results.{◌>>=◌}
 use Rattle.sq_rules.specs.AclLines.{action, known_term}
 use Rattle.sq_rules.specs.ClassLines.{with_notice_if}
-use Rattle.sq_rules.specs.ConfNumbers.{digits_of, is_digits, number_in, pair_of, port_text, has_host}
+use Rattle.sq_rules.specs.ConfNumbers.{digits_of, is_digits, number_between, limit_pair_of, port_text, has_host}
 use Rattle.sq_rules.specs.Configurations.{slow_ones}
 use Rattle.sq_rules.specs.Drafts.{Drafts, PoolDraft, pool_at, with_pool, with_pools}
 use Rattle.sq_rules.specs.Limits.{initial_limit, pool_limit}
-use Rattle.sq_rules.specs.Rates.{Rate}
-use Rattle.sq_rules.specs.Steps.{Words, ◌>>=◌, unless, needed, word, no_more, over, some_of}
+use Rattle.sq_rules.specs.Rates.{Limit}
+use Rattle.sq_rules.specs.Steps.{Words, unless, needed, word, no_more, over, some_of}
 use Rattle.sq_rules.specs.declared.configs.Acl.{Acl}
 use Rattle.sq_rules.specs.declared.configs.Rule.{Rule}
 use Rattle.sq_rules.specs.declared.configs.Term.{Term}
@@ -37,8 +40,8 @@ place_in count (Some n) = unless (nat_le 1 n && nat_le n count) PoolOutOfRange (
 unfoldable pub pool_place : ℕ → List ℕ → Result ℕ Kind
 pool_place count w = unless (is_digits w) BadNumber (place_in count (digits_of pool_limit w))
 
-abbrev pub with_class : ℕ → PoolDraft → PoolDraft
-with_class class p = record p { class = Some class }
+abbrev pub with_pool_class : ℕ → PoolDraft → PoolDraft
+with_pool_class class p = record p { class = Some class }
 
 -- delay_class POOL CLASS
 unfoldable pub pool_class_line : Drafts → Words → Result Drafts Kind
@@ -46,8 +49,8 @@ pool_class_line d ws = do
   first ← word ws
   place ← pool_place (length d.pools) first.0
   second ← unless (is_none (pool_at d.pools place).class) BadValue (word first.1)
-  class ← number_in 1 3 second.0
-  no_more second.1 (with_pool place (with_class class) d)
+  class ← number_between 1 3 second.0
+  no_more second.1 (with_pool place (with_pool_class class) d)
 
 -- TERM of a pool's rule: an acl that stands, asks no helper and reaches none that does
 unfoldable pub fast_term : List Acl → List ℕ → Result Term Kind
@@ -66,7 +69,7 @@ pool_access_line d ws = do
   terms ← some_of (fast_term d.acls) second.1
   Ok (with_pool place (with_pool_rule (record { allow = allow; terms = terms })) d)
 
-abbrev pub class_wanted : Option ℕ → Option (List (Option Rate)) → Result ℕ Kind
+abbrev pub class_wanted : Option ℕ → Option (List (Option Limit)) → Result ℕ Kind
 class_wanted None pairs = Err BadValue
 class_wanted (Some class) (Some pairs) = Err BadValue
 class_wanted (Some class) None = Ok class
@@ -76,15 +79,15 @@ abbrev pub class_for_pairs : PoolDraft → Result ℕ Kind
 class_for_pairs p = class_wanted p.class p.pairs
 
 -- a pair more, of so many
-abbrev pub pair_step : ℕ → List (Option Rate) → List ℕ → Result (List (Option Rate)) Kind
-pair_step count pairs w = unless (nat_lt (length pairs) count) BadValue (pair_of w >>= λ p. Ok (pairs ++ p ∷ []))
+abbrev pub pair_step : ℕ → List (Option Limit) → List ℕ → Result (List (Option Limit)) Kind
+pair_step count pairs w = unless (nat_lt (length pairs) count) BadValue (limit_pair_of w >>= λ p. Ok (pairs ++ p ∷ []))
 
 -- so many pairs
-unfoldable pub pairs_of : ℕ → Words → Result (List (Option Rate)) Kind
-pairs_of count ws = over (pair_step count) [] ws >>= λ pairs. unless (length pairs == count) MissingWord (Ok pairs)
+unfoldable pub limit_pairs_of : ℕ → Words → Result (List (Option Limit)) Kind
+limit_pairs_of count ws = over (pair_step count) [] ws >>= λ pairs. unless (length pairs == count) MissingWord (Ok pairs)
 
-abbrev pub with_pairs : List (Option Rate) → PoolDraft → PoolDraft
-with_pairs pairs p = record p { pairs = Some pairs }
+abbrev pub with_limits : List (Option Limit) → PoolDraft → PoolDraft
+with_limits pairs p = record p { pairs = Some pairs }
 
 -- delay_parameters POOL PAIR ...
 unfoldable pub pool_pairs_line : Drafts → Words → Result Drafts Kind
@@ -92,8 +95,8 @@ pool_pairs_line d ws = do
   first ← word ws
   place ← pool_place (length d.pools) first.0
   class ← class_for_pairs (pool_at d.pools place)
-  pairs ← pairs_of class first.1
-  Ok (with_pool place (with_pairs pairs) d)
+  pairs ← limit_pairs_of class first.1
+  Ok (with_pool place (with_limits pairs) d)
 
 abbrev pub with_initial : ℕ → Drafts → Drafts
 with_initial level d = record d { initial = level }
@@ -102,31 +105,29 @@ with_initial level d = record d { initial = level }
 unfoldable pub initial_line : Drafts → Words → Result Drafts Kind
 initial_line d ws = do
   first ← word ws
-  level ← number_in 0 initial_limit first.0
+  level ← number_between 0 initial_limit first.0
   no_more first.1 (with_initial level d)
 
--- a mode of `http_port` that is refused: of interception (intercept, tproxy), of a reverse proxy (accel)
--- or of TLS that is opened (ssl-bump)
-abbrev pub is_refused_mode : List ℕ → Bool
-is_refused_mode w =
-    bytes_eq w (codes "intercept") || bytes_eq w (codes "tproxy") || bytes_eq w (codes "accel") || bytes_eq w (codes "ssl-bump")
+-- modes of `http_port` that are refused: of interception, of a reverse proxy, and of TLS that is opened
+abbrev pub refused_modes : List (List ℕ)
+refused_modes = codes "intercept" ∷ codes "tproxy" ∷ codes "accel" ∷ codes "ssl-bump" ∷ []
 
 -- a further word of `http_port`, which is no refused mode: it has no effect, and that is noted
 abbrev pub mode_step : Bool → List ℕ → Result Bool Kind
-mode_step noted w = unless (not (is_refused_mode w)) BadValue (Ok true)
+mode_step noted w = unless (not (is_among refused_modes w)) BadValue (Ok true)
 
 -- of several lines the first counts
 abbrev pub first_port : Option ℕ → ℕ → Option ℕ
 first_port None port = Some port
 first_port (Some earlier) port = Some earlier
 
-abbrev pub with_port : ℕ → Drafts → Drafts
-with_port port d = record d { port = first_port d.port port }
+abbrev pub with_http_port : ℕ → Drafts → Drafts
+with_http_port port d = record d { port = first_port d.port port }
 
 -- http_port PORT|HOST:PORT ...; a host and further words have no effect
 unfoldable pub port_line : ℕ → Drafts → Words → Result Drafts Kind
 port_line line d ws = do
   first ← word ws
-  port ← number_in 1 65535 (port_text first.0)
+  port ← number_between 1 (port_limit - 1) (port_text first.0)
   noted ← over mode_step (has_host first.0) first.1
-  Ok (with_notice_if noted line (codes "http_port") (with_port port d))
+  Ok (with_notice_if noted line (codes "http_port") (with_http_port port d))

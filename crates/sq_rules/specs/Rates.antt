@@ -3,11 +3,11 @@ use Rattle.std.specs.Prelude.{ℕ, ◌≤◌}
 use Rattle.sq_rules.specs.Limits.{delay_limit}
 
 -- what a bucket gains in a second, and what it holds at the most, in bytes
-pub record Rate : Type 0 where
+pub record Limit : Type 0 where
   pub restore : ℕ
   pub max : ℕ
 
 -- both numbers lie within the limit
-pub record IsRate (r : Rate) : Type 0 where
+pub record IsLimit (r : Limit) : Type 0 where
   pub restore_is : r.restore ≤ delay_limit
   pub max_is : r.max ≤ delay_limit

@@ -3,18 +3,13 @@
 use Rattle.std.specs.Prelude.{ℕ, List, [], ◌∷◌, ◌++◌, Bool, true, false, ◌==◌, Some, None, Ok, Err}
 use Rattle.std.specs.declared.option.Option.{Option}
 use Rattle.std.specs.declared.result.Result.{Result}
+use Rattle.sq_base.specs.Results.{◌>>=◌}
 use Rattle.sq_rules.specs.declared.kinds.Kind.{Kind}
 use Rattle.sq_rules.specs.declared.kinds.Kind.TheVariants.{MissingWord, BadValue}
 
 -- words that are left
 abbrev pub Words : Type 0
 Words = List (List ℕ)
-
--- one step after another
-infixl 10 ◌>>=◌
-abbrev pub ◌>>=◌ : {A B : Type 0} → Result A Kind → (A → Result B Kind) → Result B Kind
-(Ok x) >>= f = f x
-(Err k) >>= f = Err k
 
 -- a fault where the test does not hold
 abbrev pub unless : {A : Type 0} → Bool → Kind → Result A Kind → Result A Kind

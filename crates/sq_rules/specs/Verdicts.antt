@@ -1,71 +1,22 @@
--- The direct evaluation of a configuration over what a check sees (configuration reference, `http_access`).
-use Rattle.std.specs.Prelude.{ℕ, ◌+◌, zero, suc, List, [], ◌∷◌, Bool, true, false, not, map, Some, None, slice_get}
+-- The direct evaluation of a configuration over what a check sees and the answers of helpers that it has
+-- (configuration reference, `http_access` and `delay_access`).
+use Rattle.std.specs.Prelude.{ℕ, ◌+◌, suc, List, [], ◌∷◌, Bool, true, false, not, ◌&&◌, nat_le, if◌then◌else◌, Some, None, slice_get}
 use Rattle.std.specs.declared.option.Option.{Option}
+use Rattle.sq_base.specs.Addresses.{Address}
+use Rattle.sq_base.specs.declared.helpers.Answer.{Answer}
 use Rattle.sq_rules.specs.declared.configs.Acl.{Acl}
-use Rattle.sq_rules.specs.declared.configs.Body.{Body}
-use Rattle.sq_rules.specs.declared.configs.Body.TheVariants as body
 use Rattle.sq_rules.specs.declared.configs.Rule.{Rule}
-use Rattle.sq_rules.specs.declared.configs.Term.{Term}
 use Rattle.sq_rules.specs.declared.outcomes.Outcome.{Outcome}
+use Rattle.sq_rules.specs.declared.outcomes.Why.{Why}
 use Rattle.sq_rules.specs.declared.outcomes.Why.TheVariants as why
+use Rattle.sq_rules.specs.declared.pools.Pool.{Pool}
 use Rattle.sq_rules.specs.declared.sights.Sight.{Sight}
+use Rattle.sq_rules.specs.declared.values.TermValue.{TermValue}
+use Rattle.sq_rules.specs.declared.values.TermValue.TheVariants.{Hit, Miss, Fault, Need}
+use Rattle.sq_rules.specs.declared.values.Value.{Value}
+use Rattle.sq_rules.specs.declared.values.Value.TheVariants as value
 use Rattle.sq_rules.specs.Configurations.{Configuration}
-use Rattle.sq_rules.specs.Leaves.{holds}
-
--- the value of a term: it matches, or it does not
-pub data Value : Type 0 where
-  Hit : Value
-  Miss : Value
-
-abbrev pub value_if : Bool → Value
-value_if true = Hit
-value_if false = Miss
-
--- `!` exchanges a match and a mismatch
-abbrev pub negated : Value → Value
-negated Hit = Miss
-negated Miss = Hit
-
-abbrev pub turned : Bool → Value → Value
-turned true v = negated v
-turned false v = v
-
--- the first value that is no match, or a match
-abbrev pub both : List Value → Value
-both [] = Hit
-both (Hit ∷ values) = both values
-both (Miss ∷ values) = Miss
-
--- the first value that is no mismatch, or a mismatch
-abbrev pub either : List Value → Value
-either [] = Miss
-either (Hit ∷ values) = Hit
-either (Miss ∷ values) = either values
-
--- the value of an acl, where its members have these: some member of any-of, all members of some line of all-of
-abbrev pub body_value : (Term → Value) → Body → Sight → Value
-body_value member (body.Leaf l) s = value_if (holds l s)
-body_value member (body.External class arguments) s = Miss
-body_value member (body.AnyOf terms) s = either (map member terms)
-body_value member (body.AllOf lines) s = either (map (λ l. both (map member l)) lines)
-
--- the value of the acl at a place; where none stands, nothing matches
-abbrev pub acl_value : (Term → Value) → Option Acl → Sight → Value
-acl_value member None s = Miss
-acl_value member (Some a) s = body_value member a.body s
-
--- the value of a member of an acl with so many acls before it, since members stand before their group
-abbrev pub member_value : ℕ → List Acl → Sight → Term → Value
-member_value zero acls s t = Miss
-member_value (suc before) acls s t = turned t.negated (acl_value (member_value before acls s) (slice_get acls t.acl) s)
-
--- the value of a term
-abbrev pub term_value : List Acl → Sight → Term → Value
-term_value acls s t = turned t.negated (acl_value (member_value t.acl acls s) (slice_get acls t.acl) s)
-
--- the value of a rule: its terms from left to right
-abbrev pub rule_value : List Acl → Sight → Rule → Value
-rule_value acls s r = both (map (term_value acls s) r.terms)
+use Rattle.sq_rules.specs.Values.{rule_value, taken_at}
 
 -- without a match the outcome is the opposite of the last rule, and without rules a denial
 abbrev pub default_of : List Rule → Outcome
@@ -73,17 +24,58 @@ default_of [] = record { allow = false; why = why.Empty }
 default_of (r ∷ []) = record { allow = not r.allow; why = why.Default }
 default_of (r ∷ q ∷ rules) = default_of (q ∷ rules)
 
--- a rule that matches decides, and another one leaves it to the rest
-abbrev pub decided : ℕ → Rule → Value → Outcome → Outcome
-decided number r Hit rest = record { allow = r.allow; why = why.Rule number }
-decided number r Miss rest = rest
+-- the name of an acl, by its place
+abbrev pub name_of : Option Acl → List ℕ
+name_of None = []
+name_of (Some a) = a.name
 
--- what the rules from this number on decide, or the default
-abbrev pub rules_from : List Acl → Sight → Outcome → ℕ → List Rule → Outcome
-rules_from acls s default number [] = default
-rules_from acls s default number (r ∷ rules) =
-    decided number r (rule_value acls s r) (rules_from acls s default (number + 1) rules)
+-- a rule that matches decides, one that does not leaves it to the rest, a fault denies, and a need is the whole answer
+abbrev pub decided : List Acl → ℕ → Rule → TermValue → Value → Value
+decided acls number r Hit rest = value.Verdict (record { allow = r.allow; why = why.Rule number })
+decided acls number r Miss rest = rest
+decided acls number r (Fault acl cause) rest = value.Verdict (record { allow = false; why = why.Fault number (name_of (slice_get acls acl)) cause })
+decided acls number r (Need acl key) rest = value.Need acl key
 
--- the verdict of a configuration: the first rule that matches decides
+-- what the rules from this number on come to, or the default
+abbrev pub rules_from : (ℕ → TermValue) → List Acl → Outcome → ℕ → List Rule → Value
+rules_from taken acls default number [] = value.Verdict default
+rules_from taken acls default number (r ∷ rules) =
+    decided acls number r (rule_value taken acls r) (rules_from taken acls default (number + 1) rules)
+
+-- what a configuration comes to over these answers: the first rule that matches decides
+abbrev pub verdict_over : List Answer → Configuration → Sight → Value
+verdict_over answers c s = rules_from (taken_at c s answers) c.acls (default_of c.rules) 1 c.rules
+
+-- an outcome by a rule or by the default; without rules a denial
+abbrev pub is_plain_why : Bool → Why → Bool
+is_plain_why allow (why.Rule number) = true
+is_plain_why allow why.Default = true
+is_plain_why allow why.Empty = not allow
+is_plain_why allow (why.Fault number acl cause) = false
+
+-- what is decided; where an answer is needed first, nothing is allowed
+abbrev pub outcome_so_far : Value → Outcome
+outcome_so_far (value.Verdict o) = o
+outcome_so_far (value.Need acl key) = record { allow = false; why = why.Empty }
+
+-- the verdict of a configuration without helpers: what it comes to over no answers
 abbrev pub verdict : Configuration → Sight → Outcome
-verdict c s = rules_from c.acls s (default_of c.rules) 1 c.rules
+verdict c s = outcome_so_far (verdict_over [] c s)
+
+-- a client with an IPv6 address passes over pools of class 2 and 3, whose buckets are by parts of IPv4 addresses
+abbrev pub is_passed_over : Address → Pool → Bool
+is_passed_over a p = a.v6 && nat_le 2 p.class
+
+-- the rules of a pool allow, without helpers
+abbrev pub is_in_pool : (ℕ → TermValue) → List Acl → Pool → Bool
+is_in_pool taken acls p = (outcome_so_far (rules_from taken acls (default_of p.lists) 1 p.lists)).allow
+
+-- the first pool that is not passed over and whose rules allow, where they stand from this place on
+abbrev pub pool_from : (ℕ → TermValue) → List Acl → Address → ℕ → List Pool → Option ℕ
+pool_from taken acls a place [] = None
+pool_from taken acls a place (p ∷ pools) =
+    if not (is_passed_over a p) && is_in_pool taken acls p then Some place else pool_from taken acls a (suc place) pools
+
+-- the place of the pool of a check, if it has one
+abbrev pub pool_of : Configuration → Sight → Option ℕ
+pool_of c s = pool_from (taken_at c s []) c.acls s.addr 0 c.pools

@@ -1,18 +1,19 @@
 //! From names to places: the parts of a configuration over the tables of its classes and acls.
 ghost use Rattle.std.specs.Prelude.{◌≡◌, ◌≤◌, ◌∷◌, [], true, false, length, IfOk};
 ghost use Rattle.std.specs.List.{list_all};
-ghost use Rattle.sq_rules.specs.Building.{acls_made, body_made, classes_made, each_made, rule_made, term_made, terms_made, IsMade};
+ghost use Rattle.sq_rules.specs.Building.{acls_made, body_made, classes_made, completed, each_made, rule_made, term_made, terms_made, IsMade};
 ghost use Rattle.sq_rules.specs.Configurations.{are_known, are_known_bodies, is_known_body, is_known_rule};
 ghost use Rattle.sq_rules.specs.Limits.{acl_limit, class_limit};
 
 use crate::acl_table::AclTable;
 use crate::class_table::ClassTable;
-use crate::classes::Classes;
+use crate::classes::{Class, Classes};
 use crate::configs::{Body, Lines, Rule, Rules, Term, Terms};
+use crate::formats::with_arguments;
 use crate::parts::{
     AclParts, BodyPart, BuildFault, LineParts, RulePart, RuleParts, TermPart, TermParts,
 };
-use sq_base::Listed;
+use sq_base::{Listed, WantOfMemory};
 use std::alloc::Global;
 
 fn term_of(acls: &AclTable, part: TermPart) -> Result<Term, BuildFault>
@@ -74,6 +75,14 @@ fn body_of(
     }
 }
 
+// A class with `%DATA` in its format.
+fn completed(class: Class) -> Result<Class, WantOfMemory>
+    ensures { IfOk result (λ c. c ≡ completed class) }
+{
+    let format = with_arguments(class.format)?;
+    Ok(Class { format, ..class })
+}
+
 /// The classes, each with a name of its own.
 #[tactic(auto, using(crate::proofs::NameLaws::place_tells))]
 pub fn classes_of(alloc: Global, parts: Classes) -> Result<ClassTable, BuildFault>
@@ -86,7 +95,7 @@ pub fn classes_of(alloc: Global, parts: Classes) -> Result<ClassTable, BuildFaul
         if classes.place(&part.name).is_some() {
             return Err(BuildFault::Duplicate(part.name));
         }
-        classes = classes.with(alloc, part)?;
+        classes = classes.with(alloc, completed(part)?)?;
     }
     Ok(classes)
 }

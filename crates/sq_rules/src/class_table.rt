@@ -1,7 +1,7 @@
 //! The classes of a configuration under way.
 ghost use Rattle.std.specs.Prelude.{◌≡◌, ◌∷◌, ◌++◌, ◌<◌, [], true, length, None, IfOk, IfSome, OnOk, OnErr};
 ghost use Rattle.sq_rules.specs.Building.{class_place};
-ghost use Rattle.sq_rules.specs.Configurations.{are_distinct};
+ghost use Rattle.sq_rules.specs.Configurations.{have_distinct_names};
 ghost use Rattle.sq_rules.specs.Limits.{class_limit};
 
 use crate::classes::{Class, Classes};
@@ -19,15 +19,15 @@ pub struct ClassTable {
 
 impl Model for ClassTable {
     ghost use Rattle.std.specs.Prelude.{◌≡◌, List, true};
-    ghost use Rattle.sq_rules.specs.Classes.{HelperClass};
-    ghost use Rattle.sq_rules.specs.Configurations.{are_distinct};
+    ghost use Rattle.sq_rules.specs.Classes.{Class};
+    ghost use Rattle.sq_rules.specs.Configurations.{have_distinct_names};
     ghost use Rattle.sq_rules.specs.Names.{KnowsPlaces};
 
-    ghost Value = { List HelperClass };
+    ghost Value = { List Class };
 
     ghost view = { λ t. t.classes.items };
 
-    ghost invariant = { λ t. KnowsPlaces (λ c. c.name) t.places t.classes.items × (are_distinct t.classes.items ≡ true) };
+    ghost invariant = { λ t. KnowsPlaces (λ c. c.name) t.places t.classes.items × (have_distinct_names t.classes.items ≡ true) };
 }
 
 impl ClassTable {
@@ -84,7 +84,7 @@ impl ClassTable {
     /// The classes alone.
     pub fn into_classes(self) -> Classes
         ensures classes { result ≡ self }
-        ensures distinct { are_distinct result ≡ true }
+        ensures distinct { have_distinct_names result ≡ true }
     {
         Listed::from_vec(self.classes)
     }

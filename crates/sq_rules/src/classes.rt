@@ -1,4 +1,8 @@
 //! Classes of helpers, as `external_acl_type` states them.
+ghost use Rattle.std.specs.Prelude.{◌≡◌};
+ghost use Rattle.std.specs.Cmp.Lexicographic.{pointwise};
+ghost use Rattle.sq_rules.specs.KeptLists.{is_alike, same_times, same_processes, same_token};
+
 use sq_base::{Listed, Text, Texts};
 use std::marker::Model;
 
@@ -60,13 +64,54 @@ pub struct Class {
 }
 
 impl Model for Class {
-    ghost use Rattle.sq_rules.specs.Classes.{HelperClass, IsClass};
+    ghost use Rattle.sq_rules.specs.Classes.{Class, IsClass};
 
-    ghost Value = { HelperClass };
+    ghost Value = { Class };
 
     ghost view = { λ c. record { name = c.name; ttl = c.ttl; negative_ttl = c.negative_ttl; grace = c.grace; cache = c.cache; children_max = c.children_max; startup = c.startup; concurrency = c.concurrency; queue_size = c.queue_size; format = c.format; words = c.words } };
 
     ghost invariant = { λ c. IsClass (record { name = c.name; ttl = c.ttl; negative_ttl = c.negative_ttl; grace = c.grace; cache = c.cache; children_max = c.children_max; startup = c.startup; concurrency = c.concurrency; queue_size = c.queue_size; format = c.format; words = c.words }) };
+}
+
+impl Class {
+    /// Whether both state the same in each part, the name among them. Kept verdicts move to such a
+    /// class when a configuration is read again. It takes no memory.
+    pub fn alike(&self, other: &Class) -> bool
+        ensures { result ≡ is_alike self.now other.now }
+    {
+        self.name == other.name
+            && same_times(self, other)
+            && same_processes(self, other)
+            && same_format(&self.format, &other.format)
+            && self.words == other.words
+    }
+}
+
+// Whether both say the same of kept verdicts.
+fn same_times(class: &Class, other: &Class) -> bool
+    ensures { result ≡ same_times class.now other.now }
+{
+    class.ttl == other.ttl
+        && class.negative_ttl == other.negative_ttl
+        && class.grace == other.grace
+        && class.cache == other.cache
+}
+
+// Whether both say the same of processes.
+fn same_processes(class: &Class, other: &Class) -> bool
+    ensures { result ≡ same_processes class.now other.now }
+{
+    class.children_max == other.children_max
+        && class.startup == other.startup
+        && class.concurrency == other.concurrency
+        && class.queue_size == other.queue_size
+}
+
+// Whether both formats have the same tokens.
+fn same_format(format: &Tokens, other: &Tokens) -> bool
+    ensures { result ≡ pointwise same_token format.now other.now }
+{
+    format == other
 }
 
 /// A list of classes.

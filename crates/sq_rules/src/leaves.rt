@@ -22,13 +22,13 @@ pub struct Hour {
 }
 
 impl Model for Hour {
-    ghost use Rattle.sq_rules.specs.Times.{Period, IsPeriod};
+    ghost use Rattle.sq_rules.specs.Times.{Hour, IsHour};
 
-    ghost Value = { Period };
+    ghost Value = { Hour };
 
     ghost view = { λ h. record { days = h.days; first = h.first; last = h.last } };
 
-    ghost invariant = { λ h. IsPeriod (record { days = h.days; first = h.first; last = h.last }) };
+    ghost invariant = { λ h. IsHour (record { days = h.days; first = h.first; last = h.last }) };
 
     ghost inverse = { λ p. record { days = p.days; first = p.first; last = p.last } };
 }

@@ -4,7 +4,8 @@
 //! named place exists and is earlier, groups nest 32 deep at the most, and rules of delay pools ask no
 //! helper. `Entry` is one line of a journal: a moment, an event and its answer. `Facts` are the truth
 //! values of the leaf acls that a check looks at. The definitions of `specs/` say when a leaf acl holds
-//! (`Leaves`), which facts a check has (`Facts`), what a rule decides (`Verdicts`), what a history of
+//! (`Leaves`), which facts a check has (`Facts`), what a helper is asked (`Keys`), what terms and rules come
+//! to over its answers (`Values`, `Verdicts`) and by which acls (`Walks`), what a history of
 //! entries says of connections and checks (`Readings`), and what the machine answers next (`Machine`).
 #![tactic(auto)]
 
@@ -19,8 +20,11 @@ mod directives;
 mod entries;
 mod facts;
 mod fast_lists;
+mod formats;
+mod kept;
 mod kinds;
 mod leaves;
+mod limits;
 mod member_faults;
 mod names;
 mod nesting;
@@ -29,9 +33,11 @@ mod outcomes;
 mod parts;
 mod pools;
 mod predefined;
+mod reaching;
 mod rechecks;
 mod refusals;
 mod sights;
+mod values;
 
 pub use acl_table::AclTable;
 pub use acl_types::AclType;
@@ -41,8 +47,15 @@ pub use configs::{Acl, Acls, Body, Config, Lines, Rule, Rules, Term, Terms};
 pub use directives::{ClassOption, Directive};
 pub use entries::{Entry, Event, Offset, Told};
 pub use facts::Facts;
+pub use formats::with_arguments;
+pub use kept::KeptVerdict;
 pub use kinds::{ConfError, Kind};
 pub use leaves::{Find, Finds, Hour, Hours, Leaf, Numbers, PortRange, PortRanges};
+pub use limits::{
+    ACL_LIMIT, CACHE_LIMIT, CHILDREN_LIMIT, CLASS_LIMIT, DAY_MINUTES, DELAY_LIMIT, GRACE_LIMIT,
+    INITIAL_LIMIT, MAXCONN_LIMIT, NAME_LIMIT, NESTING_LIMIT, POOL_LIMIT, QUEUE_LIMIT, RULE_LIMIT,
+    SECONDS_LIMIT, TEXT_LIMIT, TOKEN_LIMIT,
+};
 pub use member_faults::MemberFault;
 pub use notices::{Notice, Notices};
 pub use outcomes::{Outcome, Why};
@@ -52,5 +65,7 @@ pub use parts::{
 };
 pub use pools::{Limit, Limits, Pool, Pools};
 pub use predefined::predefined_acls;
+pub use reaching::asks_nobody;
 pub use refusals::Refusal;
 pub use sights::{Peer, Sight};
+pub use values::{TermValue, Value};

@@ -5,9 +5,7 @@ ghost use Rattle.sq_rules.specs.Configurations.{deepest, greatest_of, nesting_of
 ghost use Rattle.sq_rules.specs.Tables.{allowed};
 
 use crate::configs::{Body, Term, Terms};
-
-/// How deep groups may nest.
-const NESTING_LIMIT: u32 = 32;
+use crate::limits::NESTING_LIMIT;
 
 /// The nesting of a term's acl.
 pub fn nesting_at(before: &[u32], term: Term) -> u32
@@ -77,8 +75,8 @@ pub fn is_slow_at(before: &[bool], term: Term) -> bool
     }
 }
 
-// Whether some term's acl is slow.
-fn some_slow(before: &[bool], terms: &[Term]) -> bool
+/// Whether some term's acl is slow.
+pub fn some_slow(before: &[bool], terms: &[Term]) -> bool
     ensures { result ≡ some_slow before.now terms.now }
 {
     terms.iter().any(|term| is_slow_at(before, *term))

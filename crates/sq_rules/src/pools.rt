@@ -11,13 +11,13 @@ pub struct Limit {
 }
 
 impl Model for Limit {
-    ghost use Rattle.sq_rules.specs.Rates.{Rate, IsRate};
+    ghost use Rattle.sq_rules.specs.Rates.{Limit, IsLimit};
 
-    ghost Value = { Rate };
+    ghost Value = { Limit };
 
     ghost view = { λ l. record { restore = l.restore; max = l.max } };
 
-    ghost invariant = { λ l. IsRate (record { restore = l.restore; max = l.max }) };
+    ghost invariant = { λ l. IsLimit (record { restore = l.restore; max = l.max }) };
 
     ghost inverse = { λ r. record { restore = r.restore; max = r.max } };
 }

@@ -1,6 +1,6 @@
-pub mod ManyLaws
-pub mod MatcherLaws
+mod ManyLaws
+mod MatcherLaws
 pub mod PatternLaws
-pub mod PlaceLaws
-pub mod ReadLaws
-pub mod ThreadLaws
+mod PlaceLaws
+mod ReadLaws
+mod ThreadLaws

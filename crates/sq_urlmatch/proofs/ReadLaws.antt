@@ -1,5 +1,6 @@
 -- What the reader of patterns answers, in terms of the grammar.
 use Rattle.std.proofs.Common.{◌≡◌, ◌≢◌, ℕ, ◌<◌, ◌≤◌, List, length, get_or, Option, None, Some, IsSomeAnd, IfSome, is_some, ⊎_elim, ap, false, true, Bool, refl, arith, ◌&&◌, IsUtf8, All}
+use Rattle.std.proofs.lemmas.Bool.{and_from}
 use Rattle.std.proofs.lemmas.Bool.{cases_Bool, cases_lt}
 use Rattle.std.proofs.lemmas.Bool.Decides.{nat_tests}
 use Rattle.std.proofs.lemmas.List.Elements.{All-get_or}
@@ -47,13 +48,10 @@ well_of_Reads : (fold : Bool) (source : List ℕ) (hir : Hir) (names : Names) �
 unfolding Reads
 well_of_Reads fold source hir names reads = well (read (options fold) (chars source)) (meaning hir) names reads
 
-and_true : (a b : Bool) → a ≡ true → b ≡ true → (a && b) ≡ true
-and_true a b p q = grind (arith, p, q)
-
 -- a text that was read is a pattern
 pub good_of_Reads : (f : Find) (hir : Hir) (names : Names) → is_utf8 f.pattern ≡ true → Reads (options f.fold) f.pattern hir names → is_pattern f ≡ true
 unfolding is_pattern reading
-good_of_Reads f hir names utf8 reads = and_true (is_utf8 f.pattern) (reads_well (reading f)) utf8 (well_of_Reads f.fold f.pattern hir names reads)
+good_of_Reads f hir names utf8 reads = and_from (is_utf8 f.pattern) (reads_well (reading f)) utf8 (well_of_Reads f.fold f.pattern hir names reads)
 
 ill : (o : Option (Nested Re × Names)) → IfSome o (λ r. 250 < r.0.depth) → reads_well o ≡ false
 ill None p = refl

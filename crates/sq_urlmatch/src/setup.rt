@@ -56,7 +56,8 @@ impl Model for Setup {
 }
 
 impl Setup {
-    /// Compiles the patterns of a configuration, or names the first that is none, or wants memory.
+    /// Reads all patterns of a configuration and then compiles them, or names the first that is none, or
+    /// wants memory.
     pub fn make(alloc: Global, config: Config) -> Result<Setup, SetupFault>
         ensures ok { IfOk result (λ s. s ≡ config) }
         ensures good { IfOk result (λ _. fault_from 0 config.acls ≡ None) }

@@ -1,2 +1,2 @@
-pub mod DayLaws
-pub mod SchemeLaws
+mod DayLaws
+mod SchemeLaws

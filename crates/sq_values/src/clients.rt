@@ -1,11 +1,11 @@
 //! Leaf acls that read the client and the time.
 ghost use Rattle.std.specs.Prelude.{◌≡◌};
 ghost use Rattle.sq_rules.specs.Leaves.{holds};
-ghost use Rattle.sq_rules.specs.Times.{has_day, in_period};
+ghost use Rattle.sq_rules.specs.Times.{has_day, in_hour};
 
 use crate::ranges::some_range;
 use sq_base::Ranges;
-use sq_rules::{Hour, Hours, Leaf, Numbers, Sight};
+use sq_rules::{DAY_MINUTES, Hour, Hours, Leaf, Numbers, Sight};
 
 /// `src`: the client's address lies in some range.
 pub fn src_has(values: &Ranges, sight: &Sight) -> bool
@@ -32,10 +32,10 @@ pub fn time_has(values: &Hours, sight: &Sight) -> bool
 
 // Whether the minute of the week lies in the line's days and minutes, both ends included.
 fn in_period(hour: &Hour, minute: u32) -> bool
-    ensures { result ≡ in_period hour.now minute }
+    ensures { result ≡ in_hour hour.now minute }
 {
-    let of_day = minute % 1440;
-    has_day(hour.days, minute / 1440) && hour.first <= of_day && of_day <= hour.last
+    let of_day = minute % DAY_MINUTES;
+    has_day(hour.days, minute / DAY_MINUTES) && hour.first <= of_day && of_day <= hour.last
 }
 
 // Whether the days have this one, from Sunday as 0.

@@ -1,5 +1,5 @@
 //! Targets, heads and their ends.
-use sq_base::{Fields, Request, Text, WantOfMemory};
+use sq_base::{Copying, Fields, Request, Text, WantOfMemory};
 use sq_request::{BadRequest, head_end, make_request, read_request};
 use std::alloc::Global;
 use std::test::Fail;
@@ -327,6 +327,17 @@ fn hosts_spell_these_addresses(rt: HostRuntime) -> Result<(), Fail> {
         let spelled = literal_of(rt.alloc(), target)?;
         assert!(rt; spelled == literal, "at {target:?}");
     }
+    Ok(())
+}
+
+#[test]
+fn copies_are_the_same_requests(rt: HostRuntime) -> Result<(), Fail> {
+    let request = ask(rt.alloc(), b"GET", b"HTTP://[::1]:81/B?C")?;
+    let copy = request.copy(rt.alloc())?;
+    let same = is_asked(&copy, b"GET", b"HTTP://[::1]:81/B?C")
+        && has_parts(&copy, b"http", b"::1", 81, b"/B?C")
+        && copy.literal == request.literal;
+    assert!(rt; same);
     Ok(())
 }
 

@@ -68,11 +68,17 @@ fn a_faulty_configuration_is_refused_at_its_line(rt: HostRuntime) -> Result<(), 
 }
 
 #[test]
-fn rules_over_groups_and_helpers_are_not_run_yet(rt: HostRuntime) -> Result<(), Fail> {
+fn rules_that_reach_a_helper_are_not_run_yet(rt: HostRuntime) -> Result<(), Fail> {
     for conf in [
         row(
             "a rule with a group",
             "acl a port 80\nacl g any-of a\nhttp_access allow all\nhttp_access allow !g\n",
+            0,
+            "0 begin 0 => epoch 1\n",
+        ),
+        row(
+            "a rule with a group that reaches a helper",
+            "external_acl_type v %DST /bin/h\nacl x external v\nacl g any-of x\nhttp_access allow !g\n",
             11,
             "error unbuilt conf\n",
         ),

@@ -10,7 +10,7 @@ ghost use Rattle.sq_rules.specs.declared.configs.Body.TheVariants as body;
 use crate::builder::Builder;
 use crate::pools::stay_fast;
 use sq_base::{Listed, Text, Texts, WantOfMemory};
-use sq_rules::{AclType, Body, Leaf, MemberFault, Term};
+use sq_rules::{ACL_LIMIT, AclType, Body, Leaf, MemberFault, Term};
 use std::alloc::Global;
 
 impl Builder {
@@ -33,7 +33,7 @@ impl Builder {
     pub fn has_room_for_acl(&self) -> bool
         ensures { result ≡ nat_lt (length self.now.acls) acl_limit }
     {
-        self.acls.len() < 4096
+        self.acls.len() < ACL_LIMIT
     }
 
     /// The type of the acl at a place.

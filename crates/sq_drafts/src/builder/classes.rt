@@ -5,7 +5,7 @@ ghost use Rattle.sq_rules.specs.Limits.{class_limit};
 
 use crate::builder::Builder;
 use sq_base::{Text, WantOfMemory};
-use sq_rules::Class;
+use sq_rules::{CLASS_LIMIT, Class};
 use std::alloc::Global;
 
 impl Builder {
@@ -21,7 +21,7 @@ impl Builder {
     pub fn has_room_for_class(&self) -> bool
         ensures { result ≡ nat_lt (length self.now.classes) class_limit }
     {
-        self.classes.len() < 64
+        self.classes.len() < CLASS_LIMIT
     }
 
     /// One class more.

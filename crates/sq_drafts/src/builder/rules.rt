@@ -5,14 +5,14 @@ ghost use Rattle.sq_rules.specs.Limits.{rule_limit};
 
 use crate::builder::Builder;
 use sq_base::WantOfMemory;
-use sq_rules::Rule;
+use sq_rules::{RULE_LIMIT, Rule};
 
 impl Builder {
     /// Whether one rule more may stand.
     pub fn has_room_for_rule(&self) -> bool
         ensures { result ≡ nat_lt (length self.now.rules) rule_limit }
     {
-        self.rules.len() < 10_000
+        self.rules.len() < RULE_LIMIT
     }
 
     /// One rule more, whose terms name acls that stand.

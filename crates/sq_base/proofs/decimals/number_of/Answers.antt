@@ -2,7 +2,7 @@ use Rattle.std.proofs.Common.{◌≡◌, ◌+◌, ◌*◌, ◌∷◌, ◌∙◌,
 use Rattle.std.proofs.Math.ListN.{drop_of_length-le}
 use Rattle.std.specs.Str.{bytes_eq}
 use Rattle.sq_base.specs.Decimals.{read_on}
-use Rattle.sq_base.proofs.NumberLaws.{read_on-grows, number_past, number_other, number_taken}
+use Rattle.sq_base.proofs.NumberLaws.{read_on_grows, number_past, number_other, number_taken}
 use Rattle.sq_base.proofs.decimals.number_of.Goals as goal
 
 pub returns-then-next-limit-clause-read : goal.returns-then-next-limit-clause-read
@@ -14,7 +14,7 @@ returns-then-next-limit-clause-read c =
     let cons : drop at word ≡ get_or word at 0 ∷ rest = rw (add-one) (drop-cons word at 0 c.loop-byte-test.true) in
     let step : read_on (number * 10 + c.saturating_sub.result) rest ≡ read_on 0 word =
     rw (c.saturating_sub.ensures) (ap (λ l. read_on number l) (sym cons) ∙ c.loop-byte.invariant) in
-    sym (number_past c.args.limit word (omega (arith, read_on-grows (number * 10 + c.saturating_sub.result) rest, step)))
+    sym (number_past c.args.limit word (omega (arith, read_on_grows (number * 10 + c.saturating_sub.result) rest, step)))
 
 pub returns-then-number-limit-clause-read : goal.returns-then-number-limit-clause-read
 returns-then-number-limit-clause-read c =

@@ -1,5 +1,5 @@
 use Rattle.std.proofs.Common.{◌≡◌, ◌+◌, ◌*◌, ◌∷◌, ◌∙◌, sym, ap, arith, drop, get_or, drop-cons, add-one}
-use Rattle.sq_base.proofs.NumberLaws.{read_on-grows}
+use Rattle.sq_base.proofs.NumberLaws.{read_on_grows}
 use Rattle.sq_base.specs.Decimals.{read_on}
 use Rattle.sq_conf.proofs.NumberLaws.{digits_past}
 use Rattle.sq_conf.proofs.numbers.digits_of.Goals as goal
@@ -13,4 +13,4 @@ returns-then-next-most-clause-read c =
     let cons : drop at word ≡ get_or word at 0 ∷ rest = rw (add-one) (drop-cons word at 0 c.loop-byte-test.true) in
     let step : read_on (number * 10 + c.saturating_sub.result) rest ≡ read_on 0 word =
     rw (c.saturating_sub.ensures) (ap (λ l. read_on number l) (sym cons) ∙ c.loop-byte.invariant.0) in
-    sym (digits_past c.args.most word (omega (arith, read_on-grows (number * 10 + c.saturating_sub.result) rest, step)))
+    sym (digits_past c.args.most word (omega (arith, read_on_grows (number * 10 + c.saturating_sub.result) rest, step)))

@@ -1,6 +1,6 @@
 use Rattle.std.proofs.Common.{◌<◌, arith}
 use Rattle.std.proofs.lemmas.List.Elements.{All-from_get_or}
-use Rattle.sq_journal.proofs.EntryLaws.{dated_found, dated_only}
+use Rattle.sq_journal.proofs.EntryLaws.{dated_found, dated_only, dated_one}
 use Rattle.sq_journal.proofs.entries.read_event.Goals as goal
 
 pub returns-clause-found : goal.returns-clause-found
@@ -9,3 +9,6 @@ returns-clause-found c =
 
 pub returns-clause-only : goal.returns-clause-only
 returns-clause-only c = dated_only c.dated.result c.args.line.now c.dated.ensures
+
+pub returns-clause-one : goal.returns-clause-one
+returns-clause-one c = dated_one

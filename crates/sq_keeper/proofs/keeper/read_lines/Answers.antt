@@ -1,4 +1,4 @@
-use Rattle.std.proofs.Common.{[], arith, take, subst}
+use Rattle.std.proofs.Common.{[], arith, take, subst, refl, ◌∙◌}
 use Rattle.std.specs.Io.KnownBytes.{Consumes}
 use Rattle.sq_keeper.proofs.KeeperLaws.{begins, goes_on, is_told, is_ended, is_failed}
 use Rattle.sq_keeper.proofs.keeper.read_lines.Goals as goal
@@ -7,7 +7,7 @@ pub loop-init : goal.loop-init
 loop-init g c =
     record {
       read = begins c.args.proc (g.S.Source.left c.args.from.now) (g.K.LineDesk.handed c.args.desk.now) c.in-Ok.line c.in-Ok.ensures;
-      faults = omega arith;
+      faults = refl;
       refused = omega arith;
     }
 
@@ -35,6 +35,6 @@ loop-preserved g c =
       read = goes_on c.args.proc _ (g.S.Source.left c.loop.from) (g.S.Source.left c.read.new.self) _ (g.K.LineDesk.handed c.loop.desk) (g.K.LineDesk.handed c.take_bytes.new.desk)
           c.loop.line c.take_bytes.new.line _
           c.loop.invariant.read c.in-Ok-read.ensures.bytes.0 c.if-not-take_bytes.ensures.walks;
-      faults = omega arith;
+      faults = c.in-Ok-read.ensures.cause.quiet ∙ c.loop.invariant.faults;
       refused = omega arith;
     }

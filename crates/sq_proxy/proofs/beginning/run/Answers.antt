@@ -3,7 +3,7 @@ use Rattle.std.specs.Io.KnownBytes.{prepend_known}
 use Rattle.sq_outside.specs.SourceLines.{Finds, Moves}
 use Rattle.sq_outside.specs.declared.lines.Found.TheVariants as found
 use Rattle.sq_proxy.specs.RunText.{stated}
-use Rattle.sq_proxy.proofs.BeginLaws.{none-over, not-held, stated-over}
+use Rattle.sq_proxy.proofs.BeginLaws.{none_over, not_held, stated_over}
 use Rattle.sq_proxy.proofs.beginning.run.Goals as goal
 
 pub returns-in-Ok-End-clause-runs : goal.returns-in-Ok-End-clause-runs
@@ -11,15 +11,15 @@ returns-in-Ok-End-clause-runs g c = λ base w.
     let left = g.S.Source.left c.args.script.now in
     let after = prepend_known c.next_line.new.held (g.S.Source.left c.next_line.new.source) in
     let line = c.next_line.new.line.items in
-    let found = subst (λ l. Finds 0 l after line found.End) (not-held c.in-Ok.held left c.in-Ok.ensures) (subst (Finds 0 (prepend_known c.in-Ok.held left) after line) c.in-Ok-End.field-0-is c.in-Ok-End.ensures.found) in
-    none-over left after base _ _ line c.args.setup c.run_empty.result found (c.run_empty.ensures.runs base w)
+    let found = subst (λ l. Finds 0 l after line found.End) (not_held c.in-Ok.held left c.in-Ok.ensures) (subst (Finds 0 (prepend_known c.in-Ok.held left) after line) c.in-Ok-End.field-0-is c.in-Ok-End.ensures.found) in
+    none_over left after base _ _ line c.args.setup c.run_empty.result found (c.run_empty.ensures.runs base w)
 
 pub returns-clause-runs : goal.returns-clause-runs
 returns-clause-runs g c = λ base w.
     let left = g.S.Source.left c.args.script.now in
     let after = prepend_known c.next_line.new.held (g.S.Source.left c.next_line.new.source) in
     let line = c.next_line.new.line.items in
-    let found = subst (λ l. Finds 0 l after line found.Whole) (not-held c.in-Ok.held left c.in-Ok.ensures) (subst (Finds 0 (prepend_known c.in-Ok.held left) after line) c.in-Ok-Whole.field-0-is c.in-Ok-Whole.ensures.found) in
+    let found = subst (λ l. Finds 0 l after line found.Whole) (not_held c.in-Ok.held left c.in-Ok.ensures) (subst (Finds 0 (prepend_known c.in-Ok.held left) after line) c.in-Ok-Whole.field-0-is c.in-Ok-Whole.ensures.found) in
     let moved = subst (Moves 0 c.next_line.new.place line) c.in-Ok-Whole.field-0-is c.in-Ok-Whole.ensures.place in
     let place : c.next_line.new.place ≡ length line + 1 = omega (arith, moved.0) in
-    stated-over left after base _ _ line c.args.setup c.next_line.new.place (stated c.as_slice.result.now) c.run_stated.result found (ap stated (sym c.as_slice.ensures.value)) place (c.run_stated.ensures.runs base w)
+    stated_over left after base _ _ line c.args.setup c.next_line.new.place (stated c.as_slice.result.now) c.run_stated.result found (ap stated (sym c.as_slice.ensures.value)) place (c.run_stated.ensures.runs base w)

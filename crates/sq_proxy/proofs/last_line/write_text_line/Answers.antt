@@ -1,7 +1,7 @@
 use Rattle.std.proofs.Common.{[], ◌∷◌, ◌++◌}
 use Rattle.std.proofs.KnownBytes.{Appends-trans}
 use Rattle.sq_base.specs.Escapes.{text_word}
-use Rattle.sq_outside.proofs.Writing.{Grew-more, Grew-after}
+use Rattle.sq_outside.proofs.Writing.{Grew_more, Grew_after}
 use Rattle.sq_proxy.proofs.last_line.write_text_line.Goals as goal
 
 pub returns-in-Err-clause-err : goal.returns-in-Err-clause-err
@@ -10,7 +10,7 @@ returns-in-Err-clause-err g c =
     let b = g.O.Sink.contents c.write_all.new.out in
     let head = c.args.head.now in
     let word = text_word c.args.bytes.now in
-    Grew-more a b (head ++ word) (10 ∷ []) (Grew-more a b head word c.in-Err.ensures.err)
+    Grew_more a b (head ++ word) (10 ∷ []) (Grew_more a b head word c.in-Err.ensures.err)
 
 pub returns-in-Err-write_text-clause-err : goal.returns-in-Err-write_text-clause-err
 returns-in-Err-write_text-clause-err g c =
@@ -19,7 +19,7 @@ returns-in-Err-write_text-clause-err g c =
     let d = g.O.Sink.contents c.write_text.new.out in
     let head = c.args.head.now in
     let word = text_word c.args.bytes.now in
-    Grew-more a d (head ++ word) (10 ∷ []) (Grew-after a b d head word c.in-Ok.ensures.ok c.in-Err-write_text.ensures.err)
+    Grew_more a d (head ++ word) (10 ∷ []) (Grew_after a b d head word c.in-Ok.ensures.ok c.in-Err-write_text.ensures.err)
 
 pub returns-in-Err-write_all-clause-err : goal.returns-in-Err-write_all-clause-err
 returns-in-Err-write_all-clause-err g c =
@@ -29,4 +29,4 @@ returns-in-Err-write_all-clause-err g c =
     let e = g.O.Sink.contents c.write_all-2.new.out in
     let head = c.args.head.now in
     let word = text_word c.args.bytes.now in
-    Grew-after a d e (head ++ word) (10 ∷ []) (Appends-trans a b d head word c.in-Ok.ensures.ok c.in-Ok-write_text.ensures.ok) c.in-Err-write_all.ensures.err
+    Grew_after a d e (head ++ word) (10 ∷ []) (Appends-trans a b d head word c.in-Ok.ensures.ok c.in-Ok-write_text.ensures.ok) c.in-Err-write_all.ensures.err

@@ -3,13 +3,13 @@ use Rattle.sq_journal.specs.EntryText.{written}
 use Rattle.sq_proxy.specs.Machines.{entry_at}
 use Rattle.sq_proxy.specs.Outputs.{WrotePart}
 use Rattle.sq_proxy.specs.Runs.{step_text}
-use Rattle.sq_proxy.proofs.RunLaws.{event-grows}
+use Rattle.sq_proxy.proofs.RunLaws.{event_grows}
 use Rattle.sq_proxy.proofs.replay.run_event.Goals as goal
 
 pub returns-in-Err-WantOfMemory-clause-goes : goal.returns-in-Err-WantOfMemory-clause-goes
 returns-in-Err-WantOfMemory-clause-goes g c = λ base configs h at. record {
   front = written h;
-  begins = event-grows configs h c.args.number c.args.now c.args.event;
+  begins = event_grows configs h c.args.number c.args.now c.args.event;
   wrote = at.wrote;
 }
 

@@ -2,7 +2,7 @@ use Rattle.std.proofs.Common.{subst, sym}
 use Rattle.sq_journal.specs.EntryText.{written}
 use Rattle.sq_proxy.specs.Runs.{Goes}
 use Rattle.sq_proxy.specs.RunText.{stated, stated_step}
-use Rattle.sq_proxy.proofs.RunLaws.{stated-grows}
+use Rattle.sq_proxy.proofs.RunLaws.{stated_grows}
 use Rattle.sq_proxy.proofs.replay.run_line.Goals as goal
 
 pub returns-in-Ok-clause-goes : goal.returns-in-Ok-clause-goes
@@ -13,6 +13,6 @@ returns-in-Ok-clause-goes g c = λ base configs h at.
 pub returns-in-Err-WantOfMemory-clause-goes : goal.returns-in-Err-WantOfMemory-clause-goes
 returns-in-Err-WantOfMemory-clause-goes g c = λ base configs h at. record {
   front = written h;
-  begins = stated-grows configs h c.args.number (stated c.args.line.now);
+  begins = stated_grows configs h c.args.number (stated c.args.line.now);
   wrote = at.wrote;
 }

@@ -1,15 +1,24 @@
-use Rattle.sq_proxy.specs.Commands.{output_of}
-use Rattle.sq_proxy.proofs.DirectRuns.{runs-directly-told}
-use Rattle.sq_proxy.proofs.EndLaws.{joined-told}
+use Rattle.sq_proxy.specs.Commands.{command_of, output_of}
+use Rattle.sq_proxy.proofs.DirectRuns.{runs_directly_told}
+use Rattle.sq_proxy.proofs.EndLaws.{joined_told}
+use Rattle.sq_proxy.proofs.OpenedLaws.{opened_told}
 use Rattle.sq_proxy.proofs.top.proxy.Goals as goal
 
 pub returns-clause-bytes : goal.returns-clause-bytes
 returns-clause-bytes g c =
     let contents = g.O.Sink.contents in
     let faults = g.O.Sink.faults in
-    joined-told (g.F.Files.texts c.args.files.now) (contents c.args.out.now) (contents c.run_words-status.new.out) (contents c.finish.new.out)
+    joined_told (g.F.Files.texts c.args.files.now) (contents c.args.out.now) (contents c.run_words-status.new.out) (contents c.finish.new.out)
     (λ disk. output_of disk c.args.words.now) (faults c.args.out.now) (faults c.run_words-status.new.out) (faults c.finish.new.out)
-    c.run_words-status.result c.finish.result c.finish.ensures.same c.run_words-status.ensures.causes.out_later c.run_words-status.ensures.delivers c.finish.ensures.written
+    c.run_words-status.result c.finish.result c.finish.ensures.same c.run_words-status.ensures.causes.out_later c.run_words-status.ensures.causes.out_quiet c.run_words-status.ensures.delivers c.finish.ensures.written
 
 pub returns-clause-direct : goal.returns-clause-direct
-returns-clause-direct g c = runs-directly-told (g.F.Files.texts c.args.files.now) c.args.words.now
+returns-clause-direct g c = runs_directly_told (g.F.Files.texts c.args.files.now) c.args.words.now
+
+pub returns-clause-opened : goal.returns-clause-opened
+returns-clause-opened g c =
+    let contents = g.O.Sink.contents in
+    let faults = g.O.Sink.faults in
+    opened_told (g.F.Files.opened c.args.files.now) (g.F.Files.opened c.run_words-status.new.files) (contents c.args.out.now) (contents c.run_words-status.new.out) (contents c.finish.new.out)
+    (command_of c.args.words.now) (faults c.args.out.now) (faults c.run_words-status.new.out) (faults c.finish.new.out) c.run_words-status.result c.finish.result
+    c.finish.ensures.same c.run_words-status.ensures.causes.out_later c.run_words-status.ensures.causes.out_quiet c.run_words-status.ensures.opened c.finish.ensures.written

@@ -1,7 +1,7 @@
 use Rattle.std.proofs.Common.{◌∙◌, ◌||◌, sym, ap}
 use Rattle.sq_base.specs.Replies.{pairs_of}
 use Rattle.sq_reply.specs.Words.{found, pairs_of_one}
-use Rattle.sq_reply.proofs.WordLaws.{any_with, any_with-in_front, any_with-none, any_of_one, pairs_next, pairs_stop, pairs_end, piece_less}
+use Rattle.sq_reply.proofs.WordLaws.{any_with, any_with_in_front, any_with_none, any_of_one, pairs_next, pairs_stop, pairs_end, piece_less}
 use Rattle.sq_reply.proofs.pairs.has_pairs.Goals as goal
 
 pub returns-in_err-next : goal.returns-in_err-next
@@ -20,9 +20,9 @@ loop-rest-preserved c =
     let more = pairs_of next.rest.now in
     let step = pairs_next c.loop-rest.rest.now (found next) (sym c.in_ok-next.ensures) in
     let one = any_of_one next.pair ∙ sym c.is_some-any.ensures in
-    sym (ap (λ t. any_with (any || t) more) one) ∙ sym (any_with-in_front any (pairs_of_one next.pair) more) ∙ sym (ap (any_with any) step) ∙ c.loop-rest.invariant
+    sym (ap (λ t. any_with (any || t) more) one) ∙ sym (any_with_in_front any (pairs_of_one next.pair) more) ∙ sym (ap (any_with any) step) ∙ c.loop-rest.invariant
 
 pub returns : goal.returns
 returns c =
     let none = pairs_end c.loop-rest.rest.now (sym c.is_empty.ensures ∙ c.loop-rest-test.false) in
-    sym (any_with-none c.loop-rest.any) ∙ sym (ap (any_with c.loop-rest.any) none) ∙ c.loop-rest.invariant
+    sym (any_with_none c.loop-rest.any) ∙ sym (ap (any_with c.loop-rest.any) none) ∙ c.loop-rest.invariant

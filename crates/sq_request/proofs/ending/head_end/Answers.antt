@@ -1,5 +1,5 @@
 use Rattle.std.proofs.Common.{◌≡◌, ◌+◌, ◌∙◌, Some, sym, subst}
-use Rattle.sq_request.proofs.EndLaws.{LeavesEnd, leaves_all, no_end, end_here, begins, stays}
+use Rattle.sq_request.proofs.EndLaws.{LeavesEnd, leaves_all, no_end, end_here, line_begins, stays}
 use Rattle.sq_request.proofs.WholeLaws.{whole_front}
 use Rattle.sq_request.specs.Endings.{head_end}
 use Rattle.sq_request.proofs.ending.head_end.Goals as goal
@@ -24,7 +24,7 @@ pub loop-len-preserved : goal.loop-len-preserved
 loop-len-preserved c =
     elim c.if-not-is_empty_line.branch [
       | then-not-is_empty_line w ↦
-          begins c.loop-len.passed c.in-Some.len c.loop-len.begun c.if-not-is_empty_line.begun c.loop-len.rest.now c.args.bytes.now c.loop-len.invariant
+          line_begins c.loop-len.passed c.in-Some.len c.loop-len.begun c.if-not-is_empty_line.begun c.loop-len.rest.now c.args.bytes.now c.loop-len.invariant
           (sym c.in-Some.ensures.first) c.in-Some.ensures.bound (sym c.is_empty_line.ensures ∙ w.if-not-is_empty_line.true) w.begun-is
       | else-not-is_empty_line+else-begun w ↦
           stays c.loop-len.passed c.in-Some.len c.loop-len.begun c.if-not-is_empty_line.begun c.loop-len.rest.now c.args.bytes.now c.loop-len.invariant

@@ -1,5 +1,6 @@
 use Rattle.std.proofs.Common.{◌∙◌}
 use Rattle.sq_request.proofs.HeadLaws.{no_head, copied_plain, read_is, refused_is}
+use Rattle.sq_request.proofs.OneLaws.{head_one}
 use Rattle.sq_request.proofs.reading.read_request.Goals as goal
 
 pub returns-in_default-parse_whole-clause-refused :
@@ -20,3 +21,18 @@ pub returns-clause-refused : goal.returns-clause-refused
 returns-clause-refused c =
     refused_is c.args.head.now c.parse_whole.new.room c.in-Some.spans c.of-method.result.now c.of-target.result.now c.in_ok-fields.fields c.build.result c.in-Some.ensures.found c.if-spans-gt-MOST_FIELDS.false
     c.of-method.ensures c.of-target.ensures c.in_ok-fields.ensures c.build.ensures.refused
+
+pub returns-clause-one : goal.returns-clause-one
+returns-clause-one c = head_one c.args.head.now
+
+pub returns-in_default-clause-one : goal.returns-in_default-clause-one
+returns-in_default-clause-one c = head_one c.args.head.now
+
+pub returns-in_default-parse_whole-clause-one : goal.returns-in_default-parse_whole-clause-one
+returns-in_default-parse_whole-clause-one c = head_one c.args.head.now
+
+pub returns-then-spans-gt-MOST_FIELDS-clause-one : goal.returns-then-spans-gt-MOST_FIELDS-clause-one
+returns-then-spans-gt-MOST_FIELDS-clause-one c = head_one c.args.head.now
+
+pub returns-in_err-fields-clause-one : goal.returns-in_err-fields-clause-one
+returns-in_err-fields-clause-one c = head_one c.args.head.now

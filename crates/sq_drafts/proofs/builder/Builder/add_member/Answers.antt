@@ -1,6 +1,6 @@
 use Rattle.std.proofs.Common.{◌≡◌, ◌<◌, length, true, sym, subst, ◌∙◌, arith}
 use Rattle.std.proofs.lemmas.Grind.{common_steps}
-use Rattle.sq_drafts.proofs.SoundLaws.{IsSound-by, IsSound-member, member_fast}
+use Rattle.sq_drafts.proofs.SoundLaws.{IsSound_by, IsSound_member, member_fast}
 use Rattle.sq_drafts.specs.Sound.{stay_fast}
 use Rattle.sq_rules.specs.Changes.{with_member_at}
 use Rattle.sq_rules.specs.Drafts.{Drafts, are_fast}
@@ -10,8 +10,8 @@ pub invariant_of-self : goal.invariant_of-self
 invariant_of-self c =
     let within : c.args.place < length c.self.inside.acls = subst (λ (d : Drafts). c.args.place < length d.acls) (sym c.self.view_is) c.requires.within in
     let fast : stay_fast c.in_ok-slow.slow c.self.inside.pools.items ≡ true = grind (arith, common_steps, c.stay_fast.ensures, c.if-not-stay_fast.false, c.as_slice.ensures.value) in
-    IsSound-by c.add_member.result _ c.add_member.new.self _ c.self.invariant c.add_member.ensures.ok c.add_member.ensures.err
-    (IsSound-member _ c.args.place c.args.term c.self.invariant within c.requires.earlier (member_fast _ c.args.place c.args.term c.in_ok-slow.slow c.self.invariant c.in_ok-slow.ensures ∙ fast))
+    IsSound_by c.add_member.result _ c.add_member.new.self _ c.self.invariant c.add_member.ensures.ok c.add_member.ensures.err
+    (IsSound_member _ c.args.place c.args.term c.self.invariant within c.requires.earlier (member_fast _ c.args.place c.args.term c.in_ok-slow.slow c.self.invariant c.in_ok-slow.ensures ∙ fast))
 
 pub returns-clause-fast : goal.returns-clause-fast
 returns-clause-fast c =

@@ -1,7 +1,7 @@
 use Rattle.std.proofs.Common.{◌≡◌, ◌<◌, ◌++◌, ◌∷◌, [], length, Some, true, slice_get, refl, sym, subst}
 use Rattle.std.proofs.lemmas.Option.{slice_get_read}
 use Rattle.sq_drafts.proofs.ListLaws.{all_at, by_either}
-use Rattle.sq_drafts.proofs.SoundLaws.{IsSound-pool, list_push, pool_changed_by}
+use Rattle.sq_drafts.proofs.SoundLaws.{IsSound_pool, list_push, pool_changed_by}
 use Rattle.sq_drafts.specs.Sound.{is_pool_draft}
 use Rattle.sq_rules.specs.Configurations.{is_known_rule, slow_ones}
 use Rattle.sq_rules.specs.Drafts.{Drafts, is_fast}
@@ -18,7 +18,7 @@ invariant_of-self c =
     let was : is_pool_draft acls x ≡ true = all_at (is_pool_draft acls) pools place x c.self.invariant.pools_are is in
     let known : is_known_rule (length acls) c.args.rule ≡ true = subst (λ (d : Drafts). is_known_rule (length d.acls) c.args.rule ≡ true) (sym c.self.view_is) c.requires.known in
     let fast : is_fast (slow_ones acls) c.args.rule ≡ true = subst (λ (d : Drafts). is_fast (slow_ones d.acls) c.args.rule ≡ true) (sym c.self.view_is) c.requires.fast in
-    IsSound-pool _ place c.push_rule.new.self c.self.invariant
+    IsSound_pool _ place c.push_rule.new.self c.self.invariant
     (by_either (λ y. is_pool_draft acls y ≡ true) c.push_rule.result x _ c.push_rule.new.self was c.push_rule.ensures.ok c.push_rule.ensures.err (list_push acls x c.args.rule was known fast))
 
 pub returns-clause-ok : goal.returns-clause-ok

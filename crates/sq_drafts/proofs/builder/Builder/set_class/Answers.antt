@@ -1,7 +1,7 @@
 use Rattle.std.proofs.Common.{◌≡◌, ◌<◌, length, set, Some, None, true, slice_get, refl, sym, ap, subst, ◌∙◌}
 use Rattle.std.proofs.lemmas.Option.{slice_get_read}
 use Rattle.sq_drafts.proofs.ListLaws.{all_at}
-use Rattle.sq_drafts.proofs.SoundLaws.{IsSound-pool, at_place, class_set, pool_changed}
+use Rattle.sq_drafts.proofs.SoundLaws.{IsSound_pool, at_place, class_set, pool_changed}
 use Rattle.sq_drafts.specs.Sound.{is_pool_draft}
 use Rattle.sq_rules.specs.Drafts.{Drafts, pool_at}
 use Rattle.sq_drafts.proofs.builder.Builder.set_class.Goals as goal
@@ -16,7 +16,7 @@ invariant_of-self c =
     let is : slice_get pools place ≡ Some x = slice_get_read pools _ place x refl within c.index_mut.ensures.value in
     let was : is_pool_draft acls x ≡ true = all_at (is_pool_draft acls) pools place x c.self.invariant.pools_are is in
     let none : x.class ≡ None = ap (λ p. p.class) (sym (at_place pools place x is)) ∙ subst (λ (d : Drafts). (pool_at d.pools place).class ≡ None) (sym c.self.view_is) c.requires.none in
-    IsSound-pool _ place c.set_class.new.self c.self.invariant (rw c.set_class.ensures (class_set acls x c.args.class was none c.requires.from_1 c.requires.to_3))
+    IsSound_pool _ place c.set_class.new.self c.self.invariant (rw c.set_class.ensures (class_set acls x c.args.class was none c.requires.from_1 c.requires.to_3))
 
 pub returns : goal.returns
 returns c =

@@ -1,7 +1,7 @@
 use Rattle.std.proofs.Common.{◌≡◌, Some, slice_get, refl, sym, ap, ◌∙◌, arith, set, true}
 use Rattle.std.proofs.lemmas.Grind.{common_steps}
 use Rattle.std.proofs.lemmas.Option.{slice_get_read}
-use Rattle.sq_rules.proofs.TableLaws.{KnowsAcls-member, changed_at}
+use Rattle.sq_rules.proofs.TableLaws.{KnowsAcls_member, changed_at}
 use Rattle.sq_rules.specs.Changes.{AreDepths, AreSlowOnes, with_member_at}
 use Rattle.sq_rules.specs.Configurations.{are_shallow}
 use Rattle.sq_rules.specs.Drafts.{with_member}
@@ -17,7 +17,7 @@ invariant_of-self-2 c =
     let asks : AreSlowOnes c.args.slow acls (with_member_at place c.args.term acls) = rw c.self.view_is c.requires.slow in
     let shallow : are_shallow (with_member_at place c.args.term acls) ≡ true = grind (arith, common_steps, c.in_ok-depths.ensures.shallow, c.as_slice-acls.ensures.value) in
     rw (c.renew.ensures, c.renew-2.ensures)
-    (KnowsAcls-member acls c.self.inside.places c.self.inside.nestings.items c.self.inside.slow.items c.args.place c.args.term x c.add_member.new.self c.in_ok-depths.depths c.args.slow c.self.invariant is c.in_ok-add_member.ensures.ok deep asks shallow)
+    (KnowsAcls_member acls c.self.inside.places c.self.inside.nestings.items c.self.inside.slow.items c.args.place c.args.term x c.add_member.new.self c.in_ok-depths.depths c.args.slow c.self.invariant is c.in_ok-add_member.ensures.ok deep asks shallow)
 
 pub returns-clause-ok : goal.returns-clause-ok
 returns-clause-ok c =

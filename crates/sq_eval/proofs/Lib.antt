@@ -1,0 +1,3 @@
+mod Defaults
+mod PoolLaws
+mod TakingLaws

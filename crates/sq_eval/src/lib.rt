@@ -1,0 +1,17 @@
+//! What rules come to over the facts of a check and the answers of helpers that it has.
+//!
+//! `evaluate` gives the verdict of a configuration, or the acl and key whose answer is needed first.
+//! `pool_of` gives the delay pool of a check. Both equal the definitions of the rules: terms from left to
+//! right, up to what decides, and nothing is looked at or asked behind that. Facts are read by
+//! `Facts::look` alone, once for each place of the walk.
+#![tactic(auto)]
+
+mod evaluating;
+mod pools;
+mod rules;
+mod taking;
+mod terms;
+
+pub use evaluating::evaluate;
+pub use pools::pool_of;
+pub use sq_rules::Value;

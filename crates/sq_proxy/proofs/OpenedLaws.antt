@@ -1,0 +1,246 @@
+-- What the openings of a command add up to, where they are told.
+use Rattle.std.proofs.Common.{inl, inr, ◌≡◌, ◌⊎◌, ◌≤◌, ℕ, List, [], ◌∷◌, ◌++◌, true, false, if◌then◌else◌, append_assoc, Result, Ok, Err, Some, None, IfSome, IsSome, refl, sym, ap, ◌∙◌, subst}
+use Rattle.std.proofs.KnownBytes.{Appends-nil}
+use Rattle.std.specs.declared.option.Option.{Option}
+use Rattle.sq_outside.specs.Input.{IsWhole, OpensAtMost}
+use Rattle.sq_outside.specs.Output.{Grew, IsWritten}
+use Rattle.sq_outside.specs.SourceLines.{lines}
+use Rattle.sq_outside.specs.Told.{Opening, Openings, AddsOpening, AddsText, Texts}
+use Rattle.sq_outside.proofs.Writing.{IsPrefix_nil}
+use Rattle.sq_rules.specs.Configurations.{Configuration, asks_nobody}
+use Rattle.sq_rules.specs.ConfText.{conf_result}
+use Rattle.sq_rules.specs.Limits.{text_limit}
+use Rattle.sq_rules.specs.declared.kinds.Kind.TheVariants as kind
+use Rattle.sq_proxy.specs.declared.ends.Part.TheVariants as part
+use Rattle.sq_proxy.specs.declared.ends.Status.{Status}
+use Rattle.sq_proxy.specs.declared.ends.Status.TheVariants as ends
+use Rattle.sq_proxy.specs.Commands.{Command, Parse, Replay, Disk, Output, conf_read, conf_stage, without_helpers, parse_output, ran_output, script_stage, silent, staged}
+use Rattle.sq_proxy.specs.Ends.{End, Done, Refused, Faulted, Fault, Reading, Writing, Lacking, Comes, IsFault, IsFaultEnd, IsMissingOr, IsToldEnd, end_of, last_line}
+use Rattle.sq_proxy.specs.Opened.{Added, IsOnce, IsBoth, IsOpened, first_text, second_text, opened_output}
+use Rattle.sq_proxy.specs.Outputs.{Delivers, DeliversAs, IsOutput, Reaches}
+use Rattle.sq_proxy.specs.Runs.{RunsOver}
+use Rattle.sq_proxy.specs.ParseText.{parse_text}
+use Rattle.sq_proxy.specs.RunText.{Ran, run_script}
+use Rattle.sq_proxy.proofs.EndLaws.{with_line_is}
+use Rattle.sq_proxy.proofs.SettleLaws.{delivers_later}
+use Rattle.sq_proxy.proofs.StageLaws.{too_long}
+
+-- more is said of the openings that were added
+pub Added_map : (old new : Openings) (P Q : List Opening → Type 0) → ((more : List Opening) → P more → Q more) → Added old new P → Added old new Q
+Added_map None new P Q f a = tt
+Added_map (Some earlier) new P Q f (more, e, p) = (more, e, f more p)
+
+-- no opening was added
+pub Added_none : (old new : Openings) (P : List Opening → Type 0) → new ≡ old → P [] → Added old new P
+Added_none None new P e p = tt
+Added_none (Some earlier) new P e p = ([], e, p)
+
+-- one opening was added
+pub Added_one : (old new : Openings) (name : List ℕ) (T : List ℕ → Type 0) (P : List Opening → Type 0) → AddsText old new name T
+    → ((text : List ℕ) → T text → P (record { name = name; text = text } ∷ [])) → Added old new P
+Added_one None new name T P a f = tt
+Added_one (Some earlier) new name T P (text, e, t) f = (record { name = name; text = text } ∷ [], e, f text t)
+
+-- openings of one part of a command, and then of the next
+pub Added_then : (old mid new : Openings) (P Q R : List Opening → Type 0) → Added old mid P → Added mid new Q
+    → ((first next : List Opening) → P first → Q next → R (next ++ first)) → Added old new R
+Added_then None mid new P Q R a b f = tt
+Added_then (Some earlier) mid new P Q R (first, e, p) b f =
+    let next = subst (λ m. Added m new Q) e b in
+    (next.0 ++ first, next.1 ∙ ap (λ l. Some l) (sym (append_assoc next.0 first earlier)), f first next.0 p next.2)
+
+-- what `open_conf` says of its openings
+abbrev pub ConfOpened : List ℕ → Result Configuration Status → List Opening → Type 0
+ConfOpened name result more = IsOnce name more × Comes result (conf_stage name (first_text more))
+
+pub conf_opened : (old new : Openings) (name text : List ℕ) (result : Result Configuration Status) → AddsText old new name (λ bytes. IsWhole text_limit bytes (Some text))
+    → Comes result (conf_read (conf_result text)) → Added old new (ConfOpened name result)
+conf_opened old new name text result adds comes =
+    Added_one old new name (λ bytes. IsWhole text_limit bytes (Some text)) (ConfOpened name result) adds
+    (λ bytes w. (refl, subst (λ b. Comes result (conf_read (conf_result b))) (sym w.0) comes))
+
+pub conf_long : (old new : Openings) (name : List ℕ) → AddsText old new name (λ bytes. IsWhole text_limit bytes None)
+    → Added old new (ConfOpened name (Err (ends.Config 0 kind.TooMany)))
+conf_long old new name adds =
+    Added_one old new name (λ bytes. IsWhole text_limit bytes None) (ConfOpened name (Err (ends.Config 0 kind.TooMany))) adds
+    (λ bytes w. (refl, inl (ap conf_read (too_long bytes w))))
+
+pub conf_fault : (old new : Openings) (name : List ℕ) (end : Status) → OpensAtMost old new name → IsFault end → Added old new (ConfOpened name (Err end))
+conf_fault old new name end (inl same) fault = Added_none old new (ConfOpened name (Err end)) same (tt, inr fault)
+conf_fault old new name end (inr adds) fault =
+    Added_one old new name (λ _. Unit {0}) (ConfOpened name (Err end)) adds (λ text t. (refl, inr fault))
+
+missing_comes : (name : List ℕ) (end : Status) → IsMissingOr name end → Comes {A = Configuration} (Err end) (Err (ends.Missing name))
+missing_comes name (ends.Missing other) e = inl (ap (λ n. Err (ends.Missing n)) (sym e))
+missing_comes name ends.WantOfMemory e = inr tt
+missing_comes name ends.Ok e = absurd e
+missing_comes name ends.Usage e = absurd e
+missing_comes name (ends.Config l k) e = absurd e
+missing_comes name (ends.Script n) e = absurd e
+missing_comes name ends.ReadFault e = absurd e
+missing_comes name ends.WriteFault e = absurd e
+missing_comes name (ends.Unbuilt q) e = absurd e
+
+pub conf_missing : (old new : Openings) (name : List ℕ) (end : Status) → new ≡ old → IsMissingOr name end → Added old new (ConfOpened name (Err end))
+conf_missing old new name end same missing = Added_none old new (ConfOpened name (Err end)) same (tt, missing_comes name end missing)
+
+-- a command that ends before it writes, by this end or by a fault
+nothing_as : (k : End) (a : Option (List ℕ)) (n : ℕ) (o : Output) (end : Status) → (k ≡ Faulted Writing → ⊥) → (o ≡ silent end) ⊎ IsFaultEnd k → DeliversAs k a a n n o end
+nothing_as Done a n o end other (inl e) = subst (λ (x : Output). DeliversAs Done a a n n x end) (sym e) (refl, Appends-nil a)
+nothing_as Done a n o end other (inr fault) = absurd fault
+nothing_as Refused a n o end other (inl e) = subst (λ (x : Output). DeliversAs Refused a a n n x end) (sym e) (refl, Appends-nil a)
+nothing_as Refused a n o end other (inr fault) = absurd fault
+nothing_as (Faulted Reading) a n o end other e = ([], Appends-nil a, (IsPrefix_nil o.text, inl (inl refl)))
+nothing_as (Faulted Lacking) a n o end other e = ([], Appends-nil a, IsPrefix_nil o.text)
+nothing_as (Faulted Writing) a n o end other e = absurd (other refl)
+
+pub nothing_delivers : (a : Option (List ℕ)) (n : ℕ) (o : Output) (end : Status) → (end_of end ≡ Faulted Writing → ⊥) → (o ≡ silent end) ⊎ IsFault end → Delivers a a n n o end
+nothing_delivers a n o end other e = nothing_as (end_of end) a n o end other e
+
+missing_silent : (name : List ℕ) (end : Status) → IsMissingOr name end → (silent (ends.Missing name) ≡ silent end) ⊎ IsFault end
+missing_silent name (ends.Missing other) e = inl (ap (λ n. silent (ends.Missing n)) (sym e))
+missing_silent name ends.WantOfMemory e = inr tt
+missing_silent name ends.Ok e = absurd e
+missing_silent name ends.Usage e = absurd e
+missing_silent name (ends.Config l k) e = absurd e
+missing_silent name (ends.Script n) e = absurd e
+missing_silent name ends.ReadFault e = absurd e
+missing_silent name ends.WriteFault e = absurd e
+missing_silent name (ends.Unbuilt q) e = absurd e
+
+missing_no_write : (name : List ℕ) (end : Status) → IsMissingOr name end → end_of end ≡ Faulted Writing → ⊥
+missing_no_write name ends.WriteFault m e = m
+missing_no_write name (ends.Missing other) m e = absurd (cc)
+missing_no_write name ends.WantOfMemory m e = absurd (cc)
+missing_no_write name ends.Ok m e = m
+missing_no_write name ends.Usage m e = m
+missing_no_write name (ends.Config l k) m e = m
+missing_no_write name (ends.Script n) m e = m
+missing_no_write name ends.ReadFault m e = m
+missing_no_write name (ends.Unbuilt q) m e = m
+
+-- what `play` says of its openings
+abbrev pub PlayOpened : List ℕ → (List ℕ → Ran) → Option (List ℕ) → Option (List ℕ) → ℕ → ℕ → Status → List Opening → Type 0
+PlayOpened name run a b before now result more = IsOnce name more × Delivers a b before now (staged (script_stage name (first_text more)) (λ text. ran_output (run text))) result
+
+pub play_opened : (old mid new : Openings) (left a b written : Option (List ℕ)) (before later now : ℕ) (name page : List ℕ) (run : List ℕ → Ran) (end result : Status)
+    → AddsOpening old mid name left → new ≡ mid → before ≤ later → RunsOver left a written page run end
+    → ((base : Option (List ℕ)) (ran : Ran) → Reaches base written page ran end → Delivers base b later now (ran_output ran) result)
+    → Added old new (PlayOpened name run a b before now result)
+play_opened None mid new left a b written before later now name page run end result adds same le runs settle = tt
+play_opened (Some earlier) mid new None a b written before later now name page run end result adds same le runs settle = absurd adds
+play_opened (Some earlier) mid new (Some text) a b written before later now name page run end result adds same le runs settle =
+    (record { name = name; text = text } ∷ [], same ∙ adds, (refl, delivers_later a b before later now (ran_output (run text)) result le (settle a (run text) runs)))
+
+pub play_missing : (old new : Openings) (a : Option (List ℕ)) (n : ℕ) (name : List ℕ) (run : List ℕ → Ran) (end : Status) → new ≡ old → IsMissingOr name end
+    → Added old new (PlayOpened name run a a n n end)
+play_missing old new a n name run end same missing =
+    Added_none old new (PlayOpened name run a a n n end) same (tt, nothing_delivers a n (silent (ends.Missing name)) end (missing_no_write name end missing) (missing_silent name end missing))
+
+pub play_fault : (old new : Openings) (a : Option (List ℕ)) (n : ℕ) (name : List ℕ) (run : List ℕ → Ran) (end : Status) → new ≡ old → (end_of end ≡ Faulted Writing → ⊥) → IsFault end
+    → Added old new (PlayOpened name run a a n n end)
+play_fault old new a n name run end same other fault =
+    Added_none old new (PlayOpened name run a a n n end) same (tt, nothing_delivers a n (silent (ends.Missing name)) end other (inr fault))
+
+-- a stage that ended a command
+staged_ends : {A : Type 0} (stage : Result A Status) (go : A → Output) (end : Status) → Comes (Err end) stage → (staged stage go ≡ silent end) ⊎ IsFault end
+staged_ends stage go end (inl e) = inl (ap (λ s. staged s go) e)
+staged_ends stage go end (inr fault) = inr fault
+
+leaves_comes : (stage : Result Configuration Status) (end : Status) → Comes (Err end) stage → Comes (Err end) (without_helpers stage)
+leaves_comes stage end (inl e) = inl (ap without_helpers e)
+leaves_comes stage end (inr fault) = inr fault
+
+leaves_ok : (stage : Result Configuration Status) (config : Configuration) → stage ≡ Ok config → asks_nobody config ≡ true → without_helpers stage ≡ Ok config
+leaves_ok stage config e leaves = ap without_helpers e ∙ ap (λ b. if b then Ok config else Err (ends.Unbuilt part.Conf)) leaves
+
+leaves_none : (stage : Result Configuration Status) (config : Configuration) → stage ≡ Ok config → asks_nobody config ≡ false → without_helpers stage ≡ Err (ends.Unbuilt part.Conf)
+leaves_none stage config e leaves = ap without_helpers e ∙ ap (λ b. if b then Ok config else Err (ends.Unbuilt part.Conf)) leaves
+
+-- what a command says of its openings
+abbrev pub CommandOpened : Option Command → Option (List ℕ) → Option (List ℕ) → ℕ → ℕ → Status → List Opening → Type 0
+CommandOpened command a b before now result more = IsOpened command more × Delivers a b before now (opened_output command more) result
+
+pub parse_ends : (old new : Openings) (a : Option (List ℕ)) (n : ℕ) (conf : List ℕ) (end : Status) → (end_of end ≡ Faulted Writing → ⊥) → Added old new (ConfOpened conf (Err end))
+    → Added old new (CommandOpened (Some (Parse conf)) a a n n end)
+parse_ends old new a n conf end other added =
+    Added_map old new (ConfOpened conf (Err end)) (CommandOpened (Some (Parse conf)) a a n n end)
+    (λ more p. (p.0, nothing_delivers a n (opened_output (Some (Parse conf)) more) end other (staged_ends (conf_stage conf (first_text more)) _ end p.1))) added
+
+pub parse_opened : (old new : Openings) (a b : Option (List ℕ)) (before now : ℕ) (conf : List ℕ) (config : Configuration) (result : Status) → Added old new (ConfOpened conf (Ok config))
+    → Delivers a b before now (record { text = parse_text config; end = ends.Ok }) result
+    → Added old new (CommandOpened (Some (Parse conf)) a b before now result)
+parse_opened old new a b before now conf config result added delivers =
+    Added_map old new (ConfOpened conf (Ok config)) (CommandOpened (Some (Parse conf)) a b before now result)
+    (λ more p. (p.0, subst (λ s. Delivers a b before now (staged s (λ c. record { text = parse_text c; end = ends.Ok })) result) (sym p.1) delivers)) added
+
+pub replay_ends : (old new : Openings) (a : Option (List ℕ)) (n : ℕ) (conf script : List ℕ) (end : Status) → (end_of end ≡ Faulted Writing → ⊥) → Added old new (ConfOpened conf (Err end))
+    → Added old new (CommandOpened (Some (Replay conf script)) a a n n end)
+replay_ends old new a n conf script end other added =
+    Added_map old new (ConfOpened conf (Err end)) (CommandOpened (Some (Replay conf script)) a a n n end)
+    (λ more p. (
+      inl p.0,
+      nothing_delivers a n (opened_output (Some (Replay conf script)) more) end other
+          (staged_ends (without_helpers (conf_stage conf (first_text more))) _ end (leaves_comes (conf_stage conf (first_text more)) end p.1)),
+    )) added
+
+pub replay_unbuilt : (old new : Openings) (a : Option (List ℕ)) (n : ℕ) (conf script : List ℕ) (config : Configuration) → asks_nobody config ≡ false → Added old new (ConfOpened conf (Ok config))
+    → Added old new (CommandOpened (Some (Replay conf script)) a a n n (ends.Unbuilt part.Conf))
+replay_unbuilt old new a n conf script config leaves added =
+    Added_map old new (ConfOpened conf (Ok config)) (CommandOpened (Some (Replay conf script)) a a n n (ends.Unbuilt part.Conf))
+    (λ more p. (
+      inl p.0,
+      nothing_delivers a n (opened_output (Some (Replay conf script)) more) (ends.Unbuilt part.Conf) (λ e. absurd (cc))
+          (staged_ends (without_helpers (conf_stage conf (first_text more))) _ (ends.Unbuilt part.Conf) (inl (leaves_none (conf_stage conf (first_text more)) config p.1 leaves))),
+    )) added
+
+-- the script's run, over the configuration that was read
+abbrev script_run : List ℕ → Configuration → Option (List ℕ) → Output
+script_run script config text = staged (script_stage script text) (λ t. ran_output (run_script config (lines t)))
+
+played : (a b : Option (List ℕ)) (before now : ℕ) (conf script : List ℕ) (config : Configuration) (result : Status) → asks_nobody config ≡ true
+    → (first next : List Opening) → ConfOpened conf (Ok config) first → PlayOpened script (λ text. run_script config (lines text)) a b before now result next
+    → CommandOpened (Some (Replay conf script)) a b before now result (next ++ first)
+played a b before now conf script config result leaves [] next p q = absurd (cc)
+played a b before now conf script config result leaves (o ∷ []) [] p q = (
+  inl p.0,
+  subst (λ s. Delivers a b before now (staged s (λ c. script_run script c None)) result) (sym (leaves_ok (conf_stage conf (Some o.text)) config p.1 leaves)) q.1,
+)
+played a b before now conf script config result leaves (o ∷ []) (s ∷ []) p q = (
+  inr (p.0, q.0),
+  subst (λ r. Delivers a b before now (staged r (λ c. script_run script c (Some s.text))) result) (sym (leaves_ok (conf_stage conf (Some o.text)) config p.1 leaves)) q.1,
+)
+played a b before now conf script config result leaves (o ∷ []) (s ∷ t ∷ next) p q = absurd q.0
+played a b before now conf script config result leaves (o ∷ u ∷ first) next p q = absurd p.0
+
+pub replay_opened : (old mid new : Openings) (a b : Option (List ℕ)) (before now : ℕ) (conf script : List ℕ) (config : Configuration) (result : Status) → asks_nobody config ≡ true
+    → Added old mid (ConfOpened conf (Ok config)) → Added mid new (PlayOpened script (λ text. run_script config (lines text)) a b before now result)
+    → Added old new (CommandOpened (Some (Replay conf script)) a b before now result)
+replay_opened old mid new a b before now conf script config result leaves first next =
+    Added_then old mid new (ConfOpened conf (Ok config)) (PlayOpened script (λ text. run_script config (lines text)) a b before now result)
+    (CommandOpened (Some (Replay conf script)) a b before now result) first next (played a b before now conf script config result leaves)
+
+-- words that are no command open nothing
+pub usage_opened : (old : Openings) (a : Option (List ℕ)) (n : ℕ) → Added old old (CommandOpened None a a n n ends.Usage)
+usage_opened old a n = Added_none old old (CommandOpened None a a n n ends.Usage) refl (refl, (refl, Appends-nil a))
+
+-- the last line is written behind what the openings gave
+pub opened_told : (old new : Openings) (a b c : Option (List ℕ)) (command : Option Command) (before mid now : ℕ) (s same : Status) → same ≡ s → before ≤ mid → (IsToldEnd (end_of s) → mid ≡ before)
+    → Added old new (CommandOpened command a b before mid s) → Grew b c (IsWritten mid now (last_line s))
+    → Added old new (λ more. IsOpened command more × Grew a c (IsOutput (opened_output command more) before now same))
+opened_told old new a b c command before mid now s same e le quiet added line =
+    Added_map old new (CommandOpened command a b before mid s) (λ more. IsOpened command more × Grew a c (IsOutput (opened_output command more) before now same))
+    (λ more p. (p.0, subst (λ (x : Status). Grew a c (IsOutput (opened_output command more) before now x)) (sym e) (with_line_is a b c (opened_output command more) before mid now s le quiet p.1 line))) added
+
+-- what `parse` writes of a configuration that its file has, where texts are told
+pub parse_told : (texts : Texts) (a b : Option (List ℕ)) (before now : ℕ) (conf : List ℕ) (config : Configuration) (result : Status) → IfSome texts (λ disk. Comes (Ok config) (conf_stage conf (disk conf)))
+    → Delivers a b before now (record { text = parse_text config; end = ends.Ok }) result → IfSome texts (λ disk. Delivers a b before now (parse_output disk conf) result)
+parse_told None a b before now conf config result comes delivers = tt
+parse_told (Some disk) a b before now conf config result comes delivers =
+    subst (λ s. Delivers a b before now (staged s (λ c. record { text = parse_text c; end = ends.Ok })) result) (sym comes) delivers
+
+-- a fault before anything was written, where texts are told
+pub fault_told : (texts : Texts) (a : Option (List ℕ)) (n : ℕ) (output : Disk → Output) (end : Status) → (end_of end ≡ Faulted Writing → ⊥) → IsFault end
+    → IfSome texts (λ disk. Delivers a a n n (output disk) end)
+fault_told None a n output end other fault = tt
+fault_told (Some disk) a n output end other fault = nothing_delivers a n (output disk) end other (inr fault)

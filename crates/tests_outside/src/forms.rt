@@ -1,0 +1,179 @@
+//! What single calls of the forms in memory answer.
+use crate::job::{Part, Wires, link, net, stops};
+use sq_base::{Addr, Addrs, Moment, Text};
+use sq_outside::{
+    Another, Clock, Dialer, LookFault, MemChild, MemClock, MemDialer, MemName, MemOrigin,
+    MemResolver, MemSpawner, MemWait, Out, Resolver, Source, Spawner, Wire, write_all,
+};
+use std::alloc::Global;
+use std::sync::atomic::AtomicBool;
+use std::test::Fail;
+
+/// Host, port, and whether the one origin, a.example at port 80, is reached.
+static DIALS: [(&[u8], u16, bool); 5] = [
+    (b"b.example", 80, false),
+    (b"a.example", 81, false),
+    (b"A.example", 80, false),
+    (b"a.example", 80, true),
+    (b"a.example", 80, false),
+];
+
+#[test]
+fn an_origin_is_reached_once_by_its_host_and_port(rt: HostRuntime) -> Result<(), Fail> {
+    let alloc = rt.alloc();
+    let wire = Wire::new(alloc, 64)?;
+    let host = Text::from_slice(alloc, b"a.example")?;
+    let pair = link(alloc, b"hello", Vec::new(alloc), Vec::new(alloc), &wire)?;
+    let mut origins = Vec::new(alloc);
+    origins.push(MemOrigin {
+        host,
+        port: 80,
+        pair,
+    })?;
+    let mut dialer = MemDialer::new(alloc, origins, Vec::new(alloc))?;
+    let mut failed = 0u64;
+    for &(host, port, reached) in &DIALS {
+        let host = Text::from_slice(alloc, host)?;
+        match dialer.dial(alloc, &host, port) {
+            Ok((from, to)) => {
+                assert!(rt; reached, "at {host:?} {port}");
+                dialer.give_back(from, to);
+            }
+            Err(_) => {
+                assert!(rt; !reached, "at {host:?} {port}");
+                failed = failed.saturating_add(1);
+            }
+        }
+        assert_eq!(rt; dialer.faults(), failed);
+    }
+    for dial in dialer.back() {
+        assert_eq!(rt; dial.host.as_bytes(), b"a.example".as_slice());
+        assert_eq!(rt; dial.port, 80);
+        assert_eq!(rt; dial.bytes.as_bytes(), b"hello".as_slice());
+        assert!(rt; dial.written.is_empty());
+    }
+    assert_eq!(rt; dialer.back().len(), 1);
+    let mut other = dialer.another();
+    let host = Text::from_slice(alloc, b"a.example")?;
+    assert!(rt; other.dial(alloc, &host, 80).is_err());
+    Ok(())
+}
+
+#[test]
+fn a_listener_that_was_asked_to_stop_stops(rt: HostRuntime) -> Result<(), Fail> {
+    let alloc = rt.alloc();
+    let names = Vec::new(alloc);
+    let word = AtomicBool::new(false);
+    let wires = Wires::new(alloc)?;
+    let mut net = net(alloc, Part::Net, 9, names.as_slice(), &word, &wires)?;
+    assert!(rt; stops(alloc, &mut net));
+    assert_eq!(rt; net.port(), Some(3128));
+    assert_eq!(rt; net.faults(), 0);
+    // It can be opened once.
+    assert!(rt; !stops(alloc, &mut net));
+    assert_eq!(rt; net.faults(), 1);
+    Ok(())
+}
+
+#[test]
+fn clocks_give_their_moments_in_order(rt: HostRuntime) -> Result<(), Fail> {
+    let alloc = rt.alloc();
+    let mut rest = Vec::new(alloc);
+    rest.push(Moment(9))?;
+    rest.push(Moment(8))?;
+    let mut clock = MemClock::new(alloc, Moment(7), rest);
+    for wanted in [7, 9, 8, 8] {
+        clock.pause();
+        let mut other = clock.another();
+        assert_eq!(rt; clock.now().0, wanted);
+        assert_eq!(rt; other.now().0, wanted);
+        assert_eq!(rt; other.now().0, wanted);
+    }
+    Ok(())
+}
+
+/// The host, and how many addresses are found for it, or None where the look-up fails.
+static LOOKS: [(&[u8], Option<usize>); 4] = [
+    (b"a.example", Some(1)),
+    (b"b.example", Some(0)),
+    (b"a.example", None),
+    (b"empty.example", Some(0)),
+];
+
+#[test]
+fn names_are_looked_up_and_the_third_look_fails(rt: HostRuntime) -> Result<(), Fail> {
+    let alloc = rt.alloc();
+    let mut addrs = Addrs::new(alloc);
+    addrs.push(Addr {
+        v6: false,
+        number: 7,
+    })?;
+    let mut names = Vec::new(alloc);
+    names.push(MemName {
+        host: Text::from_slice(alloc, b"a.example")?,
+        addrs,
+    })?;
+    names.push(MemName {
+        host: Text::from_slice(alloc, b"empty.example")?,
+        addrs: Addrs::new(alloc),
+    })?;
+    let fails = Vec::from_slice(alloc, &[3])?;
+    let mut resolver = MemResolver::new(alloc, names.as_slice(), fails);
+    for &(host, wanted) in &LOOKS {
+        let found = match resolver.look(alloc, &Text::from_slice(alloc, host)?) {
+            Ok(addrs) => Some(addrs.as_slice().len()),
+            Err(fault) => {
+                assert_eq!(rt; fault, LookFault::Failed);
+                None
+            }
+        };
+        assert_eq!(rt; found, wanted, "at {host:?}");
+    }
+    Ok(())
+}
+
+/// What is written to the process, whether it is closed then, and what the next read gives.
+static ASKS: [(&[u8], bool, &[u8]); 5] = [
+    (b"", false, b""),
+    (b"one", false, b""),
+    (b"\ntwo\n", false, b"OK\n"),
+    (b"", false, b"ERR\n"),
+    (b"", true, b""),
+];
+
+#[test]
+fn a_process_answers_line_by_line_and_ends_when_it_is_closed(rt: HostRuntime) -> Result<(), Fail> {
+    let alloc = rt.alloc();
+    let wire = Wire::new(alloc, 64)?;
+    let mut words = Vec::new(alloc);
+    words.push(Text::from_slice(alloc, b"helper")?)?;
+    let said = b"OK\nERR\nOK\n";
+    let pair = link(alloc, said, Vec::new(alloc), Vec::new(alloc), &wire)?;
+    let mut children = Vec::new(alloc);
+    children.push(MemChild {
+        words,
+        pair,
+        waits: Some(MemWait {
+            wire: &wire,
+            turns: 10,
+        }),
+    })?;
+    let mut spawner = MemSpawner::new(alloc, children, Vec::new(alloc))?;
+    let other = Text::from_slice(alloc, b"other")?;
+    assert!(rt; spawner.start(alloc, &[other]).is_err());
+    let helper = Text::from_slice(alloc, b"helper")?;
+    let started = spawner.start(alloc, &[helper]);
+    let Ok((mut said, mut to)) = started else {
+        return Err("not started".into());
+    };
+    let mut chunk = [0u8; 9];
+    for &(written, closed, wanted) in &ASKS {
+        assert!(rt; write_all(&mut to, written).is_ok());
+        if closed {
+            to.close();
+        }
+        let count = said.read(&mut chunk).or(Err("not read"))?;
+        assert_eq!(rt; chunk.get(..count), Some(wanted), "at {written:?}");
+    }
+    Ok(())
+}

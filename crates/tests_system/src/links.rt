@@ -1,0 +1,106 @@
+//! Links between two ends on this machine.
+use crate::fixtures::{accepts, dials, receives, sends};
+use sq_base::{Addr, Text};
+use sq_outside::{
+    Accepted, Another, Clock, Dialer, Listener, Net, RealClock, RealDialer, RealListener, RealNet,
+    Sink, Source, Stopper,
+};
+use std::alloc::Global;
+use std::test::Fail;
+use std::thread;
+
+/// The other side: reads a long text to its end, and then sends one. Whether all went well.
+fn replies(alloc: Global, mut listener: RealListener) -> bool {
+    let Some((mut from, mut to)) = accepts(alloc, &mut listener) else {
+        return false;
+    };
+    receives(alloc, &mut from, 1) && sends(&mut to, 2)
+}
+
+#[test]
+fn each_side_sends_1_mib_and_closes(rt: HostRuntime) -> Result<(), Fail> {
+    let alloc = rt.alloc();
+    let (listener, _stopper) = RealListener::listen(alloc, rt, 0).ok_or("no port")?;
+    let port = listener.port().ok_or("no port")?;
+    let other = thread::spawn(&rt, move || replies(alloc, listener))?;
+    let mut dialer = RealDialer::new(rt).another();
+    let (mut from, mut to) = dials(alloc, &mut dialer, b"127.0.0.1", port)?;
+    assert!(rt; sends(&mut to, 1));
+    assert!(rt; receives(alloc, &mut from, 2));
+    assert!(rt; !from.has_failed() && !to.has_failed());
+    dialer.give_back(from, to);
+    assert!(rt; other.join(&rt));
+    Ok(())
+}
+
+/// Whether the next link does not come, and no later one, since the listener was stopped.
+fn is_stopped(alloc: Global, mut listener: RealListener) -> bool {
+    matches!(listener.next(alloc), Accepted::Stopped)
+        && matches!(listener.next(alloc), Accepted::Stopped)
+        && !listener.has_failed()
+}
+
+#[test]
+fn a_listener_that_waits_is_stopped(rt: HostRuntime) -> Result<(), Fail> {
+    let alloc = rt.alloc();
+    let parts = RealNet::new(rt).parts(alloc, 0)?;
+    let listener = parts.listener;
+    let waiting = thread::spawn(&rt, move || is_stopped(alloc, listener))?;
+    let mut clock = parts.clock;
+    for _ in 0..20 {
+        clock.pause();
+    }
+    parts.stopper.stop();
+    assert!(rt; waiting.join(&rt));
+    Ok(())
+}
+
+#[test]
+fn clients_come_from_their_address(rt: HostRuntime) -> Result<(), Fail> {
+    let alloc = rt.alloc();
+    let (mut listener, _stopper) = RealListener::listen(alloc, rt, 0).ok_or("no port")?;
+    let port = listener.port().ok_or("no port")?;
+    let mut dialer = RealDialer::new(rt);
+    let hosts: [(&[u8], bool, u128); 2] = [(b"127.0.0.1", false, 0x7f00_0001), (b"::1", true, 1)];
+    for &(host, v6, number) in &hosts {
+        match dials(alloc, &mut dialer, host, port) {
+            Ok(client) => match listener.next(alloc) {
+                Accepted::Link { addr, port, .. } => {
+                    assert_eq!(rt; addr, Addr { v6, number });
+                    assert!(rt; port > 0);
+                    dialer.give_back(client.0, client.1);
+                }
+                _ => assert!(rt; false, "no link at {host:?}"),
+            },
+            // Not every machine has IPv6.
+            Err(_) => assert!(rt; v6, "not reached at {host:?}"),
+        }
+    }
+    Ok(())
+}
+
+#[test]
+fn a_client_that_resets_is_a_fault_of_its_halves_alone(rt: HostRuntime) -> Result<(), Fail> {
+    let alloc = rt.alloc();
+    let mut net = RealNet::new(rt);
+    let mut parts = net.parts(alloc, 0)?;
+    let port = parts.listener.port().ok_or("no port")?;
+    let client = dials(alloc, &mut parts.dialer, b"127.0.0.1", port)?;
+    let (mut from, mut to) = accepts(alloc, &mut parts.listener).ok_or("no link")?;
+    // A socket that is closed before all was read resets its link.
+    assert!(rt; to.write(b"unread").is_ok());
+    parts.clock.pause();
+    drop(client);
+    parts.clock.pause();
+    let mut chunk = [0u8; 16];
+    assert!(rt; from.read(&mut chunk).is_err());
+    assert!(rt; from.has_failed() && !to.has_failed());
+    // Nor does a write raise a signal, which would end the test.
+    assert!(rt; to.write(b"more").is_err());
+    assert!(rt; to.has_failed());
+    let _next = dials(alloc, &mut parts.dialer, b"127.0.0.1", port)?;
+    assert!(rt; accepts(alloc, &mut parts.listener).is_some());
+    assert!(rt; !parts.listener.has_failed());
+    net.give_back(parts.listener);
+    Ok(())
+}

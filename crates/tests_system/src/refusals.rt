@@ -1,0 +1,99 @@
+//! What is not there: programs, ports, hosts. And what always is: the time, and this machine's own name.
+use crate::fixtures::{dials, words};
+use sq_base::Text;
+use sq_outside::{
+    Another, Clock, Failed, LookFault, Net, RealClock, RealDialer, RealListener, RealNet,
+    RealResolver, RealSpawner, Resolver, Spawner,
+};
+use std::test::Fail;
+
+#[test]
+fn what_is_no_program_is_not_started(rt: HostRuntime) -> Result<(), Fail> {
+    let alloc = rt.alloc();
+    let mut spawner = RealSpawner::new(rt);
+    let commands: [&[&[u8]]; 6] = [
+        &[],
+        &[b""],
+        &[b"/bin/no-such-program", b"word"],
+        &[b"no-such-program"],
+        &[b"/bin/\xff"],
+        &[b"/bin/cat", b"a\0b"],
+    ];
+    for &command in &commands {
+        let made = words(alloc, command)?;
+        assert!(rt;
+            spawner.start(alloc, made.as_slice()).is_err(),
+            "at {command:?}"
+        );
+    }
+    Ok(())
+}
+
+/// Hosts that no look-up finds, none of which is asked of a server of names: no word, no text, a label of
+/// 64 bytes, of which RFC 1035 section 2.3.4 allows 63, and an empty label.
+static NO_HOSTS: [&[u8]; 5] = [
+    b"",
+    b"\xff.example",
+    b"a\0b",
+    b"0123456789abcdef0123456789abcdef0123456789abcdef0123456789abcdef.example",
+    b"a..example",
+];
+
+#[test]
+fn what_is_no_host_is_not_reached(rt: HostRuntime) -> Result<(), Fail> {
+    let alloc = rt.alloc();
+    let mut dialer = RealDialer::new(rt);
+    let mut resolver = RealResolver::new(rt).another();
+    for &host in &NO_HOSTS {
+        assert!(rt; dials(alloc, &mut dialer, host, 80).is_err(), "at {host:?}");
+        let name = Text::from_slice(alloc, host)?;
+        match resolver.look(alloc, &name) {
+            Err(LookFault::Failed) => {}
+            _ => assert!(rt; false, "at {host:?}"),
+        }
+    }
+    Ok(())
+}
+
+#[test]
+fn a_port_is_taken_once_and_free_again(rt: HostRuntime) -> Result<(), Fail> {
+    let alloc = rt.alloc();
+    let mut net = RealNet::new(rt);
+    let parts = net.parts(alloc, 0)?;
+    let port = parts.listener.port().ok_or("no port")?;
+    assert!(rt; RealListener::listen(alloc, rt, port).is_none());
+    assert!(rt; net.parts(alloc, port).is_err());
+    let mut dialer = parts.dialer;
+    assert!(rt; dials(alloc, &mut dialer, b"127.0.0.1", port).is_ok());
+    net.give_back(parts.listener);
+    // Nobody listens there any more.
+    assert!(rt; dials(alloc, &mut dialer, b"127.0.0.1", port).is_err());
+    assert!(rt; dials(alloc, &mut dialer, b"localhost", port).is_err());
+    Ok(())
+}
+
+#[test]
+fn the_clock_gives_this_century_and_goes_on(rt: HostRuntime) {
+    let mut clock = RealClock::new(rt).another();
+    let before = clock.now();
+    assert!(rt; before.0 > 1_700_000_000_000, "at {}", before.0);
+    clock.pause();
+    let after = clock.now();
+    assert!(rt; after.0 > before.0, "at {} behind {}", after.0, before.0);
+}
+
+#[test]
+fn the_own_name_has_the_own_address(rt: HostRuntime) -> Result<(), Fail> {
+    let alloc = rt.alloc();
+    let mut resolver = RealResolver::new(rt);
+    let name = Text::from_slice(alloc, b"localhost")?;
+    let Ok(found) = resolver.look(alloc, &name) else {
+        return Err(Fail::from("not found"));
+    };
+    let mut own = false;
+    for addr in found.as_slice() {
+        own = own || addr.number == if addr.v6 { 1 } else { 0x7f00_0001 };
+    }
+    assert!(rt; own);
+    Ok(())
+}
