@@ -1,0 +1,4 @@
+mod ChannelLaws
+mod PlaceLaws
+pub mod RisingLaws
+pub mod SlotLaws

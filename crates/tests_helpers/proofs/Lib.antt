@@ -1,0 +1,1 @@
+-- The proofs of the fixtures need no lemma of their own.
