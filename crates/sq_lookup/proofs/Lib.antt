@@ -1,0 +1,5 @@
+mod CheckLaws
+mod IndexLaws
+mod MapLaws
+mod OpenLaws
+mod RowLaws
