@@ -1,0 +1,5 @@
+mod BodyLaws
+mod GrowthLaws
+mod LineLaws
+mod PieceLaws
+mod TakeLaws
