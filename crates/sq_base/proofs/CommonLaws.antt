@@ -44,6 +44,7 @@ then_some f (Some x) w e = (x, refl, e)
 pub eq_turned : (a b : ℕ) → (a == b) ≡ (b == a)
 eq_turned a b = grind arith
 
+-- two texts are compared alike from either side
 pub bytes_turned : (a b : List ℕ) → bytes_eq a b ≡ bytes_eq b a
 bytes_turned [] [] = refl
 bytes_turned [] (y ∷ ys) = refl

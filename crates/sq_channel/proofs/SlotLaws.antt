@@ -120,6 +120,7 @@ some_open q (Some p ∷ slots) e = by_test (q == p) (some_open q slots) e
     by_test true next e = omega arith
     by_test false next e = next e
 
+-- a question that is open, and at most once, is open once
 pub open_once : (q : ℕ) (slots : List (Option ℕ)) → is_open q slots ≡ true → times_open q slots ≤ 1 → times_open q slots ≡ 1
 open_once q slots e once = let some = some_open q slots e in omega arith
 
@@ -153,6 +154,7 @@ open_at (Some p ∷ slots) (suc n) q e = either (q == p) (open_at slots n q e)
     either true e = refl
     either false e = e
 
+-- a question in a slot is open
 pub open_of_law : (slots : List (Option ℕ)) (channel : Option ℕ) (q : ℕ) → slot_of slots channel ≡ Some q → is_open q slots ≡ true
 open_of_law slots None q e = open_at slots 0 q e
 open_of_law slots (Some n) q e = open_at slots n q e
@@ -193,6 +195,7 @@ pub new_slots : (n : ℕ) → free_count (replicate n None) ≡ n
 new_slots zero = refl
 new_slots (suc n) = ap suc (new_slots n)
 
+-- a process that just began has no open question
 pub opened_new : (n : ℕ) → opened (replicate n None) ≡ []
 opened_new zero = refl
 opened_new (suc n) = opened_new n

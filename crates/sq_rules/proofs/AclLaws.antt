@@ -17,6 +17,7 @@ slow_longer : (before : List Bool) (acls : List Acl) (a : Acl) → slow_on befor
 slow_longer before [] a = refl
 slow_longer before (b ∷ acls) a = slow_longer (before ++ is_slow before b.body ∷ []) acls a
 
+-- the slow acls, where one acl more stands at the end
 pub slow_push : (old new : List Bool) (acls longer : List Acl) (a : Acl) (s : Bool) → old ≡ slow_ones acls → new ≡ old ++ s ∷ [] → s ≡ is_slow old a.body →
     longer ≡ acls ++ a ∷ [] → new ≡ slow_ones longer
 slow_push old new acls longer a s known noted is more = rw (noted, is, known, more) (sym (slow_longer [] acls a))
@@ -25,10 +26,12 @@ slow_push old new acls longer a s known noted is more = rw (noted, is, known, mo
 pub allowed_is : (m n : ℕ) → allowed m ≡ Some n → (n ≡ m) × (nat_le n nesting_limit ≡ true)
 allowed_is m n e = grind (arith, nat_tests, e)
 
+-- the nestings, where one acl more stands at the end
 pub depths_push : (old new : List ℕ) (acls longer : List Acl) (a : Acl) (n : ℕ) → old ≡ nestings acls → new ≡ old ++ n ∷ [] → allowed (nesting_of old a.body) ≡ Some n →
     longer ≡ acls ++ a ∷ [] → new ≡ nestings longer
 depths_push old new acls longer a n known noted is more = rw (noted, (allowed_is (nesting_of old a.body) n is).0, known, more) (sym (nestings_longer [] acls a))
 
+-- none nests too deep, where one acl more stands at the end that does not
 pub shallow_push : (old : List ℕ) (acls longer : List Acl) (a : Acl) (n : ℕ) → are_shallow acls ≡ true → old ≡ nestings acls → allowed (nesting_of old a.body) ≡ Some n →
     longer ≡ acls ++ a ∷ [] → are_shallow longer ≡ true
 shallow_push old acls longer a n shallow known is more =

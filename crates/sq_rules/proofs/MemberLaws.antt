@@ -28,6 +28,7 @@ deepest_in_last before (l ∷ m ∷ lines) t = omega (arith, deepest_in_last bef
 one_up : (m a b : ℕ) → m ≡ max a b → suc m ≡ max (suc a) (suc b)
 one_up m a b e = omega arith
 
+-- how deep a group nests with one member more
 pub member_depth : (before : List ℕ) (t : Term) (b : Body) → is_group b ≡ true → nesting_of before (with_member t b) ≡ max (nesting_of before b) (suc (slice_index_or before t.acl 0))
 member_depth before t (body.Leaf l) group = cc
 member_depth before t (body.External class arguments) group = cc
@@ -55,6 +56,7 @@ slow_in_last before (l ∷ []) t = last_or (some_slow before l) (slice_index_or 
 slow_in_last before (l ∷ m ∷ lines) t =
     behind_or (some_slow before l) (slice_index_or before t.acl false) (list_any (some_slow before) (m ∷ lines)) (list_any (some_slow before) (in_last t (m ∷ lines))) (slow_in_last before (m ∷ lines) t)
 
+-- whether a group reaches a helper with one member more
 pub member_slow : (before : List Bool) (t : Term) (b : Body) → is_group b ≡ true → is_slow before (with_member t b) ≡ (is_slow before b || slice_index_or before t.acl false)
 member_slow before t (body.Leaf l) group = cc
 member_slow before t (body.External class arguments) group = cc
@@ -74,6 +76,7 @@ no_more a b e = omega arith
 deepest_opened : (before : List ℕ) (lines : List (List Term)) → greatest_of (deepest before) (lines ++ [] ∷ []) ≡ greatest_of (deepest before) lines
 deepest_opened before lines = no_more (greatest_of (deepest before) (lines ++ [] ∷ [])) (greatest_of (deepest before) lines) (greatest_push (deepest before) lines [])
 
+-- one line more of a group does not change how deep it nests
 pub line_depth : (before : List ℕ) (b : Body) → nesting_of before (with_line b) ≡ nesting_of before b
 line_depth before (body.Leaf l) = refl
 line_depth before (body.External class arguments) = refl
@@ -83,18 +86,21 @@ line_depth before (body.AllOf lines) = ap suc (deepest_opened before lines)
 or_no : (a : Bool) → (a || (false || false)) ≡ a
 or_no a = grind arith
 
+-- one line more of a group does not change whether it reaches a helper
 pub line_slow : (before : List Bool) (b : Body) → is_slow before (with_line b) ≡ is_slow before b
 line_slow before (body.Leaf l) = refl
 line_slow before (body.External class arguments) = refl
 line_slow before (body.AnyOf terms) = refl
 line_slow before (body.AllOf lines) = list_any-append (some_slow before) lines ([] ∷ []) ∙ or_no (list_any (some_slow before) lines)
 
+-- more values of a leaf do not change how deep it nests
 pub leaf_depth : (before : List ℕ) (more : Leaf) (b : Body) → nesting_of before (with_leaf more b) ≡ nesting_of before b
 leaf_depth before more (body.Leaf l) = refl
 leaf_depth before more (body.External class arguments) = refl
 leaf_depth before more (body.AnyOf terms) = refl
 leaf_depth before more (body.AllOf lines) = refl
 
+-- more values of a leaf do not change whether it reaches a helper
 pub leaf_slow : (before : List Bool) (more : Leaf) (b : Body) → is_slow before (with_leaf more b) ≡ is_slow before b
 leaf_slow before more (body.Leaf l) = refl
 leaf_slow before more (body.External class arguments) = refl

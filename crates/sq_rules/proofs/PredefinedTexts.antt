@@ -36,10 +36,12 @@ linklocal_v6 : range_of (codes "fe80::/10") ≡ Some (block (2 ^ 118) (v6 (65152
 unfolding range_of block_size address_of v4_of v6_of number_of read_ipv4 read_octet read_number read_ipv6 read_segments read_segment digits
 linklocal_v6 = refl
 
+-- the first pattern of `manager` is one, for the configuration that has it from the start
 pub cache_objects : is_pattern (record { pattern = codes "^cache_object://"; fold = true }) ≡ true
 unfolding is_pattern reading regex_on_literals
 cache_objects = refl
 
+-- the second pattern of `manager` is one
 pub managers : is_pattern (record { pattern = codes "^[^:]+://[^/]+/squid-internal-mgr/"; fold = false }) ≡ true
 unfolding is_pattern reading regex_on_literals
 managers = refl

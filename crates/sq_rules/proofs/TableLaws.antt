@@ -44,11 +44,13 @@ place_set f n (z ∷ xs) zero x y q is same =
     let named : f y ≡ f z = cc in ap (λ k. if bytes_eq k q then Some n else place_from f (suc n) xs q) named
 place_set f n (z ∷ xs) (suc p) x y q is same = ap (λ o. if bytes_eq (f z) q then Some n else o) (place_set f (suc n) xs p x y q is same)
 
+-- whether a name is there does not change where an element is replaced by one of its name
 pub named_set : {A : Type 0} (f : A → List ℕ) (xs : List A) (p : ℕ) (x y : A) (q : List ℕ) → slice_get xs p ≡ Some x → f y ≡ f x → is_named f (set xs p y) q ≡ is_named f xs q
 named_set f [] p x y q is same = refl
 named_set f (z ∷ xs) zero x y q is same = let named : f y ≡ f z = cc in ap (λ k. bytes_eq k q || is_named f xs q) named
 named_set f (z ∷ xs) (suc p) x y q is same = ap (λ b. bytes_eq (f z) q || b) (named_set f xs p x y q is same)
 
+-- whether all names differ does not change where an element is replaced by one of its name
 pub own_set : {A : Type 0} (f : A → List ℕ) (xs : List A) (p : ℕ) (x y : A) → slice_get xs p ≡ Some x → f y ≡ f x → have_own_names f (set xs p y) ≡ have_own_names f xs
 own_set f [] p x y is same = refl
 own_set f (z ∷ xs) zero x y is same = let named : f y ≡ f z = cc in ap (λ k. not (is_named f xs k) && have_own_names f xs) named
@@ -56,9 +58,11 @@ own_set f (z ∷ xs) (suc p) x y is same =
     ap (λ b. not b && have_own_names f (set xs p y)) (named_set f xs p x y (f z) is same)
     ∙ ap (λ b. not (is_named f xs (f z)) && b) (own_set f xs p x y is same)
 
+-- each acl has a nesting, for a place in the list of nestings
 pub nestings_length : (acls : List Acl) → length (nestings acls) ≡ length acls
 nestings_length acls = rw (nestings_scan [] acls) (omega (arith, scan_length depth_step [] acls))
 
+-- each acl is slow or not, for a place in the list of slow acls
 pub slow_length : (acls : List Acl) → length (slow_ones acls) ≡ length acls
 slow_length acls = rw (slow_scan [] acls) (omega (arith, scan_length slow_step [] acls))
 
@@ -69,12 +73,14 @@ nestings_set acls p y within =
     rw (nestings_scan [] (set acls p y), nestings_scan [] acls, nestings_scan (take p (scan depth_step [] acls) ++ nesting_of (take p (scan depth_step [] acls)) y.body ∷ []) (drop (suc p) acls))
     (scan_set depth_step acls p y within)
 
+-- the slow acls, where one acl is put in
 pub slow_set : (acls : List Acl) (p : ℕ) (y : Acl) → p < length acls →
     slow_ones (set acls p y) ≡ slow_on (take p (slow_ones acls) ++ is_slow (take p (slow_ones acls)) y.body ∷ []) (drop (suc p) acls)
 slow_set acls p y within =
     rw (slow_scan [] (set acls p y), slow_scan [] acls, slow_scan (take p (scan slow_step [] acls) ++ is_slow (take p (scan slow_step [] acls)) y.body ∷ []) (drop (suc p) acls))
     (scan_set slow_step acls p y within)
 
+-- the nestings stay where an acl is replaced by one that nests as deep
 pub nestings_same : (acls : List Acl) (p : ℕ) (x y : Acl) → slice_get acls p ≡ Some x →
     nesting_of (take p (nestings acls)) y.body ≡ nesting_of (take p (nestings acls)) x.body → nestings (set acls p y) ≡ nestings acls
 nestings_same acls p x y is same =
@@ -82,6 +88,7 @@ nestings_same acls p x y is same =
     ∙ scan_same depth_step acls p x y is (subst (λ l. nesting_of (take p l) y.body ≡ nesting_of (take p l) x.body) (nestings_scan [] acls) same)
     ∙ sym (nestings_scan [] acls)
 
+-- the slow acls stay where an acl is replaced by one that is as slow
 pub slow_same : (acls : List Acl) (p : ℕ) (x y : Acl) → slice_get acls p ≡ Some x →
     is_slow (take p (slow_ones acls)) y.body ≡ is_slow (take p (slow_ones acls)) x.body → slow_ones (set acls p y) ≡ slow_ones acls
 slow_same acls p x y is same =
@@ -93,6 +100,7 @@ slow_same acls p x y is same =
 pub nesting_at : (acls : List Acl) (p : ℕ) (x : Acl) → slice_get acls p ≡ Some x → slice_index_or (nestings acls) p 0 ≡ nesting_of (take p (nestings acls)) x.body
 nesting_at acls p x is = rw (nestings_scan [] acls) (scan_at depth_step acls p x 0 is)
 
+-- whether the acl at a place is slow
 pub slow_at : (acls : List Acl) (p : ℕ) (x : Acl) → slice_get acls p ≡ Some x → slice_index_or (slow_ones acls) p false ≡ is_slow (take p (slow_ones acls)) x.body
 slow_at acls p x is = rw (slow_scan [] acls) (scan_at slow_step acls p x false is)
 

@@ -40,6 +40,7 @@ inside_send =
     let parts : FieldsHave IsSend (inside.the_type).parts = (search (sendable, crosses) depth 40 fits 20000, (search (sendable, crosses, class_send) depth 40 fits 20000, (search (sendable, crosses, acl_send) depth 40 fits 20000, (search (sendable, crosses, rule_send) depth 40 fits 20000, (search (sendable, crosses, pool_send) depth 40 fits 20000, (search (sendable, crosses) depth 40 fits 20000, (search (sendable, crosses) depth 40 fits 20000, (search (sendable, crosses, notice_send) depth 40 fits 20000, tt)))))))) in
     declared_send inside.the_type parts
 
+-- a configuration may go to another thread, for structs that hold one
 pub config_send : IsSend config.the_row
 config_send = view_send _ _ _ _ _ inside_send
 
@@ -69,17 +70,20 @@ inside_sync =
     let parts : FieldsHave IsSync (inside.the_type).parts = (search (sendable, crosses) depth 40 fits 20000, (search (sendable, crosses, class_sync) depth 40 fits 20000, (search (sendable, crosses, acl_sync) depth 40 fits 20000, (search (sendable, crosses, rule_sync) depth 40 fits 20000, (search (sendable, crosses, pool_sync) depth 40 fits 20000, (search (sendable, crosses) depth 40 fits 20000, (search (sendable, crosses) depth 40 fits 20000, (search (sendable, crosses, notice_sync) depth 40 fits 20000, tt)))))))) in
     declared_sync inside.the_type parts
 
+-- a configuration may be read by several threads, for structs that hold one
 pub config_sync : IsSync config.the_row
 config_sync = view_sync _ _ _ _ _ inside_sync
 
 facts_inside_send : IsSend facts_inside.the_row
 facts_inside_send = search (sendable, crosses) depth 40 fits 20000
 
+-- facts may go to another thread, for structs that hold them
 pub facts_send : IsSend facts.the_row
 facts_send = view_send _ _ _ _ _ facts_inside_send
 
 facts_inside_sync : IsSync facts_inside.the_row
 facts_inside_sync = search (sendable, crosses) depth 40 fits 20000
 
+-- facts may be read by several threads, for structs that hold them
 pub facts_sync : IsSync facts.the_row
 facts_sync = view_sync _ _ _ _ _ facts_inside_sync

@@ -42,6 +42,7 @@ both_then : (a b : Bool) (acl : ℕ) (o : Option ℕ) (rest : Option SetupFault)
 both_then true b acl o rest all none no_more = rw (none refl) (no_more all)
 both_then false b acl o rest all none no_more = cc
 
+-- a configuration whose patterns all have their syntax has no first fault
 pub no_fault : (place : ℕ) (acls : List Acl) → all_patterns acls ≡ true → fault_from place acls ≡ None
 no_fault place [] all = refl
 no_fault place (a ∷ acls) all =
