@@ -1,0 +1,5 @@
+-- Definitions that the contracts cite.
+pub mod CheckRows
+pub mod ClassRows
+pub mod StepRows
+pub mod Agreement
