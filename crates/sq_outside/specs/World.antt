@@ -1,5 +1,5 @@
 -- What spawners, clocks and resolvers tell, and the causes of what listeners and resolvers answer.
-use Rattle.std.specs.Prelude.{◌≡◌, ℕ, Bool, true, false, List, [], ◌∷◌, ◌++◌, ◌≤◌, Some, IfSome, IfOk, IsErrOf, Result}
+use Rattle.std.specs.Prelude.{◌≡◌, ℕ, Bool, true, false, List, [], ◌∷◌, ◌++◌, ◌≤◌, Some, IfSome, IfOk, IsErrOf, OnOk, Result}
 use Rattle.std.specs.declared.option.Option.{Option}
 use Rattle.sq_base.specs.Addresses.{Address}
 use Rattle.sq_outside.specs.Causes.{Rose}
@@ -32,15 +32,18 @@ has_failed (Link from to addr port) = false
 has_failed Stopped = false
 has_failed Failed = true
 
--- the count never falls, and rose where the listener answered `Failed`
+-- the count never falls; it rose where the listener answered `Failed`, and stayed where it answered otherwise
 pub record AcceptHasCause {I O : Type 0} (before now : ℕ) (result : Accepted I O) : Type 0 where
   pub later : before ≤ now
   pub failed : result ≡ Failed → Rose before now
+  pub quiet : has_failed result ≡ false → now ≡ before
 
--- the count never falls, and rose where the resolver answered `Failed`
+-- the count never falls; it rose where the resolver answered `Failed`, and stayed where it answered otherwise
 pub record LookHasCause {T : Type 0} (before now : ℕ) (result : Result T LookFault) : Type 0 where
   pub later : before ≤ now
   pub failed : IsErrOf result fault.Failed → Rose before now
+  pub quiet : OnOk result (now ≡ before)
+  pub memory : IsErrOf result fault.WantOfMemory → now ≡ before
 
 -- the words of the starts that were made, the oldest first; None where the object does not tell
 abbrev pub Starts : Type 0
