@@ -2,8 +2,7 @@
 //!
 //! `evaluate` gives the verdict of a configuration, or the acl and key whose answer is needed first.
 //! `pool_of` gives the delay pool of a check. Both equal the definitions of the rules: terms from left to
-//! right, up to what decides, and nothing is looked at or asked behind that. Facts are read by
-//! `Facts::look` alone, once for each place of the walk.
+//! right, up to what decides.
 #![tactic(auto)]
 
 mod evaluating;
