@@ -1,0 +1,9 @@
+mod ElementLaws
+mod EscapeLaws
+mod FieldLaws
+mod LengthLaws
+mod NameLaws
+mod ReplyLaws
+mod SchemeLaws
+mod StatusLaws
+mod ValueLaws

@@ -1,0 +1,63 @@
+//! The fields that are passed on.
+ghost use Rattle.std.specs.Prelude.{◌≡◌, ◌++◌, map, OnOk};
+ghost use Rattle.std.specs.List.{filter, flat_map};
+ghost use Rattle.sq_request.specs.Heads.{field_line};
+ghost use Rattle.sq_head.specs.FieldNames.{is_kept, is_listed, kept_lines};
+
+use crate::elements::connection_options;
+use crate::names::{Way, is_alike, is_dropped, is_one_of};
+use sq_base::{Field, Text, WantOfMemory};
+use std::alloc::Global;
+
+/// Puts the lines of the fields that are passed on that way. Each of them, at most 128 in a head, is
+/// compared with each option that Connection lists.
+pub(crate) fn put_kept_fields(
+    alloc: Global,
+    to: &mut Text,
+    way: Way,
+    fields: &[Field],
+) -> Result<(), WantOfMemory>
+    ensures { OnOk result (to.new ≡ to.old ++ kept_lines way fields.now) }
+{
+    let options = connection_options(alloc, fields)?;
+    put_unlisted(to, way, fields, options.as_slice())
+}
+
+// Puts the lines of the fields that are passed on where Connection lists these.
+fn put_unlisted(
+    to: &mut Text,
+    way: Way,
+    fields: &[Field],
+    options: &[&[u8]],
+) -> Result<(), WantOfMemory>
+    ensures { OnOk result (to.new ≡ to.old ++ flat_map field_line (filter (is_kept way (map (λ o. o.now) options.now)) fields.now)) }
+{
+    for field in fields {
+        if is_kept(way, options, field) {
+            put_field(to, field)?;
+        }
+    }
+    Ok(())
+}
+
+fn is_kept(way: Way, options: &[&[u8]], field: &Field) -> bool
+    ensures { result ≡ is_kept way (map (λ o. o.now) options.now) field.now }
+{
+    let name = field.name.as_bytes();
+    !(is_dropped(way, name) || is_listed(options, name))
+}
+
+fn is_listed(options: &[&[u8]], name: &[u8]) -> bool
+    ensures { result ≡ is_listed (map (λ o. o.now) options.now) name.now }
+{
+    is_one_of(options, name) && !is_alike(b"content-length", name)
+}
+
+fn put_field(to: &mut Text, field: &Field) -> Result<(), WantOfMemory>
+    ensures { OnOk result (to.new ≡ to.old ++ field_line field.now) }
+{
+    to.append(field.name.as_bytes())?;
+    to.append(b": ")?;
+    to.append(field.value.as_bytes())?;
+    to.append(b"\r\n")
+}
