@@ -4,7 +4,7 @@ mod DueLaws
 mod FarmLaws
 mod LivingLaws
 mod LostLaws
-mod PlaceLaws
+pub mod PlaceLaws
 mod ReadingWords
 mod RowReadings
 mod ReplyLaws

@@ -137,7 +137,8 @@ impl Farm {
         Ok(())
     }
 
-    fn send(&mut self) -> Option<FarmAct>
+    /// The send that is due, which is made with this call.
+    pub fn send(&mut self) -> Option<FarmAct>
         ensures act { result ≡ told_send (send_of self.old) }
         ensures value { self.new ≡ after_send self.old }
     {
@@ -156,7 +157,7 @@ impl Farm {
     }
 
     /// Whether a start is due.
-    fn start_due(&self) -> bool
+    pub fn start_due(&self) -> bool
         ensures { result ≡ start_due self.now }
     {
         let starting = self.starting as usize;
@@ -166,7 +167,8 @@ impl Farm {
         self.owed > 0 || starting * (self.concurrency.max(1) as usize) < self.queue.len()
     }
 
-    fn start(&mut self) -> Option<FarmAct>
+    /// The start that is due, which is made with this call, whether or not a send is due too.
+    pub fn start(&mut self) -> Option<FarmAct>
         ensures act { result ≡ told_start (start_due self.old) }
         ensures value { self.new ≡ after_start self.old }
     {
@@ -191,7 +193,8 @@ impl Farm {
         }
     }
 
-    fn send_copy(&self, alloc: Global) -> Result<Option<FarmAct>, WantOfMemory>
+    /// A copy of what `send` would answer. Nothing changes.
+    pub fn send_copy(&self, alloc: Global) -> Result<Option<FarmAct>, WantOfMemory>
         ensures { IfOk result (λ a. a ≡ told_send (send_of self.now)) }
     {
         let Some(waiting) = self.queue.front() else {
@@ -224,6 +227,20 @@ impl Farm {
         }
     }
 
+    /// How many processes live.
+    pub fn living(&self) -> usize
+        ensures { result ≡ length self.now.procs }
+    {
+        self.procs.len()
+    }
+
+    /// Whether a process with this number lives.
+    pub fn lives(&self, proc: ProcNo) -> bool
+        ensures { result ≡ lives proc self.now.procs }
+    {
+        self.procs.get(proc).is_some()
+    }
+
     /// Whether the next act is a send.
     pub fn send_due(&self) -> bool
         ensures { result ≡ is_some (send_of self.now) }
@@ -231,7 +248,8 @@ impl Farm {
         !self.queue.is_empty() && self.procs.some_free()
     }
 
-    fn end(&mut self, proc: ProcNo, cause: Cause) -> bool
+    /// A process ends, by this cause; false where it does not live.
+    pub fn end(&mut self, proc: ProcNo, cause: Cause) -> bool
         ensures alive { result ≡ lives proc self.old.procs }
         ensures value { self.new ≡ (if result then ended cause proc self.old else self.old) }
         ensures stay { (q : ℕ) → places q self.new ≡ places q self.old }
@@ -307,7 +325,8 @@ impl Farm {
         Ok(got)
     }
 
-    fn settle_reply(&mut self, proc: ProcNo, question: QuestionNo)
+    /// Frees the channel of a question that is open on this process.
+    pub fn settle_reply(&mut self, proc: ProcNo, question: QuestionNo)
         requires { is_open question (slots_in proc self.old.procs) ≡ true }
         ensures value { self.new ≡ record self.old { procs = settled_in proc question self.old.procs } }
         ensures stay { (q : ℕ) → (q == question) ≡ false → places q self.new ≡ places q self.old }

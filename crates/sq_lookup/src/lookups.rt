@@ -48,6 +48,8 @@ impl Lookups {
     pub fn pending(&self, key: &Text) -> Option<QuestionNo>
         ensures question { result ≡ pending_in key.now self.now.rows }
         ensures once { keys_once self.now.rows ≡ true }
+        // Nobody waits for a question that is not open.
+        ensures alone { (q n : ℕ) → is_open_lookup q self.now.rows ≡ false → waits_in self.now.waiting q n ≡ false }
     {
         self.keys.question(key)
     }
