@@ -1,0 +1,158 @@
+-- An open check as it is kept, the row that it is, and what each call makes of it.
+use Rattle.std.specs.Prelude.{◌≡◌, ℕ, suc, min, List, [], ◌∷◌, ◌++◌, Bool, true, false, not, ◌==◌, if◌then◌else◌, nat_lt, map, filter, Some, None}
+use Rattle.std.specs.List.{list_all}
+use Rattle.std.specs.Option.{option_to_list, option_and_then, option_or}
+use Rattle.std.specs.declared.option.Option.{Option}
+use Rattle.sq_base.specs.declared.helpers.Answer.{Answer}
+use Rattle.sq_base.specs.declared.helpers.What.{What}
+use Rattle.sq_rules.specs.Configurations.{Configuration}
+use Rattle.sq_rules.specs.Facts.{facts_of}
+use Rattle.sq_rules.specs.Limits.{last_number}
+use Rattle.sq_rules.specs.Sights.{unversioned_sight}
+use Rattle.sq_rules.specs.StepRule.{StepSays}
+use Rattle.sq_rules.specs.Verdicts.{pool_of, verdict_over}
+use Rattle.sq_rules.specs.declared.outcomes.Outcome.{Outcome}
+use Rattle.sq_rules.specs.declared.sights.Sight.{Sight}
+use Rattle.sq_rules.specs.declared.values.Value.{Value}
+use Rattle.sq_rules.specs.declared.values.Value.TheVariants as value
+use Rattle.sq_rows.specs.CheckRows.{Ends, Held}
+use Rattle.sq_rows.specs.StepRows.{told_of}
+use Rattle.sq_rows.specs.declared.said.Said.{Said}
+use Rattle.sq_checks.specs.Stages.{IsStage, came_in, ended_stage, given, is_done_in, noted_stage, question_in, question_told}
+use Rattle.sq_checks.specs.Tables.{value_at}
+use Rattle.sq_checks.specs.declared.stages.Stage.{Stage}
+use Rattle.sq_checks.specs.declared.stages.Stage.TheVariants as stage
+
+-- an open check: its connection, its epoch with the configuration, what it saw, its pool, the answers that are put, how far it has come, and how
+-- often it was stepped
+pub record CheckParts : Type 0 where
+  pub conn : ℕ
+  pub epoch : ℕ
+  pub config : Configuration
+  pub sight : Sight
+  pub pool : Option ℕ
+  pub answers : List Answer
+  pub stage : Stage
+  pub steps : ℕ
+
+-- a check that begins
+abbrev pub begun_parts : ℕ → ℕ → Configuration → Sight → CheckParts
+begun_parts conn epoch config sight = record {
+  conn = conn;
+  epoch = epoch;
+  config = config;
+  sight = sight;
+  pool = pool_of config sight;
+  answers = [];
+  stage = stage.Ready;
+  steps = 0;
+}
+
+-- its facts are those of what it saw, so is its pool, and its stage is sound
+pub record IsCheck (c : CheckParts) (facts : List Bool) : Type 0 where
+  pub facts_are : facts ≡ facts_of c.config.acls c.sight
+  pub pool_is : c.pool ≡ pool_of c.config c.sight
+  pub stage_is : IsStage c.config c.sight c.answers c.stage
+
+-- all answers that a check has
+abbrev pub answers_in : CheckParts → List Answer
+answers_in c = c.answers ++ option_to_list (came_in c.stage)
+
+-- what a check comes to over its answers
+abbrev pub comes_to : CheckParts → Value
+comes_to c = verdict_over (answers_in c) c.config (unversioned_sight c.sight)
+
+-- an answer is needed
+abbrev pub is_need : Value → Bool
+is_need (value.Verdict o) = false
+is_need (value.Need acl key) = true
+
+-- check n as a row
+abbrev pub row : ℕ → CheckParts → Held
+row n c = record {
+  number = n;
+  asked = record { conn = c.conn; epoch = c.epoch; sight = unversioned_sight c.sight };
+  waits = question_in c.stage;
+  answers = answers_in c;
+  done = is_done_in c.stage;
+  steps = c.steps;
+}
+
+abbrev pub entry_row : ℕ × CheckParts → Held
+entry_row e = row e.0 e.1
+
+-- open checks as rows
+abbrev pub rows_of : List (ℕ × CheckParts) → List Held
+rows_of checks = map entry_row checks
+
+abbrev pub settled_by : CheckParts → Option Answer → CheckParts
+settled_by c None = c
+settled_by c (Some a) = record c { answers = c.answers ++ a ∷ []; stage = stage.Ready }
+
+-- a check with the answer that came put among the others
+abbrev pub settled : CheckParts → CheckParts
+settled c = settled_by c (came_in c.stage)
+
+-- a step more, up to the last number
+abbrev pub step_more : ℕ → ℕ
+step_more n = min last_number (suc n)
+
+-- a check after a step that asked for this key of this class
+abbrev pub noted : Said → ℕ → List ℕ → CheckParts → CheckParts
+noted s class key c = record c { stage = noted_stage s.took (question_told s.stepped) class key; steps = step_more c.steps }
+
+-- a check after a step that said that it is done
+abbrev pub finished : Outcome → CheckParts → CheckParts
+finished o c = record c { stage = stage.Done o; steps = step_more c.steps }
+
+-- a check after the end of a question
+abbrev pub ended_by : ℕ → What → ℕ → CheckParts → CheckParts
+ended_by q w now c = record c { stage = ended_stage q w now c.stage }
+
+-- what a step says, as far as a check changes by it
+abbrev pub says_of : Said → StepSays
+says_of s = record { answer = told_of [] s.stepped; put = None; took = s.took }
+
+abbrev pub change_entry : ℕ → (CheckParts → CheckParts) → ℕ × CheckParts → ℕ × CheckParts
+change_entry n f e = if n == e.0 then (e.0, f e.1) else e
+
+-- the checks with check n changed
+abbrev pub change_at : ℕ → (CheckParts → CheckParts) → List (ℕ × CheckParts) → List (ℕ × CheckParts)
+change_at n f checks = map (change_entry n f) checks
+
+-- the checks after the end of a question
+abbrev pub all_ended : ℕ → What → ℕ → List (ℕ × CheckParts) → List (ℕ × CheckParts)
+all_ended q w now checks = map (λ e. (e.0, ended_by q w now e.1)) checks
+
+-- the checks without check n
+abbrev pub without_entry : ℕ → List (ℕ × CheckParts) → List (ℕ × CheckParts)
+without_entry n checks = filter (λ e. not (n == e.0)) checks
+
+-- each of these rows has a number below n
+abbrev pub all_before : ℕ → List Held → Bool
+all_before n checks = list_all (λ h. nat_lt h.number n) checks
+
+-- the question that check n waits for
+abbrev pub wait_at : ℕ → List (ℕ × CheckParts) → Option ℕ
+wait_at n checks = option_and_then (λ c. question_in c.stage) (value_at checks n)
+
+-- the answer is the one that the end of a question gives, where the stage waits for that one
+abbrev pub IsFit : ℕ → Answer → What → ℕ → Stage → Type 0
+IsFit q a w now stage.Ready = Unit {0}
+IsFit q a w now (stage.Came b) = Unit {0}
+IsFit q a w now (stage.Waits n) = (n.question == q) ≡ true → a ≡ given w now n
+IsFit q a w now (stage.Done o) = Unit {0}
+
+-- the answer is the one that each check is given that waits for the question
+abbrev pub AllFit : ℕ → Answer → What → ℕ → List (ℕ × CheckParts) → Type 0
+AllFit q a w now [] = Unit {0}
+AllFit q a w now (e ∷ es) = IsFit q a w now e.1.stage × AllFit q a w now es
+
+-- what the one or the other gives
+abbrev pub both_ends : Ends → Ends → Ends
+both_ends first second q = option_or (first q) (second q)
+
+-- each of these is the one
+abbrev pub AllAre : What → List What → Type 0
+AllAre w [] = Unit {0}
+AllAre w (x ∷ xs) = (x ≡ w) × AllAre w xs

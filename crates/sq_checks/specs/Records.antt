@@ -1,0 +1,49 @@
+-- A check whose outcome was taken.
+use Rattle.std.specs.Prelude.{◌≡◌, ℕ, List, Bool, false, not, slice_get}
+use Rattle.std.specs.Option.{option_map_or}
+use Rattle.std.specs.declared.option.Option.{Option}
+use Rattle.sq_base.specs.Addresses.{Address}
+use Rattle.sq_base.specs.declared.helpers.Answer.{Answer}
+use Rattle.sq_rules.specs.Configurations.{Configuration}
+use Rattle.sq_rules.specs.Verdicts.{is_passed_over, pool_of, verdict_over}
+use Rattle.sq_rules.specs.declared.outcomes.Outcome.{Outcome}
+use Rattle.sq_rules.specs.declared.pools.Pool.{Pool}
+use Rattle.sq_rules.specs.declared.sights.Sight.{Sight}
+use Rattle.sq_rules.specs.declared.values.Value.TheVariants as value
+use Rattle.sq_checks.specs.OpenChecks.{CheckParts}
+
+-- a check that is over: its number, its epoch with the configuration, what it saw, its answers in order, the outcome, its pool, how many facts were
+-- looked at, and how often it was stepped
+pub record Judged : Type 0 where
+  pub check : ℕ
+  pub epoch : ℕ
+  pub config : Configuration
+  pub sight : Sight
+  pub answers : List Answer
+  pub outcome : Outcome
+  pub pool : Option ℕ
+  pub looks : ℕ
+  pub steps : ℕ
+
+-- the outcome is the verdict of the configuration over what was seen and the answers, and the pool is theirs
+pub record IsJudged (r : Judged) : Type 0 where
+  pub verdict_is : verdict_over r.answers r.config r.sight ≡ value.Verdict r.outcome
+  pub pool_is : r.pool ≡ pool_of r.config r.sight
+
+-- what is left of an open check with this number and outcome
+abbrev pub judged_of : ℕ → Outcome → CheckParts → Judged
+judged_of n o c = record {
+  check = n;
+  epoch = c.epoch;
+  config = c.config;
+  sight = c.sight;
+  answers = c.answers;
+  outcome = o;
+  pool = c.pool;
+  looks = 0;
+  steps = c.steps;
+}
+
+-- the pool at a place is there, and a client of this address does not pass over it
+abbrev pub takes_client : List Pool → Address → ℕ → Bool
+takes_client pools a place = option_map_or (λ p. not (is_passed_over a p)) (slice_get pools place) false

@@ -1,0 +1,105 @@
+//! How many connections of each address are open.
+ghost use Rattle.std.specs.Prelude.{◌≡◌, ◌-◌, suc, if◌then◌else◌, OnOk, OnErr};
+ghost use Rattle.sq_base.specs.Addresses.{Address};
+ghost use Rattle.sq_rules.specs.Connections.{is_address};
+ghost use Rattle.sq_checks.specs.Counts.{or_zero, tally, Lowers, Raises};
+ghost use Rattle.sq_checks.specs.Tables.{value_at};
+
+use crate::tables::Table;
+use sq_base::{Addr, WantOfMemory};
+use std::alloc::Global;
+use std::marker::Model;
+
+/// The counts of addresses that have some. A contract sees those of both kinds.
+#[derive(Drop)]
+pub struct Counts {
+    v4: Table<u32>,
+    v6: Table<u32>,
+}
+
+impl Model for Counts {
+    ghost use Rattle.sq_checks.specs.Counts.{Tallies};
+
+    ghost Value = { Tallies };
+
+    ghost view = { λ c. record { v4 = c.v4; v6 = c.v6 } };
+}
+
+// The count that a table has for a number.
+fn count_in(table: &Table<u32>, number: u128) -> u32
+    ensures { result ≡ or_zero (value_at table.now number) }
+{
+    match table.get(number) {
+        None => 0,
+        Some(count) => count,
+    }
+}
+
+impl Counts {
+    /// No address has any.
+    pub fn new(alloc: Global) -> Counts
+        ensures { (a : Address) → tally result a ≡ 0 }
+    {
+        Counts {
+            v4: Table::new(alloc),
+            v6: Table::new(alloc),
+        }
+    }
+
+    /// The count of an address.
+    pub fn count(&self, addr: Addr) -> u32
+        ensures { result ≡ tally self.now addr }
+    {
+        if addr.v6 {
+            count_in(&self.v6, addr.number)
+        } else {
+            count_in(&self.v4, addr.number)
+        }
+    }
+
+    /// One more of an address.
+    pub fn raise(&mut self, addr: Addr) -> Result<(), WantOfMemory>
+        ensures ok { OnOk result ((a : Address) → tally self.new a ≡ (if is_address a addr then suc (tally self.old a) else tally self.old a)) }
+        ensures err { OnErr result (self.new ≡ self.old) }
+    {
+        if addr.v6 {
+            raise(&mut self.v6, addr.number)
+        } else {
+            raise(&mut self.v4, addr.number)
+        }
+    }
+
+    /// One less of an address.
+    pub fn lower(&mut self, addr: Addr)
+        ensures { (a : Address) → tally self.new a ≡ (if is_address a addr then tally self.old a - 1 else tally self.old a) }
+    {
+        if addr.v6 {
+            lower(&mut self.v6, addr.number)
+        } else {
+            lower(&mut self.v4, addr.number)
+        }
+    }
+}
+
+// One more of a number. More connections than a count holds are as many as no memory holds.
+fn raise(table: &mut Table<u32>, number: u128) -> Result<(), WantOfMemory>
+    ensures ok { OnOk result (Raises table.old table.new number) }
+    ensures err { OnErr result (table.new ≡ table.old) }
+{
+    let Some(count) = count_in(table, number).checked_add(1) else {
+        return Err(WantOfMemory);
+    };
+    table.put(number, count)
+}
+
+// One less of a number, which is forgotten where none is left.
+fn lower(table: &mut Table<u32>, number: u128)
+    ensures { Lowers table.old table.new number }
+{
+    let count = count_in(table, number);
+    if count > 1 {
+        table.change(number, count - 1);
+    } else {
+        table.remove(number);
+    }
+}

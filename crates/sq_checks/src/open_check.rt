@@ -1,0 +1,236 @@
+//! An open check.
+ghost use Rattle.std.specs.Prelude.{◌≡◌, ℕ, List, true, false, suc, min, Some, IfOk, OnOk, OnErr, IfSome, is_some};
+ghost use Rattle.std.specs.Arc.{arc_value};
+ghost use Rattle.std.specs.Option.{option_copied};
+ghost use Rattle.sq_base.specs.Distinct.{has_answer};
+ghost use Rattle.sq_rules.specs.Facts.{facts_of};
+ghost use Rattle.sq_rules.specs.Limits.{last_number};
+ghost use Rattle.sq_rules.specs.StepRule.{class_of_acl};
+ghost use Rattle.sq_rules.specs.declared.values.Value.TheVariants as value;
+ghost use Rattle.sq_checks.specs.OpenChecks.{begun_parts, comes_to, ended_by, finished, is_need, noted, settled, step_more};
+ghost use Rattle.sq_checks.specs.Records.{judged_of};
+ghost use Rattle.sq_checks.specs.Stages.{decided_in, is_idle, is_noted, is_settled, question_in};
+
+use crate::records::Record;
+use crate::stages::{Stage, came, decided, ended, noted, question, told};
+use sq_base::{Answers, CheckNo, ConnNo, EpochNo, Moment, QuestionNo, Text, WantOfMemory, What};
+use sq_eval::{evaluate, pool_of};
+use sq_rows::Said;
+use sq_rules::{Body, Config, Facts, Outcome, Sight, Value};
+use std::alloc::Global;
+use std::marker::Model;
+use std::mem;
+use std::sync::Arc;
+
+/// The number at which a count of steps stays.
+const LAST_NUMBER: u64 = 0x7FFF_FFFF_FFFF_FFFF;
+
+/// A check from its request to its outcome. Its own number is its place among the open checks.
+#[derive(Drop)]
+pub struct OpenCheck {
+    conn: ConnNo,
+    epoch: EpochNo,
+    config: Arc<Config>,
+    sight: Sight,
+    facts: Facts,
+    pool: Option<u32>,
+    answers: Answers,
+    stage: Stage,
+    steps: u64,
+}
+
+impl Model for OpenCheck {
+    ghost use Rattle.std.specs.Arc.{arc_value};
+    ghost use Rattle.sq_checks.specs.OpenChecks.{CheckParts, IsCheck};
+
+    ghost Value = { CheckParts };
+
+    ghost view = { λ c. record { conn = c.conn; epoch = c.epoch; config = arc_value c.config; sight = c.sight; pool = c.pool; answers = c.answers; stage = c.stage; steps = c.steps } };
+
+    ghost invariant = { λ c. IsCheck (record { conn = c.conn; epoch = c.epoch; config = arc_value c.config; sight = c.sight; pool = c.pool; answers = c.answers; stage = c.stage; steps = c.steps }) c.facts };
+}
+
+// A step more.
+fn step_more(steps: u64) -> u64
+    ensures { result ≡ step_more steps }
+{
+    if steps < LAST_NUMBER {
+        steps + 1
+    } else {
+        LAST_NUMBER
+    }
+}
+
+impl OpenCheck {
+    /// The check that begins on a connection, in an epoch with its configuration, with what it sees and the
+    /// facts of that. It takes no memory.
+    pub fn new(
+        alloc: Global,
+        conn: ConnNo,
+        epoch: EpochNo,
+        config: Arc<Config>,
+        sight: Sight,
+        facts: Facts,
+    ) -> OpenCheck
+        requires { facts ≡ facts_of (arc_value config).acls sight }
+        ensures { result ≡ begun_parts conn epoch (arc_value config) sight }
+    {
+        let pool = pool_of(&config, &facts, sight.addr);
+        OpenCheck {
+            conn,
+            epoch,
+            config,
+            sight,
+            facts,
+            pool,
+            answers: Answers::new(alloc),
+            stage: Stage::Ready,
+            steps: 0,
+        }
+    }
+
+    /// The connection of its request.
+    pub fn conn(&self) -> ConnNo
+        ensures { result ≡ self.now.conn }
+    {
+        self.conn
+    }
+
+    /// The epoch in which it began.
+    pub fn epoch(&self) -> EpochNo
+        ensures { result ≡ self.now.epoch }
+    {
+        self.epoch
+    }
+
+    /// The configuration of its epoch.
+    pub fn config(&self) -> &Arc<Config>
+        ensures { arc_value result.now ≡ self.now.config }
+    {
+        &self.config
+    }
+
+    /// What it sees.
+    pub fn sight(&self) -> &Sight
+        ensures { result.now ≡ self.now.sight }
+    {
+        &self.sight
+    }
+
+    /// The question that it waits for, if it waits.
+    pub fn question(&self) -> Option<QuestionNo>
+        ensures { result ≡ question_in self.now.stage }
+    {
+        question(&self.stage)
+    }
+
+    /// The outcome, where a step said that it is done.
+    pub fn outcome(&self) -> Option<&Outcome>
+        ensures { option_copied result ≡ decided_in self.now.stage }
+    {
+        decided(&self.stage)
+    }
+
+    /// Whether no answer is left that came and is not put among the others.
+    pub fn is_settled(&self) -> bool
+        ensures { result ≡ is_settled self.now.stage }
+    {
+        !matches!(self.stage, Stage::Came(_))
+    }
+
+    /// What it comes to over its answers: the verdict, or the need of an answer that it does not have.
+    pub fn come_to(&self, alloc: Global) -> Result<Value, WantOfMemory>
+        requires { is_settled self.now.stage ≡ true }
+        ensures value { IfOk result (λ v. v ≡ comes_to self.now) }
+        ensures idle { IfOk result (λ v. is_need v ≡ true → is_idle self.now.stage ≡ true) }
+        ensures other { IfOk result (λ v. (acl class : ℕ) (key : List ℕ) → v ≡ value.Need acl key → class_of_acl self.now.config.acls acl ≡ Some class → has_answer self.now.answers class key ≡ false) }
+    {
+        evaluate(alloc, &self.config, &self.facts, &self.sight, &self.answers)
+    }
+
+    /// Puts the answer that came among the others, if one did.
+    pub fn settle(&mut self, alloc: Global) -> Result<(), WantOfMemory>
+        ensures ok { OnOk result (self.new ≡ settled self.old) }
+        ensures err { OnErr result (self.new ≡ self.old) }
+    {
+        let Some(answer) = came(alloc, &self.stage)? else {
+            return Ok(());
+        };
+        self.answers.push(answer)?;
+        self.stage = Stage::Ready;
+        Ok(())
+    }
+
+    /// Takes what a step says that asked for this key of the class at this place: the answer that it took has
+    /// come, or the check waits for the question that it was told. It takes no memory.
+    pub fn note(&mut self, said: Said, class: u32, key: Text)
+        requires idle { is_idle self.old.stage ≡ true }
+        requires said { is_noted said.took said.stepped ≡ true }
+        requires other { has_answer self.old.answers class key ≡ false }
+        requires took { IfSome said.took (λ a. (a.class ≡ class) × (a.key ≡ key)) }
+        ensures { self.new ≡ noted said class key self.old }
+    {
+        let Said {
+            stepped,
+            took,
+            put: _,
+        } = said;
+        self.stage = noted(took, told(&stepped), class, key);
+        self.steps = step_more(self.steps);
+    }
+
+    /// Takes the verdict to which a step came. It takes no memory.
+    pub fn finish(&mut self, outcome: Outcome)
+        requires settled { is_settled self.old.stage ≡ true }
+        requires verdict { comes_to self.old ≡ value.Verdict outcome }
+        ensures { self.new ≡ finished outcome self.old }
+    {
+        self.stage = Stage::Done(outcome);
+        self.steps = step_more(self.steps);
+    }
+
+    /// Takes what a question ended with at a moment, where it waits for that one. It takes no memory.
+    pub fn serve(&mut self, question: QuestionNo, what: What, now: Moment)
+        ensures { self.new ≡ ended_by question what now self.old }
+    {
+        let stage = mem::replace(&mut self.stage, Stage::Ready);
+        self.stage = ended(stage, question, what, now);
+    }
+
+    /// What is left of it, under its number, when its outcome is taken. It takes no memory.
+    pub fn into_record(self, check: CheckNo) -> Record
+        requires { is_some (decided_in self.stage) ≡ true }
+        ensures { IfSome (decided_in self.stage) (λ o. result ≡ judged_of check o self) }
+    {
+        let OpenCheck {
+            conn: _,
+            epoch,
+            config,
+            sight,
+            facts: _,
+            pool,
+            answers,
+            stage,
+            steps,
+        } = self;
+        match stage {
+            Stage::Done(outcome) => Record::new(
+                check, epoch, config, sight, answers, outcome, pool, steps,
+            ),
+            _ => unreachable!(),
+        }
+    }
+}
+
+/// The class, by its place, that the external acl at a place asks, if there is one there.
+pub fn class_of(config: &Config, acl: u32) -> Option<u32>
+    ensures { result ≡ class_of_acl config.now.acls acl }
+{
+    match &config.acls().get(acl as usize)?.body {
+        Body::External {
+            class,
+            arguments: _,
+        } => Some(*class),
+        _ => None,
+    }
+}

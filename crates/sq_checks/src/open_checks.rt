@@ -1,0 +1,175 @@
+//! The open checks by number.
+ghost use Rattle.std.specs.Prelude.{◌≡◌, ◌++◌, ◌∷◌, [], ℕ, true, false, length, is_some, IfSome, IfErr, OnOk, OnErr, Some};
+ghost use Rattle.std.specs.Option.{option_copied};
+ghost use Rattle.sq_base.specs.Distinct.{has_answer};
+ghost use Rattle.sq_lookup.specs.Waits.{has_check};
+ghost use Rattle.sq_rows.specs.CheckRows.{after_step, without_check};
+ghost use Rattle.sq_rules.specs.Events.{is_number};
+ghost use Rattle.sq_rules.specs.StepRule.{says_done};
+ghost use Rattle.sq_rules.specs.declared.values.Value.TheVariants as value;
+ghost use Rattle.sq_checks.specs.OpenChecks.{AllAre, all_before, all_ended, change_at, comes_to, ended_by, finished, noted, row, rows_of, says_of, settled, wait_at, without_entry};
+ghost use Rattle.sq_checks.specs.Stages.{is_idle, is_noted, is_settled};
+ghost use Rattle.sq_checks.specs.Tables.{value_at};
+
+use crate::open_check::OpenCheck;
+use sq_base::{Cause, CheckNo, Moment, QuestionNo, Text, WantOfMemory, What};
+use sq_lookup::Checks;
+use sq_rows::Said;
+use sq_rules::Outcome;
+use std::alloc::Global;
+use std::collections::BTreeMap;
+use std::marker::Model;
+
+/// The open checks. A contract sees each number with its check, in the order of the numbers.
+#[derive(Drop)]
+pub struct OpenChecks {
+    map: BTreeMap<CheckNo, OpenCheck>,
+}
+
+impl Model for OpenChecks {
+    ghost use Rattle.std.specs.Prelude.{List, ℕ};
+    ghost use Rattle.sq_checks.specs.OpenChecks.{CheckParts};
+
+    ghost Value = { List (ℕ × CheckParts) };
+
+    ghost view = { λ c. c.map.entries };
+}
+
+impl OpenChecks {
+    /// No check. It takes no memory.
+    pub fn new(alloc: Global) -> OpenChecks
+        ensures { result ≡ [] }
+    {
+        OpenChecks {
+            map: BTreeMap::new(alloc),
+        }
+    }
+
+    /// How many checks are open.
+    pub fn len(&self) -> usize
+        ensures { result ≡ length self.now }
+    {
+        self.map.len()
+    }
+
+    /// A check, where it is open.
+    pub fn get(&self, check: CheckNo) -> Option<&OpenCheck>
+        ensures { option_copied result ≡ value_at self.now check }
+    {
+        self.map.get(&check)
+    }
+
+    /// Puts a check that begins under a number above all that are open.
+    pub fn begin(&mut self, number: CheckNo, check: OpenCheck) -> Result<(), WantOfMemory>
+        requires { all_before number (rows_of self.old) ≡ true }
+        ensures list { OnOk result (self.new ≡ self.old ++ (number, check) ∷ []) }
+        ensures rows { OnOk result (rows_of self.new ≡ rows_of self.old ++ row number check ∷ []) }
+        ensures err { OnErr result (self.new ≡ self.old) }
+    {
+        match self.map.insert(number, check) {
+            Ok(_) => Ok(()),
+            Err(_) => Err(WantOfMemory),
+        }
+    }
+
+    /// Puts the answer that came to a check among its others, if one did. As a row it stays as it is.
+    pub fn settle(&mut self, alloc: Global, number: CheckNo) -> Result<(), WantOfMemory>
+        ensures list { OnOk result (self.new ≡ change_at number settled self.old) }
+        ensures rows { OnOk result (rows_of self.new ≡ rows_of self.old) }
+        ensures err { OnErr result (self.new ≡ self.old) }
+    {
+        let Some(check) = self.map.get_mut(&number) else {
+            return Ok(());
+        };
+        check.settle(alloc)?;
+        Ok(())
+    }
+
+    /// Takes what a step of a check says that asked for this key of the class at this place. It takes no
+    /// memory.
+    pub fn note(&mut self, number: CheckNo, said: Said, class: u32, key: Text)
+        requires there { is_some (value_at self.old number) ≡ true }
+        requires idle { IfSome (value_at self.old number) (λ c. is_idle c.stage ≡ true) }
+        requires said { is_noted said.took said.stepped ≡ true }
+        requires other { IfSome (value_at self.old number) (λ c. has_answer c.answers class key ≡ false) }
+        requires took { IfSome said.took (λ a. (a.class ≡ class) × (a.key ≡ key)) }
+        ensures list { self.new ≡ change_at number (noted said class key) self.old }
+        ensures rows { rows_of self.new ≡ after_step number (says_of said) (rows_of self.old) }
+    {
+        match self.map.get_mut(&number) {
+            Some(check) => check.note(said, class, key),
+            None => unreachable!(),
+        }
+    }
+
+    /// Takes the verdict to which a step of a check came. It takes no memory.
+    pub fn finish(&mut self, number: CheckNo, outcome: Outcome)
+        requires there { is_some (value_at self.old number) ≡ true }
+        requires settled { IfSome (value_at self.old number) (λ c. is_settled c.stage ≡ true) }
+        requires verdict { IfSome (value_at self.old number) (λ c. comes_to c ≡ value.Verdict outcome) }
+        ensures list { self.new ≡ change_at number (finished outcome) self.old }
+        ensures rows { rows_of self.new ≡ after_step number says_done (rows_of self.old) }
+    {
+        match self.map.get_mut(&number) {
+            Some(check) => check.finish(outcome),
+            None => unreachable!(),
+        }
+    }
+
+    /// Gives a check what a question ended with at a moment, where it waits for that one. It takes no memory.
+    pub fn serve(&mut self, number: CheckNo, question: QuestionNo, what: What, now: Moment)
+        ensures { self.new ≡ change_at number (ended_by question what now) self.old }
+    {
+        let Some(check) = self.map.get_mut(&number) else {
+            return;
+        };
+        check.serve(question, what, now);
+    }
+
+    /// Ends a question by a fault: each check that waits for it, which are these, is given the fault. It takes
+    /// no memory.
+    pub fn fault(&mut self, question: QuestionNo, waiting: &Checks, cause: Cause, now: Moment)
+        requires { (n : ℕ) → has_check n waiting.now ≡ is_number question (wait_at n self.old) }
+        ensures { self.new ≡ all_ended question (What.Fault cause) now self.old }
+    {
+        // For the proof: the numbers ascend.
+        let _len = self.map.len();
+        for check in waiting.iter() {
+            self.serve(*check, question, What::Fault(cause), now);
+        }
+    }
+
+    /// Ends a question by an answer: each check that waits for it, which are these, is given the answer, of
+    /// which there is a copy for each. It takes no memory.
+    pub fn answer(
+        &mut self,
+        question: QuestionNo,
+        waiting: &Checks,
+        mut copies: Vec<What>,
+        now: Moment,
+    )
+        requires waiting { (n : ℕ) → has_check n waiting.now ≡ is_number question (wait_at n self.old) }
+        requires enough { length copies.items ≡ length waiting.now }
+        ensures { (what : What) → AllAre what copies.items → self.new ≡ all_ended question what now self.old }
+    {
+        // For the proof: the numbers ascend.
+        let _len = self.map.len();
+        for check in waiting.iter() {
+            match copies.pop() {
+                Some(what) => self.serve(*check, question, what, now),
+                None => unreachable!(),
+            }
+        }
+    }
+
+    /// Takes a check out. It takes no memory.
+    pub fn remove(&mut self, number: CheckNo) -> Option<OpenCheck>
+        ensures check { result ≡ value_at self.old number }
+        ensures list { self.new ≡ without_entry number self.old }
+        ensures rows { rows_of self.new ≡ without_check number (rows_of self.old) }
+    {
+        // For the proof: the numbers ascend.
+        let _len = self.map.len();
+        self.map.remove(&number)
+    }
+}

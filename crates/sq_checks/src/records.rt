@@ -1,0 +1,132 @@
+//! Checks whose outcomes were taken.
+ghost use Rattle.std.specs.Prelude.{◌≡◌, true, IfSome};
+ghost use Rattle.std.specs.Arc.{arc_value};
+ghost use Rattle.sq_rules.specs.Verdicts.{pool_of, verdict_over};
+ghost use Rattle.sq_rules.specs.declared.values.Value.TheVariants as value;
+
+use sq_base::{Answers, CheckNo, EpochNo};
+use sq_rules::{Config, Outcome, Sight};
+use std::marker::Model;
+use std::sync::Arc;
+
+/// A check that is over. Its outcome is the verdict of its configuration over what it saw and its answers.
+#[derive(Drop)]
+pub struct Record {
+    check: CheckNo,
+    epoch: EpochNo,
+    config: Arc<Config>,
+    sight: Sight,
+    answers: Answers,
+    outcome: Outcome,
+    pool: Option<u32>,
+    looks: u64,
+    steps: u64,
+}
+
+impl Model for Record {
+    ghost use Rattle.std.specs.Arc.{arc_value};
+    ghost use Rattle.sq_checks.specs.Records.{IsJudged, Judged};
+
+    ghost Value = { Judged };
+
+    ghost view = { λ r. record { check = r.check; epoch = r.epoch; config = arc_value r.config; sight = r.sight; answers = r.answers; outcome = r.outcome; pool = r.pool; looks = r.looks; steps = r.steps } };
+
+    ghost invariant = { λ r. IsJudged (record { check = r.check; epoch = r.epoch; config = arc_value r.config; sight = r.sight; answers = r.answers; outcome = r.outcome; pool = r.pool; looks = r.looks; steps = r.steps }) };
+}
+
+impl Record {
+    ghost use Rattle.sq_checks.specs.Records.{IsJudged, takes_client};
+
+    // A check that is over, of its parts.
+    pub(crate) fn new(
+        check: CheckNo,
+        epoch: EpochNo,
+        config: Arc<Config>,
+        sight: Sight,
+        answers: Answers,
+        outcome: Outcome,
+        pool: Option<u32>,
+        steps: u64,
+    ) -> Record
+        requires verdict { verdict_over answers (arc_value config) sight ≡ value.Verdict outcome }
+        requires pool { pool ≡ pool_of (arc_value config) sight }
+        ensures { result ≡ record { check = check; epoch = epoch; config = arc_value config; sight = sight; answers = answers; outcome = outcome; pool = pool; looks = 0; steps = steps } }
+    {
+        Record {
+            check,
+            epoch,
+            config,
+            sight,
+            answers,
+            outcome,
+            pool,
+            looks: 0,
+            steps,
+        }
+    }
+
+    /// Its number.
+    pub fn check(&self) -> CheckNo
+        ensures { result ≡ self.now.check }
+    {
+        self.check
+    }
+
+    /// The epoch in which it began.
+    pub fn epoch(&self) -> EpochNo
+        ensures { result ≡ self.now.epoch }
+    {
+        self.epoch
+    }
+
+    /// The configuration of its epoch.
+    pub fn config(&self) -> &Arc<Config>
+        ensures { arc_value result.now ≡ self.now.config }
+    {
+        &self.config
+    }
+
+    /// What it saw.
+    pub fn sight(&self) -> &Sight
+        ensures { result.now ≡ self.now.sight }
+    {
+        &self.sight
+    }
+
+    /// The answers of helpers that it took, in their order.
+    pub fn answers(&self) -> &Answers
+        ensures { result.now ≡ self.now.answers }
+    {
+        &self.answers
+    }
+
+    /// What it came to.
+    pub fn outcome(&self) -> &Outcome
+        ensures value { result.now ≡ self.now.outcome }
+        ensures judged { IsJudged self.now }
+    {
+        &self.outcome
+    }
+
+    /// Its delay pool, by its place from 0, if it has one.
+    pub fn pool(&self) -> Option<u32>
+        ensures value { result ≡ self.now.pool }
+        ensures takes { IfSome result (λ p. takes_client self.now.config.pools self.now.sight.addr p ≡ true) }
+    {
+        self.pool
+    }
+
+    /// How many facts were looked at in its runs. It is 0 as long as each step evaluates from the start.
+    pub fn looks(&self) -> u64
+        ensures { result ≡ self.now.looks }
+    {
+        self.looks
+    }
+
+    /// How often it was stepped; 2^63 - 1 stands for more, too.
+    pub fn steps(&self) -> u64
+        ensures { result ≡ self.now.steps }
+    {
+        self.steps
+    }
+}
