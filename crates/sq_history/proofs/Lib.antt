@@ -1,0 +1,4 @@
+-- Laws of the machine's readings.
+pub mod RowLaws
+pub mod NumberLaws
+pub mod CheckLaws

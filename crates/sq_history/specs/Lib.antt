@@ -1,0 +1,2 @@
+-- Definitions that the laws cite.
+pub mod MarkedEntries
