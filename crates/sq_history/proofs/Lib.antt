@@ -2,3 +2,6 @@
 pub mod RowLaws
 pub mod NumberLaws
 pub mod CheckLaws
+mod ClassParts
+pub mod StepLaws
+pub mod StartLaws

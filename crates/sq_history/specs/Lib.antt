@@ -1,2 +1,3 @@
 -- Definitions that the laws cite.
 pub mod MarkedEntries
+pub mod ClassChanges
