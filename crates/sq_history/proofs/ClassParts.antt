@@ -36,6 +36,9 @@ itself n = grind (arith, nat_tests)
 pub bytes_itself : (w : List ℕ) → bytes_eq w w ≡ true
 bytes_itself w = (bytes_eq-Decides w w).1 refl
 
+pub bytes_same : (v w : List ℕ) → bytes_eq v w ≡ true → v ≡ w
+bytes_same v w e = (bytes_eq-Decides v w).0 e
+
 pub not_next : (k n : ℕ) → k ≤ n → (k == suc n) ≡ false
 not_next k n high = grind (arith, nat_tests)
 
@@ -53,7 +56,7 @@ none_slots f (suc n) e =
     map-append f (below n) (n ∷ []) ∙ ap₂ (λ (xs : List (Option ℕ)) (x : Option ℕ). xs ++ x ∷ []) (none_slots f n e) (e n)
     ∙ replicate_more n None ∙ ap (λ (k : ℕ). replicate {A = Option ℕ} k None) (add-one n)
 
-below_push : (k : ℕ) (xs : List ℕ) (n : ℕ) → n < k → AreBelow k xs → AreBelow k (xs ++ n ∷ [])
+pub below_push : (k : ℕ) (xs : List ℕ) (n : ℕ) → n < k → AreBelow k xs → AreBelow k (xs ++ n ∷ [])
 below_push k [] n l b = (l, tt)
 below_push k (x ∷ xs) n l b = (b.0, below_push k xs n l b.1)
 
@@ -61,7 +64,8 @@ below_if : (k : ℕ) (t : Bool) (xs : List ℕ) (n : ℕ) → n < k → AreBelow
 below_if k true xs n l b = below_push k xs n l b
 below_if k false xs n l b = b
 
-below_picks : (k : ℕ) (p : ℕ → Bool) (n : ℕ) → n < k → AreBelow k (picks p n)
+-- picked numbers are below each number above the last
+pub below_picks : (k : ℕ) (p : ℕ → Bool) (n : ℕ) → n < k → AreBelow k (picks p n)
 below_picks k p zero l = tt
 below_picks k p (suc n) l = below_if k (p (suc n)) (picks p n) (suc n) l (below_picks k p n (omega arith))
 

@@ -2,6 +2,14 @@
 pub mod RowLaws
 pub mod NumberLaws
 pub mod CheckLaws
-mod ClassParts
+pub mod ClassParts
 pub mod StepLaws
 pub mod StartLaws
+pub mod FailLaws
+pub mod LineLaws
+pub mod ReplyLaws
+pub mod DeathLaws
+pub mod SendLaws
+pub mod ReconfigureLaws
+pub mod PendingLaws
+pub mod AgreeLaws

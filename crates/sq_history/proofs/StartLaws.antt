@@ -73,7 +73,7 @@ pub class_not_starting : (configs : List Configuration) (m : Past) (now f : ℕ)
 class_not_starting configs m now f name e c class few other = starting_by configs m now f name e c class false other few
 
 -- a process that was just started has no question
-new_living : (h : History) (concurrency : ℕ) → living_of concurrency h (suc (proc_count h)) ≡ fresh concurrency (suc (proc_count h))
+pub new_living : (h : History) (concurrency : ℕ) → living_of concurrency h (suc (proc_count h)) ≡ fresh concurrency (suc (proc_count h))
 new_living h concurrency =
     ap (λ (s : List (Option ℕ)). record { number = suc (proc_count h); process = record { numbered = nat_lt 0 concurrency; slots = s } })
     (none_slots (λ (n : ℕ). holder (nat_lt 0 concurrency) h (suc (proc_count h)) (channel_name (nat_lt 0 concurrency) n)) (max 1 concurrency)

@@ -1,3 +1,4 @@
 -- Definitions that the laws cite.
 pub mod MarkedEntries
 pub mod ClassChanges
+pub mod Carried
