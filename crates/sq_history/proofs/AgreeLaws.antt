@@ -233,11 +233,11 @@ ended_agree configs m now k cause event answer j q ends apart =
     by (Some z) d = at (j == z) (k == z) d (differ z)
 
 -- who runs after it is another process, and ran before
-record StillRuns (m : Past) (e : ℕ) (name : List ℕ) (k j : ℕ) : Type 0 where
-  ran : runs_at (entries m) e name j ≡ true
-  other : (k == j) ≡ false
+pub record StillRuns (m : Past) (e : ℕ) (name : List ℕ) (k j : ℕ) : Type 0 where
+  pub ran : runs_at (entries m) e name j ≡ true
+  pub other : (k == j) ≡ false
 
-still_runs : (configs : List Configuration) (m : Past) (now k : ℕ) (cause : Cause) (event : Event) (answer : Told) (e : ℕ) (name : List ℕ) (j : ℕ) → EndsProcess configs m k cause event answer
+pub still_runs : (configs : List Configuration) (m : Past) (now k : ℕ) (cause : Cause) (event : Event) (answer : Told) (e : ℕ) (name : List ℕ) (j : ℕ) → EndsProcess configs m k cause event answer
     → (is_at_home (entries m) e name j && (is_some (home_of (entries m) j) && not (is_some (option_or (ended_by (entries m) j event answer) (proc_end (entries m) j))))) ≡ true
     → StillRuns m e name k j
 still_runs configs m now k cause event answer e name j ends runs =

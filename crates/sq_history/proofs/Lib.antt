@@ -13,3 +13,6 @@ pub mod SendLaws
 pub mod ReconfigureLaws
 pub mod PendingLaws
 pub mod AgreeLaws
+pub mod OnceLaws
+pub mod CarriedLaws
+pub mod LegalLaws

@@ -230,7 +230,7 @@ pub record StandsOnlyOn (concurrency : ℕ) (h : History) (k : ℕ) (bytes : Lis
       → stands_on (reply_of (nat_lt 0 concurrency) bytes) (channel_name (nat_lt 0 concurrency) n) ≡ is_number q (holder (nat_lt 0 concurrency) h k (channel_name (nat_lt 0 concurrency) n))
 
 -- the place of the channel that a line names
-place_of_name : Option ℕ → ℕ
+pub place_of_name : Option ℕ → ℕ
 place_of_name None = 0
 place_of_name (Some n) = n
 
@@ -245,6 +245,27 @@ named_same true (Some c) n e none = refl
 named_same true None n e none = absurd (cc)
 named_same false None n e none = sym (ap (λ (k : ℕ). 0 == k) (none refl) ∙ itself 0)
 named_same false (Some c) n e none = absurd (cc)
+
+-- a channel of the process that holds question q, and that the line names
+pub record HoldsAt (concurrency : ℕ) (h : History) (k q place : ℕ) : Type 0 where
+  pub within : place < max 1 concurrency
+  pub holds : holder (nat_lt 0 concurrency) h k (channel_name (nat_lt 0 concurrency) place) ≡ Some q
+
+pub reply_holds : (concurrency : ℕ) (h : History) (k : ℕ) (bytes : List ℕ) (q : ℕ) (reply : Reply) → (r : RepliesTo (channels_of concurrency h k) bytes q reply)
+    → HoldsAt concurrency h k q (place_of_name r.answer.0)
+reply_holds concurrency h k bytes q reply r =
+    there (nat_lt place (max 1 concurrency)) refl (sym (slot_is concurrency h k place) ∙ sym (named_slot (channels_of concurrency h k).slots r.answer.0) ∙ r.holds)
+  where
+    place : ℕ
+    place = place_of_name r.answer.0
+
+    there : (b : Bool) → nat_lt place (max 1 concurrency) ≡ b → (if b then holder (nat_lt 0 concurrency) h k (channel_name (nat_lt 0 concurrency) place) else None) ≡ Some q
+        → HoldsAt concurrency h k q place
+    there true t e = record { within = lower place (max 1 concurrency) t; holds = e }
+      where
+        lower : (a b : ℕ) → nat_lt a b ≡ true → a < b
+        lower a b t = grind (arith, nat_tests)
+    there false t e = absurd (none-some q e)
 
 -- a reply stands on the channel of its question alone
 pub stands_only : (concurrency : ℕ) (h : History) (k : ℕ) (bytes : List ℕ) (q : ℕ) (reply : Reply) → line_is (channels_of concurrency h k) bytes ≡ ReplyTo q reply
@@ -266,19 +287,12 @@ stands_only concurrency h k bytes q reply line once =
     alone : (n : ℕ) → n < max 1 concurrency → nat_lt 0 concurrency ≡ false → n ≡ 0
     alone n l none = grind (arith, nat_tests)
 
-    there : (b : Bool) → nat_lt place (max 1 concurrency) ≡ b → (if b then hold place else None) ≡ Some q → (place < max 1 concurrency) × (hold place ≡ Some q)
-    there true t e = (lower place (max 1 concurrency) t, e)
-      where
-        lower : (a b : ℕ) → nat_lt a b ≡ true → a < b
-        lower a b t = grind (arith, nat_tests)
-    there false t e = absurd (none-some q e)
-
-    found : (place < max 1 concurrency) × (hold place ≡ Some q)
-    found = there (nat_lt place (max 1 concurrency)) refl (sym (slot_is concurrency h k place) ∙ sym (named_slot (channels_of concurrency h k).slots r.answer.0) ∙ r.holds)
+    found : HoldsAt concurrency h k q place
+    found = reply_holds concurrency h k bytes q reply r
 
     by : (n : ℕ) → n < max 1 concurrency → (o : Option ℕ) → hold n ≡ o → (b : Bool) → (place == n) ≡ b → b ≡ is_number q (hold n)
     by n l o is true same =
-        sym (ap (is_number q) (ap hold (sym (equal place n same)) ∙ found.1) ∙ itself q)
+        sym (ap (is_number q) (ap hold (sym (equal place n same)) ∙ found.holds) ∙ itself q)
     by n l None is false other = sym (ap (is_number q) is)
     by n l (Some p) is false other = not_q (q == p) refl ∙ sym (ap (is_number q) is)
       where
@@ -286,5 +300,5 @@ stands_only concurrency h k bytes q reply line once =
         apart a b e f = grind (arith, nat_tests)
 
         not_q : (b : Bool) → (q == p) ≡ b → false ≡ (q == p)
-        not_q true same = absurd (apart place n other (once place n found.0 l found.1 (is ∙ ap (λ (j : ℕ). Some j) (sym (equal q p same)))))
+        not_q true same = absurd (apart place n other (once place n found.within l found.holds (is ∙ ap (λ (j : ℕ). Some j) (sym (equal q p same)))))
         not_q false same = sym same

@@ -110,7 +110,7 @@ asked_below hold new n q free is =
     at k d l = get_below new n k d l ∙ is k l ∙ by k d l (k == least_free slots) refl
 
 -- two channels of a process are one by their names
-same_name : (concurrency a b : ℕ) → a < max 1 concurrency → b < max 1 concurrency → same_channel (channel_name (nat_lt 0 concurrency) a) (channel_name (nat_lt 0 concurrency) b) ≡ (b == a)
+pub same_name : (concurrency a b : ℕ) → a < max 1 concurrency → b < max 1 concurrency → same_channel (channel_name (nat_lt 0 concurrency) a) (channel_name (nat_lt 0 concurrency) b) ≡ (b == a)
 same_name concurrency a b la lb = by (nat_lt 0 concurrency) refl
   where
     zeros : nat_lt 0 concurrency ≡ false → true ≡ (b == a)
@@ -123,6 +123,18 @@ same_name concurrency a b la lb = by (nat_lt 0 concurrency) refl
 put_use : (q : ℕ) (b : Bool) (o : Option ℕ) → after_use (if b then puts q else keeps) o ≡ (if b then Some q else o)
 put_use q true o = refl
 put_use q false o = refl
+
+-- the least free channel of a process that has one is one of its channels
+pub free_within : (concurrency : ℕ) (m : Past) (j : ℕ) → has_free (living_of concurrency (entries m) j) ≡ true → least_free (living_of concurrency (entries m) j).process.slots < max 1 concurrency
+free_within concurrency m j free =
+    subst (λ (n : ℕ). least_free (map hold (below (max 1 concurrency))) < n) (length_map_below hold (max 1 concurrency))
+    (least_within (map hold (below (max 1 concurrency))) (positive (free_count (map hold (below (max 1 concurrency)))) free))
+  where
+    hold : ℕ → Option ℕ
+    hold n = holder (nat_lt 0 concurrency) (entries m) j (channel_name (nat_lt 0 concurrency) n)
+
+    positive : (n : ℕ) → nat_lt 0 n ≡ true → 0 < n
+    positive n e = grind (arith, nat_tests)
 
 -- the process that a question is sent to
 pub asked_living : (concurrency : ℕ) (m : Past) (now p q : ℕ) (channel : Option ℕ) (key : List ℕ) (j : ℕ) → (j == p) ≡ true → j ≤ proc_count (entries m)
@@ -216,14 +228,14 @@ free_target (r ∷ rs) t e = by (has_free r) (free_target rs t) e
     by false more e = more e
 
 -- what a send has: the first of the queue, and where it goes
-record SendIs (queue : List Waiting) (t : Option (ℕ × Option ℕ)) (p q : ℕ) (channel : Option ℕ) : Type 0 where
-  first : Waiting
-  rest : List Waiting
-  queue_is : queue ≡ first ∷ rest
-  question_is : first.question ≡ q
-  target_is : t ≡ Some (p, channel)
+pub record SendIs (queue : List Waiting) (t : Option (ℕ × Option ℕ)) (p q : ℕ) (channel : Option ℕ) : Type 0 where
+  pub first : Waiting
+  pub rest : List Waiting
+  pub queue_is : queue ≡ first ∷ rest
+  pub question_is : first.question ≡ q
+  pub target_is : t ≡ Some (p, channel)
 
-send_is : (queue : List Waiting) (t : Option (ℕ × Option ℕ)) (p q : ℕ) (channel : Option ℕ) (key : List ℕ)
+pub send_is : (queue : List Waiting) (t : Option (ℕ × Option ℕ)) (p q : ℕ) (channel : Option ℕ) (key : List ℕ)
     → send_by queue t ≡ Some (record { proc = p; question = q; channel = channel; text = key }) → SendIs queue t p q channel
 send_is [] t p q channel key e = absurd (none-some _ e)
 send_is (w ∷ queue) None p q channel key e = absurd (none-some _ e)

@@ -9,7 +9,7 @@ use Rattle.sq_rules.specs.Entries.{History}
 use Rattle.sq_rules.specs.Epochs.{class_at, name_of_class}
 use Rattle.sq_rules.specs.FarmReadings.{is_held, is_put_for}
 use Rattle.sq_rules.specs.Marks.{Past, entries}
-use Rattle.sq_rules.specs.Processes.{is_at_home, proc_count, runs_at, settled_starts, start_count}
+use Rattle.sq_rules.specs.Processes.{Home, home_of, is_at_home, proc_count, runs_at, settled_starts, start_count}
 use Rattle.sq_rules.specs.Questions.{put_of, sent_to}
 use Rattle.sq_rules.specs.Readings.{current}
 use Rattle.sq_rules.specs.Transcripts.{holder}
@@ -32,6 +32,13 @@ HoldsOnce concurrency h k q =
 abbrev pub NamesOnce : List Configuration → Type 0
 NamesOnce configs = (e c d : ℕ) (class other : Class) → class_at configs e c ≡ Some class → class_at configs e d ≡ Some other → bytes_eq class.name other.name ≡ true → c ≡ d
 
+-- a class of this name stands in the epoch's configuration
+pub record HasClass (configs : List Configuration) (e : ℕ) (name : List ℕ) : Type 0 where
+  pub place : ℕ
+  pub class : Class
+  pub at : class_at configs e place ≡ Some class
+  pub named : bytes_eq class.name name ≡ true
+
 -- what a legal history carries
 pub record Carried (configs : List Configuration) (m : Past) : Type 0 where
   -- what a check was told to wait for was put
@@ -40,6 +47,8 @@ pub record Carried (configs : List Configuration) (m : Past) : Type 0 where
   pub sent_given : (q k : ℕ) → sent_to m q ≡ Some k → k ≤ proc_count (entries m)
   -- and that is of the class that the question was put for
   pub sent_home : (q k e c : ℕ) → sent_to m q ≡ Some k → is_put_for e c (put_of m q) ≡ true → is_at_home (entries m) e (name_of_class configs e c) k ≡ true
+  -- a process is of a class of its epoch's configuration
+  pub home_class : (k : ℕ) (p : Home) → home_of (entries m) k ≡ Some p → HasClass configs p.epoch p.class
   -- no more starts were settled than told
   pub starts_few : (e : ℕ) (name : List ℕ) → settled_starts (entries m) e name ≤ start_count (entries m) e name
   -- nothing was done in an epoch that has not begun
