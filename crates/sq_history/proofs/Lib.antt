@@ -16,3 +16,5 @@ pub mod AgreeLaws
 pub mod OnceLaws
 pub mod CarriedLaws
 pub mod LegalLaws
+pub mod EpochLaws
+pub mod ProcessLaws
