@@ -9,6 +9,8 @@ use Rattle.std.proofs.lemmas.Option.{none-some, same_Some}
 use Rattle.sq_base.proofs.CommonLaws.{map_some, then_some}
 use Rattle.sq_base.specs.declared.helpers.Answer.{Answer}
 use Rattle.sq_base.specs.declared.helpers.Reply.{Reply}
+use Rattle.sq_base.specs.declared.helpers.What.{What}
+use Rattle.sq_base.specs.declared.helpers.Word.{Word}
 use Rattle.sq_base.specs.Replies.{reply_of}
 use Rattle.sq_rules.specs.declared.entries.Event.{Event}
 use Rattle.sq_rules.specs.declared.entries.Event.TheVariants.{Begin, Step, Started, StartFail, Line, Died, Act, Reconfigure}
@@ -372,47 +374,82 @@ none_there : (o : Option ℕ) → is_some o ≡ false → o ≡ None
 none_there None e = refl
 none_there (Some k) e = absurd (cc)
 
+-- a send that is due: its question was put for a class with this key, was sent nowhere and has not ended, and it goes to a process of that class
+pub record IsDueSend (configs : List Configuration) (m : Past) (p q : ℕ) (channel : Option ℕ) (key : List ℕ) : Type 0 where
+  pub epoch : ℕ
+  pub place : ℕ
+  pub class : Class
+  pub class_is : class_at configs epoch place ≡ Some class
+  pub put : is_put_for epoch place (put_of m q) ≡ true
+  pub unsent : sent_to m q ≡ None
+  pub unended : has_ended configs m q ≡ false
+  pub given : q ≤ put_count m
+  pub runs : runs_at (entries m) epoch class.name p ≡ true
+  pub born : p ≤ proc_count (entries m)
+  pub free : has_free (living_of class.concurrency (entries m) p) ≡ true
+  pub channel_is : channel ≡ channel_name (nat_lt 0 class.concurrency) (least_free (living_of class.concurrency (entries m) p).process.slots)
+
+due_send : (configs : List Configuration) (m : Past) (e c : ℕ) (class : Class) (s : Sending) → class_at configs e c ≡ Some class → send_of (farm_with configs m e c class) ≡ Some s
+    → IsDueSend configs m s.proc s.question s.channel s.text
+due_send configs m e c class s at due =
+    let farm = farm_with configs m e c class in
+    let i : SendIs farm.queue (target farm.procs) s.proc s.question s.channel = send_is farm.queue (target farm.procs) s.proc s.question s.channel s.text due in
+    let first = is_first m (is_queued configs m e c) (put_count m) (picks (is_queued configs m e c) (put_count m)) i.first i.rest (all_picked (is_queued configs m e c) (put_count m)) i.queue_is in
+    let q = queued_parts (is_put_for e c (put_of m i.first.question)) (is_some (sent_to m i.first.question)) (has_ended configs m i.first.question) first.waits in
+    let t = is_target (living_of class.concurrency (entries m)) (runs_at (entries m) e class.name) (proc_count (entries m)) s.proc s.channel
+    (picks (runs_at (entries m) e class.name) (proc_count (entries m))) (λ j. refl) (all_picked (runs_at (entries m) e class.name) (proc_count (entries m))) i.target_is in
+    record {
+      epoch = e;
+      place = c;
+      class = class;
+      class_is = at;
+      put = ap (λ (j : ℕ). is_put_for e c (put_of m j)) (sym i.question_is) ∙ q.0;
+      unsent = ap (sent_to m) (sym i.question_is) ∙ none_there (sent_to m i.first.question) q.1;
+      unended = ap (has_ended configs m) (sym i.question_is) ∙ q.2;
+      given = subst (λ (j : ℕ). j ≤ put_count m) i.question_is first.given;
+      runs = t.runs;
+      born = t.given;
+      free = t.free;
+      channel_is = t.channel_is;
+    }
+
+sent_by_due : (configs : List Configuration) (m : Past) (now p q : ℕ) (channel : Option ℕ) (key : List ℕ) → NamesOnce configs → IsDueSend configs m p q channel key → Carried configs m
+    → Carried configs (noted_at now Act (told.Send p q channel key) ∷ m)
+sent_by_due configs m now p q channel key once d c =
+    carried_sent configs m now p q channel key d.unsent d.given d.born home
+    (λ e i other there runs.
+    let same : d.class ≡ other = one_class configs m p d.epoch d.place e i d.class other once d.class_is there (home_of_run m d.epoch d.class.name p d.runs) (home_of_run m e other.name p runs) in
+    subst (λ (k : Class). IsSent configs m p q channel k.concurrency) same
+    (record { unsent = d.unsent; unended = d.unended; given = d.given; free = d.free; channel_is = d.channel_is }))
+    c
+  where
+    home : (e i : ℕ) → is_put_for e i (put_of m q) ≡ true → is_at_home (entries m) e (name_of_class configs e i) p ≡ true
+    home e i here =
+        let a = put_for (put_of m q) d.epoch d.place d.put in
+        let b = put_for (put_of m q) e i here in
+        let one : a.put ≡ b.put = same_Some _ _ (sym a.is ∙ b.is) in
+        let epochs : d.epoch ≡ e = sym a.epoch_is ∙ ap (λ (z : Put). z.epoch) one ∙ b.epoch_is in
+        let classes : d.place ≡ i = sym a.class_is ∙ ap (λ (z : Put). z.class) one ∙ b.class_is in
+        let name : name_of_class configs e i ≡ d.class.name = sym (ap₂ (name_of_class configs) epochs classes) ∙ ap (λ (o : Option Class). option_map_or (λ k. k.name) o []) d.class_is in
+        ap₂ (λ (j : ℕ) (w : List ℕ). is_at_home (entries m) j w p) (sym epochs) name ∙ home_of_run m d.epoch d.class.name p d.runs
+
 -- a send that is due in a class
-carried_sending : (configs : List Configuration) (m : Past) (now : ℕ) (answer : Told) (p : Place) → NamesOnce configs → send_at configs m p ≡ Some answer → Carried configs m
-    → Carried configs (noted_at now Act answer ∷ m)
-carried_sending configs m now answer p once e c =
+record SendAt (configs : List Configuration) (m : Past) (answer : Told) : Type 0 where
+  sending : Sending
+  answer_is : answer ≡ sending_told sending
+  due : IsDueSend configs m sending.proc sending.question sending.channel sending.text
+
+sent_at : (configs : List Configuration) (m : Past) (answer : Told) (p : Place) → send_at configs m p ≡ Some answer → SendAt configs m answer
+sent_at configs m answer p e =
     let s = map_some sending_told (option_and_then send_of (farm_of configs m p.epoch p.class)) answer e in
     let v = then_some send_of (farm_of configs m p.epoch p.class) s.0 s.1 in
     let k = map_some (farm_with configs m p.epoch p.class) (class_at configs p.epoch p.class) v.0 v.1 in
-    subst (λ (t : Told). Carried configs (noted_at now Act t ∷ m)) (sym s.2) (sends s.0 k.0 k.1 (ap send_of (sym k.2) ∙ v.2))
-  where
-    sends : (s : Sending) (class : Class) → class_at configs p.epoch p.class ≡ Some class → send_of (farm_with configs m p.epoch p.class class) ≡ Some s
-        → Carried configs (noted_at now Act (told.Send s.proc s.question s.channel s.text) ∷ m)
-    sends s class at due =
-        let farm = farm_with configs m p.epoch p.class class in
-        let i : SendIs farm.queue (target farm.procs) s.proc s.question s.channel = send_is farm.queue (target farm.procs) s.proc s.question s.channel s.text due in
-        let first = is_first m (is_queued configs m p.epoch p.class) (put_count m) (picks (is_queued configs m p.epoch p.class) (put_count m)) i.first i.rest
-        (all_picked (is_queued configs m p.epoch p.class) (put_count m)) i.queue_is in
-        let q = queued_parts (is_put_for p.epoch p.class (put_of m i.first.question)) (is_some (sent_to m i.first.question)) (has_ended configs m i.first.question) first.waits in
-        let t = is_target (living_of class.concurrency (entries m)) (runs_at (entries m) p.epoch class.name) (proc_count (entries m)) s.proc s.channel
-        (picks (runs_at (entries m) p.epoch class.name) (proc_count (entries m))) (λ j. refl) (all_picked (runs_at (entries m) p.epoch class.name) (proc_count (entries m))) i.target_is in
-        let put : is_put_for p.epoch p.class (put_of m s.question) ≡ true = ap (λ (j : ℕ). is_put_for p.epoch p.class (put_of m j)) (sym i.question_is) ∙ q.0 in
-        let unsent : sent_to m s.question ≡ None = ap (sent_to m) (sym i.question_is) ∙ none_there (sent_to m i.first.question) q.1 in
-        let unended : has_ended configs m s.question ≡ false = ap (has_ended configs m) (sym i.question_is) ∙ q.2 in
-        let given : s.question ≤ put_count m = subst (λ (j : ℕ). j ≤ put_count m) i.question_is first.given in
-        carried_sent configs m now s.proc s.question s.channel s.text unsent given t.given
-        (λ e d here. home e d s.question s.proc class at put here (home_of_run m p.epoch class.name s.proc t.runs))
-        (λ e d other there runs.
-        let same : class ≡ other = one_class configs m s.proc p.epoch p.class e d class other once at there (home_of_run m p.epoch class.name s.proc t.runs) (home_of_run m e other.name s.proc runs) in
-        subst (λ (k : Class). IsSent configs m s.proc s.question s.channel k.concurrency) same
-        (record { unsent = unsent; unended = unended; given = given; free = t.free; channel_is = t.channel_is }))
-        c
-      where
-        home : (e d q k : ℕ) (class : Class) → class_at configs p.epoch p.class ≡ Some class → is_put_for p.epoch p.class (put_of m q) ≡ true → is_put_for e d (put_of m q) ≡ true
-            → is_at_home (entries m) p.epoch class.name k ≡ true → is_at_home (entries m) e (name_of_class configs e d) k ≡ true
-        home e d q k class at put here runs =
-            let a = put_for (put_of m q) p.epoch p.class put in
-            let b = put_for (put_of m q) e d here in
-            let one : a.put ≡ b.put = same_Some _ _ (sym a.is ∙ b.is) in
-            let epochs : p.epoch ≡ e = sym a.epoch_is ∙ ap (λ (z : Put). z.epoch) one ∙ b.epoch_is in
-            let classes : p.class ≡ d = sym a.class_is ∙ ap (λ (z : Put). z.class) one ∙ b.class_is in
-            let name : name_of_class configs e d ≡ class.name = sym (ap₂ (name_of_class configs) epochs classes) ∙ ap (λ (o : Option Class). option_map_or (λ k. k.name) o []) at in
-            ap₂ (λ (i : ℕ) (w : List ℕ). is_at_home (entries m) i w k) (sym epochs) name ∙ runs
+    record { sending = s.0; answer_is = s.2; due = due_send configs m p.epoch p.class k.0 s.0 k.1 (ap send_of (sym k.2) ∙ v.2) }
+
+carried_sending : (configs : List Configuration) (m : Past) (now : ℕ) (answer : Told) → NamesOnce configs → SendAt configs m answer → Carried configs m → Carried configs (noted_at now Act answer ∷ m)
+carried_sending configs m now answer once s c =
+    subst (λ (t : Told). Carried configs (noted_at now Act t ∷ m)) (sym s.answer_is)
+    (sent_by_due configs m now s.sending.proc s.sending.question s.sending.channel s.sending.text once s.due c)
 
 -- a start that is due in a class of an epoch that has begun
 carried_start : (configs : List Configuration) (m : Past) (now : ℕ) (answer : Told) (p : Place) → p.epoch ≤ current (entries m) → start_at configs m p ≡ Some answer → Carried configs m
@@ -440,12 +477,68 @@ carried_act configs m now answer once e c = by_stop (first_of (picks (stop_due (
 
     by_send : (o : Option Told) → first_made (send_at configs m) places ≡ o → option_or o (first_made (start_at configs m) places) ≡ Some answer → Carried configs (noted_at now Act answer ∷ m)
     by_send None is e = by_start e
-    by_send (Some t) is e = let p = made_of (IsBegun (current (entries m))) (send_at configs m) places answer all (is ∙ e) in carried_sending configs m now answer p.0 once p.2 c
+    by_send (Some t) is e = let p = made_of (IsBegun (current (entries m))) (send_at configs m) places answer all (is ∙ e) in carried_sending configs m now answer once (sent_at configs m answer p.0 p.2) c
 
     by_stop : (o : Option ℕ) → option_or (option_map (λ k. told.Stop k) o) (option_or (first_made (send_at configs m) places) (first_made (start_at configs m) places)) ≡ Some answer
         → Carried configs (noted_at now Act answer ∷ m)
     by_stop None e = by_send (first_made (send_at configs m) places) refl e
     by_stop (Some k) e = subst (λ (t : Told). Carried configs (noted_at now Act t ∷ m)) (same_Some _ _ e) (carried_stopped configs m now (told.Stop k) refl c)
+
+-- the next act, where it is a send
+pub next_send : (configs : List Configuration) (m : Past) (p q : ℕ) (channel : Option ℕ) (key : List ℕ) → next_act configs m ≡ Some (told.Send p q channel key)
+    → IsDueSend configs m p q channel key
+next_send configs m p q channel key e = by_stop (first_of (picks (stop_due (entries m)) (proc_count (entries m)))) e
+  where
+    answer : Told
+    answer = told.Send p q channel key
+
+    places : List Place
+    places = live_places configs (entries m)
+
+    all : AllOf (IsBegun (current (entries m))) places
+    all = all_places configs (current (entries m)) (is_live (entries m)) (live_epochs (entries m)) (all_picked (is_live (entries m)) (current (entries m)))
+
+    proc_in : Told → ℕ
+    proc_in (told.Send i j ch w) = i
+    proc_in t = p
+
+    question_in : Told → ℕ
+    question_in (told.Send i j ch w) = j
+    question_in t = q
+
+    channel_in : Told → Option ℕ
+    channel_in (told.Send i j ch w) = ch
+    channel_in t = channel
+
+    key_in : Told → List ℕ
+    key_in (told.Send i j ch w) = w
+    key_in t = key
+
+    sent : SendAt configs m answer → IsDueSend configs m p q channel key
+    sent s =
+        subst (λ (w : List ℕ). IsDueSend configs m p q channel w) (sym (ap key_in s.answer_is))
+        (subst (λ (ch : Option ℕ). IsDueSend configs m p q ch s.sending.text) (sym (ap channel_in s.answer_is))
+        (subst (λ (j : ℕ). IsDueSend configs m p j s.sending.channel s.sending.text) (sym (ap question_in s.answer_is))
+        (subst (λ (i : ℕ). IsDueSend configs m i s.sending.question s.sending.channel s.sending.text) (sym (ap proc_in s.answer_is)) s.due)))
+
+    not_start : (b : Bool) (i : ℕ) (w : List ℕ) → (if b then Some (told.Start i w) else None) ≡ Some answer → ⊥
+    not_start true i w e = let no : told.Start i w ≡ answer = same_Some _ _ e in cc
+    not_start false i w e = none-some answer e
+
+    by_start : first_made (start_at configs m) places ≡ Some answer → IsDueSend configs m p q channel key
+    by_start e =
+        let x = made_of (IsBegun (current (entries m))) (start_at configs m) places answer all e in
+        let v = then_some (λ (s : Stock). if start_due s then Some (told.Start x.0.epoch (name_of_class configs x.0.epoch x.0.class)) else None) (farm_of configs m x.0.epoch x.0.class) answer x.2 in
+        absurd (not_start (start_due v.0) x.0.epoch (name_of_class configs x.0.epoch x.0.class) v.2)
+
+    by_send : (o : Option Told) → first_made (send_at configs m) places ≡ o → option_or o (first_made (start_at configs m) places) ≡ Some answer → IsDueSend configs m p q channel key
+    by_send None is e = by_start e
+    by_send (Some t) is e = let x = made_of (IsBegun (current (entries m))) (send_at configs m) places answer all (is ∙ e) in sent (sent_at configs m answer x.0 x.2)
+
+    by_stop : (o : Option ℕ) → option_or (option_map (λ k. told.Stop k) o) (option_or (first_made (send_at configs m) places) (first_made (start_at configs m) places)) ≡ Some answer
+        → IsDueSend configs m p q channel key
+    by_stop None e = by_send (first_made (send_at configs m) places) refl e
+    by_stop (Some k) e = absurd (let no : told.Stop k ≡ answer = same_Some _ _ e in cc)
 
 -- how many channels a process has
 pub channels_are : (configs : List Configuration) (m : Past) (k e c : ℕ) (class : Class) → NamesOnce configs → class_at configs e c ≡ Some class → is_at_home (entries m) e class.name k ≡ true
@@ -487,42 +580,68 @@ is_number_some : (k : ℕ) (o : Option ℕ) → is_number k o ≡ true → o ≡
 is_number_some k None e = absurd (cc)
 is_number_some k (Some j) e = ap (λ (i : ℕ). Some i) (sym (equal k j e))
 
--- a line of a process that runs
-carried_line : (configs : List Configuration) (m : Past) (now k : ℕ) (bytes : List ℕ) → NamesOnce configs → is_running (entries m) k ≡ true → Carried configs m
-    → Carried configs (noted_at now (Line k bytes) (told_of_line configs (entries m) k bytes) ∷ m)
-carried_line configs m now k bytes once running c = by (line_is (channels_of channels (entries m) k) bytes) refl
-  where
-    channels : ℕ
-    channels = option_map_or (λ p. channels_named configs p.epoch p.class) (home_of (entries m) k) 0
+-- what a reply of a process that runs says, that its question was sent to that process, and that it stands on the question's channel alone
+pub record IsReplied (configs : List Configuration) (m : Past) (k : ℕ) (bytes : List ℕ) (q : ℕ) : Type 0 where
+  pub what : What
+  pub says : said_by configs m k bytes ≡ Some what
+  pub sent : sent_to m q ≡ Some k
+  pub only : (e d : ℕ) (class : Class) → class_at configs e d ≡ Some class → runs_at (entries m) e class.name k ≡ true → StandsOnlyOn class.concurrency (entries m) k bytes q
 
+abbrev channels_at : List Configuration → Past → ℕ → ℕ
+channels_at configs m k = option_map_or (λ p. channels_named configs p.epoch p.class) (home_of (entries m) k) 0
+
+is_replied : (configs : List Configuration) (m : Past) (k : ℕ) (bytes : List ℕ) (q : ℕ) (reply : Reply) → NamesOnce configs → is_running (entries m) k ≡ true → Carried configs m
+    → line_is (channels_of (channels_at configs m k) (entries m) k) bytes ≡ ReplyTo q reply → IsReplied configs m k bytes q
+is_replied configs m k bytes q reply once running c is =
+    let line : line_is (channels_of o.class.concurrency (entries m) k) bytes ≡ ReplyTo q reply = ap (λ (n : ℕ). line_is (channels_of n (entries m) k) bytes) (sym channels_is) ∙ is in
+    let r = replies_to (channels_of (channels_at configs m k) (entries m) k) bytes q reply is in
+    let mine = replies_to (channels_of o.class.concurrency (entries m) k) bytes q reply line in
+    let holds = reply_holds o.class.concurrency (entries m) k bytes q reply mine in
+    let opened : is_open q (channels_of o.class.concurrency (entries m) k).slots ≡ true = held_open o.class.concurrency m k (place_of_name mine.answer.0) q holds.within holds.holds in
+    let agreed = sym (c.slots_agree o.epoch o.place o.class o.at k q runs) ∙ opened in
+    record {
+      what = what_of r.answer.1;
+      says = ap (option_map (λ (a : Option ℕ × Reply). what_of a.1)) r.answer_is;
+      sent = is_number_some k (sent_to m q) (and_parts (is_number k (sent_to m q)) (not (has_ended configs m q)) agreed).0;
+      only = λ e d other there here.
+          let same : o.class ≡ other = one_class configs m k o.epoch o.place e d o.class other once o.at there o.home (home_of_run m e other.name k here) in
+          subst (λ (z : Class). StandsOnlyOn z.concurrency (entries m) k bytes q) same
+          (stands_only o.class.concurrency (entries m) k bytes q reply line (c.holds_once o.epoch o.place o.class o.at k q runs));
+    }
+  where
     o : IsOfClass configs m k
     o = of_class configs m k (and_parts (is_some (home_of (entries m) k)) (not (is_some (proc_end (entries m) k))) running).0 c
 
     runs : runs_at (entries m) o.epoch o.class.name k ≡ true
     runs = ap₂ (λ (a b : Bool). a && b) o.home running
 
-    channels_is : channels ≡ o.class.concurrency
+    channels_is : channels_at configs m k ≡ o.class.concurrency
     channels_is = channels_are configs m k o.epoch o.place o.class once o.at o.home
 
-    replied : (q : ℕ) (reply : Reply) → line_is (channels_of channels (entries m) k) bytes ≡ ReplyTo q reply → Carried configs (noted_at now (Line k bytes) (told.Reply q reply.word) ∷ m)
-    replied q reply is =
-        let line : line_is (channels_of o.class.concurrency (entries m) k) bytes ≡ ReplyTo q reply = ap (λ (n : ℕ). line_is (channels_of n (entries m) k) bytes) (sym channels_is) ∙ is in
-        let r = replies_to (channels_of channels (entries m) k) bytes q reply is in
-        let says : said_by configs m k bytes ≡ Some (what_of r.answer.1) = ap (option_map (λ (a : Option ℕ × Reply). what_of a.1)) r.answer_is in
-        let mine = replies_to (channels_of o.class.concurrency (entries m) k) bytes q reply line in
-        let holds = reply_holds o.class.concurrency (entries m) k bytes q reply mine in
-        let opened : is_open q (channels_of o.class.concurrency (entries m) k).slots ≡ true = held_open o.class.concurrency m k (place_of_name mine.answer.0) q holds.within holds.holds in
-        let agreed = sym (c.slots_agree o.epoch o.place o.class o.at k q runs) ∙ opened in
-        let sent : sent_to m q ≡ Some k = is_number_some k (sent_to m q) (and_parts (is_number k (sent_to m q)) (not (has_ended configs m q)) agreed).0 in
-        carried_replied configs m now k bytes q reply.word (what_of r.answer.1) says sent
-        (λ e d other there here.
-        let same : o.class ≡ other = one_class configs m k o.epoch o.place e d o.class other once o.at there o.home (home_of_run m e other.name k here) in
-        subst (λ (z : Class). StandsOnlyOn z.concurrency (entries m) k bytes q) same
-        (stands_only o.class.concurrency (entries m) k bytes q reply line (c.holds_once o.epoch o.place o.class o.at k q runs)))
-        c
+-- a line that is answered as a reply
+pub line_replied : (configs : List Configuration) (m : Past) (k : ℕ) (bytes : List ℕ) (q : ℕ) (w : Word) → NamesOnce configs → is_running (entries m) k ≡ true → Carried configs m
+    → told_of_line configs (entries m) k bytes ≡ told.Reply q w → IsReplied configs m k bytes q
+line_replied configs m k bytes q w once running c e = by (line_is (channels_of (channels_at configs m k) (entries m) k) bytes) refl e
+  where
+    number : Told → ℕ
+    number (told.Reply r v) = r
+    number t = q
 
-    by : (l : LineIs) → line_is (channels_of channels (entries m) k) bytes ≡ l → Carried configs (noted_at now (Line k bytes) (line_told (line_is (channels_of channels (entries m) k) bytes)) ∷ m)
-    by (ReplyTo q reply) is = subst (λ (l : LineIs). Carried configs (noted_at now (Line k bytes) (line_told l) ∷ m)) (sym is) (replied q reply is)
+    by : (l : LineIs) → line_is (channels_of (channels_at configs m k) (entries m) k) bytes ≡ l → line_told l ≡ told.Reply q w → IsReplied configs m k bytes q
+    by (ReplyTo r reply) is e = subst (IsReplied configs m k bytes) (ap number e) (is_replied configs m k bytes r reply once running c is)
+    by Outside is e = absurd (cc)
+    by OnFree is e = absurd (cc)
+
+-- a line of a process that runs
+carried_line : (configs : List Configuration) (m : Past) (now k : ℕ) (bytes : List ℕ) → NamesOnce configs → is_running (entries m) k ≡ true → Carried configs m
+    → Carried configs (noted_at now (Line k bytes) (told_of_line configs (entries m) k bytes) ∷ m)
+carried_line configs m now k bytes once running c = by (line_is (channels_of (channels_at configs m k) (entries m) k) bytes) refl
+  where
+    by : (l : LineIs) → line_is (channels_of (channels_at configs m k) (entries m) k) bytes ≡ l
+        → Carried configs (noted_at now (Line k bytes) (line_told (line_is (channels_of (channels_at configs m k) (entries m) k) bytes)) ∷ m)
+    by (ReplyTo q reply) is =
+        let r = is_replied configs m k bytes q reply once running c is in
+        subst (λ (l : LineIs). Carried configs (noted_at now (Line k bytes) (line_told l) ∷ m)) (sym is) (carried_replied configs m now k bytes q reply.word r.what r.says r.sent r.only c)
     by Outside is = subst (λ (l : LineIs). Carried configs (noted_at now (Line k bytes) (line_told l) ∷ m)) (sym is) (carried_bad configs m now k bytes c)
     by OnFree is = subst (λ (l : LineIs). Carried configs (noted_at now (Line k bytes) (line_told l) ∷ m)) (sym is) (carried_stray configs m now k bytes c)
 
@@ -570,19 +689,54 @@ carried_next configs m now Act answer once e c = by (next_act configs m) refl e
 carried_next configs m now (Reconfigure text) answer once e c = carried_reconfigured configs m now text answer c
 carried_next configs m now event answer once e c = carried_untouched configs m now event answer refl c
 
+-- what is answered to a line: its process runs, and what the line says is told
+pub next_line : (configs : List Configuration) (m : Past) (now k : ℕ) (bytes : List ℕ) (answer : Told) → full_next_at configs m now (Line k bytes) ≡ gives answer
+    → (is_running (entries m) k ≡ true) × (told_of_line configs (entries m) k bytes ≡ answer)
+unfolding full_next_at
+next_line configs m now k bytes answer e =
+    let a = refused_not (not (lives_on (entries m) k)) _ _ answer e in
+    let l = unnot (lives_on (entries m) k) a.0 in
+    ((and_parts (is_running (entries m) k) (option_map_or (λ p. is_live (entries m) p.epoch) (home_of (entries m) k) false) l).0, given_is _ answer a.1)
+
+-- what is answered to an act is the next act
+pub next_acts : (configs : List Configuration) (m : Past) (now : ℕ) (answer : Told) → full_next_at configs m now Act ≡ gives answer → next_act configs m ≡ Some answer
+unfolding full_next_at
+next_acts configs m now answer e = by (next_act configs m) e
+  where
+    by : (o : Option Told) → act_next o ≡ gives answer → o ≡ Some answer
+    by None e = absurd (cc)
+    by (Some t) e = ap (λ (z : Told). Some z) (given_is t answer e)
+
+-- what is answered to a step is what the rule says
+pub next_steps : (configs : List Configuration) (m : Past) (now n : ℕ) (answer : Told) → full_next_at configs m now (Step n) ≡ gives answer → (step_says configs m n now).answer ≡ answer
+unfolding full_next_at
+next_steps configs m now n answer e =
+    let a = refused_not (not (check_open (entries m) n)) _ _ answer e in
+    let b = refused_not (is_some (step_says configs m n now).put && nat_le last_number (suc (put_count m))) _ _ answer a.1 in
+    given_is (step_says configs m n now).answer answer b.1
+
 begins : (configs : List Configuration) (now : ℕ) (event : Event) (answer : Told) → is_begin event ≡ true → Carried configs (mark configs [] (record { moment = now; event = event; answer = answer }) ∷ [])
 begins configs now (Begin offset) answer b = carried_untouched configs [] now (Begin offset) answer refl (carried_none configs)
 begins configs now event answer b = absurd (cc)
 
--- every legal history does, where no two classes of a configuration have one name
-pub legal_carried : (configs : List Configuration) (h : History) → NamesOnce configs → FullLegal configs h → Carried configs (marked configs h)
+-- an induction over legal histories: what is so at first, and stays with each entry whose answer is the next, is so of each
+pub legal_induction : (configs : List Configuration) (P : Past → Type 0) → NamesOnce configs
+    → ((x : Noted) → is_begin x.event ≡ true → P (mark configs [] x ∷ []))
+    → ((m : Past) (now : ℕ) (event : Event) (answer : Told) → full_next_at configs m now event ≡ gives answer → Carried configs m → P m
+    → P (mark configs m (record { moment = now; event = event; answer = answer }) ∷ m))
+    → (h : History) → FullLegal configs h → Carried configs (marked configs h) × P (marked configs h)
 unfolding full_next
-legal_carried configs [] once legal = absurd legal
-legal_carried configs (x ∷ []) once legal = begins configs x.moment x.event x.answer legal.0
-legal_carried configs (x ∷ f ∷ h) once legal =
-    carried_next configs (marked configs (f ∷ h)) x.moment x.event x.answer once
-    (sym (ap (λ (now : ℕ). full_next_at configs (marked configs (f ∷ h)) now x.event) (counted x.moment f.moment legal.3)) ∙ legal.4)
-    (legal_carried configs (f ∷ h) once legal.0)
+legal_induction configs P once first next [] legal = absurd legal
+legal_induction configs P once first next (x ∷ []) legal = (begins configs x.moment x.event x.answer legal.0, first x legal.0)
+legal_induction configs P once first next (x ∷ f ∷ h) legal =
+    let before = legal_induction configs P once first next (f ∷ h) legal.0 in
+    let is = sym (ap (λ (now : ℕ). full_next_at configs (marked configs (f ∷ h)) now x.event) (counted x.moment f.moment legal.3)) ∙ legal.4 in
+    (carried_next configs (marked configs (f ∷ h)) x.moment x.event x.answer once is before.0,
+    next (marked configs (f ∷ h)) x.moment x.event x.answer is before.0 before.1)
   where
     counted : (a b : ℕ) → b ≤ a → max a b ≡ a
     counted a b l = omega arith
+
+-- every legal history does, where no two classes of a configuration have one name
+pub legal_carried : (configs : List Configuration) (h : History) → NamesOnce configs → FullLegal configs h → Carried configs (marked configs h)
+legal_carried configs h once legal = (legal_induction configs (λ m. Unit {0}) once (λ x b. tt) (λ m now event answer e c p. tt) h legal).0

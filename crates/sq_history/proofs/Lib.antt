@@ -18,3 +18,4 @@ pub mod CarriedLaws
 pub mod LegalLaws
 pub mod EpochLaws
 pub mod ProcessLaws
+pub mod QuestionLaws

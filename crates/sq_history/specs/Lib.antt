@@ -2,3 +2,4 @@
 pub mod MarkedEntries
 pub mod ClassChanges
 pub mod Carried
+pub mod Given
