@@ -1,0 +1,111 @@
+-- What a history gave: answers by the lines of helpers, and what a check has them from.
+use Rattle.std.specs.Prelude.{◌≡◌, ◌⊎◌, ℕ, suc, List, [], ◌∷◌, Bool, true, false, if◌then◌else◌, ◌==◌, length, nat_lt, Some, None}
+use Rattle.std.specs.declared.option.Option.{Option}
+use Rattle.std.specs.Option.{option_map_or}
+use Rattle.sq_base.specs.declared.helpers.Answer.{Answer}
+use Rattle.sq_base.specs.declared.helpers.Cause.TheVariants as cause
+use Rattle.sq_base.specs.declared.helpers.What.{What}
+use Rattle.sq_base.specs.declared.helpers.What.TheVariants as what
+use Rattle.sq_base.specs.declared.helpers.Word.{Word}
+use Rattle.sq_rules.specs.declared.entries.Event.{Event}
+use Rattle.sq_rules.specs.declared.entries.Event.TheVariants.{Act, Line}
+use Rattle.sq_rules.specs.declared.entries.Told.{Told}
+use Rattle.sq_rules.specs.declared.entries.Told.TheVariants as told
+use Rattle.sq_rules.specs.declared.kept.KeptVerdict.{KeptVerdict}
+use Rattle.sq_rules.specs.AnswerReadings.{steps, waits_told}
+use Rattle.sq_rules.specs.Checks.{ask_of}
+use Rattle.sq_rules.specs.Classes.{Class}
+use Rattle.sq_rules.specs.Configurations.{Configuration}
+use Rattle.sq_rules.specs.Epochs.{class_at}
+use Rattle.sq_rules.specs.Events.{begins_epoch}
+use Rattle.sq_rules.specs.Freshness.{is_fresh}
+use Rattle.sq_rules.specs.KeptLists.{is_fault}
+use Rattle.sq_rules.specs.KeptReadings.{alike_place}
+use Rattle.sq_rules.specs.Limits.{key_limit}
+use Rattle.sq_rules.specs.Marks.{Marked, Past, entries}
+use Rattle.sq_rules.specs.Questions.{QuestionEnd, put_is, put_of, question_end, said_by, sent_to}
+use Rattle.sq_rules.specs.Readings.{current}
+
+-- something holds of each
+abbrev pub EachOf : {A : Type 0} → (A → Type 0) → List A → Type 0
+EachOf P [] = Unit {0}
+EachOf P (x ∷ xs) = P x × EachOf P xs
+
+-- an answer of a helper: its key, what it says, the question that it answers, and its date
+pub record Gift : Type 0 where
+  pub key : List ℕ
+  pub what : What
+  pub question : ℕ
+  pub date : ℕ
+
+-- the entry is a line by which a process answers a question that was sent to it, and that was put for this epoch and class with this key
+pub record Gives (configs : List Configuration) (m : Past) (x : Marked) (e c : ℕ) (g : Gift) : Type 0 where
+  pub proc : ℕ
+  pub bytes : List ℕ
+  pub word : Word
+  pub event_is : x.entry.event ≡ Line proc bytes
+  pub answer_is : x.entry.answer ≡ told.Reply g.question word
+  pub date_is : x.entry.moment ≡ g.date
+  pub says : said_by configs m proc bytes ≡ Some g.what
+  pub sent : sent_to m g.question ≡ Some proc
+  pub put : put_is e c g.key (put_of m g.question) ≡ true
+
+-- the answer was given for the class at place c of epoch e: by a line there, or for the class that is alike in the epoch before, before epoch e began
+abbrev pub Given : List Configuration → Past → ℕ → ℕ → Gift → Type 0
+Given configs [] e c g = ⊥
+Given configs (x ∷ m) e c g =
+    Gives configs m x e c g
+    ⊎ (((d : ℕ) × (begins_epoch x.entry.event ≡ true) × (e ≡ suc (current (entries m))) × (alike_place configs (current (entries m)) (class_at configs e c) ≡ Some d)
+    × Given configs m (current (entries m)) d g)
+    ⊎ Given configs m e c g)
+
+-- a kept verdict with its key
+abbrev pub gift_of : List ℕ × KeptVerdict → Gift
+gift_of k = record { key = k.0; what = k.1.what; question = k.1.question; date = k.1.date }
+
+-- a check took a verdict that was given, and that was fresh when it was taken
+pub record FreshGiven (configs : List Configuration) (m : Past) (e : ℕ) (a : Answer) : Type 0 where
+  pub question : ℕ
+  pub class : Class
+  pub question_is : a.question ≡ Some question
+  pub class_is : class_at configs e a.class ≡ Some class
+  pub given : Given configs m e a.class (record { key = a.key; what = a.what; question = question; date = a.date })
+  pub fresh : is_fresh class (record { what = a.what; question = question; date = a.date }) a.taken ≡ true
+
+-- a fault without a question: the key is too long, or the queue was full
+abbrev pub IsStepFault : Answer → Type 0
+IsStepFault a =
+    (a.question ≡ None) × (a.date ≡ a.taken)
+    × ((a.what ≡ what.Fault cause.QueueFull) ⊎ ((a.what ≡ what.Fault cause.KeyTooLong) × (nat_lt key_limit (length a.key) ≡ true)))
+
+-- a step of check n told it to wait for question q
+abbrev pub WaitedFor : Past → ℕ → ℕ → Type 0
+WaitedFor [] n q = ⊥
+WaitedFor (x ∷ m) n q = ((steps m n x.entry.event ≡ true) × (waits_told x.entry.answer ≡ Some q)) ⊎ WaitedFor m n q
+
+-- the end of a question that check n waited for, taken as it came: a fault, or what was given
+pub record Awaited (configs : List Configuration) (m : Past) (n e : ℕ) (a : Answer) : Type 0 where
+  pub question : ℕ
+  pub question_is : a.question ≡ Some question
+  pub waited : WaitedFor m n question
+  pub taken_is : a.taken ≡ a.date
+  pub end_is : question_end configs m question ≡ Some (record { what = a.what; date = a.date })
+  pub given : (is_fault a.what ≡ true) ⊎ Given configs m e a.class (record { key = a.key; what = a.what; question = question; date = a.date })
+
+-- where an answer of check n, which is of epoch e, comes from
+abbrev pub IsSound : List Configuration → Past → ℕ → ℕ → Answer → Type 0
+IsSound configs m n e a = FreshGiven configs m e a ⊎ (IsStepFault a ⊎ Awaited configs m n e a)
+
+-- the epoch of check n
+abbrev pub epoch_at : Past → ℕ → ℕ
+epoch_at m n = option_map_or (λ a. a.epoch) (ask_of (entries m) n) 0
+
+-- the event is an act that sends question q
+abbrev pub sends_question : ℕ → Event → Told → Bool
+sends_question q Act (told.Send p r channel key) = q == r
+sends_question q event answer = false
+
+-- how often question q was sent
+abbrev pub times_sent : Past → ℕ → ℕ
+times_sent [] q = 0
+times_sent (x ∷ m) q = if sends_question q x.entry.event x.entry.answer then suc (times_sent m q) else times_sent m q

@@ -1,0 +1,5 @@
+-- Definitions that the laws cite.
+pub mod MarkedEntries
+pub mod ClassChanges
+pub mod Carried
+pub mod Given
