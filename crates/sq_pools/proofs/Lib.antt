@@ -1,0 +1,10 @@
+mod AggregateLaws
+mod BasinLaws
+mod BucketLaws
+mod FlowLaws
+mod GenerationLaws
+pub mod HistoryLaws
+mod LevelLaws
+mod MapLaws
+mod SeatLaws
+mod SpotLaws

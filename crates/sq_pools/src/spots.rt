@@ -1,0 +1,92 @@
+//! The names of buckets, and which of them a client has.
+ghost use Rattle.std.specs.Prelude.{◌≡◌, ◌≤◌, length, IfOk};
+ghost use Rattle.sq_rules.specs.PoolReadings as readings;
+
+use sq_base::{Addr, Listed, WantOfMemory};
+use sq_rules::{Limit, Pool};
+use std::alloc::Global;
+use std::marker::Model;
+
+// A bucket within its generation: its pool, the place of its pair, its host number, and its limit.
+#[derive(Clone, Copy, PartialEq, Eq, PartialOrd, Ord)]
+pub(crate) struct Spot {
+    pub(crate) pool: u32,
+    pub(crate) place: u32,
+    pub(crate) host: u32,
+    restore: u64,
+    max: u64,
+}
+
+impl Model for Spot {
+    ghost use Rattle.sq_rules.specs.PoolReadings as readings;
+    ghost use Rattle.sq_rules.specs.Rates.{IsLimit};
+
+    ghost Value = { readings.Spot };
+
+    ghost view = { λ s. record { pool = s.pool; place = s.place; host = s.host; limit = record { restore = s.restore; max = s.max } } };
+
+    ghost invariant = { λ s. IsLimit (record { restore = s.restore; max = s.max }) };
+
+    ghost inverse = { λ s. record { pool = s.pool; place = s.place; host = s.host; restore = s.limit.restore; max = s.limit.max } };
+}
+
+impl Spot {
+    pub(crate) fn new(pool: u32, place: u32, host: u32, limit: Limit) -> Spot
+        ensures { result ≡ record { pool = pool; place = place; host = host; limit = limit } }
+    {
+        Spot {
+            pool,
+            place,
+            host,
+            restore: limit.restore,
+            max: limit.max,
+        }
+    }
+
+    // Its limit.
+    pub(crate) fn limit(&self) -> Limit
+        ensures { result ≡ self.now.limit }
+    {
+        Limit {
+            restore: self.restore,
+            max: self.max,
+        }
+    }
+}
+
+// The host number of the bucket of a pair, by the pool's class and the pair's place.
+fn host_of(class: u8, place: u32, number: u128) -> u32
+    ensures { result ≡ readings.host_of class place number }
+{
+    let third = number / 256 % 256;
+    let fourth = number % 256;
+    let host = match (place, class) {
+        (0, _) => 0,
+        (_, 2) => fourth,
+        (1, _) => third,
+        _ => third * 256 + fourth,
+    };
+    host as u32
+}
+
+// The buckets of a client in the pool at this place, in the order of their pairs.
+pub(crate) fn spots_of(
+    alloc: Global,
+    place: u32,
+    pool: &Pool,
+    addr: Addr,
+) -> Result<Listed<Spot>, WantOfMemory>
+    requires { length pool.now.pairs ≤ 3 }
+    ensures { IfOk result (λ spots. spots ≡ readings.spots_of place pool.now addr) }
+{
+    let mut spots = Listed::new(alloc);
+    let mut pair_place = 0;
+    for pair in pool.pairs.as_slice() {
+        if let Some(limit) = pair {
+            let host = host_of(pool.class, pair_place, addr.number);
+            spots.push(Spot::new(place, pair_place, host, *limit))?;
+        }
+        pair_place += 1;
+    }
+    Ok(spots)
+}
