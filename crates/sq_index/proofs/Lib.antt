@@ -1,0 +1,4 @@
+mod MergeLaws
+mod NameLaws
+mod OrderLaws
+mod SearchLaws
