@@ -2,3 +2,4 @@ mod MergeLaws
 mod NameLaws
 mod OrderLaws
 mod SearchLaws
+pub mod ThreadLaws
