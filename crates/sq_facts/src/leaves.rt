@@ -3,15 +3,14 @@ ghost use Rattle.std.specs.Prelude.{◌≡◌, ◌<◌, if◌then◌else◌, len
 ghost use Rattle.std.specs.List.{list_any};
 ghost use Rattle.percent_encoding.specs.Percent.{percent_decode};
 ghost use Rattle.sq_rules.specs.Facts.{acl_fact, facts_of};
-ghost use Rattle.sq_rules.specs.Leaves.{holds};
+ghost use Rattle.sq_rules.specs.Leaves.{holds, in_ranges};
+ghost use Rattle.sq_urlmatch.specs.Values.{domains_at, domains_of_leaf, ranges_at, ranges_of_leaf};
 ghost use Rattle.sq_facts.specs.Patterns.{acl_has_patterns, is_plain_leaf};
 
-use sq_base::WantOfMemory;
+use sq_base::{Addr, WantOfMemory};
 use sq_rules::{Acl, Body, Leaf, Sight};
 use sq_urlmatch::Setup;
-use sq_values::{
-    domain_has, dst_has, maxconn_has, method_has, port_has, proto_has, src_has, time_has,
-};
+use sq_values::{maxconn_has, method_has, port_has, proto_has, time_has};
 use std::alloc::Global;
 
 /// Whether the acl at a place holds of what a check sees; of an acl that is no leaf, false.
@@ -27,37 +26,52 @@ pub fn fact_at(
     ensures fact { IfOk result (λ b. slice_get (facts_of setup.old.acls sight.now) place ≡ Some b) }
     ensures same { setup.new ≡ setup.old }
 {
-    match plain_fact(&setup.config().acls()[place], sight) {
+    let acl = &setup.config().acls()[place];
+    match plain_fact(setup, place as u32, acl, sight) {
         Some(fact) => Ok(fact),
         None => setup.is_match(alloc, place as u32, subject),
     }
 }
 
-// The fact of an acl, where that needs no patterns.
-fn plain_fact(acl: &Acl, sight: &Sight) -> Option<bool>
+// The fact of the acl at a place, where that needs no patterns.
+fn plain_fact(setup: &Setup, place: u32, acl: &Acl, sight: &Sight) -> Option<bool>
+    requires { slice_get setup.now.acls place ≡ Some acl.now }
     ensures { result ≡ (if acl_has_patterns acl.now then None else Some (acl_fact sight.now acl.now)) }
 {
     match &acl.body {
         Body::Leaf(Leaf::UrlRegex(_)) => None,
-        Body::Leaf(leaf) => Some(leaf_fact(leaf, sight)),
+        Body::Leaf(leaf) => Some(leaf_fact(setup, place, leaf, sight)),
         _ => Some(false),
     }
 }
 
-// Whether a leaf without patterns holds.
-fn leaf_fact(leaf: &Leaf, sight: &Sight) -> bool
-    requires { is_plain_leaf leaf.now ≡ true }
+// Whether a leaf without patterns, which is the acl at a place, holds.
+#[tactic(auto, using(crate::proofs::FactLaws::same_domains))]
+fn leaf_fact(setup: &Setup, place: u32, leaf: &Leaf, sight: &Sight) -> bool
+    requires plain { is_plain_leaf leaf.now ≡ true }
+    requires ranges { ranges_at setup.now.acls place ≡ ranges_of_leaf leaf.now }
+    requires domains { domains_at setup.now.acls place ≡ domains_of_leaf leaf.now }
     ensures { result ≡ holds leaf.now sight.now }
 {
     match leaf {
-        Leaf::Src(values) => src_has(values, sight),
-        Leaf::Dst(values) => dst_has(values, sight),
-        Leaf::DstDomain(values) => domain_has(values, sight),
+        Leaf::Src(_) => setup.has_address(place, sight.addr),
+        Leaf::Dst(_) => has_literal(setup, place, sight.request.literal),
+        Leaf::DstDomain(_) => setup.has_host(place, &sight.request.host),
         Leaf::Port(values) => port_has(values, sight),
         Leaf::Method(values) => method_has(values, sight),
         Leaf::Proto(values) => proto_has(values, sight),
         Leaf::Time(values) => time_has(values, sight),
         Leaf::UrlRegex(_) => unreachable!(),
         Leaf::MaxConn(values) => maxconn_has(values, sight),
+    }
+}
+
+// Whether there is an address, and it lies in some range of the acl at a place.
+fn has_literal(setup: &Setup, place: u32, literal: Option<Addr>) -> bool
+    ensures { result ≡ in_ranges (ranges_at setup.now.acls place) literal }
+{
+    match literal {
+        None => false,
+        Some(addr) => setup.has_address(place, addr),
     }
 }

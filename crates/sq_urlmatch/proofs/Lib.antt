@@ -4,3 +4,4 @@ pub mod PatternLaws
 mod PlaceLaws
 mod ReadLaws
 mod ThreadLaws
+mod ValueLaws

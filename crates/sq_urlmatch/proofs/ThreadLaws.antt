@@ -3,6 +3,7 @@ use denote.Param.Send.{IsSend, IsSync, sendable, view_send, view_sync}
 use denote.Param.SendFields.{FieldsHave, declared_send, declared_sync}
 use Rattle.std.proofs.Crossing.{crosses, Vec-send, Vec-sync}
 use Rattle.sq_rules.proofs.ThreadLaws.{config_send, config_sync}
+use Rattle.sq_index.proofs.ThreadLaws.{addr_set_send, addr_set_sync, domain_set_send, domain_set_sync}
 use Rattle.regex_hir.specs.contracts.hir.Hir as hir
 use Rattle.regex_hir.proofs.hir.Hir.TheLaws.TheKnot as knot
 use Rattle.regex_dfa.specs.contracts.dfa.Dfa as dfa
@@ -20,6 +21,7 @@ use Rattle.sq_urlmatch.specs.contracts.compiled.Compiled.TheInside as compiled_i
 use Rattle.sq_urlmatch.specs.contracts.matcher.Matcher as matcher
 use Rattle.sq_urlmatch.specs.contracts.patterns.Patterns as patterns
 use Rattle.sq_urlmatch.specs.contracts.patterns.Patterns.TheInside as patterns_inside
+use Rattle.sq_urlmatch.specs.contracts.sets.ValueSets as value_sets
 use Rattle.sq_urlmatch.specs.contracts.setup.Setup as setup
 use Rattle.sq_urlmatch.specs.contracts.setup.Setup.TheInside as setup_inside
 
@@ -111,9 +113,14 @@ patterns_inside_send =
 pub patterns_send : IsSend patterns.the_row
 patterns_send = view_send _ _ _ _ _ patterns_inside_send
 
+value_sets_send : IsSend value_sets.the_row
+value_sets_send =
+    let parts : FieldsHave IsSend (value_sets.the_type).parts = (search (sendable, addr_set_send), (search (sendable, domain_set_send), tt)) in
+    declared_send value_sets.the_type parts
+
 setup_inside_send : IsSend setup_inside.the_row
 setup_inside_send =
-    let parts : FieldsHave IsSend (setup_inside.the_type).parts = (search (sendable, crosses, config_send, config_sync) depth 40 fits 20000, (search (sendable, patterns_send), tt)) in
+    let parts : FieldsHave IsSend (setup_inside.the_type).parts = (search (sendable, crosses, config_send, config_sync) depth 40 fits 20000, (search (sendable, patterns_send), (search (sendable, Vec-send, value_sets_send), tt))) in
     declared_send setup_inside.the_type parts
 
 pub setup_send : IsSend setup.the_row
@@ -143,9 +150,14 @@ patterns_inside_sync =
 pub patterns_sync : IsSync patterns.the_row
 patterns_sync = view_sync _ _ _ _ _ patterns_inside_sync
 
+value_sets_sync : IsSync value_sets.the_row
+value_sets_sync =
+    let parts : FieldsHave IsSync (value_sets.the_type).parts = (search (sendable, addr_set_sync), (search (sendable, domain_set_sync), tt)) in
+    declared_sync value_sets.the_type parts
+
 setup_inside_sync : IsSync setup_inside.the_row
 setup_inside_sync =
-    let parts : FieldsHave IsSync (setup_inside.the_type).parts = (search (sendable, crosses, config_send, config_sync) depth 40 fits 20000, (search (sendable, patterns_sync), tt)) in
+    let parts : FieldsHave IsSync (setup_inside.the_type).parts = (search (sendable, crosses, config_send, config_sync) depth 40 fits 20000, (search (sendable, patterns_sync), (search (sendable, Vec-sync, value_sets_sync), tt))) in
     declared_sync setup_inside.the_type parts
 
 pub setup_sync : IsSync setup.the_row

@@ -1,3 +1,4 @@
 pub mod Found
 pub mod Matchers
 pub mod Programs
+pub mod Values

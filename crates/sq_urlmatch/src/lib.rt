@@ -1,7 +1,8 @@
-//! The patterns of `url_regex` acls: read and compiled once for a configuration, and kept with it.
+//! What is made of a configuration once, and kept with it: the patterns of `url_regex` acls, compiled, and
+//! the lists of addresses and domains, sorted.
 //!
-//! `Setup::make` takes a configuration and answers it with its compiled patterns, or names the first
-//! pattern that the grammar does not read; `is_pattern` tests one. `Setup::is_match` and
+//! `Setup::make` takes a configuration and answers it with these, or names the first pattern that the
+//! grammar does not read; `is_pattern` tests one. `Setup::is_match` and
 //! `Patterns::is_match` say whether some pattern of an acl is found in a text. A pattern means what the
 //! crate regex reads in it.
 //!
@@ -16,6 +17,7 @@ mod crossing;
 mod matcher;
 mod patterns;
 mod programs;
+mod sets;
 mod setup;
 mod trees;
 

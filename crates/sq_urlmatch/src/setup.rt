@@ -1,11 +1,14 @@
-//! A configuration with its compiled patterns.
+//! A configuration with its compiled patterns and its sorted lists.
 ghost use Rattle.std.specs.Prelude.{◌≡◌, ◌≢◌, Some, None, IfOk, IfErr};
 ghost use Rattle.std.specs.Arc.{arc_value};
+ghost use Rattle.sq_index.specs.Members.{in_some_domain, in_some_range};
 ghost use Rattle.sq_rules.specs.Patterns.{some_found};
 ghost use Rattle.sq_urlmatch.specs.Found.{fault_from, finds_at};
+ghost use Rattle.sq_urlmatch.specs.Values.{domains_at, ranges_at};
 
 use crate::patterns::Patterns;
-use sq_base::WantOfMemory;
+use crate::sets::{ValueSets, sets_of_each};
+use sq_base::{Addr, Text, WantOfMemory};
 use sq_rules::Config;
 use std::alloc::Global;
 use std::marker::Model;
@@ -34,38 +37,43 @@ impl From<WantOfMemory> for SetupFault {
     }
 }
 
-/// A configuration, which threads may share, and its compiled patterns, which serve one match at a time.
-/// A contract sees the configuration.
+/// A configuration, which threads may share, its compiled patterns, which serve one match at a time, and
+/// its lists of addresses and domains, sorted. A contract sees the configuration.
 #[derive(Drop)]
 pub struct Setup {
     pub config: Arc<Config>,
     pub patterns: Patterns,
+    sets: Vec<ValueSets>,
 }
 
 impl Model for Setup {
-    ghost use Rattle.std.specs.Prelude.{◌≡◌};
     ghost use Rattle.std.specs.Arc.{arc_value};
     ghost use Rattle.sq_rules.specs.Configurations.{Configuration};
-    ghost use Rattle.sq_urlmatch.specs.Found.{finds_of_each};
+    ghost use Rattle.sq_urlmatch.specs.Values.{IsSetUp};
 
     ghost Value = { Configuration };
 
     ghost view = { λ s. arc_value s.config };
 
-    ghost invariant = { λ s. s.patterns ≡ finds_of_each (arc_value s.config).acls };
+    ghost invariant = { λ s. IsSetUp (arc_value s.config).acls s.patterns s.sets.items };
 }
 
 impl Setup {
-    /// Reads all patterns of a configuration and then compiles them, or names the first that is none, or
-    /// wants memory.
+    /// Reads all patterns of a configuration, compiles them and sorts its lists; or names the first pattern
+    /// that is none, or wants memory.
     pub fn make(alloc: Global, config: Config) -> Result<Setup, SetupFault>
         ensures ok { IfOk result (λ s. s ≡ config) }
         ensures good { IfOk result (λ _. fault_from 0 config.acls ≡ None) }
         ensures bad { IfErr result (λ e. e ≢ SetupFault.WantOfMemory → fault_from 0 config.acls ≡ Some e) }
     {
         let patterns = Patterns::of(alloc, config.acls())?;
+        let sets = sets_of_each(alloc, config.acls())?;
         match Arc::new(alloc, config) {
-            Ok(config) => Ok(Setup { config, patterns }),
+            Ok(config) => Ok(Setup {
+                config,
+                patterns,
+                sets,
+            }),
             Err(_) => Err(SetupFault::WantOfMemory),
         }
     }
@@ -89,5 +97,26 @@ impl Setup {
         ensures same { self.new ≡ self.old }
     {
         self.patterns.is_match(alloc, acl, subject)
+    }
+    /// Whether some range of the acl at a place holds the address; only `src` and `dst` have ranges. It
+    /// takes no memory.
+    pub fn has_address(&self, acl: u32, addr: Addr) -> bool
+        ensures { result ≡ in_some_range (ranges_at self.now.acls acl) addr }
+    {
+        match self.sets.get(acl as usize) {
+            None => false,
+            Some(sets) => sets.addresses.has(addr),
+        }
+    }
+
+    /// Whether some domain of the acl at a place holds the host, which is in lower case; only `dstdomain`
+    /// has domains. It takes no memory.
+    pub fn has_host(&self, acl: u32, host: &Text) -> bool
+        ensures { result ≡ in_some_domain (domains_at self.now.acls acl) host.now }
+    {
+        match self.sets.get(acl as usize) {
+            None => false,
+            Some(sets) => sets.domains.has(host),
+        }
     }
 }

@@ -1,0 +1,5 @@
+mod MergeLaws
+mod NameLaws
+mod OrderLaws
+mod SearchLaws
+pub mod ThreadLaws
