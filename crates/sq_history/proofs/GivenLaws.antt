@@ -105,7 +105,7 @@ KeptGiven configs m e c k = Given configs m e c (gift_of k)
 pub record AllKeptGiven (configs : List Configuration) (m : Past) : Type 0 where
   pub kept_given : (e c : ℕ) → EachOf (KeptGiven configs m e c) (kept configs m e c)
 
-given_more : (configs : List Configuration) (m : Past) (x : Marked) (e c : ℕ) (k : KeptList) → EachOf (KeptGiven configs m e c) k → EachOf (KeptGiven configs (x ∷ m) e c) k
+pub given_more : (configs : List Configuration) (m : Past) (x : Marked) (e c : ℕ) (k : KeptList) → EachOf (KeptGiven configs m e c) k → EachOf (KeptGiven configs (x ∷ m) e c) k
 given_more configs m x e c k each = each_weaker (KeptGiven configs m e c) (KeptGiven configs (x ∷ m) e c) k (λ y g. inr (inr g)) each
 
 took_given : (P : List ℕ × KeptVerdict → Type 0) (here : Bool) (c : ℕ) (t : Option Answer) (k : KeptList) → EachOf P k → EachOf P (after_took here c t k)
@@ -189,7 +189,7 @@ moved_given configs m now text answer g = record { kept_given = λ e d. by e d (
     by e d true same = moved e d (equal e (suc cur) same) (alike_place configs cur (class_at configs e d)) refl
     by e d false other = left e d ((e == cur) && is_some (alike_place configs (suc cur) (class_at configs e d)))
 
-given_next : (configs : List Configuration) (m : Past) (now : ℕ) (event : Event) (answer : Told) → NamesOnce configs → full_next_at configs m now event ≡ gives answer → Carried configs m
+pub given_next : (configs : List Configuration) (m : Past) (now : ℕ) (event : Event) (answer : Told) → NamesOnce configs → full_next_at configs m now event ≡ gives answer → Carried configs m
     → AllKeptGiven configs m → AllKeptGiven configs (mark configs m (record { moment = now; event = event; answer = answer }) ∷ m)
 given_next configs m now (Step n) answer once is c g = record { kept_given = λ e d.
     took_given (KeptGiven configs (mark configs m (record { moment = now; event = Step n; answer = answer }) ∷ m) e d) (option_map_or (λ a. a.epoch == e) (ask_of (entries m) n) false) d
@@ -200,7 +200,7 @@ given_next configs m now (Reconfigure text) answer once is c g = moved_given con
 given_next configs m now event answer once is c g =
     record { kept_given = λ e d. given_more configs m (mark configs m (record { moment = now; event = event; answer = answer })) e d (kept configs m e d) (g.kept_given e d) }
 
-given_first : (configs : List Configuration) (now : ℕ) (event : Event) (answer : Told) → is_begin event ≡ true → AllKeptGiven configs (mark configs [] (record { moment = now; event = event; answer = answer }) ∷ [])
+pub given_first : (configs : List Configuration) (now : ℕ) (event : Event) (answer : Told) → is_begin event ≡ true → AllKeptGiven configs (mark configs [] (record { moment = now; event = event; answer = answer }) ∷ [])
 given_first configs now (Begin offset) answer b = record { kept_given = λ e d. tt }
 given_first configs now event answer b = absurd (cc)
 

@@ -20,3 +20,4 @@ pub mod EpochLaws
 pub mod ProcessLaws
 pub mod QuestionLaws
 pub mod GivenLaws
+pub mod SoundLaws
