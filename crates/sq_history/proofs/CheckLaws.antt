@@ -32,7 +32,7 @@ same_held : (a b : Held) → a.number ≡ b.number → a.asked ≡ b.asked → a
 same_held a b n k w s d c = λ i. record { number = n i; asked = k i; waits = w i; answers = s i; done = d i; steps = c i }
 
 -- an event that steps no check
-steps_none : (m : Past) (n : ℕ) (event : Event) → stepped_check event ≡ None → steps m n event ≡ false
+pub steps_none : (m : Past) (n : ℕ) (event : Event) → stepped_check event ≡ None → steps m n event ≡ false
 steps_none m n (Step k) e = absurd (cc)
 steps_none m n event e = refl
 
@@ -54,7 +54,8 @@ answer_by_none : (date q : ℕ) (p : Option Put) → answer_by date q p None ≡
 answer_by_none date q None = refl
 answer_by_none date q (Some p) = refl
 
-ended_none : (configs : List Configuration) (m : Past) (o : Option ℕ) (date : ℕ) (event : Event) (answer : Told) → ((q : ℕ) → end_at configs m q event answer ≡ None)
+-- where an entry ends no question, no check gets an answer by it
+pub ended_none : (configs : List Configuration) (m : Past) (o : Option ℕ) (date : ℕ) (event : Event) (answer : Told) → ((q : ℕ) → end_at configs m q event answer ≡ None)
     → ended_answer configs m o date event answer ≡ None
 ended_none configs m None date event answer e = refl
 ended_none configs m (Some q) date event answer e = ap (answer_by date q (put_of m q)) (e q) ∙ answer_by_none date q (put_of m q)

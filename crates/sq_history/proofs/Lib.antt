@@ -19,3 +19,5 @@ pub mod LegalLaws
 pub mod EpochLaws
 pub mod ProcessLaws
 pub mod QuestionLaws
+pub mod GivenLaws
+pub mod SoundLaws
