@@ -8,3 +8,4 @@ mod LevelLaws
 mod MapLaws
 mod SeatLaws
 mod SpotLaws
+pub mod StandLaws
