@@ -18,7 +18,7 @@ use Rattle.sq_journal.specs.Values.{IsNumber, IsEvent, IsNoted, IsTold}
 use Rattle.sq_journal.proofs.AskLaws.{arrow_ends}
 use Rattle.sq_journal.proofs.EventLaws.{number, number_plain, event_takes, event_again, event_plain}
 use Rattle.sq_journal.proofs.FieldLaws.{◌⊗◌, Any, TakesOnly, Exact, bind_is, one_word, fields2_takes, fields4_takes, name_exact}
-use Rattle.sq_journal.proofs.LineLaws.{AreWords, plain_word, plain_both, line_again, words_again, words_bytes, line_joined, both_after}
+use Rattle.sq_journal.proofs.LineLaws.{AreWords, ArePlain, plain_word, plain_both, line_again, words_again, words_bytes, line_joined, both_after}
 use Rattle.sq_journal.proofs.ToldLaws.{told_takes, told_again, told_plain}
 
 whole_is : {A : Type 0} (x : A) (ws : Words) (y : A) → whole (x, ws) ≡ Some y → (x ≡ y) × (ws ≡ [])
@@ -109,11 +109,15 @@ pub entry_found : (r : Result Noted EntryFault) (line : List ℕ) → AreBytes l
 entry_found (Ok e) line small h = entry_line_takes line e small h
 entry_found (Err f) line small h = tt
 
+-- no word of an entry holds a space
+pub entry_plain : (e : Noted) → IsNoted e → ArePlain (entry_words e)
+entry_plain e h =
+    ((number_plain e.moment h.moment_is).0, plain_both (event_words e.event) (codes "=>" ∷ told_words e.answer) (event_plain e.event h.event_is) (plain_word (codes "=>") refl, told_plain e.answer h.answer_is))
+
 entry_cut : (e : Noted) (line : List ℕ) → IsNoted e → line ≡ entry_text e → entry_of (spaced_words line) ≡ Some e
 entry_cut e line h is =
-    let moment = (number_plain e.moment h.moment_is).0 in
-    let more = plain_both (event_words e.event) (codes "=>" ∷ told_words e.answer) (event_plain e.event h.event_is) (plain_word (codes "=>") refl, told_plain e.answer h.answer_is) in
-    let words : spaced_words line ≡ entry_words e = ap spaced_words is ∙ words_again (decimal e.moment) (event_words e.event ++ codes "=>" ∷ told_words e.answer) moment more in
+    let plain = entry_plain e h in
+    let words : spaced_words line ≡ entry_words e = ap spaced_words is ∙ words_again (decimal e.moment) (event_words e.event ++ codes "=>" ∷ told_words e.answer) plain.0 plain.1 in
     ap entry_of words ∙ entry_again e h
 
 -- the clause that nothing else is read where an entry is printed so
@@ -155,19 +159,10 @@ dated_one m n a b p q h k e =
     let same = same_Some (m, a) (n, b) (sym (dated_cut m a (dated_text m a) p h refl) ∙ dated_cut n b (dated_text m a) q k e) in
     (ap (λ y. y.0) same, ap (λ y. y.1) same)
 
--- an entry's text from its words after spaces
-pub entry_is : (e : Noted) → entry_text e ≡ ((decimal e.moment ++ after_spaces (event_words e.event)) ++ after_spaces (codes "=>" ∷ [])) ++ after_spaces (told_words e.answer)
+-- an entry's text: its moment, and its other words after spaces
+pub entry_is : (e : Noted) → decimal e.moment ++ (after_spaces (event_words e.event) ++ (after_spaces (codes "=>" ∷ []) ++ after_spaces (told_words e.answer))) ≡ entry_text e
 entry_is e =
     let event = event_words e.event in
     let answer = told_words e.answer in
-    line_joined (decimal e.moment) (event ++ codes "=>" ∷ answer)
-    ∙ ap (λ l. decimal e.moment ++ l) (both_after event (codes "=>" ∷ answer))
-    ∙ sym (append_assoc (decimal e.moment) (after_spaces event) (after_spaces (codes "=>" ∷ answer)))
-    ∙ ap (λ l. (decimal e.moment ++ after_spaces event) ++ l) (both_after (codes "=>" ∷ []) answer)
-    ∙ sym (append_assoc (decimal e.moment ++ after_spaces event) (after_spaces (codes "=>" ∷ [])) (after_spaces answer))
-
--- an entry's text that was put piece by piece
-pub entry_put : (e : Noted) (a b d f : List ℕ) → a ≡ decimal e.moment → b ≡ a ++ after_spaces (event_words e.event) → d ≡ b ++ after_spaces (codes "=>" ∷ [])
-    → f ≡ d ++ after_spaces (told_words e.answer) → f ≡ entry_text e
-entry_put e a b d f p q r s =
-    s ∙ ap (λ l. l ++ after_spaces (told_words e.answer)) (r ∙ ap (λ l. l ++ after_spaces (codes "=>" ∷ [])) (q ∙ ap (λ l. l ++ after_spaces (event_words e.event)) p)) ∙ sym (entry_is e)
+    ap (λ l. decimal e.moment ++ l) (ap (λ l. after_spaces event ++ l) (sym (both_after (codes "=>" ∷ []) answer)) ∙ sym (both_after event (codes "=>" ∷ answer)))
+    ∙ sym (line_joined (decimal e.moment) (event ++ codes "=>" ∷ answer))

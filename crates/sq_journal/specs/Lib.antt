@@ -1,7 +1,10 @@
 pub mod EntryText
+pub mod Journals
 pub mod Lines
 pub mod Names
+pub mod PrintedText
 pub mod Printing
+pub mod Putting
 pub mod Reading
 pub mod ToldReading
 pub mod Values

@@ -94,3 +94,12 @@ with_row e = if is_row e.event e.answer then Some e else None
 -- the entry of some words
 unfoldable pub entry_of : Words → Option Noted
 entry_of ws = option_and_then with_row (option_and_then whole (fields4 noted_from number_in event_in arrow_in told_in ws))
+
+-- a number, an epoch and an entry of their parts
+abbrev pub numbered_from : ℕ → ℕ → Noted → ℕ × ℕ × Noted
+numbered_from number epoch e = (number, epoch, e)
+
+-- the number, the epoch and the entry of some words
+unfoldable pub numbered_of : Words → Option (ℕ × ℕ × Noted)
+numbered_of ws =
+    option_and_then (λ n. option_and_then (λ m. option_map (numbered_from n.0 m.0) (entry_of m.1)) (number_in n.1)) (number_in ws)

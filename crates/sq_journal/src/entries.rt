@@ -1,9 +1,10 @@
 //! Entries printed and read.
-ghost use Rattle.std.specs.Prelude.{◌≡◌, ℕ, IfOk};
+ghost use Rattle.std.specs.Prelude.{◌≡◌, ◌∷◌, ◌++◌, [], ℕ, IfOk, codes};
 ghost use Rattle.sq_rules.specs.Entries.{Noted};
 ghost use Rattle.sq_rules.specs.declared.entries.Event.{Event};
-ghost use Rattle.sq_journal.specs.EntryText.{entry_text, dated_text};
-ghost use Rattle.sq_journal.specs.Lines.{spaced_words};
+ghost use Rattle.sq_journal.specs.EntryText.{entry_text, dated_text, event_words, told_words};
+ghost use Rattle.sq_journal.specs.Lines.{after_spaces, spaced_words};
+ghost use Rattle.sq_journal.specs.Putting.{Puts};
 ghost use Rattle.sq_journal.specs.Reading.{ReadsText, Is, dated_of};
 ghost use Rattle.sq_journal.specs.ToldReading.{entry_of};
 ghost use Rattle.sq_journal.specs.Values.{IsNumber, IsEvent, IsNoted};
@@ -12,25 +13,53 @@ use crate::answers::told;
 use crate::events::event;
 use crate::faults::EntryFault;
 use crate::names::arrow;
-use crate::printing::{put_event, put_moment, put_name};
+use crate::printing::{put_event, put_name};
+use crate::putting::{Printed, put_moment};
 use crate::rows::is_row;
 use crate::told_printing::put_told;
 use crate::values::number;
 use crate::words::Words;
 use sq_base::{Moment, Text, WantOfMemory};
-use sq_rules::{Entry, Event};
+use sq_outside::{Failed, Sink};
+use sq_rules::{Entry, Event, Told};
 use std::alloc::Global;
+
+/// Writes the text of an entry, its line without LF, piece by piece and without memory. After a fault a front
+/// of it was written, and not all.
+pub fn write_entry<O: Sink>(entry: &Entry, to: &mut O) -> Result<(), Failed>
+    ensures { Puts (O.contents to.old) (O.contents to.new) (O.faults to.old) (O.faults to.new) result (entry_text entry.now) }
+{
+    match put_moment(to, entry.moment) {
+        Ok(()) => {}
+        Err(Failed) => return Err(Failed),
+    }
+    put_rest(to, &entry.event, &entry.answer)
+}
+
+// Puts what follows the moment.
+fn put_rest<O: Sink>(to: &mut O, event: &Event, answer: &Told) -> Result<(), Failed>
+    ensures { Puts (O.contents to.old) (O.contents to.new) (O.faults to.old) (O.faults to.new) result (after_spaces (event_words event.now) ++ (after_spaces (codes "=>" ∷ []) ++ after_spaces (told_words answer.now))) }
+{
+    match put_event(to, event) {
+        Ok(()) => {}
+        Err(Failed) => return Err(Failed),
+    }
+    match put_name(to, b"=>") {
+        Ok(()) => {}
+        Err(Failed) => return Err(Failed),
+    }
+    put_told(to, answer)
+}
 
 /// The text of an entry: its line without LF.
 pub fn print_entry(alloc: Global, entry: &Entry) -> Result<Text, WantOfMemory>
     ensures { IfOk result (λ text. text ≡ entry_text entry.now) }
 {
-    let mut text = Text::new(alloc);
-    put_moment(&mut text, entry.moment)?;
-    put_event(alloc, &mut text, &entry.event)?;
-    put_name(alloc, &mut text, b"=>")?;
-    put_told(alloc, &mut text, &entry.answer)?;
-    Ok(text)
+    let mut printed = Printed::new(alloc);
+    match write_entry(entry, &mut printed) {
+        Ok(()) => Ok(printed.into_text()),
+        Err(Failed) => Err(WantOfMemory),
+    }
 }
 
 /// The entry whose text the line is, which stands without its LF.
@@ -39,6 +68,8 @@ pub fn read_entry(alloc: Global, line: &[u8]) -> Result<Entry, EntryFault>
     ensures found { IfOk result (λ e. IsNoted e × (line.now ≡ entry_text e)) }
     // What is printed so is read, unless memory runs out: there is no other entry, and no fault.
     ensures only { (e : Noted) → IsNoted e → line.now ≡ entry_text e → Is e result }
+    // So it is what the reading of the line's words gives.
+    ensures read { ReadsText result (entry_of (spaced_words line.now)) }
     // No two entries have one text.
     ensures one { (a b : Noted) → IsNoted a → IsNoted b → entry_text a ≡ entry_text b → a ≡ b }
 {
@@ -59,9 +90,9 @@ pub fn read_event(alloc: Global, line: &[u8]) -> Result<(Moment, Event), EntryFa
     dated(alloc, line)
 }
 
-// The entry of the line's words.
+/// The entry of the line's words.
 #[tactic(auto, unfolding(crate::specs::ToldReading::entry_of))]
-fn entry(alloc: Global, line: &[u8]) -> Result<Entry, EntryFault>
+pub fn entry(alloc: Global, line: &[u8]) -> Result<Entry, EntryFault>
     ensures { ReadsText result (entry_of (spaced_words line.now)) }
 {
     let mut words = Words::new(line);

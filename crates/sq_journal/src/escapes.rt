@@ -1,39 +1,45 @@
 //! Texts as escaped words.
-ghost use Rattle.std.specs.Prelude.{◌≡◌, ◌++◌, IfOk, OnOk, bytes_eq};
+ghost use Rattle.std.specs.Prelude.{◌≡◌, IfOk, bytes_eq};
 ghost use Rattle.sq_base.specs.Escapes.{escaped, text_word, text_of, unescaped};
+ghost use Rattle.sq_journal.specs.Putting.{Puts};
 ghost use Rattle.sq_journal.specs.Reading.{ReadsText};
 
 use crate::faults::EntryFault;
+use crate::putting::put;
 use percent_encoding::{AsciiSet, CONTROLS, ascii_set, percent_decode, percent_encode};
 use sq_base::{Text, WantOfMemory};
+use sq_outside::{Failed, Sink};
 use std::alloc::Global;
 
 /// The bytes that are escaped in the word of a text, beside those past ASCII: control bytes, space, `%`
 /// and `>`. Crates that write such words in pieces hand this set to `percent_encode`.
 pub const ESCAPES: AsciiSet = ascii_set!(CONTROLS.add(b' ').add(b'%').add(b'>'));
 
-// Puts the escaped bytes at the text's end, piece by piece.
-fn escape_onto(to: &mut Text, bytes: &[u8]) -> Result<(), WantOfMemory>
-    ensures { OnOk result (to.new ≡ to.old ++ escaped bytes.now) }
+/// Puts the escaped bytes, piece by piece.
+pub fn put_escaped<O: Sink>(to: &mut O, bytes: &[u8]) -> Result<(), Failed>
+    ensures { Puts (O.contents to.old) (O.contents to.new) (O.faults to.old) (O.faults to.new) result (escaped bytes.now) }
 {
     for piece in percent_encode(bytes, ESCAPES) {
-        to.append(piece.as_bytes())?;
+        match put(to, piece.as_bytes()) {
+            Ok(()) => {}
+            Err(Failed) => return Err(Failed),
+        }
     }
     Ok(())
 }
 
-/// Puts the word of a text at the end.
+/// Puts the word of a text.
 #[tactic(auto, unfolding(sq_base::specs::Escapes::text_word))]
-pub fn put_text(to: &mut Text, bytes: &[u8]) -> Result<(), WantOfMemory>
-    ensures { OnOk result (to.new ≡ to.old ++ text_word bytes.now) }
+pub fn put_text<O: Sink>(to: &mut O, bytes: &[u8]) -> Result<(), Failed>
+    ensures { Puts (O.contents to.old) (O.contents to.new) (O.faults to.old) (O.faults to.new) result (text_word bytes.now) }
 {
     if bytes.is_empty() {
-        return to.append(b"-");
+        return put(to, b"-");
     }
     if bytes == b"-".as_slice() {
-        return to.append(b"%2D");
+        return put(to, b"%2D");
     }
-    escape_onto(to, bytes)
+    put_escaped(to, bytes)
 }
 
 /// The text whose word this is.

@@ -12,21 +12,25 @@
 //! by want of it. No clause says what a call costs.
 #![tactic(auto)]
 
+mod addresses;
 mod answers;
 mod entries;
 mod escapes;
 mod events;
 mod faults;
 mod names;
+mod numbered;
 mod outcomes;
 mod printing;
+mod putting;
 mod ranges;
 mod rows;
 mod told_printing;
 mod values;
 mod words;
 
-pub use entries::{print_entry, read_entry, read_event};
+pub use entries::{print_entry, read_entry, read_event, write_entry};
 pub use escapes::ESCAPES;
 pub use faults::EntryFault;
+pub use numbered::{print_numbered, read_numbered, write_numbered};
 pub use ranges::holds_values;

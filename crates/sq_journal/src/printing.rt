@@ -1,17 +1,21 @@
-//! The words of events printed.
-ghost use Rattle.std.specs.Prelude.{◌≡◌, ◌++◌, ◌∷◌, [], map, decimal, OnOk};
+//! The words of events, put to a sink without memory.
+ghost use Rattle.std.specs.Prelude.{◌∷◌, [], map, decimal};
+ghost use Rattle.std.specs.Fmt.{signed_decimal};
+ghost use Rattle.sq_base.specs.Bytes.{space};
 ghost use Rattle.sq_base.specs.Escapes.{text_word};
 ghost use Rattle.sq_journal.specs.EntryText.{event_words, field_word};
 ghost use Rattle.sq_journal.specs.Lines.{after_spaces};
 ghost use Rattle.sq_journal.specs.Printing.{piece_text};
+ghost use Rattle.sq_journal.specs.Putting.{Puts};
 ghost use Rattle.sq_rules.specs.declared.entries.Event.TheVariants as event;
 
-use crate::escapes::put_text;
+use crate::addresses::put_address;
+use crate::escapes::{put_escaped, put_text};
+use crate::putting::{put, put_decimal};
 use itoa::Buffer;
-use sq_addr::print_addr;
-use sq_base::{Addr, ConnNo, Field, Moment, SeatNo, Text, WantOfMemory};
+use sq_base::{Addr, ConnNo, Field, SeatNo, Text};
+use sq_outside::{Failed, Sink};
 use sq_rules::Event;
-use std::alloc::Global;
 
 /// A word of a line, and what it says.
 #[derive(Clone, Copy)]
@@ -24,73 +28,77 @@ pub enum Piece<'a> {
     Channel(Option<u32>),
 }
 
-// Puts a word at the end.
-fn put_piece(alloc: Global, to: &mut Text, piece: &Piece<'_>) -> Result<(), WantOfMemory>
-    ensures { OnOk result (to.new ≡ to.old ++ piece_text piece.now) }
+// Puts a word.
+fn put_piece<O: Sink>(to: &mut O, piece: &Piece<'_>) -> Result<(), Failed>
+    ensures { Puts (O.contents to.old) (O.contents to.new) (O.faults to.old) (O.faults to.new) result (piece_text piece.now) }
 {
     match piece {
-        Piece::Plain(bytes) => to.append(bytes),
-        Piece::Number(number) => to.append(Buffer::new().format(*number).as_bytes()),
-        Piece::Offset(minutes) => to.append(Buffer::new().format(*minutes).as_bytes()),
-        Piece::Address(addr) => {
-            let text = print_addr(alloc, *addr)?;
-            to.append(text.as_bytes())
-        }
+        Piece::Plain(bytes) => put(to, bytes),
+        Piece::Number(number) => put_decimal(to, *number),
+        Piece::Offset(minutes) => put_offset(to, *minutes),
+        Piece::Address(addr) => put_address(to, *addr),
         Piece::Escaped(bytes) => put_text(to, bytes),
-        Piece::Channel(None) => to.append(b"-"),
-        Piece::Channel(Some(number)) => to.append(Buffer::new().format(*number).as_bytes()),
+        Piece::Channel(None) => put(to, b"-"),
+        Piece::Channel(Some(number)) => put_decimal(to, *number as u64),
     }
 }
 
-/// Puts a moment.
-pub fn put_moment(to: &mut Text, moment: Moment) -> Result<(), WantOfMemory>
-    ensures { OnOk result (to.new ≡ to.old ++ decimal moment) }
+// Puts minutes, with a sign where they are below zero.
+fn put_offset<O: Sink>(to: &mut O, minutes: i32) -> Result<(), Failed>
+    ensures { Puts (O.contents to.old) (O.contents to.new) (O.faults to.old) (O.faults to.new) result (signed_decimal minutes) }
 {
-    to.append(Buffer::new().format(moment.0).as_bytes())
+    let mut buffer = Buffer::new();
+    put(to, buffer.format(minutes).as_bytes())
+}
+
+// Puts a space and a word.
+fn put_spaced<O: Sink>(to: &mut O, piece: &Piece<'_>) -> Result<(), Failed>
+    ensures { Puts (O.contents to.old) (O.contents to.new) (O.faults to.old) (O.faults to.new) result (space ∷ piece_text piece.now) }
+{
+    match put(to, b" ") {
+        Ok(()) => {}
+        Err(Failed) => return Err(Failed),
+    }
+    put_piece(to, piece)
 }
 
 /// Puts each word after a space.
-pub fn put_pieces(alloc: Global, to: &mut Text, pieces: &[Piece]) -> Result<(), WantOfMemory>
-    ensures { OnOk result (to.new ≡ to.old ++ after_spaces (map piece_text pieces.now)) }
+pub fn put_pieces<O: Sink>(to: &mut O, pieces: &[Piece]) -> Result<(), Failed>
+    ensures { Puts (O.contents to.old) (O.contents to.new) (O.faults to.old) (O.faults to.new) result (after_spaces (map piece_text pieces.now)) }
 {
     for piece in pieces {
-        to.push(b' ')?;
-        put_piece(alloc, to, piece)?;
+        match put_spaced(to, piece) {
+            Ok(()) => {}
+            Err(Failed) => return Err(Failed),
+        }
     }
     Ok(())
 }
 
 /// Puts a name alone.
-pub fn put_name(alloc: Global, to: &mut Text, name: &[u8]) -> Result<(), WantOfMemory>
-    ensures { OnOk result (to.new ≡ to.old ++ after_spaces (name.now ∷ [])) }
+pub fn put_name<O: Sink>(to: &mut O, name: &[u8]) -> Result<(), Failed>
+    ensures { Puts (O.contents to.old) (O.contents to.new) (O.faults to.old) (O.faults to.new) result (after_spaces (name.now ∷ [])) }
 {
-    put_pieces(alloc, to, &[Piece::Plain(name)])
+    put_pieces(to, &[Piece::Plain(name)])
 }
 
 /// Puts a name and a number.
-pub fn put_number(
-    alloc: Global,
-    to: &mut Text,
-    name: &[u8],
-    number: u64,
-) -> Result<(), WantOfMemory>
-    ensures { OnOk result (to.new ≡ to.old ++ after_spaces (name.now ∷ decimal number ∷ [])) }
+pub fn put_number<O: Sink>(to: &mut O, name: &[u8], number: u64) -> Result<(), Failed>
+    ensures { Puts (O.contents to.old) (O.contents to.new) (O.faults to.old) (O.faults to.new) result (after_spaces (name.now ∷ decimal number ∷ [])) }
 {
-    put_pieces(alloc, to, &[Piece::Plain(name), Piece::Number(number)])
+    put_pieces(to, &[Piece::Plain(name), Piece::Number(number)])
 }
 
 /// Puts a name, a number and a text.
-pub fn put_pair<'a>(
-    alloc: Global,
-    to: &mut Text,
+pub fn put_pair<'a, O: Sink>(
+    to: &mut O,
     name: &'a [u8],
     number: u64,
     text: &'a Text,
-) -> Result<(), WantOfMemory>
-    ensures { OnOk result (to.new ≡ to.old ++ after_spaces (name.now ∷ decimal number ∷ text_word text.now ∷ [])) }
+) -> Result<(), Failed>
+    ensures { Puts (O.contents to.old) (O.contents to.new) (O.faults to.old) (O.faults to.new) result (after_spaces (name.now ∷ decimal number ∷ text_word text.now ∷ [])) }
 {
     put_pieces(
-        alloc,
         to,
         &[
             Piece::Plain(name),
@@ -100,72 +108,80 @@ pub fn put_pair<'a>(
     )
 }
 
+// Puts a space, and a field's name, `:` and value as one word.
+fn put_field<O: Sink>(to: &mut O, field: &Field) -> Result<(), Failed>
+    ensures { Puts (O.contents to.old) (O.contents to.new) (O.faults to.old) (O.faults to.new) result (space ∷ field_word field.now) }
+{
+    match put(to, b" ") {
+        Ok(()) => {}
+        Err(Failed) => return Err(Failed),
+    }
+    match put_escaped(to, field.name.as_bytes()) {
+        Ok(()) => {}
+        Err(Failed) => return Err(Failed),
+    }
+    match put(to, b":") {
+        Ok(()) => {}
+        Err(Failed) => return Err(Failed),
+    }
+    put_escaped(to, field.value.as_bytes())
+}
+
 // Puts the word of each field after a space.
-fn put_fields(alloc: Global, to: &mut Text, fields: &[Field]) -> Result<(), WantOfMemory>
-    ensures { OnOk result (to.new ≡ to.old ++ after_spaces (map field_word fields.now)) }
+fn put_fields<O: Sink>(to: &mut O, fields: &[Field]) -> Result<(), Failed>
+    ensures { Puts (O.contents to.old) (O.contents to.new) (O.faults to.old) (O.faults to.new) result (after_spaces (map field_word fields.now)) }
 {
     for field in fields {
-        let mut text = Text::from_slice(alloc, field.name.as_bytes())?;
-        text.push(b':')?;
-        text.append(field.value.as_bytes())?;
-        to.push(b' ')?;
-        put_text(to, text.as_bytes())?;
+        match put_field(to, field) {
+            Ok(()) => {}
+            Err(Failed) => return Err(Failed),
+        }
     }
     Ok(())
 }
 
 /// Puts the words of an event.
-pub fn put_event(alloc: Global, to: &mut Text, event: &Event) -> Result<(), WantOfMemory>
-    ensures { OnOk result (to.new ≡ to.old ++ after_spaces (event_words event.now)) }
+pub fn put_event<O: Sink>(to: &mut O, event: &Event) -> Result<(), Failed>
+    ensures { Puts (O.contents to.old) (O.contents to.new) (O.faults to.old) (O.faults to.new) result (after_spaces (event_words event.now)) }
 {
     match event {
         Event::Begin { offset } => {
             let words = [Piece::Plain(b"begin"), Piece::Offset(offset.0)];
-            put_pieces(alloc, to, &words)
+            put_pieces(to, &words)
         }
-        Event::Open { conn, addr, port } => put_open(alloc, to, *conn, *addr, *port),
-        Event::Close { conn } => put_number(alloc, to, b"close", conn.0),
+        Event::Open { conn, addr, port } => put_open(to, *conn, *addr, *port),
+        Event::Close { conn } => put_number(to, b"close", conn.0),
         Event::Ask {
             conn,
             method,
             target,
             fields,
-        } => {
-            put_request(alloc, to, *conn, method, target)?;
-            put_fields(alloc, to, fields.as_slice())
-        }
-        Event::Step { check } => put_number(alloc, to, b"step", check.0),
-        Event::Take { check } => put_number(alloc, to, b"take", check.0),
-        Event::Started { epoch, class } => put_pair(alloc, to, b"started", epoch.0, class),
-        Event::StartFail { epoch, class } => put_pair(alloc, to, b"startfail", epoch.0, class),
-        Event::Line { proc, bytes } => put_pair(alloc, to, b"line", proc.0, bytes),
-        Event::Died { proc } => put_number(alloc, to, b"died", proc.0),
-        Event::Act => put_name(alloc, to, b"act"),
+        } => put_ask(to, *conn, method, target, fields.as_slice()),
+        Event::Step { check } => put_number(to, b"step", check.0),
+        Event::Take { check } => put_number(to, b"take", check.0),
+        Event::Started { epoch, class } => put_pair(to, b"started", epoch.0, class),
+        Event::StartFail { epoch, class } => put_pair(to, b"startfail", epoch.0, class),
+        Event::Line { proc, bytes } => put_pair(to, b"line", proc.0, bytes),
+        Event::Died { proc } => put_number(to, b"died", proc.0),
+        Event::Act => put_name(to, b"act"),
         Event::Reconfigure { text } => {
             let words = [
                 Piece::Plain(b"reconfigure"),
                 Piece::Escaped(text.as_bytes()),
             ];
-            put_pieces(alloc, to, &words)
+            put_pieces(to, &words)
         }
-        Event::Seat { conn } => put_number(alloc, to, b"seat", conn.0),
-        Event::Grant { seat, wanted } => put_grant(alloc, to, *seat, *wanted),
-        Event::Leave { seat } => put_number(alloc, to, b"leave", seat.0),
+        Event::Seat { conn } => put_number(to, b"seat", conn.0),
+        Event::Grant { seat, wanted } => put_grant(to, *seat, *wanted),
+        Event::Leave { seat } => put_number(to, b"leave", seat.0),
     }
 }
 
 // Puts the words of an `open`.
-fn put_open(
-    alloc: Global,
-    to: &mut Text,
-    conn: ConnNo,
-    addr: Addr,
-    port: u16,
-) -> Result<(), WantOfMemory>
-    ensures { OnOk result (to.new ≡ to.old ++ after_spaces (event_words (event.Open conn addr port))) }
+fn put_open<O: Sink>(to: &mut O, conn: ConnNo, addr: Addr, port: u16) -> Result<(), Failed>
+    ensures { Puts (O.contents to.old) (O.contents to.new) (O.faults to.old) (O.faults to.new) result (after_spaces (event_words (event.Open conn addr port))) }
 {
     put_pieces(
-        alloc,
         to,
         &[
             Piece::Plain(b"open"),
@@ -176,18 +192,33 @@ fn put_open(
     )
 }
 
+// Puts the words of an `ask`.
+fn put_ask<O: Sink>(
+    to: &mut O,
+    conn: ConnNo,
+    method: &Text,
+    target: &Text,
+    fields: &[Field],
+) -> Result<(), Failed>
+    ensures { Puts (O.contents to.old) (O.contents to.new) (O.faults to.old) (O.faults to.new) result (after_spaces (event_words (event.Ask conn method.now target.now fields.now))) }
+{
+    match put_request(to, conn, method, target) {
+        Ok(()) => {}
+        Err(Failed) => return Err(Failed),
+    }
+    put_fields(to, fields)
+}
+
 // Puts the words of an `ask` up to its fields.
-fn put_request<'a>(
-    alloc: Global,
-    to: &mut Text,
+fn put_request<'a, O: Sink>(
+    to: &mut O,
     conn: ConnNo,
     method: &'a Text,
     target: &'a Text,
-) -> Result<(), WantOfMemory>
-    ensures { OnOk result (to.new ≡ to.old ++ after_spaces (event_words (event.Ask conn method.now target.now []))) }
+) -> Result<(), Failed>
+    ensures { Puts (O.contents to.old) (O.contents to.new) (O.faults to.old) (O.faults to.new) result (after_spaces (event_words (event.Ask conn method.now target.now []))) }
 {
     put_pieces(
-        alloc,
         to,
         &[
             Piece::Plain(b"ask"),
@@ -199,11 +230,10 @@ fn put_request<'a>(
 }
 
 // Puts the words of a `grant`.
-fn put_grant(alloc: Global, to: &mut Text, seat: SeatNo, wanted: u64) -> Result<(), WantOfMemory>
-    ensures { OnOk result (to.new ≡ to.old ++ after_spaces (event_words (event.Grant seat wanted))) }
+fn put_grant<O: Sink>(to: &mut O, seat: SeatNo, wanted: u64) -> Result<(), Failed>
+    ensures { Puts (O.contents to.old) (O.contents to.new) (O.faults to.old) (O.faults to.new) result (after_spaces (event_words (event.Grant seat wanted))) }
 {
     put_pieces(
-        alloc,
         to,
         &[
             Piece::Plain(b"grant"),

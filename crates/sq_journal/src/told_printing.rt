@@ -1,63 +1,55 @@
-//! The words of answers printed.
-ghost use Rattle.std.specs.Prelude.{◌≡◌, ◌++◌, ◌+◌, ◌∷◌, [], decimal, OnOk};
+//! The words of answers, put to a sink without memory.
+ghost use Rattle.std.specs.Prelude.{◌≡◌, ◌+◌, ◌∷◌, [], codes, decimal};
 ghost use Rattle.sq_base.specs.Escapes.{text_word};
-ghost use Rattle.sq_rules.specs.OutcomeText.{outcome_words, why_words, cause_word, action_word};
+ghost use Rattle.sq_rules.specs.OutcomeText.{cause_word, action_word};
 ghost use Rattle.sq_journal.specs.EntryText.{told_words, result_word};
 ghost use Rattle.sq_journal.specs.Lines.{after_spaces};
+ghost use Rattle.sq_journal.specs.Putting.{Puts};
 ghost use Rattle.sq_rules.specs.declared.entries.Told.TheVariants as told;
 
 use crate::printing::{Piece, put_name, put_number, put_pair, put_pieces};
-use sq_base::{Cause, ProcNo, QuestionNo, SeatNo, Text, WantOfMemory, Word};
+use sq_base::{Cause, EpochNo, ProcNo, QuestionNo, SeatNo, Text, Word};
+use sq_outside::{Failed, Sink};
 use sq_rules::{Outcome, Told, Why};
-use std::alloc::Global;
 
 /// Puts the words of an answer.
-pub fn put_told(alloc: Global, to: &mut Text, answer: &Told) -> Result<(), WantOfMemory>
-    ensures { OnOk result (to.new ≡ to.old ++ after_spaces (told_words answer.now)) }
+pub fn put_told<O: Sink>(to: &mut O, answer: &Told) -> Result<(), Failed>
+    ensures { Puts (O.contents to.old) (O.contents to.new) (O.faults to.old) (O.faults to.new) result (after_spaces (told_words answer.now)) }
 {
     match answer {
-        Told::Epoch(epoch) => put_number(alloc, to, b"epoch", epoch.0),
-        Told::Fine => put_name(alloc, to, b"ok"),
-        Told::Check(check) => put_number(alloc, to, b"check", check.0),
+        Told::Epoch(epoch) => put_number(to, b"epoch", epoch.0),
+        Told::Fine => put_name(to, b"ok"),
+        Told::Check(check) => put_number(to, b"check", check.0),
         Told::Took(class) => {
             let words = [Piece::Plain(b"took"), Piece::Escaped(class.as_bytes())];
-            put_pieces(alloc, to, &words)
+            put_pieces(to, &words)
         }
-        Told::Waits(question) => put_number(alloc, to, b"waits", question.0),
-        Told::Done => put_name(alloc, to, b"done"),
-        Told::Judged { epoch, outcome } => {
-            put_number(alloc, to, b"epoch", epoch.0)?;
-            put_outcome(alloc, to, outcome)
-        }
-        Told::Proc(proc) => put_number(alloc, to, b"proc", proc.0),
-        Told::Reply { question, word } => put_reply(alloc, to, *question, *word),
-        Told::Bad => put_name(alloc, to, b"bad"),
-        Told::Stray => put_name(alloc, to, b"stray"),
-        Told::Start { epoch, class } => put_pair(alloc, to, b"start", epoch.0, class),
+        Told::Waits(question) => put_number(to, b"waits", question.0),
+        Told::Done => put_name(to, b"done"),
+        Told::Judged { epoch, outcome } => put_judged(to, *epoch, outcome),
+        Told::Proc(proc) => put_number(to, b"proc", proc.0),
+        Told::Reply { question, word } => put_reply(to, *question, *word),
+        Told::Bad => put_name(to, b"bad"),
+        Told::Stray => put_name(to, b"stray"),
+        Told::Start { epoch, class } => put_pair(to, b"start", epoch.0, class),
         Told::Send {
             proc,
             question,
             channel,
             key,
-        } => put_send(alloc, to, *proc, *question, *channel, key),
-        Told::Stop(proc) => put_number(alloc, to, b"stop", proc.0),
-        Told::Seat { seat, pool } => put_seat(alloc, to, *seat, *pool),
-        Told::NoSeat => put_name(alloc, to, b"none"),
-        Told::Granted(bytes) => put_number(alloc, to, b"granted", *bytes),
+        } => put_send(to, *proc, *question, *channel, key),
+        Told::Stop(proc) => put_number(to, b"stop", proc.0),
+        Told::Seat { seat, pool } => put_seat(to, *seat, *pool),
+        Told::NoSeat => put_name(to, b"none"),
+        Told::Granted(bytes) => put_number(to, b"granted", *bytes),
     }
 }
 
 // Puts the words of a `reply`.
-fn put_reply(
-    alloc: Global,
-    to: &mut Text,
-    question: QuestionNo,
-    word: Word,
-) -> Result<(), WantOfMemory>
-    ensures { OnOk result (to.new ≡ to.old ++ after_spaces (told_words (told.Reply question word))) }
+fn put_reply<O: Sink>(to: &mut O, question: QuestionNo, word: Word) -> Result<(), Failed>
+    ensures { Puts (O.contents to.old) (O.contents to.new) (O.faults to.old) (O.faults to.new) result (after_spaces (told_words (told.Reply question word))) }
 {
     put_pieces(
-        alloc,
         to,
         &[
             Piece::Plain(b"reply"),
@@ -68,18 +60,16 @@ fn put_reply(
 }
 
 // Puts the words of a `send`.
-fn put_send(
-    alloc: Global,
-    to: &mut Text,
+fn put_send<O: Sink>(
+    to: &mut O,
     proc: ProcNo,
     question: QuestionNo,
     channel: Option<u32>,
     key: &Text,
-) -> Result<(), WantOfMemory>
-    ensures { OnOk result (to.new ≡ to.old ++ after_spaces (told_words (told.Send proc question channel key.now))) }
+) -> Result<(), Failed>
+    ensures { Puts (O.contents to.old) (O.contents to.new) (O.faults to.old) (O.faults to.new) result (after_spaces (told_words (told.Send proc question channel key.now))) }
 {
     put_pieces(
-        alloc,
         to,
         &[
             Piece::Plain(b"send"),
@@ -92,11 +82,10 @@ fn put_send(
 }
 
 // Puts the words of a `seat`, with its pool counted from 1.
-fn put_seat(alloc: Global, to: &mut Text, seat: SeatNo, pool: u32) -> Result<(), WantOfMemory>
-    ensures { OnOk result (to.new ≡ to.old ++ after_spaces (told_words (told.Seat seat pool))) }
+fn put_seat<O: Sink>(to: &mut O, seat: SeatNo, pool: u32) -> Result<(), Failed>
+    ensures { Puts (O.contents to.old) (O.contents to.new) (O.faults to.old) (O.faults to.new) result (after_spaces (told_words (told.Seat seat pool))) }
 {
     put_pieces(
-        alloc,
         to,
         &[
             Piece::Plain(b"seat"),
@@ -117,12 +106,80 @@ fn result_word(word: Word) -> &'static [u8]
     }
 }
 
-// Puts the words of an outcome.
-fn put_outcome(alloc: Global, to: &mut Text, outcome: &Outcome) -> Result<(), WantOfMemory>
-    ensures { OnOk result (to.new ≡ to.old ++ after_spaces (outcome_words outcome.now)) }
+// Puts the words of an epoch and an outcome.
+fn put_judged<O: Sink>(to: &mut O, epoch: EpochNo, outcome: &Outcome) -> Result<(), Failed>
+    ensures { Puts (O.contents to.old) (O.contents to.new) (O.faults to.old) (O.faults to.new) result (after_spaces (told_words (told.Judged epoch outcome.now))) }
 {
-    put_name(alloc, to, action_word(outcome.allow))?;
-    put_why(alloc, to, &outcome.why)
+    let action = action_word(outcome.allow);
+    match &outcome.why {
+        Why::Rule(number) => put_ruled(to, epoch, action, *number),
+        Why::Default => put_short(to, epoch, action, b"default"),
+        Why::Empty => put_short(to, epoch, action, b"empty"),
+        Why::Fault { rule, acl, cause } => {
+            put_fault(to, epoch, action, *rule, acl, cause_word(*cause))
+        }
+    }
+}
+
+// Puts the words of an epoch, and an action by a reason of one word.
+fn put_short<'a, O: Sink>(
+    to: &mut O,
+    epoch: EpochNo,
+    action: &'a [u8],
+    why: &'a [u8],
+) -> Result<(), Failed>
+    ensures { Puts (O.contents to.old) (O.contents to.new) (O.faults to.old) (O.faults to.new) result (after_spaces (codes "epoch" ∷ decimal epoch ∷ action.now ∷ why.now ∷ [])) }
+{
+    put_pieces(
+        to,
+        &[
+            Piece::Plain(b"epoch"),
+            Piece::Number(epoch.0),
+            Piece::Plain(action),
+            Piece::Plain(why),
+        ],
+    )
+}
+
+// Puts the words of an epoch, and an action by a rule.
+fn put_ruled<O: Sink>(to: &mut O, epoch: EpochNo, action: &[u8], rule: u32) -> Result<(), Failed>
+    ensures { Puts (O.contents to.old) (O.contents to.new) (O.faults to.old) (O.faults to.new) result (after_spaces (codes "epoch" ∷ decimal epoch ∷ action.now ∷ codes "rule" ∷ decimal rule ∷ [])) }
+{
+    put_pieces(
+        to,
+        &[
+            Piece::Plain(b"epoch"),
+            Piece::Number(epoch.0),
+            Piece::Plain(action),
+            Piece::Plain(b"rule"),
+            Piece::Number(rule as u64),
+        ],
+    )
+}
+
+// Puts the words of an epoch, and an action by a fault.
+fn put_fault<'a, O: Sink>(
+    to: &mut O,
+    epoch: EpochNo,
+    action: &'a [u8],
+    rule: u32,
+    acl: &'a Text,
+    cause: &'a [u8],
+) -> Result<(), Failed>
+    ensures { Puts (O.contents to.old) (O.contents to.new) (O.faults to.old) (O.faults to.new) result (after_spaces (codes "epoch" ∷ decimal epoch ∷ action.now ∷ codes "fault" ∷ decimal rule ∷ text_word acl.now ∷ cause.now ∷ [])) }
+{
+    put_pieces(
+        to,
+        &[
+            Piece::Plain(b"epoch"),
+            Piece::Number(epoch.0),
+            Piece::Plain(action),
+            Piece::Plain(b"fault"),
+            Piece::Number(rule as u64),
+            Piece::Escaped(acl.as_bytes()),
+            Piece::Plain(cause),
+        ],
+    )
 }
 
 // The word of what was decided.
@@ -133,21 +190,6 @@ fn action_word(allow: bool) -> &'static [u8]
         b"allowed".as_slice()
     } else {
         b"denied".as_slice()
-    }
-}
-
-// Puts the words that say why.
-fn put_why(alloc: Global, to: &mut Text, why: &Why) -> Result<(), WantOfMemory>
-    ensures { OnOk result (to.new ≡ to.old ++ after_spaces (why_words why.now)) }
-{
-    match why {
-        Why::Rule(number) => put_number(alloc, to, b"rule", *number as u64),
-        Why::Default => put_name(alloc, to, b"default"),
-        Why::Empty => put_name(alloc, to, b"empty"),
-        Why::Fault { rule, acl, cause } => {
-            put_pair(alloc, to, b"fault", *rule as u64, acl)?;
-            put_name(alloc, to, cause_word(*cause))
-        }
     }
 }
 

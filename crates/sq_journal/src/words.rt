@@ -55,6 +55,13 @@ impl<'a> Words<'a> {
         }
     }
 
+    /// What is left of the line.
+    pub fn rest(&self) -> Option<&'a [u8]>
+        ensures { words_left result ≡ self.now }
+    {
+        self.rest
+    }
+
     /// Whether no word is left.
     pub fn is_done(&self) -> bool
         ensures { result ≡ (length self.now == 0) }
