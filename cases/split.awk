@@ -89,7 +89,7 @@ function status(last) {
     return 0
 }
 
-# Begins a run of `replay`, unless one goes on. Its moment is that of the line before.
+# Begins a run of `replay`, unless one goes on. Its requests are made at moment 0, unless they say when.
 function begin_run() {
     if (run != "") return
     run = sprintf("%s.%02d", block, ++runs)
@@ -115,19 +115,21 @@ function end_run() {
     run = ""
 }
 
-# A request by a connection of its own.
-function request(line, outcome,    words, day, client, rest) {
-    day = 0
-    if (run == "") {
-        begin_run()
-        day = 1
-    }
+# The moment of a day and a time in the first whole week since 1970-01-01, which was a Thursday.
+function moment_of(day, hour, minute) {
+    day = (index("SunMonTueWedThuFriSat", day) - 1) / 3 + 3
+    return ((day * 24 + hour) * 60 + minute) * 60000
+}
+
+# A request by a connection of its own. Where it begins a run, `replay` writes the beginning by itself.
+function request(line, outcome,    begins, client, rest) {
+    begins = run == ""
+    begin_run()
     if (line ~ /^[A-Z][a-z][a-z] /) {
-        split(substr(line, 5, 5), words, ":")
-        moment = (((index("SunMonTueWedThuFriSat", substr(line, 1, 3)) - 1) / 3 + 3) * 1440 + words[1] * 60 + words[2]) * 60000
+        moment = moment_of(substr(line, 1, 3), substr(line, 5, 2), substr(line, 8, 2))
         line = substr(line, 11)
     }
-    if (day) want(moment " begin 0 => epoch 1")
+    if (begins) want(moment " begin 0 => epoch 1")
     client = substr(line, 1, index(line, " ") - 1)
     rest = substr(line, index(line, " ") + 1)
     checks++
