@@ -208,7 +208,7 @@ fn lines_and_trailers_have_their_limits(rt: HostRuntime) -> Result<(), Fail> {
             let mut cursor = BodyCursor::new(alloc, Chunked, true);
             let mut out = Text::new(alloc);
             let came = feed(alloc, &mut cursor, input.as_bytes(), size, &mut out)?;
-            assert_eq!(rt; came, *end, "{front:?} {count} in pieces of {size}");
+            assert!(rt; came == *end, "{front:?} {count} in pieces of {size}");
         }
     }
     Ok(())
@@ -220,14 +220,8 @@ fn a_refusal_stays(rt: HostRuntime) -> Result<(), Fail> {
     let alloc = rt.alloc();
     let mut cursor = BodyCursor::new(alloc, Chunked, true);
     let mut out = Text::new(alloc);
-    assert_eq!(rt;
-        cursor.feed(alloc, b"1\r\nxG", &mut out),
-        Err(FeedFault::BadChunk)
-    );
-    assert_eq!(rt;
-        cursor.feed(alloc, b"\r\n0\r\n\r\n", &mut out),
-        Err(FeedFault::BadChunk)
-    );
-    assert_eq!(rt; out.as_bytes(), b"1\r\nx".as_slice());
+    assert!(rt; cursor.feed(alloc, b"1\r\nxG", &mut out) == Err(FeedFault::BadChunk));
+    assert!(rt; cursor.feed(alloc, b"\r\n0\r\n\r\n", &mut out) == Err(FeedFault::BadChunk));
+    assert!(rt; out.as_bytes() == b"1\r\nx".as_slice());
     Ok(())
 }
