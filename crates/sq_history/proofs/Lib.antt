@@ -21,3 +21,6 @@ pub mod ProcessLaws
 pub mod QuestionLaws
 pub mod GivenLaws
 pub mod SoundLaws
+pub mod NeedLaws
+pub mod AloneLaws
+pub mod StopLaws
