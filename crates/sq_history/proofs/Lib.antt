@@ -16,6 +16,7 @@ pub mod AgreeLaws
 pub mod OnceLaws
 pub mod CarriedLaws
 pub mod LegalLaws
+pub mod ElsewhereLaws
 pub mod EpochLaws
 pub mod ProcessLaws
 pub mod QuestionLaws
