@@ -17,6 +17,8 @@ pub mod OnceLaws
 pub mod CarriedLaws
 pub mod LegalLaws
 pub mod ElsewhereLaws
+pub mod HeldLaws
+pub mod PutLaws
 pub mod EpochLaws
 pub mod ProcessLaws
 pub mod QuestionLaws
