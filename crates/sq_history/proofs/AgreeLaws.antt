@@ -1,43 +1,37 @@
 -- The channels of a class's processes hold what was sent to them and has not ended, and each question once: so it stays after each event.
-use Rattle.std.proofs.Common.{◌≡◌, ℕ, suc, ◌<◌, ◌≤◌, max, replicate, zero, List, [], ◌∷◌, map, Bool, true, false, not, ◌&&◌, ◌||◌, ◌==◌, nat_le, nat_lt, bytes_eq, if◌then◌else◌, Option, Some, None, is_some, refl, sym, ap, ap₂, subst, ◌∙◌, arith}
+use Rattle.std.proofs.Common.{◌≡◌, ℕ, suc, ◌<◌, ◌≤◌, max, replicate, zero, List, [], ◌∷◌, Bool, true, false, not, ◌&&◌, ◌||◌, ◌==◌, nat_le, nat_lt, bytes_eq, if◌then◌else◌, Option, Some, None, is_some, refl, sym, ap, ap₂, subst, ◌∙◌, arith}
 use Rattle.std.specs.Option.{option_map_or, option_or}
-use Rattle.std.proofs.lemmas.Bool.{and_left, and_parts, le-leb}
+use Rattle.std.proofs.lemmas.Bool.{and_parts, le-leb}
 use Rattle.std.proofs.lemmas.Bool.Decides.{nat_tests}
-use Rattle.std.proofs.lemmas.Option.{none-some, same_Some}
 use Rattle.sq_base.proofs.CommonLaws.{eq_turned}
 use Rattle.sq_base.specs.declared.helpers.Cause.{Cause}
 use Rattle.sq_base.specs.declared.helpers.Cause.TheVariants as cause
 use Rattle.sq_base.specs.declared.helpers.What.{What}
 use Rattle.sq_base.specs.declared.helpers.What.TheVariants as what
 use Rattle.sq_base.specs.declared.helpers.Word.{Word}
-use Rattle.sq_base.specs.Replies.{reply_of}
 use Rattle.sq_rules.specs.declared.entries.Event.{Event}
 use Rattle.sq_rules.specs.declared.entries.Event.TheVariants.{Step, Started, StartFail, Line, Died, Act, Reconfigure}
 use Rattle.sq_rules.specs.declared.entries.Told.{Told}
 use Rattle.sq_rules.specs.declared.entries.Told.TheVariants as told
-use Rattle.sq_rules.specs.Channels.{asked, channel_name, free_count, freed, is_open, least_free, settled}
+use Rattle.sq_rules.specs.Channels.{asked, channel_name, free_count, is_open, least_free, settled}
 use Rattle.sq_rules.specs.Classes.{Class}
 use Rattle.sq_rules.specs.Configurations.{Configuration}
-use Rattle.sq_rules.specs.Entries.{History}
 use Rattle.sq_rules.specs.Epochs.{name_of_class}
 use Rattle.sq_rules.specs.Events.{is_number}
 use Rattle.sq_rules.specs.FarmReadings.{living_of}
-use Rattle.sq_rules.specs.Living.{Living, has_free, settled_row}
-use Rattle.sq_rules.specs.Marks.{Marked, Past, Put, entries}
-use Rattle.sq_rules.specs.Numbered.{below}
-use Rattle.sq_rules.specs.Processes.{Home, cause_here, ended_by, home_of, if_here, is_at_home, is_running, proc_count, proc_end, runs_at}
-use Rattle.sq_rules.specs.Questions.{QuestionEnd, end_at, first_end, has_ended, leaves_none, put_count, put_of, question_end, said_by, sent_to}
+use Rattle.sq_rules.specs.Living.{Living, has_free}
+use Rattle.sq_rules.specs.Marks.{Marked, Past, entries}
+use Rattle.sq_rules.specs.Processes.{ended_by, home_of, if_here, is_at_home, proc_count, proc_end, runs_at}
+use Rattle.sq_rules.specs.Questions.{has_ended, leaves_none, put_count, put_of, question_end, said_by, sent_to}
 use Rattle.sq_rules.specs.StepRule.{StepSays}
-use Rattle.sq_rules.specs.Transcripts.{after_use, channels_of, clears, holder, keeps, stands_on}
+use Rattle.sq_rules.specs.Transcripts.{channels_of}
 use Rattle.sq_rows.specs.Agreement.{SlotsAgree}
-use Rattle.sq_history.specs.Carried.{HoldsOnce}
 use Rattle.sq_history.specs.ClassChanges.{touches_classes}
 use Rattle.sq_history.specs.MarkedEntries.{noted_at, stepped_at}
-use Rattle.sq_history.proofs.ClassParts.{and_true, equal, itself, not_next}
+use Rattle.sq_history.proofs.ClassParts.{equal}
 use Rattle.sq_history.proofs.DeathLaws.{EndsProcess, bad_ends, died_ends, died_questions, died_runs, stray_ends}
 use Rattle.sq_history.proofs.FailLaws.{ended_if}
-use Rattle.sq_history.proofs.LineLaws.{IsGiven, StandsOnlyOn, cleared, runs_given}
-use Rattle.sq_history.proofs.NumberLaws.{end_above, holder_above, sent_above}
+use Rattle.sq_history.proofs.LineLaws.{StandsOnlyOn, runs_given}
 use Rattle.sq_history.proofs.ReplyLaws.{other_living, replied_ends, settled_living}
 use Rattle.sq_history.proofs.SendLaws.{asked_living, unsent_living}
 use Rattle.sq_history.proofs.StartLaws.{new_living}

@@ -1,11 +1,10 @@
 -- What a legal history carries stays after each event.
-use Rattle.std.proofs.Common.{◌≡◌, ℕ, suc, ◌<◌, ◌≤◌, ◌⊎◌, inl, inr, ⊎_elim, max, List, [], ◌∷◌, Bool, true, false, not, ◌&&◌, ◌||◌, ◌==◌, nat_le, nat_lt, bytes_eq, if◌then◌else◌, Option, Some, None, is_some, refl, sym, ap, ap₂, subst, ◌∙◌, arith}
+use Rattle.std.proofs.Common.{◌≡◌, ℕ, suc, ◌<◌, ◌≤◌, ◌⊎◌, inl, inr, max, List, ◌∷◌, Bool, true, false, not, ◌&&◌, ◌||◌, ◌==◌, nat_le, nat_lt, bytes_eq, if◌then◌else◌, Option, Some, None, is_some, refl, sym, ap, subst, ◌∙◌, arith}
 use Rattle.std.specs.Option.{option_map_or, option_or}
-use Rattle.std.proofs.lemmas.Bool.{and_left, and_parts, le-leb}
+use Rattle.std.proofs.lemmas.Bool.{and_left, le-leb}
 use Rattle.std.proofs.lemmas.Bool.Decides.{nat_tests}
 use Rattle.std.proofs.lemmas.Option.{none-some, same_Some}
 use Rattle.sq_base.specs.declared.helpers.Answer.{Answer}
-use Rattle.sq_base.specs.declared.helpers.Cause.{Cause}
 use Rattle.sq_base.specs.declared.helpers.Cause.TheVariants as cause
 use Rattle.sq_base.specs.declared.helpers.What.{What}
 use Rattle.sq_base.specs.declared.helpers.Word.{Word}
@@ -15,28 +14,26 @@ use Rattle.sq_rules.specs.declared.entries.Told.{Told}
 use Rattle.sq_rules.specs.declared.entries.Told.TheVariants as told
 use Rattle.sq_rules.specs.AnswerReadings.{last_wait, steps, waits_told}
 use Rattle.sq_rules.specs.Channels.{channel_name, least_free}
-use Rattle.sq_rules.specs.Checks.{ask_count, numbered}
+use Rattle.sq_rules.specs.Checks.{numbered}
 use Rattle.sq_rules.specs.Classes.{Class}
 use Rattle.sq_rules.specs.Configurations.{Configuration}
-use Rattle.sq_rules.specs.Entries.{History, Noted}
+use Rattle.sq_rules.specs.Entries.{Noted}
 use Rattle.sq_rules.specs.Epochs.{class_at, name_of_class}
 use Rattle.sq_rules.specs.FarmReadings.{is_held, is_put_for, living_of}
 use Rattle.sq_rules.specs.Events.{is_number}
-use Rattle.sq_rules.specs.Marks.{Marked, Past, Put, entries}
+use Rattle.sq_rules.specs.Marks.{Past, Put, entries}
 use Rattle.sq_rules.specs.Processes.{Home, home_of, if_here, ended_by, is_at_home, proc_count, proc_end, runs_at, settled_starts, start_count}
 use Rattle.sq_rules.specs.Questions.{has_ended, put_count, put_of, said_by, sent_to}
 use Rattle.sq_rules.specs.Readings.{current}
 use Rattle.sq_rules.specs.StepRule.{StepSays}
-use Rattle.sq_rules.specs.Transcripts.{channels_of}
-use Rattle.sq_rows.specs.Agreement.{SlotsAgree}
 use Rattle.sq_history.specs.Carried.{Carried, HasClass, HoldsOnce, IsUnused}
 use Rattle.sq_history.specs.ClassChanges.{is_farm_act, touches_classes}
 use Rattle.sq_history.specs.MarkedEntries.{noted_at, stepped_at}
 use Rattle.sq_history.proofs.AgreeLaws.{IsSent, agree_bad, agree_died, agree_failed, agree_replied, agree_sent, agree_started, agree_stray, still_runs}
 use Rattle.sq_history.proofs.ClassParts.{bytes_same, equal, itself, not_next}
-use Rattle.sq_history.proofs.DeathLaws.{EndsProcess, bad_ends, died_ends, stray_ends}
-use Rattle.sq_history.proofs.LineLaws.{StandsOnlyOn, runs_given}
-use Rattle.sq_history.proofs.NumberLaws.{holder_above, put_of_above, sent_above}
+use Rattle.sq_history.proofs.DeathLaws.{bad_ends, died_ends, stray_ends}
+use Rattle.sq_history.proofs.LineLaws.{StandsOnlyOn}
+use Rattle.sq_history.proofs.NumberLaws.{holder_above, sent_above}
 use Rattle.sq_history.proofs.OnceLaws.{once_line, once_sent}
 use Rattle.sq_history.proofs.PendingLaws.{WaitsOpen}
 use Rattle.sq_history.proofs.SendLaws.{free_within}

@@ -1,5 +1,5 @@
 -- The open checks as rows, after each event.
-use Rattle.std.proofs.Common.{◌≡◌, ℕ, suc, ◌<◌, ◌≤◌, min, List, [], ◌∷◌, ◌++◌, append-nil, map, filter, find, Bool, true, false, not, ◌&&◌, ◌||◌, ◌==◌, nat_le, if◌then◌else◌, Option, Some, None, is_some, option_and_then, option_to_list, refl, sym, ap, ap₂, ◌∙◌, arith, inl}
+use Rattle.std.proofs.Common.{◌≡◌, ℕ, suc, ◌≤◌, min, List, [], ◌∷◌, ◌++◌, append-nil, Bool, true, false, not, ◌&&◌, ◌||◌, ◌==◌, nat_le, if◌then◌else◌, Option, Some, None, is_some, option_and_then, option_to_list, refl, ap, ap₂, ◌∙◌, arith, inl}
 use Rattle.std.specs.Option.{option_map, unwrap_or}
 use Rattle.std.proofs.lemmas.Bool.{and_left, and_right, le-leb}
 use Rattle.std.proofs.lemmas.Bool.Decides.{nat_tests}
@@ -14,14 +14,13 @@ use Rattle.sq_rules.specs.declared.entries.Told.TheVariants as told
 use Rattle.sq_rules.specs.AnswerReadings.{answer_at, answer_by, answers, ended_answer, last_wait, steps, waits_for, waits_told}
 use Rattle.sq_rules.specs.Checks.{Asked, ask_count, ask_of, asked_by, check_open, closes, conn_of, is_done, more_if, numbered}
 use Rattle.sq_rules.specs.Configurations.{Configuration}
-use Rattle.sq_rules.specs.Entries.{History, Noted}
 use Rattle.sq_rules.specs.Events.{Asking, asking, done_check, is_number, told_done}
 use Rattle.sq_rules.specs.Limits.{last_number}
 use Rattle.sq_rules.specs.Marks.{Marked, Past, Put, entries}
 use Rattle.sq_rules.specs.Numbered.{rows}
-use Rattle.sq_rules.specs.Questions.{QuestionEnd, end_at, first_end, has_ended, put_of, question_end, unended}
+use Rattle.sq_rules.specs.Questions.{QuestionEnd, end_at, first_end, put_of, question_end, unended}
 use Rattle.sq_rules.specs.StepRule.{StepSays}
-use Rattle.sq_rules.proofs.CheckLaws.{IsAsked, IsUnborn, ask_count_more, ask_of_begun, ask_of_kept, check_open_begun, check_open_kept, check_open_more, check_open_unborn, is_done_more, none_numbered, open_asked, open_born}
+use Rattle.sq_rules.proofs.CheckLaws.{IsAsked, ask_count_more, ask_of_begun, ask_of_kept, check_open_begun, check_open_kept, check_open_unborn, is_done_more, none_numbered, open_asked, open_born}
 use Rattle.sq_rules.proofs.OpenCheckLaws.{is_itself}
 use Rattle.sq_rows.specs.CheckRows.{Ends, Held, after_ends, after_step, begun, ends_at, held_at, held_checks, held_of, is_told_done, served, served_by, step_count, stepped, unasked, without_check, without_conn}
 use Rattle.sq_history.specs.MarkedEntries.{LeavesChecks, noted_at, stepped_at, stepped_check}
@@ -325,7 +324,8 @@ held_asked configs m now c method target fields answer =
         zero : min last_number 0 ≡ 0
         zero = omega arith
 
-unopened : (m : Past) (n : ℕ) (b : Bool) → check_open (entries m) n ≡ b → picked (check_open (entries m)) (ask_count (entries m)) n ≡ b
+-- a check that is open has one of the numbers that were given
+pub unopened : (m : Past) (n : ℕ) (b : Bool) → check_open (entries m) n ≡ b → picked (check_open (entries m)) (ask_count (entries m)) n ≡ b
 unopened m n true is =
     let born = open_born (entries m) n is in
     ap₂ (λ (x y : Bool). (x && y) && check_open (entries m) n) (le-leb 1 n (positive n is)) (le-leb n (ask_count (entries m)) born) ∙ is

@@ -1,6 +1,6 @@
 -- A class after the end of one of its processes: a death, or a line that is outside the grammar or stands on a free channel.
-use Rattle.std.proofs.Common.{◌≡◌, ℕ, suc, ◌<◌, ◌≤◌, List, [], ◌∷◌, filter, Bool, true, false, not, ◌&&◌, ◌||◌, ◌==◌, nat_le, if◌then◌else◌, Option, Some, None, is_some, refl, sym, ap, ap₂, ◌∙◌, arith}
-use Rattle.std.specs.Option.{option_map_or, option_or}
+use Rattle.std.proofs.Common.{◌≡◌, ℕ, ◌≤◌, List, ◌∷◌, filter, Bool, true, false, not, ◌&&◌, ◌||◌, ◌==◌, nat_le, if◌then◌else◌, Option, Some, None, is_some, refl, sym, ap, ap₂, ◌∙◌}
+use Rattle.std.specs.Option.{option_or}
 use Rattle.std.proofs.lemmas.Bool.{le-leb}
 use Rattle.sq_base.proofs.CommonLaws.{eq_turned}
 use Rattle.sq_base.specs.declared.helpers.Cause.{Cause}
@@ -14,20 +14,18 @@ use Rattle.sq_rules.specs.declared.entries.Told.TheVariants as told
 use Rattle.sq_rules.specs.Channels.{is_open}
 use Rattle.sq_rules.specs.Classes.{Class}
 use Rattle.sq_rules.specs.Configurations.{Configuration}
-use Rattle.sq_rules.specs.Entries.{History, Noted}
 use Rattle.sq_rules.specs.Events.{is_number}
 use Rattle.sq_rules.specs.FarmReadings.{farm_with, is_held, is_put_for, is_queued, living_of, waiting_of}
 use Rattle.sq_rules.specs.Living.{Living, slots_in, without}
-use Rattle.sq_rules.specs.Marks.{Marked, Past, Put, entries}
+use Rattle.sq_rules.specs.Marks.{Past, entries}
 use Rattle.sq_rules.specs.Numbered.{rows}
 use Rattle.sq_rules.specs.OpenLookups.{LookupRow}
-use Rattle.sq_rules.specs.Processes.{Home, cause_here, ended_by, home_of, if_here, is_at_home, is_running, proc_count, proc_end, runs_at}
+use Rattle.sq_rules.specs.Processes.{cause_here, ended_by, home_of, if_here, is_at_home, is_running, proc_count, proc_end, runs_at}
 use Rattle.sq_rules.specs.Questions.{end_at, first_end, has_ended, put_count, put_of, question_end, sends, sent_to}
-use Rattle.sq_rules.specs.Transcripts.{channels_of}
 use Rattle.sq_rows.specs.Agreement.{SlotsAgree}
-use Rattle.sq_rows.specs.ClassRows.{ClassRow, after_death, class_row, is_asked, lookup_of, lookups}
+use Rattle.sq_rows.specs.ClassRows.{after_death, class_row, is_asked, lookup_of, lookups}
 use Rattle.sq_history.specs.MarkedEntries.{noted_at}
-use Rattle.sq_history.proofs.ClassParts.{and_true, equal, itself}
+use Rattle.sq_history.proofs.ClassParts.{and_true, itself}
 use Rattle.sq_history.proofs.FailLaws.{ended_if}
 use Rattle.sq_history.proofs.LineLaws.{runs_given, slots_found, without_is}
 use Rattle.sq_history.proofs.ReplyLaws.{elsewhere, other_living}
@@ -154,13 +152,13 @@ pub class_died : (configs : List Configuration) (m : Past) (now k : ℕ) (answer
     → class_row configs (noted_at now (Died k) answer ∷ m) e c class ≡ after_death cause.Died k (class_row configs m e c class)
 class_died configs m now k answer e c class agree runs =
     λ i. record (class_row configs m e c class) {
-    lookups = died_lookups configs m now k cause.Died (Died k) answer e c class ends agree runs i;
-    stock = record (farm_with configs m e c class) {
-    queue = died_queue configs m now k cause.Died (Died k) answer e c ends i;
-    procs = died_procs configs m now k cause.Died (Died k) answer class.concurrency e class.name (living_of class.concurrency (entries (noted_at now (Died k) answer ∷ m)))
-    (runs_at (entries (noted_at now (Died k) answer ∷ m)) e class.name) (λ j. refl) (λ j other. refl) ends i;
-    held = ap (λ (b : Bool). if b then false else is_held m e c class.name) (at_home m e class.name k runs) i;
-    };
+      lookups = died_lookups configs m now k cause.Died (Died k) answer e c class ends agree runs i;
+      stock = record (farm_with configs m e c class) {
+        queue = died_queue configs m now k cause.Died (Died k) answer e c ends i;
+        procs = died_procs configs m now k cause.Died (Died k) answer class.concurrency e class.name (living_of class.concurrency (entries (noted_at now (Died k) answer ∷ m)))
+            (runs_at (entries (noted_at now (Died k) answer ∷ m)) e class.name) (λ j. refl) (λ j other. refl) ends i;
+        held = ap (λ (b : Bool). if b then false else is_held m e c class.name) (at_home m e class.name k runs) i;
+      };
     }
   where
     ends : EndsProcess configs m k cause.Died (Died k) answer
@@ -177,13 +175,13 @@ pub class_bad : (configs : List Configuration) (m : Past) (now k : ℕ) (bytes :
     → class_row configs (noted_at now (Line k bytes) told.Bad ∷ m) e c class ≡ after_death cause.BadReply k (class_row configs m e c class)
 class_bad configs m now k bytes e c class agree runs =
     λ i. record (class_row configs m e c class) {
-    lookups = died_lookups configs m now k cause.BadReply (Line k bytes) told.Bad e c class ends agree runs i;
-    stock = record (farm_with configs m e c class) {
-    queue = died_queue configs m now k cause.BadReply (Line k bytes) told.Bad e c ends i;
-    procs = died_procs configs m now k cause.BadReply (Line k bytes) told.Bad class.concurrency e class.name (living_of class.concurrency (entries (noted_at now (Line k bytes) told.Bad ∷ m)))
-    (runs_at (entries (noted_at now (Line k bytes) told.Bad ∷ m)) e class.name) (λ j. refl) (λ j other. other_living class.concurrency m now k bytes told.Bad j other) ends i;
-    held = ap (λ (b : Bool). if b then false else is_held m e c class.name) (line_held m e class.name k cause.BadReply runs) i;
-    };
+      lookups = died_lookups configs m now k cause.BadReply (Line k bytes) told.Bad e c class ends agree runs i;
+      stock = record (farm_with configs m e c class) {
+        queue = died_queue configs m now k cause.BadReply (Line k bytes) told.Bad e c ends i;
+        procs = died_procs configs m now k cause.BadReply (Line k bytes) told.Bad class.concurrency e class.name (living_of class.concurrency (entries (noted_at now (Line k bytes) told.Bad ∷ m)))
+            (runs_at (entries (noted_at now (Line k bytes) told.Bad ∷ m)) e class.name) (λ j. refl) (λ j other. other_living class.concurrency m now k bytes told.Bad j other) ends i;
+        held = ap (λ (b : Bool). if b then false else is_held m e c class.name) (line_held m e class.name k cause.BadReply runs) i;
+      };
     }
   where
     ends : EndsProcess configs m k cause.BadReply (Line k bytes) told.Bad
@@ -194,13 +192,13 @@ pub class_stray : (configs : List Configuration) (m : Past) (now k : ℕ) (bytes
     → class_row configs (noted_at now (Line k bytes) told.Stray ∷ m) e c class ≡ after_death cause.Stray k (class_row configs m e c class)
 class_stray configs m now k bytes e c class agree runs =
     λ i. record (class_row configs m e c class) {
-    lookups = died_lookups configs m now k cause.Stray (Line k bytes) told.Stray e c class ends agree runs i;
-    stock = record (farm_with configs m e c class) {
-    queue = died_queue configs m now k cause.Stray (Line k bytes) told.Stray e c ends i;
-    procs = died_procs configs m now k cause.Stray (Line k bytes) told.Stray class.concurrency e class.name (living_of class.concurrency (entries (noted_at now (Line k bytes) told.Stray ∷ m)))
-    (runs_at (entries (noted_at now (Line k bytes) told.Stray ∷ m)) e class.name) (λ j. refl) (λ j other. other_living class.concurrency m now k bytes told.Stray j other) ends i;
-    held = ap (λ (b : Bool). if b then false else is_held m e c class.name) (line_held m e class.name k cause.Stray runs) i;
-    };
+      lookups = died_lookups configs m now k cause.Stray (Line k bytes) told.Stray e c class ends agree runs i;
+      stock = record (farm_with configs m e c class) {
+        queue = died_queue configs m now k cause.Stray (Line k bytes) told.Stray e c ends i;
+        procs = died_procs configs m now k cause.Stray (Line k bytes) told.Stray class.concurrency e class.name (living_of class.concurrency (entries (noted_at now (Line k bytes) told.Stray ∷ m)))
+            (runs_at (entries (noted_at now (Line k bytes) told.Stray ∷ m)) e class.name) (λ j. refl) (λ j other. other_living class.concurrency m now k bytes told.Stray j other) ends i;
+        held = ap (λ (b : Bool). if b then false else is_held m e c class.name) (line_held m e class.name k cause.Stray runs) i;
+      };
     }
   where
     ends : EndsProcess configs m k cause.Stray (Line k bytes) told.Stray
@@ -245,13 +243,13 @@ pub class_not_died : (configs : List Configuration) (m : Past) (now k : ℕ) (an
     → class_row configs (noted_at now (Died k) answer ∷ m) e c class ≡ class_row configs m e c class
 class_not_died configs m now k answer e c class away none =
     λ i. record (class_row configs m e c class) {
-    lookups = not_mine_lookups configs m now k cause.Died (Died k) answer e c ends none i;
-    stock = record (farm_with configs m e c class) {
-    queue = died_queue configs m now k cause.Died (Died k) answer e c ends i;
-    procs = not_mine_procs configs m now k cause.Died (Died k) answer class.concurrency e class.name (living_of class.concurrency (entries (noted_at now (Died k) answer ∷ m)))
-    (runs_at (entries (noted_at now (Died k) answer ∷ m)) e class.name) (λ j. refl) (λ j other. refl) ends away i;
-    held = ap (λ (b : Bool). if b then false else is_held m e c class.name) away i;
-    };
+      lookups = not_mine_lookups configs m now k cause.Died (Died k) answer e c ends none i;
+      stock = record (farm_with configs m e c class) {
+        queue = died_queue configs m now k cause.Died (Died k) answer e c ends i;
+        procs = not_mine_procs configs m now k cause.Died (Died k) answer class.concurrency e class.name (living_of class.concurrency (entries (noted_at now (Died k) answer ∷ m)))
+            (runs_at (entries (noted_at now (Died k) answer ∷ m)) e class.name) (λ j. refl) (λ j other. refl) ends away i;
+        held = ap (λ (b : Bool). if b then false else is_held m e c class.name) away i;
+      };
     }
   where
     ends : EndsProcess configs m k cause.Died (Died k) answer
@@ -262,13 +260,13 @@ pub class_not_bad : (configs : List Configuration) (m : Past) (now k : ℕ) (byt
     → class_row configs (noted_at now (Line k bytes) told.Bad ∷ m) e c class ≡ class_row configs m e c class
 class_not_bad configs m now k bytes e c class away none =
     λ i. record (class_row configs m e c class) {
-    lookups = not_mine_lookups configs m now k cause.BadReply (Line k bytes) told.Bad e c ends none i;
-    stock = record (farm_with configs m e c class) {
-    queue = died_queue configs m now k cause.BadReply (Line k bytes) told.Bad e c ends i;
-    procs = not_mine_procs configs m now k cause.BadReply (Line k bytes) told.Bad class.concurrency e class.name (living_of class.concurrency (entries (noted_at now (Line k bytes) told.Bad ∷ m)))
-    (runs_at (entries (noted_at now (Line k bytes) told.Bad ∷ m)) e class.name) (λ j. refl) (λ j other. other_living class.concurrency m now k bytes told.Bad j other) ends away i;
-    held = ap (λ (b : Bool). if b && is_some (cause_here (Some cause.BadReply) ((k == k) && nat_le k (proc_count (entries m)))) then false else is_held m e c class.name) away i;
-    };
+      lookups = not_mine_lookups configs m now k cause.BadReply (Line k bytes) told.Bad e c ends none i;
+      stock = record (farm_with configs m e c class) {
+        queue = died_queue configs m now k cause.BadReply (Line k bytes) told.Bad e c ends i;
+        procs = not_mine_procs configs m now k cause.BadReply (Line k bytes) told.Bad class.concurrency e class.name (living_of class.concurrency (entries (noted_at now (Line k bytes) told.Bad ∷ m)))
+            (runs_at (entries (noted_at now (Line k bytes) told.Bad ∷ m)) e class.name) (λ j. refl) (λ j other. other_living class.concurrency m now k bytes told.Bad j other) ends away i;
+        held = ap (λ (b : Bool). if b && is_some (cause_here (Some cause.BadReply) ((k == k) && nat_le k (proc_count (entries m)))) then false else is_held m e c class.name) away i;
+      };
     }
   where
     ends : EndsProcess configs m k cause.BadReply (Line k bytes) told.Bad
@@ -279,13 +277,13 @@ pub class_not_stray : (configs : List Configuration) (m : Past) (now k : ℕ) (b
     → class_row configs (noted_at now (Line k bytes) told.Stray ∷ m) e c class ≡ class_row configs m e c class
 class_not_stray configs m now k bytes e c class away none =
     λ i. record (class_row configs m e c class) {
-    lookups = not_mine_lookups configs m now k cause.Stray (Line k bytes) told.Stray e c ends none i;
-    stock = record (farm_with configs m e c class) {
-    queue = died_queue configs m now k cause.Stray (Line k bytes) told.Stray e c ends i;
-    procs = not_mine_procs configs m now k cause.Stray (Line k bytes) told.Stray class.concurrency e class.name (living_of class.concurrency (entries (noted_at now (Line k bytes) told.Stray ∷ m)))
-    (runs_at (entries (noted_at now (Line k bytes) told.Stray ∷ m)) e class.name) (λ j. refl) (λ j other. other_living class.concurrency m now k bytes told.Stray j other) ends away i;
-    held = ap (λ (b : Bool). if b && is_some (cause_here (Some cause.Stray) ((k == k) && nat_le k (proc_count (entries m)))) then false else is_held m e c class.name) away i;
-    };
+      lookups = not_mine_lookups configs m now k cause.Stray (Line k bytes) told.Stray e c ends none i;
+      stock = record (farm_with configs m e c class) {
+        queue = died_queue configs m now k cause.Stray (Line k bytes) told.Stray e c ends i;
+        procs = not_mine_procs configs m now k cause.Stray (Line k bytes) told.Stray class.concurrency e class.name (living_of class.concurrency (entries (noted_at now (Line k bytes) told.Stray ∷ m)))
+            (runs_at (entries (noted_at now (Line k bytes) told.Stray ∷ m)) e class.name) (λ j. refl) (λ j other. other_living class.concurrency m now k bytes told.Stray j other) ends away i;
+        held = ap (λ (b : Bool). if b && is_some (cause_here (Some cause.Stray) ((k == k) && nat_le k (proc_count (entries m)))) then false else is_held m e c class.name) away i;
+      };
     }
   where
     ends : EndsProcess configs m k cause.Stray (Line k bytes) told.Stray

@@ -1,5 +1,5 @@
 -- A class after a start that failed.
-use Rattle.std.proofs.Common.{◌≡◌, ℕ, suc, ◌<◌, ◌≤◌, ◌-◌, List, [], ◌∷◌, filter, Bool, true, false, not, ◌&&◌, ◌||◌, ◌==◌, nat_le, bytes_eq, if◌then◌else◌, Option, Some, None, is_some, refl, sym, ap, ap₂, ◌∙◌, arith}
+use Rattle.std.proofs.Common.{◌≡◌, ℕ, suc, ◌≤◌, ◌-◌, List, ◌∷◌, filter, Bool, true, false, not, ◌&&◌, ◌||◌, ◌==◌, nat_le, bytes_eq, if◌then◌else◌, Option, Some, None, is_some, refl, sym, ap, ap₂, ◌∙◌, arith}
 use Rattle.std.specs.Option.{option_map_or}
 use Rattle.std.proofs.lemmas.Bool.Decides.{nat_tests}
 use Rattle.sq_base.specs.declared.helpers.Cause.TheVariants as cause
@@ -9,16 +9,15 @@ use Rattle.sq_rules.specs.declared.entries.Event.TheVariants.{StartFail}
 use Rattle.sq_rules.specs.declared.entries.Told.{Told}
 use Rattle.sq_rules.specs.Classes.{Class}
 use Rattle.sq_rules.specs.Configurations.{Configuration}
-use Rattle.sq_rules.specs.Entries.{History}
 use Rattle.sq_rules.specs.Epochs.{class_at, name_of_class}
 use Rattle.sq_rules.specs.OpenLookups.{LookupRow}
 use Rattle.sq_rules.specs.FarmReadings.{farm_with, is_held, is_put_for, is_queued, living_of, waiting_of}
 use Rattle.sq_rules.specs.Farms.{Stock, Waiting, emptied, is_last_start}
-use Rattle.sq_rules.specs.Marks.{Marked, Past, Put, entries}
+use Rattle.sq_rules.specs.Marks.{Marked, Past, entries}
 use Rattle.sq_rules.specs.Numbered.{rows}
 use Rattle.sq_rules.specs.Processes.{if_here, proc_count, runs_at, settled_starts, start_count, starting}
 use Rattle.sq_rules.specs.Questions.{QuestionEnd, first_end, has_ended, leaves_none, put_count, put_of, question_end, sent_to}
-use Rattle.sq_rows.specs.ClassRows.{ClassRow, after_failed, class_row, handed, is_asked, is_waiting, lookup_of, lookups}
+use Rattle.sq_rows.specs.ClassRows.{after_failed, class_row, handed, is_asked, is_waiting, lookup_of, lookups}
 use Rattle.sq_history.specs.MarkedEntries.{noted_at}
 use Rattle.sq_history.proofs.ClassParts.{bytes_itself, itself, none_living, put_named}
 use Rattle.sq_history.proofs.RowLaws.{picked_given, row_among, rows_left, rows_none, rows_same}
@@ -43,14 +42,14 @@ pub class_not_failed : (configs : List Configuration) (m : Past) (now f : ℕ) (
     → ((f == e) && bytes_eq name class.name) ≡ false → class_row configs (noted_at now (StartFail f name) answer ∷ m) e c class ≡ class_row configs m e c class
 class_not_failed configs m now f name answer e c class at other =
     λ i. record (class_row configs m e c class) {
-    lookups = rows_same (lookup_of m) (lookup_of m) (is_asked configs m e c) (is_asked configs (x ∷ m) e c) (put_count m)
-    (λ k low high. asked (is_put_for e c (put_of m k)) k refl) (λ k low high picked. refl) i;
-    stock = record (farm_with configs m e c class) {
-    queue = rows_same (waiting_of m) (waiting_of m) (is_queued configs m e c) (is_queued configs (x ∷ m) e c) (put_count m)
-    (λ k low high. queued (is_put_for e c (put_of m k)) k refl) (λ k low high picked. refl) i;
-    starting = ap (λ (d : Bool). start_count (entries m) e class.name - (if d then suc (settled_starts (entries m) e class.name) else settled_starts (entries m) e class.name)) other i;
-    held = ap (λ (d : Bool). if d then true else is_held m e c class.name) other i;
-    };
+      lookups = rows_same (lookup_of m) (lookup_of m) (is_asked configs m e c) (is_asked configs (x ∷ m) e c) (put_count m)
+          (λ k low high. asked (is_put_for e c (put_of m k)) k refl) (λ k low high picked. refl) i;
+      stock = record (farm_with configs m e c class) {
+        queue = rows_same (waiting_of m) (waiting_of m) (is_queued configs m e c) (is_queued configs (x ∷ m) e c) (put_count m)
+            (λ k low high. queued (is_put_for e c (put_of m k)) k refl) (λ k low high picked. refl) i;
+        starting = ap (λ (d : Bool). start_count (entries m) e class.name - (if d then suc (settled_starts (entries m) e class.name) else settled_starts (entries m) e class.name)) other i;
+        held = ap (λ (d : Bool). if d then true else is_held m e c class.name) other i;
+      };
     }
   where
     x : Marked
@@ -160,15 +159,15 @@ class_failed configs m now answer e c class at some =
     by : (z : Bool) → leaves_none (entries m) e class.name ≡ z → class_row configs (x ∷ m) e c class ≡ after_failed (class_row configs m e c class)
     by z is =
         (λ i. record (class_row configs m e c class) {
-        lookups = ends z is i;
-        stock = record v {
-        queue = queue z is i;
-        starting = (ap (λ (d : Bool). start_count (entries m) e class.name - (if d then suc (settled_starts (entries m) e class.name) else settled_starts (entries m) e class.name)) test
-        ∙ one_less (start_count (entries m) e class.name) (settled_starts (entries m) e class.name)) i;
-        held = ap (λ (d : Bool). if d then true else is_held m e c class.name) test i;
-        };
+          lookups = ends z is i;
+          stock = record v {
+            queue = queue z is i;
+            starting = (ap (λ (d : Bool). start_count (entries m) e class.name - (if d then suc (settled_starts (entries m) e class.name) else settled_starts (entries m) e class.name)) test
+                ∙ one_less (start_count (entries m) e class.name) (settled_starts (entries m) e class.name)) i;
+            held = ap (λ (d : Bool). if d then true else is_held m e c class.name) test i;
+          };
         })
         ∙ ap (λ (s : Stock). record (class_row configs m e c class) {
-        lookups = filter (λ l. not (is_last_start v && is_waiting l.question v.queue)) (lookups configs m e c);
-        stock = s;
+          lookups = filter (λ l. not (is_last_start v && is_waiting l.question v.queue)) (lookups configs m e c);
+          stock = s;
         }) (handed_by z ∙ ap (λ (d : Bool). handed (failed_by d v)) (sym is ∙ sym (last_start configs m e c class some)))

@@ -1,17 +1,13 @@
 -- What is kept, and what a check takes, was given by lines of helpers.
-use Rattle.std.proofs.Common.{◌≡◌, ◌⊎◌, inl, inr, ℕ, zero, suc, ◌<◌, ◌≤◌, List, [], ◌∷◌, ◌++◌, take, cond, Bool, true, false, not, ◌&&◌, ◌||◌, ◌==◌, nat_le, nat_lt, length, bytes_eq, if◌then◌else◌, Option, Some, None, is_some, option_to_list, refl, sym, ap, ap₂, subst, ◌∙◌, arith}
-use Rattle.std.specs.Map.{lookup, lookup_entry, remove_entry}
-use Rattle.std.specs.Option.{option_and_then, option_map, option_map_or, option_or}
-use Rattle.std.proofs.lemmas.Bool.{and_parts}
-use Rattle.std.proofs.lemmas.Bool.Decides.{nat_tests}
+use Rattle.std.proofs.Common.{◌≡◌, ◌⊎◌, inl, inr, ℕ, zero, suc, List, [], ◌∷◌, ◌++◌, take, cond, Bool, true, false, not, ◌&&◌, ◌==◌, nat_lt, length, bytes_eq, if◌then◌else◌, Option, Some, None, is_some, refl, sym, ap, ap₂, subst, ◌∙◌}
+use Rattle.std.specs.Map.{lookup, lookup_entry}
+use Rattle.std.specs.Option.{option_and_then, option_map_or}
 use Rattle.std.proofs.lemmas.Option.{none-some, same_Some}
 use Rattle.sq_base.specs.declared.helpers.Answer.{Answer}
 use Rattle.sq_base.specs.declared.helpers.Cause.TheVariants as cause
 use Rattle.sq_base.specs.declared.helpers.What.{What}
-use Rattle.sq_base.specs.declared.helpers.What.TheVariants as what
-use Rattle.sq_base.specs.declared.helpers.Word.{Word}
 use Rattle.sq_rules.specs.declared.entries.Event.{Event}
-use Rattle.sq_rules.specs.declared.entries.Event.TheVariants.{Begin, Step, Line, Died, StartFail, Reconfigure}
+use Rattle.sq_rules.specs.declared.entries.Event.TheVariants.{Begin, Step, Line, Reconfigure}
 use Rattle.sq_rules.specs.declared.entries.Told.{Told}
 use Rattle.sq_rules.specs.declared.entries.Told.TheVariants as told
 use Rattle.sq_rules.specs.declared.kept.KeptVerdict.{KeptVerdict}
@@ -21,24 +17,24 @@ use Rattle.sq_rules.specs.AnswerReadings.{answers}
 use Rattle.sq_rules.specs.Checks.{Asked, ask_of}
 use Rattle.sq_rules.specs.Classes.{Class}
 use Rattle.sq_rules.specs.Configurations.{Configuration}
-use Rattle.sq_rules.specs.Entries.{History, Noted}
+use Rattle.sq_rules.specs.Entries.{History}
 use Rattle.sq_rules.specs.Epochs.{class_at}
-use Rattle.sq_rules.specs.FarmReadings.{farm_with, is_put_for}
+use Rattle.sq_rules.specs.FarmReadings.{farm_with}
 use Rattle.sq_rules.specs.Farms.{full}
-use Rattle.sq_rules.specs.Freshness.{is_due, is_fresh, ttl_of}
+use Rattle.sq_rules.specs.Freshness.{is_fresh, ttl_of}
 use Rattle.sq_rules.specs.FullNext.{FullLegal, full_next_at, told_of_line}
 use Rattle.sq_rules.specs.Processes.{is_running}
 use Rattle.sq_rules.specs.KeptLists.{KeptList, fresh_for, if_fresh, is_fault, keep, kept_without, same_key, to_front, verdict_of}
-use Rattle.sq_rules.specs.KeptReadings.{after_reconfigure, after_took, alike_place, keep_reply, keep_what, kept, key_here}
+use Rattle.sq_rules.specs.KeptReadings.{after_took, alike_place, keep_reply, keep_what, kept, key_here}
 use Rattle.sq_rules.specs.Limits.{key_limit}
 use Rattle.sq_rules.specs.Machine.{config_of, gives, is_begin}
 use Rattle.sq_rules.specs.Marking.{mark, marked}
 use Rattle.sq_rules.specs.Marks.{Marked, Past, Put, entries}
-use Rattle.sq_rules.specs.Questions.{pending, put_count, put_is, put_of, said_by, sent_to}
+use Rattle.sq_rules.specs.Questions.{pending, put_count, put_is, put_of, said_by}
 use Rattle.sq_rules.specs.Readings.{current}
-use Rattle.sq_rules.specs.StepRule.{StepSays, class_of_acl, refresh, says_asked, says_asked_of, says_at_place, says_done, says_fault, says_fresh, says_kept, says_need, says_of_class, says_value, step_says, value_over}
+use Rattle.sq_rules.specs.StepRule.{class_of_acl, says_asked, says_asked_of, says_at_place, says_fault, says_fresh, says_need, says_of_class, says_value, step_says, value_over}
 use Rattle.sq_history.specs.Carried.{Carried, NamesOnce}
-use Rattle.sq_history.specs.Given.{EachOf, FreshGiven, Gift, Given, Gives, IsStepFault, epoch_at, gift_of}
+use Rattle.sq_history.specs.Given.{EachOf, FreshGiven, Given, IsStepFault, epoch_at, gift_of}
 use Rattle.sq_history.proofs.ClassParts.{bytes_itself, bytes_same, equal}
 use Rattle.sq_history.proofs.LegalLaws.{IsReplied, legal_induction, line_replied, next_line}
 
@@ -148,10 +144,12 @@ key_put_is e c (Some p) z is = by ((p.epoch == e) && (p.class == c)) refl is
 
 line_given : (configs : List Configuration) (m : Past) (now k : ℕ) (bytes : List ℕ) (answer : Told) → NamesOnce configs → full_next_at configs m now (Line k bytes) ≡ gives answer → Carried configs m
     → AllKeptGiven configs m → AllKeptGiven configs (mark configs m (record { moment = now; event = Line k bytes; answer = answer }) ∷ m)
-line_given configs m now k bytes (told.Reply q w) once is c g = record { kept_given = λ e d.
-    reply_given (KeptGiven configs (x ∷ m) e d) (class_at configs e d) q (key_here e d (put_of m q)) now (said_by configs m k bytes) (kept configs m e d)
-    (λ z v key says. inl (record { proc = k; bytes = bytes; word = w; event_is = refl; answer_is = refl; date_is = refl; says = says; sent = r.sent; put = key_put_is e d (put_of m q) z key }))
-    (given_more configs m x e d (kept configs m e d) (g.kept_given e d)) }
+line_given configs m now k bytes (told.Reply q w) once is c g = record {
+  kept_given = λ e d.
+      reply_given (KeptGiven configs (x ∷ m) e d) (class_at configs e d) q (key_here e d (put_of m q)) now (said_by configs m k bytes) (kept configs m e d)
+      (λ z v key says. inl (record { proc = k; bytes = bytes; word = w; event_is = refl; answer_is = refl; date_is = refl; says = says; sent = r.sent; put = key_put_is e d (put_of m q) z key }))
+      (given_more configs m x e d (kept configs m e d) (g.kept_given e d));
+}
   where
     x : Marked
     x = mark configs m (record { moment = now; event = Line k bytes; answer = told.Reply q w })
@@ -191,10 +189,12 @@ moved_given configs m now text answer g = record { kept_given = λ e d. by e d (
 
 pub given_next : (configs : List Configuration) (m : Past) (now : ℕ) (event : Event) (answer : Told) → NamesOnce configs → full_next_at configs m now event ≡ gives answer → Carried configs m
     → AllKeptGiven configs m → AllKeptGiven configs (mark configs m (record { moment = now; event = event; answer = answer }) ∷ m)
-given_next configs m now (Step n) answer once is c g = record { kept_given = λ e d.
-    took_given (KeptGiven configs (mark configs m (record { moment = now; event = Step n; answer = answer }) ∷ m) e d) (option_map_or (λ a. a.epoch == e) (ask_of (entries m) n) false) d
-    (step_says configs m n now).took (kept configs m e d)
-    (given_more configs m (mark configs m (record { moment = now; event = Step n; answer = answer })) e d (kept configs m e d) (g.kept_given e d)) }
+given_next configs m now (Step n) answer once is c g = record {
+  kept_given = λ e d.
+      took_given (KeptGiven configs (mark configs m (record { moment = now; event = Step n; answer = answer }) ∷ m) e d) (option_map_or (λ a. a.epoch == e) (ask_of (entries m) n) false) d
+      (step_says configs m n now).took (kept configs m e d)
+      (given_more configs m (mark configs m (record { moment = now; event = Step n; answer = answer })) e d (kept configs m e d) (g.kept_given e d));
+}
 given_next configs m now (Line k bytes) answer once is c g = line_given configs m now k bytes answer once is c g
 given_next configs m now (Reconfigure text) answer once is c g = moved_given configs m now text answer g
 given_next configs m now event answer once is c g =
@@ -241,14 +241,16 @@ good_fresh configs m e c key class now None o f count at g is = good_asked confi
 good_fresh configs m e c key class now (Some v) o f count at g is =
     let fresh = if_fresh_is class now (verdict_of key (kept configs m e c)) v is in
     let found = each_verdict (KeptGiven configs m e c) key (kept configs m e c) v (g.kept_given e c) fresh.0 in
-    record { good = λ a t. subst (IsGood configs m e) (same_Some _ _ t) (inl (record {
-      question = v.question;
-      class = class;
-      question_is = refl;
-      class_is = at;
-      given = subst (λ (k : List ℕ). Given configs m e c (record { key = k; what = v.what; question = v.question; date = v.date })) (sym (bytes_same key found.at found.key_is)) found.holds;
-      fresh = fresh.1;
-    })) }
+    record {
+      good = λ a t. subst (IsGood configs m e) (same_Some _ _ t) (inl (record {
+        question = v.question;
+        class = class;
+        question_is = refl;
+        class_is = at;
+        given = subst (λ (k : List ℕ). Given configs m e c (record { key = k; what = v.what; question = v.question; date = v.date })) (sym (bytes_same key found.at found.key_is)) found.holds;
+        fresh = fresh.1;
+      }));
+    }
 
 good_need : (configs : List Configuration) (m : Past) (e c : ℕ) (key : List ℕ) (class : Class) (now : ℕ) (o : Option ℕ) (f : Bool) (count : ℕ)
     → class_at configs e c ≡ Some class → AllKeptGiven configs m → TakesGood configs m e (says_need class (record { epoch = e; class = c; key = key }) now (kept configs m e c) o f count).took

@@ -1,8 +1,8 @@
 -- Each legal history carries what the laws of readings ask for.
-use Rattle.std.proofs.Common.{◌≡◌, ℕ, zero, suc, ◌<◌, ◌≤◌, ◌-◌, ◌⊎◌, inl, inr, max, List, [], ◌∷◌, ◌++◌, map, find, slice_get, length, cond, Bool, true, false, not, ◌&&◌, ◌||◌, ◌==◌, nat_le, nat_lt, bytes_eq, if◌then◌else◌, Option, Some, None, is_some, refl, sym, ap, ap₂, subst, ◌∙◌, arith, le_refl, le_of_eq, position}
+use Rattle.std.proofs.Common.{◌≡◌, ℕ, zero, suc, ◌<◌, ◌≤◌, ◌-◌, max, List, [], ◌∷◌, ◌++◌, map, find, slice_get, length, cond, Bool, true, false, not, ◌&&◌, ◌||◌, ◌==◌, nat_le, nat_lt, bytes_eq, if◌then◌else◌, Option, Some, None, is_some, refl, sym, ap, ap₂, subst, ◌∙◌, arith, le_refl, le_of_eq, position}
 use Rattle.std.specs.List.{flat_map, list_any, position_or_len}
 use Rattle.std.specs.Option.{option_and_then, option_map, option_map_or, option_or}
-use Rattle.std.proofs.lemmas.Bool.{and_parts, or_cases}
+use Rattle.std.proofs.lemmas.Bool.{and_parts}
 use Rattle.std.proofs.lemmas.Bool.Decides.{nat_tests}
 use Rattle.std.proofs.lemmas.List.Folds.{find_at}
 use Rattle.std.proofs.lemmas.Option.{none-some, same_Some}
@@ -11,7 +11,6 @@ use Rattle.sq_base.specs.declared.helpers.Answer.{Answer}
 use Rattle.sq_base.specs.declared.helpers.Reply.{Reply}
 use Rattle.sq_base.specs.declared.helpers.What.{What}
 use Rattle.sq_base.specs.declared.helpers.Word.{Word}
-use Rattle.sq_base.specs.Replies.{reply_of}
 use Rattle.sq_rules.specs.declared.entries.Event.{Event}
 use Rattle.sq_rules.specs.declared.entries.Event.TheVariants.{Begin, Step, Started, StartFail, Line, Died, Act, Reconfigure}
 use Rattle.sq_rules.specs.declared.entries.Told.{Told}
@@ -26,34 +25,33 @@ use Rattle.sq_rules.specs.Channels.{channel_name, is_open, least_free}
 use Rattle.sq_rules.specs.Checks.{Asked, ask_count, ask_of, asked_by, check_open, numbered}
 use Rattle.sq_rules.specs.Classes.{Class}
 use Rattle.sq_rules.specs.Configurations.{Configuration}
-use Rattle.sq_rules.specs.DueActs.{Place, first_made, first_of, live_places, next_act, places_of, send_at, sending_told, start_at, stop_of}
+use Rattle.sq_rules.specs.DueActs.{Place, first_made, first_of, live_places, next_act, places_of, send_at, sending_told, start_at}
 use Rattle.sq_rules.specs.Entries.{History, Noted}
 use Rattle.sq_rules.specs.Epochs.{channels_named, class_at, class_named, has_open_check, is_check_of, is_live, live_epochs, name_of_class, place_of_class}
 use Rattle.sq_rules.specs.Events.{Asking, asking, begins_epoch, is_number}
 use Rattle.sq_rules.specs.FarmReadings.{farm_of, farm_with, is_put_for, is_queued, living_of, waiting_of}
 use Rattle.sq_rules.specs.Farms.{Sending, Stock, Waiting, send_of, start_due}
-use Rattle.sq_rules.specs.FullNext.{FullLegal, act_next, full_next, full_next_at, has_start, step_next, told_of_line, with_place}
+use Rattle.sq_rules.specs.FullNext.{FullLegal, act_next, full_next, full_next_at, has_start, told_of_line, with_place}
 use Rattle.sq_rules.specs.KeptReadings.{kept}
 use Rattle.sq_rules.specs.Farms.{full}
 use Rattle.sq_rules.specs.Living.{Living, has_free, target}
-use Rattle.sq_rules.specs.Machine.{Next, config_of, gives, is_begin, nothing, refuse_if, refuses}
-use Rattle.sq_rules.specs.Marking.{mark, marked, says_at}
-use Rattle.sq_rules.specs.Marks.{Marked, Past, Put, entries}
-use Rattle.sq_rules.specs.Numbered.{below, picks, rows}
+use Rattle.sq_rules.specs.Machine.{Next, config_of, gives, is_begin, refuse_if}
+use Rattle.sq_rules.specs.Marking.{mark, marked}
+use Rattle.sq_rules.specs.Marks.{Past, Put, entries}
+use Rattle.sq_rules.specs.Numbered.{below, picks}
 use Rattle.sq_rules.specs.Processes.{Home, home_of, is_at_home, is_running, lives_on, proc_count, proc_end, stop_due, runs_at, settled_starts, start_count, starting}
 use Rattle.sq_rules.specs.Questions.{has_ended, pending, put_count, put_of, said_by, sent_to, what_of}
-use Rattle.sq_rules.specs.Readings.{counted_moment, current, epoch_after, latest}
-use Rattle.sq_rules.specs.StepRule.{StepSays, class_of_acl, says_asked_of, says_at_place, says_of_class, says_value, step_says, value_over}
+use Rattle.sq_rules.specs.Readings.{current, epoch_after}
+use Rattle.sq_rules.specs.StepRule.{class_of_acl, says_asked_of, says_at_place, says_of_class, says_value, step_says, value_over}
 use Rattle.sq_rules.specs.Transcripts.{LineIs, OnFree, Outside, ReplyTo, channels_of, line_is, line_told}
-use Rattle.sq_rules.proofs.CheckLaws.{ask_of_more}
-use Rattle.sq_history.specs.Carried.{Carried, HasClass, HoldsOnce, IsUnused, NamesOnce}
-use Rattle.sq_history.specs.MarkedEntries.{noted_at, stepped_at}
+use Rattle.sq_history.specs.Carried.{Carried, HasClass, NamesOnce}
+use Rattle.sq_history.specs.MarkedEntries.{noted_at}
 use Rattle.sq_history.proofs.AgreeLaws.{IsSent}
-use Rattle.sq_history.proofs.CarriedLaws.{carried_bad, carried_died, carried_failed, carried_reconfigured, carried_replied, carried_sent, carried_started, carried_starting, carried_stepped, carried_stopped, carried_stray, carried_untouched, sent_put}
+use Rattle.sq_history.proofs.CarriedLaws.{carried_bad, carried_died, carried_failed, carried_reconfigured, carried_replied, carried_sent, carried_started, carried_starting, carried_stepped, carried_stopped, carried_stray, carried_untouched}
 use Rattle.sq_history.proofs.ClassParts.{bytes_itself, bytes_same, equal, itself, put_for}
-use Rattle.sq_history.proofs.LineLaws.{HoldsAt, RepliesTo, StandsOnlyOn, place_of_name, replies_to, reply_holds, runs_given, stands_only}
+use Rattle.sq_history.proofs.LineLaws.{StandsOnlyOn, place_of_name, replies_to, reply_holds, stands_only}
 use Rattle.sq_history.proofs.OnceLaws.{held_open}
-use Rattle.sq_history.proofs.PendingLaws.{PutsFresh, puts_need, step_waits}
+use Rattle.sq_history.proofs.PendingLaws.{puts_need, step_waits}
 use Rattle.sq_history.proofs.SendLaws.{SendIs, send_is}
 
 -- a marked history has the entries of the history
@@ -540,6 +538,44 @@ next_send configs m p q channel key e = by_stop (first_of (picks (stop_due (entr
     by_stop None e = by_send (first_made (send_at configs m) places) refl e
     by_stop (Some k) e = absurd (let no : told.Stop k ≡ answer = same_Some _ _ e in cc)
 
+-- the next act, where it is a stop
+pub next_stop : (configs : List Configuration) (m : Past) (p : ℕ) → next_act configs m ≡ Some (told.Stop p) → stop_due (entries m) p ≡ true
+next_stop configs m p e =
+    by_stop (picks (stop_due (entries m)) (proc_count (entries m))) (all_picked (stop_due (entries m)) (proc_count (entries m))) e
+  where
+    places : List Place
+    places = live_places configs (entries m)
+
+    all : AllOf (IsBegun (current (entries m))) places
+    all = all_places configs (current (entries m)) (is_live (entries m)) (live_epochs (entries m)) (all_picked (is_live (entries m)) (current (entries m)))
+
+    proc_in : Told → ℕ
+    proc_in (told.Stop i) = i
+    proc_in t = p
+
+    not_start : (b : Bool) (i : ℕ) (w : List ℕ) → (if b then Some (told.Start i w) else None) ≡ Some (told.Stop p) → ⊥
+    not_start true i w e = let no : told.Start i w ≡ told.Stop p = same_Some _ _ e in cc
+    not_start false i w e = none-some (told.Stop p) e
+
+    by_start : first_made (start_at configs m) places ≡ Some (told.Stop p) → ⊥
+    by_start e =
+        let x = made_of (IsBegun (current (entries m))) (start_at configs m) places (told.Stop p) all e in
+        let v = then_some (λ (s : Stock). if start_due s then Some (told.Start x.0.epoch (name_of_class configs x.0.epoch x.0.class)) else None) (farm_of configs m x.0.epoch x.0.class) (told.Stop p) x.2 in
+        not_start (start_due v.0) x.0.epoch (name_of_class configs x.0.epoch x.0.class) v.2
+
+    by_send : (o : Option Told) → first_made (send_at configs m) places ≡ o → option_or o (first_made (start_at configs m) places) ≡ Some (told.Stop p) → ⊥
+    by_send None is e = by_start e
+    by_send (Some t) is e =
+        let x = made_of (IsBegun (current (entries m))) (send_at configs m) places (told.Stop p) all (is ∙ e) in
+        let s = sent_at configs m (told.Stop p) x.0 x.2 in
+        let no = s.answer_is in cc
+
+    by_stop : (xs : List ℕ) → AllOf (IsPicked (stop_due (entries m)) (proc_count (entries m))) xs
+        → option_or (option_map (λ k. told.Stop k) (first_of xs)) (option_or (first_made (send_at configs m) places) (first_made (start_at configs m) places)) ≡ Some (told.Stop p)
+        → stop_due (entries m) p ≡ true
+    by_stop [] all e = absurd (by_send (first_made (send_at configs m) places) refl e)
+    by_stop (k ∷ xs) all e = ap (stop_due (entries m)) (sym (ap proc_in (same_Some _ _ e))) ∙ all.0.0
+
 -- how many channels a process has
 pub channels_are : (configs : List Configuration) (m : Past) (k e c : ℕ) (class : Class) → NamesOnce configs → class_at configs e c ≡ Some class → is_at_home (entries m) e class.name k ≡ true
     → option_map_or (λ p. channels_named configs p.epoch p.class) (home_of (entries m) k) 0 ≡ class.concurrency
@@ -573,7 +609,7 @@ of_class configs m k some c = by (home_of (entries m) k) refl some
           class = has.class;
           at = has.at;
           home = ap (λ (o : Option Home). option_map_or (λ z. (z.epoch == p.epoch) && bytes_eq z.class has.class.name) o false) is
-          ∙ ap₂ (λ (a b : Bool). a && b) (itself p.epoch) (ap (λ (w : List ℕ). bytes_eq p.class w) (bytes_same has.class.name p.class has.named) ∙ bytes_itself p.class);
+              ∙ ap₂ (λ (a b : Bool). a && b) (itself p.epoch) (ap (λ (w : List ℕ). bytes_eq p.class w) (bytes_same has.class.name p.class has.named) ∙ bytes_itself p.class);
         }
 
 is_number_some : (k : ℕ) (o : Option ℕ) → is_number k o ≡ true → o ≡ Some k
@@ -730,9 +766,10 @@ legal_induction configs P once first next [] legal = absurd legal
 legal_induction configs P once first next (x ∷ []) legal = (begins configs x.moment x.event x.answer legal.0, first x legal.0)
 legal_induction configs P once first next (x ∷ f ∷ h) legal =
     let before = legal_induction configs P once first next (f ∷ h) legal.0 in
-    let is = sym (ap (λ (now : ℕ). full_next_at configs (marked configs (f ∷ h)) now x.event) (counted x.moment f.moment legal.3)) ∙ legal.4 in
-    (carried_next configs (marked configs (f ∷ h)) x.moment x.event x.answer once is before.0,
-    next (marked configs (f ∷ h)) x.moment x.event x.answer is before.0 before.1)
+    let is = sym (ap (λ (now : ℕ). full_next_at configs (marked configs (f ∷ h)) now x.event) (counted x.moment f.moment legal.3)) ∙ legal.4 in (
+      carried_next configs (marked configs (f ∷ h)) x.moment x.event x.answer once is before.0,
+      next (marked configs (f ∷ h)) x.moment x.event x.answer is before.0 before.1,
+    )
   where
     counted : (a b : ℕ) → b ≤ a → max a b ≡ a
     counted a b l = omega arith

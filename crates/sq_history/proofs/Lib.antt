@@ -16,8 +16,14 @@ pub mod AgreeLaws
 pub mod OnceLaws
 pub mod CarriedLaws
 pub mod LegalLaws
+pub mod ElsewhereLaws
+pub mod HeldLaws
+pub mod PutLaws
 pub mod EpochLaws
 pub mod ProcessLaws
 pub mod QuestionLaws
 pub mod GivenLaws
 pub mod SoundLaws
+pub mod NeedLaws
+pub mod AloneLaws
+pub mod StopLaws

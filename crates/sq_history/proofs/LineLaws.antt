@@ -1,5 +1,5 @@
 -- What a line in the grammar does on the channels of its process, and where a process is found among those of its class.
-use Rattle.std.proofs.Common.{◌≡◌, ℕ, zero, suc, ◌<◌, ◌≤◌, max, List, [], ◌∷◌, ◌++◌, map, Bool, true, false, not, ◌&&◌, ◌||◌, ◌==◌, nat_le, nat_lt, slice_get, if◌then◌else◌, cond, find, filter, drop, length, length-append, add-one, bytes_eq, ◌+◌, Option, Some, None, is_some, refl, sym, ap, ap₂, ◌∙◌, arith}
+use Rattle.std.proofs.Common.{◌≡◌, ℕ, zero, suc, ◌<◌, ◌≤◌, max, List, [], ◌∷◌, ◌++◌, map, Bool, true, false, not, ◌&&◌, ◌==◌, nat_le, nat_lt, slice_get, if◌then◌else◌, cond, find, filter, drop, length, length-append, add-one, bytes_eq, Option, Some, None, is_some, refl, sym, ap, ap₂, ◌∙◌, arith}
 use Rattle.std.specs.List.{prefix_len, take_while}
 use Rattle.std.specs.Option.{option_map, option_map_or, option_or, unwrap_or}
 use Rattle.std.proofs.lemmas.Bool.Decides.{nat_tests}
@@ -16,8 +16,8 @@ use Rattle.sq_rules.specs.Events.{is_number}
 use Rattle.sq_rules.specs.FarmReadings.{living_of}
 use Rattle.sq_rules.specs.Living.{Living, find_proc, slots_by, slots_in, without}
 use Rattle.sq_rules.specs.Numbered.{below, rows}
-use Rattle.sq_rules.specs.Processes.{Home, home_of, is_at_home, is_running, proc_count, proc_end, runs_at, started_by}
-use Rattle.sq_rules.specs.Transcripts.{LineIs, OnFree, Outside, ReplyTo, Use, after_use, channels_of, clears, holder, keeps, line_at, line_by, line_is, same_channel, stands_on}
+use Rattle.sq_rules.specs.Processes.{Home, home_of, proc_count, proc_end, runs_at, started_by}
+use Rattle.sq_rules.specs.Transcripts.{LineIs, OnFree, Outside, ReplyTo, after_use, channels_of, clears, holder, keeps, line_at, line_by, line_is, same_channel, stands_on}
 use Rattle.sq_history.specs.Carried.{HoldsOnce}
 use Rattle.sq_history.proofs.ClassParts.{equal, itself}
 use Rattle.sq_history.proofs.RowLaws.{picked_given, row_found}
@@ -271,9 +271,11 @@ reply_holds concurrency h k bytes q reply r =
 pub stands_only : (concurrency : ℕ) (h : History) (k : ℕ) (bytes : List ℕ) (q : ℕ) (reply : Reply) → line_is (channels_of concurrency h k) bytes ≡ ReplyTo q reply
     → HoldsOnce concurrency h k q → StandsOnlyOn concurrency h k bytes q
 stands_only concurrency h k bytes q reply line once =
-    record { stands_is = λ n l. ap (λ (o : Option Answer). stands_on o (channel_name (nat_lt 0 concurrency) n)) r.answer_is
-    ∙ named_same (nat_lt 0 concurrency) r.answer.0 n (reply_names (nat_lt 0 concurrency) bytes r.answer r.answer_is) (alone n l)
-    ∙ by n l (hold n) refl (place == n) refl }
+    record {
+      stands_is = λ n l. ap (λ (o : Option Answer). stands_on o (channel_name (nat_lt 0 concurrency) n)) r.answer_is
+          ∙ named_same (nat_lt 0 concurrency) r.answer.0 n (reply_names (nat_lt 0 concurrency) bytes r.answer r.answer_is) (alone n l)
+          ∙ by n l (hold n) refl (place == n) refl;
+    }
   where
     r : RepliesTo (channels_of concurrency h k) bytes q reply
     r = replies_to (channels_of concurrency h k) bytes q reply line

@@ -1,6 +1,6 @@
 -- Numbers that were not given have nothing: a question above those that were put, a process above those that were started, a check above those
 -- that were asked.
-use Rattle.std.proofs.Common.{◌≡◌, ℕ, suc, ◌<◌, ◌≤◌, List, [], ◌∷◌, ◌++◌, Bool, true, false, not, ◌&&◌, ◌||◌, ◌==◌, nat_le, bytes_eq, if◌then◌else◌, Option, Some, None, is_some, option_to_list, refl, sym, ap, ap₂, ◌∙◌, arith, inr}
+use Rattle.std.proofs.Common.{◌≡◌, ℕ, suc, ◌<◌, ◌≤◌, List, [], ◌∷◌, ◌++◌, Bool, true, false, not, ◌&&◌, ◌==◌, nat_le, bytes_eq, if◌then◌else◌, Option, Some, None, is_some, option_to_list, refl, ap, ap₂, ◌∙◌, arith, inl, inr}
 use Rattle.std.specs.Option.{option_or, option_map_or}
 use Rattle.std.proofs.lemmas.Bool.{and_right}
 use Rattle.std.proofs.lemmas.Bool.Decides.{nat_tests}
@@ -12,17 +12,17 @@ use Rattle.sq_rules.specs.declared.entries.Event.TheVariants.{Step, Line, Died, 
 use Rattle.sq_rules.specs.declared.entries.Told.{Told}
 use Rattle.sq_rules.specs.declared.entries.Told.TheVariants as told
 use Rattle.sq_rules.specs.AnswerReadings.{answers, ended_answer, last_wait, steps, waits_told}
-use Rattle.sq_rules.specs.Checks.{ask_count, more_if, numbered}
+use Rattle.sq_rules.specs.Checks.{ask_count, check_open, more_if, numbered}
 use Rattle.sq_rules.specs.Configurations.{Configuration}
-use Rattle.sq_rules.specs.Entries.{History, Noted}
+use Rattle.sq_rules.specs.Entries.{History}
 use Rattle.sq_rules.specs.Epochs.{name_of_class}
 use Rattle.sq_rules.specs.Events.{asking, is_number}
-use Rattle.sq_rules.specs.Marks.{Marked, Past, Put, entries}
-use Rattle.sq_rules.specs.Processes.{cause_here, ended_by, home_of, if_here, is_running, line_end, proc_count, proc_end, started_by}
-use Rattle.sq_rules.specs.Questions.{end_at, end_told, first_end, has_ended, leaves_none, put_count, put_of, question_end, said_by, send_told, sends, sent_to, unended}
+use Rattle.sq_rules.specs.Marks.{Past, Put, entries}
+use Rattle.sq_rules.specs.Processes.{cause_here, ended_by, home_of, if_here, line_end, proc_count, proc_end, started_by}
+use Rattle.sq_rules.specs.Questions.{end_at, end_told, first_end, leaves_none, put_count, put_of, question_end, said_by, send_told, sends, sent_to, unended}
 use Rattle.sq_base.specs.Replies.{reply_of}
 use Rattle.sq_rules.specs.Transcripts.{Use, after_use, holder, keeps, same_channel, stands_on, use_of, use_told}
-use Rattle.sq_rules.proofs.CheckLaws.{IsUnborn, is_done_unborn}
+use Rattle.sq_rules.proofs.CheckLaws.{check_open_unborn, is_done_unborn}
 use Rattle.sq_rules.specs.Checks.{is_done}
 use Rattle.sq_rows.specs.CheckRows.{step_count}
 
@@ -168,3 +168,14 @@ answers_above configs (x ∷ m) n l =
 -- it is not done
 pub done_above : (h : History) (n : ℕ) → ask_count h < n → is_done h n ≡ false
 done_above h n l = is_done_unborn h n (record { unborn = inr l }) (λ e. omega arith)
+
+-- the number of an open check is not 0
+pub open_positive : (h : History) (n : ℕ) → check_open h n ≡ true → 1 ≤ n
+open_positive h n opened = by n (n == 0) refl opened
+  where
+    zero_is : (n : ℕ) → (n == 0) ≡ true → n ≡ 0
+    zero_is n e = grind (arith, nat_tests)
+
+    by : (n : ℕ) (b : Bool) → (n == 0) ≡ b → check_open h n ≡ true → 1 ≤ n
+    by n true z o = let shut = check_open_unborn h n (record { unborn = inl (zero_is n z) }) in absurd (cc)
+    by n false z o = grind (arith, nat_tests)

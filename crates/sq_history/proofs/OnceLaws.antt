@@ -1,16 +1,14 @@
 -- Each question is on one channel of a process at most: so it stays after each event.
-use Rattle.std.proofs.Common.{◌≡◌, ℕ, zero, suc, ◌<◌, ◌≤◌, max, List, [], ◌∷◌, map, slice_get, Bool, true, false, not, ◌&&◌, ◌||◌, ◌==◌, nat_le, nat_lt, if◌then◌else◌, Option, Some, None, is_some, refl, sym, ap, ap₂, subst, ◌∙◌, arith}
+use Rattle.std.proofs.Common.{◌≡◌, ℕ, zero, suc, ◌<◌, max, List, [], ◌∷◌, slice_get, Bool, true, false, ◌&&◌, ◌==◌, nat_le, nat_lt, if◌then◌else◌, Option, Some, None, refl, sym, ap, ◌∙◌}
 use Rattle.std.specs.Option.{option_map}
-use Rattle.std.proofs.lemmas.Bool.{le-leb, lt-ltb}
-use Rattle.std.proofs.lemmas.Bool.Decides.{nat_tests}
+use Rattle.std.proofs.lemmas.Bool.{lt-ltb}
 use Rattle.std.proofs.lemmas.Option.{none-some, same_Some, slice_get-map}
 use Rattle.sq_base.specs.Replies.{reply_of}
 use Rattle.sq_rules.specs.declared.entries.Event.TheVariants.{Line, Act}
 use Rattle.sq_rules.specs.declared.entries.Told.{Told}
 use Rattle.sq_rules.specs.declared.entries.Told.TheVariants as told
-use Rattle.sq_rules.specs.Channels.{channel_name, is_open, least_free}
+use Rattle.sq_rules.specs.Channels.{channel_name, is_open}
 use Rattle.sq_rules.specs.Events.{is_number}
-use Rattle.sq_rules.specs.FarmReadings.{living_of}
 use Rattle.sq_rules.specs.Marks.{Past, entries}
 use Rattle.sq_rules.specs.Numbered.{below}
 use Rattle.sq_rules.specs.Processes.{proc_count}

@@ -1,7 +1,7 @@
 -- The pending question of a key is the one that a search by key among the open lookups finds.
-use Rattle.std.proofs.Common.{◌≡◌, ℕ, suc, ◌<◌, ◌≤◌, List, [], ◌∷◌, find, Bool, true, false, not, ◌&&◌, ◌||◌, ◌==◌, nat_le, nat_lt, length, bytes_eq, if◌then◌else◌, Option, Some, None, is_some, refl, sym, ap, ap₂, subst, ◌∙◌, arith, ◌⊎◌, inl, inr}
-use Rattle.std.specs.Option.{option_and_then, option_map, option_map_or, option_or}
-use Rattle.std.proofs.lemmas.Bool.{and_parts, and_right, and_left, not-true}
+use Rattle.std.proofs.Common.{◌≡◌, ℕ, suc, ◌≤◌, List, [], ◌∷◌, Bool, true, false, not, ◌&&◌, ◌==◌, nat_lt, length, bytes_eq, if◌then◌else◌, Option, Some, None, is_some, refl, sym, ap, ap₂, subst, ◌∙◌, arith, ◌⊎◌, inl, inr}
+use Rattle.std.specs.Option.{option_and_then, option_map, option_map_or}
+use Rattle.std.proofs.lemmas.Bool.{and_parts, not-true}
 use Rattle.std.proofs.lemmas.Bool.Decides.{nat_tests}
 use Rattle.std.proofs.lemmas.Option.{none-some, same_Some}
 use Rattle.sq_base.proofs.CommonLaws.{bytes_turned}
@@ -10,8 +10,6 @@ use Rattle.sq_base.specs.declared.helpers.Cause.TheVariants as cause
 use Rattle.sq_base.specs.declared.helpers.What.{What}
 use Rattle.sq_rules.specs.declared.entries.Event.{Event}
 use Rattle.sq_rules.specs.declared.entries.Event.TheVariants.{Step}
-use Rattle.sq_rules.specs.declared.entries.Told.{Told}
-use Rattle.sq_rules.specs.declared.entries.Told.TheVariants as told
 use Rattle.sq_rules.specs.declared.kept.KeptVerdict.{KeptVerdict}
 use Rattle.sq_rules.specs.declared.values.Value.{Value}
 use Rattle.sq_rules.specs.declared.values.Value.TheVariants as value
@@ -28,7 +26,7 @@ use Rattle.sq_rules.specs.KeptLists.{KeptList, fresh_for, same_key}
 use Rattle.sq_rules.specs.KeptReadings.{kept}
 use Rattle.sq_rules.specs.Limits.{key_limit}
 use Rattle.sq_rules.specs.Machine.{config_of}
-use Rattle.sq_rules.specs.Marking.{mark, marked, says_at}
+use Rattle.sq_rules.specs.Marking.{marked, says_at}
 use Rattle.sq_rules.specs.Marks.{Marked, Past, Put, entries}
 use Rattle.sq_rules.specs.OpenLookups.{LookupRow, pending_in}
 use Rattle.sq_rules.specs.Questions.{QuestionEnd, end_at, first_end, has_ended, last_put, pending, put_count, put_is, put_of, question_end, unended}
@@ -37,7 +35,7 @@ use Rattle.sq_rows.specs.ClassRows.{class_row, is_asked, lookup_of, lookups}
 use Rattle.sq_rows.specs.StepRows.{says_of_row}
 use Rattle.sq_history.proofs.ClassParts.{bytes_same, equal, itself}
 use Rattle.sq_history.proofs.NumberLaws.{end_above}
-use Rattle.sq_history.proofs.RowLaws.{none_found, picked, picked_given, row_found}
+use Rattle.sq_history.proofs.RowLaws.{none_found, picked_given, row_found}
 use Rattle.sq_history.proofs.StepLaws.{put_new, put_old}
 
 -- a put at a step, where the key has no pending question

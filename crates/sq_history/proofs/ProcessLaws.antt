@@ -1,5 +1,5 @@
 -- Processes after each event: which live, and for which a stop is due.
-use Rattle.std.proofs.Common.{◌≡◌, ℕ, suc, ◌<◌, ◌≤◌, List, [], ◌∷◌, Bool, true, false, not, ◌&&◌, ◌||◌, ◌==◌, nat_le, if◌then◌else◌, Option, Some, None, is_some, refl, sym, ap, ap₂, ◌∙◌, arith}
+use Rattle.std.proofs.Common.{◌≡◌, ℕ, suc, ◌≤◌, List, ◌∷◌, Bool, true, false, not, ◌&&◌, ◌||◌, ◌==◌, nat_le, if◌then◌else◌, Option, Some, None, is_some, refl, sym, ap, ap₂, ◌∙◌, arith}
 use Rattle.std.specs.Option.{option_map_or, option_or}
 use Rattle.std.proofs.lemmas.Bool.{and_right, le-leb}
 use Rattle.sq_base.proofs.CommonLaws.{eq_turned}
@@ -11,10 +11,9 @@ use Rattle.sq_rules.specs.declared.entries.Told.TheVariants as told
 use Rattle.sq_rules.specs.Entries.{History}
 use Rattle.sq_rules.specs.Epochs.{is_live}
 use Rattle.sq_rules.specs.Marks.{Past, entries}
-use Rattle.sq_rules.specs.Processes.{Home, cause_here, home_of, if_here, is_line_end, is_running, is_stopped, line_end, lives_on, proc_count, proc_end, stop_due}
+use Rattle.sq_rules.specs.Processes.{Home, cause_here, home_of, if_here, is_line_end, is_stopped, line_end, lives_on, proc_count, proc_end, stop_due}
 use Rattle.sq_history.specs.MarkedEntries.{noted_at}
 use Rattle.sq_history.proofs.ClassParts.{and_true, equal, itself, not_next}
-use Rattle.sq_history.proofs.LineLaws.{home_given}
 use Rattle.sq_history.proofs.NumberLaws.{proc_end_above}
 
 -- whether a process lives, by its home, its end and the epochs that live

@@ -1,34 +1,32 @@
 -- The questions of a legal history: one of a key has not ended, each is sent once at most, and what is sent was put.
-use Rattle.std.proofs.Common.{◌≡◌, ◌⊎◌, inl, inr, ℕ, suc, ◌<◌, ◌≤◌, List, [], ◌∷◌, Bool, true, false, not, ◌&&◌, ◌==◌, nat_le, nat_lt, length, if◌then◌else◌, Option, Some, None, is_some, refl, sym, ap, ap₂, subst, ◌∙◌, arith}
-use Rattle.std.specs.Option.{option_and_then, option_or}
-use Rattle.std.proofs.lemmas.Bool.{and_right, le-leb}
+use Rattle.std.proofs.Common.{◌≡◌, ◌⊎◌, inl, inr, ℕ, suc, ◌≤◌, List, [], ◌∷◌, Bool, true, false, ◌&&◌, ◌==◌, nat_le, nat_lt, length, if◌then◌else◌, Option, Some, None, is_some, refl, sym, ap, subst, ◌∙◌}
+use Rattle.std.specs.Option.{option_or}
+use Rattle.std.proofs.lemmas.Bool.{le-leb}
 use Rattle.std.proofs.lemmas.Option.{none-some, same_Some}
-use Rattle.sq_base.specs.declared.helpers.Answer.{Answer}
 use Rattle.sq_base.specs.declared.helpers.Cause.TheVariants as cause
 use Rattle.sq_rules.specs.declared.entries.Event.{Event}
-use Rattle.sq_rules.specs.declared.entries.Event.TheVariants.{Begin, Act, Step}
+use Rattle.sq_rules.specs.declared.entries.Event.TheVariants.{Begin, Act}
 use Rattle.sq_rules.specs.declared.entries.Told.{Told}
 use Rattle.sq_rules.specs.declared.entries.Told.TheVariants as told
 use Rattle.sq_rules.specs.declared.kept.KeptVerdict.{KeptVerdict}
 use Rattle.sq_rules.specs.Classes.{Class}
 use Rattle.sq_rules.specs.Configurations.{Configuration}
-use Rattle.sq_rules.specs.Entries.{History, Noted}
-use Rattle.sq_rules.specs.FarmReadings.{is_put_for}
+use Rattle.sq_rules.specs.Entries.{History}
 use Rattle.sq_rules.specs.Freshness.{is_due}
 use Rattle.sq_rules.specs.FullNext.{FullLegal, full_next_at}
 use Rattle.sq_rules.specs.KeptLists.{KeptList, fresh_for}
 use Rattle.sq_rules.specs.Limits.{key_limit}
 use Rattle.sq_rules.specs.Machine.{gives, is_begin}
 use Rattle.sq_rules.specs.Marking.{mark, marked}
-use Rattle.sq_rules.specs.Marks.{Marked, Past, Put, entries}
+use Rattle.sq_rules.specs.Marks.{Marked, Past, Put}
 use Rattle.sq_rules.specs.Processes.{if_here}
 use Rattle.sq_rules.specs.Questions.{has_ended, put_count, put_is, put_of, sends, sent_to}
 use Rattle.sq_rules.specs.StepRule.{StepSays, refresh, says_asked, says_fault, says_fresh, says_kept, says_need}
 use Rattle.sq_history.specs.Carried.{Carried, NamesOnce}
 use Rattle.sq_history.specs.Given.{sends_question, times_sent}
-use Rattle.sq_history.proofs.ClassParts.{equal, itself}
+use Rattle.sq_history.proofs.ClassParts.{equal}
 use Rattle.sq_history.proofs.LegalLaws.{IsDueSend, legal_induction, next_acts, next_send}
-use Rattle.sq_history.proofs.PendingLaws.{OneOpen, one_open}
+use Rattle.sq_history.proofs.PendingLaws.{one_open}
 
 -- two questions of one epoch, class and key that have not ended are one
 pub one_question : (configs : List Configuration) (h : History) (e c : ℕ) (key : List ℕ) (q r : ℕ) → q ≤ put_count (marked configs h) → r ≤ put_count (marked configs h)

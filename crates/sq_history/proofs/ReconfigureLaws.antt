@@ -1,5 +1,5 @@
 -- Classes after a reconfiguration: the new epoch's begin with what is kept of classes that are alike, and the lists of those in the epoch before are empty.
-use Rattle.std.proofs.Common.{◌≡◌, ℕ, suc, ◌-◌, ◌<◌, ◌≤◌, min, List, [], ◌∷◌, Bool, true, false, not, ◌&&◌, ◌==◌, if◌then◌else◌, Option, Some, is_some, refl, sym, ap, ap₂, ◌∙◌, arith}
+use Rattle.std.proofs.Common.{◌≡◌, ℕ, suc, ◌-◌, min, List, [], ◌∷◌, Bool, true, false, not, ◌&&◌, ◌==◌, if◌then◌else◌, is_some, refl, ap, ap₂, ◌∙◌, arith}
 use Rattle.std.specs.Option.{option_map_or}
 use Rattle.std.proofs.lemmas.Bool.{and_left}
 use Rattle.std.proofs.lemmas.Bool.Decides.{nat_tests}
@@ -8,11 +8,10 @@ use Rattle.sq_rules.specs.declared.entries.Told.{Told}
 use Rattle.sq_rules.specs.Classes.{Class}
 use Rattle.sq_rules.specs.Configurations.{Configuration}
 use Rattle.sq_rules.specs.Epochs.{class_at}
-use Rattle.sq_rules.specs.FarmReadings.{farm_with, is_held, is_put_for, is_queued, living_of, waiting_of}
-use Rattle.sq_rules.specs.KeptLists.{KeptList}
+use Rattle.sq_rules.specs.FarmReadings.{farm_with, is_put_for, is_queued, living_of, waiting_of}
 use Rattle.sq_rules.specs.KeptReadings.{alike_place, kept}
 use Rattle.sq_rules.specs.Marks.{Past, entries}
-use Rattle.sq_rules.specs.Processes.{is_at_home, is_running, proc_count, runs_at, settled_starts, start_count}
+use Rattle.sq_rules.specs.Processes.{is_at_home, is_running, proc_count, runs_at, settled_starts}
 use Rattle.sq_rules.specs.Questions.{has_ended, put_count, put_of, sent_to}
 use Rattle.sq_rules.specs.Readings.{current}
 use Rattle.sq_rows.specs.ClassRows.{ClassRow, class_row, is_asked, lookup_of, new_row}
@@ -26,17 +25,17 @@ pub unused_row : (configs : List Configuration) (m : Past) (e c : ℕ) (class : 
     → class_row configs m e c class ≡ new_row (kept configs m e c) class
 unused_row configs m e c class unused =
     λ i. record (class_row configs m e c class) {
-    lookups = rows_none (lookup_of m) (is_asked configs m e c) (put_count m)
-    (λ k low high. and_left (is_put_for e c (put_of m k)) (not (has_ended configs m k)) (unused.none_put c k)) i;
-    stock = record (farm_with configs m e c class) {
-    queue = rows_none (waiting_of m) (is_queued configs m e c) (put_count m)
-    (λ k low high. ap (λ (b : Bool). b && not (is_some (sent_to m k)) && not (has_ended configs m k)) (unused.none_put c k)) i;
-    procs = rows_none (living_of class.concurrency (entries m)) (runs_at (entries m) e class.name) (proc_count (entries m))
-    (λ k low high. and_left (is_at_home (entries m) e class.name k) (is_running (entries m) k) (unused.none_home class.name k)) i;
-    owed = (ap (λ (n : ℕ). min class.startup class.children_max - n) (unused.none_started class.name) ∙ minus_zero (min class.startup class.children_max)) i;
-    starting = (ap (λ (n : ℕ). n - settled_starts (entries m) e class.name) (unused.none_started class.name) ∙ zero_minus (settled_starts (entries m) e class.name)) i;
-    held = unused.none_held c class.name i;
-    };
+      lookups = rows_none (lookup_of m) (is_asked configs m e c) (put_count m)
+          (λ k low high. and_left (is_put_for e c (put_of m k)) (not (has_ended configs m k)) (unused.none_put c k)) i;
+      stock = record (farm_with configs m e c class) {
+        queue = rows_none (waiting_of m) (is_queued configs m e c) (put_count m)
+            (λ k low high. ap (λ (b : Bool). b && not (is_some (sent_to m k)) && not (has_ended configs m k)) (unused.none_put c k)) i;
+        procs = rows_none (living_of class.concurrency (entries m)) (runs_at (entries m) e class.name) (proc_count (entries m))
+            (λ k low high. and_left (is_at_home (entries m) e class.name k) (is_running (entries m) k) (unused.none_home class.name k)) i;
+        owed = (ap (λ (n : ℕ). min class.startup class.children_max - n) (unused.none_started class.name) ∙ minus_zero (min class.startup class.children_max)) i;
+        starting = (ap (λ (n : ℕ). n - settled_starts (entries m) e class.name) (unused.none_started class.name) ∙ zero_minus (settled_starts (entries m) e class.name)) i;
+        held = unused.none_held c class.name i;
+      };
     }
   where
     minus_zero : (n : ℕ) → n - 0 ≡ n
@@ -51,8 +50,8 @@ pub class_begun : (configs : List Configuration) (m : Past) (now : ℕ) (text : 
     ≡ new_row (option_map_or (kept configs m (current (entries m))) (alike_place configs (current (entries m)) (class_at configs (suc (current (entries m))) c)) []) class
 class_begun configs m now text answer c class unused =
     ap (λ (b : Bool). record (class_row configs m (suc e) c class) {
-    kept = (if b then option_map_or (kept configs m e) (alike_place configs e (class_at configs (suc e) c)) []
-    else (if (suc e == e) && is_some (alike_place configs (suc e) (class_at configs (suc e) c)) then [] else kept configs m (suc e) c));
+      kept = (if b then option_map_or (kept configs m e) (alike_place configs e (class_at configs (suc e) c)) []
+          else (if (suc e == e) && is_some (alike_place configs (suc e) (class_at configs (suc e) c)) then [] else kept configs m (suc e) c));
     }) (itself (suc e))
     ∙ ap (λ (r : ClassRow). record r { kept = option_map_or (kept configs m e) (alike_place configs e (class_at configs (suc e) c)) [] }) (unused_row configs m (suc e) c class unused)
   where
@@ -66,8 +65,8 @@ pub class_left : (configs : List Configuration) (m : Past) (now : ℕ) (text : L
     if is_some (alike_place configs (suc (current (entries m))) (class_at configs (current (entries m)) c)) then record r { kept = [] } else r)
 class_left configs m now text answer c class =
     ap₂ (λ (a b : Bool). record (class_row configs m e c class) {
-    kept = (if a then option_map_or (kept configs m e) (alike_place configs e (class_at configs e c)) []
-    else (if b && is_some (alike_place configs (suc e) (class_at configs e c)) then [] else kept configs m e c));
+      kept = (if a then option_map_or (kept configs m e) (alike_place configs e (class_at configs e c)) []
+          else (if b && is_some (alike_place configs (suc e) (class_at configs e c)) then [] else kept configs m e c));
     }) (not_next e) (itself e)
     ∙ by (is_some (alike_place configs (suc e) (class_at configs e c)))
   where
@@ -87,6 +86,6 @@ pub class_not_reconfigured : (configs : List Configuration) (m : Past) (now : �
     → (e == current (entries m)) ≡ false → class_row configs (noted_at now (Reconfigure text) answer ∷ m) e c class ≡ class_row configs m e c class
 class_not_reconfigured configs m now text answer e c class new old =
     ap₂ (λ (a b : Bool). record (class_row configs m e c class) {
-    kept = (if a then option_map_or (kept configs m (current (entries m))) (alike_place configs (current (entries m)) (class_at configs e c)) []
-    else (if b && is_some (alike_place configs (suc (current (entries m))) (class_at configs e c)) then [] else kept configs m e c));
+      kept = (if a then option_map_or (kept configs m (current (entries m))) (alike_place configs (current (entries m)) (class_at configs e c)) []
+          else (if b && is_some (alike_place configs (suc (current (entries m))) (class_at configs e c)) then [] else kept configs m e c));
     }) new old

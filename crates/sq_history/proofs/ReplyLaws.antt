@@ -1,8 +1,6 @@
 -- A class after a reply.
-use Rattle.std.proofs.Common.{◌≡◌, ℕ, suc, ◌<◌, ◌≤◌, max, List, [], ◌∷◌, map, map-id, filter, Bool, true, false, not, ◌&&◌, ◌||◌, ◌==◌, nat_le, nat_lt, bytes_eq, if◌then◌else◌, Option, Some, None, is_some, refl, sym, ap, ap₂, ◌∙◌, arith}
-use Rattle.std.specs.Option.{option_map_or}
+use Rattle.std.proofs.Common.{◌≡◌, ℕ, ◌≤◌, max, List, ◌∷◌, map, map-id, Bool, true, false, not, ◌&&◌, ◌||◌, ◌==◌, nat_le, nat_lt, if◌then◌else◌, Option, Some, None, is_some, refl, sym, ap, ap₂, ◌∙◌}
 use Rattle.std.proofs.lemmas.Bool.{le-leb, and_left, and_right}
-use Rattle.std.proofs.lemmas.Bool.Decides.{nat_tests}
 use Rattle.sq_base.proofs.CommonLaws.{eq_turned}
 use Rattle.sq_base.specs.Replies.{reply_of}
 use Rattle.sq_base.specs.declared.helpers.What.{What}
@@ -13,24 +11,23 @@ use Rattle.sq_rules.specs.declared.entries.Told.TheVariants as told
 use Rattle.sq_rules.specs.Channels.{channel_name, freed, settled}
 use Rattle.sq_rules.specs.Classes.{Class}
 use Rattle.sq_rules.specs.Configurations.{Configuration}
-use Rattle.sq_rules.specs.Entries.{History}
 use Rattle.sq_rules.specs.Epochs.{class_at}
 use Rattle.sq_rules.specs.Events.{is_number}
 use Rattle.sq_rules.specs.FarmReadings.{farm_with, is_held, is_put_for, is_queued, living_of, waiting_of}
 use Rattle.sq_rules.specs.KeptLists.{KeptList}
-use Rattle.sq_rules.specs.KeptReadings.{keep_reply, keep_what, kept, key_here}
-use Rattle.sq_rules.specs.Living.{Living, settled_row}
+use Rattle.sq_rules.specs.KeptReadings.{keep_reply, kept, key_here}
+use Rattle.sq_rules.specs.Living.{settled_row}
 use Rattle.sq_rules.specs.Marks.{Marked, Past, Put, entries}
-use Rattle.sq_rules.specs.Numbered.{below, rows}
+use Rattle.sq_rules.specs.Numbered.{below}
 use Rattle.sq_rules.specs.OpenLookups.{LookupRow}
 use Rattle.sq_rules.specs.Processes.{if_here, is_at_home, is_running, proc_count, runs_at}
 use Rattle.sq_rules.specs.Questions.{first_end, has_ended, put_count, put_of, question_end, said_by, sent_to}
 use Rattle.sq_rules.specs.Transcripts.{after_use, clears, holder, keeps, stands_on}
-use Rattle.sq_rows.specs.ClassRows.{ClassRow, after_reply, class_row, is_asked, lookup_of, lookups}
+use Rattle.sq_rows.specs.ClassRows.{after_reply, class_row, is_asked, lookup_of}
 use Rattle.sq_history.specs.MarkedEntries.{noted_at}
 use Rattle.sq_history.proofs.ClassParts.{and_true, equal}
 use Rattle.sq_history.proofs.FailLaws.{ended_if}
-use Rattle.sq_history.proofs.LineLaws.{StandsOnlyOn, cleared, map_below, runs_given}
+use Rattle.sq_history.proofs.LineLaws.{StandsOnlyOn, cleared, map_below}
 use Rattle.sq_history.proofs.RowLaws.{rows_changed, rows_left, rows_same}
 
 -- which questions have ended after a reply
@@ -82,22 +79,22 @@ pub class_replied : (configs : List Configuration) (m : Past) (now k : ℕ) (byt
     → class_row configs (noted_at now (Line k bytes) (told.Reply q w) ∷ m) e c class ≡ after_reply class k q p.key v now (class_row configs m e c class)
 class_replied configs m now k bytes q w v p e c class at put here sent says only =
     λ i. record {
-    kept = (ap₂ (λ (o : Option Class) (z : Option Put). keep_reply o q (key_here e c z) now (said_by configs m k bytes) (kept configs m e c)) at put
-    ∙ ap₂ (λ (b : Bool) (o : Option What). keep_reply (Some class) q (if b then Some p.key else None) now o (kept configs m e c)) here says) i;
-    lookups = rows_left (λ (l : LookupRow). not (q == l.question)) (lookup_of m) (lookup_of m) (is_asked configs m e c) (is_asked configs (x ∷ m) e c) (put_count m)
-    (λ j low high. ap (λ (d : Bool). is_put_for e c (put_of m j) && not d) (replied_ends configs m now k bytes q w v j says high)
-    ∙ left_by (is_put_for e c (put_of m j)) (j == q) (has_ended configs m j) ∙ ap (λ (b : Bool). is_asked configs m e c j && not b) (eq_turned j q))
-    (λ j low high picked. refl) i;
-    stock = record (farm_with configs m e c class) {
-    queue = rows_same (waiting_of m) (waiting_of m) (is_queued configs m e c) (is_queued configs (x ∷ m) e c) (put_count m)
-    (λ j low high. ap (λ (d : Bool). is_put_for e c (put_of m j) && not (is_some (sent_to m j)) && not d) (replied_ends configs m now k bytes q w v j says high)
-    ∙ queued_by (is_put_for e c (put_of m j)) (is_some (sent_to m j)) (j == q) (has_ended configs m j) (λ t. ap (λ (i : ℕ). is_some (sent_to m i)) (equal j q t) ∙ sent))
-    (λ j low high picked. refl) i;
-    procs = rows_changed (settled_row k q) (living_of class.concurrency (entries m)) (living_of class.concurrency (entries (x ∷ m))) (runs_at (entries m) e class.name)
-    (runs_at (entries (x ∷ m)) e class.name) (proc_count (entries m)) (λ j low high. refl)
-    (λ j low high picked. settled_living class.concurrency m now k bytes (told.Reply q w) q j (k == j) refl high only) i;
-    held = ap (λ (b : Bool). if b then false else is_held m e c class.name) (and_right (is_at_home (entries m) e class.name k) false refl) i;
-    };
+      kept = (ap₂ (λ (o : Option Class) (z : Option Put). keep_reply o q (key_here e c z) now (said_by configs m k bytes) (kept configs m e c)) at put
+          ∙ ap₂ (λ (b : Bool) (o : Option What). keep_reply (Some class) q (if b then Some p.key else None) now o (kept configs m e c)) here says) i;
+      lookups = rows_left (λ (l : LookupRow). not (q == l.question)) (lookup_of m) (lookup_of m) (is_asked configs m e c) (is_asked configs (x ∷ m) e c) (put_count m)
+          (λ j low high. ap (λ (d : Bool). is_put_for e c (put_of m j) && not d) (replied_ends configs m now k bytes q w v j says high)
+          ∙ left_by (is_put_for e c (put_of m j)) (j == q) (has_ended configs m j) ∙ ap (λ (b : Bool). is_asked configs m e c j && not b) (eq_turned j q))
+          (λ j low high picked. refl) i;
+      stock = record (farm_with configs m e c class) {
+        queue = rows_same (waiting_of m) (waiting_of m) (is_queued configs m e c) (is_queued configs (x ∷ m) e c) (put_count m)
+            (λ j low high. ap (λ (d : Bool). is_put_for e c (put_of m j) && not (is_some (sent_to m j)) && not d) (replied_ends configs m now k bytes q w v j says high)
+            ∙ queued_by (is_put_for e c (put_of m j)) (is_some (sent_to m j)) (j == q) (has_ended configs m j) (λ t. ap (λ (i : ℕ). is_some (sent_to m i)) (equal j q t) ∙ sent))
+            (λ j low high picked. refl) i;
+        procs = rows_changed (settled_row k q) (living_of class.concurrency (entries m)) (living_of class.concurrency (entries (x ∷ m))) (runs_at (entries m) e class.name)
+            (runs_at (entries (x ∷ m)) e class.name) (proc_count (entries m)) (λ j low high. refl)
+            (λ j low high picked. settled_living class.concurrency m now k bytes (told.Reply q w) q j (k == j) refl high only) i;
+        held = ap (λ (b : Bool). if b then false else is_held m e c class.name) (and_right (is_at_home (entries m) e class.name k) false refl) i;
+      };
     }
   where
     x : Marked
@@ -130,22 +127,22 @@ pub class_not_replied : (configs : List Configuration) (m : Past) (now k : ℕ) 
     → class_row configs (noted_at now (Line k bytes) (told.Reply q w) ∷ m) e c class ≡ class_row configs m e c class
 class_not_replied configs m now k bytes q w v e c class other away says =
     λ i. record {
-    kept = (ap (λ (o : Option (List ℕ)). keep_reply (class_at configs e c) q o now (said_by configs m k bytes) (kept configs m e c)) (no_key (put_of m q) e c other)
-    ∙ keeps_none (class_at configs e c) q now (said_by configs m k bytes) (kept configs m e c)) i;
-    lookups = rows_same (lookup_of m) (lookup_of m) (is_asked configs m e c) (is_asked configs (x ∷ m) e c) (put_count m)
-    (λ j low high. ap (λ (d : Bool). is_put_for e c (put_of m j) && not d) (replied_ends configs m now k bytes q w v j says high)
-    ∙ not_asked (is_put_for e c (put_of m j)) (j == q) (has_ended configs m j) (mine j))
-    (λ j low high picked. refl) i;
-    stock = record (farm_with configs m e c class) {
-    queue = rows_same (waiting_of m) (waiting_of m) (is_queued configs m e c) (is_queued configs (x ∷ m) e c) (put_count m)
-    (λ j low high. ap (λ (d : Bool). is_put_for e c (put_of m j) && not (is_some (sent_to m j)) && not d) (replied_ends configs m now k bytes q w v j says high)
-    ∙ not_here (is_put_for e c (put_of m j)) (not (is_some (sent_to m j))) (j == q) (has_ended configs m j) (mine j))
-    (λ j low high picked. refl) i;
-    procs = rows_same (living_of class.concurrency (entries m)) (living_of class.concurrency (entries (x ∷ m))) (runs_at (entries m) e class.name)
-    (runs_at (entries (x ∷ m)) e class.name) (proc_count (entries m)) (λ j low high. refl)
-    (λ j low high runs. other_living class.concurrency m now k bytes (told.Reply q w) j (elsewhere m e class.name k j (j == k) refl away runs)) i;
-    held = ap (λ (b : Bool). if b then false else is_held m e c class.name) (and_right (is_at_home (entries m) e class.name k) false refl) i;
-    };
+      kept = (ap (λ (o : Option (List ℕ)). keep_reply (class_at configs e c) q o now (said_by configs m k bytes) (kept configs m e c)) (no_key (put_of m q) e c other)
+          ∙ keeps_none (class_at configs e c) q now (said_by configs m k bytes) (kept configs m e c)) i;
+      lookups = rows_same (lookup_of m) (lookup_of m) (is_asked configs m e c) (is_asked configs (x ∷ m) e c) (put_count m)
+          (λ j low high. ap (λ (d : Bool). is_put_for e c (put_of m j) && not d) (replied_ends configs m now k bytes q w v j says high)
+          ∙ not_asked (is_put_for e c (put_of m j)) (j == q) (has_ended configs m j) (mine j))
+          (λ j low high picked. refl) i;
+      stock = record (farm_with configs m e c class) {
+        queue = rows_same (waiting_of m) (waiting_of m) (is_queued configs m e c) (is_queued configs (x ∷ m) e c) (put_count m)
+            (λ j low high. ap (λ (d : Bool). is_put_for e c (put_of m j) && not (is_some (sent_to m j)) && not d) (replied_ends configs m now k bytes q w v j says high)
+            ∙ not_here (is_put_for e c (put_of m j)) (not (is_some (sent_to m j))) (j == q) (has_ended configs m j) (mine j))
+            (λ j low high picked. refl) i;
+        procs = rows_same (living_of class.concurrency (entries m)) (living_of class.concurrency (entries (x ∷ m))) (runs_at (entries m) e class.name)
+            (runs_at (entries (x ∷ m)) e class.name) (proc_count (entries m)) (λ j low high. refl)
+            (λ j low high runs. other_living class.concurrency m now k bytes (told.Reply q w) j (elsewhere m e class.name k j (j == k) refl away runs)) i;
+        held = ap (λ (b : Bool). if b then false else is_held m e c class.name) (and_right (is_at_home (entries m) e class.name k) false refl) i;
+      };
     }
   where
     x : Marked

@@ -1,5 +1,5 @@
 -- A class after a send that was told.
-use Rattle.std.proofs.Common.{◌≡◌, ℕ, zero, suc, ◌<◌, ◌≤◌, max, List, [], ◌∷◌, ◌++◌, map, map-id, filter, length, length-append, get_or, set, slice_get, cond, Bool, true, false, not, ◌&&◌, ◌||◌, ◌==◌, nat_le, nat_lt, if◌then◌else◌, Option, Some, None, is_some, refl, sym, ap, ap₂, subst, ◌∙◌, arith, get_or-set_same, get_or-set_other, length-set}
+use Rattle.std.proofs.Common.{◌≡◌, ℕ, zero, suc, ◌<◌, ◌≤◌, max, List, [], ◌∷◌, ◌++◌, map, map-id, filter, length, get_or, set, cond, Bool, true, false, not, ◌&&◌, ◌==◌, nat_le, nat_lt, if◌then◌else◌, Option, Some, None, is_some, refl, sym, ap, ap₂, subst, ◌∙◌, arith, get_or-set_same, get_or-set_other, length-set}
 use Rattle.std.specs.Option.{option_map, option_or}
 use Rattle.std.proofs.lemmas.Bool.{le-leb, lt-ltb}
 use Rattle.std.proofs.lemmas.Bool.Decides.{nat_tests}
@@ -11,19 +11,18 @@ use Rattle.sq_rules.specs.declared.entries.Told.TheVariants as told
 use Rattle.sq_rules.specs.Channels.{asked, channel_name, free_count, least_free}
 use Rattle.sq_rules.specs.Classes.{Class}
 use Rattle.sq_rules.specs.Configurations.{Configuration}
-use Rattle.sq_rules.specs.Entries.{History}
 use Rattle.sq_rules.specs.FarmReadings.{farm_with, is_put_for, is_queued, living_of, waiting_of}
 use Rattle.sq_rules.specs.Farms.{Sending, Stock, Waiting, after_send_by, send_by, send_of, waiting_number}
 use Rattle.sq_rules.specs.Living.{Living, asked_row, has_free, sent, some_free, target}
-use Rattle.sq_rules.specs.Marks.{Marked, Past, Put, entries}
+use Rattle.sq_rules.specs.Marks.{Marked, Past, entries}
 use Rattle.sq_rules.specs.Numbered.{below, picks, rows}
 use Rattle.sq_rules.specs.Processes.{if_here, is_at_home, proc_count, runs_at}
 use Rattle.sq_rules.specs.Questions.{has_ended, put_count, put_of, sent_to}
 use Rattle.sq_rules.specs.Rising.{AreAbove, AreBelow, Rises}
-use Rattle.sq_rules.specs.Transcripts.{Use, after_use, holder, keeps, puts, same_channel}
-use Rattle.sq_rows.specs.ClassRows.{ClassRow, after_sending, class_row}
+use Rattle.sq_rules.specs.Transcripts.{after_use, holder, keeps, puts, same_channel}
+use Rattle.sq_rows.specs.ClassRows.{after_sending, class_row}
 use Rattle.sq_history.specs.MarkedEntries.{noted_at}
-use Rattle.sq_history.proofs.ClassParts.{and_true, below_picks, below_push, equal, itself}
+use Rattle.sq_history.proofs.ClassParts.{and_true, below_picks, equal, itself}
 use Rattle.sq_history.proofs.LineLaws.{below_at, length_below, map_below}
 use Rattle.sq_history.proofs.ReplyLaws.{elsewhere}
 use Rattle.sq_history.proofs.RowLaws.{rows_left, rows_same}
@@ -272,19 +271,19 @@ pub class_sending : (configs : List Configuration) (m : Past) (now p q : ℕ) (c
     → class_row configs (noted_at now Act (told.Send p q channel key) ∷ m) e c class ≡ after_sending (class_row configs m e c class)
 class_sending configs m now p q channel key e c class due =
     (λ i. record (class_row configs m e c class) {
-    stock = record v {
-    queue = (rows_left (λ (w : Waiting). not (q == w.question)) (waiting_of m) (waiting_of m) (is_queued configs m e c) (is_queued configs (x ∷ m) e c) (put_count m)
-    (λ k low high. sent_queue configs m now p q channel key e c k high) (λ k low high picked. refl)
-    ∙ ap (λ (j : ℕ). filter (λ (w : Waiting). not (j == w.question)) v.queue) (sym s.question_is)
-    ∙ first_out m (is_queued configs m e c) (put_count m) s.first s.rest s.queue_is) i;
-    procs = (sent_rows (living_of class.concurrency (entries m)) (living_of class.concurrency (entries (x ∷ m))) (proc_count (entries m)) p q channel
-    (picks (runs_at (entries m) e class.name) (proc_count (entries m))) (λ j. refl) (rises_picks (runs_at (entries m) e class.name) (proc_count (entries m)))
-    (given_picks (runs_at (entries m) e class.name) (proc_count (entries m)) (picks (runs_at (entries m) e class.name) (proc_count (entries m)))
-    (below_picks (suc (proc_count (entries m))) (runs_at (entries m) e class.name) (proc_count (entries m)) (omega arith)))
-    (λ j other. unsent_living class.concurrency m now p q channel key j other)
-    (λ j same high free name. asked_living class.concurrency m now p q channel key j same high free name)
-    s.target_is ∙ ap (λ (j : ℕ). sent j v.procs) (sym s.question_is)) i;
-    };
+      stock = record v {
+        queue = (rows_left (λ (w : Waiting). not (q == w.question)) (waiting_of m) (waiting_of m) (is_queued configs m e c) (is_queued configs (x ∷ m) e c) (put_count m)
+            (λ k low high. sent_queue configs m now p q channel key e c k high) (λ k low high picked. refl)
+            ∙ ap (λ (j : ℕ). filter (λ (w : Waiting). not (j == w.question)) v.queue) (sym s.question_is)
+            ∙ first_out m (is_queued configs m e c) (put_count m) s.first s.rest s.queue_is) i;
+        procs = (sent_rows (living_of class.concurrency (entries m)) (living_of class.concurrency (entries (x ∷ m))) (proc_count (entries m)) p q channel
+            (picks (runs_at (entries m) e class.name) (proc_count (entries m))) (λ j. refl) (rises_picks (runs_at (entries m) e class.name) (proc_count (entries m)))
+            (given_picks (runs_at (entries m) e class.name) (proc_count (entries m)) (picks (runs_at (entries m) e class.name) (proc_count (entries m)))
+            (below_picks (suc (proc_count (entries m))) (runs_at (entries m) e class.name) (proc_count (entries m)) (omega arith)))
+            (λ j other. unsent_living class.concurrency m now p q channel key j other)
+            (λ j same high free name. asked_living class.concurrency m now p q channel key j same high free name)
+            s.target_is ∙ ap (λ (j : ℕ). sent j v.procs) (sym s.question_is)) i;
+      };
     })
     ∙ ap (λ (w : Stock). record (class_row configs m e c class) { stock = w })
     (sym (ap₂ (after_send_by v) s.queue_is (free_target v.procs (p, channel) s.target_is)))
@@ -304,15 +303,15 @@ pub class_not_sending : (configs : List Configuration) (m : Past) (now p q : ℕ
     → class_row configs (noted_at now Act (told.Send p q channel key) ∷ m) e c class ≡ class_row configs m e c class
 class_not_sending configs m now p q channel key e c class other away =
     λ i. record (class_row configs m e c class) {
-    stock = record (farm_with configs m e c class) {
-    queue = rows_same (waiting_of m) (waiting_of m) (is_queued configs m e c) (is_queued configs (x ∷ m) e c) (put_count m)
-    (λ k low high. sent_queue configs m now p q channel key e c k high
-    ∙ stays (is_put_for e c (put_of m k)) (not (is_some (sent_to m k))) (not (has_ended configs m k)) (q == k) (λ t. ap (λ (j : ℕ). is_put_for e c (put_of m j)) (sym (equal q k t)) ∙ other))
-    (λ k low high picked. refl) i;
-    procs = rows_same (living_of class.concurrency (entries m)) (living_of class.concurrency (entries (x ∷ m))) (runs_at (entries m) e class.name) (runs_at (entries (x ∷ m)) e class.name)
-    (proc_count (entries m)) (λ k low high. refl)
-    (λ k low high runs. unsent_living class.concurrency m now p q channel key k (elsewhere m e class.name p k (k == p) refl away runs)) i;
-    };
+      stock = record (farm_with configs m e c class) {
+        queue = rows_same (waiting_of m) (waiting_of m) (is_queued configs m e c) (is_queued configs (x ∷ m) e c) (put_count m)
+            (λ k low high. sent_queue configs m now p q channel key e c k high
+            ∙ stays (is_put_for e c (put_of m k)) (not (is_some (sent_to m k))) (not (has_ended configs m k)) (q == k) (λ t. ap (λ (j : ℕ). is_put_for e c (put_of m j)) (sym (equal q k t)) ∙ other))
+            (λ k low high picked. refl) i;
+        procs = rows_same (living_of class.concurrency (entries m)) (living_of class.concurrency (entries (x ∷ m))) (runs_at (entries m) e class.name) (runs_at (entries (x ∷ m)) e class.name)
+            (proc_count (entries m)) (λ k low high. refl)
+            (λ k low high runs. unsent_living class.concurrency m now p q channel key k (elsewhere m e class.name p k (k == p) refl away runs)) i;
+      };
     }
   where
     x : Marked

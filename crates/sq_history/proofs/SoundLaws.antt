@@ -1,5 +1,5 @@
 -- Where the answers of a check come from: each was given and fresh when it was taken, or is a fault of a step, or is the end of a question that the check waited for.
-use Rattle.std.proofs.Common.{◌≡◌, ◌⊎◌, inl, inr, ℕ, suc, ◌<◌, ◌≤◌, List, [], ◌∷◌, ◌++◌, Bool, true, false, not, ◌&&◌, ◌||◌, ◌==◌, nat_le, nat_lt, length, bytes_eq, if◌then◌else◌, Option, Some, None, is_some, option_to_list, refl, sym, ap, ap₂, subst, ◌∙◌, arith}
+use Rattle.std.proofs.Common.{◌≡◌, ◌⊎◌, inl, inr, ℕ, suc, ◌<◌, ◌≤◌, List, [], ◌∷◌, Bool, true, false, ◌&&◌, ◌==◌, nat_le, nat_lt, length, bytes_eq, if◌then◌else◌, Option, Some, None, is_some, option_to_list, refl, sym, ap, ap₂, subst, ◌∙◌, arith}
 use Rattle.std.specs.Option.{option_and_then, option_map_or, option_or}
 use Rattle.std.proofs.lemmas.Bool.{and_parts}
 use Rattle.std.proofs.lemmas.Bool.Decides.{nat_tests}
@@ -25,24 +25,24 @@ use Rattle.sq_rules.specs.Epochs.{class_at}
 use Rattle.sq_rules.specs.Events.{Asking, asking, is_number}
 use Rattle.sq_rules.specs.FarmReadings.{farm_with}
 use Rattle.sq_rules.specs.Farms.{full}
-use Rattle.sq_rules.specs.FullNext.{FullLegal, full_next_at, told_of_line}
+use Rattle.sq_rules.specs.FullNext.{FullLegal, full_next_at}
 use Rattle.sq_rules.specs.KeptLists.{KeptList, fresh_for, is_fault}
 use Rattle.sq_rules.specs.Freshness.{is_due}
 use Rattle.sq_rules.specs.KeptReadings.{kept}
 use Rattle.sq_rules.specs.Limits.{key_limit}
 use Rattle.sq_rules.specs.Machine.{config_of, gives, is_begin}
-use Rattle.sq_rules.specs.Marking.{mark, marked, says_at}
+use Rattle.sq_rules.specs.Marking.{mark, marked}
 use Rattle.sq_rules.specs.Marks.{Marked, Past, Put, entries}
-use Rattle.sq_rules.specs.Processes.{if_here, is_running}
-use Rattle.sq_rules.specs.Questions.{QuestionEnd, end_at, end_told, first_end, has_ended, last_put, pending, put_count, put_is, put_of, question_end, said_by, sent_to, unended}
+use Rattle.sq_rules.specs.Processes.{if_here}
+use Rattle.sq_rules.specs.Questions.{QuestionEnd, end_at, first_end, has_ended, last_put, pending, put_count, put_is, put_of, question_end, said_by, sent_to, unended}
 use Rattle.sq_rules.specs.StepRule.{StepSays, class_of_acl, refresh, says_asked, says_asked_of, says_at_place, says_done, says_fault, says_fresh, says_need, says_of_class, says_value, step_says, value_over}
 use Rattle.sq_rules.proofs.CheckLaws.{ask_of_kept}
 use Rattle.sq_history.specs.Carried.{Carried, NamesOnce}
-use Rattle.sq_history.specs.Given.{Awaited, EachOf, FreshGiven, Gift, Given, Gives, IsSound, IsStepFault, WaitedFor, epoch_at}
+use Rattle.sq_history.specs.Given.{EachOf, Given, Gives, IsSound, WaitedFor, epoch_at}
 use Rattle.sq_history.proofs.CheckLaws.{ended_none}
 use Rattle.sq_history.proofs.ClassParts.{bytes_itself, equal, itself, not_next}
 use Rattle.sq_history.proofs.GivenLaws.{AllKeptGiven, IsGood, each_append, each_weaker, given_first, given_next, step_good}
-use Rattle.sq_history.proofs.LegalLaws.{IsReplied, legal_induction, line_replied, next_line, next_steps}
+use Rattle.sq_history.proofs.LegalLaws.{legal_induction, line_replied, next_line, next_steps}
 use Rattle.sq_history.proofs.NumberLaws.{answers_above, last_wait_above, put_of_above}
 use Rattle.sq_history.proofs.PendingLaws.{last_put_is}
 
@@ -294,15 +294,17 @@ ended_sound configs m now event answer n once is c own (Some q) l = by (question
         → EachOf (IsSound configs (x ∷ m) n (epoch_at m n)) (option_to_list (answer_by now q o w))
     ends None w put e none = tt
     ends (Some p) None put e none = tt
-    ends (Some p) (Some w) put e none =
-        (inr (inr (record {
-          question = q;
-          question_is = refl;
-          waited = inr (last_waited m n q l);
-          taken_is = refl;
-          end_is = ap₂ (first_end now) e none;
-          given = gave p w put e (ended_source configs m now event answer q w p once is c put e);
-        })), tt)
+    ends (Some p) (Some w) put e none = (
+      inr (inr (record {
+        question = q;
+        question_is = refl;
+        waited = inr (last_waited m n q l);
+        taken_is = refl;
+        end_is = ap₂ (first_end now) e none;
+        given = gave p w put e (ended_source configs m now event answer q w p once is c put e);
+      })),
+      tt,
+    )
 
     by : (o : Option QuestionEnd) → question_end configs m q ≡ o
         → EachOf (IsSound configs (x ∷ m) n (epoch_at m n)) (option_to_list (ended_answer configs m (if is_some o then None else Some q) now event answer))

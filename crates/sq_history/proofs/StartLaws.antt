@@ -1,35 +1,25 @@
 -- A class after a start that was told, after a process was started, and after a start that failed.
-use Rattle.std.proofs.Common.{◌≡◌, ℕ, suc, ◌<◌, ◌≤◌, ◌-◌, min, List, [], ◌∷◌, ◌++◌, map, filter, replicate, Bool, true, false, not, ◌&&◌, ◌||◌, ◌==◌, nat_le, nat_lt, max, bytes_eq, if◌then◌else◌, Option, Some, None, is_some, refl, sym, ap, ap₂, ◌∙◌, arith}
-use Rattle.std.specs.List.{list_any}
+use Rattle.std.proofs.Common.{◌≡◌, ℕ, suc, ◌≤◌, ◌-◌, min, List, [], ◌∷◌, ◌++◌, Bool, true, false, not, ◌&&◌, ◌==◌, nat_lt, max, bytes_eq, if◌then◌else◌, Option, Some, None, is_some, refl, sym, ap, ap₂, ◌∙◌, arith}
 use Rattle.std.specs.Option.{option_map_or, option_or}
-use Rattle.std.proofs.lemmas.Bool.Decides.{nat_tests}
 use Rattle.sq_base.specs.declared.helpers.Cause.{Cause}
-use Rattle.sq_base.specs.declared.helpers.Cause.TheVariants as cause
-use Rattle.sq_base.specs.declared.helpers.What.{What}
-use Rattle.sq_base.specs.declared.helpers.What.TheVariants as what
-use Rattle.sq_rules.specs.declared.entries.Event.TheVariants.{Started, StartFail, Act}
+use Rattle.sq_rules.specs.declared.entries.Event.TheVariants.{Started, Act}
 use Rattle.sq_rules.specs.declared.entries.Told.{Told}
 use Rattle.sq_rules.specs.declared.entries.Told.TheVariants as told
 use Rattle.sq_rules.specs.Channels.{channel_name}
 use Rattle.sq_rules.specs.Classes.{Class}
 use Rattle.sq_rules.specs.Configurations.{Configuration}
 use Rattle.sq_rules.specs.Entries.{History}
-use Rattle.sq_rules.specs.Epochs.{class_at, name_of_class}
-use Rattle.sq_rules.specs.FarmReadings.{farm_with, is_held, is_put_for, is_queued, living_of, waiting_of}
-use Rattle.sq_rules.specs.Farms.{Stock, Waiting, fresh, is_last_start, start_due}
-use Rattle.sq_rules.specs.Living.{Living, is_none_living}
-use Rattle.sq_rules.specs.Marks.{Marked, Past, Put, entries}
-use Rattle.sq_rules.specs.Numbered.{picks, rows}
-use Rattle.sq_rules.specs.OpenLookups.{LookupRow}
-use Rattle.sq_rules.specs.Processes.{Home, home_of, proc_count, proc_end, runs_at, settled_starts, start_count, starting}
-use Rattle.sq_rules.specs.Questions.{QuestionEnd, first_end, has_ended, leaves_none, put_count, put_of, question_end, sent_to, some_runs}
-use Rattle.sq_rules.specs.Processes.{if_here}
+use Rattle.sq_rules.specs.FarmReadings.{farm_with, living_of}
+use Rattle.sq_rules.specs.Farms.{fresh, start_due}
+use Rattle.sq_rules.specs.Living.{Living}
+use Rattle.sq_rules.specs.Marks.{Marked, Past, entries}
+use Rattle.sq_rules.specs.Processes.{Home, home_of, proc_count, proc_end, runs_at, settled_starts, start_count}
 use Rattle.sq_rules.specs.Transcripts.{holder}
-use Rattle.sq_rows.specs.ClassRows.{ClassRow, after_failed, after_started, after_starting, class_row, is_asked, is_waiting, lookup_of, lookups}
+use Rattle.sq_rows.specs.ClassRows.{ClassRow, after_started, after_starting, class_row}
 use Rattle.sq_history.specs.MarkedEntries.{noted_at}
-use Rattle.sq_history.proofs.ClassParts.{and_true, bytes_itself, itself, none_living, none_slots, not_next, put_named, same_row, same_stock, with_last}
+use Rattle.sq_history.proofs.ClassParts.{and_true, bytes_itself, itself, none_slots, not_next, with_last}
 use Rattle.sq_history.proofs.NumberLaws.{holder_above, proc_end_above}
-use Rattle.sq_history.proofs.RowLaws.{picked_given, row_among, rows_left, rows_next, rows_none, rows_same}
+use Rattle.sq_history.proofs.RowLaws.{rows_next}
 
 -- a start that was told, for this class or for another
 starting_by : (configs : List Configuration) (m : Past) (now f : ℕ) (name : List ℕ) (e c : ℕ) (class : Class) (b : Bool) → ((f == e) && bytes_eq name class.name) ≡ b
@@ -37,12 +27,14 @@ starting_by : (configs : List Configuration) (m : Past) (now f : ℕ) (name : Li
     → class_row configs (noted_at now Act (told.Start f name) ∷ m) e c class
     ≡ (let r = class_row configs m e c class in if b then record r { stock = record r.stock { owed = r.stock.owed - 1; starting = suc r.stock.starting } } else r)
 starting_by configs m now f name e c class true is few =
-    λ i. record (class_row configs m e c class) { stock = record (farm_with configs m e c class) {
-    owed = (ap (λ (b : Bool). min class.startup class.children_max - (if b then suc (start_count (entries m) e class.name) else start_count (entries m) e class.name)) is
-    ∙ one_less (min class.startup class.children_max) (start_count (entries m) e class.name)) i;
-    starting = (ap (λ (b : Bool). (if b then suc (start_count (entries m) e class.name) else start_count (entries m) e class.name) - settled_starts (entries m) e class.name) is
-    ∙ one_more (start_count (entries m) e class.name) (settled_starts (entries m) e class.name) few) i;
-    } }
+    λ i. record (class_row configs m e c class) {
+      stock = record (farm_with configs m e c class) {
+        owed = (ap (λ (b : Bool). min class.startup class.children_max - (if b then suc (start_count (entries m) e class.name) else start_count (entries m) e class.name)) is
+            ∙ one_less (min class.startup class.children_max) (start_count (entries m) e class.name)) i;
+        starting = (ap (λ (b : Bool). (if b then suc (start_count (entries m) e class.name) else start_count (entries m) e class.name) - settled_starts (entries m) e class.name) is
+            ∙ one_more (start_count (entries m) e class.name) (settled_starts (entries m) e class.name) few) i;
+      };
+    }
   where
     one_less : (a b : ℕ) → a - suc b ≡ (a - b) - 1
     one_less a b = omega arith
@@ -50,10 +42,12 @@ starting_by configs m now f name e c class true is few =
     one_more : (a b : ℕ) → b ≤ a → suc a - b ≡ suc (a - b)
     one_more a b l = omega arith
 starting_by configs m now f name e c class false is few =
-    λ i. record (class_row configs m e c class) { stock = record (farm_with configs m e c class) {
-    owed = ap (λ (b : Bool). min class.startup class.children_max - (if b then suc (start_count (entries m) e class.name) else start_count (entries m) e class.name)) is i;
-    starting = ap (λ (b : Bool). (if b then suc (start_count (entries m) e class.name) else start_count (entries m) e class.name) - settled_starts (entries m) e class.name) is i;
-    } }
+    λ i. record (class_row configs m e c class) {
+      stock = record (farm_with configs m e c class) {
+        owed = ap (λ (b : Bool). min class.startup class.children_max - (if b then suc (start_count (entries m) e class.name) else start_count (entries m) e class.name)) is i;
+        starting = ap (λ (b : Bool). (if b then suc (start_count (entries m) e class.name) else start_count (entries m) e class.name) - settled_starts (entries m) e class.name) is i;
+      };
+    }
 
 named_itself : (e : ℕ) (name : List ℕ) → ((e == e) && bytes_eq name name) ≡ true
 named_itself e name = ap₂ (λ (a b : Bool). a && b) (itself e) (bytes_itself name)
@@ -83,11 +77,13 @@ started_by_name : (configs : List Configuration) (m : Past) (now f : ℕ) (name 
     → class_row configs (noted_at now (Started f name) answer ∷ m) e c class
     ≡ (if b then after_started (suc (proc_count (entries m))) (class_row configs m e c class) else class_row configs m e c class)
 started_by_name configs m now f name answer e c class b is =
-    (λ i. record (class_row configs m e c class) { stock = record (farm_with configs m e c class) {
-    procs = rows_next (living_of class.concurrency h) (living_of class.concurrency (x.entry ∷ h)) (runs_at h e class.name) (runs_at (x.entry ∷ h) e class.name) count b
-    new_runs (λ k low high. old_runs k high) (λ k low high picked. refl) i;
-    starting = ap (λ (d : Bool). start_count h e class.name - (if d then suc (settled_starts h e class.name) else settled_starts h e class.name)) is i;
-    } })
+    (λ i. record (class_row configs m e c class) {
+      stock = record (farm_with configs m e c class) {
+        procs = rows_next (living_of class.concurrency h) (living_of class.concurrency (x.entry ∷ h)) (runs_at h e class.name) (runs_at (x.entry ∷ h) e class.name) count b
+            new_runs (λ k low high. old_runs k high) (λ k low high picked. refl) i;
+        starting = ap (λ (d : Bool). start_count h e class.name - (if d then suc (settled_starts h e class.name) else settled_starts h e class.name)) is i;
+      };
+    })
     ∙ by b
   where
     x : Marked
@@ -115,16 +111,20 @@ started_by_name configs m now f name answer e c class b is =
     one_less : (a d : ℕ) → a - suc d ≡ (a - d) - 1
     one_less a d = omega arith
 
-    by : (b : Bool) → ◌≡◌ {A = ClassRow} (record (class_row configs m e c class) { stock = record (farm_with configs m e c class) {
+    by : (b : Bool) → ◌≡◌ {A = ClassRow} (record (class_row configs m e c class) {
+      stock = record (farm_with configs m e c class) {
         procs = (if b then (farm_with configs m e c class).procs ++ living_of class.concurrency (x.entry ∷ h) (suc count) ∷ [] else (farm_with configs m e c class).procs);
         starting = start_count h e class.name - (if b then suc (settled_starts h e class.name) else settled_starts h e class.name);
-        } })
+      };
+    })
         (if b then after_started (suc count) (class_row configs m e c class) else class_row configs m e c class)
-    by true = λ i. record (class_row configs m e c class) { stock = record (farm_with configs m e c class) {
+    by true = λ i. record (class_row configs m e c class) {
+      stock = record (farm_with configs m e c class) {
         procs = (ap (λ (r : Living). (farm_with configs m e c class).procs ++ r ∷ []) (new_living h class.concurrency)
-        ∙ sym (with_last class.concurrency h (runs_at h e class.name) count (fresh class.concurrency (suc count)) (omega arith))) i;
+            ∙ sym (with_last class.concurrency h (runs_at h e class.name) count (fresh class.concurrency (suc count)) (omega arith))) i;
         starting = one_less (start_count h e class.name) (settled_starts h e class.name) i;
-        } }
+      };
+    }
     by false = refl
 
 -- the class of the process that was started

@@ -1,12 +1,12 @@
 -- A class after a step of a check, and after events that change no class.
-use Rattle.std.proofs.Common.{◌≡◌, ℕ, suc, ◌<◌, ◌≤◌, List, [], ◌∷◌, ◌++◌, Bool, true, false, not, ◌&&◌, ◌||◌, ◌==◌, if◌then◌else◌, Option, Some, None, is_some, refl, sym, ap, ap₂, ◌∙◌, arith}
+use Rattle.std.proofs.Common.{◌≡◌, ℕ, suc, ◌≤◌, List, [], ◌∷◌, ◌++◌, Bool, true, false, not, ◌&&◌, ◌||◌, ◌==◌, if◌then◌else◌, Option, Some, None, is_some, refl, ap, ap₂, ◌∙◌, arith}
 use Rattle.std.specs.Option.{option_map_or, option_or}
 use Rattle.sq_base.specs.declared.helpers.Answer.{Answer}
 use Rattle.sq_rules.specs.declared.entries.Event.{Event}
 use Rattle.sq_rules.specs.declared.entries.Event.TheVariants.{Step, Started, StartFail, Line, Died, Act, Reconfigure}
 use Rattle.sq_rules.specs.declared.entries.Told.{Told}
 use Rattle.sq_rules.specs.declared.entries.Told.TheVariants as told
-use Rattle.sq_rules.specs.Checks.{ask_of, numbered}
+use Rattle.sq_rules.specs.Checks.{ask_of}
 use Rattle.sq_rules.specs.Classes.{Class}
 use Rattle.sq_rules.specs.Configurations.{Configuration}
 use Rattle.sq_rules.specs.Entries.{Noted}
@@ -17,13 +17,13 @@ use Rattle.sq_rules.specs.KeptReadings.{after_took, kept}
 use Rattle.sq_rules.specs.Marks.{Marked, Past, Put, entries}
 use Rattle.sq_rules.specs.Numbered.{rows}
 use Rattle.sq_rules.specs.OpenLookups.{LookupRow}
-use Rattle.sq_rules.specs.Questions.{QuestionEnd, has_ended, put_count, put_of, question_end, sent_to}
+use Rattle.sq_rules.specs.Questions.{QuestionEnd, has_ended, put_count, put_of, sent_to}
 use Rattle.sq_rules.specs.StepRule.{StepSays}
 use Rattle.sq_rows.specs.ClassRows.{ClassRow, class_row, is_asked, key_put, lookup_of, lookups, with_question}
 use Rattle.sq_rows.specs.StepRows.{after_says}
 use Rattle.sq_history.specs.ClassChanges.{after_said, is_farm_act, touches_classes}
 use Rattle.sq_history.specs.MarkedEntries.{noted_at, stepped_at}
-use Rattle.sq_history.proofs.ClassParts.{and_true, itself, not_next, same_row, same_stock}
+use Rattle.sq_history.proofs.ClassParts.{and_true, itself, not_next, same_row}
 use Rattle.sq_history.proofs.NumberLaws.{end_above, sent_above}
 use Rattle.sq_history.proofs.RowLaws.{rows_next}
 
@@ -90,11 +90,11 @@ put_row configs m now n answer p t e c class b is =
     (λ k low high. ap (λ (o : Option Put). is_put_for e c o && not (has_ended configs m k)) (put_old m x.entry p t k high))
     (λ k low high picked. ap (λ (o : Option Put). record { question = k; key = option_map_or (λ p. p.key) o [] }) (put_old m x.entry p t k high)))
     (λ i. record (farm_with configs m e c class) {
-    queue = rows_next (waiting_of m) (waiting_of (x ∷ m)) (is_queued configs m e c) (is_queued configs (x ∷ m) e c) (put_count m) b
-    (queued_new configs m now n answer p t e c b is)
-    (λ k low high. ap (λ (o : Option Put). is_put_for e c o && not (is_some (sent_to m k)) && not (has_ended configs m k)) (put_old m x.entry p t k high))
-    (λ k low high picked. ap (λ (o : Option Put). record { question = k; text = option_map_or (λ p. p.key) o [] }) (put_old m x.entry p t k high)) i;
-    held = (ap (λ (d : Bool). if d || false then false else is_held m e c class.name) is ∙ no_more b) i;
+      queue = rows_next (waiting_of m) (waiting_of (x ∷ m)) (is_queued configs m e c) (is_queued configs (x ∷ m) e c) (put_count m) b
+          (queued_new configs m now n answer p t e c b is)
+          (λ k low high. ap (λ (o : Option Put). is_put_for e c o && not (is_some (sent_to m k)) && not (has_ended configs m k)) (put_old m x.entry p t k high))
+          (λ k low high picked. ap (λ (o : Option Put). record { question = k; text = option_map_or (λ p. p.key) o [] }) (put_old m x.entry p t k high)) i;
+      held = (ap (λ (d : Bool). if d || false then false else is_held m e c class.name) is ∙ no_more b) i;
     })
     ∙ by b
   where

@@ -1,6 +1,5 @@
 -- What legal histories carry along, and the laws of readings ask for.
-use Rattle.std.specs.Prelude.{◌≡◌, ℕ, ◌≤◌, ◌<◌, max, List, Bool, true, false, nat_lt, bytes_eq, is_some, Some}
-use Rattle.std.specs.declared.option.Option.{Option}
+use Rattle.std.specs.Prelude.{◌≡◌, ℕ, ◌≤◌, ◌<◌, max, List, true, false, nat_lt, bytes_eq, is_some, Some}
 use Rattle.sq_rules.specs.AnswerReadings.{last_wait}
 use Rattle.sq_rules.specs.Channels.{channel_name}
 use Rattle.sq_rules.specs.Classes.{Class}

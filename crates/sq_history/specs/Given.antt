@@ -1,6 +1,5 @@
 -- What a history gave: answers by the lines of helpers, and what a check has them from.
 use Rattle.std.specs.Prelude.{◌≡◌, ◌⊎◌, ℕ, suc, List, [], ◌∷◌, Bool, true, false, if◌then◌else◌, ◌==◌, length, nat_lt, Some, None}
-use Rattle.std.specs.declared.option.Option.{Option}
 use Rattle.std.specs.Option.{option_map_or}
 use Rattle.sq_base.specs.declared.helpers.Answer.{Answer}
 use Rattle.sq_base.specs.declared.helpers.Cause.TheVariants as cause
@@ -23,7 +22,7 @@ use Rattle.sq_rules.specs.KeptLists.{is_fault}
 use Rattle.sq_rules.specs.KeptReadings.{alike_place}
 use Rattle.sq_rules.specs.Limits.{key_limit}
 use Rattle.sq_rules.specs.Marks.{Marked, Past, entries}
-use Rattle.sq_rules.specs.Questions.{QuestionEnd, put_is, put_of, question_end, said_by, sent_to}
+use Rattle.sq_rules.specs.Questions.{put_is, put_of, question_end, said_by, sent_to}
 use Rattle.sq_rules.specs.Readings.{current}
 
 -- something holds of each
