@@ -1,26 +1,27 @@
 -- What each call, and each entry, does to pools that stand for a history.
-use Rattle.std.proofs.Common.{◌≡◌, ◌∙◌, ◌==◌, ◌&&◌, ◌||◌, ◌≤◌, ◌<◌, ◌+◌, ◌-◌, not, cond, if◌then◌else◌, Bool, true, false, ℕ, List, [], ◌∷◌, Option, None, Some, is_some, is_none, refl, ap, sym, arith, min, max, suc, zero, zero-add}
+use Rattle.std.proofs.Common.{◌≡◌, ◌∙◌, ◌==◌, ◌&&◌, ◌||◌, ◌≤◌, ◌<◌, ◌+◌, ◌-◌, not, cond, if◌then◌else◌, Bool, true, false, ℕ, List, [], ◌∷◌, Option, None, Some, is_some, is_none, refl, ap, sym, arith, min, max, suc, zero, zero-add, ℤ}
 use Rattle.std.specs.Option.{option_map, option_map_or, option_or}
 use Rattle.std.proofs.lemmas.Bool.Decides.{nat_tests}
 use Rattle.sq_rules.specs.BucketLevels.{Filled, Tally, a_second, drawn, filled_to, opened_at, seconds}
-use Rattle.sq_rules.specs.Checks.{Asked, numbered}
+use Rattle.sq_rules.specs.Checks.{Asked, ask_count, ask_of, asked_by, conn_of, numbered}
 use Rattle.sq_rules.specs.Configurations.{Configuration}
 use Rattle.sq_rules.specs.Entries.{History, Noted}
-use Rattle.sq_rules.specs.Events.{begins_epoch}
+use Rattle.sq_rules.specs.Events.{Asking, asking, begins_epoch, is_number}
 use Rattle.sq_rules.specs.Machine.{config_of}
-use Rattle.sq_rules.specs.PoolReadings.{Sat, Spot, count_if, granted_by, granted_of, has_spot, in_use, in_use_after, initial_in, is_aggregate, is_needed, is_of_epoch, kept_if, made_if, made_of, makes, names_spot, opened_if, opens, sat_at, seat_count, seat_of, second_of, seconds_between, some_in_use, takes_at, tally_of, until}
+use Rattle.sq_rules.specs.PoolReadings.{Sat, Spot, Taking, allowed_of, count_if, grant_of, least_level, level_of, if_allowed, sat_of, spots_in, taken_after, taken_of, taking, granted_by, granted_of, has_spot, in_use, in_use_after, initial_in, is_aggregate, is_needed, is_of_epoch, kept_if, made_if, made_of, makes, names_spot, opened_if, sat_at, seat_count, seat_of, second_of, seconds_between, some_in_use, takes_at, tally_of, until}
 use Rattle.sq_rules.specs.Rates.{Limit}
 use Rattle.sq_rules.specs.Readings.{current, epoch_after, latest}
 use Rattle.sq_rules.specs.declared.entries.Event.{Event}
 use Rattle.sq_rules.specs.declared.entries.Event.TheVariants.{Begin, Open, Close, Ask, Step, Take, Started, StartFail, Line, Died, Act, Reconfigure, Seat, Grant, Leave}
 use Rattle.sq_rules.specs.declared.entries.Told.{Told}
 use Rattle.sq_rules.specs.declared.entries.Told.TheVariants as told
-use Rattle.sq_pools.specs.Basins.{Basin, HasLeft, IsBasin, IsGranted, bucket_in, granted_limit, made_in, seat_in, second_in, stays, tally_then}
-use Rattle.sq_pools.specs.Grants.{granted_if, grants}
+use Rattle.sq_pools.specs.Basins.{Basin, HasBegun, HasLeft, IsBasin, IsChosen, IsGranted, IsRenewed, bucket_in, grant_in, granted_limit, made_in, sat_in, seat_in, second_in, stays, tally_then}
+use Rattle.sq_pools.specs.Generations.{buckets_at}
+use Rattle.sq_pools.specs.Grants.{filled_if, granted_if, least_at, level_or_none, opened_in}
 use Rattle.sq_pools.specs.Seats.{seat_at, seats_of}
 use Rattle.sq_pools.specs.Stands.{PoolsStand, entry, is_elsewhere}
 use Rattle.sq_pools.proofs.BasinLaws.{filled_made}
-use Rattle.sq_pools.proofs.GenerationLaws.{made_other}
+use Rattle.sq_pools.proofs.GenerationLaws.{filled_other, made_other}
 use Rattle.sq_pools.proofs.MapLaws.{number_key}
 
 -- seconds and levels
@@ -168,12 +169,16 @@ elsewhere_stands p configs x h is stand i away = record {
 } where
   q : IsQuiet configs h x.event x.answer
   q = quiet configs h x.event x.answer away
+
   seats : (n : ℕ) → seat_in p n ≡ kept_if (in_use configs (x ∷ h) n) (seat_of configs (x ∷ h) n)
   seats n = stand.seats_are n ∙ sym (rw (q.sat) (ap (λ b. kept_if b (seat_of configs h n)) (q.uses n (in_use configs h n))))
+
   given : p.given ≡ seat_count configs (x ∷ h)
   given = stand.given_is ∙ rw q.sat refl
+
   newest : p.newest ≡ current (x ∷ h)
   newest = stand.newest_is ∙ rw q.begins refl
+
   made : (e : ℕ) → made_in p e ≡ made_of configs (x ∷ h) e
   made e = sym (made_next p p configs x h e stand (needed_is p configs (x ∷ h) e seats given newest)
       ∙ ap (λ b. kept_if (stays p e) (made_if b x.moment (made_in p e))) (q.makes_none e)
@@ -209,8 +214,10 @@ leave_stands p q configs h now n is stand i left = record {
 } where
   x : Noted
   x = entry now (Leave n) told.Fine
+
   seats : (k : ℕ) → seat_in q k ≡ kept_if (in_use configs (entry now (Leave n) told.Fine ∷ h) k) (seat_of configs (entry now (Leave n) told.Fine ∷ h) k)
   seats k = left.seats k ∙ turned_cond k n None (seat_in p k) ∙ ap (cond (n == k) None) (stand.seats_are k) ∙ left_seat (n == k) (in_use configs h k) (seat_of configs h k)
+
   made : (e : ℕ) → made_of configs (entry now (Leave n) told.Fine ∷ h) e ≡ kept_if (stays q e) (made_if false now (made_in p e))
   made e = made_next p q configs (entry now (Leave n) told.Fine) h e stand (needed_is q configs (entry now (Leave n) told.Fine ∷ h) e seats (left.given ∙ stand.given_is) (left.newest ∙ stand.newest_is))
 
@@ -248,12 +255,336 @@ grant_stands p q configs h now n wanted amount is stand i used granted = record 
 } where
   seat : seat_in p n ≡ seat_of configs h n
   seat = stand.seats_are n ∙ ap (λ b. kept_if b (seat_of configs h n)) used
+
   seats : (k : ℕ) → seat_in q k ≡ kept_if (in_use configs (entry now (Grant n wanted) (told.Granted amount) ∷ h) k) (seat_of configs (entry now (Grant n wanted) (told.Granted amount) ∷ h) k)
   seats k = ap (λ l. seat_at l k) granted.seats ∙ stand.seats_are k
+
   made : (e : ℕ) → made_of configs (entry now (Grant n wanted) (told.Granted amount) ∷ h) e ≡ made_in p e
   made e = made_next p q configs (entry now (Grant n wanted) (told.Granted amount)) h e stand
       (needed_is q configs (entry now (Grant n wanted) (told.Granted amount) ∷ h) e seats (granted.given ∙ stand.given_is) (granted.newest ∙ stand.newest_is))
       ∙ ap (kept_if (stays q e)) (sym (made_other now (made_in p e)))
       ∙ ap (λ b. kept_if b (made_in p e)) same ∙ kept_all (stays p e) (made_in p e) (is.lives e) where
-    same : stays q e ≡ stays p e
-    same = rw (granted.newest, granted.seats, granted.given) refl
+        same : stays q e ≡ stays p e
+        same = rw (granted.newest, granted.seats, granted.given) refl
+
+-- epochs of seats
+
+epoch_rises : (b : Bool) (e : ℕ) → e ≤ epoch_after b e
+epoch_rises true e = omega arith
+epoch_rises false e = omega arith
+
+asked_by_epoch : (o : Option Asking) (h : History) (moment e : ℕ) (before : Option Asked) (a : Asked) → current h ≤ e → ((b : Asked) → before ≡ Some b → b.epoch ≤ e)
+    → option_or (option_map (asked_by h moment) o) before ≡ Some a → a.epoch ≤ e
+asked_by_epoch None h moment e before a low old is = old a is
+asked_by_epoch (Some x) h moment e before a low old is =
+    let same : asked_by h moment x ≡ a = cc in
+    let epoch : current h ≡ a.epoch = ap (λ (y : Asked). y.epoch) same in
+    omega arith
+
+-- for a check: its epoch has begun
+ask_epoch : (h : History) (n : ℕ) (a : Asked) → ask_of h n ≡ Some a → a.epoch ≤ current h
+unfolding ask_of
+ask_epoch [] n a is = absurd (cc)
+ask_epoch (x ∷ h) n a is =
+    let more = epoch_rises (begins_epoch x.event) (current h) in
+    asked_by_epoch (numbered n (ask_count h) (asking x.event)) h x.moment (current (x ∷ h)) (ask_of h n) a more
+    (λ b was. let low = ask_epoch h n b was in omega arith) is
+
+taking_epoch : (answer : Told) (o : Option Asked) (t : Taking) (e : ℕ) → ((a : Asked) → o ≡ Some a → a.epoch ≤ e) → taking answer o ≡ Some t → t.asked.epoch ≤ e
+taking_epoch (told.Judged k out) (Some a) t e low is =
+    let same : a ≡ t.asked = cc in
+    rw (sym same) (low a refl)
+taking_epoch answer o t e low is = absurd (cc)
+
+taken_by_epoch : (h : History) (c : ℕ) (event : Event) (answer : Told) (before : Option Taking) (t : Taking) (e : ℕ) → current h ≤ e → ((b : Taking) → before ≡ Some b → b.asked.epoch ≤ e)
+    → taken_after h c event answer before ≡ Some t → t.asked.epoch ≤ e
+taken_by_epoch h c (Take n) answer before t e low old is = by_test (is_number c (conn_of h n)) is where
+  by_test : (b : Bool) → (if b then taking answer (ask_of h n) else before) ≡ Some t → t.asked.epoch ≤ e
+  by_test true is = taking_epoch answer (ask_of h n) t e (λ a was. let low_now = ask_epoch h n a was in omega arith) is
+  by_test false is = old t is
+taken_by_epoch h c (Close d) answer before t e low old is = by_test (d == c) is where
+  by_test : (b : Bool) → (if b then None else before) ≡ Some t → t.asked.epoch ≤ e
+  by_test true is = absurd (cc)
+  by_test false is = old t is
+taken_by_epoch h c event answer before t e low old is = old t is
+
+-- for a record that was taken: its epoch has begun
+taken_epoch : (h : History) (c : ℕ) (t : Taking) → taken_of h c ≡ Some t → t.asked.epoch ≤ current h
+taken_epoch [] c t is = absurd (cc)
+taken_epoch (x ∷ h) c t is =
+    let more = epoch_rises (begins_epoch x.event) (current h) in
+    taken_by_epoch h c x.event x.answer (taken_of h c) t (current (x ∷ h)) more (λ b was. let low = taken_epoch h c b was in omega arith) is
+
+-- for a record that allows: its epoch has begun
+pub allowed_epoch : (h : History) (c : ℕ) (a : Asked) → allowed_of h c ≡ Some a → a.epoch ≤ current h
+allowed_epoch h c a is = by_taken (taken_of h c) refl is where
+  by_taken : (o : Option Taking) → taken_of h c ≡ o → if_allowed o ≡ Some a → a.epoch ≤ current h
+  by_taken None was is = absurd (cc)
+  by_taken (Some t) was is = by_test t.allows is where
+    by_test : (b : Bool) → (if b then Some t.asked else None) ≡ Some a → a.epoch ≤ current h
+    by_test true is = let same : t.asked ≡ a = cc in rw (sym same) (taken_epoch h c t was)
+    by_test false is = absurd (cc)
+
+-- seats that are given
+
+numbered_seat : (n k : ℕ) (sat : Sat) (u : Bool) (o : Option Sat) → cond (n == suc k) (Some sat) (kept_if u o) ≡ kept_if (is_some (numbered n k (Some sat)) || u) (option_or (numbered n k (Some sat)) o)
+numbered_seat n k sat u o = by_test (n == suc k) where
+  by_test : (b : Bool) → cond b (Some sat) (kept_if u o) ≡ kept_if (is_some (if b then Some sat else None) || u) (option_or (if b then Some sat else None) o)
+  by_test true = refl
+  by_test false = refl
+
+shown_new : (t initial : ℕ) (s : Spot) → (filled_to t (opened_in initial t s)).tally ≡ opened_at initial s.limit
+shown_new t initial s = let none : t - t ≡ 0 = omega arith in rw none refl
+
+or_turned : (a b : Bool) → (a || b) ≡ (b || a)
+or_turned true true = refl
+or_turned true false = refl
+or_turned false true = refl
+or_turned false false = refl
+
+or_no : (b : Bool) → (b || false) ≡ b
+or_no true = refl
+or_no false = refl
+
+-- for a bucket of the generation in which a seat was given
+tally_chosen : (m : Option ℕ) (o : Option Filled) (now initial : ℕ) (s : Spot) (h a : Bool) → (is_some o ≡ true → is_some m ≡ true)
+    → shown (at (made_if true now m) now) (filled_if (h || (is_none m && a)) (opened_in initial (at (made_if true now m) now) s) o)
+    ≡ option_map (drawn 0) (opened_if ((is_none m && a) || h) (opened_at initial s.limit) (shown (at m now) o))
+tally_chosen None (Some f) now initial s h a there = absurd (let no : false ≡ true = there refl in cc)
+tally_chosen (Some m) (Some f) now initial s h a there = ap (λ (x : Tally). Some x) (sym (drawn_none (filled_to (second_of m now) f).tally))
+tally_chosen None None now initial s h a there =
+    rw (or_turned h a) (by_test (a || h)) where
+      by_test : (b : Bool) → shown (second_of now now) (filled_if b (opened_in initial (second_of now now) s) None) ≡ option_map (drawn 0) (opened_if b (opened_at initial s.limit) None)
+      by_test true = ap (λ (x : Tally). Some x) (shown_new (second_of now now) initial s ∙ sym (drawn_none (opened_at initial s.limit)))
+      by_test false = refl
+tally_chosen (Some m) None now initial s h a there = rw (or_no h) (by_test h) where
+  by_test : (b : Bool) → shown (second_of m now) (filled_if b (opened_in initial (second_of m now) s) None) ≡ option_map (drawn 0) (opened_if b (opened_at initial s.limit) None)
+  by_test true = ap (λ (x : Tally). Some x) (shown_new (second_of m now) initial s ∙ sym (drawn_none (opened_at initial s.limit)))
+  by_test false = refl
+
+chosen_here : (m : Option ℕ) (o : Option Filled) (now initial : ℕ) (s : Spot) (h a : Bool) → (is_some o ≡ true → is_some m ≡ true)
+    → shown (at (made_if true now m) now) (filled_if (h || (is_none m && a)) (opened_in initial (at (made_if true now m) now) s) o)
+    ≡ kept_if (is_some (made_if true now m)) (option_map (drawn 0) (opened_if ((is_none m && a) || h) (opened_at initial s.limit) (shown (at m now) o)))
+chosen_here None o now initial s h a there = tally_chosen None o now initial s h a there
+chosen_here (Some m) o now initial s h a there = tally_chosen (Some m) o now initial s h a there
+
+quiet_here : (m : Option ℕ) (o : Option Filled) (now : ℕ) (a : Bool) (f : Filled) (new : Tally) → (is_some o ≡ true → is_some m ≡ true)
+    → shown (at (made_if false now m) now) (filled_if false f o) ≡ kept_if (is_some (made_if false now m)) (option_map (drawn 0) (opened_if ((is_none m && a) || false) new (shown (at m now) o)))
+quiet_here m o now a f new there =
+    rw (sym (made_other now m), sym (filled_other f o)) (tally_quiet m (shown (at m now) o) a new (λ t. there (shown_some (at m now) o t)))
+
+-- for pools that stand for a history: a moment after it is the greatest so far
+pub moment_is : (p : Basin) (configs : List Configuration) (h : History) (now : ℕ) → PoolsStand p configs h → latest h ≤ now → max now p.latest ≡ now
+moment_is p configs h now stand i = let low = stand.latest_is in omega arith
+
+chosen_by : (configs : List Configuration) (c : Configuration) (epoch e now : ℕ) (s : Spot) (b t h : Bool) (m : Option ℕ) (o : Option Filled) → (e == epoch) ≡ t → config_of configs epoch ≡ Some c
+    → (is_some o ≡ true → is_some m ≡ true)
+    → shown (at (kept_if b (made_if t now m)) now) (kept_if b (filled_if (t && (h || (is_none m && is_aggregate (Some c) s))) (opened_in c.initial (at (kept_if b (made_if t now m)) now) s) o))
+    ≡ kept_if (is_some (kept_if b (made_if t now m))) (option_map (drawn 0)
+    (opened_if ((is_none m && is_aggregate (config_of configs e) s) || (t && h)) (opened_at (initial_in (config_of configs e)) s.limit) (shown (at m now) o)))
+chosen_by configs c epoch e now s false t h m o same is there = refl
+chosen_by configs c epoch e now s true true h m o same is there =
+    let it : e ≡ epoch = grind (arith, nat_tests) in
+    let here : config_of configs e ≡ Some c = ap (config_of configs) it ∙ is in
+    rw here (chosen_here m o now c.initial s h (is_aggregate (Some c) s) there)
+chosen_by configs c epoch e now s true false h m o same is there =
+    quiet_here m o now (is_aggregate (config_of configs e) s) (opened_in c.initial (at (made_if false now m) now) s) (opened_at (initial_in (config_of configs e)) s.limit) there
+
+-- for a `seat` of a record whose pool is that: the pools after `choose` stand for the history with it added
+pub choose_stands : (p q : Basin) (configs : List Configuration) (h : History) (now c n pool : ℕ) (a : Asked) (config : Configuration) → IsBasin p → PoolsStand p configs h → latest h ≤ now
+    → allowed_of h c ≡ Some a → config_of configs a.epoch ≡ Some config → IsChosen p q a.epoch config pool a.sight.addr now
+    → PoolsStand q configs (entry now (Seat c) (told.Seat n pool) ∷ h)
+choose_stands p q configs h now c n pool a config is stand i allowed known chosen = record {
+  made_is = λ e. chosen.made e ∙ sym (made e);
+  buckets_are = λ e s.
+      let b = stays q e in
+      let m = made_in p e in
+      let o = bucket_in p e s in
+      let has = has_spot (spots_in (Some config) pool a.sight.addr) s in
+      ap (λ f. shown (second_in q e now) f) (chosen.buckets e s)
+      ∙ ap (λ k. shown (at k now) (kept_if b (filled_if (e == a.epoch && (has || (is_none m && is_aggregate (Some config) s))) (opened_in config.initial (at k now) s) o))) (chosen.made e)
+      ∙ chosen_by configs config a.epoch e now s b (e == a.epoch) has m o refl known (filled_made p.generations e s)
+      ∙ ap (λ t. kept_if (is_some (kept_if b (made_if (e == a.epoch) now m))) (option_map (drawn 0)
+      (opened_if ((is_none m && is_aggregate (config_of configs e) s) || (t && has)) (opened_at (initial_in (config_of configs e)) s.limit) (shown (at m now) o)))) (number_key.turned e a.epoch)
+      ∙ ap (λ z. kept_if (is_some (kept_if b (made_if (e == a.epoch) now m))) (option_map (drawn 0)
+      (opened_if ((is_none m && is_aggregate (config_of configs e) s) || names_spot e s z) (opened_at (initial_in (config_of configs e)) s.limit) (shown (at m now) o)))) (sym seat)
+      ∙ sym (tally_next p configs (entry now (Seat c) (told.Seat n pool)) h e s (kept_if b (made_if (e == a.epoch) now m)) is stand i (made e));
+  seats_are = seats;
+  given_is = given;
+  newest_is = newest;
+  latest_is = let same = chosen.latest in omega arith;
+  granted_is = chosen.granted ∙ stand.granted_is;
+} where
+  seat : sat_at configs h (Seat c) (told.Seat n pool) ≡ Some (sat_in a.epoch config pool a.sight.addr)
+  seat = ap (option_map (sat_of configs pool)) allowed ∙ ap (λ k. Some (record { epoch = a.epoch; pool = pool; spots = spots_in k pool a.sight.addr })) known
+
+  seats : (k : ℕ) → seat_in q k ≡ kept_if (in_use configs (entry now (Seat c) (told.Seat n pool) ∷ h) k) (seat_of configs (entry now (Seat c) (told.Seat n pool) ∷ h) k)
+  seats k =
+      chosen.seats k ∙ ap (λ o. cond (k == suc p.given) (Some (sat_in a.epoch config pool a.sight.addr)) o) (stand.seats_are k)
+      ∙ ap (λ g. cond (k == suc g) (Some (sat_in a.epoch config pool a.sight.addr)) (kept_if (in_use configs h k) (seat_of configs h k))) stand.given_is
+      ∙ numbered_seat k (seat_count configs h) (sat_in a.epoch config pool a.sight.addr) (in_use configs h k) (seat_of configs h k)
+      ∙ ap (λ o. kept_if (is_some (numbered k (seat_count configs h) o) || in_use configs h k) (option_or (numbered k (seat_count configs h) o) (seat_of configs h k))) (sym seat)
+
+  given : q.given ≡ seat_count configs (entry now (Seat c) (told.Seat n pool) ∷ h)
+  given = chosen.given ∙ ap suc stand.given_is ∙ ap (λ o. count_if (is_some o) (seat_count configs h)) (sym seat)
+
+  newest : q.newest ≡ current (entry now (Seat c) (told.Seat n pool) ∷ h)
+  newest =
+      let one = chosen.newest in
+      let two = stand.newest_is in
+      let low = allowed_epoch h c a allowed in
+      let same : q.newest ≡ current h = omega arith in
+      same
+
+  made : (e : ℕ) → made_of configs (entry now (Seat c) (told.Seat n pool) ∷ h) e ≡ kept_if (stays q e) (made_if (e == a.epoch) now (made_in p e))
+  made e = made_next p q configs (entry now (Seat c) (told.Seat n pool)) h e stand (needed_is q configs (entry now (Seat c) (told.Seat n pool) ∷ h) e seats given newest)
+      ∙ ap (λ o. kept_if (stays q e) (made_if (is_of_epoch e o) now (made_in p e))) seat
+      ∙ ap (λ b. kept_if (stays q e) (made_if b now (made_in p e))) (number_key.turned a.epoch e)
+
+level_shown : (t : ℕ) (o : Option Filled) → level_or_none t o ≡ level_of (shown t o)
+level_shown t None = refl
+level_shown t (Some f) = refl
+
+least_is : (p : Basin) (configs : List Configuration) (h : History) (now e : ℕ) (spots : List Spot) (wanted : ℕ) → IsBasin p → PoolsStand p configs h → latest h ≤ now
+    → least_at (second_in p e now) (buckets_at p.generations e) spots wanted ≡ least_level configs h e now spots wanted
+least_is p configs h now e [] wanted is stand i = refl
+least_is p configs h now e (s ∷ spots) wanted is stand i =
+    let level : level_or_none (second_in p e now) (bucket_in p e s) ≡ level_of (until configs h e s now (tally_of configs h e s)) =
+    level_shown (second_in p e now) (bucket_in p e s) ∙ ap level_of (sym (until_then p configs h now e s is stand i)) in
+    ap (λ k. least_at (second_in p e now) (buckets_at p.generations e) spots (min wanted k)) level
+    ∙ least_is p configs h now e spots (min wanted (level_of (until configs h e s now (tally_of configs h e s)))) is stand i
+
+-- for a seat in use: it is granted what the history says
+pub grant_is : (p : Basin) (configs : List Configuration) (h : History) (now n wanted : ℕ) → IsBasin p → PoolsStand p configs h → latest h ≤ now → in_use configs h n ≡ true
+    → grant_in p now wanted (seat_in p n) ≡ grant_of configs h now wanted (seat_of configs h n)
+grant_is p configs h now n wanted is stand i used =
+    ap (grant_in p now wanted) (stand.seats_are n ∙ ap (λ b. kept_if b (seat_of configs h n)) used) ∙ by_seat (seat_of configs h n) where
+      by_seat : (o : Option Sat) → grant_in p now wanted o ≡ grant_of configs h now wanted o
+      by_seat None = refl
+      by_seat (Some sat) = least_is p configs h now sat.epoch sat.spots wanted is stand i
+
+-- a generation that begins
+
+begun_by : (configs : List Configuration) (c : Configuration) (epoch e now : ℕ) (s : Spot) (b t : Bool) (m : Option ℕ) (o : Option Filled) → (e == epoch) ≡ t → config_of configs epoch ≡ Some c
+    → (t ≡ true → m ≡ None) → (is_some o ≡ true → is_some m ≡ true)
+    → shown (at (kept_if b (made_if t now m)) now) (kept_if b (filled_if (t && is_aggregate (Some c) s) (opened_in c.initial 0 s) o))
+    ≡ kept_if (is_some (kept_if b (made_if t now m))) (option_map (drawn 0)
+    (opened_if ((is_none m && is_aggregate (config_of configs e) s) || false) (opened_at (initial_in (config_of configs e)) s.limit) (shown (at m now) o)))
+begun_by configs c epoch e now s false t m o same is free there = refl
+begun_by configs c epoch e now s true false m o same is free there =
+    quiet_here m o now (is_aggregate (config_of configs e) s) (opened_in c.initial 0 s) (opened_at (initial_in (config_of configs e)) s.limit) there
+begun_by configs c epoch e now s true true (Some m) o same is free there = absurd (let no : Some m ≡ None = free refl in cc)
+begun_by configs c epoch e now s true true None (Some f) same is free there = absurd (let no : false ≡ true = there refl in cc)
+begun_by configs c epoch e now s true true None None same is free there =
+    let it : e ≡ epoch = grind (arith, nat_tests) in
+    let here : config_of configs e ≡ Some c = ap (config_of configs) it ∙ is in
+    rw (here, or_no (is_aggregate (Some c) s)) (by_test (is_aggregate (Some c) s)) where
+      by_test : (a : Bool) → shown (second_of now now) (filled_if a (opened_in c.initial 0 s) None) ≡ option_map (drawn 0) (opened_if a (opened_at c.initial s.limit) None)
+      by_test true =
+          let first : second_of now now ≡ 0 = omega arith in
+          rw first (ap (λ (x : Tally). Some x) (sym (drawn_none (opened_at c.initial s.limit))))
+      by_test false = refl
+
+sat_epoch : (configs : List Configuration) (h : History) (event : Event) (answer : Told) (sat : Sat) → sat_at configs h event answer ≡ Some sat → sat.epoch ≤ current h
+sat_epoch configs h (Seat c) (told.Seat n pool) sat is = by_allowed (allowed_of h c) refl is where
+  by_allowed : (o : Option Asked) → allowed_of h c ≡ o → option_map (sat_of configs pool) o ≡ Some sat → sat.epoch ≤ current h
+  by_allowed None was is = absurd (cc)
+  by_allowed (Some a) was is =
+      let same : sat_of configs pool a ≡ sat = cc in
+      rw (sym same) (allowed_epoch h c a was)
+sat_epoch configs h event answer sat is = absurd (cc)
+
+seat_by : (n k e : ℕ) (o before : Option Sat) (sat : Sat) → ((x : Sat) → o ≡ Some x → x.epoch ≤ e) → (before ≡ Some sat → sat.epoch ≤ e) → option_or (numbered n k o) before ≡ Some sat → sat.epoch ≤ e
+seat_by n k e None before sat new old is = old is
+seat_by n k e (Some x) before sat new old is = by_test (n == suc k) is where
+  by_test : (b : Bool) → option_or (if b then Some x else None) before ≡ Some sat → sat.epoch ≤ e
+  by_test true is = let same : x ≡ sat = cc in rw (sym same) (new x refl)
+  by_test false is = old is
+
+-- for a seat: its epoch has begun
+seat_epoch : (configs : List Configuration) (h : History) (n : ℕ) (sat : Sat) → seat_of configs h n ≡ Some sat → sat.epoch ≤ current h
+seat_epoch configs [] n sat is = absurd (cc)
+seat_epoch configs (x ∷ h) n sat is =
+    let more = epoch_rises (begins_epoch x.event) (current h) in
+    seat_by n (seat_count configs h) (current (x ∷ h)) (sat_at configs h x.event x.answer) (seat_of configs h n) sat
+    (λ y was. let low = sat_epoch configs h x.event x.answer y was in omega arith)
+    (λ was. let low = seat_epoch configs h n sat was in omega arith) is
+
+no_seats : (seats : List (ℕ × Sat)) (e k n : ℕ) → ((m : ℕ) (sat : Sat) → seat_at seats m ≡ Some sat → sat.epoch ≤ k) → k < e → seats_of seats e n ≡ 0
+no_seats seats e k zero low h = refl
+no_seats seats e k (suc n) low h = by_seat (seat_at seats (suc n)) refl (no_seats seats e k n low h) where
+  by_seat : (o : Option Sat) → seat_at seats (suc n) ≡ o → seats_of seats e n ≡ 0 → count_if (is_of_epoch e o) (seats_of seats e n) ≡ 0
+  by_seat None is rest = rest
+  by_seat (Some sat) is rest =
+      let below = low (suc n) sat is in
+      let other : (sat.epoch == e) ≡ false = grind (arith, nat_tests) in
+      rw other rest
+
+kept_seat : (u : Bool) (o : Option Sat) (sat : Sat) → kept_if u o ≡ Some sat → o ≡ Some sat
+kept_seat true o sat is = is
+kept_seat false o sat is = absurd (cc)
+
+-- for pools that stand for a history: there is no generation of an epoch that has not begun
+pub none_ahead : (p : Basin) (configs : List Configuration) (h : History) (e : ℕ) → IsBasin p → PoolsStand p configs h → current h < e → made_in p e ≡ None
+none_ahead p configs h e is stand ahead = by_made (made_in p e) refl where
+  by_made : (o : Option ℕ) → made_in p e ≡ o → o ≡ None
+  by_made None was = refl
+  by_made (Some m) was =
+      let stay : stays p e ≡ true = is.lives e (rw was refl) in
+      let newest = stand.newest_is in
+      let other : (e == p.newest) ≡ false = grind (arith, nat_tests) in
+      let count : seats_of p.seats e p.given ≡ 0 = no_seats p.seats e (current h) p.given (λ k sat seat. seat_epoch configs h k sat (kept_seat (in_use configs h k) (seat_of configs h k) sat (sym (stand.seats_are k) ∙ seat))) ahead in
+      let no : stays p e ≡ false = rw (other, count) refl in
+      absurd (let bad : true ≡ false = sym stay ∙ no in cc)
+
+-- for a `reconfigure`: the pools after `renew` stand for the history with it added
+pub renew_stands : (p q : Basin) (configs : List Configuration) (h : History) (now : ℕ) (text : List ℕ) (config : Configuration) → IsBasin p → PoolsStand p configs h → latest h ≤ now
+    → config_of configs (suc (current h)) ≡ Some config → IsRenewed p q (suc (current h)) config now
+    → PoolsStand q configs (entry now (Reconfigure text) (told.Epoch (suc (current h))) ∷ h)
+renew_stands p q configs h now text config is stand i known renewed = record {
+  made_is = λ e. renewed.made e ∙ sym (made e);
+  buckets_are = λ e s.
+      let b = stays q e in
+      let m = made_in p e in
+      let o = bucket_in p e s in
+      ap (λ f. shown (second_in q e now) f) (renewed.buckets e s)
+      ∙ ap (λ k. shown (at k now) (kept_if b (filled_if (e == suc (current h) && is_aggregate (Some config) s) (opened_in config.initial 0 s) o))) (renewed.made e)
+      ∙ begun_by configs config (suc (current h)) e now s b (e == suc (current h)) m o refl known (free e) (filled_made p.generations e s)
+      ∙ sym (tally_next p configs (entry now (Reconfigure text) (told.Epoch (suc (current h)))) h e s (kept_if b (made_if (e == suc (current h)) now m)) is stand i (made e));
+  seats_are = seats;
+  given_is = renewed.given ∙ stand.given_is;
+  newest_is = renewed.newest;
+  latest_is = let same = renewed.latest in omega arith;
+  granted_is = renewed.granted ∙ stand.granted_is;
+} where
+  seats : (k : ℕ) → seat_in q k ≡ kept_if (in_use configs (entry now (Reconfigure text) (told.Epoch (suc (current h))) ∷ h) k) (seat_of configs (entry now (Reconfigure text) (told.Epoch (suc (current h))) ∷ h) k)
+  seats k = ap (λ l. seat_at l k) renewed.seats ∙ stand.seats_are k
+
+  made : (e : ℕ) → made_of configs (entry now (Reconfigure text) (told.Epoch (suc (current h))) ∷ h) e ≡ kept_if (stays q e) (made_if (e == suc (current h)) now (made_in p e))
+  made e = made_next p q configs (entry now (Reconfigure text) (told.Epoch (suc (current h)))) h e stand
+      (needed_is q configs (entry now (Reconfigure text) (told.Epoch (suc (current h))) ∷ h) e seats (renewed.given ∙ stand.given_is) renewed.newest)
+
+  free : (e : ℕ) → (e == suc (current h)) ≡ true → made_in p e ≡ None
+  free e t = let it : e ≡ suc (current h) = grind (arith, nat_tests) in none_ahead p configs h e is stand (omega arith)
+
+-- for a `begin`: the pools that `new` makes stand for the history of it alone
+pub new_stands : (p : Basin) (configs : List Configuration) (now : ℕ) (offset : ℤ) (config : Configuration) → config_of configs 1 ≡ Some config → HasBegun p 1 config now
+    → PoolsStand p configs (entry now (Begin offset) (told.Epoch 1) ∷ [])
+new_stands p configs now offset config known begun = record {
+  made_is = λ e. begun.made e ∙ sym (made e);
+  buckets_are = λ e s.
+      ap (λ f. shown (second_in p e now) f) (begun.buckets e s)
+      ∙ ap (λ k. shown (at k now) (filled_if (e == 1 && is_aggregate (Some config) s) (opened_in config.initial 0 s) None)) (begun.made e)
+      ∙ begun_by configs config 1 e now s true (e == 1) None None refl known (λ t. refl) (λ t. t)
+      ∙ ap (λ k. kept_if (is_some k) (option_map (drawn 0) (opened_if ((true && is_aggregate (config_of configs e) s) || false) (opened_at (initial_in (config_of configs e)) s.limit) None))) (sym (made e));
+  seats_are = λ k. ap (λ l. seat_at l k) begun.seats;
+  given_is = begun.given;
+  newest_is = begun.newest;
+  latest_is = let same = begun.latest in omega arith;
+  granted_is = begun.granted;
+} where
+  made : (e : ℕ) → made_of configs (entry now (Begin offset) (told.Epoch 1) ∷ []) e ≡ made_if (e == 1) now None
+  made e = ap (λ b. kept_if (b || false) (made_if (e == 1) now None)) (number_key.turned 1 e) ∙ by_test (e == 1) where
+    by_test : (b : Bool) → kept_if (b || false) (made_if b now None) ≡ made_if b now None
+    by_test true = refl
+    by_test false = refl

@@ -1,4 +1,9 @@
 //! Delay pools: buckets that fill second by second, and seats that are granted bytes from them.
+//!
+//! `Pools` has a generation of buckets for each epoch that is the newest or has a seat in use. `choose` gives a
+//! seat in a pool, `grant` takes bytes from the seat's buckets, `leave` gives it up, and `renew` makes the
+//! generation of a new epoch. `bucket` and `granted` show the numbers. A grant is reckoned at once, however many
+//! seconds have gone, and costs a logarithm in the number of hosts; it and `leave` take no memory.
 #![tactic(auto)]
 
 mod bucket;
