@@ -4,4 +4,5 @@ mod MapLaws
 pub mod NeedLaws
 mod PoolLaws
 pub mod RowLaws
+pub mod StepLaws
 mod TableLaws
