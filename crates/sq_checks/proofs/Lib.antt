@@ -1,5 +1,6 @@
 mod CheckLaws
 mod EndLaws
+pub mod EpochLaws
 mod MapLaws
 pub mod NeedLaws
 mod PoolLaws

@@ -161,3 +161,8 @@ AllAre w (x ∷ xs) = (x ≡ w) × AllAre w xs
 pub record IsNoted (class : ℕ) (key : List ℕ) (s : Said) : Type 0 where
   pub fits : is_noted s.took s.stepped ≡ true
   pub took : IfSome s.took (λ a. (a.class ≡ class) × (a.key ≡ key))
+
+-- how many of these checks began in an epoch
+abbrev pub of_epoch : ℕ → List Held → ℕ
+of_epoch e [] = 0
+of_epoch e (h ∷ checks) = if e == h.asked.epoch then suc (of_epoch e checks) else of_epoch e checks
