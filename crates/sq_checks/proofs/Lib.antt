@@ -1,7 +1,9 @@
 mod CheckLaws
 mod EndLaws
+pub mod EpochLaws
 mod MapLaws
 pub mod NeedLaws
 mod PoolLaws
 pub mod RowLaws
+pub mod StepLaws
 mod TableLaws

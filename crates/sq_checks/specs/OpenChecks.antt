@@ -1,5 +1,5 @@
 -- An open check as it is kept, the row that it is, and what each call makes of it.
-use Rattle.std.specs.Prelude.{◌≡◌, ℕ, suc, min, List, [], ◌∷◌, ◌++◌, Bool, true, false, not, ◌==◌, if◌then◌else◌, nat_lt, map, filter, Some, None}
+use Rattle.std.specs.Prelude.{◌≡◌, ℕ, suc, min, List, [], ◌∷◌, ◌++◌, Bool, true, false, not, ◌==◌, if◌then◌else◌, nat_lt, map, filter, Some, None, IfSome}
 use Rattle.std.specs.List.{list_all}
 use Rattle.std.specs.Option.{option_to_list, option_and_then, option_or}
 use Rattle.std.specs.declared.option.Option.{Option}
@@ -18,7 +18,7 @@ use Rattle.sq_rules.specs.declared.values.Value.TheVariants as value
 use Rattle.sq_rows.specs.CheckRows.{Ends, Held}
 use Rattle.sq_rows.specs.StepRows.{told_of}
 use Rattle.sq_rows.specs.declared.said.Said.{Said}
-use Rattle.sq_checks.specs.Stages.{IsStage, came_in, ended_stage, given, is_done_in, noted_stage, question_in, question_told}
+use Rattle.sq_checks.specs.Stages.{IsStage, came_in, ended_stage, given, is_done_in, is_noted, noted_stage, question_in, question_told}
 use Rattle.sq_checks.specs.Tables.{value_at}
 use Rattle.sq_checks.specs.declared.stages.Stage.{Stage}
 use Rattle.sq_checks.specs.declared.stages.Stage.TheVariants as stage
@@ -156,3 +156,13 @@ both_ends first second q = option_or (first q) (second q)
 abbrev pub AllAre : What → List What → Type 0
 AllAre w [] = Unit {0}
 AllAre w (x ∷ xs) = (x ≡ w) × AllAre w xs
+
+-- what a step says that asked for this key of this class: it took an answer of these, or was told to wait
+pub record IsNoted (class : ℕ) (key : List ℕ) (s : Said) : Type 0 where
+  pub fits : is_noted s.took s.stepped ≡ true
+  pub took : IfSome s.took (λ a. (a.class ≡ class) × (a.key ≡ key))
+
+-- how many of these checks began in an epoch
+abbrev pub of_epoch : ℕ → List Held → ℕ
+of_epoch e [] = 0
+of_epoch e (h ∷ checks) = if e == h.asked.epoch then suc (of_epoch e checks) else of_epoch e checks

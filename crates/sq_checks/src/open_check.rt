@@ -7,9 +7,9 @@ ghost use Rattle.sq_rules.specs.Facts.{facts_of};
 ghost use Rattle.sq_rules.specs.Limits.{last_number};
 ghost use Rattle.sq_rules.specs.StepRule.{class_of_acl};
 ghost use Rattle.sq_rules.specs.declared.values.Value.TheVariants as value;
-ghost use Rattle.sq_checks.specs.OpenChecks.{begun_parts, comes_to, ended_by, finished, is_need, noted, settled, step_more};
+ghost use Rattle.sq_checks.specs.OpenChecks.{IsNoted, begun_parts, comes_to, ended_by, finished, is_need, noted, settled, step_more};
 ghost use Rattle.sq_checks.specs.Records.{judged_of};
-ghost use Rattle.sq_checks.specs.Stages.{decided_in, is_idle, is_noted, is_settled, question_in};
+ghost use Rattle.sq_checks.specs.Stages.{decided_in, is_idle, is_settled, question_in};
 
 use crate::records::Record;
 use crate::stages::{Stage, came, decided, ended, noted, question, told};
@@ -165,9 +165,8 @@ impl OpenCheck {
     /// come, or the check waits for the question that it was told. It takes no memory.
     pub fn note(&mut self, said: Said, class: u32, key: Text)
         requires idle { is_idle self.old.stage ≡ true }
-        requires said { is_noted said.took said.stepped ≡ true }
+        requires said { IsNoted class key said }
         requires other { has_answer self.old.answers class key ≡ false }
-        requires took { IfSome said.took (λ a. (a.class ≡ class) × (a.key ≡ key)) }
         ensures { self.new ≡ noted said class key self.old }
     {
         let Said {

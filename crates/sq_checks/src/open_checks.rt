@@ -7,8 +7,8 @@ ghost use Rattle.sq_rows.specs.CheckRows.{after_step, without_check};
 ghost use Rattle.sq_rules.specs.Events.{is_number};
 ghost use Rattle.sq_rules.specs.StepRule.{says_done};
 ghost use Rattle.sq_rules.specs.declared.values.Value.TheVariants as value;
-ghost use Rattle.sq_checks.specs.OpenChecks.{AllAre, all_before, all_ended, change_at, comes_to, ended_by, finished, noted, row, rows_of, says_of, settled, wait_at, without_entry};
-ghost use Rattle.sq_checks.specs.Stages.{is_idle, is_noted, is_settled};
+ghost use Rattle.sq_checks.specs.OpenChecks.{AllAre, IsNoted, all_before, all_ended, change_at, comes_to, ended_by, finished, noted, row, rows_of, says_of, settled, wait_at, without_entry};
+ghost use Rattle.sq_checks.specs.Stages.{is_idle, is_settled};
 ghost use Rattle.sq_checks.specs.Tables.{value_at};
 
 use crate::open_check::OpenCheck;
@@ -90,9 +90,8 @@ impl OpenChecks {
     pub fn note(&mut self, number: CheckNo, said: Said, class: u32, key: Text)
         requires there { is_some (value_at self.old number) ≡ true }
         requires idle { IfSome (value_at self.old number) (λ c. is_idle c.stage ≡ true) }
-        requires said { is_noted said.took said.stepped ≡ true }
+        requires said { IsNoted class key said }
         requires other { IfSome (value_at self.old number) (λ c. has_answer c.answers class key ≡ false) }
-        requires took { IfSome said.took (λ a. (a.class ≡ class) × (a.key ≡ key)) }
         ensures list { self.new ≡ change_at number (noted said class key) self.old }
         ensures rows { rows_of self.new ≡ after_step number (says_of said) (rows_of self.old) }
     {

@@ -41,4 +41,4 @@ returns-clause-rows c =
     rw (← c.self.view_is)
     (ap rows_of ((c.get_mut.follows.holds c.note.new.self).0 ∙ ap (set_value (is_at (nat_cmp c.args.number)) es) c.note.ensures
     ∙ set_changed c.args.number f x es (sorted_once es c.in-Some.ensures.ordered) here)
-    ∙ row_changed c.args.number f g x es (sorted_once es c.in-Some.ensures.ordered) here (row_noted c.args.number x c.args.said c.args.class c.args.key idle c.requires.said))
+    ∙ row_changed c.args.number f g x es (sorted_once es c.in-Some.ensures.ordered) here (row_noted c.args.number x c.args.said c.args.class c.args.key idle c.requires.said.fits))
