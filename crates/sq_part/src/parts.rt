@@ -3,6 +3,7 @@ ghost use Rattle.std.specs.Prelude.{◌≡◌, ◌↔◌, [], ℕ, length, is_so
 ghost use Rattle.sq_channel.specs.Gots.{names_open};
 ghost use Rattle.sq_farm.specs.Replies.{got_of};
 ghost use Rattle.sq_lookup.specs.Index.{IsListed};
+ghost use Rattle.sq_rules.specs.Channels.{is_open};
 ghost use Rattle.sq_rules.specs.Farms.{send_of, start_due};
 ghost use Rattle.sq_rules.specs.Living.{lives, slots_in};
 ghost use Rattle.sq_rules.specs.OpenLookups.{is_open_lookup, question_of};
@@ -141,6 +142,8 @@ impl Part {
     /// no memory.
     pub fn waiting(&self, question: QuestionNo) -> Option<(&Text, &Checks)>
         ensures open { is_some result ≡ is_open_lookup question self.now.row.lookups }
+        // A question that is open on a process is open.
+        ensures sent { (k : ℕ) → is_open question (slots_in k self.now.row.stock.procs) ≡ true → is_some result ≡ true }
         ensures listed { IfSome result (λ p. IsListed (record { rows = self.now.row.lookups; waiting = self.now.waiting }) question p.0.now p.1.now) }
     {
         self.lookups.waiting(question)
