@@ -1,5 +1,5 @@
 -- A connection has one open check at most, and it is the one that is found by its connection.
-use Rattle.std.proofs.Common.{◌≡◌, ℕ, zero, suc, ◌<◌, ◌≤◌, List, [], ◌∷◌, Bool, true, false, ◌&&◌, ◌||◌, ◌==◌, if◌then◌else◌, Option, Some, None, refl, sym, ap, ap₂, subst, ◌∙◌, arith}
+use Rattle.std.proofs.Common.{◌≡◌, ℕ, zero, suc, ◌≤◌, List, [], ◌∷◌, Bool, true, false, ◌&&◌, ◌==◌, if◌then◌else◌, Option, Some, None, refl, sym, ap, ap₂, ◌∙◌, arith}
 use Rattle.std.specs.Option.{option_map, unwrap_or}
 use Rattle.std.proofs.lemmas.Bool.Decides.{nat_tests}
 use Rattle.std.proofs.lemmas.Option.{none-some, same_Some}
@@ -8,13 +8,13 @@ use Rattle.sq_rules.specs.declared.entries.Event.{Event}
 use Rattle.sq_rules.specs.declared.entries.Event.TheVariants.{Begin, Ask}
 use Rattle.sq_rules.specs.declared.entries.Told.{Told}
 use Rattle.sq_rules.specs.declared.refusals.Refusal.{Refusal}
-use Rattle.sq_rules.specs.Checks.{Asked, ask_count, ask_of, asked_by, check_open, conn_in, conn_of, ends_check, is_open_of, numbered, open_among, open_check}
+use Rattle.sq_rules.specs.Checks.{Asked, ask_count, ask_of, check_open, conn_in, conn_of, ends_check, is_open_of, numbered, open_among, open_check}
 use Rattle.sq_rules.specs.Configurations.{Configuration}
 use Rattle.sq_rules.specs.Entries.{History, Noted}
 use Rattle.sq_rules.specs.Events.{Asking, asking, is_number}
 use Rattle.sq_rules.specs.FullNext.{FullLegal, full_next_at}
 use Rattle.sq_rules.specs.Machine.{Next, gives, is_begin, next_at, refuse_if, refuse_open}
-use Rattle.sq_rules.specs.Marking.{mark, marked}
+use Rattle.sq_rules.specs.Marking.{marked}
 use Rattle.sq_rules.specs.Marks.{Past, entries}
 use Rattle.sq_rules.proofs.CheckLaws.{IsAsked, ask_of_begun, ask_of_kept, check_open_kept, open_asked, open_born}
 use Rattle.sq_rules.proofs.OpenCheckLaws.{IsOpenOf, open_check_found}
@@ -24,7 +24,7 @@ use Rattle.sq_history.proofs.CheckLaws.{unopened}
 use Rattle.sq_history.proofs.ClassParts.{equal, itself}
 use Rattle.sq_history.proofs.LegalLaws.{legal_induction}
 use Rattle.sq_history.proofs.NumberLaws.{open_positive}
-use Rattle.sq_history.proofs.RowLaws.{none_found, picked, row_found}
+use Rattle.sq_history.proofs.RowLaws.{none_found, row_found}
 
 -- no two checks of a connection are open
 pub record IsAlone (h : History) : Type 0 where

@@ -1,13 +1,12 @@
 -- Which class an event names, and that the others are not named: by homes, names and places.
-use Rattle.std.proofs.Common.{◌≡◌, ℕ, zero, suc, ◌+◌, one-add, ◌<◌, ◌≤◌, List, [], ◌∷◌, position, length, slice_get, cond, Bool, true, false, not, ◌&&◌, ◌==◌, nat_le, nat_lt, bytes_eq, if◌then◌else◌, Option, Some, None, is_some, refl, sym, ap, ap₂, subst, ◌∙◌, arith}
+use Rattle.std.proofs.Common.{◌≡◌, ℕ, zero, suc, ◌+◌, one-add, ◌<◌, List, [], ◌∷◌, position, length, slice_get, cond, Bool, true, false, not, ◌&&◌, ◌==◌, bytes_eq, Option, Some, None, refl, sym, ap, subst, ◌∙◌, arith}
 use Rattle.std.specs.List.{position_or_len}
 use Rattle.std.specs.Option.{option_and_then, option_map_or}
 use Rattle.std.proofs.lemmas.Bool.{and_parts, lt-ltb}
-use Rattle.std.proofs.lemmas.Bool.Decides.{nat_tests}
 use Rattle.std.proofs.lemmas.Option.{none-some, same_Some}
 use Rattle.sq_rules.specs.Classes.{Class}
 use Rattle.sq_rules.specs.Configurations.{Configuration}
-use Rattle.sq_rules.specs.Epochs.{class_at, name_of_class, place_of_class}
+use Rattle.sq_rules.specs.Epochs.{class_at, place_of_class}
 use Rattle.sq_rules.specs.Events.{is_number}
 use Rattle.sq_rules.specs.FarmReadings.{is_put_for}
 use Rattle.sq_rules.specs.Machine.{config_of}

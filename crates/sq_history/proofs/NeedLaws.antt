@@ -1,5 +1,5 @@
 -- A need is one without an answer: a check that has the answer of a key needs that key no more.
-use Rattle.std.proofs.Common.{◌≡◌, ℕ, zero, suc, List, [], ◌∷◌, ◌++◌, map, Bool, true, false, ◌&&◌, ◌==◌, ◌+◌, slice_get, bytes_eq, if◌then◌else◌, Option, Some, None, refl, sym, ap, subst, ◌∙◌}
+use Rattle.std.proofs.Common.{◌≡◌, ℕ, zero, suc, List, [], ◌∷◌, ◌++◌, map, Bool, true, false, ◌&&◌, ◌==◌, ◌+◌, slice_get, bytes_eq, if◌then◌else◌, Option, Some, None, refl, sym, ap, ◌∙◌}
 use Rattle.std.specs.Option.{option_and_then, option_map_or}
 use Rattle.std.proofs.lemmas.Option.{none-some, same_Some}
 use Rattle.sq_base.specs.declared.helpers.Answer.{Answer}
@@ -23,7 +23,7 @@ use Rattle.sq_rules.specs.Keys.{key_text}
 use Rattle.sq_rules.specs.Leaves.{holds}
 use Rattle.sq_rules.specs.Machine.{config_of}
 use Rattle.sq_rules.specs.StepRule.{class_of_acl, class_of_body, value_over}
-use Rattle.sq_rules.specs.Values.{acl_value, answer_for, answer_value, body_value, both, either, member_value, negated, rule_value, taken_at, taken_of_acl, taken_of_body, term_value, turned, value_if}
+use Rattle.sq_rules.specs.Values.{acl_value, answer_for, answer_value, body_value, both, either, member_value, rule_value, taken_at, taken_of_acl, taken_of_body, term_value, turned, value_if}
 use Rattle.sq_rules.specs.Verdicts.{decided, default_of, rules_from, verdict_over}
 use Rattle.sq_history.specs.Given.{EachOf}
 
@@ -110,11 +110,13 @@ needed_key d v = d
 need_answer : (c : Configuration) (answers : List Answer) (place class : ℕ) (key : List ℕ) (o : Option What) → class_of_acl c.acls place ≡ Some class → answer_for answers class key ≡ o
     → NeedIsOpen c answers (answer_value place key o)
 unfolding is_need needed_acl needed_key
-need_answer c answers place class key None at is = record { unanswered = λ acl k d e there.
-    let same : place ≡ acl = ap (needed_acl place) e in
-    let keys : key ≡ k = ap (needed_key key) e in
-    let classes : class ≡ d = same_Some _ _ (sym at ∙ ap (class_of_acl c.acls) same ∙ there) in
-    sym (ap (λ (i : ℕ). answer_for answers i k) classes) ∙ sym (ap (answer_for answers class) keys) ∙ is }
+need_answer c answers place class key None at is = record {
+  unanswered = λ acl k d e there.
+      let same : place ≡ acl = ap (needed_acl place) e in
+      let keys : key ≡ k = ap (needed_key key) e in
+      let classes : class ≡ d = same_Some _ _ (sym at ∙ ap (class_of_acl c.acls) same ∙ there) in
+      sym (ap (λ (i : ℕ). answer_for answers i k) classes) ∙ sym (ap (answer_for answers class) keys) ∙ is;
+}
 need_answer c answers place class key (Some (what.Yes pairs)) at is = plain c answers Hit refl
 need_answer c answers place class key (Some (what.No pairs)) at is = plain c answers Miss refl
 need_answer c answers place class key (Some (what.Fault cause)) at is = plain c answers (Fault place cause) refl

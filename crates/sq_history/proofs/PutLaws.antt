@@ -1,29 +1,27 @@
 -- Each question of a legal history was put for a class that stands; so a reply is to a question of its process's class.
-use Rattle.std.proofs.Common.{◌≡◌, ℕ, suc, List, [], ◌∷◌, Bool, true, false, ◌&&◌, ◌==◌, nat_lt, length, bytes_eq, if◌then◌else◌, Option, Some, None, is_some, refl, sym, ap, ap₂, subst, ◌∙◌}
+use Rattle.std.proofs.Common.{◌≡◌, ℕ, suc, List, [], ◌∷◌, Bool, true, false, ◌&&◌, ◌==◌, if◌then◌else◌, Option, Some, None, is_some, refl, sym, ap, ap₂, ◌∙◌}
 use Rattle.std.specs.Option.{option_and_then, option_map_or, option_or}
-use Rattle.std.proofs.lemmas.Option.{none-some, same_Some}
+use Rattle.std.proofs.lemmas.Option.{none-some}
 use Rattle.sq_base.specs.declared.helpers.Answer.{Answer}
 use Rattle.sq_rules.specs.declared.entries.Event.{Event}
-use Rattle.sq_rules.specs.declared.entries.Event.TheVariants.{Begin, Step}
-use Rattle.sq_rules.specs.declared.entries.Told.{Told}
+use Rattle.sq_rules.specs.declared.entries.Event.TheVariants.{Step}
 use Rattle.sq_rules.specs.declared.values.Value.{Value}
 use Rattle.sq_rules.specs.declared.values.Value.TheVariants as value
 use Rattle.sq_rules.specs.AnswerReadings.{answers}
 use Rattle.sq_rules.specs.Checks.{Asked, ask_of, numbered}
 use Rattle.sq_rules.specs.Classes.{Class}
 use Rattle.sq_rules.specs.Configurations.{Configuration}
-use Rattle.sq_rules.specs.Entries.{History, Noted}
+use Rattle.sq_rules.specs.Entries.{History}
 use Rattle.sq_rules.specs.Epochs.{class_at}
 use Rattle.sq_rules.specs.FarmReadings.{farm_with, is_put_for}
 use Rattle.sq_rules.specs.Farms.{full}
-use Rattle.sq_rules.specs.FullNext.{FullLegal, full_next_at}
 use Rattle.sq_rules.specs.KeptReadings.{kept}
-use Rattle.sq_rules.specs.Machine.{config_of, gives, is_begin}
+use Rattle.sq_rules.specs.Machine.{config_of}
 use Rattle.sq_rules.specs.Marking.{mark, marked, says_at}
 use Rattle.sq_rules.specs.Marks.{Marked, Past, Put, entries}
 use Rattle.sq_rules.specs.Processes.{is_at_home}
 use Rattle.sq_rules.specs.Questions.{pending, put_count, put_of, sent_to}
-use Rattle.sq_rules.specs.StepRule.{StepSays, class_of_acl, says_asked_of, says_at_place, says_of_class, says_value, step_says, value_over}
+use Rattle.sq_rules.specs.StepRule.{class_of_acl, says_asked_of, says_at_place, says_of_class, says_value, value_over}
 use Rattle.sq_history.specs.Carried.{Carried, NamesOnce}
 use Rattle.sq_history.proofs.ClassParts.{itself}
 use Rattle.sq_history.proofs.ElsewhereLaws.{IsSamePlace, one_place}

@@ -1,11 +1,10 @@
 -- A process that lives was not told to stop.
 use Rattle.std.proofs.Common.{◌≡◌, ℕ, zero, suc, ◌<◌, ◌≤◌, List, [], ◌∷◌, ◌++◌, Bool, true, false, not, ◌&&◌, ◌||◌, ◌==◌, nat_le, bytes_eq, if◌then◌else◌, Option, Some, None, is_some, refl, sym, ap, ap₂, subst, ◌∙◌, arith}
 use Rattle.std.specs.List.{list_any}
-use Rattle.std.specs.Option.{option_map, option_map_or, option_or}
+use Rattle.std.specs.Option.{option_map_or, option_or}
 use Rattle.std.proofs.lemmas.Bool.{and_left, and_parts, and_right}
 use Rattle.std.proofs.lemmas.Bool.Decides.{nat_tests}
 use Rattle.std.proofs.lemmas.List.Folds.{list_any-append}
-use Rattle.std.proofs.lemmas.Option.{none-some, same_Some}
 use Rattle.sq_base.specs.declared.helpers.Cause.{Cause}
 use Rattle.sq_rules.specs.declared.entries.Event.{Event}
 use Rattle.sq_rules.specs.declared.entries.Event.TheVariants.{Begin, Started, Act}
@@ -18,12 +17,12 @@ use Rattle.sq_rules.specs.Epochs.{has_open_check, is_check_of, is_live}
 use Rattle.sq_rules.specs.Events.{Asking, asking, begins_epoch}
 use Rattle.sq_rules.specs.FullNext.{FullLegal, full_next_at}
 use Rattle.sq_rules.specs.Machine.{gives, is_begin}
-use Rattle.sq_rules.specs.Marking.{mark, marked}
+use Rattle.sq_rules.specs.Marking.{marked}
 use Rattle.sq_rules.specs.Marks.{Past, entries}
 use Rattle.sq_rules.specs.Numbered.{picks}
 use Rattle.sq_rules.specs.Processes.{Home, ended_by, home_of, is_at_home, is_stopped, lives_on, proc_count, proc_end, started_by, stop_due, stops}
 use Rattle.sq_rules.specs.Readings.{current, epoch_after}
-use Rattle.sq_rules.proofs.CheckLaws.{ask_count_more, ask_of_begun, ask_of_kept, check_open_kept, open_born}
+use Rattle.sq_rules.proofs.CheckLaws.{ask_of_begun, ask_of_kept, check_open_kept, open_born}
 use Rattle.sq_history.specs.Carried.{Carried, NamesOnce}
 use Rattle.sq_history.proofs.ClassParts.{bytes_itself, equal, itself}
 use Rattle.sq_history.proofs.NumberLaws.{above_before, open_positive}
@@ -149,10 +148,12 @@ lived configs m x k (Some p) c is t =
 -- an entry that starts no process and stops none
 quiet_stops : (configs : List Configuration) (m : Past) (x : Noted) → Carried configs m → ((k : ℕ) → home_of (x ∷ entries m) k ≡ home_of (entries m) k) → ((k : ℕ) → stops k x.event x.answer ≡ false)
     → NotStopped (entries m) → NotStopped (x ∷ entries m)
-quiet_stops configs m x c home none n = record { goes_on = λ k t.
-    ap (λ (b : Bool). if b then true else is_stopped (entries m) k) (and_right (nat_le k (proc_count (entries m))) (stops k x.event x.answer) (none k))
-    ∙ n.goes_on k (lived configs m x k (home_of (entries m) k) c refl
-    (sym (ap (λ (o : Option Home). lives_by o (option_or (ended_by (entries m) k x.event x.answer) (proc_end (entries m) k)) (is_live (x ∷ entries m))) (home k)) ∙ t)) }
+quiet_stops configs m x c home none n = record {
+  goes_on = λ k t.
+      ap (λ (b : Bool). if b then true else is_stopped (entries m) k) (and_right (nat_le k (proc_count (entries m))) (stops k x.event x.answer) (none k))
+      ∙ n.goes_on k (lived configs m x k (home_of (entries m) k) c refl
+      (sym (ap (λ (o : Option Home). lives_by o (option_or (ended_by (entries m) k x.event x.answer) (proc_end (entries m) k)) (is_live (x ∷ entries m))) (home k)) ∙ t));
+}
 
 not_due : (h : History) (p : ℕ) → stop_due h p ≡ true → lives_on h p ≡ true → ⊥
 not_due h p due lives = by (home_of h p) (is_stopped h p) (proc_end h p) due lives
