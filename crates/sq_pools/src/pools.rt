@@ -1,5 +1,5 @@
 //! The delay pools of all epochs.
-ghost use Rattle.std.specs.Prelude.{◌≡◌, ◌<◌, ◌≤◌, ◌^◌, ◌==◌, ◌&&◌, ◌||◌, ℕ, cond, if◌then◌else◌, max, suc, true, Some, None, is_none, is_some, nat_lt, length, slice_get, IfSome, IfOk, IfErr, OnOk, OnErr};
+ghost use Rattle.std.specs.Prelude.{◌≡◌, ◌<◌, ◌≤◌, ◌^◌, ◌==◌, ◌&&◌, ◌||◌, ℕ, cond, if◌then◌else◌, max, suc, true, false, Some, None, is_none, is_some, nat_lt, length, slice_get, IfSome, IfOk, IfErr, OnOk, OnErr};
 ghost use Rattle.std.specs.Option.{option_copied};
 ghost use Rattle.sq_rules.specs.Limits.{last_number};
 ghost use Rattle.sq_rules.specs.PoolReadings as readings;
@@ -157,6 +157,7 @@ impl Pools {
     ) -> Result<(), WantOfMemory>
         ensures ok { OnOk result (cond (nat_lt epoch self.old.newest || is_some (made_in self.old epoch)) (self.new ≡ self.old) (IsRenewed self.old self.new epoch config.now.value (max now self.old.latest))) }
         ensures err { OnErr result (self.new ≡ self.old) }
+        ensures needed { IfErr result (λ _. (nat_lt epoch self.old.newest || is_some (made_in self.old epoch)) ≡ false) }
     {
         let newest = self.newest;
         if epoch.0 < newest.0 || self.generations.has(epoch) {
