@@ -1,0 +1,3 @@
+mod JournalLaws
+mod MemLaws
+mod MigrateLaws

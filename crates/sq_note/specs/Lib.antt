@@ -1,0 +1,4 @@
+pub mod Memory
+pub mod Migrating
+pub mod Noting
+pub mod Sinks

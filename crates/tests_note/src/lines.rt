@@ -1,0 +1,79 @@
+//! Numbered entries: printed and read back, and lines close to them.
+
+use sq_base::{EpochNo, WantOfMemory};
+use sq_journal::{EntryFault, print_numbered, read_entry, read_numbered};
+use std::alloc::Global;
+use std::process::Abort;
+use std::test::Fail;
+
+/// A number, an epoch and an entry's text; the line that they are, and lines close to it that are none.
+#[derive(Clone, Copy)]
+struct Row<'a> {
+    number: u64,
+    epoch: u64,
+    entry: &'a str,
+    line: &'a str,
+    wrong: &'a [&'a str],
+}
+
+// Ends the process unless the entry is printed as the line, the line reads back, and those close to it do not.
+fn check(rt: &impl Abort, alloc: Global, row: &Row<'_>) -> Result<(), EntryFault> {
+    let entry = read_entry(alloc, row.entry.as_bytes())?;
+    if row.number < 1 << 63 && row.epoch < 1 << 63 {
+        let text = print_numbered(alloc, row.number, EpochNo(row.epoch), &entry)?;
+        let same = text.as_bytes() == row.line.as_bytes();
+        assert!(rt; same, "{}", row.line);
+    }
+    let (number, epoch, _) = read_numbered(alloc, row.line.as_bytes())?;
+    assert_eq!(rt; number, row.number, "{}", row.line);
+    assert_eq!(rt; epoch.0, row.epoch, "{}", row.line);
+    for line in row.wrong {
+        match read_numbered(alloc, line.as_bytes()) {
+            Err(EntryFault::BadEntry) => {}
+            _ => assert!(rt; false, "{}", line),
+        }
+    }
+    Ok(())
+}
+
+#[test]
+fn a_numbered_entry_has_one_line(rt: HostRuntime) -> Result<(), Fail> {
+    for row in [
+        Row {
+            number: 5,
+            epoch: 1,
+            entry: "0 take 1 => epoch 1 allowed rule 1",
+            line: "5 1 0 take 1 => epoch 1 allowed rule 1",
+            wrong: &[
+                "05 1 0 take 1 => epoch 1 allowed rule 1",
+                "5 01 0 take 1 => epoch 1 allowed rule 1",
+                "5  1 0 take 1 => epoch 1 allowed rule 1",
+                "5 0 take 1 => epoch 1 allowed rule 1",
+                "0 take 1 => epoch 1 allowed rule 1",
+                "5 1",
+                "5 1 ",
+                "5 1 0 take 1",
+                "5 1 0 take 1 => epoch 1 allowed rule 1 ",
+                "-5 1 0 take 1 => epoch 1 allowed rule 1",
+                "journal 2",
+            ],
+        },
+        Row {
+            number: 9223372036854775807,
+            epoch: 9223372036854775807,
+            entry: "7 open 1 2001:db8::1 65535 => ok",
+            line: "9223372036854775807 9223372036854775807 7 open 1 2001:db8::1 65535 => ok",
+            wrong: &[
+                "9223372036854775808 1 7 open 1 2001:db8::1 65535 => ok",
+                "1 9223372036854775808 7 open 1 2001:db8::1 65535 => ok",
+            ],
+        },
+    ] {
+        match check(&rt, rt.alloc(), &row) {
+            Ok(()) => {}
+            Err(EntryFault::BadEntry) => assert!(&rt; false, "{}", row.line),
+            Err(EntryFault::WantOfMemory) => Err(WantOfMemory)?,
+        }
+    }
+    Ok(())
+}
