@@ -1,0 +1,221 @@
+//! A class with its part, whose questions are counted, and its calls as texts.
+ghost use Rattle.std.specs.Prelude.{◌≡◌, false};
+
+use sq_base::{
+    Cause, CheckNo, Copying, Moment, ProcNo, QuestionNo, Reply, Text, Texts, What, Word,
+};
+use sq_cache::HashSeed;
+use sq_farm::Got;
+use sq_lookup::Checks;
+use sq_part::Part;
+use sq_rows::{Said, Stepped};
+use sq_rules::{Class, Token, Tokens};
+use std::alloc::Global;
+use std::marker::Model;
+use std::test::Fail;
+
+/// A class with its part, and how many questions were put.
+#[derive(Drop)]
+pub struct Run {
+    class: Class,
+    part: Part,
+    count: u32,
+}
+
+impl Model for Run {
+    ghost use Rattle.std.specs.Prelude.{◌≡◌, ℕ, suc, true};
+    ghost use Rattle.sq_rules.specs.OpenLookups.{all_below};
+
+    ghost Value = { ℕ };
+
+    ghost view = { λ r. r.count };
+
+    ghost invariant = { λ r. (all_below (suc r.count) r.part.row.lookups ≡ true) × (r.part.limit ≡ r.class.cache) };
+}
+
+/// A class of one process at most, with one question at a time; its answers are fresh for ten seconds, and their
+/// refresh is due after five.
+fn class(alloc: Global) -> Result<Class, Fail> {
+    let mut format = Tokens::new(alloc);
+    format.push(Token::Arguments)?;
+    Ok(Class {
+        name: Text::from_slice(alloc, b"v")?,
+        ttl: 10,
+        negative_ttl: 10,
+        grace: 50,
+        cache: 2,
+        children_max: 1,
+        startup: 0,
+        concurrency: 0,
+        queue_size: 0,
+        format,
+        words: Texts::new(alloc),
+    })
+}
+
+/// What a step says.
+fn told(alloc: Global, said: &Said) -> Result<String, Fail> {
+    match &said.stepped {
+        Stepped::Waits(question) => {
+            let number = question.0;
+            if said.put {
+                Ok(format!(in alloc; "asks {number}")?)
+            } else {
+                Ok(format!(in alloc; "waits {number}")?)
+            }
+        }
+        Stepped::Took(_) => {
+            let Some(answer) = &said.took else {
+                return Err(Fail::new("nothing was taken"));
+            };
+            match &answer.what {
+                What::Fault(_) => Ok(format!(in alloc; "fault")?),
+                _ => {
+                    if said.put {
+                        Ok(format!(in alloc; "took, asks")?)
+                    } else {
+                        Ok(format!(in alloc; "took")?)
+                    }
+                }
+            }
+        }
+        Stepped::Done => Ok(format!(in alloc; "done")?),
+    }
+}
+
+/// A question that ended and the checks that are served.
+fn served(alloc: Global, question: QuestionNo, checks: &Checks) -> Result<String, Fail> {
+    let number = question.0;
+    let mut text = format!(in alloc; "{number}:")?;
+    for check in checks.iter() {
+        let number = check.0;
+        text = format!(in alloc; "{text} {number}")?;
+    }
+    Ok(text)
+}
+
+/// What a reply says.
+fn what_of(reply: Reply) -> What {
+    match reply.word {
+        Word::Yes => What::Yes(reply.pairs),
+        Word::No => What::No(reply.pairs),
+        Word::Broken => What::Fault(Cause::Bh),
+    }
+}
+
+impl Run {
+    pub fn new(alloc: Global) -> Result<Run, Fail> {
+        let class = class(alloc)?;
+        let part = Part::new(alloc, &class, HashSeed::fixed())?;
+        Ok(Run {
+            class,
+            part,
+            count: 0,
+        })
+    }
+
+    pub fn step(
+        &mut self,
+        alloc: Global,
+        check: u32,
+        key: &[u8],
+        now: u32,
+    ) -> Result<String, Fail> {
+        let check = CheckNo(u64::from(check));
+        if self.part.question(check).is_some() || self.count == u32::MAX {
+            return Err(Fail::new("the check waits"));
+        }
+        let key = Text::from_slice(alloc, key)?;
+        let now = Moment(u64::from(now));
+        let count = u64::from(self.count);
+        match self
+            .part
+            .resolve(alloc, &self.class, 0, &key, now, check, count)
+        {
+            Ok(said) => {
+                if said.put {
+                    self.count += 1;
+                }
+                told(alloc, &said)
+            }
+            Err(_) => Err(Fail::new("refused")),
+        }
+    }
+
+    pub fn start(&mut self, alloc: Global) -> Result<String, Fail> {
+        if self.part.start() {
+            Ok(format!(in alloc; "start")?)
+        } else {
+            Ok(format!(in alloc; "none")?)
+        }
+    }
+
+    pub fn started(&mut self, alloc: Global, proc: u32) -> Result<String, Fail> {
+        let proc = ProcNo(u64::from(proc));
+        if self.part.lives(proc) || self.part.started(alloc, proc).is_err() {
+            return Err(Fail::new("no start is open"));
+        }
+        Ok(format!(in alloc; "ok")?)
+    }
+
+    pub fn send(&mut self, alloc: Global) -> Result<String, Fail> {
+        match self.part.send() {
+            Some(sending) => {
+                let question = sending.question.0;
+                let proc = sending.proc.0;
+                Ok(format!(in alloc; "{question} to {proc}")?)
+            }
+            None => Ok(format!(in alloc; "none")?),
+        }
+    }
+
+    /// The lost question, which is one.
+    fn lost(&mut self, alloc: Global) -> Result<String, Fail> {
+        match self.part.next_lost() {
+            Some(lost) => served(alloc, lost.question, &lost.checks),
+            None => Ok(format!(in alloc; "none")?),
+        }
+    }
+
+    pub fn start_failed(&mut self, alloc: Global) -> Result<String, Fail> {
+        if self.part.start_failed().is_err() {
+            return Err(Fail::new("no start is open"));
+        }
+        self.lost(alloc)
+    }
+
+    pub fn died(&mut self, alloc: Global, proc: u32) -> Result<String, Fail> {
+        let proc = ProcNo(u64::from(proc));
+        if !self.part.lives(proc) {
+            return Err(Fail::new("no process"));
+        }
+        self.part.end(proc, Cause::Died);
+        self.lost(alloc)
+    }
+
+    pub fn line(
+        &mut self,
+        alloc: Global,
+        proc: u32,
+        line: &[u8],
+        now: u32,
+    ) -> Result<String, Fail> {
+        let proc = ProcNo(u64::from(proc));
+        let now = Moment(u64::from(now));
+        if !self.part.lives(proc) {
+            return Err(Fail::new("no process"));
+        }
+        let got = self.part.look(alloc, proc, line)?;
+        let Got::Reply(question, reply) = got else {
+            return Err(Fail::new("no reply"));
+        };
+        let Some((key, _)) = self.part.waiting(question) else {
+            return Err(Fail::new("no question"));
+        };
+        let key = key.copy(alloc)?;
+        let checks = self
+            .part
+            .reply(&self.class, proc, question, key, what_of(reply), now)?;
+        served(alloc, question, &checks)
+    }
+}
