@@ -231,6 +231,7 @@ pub record StillRuns (m : Past) (e : ℕ) (name : List ℕ) (k j : ℕ) : Type 0
   pub ran : runs_at (entries m) e name j ≡ true
   pub other : (k == j) ≡ false
 
+-- who runs after the end of a process
 pub still_runs : (configs : List Configuration) (m : Past) (now k : ℕ) (cause : Cause) (event : Event) (answer : Told) (e : ℕ) (name : List ℕ) (j : ℕ) → EndsProcess configs m k cause event answer
     → (is_at_home (entries m) e name j && (is_some (home_of (entries m) j) && not (is_some (option_or (ended_by (entries m) j event answer) (proc_end (entries m) j))))) ≡ true
     → StillRuns m e name k j

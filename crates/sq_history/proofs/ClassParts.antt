@@ -13,37 +13,37 @@ use Rattle.sq_rules.specs.Configurations.{Configuration}
 use Rattle.sq_rules.specs.Entries.{History}
 use Rattle.sq_rules.specs.Epochs.{class_at, name_of_class}
 use Rattle.sq_rules.specs.FarmReadings.{is_put_for, living_of}
-use Rattle.sq_rules.specs.Farms.{Stock}
 use Rattle.sq_rules.specs.Living.{Living, is_none_living, living_number, with_proc}
 use Rattle.sq_rules.specs.Marks.{Put}
 use Rattle.sq_rules.specs.Numbered.{below, picks, rows}
 use Rattle.sq_rules.specs.Rising.{AreBelow}
 use Rattle.sq_rows.specs.ClassRows.{ClassRow}
 
+-- two rows of a class are one, part by part
 pub same_row : (a b : ClassRow) → a.kept ≡ b.kept → a.lookups ≡ b.lookups → a.stock ≡ b.stock → a ≡ b
 same_row a b k l s = λ i. record { kept = k i; lookups = l i; stock = s i }
 
--- two farms of one class, without losses
-pub same_stock : (a b : Stock) → a.concurrency ≡ b.concurrency → a.children_max ≡ b.children_max → a.queue_size ≡ b.queue_size → a.queue ≡ b.queue → a.procs ≡ b.procs
-    → a.owed ≡ b.owed → a.starting ≡ b.starting → a.held ≡ b.held → a.losses ≡ b.losses → a ≡ b
-same_stock a b n m z q p o s h l =
-    λ i. record { concurrency = n i; children_max = m i; queue_size = z i; queue = q i; procs = p i; owed = o i; starting = s i; held = h i; losses = l i }
-
+-- a number is itself
 pub itself : (n : ℕ) → (n == n) ≡ true
 itself n = grind (arith, nat_tests)
 
+-- a text is itself
 pub bytes_itself : (w : List ℕ) → bytes_eq w w ≡ true
 bytes_itself w = (bytes_eq-Decides w w).1 refl
 
+-- texts that pass the test are one
 pub bytes_same : (v w : List ℕ) → bytes_eq v w ≡ true → v ≡ w
 bytes_same v w e = (bytes_eq-Decides v w).0 e
 
+-- a number that was given is not the next
 pub not_next : (k n : ℕ) → k ≤ n → (k == suc n) ≡ false
 not_next k n high = grind (arith, nat_tests)
 
+-- numbers that pass the test are one
 pub equal : (a b : ℕ) → (a == b) ≡ true → a ≡ b
 equal a b e = grind (arith, nat_tests)
 
+-- what is and is true is what it is
 pub and_true : (b : Bool) → (b && true) ≡ b
 and_true true = refl
 and_true false = refl
@@ -55,6 +55,7 @@ none_slots f (suc n) e =
     map-append f (below n) (n ∷ []) ∙ ap₂ (λ (xs : List (Option ℕ)) (x : Option ℕ). xs ++ x ∷ []) (none_slots f n e) (e n)
     ∙ replicate_more n None ∙ ap (λ (k : ℕ). replicate {A = Option ℕ} k None) (add-one n)
 
+-- one number more below
 pub below_push : (k : ℕ) (xs : List ℕ) (n : ℕ) → n < k → AreBelow k xs → AreBelow k (xs ++ n ∷ [])
 below_push k [] n l b = (l, tt)
 below_push k (x ∷ xs) n l b = (b.0, below_push k xs n l b.1)
@@ -111,6 +112,7 @@ pub record IsPutFor (o : Option Put) (e c : ℕ) : Type 0 where
   pub epoch_is : put.epoch ≡ e
   pub class_is : put.class ≡ c
 
+-- from the test of it
 pub put_for : (o : Option Put) (e c : ℕ) → is_put_for e c o ≡ true → IsPutFor o e c
 put_for None e c t = absurd (cc)
 put_for (Some p) e c t = by (p.epoch == e) (p.class == c) refl refl t

@@ -123,7 +123,8 @@ live_fewer configs m x e keep old is t =
     by true b c f t = refl
     by false b c f t = f t
 
-picks_left : (p p' : ℕ → Bool) (n : ℕ) → ((k : ℕ) → p' k ≡ true → p k ≡ true) → picks p' n ≡ filter p' (picks p n)
+-- a test that holds of fewer numbers picks those of the others
+pub picks_left : (p p' : ℕ → Bool) (n : ℕ) → ((k : ℕ) → p' k ≡ true → p k ≡ true) → picks p' n ≡ filter p' (picks p n)
 picks_left p p' n fewer =
     sym (map-id (picks p' n))
     ∙ rows_left p' (λ (k : ℕ). k) (λ (k : ℕ). k) p p' n (λ k low high. both (p k) (p' k) (fewer k)) (λ k low high t. refl)
@@ -180,12 +181,18 @@ live_same h h' same live = ap (picks (is_live h')) same ∙ picks_same (is_live 
 pub busy_same : (h h' : History) → current h' ≡ current h → ((e : ℕ) → has_open_check h' e ≡ has_open_check h e) → busy_epochs h' ≡ busy_epochs h
 busy_same h h' same busy = ap (λ (n : ℕ). length (picks (has_open_check h') n)) same ∙ ap length (picks_same (has_open_check h) (has_open_check h') (current h) (λ k low high. busy k))
 
+-- how many that is, by the open checks
+pub busy_by_rows : (configs : List Configuration) (m : Past) → busy_epochs (entries m) ≡ length (picks (λ (e : ℕ). some_of_epoch e (held_checks configs m)) (current (entries m)))
+busy_by_rows configs m =
+    ap length (picks_same (λ (e : ℕ). some_of_epoch e (held_checks configs m)) (has_open_check (entries m)) (current (entries m)) (λ k low high. open_by_rows configs m k))
+
 -- a reconfiguration: the epochs with an open check live on, and the new one lives
 pub live_reconfigured : (m : Past) (now : ℕ) (text : List ℕ) (answer : Told) (e : ℕ)
     → is_live (entries (noted_at now (Reconfigure text) answer ∷ m)) e ≡ (e == suc (current (entries m)) || has_open_check (entries m) e)
 unfolding check_open ask_count ask_of
 live_reconfigured m now text answer e = refl
 
+-- the live epochs then, in order
 pub epochs_reconfigured : (m : Past) (now : ℕ) (text : List ℕ) (answer : Told)
     → live_epochs (entries (noted_at now (Reconfigure text) answer ∷ m)) ≡ filter (has_open_check (entries m)) (live_epochs (entries m)) ++ suc (current (entries m)) ∷ []
 epochs_reconfigured m now text answer =

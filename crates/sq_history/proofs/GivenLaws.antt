@@ -43,6 +43,7 @@ pub each_weaker : {A : Type 0} (P Q : A → Type 0) (xs : List A) → ((x : A) �
 each_weaker P Q [] f e = tt
 each_weaker P Q (x ∷ xs) f e = (f x e.0, each_weaker P Q xs f e.1)
 
+-- of each of two lists
 pub each_append : {A : Type 0} (P : A → Type 0) (xs ys : List A) → EachOf P xs → EachOf P ys → EachOf P (xs ++ ys)
 each_append P [] ys a b = b
 each_append P (x ∷ xs) ys a b = (a.0, each_append P xs ys a.1 b)
@@ -98,9 +99,11 @@ each_verdict P key (y ∷ k) v e l = by (same_key key y.0) refl (each_verdict P 
 abbrev pub KeptGiven : List Configuration → Past → ℕ → ℕ → List ℕ × KeptVerdict → Type 0
 KeptGiven configs m e c k = Given configs m e c (gift_of k)
 
+-- so it is of every class of every epoch
 pub record AllKeptGiven (configs : List Configuration) (m : Past) : Type 0 where
   pub kept_given : (e c : ℕ) → EachOf (KeptGiven configs m e c) (kept configs m e c)
 
+-- what was given stays given
 pub given_more : (configs : List Configuration) (m : Past) (x : Marked) (e c : ℕ) (k : KeptList) → EachOf (KeptGiven configs m e c) k → EachOf (KeptGiven configs (x ∷ m) e c) k
 given_more configs m x e c k each = each_weaker (KeptGiven configs m e c) (KeptGiven configs (x ∷ m) e c) k (λ y g. inr (inr g)) each
 
@@ -187,6 +190,7 @@ moved_given configs m now text answer g = record { kept_given = λ e d. by e d (
     by e d true same = moved e d (equal e (suc cur) same) (alike_place configs cur (class_at configs e d)) refl
     by e d false other = left e d ((e == cur) && is_some (alike_place configs (suc cur) (class_at configs e d)))
 
+-- an entry whose answer is the next keeps it so
 pub given_next : (configs : List Configuration) (m : Past) (now : ℕ) (event : Event) (answer : Told) → NamesOnce configs → full_next_at configs m now event ≡ gives answer → Carried configs m
     → AllKeptGiven configs m → AllKeptGiven configs (mark configs m (record { moment = now; event = event; answer = answer }) ∷ m)
 given_next configs m now (Step n) answer once is c g = record {
@@ -200,6 +204,7 @@ given_next configs m now (Reconfigure text) answer once is c g = moved_given con
 given_next configs m now event answer once is c g =
     record { kept_given = λ e d. given_more configs m (mark configs m (record { moment = now; event = event; answer = answer })) e d (kept configs m e d) (g.kept_given e d) }
 
+-- at the first entry nothing is kept
 pub given_first : (configs : List Configuration) (now : ℕ) (event : Event) (answer : Told) → is_begin event ≡ true → AllKeptGiven configs (mark configs [] (record { moment = now; event = event; answer = answer }) ∷ [])
 given_first configs now (Begin offset) answer b = record { kept_given = λ e d. tt }
 given_first configs now event answer b = absurd (cc)
@@ -214,6 +219,7 @@ kept_is_given configs h once legal =
 abbrev pub IsGood : List Configuration → Past → ℕ → Answer → Type 0
 IsGood configs m e a = FreshGiven configs m e a ⊎ IsStepFault a
 
+-- of what a step takes, if it takes something
 pub record TakesGood (configs : List Configuration) (m : Past) (e : ℕ) (t : Option Answer) : Type 0 where
   pub good : (a : Answer) → t ≡ Some a → IsGood configs m e a
 

@@ -210,6 +210,7 @@ any_some test (x ∷ xs) e = by (test x) refl (any_some test xs) e
     by true t more e = (x, t)
     by false t more e = more e
 
+-- so of every epoch that lives
 pub live_begun : (h : History) (e : ℕ) → is_live h e ≡ true → e ≤ current h
 live_begun h e live = by (e == current h) refl live
   where

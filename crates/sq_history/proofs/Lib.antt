@@ -12,6 +12,7 @@ pub mod DeathLaws
 pub mod SendLaws
 pub mod ReconfigureLaws
 pub mod PendingLaws
+pub mod EndLaws
 pub mod AgreeLaws
 pub mod OnceLaws
 pub mod CarriedLaws

@@ -27,6 +27,7 @@ pub record IsGiven (count k : ℕ) : Type 0 where
   pub positive : 1 ≤ k
   pub most : k ≤ count
 
+-- a process of some class was started
 pub home_given : (h : History) (k : ℕ) → is_some (home_of h k) ≡ true → IsGiven (proc_count h) k
 home_given [] k e = absurd (cc)
 home_given (x ∷ h) k e = by (started_by x.event) (home_given h k) e
@@ -251,6 +252,7 @@ pub record HoldsAt (concurrency : ℕ) (h : History) (k q place : ℕ) : Type 0 
   pub within : place < max 1 concurrency
   pub holds : holder (nat_lt 0 concurrency) h k (channel_name (nat_lt 0 concurrency) place) ≡ Some q
 
+-- a line that is a reply names such a channel
 pub reply_holds : (concurrency : ℕ) (h : History) (k : ℕ) (bytes : List ℕ) (q : ℕ) (reply : Reply) → (r : RepliesTo (channels_of concurrency h k) bytes q reply)
     → HoldsAt concurrency h k q (place_of_name r.answer.0)
 reply_holds concurrency h k bytes q reply r =

@@ -188,6 +188,7 @@ last_by m en (Some p) t e c key q false is more l =
     up : (a b : ℕ) → a ≤ b → a ≤ suc b
     up a b l = omega arith
 
+-- from the reading of it
 pub last_put_is : (m : Past) (e c : ℕ) (key : List ℕ) (q : ℕ) → last_put m e c key ≡ Some q → IsLastPut m e c key q
 last_put_is [] e c key q l = absurd (none-some q l)
 last_put_is (x ∷ m) e c key q l = last_by m x.entry x.put x.took e c key q (put_is e c key x.put) refl (last_put_is m e c key q) l

@@ -1,5 +1,5 @@
 -- Processes after each event: which live, and for which a stop is due.
-use Rattle.std.proofs.Common.{◌≡◌, ℕ, suc, ◌≤◌, List, ◌∷◌, Bool, true, false, not, ◌&&◌, ◌||◌, ◌==◌, nat_le, if◌then◌else◌, Option, Some, None, is_some, refl, sym, ap, ap₂, ◌∙◌, arith}
+use Rattle.std.proofs.Common.{◌≡◌, ℕ, suc, ◌≤◌, List, ◌∷◌, filter, map-id, Bool, true, false, not, ◌&&◌, ◌||◌, ◌==◌, nat_le, if◌then◌else◌, Option, Some, None, is_some, refl, sym, ap, ap₂, ◌∙◌, arith}
 use Rattle.std.specs.Option.{option_map_or, option_or}
 use Rattle.std.proofs.lemmas.Bool.{and_right, le-leb}
 use Rattle.sq_base.proofs.CommonLaws.{eq_turned}
@@ -12,9 +12,11 @@ use Rattle.sq_rules.specs.Entries.{History}
 use Rattle.sq_rules.specs.Epochs.{is_live}
 use Rattle.sq_rules.specs.Marks.{Past, entries}
 use Rattle.sq_rules.specs.Processes.{Home, cause_here, home_of, if_here, is_line_end, is_stopped, line_end, lives_on, proc_count, proc_end, stop_due}
+use Rattle.sq_rules.specs.Numbered.{picks}
 use Rattle.sq_history.specs.MarkedEntries.{noted_at}
 use Rattle.sq_history.proofs.ClassParts.{and_true, equal, itself, not_next}
 use Rattle.sq_history.proofs.NumberLaws.{proc_end_above}
+use Rattle.sq_history.proofs.RowLaws.{rows_left}
 
 -- whether a process lives, by its home, its end and the epochs that live
 abbrev pub lives_by : Option Home → Option Cause → (ℕ → Bool) → Bool
@@ -28,6 +30,7 @@ due_by o stopped d live = is_some o && not stopped && (is_line_end d || ((is_som
 pub lives_is : (h : History) (k : ℕ) → lives_on h k ≡ lives_by (home_of h k) (proc_end h k) (is_live h)
 lives_is h k = refl
 
+-- and of due stops
 pub due_is : (h : History) (k : ℕ) → stop_due h k ≡ due_by (home_of h k) (is_stopped h k) (proc_end h k) (is_live h)
 due_is h k = refl
 
@@ -36,6 +39,7 @@ pub lives_like : (o : Option Home) (d : Option Cause) (live other : ℕ → Bool
 lives_like None d live other e = refl
 lives_like (Some p) d live other e = ap (λ (b : Bool). (true && not (is_some d)) && b) (e p.epoch)
 
+-- and so do due stops
 pub due_like : (o : Option Home) (stopped : Bool) (d : Option Cause) (live other : ℕ → Bool) → ((e : ℕ) → live e ≡ other e) → due_by o stopped d live ≡ due_by o stopped d other
 due_like None stopped d live other e = refl
 due_like (Some p) stopped d live other e = ap (λ (b : Bool). true && not stopped && (is_line_end d || ((true && not (is_some d)) && not b))) (e p.epoch)
@@ -46,6 +50,7 @@ pub home_new : (m : Past) (now f : ℕ) (name : List ℕ) (answer : Told)
 home_new m now f name answer =
     ap (λ (b : Bool). option_or (if b then Some (record { epoch = f; class = name }) else None) (home_of (entries m) (suc (proc_count (entries m))))) (itself (suc (proc_count (entries m))))
 
+-- a process that was started before is of the class that it was of
 pub home_old : (m : Past) (now f : ℕ) (name : List ℕ) (answer : Told) (k : ℕ) → k ≤ proc_count (entries m)
     → home_of (entries (noted_at now (Started f name) answer ∷ m)) k ≡ home_of (entries m) k
 home_old m now f name answer k high =
@@ -115,6 +120,30 @@ due_stopped m now p j high live =
     by false true false true = refl
     by false true false false = refl
     by false false s r = refl
+
+-- the stops that are due then, in order
+pub dues_stopped : (m : Past) (now p : ℕ) → ((e : ℕ) → is_live (entries (noted_at now Act (told.Stop p) ∷ m)) e ≡ is_live (entries m) e)
+    → picks (stop_due (entries (noted_at now Act (told.Stop p) ∷ m))) (proc_count (entries m)) ≡ filter (λ (j : ℕ). not (p == j)) (picks (stop_due (entries m)) (proc_count (entries m)))
+dues_stopped m now p live =
+    sym (map-id (picks (stop_due (entries (noted_at now Act (told.Stop p) ∷ m))) (proc_count (entries m))))
+    ∙ rows_left (λ (j : ℕ). not (p == j)) (λ (j : ℕ). j) (λ (j : ℕ). j) (stop_due (entries m)) (stop_due (entries (noted_at now Act (told.Stop p) ∷ m))) (proc_count (entries m))
+    (λ j low high. due_stopped m now p j high live) (λ j low high t. refl)
+    ∙ ap (filter (λ (j : ℕ). not (p == j))) (map-id (picks (stop_due (entries m)) (proc_count (entries m))))
+
+-- no stop is due of a process that is started in an epoch that lives
+pub due_started : (m : Past) (now f : ℕ) (name : List ℕ) (answer : Told) → is_live (entries (noted_at now (Started f name) answer ∷ m)) f ≡ true
+    → stop_due (entries (noted_at now (Started f name) answer ∷ m)) (suc (proc_count (entries m))) ≡ false
+due_started m now f name answer live =
+    ap₂ (λ (o : Option Home) (d : Option Cause). due_by o stopped d (is_live (entries (noted_at now (Started f name) answer ∷ m)))) (home_new m now f name answer)
+    (proc_end_above (entries m) (suc (proc_count (entries m))) (omega arith))
+    ∙ ap (λ (b : Bool). true && not stopped && (false || (true && not b))) live ∙ none stopped
+  where
+    stopped : Bool
+    stopped = is_stopped (entries (noted_at now (Started f name) answer ∷ m)) (suc (proc_count (entries m)))
+
+    none : (s : Bool) → (true && not s && (false || (true && not true))) ≡ false
+    none true = refl
+    none false = refl
 
 -- a line that ends its process: a stop of it is due, where it lived and was not told to stop; the others are due as they were
 pub due_line : (m : Past) (now k : ℕ) (bytes : List ℕ) (answer : Told) (c : Cause) (j : ℕ) → line_end answer ≡ Some c → is_line_end (Some c) ≡ true → j ≤ proc_count (entries m)

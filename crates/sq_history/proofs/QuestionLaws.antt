@@ -94,6 +94,7 @@ needed_fresh : (class : Class) (p : Put) (now : ℕ) (v : Option KeptVerdict) (o
 needed_fresh class p now (Some v) o f count = needed_kept class class.name p v now (is_due class v now) o f refl
 needed_fresh class p now None o f count = needed_asked class class.name p now o f count
 
+-- so the rule of a step puts it
 pub puts_needed : (class : Class) (p : Put) (now : ℕ) (k : KeptList) (o : Option ℕ) (f : Bool) (count : ℕ) → PutsNeeded class now (fresh_for class p.key now k) (says_need class p now k o f count)
 puts_needed class p now k o f count = by (nat_lt key_limit (length p.key))
   where

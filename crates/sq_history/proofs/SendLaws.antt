@@ -234,6 +234,7 @@ pub record SendIs (queue : List Waiting) (t : Option (ℕ × Option ℕ)) (p q :
   pub question_is : first.question ≡ q
   pub target_is : t ≡ Some (p, channel)
 
+-- from the send of a farm
 pub send_is : (queue : List Waiting) (t : Option (ℕ × Option ℕ)) (p q : ℕ) (channel : Option ℕ) (key : List ℕ)
     → send_by queue t ≡ Some (record { proc = p; question = q; channel = channel; text = key }) → SendIs queue t p q channel
 send_is [] t p q channel key e = absurd (none-some _ e)

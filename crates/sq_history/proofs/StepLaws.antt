@@ -54,6 +54,7 @@ step_with now n answer p t = record { entry = record { moment = now; event = Ste
 pub put_new : (m : Past) (en : Noted) (p : Put) (t : Option Answer) → put_of (record { entry = en; put = Some p; took = t } ∷ m) (suc (put_count m)) ≡ Some p
 put_new m en p t = ap (λ (b : Bool). option_or (if b then Some p else None) (put_of m (suc (put_count m)))) (itself (suc (put_count m)))
 
+-- a question that was put before is what it was
 pub put_old : (m : Past) (en : Noted) (p : Put) (t : Option Answer) (k : ℕ) → k ≤ put_count m → put_of (record { entry = en; put = Some p; took = t } ∷ m) k ≡ put_of m k
 put_old m en p t k high = ap (λ (b : Bool). option_or (if b then Some p else None) (put_of m k)) (not_next k (put_count m) high)
 
