@@ -148,7 +148,8 @@ impl OpenCheck {
         evaluate(alloc, &self.config, &self.facts, &self.sight, &self.answers)
     }
 
-    /// Puts the answer that came among the others, if one did.
+    /// Puts the answer that came among the others, if one did. It takes a copy, since a push that fails gives
+    /// nothing back.
     pub fn settle(&mut self, alloc: Global) -> Result<(), WantOfMemory>
         ensures ok { OnOk result (self.new ≡ settled self.old) }
         ensures err { OnErr result (self.new ≡ self.old) }
