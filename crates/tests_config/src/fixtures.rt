@@ -1,7 +1,5 @@
-//! What several tests share: long texts, and the first fault of a configuration.
+//! What several tests share: long texts.
 use sq_base::{Text, WantOfMemory};
-use sq_conf::{ConfFault, read_config};
-use sq_rules::ConfError;
 use std::alloc::Global;
 
 /// The bytes of `front`, this many `a`, and the bytes of `back`.
@@ -16,13 +14,4 @@ pub fn long_text(
     text.append(&middle)?;
     text.append(back)?;
     Ok(text)
-}
-
-/// The line and the number of the kind of a text's first fault, where it has one.
-pub fn first_fault(alloc: Global, text: &[u8]) -> Result<Option<(u32, u8)>, WantOfMemory> {
-    match read_config(alloc, text) {
-        Ok(_) => Ok(None),
-        Err(ConfFault::At(ConfError { line, kind })) => Ok(Some((line, kind.number()))),
-        Err(ConfFault::WantOfMemory) => Err(WantOfMemory),
-    }
 }

@@ -166,9 +166,9 @@ fn keepers_hand_on_lines_and_then_one_death(rt: HostRuntime) -> Result<(), Fail>
         let mut source = MemSource::new(text, case.step, fails);
         let mut desk = MemDesk::new(alloc, case.wants, lacks);
         let ended = read_lines(&rt, alloc, &mut source, ProcNo(7), &mut desk);
-        assert_eq!(rt; ended, end, "at {handed:?}");
+        assert!(rt; ended == end, "at {handed:?}");
         let shown = shown(alloc, desk.handed().ok_or("not all was kept")?)?;
-        assert_eq!(rt; shown.as_bytes(), handed, "at {handed:?}");
+        assert!(rt; shown.as_bytes() == handed, "at {handed:?}");
     }
     Ok(())
 }
@@ -180,7 +180,7 @@ fn keepers_hand_on_65537_bytes_of_a_longer_line(rt: HostRuntime) -> Result<(), F
     let mut source = MemSource::new(written.into_vec(), 5000, Vec::new(alloc));
     let mut desk = MemDesk::new(alloc, 9, Vec::new(alloc));
     let ended = read_lines(&rt, alloc, &mut source, ProcNo(1), &mut desk);
-    assert_eq!(rt; ended, Ended);
+    assert!(rt; ended == Ended);
     let wanted = long_text(alloc, b"1 OK|1 OK ", 65534, b"|1 died|")?;
     let shown = shown(alloc, desk.handed().ok_or("not all was kept")?)?;
     assert!(rt; shown == wanted);

@@ -1,5 +1,4 @@
 //! The lines of a script, as a source gives them in pieces.
-use crate::fixtures::long_text;
 use sq_base::{Text, WantOfMemory};
 use sq_outside::{Found, Held, MemSource, Unread, next_line};
 use std::alloc::Global;
@@ -186,22 +185,7 @@ fn scripts_are_read_line_by_line(rt: HostRuntime) -> Result<(), Fail> {
         let fails = Vec::from_slice(alloc, case.fails)?;
         let mut source = MemSource::new(text, case.step, fails);
         let shown = shown(alloc, &mut source, case.room, case.place)?;
-        assert_eq!(rt; shown.as_bytes(), wanted);
-    }
-    Ok(())
-}
-
-#[test]
-fn a_line_has_4194304_bytes_at_most(rt: HostRuntime) -> Result<(), Fail> {
-    let alloc = rt.alloc();
-    for &(count, wanted) in &[(4_194_304usize, true), (4_194_305, false)] {
-        let text = long_text(alloc, b"", count, b"\n")?;
-        let mut source = MemSource::new(text.into_vec(), 5_000_000, Vec::new(alloc));
-        let mut held = Held::new(alloc, 65_536)?;
-        let mut line = Vec::new(alloc);
-        let mut place = 0;
-        let found = next_line(&mut held, &mut source, &mut place, &mut line);
-        assert_eq!(rt; found == Ok(Found::Whole), wanted, "at {count}");
+        assert!(rt; shown.as_bytes() == wanted);
     }
     Ok(())
 }

@@ -48,9 +48,17 @@ pub fn sight(
     })
 }
 
-/// The configuration of two texts, one behind the other.
-pub fn setup_of(alloc: Global, front: &str, back: &str) -> Result<Setup, Fail> {
+/// What a check sees of a request of this client for a page, with these fields.
+pub fn page(alloc: Global, client: Client, fields: Fields) -> Result<Sight, Fail> {
+    sight(alloc, client, b"GET", b"http://a.example/", fields)
+}
+
+/// The configuration of a text and of lines behind it, which have `; ` between.
+pub fn setup_of(alloc: Global, front: &str, lines: &str) -> Result<Setup, Fail> {
     let mut text = Text::from_slice(alloc, front.as_bytes())?;
-    text.append(back.as_bytes())?;
+    for line in lines.split("; ") {
+        text.append(line.as_bytes())?;
+        text.push(b'\n')?;
+    }
     Ok(read_config(alloc, text.as_bytes())?)
 }

@@ -1,5 +1,5 @@
 //! What rules over groups and external acls come to.
-use crate::fixtures::{Client, setup_of, sight};
+use crate::fixtures::{Client, page, setup_of};
 use sq_base::{Answer, Answers, Cause, Fields, Listed, Moment, Text, WantOfMemory, What};
 use sq_eval::{Value, evaluate};
 use sq_facts::read_facts;
@@ -19,270 +19,57 @@ acl b external v\n\
 acl q external v\n\
 acl n external v\n";
 
-/// What is shown, the lines behind these, and what they come to.
-static CASES: [(&str, &str, &str); 58] = [
-    ("no rule", "", "denied empty"),
-    ("a match", "http_access allow h\n", "allowed rule 1"),
-    ("no match", "http_access allow m\n", "denied default"),
-    (
-        "none of a denial",
-        "http_access deny m\n",
-        "allowed default",
-    ),
-    (
-        "the last rule counts",
-        "http_access allow m\nhttp_access deny m\n",
-        "allowed default",
-    ),
-    (
-        "also one that allows",
-        "http_access deny m\nhttp_access allow m\n",
-        "denied default",
-    ),
-    (
-        "some member",
-        "acl g any-of m h\nhttp_access allow g\n",
-        "allowed rule 1",
-    ),
-    (
-        "no member",
-        "acl g any-of m\nhttp_access allow g\n",
-        "denied default",
-    ),
-    (
-        "! at a member",
-        "acl g any-of !m\nhttp_access allow g\n",
-        "allowed rule 1",
-    ),
-    (
-        "! at a group that matches",
-        "acl g any-of h\nhttp_access allow !g\n",
-        "denied default",
-    ),
-    (
-        "! at a group that does not",
-        "acl g any-of m\nhttp_access allow !g\n",
-        "allowed rule 1",
-    ),
-    (
-        "members of two lines",
-        "acl g any-of m\nacl g any-of h\nhttp_access allow g\n",
-        "allowed rule 1",
-    ),
-    (
-        "all members",
-        "acl g all-of h !m\nhttp_access allow g\n",
-        "allowed rule 1",
-    ),
-    (
-        "not the last member",
-        "acl g all-of h m\nhttp_access allow g\n",
-        "denied default",
-    ),
-    (
-        "not the first member",
-        "acl g all-of m h\nhttp_access allow g\n",
-        "denied default",
-    ),
-    (
-        "the second line",
-        "acl g all-of h m\nacl g all-of h !m\nhttp_access allow g\n",
-        "allowed rule 1",
-    ),
-    (
-        "the first line",
-        "acl g all-of h\nacl g all-of m\nhttp_access allow g\n",
-        "allowed rule 1",
-    ),
-    (
-        "no line",
-        "acl g all-of h m\nacl g all-of !h\nhttp_access allow g\n",
-        "denied default",
-    ),
-    (
-        "! at all-of",
-        "acl g all-of h m\nhttp_access allow !g\n",
-        "allowed rule 1",
-    ),
-    (
-        "any-of in all-of",
-        "acl a any-of m h\nacl g all-of a !m\nhttp_access allow g\n",
-        "allowed rule 1",
-    ),
-    (
-        "all-of in any-of",
-        "acl a all-of h m\nacl g any-of a m\nhttp_access allow g\n",
-        "denied default",
-    ),
-    (
-        "! at both levels",
-        "acl a any-of m\nacl g any-of !a\nhttp_access allow !g\n",
-        "denied default",
-    ),
-    (
-        "! at one of two rules",
-        "acl a all-of h m\nacl g any-of !a\nhttp_access deny !g\nhttp_access allow g\n",
-        "allowed rule 2",
-    ),
-    (
-        "three levels",
-        "acl a any-of m\nacl c all-of h !a\nacl g any-of c\nhttp_access allow g\n",
-        "allowed rule 1",
-    ),
-    (
-        "terms of a rule are all to match",
-        "acl g any-of h\nhttp_access allow g m\nhttp_access deny g !m\n",
-        "denied rule 2",
-    ),
-    (
-        "a group named twice",
-        "acl g any-of h\nhttp_access allow !g\nhttp_access allow g\n",
-        "allowed rule 2",
-    ),
-    (
-        "a network's denial by !, at port 80",
-        "acl both all-of h !m\nacl other any-of !both\nhttp_access deny other\nhttp_access allow all\n",
-        "allowed rule 2",
-    ),
-    (
-        "and at another port",
-        "acl both all-of h m\nacl other any-of !both\nhttp_access deny other\nhttp_access allow all\n",
-        "denied rule 1",
-    ),
-    ("OK", "http_access allow o\n", "allowed rule 1"),
-    ("ERR", "http_access allow e\n", "denied default"),
-    ("! and OK", "http_access allow !o\n", "denied default"),
-    ("! and ERR", "http_access allow !e\n", "allowed rule 1"),
-    ("a fault", "http_access allow b\n", "denied fault 1 b Bh"),
-    (
-        "! and a fault",
-        "http_access allow !b\n",
-        "denied fault 1 b Bh",
-    ),
-    (
-        "! and a fault in a denial",
-        "http_access deny !b\nhttp_access allow all\n",
-        "denied fault 1 b Bh",
-    ),
-    (
-        "another fault",
-        "http_access allow q\n",
-        "denied fault 1 q QueueFull",
-    ),
-    (
-        "a fault in a later rule",
-        "http_access allow m\nhttp_access deny b\n",
-        "denied fault 2 b Bh",
-    ),
-    ("a need", "http_access allow n\n", "needs n for n\\x20-"),
-    (
-        "! and a need",
-        "http_access allow !n\n",
-        "needs n for n\\x20-",
-    ),
-    (
-        "a fault behind a match",
-        "acl g any-of h b\nhttp_access allow g\n",
-        "allowed rule 1",
-    ),
-    (
-        "a fault before a match",
-        "acl g any-of b h\nhttp_access allow g\n",
-        "denied fault 1 b Bh",
-    ),
-    (
-        "a need behind a match",
-        "acl g any-of o n\nhttp_access allow g\n",
-        "allowed rule 1",
-    ),
-    (
-        "a need before a match",
-        "acl g any-of n h\nhttp_access allow g\n",
-        "needs n for n\\x20-",
-    ),
-    (
-        "a fault behind a mismatch of all-of",
-        "acl g all-of m b\nhttp_access allow g\n",
-        "denied default",
-    ),
-    (
-        "a need behind a mismatch of all-of",
-        "acl g all-of e n\nhttp_access allow g\n",
-        "denied default",
-    ),
-    (
-        "a fault behind a match of all-of",
-        "acl g all-of h b\nhttp_access allow g\n",
-        "denied fault 1 b Bh",
-    ),
-    (
-        "a need behind a match of all-of",
-        "acl g all-of o n\nhttp_access allow g\n",
-        "needs n for n\\x20-",
-    ),
-    (
-        "a need behind a line that failed",
-        "acl g all-of m n\nacl g all-of h\nhttp_access allow g\n",
-        "allowed rule 1",
-    ),
-    (
-        "a fault in the first line",
-        "acl g all-of b\nacl g all-of h\nhttp_access allow g\n",
-        "denied fault 1 b Bh",
-    ),
-    (
-        "a need in a line behind a match",
-        "acl g all-of h\nacl g all-of n\nhttp_access allow g\n",
-        "allowed rule 1",
-    ),
-    (
-        "! and a fault in a group",
-        "acl g any-of !b h\nhttp_access allow g\n",
-        "denied fault 1 b Bh",
-    ),
-    (
-        "! at a group with a fault",
-        "acl g any-of b\nhttp_access allow !g\n",
-        "denied fault 1 b Bh",
-    ),
-    (
-        "a need under two !",
-        "acl a any-of !n\nhttp_access allow !a\n",
-        "needs n for n\\x20-",
-    ),
-    (
-        "a fault two levels down",
-        "acl a all-of h b\nacl g any-of m a\nhttp_access allow g\n",
-        "denied fault 1 b Bh",
-    ),
-    (
-        "a rule before a need",
-        "http_access deny h\nhttp_access allow n\n",
-        "denied rule 1",
-    ),
-    (
-        "a mismatch before a need",
-        "http_access allow m n\nhttp_access allow h\n",
-        "allowed rule 2",
-    ),
-    (
-        "a need before a mismatch",
-        "http_access allow n m\nhttp_access allow h\n",
-        "needs n for n\\x20-",
-    ),
-    (
-        "ERR leaves it to the default",
-        "acl g any-of e\nhttp_access deny g\n",
-        "allowed default",
-    ),
-];
+/// A line for each case: what is shown, the lines behind these, and what they come to. Cases that need no
+/// answer are in `cases/groups.txt`.
+static CASES: &str = "\
+OK: http_access allow o => allowed rule 1\n\
+ERR: http_access allow e => denied default\n\
+! and OK: http_access allow !o => denied default\n\
+! and ERR: http_access allow !e => allowed rule 1\n\
+a fault: http_access allow b => denied fault 1 b Bh\n\
+! and a fault: http_access allow !b => denied fault 1 b Bh\n\
+! and a fault in a denial: http_access deny !b; http_access allow all => denied fault 1 b Bh\n\
+another fault: http_access allow q => denied fault 1 q QueueFull\n\
+a fault in a later rule: http_access allow m; http_access deny b => denied fault 2 b Bh\n\
+a need: http_access allow n => needs n for n\\x20-\n\
+! and a need: http_access allow !n => needs n for n\\x20-\n\
+a fault behind a match: acl g any-of h b; http_access allow g => allowed rule 1\n\
+a fault before a match: acl g any-of b h; http_access allow g => denied fault 1 b Bh\n\
+a need behind a match: acl g any-of o n; http_access allow g => allowed rule 1\n\
+a need before a match: acl g any-of n h; http_access allow g => needs n for n\\x20-\n\
+a fault behind a mismatch of all-of: acl g all-of m b; http_access allow g => denied default\n\
+a need behind a mismatch of all-of: acl g all-of e n; http_access allow g => denied default\n\
+a fault behind a match of all-of: acl g all-of h b; http_access allow g => denied fault 1 b Bh\n\
+a need behind a match of all-of: acl g all-of o n; http_access allow g => needs n for n\\x20-\n\
+a need behind a line that failed: acl g all-of m n; acl g all-of h; http_access allow g => allowed rule 1\n\
+a fault in the first line: acl g all-of b; acl g all-of h; http_access allow g => denied fault 1 b Bh\n\
+a need in a line behind a match: acl g all-of h; acl g all-of n; http_access allow g => allowed rule 1\n\
+! and a fault in a group: acl g any-of !b h; http_access allow g => denied fault 1 b Bh\n\
+! at a group with a fault: acl g any-of b; http_access allow !g => denied fault 1 b Bh\n\
+a need under two !: acl a any-of !n; http_access allow !a => needs n for n\\x20-\n\
+a fault two levels down: acl a all-of h b; acl g any-of m a; http_access allow g => denied fault 1 b Bh\n\
+a rule before a need: http_access deny h; http_access allow n => denied rule 1\n\
+a mismatch before a need: http_access allow m n; http_access allow h => allowed rule 2\n\
+a need before a mismatch: http_access allow n m; http_access allow h => needs n for n\\x20-\n\
+ERR leaves it to the default: acl g any-of e; http_access deny g => allowed default\n\
+";
+
+/// What the helper said to the question of an acl's name.
+fn said(alloc: Global, name: u8) -> What {
+    match name {
+        b'o' => What::Yes(Listed::new(alloc)),
+        b'e' => What::No(Listed::new(alloc)),
+        b'b' => What::Fault(Cause::Bh),
+        _ => What::Fault(Cause::QueueFull),
+    }
+}
 
 /// The answer to the question of an acl's name, of one byte.
-fn answer(alloc: Global, name: u8, what: What) -> Result<Answer, WantOfMemory> {
+fn answer(alloc: Global, name: u8) -> Result<Answer, WantOfMemory> {
     Ok(Answer {
         class: 0,
         key: Text::from_slice(alloc, &[name, b' ', b'-'])?,
-        what,
+        what: said(alloc, name),
         question: None,
         date: Moment(0),
         taken: Moment(0),
@@ -336,30 +123,16 @@ fn come_to(alloc: Global, lines: &str, sight: &Sight, answers: &Answers) -> Resu
 #[test]
 fn rules_come_to_what_their_terms_say(rt: HostRuntime) -> Result<(), Fail> {
     let alloc = rt.alloc();
-    let sight = sight(
-        alloc,
-        Client::Office,
-        b"GET",
-        b"http://a.example/",
-        Fields::new(alloc),
-    )?;
+    let sight = page(alloc, Client::Office, Fields::new(alloc))?;
     let mut answers = Answers::new(alloc);
-    put(
-        &mut answers,
-        answer(alloc, b'o', What::Yes(Listed::new(alloc)))?,
-    )?;
-    put(
-        &mut answers,
-        answer(alloc, b'e', What::No(Listed::new(alloc)))?,
-    )?;
-    put(&mut answers, answer(alloc, b'b', What::Fault(Cause::Bh))?)?;
-    put(
-        &mut answers,
-        answer(alloc, b'q', What::Fault(Cause::QueueFull))?,
-    )?;
-    for (what, lines, wanted) in &CASES {
+    for &name in b"oebq" {
+        put(&mut answers, answer(alloc, name)?)?;
+    }
+    for case in CASES.lines() {
+        let (stated, wanted) = case.rsplit_once(" => ").ok_or("no outcome")?;
+        let (_, lines) = stated.split_once(": ").ok_or("no lines")?;
         let came = come_to(alloc, lines, &sight, &answers)?;
-        assert!(rt; came.as_str() == *wanted, "{what}: {came}");
+        assert!(rt; came.as_str() == wanted, "{case}: {came}");
     }
     Ok(())
 }

@@ -1,5 +1,5 @@
 //! The key that a helper is asked.
-use crate::fixtures::{Client, setup_of, sight};
+use crate::fixtures::{Client, page, setup_of, sight};
 use sq_base::{Field, Fields, Listed, Text, Texts};
 use sq_format::key;
 use sq_rules::{
@@ -8,159 +8,98 @@ use sq_rules::{
 use std::alloc::Global;
 use std::test::Fail;
 
-/// FORMAT, a method and target, and the key of an acl without arguments.
-static REQUESTS: [(&str, &str, &str, &str); 24] = [
-    ("%>a", "GET", "http://a.example/", "10.1.2.3 -"),
-    ("%SRC", "GET", "http://a.example/", "10.1.2.3 -"),
-    ("%>p", "GET", "http://a.example/", "4000 -"),
-    ("%SRCPORT", "GET", "http://a.example/", "4000 -"),
-    ("%>rm", "POST", "http://a.example/", "POST -"),
-    ("%METHOD", "G%T", "http://a.example/", "G%25T -"),
-    (
-        "%>ru",
-        "GET",
-        "http://A.example/x?y",
-        "http://A.example/x?y -",
-    ),
-    (
-        "%URI",
-        "GET",
-        "http://a.example/%20",
-        "http://a.example/%2520 -",
-    ),
-    ("%>ru", "CONNECT", "a.example:443", "a.example:443 -"),
-    ("%>rs", "GET", "http://a.example/", "http -"),
-    ("%PROTO", "GET", "HTTPS://a.example/", "https -"),
-    ("%>rs", "CONNECT", "a.example:443", "- -"),
-    ("%>rd", "GET", "http://A.EXAMPLE/", "a.example -"),
-    ("%DST", "GET", "http://[2001:DB8::1]/", "2001:db8::1 -"),
-    ("%>rd", "CONNECT", "192.0.2.1:443", "192.0.2.1 -"),
-    ("%>rP", "GET", "http://a.example/", "80 -"),
-    ("%>rP", "GET", "https://a.example/", "443 -"),
-    ("%PORT", "CONNECT", "a.example:8443", "8443 -"),
-    ("%>rP", "GET", "wais://a.example/", "0 -"),
-    ("%>rp", "GET", "http://a.example/x?y", "/x?y -"),
-    ("%PATH", "GET", "http://a.example?q=1", "?q=1 -"),
-    ("%>rp", "GET", "http://a.example", "- -"),
-    ("%PATH", "CONNECT", "a.example:443", "- -"),
-    ("%%", "GET", "http://a.example/", "% -"),
-];
+/// A line for each key: FORMAT, the name of an acl and its arguments, a method and target, the fields of the
+/// request with `;` between, and the key.
+static KEYS: &str = "\
+%>a|x|GET http://a.example/||10.1.2.3 -\n\
+%SRC|x|GET http://a.example/||10.1.2.3 -\n\
+%>p|x|GET http://a.example/||4000 -\n\
+%SRCPORT|x|GET http://a.example/||4000 -\n\
+%>rm|x|POST http://a.example/||POST -\n\
+%METHOD|x|G%T http://a.example/||G%25T -\n\
+%>ru|x|GET http://A.example/x?y||http://A.example/x?y -\n\
+%URI|x|GET http://a.example/%20||http://a.example/%2520 -\n\
+%>ru|x|CONNECT a.example:443||a.example:443 -\n\
+%>rs|x|GET http://a.example/||http -\n\
+%PROTO|x|GET HTTPS://a.example/||https -\n\
+%>rs|x|CONNECT a.example:443||- -\n\
+%>rd|x|GET http://A.EXAMPLE/||a.example -\n\
+%DST|x|GET http://[2001:DB8::1]/||2001:db8::1 -\n\
+%>rd|x|CONNECT 192.0.2.1:443||192.0.2.1 -\n\
+%>rP|x|GET http://a.example/||80 -\n\
+%>rP|x|GET https://a.example/||443 -\n\
+%PORT|x|CONNECT a.example:8443||8443 -\n\
+%>rP|x|GET wais://a.example/||0 -\n\
+%>rp|x|GET http://a.example/x?y||/x?y -\n\
+%PATH|x|GET http://a.example?q=1||?q=1 -\n\
+%>rp|x|GET http://a.example||- -\n\
+%PATH|x|CONNECT a.example:443||- -\n\
+%%|x|GET http://a.example/||% -\n\
+%>{Accept}|x|GET http://a.example/||- -\n\
+%>{Accept}|x|GET http://a.example/|Accept:text/html|text/html -\n\
+%>{accept}|x|GET http://a.example/|ACCEPT:a|a -\n\
+%>{A}|x|GET http://a.example/|A:a;Host:h;a:b|a,%20b -\n\
+%>{A}|x|GET http://a.example/|A:a;A:b;A:c|a,%20b,%20c -\n\
+%>{Accept}|x|GET http://a.example/|Accept:| -\n\
+%>{A}|x|GET http://a.example/|A:;A:b|,%20b -\n\
+%>{Accept}|x|GET http://a.example/|Accept:-|- -\n\
+%>{Accept}|x|GET http://a.example/|Accept:é x|%C3%A9%20x -\n\
+%>{A}|x|GET http://a.example/|A:\"<>\\%\t~|%22%3C%3E%5C%25%09~ -\n\
+%ACL|x|GET http://a.example/||x -\n\
+%ACL|x%y|GET http://a.example/||x%25y -\n\
+%DATA|x|GET http://a.example/||-\n\
+%DATA|x a|GET http://a.example/||a\n\
+%DATA|x a%b c -|GET http://a.example/||a%25b c -\n\
+|x|GET http://a.example/||-\n\
+|x a b|GET http://a.example/||a b\n\
+%DATA %>a|x a|GET http://a.example/||a 10.1.2.3\n\
+%% %>p %%|x a|GET http://a.example/||% 4000 % a\n\
+%>a %>rm %>rP %>{Accept} %ACL %DATA|x a%b c|GET http://a.example/||10.1.2.3 GET 80 - x a%25b c\n\
+";
 
-/// FORMAT, the fields of a request, and the key of an acl without arguments.
-static FIELDS: [(&str, &[(&str, &str)], &str); 10] = [
-    ("%>{Accept}", &[], "- -"),
-    ("%>{Accept}", &[("Accept", "text/html")], "text/html -"),
-    ("%>{accept}", &[("ACCEPT", "a")], "a -"),
-    (
-        "%>{A}",
-        &[("A", "a"), ("Host", "h"), ("a", "b")],
-        "a,%20b -",
-    ),
-    (
-        "%>{A}",
-        &[("A", "a"), ("A", "b"), ("A", "c")],
-        "a,%20b,%20c -",
-    ),
-    ("%>{Accept}", &[("Accept", "")], " -"),
-    ("%>{A}", &[("A", ""), ("A", "b")], ",%20b -"),
-    ("%>{Accept}", &[("Accept", "-")], "- -"),
-    ("%>{Accept}", &[("Accept", "é x")], "%C3%A9%20x -"),
-    ("%>{A}", &[("A", "\"<>\\%\t~")], "%22%3C%3E%5C%25%09~ -"),
-];
-
-/// FORMAT, the name of an acl and its arguments, and the key of a request without fields.
-static ACLS: [(&str, &str, &str); 10] = [
-    ("%ACL", "x", "x -"),
-    ("%ACL", "x%y", "x%25y -"),
-    ("%DATA", "x", "-"),
-    ("%DATA", "x a", "a"),
-    ("%DATA", "x a%b c -", "a%25b c -"),
-    ("", "x", "-"),
-    ("", "x a b", "a b"),
-    ("%DATA %>a", "x a", "a 10.1.2.3"),
-    ("%% %>p %%", "x a", "% 4000 % a"),
-    (
-        "%>a %>rm %>rP %>{Accept} %ACL %DATA",
-        "x a%b c",
-        "10.1.2.3 GET 80 - x a%25b c",
-    ),
-];
-
-/// The list of these fields.
-fn fields_of(alloc: Global, pairs: &[(&str, &str)]) -> Result<Fields, Fail> {
+/// The list of the fields that a text states, each as its name, `:` and its value.
+fn fields_of(alloc: Global, stated: &str) -> Result<Fields, Fail> {
     let mut fields = Fields::new(alloc);
-    for (name, value) in pairs {
-        fields.push(Field {
-            name: Text::from_slice(alloc, name.as_bytes())?,
-            value: Text::from_slice(alloc, value.as_bytes())?,
-        })?;
+    for field in stated.split(';') {
+        if let Some((name, value)) = field.split_once(':') {
+            fields.push(Field {
+                name: Text::from_slice(alloc, name.as_bytes())?,
+                value: Text::from_slice(alloc, value.as_bytes())?,
+            })?;
+        }
     }
     Ok(fields)
 }
 
-/// The lines of a class of this FORMAT and of an acl with this name and arguments.
-fn lines_of(alloc: Global, format: &str, acl: &str) -> Result<String, Fail> {
-    let (name, arguments) = match acl.split_once(' ') {
-        Some((name, arguments)) => (name, arguments),
-        None => (acl, ""),
-    };
-    Ok(format!(in alloc;
-        "external_acl_type v {format} /bin/h\nacl {name} external v {arguments}\n"
-    )?)
-}
-
-/// The key of an acl of a class of this FORMAT.
+/// The key of an acl, a name and arguments, of a class of this FORMAT.
 fn key_of(alloc: Global, format: &str, acl: &str, sight: &Sight) -> Result<Text, Fail> {
-    let setup = setup_of(alloc, "", &lines_of(alloc, format, acl)?)?;
+    let (name, arguments) = acl.split_once(' ').unwrap_or((acl, ""));
+    let class = format!(in alloc; "external_acl_type v {format} /bin/h\n")?;
+    let line = format!(in alloc; "acl {name} external v {arguments}")?;
+    let setup = setup_of(alloc, &class, &line)?;
     let acls = setup.config().acls().len() as u32;
     Ok(key(alloc, setup.config(), acls.saturating_sub(1), sight)?)
 }
 
-/// What a check sees of a request for a page with these fields.
-fn page(alloc: Global, client: Client, fields: Fields) -> Result<Sight, Fail> {
-    sight(alloc, client, b"GET", b"http://a.example/", fields)
+/// The key of a line of the table before its last `|`.
+fn key_asked(alloc: Global, asked: &str) -> Result<Text, Fail> {
+    let (format, rest) = asked.split_once('|').ok_or("no acl")?;
+    let (acl, rest) = rest.split_once('|').ok_or("no request")?;
+    let (request, fields) = rest.split_once('|').ok_or("no fields")?;
+    let (method, target) = request.split_once(' ').ok_or("no target")?;
+    let fields = fields_of(alloc, fields)?;
+    let target = target.as_bytes();
+    let sight = sight(alloc, Client::Office, method.as_bytes(), target, fields)?;
+    key_of(alloc, format, acl, &sight)
 }
 
 #[test]
-fn a_key_tells_the_request(rt: HostRuntime) -> Result<(), Fail> {
+fn a_key_tells_the_request_its_fields_and_the_acl(rt: HostRuntime) -> Result<(), Fail> {
     let alloc = rt.alloc();
-    for (format, method, target, wanted) in &REQUESTS {
-        let fields = Fields::new(alloc);
-        let target = target.as_bytes();
-        let sight = sight(alloc, Client::Office, method.as_bytes(), target, fields)?;
-        let key = key_of(alloc, format, "x", &sight)?;
-        assert!(rt;
-            key.as_bytes() == wanted.as_bytes(),
-            "{format}, {wanted}: {key}"
-        );
-    }
-    Ok(())
-}
-
-#[test]
-fn a_key_tells_the_fields_of_a_name(rt: HostRuntime) -> Result<(), Fail> {
-    let alloc = rt.alloc();
-    for (format, pairs, wanted) in &FIELDS {
-        let sight = page(alloc, Client::Office, fields_of(alloc, pairs)?)?;
-        let key = key_of(alloc, format, "x", &sight)?;
-        assert!(rt;
-            key.as_bytes() == wanted.as_bytes(),
-            "{format}, {wanted}: {key}"
-        );
-    }
-    Ok(())
-}
-
-#[test]
-fn a_key_tells_the_acl_and_its_arguments(rt: HostRuntime) -> Result<(), Fail> {
-    let alloc = rt.alloc();
-    let sight = page(alloc, Client::Office, Fields::new(alloc))?;
-    for (format, acl, wanted) in &ACLS {
-        let key = key_of(alloc, format, acl, &sight)?;
-        assert!(rt;
-            key.as_bytes() == wanted.as_bytes(),
-            "{format}, {acl}: {key}"
-        );
+    for line in KEYS.lines() {
+        let (asked, wanted) = line.rsplit_once('|').ok_or("no key")?;
+        let key = key_asked(alloc, asked)?;
+        assert!(rt; key.as_bytes() == wanted.as_bytes(), "{line}: {key}");
     }
     let sight = page(alloc, Client::Abroad, Fields::new(alloc))?;
     let key = key_of(alloc, "%>a", "x", &sight)?;
@@ -220,13 +159,7 @@ fn a_class_of_parts_asks_for_the_arguments_too(rt: HostRuntime) -> Result<(), Fa
     arguments.push(Text::from_slice(alloc, b"\xff")?)?;
     arguments.push(Text::new(alloc))?;
     let config = tokenless(alloc, arguments)?;
-    let sight = sight(
-        alloc,
-        Client::Office,
-        b"GET",
-        b"http://a.example/",
-        Fields::new(alloc),
-    )?;
+    let sight = page(alloc, Client::Office, Fields::new(alloc))?;
     let key = key(alloc, &config, 0, &sight)?;
     assert!(rt; key.as_bytes() == b"a%20b %FF ".as_slice(), "{key}");
     Ok(())
@@ -247,7 +180,7 @@ fn a_key_may_be_longer_than_one_that_is_asked(rt: HostRuntime) -> Result<(), Fai
             Fields::new(alloc),
         )?;
         let key = key_of(alloc, "%>ru", "x", &sight)?;
-        assert_eq!(rt; key.len(), length + 2);
+        assert!(rt; key.len() == length + 2);
     }
     Ok(())
 }

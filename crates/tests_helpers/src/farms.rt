@@ -10,9 +10,9 @@ fn a_process_that_may_start_is_room(rt: HostRuntime) -> Result<(), Fail> {
     let alloc = rt.alloc();
     let mut asked = Asked::new(alloc, &class(alloc, 1, 0, 0));
     let text = Text::from_slice(alloc, b"a.example")?;
-    assert_eq!(rt; asked.put(text), Ok(()));
+    assert!(rt; asked.put(text) == Ok(()));
     let text = Text::from_slice(alloc, b"b.example")?;
-    assert_eq!(rt; asked.put(text), Err(PutFault::Full));
+    assert!(rt; asked.put(text) == Err(PutFault::Full));
     assert!(rt; matches!(asked.act(), Some(FarmAct::Start)));
     assert!(rt; matches!(asked.act(), None));
     assert!(rt; asked.started(alloc, 1));
@@ -24,11 +24,11 @@ fn a_process_that_may_start_is_room(rt: HostRuntime) -> Result<(), Fail> {
                 channel: None,
                 text,
             },
-        ) => assert_eq!(rt; text.as_bytes(), b"a.example".as_slice()),
+        ) => assert!(rt; text.as_bytes() == b"a.example".as_slice()),
         _ => assert!(rt; false, "no send"),
     }
     let text = Text::from_slice(alloc, b"c.example")?;
-    assert_eq!(rt; asked.put(text), Err(PutFault::Full));
+    assert!(rt; asked.put(text) == Err(PutFault::Full));
     let farm = asked.farm();
     assert!(rt; farm.is_full());
     assert!(rt; !farm.send_due());
@@ -43,20 +43,20 @@ fn the_last_failed_start_loses_the_queue(rt: HostRuntime) -> Result<(), Fail> {
     let mut asked = Asked::new(alloc, &class(alloc, 2, 0, 10));
     for _ in 0..2 {
         let text = Text::from_slice(alloc, b"a.example")?;
-        assert_eq!(rt; asked.put(text), Ok(()));
+        assert!(rt; asked.put(text) == Ok(()));
         assert!(rt; matches!(asked.act(), Some(FarmAct::Start)));
     }
-    assert_eq!(rt; asked.start_failed(), Ok(()));
+    assert!(rt; asked.start_failed() == Ok(()));
     assert!(rt; matches!(asked.act(), None));
-    assert_eq!(rt; asked.start_failed(), Ok(()));
+    assert!(rt; asked.start_failed() == Ok(()));
     assert!(rt; matches!(asked.act(), None));
-    assert_eq!(rt; asked.start_failed(), Err(StartFault::NoStartOpen));
+    assert!(rt; asked.start_failed() == Err(StartFault::NoStartOpen));
     let text = Text::from_slice(alloc, b"c.example")?;
-    assert_eq!(rt; asked.put(text), Ok(()));
+    assert!(rt; asked.put(text) == Ok(()));
     assert!(rt; matches!(asked.act(), Some(FarmAct::Start)));
     let mut farm = asked.farm();
-    assert_eq!(rt; farm.next_lost(), Some((QuestionNo(1), Cause::NoHelper)));
-    assert_eq!(rt; farm.next_lost(), Some((QuestionNo(2), Cause::NoHelper)));
-    assert_eq!(rt; farm.next_lost(), None);
+    assert!(rt; farm.next_lost() == Some((QuestionNo(1), Cause::NoHelper)));
+    assert!(rt; farm.next_lost() == Some((QuestionNo(2), Cause::NoHelper)));
+    assert!(rt; farm.next_lost() == None);
     Ok(())
 }

@@ -8,22 +8,22 @@ use std::test::Fail;
 fn a_question_is_on_the_least_free_channel(rt: HostRuntime) -> Result<(), Fail> {
     let alloc = rt.alloc();
     let mut process = process_asked(alloc, 2)?;
-    assert_eq!(rt; process.free(), 1);
-    assert_eq!(rt; process.open_count(), 1);
-    assert_eq!(rt; process.slots(), [Some(QuestionNo(1)), None].as_slice());
+    assert!(rt; process.free() == 1);
+    assert!(rt; process.open_count() == 1);
+    assert!(rt; process.slots() == [Some(QuestionNo(1)), None].as_slice());
     assert!(rt; matches!(process.look(alloc, b"1 ERR")?, Got::Stray));
     match process.got(alloc, b"0 ERR")? {
         Got::Reply(question, reply) => {
-            assert_eq!(rt; question, QuestionNo(1));
-            assert_eq!(rt; reply.word, Word::No);
+            assert!(rt; question == QuestionNo(1));
+            assert!(rt; reply.word == Word::No);
         }
         _ => assert!(rt; false, "no reply"),
     }
-    assert_eq!(rt; process.free(), 2);
-    assert_eq!(rt; process.drain(), None);
+    assert!(rt; process.free() == 2);
+    assert!(rt; process.drain() == None);
     let mut process = process_asked(alloc, 0)?;
-    assert_eq!(rt; process.free(), 0);
-    assert_eq!(rt; process.drain(), Some(QuestionNo(1)));
-    assert_eq!(rt; process.drain(), None);
+    assert!(rt; process.free() == 0);
+    assert!(rt; process.drain() == Some(QuestionNo(1)));
+    assert!(rt; process.drain() == None);
     Ok(())
 }

@@ -14,13 +14,13 @@ use std::test::Fail;
 #[test]
 fn a_counter_fails_where_it_is_listed(rt: HostRuntime) -> Result<(), Fail> {
     let mut calls = Calls::new(Vec::from_slice(rt.alloc(), &[2])?);
-    assert_eq!(rt; calls.next(), Ok(()));
-    assert_eq!(rt; calls.next(), Err(Failed));
-    assert_eq!(rt; calls.next(), Ok(()));
-    assert_eq!(rt; calls.faults(), 1);
+    assert!(rt; calls.next() == Ok(()));
+    assert!(rt; calls.next() == Err(Failed));
+    assert!(rt; calls.next() == Ok(()));
+    assert!(rt; calls.faults() == 1);
     calls.raise();
-    assert_eq!(rt; calls.faults(), 2);
-    assert_eq!(rt; COUNT_LIMIT, 9_223_372_036_854_775_807);
+    assert!(rt; calls.faults() == 2);
+    assert!(rt; COUNT_LIMIT == 9_223_372_036_854_775_807);
     Ok(())
 }
 
@@ -29,32 +29,32 @@ fn devices_in_memory_give_and_take_bytes(rt: HostRuntime) -> Result<(), Fail> {
     let alloc = rt.alloc();
     let mut source = MemSource::new(Vec::from_slice(alloc, b"hello")?, 3, Vec::new(alloc));
     let mut into = [0u8; 4];
-    assert_eq!(rt; source.read(&mut into), Ok(3));
-    assert_eq!(rt; &into, b"hel\0");
+    assert!(rt; source.read(&mut into) == Ok(3));
+    assert!(rt; &into == b"hel\0");
     let rest = read_whole(alloc, 2, &mut source)
         .ok()
         .flatten()
         .ok_or("the rest")?;
-    assert_eq!(rt; rest.as_bytes(), b"lo".as_slice());
+    assert!(rt; rest.as_bytes() == b"lo".as_slice());
 
     let mut sink = MemSink::new(alloc, 16, 3, Vec::new(alloc))?;
-    assert_eq!(rt; sink.write(b"hello"), Ok(3));
-    assert_eq!(rt; write_all(&mut sink, b"p "), Ok(()));
-    assert_eq!(rt; write_line(&mut sink, b"a ", b"friend"), Ok(()));
-    assert_eq!(rt; sink.bytes(), b"help a friend\n".as_slice());
+    assert!(rt; sink.write(b"hello") == Ok(3));
+    assert!(rt; write_all(&mut sink, b"p ") == Ok(()));
+    assert!(rt; write_line(&mut sink, b"a ", b"friend") == Ok(()));
+    assert!(rt; sink.bytes() == b"help a friend\n".as_slice());
 
     let mut list = Vec::new(alloc);
     list.push(file(alloc, "c", "text", &[])?)?;
     let mut files = MemFiles::new(alloc, list, 3, 2, Vec::new(alloc))?;
     let name = Text::from_slice(alloc, b"c")?;
     let mut opened = files.open(alloc, &name).map_err(|_| "not opened")?;
-    assert_eq!(rt; opened.read(&mut into), Ok(3));
+    assert!(rt; opened.read(&mut into) == Ok(3));
     files.give_back(opened);
     let text = read_file(alloc, 4, &name, &mut files)
         .ok()
         .flatten()
         .ok_or("the text")?;
-    assert_eq!(rt; text.as_bytes(), b"text".as_slice());
+    assert!(rt; text.as_bytes() == b"text".as_slice());
     Ok(())
 }
 
@@ -106,15 +106,15 @@ fn adapters_reach_what_stands_behind_them(rt: HostRuntime) -> Result<(), Fail> {
         .ok()
         .flatten()
         .ok_or("the text")?;
-    assert_eq!(rt; text.as_bytes(), b"hello".as_slice());
+    assert!(rt; text.as_bytes() == b"hello".as_slice());
 
     let mut bytes = [0u8; 8];
     let mut sink = RealSink::new(Stutters {
         inner: bytes.as_mut_slice(),
         waits: false,
     });
-    assert_eq!(rt; write_all(&mut sink, b"help me"), Ok(()));
-    assert_eq!(rt; &bytes, b"help me\0");
+    assert!(rt; write_all(&mut sink, b"help me") == Ok(()));
+    assert!(rt; &bytes == b"help me\0");
 
     let mut files = RealFiles::new(&rt);
     let empty = Text::from_slice(alloc, b"/dev/null")?;
@@ -124,20 +124,11 @@ fn adapters_reach_what_stands_behind_them(rt: HostRuntime) -> Result<(), Fail> {
         .ok_or("no byte")?;
     assert!(rt; text.is_empty());
     let missing = Text::from_slice(alloc, b"/dev/null.none")?;
-    assert_eq!(rt;
-        read_file(alloc, 5, &missing, &mut files).err(),
-        Some(NoOpen::Missing)
-    );
+    assert!(rt; read_file(alloc, 5, &missing, &mut files).err() == Some(NoOpen::Missing));
     let folder = Text::from_slice(alloc, b"/")?;
-    assert_eq!(rt;
-        read_file(alloc, 5, &folder, &mut files).err(),
-        Some(NoOpen::Failed)
-    );
+    assert!(rt; read_file(alloc, 5, &folder, &mut files).err() == Some(NoOpen::Failed));
     let unreadable = Text::from_slice(alloc, b"/dev/\xff")?;
-    assert_eq!(rt;
-        read_file(alloc, 5, &unreadable, &mut files).err(),
-        Some(NoOpen::Failed)
-    );
+    assert!(rt; read_file(alloc, 5, &unreadable, &mut files).err() == Some(NoOpen::Failed));
     Ok(())
 }
 
@@ -157,7 +148,7 @@ fn each_status_has_its_code(rt: HostRuntime) -> Result<(), Fail> {
         (Status::Unbuilt(Part::Conf), 11),
         (Status::Unbuilt(Part::Script), 11),
     ] {
-        assert_eq!(rt; status.code(), code);
+        assert!(rt; status.code() == code);
     }
     Ok(())
 }

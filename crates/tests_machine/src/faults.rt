@@ -79,12 +79,12 @@ const LAST: &str = "error read\n";
 fn check_fault(rt: &impl Abort, device: Device, call: u64, ran: &Ran) {
     let out = ran.out.bytes();
     if let Device::Sink = device {
-        assert_eq!(rt; ran.status.code(), 5, "write {call}");
+        assert!(rt; ran.status.code() == 5, "write {call}");
         assert!(rt; RUN.as_bytes().starts_with(out), "write {call}");
         assert!(rt; out.len() < RUN.len(), "write {call}");
         return;
     }
-    assert_eq!(rt; ran.status.code(), 4, "{device:?}, call {call}");
+    assert!(rt; ran.status.code() == 4, "{device:?}, call {call}");
     assert!(rt; out.ends_with(LAST.as_bytes()), "{device:?}, call {call}");
     let front = &out[..out.len().saturating_sub(LAST.len())];
     assert!(rt;
@@ -101,9 +101,8 @@ fn failing_calls(rt: &impl Abort, alloc: Global, device: Device) -> Result<u64, 
     for call in 1..LIMIT {
         let ran = run_failing(alloc, device, &[call])?;
         if ran.status.code() == 0 {
-            assert_eq!(rt;
-                str::from_utf8(ran.out.bytes()),
-                Ok(RUN),
+            assert!(rt;
+                str::from_utf8(ran.out.bytes()) == Ok(RUN),
                 "{device:?}, call {call}"
             );
             return Ok(call - 1);
@@ -216,8 +215,8 @@ fn what_fits_is_written_and_a_last_line_that_fails_leaves_the_status(
         if let Status::WantOfMemory = ran.status {
             return Err(WantOfMemory.into());
         }
-        assert_eq!(rt; ran.status.code(), cut.code, "{}", cut.out);
-        assert_eq!(rt; str::from_utf8(ran.out.bytes()), Ok(cut.out));
+        assert!(rt; ran.status.code() == cut.code, "{}", cut.out);
+        assert!(rt; str::from_utf8(ran.out.bytes()) == Ok(cut.out));
     }
     Ok(())
 }

@@ -1,10 +1,9 @@
-//! Cases of the top call, and their check.
+//! Jobs of the top call over files and a sink in memory.
 
 use sq_base::{Text, WantOfMemory};
 use sq_outside::{MemFile, MemFiles, MemSink};
 use sq_proxy::{Status, proxy};
 use std::alloc::Global;
-use std::process::Abort;
 
 /// The bytes that a source gives and a sink takes in a call.
 pub const STEP: usize = 7;
@@ -31,17 +30,6 @@ pub struct Job<'a> {
 pub struct Ran {
     pub status: Status,
     pub out: MemSink,
-}
-
-/// Words and files, with the exit status and all the bytes that must come of them.
-#[derive(Drop)]
-pub struct Case<'a> {
-    pub shows: &'a str,
-    pub words: &'a [&'a str],
-    pub conf: &'a str,
-    pub script: &'a str,
-    pub code: u8,
-    pub out: &'a str,
 }
 
 // The texts of these words.
@@ -77,56 +65,4 @@ pub fn run(alloc: Global, job: &Job<'_>) -> Result<Ran, WantOfMemory> {
     let mut out = MemSink::new(alloc, job.room, STEP, Vec::from_slice(alloc, job.writes)?)?;
     let status = proxy(alloc, words.as_slice(), &mut files, &mut out);
     Ok(Ran { status, out })
-}
-
-/// Ends the process unless all devices work and the case comes to its status and bytes. It answers want
-/// of memory where the run did, once what was written is a front of those bytes.
-pub fn check(rt: &impl Abort, alloc: Global, case: &Case<'_>) -> Result<(), WantOfMemory> {
-    let ran = run(
-        alloc,
-        &Job {
-            words: case.words,
-            conf: case.conf,
-            script: case.script,
-            openings: &[],
-            conf_reads: &[],
-            script_reads: &[],
-            writes: &[],
-            room: 4096,
-        },
-    )?;
-    if let Status::WantOfMemory = ran.status {
-        assert!(rt;
-            case.out.as_bytes().starts_with(ran.out.bytes()),
-            "{}",
-            case.shows
-        );
-        return Err(WantOfMemory);
-    }
-    assert_eq!(rt; ran.status.code(), case.code, "{}", case.shows);
-    assert_eq!(rt;
-        str::from_utf8(ran.out.bytes()),
-        Ok(case.out),
-        "{}",
-        case.shows
-    );
-    Ok(())
-}
-
-/// The case of `replay c s`.
-pub fn replay<'a>(
-    shows: &'a str,
-    conf: &'a str,
-    script: &'a str,
-    code: u8,
-    out: &'a str,
-) -> Case<'a> {
-    Case {
-        shows,
-        words: &["replay", "c", "s"],
-        conf,
-        script,
-        code,
-        out,
-    }
 }

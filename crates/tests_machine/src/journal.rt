@@ -1,4 +1,5 @@
-//! Lines of a journal: each kind of word in its one spelling, beside spellings that are close to it.
+//! Lines of a journal: each kind of word in its one spelling, and each event with each of its answers, beside
+//! lines that are close to these.
 
 use sq_base::WantOfMemory;
 use sq_journal::{EntryFault, print_entry, read_entry, read_event};
@@ -6,212 +7,222 @@ use std::alloc::Global;
 use std::process::Abort;
 use std::test::Fail;
 
-/// A line that is an entry, and lines close to it that are none.
-#[derive(Clone, Copy)]
-pub struct Row<'a> {
-    pub right: &'a str,
-    pub wrong: &'a [&'a str],
-}
+/// Lines that are entries, each behind `+ `, and lines close to the one before that are none, each behind `- `.
+static LINES: &str = "\
++ 0 begin 0 => epoch 1\n\
+- \n\
+-  \n\
+- 0\n\
+- 0 begin 0\n\
+- 0 begin 0 =>\n\
+- 0 begin 0 epoch 1\n\
+- 0 begin 0 = epoch 1\n\
+- 0 begin 0 => => epoch 1\n\
+- 0 begin 0 => epoch 1 => epoch 1\n\
+- begin 0 => epoch 1\n\
+- 0 begin => epoch 1\n\
+- 0 begin 0 0 => epoch 1\n\
+- 0 begin 0 => epoch 1 1\n\
+- 0 Begin 0 => epoch 1\n\
+- 0 starts 0 => epoch 1\n\
+- 0  begin 0 => epoch 1\n\
+-  0 begin 0 => epoch 1\n\
+- 0 begin 0 => epoch 1 \n\
+- 0 begin 0 =>  epoch 1\n\
+- 0 begin\t0 => epoch 1\n\
+- 0 begin 0 => epoch 1\r\n\
++ 9223372036854775807 close 9223372036854775807 => ok\n\
+- 9223372036854775808 close 1 => ok\n\
+- 1 close 9223372036854775808 => ok\n\
+- 1 close 18446744073709551617 => ok\n\
+- 01 close 1 => ok\n\
+- 1 close 00 => ok\n\
+- 1 close -1 => ok\n\
+- 1 close +1 => ok\n\
+- 1 close 1a => ok\n\
+- 1 close 0x1 => ok\n\
++ 1 grant 1 9223372036854775807 => granted 9223372036854775807\n\
+- 1 grant 1 9223372036854775808 => granted 1\n\
+- 1 grant 1 1 => granted 9223372036854775808\n\
+- 1 grant 1 => granted 1\n\
+- 1 grant 1 1 => granted\n\
+- 1 grant 1 1 => ok\n\
++ 0 begin -840 => epoch 1\n\
+- 0 begin -841 => epoch 1\n\
+- 0 begin 841 => epoch 1\n\
+- 0 begin -0 => epoch 1\n\
+- 0 begin -01 => epoch 1\n\
+- 0 begin +1 => epoch 1\n\
+- 0 begin - => epoch 1\n\
+- 0 begin --1 => epoch 1\n\
+- 0 begin 1 => epoch 0\n\
+- 0 begin 1 => epoch 2\n\
+- 0 begin 1 => ok\n\
++ 5 open 1 10.1.2.3 4000 => ok\n\
+- 5 open 1 10.1.2 4000 => ok\n\
+- 5 open 1 10.1.2.03 4000 => ok\n\
+- 5 open 1 10.1.2.256 4000 => ok\n\
+- 5 open 1 10.1.2.3/32 4000 => ok\n\
+- 5 open 1 167838211 4000 => ok\n\
+- 5 open 1 10.1.2.3 65536 => ok\n\
+- 5 open 1 10.1.2.3 04000 => ok\n\
+- 5 open 1 10.1.2.3 => ok\n\
+- 5 open 1 10.1.2.3 4000 => check 1\n\
++ 5 open 1 2001:db8::1 65535 => ok\n\
+- 5 open 1 2001:DB8::1 65535 => ok\n\
+- 5 open 1 2001:0db8::1 65535 => ok\n\
+- 5 open 1 2001:db8:0:0:0:0:0:1 65535 => ok\n\
+- 5 open 1 2001:db8:0::1 65535 => ok\n\
+- 5 open 1 2001:db8::0.0.0.1 65535 => ok\n\
+- 5 open 1 [2001:db8::1] 65535 => ok\n\
+- 5 open 1 2001:db8::1%251 65535 => ok\n\
++ 5 ask 1 GET http://h/ Host:%20h => check 1\n\
+- 5 ask 1 GET http://h/ Host: h => check 1\n\
+- 5 ask 1 GET http://h/ Host => check 1\n\
+- 5 ask 1 GET http://h/ - => check 1\n\
+- 5 ask 1 GET http://h/ %48ost:%20h => check 1\n\
+- 5 ask 1 GET http://h/ Host:%2 => check 1\n\
+- 5 ask 1 GET http://h/ Host:% => check 1\n\
+- 5 ask 1 GET http://h/ Host:> => check 1\n\
+- 5 ask 1 GET http://h/ Host:%3e => check 1\n\
+- 5 ask 1 GET http://h/ Host:\u{e9} => check 1\n\
+- 5 ask 1 GET http://h/ Host:\u{7f} => check 1\n\
+- 5 ask 1 GET http://h/ Host:\t => check 1\n\
+- 5 ask 1 GET http://h/ => check 1 Host:%20h\n\
+- 5 ask 1 GET => check 1\n\
+- 5 ask 1 GET http://h/ => ok\n\
++ 5 ask 1 - %2D X:%3E%25 Y: :Z W:a:b => check 0\n\
+- 5 ask 1 - %2d => check 0\n\
+- 5 ask 1 -- - - => check 0\n\
+- 5 ask 1  - => check 0\n\
+- 5 ask 1 %2D%2 - => check 0\n\
++ 5 reconfigure acl%20a%20port%2080%0A => epoch 2\n\
+- 5 reconfigure acl%20a%20port%2080%0a => epoch 2\n\
+- 5 reconfigure acl+a+port+80 80 => epoch 2\n\
+- 5 reconfigure => epoch 2\n\
+- 5 reconfigure - => ok\n\
+- 5 reconfigure - => epoch 2 allowed default\n\
++ 5 step 1 => took v\n\
+- 5 step 1 => took\n\
+- 5 step 1 => took v v\n\
++ 5 step 1 => waits 3\n\
+- 5 step 1 => wait 3\n\
+- 5 step 1 => waits v\n\
++ 5 step 0 => done\n\
+- 5 step 1 => ok\n\
+- 5 step => done\n\
+- 5 step 1 => epoch 1 denied empty\n\
++ 5 take 1 => epoch 1 allowed rule 0\n\
+- 5 take 1 => epoch 1\n\
+- 5 take 1 => allowed rule 0\n\
+- 5 take 1 => done\n\
++ 5 take 1 => epoch 1 denied rule 4294967295\n\
+- 5 take 1 => epoch 1 denied rule 4294967296\n\
+- 5 take 1 => epoch 1 denied rule 01\n\
+- 5 take 1 => epoch 1 refused rule 1\n\
+- 5 take 1 => epoch 1 denied\n\
+- 5 take 1 => epoch 1 denied rules 1\n\
++ 5 take 1 => epoch 1 allowed default\n\
+- 5 take 1 => epoch 1 allowed default 1\n\
++ 5 take 1 => epoch 1 denied default\n\
+- 5 take 1 => epoch 1 Denied default\n\
++ 5 take 1 => epoch 1 denied empty\n\
+- 5 take 1 => epoch 1 allowed empty\n\
++ 5 take 1 => epoch 1 denied fault 2 odd%20one Bh\n\
+- 5 take 1 => epoch 1 allowed fault 2 odd Bh\n\
+- 5 take 1 => epoch 1 denied fault 2 odd BH\n\
+- 5 take 1 => epoch 1 denied fault 2 odd\n\
+- 5 take 1 => epoch 1 denied fault 2 Bh\n\
++ 5 take 1 => epoch 1 denied fault 2 odd BadReply\n\
++ 5 take 1 => epoch 1 denied fault 2 odd Stray\n\
++ 5 take 1 => epoch 1 denied fault 2 odd Died\n\
++ 5 take 1 => epoch 1 denied fault 2 odd NoHelper\n\
++ 5 take 1 => epoch 1 denied fault 2 odd QueueFull\n\
++ 5 take 1 => epoch 1 denied fault 2 odd KeyTooLong\n\
++ 5 started 1 v => proc 1\n\
+- 5 started 1 => proc 1\n\
+- 5 started 1 v => ok\n\
++ 5 startfail 1 v => ok\n\
+- 5 startfail 1 v => proc 1\n\
+- 5 startfail v => ok\n\
++ 5 line 1 OK => reply 7 ok\n\
+- 5 line 1 OK => reply 7 OK\n\
+- 5 line 1 OK => reply ok\n\
+- 5 line 1 OK => ok\n\
++ 5 line 1 - => reply 7 err\n\
+- 5 line 1 => reply 7 err\n\
+- 5 line 1 - => reply 7\n\
++ 5 line 1 0%20BH => reply 7 bh\n\
+- 5 line 1 0 BH => reply 7 bh\n\
++ 5 line 1 %0D => bad\n\
+- 5 line 1 %0D => bad 1\n\
++ 5 line 1 9 => stray\n\
+- 5 line 1 9 => strays\n\
++ 5 died 1 => ok\n\
+- 5 died 1 => died\n\
+- 5 died => ok\n\
++ 5 act => start 1 v\n\
+- 5 act 1 => start 1 v\n\
+- 5 act => start 1\n\
+- 5 act => ok\n\
++ 5 act => send 1 2 - k\n\
+- 5 act => send 1 2 k\n\
+- 5 act => send 1 2 %2D k\n\
+- 5 act => send 1 - k\n\
+- 5 act => send 1 2 - k k\n\
++ 5 act => send 1 2 4294967295 -\n\
+- 5 act => send 1 2 4294967296 -\n\
+- 5 act => send 1 2 00 -\n\
++ 5 act => stop 1\n\
+- 5 act => stop\n\
+- 5 died 1 => stop 1\n\
++ 5 seat 1 => seat 1 1\n\
+- 5 seat 1 => seat 1 0\n\
+- 5 seat 1 => seat 1\n\
+- 5 seat 1 1 => seat 1 1\n\
++ 5 seat 1 => seat 1 4294967296\n\
+- 5 seat 1 => seat 1 4294967297\n\
++ 5 seat 1 => none\n\
+- 5 seat 1 => -\n\
+- 5 seat 1 => ok\n\
++ 5 leave 1 => ok\n\
+- 5 leave => ok\n\
+- 5 leave 1 => none\n\
+";
 
-/// The row of these lines.
-pub fn case<'a>(right: &'a str, wrong: &'a [&'a str]) -> Row<'a> {
-    Row { right, wrong }
-}
-
-/// Ends the process unless the line is read and printed back, and the lines close to it are refused.
-pub fn check(rt: &impl Abort, alloc: Global, row: &Row<'_>) -> Result<(), WantOfMemory> {
-    match read_entry(alloc, row.right.as_bytes()) {
+/// Ends the process unless the line is an entry, and printed back.
+fn check_right(rt: &impl Abort, alloc: Global, line: &str) -> Result<(), WantOfMemory> {
+    match read_entry(alloc, line.as_bytes()) {
         Ok(entry) => {
             let text = print_entry(alloc, &entry)?;
-            let same = text.as_bytes() == row.right.as_bytes();
-            assert!(rt; same, "{}", row.right);
+            assert!(rt; text.as_bytes() == line.as_bytes(), "{line}");
         }
         Err(EntryFault::WantOfMemory) => return Err(WantOfMemory),
-        Err(EntryFault::BadEntry) => assert!(rt; false, "{}", row.right),
+        Err(EntryFault::BadEntry) => assert!(rt; false, "{line}"),
     }
-    for line in row.wrong {
-        match read_entry(alloc, line.as_bytes()) {
-            Ok(_) => assert!(rt; false, "{}", line),
-            Err(EntryFault::WantOfMemory) => return Err(WantOfMemory),
-            Err(EntryFault::BadEntry) => {}
+    Ok(())
+}
+
+/// Ends the process unless the line is no entry.
+fn check_wrong(rt: &impl Abort, alloc: Global, line: &str) -> Result<(), WantOfMemory> {
+    match read_entry(alloc, line.as_bytes()) {
+        Ok(_) => assert!(rt; false, "{line}"),
+        Err(EntryFault::WantOfMemory) => return Err(WantOfMemory),
+        Err(EntryFault::BadEntry) => {}
+    }
+    Ok(())
+}
+
+#[test]
+fn each_entry_has_one_line(rt: HostRuntime) -> Result<(), Fail> {
+    for row in LINES.split('\n') {
+        match row.split_at_checked(2) {
+            Some(("+ ", line)) => check_right(&rt, rt.alloc(), line)?,
+            Some(("- ", line)) => check_wrong(&rt, rt.alloc(), line)?,
+            _ => assert!(rt; row.is_empty(), "{row}"),
         }
     }
-    Ok(())
-}
-
-#[test]
-fn words_stand_in_their_places_with_one_space_between(rt: HostRuntime) -> Result<(), Fail> {
-    let row = case(
-        "0 begin 0 => epoch 1",
-        &[
-            "",
-            " ",
-            "0",
-            "0 begin 0",
-            "0 begin 0 =>",
-            "0 begin 0 epoch 1",
-            "0 begin 0 = epoch 1",
-            "0 begin 0 => => epoch 1",
-            "0 begin 0 => epoch 1 => epoch 1",
-            "begin 0 => epoch 1",
-            "0 begin => epoch 1",
-            "0 begin 0 0 => epoch 1",
-            "0 begin 0 => epoch 1 1",
-            "0 Begin 0 => epoch 1",
-            "0 starts 0 => epoch 1",
-            "0  begin 0 => epoch 1",
-            " 0 begin 0 => epoch 1",
-            "0 begin 0 => epoch 1 ",
-            "0 begin 0 =>  epoch 1",
-            "0 begin\t0 => epoch 1",
-            "0 begin 0 => epoch 1\n",
-            "0 begin 0 => epoch 1\r",
-        ],
-    );
-    Ok(check(&rt, rt.alloc(), &row)?)
-}
-
-#[test]
-fn a_number_has_one_spelling_and_is_below_its_limit(rt: HostRuntime) -> Result<(), Fail> {
-    for row in [
-        case(
-            "9223372036854775807 close 9223372036854775807 => ok",
-            &[
-                "9223372036854775808 close 1 => ok",
-                "1 close 9223372036854775808 => ok",
-                "1 close 18446744073709551617 => ok",
-                "01 close 1 => ok",
-                "1 close 00 => ok",
-                "1 close -1 => ok",
-                "1 close +1 => ok",
-                "1 close 1a => ok",
-                "1 close 0x1 => ok",
-            ],
-        ),
-        case(
-            "1 grant 1 9223372036854775807 => granted 9223372036854775807",
-            &[
-                "1 grant 1 9223372036854775808 => granted 1",
-                "1 grant 1 1 => granted 9223372036854775808",
-                "1 grant 1 => granted 1",
-                "1 grant 1 1 => granted",
-                "1 grant 1 1 => ok",
-            ],
-        ),
-    ] {
-        check(&rt, rt.alloc(), &row)?;
-    }
-    Ok(())
-}
-
-#[test]
-fn an_offset_has_one_spelling(rt: HostRuntime) -> Result<(), Fail> {
-    for row in [case(
-        "0 begin -840 => epoch 1",
-        &[
-            "0 begin -841 => epoch 1",
-            "0 begin 841 => epoch 1",
-            "0 begin -0 => epoch 1",
-            "0 begin -01 => epoch 1",
-            "0 begin +1 => epoch 1",
-            "0 begin - => epoch 1",
-            "0 begin --1 => epoch 1",
-            "0 begin 1 => epoch 0",
-            "0 begin 1 => epoch 2",
-            "0 begin 1 => ok",
-        ],
-    )] {
-        check(&rt, rt.alloc(), &row)?;
-    }
-    Ok(())
-}
-
-#[test]
-fn an_address_has_one_spelling(rt: HostRuntime) -> Result<(), Fail> {
-    for row in [
-        case(
-            "5 open 1 10.1.2.3 4000 => ok",
-            &[
-                "5 open 1 10.1.2 4000 => ok",
-                "5 open 1 10.1.2.03 4000 => ok",
-                "5 open 1 10.1.2.256 4000 => ok",
-                "5 open 1 10.1.2.3/32 4000 => ok",
-                "5 open 1 167838211 4000 => ok",
-                "5 open 1 10.1.2.3 65536 => ok",
-                "5 open 1 10.1.2.3 04000 => ok",
-                "5 open 1 10.1.2.3 => ok",
-                "5 open 1 10.1.2.3 4000 => check 1",
-            ],
-        ),
-        case(
-            "5 open 1 2001:db8::1 65535 => ok",
-            &[
-                "5 open 1 2001:DB8::1 65535 => ok",
-                "5 open 1 2001:0db8::1 65535 => ok",
-                "5 open 1 2001:db8:0:0:0:0:0:1 65535 => ok",
-                "5 open 1 2001:db8:0::1 65535 => ok",
-                "5 open 1 2001:db8::0.0.0.1 65535 => ok",
-                "5 open 1 [2001:db8::1] 65535 => ok",
-                "5 open 1 2001:db8::1%251 65535 => ok",
-            ],
-        ),
-    ] {
-        check(&rt, rt.alloc(), &row)?;
-    }
-    Ok(())
-}
-
-#[test]
-fn a_text_has_one_word(rt: HostRuntime) -> Result<(), Fail> {
-    for row in [case(
-        "5 ask 1 GET http://h/ Host:%20h => check 1",
-        &[
-            "5 ask 1 GET http://h/ Host: h => check 1",
-            "5 ask 1 GET http://h/ Host => check 1",
-            "5 ask 1 GET http://h/ - => check 1",
-            "5 ask 1 GET http://h/ %48ost:%20h => check 1",
-            "5 ask 1 GET http://h/ Host:%2 => check 1",
-            "5 ask 1 GET http://h/ Host:% => check 1",
-            "5 ask 1 GET http://h/ Host:> => check 1",
-            "5 ask 1 GET http://h/ Host:%3e => check 1",
-            "5 ask 1 GET http://h/ Host:\u{e9} => check 1",
-            "5 ask 1 GET http://h/ Host:\u{7f} => check 1",
-            "5 ask 1 GET http://h/ Host:\t => check 1",
-            "5 ask 1 GET http://h/ => check 1 Host:%20h",
-            "5 ask 1 GET => check 1",
-            "5 ask 1 GET http://h/ => ok",
-        ],
-    )] {
-        check(&rt, rt.alloc(), &row)?;
-    }
-    Ok(())
-}
-
-#[test]
-fn the_empty_text_and_the_dash_have_their_words(rt: HostRuntime) -> Result<(), Fail> {
-    for row in [
-        case(
-            "5 ask 1 - %2D X:%3E%25 Y: :Z W:a:b => check 0",
-            &[
-                "5 ask 1 - %2d => check 0",
-                "5 ask 1 -- - - => check 0",
-                "5 ask 1  - => check 0",
-                "5 ask 1 %2D%2 - => check 0",
-            ],
-        ),
-        case(
-            "5 reconfigure acl%20a%20port%2080%0A => epoch 2",
-            &[
-                "5 reconfigure acl%20a%20port%2080%0a => epoch 2",
-                "5 reconfigure acl+a+port+80 80 => epoch 2",
-                "5 reconfigure => epoch 2",
-                "5 reconfigure - => ok",
-                "5 reconfigure - => epoch 2 allowed default",
-            ],
-        ),
-    ] {
-        check(&rt, rt.alloc(), &row)?;
-    }
+    check_wrong(&rt, rt.alloc(), "0 begin 0 => epoch 1\n")?;
     Ok(())
 }
 
@@ -240,7 +251,7 @@ fn a_moment_and_an_event_are_read_alone(rt: HostRuntime) -> Result<(), Fail> {
         ("5 ask 1 GET http://h/ A", None),
         ("5 grant 1 9223372036854775808", None),
     ] {
-        assert_eq!(rt; moment_of(rt.alloc(), line)?, moment, "{}", line);
+        assert!(rt; moment_of(rt.alloc(), line)? == moment, "{line}");
     }
     Ok(())
 }

@@ -70,25 +70,21 @@ fn jobs_end_by_the_call_that_fails(rt: HostRuntime) -> Result<(), Fail> {
         let wires = Wires::new(alloc)?;
         let mut net = net(alloc, part, call, names.as_slice(), &word, &wires)?;
         let ended = job(alloc, &mut net);
-        assert_eq!(rt; ended.end, Fault(part), "at call {call} of {part:?}");
-        assert_eq!(rt;
-            (ended.dialer, ended.net, ended.back),
-            (dialer, faults, back),
+        assert!(rt; ended.end == Fault(part), "at call {call} of {part:?}");
+        assert!(rt;
+            (ended.dialer, ended.net, ended.back) == (dialer, faults, back),
             "at call {call} of {part:?}"
         );
-        assert_eq!(rt;
-            wires.origin.text(alloc)?.as_bytes(),
-            origin,
+        assert!(rt;
+            wires.origin.text(alloc)?.as_bytes() == origin,
             "at call {call} of {part:?}"
         );
-        assert_eq!(rt;
-            wires.client.text(alloc)?.as_bytes(),
-            client,
+        assert!(rt;
+            wires.client.text(alloc)?.as_bytes() == client,
             "at call {call} of {part:?}"
         );
-        assert_eq!(rt;
-            wires.child.text(alloc)?.as_bytes(),
-            child,
+        assert!(rt;
+            wires.child.text(alloc)?.as_bytes() == child,
             "at call {call} of {part:?}"
         );
     }
@@ -111,20 +107,17 @@ fn jobs_end_well_where_no_call_is_left_to_fail(rt: HostRuntime) -> Result<(), Fa
             &wires,
         )?;
         let ended = job(alloc, &mut net);
-        assert_eq!(rt; ended.end, Done, "at {part:?}");
-        assert_eq!(rt;
-            (ended.dialer, ended.net, ended.back),
-            (0, 0, 1),
+        assert!(rt; ended.end == Done, "at {part:?}");
+        assert!(rt;
+            (ended.dialer, ended.net, ended.back) == (0, 0, 1),
             "at {part:?}"
         );
-        assert_eq!(rt;
-            wires.origin.text(alloc)?.as_bytes(),
-            b"ask a\n".as_slice(),
+        assert!(rt;
+            wires.origin.text(alloc)?.as_bytes() == b"ask a\n".as_slice(),
             "at {part:?}"
         );
-        assert_eq!(rt;
-            wires.client.text(alloc)?.as_bytes(),
-            b"hello".as_slice(),
+        assert!(rt;
+            wires.client.text(alloc)?.as_bytes() == b"hello".as_slice(),
             "at {part:?}"
         );
         assert!(rt;

@@ -44,15 +44,15 @@ fn an_origin_is_reached_once_by_its_host_and_port(rt: HostRuntime) -> Result<(),
                 failed = failed.saturating_add(1);
             }
         }
-        assert_eq!(rt; dialer.faults(), failed);
+        assert!(rt; dialer.faults() == failed);
     }
     for dial in dialer.back() {
-        assert_eq!(rt; dial.host.as_bytes(), b"a.example".as_slice());
-        assert_eq!(rt; dial.port, 80);
-        assert_eq!(rt; dial.bytes.as_bytes(), b"hello".as_slice());
+        assert!(rt; dial.host.as_bytes() == b"a.example".as_slice());
+        assert!(rt; dial.port == 80);
+        assert!(rt; dial.bytes.as_bytes() == b"hello".as_slice());
         assert!(rt; dial.written.is_empty());
     }
-    assert_eq!(rt; dialer.back().len(), 1);
+    assert!(rt; dialer.back().len() == 1);
     let mut other = dialer.another();
     let host = Text::from_slice(alloc, b"a.example")?;
     assert!(rt; other.dial(alloc, &host, 80).is_err());
@@ -67,11 +67,11 @@ fn a_listener_that_was_asked_to_stop_stops(rt: HostRuntime) -> Result<(), Fail> 
     let wires = Wires::new(alloc)?;
     let mut net = net(alloc, Part::Net, 9, names.as_slice(), &word, &wires)?;
     assert!(rt; stops(alloc, &mut net));
-    assert_eq!(rt; net.port(), Some(3128));
-    assert_eq!(rt; net.faults(), 0);
+    assert!(rt; net.port() == Some(3128));
+    assert!(rt; net.faults() == 0);
     // It can be opened once.
     assert!(rt; !stops(alloc, &mut net));
-    assert_eq!(rt; net.faults(), 1);
+    assert!(rt; net.faults() == 1);
     Ok(())
 }
 
@@ -85,9 +85,9 @@ fn clocks_give_their_moments_in_order(rt: HostRuntime) -> Result<(), Fail> {
     for wanted in [7, 9, 8, 8] {
         clock.pause();
         let mut other = clock.another();
-        assert_eq!(rt; clock.now().0, wanted);
-        assert_eq!(rt; other.now().0, wanted);
-        assert_eq!(rt; other.now().0, wanted);
+        assert!(rt; clock.now().0 == wanted);
+        assert!(rt; other.now().0 == wanted);
+        assert!(rt; other.now().0 == wanted);
     }
     Ok(())
 }
@@ -123,11 +123,11 @@ fn names_are_looked_up_and_the_third_look_fails(rt: HostRuntime) -> Result<(), F
         let found = match resolver.look(alloc, &Text::from_slice(alloc, host)?) {
             Ok(addrs) => Some(addrs.as_slice().len()),
             Err(fault) => {
-                assert_eq!(rt; fault, LookFault::Failed);
+                assert!(rt; fault == LookFault::Failed);
                 None
             }
         };
-        assert_eq!(rt; found, wanted, "at {host:?}");
+        assert!(rt; found == wanted, "at {host:?}");
     }
     Ok(())
 }
@@ -173,7 +173,7 @@ fn a_process_answers_line_by_line_and_ends_when_it_is_closed(rt: HostRuntime) ->
             to.close();
         }
         let count = said.read(&mut chunk).or(Err("not read"))?;
-        assert_eq!(rt; chunk.get(..count), Some(wanted), "at {written:?}");
+        assert!(rt; chunk.get(..count) == Some(wanted), "at {written:?}");
     }
     Ok(())
 }

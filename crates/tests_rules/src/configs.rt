@@ -40,6 +40,6 @@ fn a_configuration_gives_its_parts_back(rt: HostRuntime) -> Result<(), Fail> {
     assert!(rt; config.source().as_bytes().starts_with(b"acl web port"));
     assert!(rt; matches!(config.acls(), [acl] if acl.name.as_bytes() == b"web".as_slice()));
     assert!(rt; matches!(config.rules(), [rule] if rule.allow && rule.terms.len() == 1));
-    assert_eq!(rt; (config.initial(), config.port()), (50, 8080));
+    assert!(rt; (config.initial(), config.port()) == (50, 8080));
     Ok(())
 }

@@ -226,7 +226,10 @@ fn parts_have_this_first_fault(rt: HostRuntime) -> Result<(), Fail> {
         for part in stated.split_whitespace() {
             add(alloc, &mut parts, part.as_bytes())?;
         }
-        assert_eq!(rt; fault(alloc, parts)?.as_bytes(), wanted.as_bytes(), "{why}");
+        assert!(rt;
+            fault(alloc, parts)?.as_bytes() == wanted.as_bytes(),
+            "{why}"
+        );
     }
     Ok(())
 }
@@ -257,9 +260,8 @@ fn groups_nest_32_deep_and_no_deeper(rt: HostRuntime) -> Result<(), Fail> {
             &mut parts,
             &[b'G', b'0' + depth % 64, b'0' + (depth - 1) % 64, other],
         )?;
-        assert_eq!(rt;
-            fault(alloc, parts)?.as_bytes(),
-            wanted.as_bytes(),
+        assert!(rt;
+            fault(alloc, parts)?.as_bytes() == wanted.as_bytes(),
             "{depth}"
         );
     }

@@ -8,40 +8,12 @@ use std::alloc::Global;
 use std::test::Fail;
 
 /// Patterns of the second of two lists, `-i` or `+i` before each, a text, and whether some pattern is
-/// found in it.
-static FOUND: [(&str, &str, bool); 21] = [
-    ("+i example", "http://a.example/", true),
-    ("+i example", "http://a.EXAMPLE/", false),
+/// found in it. `cases/patterns.txt` has those that a line of squid.conf and a request show.
+static FOUND: [(&str, &str, bool); 4] = [
     ("-i example", "http://a.EXAMPLE/", true),
-    ("+i ^http://", "http://a.example/", true),
-    ("+i ^a", "http://a.example/", false),
-    ("+i /$", "http://a.example/", true),
-    ("+i a.e", "http://a.example/", true),
-    ("+i a\\.e", "http://abe/", false),
-    ("+i [0-9]{3}", "http://a.example/?12", false),
-    ("+i [0-9]{3}", "http://a.example/?123", true),
-    ("+i one +i two", "http://two.example/", true),
-    ("-i ONE +i two", "http://one.example/", true),
-    ("-i one +i two", "http://TWO.example/", false),
-    ("+i one|two +i three", "http://three/", true),
-    ("+i one +i two +i three", "http://four/", false),
-    ("+i \\bads\\b", "http://a.example/ads/", true),
-    ("+i \\bads\\b", "http://a.example/éads/", false),
-    ("-i É", "http://a.example/é", true),
-    ("+i \\w{4}$", "http://a.example/éads", true),
+    ("+i /ads[0-9]+/ -i doubleclick +i [.]gif$", "", false),
     ("", "http://a.example/", false),
     ("", "", false),
-];
-
-/// Texts in turn for one list of patterns, and whether some pattern is found in each.
-static IN_TURN: [(&str, bool); 7] = [
-    ("http://a.example/", false),
-    ("http://a.example/ads/", false),
-    ("http://a.example/ads1/", true),
-    ("http://a.DoubleClick.example/", true),
-    ("http://a.example/b.gif", true),
-    ("http://a.example/b.gif?", false),
-    ("", false),
 ];
 
 /// Patterns of two lists, and the first list and pattern that is none.
@@ -103,26 +75,9 @@ fn patterns_are_found_in_these_texts(rt: HostRuntime) -> Result<(), Fail> {
     for &(patterns, subject, found) in &FOUND {
         let mut setup = setup(alloc, "+i never", patterns)??;
         let subject = subject.as_bytes();
-        assert_eq!(rt; setup.is_match(alloc, 1, subject)?, found, "{patterns}");
-        assert_eq!(rt; setup.is_match(alloc, 0, subject)?, false, "{patterns}");
-        assert_eq!(rt; setup.is_match(alloc, 2, subject)?, false, "{patterns}");
-    }
-    Ok(())
-}
-
-#[test]
-fn a_list_finds_its_patterns_in_texts_in_turn(rt: HostRuntime) -> Result<(), Fail> {
-    let alloc = rt.alloc();
-    let patterns = "+i /ads[0-9]+/ -i doubleclick +i [.]gif$";
-    let mut setup = setup(alloc, "+i never", patterns)??;
-    for _ in 0..2 {
-        for &(subject, found) in &IN_TURN {
-            assert_eq!(rt;
-                setup.is_match(alloc, 1, subject.as_bytes())?,
-                found,
-                "{subject}"
-            );
-        }
+        assert!(rt; setup.is_match(alloc, 1, subject)? == found, "{patterns}");
+        assert!(rt; !setup.is_match(alloc, 0, subject)?, "{patterns}");
+        assert!(rt; !setup.is_match(alloc, 2, subject)?, "{patterns}");
     }
     Ok(())
 }
@@ -132,9 +87,8 @@ fn the_first_pattern_that_is_none_is_named(rt: HostRuntime) -> Result<(), Fail> 
     let alloc = rt.alloc();
     for &(first, second, fault) in &FAULTS {
         let expected = fault.map(|(list, pattern)| SetupFault::BadPattern(list, pattern));
-        assert_eq!(rt;
-            setup(alloc, first, second)?.err(),
-            expected,
+        assert!(rt;
+            setup(alloc, first, second)?.err() == expected,
             "{first} {second}"
         );
     }
