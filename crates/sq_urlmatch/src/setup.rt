@@ -98,6 +98,7 @@ impl Setup {
     {
         self.patterns.is_match(alloc, acl, subject)
     }
+
     /// Whether some range of the acl at a place holds the address; only `src` and `dst` have ranges. It
     /// takes no memory.
     pub fn has_address(&self, acl: u32, addr: Addr) -> bool
