@@ -1,8 +1,8 @@
 //! Heads of HTTP messages as a proxy passes them on, the plans of bodies, and the proxy's own replies.
 //!
 //! `head_out` is the head of a request as the origin gets it, `reply_head_out` that of a reply as the client
-//! gets it: fields of one connection alone and those that Connection lists are left out, the rest is as it
-//! came. `read_reply_head` reads a whole head of a reply. `request_plan` and `reply_plan` say how the end of
+//! gets it: fields of one connection alone, those that Connection lists but Content-Length, and of a request
+//! those for the proxy (Host, Proxy-Authorization, Expect) are left out, the rest is as it came. `read_reply_head` reads a whole head of a reply. `request_plan` and `reply_plan` say how the end of
 //! a body is found, and refuse what two recipients could read differently; they take no memory. `denial` and
 //! `error_text` are the replies of the proxy's own. Each answer is that of its definition.
 #![tactic(auto)]

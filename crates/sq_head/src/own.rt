@@ -17,7 +17,7 @@ pub enum Own {
     BadRequest,
     /// 431: the head is too large.
     HeadTooLarge,
-    /// 500: the proxy's parts do not agree.
+    /// 500: the proxy's parts do not agree, or no number is left for a seat.
     Inner,
     /// 500: the journal could not be written.
     Stopped,

@@ -373,7 +373,7 @@ none_there : (o : Option ℕ) → is_some o ≡ false → o ≡ None
 none_there None e = refl
 none_there (Some k) e = absurd (cc)
 
--- a send that is due: its question was put for a class with this key, was sent nowhere and has not ended, and it goes to a process of that class
+-- a send that is due: its question was put for a class, was sent nowhere and has not ended, and it goes to a process of that class
 pub record IsDueSend (configs : List Configuration) (m : Past) (p q : ℕ) (channel : Option ℕ) (key : List ℕ) : Type 0 where
   pub epoch : ℕ
   pub place : ℕ
