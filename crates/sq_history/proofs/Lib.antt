@@ -28,5 +28,6 @@ pub mod SoundLaws
 pub mod NeedLaws
 pub mod StayLaws
 pub mod WaitLaws
+pub mod ConfigurationLaws
 pub mod AloneLaws
 pub mod StopLaws
