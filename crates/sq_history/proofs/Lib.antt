@@ -28,6 +28,7 @@ pub mod SoundLaws
 pub mod NeedLaws
 pub mod StayLaws
 pub mod WaitLaws
+pub mod DistinctLaws
 pub mod ConfigurationLaws
 pub mod AloneLaws
 pub mod StopLaws
