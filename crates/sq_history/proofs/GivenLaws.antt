@@ -137,7 +137,8 @@ reply_given P None q key date w k new e = e
 reply_given P (Some class) q None date w k new e = e
 reply_given P (Some class) q (Some key) date None k new e = e
 
-key_put_is : (e c : ℕ) (o : Option Put) (z : List ℕ) → key_here e c o ≡ Some z → put_is e c z o ≡ true
+-- the key of a question that was put for a class
+pub key_put_is : (e c : ℕ) (o : Option Put) (z : List ℕ) → key_here e c o ≡ Some z → put_is e c z o ≡ true
 key_put_is e c None z is = absurd (none-some z is)
 key_put_is e c (Some p) z is = by ((p.epoch == e) && (p.class == c)) refl is
   where

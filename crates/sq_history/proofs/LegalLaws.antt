@@ -2,7 +2,7 @@
 use Rattle.std.proofs.Common.{◌≡◌, ℕ, zero, suc, ◌<◌, ◌≤◌, ◌-◌, max, List, [], ◌∷◌, ◌++◌, map, find, slice_get, length, cond, Bool, true, false, not, ◌&&◌, ◌||◌, ◌==◌, nat_le, nat_lt, bytes_eq, if◌then◌else◌, Option, Some, None, is_some, refl, sym, ap, ap₂, subst, ◌∙◌, arith, le_refl, le_of_eq, position}
 use Rattle.std.specs.List.{flat_map, list_any, position_or_len}
 use Rattle.std.specs.Option.{option_and_then, option_map, option_map_or, option_or}
-use Rattle.std.proofs.lemmas.Bool.{and_parts}
+use Rattle.std.proofs.lemmas.Bool.{and_parts, not-true}
 use Rattle.std.proofs.lemmas.Bool.Decides.{nat_tests}
 use Rattle.std.proofs.lemmas.List.Folds.{find_at}
 use Rattle.std.proofs.lemmas.Option.{none-some, same_Some}
@@ -617,11 +617,12 @@ is_number_some : (k : ℕ) (o : Option ℕ) → is_number k o ≡ true → o ≡
 is_number_some k None e = absurd (cc)
 is_number_some k (Some j) e = ap (λ (i : ℕ). Some i) (sym (equal k j e))
 
--- what a reply of a process that runs says, that its question was sent to that process, and that it stands on the question's channel alone
+-- what a reply of a process that runs says, that its question was sent to that process and has not ended, and that it stands on the question's channel alone
 pub record IsReplied (configs : List Configuration) (m : Past) (k : ℕ) (bytes : List ℕ) (q : ℕ) : Type 0 where
   pub what : What
   pub says : said_by configs m k bytes ≡ Some what
   pub sent : sent_to m q ≡ Some k
+  pub live : has_ended configs m q ≡ false
   pub only : (e d : ℕ) (class : Class) → class_at configs e d ≡ Some class → runs_at (entries m) e class.name k ≡ true → StandsOnlyOn class.concurrency (entries m) k bytes q
 
 abbrev channels_at : List Configuration → Past → ℕ → ℕ
@@ -640,6 +641,7 @@ is_replied configs m k bytes q reply once running c is =
       what = what_of r.answer.1;
       says = ap (option_map (λ (a : Option ℕ × Reply). what_of a.1)) r.answer_is;
       sent = is_number_some k (sent_to m q) (and_parts (is_number k (sent_to m q)) (not (has_ended configs m q)) agreed).0;
+      live = not-true (has_ended configs m q) (and_parts (is_number k (sent_to m q)) (not (has_ended configs m q)) agreed).1;
       only = λ e d other there here.
           let same : o.class ≡ other = one_class configs m k o.epoch o.place e d o.class other once o.at there o.home (home_of_run m e other.name k here) in
           subst (λ (z : Class). StandsOnlyOn z.concurrency (entries m) k bytes q) same

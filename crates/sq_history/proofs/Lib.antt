@@ -26,5 +26,9 @@ pub mod QuestionLaws
 pub mod GivenLaws
 pub mod SoundLaws
 pub mod NeedLaws
+pub mod StayLaws
+pub mod WaitLaws
+pub mod DistinctLaws
+pub mod ConfigurationLaws
 pub mod AloneLaws
 pub mod StopLaws

@@ -1,5 +1,5 @@
 -- A need is one without an answer: a check that has the answer of a key needs that key no more.
-use Rattle.std.proofs.Common.{◌≡◌, ℕ, zero, suc, List, [], ◌∷◌, ◌++◌, map, Bool, true, false, ◌&&◌, ◌==◌, ◌+◌, slice_get, bytes_eq, if◌then◌else◌, Option, Some, None, refl, sym, ap, ◌∙◌}
+use Rattle.std.proofs.Common.{◌≡◌, ℕ, zero, suc, List, [], ◌∷◌, ◌++◌, map, Bool, true, false, ◌&&◌, ◌==◌, ◌+◌, slice_get, bytes_eq, if◌then◌else◌, Option, Some, None, is_some, refl, sym, ap, ◌∙◌}
 use Rattle.std.specs.Option.{option_and_then, option_map_or}
 use Rattle.std.proofs.lemmas.Option.{none-some, same_Some}
 use Rattle.sq_base.specs.declared.helpers.Answer.{Answer}
@@ -27,8 +27,9 @@ use Rattle.sq_rules.specs.Values.{acl_value, answer_for, answer_value, body_valu
 use Rattle.sq_rules.specs.Verdicts.{decided, default_of, rules_from, verdict_over}
 use Rattle.sq_history.specs.Given.{EachOf}
 
--- what a value needs has no answer yet
+-- what a value needs is of an acl that asks a class, and has no answer yet
 pub record NeedIsOpen (c : Configuration) (answers : List Answer) (v : TermValue) : Type 0 where
+  pub asks : (acl : ℕ) (key : List ℕ) → v ≡ Need acl key → is_some (class_of_acl c.acls acl) ≡ true
   pub unanswered : (acl : ℕ) (key : List ℕ) (class : ℕ) → v ≡ Need acl key → class_of_acl c.acls acl ≡ Some class → answer_for answers class key ≡ None
 
 is_need : TermValue → Bool
@@ -39,7 +40,10 @@ is_need (Need acl key) = true
 
 plain : (c : Configuration) (answers : List Answer) (v : TermValue) → is_need v ≡ false → NeedIsOpen c answers v
 unfolding is_need
-plain c answers v e = record { unanswered = λ acl key class is at. absurd (let no : false ≡ true = sym e ∙ ap is_need is in cc) }
+plain c answers v e = record {
+  asks = λ acl key is. absurd (let no : false ≡ true = sym e ∙ ap is_need is in cc);
+  unanswered = λ acl key class is at. absurd (let no : false ≡ true = sym e ∙ ap is_need is in cc);
+}
 
 need_turned : (c : Configuration) (answers : List Answer) (b : Bool) (v : TermValue) → NeedIsOpen c answers v → NeedIsOpen c answers (turned b v)
 unfolding is_need
@@ -111,6 +115,7 @@ need_answer : (c : Configuration) (answers : List Answer) (place class : ℕ) (k
     → NeedIsOpen c answers (answer_value place key o)
 unfolding is_need needed_acl needed_key
 need_answer c answers place class key None at is = record {
+  asks = λ acl k e. ap (λ (i : ℕ). is_some (class_of_acl c.acls i)) (sym (ap (needed_acl place) e)) ∙ ap is_some at;
   unanswered = λ acl k d e there.
       let same : place ≡ acl = ap (needed_acl place) e in
       let keys : key ≡ k = ap (needed_key key) e in
@@ -165,6 +170,12 @@ pub verdict_needs : (c : Configuration) (s : Sight) (answers : List Answer) (acl
 unfolding needed_by
 verdict_needs c s answers acl key class is at =
     (rules_need c answers (taken_at c s answers) c.acls (default_of c.rules) 1 c.rules (need_taken c s answers)).unanswered acl key class (ap needed_by is) at
+
+-- and is of an acl that asks a class
+pub verdict_asks : (c : Configuration) (s : Sight) (answers : List Answer) (acl : ℕ) (key : List ℕ) → verdict_over answers c s ≡ value.Need acl key → is_some (class_of_acl c.acls acl) ≡ true
+unfolding needed_by
+verdict_asks c s answers acl key is =
+    (rules_need c answers (taken_at c s answers) c.acls (default_of c.rules) 1 c.rules (need_taken c s answers)).asks acl key (ap needed_by is)
 
 -- so it is with what a check of a configuration comes to: a step of it asks for a key without an answer
 pub value_needs : (configs : List Configuration) (a : Asked) (answers : List Answer) (config : Configuration) (acl : ℕ) (key : List ℕ) (class : ℕ) → config_of configs a.epoch ≡ Some config

@@ -116,7 +116,8 @@ open_before configs m x q e = by (question_end configs m q) (end_at configs m q 
     by (Some z) None e = absurd (cc)
     by (Some z) (Some w) e = absurd (cc)
 
-one_more : (configs : List Configuration) (m : Past) (en : Noted) (o : Option Put) (t : Option Answer) → PutsNew configs m o → OneOpen configs m
+-- so it stays with one entry more
+pub one_more : (configs : List Configuration) (m : Past) (en : Noted) (o : Option Put) (t : Option Answer) → PutsNew configs m o → OneOpen configs m
     → OneOpen configs (record { entry = en; put = o; took = t } ∷ m)
 one_more configs m en None t new one =
     record { last_open = λ e c key q high put live. one.last_open e c key q high put (open_before configs m (record { entry = en; put = None; took = t }) q live) }
@@ -198,7 +199,8 @@ put_key : (o : Option Put) (e c : ℕ) (key : List ℕ) → is_put_for e c o ≡
 put_key None e c key t = absurd (cc)
 put_key (Some p) e c key t = ap (λ (b : Bool). b && bytes_eq p.key key) t ∙ bytes_turned p.key key
 
-put_for_it : (o : Option Put) (e c : ℕ) (key : List ℕ) → put_is e c key o ≡ true → is_put_for e c o ≡ true
+-- a question that was put for a key of a class was put for the class
+pub put_for_it : (o : Option Put) (e c : ℕ) (key : List ℕ) → put_is e c key o ≡ true → is_put_for e c o ≡ true
 put_for_it None e c key t = absurd (cc)
 put_for_it (Some p) e c key t = (and_parts ((p.epoch == e) && (p.class == c)) (bytes_eq p.key key) t).0
 

@@ -200,6 +200,13 @@ own_next configs m now (Step k) answer is c own = record { own = λ n q z l put.
 own_next configs m now event answer is c own =
     record { own = λ n q z l put. own_kept configs m (mark configs m (record { moment = now; event = event; answer = answer })) n q z c own l put }
 
+some_put : (e c : ℕ) (key : List ℕ) (o : Option Put) → put_is e c key o ≡ true → is_some o ≡ true
+some_put e c key None t = absurd (cc)
+some_put e c key (Some p) t = refl
+
+still_put : (m : Past) (x : Marked) (e c : ℕ) (key : List ℕ) (q : ℕ) → put_is e c key (put_of m q) ≡ true → put_is e c key (put_of (x ∷ m) q) ≡ true
+still_put m x e c key q t = ap (put_is e c key) (put_same m x.entry x.put x.took q (some_put e c key (put_of m q) t)) ∙ t
+
 -- what was so of an answer stays
 sound_more : (configs : List Configuration) (m : Past) (x : Marked) (n e : ℕ) (a : Answer) → IsSound configs m n e a → IsSound configs (x ∷ m) n e a
 sound_more configs m x n e a (inl f) =
@@ -209,6 +216,7 @@ sound_more configs m x n e a (inr (inr w)) = inr (inr (record {
   question = w.question;
   question_is = w.question_is;
   waited = inr w.waited;
+  put = still_put m x e a.class a.key w.question w.put;
   taken_is = w.taken_is;
   end_is = ap (first_end x.entry.moment (end_at configs m w.question x.entry.event x.entry.answer)) w.end_is
       ∙ first (end_at configs m w.question x.entry.event x.entry.answer) (record { what = a.what; date = a.date });
@@ -299,6 +307,8 @@ ended_sound configs m now event answer n once is c own (Some q) l = by (question
         question = q;
         question_is = refl;
         waited = inr (last_waited m n q l);
+        put = still_put m x (epoch_at m n) p.class p.key q (ap (put_is (epoch_at m n) p.class p.key) put
+            ∙ ap₂ (λ (a b : Bool). a && b) (ap₂ (λ (a b : Bool). a && b) (ap (λ (i : ℕ). i == epoch_at m n) (own.own n q p l put) ∙ itself (epoch_at m n)) (itself p.class)) (bytes_itself p.key));
         taken_is = refl;
         end_is = ap₂ (first_end now) e none;
         given = gave p w put e (ended_source configs m now event answer q w p once is c put e);

@@ -82,11 +82,12 @@ abbrev pub WaitedFor : Past → ℕ → ℕ → Type 0
 WaitedFor [] n q = ⊥
 WaitedFor (x ∷ m) n q = ((steps m n x.entry.event ≡ true) × (waits_told x.entry.answer ≡ Some q)) ⊎ WaitedFor m n q
 
--- the end of a question that check n waited for, taken as it came: a fault, or what was given
+-- the end of a question that check n waited for and that was put for its epoch with this class and key, taken as it came: a fault, or what was given
 pub record Awaited (configs : List Configuration) (m : Past) (n e : ℕ) (a : Answer) : Type 0 where
   pub question : ℕ
   pub question_is : a.question ≡ Some question
   pub waited : WaitedFor m n question
+  pub put : put_is e a.class a.key (put_of m question) ≡ true
   pub taken_is : a.taken ≡ a.date
   pub end_is : question_end configs m question ≡ Some (record { what = a.what; date = a.date })
   pub given : (is_fault a.what ≡ true) ⊎ Given configs m e a.class (record { key = a.key; what = a.what; question = question; date = a.date })

@@ -3,3 +3,4 @@ pub mod MarkedEntries
 pub mod ClassChanges
 pub mod Carried
 pub mod Given
+pub mod Waits
