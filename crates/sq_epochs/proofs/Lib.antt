@@ -1,0 +1,3 @@
+mod EpochLaws
+mod PartLaws
+mod FindLaws

@@ -1,0 +1,111 @@
+//! `Epoch`: a live epoch with a part for each class of its configuration.
+ghost use Rattle.std.specs.Prelude.{◌≡◌, ◌<◌, ◌^◌, ℕ, suc, true, None, Some, map, length, slice_get, IfOk, OnOk, OnErr, IsErrOf};
+ghost use Rattle.std.specs.Option.{option_map};
+ghost use Rattle.std.specs.Arc.{arc_value};
+ghost use Rattle.sq_part.specs.Parts.{IsAsBefore, PartState};
+ghost use Rattle.sq_part.specs.Steps.{IsSpent, IsStepped};
+ghost use Rattle.sq_rules.specs.Classes.{Class};
+ghost use Rattle.sq_rules.specs.OpenLookups.{all_below, question_of};
+ghost use Rattle.sq_rows.specs.StepRows.{says_of_row};
+ghost use Rattle.sq_epochs.specs.EpochStates.{IsEpochChanged, new_epoch, new_part};
+ghost use Rattle.sq_epochs.specs.EpochChanges.{HasLeft, IsResolved};
+
+use sq_base::{CheckNo, EpochNo, Moment, Text, WantOfMemory};
+use sq_cache::HashSeed;
+use sq_part::{Part, ResolveFault};
+use sq_rows::Said;
+use sq_rules::{Class, Config};
+use std::alloc::Global;
+use std::marker::Model;
+use std::sync::Arc;
+
+/// A live epoch.
+#[derive(Drop)]
+pub struct Epoch {
+    pub(crate) number: EpochNo,
+    pub(crate) config: Arc<Config>,
+    pub(crate) checks: u64,
+    parts: Vec<Part>,
+}
+
+impl Model for Epoch {
+    ghost use Rattle.std.specs.Arc.{arc_value};
+    ghost use Rattle.sq_epochs.specs.EpochStates.{AreParts, EpochState};
+
+    ghost Value = { EpochState };
+
+    ghost view = { λ x. record { epoch = x.number; config = arc_value x.config; checks = x.checks; parts = x.parts.items } };
+
+    ghost invariant = { λ x. AreParts (arc_value x.config).classes x.parts.items };
+}
+
+// A part for each class, of which nothing is kept.
+fn parts_of(alloc: Global, classes: &[Class], seed: HashSeed) -> Result<Vec<Part>, WantOfMemory>
+    ensures { IfOk result (λ parts. parts.items ≡ map new_part classes.now) }
+{
+    let mut parts = Vec::new(alloc);
+    for class in classes {
+        parts.push(Part::new(alloc, class, seed)?)?;
+    }
+    Ok(parts)
+}
+
+impl Epoch {
+    // An epoch that begins.
+    pub(crate) fn new(
+        alloc: Global,
+        number: EpochNo,
+        config: Arc<Config>,
+        seed: HashSeed,
+    ) -> Result<Epoch, WantOfMemory>
+        ensures { IfOk result (λ x. x ≡ new_epoch number (arc_value config)) }
+    {
+        let parts = parts_of(alloc, config.classes(), seed)?;
+        Ok(Epoch {
+            number,
+            config,
+            checks: 0,
+            parts,
+        })
+    }
+
+    // The class at this place.
+    pub(crate) fn class(&self, class: u32) -> Option<&Class>
+        ensures { option_map (λ c. c.now) result ≡ slice_get self.now.config.classes class }
+    {
+        self.config.classes().get(class as usize)
+    }
+
+    // A step of a check on the class at this place.
+    pub(crate) fn resolve(
+        &mut self,
+        alloc: Global,
+        class: u32,
+        key: &Text,
+        now: Moment,
+        check: CheckNo,
+        count: u64,
+    ) -> Result<Said, ResolveFault>
+        requires there { class < length self.old.parts }
+        requires free { (p : PartState) → slice_get self.old.parts class ≡ Some p → question_of check p.waiting ≡ None }
+        requires counted { (p : PartState) → slice_get self.old.parts class ≡ Some p → all_below (suc count) p.row.lookups ≡ true }
+        requires few { count < 2 ^ 63 }
+        ensures spent { IsErrOf result ResolveFault.Spent → (p : PartState) (k : Class) → slice_get self.old.parts class ≡ Some p → slice_get self.old.config.classes class ≡ Some k → (e : ℕ) → IsSpent count (says_of_row k e class key.now now count p.row) }
+        ensures ok { IfOk result (λ s. (k : Class) → slice_get self.old.config.classes class ≡ Some k → IsEpochChanged class (IsResolved k class key.now now check count s) self.old self.new) }
+        ensures err { OnErr result (IsEpochChanged class IsAsBefore self.old self.new) }
+        ensures number { self.new.epoch ≡ self.old.epoch }
+    {
+        let rules = &self.config.classes()[class as usize];
+        let part = &mut self.parts[class as usize];
+        part.resolve(alloc, rules, class, key, now, check, count)
+    }
+
+    // Takes a check away from the list in which it waits in the class at this place.
+    pub(crate) fn leave(&mut self, class: u32, check: CheckNo)
+        requires there { class < length self.old.parts }
+        ensures { IsEpochChanged class (HasLeft check) self.old self.new }
+    {
+        let part = &mut self.parts[class as usize];
+        part.leave(check);
+    }
+}

@@ -1,0 +1,159 @@
+//! `Epochs`: the live epochs, the homes of processes and the due stops.
+ghost use Rattle.std.specs.Prelude.{◌≡◌, ◌<◌, ◌≤◌, ◌^◌, ◌∷◌, ◌==◌, [], ℕ, suc, true, false, is_some, Some, None, map, length, IfOk, IfSome, OnOk, OnErr, IsErrOf};
+ghost use Rattle.std.specs.Arc.{arc_value};
+ghost use Rattle.std.specs.Option.{option_map};
+ghost use Rattle.sq_part.specs.Parts.{IsAsBefore, PartState};
+ghost use Rattle.sq_part.specs.Steps.{IsSpent};
+ghost use Rattle.sq_rules.specs.Classes.{Class};
+ghost use Rattle.sq_rules.specs.OpenLookups.{all_below, question_of};
+ghost use Rattle.sq_rules.specs.Rising.{Rises, place_among};
+ghost use Rattle.sq_rows.specs.StepRows.{says_of_row};
+ghost use Rattle.sq_epochs.specs.EpochStates.{EpochState, IsChanged, class_at, epoch_at, epoch_number, home_at, new_epoch, part_at};
+ghost use Rattle.sq_epochs.specs.EpochChanges.{HasLeft, IsResolved};
+
+use crate::epoch::Epoch;
+use crate::homes::{Home, Homes};
+use sq_base::{CheckNo, EpochNo, Moment, ProcNo, Text, WantOfMemory};
+use sq_cache::HashSeed;
+use sq_part::ResolveFault;
+use sq_rows::Said;
+use sq_rules::{Class, Config};
+use std::alloc::Global;
+use std::marker::Model;
+use std::sync::Arc;
+
+/// The live epochs by number, the current one the last that began, with the parts of their classes; the homes of
+/// processes and the due stops.
+#[derive(Drop)]
+pub struct Epochs {
+    current: EpochNo,
+    epochs: Vec<Epoch>,
+    homes: Homes,
+}
+
+impl Model for Epochs {
+    ghost use Rattle.std.specs.Prelude.{map};
+    ghost use Rattle.sq_epochs.specs.EpochStates.{EpochsState, epoch_number};
+    ghost use Rattle.sq_rules.specs.Rising.{Rises};
+
+    ghost Value = { EpochsState };
+
+    ghost view = { λ v. record { current = v.current; epochs = v.epochs.items; procs = v.homes.given; homes = v.homes.homes; stops = v.homes.stops } };
+
+    ghost invariant = { λ v. Rises (map epoch_number v.epochs.items) };
+}
+
+fn place_of(epochs: &[Epoch], number: EpochNo) -> usize
+    requires { Rises (map epoch_number epochs.now) }
+    ensures place { result ≡ place_among number (map epoch_number epochs.now) }
+    ensures bound { result ≤ length epochs.now }
+{
+    epochs.partition_point(|epoch| epoch.number.0 < number.0)
+}
+
+impl Epochs {
+    /// The first epoch, with this configuration; it has no open check. The seed is for the hashes of keys.
+    pub fn new(alloc: Global, config: Arc<Config>, seed: HashSeed) -> Result<Epochs, WantOfMemory>
+        ensures { IfOk result (λ v. v ≡ record { current = 1; epochs = new_epoch 1 (arc_value config) ∷ []; procs = 0; homes = []; stops = [] }) }
+    {
+        let first = Epoch::new(alloc, EpochNo(1), config, seed)?;
+        let mut epochs = Vec::new(alloc);
+        epochs.push(first)?;
+        Ok(Epochs {
+            current: EpochNo(1),
+            epochs,
+            homes: Homes::new(alloc),
+        })
+    }
+
+    /// The number of the current epoch.
+    pub fn current(&self) -> EpochNo
+        ensures { result ≡ self.now.current }
+    {
+        self.current
+    }
+
+    /// How many epochs live.
+    pub fn len(&self) -> usize
+        ensures { result ≡ length self.now.epochs }
+    {
+        self.epochs.len()
+    }
+
+    /// How many processes of live epochs live.
+    pub fn living(&self) -> usize
+        ensures { result ≡ length self.now.homes }
+    {
+        self.homes.len()
+    }
+
+    /// Of which epoch and class a living process is, lent.
+    pub fn home(&self, proc: ProcNo) -> Option<&Home>
+        ensures { option_map (λ h. h.now.place) result ≡ home_at self.now proc }
+    {
+        self.homes.get(proc)
+    }
+
+    // The live epoch with this number.
+    fn epoch(&self, epoch: EpochNo) -> Option<&Epoch>
+        ensures { option_map (λ x. x.now) result ≡ epoch_at self.now epoch }
+    {
+        let place = place_of(&self.epochs, epoch);
+        match self.epochs.get(place) {
+            Some(live) if live.number.0 == epoch.0 => Some(live),
+            _ => None,
+        }
+    }
+
+    /// The configuration of a live epoch, lent.
+    pub fn config(&self, epoch: EpochNo) -> Option<&Arc<Config>>
+        ensures { option_map (λ c. arc_value c.now) result ≡ option_map (λ x. x.config) (epoch_at self.now epoch) }
+    {
+        let live = self.epoch(epoch)?;
+        Some(&live.config)
+    }
+
+    /// The class at a place of a live epoch, lent.
+    pub fn class(&self, epoch: EpochNo, class: u32) -> Option<&Class>
+        ensures { option_map (λ c. c.now) result ≡ class_at self.now epoch class }
+    {
+        let live = self.epoch(epoch)?;
+        live.class(class)
+    }
+
+    /// A step of a check that waits for nothing and needs the answer of a key of this class, where so many questions
+    /// were put in all. A question that is put gets the next number; it is refused where that would be 2^63 - 1,
+    /// unless memory is wanting before.
+    pub fn resolve(
+        &mut self,
+        alloc: Global,
+        epoch: EpochNo,
+        class: u32,
+        key: &Text,
+        now: Moment,
+        check: CheckNo,
+        count: u64,
+    ) -> Result<Said, ResolveFault>
+        requires there { is_some (part_at self.old epoch class) ≡ true }
+        requires free { (p : PartState) → part_at self.old epoch class ≡ Some p → question_of check p.waiting ≡ None }
+        requires counted { (p : PartState) → part_at self.old epoch class ≡ Some p → all_below (suc count) p.row.lookups ≡ true }
+        requires few { count < 2 ^ 63 }
+        ensures spent { IsErrOf result ResolveFault.Spent → (p : PartState) (k : Class) → part_at self.old epoch class ≡ Some p → class_at self.old epoch class ≡ Some k → (e : ℕ) → IsSpent count (says_of_row k e class key.now now count p.row) }
+        ensures ok { IfOk result (λ s. (k : Class) → class_at self.old epoch class ≡ Some k → IsChanged epoch class (IsResolved k class key.now now check count s) self.old self.new) }
+        ensures err { OnErr result (IsChanged epoch class IsAsBefore self.old self.new) }
+    {
+        let place = place_of(&self.epochs, epoch);
+        let live = &mut self.epochs[place];
+        live.resolve(alloc, class, key, now, check, count)
+    }
+
+    /// Takes a check away from the list in which it waits in this class, if it waits. It takes no memory.
+    pub fn leave(&mut self, epoch: EpochNo, class: u32, check: CheckNo)
+        requires there { is_some (part_at self.old epoch class) ≡ true }
+        ensures { IsChanged epoch class (HasLeft check) self.old self.new }
+    {
+        let place = place_of(&self.epochs, epoch);
+        let live = &mut self.epochs[place];
+        live.leave(class, check);
+    }
+}
