@@ -1,3 +1,4 @@
 mod EpochLaws
 mod PartLaws
 mod FindLaws
+mod OutcomeLaws

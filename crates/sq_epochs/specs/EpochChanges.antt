@@ -1,9 +1,16 @@
 -- What the calls of one class do to its part, as changes of a part.
-use Rattle.std.specs.Prelude.{◌≡◌, ℕ, ◌==◌, if◌then◌else◌, None, List}
+use Rattle.std.specs.Prelude.{◌≡◌, ℕ, ◌==◌, if◌then◌else◌, None, List, []}
 use Rattle.sq_rules.specs.Classes.{Class}
 use Rattle.sq_rules.specs.OpenLookups.{question_of}
 use Rattle.sq_rows.specs.StepRows.{says_of_row}
 use Rattle.sq_rows.specs.declared.said.Said.{Said}
+use Rattle.sq_base.specs.declared.helpers.What.{What}
+use Rattle.sq_lookup.specs.Waits.{has_check}
+use Rattle.sq_rules.specs.Farms.{failed}
+use Rattle.sq_rules.specs.OpenLookups.{waits_in}
+use Rattle.sq_rows.specs.ClassRows.{after_failed, after_reply}
+use Rattle.sq_part.specs.Losing.{IsHandedOut, handed_out}
+use Rattle.sq_part.specs.declared.lost.Lost.{Lost}
 use Rattle.sq_part.specs.Parts.{PartState}
 use Rattle.sq_part.specs.Steps.{IsStepped}
 
@@ -17,3 +24,31 @@ pub record HasLeft (check : ℕ) (old new : PartState) : Type 0 where
   pub row_is : new.row ≡ old.row
   pub waiting_are : (n : ℕ) → question_of n new.waiting ≡ (if n == check then None else question_of n old.waiting)
   pub limit_is : new.limit ≡ old.limit
+
+-- a reply of process k to question q, of this key, says so and dates from then; these checks waited for it
+pub record HasReplied (class : Class) (k q : ℕ) (key : List ℕ) (what : What) (date : ℕ) (checks : List ℕ) (old new : PartState) : Type 0 where
+  pub checks_are : (n : ℕ) → has_check n checks ≡ waits_in old.waiting q n
+  pub row_is : new.row ≡ after_reply class k q key what date old.row
+  pub waiting_are : (n : ℕ) → question_of n new.waiting ≡ (if waits_in old.waiting q n then None else question_of n old.waiting)
+  pub limit_is : new.limit ≡ old.limit
+
+-- the first of the lost questions was handed out; what is left in the end is the same
+pub record IsHandedOn (l : Lost) (old new : PartState) : Type 0 where
+  pub out : IsHandedOut l old new
+  pub after : handed_out new.row ≡ handed_out old.row
+
+-- no question was lost, so nothing changed, and the row is what is left in the end
+pub record HasNoLoss (old new : PartState) : Type 0 where
+  pub none : old.row.stock.losses ≡ []
+  pub same : new ≡ old
+  pub done : handed_out old.row ≡ old.row
+
+-- a start failed; once the questions that it lost were handed out, the row is that of a failed start
+pub record HasFailed (old new : PartState) : Type 0 where
+  pub value : new ≡ record old { row = record old.row { stock = failed old.row.stock } }
+  pub after : old.row.stock.losses ≡ [] → handed_out new.row ≡ after_failed old.row
+
+-- no start was open, and nothing changed
+pub record HasNoStart (old new : PartState) : Type 0 where
+  pub none : old.row.stock.starting ≡ 0
+  pub same : new ≡ old

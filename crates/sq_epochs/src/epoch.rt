@@ -1,5 +1,5 @@
 //! `Epoch`: a live epoch with a part for each class of its configuration.
-ghost use Rattle.std.specs.Prelude.{◌≡◌, ◌<◌, ◌^◌, ℕ, suc, true, None, Some, map, length, slice_get, IfOk, OnOk, OnErr, IsErrOf};
+ghost use Rattle.std.specs.Prelude.{◌≡◌, ◌<◌, ◌^◌, ℕ, suc, true, None, Some, map, length, slice_get, IfOk, IfNone, IfSome, OnOk, OnErr, IsErrOf};
 ghost use Rattle.std.specs.Option.{option_map};
 ghost use Rattle.std.specs.Arc.{arc_value};
 ghost use Rattle.sq_part.specs.Parts.{IsAsBefore, PartState};
@@ -8,11 +8,15 @@ ghost use Rattle.sq_rules.specs.Classes.{Class};
 ghost use Rattle.sq_rules.specs.OpenLookups.{all_below, question_of};
 ghost use Rattle.sq_rows.specs.StepRows.{says_of_row};
 ghost use Rattle.sq_epochs.specs.EpochStates.{IsEpochChanged, new_epoch, new_part};
-ghost use Rattle.sq_epochs.specs.EpochChanges.{HasLeft, IsResolved};
+ghost use Rattle.sq_epochs.specs.EpochChanges.{HasFailed, HasLeft, HasNoLoss, HasNoStart, HasReplied, IsHandedOn, IsResolved};
+ghost use Rattle.sq_rules.specs.Channels.{is_open};
+ghost use Rattle.sq_rules.specs.Living.{slots_in};
 
-use sq_base::{CheckNo, EpochNo, Moment, Text, WantOfMemory};
+use sq_base::{CheckNo, EpochNo, Moment, ProcNo, QuestionNo, Text, WantOfMemory, What};
 use sq_cache::HashSeed;
-use sq_part::{Part, ResolveFault};
+use sq_farm::StartFault;
+use sq_lookup::Checks;
+use sq_part::{Lost, Part, ResolveFault};
 use sq_rows::Said;
 use sq_rules::{Class, Config};
 use std::alloc::Global;
@@ -107,5 +111,48 @@ impl Epoch {
     {
         let part = &mut self.parts[class as usize];
         part.leave(check);
+    }
+
+    // A reply to a question that is open on this process, in the class at this place.
+    pub(crate) fn reply(
+        &mut self,
+        class: u32,
+        proc: ProcNo,
+        question: QuestionNo,
+        key: Text,
+        what: What,
+        date: Moment,
+    ) -> Result<Checks, WantOfMemory>
+        requires there { class < length self.old.parts }
+        requires opened { (p : PartState) → slice_get self.old.parts class ≡ Some p → is_open question (slots_in proc p.row.stock.procs) ≡ true }
+        ensures ok { IfOk result (λ checks. (k : Class) → slice_get self.old.config.classes class ≡ Some k → IsEpochChanged class (HasReplied k proc question key what date checks) self.old self.new) }
+        ensures err { OnErr result (IsEpochChanged class IsAsBefore self.old self.new) }
+        ensures number { self.new.epoch ≡ self.old.epoch }
+    {
+        let rules = &self.config.classes()[class as usize];
+        let part = &mut self.parts[class as usize];
+        part.reply(rules, proc, question, key, what, date)
+    }
+
+    // Hands out the least question that is lost in the class at this place.
+    pub(crate) fn next_lost(&mut self, class: u32) -> Option<Lost>
+        requires there { class < length self.old.parts }
+        ensures handed { IfSome result (λ l. IsEpochChanged class (IsHandedOn l) self.old self.new) }
+        ensures none { IfNone result (IsEpochChanged class HasNoLoss self.old self.new) }
+        ensures number { self.new.epoch ≡ self.old.epoch }
+    {
+        let part = &mut self.parts[class as usize];
+        part.next_lost()
+    }
+
+    // A start of the class at this place failed.
+    pub(crate) fn start_failed(&mut self, class: u32) -> Result<(), StartFault>
+        requires there { class < length self.old.parts }
+        ensures ok { OnOk result (IsEpochChanged class HasFailed self.old self.new) }
+        ensures err { OnErr result (IsEpochChanged class HasNoStart self.old self.new) }
+        ensures number { self.new.epoch ≡ self.old.epoch }
+    {
+        let part = &mut self.parts[class as usize];
+        part.start_failed()
     }
 }

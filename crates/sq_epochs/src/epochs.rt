@@ -1,5 +1,5 @@
 //! `Epochs`: the live epochs, the homes of processes and the due stops.
-ghost use Rattle.std.specs.Prelude.{◌≡◌, ◌<◌, ◌≤◌, ◌^◌, ◌∷◌, ◌==◌, [], ℕ, suc, true, false, is_some, Some, None, map, length, IfOk, IfSome, OnOk, OnErr, IsErrOf};
+ghost use Rattle.std.specs.Prelude.{◌≡◌, ◌<◌, ◌≤◌, ◌^◌, ◌∷◌, ◌==◌, [], ℕ, suc, true, false, is_some, Some, None, map, length, IfOk, IfNone, IfSome, OnOk, OnErr, IsErrOf};
 ghost use Rattle.std.specs.Arc.{arc_value};
 ghost use Rattle.std.specs.Option.{option_map};
 ghost use Rattle.sq_part.specs.Parts.{IsAsBefore, PartState};
@@ -9,13 +9,17 @@ ghost use Rattle.sq_rules.specs.OpenLookups.{all_below, question_of};
 ghost use Rattle.sq_rules.specs.Rising.{Rises, place_among};
 ghost use Rattle.sq_rows.specs.StepRows.{says_of_row};
 ghost use Rattle.sq_epochs.specs.EpochStates.{EpochState, IsChanged, class_at, epoch_at, epoch_number, home_at, new_epoch, part_at};
-ghost use Rattle.sq_epochs.specs.EpochChanges.{HasLeft, IsResolved};
+ghost use Rattle.sq_epochs.specs.EpochChanges.{HasFailed, HasLeft, HasNoLoss, HasNoStart, HasReplied, IsHandedOn, IsResolved};
+ghost use Rattle.sq_rules.specs.Channels.{is_open};
+ghost use Rattle.sq_rules.specs.Living.{slots_in};
 
 use crate::epoch::Epoch;
 use crate::homes::{Home, Homes};
-use sq_base::{CheckNo, EpochNo, Moment, ProcNo, Text, WantOfMemory};
+use sq_base::{CheckNo, EpochNo, Moment, ProcNo, QuestionNo, Text, WantOfMemory, What};
 use sq_cache::HashSeed;
-use sq_part::ResolveFault;
+use sq_farm::StartFault;
+use sq_lookup::Checks;
+use sq_part::{Lost, ResolveFault};
 use sq_rows::Said;
 use sq_rules::{Class, Config};
 use std::alloc::Global;
@@ -155,5 +159,51 @@ impl Epochs {
         let place = place_of(&self.epochs, epoch);
         let live = &mut self.epochs[place];
         live.leave(class, check);
+    }
+
+    /// A reply to a question that is open on this process of this class: what it says is kept under the question's
+    /// key, unless it is a fault, and the checks that waited are handed out. Only what is kept takes memory.
+    pub fn reply(
+        &mut self,
+        epoch: EpochNo,
+        class: u32,
+        proc: ProcNo,
+        question: QuestionNo,
+        key: Text,
+        what: What,
+        date: Moment,
+    ) -> Result<Checks, WantOfMemory>
+        requires there { is_some (part_at self.old epoch class) ≡ true }
+        requires opened { (p : PartState) → part_at self.old epoch class ≡ Some p → is_open question (slots_in proc p.row.stock.procs) ≡ true }
+        ensures ok { IfOk result (λ checks. (k : Class) → class_at self.old epoch class ≡ Some k → IsChanged epoch class (HasReplied k proc question key what date checks) self.old self.new) }
+        ensures err { OnErr result (IsChanged epoch class IsAsBefore self.old self.new) }
+    {
+        let place = place_of(&self.epochs, epoch);
+        let live = &mut self.epochs[place];
+        live.reply(class, proc, question, key, what, date)
+    }
+
+    /// Hands out the least question of this class that is lost, with its key and the checks that waited for it. It
+    /// takes no memory.
+    pub fn next_lost(&mut self, epoch: EpochNo, class: u32) -> Option<Lost>
+        requires there { is_some (part_at self.old epoch class) ≡ true }
+        ensures handed { IfSome result (λ l. IsChanged epoch class (IsHandedOn l) self.old self.new) }
+        ensures none { IfNone result (IsChanged epoch class HasNoLoss self.old self.new) }
+    {
+        let place = place_of(&self.epochs, epoch);
+        let live = &mut self.epochs[place];
+        live.next_lost(class)
+    }
+
+    /// A start of this class failed; refused where none is open. Where no process of it lives or starts then, the
+    /// questions that wait for one are lost, and `next_lost` hands them out. It takes no memory.
+    pub fn start_failed(&mut self, epoch: EpochNo, class: u32) -> Result<(), StartFault>
+        requires there { is_some (part_at self.old epoch class) ≡ true }
+        ensures ok { OnOk result (IsChanged epoch class HasFailed self.old self.new) }
+        ensures err { OnErr result (IsChanged epoch class HasNoStart self.old self.new) }
+    {
+        let place = place_of(&self.epochs, epoch);
+        let live = &mut self.epochs[place];
+        live.start_failed(class)
     }
 }

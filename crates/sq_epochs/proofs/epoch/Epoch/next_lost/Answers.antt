@@ -1,0 +1,31 @@
+use Rattle.std.proofs.Common.{◌≡◌, ◌<◌, [], ⊎_elim, length, refl, subst, sym, ap, ◌∙◌, map, Some, slice_get}
+use Rattle.std.specs.Arc.{arc_value}
+use Rattle.sq_part.specs.Parts.{IsAsBefore, PartState}
+use Rattle.sq_epochs.specs.EpochChanges.{HasNoLoss, IsHandedOn}
+use Rattle.sq_epochs.specs.EpochStates.{EpochState, class_cache}
+use Rattle.sq_epochs.proofs.PartLaws.{limits_kept}
+use Rattle.sq_part.specs.Losing.{IsHandedOut, handed_out}
+use Rattle.sq_epochs.proofs.OutcomeLaws.{more_some, none_epoch, some_epoch, lost_limit, three_none}
+use Rattle.sq_epochs.proofs.epoch.Epoch.next_lost.Goals as goal
+
+pub invariant_of-self : goal.invariant_of-self
+invariant_of-self c =
+    limits_kept c.self.inside.parts.items (map class_cache (arc_value c.self.inside.config).classes) c.args.class c.index_mut-part.result.now c.next_lost.new.self c.self.invariant c.index_mut-part.ensures.value
+    (lost_limit c.next_lost.result c.index_mut-part.result.now c.next_lost.new.self c.next_lost.ensures.handed c.next_lost.ensures.same)
+
+pub returns-clause-handed : goal.returns-clause-handed
+returns-clause-handed c =
+    let old : EpochState = record { epoch = c.self.inside.number; config = arc_value c.self.inside.config; checks = c.self.inside.checks; parts = c.self.inside.parts.items } in
+    let p = c.index_mut-part.result.now in
+    let q = c.next_lost.new.self in
+    some_epoch c.next_lost.result old c.args.self.now _ c.args.class c.index_mut-part.result.now c.next_lost.new.self IsHandedOn c.self.view_is c.requires.there c.index_mut-part.ensures.value refl
+    (more_some c.next_lost.result (λ l. IsHandedOut l p q) (λ l. IsHandedOn l p q) c.next_lost.ensures.handed (λ l out. record { out = out; after = c.next_lost.ensures.after }))
+
+pub returns-clause-none : goal.returns-clause-none
+returns-clause-none c =
+    let old : EpochState = record { epoch = c.self.inside.number; config = arc_value c.self.inside.config; checks = c.self.inside.checks; parts = c.self.inside.parts.items } in
+    let p = c.index_mut-part.result.now in
+    let q = c.next_lost.new.self in
+    none_epoch c.next_lost.result old c.args.self.now _ c.args.class c.index_mut-part.result.now c.next_lost.new.self HasNoLoss c.self.view_is c.requires.there c.index_mut-part.ensures.value refl
+    (three_none c.next_lost.result (p.row.stock.losses ≡ []) (q ≡ p) (handed_out p.row ≡ p.row) (HasNoLoss p q) c.next_lost.ensures.none c.next_lost.ensures.same c.next_lost.ensures.done
+    (λ a b d. record { none = a; same = b; done = d }))

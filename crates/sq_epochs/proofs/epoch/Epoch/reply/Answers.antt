@@ -1,0 +1,53 @@
+use Rattle.std.proofs.Common.{◌≡◌, ◌<◌, [], ⊎_elim, length, refl, subst, sym, ap, ◌∙◌, map, Some, slice_get}
+use Rattle.std.specs.Arc.{arc_value}
+use Rattle.sq_part.specs.Parts.{IsAsBefore, PartState}
+use Rattle.sq_epochs.specs.EpochChanges.{HasReplied}
+use Rattle.sq_epochs.specs.EpochStates.{EpochState, class_cache}
+use Rattle.sq_epochs.proofs.PartLaws.{class_there, limits_kept}
+use Rattle.std.proofs.lemmas.Option.{slice_get_read}
+use Rattle.sq_epochs.proofs.OutcomeLaws.{as_before, both_err, err_epoch, limit_there, replied}
+use Rattle.sq_epochs.proofs.epoch.Epoch.reply.Goals as goal
+
+pub reply-requires-clause-opened : goal.reply-requires-clause-opened
+reply-requires-clause-opened c =
+    let old : EpochState = record { epoch = c.self.inside.number; config = arc_value c.self.inside.config; checks = c.self.inside.checks; parts = c.self.inside.parts.items } in
+    let within : c.args.class < length old.parts = subst (λ z. c.args.class < length z.parts) (sym c.self.view_is) c.requires.there in
+    let here : slice_get old.config.classes c.args.class ≡ Some c.index-classes-class.result = class_there old.config.classes c.classes.result.now old.parts c.args.class c.index-classes-class.result c.self.invariant within
+    (c.classes.ensures.classes ∙ ap (λ z. z.classes) c.deref.ensures) c.index-classes-class.is in
+    let p = c.index_mut-part.result.now in
+    let there : slice_get old.parts c.args.class ≡ Some p = slice_get_read old.parts (length old.parts) c.args.class p refl within c.index_mut-part.ensures.value in
+    c.requires.opened p (ap (λ z. slice_get z.parts c.args.class) (sym c.self.view_is) ∙ there)
+
+pub reply-requires-clause-limit : goal.reply-requires-clause-limit
+reply-requires-clause-limit c =
+    let old : EpochState = record { epoch = c.self.inside.number; config = arc_value c.self.inside.config; checks = c.self.inside.checks; parts = c.self.inside.parts.items } in
+    let within : c.args.class < length old.parts = subst (λ z. c.args.class < length z.parts) (sym c.self.view_is) c.requires.there in
+    let here : slice_get old.config.classes c.args.class ≡ Some c.index-classes-class.result = class_there old.config.classes c.classes.result.now old.parts c.args.class c.index-classes-class.result c.self.invariant within
+    (c.classes.ensures.classes ∙ ap (λ z. z.classes) c.deref.ensures) c.index-classes-class.is in
+    let p = c.index_mut-part.result.now in
+    let there : slice_get old.parts c.args.class ≡ Some p = slice_get_read old.parts (length old.parts) c.args.class p refl within c.index_mut-part.ensures.value in
+    limit_there old.config.classes old.parts c.args.class c.index-classes-class.result p c.self.invariant here there
+
+pub invariant_of-self : goal.invariant_of-self
+invariant_of-self c =
+    limits_kept c.self.inside.parts.items (map class_cache (arc_value c.self.inside.config).classes) c.args.class c.index_mut-part.result.now c.reply.new.self c.self.invariant c.index_mut-part.ensures.value
+    (c.reply.ensures.limit)
+
+pub returns-clause-ok : goal.returns-clause-ok
+returns-clause-ok c =
+    let old : EpochState = record { epoch = c.self.inside.number; config = arc_value c.self.inside.config; checks = c.self.inside.checks; parts = c.self.inside.parts.items } in
+    let within : c.args.class < length old.parts = subst (λ z. c.args.class < length z.parts) (sym c.self.view_is) c.requires.there in
+    let here : slice_get old.config.classes c.args.class ≡ Some c.index-classes-class.result = class_there old.config.classes c.classes.result.now old.parts c.args.class c.index-classes-class.result c.self.invariant within
+    (c.classes.ensures.classes ∙ ap (λ z. z.classes) c.deref.ensures) c.index-classes-class.is in
+    let p = c.index_mut-part.result.now in
+    let there : slice_get old.parts c.args.class ≡ Some p = slice_get_read old.parts (length old.parts) c.args.class p refl within c.index_mut-part.ensures.value in
+    replied c.reply.result c.index-classes-class.result c.args.class c.args.proc c.args.question c.args.key c.args.what c.args.date old c.args.self.now _ p c.reply.new.self
+    c.self.view_is c.requires.there c.index_mut-part.ensures.value refl here c.reply.ensures.checks c.reply.ensures.row c.reply.ensures.waiting c.reply.ensures.limit
+
+pub returns-clause-err : goal.returns-clause-err
+returns-clause-err c =
+    let old : EpochState = record { epoch = c.self.inside.number; config = arc_value c.self.inside.config; checks = c.self.inside.checks; parts = c.self.inside.parts.items } in
+    let p = c.index_mut-part.result.now in
+    let q = c.reply.new.self in
+    err_epoch c.reply.result old c.args.self.now _ c.args.class c.index_mut-part.result.now c.reply.new.self IsAsBefore c.self.view_is c.requires.there c.index_mut-part.ensures.value refl
+    (both_err c.reply.result (q ≡ p) (q ≡ p) (IsAsBefore p q) c.reply.ensures.err c.reply.ensures.err (λ e f. as_before p q e))

@@ -1,0 +1,33 @@
+use Rattle.std.proofs.Common.{◌≡◌, ◌<◌, [], ⊎_elim, length, refl, subst, sym, ap, ◌∙◌, map, Some, slice_get}
+use Rattle.std.specs.Arc.{arc_value}
+use Rattle.sq_part.specs.Parts.{IsAsBefore, PartState}
+use Rattle.sq_epochs.specs.EpochChanges.{HasFailed, HasNoStart}
+use Rattle.sq_epochs.specs.EpochStates.{EpochState, class_cache}
+use Rattle.sq_epochs.proofs.PartLaws.{limits_kept}
+use Rattle.sq_rules.specs.Farms.{failed}
+use Rattle.sq_rows.specs.ClassRows.{after_failed}
+use Rattle.sq_part.specs.Losing.{handed_out}
+use Rattle.sq_epochs.proofs.OutcomeLaws.{both_err, both_ok, err_epoch, fail_limit, ok_epoch}
+use Rattle.sq_epochs.proofs.epoch.Epoch.start_failed.Goals as goal
+
+pub invariant_of-self : goal.invariant_of-self
+invariant_of-self c =
+    limits_kept c.self.inside.parts.items (map class_cache (arc_value c.self.inside.config).classes) c.args.class c.index_mut-part.result.now c.start_failed.new.self c.self.invariant c.index_mut-part.ensures.value
+    (fail_limit c.start_failed.result c.index_mut-part.result.now c.start_failed.new.self c.start_failed.ensures.ok c.start_failed.ensures.err)
+
+pub returns-clause-ok : goal.returns-clause-ok
+returns-clause-ok c =
+    let old : EpochState = record { epoch = c.self.inside.number; config = arc_value c.self.inside.config; checks = c.self.inside.checks; parts = c.self.inside.parts.items } in
+    let p = c.index_mut-part.result.now in
+    let q = c.start_failed.new.self in
+    ok_epoch c.start_failed.result old c.args.self.now _ c.args.class c.index_mut-part.result.now c.start_failed.new.self HasFailed c.self.view_is c.requires.there c.index_mut-part.ensures.value refl
+    (both_ok c.start_failed.result (q ≡ record p { row = record p.row { stock = failed p.row.stock } }) (p.row.stock.losses ≡ [] → handed_out q.row ≡ after_failed p.row) (HasFailed p q) c.start_failed.ensures.ok c.start_failed.ensures.after
+    (λ a b. record { value = a; after = b }))
+
+pub returns-clause-err : goal.returns-clause-err
+returns-clause-err c =
+    let old : EpochState = record { epoch = c.self.inside.number; config = arc_value c.self.inside.config; checks = c.self.inside.checks; parts = c.self.inside.parts.items } in
+    let p = c.index_mut-part.result.now in
+    let q = c.start_failed.new.self in
+    err_epoch c.start_failed.result old c.args.self.now _ c.args.class c.index_mut-part.result.now c.start_failed.new.self HasNoStart c.self.view_is c.requires.there c.index_mut-part.ensures.value refl
+    (both_err c.start_failed.result (p.row.stock.starting ≡ 0) (q ≡ p) (HasNoStart p q) c.start_failed.ensures.sure c.start_failed.ensures.err (λ a b. record { none = a; same = b }))
