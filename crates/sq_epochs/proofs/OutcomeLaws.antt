@@ -1,11 +1,11 @@
 -- Laws of a reply, of a failed start and of lost questions, in an epoch and in all.
-use Rattle.std.proofs.Common.{◌≡◌, ℕ, ◌<◌, List, [], map, length, set, true, refl, sym, ap, ◌∙◌, Some, None, is_some, get_or, subst, IfOk, OnOk, OnErr, Ok, Err, if◌then◌else◌}
+use Rattle.std.proofs.Common.{◌≡◌, ℕ, ◌<◌, List, map, length, set, sym, ap, ◌∙◌, Some, None, get_or, subst, IfOk, OnOk, OnErr, Ok, Err, if◌then◌else◌}
 use Rattle.std.specs.Prelude.{IfNone, IfSome}
 use Rattle.std.specs.Option.{option_map}
 use Rattle.std.specs.declared.option.Option.{Option}
 use Rattle.std.specs.declared.result.Result.{Result}
 use Rattle.std.specs.List.{slice_get}
-use Rattle.std.proofs.lemmas.Option.{same_Some, slice_get-map, slice_get_read}
+use Rattle.std.proofs.lemmas.Option.{same_Some, slice_get-map}
 use Rattle.sq_base.specs.declared.helpers.What.{What}
 use Rattle.sq_lookup.specs.Waits.{has_check}
 use Rattle.sq_rules.specs.Classes.{Class}
@@ -14,6 +14,8 @@ use Rattle.sq_rows.specs.ClassRows.{after_reply}
 use Rattle.sq_rules.specs.Farms.{failed}
 use Rattle.sq_part.specs.Losing.{IsHandedOut}
 use Rattle.sq_part.specs.declared.lost.Lost.{Lost}
+use Rattle.sq_channel.specs.declared.replies.Got.{Got}
+use Rattle.sq_farm.specs.Replies.{got_of}
 use Rattle.sq_part.specs.Parts.{IsAsBefore, PartState}
 use Rattle.sq_epochs.specs.EpochChanges.{HasReplied}
 use Rattle.sq_epochs.specs.EpochStates.{EpochState, EpochsState, IsChanged, IsEpochChanged, class_at, class_cache, part_limit, with_part}
@@ -118,3 +120,9 @@ pub all_replied : {B : Type 0} (r : Result (List ℕ) B) (k q : ℕ) (key : List
 all_replied (Ok checks) k q key what date v w new e c i f x y same is n ok = λ z at.
     lifted v w new e c i f x y (HasReplied z k q key what date checks) same is n (ok z (sym (class_here v w e c i f x same is) ∙ at))
 all_replied (Err z) k q key what date v w new e c i f x y same is n ok = tt
+
+-- what a line comes to, said of the part that is found in all
+pub looked : {B : Type 0} (r : Result Got B) (k : ℕ) (line : List ℕ) (o o' : Option PartState) → o ≡ o' → IfOk r (λ g. (p : PartState) → o' ≡ Some p → got_of k p.row.stock line ≡ Some g)
+    → IfOk r (λ g. (p : PartState) → o ≡ Some p → got_of k p.row.stock line ≡ Some g)
+looked (Ok g) k line o o' same ok = λ p at. ok p (sym same ∙ at)
+looked (Err e) k line o o' same ok = tt

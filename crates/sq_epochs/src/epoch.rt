@@ -10,11 +10,12 @@ ghost use Rattle.sq_rows.specs.StepRows.{says_of_row};
 ghost use Rattle.sq_epochs.specs.EpochStates.{IsEpochChanged, new_epoch, new_part};
 ghost use Rattle.sq_epochs.specs.EpochChanges.{HasFailed, HasLeft, HasNoLoss, HasNoStart, HasReplied, IsHandedOn, IsResolved};
 ghost use Rattle.sq_rules.specs.Channels.{is_open};
-ghost use Rattle.sq_rules.specs.Living.{slots_in};
+ghost use Rattle.sq_farm.specs.Replies.{got_of};
+ghost use Rattle.sq_rules.specs.Living.{lives, slots_in};
 
 use sq_base::{CheckNo, EpochNo, Moment, ProcNo, QuestionNo, Text, WantOfMemory, What};
 use sq_cache::HashSeed;
-use sq_farm::StartFault;
+use sq_farm::{Got, StartFault};
 use sq_lookup::Checks;
 use sq_part::{Lost, Part, ResolveFault};
 use sq_rows::Said;
@@ -154,5 +155,21 @@ impl Epoch {
     {
         let part = &mut self.parts[class as usize];
         part.start_failed()
+    }
+
+    // What a line of a living process of the class at this place comes to.
+    pub(crate) fn look(
+        &self,
+        alloc: Global,
+        class: u32,
+        proc: ProcNo,
+        line: &[u8],
+    ) -> Result<Got, WantOfMemory>
+        requires there { class < length self.now.parts }
+        requires alive { (p : PartState) → slice_get self.now.parts class ≡ Some p → lives proc p.row.stock.procs ≡ true }
+        ensures { IfOk result (λ g. (p : PartState) → slice_get self.now.parts class ≡ Some p → got_of proc p.row.stock line.now ≡ Some g) }
+    {
+        let part = &self.parts[class as usize];
+        part.look(alloc, proc, line)
     }
 }

@@ -11,13 +11,14 @@ ghost use Rattle.sq_rows.specs.StepRows.{says_of_row};
 ghost use Rattle.sq_epochs.specs.EpochStates.{EpochState, IsChanged, class_at, epoch_at, epoch_number, home_at, new_epoch, part_at};
 ghost use Rattle.sq_epochs.specs.EpochChanges.{HasFailed, HasLeft, HasNoLoss, HasNoStart, HasReplied, IsHandedOn, IsResolved};
 ghost use Rattle.sq_rules.specs.Channels.{is_open};
-ghost use Rattle.sq_rules.specs.Living.{slots_in};
+ghost use Rattle.sq_farm.specs.Replies.{got_of};
+ghost use Rattle.sq_rules.specs.Living.{lives, slots_in};
 
 use crate::epoch::Epoch;
 use crate::homes::{Home, Homes};
 use sq_base::{CheckNo, EpochNo, Moment, ProcNo, QuestionNo, Text, WantOfMemory, What};
 use sq_cache::HashSeed;
-use sq_farm::StartFault;
+use sq_farm::{Got, StartFault};
 use sq_lookup::Checks;
 use sq_part::{Lost, ResolveFault};
 use sq_rows::Said;
@@ -205,5 +206,23 @@ impl Epochs {
         let place = place_of(&self.epochs, epoch);
         let live = &mut self.epochs[place];
         live.start_failed(class)
+    }
+
+    /// What a line of a living process of this class comes to. Nothing changes.
+    pub fn look(
+        &self,
+        alloc: Global,
+        epoch: EpochNo,
+        class: u32,
+        proc: ProcNo,
+        line: &[u8],
+    ) -> Result<Got, WantOfMemory>
+        requires there { is_some (part_at self.now epoch class) ≡ true }
+        requires alive { (p : PartState) → part_at self.now epoch class ≡ Some p → lives proc p.row.stock.procs ≡ true }
+        ensures { IfOk result (λ g. (p : PartState) → part_at self.now epoch class ≡ Some p → got_of proc p.row.stock line.now ≡ Some g) }
+    {
+        let place = place_of(&self.epochs, epoch);
+        let live = &self.epochs[place];
+        live.look(alloc, class, proc, line)
     }
 }

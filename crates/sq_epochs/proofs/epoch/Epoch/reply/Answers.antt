@@ -1,7 +1,6 @@
-use Rattle.std.proofs.Common.{◌≡◌, ◌<◌, [], ⊎_elim, length, refl, subst, sym, ap, ◌∙◌, map, Some, slice_get}
+use Rattle.std.proofs.Common.{◌≡◌, ◌<◌, length, refl, subst, sym, ap, ◌∙◌, map, Some, slice_get}
 use Rattle.std.specs.Arc.{arc_value}
-use Rattle.sq_part.specs.Parts.{IsAsBefore, PartState}
-use Rattle.sq_epochs.specs.EpochChanges.{HasReplied}
+use Rattle.sq_part.specs.Parts.{IsAsBefore}
 use Rattle.sq_epochs.specs.EpochStates.{EpochState, class_cache}
 use Rattle.sq_epochs.proofs.PartLaws.{class_there, limits_kept}
 use Rattle.std.proofs.lemmas.Option.{slice_get_read}

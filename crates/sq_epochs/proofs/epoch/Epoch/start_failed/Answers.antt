@@ -1,6 +1,5 @@
-use Rattle.std.proofs.Common.{◌≡◌, ◌<◌, [], ⊎_elim, length, refl, subst, sym, ap, ◌∙◌, map, Some, slice_get}
+use Rattle.std.proofs.Common.{◌≡◌, [], refl, map}
 use Rattle.std.specs.Arc.{arc_value}
-use Rattle.sq_part.specs.Parts.{IsAsBefore, PartState}
 use Rattle.sq_epochs.specs.EpochChanges.{HasFailed, HasNoStart}
 use Rattle.sq_epochs.specs.EpochStates.{EpochState, class_cache}
 use Rattle.sq_epochs.proofs.PartLaws.{limits_kept}

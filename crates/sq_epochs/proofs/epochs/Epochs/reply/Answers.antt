@@ -1,8 +1,7 @@
-use Rattle.std.proofs.Common.{◌≡◌, ◌<◌, length, refl, ap, ◌∙◌, sym, map, arith}
+use Rattle.std.proofs.Common.{refl, ap, ◌∙◌, map, arith}
 use Rattle.std.proofs.lemmas.Grind.{common_steps}
 use Rattle.sq_rules.specs.Rising.{place_among}
 use Rattle.sq_part.specs.Parts.{IsAsBefore}
-use Rattle.sq_epochs.specs.EpochChanges.{HasReplied}
 use Rattle.sq_epochs.specs.EpochStates.{EpochsState, epoch_number}
 use Rattle.sq_epochs.proofs.EpochLaws.{still_rises}
 use Rattle.sq_epochs.proofs.OutcomeLaws.{all_replied, err_lifted}

@@ -1,12 +1,11 @@
-use Rattle.std.proofs.Common.{◌≡◌, ◌<◌, length, refl, ap, ◌∙◌, sym, map, arith}
+use Rattle.std.proofs.Common.{refl, ap, ◌∙◌, map, arith}
 use Rattle.std.proofs.lemmas.Grind.{common_steps}
 use Rattle.sq_rules.specs.Rising.{place_among}
-use Rattle.sq_part.specs.Parts.{IsAsBefore}
 use Rattle.sq_epochs.specs.EpochChanges.{HasFailed, HasNoStart}
 use Rattle.sq_epochs.specs.EpochStates.{EpochsState, epoch_number}
 use Rattle.sq_epochs.proofs.EpochLaws.{still_rises}
 use Rattle.sq_epochs.proofs.OutcomeLaws.{err_lifted, ok_lifted}
-use Rattle.sq_epochs.proofs.PartLaws.{find_at, part_here, within_at}
+use Rattle.sq_epochs.proofs.PartLaws.{find_at, within_at}
 use Rattle.sq_epochs.proofs.epochs.Epochs.start_failed.Goals as goal
 
 pub index_mut-live-requires : goal.index_mut-live-requires
