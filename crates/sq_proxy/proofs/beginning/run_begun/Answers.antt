@@ -10,3 +10,7 @@ returns-in-Err-clause-runs g c = λ base w.
     begins_over _ base _ _ c.args.setup c.args.now c.args.offset
     (λ bytes. run_lines (c.args.setup ∷ []) (begun_history c.args.now c.args.offset) 2 c.args.place (lines bytes)) c.in-Err.end
     (λ bytes. run_grows (c.args.setup ∷ []) (begun_history c.args.now c.args.offset) 2 c.args.place (lines bytes)) (c.in-Err.ensures.begins base w)
+
+pub returns-clause-runs : goal.returns-clause-runs
+returns-clause-runs g c = λ base w.
+    c.run_rest.ensures.runs base (c.args.setup ∷ []) (begun_history c.args.now c.args.offset) (c.in-Ok.ensures.begins base w)
