@@ -1,5 +1,5 @@
 -- A check that waits for a question needs the key that the question was put for, and nothing fresh is kept of it: a step of it says to wait for that question, puts nothing and takes nothing.
-use Rattle.std.proofs.Common.{◌≡◌, ◌⊎◌, inl, inr, ℕ, suc, ◌<◌, ◌≤◌, ◌-◌, ◌*◌, List, [], ◌∷◌, ◌++◌, append-nil, Bool, true, false, not, ◌&&◌, ◌==◌, nat_le, nat_lt, length, if◌then◌else◌, Option, Some, None, is_some, option_to_list, refl, sym, ap, ap₂, subst, ◌∙◌, arith}
+use Rattle.std.proofs.Common.{◌≡◌, ◌⊎◌, inl, inr, ℕ, suc, ◌<◌, ◌≤◌, ◌-◌, ◌*◌, List, [], ◌∷◌, ◌++◌, append-nil, Bool, true, false, ◌&&◌, ◌==◌, nat_le, nat_lt, length, if◌then◌else◌, Option, Some, None, option_to_list, refl, sym, ap, ap₂, subst, ◌∙◌, arith}
 use Rattle.std.specs.Option.{option_and_then, option_map_or, option_or}
 use Rattle.std.proofs.lemmas.Bool.{and_parts}
 use Rattle.std.proofs.lemmas.Bool.Decides.{nat_tests}
@@ -14,7 +14,7 @@ use Rattle.sq_rules.specs.declared.entries.Told.TheVariants as told
 use Rattle.sq_rules.specs.declared.kept.KeptVerdict.{KeptVerdict}
 use Rattle.sq_rules.specs.declared.values.Value.{Value}
 use Rattle.sq_rules.specs.declared.values.Value.TheVariants as value
-use Rattle.sq_rules.specs.AnswerReadings.{answer_at, answer_by, answers, ended_answer, last_wait, steps, waits_for, waits_told}
+use Rattle.sq_rules.specs.AnswerReadings.{answer_by, answers, ended_answer, last_wait, steps, waits_for, waits_told}
 use Rattle.sq_rules.specs.Checks.{Asked, ask_count, ask_of, numbered}
 use Rattle.sq_rules.specs.Classes.{Class}
 use Rattle.sq_rules.specs.Configurations.{Configuration}
@@ -25,13 +25,13 @@ use Rattle.sq_rules.specs.FarmReadings.{farm_with}
 use Rattle.sq_rules.specs.Farms.{full}
 use Rattle.sq_rules.specs.Freshness.{is_fresh, ttl_of}
 use Rattle.sq_rules.specs.FullNext.{FullLegal, full_next_at}
-use Rattle.sq_rules.specs.KeptLists.{KeptList, fresh_for, if_fresh, verdict_of}
+use Rattle.sq_rules.specs.KeptLists.{fresh_for, if_fresh, verdict_of}
 use Rattle.sq_rules.specs.KeptReadings.{after_took, kept}
 use Rattle.sq_rules.specs.Limits.{key_limit}
 use Rattle.sq_rules.specs.Machine.{config_of, gives, is_begin}
 use Rattle.sq_rules.specs.Marking.{mark, marked, says_at}
 use Rattle.sq_rules.specs.Marks.{Marked, Past, Put, entries}
-use Rattle.sq_rules.specs.Questions.{end_at, has_ended, last_put, pending, put_count, put_is, put_of, question_end, unended}
+use Rattle.sq_rules.specs.Questions.{end_at, has_ended, last_put, pending, put_count, put_is, put_of, unended}
 use Rattle.sq_rules.specs.Readings.{latest}
 use Rattle.sq_rules.specs.StepRule.{StepSays, class_of_acl, says_asked, says_asked_of, says_at_place, says_done, says_fault, says_fresh, says_need, says_of_class, says_value, step_says, value_over}
 use Rattle.sq_rules.proofs.CheckLaws.{ask_of_kept}
