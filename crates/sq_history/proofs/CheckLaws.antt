@@ -49,7 +49,8 @@ unended_kept : (configs : List Configuration) (m : Past) (x : Marked) (o : Optio
 unended_kept configs m x None e = refl
 unended_kept configs m x (Some q) e = ap (λ (z : Option QuestionEnd). if is_some z then None else Some q) (question_end_kept configs m x q (e q))
 
-answer_by_none : (date q : ℕ) (p : Option Put) → answer_by date q p None ≡ None
+-- what has not ended gives no answer
+pub answer_by_none : (date q : ℕ) (p : Option Put) → answer_by date q p None ≡ None
 answer_by_none date q None = refl
 answer_by_none date q (Some p) = refl
 

@@ -1,6 +1,5 @@
 -- The answers of a check of a legal history: no two have one class and key.
-use Rattle.std.proofs.Common.{◌≡◌, ◌⊎◌, inl, inr, ℕ, suc, List, [], ◌∷◌, ◌++◌, append-nil, Bool, true, false, not, ◌&&◌, ◌||◌, ◌==◌, nat_le, nat_lt, length, bytes_eq, if◌then◌else◌, Option, Some, None, option_to_list, refl, sym, ap, ap₂, ◌∙◌}
-use Rattle.std.specs.Option.{option_and_then}
+use Rattle.std.proofs.Common.{◌≡◌, inl, inr, ℕ, List, [], ◌∷◌, ◌++◌, append-nil, Bool, true, false, not, ◌&&◌, ◌||◌, ◌==◌, nat_le, nat_lt, length, bytes_eq, if◌then◌else◌, Option, Some, None, option_to_list, refl, sym, ap, ap₂, ◌∙◌}
 use Rattle.std.proofs.lemmas.Bool.{and_parts}
 use Rattle.std.proofs.lemmas.Option.{none-some, same_Some}
 use Rattle.sq_base.proofs.CommonLaws.{bytes_turned, eq_turned, then_some}
@@ -28,14 +27,14 @@ use Rattle.sq_rules.specs.Machine.{config_of, gives, is_begin}
 use Rattle.sq_rules.specs.Marking.{mark, marked}
 use Rattle.sq_rules.specs.Marks.{Marked, Past, Put, entries}
 use Rattle.sq_rules.specs.Questions.{end_at, pending, put_count, put_is, put_of}
-use Rattle.sq_rules.specs.StepRule.{StepSays, class_of_acl, says_asked, says_done, says_fault, says_fresh, says_need, step_says}
+use Rattle.sq_rules.specs.StepRule.{StepSays, class_of_acl, says_asked, says_fault, says_fresh, says_need, step_says}
 use Rattle.sq_rules.specs.Values.{answer_for}
 use Rattle.sq_history.specs.Carried.{Carried, NamesOnce}
 use Rattle.sq_history.specs.Waits.{IsNeeded, NeedsPut}
 use Rattle.sq_history.proofs.ClassParts.{bytes_same, equal}
 use Rattle.sq_history.proofs.LegalLaws.{legal_induction}
 use Rattle.sq_history.proofs.NeedLaws.{value_needs}
-use Rattle.sq_history.proofs.WaitLaws.{SaysNeed, SaysOf, WaitsNeeded, needs_first, needs_next, step_is}
+use Rattle.sq_history.proofs.WaitLaws.{SaysOf, WaitsNeeded, needs_first, needs_next, step_is}
 
 or_none : (b : Bool) → (b || false) ≡ b
 or_none true = refl

@@ -127,7 +127,8 @@ pub record SoundPast (configs : List Configuration) (m : Past) : Type 0 where
   pub waits_own : WaitsOwn m
   pub sound : (n : ℕ) → EachOf (IsSound configs m n (epoch_at m n)) (answers configs m n)
 
-new_number : (n k : ℕ) (o : Option Asking) (a : Asking) → numbered n k o ≡ Some a → k < n
+-- a number that is given is above those before
+pub new_number : (n k : ℕ) (o : Option Asking) (a : Asking) → numbered n k o ≡ Some a → k < n
 new_number n k None a e = absurd (none-some a e)
 new_number n k (Some b) a e = by (n == suc k) refl e
   where
@@ -204,7 +205,8 @@ some_put : (e c : ℕ) (key : List ℕ) (o : Option Put) → put_is e c key o �
 some_put e c key None t = absurd (cc)
 some_put e c key (Some p) t = refl
 
-still_put : (m : Past) (x : Marked) (e c : ℕ) (key : List ℕ) (q : ℕ) → put_is e c key (put_of m q) ≡ true → put_is e c key (put_of (x ∷ m) q) ≡ true
+-- a question that was put for a key of a class is so with one entry more
+pub still_put : (m : Past) (x : Marked) (e c : ℕ) (key : List ℕ) (q : ℕ) → put_is e c key (put_of m q) ≡ true → put_is e c key (put_of (x ∷ m) q) ≡ true
 still_put m x e c key q t = ap (put_is e c key) (put_same m x.entry x.put x.took q (some_put e c key (put_of m q) t)) ∙ t
 
 -- what was so of an answer stays

@@ -1,8 +1,8 @@
 -- While a question has not ended, no entry makes a new verdict of its key in the list of its class: a verdict that is found there was found there before.
-use Rattle.std.proofs.Common.{◌≡◌, ℕ, zero, suc, ◌<◌, ◌≤◌, List, [], ◌∷◌, take, cond, Bool, true, false, not, ◌&&◌, ◌==◌, nat_le, nat_lt, bytes_eq, if◌then◌else◌, Option, Some, None, is_some, refl, sym, ap, ap₂, ◌∙◌, arith}
-use Rattle.std.specs.Map.{lookup, lookup_entry}
+use Rattle.std.proofs.Common.{◌≡◌, ℕ, zero, suc, ◌<◌, ◌≤◌, List, [], ◌∷◌, take, cond, Bool, true, false, not, ◌&&◌, ◌==◌, nat_le, nat_lt, if◌then◌else◌, Option, Some, None, is_some, refl, sym, ap, ap₂, ◌∙◌, arith}
+use Rattle.std.specs.Map.{lookup_entry}
 use Rattle.std.specs.Option.{option_map_or}
-use Rattle.std.proofs.lemmas.Bool.{and_parts, le-leb}
+use Rattle.std.proofs.lemmas.Bool.{le-leb}
 use Rattle.std.proofs.lemmas.Bool.Decides.{nat_tests}
 use Rattle.std.proofs.lemmas.Option.{none-some, same_Some}
 use Rattle.sq_base.specs.declared.helpers.Answer.{Answer}
@@ -16,20 +16,19 @@ use Rattle.sq_rules.specs.Checks.{ask_of}
 use Rattle.sq_rules.specs.Classes.{Class}
 use Rattle.sq_rules.specs.Configurations.{Configuration}
 use Rattle.sq_rules.specs.Epochs.{class_at}
-use Rattle.sq_rules.specs.FarmReadings.{is_put_for}
 use Rattle.sq_rules.specs.Freshness.{ttl_of}
 use Rattle.sq_rules.specs.FullNext.{full_next_at}
 use Rattle.sq_rules.specs.KeptLists.{KeptList, is_fault, keep, kept_without, same_key, to_front, verdict_of}
 use Rattle.sq_rules.specs.KeptReadings.{after_took, alike_place, keep_reply, keep_what, kept, key_here}
 use Rattle.sq_rules.specs.Machine.{gives}
 use Rattle.sq_rules.specs.Marking.{mark}
-use Rattle.sq_rules.specs.Marks.{Marked, Past, Put, entries}
+use Rattle.sq_rules.specs.Marks.{Marked, Past, entries}
 use Rattle.sq_rules.specs.Processes.{if_here}
 use Rattle.sq_rules.specs.Questions.{QuestionEnd, end_at, first_end, has_ended, put_count, put_is, put_of, question_end, said_by}
 use Rattle.sq_rules.specs.Readings.{current}
 use Rattle.sq_rules.specs.StepRule.{step_says}
 use Rattle.sq_history.specs.Carried.{Carried, NamesOnce}
-use Rattle.sq_history.proofs.ClassParts.{bytes_itself, bytes_same, equal, itself}
+use Rattle.sq_history.proofs.ClassParts.{bytes_same, itself}
 use Rattle.sq_history.proofs.GivenLaws.{key_put_is}
 use Rattle.sq_history.proofs.LegalLaws.{IsReplied, line_replied, next_line}
 use Rattle.sq_history.proofs.NumberLaws.{put_of_above}

@@ -1,5 +1,5 @@
 -- A check that waits for a question needs the key that the question was put for, and nothing fresh is kept of it: a step of it says to wait for that question, puts nothing and takes nothing.
-use Rattle.std.proofs.Common.{◌≡◌, ◌⊎◌, inl, inr, ℕ, suc, ◌<◌, ◌≤◌, ◌-◌, ◌*◌, List, [], ◌∷◌, ◌++◌, append-nil, Bool, true, false, not, ◌&&◌, ◌==◌, nat_le, nat_lt, length, if◌then◌else◌, Option, Some, None, is_some, option_to_list, refl, sym, ap, ap₂, subst, ◌∙◌, arith}
+use Rattle.std.proofs.Common.{◌≡◌, ◌⊎◌, inl, inr, ℕ, suc, ◌≤◌, ◌-◌, ◌*◌, List, [], ◌∷◌, ◌++◌, append-nil, Bool, true, false, ◌&&◌, ◌==◌, nat_le, nat_lt, length, if◌then◌else◌, Option, Some, None, option_to_list, refl, sym, ap, ap₂, subst, ◌∙◌, arith}
 use Rattle.std.specs.Option.{option_and_then, option_map_or, option_or}
 use Rattle.std.proofs.lemmas.Bool.{and_parts}
 use Rattle.std.proofs.lemmas.Bool.Decides.{nat_tests}
@@ -14,33 +14,35 @@ use Rattle.sq_rules.specs.declared.entries.Told.TheVariants as told
 use Rattle.sq_rules.specs.declared.kept.KeptVerdict.{KeptVerdict}
 use Rattle.sq_rules.specs.declared.values.Value.{Value}
 use Rattle.sq_rules.specs.declared.values.Value.TheVariants as value
-use Rattle.sq_rules.specs.AnswerReadings.{answer_at, answer_by, answers, ended_answer, last_wait, steps, waits_for, waits_told}
+use Rattle.sq_rules.specs.AnswerReadings.{answer_by, answers, ended_answer, last_wait, steps, waits_for, waits_told}
 use Rattle.sq_rules.specs.Checks.{Asked, ask_count, ask_of, numbered}
 use Rattle.sq_rules.specs.Classes.{Class}
 use Rattle.sq_rules.specs.Configurations.{Configuration}
-use Rattle.sq_rules.specs.Entries.{History, Noted}
+use Rattle.sq_rules.specs.Entries.{History}
 use Rattle.sq_rules.specs.Epochs.{class_at}
 use Rattle.sq_rules.specs.Events.{Asking, asking}
 use Rattle.sq_rules.specs.FarmReadings.{farm_with}
 use Rattle.sq_rules.specs.Farms.{full}
 use Rattle.sq_rules.specs.Freshness.{is_fresh, ttl_of}
 use Rattle.sq_rules.specs.FullNext.{FullLegal, full_next_at}
-use Rattle.sq_rules.specs.KeptLists.{KeptList, fresh_for, if_fresh, verdict_of}
+use Rattle.sq_rules.specs.KeptLists.{fresh_for, if_fresh, verdict_of}
 use Rattle.sq_rules.specs.KeptReadings.{after_took, kept}
 use Rattle.sq_rules.specs.Limits.{key_limit}
 use Rattle.sq_rules.specs.Machine.{config_of, gives, is_begin}
 use Rattle.sq_rules.specs.Marking.{mark, marked, says_at}
 use Rattle.sq_rules.specs.Marks.{Marked, Past, Put, entries}
-use Rattle.sq_rules.specs.Questions.{end_at, has_ended, last_put, pending, put_count, put_is, put_of, question_end, unended}
+use Rattle.sq_rules.specs.Questions.{end_at, has_ended, last_put, pending, put_count, put_is, put_of, unended}
 use Rattle.sq_rules.specs.Readings.{latest}
 use Rattle.sq_rules.specs.StepRule.{StepSays, class_of_acl, says_asked, says_asked_of, says_at_place, says_done, says_fault, says_fresh, says_need, says_of_class, says_value, step_says, value_over}
 use Rattle.sq_rules.proofs.CheckLaws.{ask_of_kept}
 use Rattle.sq_history.specs.Carried.{Carried, NamesOnce}
 use Rattle.sq_history.specs.Waits.{IsNeeded, NeedsPut, NoneLater}
-use Rattle.sq_history.proofs.ClassParts.{bytes_itself, equal, itself, not_next}
+use Rattle.sq_history.proofs.CheckLaws.{answer_by_none}
+use Rattle.sq_history.proofs.ClassParts.{bytes_itself, equal, itself}
 use Rattle.sq_history.proofs.LegalLaws.{legal_induction, next_steps}
 use Rattle.sq_history.proofs.NumberLaws.{last_wait_above}
 use Rattle.sq_history.proofs.PendingLaws.{OneOpen, last_put_is, mark_new, one_more}
+use Rattle.sq_history.proofs.SoundLaws.{new_number, still_put}
 use Rattle.sq_history.proofs.StayLaws.{kept_stays, put_within, still_open}
 
 -- what the rule says of a need of check n
@@ -163,12 +165,6 @@ unended_is configs m (Some a) q e = by (has_ended configs m a) refl e
     by true is e = absurd (none-some q e)
     by false is e = (e, ap (has_ended configs m) (sym (same_Some _ _ e)) ∙ is)
 
-put_more : (m : Past) (en : Noted) (o : Option Put) (t : Option Answer) (e c : ℕ) (key : List ℕ) (q : ℕ) → put_is e c key (put_of m q) ≡ true
-    → put_is e c key (put_of (record { entry = en; put = o; took = t } ∷ m) q) ≡ true
-put_more m en None t e c key q put = put
-put_more m en (Some p) t e c key q put =
-    ap (λ (b : Bool). put_is e c key (option_or (if b then Some p else None) (put_of m q))) (not_next q (put_count m) (put_within m e c key q put)) ∙ put
-
 -- what is not fresh is not fresh later
 stale_later : (class : Class) (v : KeptVerdict) (a b : ℕ) → a ≤ b → is_fresh class v a ≡ false → is_fresh class v b ≡ false
 stale_later class v a b l e = by v.date (ttl_of class v.what * 1000) a b l e
@@ -242,21 +238,6 @@ stepped_needs configs m now (Step k) answer n q is here w =
     (told_needs configs m now n answer q (ap (λ (i : ℕ). full_next_at configs m now (Step i)) same ∙ is) (ap (λ (i : ℕ). steps m n (Step i)) same ∙ here) w)
 stepped_needs configs m now event answer n q is here w = absurd (let no : false ≡ true = here in cc)
 
-answer_none : (date q : ℕ) (p : Option Put) → answer_by date q p None ≡ None
-answer_none date q None = refl
-answer_none date q (Some p) = refl
-
-new_above : (n k : ℕ) (o : Option Asking) (a : Asking) → numbered n k o ≡ Some a → k < n
-new_above n k None a e = absurd (none-some a e)
-new_above n k (Some b) a e = by (n == suc k) refl e
-  where
-    above : (n k : ℕ) → (n == suc k) ≡ true → k < n
-    above n k e = grind (arith, nat_tests)
-
-    by : (t : Bool) → (n == suc k) ≡ t → (if t then Some b else None) ≡ Some a → k < n
-    by true t e = above n k t
-    by false t e = absurd (none-some a e)
-
 -- a check that waited before
 kept_needs : (configs : List Configuration) (m : Past) (now : ℕ) (event : Event) (answer : Told) (n q : ℕ) → NamesOnce configs → full_next_at configs m now event ≡ gives answer → Carried configs m
     → WaitsNeeded configs m → steps m n event ≡ false → last_wait m n ≡ Some q
@@ -266,7 +247,7 @@ unfolding needed_more
 kept_needs configs m now event answer n q once is c w other last live = record {
   needed = needed_more configs m x n d.needed ask same;
   short = d.short;
-  put_is_it = put_more m x.entry x.put x.took d.needed.asked.epoch d.needed.place d.needed.key q d.put_is_it;
+  put_is_it = still_put m x d.needed.asked.epoch d.needed.place d.needed.key q d.put_is_it;
   stale = λ t v nl e. d.stale t v nl.1
       ((kept_stays configs m now event answer d.needed.asked.epoch d.needed.place d.needed.key q once is c w.one d.put_is_it live).stays v e);
 }
@@ -285,7 +266,7 @@ kept_needs configs m now event answer n q once is c w other last live = record {
 
     begun : (o : Option Asking) → numbered n (ask_count (entries m)) (asking event) ≡ o → numbered n (ask_count (entries m)) (asking event) ≡ None
     begun None e = e
-    begun (Some a) e = absurd (none-some q (sym (last_wait_above m n (new_above n (ask_count (entries m)) (asking event) a e)) ∙ last))
+    begun (Some a) e = absurd (none-some q (sym (last_wait_above m n (new_number n (ask_count (entries m)) (asking event) a e)) ∙ last))
 
     ask : ask_of (entries (x ∷ m)) n ≡ ask_of (entries m) n
     ask = ask_of_kept x.entry (entries m) n (begun (numbered n (ask_count (entries m)) (asking event)) refl)
@@ -295,7 +276,7 @@ kept_needs configs m now event answer n q once is c w other last live = record {
         ap (λ (b : Bool). answers configs m n ++ option_to_list (if b then x.took else ended_answer configs m (waits_for configs m n) now event answer)) other
         ∙ ap (λ (o : Option ℕ). answers configs m n ++ option_to_list (ended_answer configs m o now event answer)) waited
         ∙ ap (λ (o : Option What). answers configs m n ++ option_to_list (answer_by now q (put_of m q) o)) was.1
-        ∙ ap (λ (o : Option Answer). answers configs m n ++ option_to_list o) (answer_none now q (put_of m q)) ∙ append-nil (answers configs m n)
+        ∙ ap (λ (o : Option Answer). answers configs m n ++ option_to_list o) (answer_by_none now q (put_of m q)) ∙ append-nil (answers configs m n)
 
 -- an entry whose answer is the next keeps it so
 pub needs_next : (configs : List Configuration) (m : Past) (now : ℕ) (event : Event) (answer : Told) → NamesOnce configs → full_next_at configs m now event ≡ gives answer → Carried configs m

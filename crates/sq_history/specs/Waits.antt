@@ -1,5 +1,5 @@
 -- What a check needs, and what it needs that waits for a question.
-use Rattle.std.specs.Prelude.{◌≡◌, ℕ, ◌≤◌, List, [], ◌∷◌, Bool, true, false, length, nat_lt, Some}
+use Rattle.std.specs.Prelude.{◌≡◌, ℕ, ◌≤◌, List, [], ◌∷◌, true, false, length, nat_lt, Some}
 use Rattle.std.specs.Option.{option_and_then}
 use Rattle.sq_rules.specs.declared.kept.KeptVerdict.{KeptVerdict}
 use Rattle.sq_rules.specs.declared.values.Value.TheVariants as value
