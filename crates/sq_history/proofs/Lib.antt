@@ -32,3 +32,5 @@ pub mod DistinctLaws
 pub mod ConfigurationLaws
 pub mod AloneLaws
 pub mod StopLaws
+pub mod WalkLaws
+pub mod WalkedLaws
