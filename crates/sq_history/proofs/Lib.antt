@@ -34,3 +34,4 @@ pub mod AloneLaws
 pub mod StopLaws
 pub mod WalkLaws
 pub mod WalkedLaws
+pub mod FaithfulLaws

@@ -5,3 +5,4 @@ pub mod Carried
 pub mod Given
 pub mod Waits
 pub mod Walked
+pub mod Faithful
