@@ -34,7 +34,8 @@ use Rattle.sq_history.specs.Waits.{IsNeeded, NeedsPut}
 use Rattle.sq_history.proofs.ClassParts.{bytes_same, equal}
 use Rattle.sq_history.proofs.LegalLaws.{legal_induction}
 use Rattle.sq_history.proofs.NeedLaws.{value_needs}
-use Rattle.sq_history.proofs.WaitLaws.{SaysOf, WaitsNeeded, needs_first, needs_next, step_is}
+use Rattle.sq_history.proofs.RuleLaws.{SaysOf, step_is}
+use Rattle.sq_history.proofs.WaitLaws.{WaitsNeeded, needs_first, needs_next}
 
 or_none : (b : Bool) → (b || false) ≡ b
 or_none true = refl

@@ -17,7 +17,7 @@ use Rattle.sq_rules.specs.Entries.{History, Noted}
 use Rattle.sq_rules.specs.Events.{Asking, Judgement, asking, begins_epoch, judgement}
 use Rattle.sq_rules.specs.FullNext.{FullLegal, full_next, full_next_at, outcome_over}
 use Rattle.sq_rules.specs.Machine.{config_of, epoch_of, gives, refuse_if}
-use Rattle.sq_rules.specs.Marking.{marked}
+use Rattle.sq_rules.specs.Marking.{marked, says_at}
 use Rattle.sq_rules.specs.Marks.{Past, entries}
 use Rattle.sq_rules.specs.Questions.{sent_to}
 use Rattle.sq_rules.specs.Readings.{current, epoch_after}
@@ -31,7 +31,7 @@ use Rattle.sq_history.specs.Given.{EachOf, IsSound, times_sent}
 use Rattle.sq_history.proofs.ConfigurationLaws.{get_some, names_once}
 use Rattle.sq_history.proofs.DistinctLaws.{answers_distinct}
 use Rattle.sq_history.proofs.LegalLaws.{asked_epoch, marked_entries}
-use Rattle.sq_history.proofs.QuestionLaws.{one_question, sent_once}
+use Rattle.sq_history.proofs.QuestionLaws.{one_question, put_so, sent_once}
 use Rattle.sq_history.proofs.SoundLaws.{answers_sound}
 use Rattle.sq_history.proofs.StayLaws.{put_within}
 use Rattle.sq_history.proofs.WalkedLaws.{answers_walked, done_verdict, value_is}
@@ -162,6 +162,7 @@ legal_faithful configs [] each few legal = tt
 legal_faithful configs (x ∷ []) each few legal = (
   record {
     judged = subst (JudgedSo configs []) (sym (begin_judges x.event x.answer legal.0)) tt;
+    put = put_so configs [] x.moment x.event (says_at configs [] x.moment x.event).put refl;
     open_once = open_at configs (x ∷ []);
     sent_once = sent_at_most configs (x ∷ []) (names_once configs each) legal;
   },
@@ -170,6 +171,7 @@ legal_faithful configs (x ∷ []) each few legal = (
 legal_faithful configs (x ∷ f ∷ h) each few legal = (
   record {
     judged = judged_at configs (f ∷ h) x.moment x.event x.answer (judgement x.event x.answer) refl each (fewer x (f ∷ h) (length configs) few) legal.0 legal.4;
+    put = put_so configs (marked configs (f ∷ h)) x.moment x.event (says_at configs (marked configs (f ∷ h)) x.moment x.event).put refl;
     open_once = open_at configs (x ∷ f ∷ h);
     sent_once = sent_at_most configs (x ∷ f ∷ h) (names_once configs each) legal;
   },

@@ -27,6 +27,7 @@ pub mod GivenLaws
 pub mod SoundLaws
 pub mod NeedLaws
 pub mod StayLaws
+pub mod RuleLaws
 pub mod WaitLaws
 pub mod DistinctLaws
 pub mod ConfigurationLaws
