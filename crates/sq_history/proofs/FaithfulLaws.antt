@@ -4,7 +4,7 @@ use Rattle.std.specs.Option.{option_map, option_map_or, option_or}
 use Rattle.std.proofs.lemmas.Bool.{lt-ltb}
 use Rattle.std.proofs.lemmas.Option.{none-some, same_Some}
 use Rattle.sq_rules.specs.declared.entries.Event.{Event}
-use Rattle.sq_rules.specs.declared.entries.Event.TheVariants.{Take}
+use Rattle.sq_rules.specs.declared.entries.Event.TheVariants.{Begin, Take}
 use Rattle.sq_rules.specs.declared.entries.Told.{Told}
 use Rattle.sq_rules.specs.declared.entries.Told.TheVariants as told
 use Rattle.sq_rules.specs.declared.outcomes.Outcome.{Outcome}
@@ -16,22 +16,22 @@ use Rattle.sq_rules.specs.Configurations.{Configuration, IsConfiguration}
 use Rattle.sq_rules.specs.Entries.{History, Noted}
 use Rattle.sq_rules.specs.Events.{Asking, Judgement, asking, begins_epoch, judgement}
 use Rattle.sq_rules.specs.FullNext.{FullLegal, full_next, full_next_at, outcome_over}
-use Rattle.sq_rules.specs.Machine.{config_of, epoch_of, gives, refuse_if}
+use Rattle.sq_rules.specs.Machine.{config_of, epoch_of, gives, is_begin, refuse_if}
 use Rattle.sq_rules.specs.Marking.{marked, says_at}
 use Rattle.sq_rules.specs.Marks.{Past, entries}
 use Rattle.sq_rules.specs.Questions.{sent_to}
-use Rattle.sq_rules.specs.Readings.{current, epoch_after}
+use Rattle.sq_rules.specs.Readings.{counted_moment, current, epoch_after}
 use Rattle.sq_rules.specs.StepRule.{value_over}
 use Rattle.sq_rules.specs.Verdicts.{outcome_so_far}
 use Rattle.sq_rules.proofs.CheckLaws.{IsAsked, open_asked}
 use Rattle.sq_rules.proofs.EventLaws.{begin_judges, judged_event}
 use Rattle.sq_history.specs.Carried.{NamesOnce}
-use Rattle.sq_history.specs.Faithful.{IsFaithful, IsJudgedSo, JudgedSo, OpenOnce}
+use Rattle.sq_history.specs.Faithful.{IsFaithful, IsJudgedSo, JudgedSo, OpenOnce, SentSo, sending_of}
 use Rattle.sq_history.specs.Given.{EachOf, IsSound, times_sent}
 use Rattle.sq_history.proofs.ConfigurationLaws.{get_some, names_once}
 use Rattle.sq_history.proofs.DistinctLaws.{answers_distinct}
 use Rattle.sq_history.proofs.LegalLaws.{asked_epoch, marked_entries}
-use Rattle.sq_history.proofs.QuestionLaws.{one_question, put_so, sent_once}
+use Rattle.sq_history.proofs.QuestionLaws.{one_question, put_so, sent_once, sent_so}
 use Rattle.sq_history.proofs.SoundLaws.{answers_sound}
 use Rattle.sq_history.proofs.StayLaws.{put_within}
 use Rattle.sq_history.proofs.WalkedLaws.{answers_walked, done_verdict, value_is}
@@ -149,6 +149,14 @@ sent_at_most configs h once legal q = subst (λ (n : ℕ). n ≤ 1) (sym ((sent_
     by true = le_refl 1
     by false = omega arith
 
+first_sends : (configs : List Configuration) (event : Event) (answer : Told) → is_begin event ≡ true → SentSo configs [] (sending_of event answer)
+first_sends configs (Begin offset) answer b = tt
+first_sends configs event answer b = absurd (cc)
+
+sent_at : (configs : List Configuration) (m : Past) (now : ℕ) (event : Event) (answer : Told) → full_next configs m now event ≡ gives answer → SentSo configs m (sending_of event answer)
+unfolding full_next
+sent_at configs m now event answer e = sent_so configs m (counted_moment (entries m) now) event answer e
+
 fewer : (x : Noted) (h : History) (n : ℕ) → current (x ∷ h) ≤ n → current h ≤ n
 fewer x h n l = by (begins_epoch x.event) (current h) n l
   where
@@ -163,6 +171,7 @@ legal_faithful configs (x ∷ []) each few legal = (
   record {
     judged = subst (JudgedSo configs []) (sym (begin_judges x.event x.answer legal.0)) tt;
     put = put_so configs [] x.moment x.event (says_at configs [] x.moment x.event).put refl;
+    sent = first_sends configs x.event x.answer legal.0;
     open_once = open_at configs (x ∷ []);
     sent_once = sent_at_most configs (x ∷ []) (names_once configs each) legal;
   },
@@ -172,6 +181,7 @@ legal_faithful configs (x ∷ f ∷ h) each few legal = (
   record {
     judged = judged_at configs (f ∷ h) x.moment x.event x.answer (judgement x.event x.answer) refl each (fewer x (f ∷ h) (length configs) few) legal.0 legal.4;
     put = put_so configs (marked configs (f ∷ h)) x.moment x.event (says_at configs (marked configs (f ∷ h)) x.moment x.event).put refl;
+    sent = sent_at configs (marked configs (f ∷ h)) x.moment x.event x.answer legal.4;
     open_once = open_at configs (x ∷ f ∷ h);
     sent_once = sent_at_most configs (x ∷ f ∷ h) (names_once configs each) legal;
   },

@@ -2,8 +2,14 @@
 use Rattle.std.specs.Prelude.{◌≡◌, ◌⊎◌, ℕ, ◌≤◌, List, [], ◌∷◌, true, false, length, nat_lt, Some, None}
 use Rattle.std.specs.declared.option.Option.{Option}
 use Rattle.sq_base.specs.Distinct.{are_distinct}
+use Rattle.sq_rules.specs.Channels.{channel_name, least_free}
+use Rattle.sq_rules.specs.Epochs.{class_at}
+use Rattle.sq_rules.specs.Living.{has_free}
+use Rattle.sq_rules.specs.Processes.{runs_at}
 use Rattle.sq_rules.specs.declared.entries.Event.{Event}
-use Rattle.sq_rules.specs.declared.entries.Event.TheVariants.{Step}
+use Rattle.sq_rules.specs.declared.entries.Event.TheVariants.{Act, Step}
+use Rattle.sq_rules.specs.declared.entries.Told.{Told}
+use Rattle.sq_rules.specs.declared.entries.Told.TheVariants as told
 use Rattle.sq_rules.specs.declared.kept.KeptVerdict.{KeptVerdict}
 use Rattle.sq_rules.specs.declared.values.Value.TheVariants as value
 use Rattle.sq_rules.specs.AnswerReadings.{answers}
@@ -12,13 +18,13 @@ use Rattle.sq_rules.specs.Configurations.{Configuration}
 use Rattle.sq_rules.specs.Events.{Judgement, judgement}
 use Rattle.sq_rules.specs.Machine.{config_of}
 use Rattle.sq_rules.specs.Marks.{Marked, Past, Put, entries}
-use Rattle.sq_rules.specs.Questions.{has_ended, pending, put_is, put_of}
+use Rattle.sq_rules.specs.Questions.{has_ended, pending, put_is, put_of, sent_to}
 use Rattle.sq_rules.specs.Verdicts.{verdict_over}
 use Rattle.sq_history.specs.Given.{EachOf, IsSound, times_sent}
 use Rattle.sq_history.specs.Walked.{AreWalked}
 use Rattle.sq_rules.specs.Classes.{Class}
-use Rattle.sq_rules.specs.FarmReadings.{farm_with}
-use Rattle.sq_rules.specs.Farms.{full}
+use Rattle.sq_rules.specs.FarmReadings.{farm_with, living_of}
+use Rattle.sq_rules.specs.Farms.{Sending, full}
 use Rattle.sq_rules.specs.Freshness.{is_due}
 use Rattle.sq_rules.specs.KeptLists.{fresh_for}
 use Rattle.sq_rules.specs.KeptReadings.{kept}
@@ -62,6 +68,29 @@ abbrev pub PutSo : List Configuration → Past → ℕ → Event → Option Put 
 PutSo configs m now event None = Unit {0}
 PutSo configs m now event (Some p) = IsPutSo configs m now event p
 
+-- what an act sends
+abbrev pub sending_of : Event → Told → Option Sending
+sending_of Act (told.Send p q channel key) = Some (record { proc = p; question = q; channel = channel; text = key })
+sending_of event answer = None
+
+-- a question is sent to a running process of the class that it was put for, with the key that it was put with, on that process's least
+-- free channel; it was sent nowhere and has not ended
+pub record IsSentSo (configs : List Configuration) (m : Past) (s : Sending) : Type 0 where
+  pub epoch : ℕ
+  pub place : ℕ
+  pub class : Class
+  pub class_is : class_at configs epoch place ≡ Some class
+  pub put_is_it : put_is epoch place s.text (put_of m s.question) ≡ true
+  pub runs : runs_at (entries m) epoch class.name s.proc ≡ true
+  pub free : has_free (living_of class.concurrency (entries m) s.proc) ≡ true
+  pub channel_is : s.channel ≡ channel_name (nat_lt 0 class.concurrency) (least_free (living_of class.concurrency (entries m) s.proc).process.slots)
+  pub unsent : sent_to m s.question ≡ None
+  pub unended : has_ended configs m s.question ≡ false
+
+abbrev pub SentSo : List Configuration → Past → Option Sending → Type 0
+SentSo configs m None = Unit {0}
+SentSo configs m (Some s) = IsSentSo configs m s
+
 -- of one epoch, class and key one question at most has not ended
 abbrev pub OpenOnce : List Configuration → Past → Type 0
 OpenOnce configs m =
@@ -74,6 +103,8 @@ pub record IsFaithfulEntry (configs : List Configuration) (m : Past) (x : Marked
   pub judged : JudgedSo configs m (judgement x.entry.event x.entry.answer)
   -- a question that is put there is needed
   pub put : PutSo configs m x.entry.moment x.entry.event x.put
+  -- a question that is sent there was put, and with that key
+  pub sent : SentSo configs m (sending_of x.entry.event x.entry.answer)
   -- no two questions of one key are open
   pub open_once : OpenOnce configs (x ∷ m)
   -- each question was sent once at most
