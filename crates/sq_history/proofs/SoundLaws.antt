@@ -45,6 +45,7 @@ use Rattle.sq_history.proofs.GivenLaws.{AllKeptGiven, IsGood, each_append, each_
 use Rattle.sq_history.proofs.LegalLaws.{legal_induction, line_replied, next_line, next_steps}
 use Rattle.sq_history.proofs.NumberLaws.{answers_above, last_wait_above, put_of_above}
 use Rattle.sq_history.proofs.PendingLaws.{last_put_is}
+use Rattle.sq_history.proofs.RuleLaws.{takes_fault}
 
 -- a question that a step tells to wait for is of the check's epoch
 record WaitsOf (m : Past) (e : ℕ) (s : StepSays) : Type 0 where
@@ -213,7 +214,7 @@ still_put m x e c key q t = ap (put_is e c key) (put_same m x.entry x.put x.took
 sound_more : (configs : List Configuration) (m : Past) (x : Marked) (n e : ℕ) (a : Answer) → IsSound configs m n e a → IsSound configs (x ∷ m) n e a
 sound_more configs m x n e a (inl f) =
     inl (record { question = f.question; class = f.class; question_is = f.question_is; class_is = f.class_is; given = inr (inr f.given); fresh = f.fresh })
-sound_more configs m x n e a (inr (inl f)) = inr (inl f)
+sound_more configs m x n e a (inr (inl f)) = inr (inl (inr f))
 sound_more configs m x n e a (inr (inr w)) = inr (inr (record {
   question = w.question;
   question_is = w.question_is;
@@ -234,9 +235,10 @@ sound_more configs m x n e a (inr (inr w)) = inr (inr (record {
     later (inl t) = inl t
     later (inr g) = inr (inr (inr g))
 
-good_sound : (configs : List Configuration) (m : Past) (x : Marked) (n e : ℕ) (a : Answer) → IsGood configs m e a → IsSound configs (x ∷ m) n e a
-good_sound configs m x n e a (inl f) = sound_more configs m x n e a (inl f)
-good_sound configs m x n e a (inr f) = inr (inl f)
+good_sound : (configs : List Configuration) (m : Past) (now n : ℕ) (answer : Told) (e : ℕ) (a : Answer) → (step_says configs m n now).took ≡ Some a → IsGood configs m e a
+    → IsSound configs (mark configs m (record { moment = now; event = Step n; answer = answer }) ∷ m) n e a
+good_sound configs m now n answer e a is (inl f) = sound_more configs m (mark configs m (record { moment = now; event = Step n; answer = answer })) n e a (inl f)
+good_sound configs m now n answer e a is (inr f) = inr (inl (inl (takes_fault configs m now n answer a is f.0)))
 
 last_waited : (m : Past) (n q : ℕ) → last_wait m n ≡ Some q → WaitedFor m n q
 last_waited [] n q e = absurd (none-some q e)
@@ -347,16 +349,17 @@ new_sound configs m now (Step k) answer n once is c s = by ((n == k) && nat_le n
     x : Marked
     x = mark configs m (record { moment = now; event = Step k; answer = answer })
 
-    took : (e : ℕ) (o : Option Answer) → ((a : Answer) → o ≡ Some a → IsGood configs m e a) → EachOf (IsSound configs (x ∷ m) n e) (option_to_list o)
-    took e None g = tt
-    took e (Some a) g = (good_sound configs m x n e a (g a refl), tt)
+    took : (e : ℕ) (o : Option Answer) → x.took ≡ o → ((a : Answer) → o ≡ Some a → IsGood configs m e a) → EachOf (IsSound configs (x ∷ m) k e) (option_to_list o)
+    took e None is g = tt
+    took e (Some a) is g = (good_sound configs m now k answer e a is (g a refl), tt)
 
     by : (b : Bool) → ((n == k) && nat_le n (ask_count (entries m))) ≡ b
         → EachOf (IsSound configs (x ∷ m) n (epoch_at (x ∷ m) n)) (option_to_list (if b then x.took else ended_answer configs m (waits_for configs m n) now (Step k) answer))
     by true t =
-        subst (λ (i : ℕ). EachOf (IsSound configs (x ∷ m) n i) (option_to_list x.took))
-        (sym (epoch_same m x n refl ∙ ap (epoch_at m) (equal n k (and_parts (n == k) (nat_le n (ask_count (entries m))) t).0)))
-        (took (epoch_at m k) x.took (step_good configs m k now s.kept_given).good)
+        subst (λ (j : ℕ). EachOf (IsSound configs (x ∷ m) j (epoch_at (x ∷ m) j)) (option_to_list x.took))
+        (sym (equal n k (and_parts (n == k) (nat_le n (ask_count (entries m))) t).0))
+        (subst (λ (i : ℕ). EachOf (IsSound configs (x ∷ m) k i) (option_to_list x.took)) (sym (epoch_same m x k refl))
+        (took (epoch_at m k) x.took refl (step_good configs m k now s.kept_given).good))
     by false t =
         subst (λ (o : Option Answer). EachOf (IsSound configs (x ∷ m) n (epoch_at (x ∷ m) n)) (option_to_list o))
         (sym (ended_none configs m (waits_for configs m n) now (Step k) answer (λ q. refl))) tt

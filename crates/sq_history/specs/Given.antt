@@ -1,13 +1,15 @@
 -- What a history gave: answers by the lines of helpers, and what a check has them from.
-use Rattle.std.specs.Prelude.{◌≡◌, ◌⊎◌, ℕ, suc, List, [], ◌∷◌, Bool, true, false, if◌then◌else◌, ◌==◌, length, nat_lt, Some, None}
+use Rattle.std.specs.Prelude.{Bool, List, None, Some, ℕ, [], false, if◌then◌else◌, length, nat_lt, suc, true, ◌==◌, ◌∷◌, ◌≡◌, ◌⊎◌}
 use Rattle.std.specs.Option.{option_map_or}
 use Rattle.sq_base.specs.declared.helpers.Answer.{Answer}
 use Rattle.sq_base.specs.declared.helpers.Cause.TheVariants as cause
 use Rattle.sq_base.specs.declared.helpers.What.{What}
 use Rattle.sq_base.specs.declared.helpers.What.TheVariants as what
 use Rattle.sq_base.specs.declared.helpers.Word.{Word}
+use Rattle.sq_rules.specs.FarmReadings.{farm_with}
+use Rattle.sq_rules.specs.Farms.{full}
 use Rattle.sq_rules.specs.declared.entries.Event.{Event}
-use Rattle.sq_rules.specs.declared.entries.Event.TheVariants.{Act, Line}
+use Rattle.sq_rules.specs.declared.entries.Event.TheVariants.{Act, Line, Step}
 use Rattle.sq_rules.specs.declared.entries.Told.{Told}
 use Rattle.sq_rules.specs.declared.entries.Told.TheVariants as told
 use Rattle.sq_rules.specs.declared.kept.KeptVerdict.{KeptVerdict}
@@ -18,12 +20,13 @@ use Rattle.sq_rules.specs.Configurations.{Configuration}
 use Rattle.sq_rules.specs.Epochs.{class_at}
 use Rattle.sq_rules.specs.Events.{begins_epoch}
 use Rattle.sq_rules.specs.Freshness.{is_fresh}
-use Rattle.sq_rules.specs.KeptLists.{is_fault}
-use Rattle.sq_rules.specs.KeptReadings.{alike_place}
+use Rattle.sq_rules.specs.KeptLists.{fresh_for, is_fault}
+use Rattle.sq_rules.specs.KeptReadings.{alike_place, kept}
 use Rattle.sq_rules.specs.Limits.{key_limit}
 use Rattle.sq_rules.specs.Marks.{Marked, Past, entries}
-use Rattle.sq_rules.specs.Questions.{put_is, put_of, question_end, said_by, sent_to}
+use Rattle.sq_rules.specs.Questions.{pending, put_is, put_of, question_end, said_by, sent_to}
 use Rattle.sq_rules.specs.Readings.{current}
+use Rattle.sq_history.specs.Waits.{IsNeeded}
 
 -- something holds of each
 abbrev pub EachOf : {A : Type 0} → (A → Type 0) → List A → Type 0
@@ -92,9 +95,37 @@ pub record Awaited (configs : List Configuration) (m : Past) (n e : ℕ) (a : An
   pub end_is : question_end configs m question ≡ Some (record { what = a.what; date = a.date })
   pub given : (is_fault a.what ≡ true) ⊎ Given configs m e a.class (record { key = a.key; what = a.what; question = question; date = a.date })
 
+-- the key that check n needs is too long
+abbrev pub IsTooLong : (configs : List Configuration) (m : Past) (n : ℕ) → IsNeeded configs m n → Type 0
+IsTooLong configs m n d = nat_lt key_limit (length d.key) ≡ true
+
+-- no verdict of the key that check n needs is fresh, no question of it is pending, and the farm of its class is full
+pub record FindsNoRoom (configs : List Configuration) (m : Past) (n now : ℕ) (d : IsNeeded configs m n) : Type 0 where
+  pub short : nat_lt key_limit (length d.key) ≡ false
+  pub none_fresh : fresh_for d.class d.key now (kept configs m d.asked.epoch d.place) ≡ None
+  pub none_pending : pending configs m d.asked.epoch d.place d.key ≡ None
+  pub is_full : full (farm_with configs m d.asked.epoch d.place d.class) ≡ true
+
+-- the entry is a step of check n that takes this fault for the class and key that the check needs: the key is too long, or there is no room
+pub record TakesFault (configs : List Configuration) (m : Past) (x : Marked) (n : ℕ) (a : Answer) : Type 0 where
+  pub event_is : x.entry.event ≡ Step n
+  pub took_is : x.took ≡ Some a
+  pub needed : IsNeeded configs m n
+  pub class_is : a.class ≡ needed.place
+  pub key_is : a.key ≡ needed.key
+  pub question_is : a.question ≡ None
+  pub date_is : a.date ≡ x.entry.moment
+  pub taken_is : a.taken ≡ x.entry.moment
+  pub cause_is : ((a.what ≡ what.Fault cause.KeyTooLong) × IsTooLong configs m n needed) ⊎ ((a.what ≡ what.Fault cause.QueueFull) × FindsNoRoom configs m n x.entry.moment needed)
+
+-- a step of check n took this fault
+abbrev pub TookFault : List Configuration → Past → ℕ → Answer → Type 0
+TookFault configs [] n a = ⊥
+TookFault configs (x ∷ m) n a = TakesFault configs m x n a ⊎ TookFault configs m n a
+
 -- where an answer of check n, which is of epoch e, comes from
 abbrev pub IsSound : List Configuration → Past → ℕ → ℕ → Answer → Type 0
-IsSound configs m n e a = FreshGiven configs m e a ⊎ (IsStepFault a ⊎ Awaited configs m n e a)
+IsSound configs m n e a = FreshGiven configs m e a ⊎ (TookFault configs m n a ⊎ Awaited configs m n e a)
 
 -- the epoch of check n
 abbrev pub epoch_at : Past → ℕ → ℕ
