@@ -1,6 +1,6 @@
 -- Every legal history is faithful: its outcomes, its questions and their sends have their sources.
 use Rattle.std.proofs.Common.{◌≡◌, ℕ, zero, suc, ◌<◌, ◌≤◌, List, [], ◌∷◌, length, Bool, true, false, not, if◌then◌else◌, Option, Some, None, is_some, refl, sym, ap, subst, ◌∙◌, arith, le_refl}
-use Rattle.std.specs.Option.{option_map, option_map_or, option_or}
+use Rattle.std.specs.Option.{option_map, option_or}
 use Rattle.std.proofs.lemmas.Bool.{lt-ltb}
 use Rattle.std.proofs.lemmas.Option.{none-some, same_Some}
 use Rattle.sq_rules.specs.declared.entries.Event.{Event}
@@ -27,7 +27,7 @@ use Rattle.sq_rules.proofs.CheckLaws.{IsAsked, open_asked}
 use Rattle.sq_rules.proofs.EventLaws.{begin_judges, judged_event}
 use Rattle.sq_history.specs.Carried.{NamesOnce}
 use Rattle.sq_history.specs.Faithful.{IsFaithful, IsJudgedSo, JudgedSo, OpenOnce, SentSo, sending_of}
-use Rattle.sq_history.specs.Given.{EachOf, IsSound, times_sent}
+use Rattle.sq_history.specs.Given.{EachOf, times_sent}
 use Rattle.sq_history.proofs.ConfigurationLaws.{get_some, names_once}
 use Rattle.sq_history.proofs.DistinctLaws.{answers_distinct}
 use Rattle.sq_history.proofs.LegalLaws.{asked_epoch, marked_entries}
@@ -98,7 +98,7 @@ judged_so configs h now n epoch o each few legal is = record {
   verdict_is = sym (value_is configs a (answers configs m n) at.0 at.1) ∙ v.1 ∙ ap (λ (z : Outcome). value.Verdict z) (sym outcome);
   walked = answers_walked configs h n a at.0 v.0 once legal ask at.1 v.1;
   distinct = answers_distinct configs h n once legal;
-  sound = subst (λ (e : ℕ). EachOf (IsSound configs m n e) (answers configs m n)) (ap (λ (z : Option Asked). option_map_or (λ (y : Asked). y.epoch) z 0) ask) ((answers_sound configs h once legal).sound n);
+  sound = (answers_sound configs h once legal).sound n;
 }
   where
     m : Past

@@ -25,10 +25,10 @@ pub mod ProcessLaws
 pub mod QuestionLaws
 pub mod RuleLaws
 pub mod GivenLaws
-pub mod SoundLaws
 pub mod NeedLaws
 pub mod StayLaws
 pub mod WaitLaws
+pub mod SoundLaws
 pub mod DistinctLaws
 pub mod ConfigurationLaws
 pub mod AloneLaws

@@ -37,11 +37,10 @@ use Rattle.sq_history.specs.Waits.{IsNeeded, NeedsPut, NoneLater}
 use Rattle.sq_history.proofs.CheckLaws.{answer_by_none}
 use Rattle.sq_history.proofs.ClassParts.{bytes_itself, equal, itself}
 use Rattle.sq_history.proofs.LegalLaws.{legal_induction, next_steps}
-use Rattle.sq_history.proofs.NumberLaws.{last_wait_above}
+use Rattle.sq_history.proofs.NumberLaws.{last_wait_above, new_number}
 use Rattle.sq_history.proofs.PendingLaws.{OneOpen, last_put_is, mark_new, one_more}
 use Rattle.sq_history.proofs.RuleLaws.{SaysOf, need_says, step_is}
-use Rattle.sq_history.proofs.SoundLaws.{new_number, still_put}
-use Rattle.sq_history.proofs.StayLaws.{kept_stays, put_within, still_open}
+use Rattle.sq_history.proofs.StayLaws.{kept_stays, put_within, still_open, still_put}
 
 -- what a step finds that tells check n to wait for question q
 record FindsNone (configs : List Configuration) (m : Past) (n now q : ℕ) (s : StepSays) : Type 0 where

@@ -42,7 +42,7 @@ pub record IsJudgedSo (configs : List Configuration) (m : Past) (j : Judgement) 
   pub verdict_is : verdict_over (answers configs m j.check) config asked.sight ≡ value.Verdict j.outcome
   pub walked : AreWalked (answers configs m j.check) config asked.sight
   pub distinct : are_distinct (answers configs m j.check) ≡ true
-  pub sound : EachOf (IsSound configs m j.check asked.epoch) (answers configs m j.check)
+  pub sound : EachOf (IsSound configs m j.check) (answers configs m j.check)
 
 abbrev pub JudgedSo : List Configuration → Past → Option Judgement → Type 0
 JudgedSo configs m None = Unit {0}
