@@ -17,7 +17,7 @@ use Rattle.sq_rules.specs.Entries.{History, Noted}
 use Rattle.sq_rules.specs.Events.{Asking, Judgement, asking, begins_epoch, judgement}
 use Rattle.sq_rules.specs.FullNext.{FullLegal, full_next, full_next_at, outcome_over}
 use Rattle.sq_rules.specs.Machine.{config_of, epoch_of, gives, is_begin, refuse_if}
-use Rattle.sq_rules.specs.Marking.{marked, says_at}
+use Rattle.sq_rules.specs.Marking.{mark, marked, says_at}
 use Rattle.sq_rules.specs.Marks.{Past, entries}
 use Rattle.sq_rules.specs.Questions.{sent_to}
 use Rattle.sq_rules.specs.Readings.{counted_moment, current, epoch_after}
@@ -26,12 +26,13 @@ use Rattle.sq_rules.specs.Verdicts.{outcome_so_far}
 use Rattle.sq_rules.proofs.CheckLaws.{IsAsked, open_asked}
 use Rattle.sq_rules.proofs.EventLaws.{begin_judges, judged_event}
 use Rattle.sq_history.specs.Carried.{NamesOnce}
-use Rattle.sq_history.specs.Faithful.{IsFaithful, IsJudgedSo, JudgedSo, OpenOnce, SentSo, sending_of}
+use Rattle.sq_history.specs.Faithful.{FaultsSo, IsFaithful, IsJudgedSo, JudgedSo, OpenOnce, SentSo, sending_of}
 use Rattle.sq_history.specs.Given.{EachOf, times_sent}
 use Rattle.sq_history.proofs.ConfigurationLaws.{get_some, names_once}
 use Rattle.sq_history.proofs.DistinctLaws.{answers_distinct}
 use Rattle.sq_history.proofs.LegalLaws.{asked_epoch, marked_entries}
 use Rattle.sq_history.proofs.QuestionLaws.{one_question, put_so, sent_once, sent_so}
+use Rattle.sq_history.proofs.RuleLaws.{long_takes, no_room_takes}
 use Rattle.sq_history.proofs.SoundLaws.{answers_sound}
 use Rattle.sq_history.proofs.StayLaws.{put_within}
 use Rattle.sq_history.proofs.WalkedLaws.{answers_walked, done_verdict, value_is}
@@ -149,6 +150,12 @@ sent_at_most configs h once legal q = subst (λ (n : ℕ). n ≤ 1) (sym ((sent_
     by true = le_refl 1
     by false = omega arith
 
+faults_so : (configs : List Configuration) (m : Past) (e : Noted) → FaultsSo configs m (mark configs m e)
+faults_so configs m e = record {
+  long = λ n d at long. ap (λ (v : Event). (says_at configs m e.moment v).took) at ∙ long_takes configs m n e.moment d long;
+  no_room = λ n d at r. ap (λ (v : Event). (says_at configs m e.moment v).took) at ∙ no_room_takes configs m n e.moment d r;
+}
+
 first_sends : (configs : List Configuration) (event : Event) (answer : Told) → is_begin event ≡ true → SentSo configs [] (sending_of event answer)
 first_sends configs (Begin offset) answer b = tt
 first_sends configs event answer b = absurd (cc)
@@ -170,6 +177,7 @@ legal_faithful configs [] each few legal = tt
 legal_faithful configs (x ∷ []) each few legal = (
   record {
     judged = subst (JudgedSo configs []) (sym (begin_judges x.event x.answer legal.0)) tt;
+    faults = faults_so configs [] x;
     put = put_so configs [] x.moment x.event (says_at configs [] x.moment x.event).put refl;
     sent = first_sends configs x.event x.answer legal.0;
     open_once = open_at configs (x ∷ []);
@@ -180,6 +188,7 @@ legal_faithful configs (x ∷ []) each few legal = (
 legal_faithful configs (x ∷ f ∷ h) each few legal = (
   record {
     judged = judged_at configs (f ∷ h) x.moment x.event x.answer (judgement x.event x.answer) refl each (fewer x (f ∷ h) (length configs) few) legal.0 legal.4;
+    faults = faults_so configs (marked configs (f ∷ h)) x;
     put = put_so configs (marked configs (f ∷ h)) x.moment x.event (says_at configs (marked configs (f ∷ h)) x.moment x.event).put refl;
     sent = sent_at configs (marked configs (f ∷ h)) x.moment x.event x.answer legal.4;
     open_once = open_at configs (x ∷ f ∷ h);

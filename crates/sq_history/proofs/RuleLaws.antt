@@ -1,5 +1,5 @@
 -- What a step of a check says: that the check is done, or what the rule says of a key that it needs; and what it takes.
-use Rattle.std.proofs.Common.{Bool, List, None, Option, Some, ℕ, false, if◌then◌else◌, inl, inr, length, nat_lt, refl, subst, true, ◌≡◌, ◌⊎◌}
+use Rattle.std.proofs.Common.{Bool, List, None, Option, Some, ℕ, ap, ap₂, false, if◌then◌else◌, inl, inr, length, nat_lt, refl, subst, true, ◌∙◌, ◌≡◌, ◌⊎◌}
 use Rattle.std.specs.Option.{option_and_then}
 use Rattle.sq_rules.specs.KeptLists.{KeptList, fresh_for}
 use Rattle.sq_rules.specs.Limits.{key_limit}
@@ -17,7 +17,7 @@ use Rattle.sq_rules.specs.Machine.{config_of}
 use Rattle.sq_rules.specs.Marks.{Past, Put, entries}
 use Rattle.sq_rules.specs.Questions.{pending, put_count}
 use Rattle.sq_rules.specs.StepRule.{StepSays, class_of_acl, says_asked, says_asked_of, says_at_place, says_done, says_fault, says_fresh, says_need, says_of_class, says_value, step_says, value_over}
-use Rattle.sq_history.specs.Given.{FindsNoRoom, IsTooLong}
+use Rattle.sq_history.specs.Given.{FindsNoRoom, IsTooLong, fault_for}
 use Rattle.sq_history.specs.Waits.{IsNeeded}
 use Rattle.std.proofs.lemmas.Option.{none-some, same_Some}
 use Rattle.sq_base.specs.declared.helpers.Answer.{Answer}
@@ -67,6 +67,40 @@ check_says configs m n now (Some a) ask = value_says configs m n now a (value_ov
 -- what a step of check n says: that it is done, or what the rule says of a need of it
 pub step_is : (configs : List Configuration) (m : Past) (n now : ℕ) → SaysOf configs m n now (step_says configs m n now)
 step_is configs m n now = check_says configs m n now (ask_of (entries m) n) refl
+
+-- a step of a check that needs a key says what the rule says of that need
+pub need_step : (configs : List Configuration) (m : Past) (n now : ℕ) (d : IsNeeded configs m n) → step_says configs m n now ≡ need_says configs m n now d
+need_step configs m n now d =
+    ap (says_asked_of configs m now (answers configs m n)) d.ask_is
+    ∙ ap (says_value configs m d.asked.epoch now) d.value_is
+    ∙ ap (says_at_place configs m d.asked.epoch d.key now) d.place_is
+    ∙ ap (says_of_class configs m d.asked.epoch d.place d.key now) d.class_is
+
+-- a step takes the fault of a long key where the key is too long
+pub long_takes : (configs : List Configuration) (m : Past) (n now : ℕ) (d : IsNeeded configs m n) → IsTooLong configs m n d
+    → (step_says configs m n now).took ≡ Some (fault_for configs m n d cause.KeyTooLong now)
+long_takes configs m n now d long =
+    ap (λ (s : StepSays). s.took) (need_step configs m n now d)
+    ∙ ap (λ (b : Bool). (if b then says_fault d.class.name p cause.KeyTooLong now
+    else says_fresh d.class p now (fresh_for d.class d.key now (kept configs m d.asked.epoch d.place)) (pending configs m d.asked.epoch d.place d.key)
+    (full (farm_with configs m d.asked.epoch d.place d.class)) (put_count m)).took) long
+  where
+    p : Put
+    p = record { epoch = d.asked.epoch; class = d.place; key = d.key }
+
+-- and that of a full queue where no verdict is fresh, none is pending and the farm is full
+pub no_room_takes : (configs : List Configuration) (m : Past) (n now : ℕ) (d : IsNeeded configs m n) → FindsNoRoom configs m n now d
+    → (step_says configs m n now).took ≡ Some (fault_for configs m n d cause.QueueFull now)
+no_room_takes configs m n now d r =
+    ap (λ (s : StepSays). s.took) (need_step configs m n now d)
+    ∙ ap (λ (b : Bool). (if b then says_fault d.class.name p cause.KeyTooLong now
+    else says_fresh d.class p now (fresh_for d.class d.key now (kept configs m d.asked.epoch d.place)) (pending configs m d.asked.epoch d.place d.key)
+    (full (farm_with configs m d.asked.epoch d.place d.class)) (put_count m)).took) r.short
+    ∙ ap (λ (v : Option KeptVerdict). (says_fresh d.class p now v (pending configs m d.asked.epoch d.place d.key) (full (farm_with configs m d.asked.epoch d.place d.class)) (put_count m)).took) r.none_fresh
+    ∙ ap₂ (λ (o : Option ℕ) (f : Bool). (says_asked d.class.name p now o f (put_count m)).took) r.none_pending r.is_full
+  where
+    p : Put
+    p = record { epoch = d.asked.epoch; class = d.place; key = d.key }
 
 -- what the rule takes for a need: a verdict that is kept and fresh
 pub record TakesKept (configs : List Configuration) (m : Past) (n now : ℕ) (d : IsNeeded configs m n) (a : Answer) : Type 0 where

@@ -2,6 +2,7 @@
 use Rattle.std.specs.Prelude.{◌≡◌, ◌⊎◌, ℕ, ◌≤◌, List, [], ◌∷◌, true, false, length, nat_lt, Some, None}
 use Rattle.std.specs.declared.option.Option.{Option}
 use Rattle.sq_base.specs.Distinct.{are_distinct}
+use Rattle.sq_base.specs.declared.helpers.Cause.TheVariants as cause
 use Rattle.sq_rules.specs.Channels.{channel_name, least_free}
 use Rattle.sq_rules.specs.Epochs.{class_at}
 use Rattle.sq_rules.specs.Living.{has_free}
@@ -20,7 +21,7 @@ use Rattle.sq_rules.specs.Machine.{config_of}
 use Rattle.sq_rules.specs.Marks.{Marked, Past, Put, entries}
 use Rattle.sq_rules.specs.Questions.{has_ended, pending, put_is, put_of, sent_to}
 use Rattle.sq_rules.specs.Verdicts.{verdict_over}
-use Rattle.sq_history.specs.Given.{EachOf, IsSound, times_sent}
+use Rattle.sq_history.specs.Given.{EachOf, FindsNoRoom, IsSound, IsTooLong, fault_for, times_sent}
 use Rattle.sq_history.specs.Walked.{AreWalked}
 use Rattle.sq_rules.specs.Classes.{Class}
 use Rattle.sq_rules.specs.FarmReadings.{farm_with, living_of}
@@ -68,6 +69,13 @@ abbrev pub PutSo : List Configuration → Past → ℕ → Event → Option Put 
 PutSo configs m now event None = Unit {0}
 PutSo configs m now event (Some p) = IsPutSo configs m now event p
 
+-- a step of a check takes the fault of a long key where the key that the check needs is too long, and that of a full queue where no
+-- verdict of it is fresh, no question of it is pending and the farm is full; an answer that is such a fault comes from there alone (`IsSound`)
+pub record FaultsSo (configs : List Configuration) (m : Past) (x : Marked) : Type 0 where
+  pub long : (n : ℕ) (d : IsNeeded configs m n) → x.entry.event ≡ Step n → IsTooLong configs m n d → x.took ≡ Some (fault_for configs m n d cause.KeyTooLong x.entry.moment)
+  pub no_room : (n : ℕ) (d : IsNeeded configs m n) → x.entry.event ≡ Step n → FindsNoRoom configs m n x.entry.moment d
+      → x.took ≡ Some (fault_for configs m n d cause.QueueFull x.entry.moment)
+
 -- what an act sends
 abbrev pub sending_of : Event → Told → Option Sending
 sending_of Act (told.Send p q channel key) = Some (record { proc = p; question = q; channel = channel; text = key })
@@ -101,6 +109,8 @@ OpenOnce configs m =
 pub record IsFaithfulEntry (configs : List Configuration) (m : Past) (x : Marked) : Type 0 where
   -- an outcome that it takes is the verdict over answers that have their sources
   pub judged : JudgedSo configs m (judgement x.entry.event x.entry.answer)
+  -- a step takes the faults of a long key and of a full queue where they are
+  pub faults : FaultsSo configs m x
   -- a question that is put there is needed
   pub put : PutSo configs m x.entry.moment x.entry.event x.put
   -- a question that is sent there was put, and with that key

@@ -1,6 +1,7 @@
 -- What a history gave: answers by the lines of helpers, and what a check has them from.
 use Rattle.std.specs.Prelude.{Bool, List, None, Some, ℕ, [], false, if◌then◌else◌, length, nat_lt, suc, true, ◌==◌, ◌∷◌, ◌≡◌, ◌⊎◌}
 use Rattle.sq_base.specs.declared.helpers.Answer.{Answer}
+use Rattle.sq_base.specs.declared.helpers.Cause.{Cause}
 use Rattle.sq_base.specs.declared.helpers.Cause.TheVariants as cause
 use Rattle.sq_base.specs.declared.helpers.What.{What}
 use Rattle.sq_base.specs.declared.helpers.What.TheVariants as what
@@ -86,6 +87,10 @@ pub record FindsNoRoom (configs : List Configuration) (m : Past) (n now : ℕ) (
   pub none_fresh : fresh_for d.class d.key now (kept configs m d.asked.epoch d.place) ≡ None
   pub none_pending : pending configs m d.asked.epoch d.place d.key ≡ None
   pub is_full : full (farm_with configs m d.asked.epoch d.place d.class) ≡ true
+
+-- a fault that a step takes for the class and key that check n needs
+abbrev pub fault_for : (configs : List Configuration) (m : Past) (n : ℕ) → IsNeeded configs m n → Cause → ℕ → Answer
+fault_for configs m n d c now = record { class = d.place; key = d.key; what = what.Fault c; question = None; date = now; taken = now }
 
 -- the entry is a step of check n that takes this fault for the class and key that the check needs: the key is too long, or there is no room
 pub record TakesFault (configs : List Configuration) (m : Past) (x : Marked) (n : ℕ) (a : Answer) : Type 0 where
