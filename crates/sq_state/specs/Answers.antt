@@ -1,5 +1,5 @@
 -- What the machine answers to each event, by its state.
-use Rattle.std.specs.Prelude.{ℕ, suc, List, [], length, Bool, true, false, not, ◌&&◌, ◌==◌, nat_le, if◌then◌else◌, Some, None, is_some, is_none}
+use Rattle.std.specs.Prelude.{ℕ, suc, List, [], length, Bool, false, not, ◌==◌, nat_le, Some, None, is_some, is_none}
 use Rattle.std.specs.List.{list_any}
 use Rattle.std.specs.Option.{option_and_then, option_map, option_map_or}
 use Rattle.std.specs.declared.option.Option.{Option}
@@ -7,11 +7,9 @@ use Rattle.sq_base.specs.declared.requests.Field.{Field}
 use Rattle.sq_rules.specs.declared.entries.Told.{Told}
 use Rattle.sq_rules.specs.declared.entries.Told.TheVariants as told
 use Rattle.sq_rules.specs.declared.refusals.Refusal.TheVariants as refusal
-use Rattle.sq_rules.specs.declared.sights.Peer.{Peer}
 use Rattle.sq_rules.specs.declared.sights.Sight.{Sight}
 use Rattle.sq_rules.specs.Channels.{Channels}
 use Rattle.sq_rules.specs.Checks.{Asked, peer_or_nobody}
-use Rattle.sq_rules.specs.Classes.{Class}
 use Rattle.sq_rules.specs.DueActs.{Place, sending_told}
 use Rattle.sq_rules.specs.FullNext.{step_next}
 use Rattle.sq_rules.specs.Limits.{conn_limit, epoch_limit, last_number}
@@ -21,7 +19,6 @@ use Rattle.sq_rules.specs.Numbered.{picks}
 use Rattle.sq_rules.specs.Sights.{asked_request, minute_of_week}
 use Rattle.sq_rules.specs.Transcripts.{line_is, line_told}
 use Rattle.sq_rows.specs.CheckRows.{Held, held_at, held_on}
-use Rattle.sq_rows.specs.ClassRows.{ClassRow}
 use Rattle.sq_state.specs.Acts.{Due, due_in, sends, starts, stops}
 use Rattle.sq_state.specs.Says.{class_in, outcome_in, says_in}
 use Rattle.sq_state.specs.States.{State}

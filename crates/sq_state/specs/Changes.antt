@@ -1,7 +1,6 @@
 -- What each event makes of the machine's state. The moment is one that counts: none before the greatest so far.
-use Rattle.std.specs.Prelude.{ℕ, suc, ◌-◌, List, [], ◌∷◌, ◌++◌, Bool, true, false, not, ◌&&◌, ◌||◌, ◌==◌, if◌then◌else◌, map, filter, Some, None, is_some, is_none, slice_get, position, pos, ℤ}
-use Rattle.std.specs.List.{find, list_any}
-use Rattle.std.specs.Option.{option_and_then, option_map, option_map_or, option_or}
+use Rattle.std.specs.Prelude.{ℕ, suc, ◌-◌, List, [], ◌∷◌, ◌++◌, Bool, false, not, ◌&&◌, ◌||◌, ◌==◌, if◌then◌else◌, Some, None, is_some, slice_get, position, ℤ}
+use Rattle.std.specs.Option.{option_and_then, option_map, option_map_or}
 use Rattle.std.specs.declared.option.Option.{Option}
 use Rattle.sq_base.specs.declared.helpers.Answer.{Answer}
 use Rattle.sq_base.specs.declared.helpers.Cause.{Cause}
@@ -18,7 +17,7 @@ use Rattle.sq_rules.specs.DueActs.{Place}
 use Rattle.sq_rules.specs.Farms.{is_last_start}
 use Rattle.sq_rules.specs.KeptLists.{KeptList, is_alike}
 use Rattle.sq_rules.specs.Living.{slots_in}
-use Rattle.sq_rules.specs.OpenLookups.{LookupRow, key_of}
+use Rattle.sq_rules.specs.OpenLookups.{key_of}
 use Rattle.sq_rules.specs.StepRule.{StepSays}
 use Rattle.sq_rows.specs.CheckRows.{Ends, Held, after_ends, after_step, begun, one_end, without_check, without_conn}
 use Rattle.sq_rows.specs.ClassRows.{ClassRow, after_death, after_failed, after_reply, after_sending, after_started, after_starting, is_waiting, new_row}

@@ -1,5 +1,5 @@
 -- What a step says, and what a check comes to, by the machine's state.
-use Rattle.std.specs.Prelude.{ℕ, List, Some, None, slice_get}
+use Rattle.std.specs.Prelude.{ℕ, List, Some, None, false, slice_get}
 use Rattle.std.specs.Option.{option_and_then, option_map_or}
 use Rattle.std.specs.declared.option.Option.{Option}
 use Rattle.sq_rules.specs.declared.outcomes.Outcome.{Outcome}

@@ -1,5 +1,5 @@
 -- The machine's state: what can be read off it, and that it is what a history comes to.
-use Rattle.std.specs.Prelude.{◌≡◌, ℕ, ℤ, List, Bool, ◌||◌, ◌==◌, if◌then◌else◌, None}
+use Rattle.std.specs.Prelude.{◌≡◌, ℕ, ℤ, List, [], ◌∷◌, Bool, true, false, ◌||◌, ◌==◌, if◌then◌else◌, None}
 use Rattle.std.specs.List.{list_any}
 use Rattle.std.specs.Option.{option_and_then, option_map}
 use Rattle.std.specs.declared.option.Option.{Option}
