@@ -1,1 +1,2 @@
 -- Laws of the machine's state.
+pub mod Lawful
