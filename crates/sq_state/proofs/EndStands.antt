@@ -1,16 +1,18 @@
 -- What an entry leaves of processes and of epochs that leaves each process as it was: where every epoch lives on, and where some end.
-use Rattle.std.proofs.Common.{◌≡◌, ℕ, List, [], ◌∷◌, Bool, true, false, not, ◌&&◌, ◌||◌, if◌then◌else◌, Option, Some, None, is_some, refl, sym, ap, ap₂, ◌∙◌}
-use Rattle.std.specs.Option.{option_and_then, option_map, option_map_or}
-use Rattle.std.proofs.lemmas.Option.{none-some}
+use Rattle.std.proofs.Common.{◌≡◌, ℕ, suc, List, ◌∷◌, Bool, true, false, not, ◌&&◌, ◌||◌, nat_le, if◌then◌else◌, Option, Some, None, is_some, refl, sym, ap, ap₂, ◌∙◌}
+use Rattle.std.specs.Option.{option_and_then, option_map, option_or}
+use Rattle.std.proofs.lemmas.Bool.{and_right}
 use Rattle.sq_base.specs.declared.helpers.Cause.{Cause}
+use Rattle.sq_rules.specs.declared.entries.Event.{Event}
+use Rattle.sq_rules.specs.declared.entries.Told.{Told}
+use Rattle.sq_rules.specs.Checks.{numbered}
 use Rattle.sq_rules.specs.Classes.{Class}
 use Rattle.sq_rules.specs.Configurations.{Configuration}
 use Rattle.sq_rules.specs.DueActs.{Place}
 use Rattle.sq_rules.specs.Entries.{History}
 use Rattle.sq_rules.specs.Epochs.{class_at, is_live, place_of_class}
-use Rattle.sq_rules.specs.Machine.{config_of}
 use Rattle.sq_rules.specs.Marks.{Past, entries}
-use Rattle.sq_rules.specs.Processes.{Home, home_of, is_line_end, is_stopped, lives_on, proc_end, stop_due}
+use Rattle.sq_rules.specs.Processes.{Home, ended_by, home_of, is_line_end, is_stopped, lives_on, proc_count, proc_end, started_by, stop_due, stops}
 use Rattle.sq_rules.specs.Readings.{current}
 use Rattle.sq_rows.specs.CheckRows.{Held, held_checks}
 use Rattle.sq_rows.specs.ClassRows.{ClassRow, class_part, class_row}
@@ -18,7 +20,7 @@ use Rattle.sq_history.specs.Carried.{Carried, HasClass, NamesOnce}
 use Rattle.sq_history.proofs.ClassParts.{bytes_same}
 use Rattle.sq_history.proofs.ElsewhereLaws.{place_named}
 use Rattle.sq_history.proofs.EpochLaws.{live_by_rows}
-use Rattle.sq_history.proofs.ProcessLaws.{due_by, due_is, due_like, lives_by, lives_is, lives_like}
+use Rattle.sq_history.proofs.ProcessLaws.{due_by, due_like, lives_by, lives_like}
 use Rattle.sq_history.proofs.StopLaws.{NotStopped}
 use Rattle.sq_state.specs.Changes.{if_live, is_over}
 use Rattle.sq_state.specs.States.{State, Stands, lives_with, place_of}
@@ -28,6 +30,26 @@ pub record LeavesProcs (h after : History) : Type 0 where
   pub homes_same : (k : ℕ) → home_of after k ≡ home_of h k
   pub ends_same : (k : ℕ) → proc_end after k ≡ proc_end h k
   pub stopped_same : (k : ℕ) → is_stopped after k ≡ is_stopped h k
+
+-- an event that starts, ends and stops no process
+pub record NoProcs (h : History) (event : Event) (answer : Told) : Type 0 where
+  pub starts_none : started_by event ≡ None
+  pub ends_none : (k : ℕ) → ended_by h k event answer ≡ None
+  pub stops_none : (k : ℕ) → stops k event answer ≡ false
+
+-- it leaves each process as it was
+pub leaves_procs : (now : ℕ) (event : Event) (answer : Told) (h : History) → NoProcs h event answer → LeavesProcs h (record { moment = now; event = event; answer = answer } ∷ h)
+leaves_procs now event answer h n = record {
+  homes_same = λ k. ap (λ (o : Option Home). option_or (numbered k (proc_count h) o) (home_of h k)) n.starts_none;
+  ends_same = λ k. ap (λ (o : Option Cause). option_or o (proc_end h k)) (n.ends_none k);
+  stopped_same = λ k.
+      ap (λ (b : Bool). if nat_le k (proc_count h) && b then true else is_stopped h k) (n.stops_none k)
+      ∙ ap (λ (b : Bool). if b then true else is_stopped h k) (and_right (nat_le k (proc_count h)) false refl);
+}
+
+-- nor does it change how many were started
+pub procs_same : (now : ℕ) (event : Event) (answer : Told) (h : History) → started_by event ≡ None → proc_count (record { moment = now; event = event; answer = answer } ∷ h) ≡ proc_count h
+procs_same now event answer h none = ap (λ (o : Option Home). if is_some o then suc (proc_count h) else proc_count h) none
 
 -- epochs that had begun and live then lived before, as far as processes are of them
 abbrev pub NoneBack : History → History → Type 0
@@ -131,7 +153,7 @@ stops_end configs m after k live once carried stopped l back same =
 -- what an epoch has, where fewer epochs live then
 pub left_there : {A : Type 0} (live before after : Bool) (o s : Option A) → s ≡ (if before then o else None) → live ≡ after → (after ≡ true → before ≡ true)
     → (if live then s else None) ≡ (if after then o else None)
-left_there live true after o s is same f = ap₂ (λ (b : Bool) (x : Option A). if b then x else None) same is
+left_there {A = A} live true after o s is same f = ap₂ (λ (b : Bool) (x : Option A). if b then x else None) same is
 left_there live false true o s is same f = absurd (let no = f refl in cc)
 left_there live false false o s is same f = ap (λ (b : Bool). if b then s else None) same
 

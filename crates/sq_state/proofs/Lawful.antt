@@ -5,7 +5,6 @@ use Rattle.std.specs.Option.{option_and_then, option_map_or}
 use Rattle.sq_rules.specs.declared.outcomes.Why.TheVariants as why
 use Rattle.sq_rules.specs.declared.values.Value.TheVariants as value
 use Rattle.sq_rules.specs.Checks.{check_open}
-use Rattle.sq_rules.specs.Classes.{Class}
 use Rattle.sq_rules.specs.Configurations.{Configuration, IsConfiguration}
 use Rattle.sq_rules.specs.Entries.{History}
 use Rattle.sq_rules.specs.Epochs.{class_at, is_live}
@@ -24,7 +23,7 @@ use Rattle.sq_history.proofs.AloneLaws.{IsAlone, legal_alone}
 use Rattle.sq_history.proofs.CheckLaws.{held_found}
 use Rattle.sq_history.proofs.ClassParts.{itself}
 use Rattle.sq_history.proofs.ConfigurationLaws.{names_once}
-use Rattle.sq_history.proofs.EpochLaws.{live_by_rows, some_of_epoch}
+use Rattle.sq_history.proofs.EpochLaws.{live_by_rows}
 use Rattle.sq_history.proofs.LegalLaws.{legal_carried}
 use Rattle.sq_history.proofs.PendingLaws.{OneOpen, one_open}
 use Rattle.sq_history.proofs.PutLaws.{PutsStand, puts_stand}

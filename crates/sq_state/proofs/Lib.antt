@@ -1,2 +1,4 @@
 -- Laws of the machine's state.
 pub mod Lawful
+pub mod EndStands
+pub mod QuietStands
