@@ -2,3 +2,9 @@
 pub mod Lawful
 pub mod EndStands
 pub mod QuietStands
+pub mod InsideStands
+pub mod ActNext
+pub mod ActStands
+pub mod FailedEnds
+pub mod StartStands
+pub mod ReconfigureStands
