@@ -2,3 +2,4 @@
 pub mod Lawful
 pub mod EndStands
 pub mod QuietStands
+pub mod ConnStands
