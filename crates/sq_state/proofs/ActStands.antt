@@ -1,5 +1,5 @@
 -- A state after an act: a stop, a send, a start.
-use Rattle.std.proofs.Common.{◌≡◌, ℕ, suc, ◌<◌, ◌≤◌, List, [], ◌∷◌, Bool, true, false, not, ◌&&◌, ◌||◌, ◌==◌, nat_le, if◌then◌else◌, Option, Some, None, refl, sym, ap, ap₂, subst, ◌∙◌, arith}
+use Rattle.std.proofs.Common.{◌≡◌, ℕ, suc, ◌<◌, ◌≤◌, List, [], ◌∷◌, Bool, true, false, not, ◌&&◌, ◌||◌, ◌==◌, nat_le, if◌then◌else◌, Option, Some, None, is_some, refl, sym, ap, ap₂, subst, ◌∙◌, arith}
 use Rattle.std.specs.List.{list_any}
 use Rattle.std.specs.Option.{option_map_or}
 use Rattle.std.proofs.lemmas.Bool.{and_parts}
@@ -138,7 +138,7 @@ is_class_row configs m s e c row st is = by (is_live (entries m) e) refl (sym (s
 -- the question of a send that is due waits in the queue of its class
 waits_here : (configs : List Configuration) (m : Past) (e c : ℕ) (class : Class) (x : Sending) → send_of (farm_with configs m e c class) ≡ Some x → is_put_for e c (put_of m x.question) ≡ true
 waits_here configs m e c class x due =
-    (and_parts (is_put_for e c (put_of m x.question)) _ queued).0
+    (and_parts (is_put_for e c (put_of m x.question)) (not (is_some (sent_to m x.question))) (and_parts (is_put_for e c (put_of m x.question) && not (is_some (sent_to m x.question))) (not (has_ended configs m x.question)) queued).0).0
   where
     farm : Stock
     farm = farm_with configs m e c class

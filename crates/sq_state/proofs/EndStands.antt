@@ -56,11 +56,11 @@ abbrev pub NoneBack : History → History → Type 0
 NoneBack h after = (k : ℕ) (p : Home) → home_of h k ≡ Some p → is_live after p.epoch ≡ true → is_live h p.epoch ≡ true
 
 -- the place of a process, by its home
-abbrev placed : List Configuration → Option Home → Option Place
+abbrev pub placed : List Configuration → Option Home → Option Place
 placed configs o = option_and_then (λ p. option_map (λ c. record { epoch = p.epoch; class = c }) (place_of_class configs p.epoch p.class)) o
 
 -- where it lives
-abbrev home_by : List Configuration → Option Home → Option Cause → (ℕ → Bool) → Option Place
+abbrev pub home_by : List Configuration → Option Home → Option Cause → (ℕ → Bool) → Option Place
 home_by configs o d live = if lives_by o d live then placed configs o else None
 
 -- whether a process lives, where the epochs do so

@@ -111,11 +111,11 @@ not_named configs m e c q class once stand at away = by (put_of m q) refl away
   where
     placed : (p : Put) (o : Option Class) → is_some o ≡ true → class_at configs p.epoch p.class ≡ o → (a b d : Bool) → (p.epoch == e) ≡ a → (p.class == c) ≡ b → (a && b) ≡ false
         → bytes_eq (name_of_class configs e p.class) class.name ≡ d → (a && d) ≡ false
-    placed p None some is a b d same place no named = absurd (cc)
-    placed p (Some other) some is false b d same place no named = refl
-    placed p (Some other) some is true true d same place no named = absurd (cc)
-    placed p (Some other) some is true false false same place no named = refl
-    placed p (Some other) some is true false true same place no named =
+    placed p None some is a b d same place not_both named = absurd (cc)
+    placed p (Some other) some is false b d same place not_both named = refl
+    placed p (Some other) some is true true d same place not_both named = absurd (cc)
+    placed p (Some other) some is true false false same place not_both named = refl
+    placed p (Some other) some is true false true same place not_both named =
         let there : class_at configs e p.class ≡ Some other = ap (λ (i : ℕ). class_at configs i p.class) (sym (equal p.epoch e same)) ∙ is in
         let one : p.class ≡ c = once e p.class c other class there at (ap (λ (o : Option Class). bytes_eq (option_map_or (λ class. class.name) o []) class.name) (sym there) ∙ named) in
         absurd (let yes : false ≡ true = sym place ∙ ap (λ (i : ℕ). i == c) one ∙ itself c in cc)
@@ -172,7 +172,7 @@ ends_failed configs m now answer e c class q once stand at some opened = by (is_
     by false away =
         let waits : is_waiting q (farm_with configs m e c class).queue ≡ false =
         waits_queued configs m e c class q
-        ∙ and_right (nat_le 1 q && nat_le q (put_count m)) (is_queued configs m e c q) (and_left (is_put_for e c (put_of m q)) (not (is_some (sent_to m q)) && not (has_ended configs m q)) away) in
+        ∙ and_right (nat_le 1 q && nat_le q (put_count m)) (is_queued configs m e c q) (and_left (is_put_for e c (put_of m q) && not (is_some (sent_to m q))) (not (has_ended configs m q)) (and_left (is_put_for e c (put_of m q)) (not (is_some (sent_to m q))) away)) in
         ap (λ (b : Bool). gives b (leaves_none (entries m) e class.name)) (not_named configs m e c q class once stand at away)
         ∙ answer_by_none now q (put_of m q)
         ∙ sym (ap (takes (is_last_start (farm_with configs m e c class))) waits ∙ nothing (is_last_start (farm_with configs m e c class)))

@@ -8,3 +8,4 @@ pub mod ActStands
 pub mod FailedEnds
 pub mod StartStands
 pub mod ReconfigureStands
+pub mod ConnStands
