@@ -1,5 +1,5 @@
 -- The next act, by the state.
-use Rattle.std.proofs.Common.{◌≡◌, ℕ, zero, suc, List, [], ◌∷◌, ◌++◌, map, length, slice_get, Bool, true, false, if◌then◌else◌, Option, Some, None, option_and_then, refl, sym, ap, ap₂, subst, ◌∙◌}
+use Rattle.std.proofs.Common.{◌≡◌, ℕ, zero, suc, List, [], ◌∷◌, ◌++◌, map, length, Bool, true, false, if◌then◌else◌, Option, Some, None, option_and_then, refl, sym, ap, ap₂, subst, ◌∙◌}
 use Rattle.std.specs.List.{flat_map}
 use Rattle.std.specs.Option.{option_map, option_map_or, option_or}
 use Rattle.std.proofs.lemmas.Grind.{flat_map-append}
@@ -11,16 +11,16 @@ use Rattle.sq_rules.specs.declared.entries.Told.TheVariants as told
 use Rattle.sq_rules.specs.Classes.{Class}
 use Rattle.sq_rules.specs.Configurations.{Configuration}
 use Rattle.sq_rules.specs.DueActs.{Place, first_made, first_of, live_places, next_act, places_of, send_at, sending_told, start_at, stop_of}
-use Rattle.sq_rules.specs.Epochs.{class_at, is_live, live_epochs, name_of_class}
-use Rattle.sq_rules.specs.FarmReadings.{farm_of, farm_with}
+use Rattle.sq_rules.specs.Epochs.{class_at, is_live, name_of_class}
+use Rattle.sq_rules.specs.FarmReadings.{farm_with}
 use Rattle.sq_rules.specs.Farms.{Sending, send_of, start_due}
 use Rattle.sq_rules.specs.FullNext.{act_next, full_next_at}
-use Rattle.sq_rules.specs.Machine.{Next, config_of, gives, nothing}
+use Rattle.sq_rules.specs.Machine.{config_of}
 use Rattle.sq_rules.specs.Marks.{Past, entries}
 use Rattle.sq_rules.specs.Numbered.{below, picks}
 use Rattle.sq_rules.specs.Processes.{proc_count, stop_due}
 use Rattle.sq_rules.specs.Readings.{current}
-use Rattle.sq_rows.specs.ClassRows.{ClassRow, class_part, class_row}
+use Rattle.sq_rows.specs.ClassRows.{ClassRow, class_row}
 use Rattle.sq_history.specs.Given.{EachOf}
 use Rattle.sq_history.proofs.RowLaws.{picks_same}
 use Rattle.sq_state.specs.Acts.{Due, due_in, live_places_in, places_in, send_in, sends, start_in, starts, stop_in, stops}
@@ -145,9 +145,9 @@ due_is_next configs m s st =
         ∙ made_told (InLive m) (due_told s) f g (live_places configs (entries m)) e (each_place configs m (current (entries m)))
 
 -- what is answered to an act
-pub act_next_is : (configs : List Configuration) (m : Past) (now : ℕ) (s : State) → Stands configs m s → full_next_at configs m now Act ≡ act_answer s
+pub act_next_is : (configs : List Configuration) (m : Past) (s : State) (now : ℕ) → Stands configs m s → full_next_at configs m now Act ≡ act_answer s
 unfolding full_next_at
-act_next_is configs m now s st = ap act_next (sym (due_is_next configs m s st)) ∙ by (due_in s)
+act_next_is configs m s now st = ap act_next (sym (due_is_next configs m s st)) ∙ by (due_in s)
   where
     by : (o : Option Due) → act_next (option_map (due_told s) o) ≡ act_of s o
     by None = refl

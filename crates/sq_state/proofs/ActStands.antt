@@ -1,5 +1,5 @@
 -- A state after an act: a stop, a send, a start.
-use Rattle.std.proofs.Common.{◌≡◌, ℕ, suc, ◌<◌, ◌≤◌, List, [], ◌∷◌, Bool, true, false, not, ◌&&◌, ◌||◌, ◌==◌, nat_le, if◌then◌else◌, Option, Some, None, is_some, refl, sym, ap, ap₂, subst, ◌∙◌, arith}
+use Rattle.std.proofs.Common.{◌≡◌, ℕ, ◌<◌, ◌≤◌, List, [], ◌∷◌, Bool, true, false, not, ◌&&◌, ◌||◌, ◌==◌, nat_le, if◌then◌else◌, Option, Some, None, is_some, refl, sym, ap, ap₂, subst, ◌∙◌, arith}
 use Rattle.std.specs.List.{list_any}
 use Rattle.std.specs.Option.{option_map_or}
 use Rattle.std.proofs.lemmas.Bool.{and_parts}
@@ -14,7 +14,7 @@ use Rattle.sq_rules.specs.Classes.{Class}
 use Rattle.sq_rules.specs.Configurations.{Configuration}
 use Rattle.sq_rules.specs.DueActs.{Place, sending_told}
 use Rattle.sq_rules.specs.Entries.{History}
-use Rattle.sq_rules.specs.Epochs.{class_at, is_live, name_of_class}
+use Rattle.sq_rules.specs.Epochs.{class_at, is_live}
 use Rattle.sq_rules.specs.FarmReadings.{farm_with, is_put_for, is_queued, living_of, waiting_of}
 use Rattle.sq_rules.specs.Farms.{Sending, Stock, Waiting, send_of, start_due}
 use Rattle.sq_rules.specs.Living.{Living, has_free, target}
@@ -34,7 +34,7 @@ use Rattle.sq_history.proofs.RowLaws.{picked, row_among}
 use Rattle.sq_history.proofs.SendLaws.{SendIs, class_not_sending, class_sending, send_is}
 use Rattle.sq_history.proofs.StartLaws.{class_not_starting, class_starting}
 use Rattle.sq_history.proofs.StepLaws.{class_stopped}
-use Rattle.sq_state.specs.Acts.{Due, due_in, sends, starts, stops}
+use Rattle.sq_state.specs.Acts.{due_in, sends, starts}
 use Rattle.sq_state.specs.Answers.{name_in}
 use Rattle.sq_state.specs.Changes.{after_send_at, after_start_at, after_stop_of, at, change_row, is_at}
 use Rattle.sq_state.specs.States.{State, Stands, place_of}
@@ -66,9 +66,9 @@ pub due_above : (h : History) (k : ℕ) → proc_count h < k → stop_due h k �
 due_above h k l = ap (λ (o : Option Home). due_by o (is_stopped h k) (proc_end h k) (is_live h)) (home_above h k l)
 
 -- a process was told to stop
-pub stop_stands : (configs : List Configuration) (m : Past) (now k : ℕ) (s : State) → Stands configs m s → Stands configs (noted_at now Act (told.Stop k) ∷ m) (after_stop_of k now s)
-stop_stands configs m now k s st =
-    stands_inside configs m now Act (told.Stop k) s (after_stop_of k now s) act_inside st
+pub stop_stands : (configs : List Configuration) (m : Past) (s : State) (now k : ℕ) → Stands configs m s → Stands configs (noted_at now Act (told.Stop k) ∷ m) (after_stop_of k now s)
+stop_stands configs m s now k st =
+    stands_inside configs m s now Act (told.Stop k) (after_stop_of k now s) act_inside st
     (record {
       checks_are = st.checks_are ∙ sym (act_held configs m now (told.Stop k));
       current_is = st.current_is;
@@ -94,18 +94,18 @@ stop_stands configs m now k s st =
     due j false t = ap (λ (b : Bool). b && not (k == j)) (due_above (entries m) j (above j (proc_count (entries m)) t)) ∙ sym (due_above (entries after) j (above j (proc_count (entries m)) t))
 
 -- an act of the farm of the class at one place
-farm_stands : (configs : List Configuration) (m : Past) (now : ℕ) (answer : Told) (s : State) (p : Place) (f : ClassRow → ClassRow) → Stands configs m s
+farm_stands : (configs : List Configuration) (m : Past) (s : State) (now : ℕ) (answer : Told) (p : Place) (f : ClassRow → ClassRow) → Stands configs m s
     → ((k : ℕ) → stop_told k answer ≡ false)
     → ((class : Class) → class_at configs p.epoch p.class ≡ Some class → class_row configs (noted_at now Act answer ∷ m) p.epoch p.class class ≡ f (class_row configs m p.epoch p.class class))
     → ((e c : ℕ) (class : Class) → is_at p e c ≡ false → class_at configs e c ≡ Some class → class_row configs (noted_at now Act answer ∷ m) e c class ≡ class_row configs m e c class)
     → Stands configs (noted_at now Act answer ∷ m) (at now (change_row p f s))
-farm_stands configs m now answer s p f st none here others =
-    stands_inside configs m now Act answer s (at now (change_row p f s)) act_inside st
+farm_stands configs m s now answer p f st none here others =
+    stands_inside configs m s now Act answer (at now (change_row p f s)) act_inside st
     (record {
       checks_are = st.checks_are ∙ sym (act_held configs m now answer);
       current_is = st.current_is;
       configs_are = λ e. kept_there (is_live (entries m) e) (is_live (entries after) e) (config_of configs e) (s.config e) (st.configs_are e) (live e);
-      rows_are = rows_at configs m (noted_at now Act answer) s p f st live here others;
+      rows_are = rows_at configs m s (noted_at now Act answer) p f st live here others;
       procs_are = st.procs_are;
       homes_are = λ k.
           st.homes_are k
@@ -194,10 +194,10 @@ home_here configs m e c class x due = (and_parts (is_at_home (entries m) e class
     runs = (and_parts (nat_le 1 x.proc && nat_le x.proc (proc_count (entries m))) (runs_at (entries m) e class.name x.proc) found).1
 
 -- a send was made that was due
-pub send_stands : (configs : List Configuration) (m : Past) (now : ℕ) (p : Place) (x : Sending) (s : State) → Lawful configs m → Stands configs m s → due_in s ≡ Some (sends p x)
+pub send_stands : (configs : List Configuration) (m : Past) (s : State) (now : ℕ) (p : Place) (x : Sending) → Lawful configs m → Stands configs m s → due_in s ≡ Some (sends p x)
     → Stands configs (noted_at now Act (sending_told x) ∷ m) (after_send_at p now s)
-send_stands configs m now p x s law st is =
-    farm_stands configs m now (sending_told x) s p after_sending st (λ k. refl) here others
+send_stands configs m s now p x law st is =
+    farm_stands configs m s now (sending_told x) p after_sending st (λ k. refl) here others
   where
     due : IsSendIn s p x
     due = due_send_is s p x is
@@ -222,11 +222,11 @@ send_stands configs m now p x s law st is =
         (away_from configs m x.proc p.epoch p.class e c row.class class law.once row.class_is at (home_here configs m p.epoch p.class row.class x sends_it) (other_place p e c away))
 
 -- a start was told that was due
-pub start_stands : (configs : List Configuration) (m : Past) (now : ℕ) (p : Place) (s : State) → Lawful configs m → Stands configs m s → due_in s ≡ Some (starts p)
+pub start_stands : (configs : List Configuration) (m : Past) (s : State) (now : ℕ) (p : Place) → Lawful configs m → Stands configs m s → due_in s ≡ Some (starts p)
     → Stands configs (noted_at now Act (told.Start p.epoch (name_in s p)) ∷ m) (after_start_at p now s)
-start_stands configs m now p s law st is =
+start_stands configs m s now p law st is =
     subst (λ (name : List ℕ). Stands configs (noted_at now Act (told.Start p.epoch name) ∷ m) (after_start_at p now s)) (sym name_is)
-    (farm_stands configs m now (told.Start p.epoch row.class.name) s p after_starting st (λ k. refl) here others)
+    (farm_stands configs m s now (told.Start p.epoch row.class.name) p after_starting st (λ k. refl) here others)
   where
     due : IsStartIn s p
     due = due_start_is s p is

@@ -1,6 +1,5 @@
 -- What the questions that a failed start ends give to the checks that wait for them, by the class's row.
-use Rattle.std.proofs.Common.{◌≡◌, ℕ, zero, suc, ◌<◌, ◌≤◌, List, [], ◌∷◌, map, find, Bool, true, false, not, ◌&&◌, ◌||◌, ◌==◌, nat_le, bytes_eq, if◌then◌else◌, Option, Some, None, is_some, option_and_then, refl, sym, ap, ap₂, subst, ◌∙◌, arith}
-use Rattle.std.specs.List.{list_any}
+use Rattle.std.proofs.Common.{◌≡◌, ℕ, zero, suc, ◌<◌, ◌≤◌, List, [], ◌∷◌, map, Bool, true, false, not, ◌&&◌, ◌==◌, nat_le, bytes_eq, if◌then◌else◌, Option, Some, None, is_some, option_and_then, refl, sym, ap, ap₂, ◌∙◌, arith}
 use Rattle.std.specs.Option.{option_map, option_map_or, option_or}
 use Rattle.std.proofs.lemmas.Bool.{and_left, and_right}
 use Rattle.std.proofs.lemmas.Bool.Decides.{nat_tests}
@@ -18,7 +17,7 @@ use Rattle.sq_rules.specs.Configurations.{Configuration}
 use Rattle.sq_rules.specs.Epochs.{class_at, name_of_class}
 use Rattle.sq_rules.specs.FarmReadings.{farm_with, is_put_for, is_queued, waiting_of}
 use Rattle.sq_rules.specs.Farms.{Waiting, is_last_start}
-use Rattle.sq_rules.specs.Marks.{Marked, Past, Put, entries}
+use Rattle.sq_rules.specs.Marks.{Past, Put, entries}
 use Rattle.sq_rules.specs.Numbered.{picks}
 use Rattle.sq_rules.specs.OpenLookups.{LookupRow, key_of}
 use Rattle.sq_rules.specs.Processes.{if_here, starting}

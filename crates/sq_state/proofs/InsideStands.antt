@@ -1,15 +1,14 @@
 -- A state after an entry that opens, closes and asks nothing and puts nothing: by its checks, epochs and processes, which alone it changes.
-use Rattle.std.proofs.Common.{◌≡◌, ℕ, ℤ, suc, List, [], ◌∷◌, map-id, Bool, true, false, ◌&&◌, ◌==◌, nat_le, bytes_eq, if◌then◌else◌, Option, Some, None, refl, sym, ap, ap₂, subst, ◌∙◌}
+use Rattle.std.proofs.Common.{◌≡◌, ℕ, ℤ, List, ◌∷◌, Bool, true, false, ◌&&◌, ◌==◌, bytes_eq, if◌then◌else◌, Option, Some, None, refl, sym, ap, ap₂, subst, ◌∙◌}
 use Rattle.std.specs.Option.{option_map}
-use Rattle.std.proofs.lemmas.Bool.{and_left, and_parts, and_right}
+use Rattle.std.proofs.lemmas.Bool.{and_parts}
 use Rattle.sq_rules.specs.declared.entries.Event.{Event}
 use Rattle.sq_rules.specs.declared.entries.Told.{Told}
-use Rattle.sq_rules.specs.Checks.{more_if}
+use Rattle.sq_rules.specs.Checks.{ask_count, more_if}
 use Rattle.sq_rules.specs.Classes.{Class}
 use Rattle.sq_rules.specs.Configurations.{Configuration}
-use Rattle.sq_rules.specs.Connections.{conns_of, open_count, peer_after, peer_at}
+use Rattle.sq_rules.specs.Connections.{peer_after, peer_at}
 use Rattle.sq_rules.specs.DueActs.{Place}
-use Rattle.sq_rules.specs.Entries.{History}
 use Rattle.sq_rules.specs.Epochs.{class_at, is_live}
 use Rattle.sq_rules.specs.Events.{Asking, ConnNews, asking, begun_offset, conn_news}
 use Rattle.sq_rules.specs.Machine.{config_of}
@@ -19,7 +18,7 @@ use Rattle.sq_rules.specs.Readings.{current, offset_after, offset_of}
 use Rattle.sq_rules.proofs.CheckLaws.{ask_count_more}
 use Rattle.sq_rules.proofs.ConnectionLaws.{conns_of_quiet, open_count_quiet, peer_at_more}
 use Rattle.sq_rules.proofs.ReadingLaws.{offset_of_more}
-use Rattle.sq_rows.specs.CheckRows.{Held, held_checks}
+use Rattle.sq_rows.specs.CheckRows.{held_checks}
 use Rattle.sq_rows.specs.ClassRows.{ClassRow, class_part, class_row}
 use Rattle.sq_history.specs.Carried.{NamesOnce}
 use Rattle.sq_history.specs.MarkedEntries.{noted_at}
@@ -51,14 +50,14 @@ abbrev pub with_inside : ℕ → State → State → State
 with_inside now t s = record s { checks = t.checks; current = t.current; config = t.config; row = t.row; procs = t.procs; home = t.home; stop = t.stop; latest = now }
 
 -- it stands where these are those of the history with the entry
-pub stands_inside : (configs : List Configuration) (m : Past) (now : ℕ) (event : Event) (answer : Told) (s t : State) → IsInside event → Stands configs m s
+pub stands_inside : (configs : List Configuration) (m : Past) (s : State) (now : ℕ) (event : Event) (answer : Told) (t : State) → IsInside event → Stands configs m s
     → Inside configs (noted_at now event answer ∷ m) t → Stands configs (noted_at now event answer ∷ m) (with_inside now t s)
-stands_inside configs m now event answer s t is st new = record {
+stands_inside configs m s now event answer t is st new = record {
   clients_are = λ c. st.clients_are c ∙ sym (peer_at_more x.entry (entries m) c ∙ ap (λ (o : Option ConnNews). peer_after c o (peer_at (entries m) c)) is.news_none);
   conns_are = st.conns_are ∙ sym (open_count_quiet x.entry (entries m) is.news_none);
   from_are = λ a. st.from_are a ∙ sym (conns_of_quiet x.entry (entries m) a is.news_none);
   checks_are = new.checks_are;
-  asks_are = st.asks_are ∙ sym (ask_count_more x.entry (entries m) ∙ ap (λ (o : Option Asking). more_if o _) is.asks_none);
+  asks_are = st.asks_are ∙ sym (ask_count_more x.entry (entries m) ∙ ap (λ (o : Option Asking). more_if o (ask_count (entries m))) is.asks_none);
   puts_are = st.puts_are;
   current_is = new.current_is;
   configs_are = new.configs_are;
@@ -100,12 +99,12 @@ other_name configs p e c class other once at there away = by (p.epoch == e) (byt
     by false b same named = refl
 
 -- the rows after an entry that changes the class at one place
-pub rows_at : (configs : List Configuration) (m : Past) (x : Marked) (s : State) (p : Place) (f : ClassRow → ClassRow) → Stands configs m s
+pub rows_at : (configs : List Configuration) (m : Past) (s : State) (x : Marked) (p : Place) (f : ClassRow → ClassRow) → Stands configs m s
     → ((e : ℕ) → is_live (entries (x ∷ m)) e ≡ is_live (entries m) e)
     → ((class : Class) → class_at configs p.epoch p.class ≡ Some class → class_row configs (x ∷ m) p.epoch p.class class ≡ f (class_row configs m p.epoch p.class class))
     → ((e c : ℕ) (class : Class) → is_at p e c ≡ false → class_at configs e c ≡ Some class → class_row configs (x ∷ m) e c class ≡ class_row configs m e c class)
     → (e c : ℕ) → (change_row p f s).row e c ≡ (if is_live (entries (x ∷ m)) e then class_part configs (x ∷ m) e c else None)
-rows_at configs m x s p f st live here others e c = by (is_at p e c) refl
+rows_at configs m s x p f st live here others e c = by (is_at p e c) refl
   where
     mapped : (b : Bool) (o : Option ClassRow) → option_map f (if b then o else None) ≡ (if b then option_map f o else None)
     mapped true o = refl

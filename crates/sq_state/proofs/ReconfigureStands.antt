@@ -1,9 +1,6 @@
 -- A state after a reconfiguration.
 use Rattle.std.proofs.Common.{◌≡◌, ℕ, suc, List, [], ◌∷◌, length, slice_get, position, Bool, true, false, ◌&&◌, ◌||◌, ◌==◌, nat_le, bytes_eq, if◌then◌else◌, Option, Some, None, is_some, option_and_then, refl, sym, ap, ap₂, ◌∙◌, arith}
-use Rattle.std.specs.List.{list_any}
 use Rattle.std.specs.Option.{option_map, option_map_or}
-use Rattle.std.proofs.lemmas.Bool.{and_right}
-use Rattle.std.proofs.lemmas.Bool.Decides.{nat_tests}
 use Rattle.std.proofs.lemmas.List.Quantifiers.{position-Some}
 use Rattle.std.proofs.lemmas.Option.{slice_get-get_or}
 use Rattle.sq_base.proofs.CommonLaws.{then_some}
@@ -45,10 +42,10 @@ busy_is configs m s st =
     ap₂ (λ (checks : List Held) (n : ℕ). length (picks (λ e. some_of_epoch e checks) n)) st.checks_are st.current_is ∙ sym (busy_by_rows configs m)
 
 -- what is answered to a reconfiguration
-pub reconfigure_next_is : (configs : List Configuration) (m : Past) (now : ℕ) (text : List ℕ) (s : State) → Stands configs m s
+pub reconfigure_next : (configs : List Configuration) (m : Past) (s : State) (now : ℕ) (text : List ℕ) → Stands configs m s
     → full_next_at configs m now (Reconfigure text) ≡ reconfigure_answer s
 unfolding full_next_at
-reconfigure_next_is configs m now text s st =
+reconfigure_next configs m s now text st =
     ap₂ (λ (n busy : ℕ). refuse_if (nat_le last_number (suc n)) (refusal.Spent (suc n)) (refuse_if (nat_le epoch_limit busy) (refusal.TooManyEpochs epoch_limit) (gives (told.Epoch (suc n)))))
     (sym st.current_is) (sym (busy_is configs m s st))
 
@@ -78,11 +75,11 @@ alike_kept configs m s class st =
         ∙ ap (λ (o : Option Class). option_map_or (λ (r : ClassRow). r.kept) (option_map (class_row configs m e d) o) []) (slice_get-get_or c.0.classes d class l.0)
 
 -- another configuration is current
-pub reconfigure_stands : (configs : List Configuration) (m : Past) (now : ℕ) (text : List ℕ) (answer : Told) (config : Configuration) (s : State) → Lawful configs m → Stands configs m s
+pub reconfigure_stands : (configs : List Configuration) (m : Past) (s : State) (now : ℕ) (text : List ℕ) (answer : Told) (config : Configuration) → Lawful configs m → Stands configs m s
     → config_of configs (suc (current (entries m))) ≡ Some config
     → Stands configs (noted_at now (Reconfigure text) answer ∷ m) (after_reconfigured config now s)
-reconfigure_stands configs m now text answer config s law st next =
-    stands_inside configs m now (Reconfigure text) answer s (after_reconfigured config now s)
+reconfigure_stands configs m s now text answer config law st next =
+    stands_inside configs m s now (Reconfigure text) answer (after_reconfigured config now s)
     (record { news_none = refl; asks_none = refl; begins_none = refl; counts = refl }) st
     (record {
       checks_are = st.checks_are ∙ sym held;

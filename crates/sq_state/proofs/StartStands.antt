@@ -1,11 +1,10 @@
 -- A state after a process was started, and after a start that failed.
-use Rattle.std.proofs.Common.{◌≡◌, ℕ, suc, ◌<◌, ◌≤◌, List, [], ◌∷◌, Bool, true, false, not, ◌&&◌, ◌||◌, ◌==◌, nat_le, bytes_eq, if◌then◌else◌, Option, Some, None, is_some, option_and_then, refl, sym, ap, ap₂, subst, ◌∙◌, arith}
+use Rattle.std.proofs.Common.{◌≡◌, ℕ, suc, ◌≤◌, List, ◌∷◌, Bool, true, false, not, ◌&&◌, ◌==◌, nat_le, if◌then◌else◌, Option, Some, None, option_and_then, refl, sym, ap, ap₂, subst, ◌∙◌, arith}
 use Rattle.std.specs.Option.{option_map, option_map_or, option_or}
 use Rattle.std.proofs.lemmas.Bool.{and_parts, and_right}
 use Rattle.std.proofs.lemmas.Bool.Decides.{nat_tests}
 use Rattle.std.proofs.lemmas.Option.{same_Some}
 use Rattle.sq_base.specs.declared.helpers.Answer.{Answer}
-use Rattle.sq_base.specs.declared.helpers.Cause.{Cause}
 use Rattle.sq_base.specs.declared.helpers.Cause.TheVariants as cause
 use Rattle.sq_base.specs.declared.helpers.What.TheVariants as what
 use Rattle.sq_rules.specs.declared.entries.Event.TheVariants.{StartFail, Started}
@@ -16,18 +15,17 @@ use Rattle.sq_rules.specs.declared.refusals.Refusal.TheVariants as refusal
 use Rattle.sq_rules.specs.Classes.{Class}
 use Rattle.sq_rules.specs.Configurations.{Configuration}
 use Rattle.sq_rules.specs.DueActs.{Place}
-use Rattle.sq_rules.specs.Entries.{History}
-use Rattle.sq_rules.specs.Epochs.{class_at, is_live, place_of_class}
+use Rattle.sq_rules.specs.Epochs.{class_at, is_live}
 use Rattle.sq_rules.specs.FullNext.{full_next_at, has_start, with_place}
 use Rattle.sq_rules.specs.Limits.{last_number}
 use Rattle.sq_rules.specs.Machine.{Next, config_of, gives, refuse_if}
 use Rattle.sq_rules.specs.Marks.{Marked, Past, entries}
 use Rattle.sq_rules.specs.Processes.{Home, home_of, is_stopped, lives_on, proc_count, proc_end, starting, stop_due}
 use Rattle.sq_rows.specs.CheckRows.{Ends, Held, after_ends, ends_at, held_checks, served, served_by}
-use Rattle.sq_rows.specs.ClassRows.{ClassRow, after_failed, after_started, class_part, class_row}
+use Rattle.sq_rows.specs.ClassRows.{ClassRow, after_failed, after_started, class_row}
 use Rattle.sq_history.specs.Carried.{NamesOnce}
-use Rattle.sq_history.specs.MarkedEntries.{LeavesChecks, noted_at}
-use Rattle.sq_history.proofs.CheckLaws.{WaitsForPut, held_ended, held_same}
+use Rattle.sq_history.specs.MarkedEntries.{noted_at}
+use Rattle.sq_history.proofs.CheckLaws.{held_ended, held_same}
 use Rattle.sq_history.proofs.ClassParts.{equal}
 use Rattle.sq_history.proofs.ElsewhereLaws.{place_named}
 use Rattle.sq_history.proofs.EpochLaws.{live_kept}
@@ -40,13 +38,13 @@ use Rattle.sq_state.specs.States.{State, Stands, place_of}
 use Rattle.sq_state.proofs.ActStands.{due_above}
 use Rattle.sq_state.proofs.EndStands.{home_by, homes_stay, kept_there, leaves_procs, live_still, placed, stops_stay}
 use Rattle.sq_state.proofs.FailedEnds.{ends_failed, ends_open}
-use Rattle.sq_state.proofs.InsideStands.{IsInside, other_name, rows_at, stands_inside}
+use Rattle.sq_state.proofs.InsideStands.{other_name, rows_at, stands_inside}
 use Rattle.sq_state.proofs.Lawful.{Lawful, row_live}
 
 -- whether a start of a class is open, by the state
-pub start_open : (configs : List Configuration) (m : Past) (p : Place) (class : Class) (s : State) → Stands configs m s → class_at configs p.epoch p.class ≡ Some class
+pub start_open : (configs : List Configuration) (m : Past) (s : State) (p : Place) (class : Class) → Stands configs m s → class_at configs p.epoch p.class ≡ Some class
     → has_start_in s p ≡ has_start (entries m) p.epoch class.name
-start_open configs m p class s st at =
+start_open configs m s p class st at =
     ap (λ (o : Option ClassRow). option_map_or (λ r. not (r.stock.starting == 0)) o false)
     (st.rows_are p.epoch p.class ∙ ap (λ (o : Option Class). if is_live (entries m) p.epoch then option_map (class_row configs m p.epoch p.class) o else None) at)
     ∙ by (is_live (entries m) p.epoch)
@@ -57,24 +55,24 @@ start_open configs m p class s st at =
     by false = refl
 
 -- what is answered where a process was started
-pub started_next_is : (configs : List Configuration) (m : Past) (now : ℕ) (p : Place) (class : Class) (s : State) → NamesOnce configs → Stands configs m s
+pub started_next : (configs : List Configuration) (m : Past) (s : State) (now : ℕ) (p : Place) (class : Class) → NamesOnce configs → Stands configs m s
     → class_at configs p.epoch p.class ≡ Some class → full_next_at configs m now (Started p.epoch class.name) ≡ started_answer s p
 unfolding full_next_at
-started_next_is configs m now p class s once st at =
+started_next configs m s now p class once st at =
     ap (λ (o : Option ℕ). with_place o (λ place. refuse_if (not (has_start (entries m) p.epoch class.name)) (refusal.NoStartOpen p.epoch place)
     (refuse_if (nat_le last_number (suc (proc_count (entries m)))) (refusal.Spent (suc (proc_count (entries m)))) (gives (told.Proc (suc (proc_count (entries m))))))))
     (place_named configs p.epoch p.class class once at)
     ∙ ap₂ (λ (b : Bool) (n : ℕ). refuse_if (not b) (refusal.NoStartOpen p.epoch p.class) (refuse_if (nat_le last_number (suc n)) (refusal.Spent (suc n)) (gives (told.Proc (suc n)))))
-    (sym (start_open configs m p class s st at)) (sym st.procs_are)
+    (sym (start_open configs m s p class st at)) (sym st.procs_are)
 
 -- and where a start failed
-pub failed_next_is : (configs : List Configuration) (m : Past) (now : ℕ) (p : Place) (class : Class) (s : State) → NamesOnce configs → Stands configs m s
+pub failed_next : (configs : List Configuration) (m : Past) (s : State) (now : ℕ) (p : Place) (class : Class) → NamesOnce configs → Stands configs m s
     → class_at configs p.epoch p.class ≡ Some class → full_next_at configs m now (StartFail p.epoch class.name) ≡ failed_answer s p
 unfolding full_next_at
-failed_next_is configs m now p class s once st at =
+failed_next configs m s now p class once st at =
     ap (λ (o : Option ℕ). with_place o (λ place. refuse_if (not (has_start (entries m) p.epoch class.name)) (refusal.NoStartOpen p.epoch place) (gives told.Fine)))
     (place_named configs p.epoch p.class class once at)
-    ∙ ap (λ (b : Bool). refuse_if (not b) (refusal.NoStartOpen p.epoch p.class) (gives told.Fine)) (sym (start_open configs m p class s st at))
+    ∙ ap (λ (b : Bool). refuse_if (not b) (refusal.NoStartOpen p.epoch p.class) (gives told.Fine)) (sym (start_open configs m s p class st at))
 
 not_refused : (b : Bool) (r : Refusal) (rest : Next) (answer : Told) → refuse_if (not b) r rest ≡ gives answer → b ≡ true
 not_refused true r rest answer e = refl
@@ -94,17 +92,17 @@ is_open_start m p class t =
     few n t = grind (arith, nat_tests)
 
 -- a process was started
-pub started_stands : (configs : List Configuration) (m : Past) (now : ℕ) (p : Place) (class : Class) (answer : Told) (s : State) → Lawful configs m → Stands configs m s
+pub started_stands : (configs : List Configuration) (m : Past) (s : State) (now : ℕ) (p : Place) (class : Class) (answer : Told) → Lawful configs m → Stands configs m s
     → class_at configs p.epoch p.class ≡ Some class → full_next_at configs m now (Started p.epoch class.name) ≡ gives answer
     → Stands configs (noted_at now (Started p.epoch class.name) answer ∷ m) (after_started_at p now s)
-started_stands configs m now p class answer s law st at told_so =
-    stands_inside configs m now (Started p.epoch class.name) answer s (after_started_at p now s)
+started_stands configs m s now p class answer law st at told_so =
+    stands_inside configs m s now (Started p.epoch class.name) answer (after_started_at p now s)
     (record { news_none = refl; asks_none = refl; begins_none = refl; counts = refl }) st
     (record {
       checks_are = st.checks_are ∙ sym held;
       current_is = st.current_is;
       configs_are = λ e. kept_there (is_live (entries m) e) (is_live (entries after) e) (config_of configs e) (s.config e) (st.configs_are e) (live e);
-      rows_are = rows_at configs m x s p (after_started (suc s.procs)) st live here others;
+      rows_are = rows_at configs m s x p (after_started (suc s.procs)) st live here others;
       procs_are = ap suc st.procs_are;
       homes_are = λ k. ap (λ (n : ℕ). if k == suc n then Some p else s.home k) st.procs_are ∙ home_is k (k == suc (proc_count (entries m))) refl;
       stops_are = λ k. st.stops_are k ∙ stop_is k (k == suc (proc_count (entries m))) refl;
@@ -119,8 +117,8 @@ started_stands configs m now p class answer s law st at told_so =
     start : IsOpenStart m p class
     start =
         is_open_start m p class
-        (sym (start_open configs m p class s st at)
-        ∙ not_refused (has_start_in s p) (refusal.NoStartOpen p.epoch p.class) _ answer (sym (started_next_is configs m now p class s law.once st at) ∙ told_so))
+        (sym (start_open configs m s p class st at)
+        ∙ not_refused (has_start_in s p) (refusal.NoStartOpen p.epoch p.class) _ answer (sym (started_next configs m s now p class law.once st at) ∙ told_so))
 
     held : held_checks configs after ≡ held_checks configs m
     held = held_same configs m x (record { asks_none = refl; steps_none = refl; takes_none = refl; closes_none = refl }) (λ q. refl)
@@ -178,11 +176,11 @@ served_asked ends h = by (option_and_then ends h.waits)
     by (Some a) = refl
 
 -- a start failed
-pub failed_stands : (configs : List Configuration) (m : Past) (now : ℕ) (p : Place) (class : Class) (answer : Told) (s : State) → Lawful configs m → Stands configs m s
+pub failed_stands : (configs : List Configuration) (m : Past) (s : State) (now : ℕ) (p : Place) (class : Class) (answer : Told) → Lawful configs m → Stands configs m s
     → class_at configs p.epoch p.class ≡ Some class → full_next_at configs m now (StartFail p.epoch class.name) ≡ gives answer
     → Stands configs (noted_at now (StartFail p.epoch class.name) answer ∷ m) (after_failed_at p now s)
-failed_stands configs m now p class answer s law st at told_so =
-    stands_inside configs m now (StartFail p.epoch class.name) answer s (after_failed_at p now s)
+failed_stands configs m s now p class answer law st at told_so =
+    stands_inside configs m s now (StartFail p.epoch class.name) answer (after_failed_at p now s)
     (record { news_none = refl; asks_none = refl; begins_none = refl; counts = refl }) st
     (record {
       checks_are = ap₂ (λ (o : Option ClassRow) (checks : List Held). after_ends (row_ends p.class (what.Fault cause.NoHelper) now (is_stranded o) o) checks) row_is st.checks_are
@@ -191,7 +189,7 @@ failed_stands configs m now p class answer s law st at told_so =
           ∙ sym held;
       current_is = st.current_is;
       configs_are = λ e. kept_there (is_live (entries m) e) (is_live (entries after) e) (config_of configs e) (s.config e) (st.configs_are e) (live e);
-      rows_are = rows_at configs m x s p after_failed st live here others;
+      rows_are = rows_at configs m s x p after_failed st live here others;
       procs_are = st.procs_are;
       homes_are = λ k.
           st.homes_are k
@@ -215,8 +213,8 @@ failed_stands configs m now p class answer s law st at told_so =
     start : IsOpenStart m p class
     start =
         is_open_start m p class
-        (sym (start_open configs m p class s st at)
-        ∙ not_refused (has_start_in s p) (refusal.NoStartOpen p.epoch p.class) _ answer (sym (failed_next_is configs m now p class s law.once st at) ∙ told_so))
+        (sym (start_open configs m s p class st at)
+        ∙ not_refused (has_start_in s p) (refusal.NoStartOpen p.epoch p.class) _ answer (sym (failed_next configs m s now p class law.once st at) ∙ told_so))
 
     row_is : s.row p.epoch p.class ≡ Some row
     row_is = row_live configs m s p.epoch p.class st start.lives ∙ ap (option_map (class_row configs m p.epoch p.class)) at
