@@ -3,3 +3,4 @@ pub mod Lawful
 pub mod EndStands
 pub mod QuietStands
 pub mod ConnStands
+pub mod PromiseLaws
