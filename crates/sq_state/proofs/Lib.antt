@@ -9,3 +9,4 @@ pub mod FailedEnds
 pub mod StartStands
 pub mod ReconfigureStands
 pub mod ConnStands
+pub mod PromiseLaws
