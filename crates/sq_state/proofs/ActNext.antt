@@ -100,8 +100,13 @@ send_told configs m s p st lives =
     by (Some class) = told_by (send_of (farm_with configs m p.epoch p.class class))
 
 -- the name of a class of a live epoch
-pub name_live : (configs : List Configuration) (m : Past) (s : State) (p : Place) → Stands configs m s → is_live (entries m) p.epoch ≡ true → name_in s p ≡ name_of_class configs p.epoch p.class
+name_live : (configs : List Configuration) (m : Past) (s : State) (p : Place) → Stands configs m s → is_live (entries m) p.epoch ≡ true → name_in s p ≡ name_of_class configs p.epoch p.class
 name_live configs m s p st lives = ap (λ (o : Option Class). option_map_or (λ class. class.name) o []) (class_live configs m s p.epoch p.class st lives)
+
+-- so it is that of the class there
+pub name_is : (configs : List Configuration) (m : Past) (s : State) (p : Place) (class : Class) → Stands configs m s → is_live (entries m) p.epoch ≡ true → class_at configs p.epoch p.class ≡ Some class
+    → name_in s p ≡ class.name
+name_is configs m s p class st lives at = name_live configs m s p st lives ∙ ap (λ (o : Option Class). option_map_or (λ class. class.name) o []) at
 
 -- a start of a class, as it is told
 start_told : (configs : List Configuration) (m : Past) (s : State) (p : Place) → Stands configs m s → is_live (entries m) p.epoch ≡ true → option_map (due_told s) (start_in s p) ≡ start_at configs m p

@@ -1,7 +1,6 @@
 -- A state after an act: a stop, a send, a start.
 use Rattle.std.proofs.Common.{◌≡◌, ℕ, ◌<◌, ◌≤◌, List, [], ◌∷◌, Bool, true, false, not, ◌&&◌, ◌||◌, ◌==◌, nat_le, if◌then◌else◌, Option, Some, None, is_some, refl, sym, ap, ap₂, subst, ◌∙◌, arith}
 use Rattle.std.specs.List.{list_any}
-use Rattle.std.specs.Option.{option_map_or}
 use Rattle.std.proofs.lemmas.Bool.{and_parts}
 use Rattle.std.proofs.lemmas.Bool.Decides.{nat_tests}
 use Rattle.std.proofs.lemmas.Option.{none-some, same_Some}
@@ -38,7 +37,7 @@ use Rattle.sq_state.specs.Acts.{due_in, sends, starts}
 use Rattle.sq_state.specs.Answers.{name_in}
 use Rattle.sq_state.specs.Changes.{after_send_at, after_start_at, after_stop_of, at, change_row, is_at}
 use Rattle.sq_state.specs.States.{State, Stands, place_of}
-use Rattle.sq_state.proofs.ActNext.{IsSendIn, IsStartIn, due_send_is, due_start_is, name_live}
+use Rattle.sq_state.proofs.ActNext.{IsSendIn, IsStartIn, due_send_is, due_start_is, name_is}
 use Rattle.sq_state.proofs.EndStands.{homes_stay, kept_there, leaves_procs, live_still, part_kept, stops_stay}
 use Rattle.sq_state.proofs.InsideStands.{IsInside, other_name, other_place, rows_at, stands_inside}
 use Rattle.sq_state.proofs.Lawful.{Lawful}
@@ -225,7 +224,7 @@ send_stands configs m s now p x law st is =
 pub start_stands : (configs : List Configuration) (m : Past) (s : State) (now : ℕ) (p : Place) → Lawful configs m → Stands configs m s → due_in s ≡ Some (starts p)
     → Stands configs (noted_at now Act (told.Start p.epoch (name_in s p)) ∷ m) (after_start_at p now s)
 start_stands configs m s now p law st is =
-    subst (λ (name : List ℕ). Stands configs (noted_at now Act (told.Start p.epoch name) ∷ m) (after_start_at p now s)) (sym name_is)
+    subst (λ (name : List ℕ). Stands configs (noted_at now Act (told.Start p.epoch name) ∷ m) (after_start_at p now s)) (sym (name_is configs m s p row.class st row.lives row.class_is))
     (farm_stands configs m s now (told.Start p.epoch row.class.name) p after_starting st (λ k. refl) here others)
   where
     due : IsStartIn s p
@@ -233,9 +232,6 @@ start_stands configs m s now p law st is =
 
     row : IsClassRow configs m p.epoch p.class due.row
     row = is_class_row configs m s p.epoch p.class due.row st due.row_is
-
-    name_is : name_in s p ≡ row.class.name
-    name_is = name_live configs m s p st row.lives ∙ ap (λ (o : Option Class). option_map_or (λ class. class.name) o []) row.class_is
 
     starts_it : start_due (farm_with configs m p.epoch p.class row.class) ≡ true
     starts_it = ap (λ (r : ClassRow). start_due r.stock) (sym row.row_is) ∙ due.due

@@ -10,3 +10,4 @@ pub mod StartStands
 pub mod ReconfigureStands
 pub mod ConnStands
 pub mod PromiseLaws
+pub mod ActPromises

@@ -74,7 +74,8 @@ failed_next configs m s now p class once st at =
     (place_named configs p.epoch p.class class once at)
     ∙ ap (λ (b : Bool). refuse_if (not b) (refusal.NoStartOpen p.epoch p.class) (gives told.Fine)) (sym (start_open configs m s p class st at))
 
-not_refused : (b : Bool) (r : Refusal) (rest : Next) (answer : Told) → refuse_if (not b) r rest ≡ gives answer → b ≡ true
+-- what is answered where it is refused unless a test holds: it does
+pub not_refused : (b : Bool) (r : Refusal) (rest : Next) (answer : Told) → refuse_if (not b) r rest ≡ gives answer → b ≡ true
 not_refused true r rest answer e = refl
 not_refused false r rest answer e = absurd (cc)
 
