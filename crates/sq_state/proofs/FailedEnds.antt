@@ -56,6 +56,7 @@ pub record IsPutNumber (m : Past) (q : ℕ) : Type 0 where
   pub positive : 1 ≤ q
   pub most : q ≤ put_count m
 
+-- as its put says
 pub put_number : (m : Past) (q : ℕ) (p : Put) → put_of m q ≡ Some p → IsPutNumber m q
 put_number m q p is = record { positive = low q is; most = high (nat_le q (put_count m)) refl }
   where
