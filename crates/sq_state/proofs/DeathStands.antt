@@ -1,9 +1,8 @@
 -- The end of a process, by its death or by a line that is outside the grammar or on a free channel: the state after it stands for the history with the event.
-use Rattle.std.proofs.Common.{◌≡◌, ℕ, List, ◌∷◌, Bool, true, false, not, ◌&&◌, ◌||◌, ◌==◌, nat_le, if◌then◌else◌, Option, Some, None, option_and_then, refl, sym, ap, ap₂, subst, ◌∙◌}
+use Rattle.std.proofs.Common.{◌≡◌, ℕ, List, ◌∷◌, Bool, true, false, not, ◌&&◌, ◌||◌, ◌==◌, nat_le, if◌then◌else◌, Option, Some, None, refl, sym, ap, ap₂, subst, ◌∙◌}
 use Rattle.std.specs.Option.{option_map}
 use Rattle.std.proofs.lemmas.Bool.{and_parts, and_right, leb-false, leb-true}
 use Rattle.std.proofs.lemmas.Option.{same_Some}
-use Rattle.sq_base.specs.declared.helpers.Answer.{Answer}
 use Rattle.sq_base.specs.declared.helpers.Cause.{Cause}
 use Rattle.sq_base.specs.declared.helpers.Cause.TheVariants as cause
 use Rattle.sq_base.specs.declared.helpers.What.TheVariants as what
@@ -27,7 +26,7 @@ use Rattle.sq_rules.specs.OpenLookups.{LookupRow, key_of}
 use Rattle.sq_rules.specs.Processes.{Home, home_of, is_at_home, is_line_end, is_stopped, line_end, lives_on, proc_count, proc_end, stop_due}
 use Rattle.sq_rules.specs.Questions.{has_ended, put_count, put_of, sent_to}
 use Rattle.sq_rules.specs.Readings.{current, epoch_after}
-use Rattle.sq_rows.specs.CheckRows.{Ends, Held, after_ends, ends_at, held_checks, served, served_by}
+use Rattle.sq_rows.specs.CheckRows.{Ends, after_ends, ends_at, held_checks, served}
 use Rattle.sq_rows.specs.ClassRows.{ClassRow, after_death, class_row, is_asked, lookup_of, lookups}
 use Rattle.sq_history.specs.MarkedEntries.{LeavesChecks, noted_at}
 use Rattle.sq_history.proofs.CheckLaws.{held_ended}
@@ -49,6 +48,7 @@ use Rattle.sq_state.proofs.FailedEnds.{ends_open, key_open}
 use Rattle.sq_state.proofs.InsideStands.{IsInside, other_place, rows_at, stands_inside}
 use Rattle.sq_state.proofs.Lawful.{Lawful}
 use Rattle.sq_state.proofs.PlaceStands.{LivesAt, home_lives, row_there}
+use Rattle.sq_state.proofs.StartStands.{served_asked}
 
 number_is : (k : ℕ) (o : Option ℕ) → is_number k o ≡ true → o ≡ Some k
 number_is k None t = absurd (cc)
@@ -90,14 +90,6 @@ lost_ends configs m s now k p c event answer q law st l ends live =
         (equal z.class p.class (and_parts (z.epoch == p.epoch) (z.class == p.class) here).1)
         ∙ sym (ap (end_answer p.class (what.Fault c) now q) (key_open configs m p.epoch p.class q z put here live))
     by false o sent put = refl
-
--- a check is what it was asked, whatever it is served
-pub served_asked : (ends : Ends) (h : Held) → (served ends h).asked ≡ h.asked
-served_asked ends h = by (option_and_then ends h.waits)
-  where
-    by : (o : Option Answer) → (served_by o h).asked ≡ h.asked
-    by None = refl
-    by (Some a) = refl
 
 -- an event that ends process k of the class at a place by this cause, by a line or not
 record EndsSo (configs : List Configuration) (m : Past) (now k : ℕ) (p : Place) (class : Class) (c : Cause) (by_line : Bool) (event : Event) (answer : Told) : Type 0 where

@@ -35,7 +35,7 @@ use Rattle.sq_state.specs.Answers.{channels_in}
 use Rattle.sq_state.specs.Changes.{after_reply_at}
 use Rattle.sq_state.specs.Says.{class_in}
 use Rattle.sq_state.specs.States.{Stands, State}
-use Rattle.sq_state.proofs.DeathStands.{served_asked}
+use Rattle.sq_state.proofs.StartStands.{served_asked}
 use Rattle.sq_state.proofs.EndStands.{LeavesProcs, homes_stay, kept_there, leaves_procs, stops_stay}
 use Rattle.sq_state.proofs.InsideStands.{other_place, rows_at, stands_inside}
 use Rattle.sq_state.proofs.Lawful.{Lawful, class_live}
