@@ -1,0 +1,7 @@
+-- Definitions that the contracts cite.
+pub mod States
+pub mod Says
+pub mod Acts
+pub mod Changes
+pub mod Answers
+pub mod Promises
