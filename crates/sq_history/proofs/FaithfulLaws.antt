@@ -3,8 +3,6 @@ use Rattle.std.proofs.Common.{Bool, List, None, Option, Some, ℕ, [], ap, arith
 use Rattle.std.specs.Option.{option_and_then, option_map, option_or}
 use Rattle.std.proofs.lemmas.Bool.{lt-ltb}
 use Rattle.std.proofs.lemmas.Option.{none-some, same_Some}
-use Rattle.sq_rules.specs.Limits.{last_number}
-use Rattle.sq_rules.specs.PoolReadings.{Taking, allowed_of, if_allowed, seat_count, taken_after, taken_of, taking}
 use Rattle.sq_rules.specs.declared.entries.Event.{Event}
 use Rattle.sq_rules.specs.declared.entries.Event.TheVariants.{Begin, Close, Seat, Take}
 use Rattle.sq_rules.specs.declared.entries.Told.{Told}
@@ -19,9 +17,11 @@ use Rattle.sq_rules.specs.Configurations.{Configuration, IsConfiguration}
 use Rattle.sq_rules.specs.Entries.{History, Noted}
 use Rattle.sq_rules.specs.Events.{Asking, Judgement, asking, begins_epoch, is_number, judgement}
 use Rattle.sq_rules.specs.FullNext.{FullLegal, full_next, full_next_at, outcome_over, seat_for, seat_next}
+use Rattle.sq_rules.specs.Limits.{last_number}
 use Rattle.sq_rules.specs.Machine.{config_of, epoch_of, gives, is_begin, refuse_if}
 use Rattle.sq_rules.specs.Marking.{mark, marked, says_at}
 use Rattle.sq_rules.specs.Marks.{Past, entries}
+use Rattle.sq_rules.specs.PoolReadings.{Taking, allowed_of, if_allowed, seat_count, taken_after, taken_of, taking}
 use Rattle.sq_rules.specs.Questions.{sent_to}
 use Rattle.sq_rules.specs.Readings.{counted_moment, current, epoch_after}
 use Rattle.sq_rules.specs.StepRule.{value_over}

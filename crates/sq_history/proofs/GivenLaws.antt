@@ -17,12 +17,12 @@ use Rattle.sq_rules.specs.Entries.{History}
 use Rattle.sq_rules.specs.Epochs.{class_at}
 use Rattle.sq_rules.specs.Freshness.{is_fresh, ttl_of}
 use Rattle.sq_rules.specs.FullNext.{FullLegal, full_next_at, told_of_line}
-use Rattle.sq_rules.specs.Processes.{is_running}
 use Rattle.sq_rules.specs.KeptLists.{KeptList, if_fresh, is_fault, keep, kept_without, same_key, to_front, verdict_of}
 use Rattle.sq_rules.specs.KeptReadings.{after_took, alike_place, keep_reply, keep_what, kept, key_here}
 use Rattle.sq_rules.specs.Machine.{gives, is_begin}
 use Rattle.sq_rules.specs.Marking.{mark, marked}
 use Rattle.sq_rules.specs.Marks.{Marked, Past, Put, entries}
+use Rattle.sq_rules.specs.Processes.{is_running}
 use Rattle.sq_rules.specs.Questions.{put_is, put_of, said_by}
 use Rattle.sq_rules.specs.Readings.{current}
 use Rattle.sq_rules.specs.StepRule.{StepSays, step_says}

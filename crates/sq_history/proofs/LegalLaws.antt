@@ -17,7 +17,6 @@ use Rattle.sq_rules.specs.declared.entries.Told.{Told}
 use Rattle.sq_rules.specs.declared.entries.Told.TheVariants as told
 use Rattle.sq_rules.specs.declared.refusals.Refusal.{Refusal}
 use Rattle.sq_rules.specs.declared.refusals.Refusal.TheVariants as refusal
-use Rattle.sq_rules.specs.Limits.{last_number}
 use Rattle.sq_rules.specs.declared.values.Value.{Value}
 use Rattle.sq_rules.specs.declared.values.Value.TheVariants as value
 use Rattle.sq_rules.specs.AnswerReadings.{answers}
@@ -31,9 +30,10 @@ use Rattle.sq_rules.specs.Epochs.{channels_named, class_at, class_named, has_ope
 use Rattle.sq_rules.specs.Events.{Asking, asking, begins_epoch, is_number}
 use Rattle.sq_rules.specs.FarmReadings.{farm_of, farm_with, is_put_for, is_queued, living_of, waiting_of}
 use Rattle.sq_rules.specs.Farms.{Sending, Stock, Waiting, send_by, send_of, start_due}
+use Rattle.sq_rules.specs.Farms.{full}
 use Rattle.sq_rules.specs.FullNext.{FullLegal, act_next, full_next, full_next_at, has_start, told_of_line, with_place}
 use Rattle.sq_rules.specs.KeptReadings.{kept}
-use Rattle.sq_rules.specs.Farms.{full}
+use Rattle.sq_rules.specs.Limits.{last_number}
 use Rattle.sq_rules.specs.Living.{Living, has_free, target}
 use Rattle.sq_rules.specs.Machine.{Next, config_of, gives, is_begin, refuse_if}
 use Rattle.sq_rules.specs.Marking.{mark, marked}

@@ -12,9 +12,12 @@ use Rattle.sq_rules.specs.declared.kept.KeptVerdict.{KeptVerdict}
 use Rattle.sq_rules.specs.Classes.{Class}
 use Rattle.sq_rules.specs.Configurations.{Configuration}
 use Rattle.sq_rules.specs.Entries.{History}
+use Rattle.sq_rules.specs.FarmReadings.{farm_with, is_put_for}
+use Rattle.sq_rules.specs.Farms.{full}
 use Rattle.sq_rules.specs.Freshness.{is_due}
 use Rattle.sq_rules.specs.FullNext.{FullLegal, full_next_at}
 use Rattle.sq_rules.specs.KeptLists.{KeptList, fresh_for}
+use Rattle.sq_rules.specs.KeptReadings.{kept}
 use Rattle.sq_rules.specs.Limits.{key_limit}
 use Rattle.sq_rules.specs.Machine.{gives, is_begin}
 use Rattle.sq_rules.specs.Marking.{mark, marked, says_at}
@@ -23,15 +26,12 @@ use Rattle.sq_rules.specs.Processes.{if_here}
 use Rattle.sq_rules.specs.Questions.{has_ended, pending, put_count, put_is, put_of, sends, sent_to}
 use Rattle.sq_rules.specs.StepRule.{StepSays, refresh, says_asked, says_fault, says_fresh, says_kept, says_need, step_says}
 use Rattle.sq_history.specs.Carried.{Carried, NamesOnce}
+use Rattle.sq_history.specs.Faithful.{IsPutSo, IsSentSo, PutSo, SentSo, sending_of}
 use Rattle.sq_history.specs.Given.{sends_question, times_sent}
+use Rattle.sq_history.specs.Waits.{IsNeeded}
 use Rattle.sq_history.proofs.ClassParts.{bytes_itself, equal}
 use Rattle.sq_history.proofs.LegalLaws.{IsDueSend, legal_induction, next_acts, next_send}
 use Rattle.sq_history.proofs.PendingLaws.{one_open, puts_need}
-use Rattle.sq_rules.specs.FarmReadings.{farm_with, is_put_for}
-use Rattle.sq_rules.specs.Farms.{full}
-use Rattle.sq_rules.specs.KeptReadings.{kept}
-use Rattle.sq_history.specs.Faithful.{IsPutSo, IsSentSo, PutSo, SentSo, sending_of}
-use Rattle.sq_history.specs.Waits.{IsNeeded}
 use Rattle.sq_history.proofs.RuleLaws.{SaysOf, need_says, step_is}
 
 -- two questions of one epoch, class and key that have not ended are one

@@ -6,8 +6,6 @@ use Rattle.sq_base.specs.declared.helpers.Cause.TheVariants as cause
 use Rattle.sq_base.specs.declared.helpers.What.{What}
 use Rattle.sq_base.specs.declared.helpers.What.TheVariants as what
 use Rattle.sq_base.specs.declared.helpers.Word.{Word}
-use Rattle.sq_rules.specs.FarmReadings.{farm_with}
-use Rattle.sq_rules.specs.Farms.{full}
 use Rattle.sq_rules.specs.declared.entries.Event.{Event}
 use Rattle.sq_rules.specs.declared.entries.Event.TheVariants.{Act, Line, Step}
 use Rattle.sq_rules.specs.declared.entries.Told.{Told}
@@ -17,6 +15,8 @@ use Rattle.sq_rules.specs.AnswerReadings.{waits_for}
 use Rattle.sq_rules.specs.Configurations.{Configuration}
 use Rattle.sq_rules.specs.Epochs.{class_at}
 use Rattle.sq_rules.specs.Events.{begins_epoch}
+use Rattle.sq_rules.specs.FarmReadings.{farm_with}
+use Rattle.sq_rules.specs.Farms.{full}
 use Rattle.sq_rules.specs.Freshness.{is_fresh}
 use Rattle.sq_rules.specs.KeptLists.{fresh_for, is_fault, verdict_of}
 use Rattle.sq_rules.specs.KeptReadings.{alike_place, kept}
