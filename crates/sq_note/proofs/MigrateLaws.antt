@@ -180,6 +180,22 @@ going_ended base left now after count epoch place read line (Ok u) some none fin
 going_ended base left now after count epoch place read line (Err f) some none finds g =
     subst (λ x. Migrates base now read (Err x)) (sym none.0) (going_none base left now after count epoch place read line none.1 g finds)
 
+-- what is left behind bytes that are held, where nothing is: nothing
+pub left_at_end : (held : List ℕ) (left : Option (List ℕ)) → IsAtEnd (prepend_known held left) → IsAtEnd left
+left_at_end held None e = tt
+left_at_end [] (Some bytes) e = e
+left_at_end (b ∷ held) (Some bytes) e = absurd cc
+
+-- the source is at its end: nothing is left
+pub going_at_end : (base left now after : Option (List ℕ)) (count epoch place : ℕ) (read : Reading) (line : List ℕ) → ReadSoFar base left now count epoch place read → Finds place left after line found.End
+    → IsAtEnd after
+going_at_end base left now after count epoch place read line g finds = (found_in base left now after count epoch place read line found.End g finds).1
+
+-- where it holds whatever the answer
+pub on_ok : {A E : Type 0} (P : Type 0) (r : Result A E) → P → OnOk r P
+on_ok P (Ok v) p = p
+on_ok P (Err e) p = tt
+
 -- a line ended the migration
 pub going_stops : (base left now after then_ : Option (List ℕ)) (count epoch place : ℕ) (read : Reading) (line : List ℕ) (f : MigrateFault) → count + 1 ≤ greatest_number
     → Finds place left after line found.Whole → MigratesLine now then_ count epoch line (Err f) → ReadSoFar base left now count epoch place read → Migrates base then_ read (Err f)

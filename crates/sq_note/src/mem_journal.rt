@@ -110,6 +110,7 @@ impl Journal for MemJournal {
         ensures fails_next { is_err result ≡ mem_fails_next self.old }
         ensures counts { mem_faults self.new ≡ counted (mem_fails_next self.old) (mem_faults self.old) }
         ensures room { OnOk result (mem_room self.new + 1 ≡ mem_room self.old) }
+        ensures room_stays { OnErr result (mem_room self.new ≡ mem_room self.old) }
         ensures fails { mem_fails self.new ≡ mem_fails self.old }
         ensures notes { mem_notes self.new ≡ next_call (mem_notes self.old) }
         ensures wants { mem_wants self.new ≡ mem_wants self.old }

@@ -1,5 +1,6 @@
 //! A journal of version 1 written as one of version 2.
 ghost use Rattle.std.specs.Prelude.{◌≡◌, ◌+◌, ◌-◌, ◌^◌, ◌<◌, ◌≤◌, IfErr, IfSome, IsErrOf, OnOk};
+ghost use Rattle.std.specs.Io.KnownBytes.{IsAtEnd};
 ghost use Rattle.sq_outside.specs.Causes.{Rose};
 ghost use Rattle.sq_outside.specs.SourceLines.{lines};
 ghost use Rattle.sq_rules.specs.Machine.{is_begin};
@@ -20,16 +21,19 @@ use thiserror::Error;
 /// How many bytes are read from a source at a time.
 const CHUNK: usize = 65_536;
 
-/// Why a journal was not migrated to its end.
+/// Why a journal was not migrated to its end. What was written by then is the text of the entries before that place.
 #[derive(Clone, Copy, PartialEq, Eq, Debug, Error)]
 pub enum MigrateFault {
     /// The line with this number, from 1, is no entry in its place, has no LF, or is over a limit.
     #[error("line {0} is no entry in its place")]
     Script(u64),
+    /// The source failed, behind lines whose entries were written.
     #[error("a read failed")]
     ReadFault,
+    /// The sink failed; a part of the next entry's line may have been written.
     #[error("a write failed")]
     WriteFault,
+    /// Memory was refused, behind lines whose entries were written.
     #[error("out of memory")]
     WantOfMemory,
 }
@@ -109,13 +113,15 @@ fn ended(count: u64) -> Result<(), MigrateFault>
 }
 
 /// Reads a journal of version 1 and writes it as one of version 2, line by line. It judges no answer. The first line that
-/// is no entry, a first entry that is no `begin`, a later one that is, and a journal without an entry end it.
+/// is no entry, a first entry that is no `begin`, a later one that is, and a journal without an entry end it. After `Ok`
+/// all entries were written, and the journal is read to its end.
 pub fn migrate<S: Source, O: Sink>(
     alloc: Global,
     journal: &mut S,
     out: &mut O,
 ) -> Result<(), MigrateFault>
     ensures migrates { IfSome (S.left journal.old) (λ bytes. Migrates (O.contents out.old) (O.contents out.new) (read_journal (lines bytes)) result) }
+    ensures end { OnOk result (IfSome (S.left journal.old) (λ bytes. IsAtEnd (S.left journal.new))) }
     ensures causes { MigrateHasCauses (S.faults journal.old) (S.faults journal.new) (O.faults out.old) (O.faults out.new) result }
 {
     let mut held = match Held::new(alloc, CHUNK) {

@@ -1,6 +1,7 @@
 mod AggregateLaws
 mod BasinLaws
 mod BucketLaws
+mod DryLaws
 mod FlowLaws
 mod GenerationLaws
 pub mod HistoryLaws

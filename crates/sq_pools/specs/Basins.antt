@@ -1,6 +1,7 @@
 -- What pools hold, and what each of their calls changes (configuration reference, `delay_pools`,
 -- `delay_class`, `delay_access`, `delay_parameters`, `delay_initial_bucket_level`).
 use Rattle.std.specs.Prelude.{◌≡◌, ℕ, ◌+◌, ◌≤◌, ◌<◌, ◌^◌, List, [], Bool, true, false, not, ◌&&◌, ◌||◌, ◌==◌, if◌then◌else◌, min, max, suc, Some, None, is_some, is_none, slice_get}
+use Rattle.std.specs.List.{list_any}
 use Rattle.std.specs.Option.{option_map, option_map_or}
 use Rattle.std.specs.declared.option.Option.{Option}
 use Rattle.sq_base.specs.Addresses.{Address}
@@ -60,6 +61,11 @@ tally_then p now e s = option_map (λ f. (filled_to (second_in p e now) f).tally
 abbrev pub grant_in : Basin → ℕ → ℕ → Option Sat → ℕ
 grant_in p now wanted None = 0
 grant_in p now wanted (Some sat) = least_at (second_in p sat.epoch now) (buckets_at p.generations sat.epoch) sat.spots wanted
+
+-- the seat is not in use, or a bucket of it is at level 0 at this moment
+abbrev pub is_dry : Basin → ℕ → Option Sat → Bool
+is_dry p now None = true
+is_dry p now (Some sat) = list_any (λ s. option_map_or (λ t. t.level == 0) (tally_then p now sat.epoch s) false) sat.spots
 
 -- the seat that a client gets in a pool of this configuration
 abbrev pub sat_in : ℕ → Configuration → ℕ → Address → Sat

@@ -7,7 +7,7 @@ ghost use Rattle.sq_rules.specs.PoolReadings.{has_spot, is_aggregate, made_if};
 ghost use Rattle.sq_pools.specs.Generations.{filled_at, held_at, made_at, second_at};
 ghost use Rattle.sq_pools.specs.Grants.{filled_if, opened_in};
 ghost use Rattle.sq_pools.specs.Seats.{seat_at};
-ghost use Rattle.sq_pools.specs.Basins.{epoch_in, grant_in, has_pool, made_in, seat_in, spot_at, tally_at, HasBegun, HasLeft, IsBasin, IsChosen, IsGranted, IsRenewed};
+ghost use Rattle.sq_pools.specs.Basins.{epoch_in, grant_in, has_pool, made_in, seat_in, spot_at, tally_at, is_dry, HasBegun, HasLeft, IsBasin, IsChosen, IsGranted, IsRenewed};
 
 use crate::bucket::Bucket;
 use crate::generations::Generations;
@@ -218,9 +218,12 @@ impl Pools {
     }
 
     /// Grants what the seat wants, in bytes, as far as each of its buckets has it, and takes it from each. A
-    /// seat that is not in use here is granted nothing. It takes no memory.
+    /// seat that is not in use here is granted nothing, and neither is one with a bucket at level 0. It takes no
+    /// memory.
     pub fn grant(&mut self, seat: &Seat, wanted: u64, now: Moment) -> u64
         ensures amount { result ≡ grant_in self.old (max now self.old.latest) wanted (seat_in self.old seat.now) }
+        ensures within { result ≤ wanted }
+        ensures nothing { 0 < wanted → (result == 0) ≡ is_dry self.old (max now self.old.latest) (seat_in self.old seat.now) }
         ensures taken { IsGranted self.old self.new (max now self.old.latest) result (seat_in self.old seat.now) }
     {
         self.latest = later(now, self.latest);
@@ -246,9 +249,10 @@ impl Pools {
     }
 
     /// The numbers of a seat's bucket, the i-th from 0 in the order of the pairs, at the greatest moment so
-    /// far; None where the seat has no such bucket.
+    /// far; None exactly where the seat has no such bucket.
     pub fn bucket(&self, seat: &Seat, i: u32) -> Option<Bucket>
-        ensures { result ≡ tally_at self.now (epoch_in (seat_in self.now seat.now)) (spot_at (seat_in self.now seat.now) i) }
+        ensures value { result ≡ tally_at self.now (epoch_in (seat_in self.now seat.now)) (spot_at (seat_in self.now seat.now) i) }
+        ensures none { is_none result ≡ is_none (spot_at (seat_in self.now seat.now) i) }
     {
         let seated = self.seats.get(seat.number())?;
         let spot = seated.spots.as_slice().get(i as usize)?;

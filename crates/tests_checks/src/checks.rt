@@ -4,6 +4,7 @@ use sq_base::{
 };
 use sq_checks::{OpenCheck, OpenChecks, Record, class_of};
 use sq_conf::read_config;
+use sq_eval::evaluate;
 use sq_facts::read_facts;
 use sq_request::make_request;
 use sq_rows::{Said, Stepped};
@@ -80,6 +81,32 @@ fn waits(checks: &OpenChecks) -> u64 {
     }
 }
 
+/// Whether check 3 waits for this question, for this key of the one class.
+fn needs(checks: &OpenChecks, question: QuestionNo, key: &Text) -> bool {
+    match checks.get(CheckNo(3)) {
+        Some(check) => match check.need() {
+            Some(need) => need.question == question && need.class == 0 && need.key == *key,
+            None => false,
+        },
+        None => false,
+    }
+}
+
+/// Whether what is in the record comes to a verdict that allows.
+fn comes_to_allowed(alloc: Global, record: &Record) -> Result<bool, Fail> {
+    let config = record.config();
+    match evaluate(
+        alloc,
+        config,
+        record.facts(),
+        record.sight(),
+        record.answers(),
+    )? {
+        Value::Verdict(outcome) => Ok(outcome.allow),
+        Value::Need { acl: _, key: _ } => Ok(false),
+    }
+}
+
 /// The record of check 3, which is done.
 fn taken(checks: &mut OpenChecks) -> Result<Record, Fail> {
     let Some(check) = checks.remove(CheckNo(3)) else {
@@ -98,7 +125,8 @@ fn a_check_waits_for_its_question_and_is_then_done(rt: HostRuntime) -> Result<()
     let check = begun(alloc)?;
     assert!(rt; checks.begin(CheckNo(3), check).is_ok());
     let asked = step(alloc, &mut checks, CheckNo(3), QuestionNo(4))?;
-    assert!(rt; asked == Some(Text::from_slice(alloc, b"10.1.2.3 -")?));
+    let key = Text::from_slice(alloc, b"10.1.2.3 -")?;
+    assert!(rt; needs(&checks, QuestionNo(4), &key) && asked == Some(key));
     assert!(rt; waits(&checks) == 4);
     let yes = What::Yes(Pairs::new(alloc));
     checks.serve(CheckNo(3), QuestionNo(5), yes, Moment(100));
@@ -110,6 +138,7 @@ fn a_check_waits_for_its_question_and_is_then_done(rt: HostRuntime) -> Result<()
     let record = taken(&mut checks)?;
     assert!(rt; checks.len() == 0 && record.check() == CheckNo(3) && record.epoch() == EpochNo(1));
     assert!(rt; record.outcome().allow && record.answers().len() == 1);
+    assert!(rt; comes_to_allowed(alloc, &record)?);
     assert!(rt; record.steps() == 2 && record.looks() == 0 && record.pool().is_none());
     assert!(rt; record.sight().request.minor == 0 && record.config().rules().len() == 1);
     Ok(())

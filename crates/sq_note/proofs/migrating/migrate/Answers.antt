@@ -2,7 +2,7 @@ use Rattle.std.proofs.Common.{List, ℕ, arith, subst, refl, sym, ap, ◌∙◌,
 use Rattle.std.specs.Io.KnownBytes.{prepend_known}
 use Rattle.sq_outside.specs.SourceLines.{Finds, Moves, lines}
 use Rattle.sq_note.specs.Migrating.{Migrates, MigratesLine, ReadSoFar, read_journal}
-use Rattle.sq_note.proofs.MigrateLaws.{told_map, going_begins, going_ended, going_faulty, going_some, going_stops, going_on}
+use Rattle.sq_note.proofs.MigrateLaws.{told_map, left_at_end, on_ok, going_at_end, going_begins, going_ended, going_faulty, going_some, going_stops, going_on}
 use Rattle.sq_note.proofs.migrating.migrate.Goals as goal
 
 pub returns-in-Err-clause-migrates : goal.returns-in-Err-clause-migrates
@@ -30,6 +30,17 @@ returns-in-Ok-End-clause-migrates g c =
     let line = c.next_line.new.line.items in
     told_map _ _ _ (λ bytes at. going_ended base left now after c.lines.count c.lines.epoch c.lines.place (read_journal (lines bytes)) line c.ended.result c.ended.ensures.some c.ended.ensures.none
     (subst (Finds c.lines.place left after line) c.in-Ok-End.field-0-is c.in-Ok-End.ensures.found) at) c.lines.invariant.going
+
+pub returns-in-Ok-End-clause-end : goal.returns-in-Ok-End-clause-end
+returns-in-Ok-End-clause-end g c =
+    let base = g.O.Sink.contents c.args.out.now in
+    let left = prepend_known c.lines.held (g.S.Source.left c.lines.journal) in
+    let after = prepend_known c.next_line.new.held (g.S.Source.left c.next_line.new.source) in
+    let now = g.O.Sink.contents c.lines.out in
+    let line = c.next_line.new.line.items in
+    on_ok _ c.ended.result (told_map _ _ _ (λ bytes at. left_at_end c.next_line.new.held (g.S.Source.left c.next_line.new.source)
+    (going_at_end base left now after c.lines.count c.lines.epoch c.lines.place (read_journal (lines bytes)) line at
+    (subst (Finds c.lines.place left after line) c.in-Ok-End.field-0-is c.in-Ok-End.ensures.found))) c.lines.invariant.going)
 
 pub returns-in-Ok-Faulty-clause-migrates : goal.returns-in-Ok-Faulty-clause-migrates
 returns-in-Ok-Faulty-clause-migrates g c =
