@@ -3,3 +3,9 @@ mod PartLaws
 mod FindLaws
 pub mod HomeLaws
 mod OutcomeLaws
+mod LiveLaws
+mod AlikeLaws
+mod InheritLaws
+mod DropLaws
+mod NumberLaws
+mod BegunLaws

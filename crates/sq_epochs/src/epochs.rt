@@ -31,24 +31,23 @@ use std::sync::Arc;
 /// processes and the due stops.
 #[derive(Drop)]
 pub struct Epochs {
-    current: EpochNo,
-    epochs: Vec<Epoch>,
-    homes: Homes,
+    pub(crate) current: EpochNo,
+    pub(crate) epochs: Vec<Epoch>,
+    pub(crate) homes: Homes,
 }
 
 impl Model for Epochs {
-    ghost use Rattle.std.specs.Prelude.{map};
-    ghost use Rattle.sq_epochs.specs.EpochStates.{EpochsState, epoch_number};
-    ghost use Rattle.sq_rules.specs.Rising.{Rises};
+    ghost use Rattle.sq_epochs.specs.EpochStates.{EpochsState};
+    ghost use Rattle.sq_epochs.specs.LiveEpochs.{AreEpochs};
 
     ghost Value = { EpochsState };
 
     ghost view = { λ v. record { current = v.current; epochs = v.epochs.items; procs = v.homes.given; homes = v.homes.homes; stops = v.homes.stops } };
 
-    ghost invariant = { λ v. Rises (map epoch_number v.epochs.items) };
+    ghost invariant = { λ v. AreEpochs (record { current = v.current; epochs = v.epochs.items; procs = v.homes.given; homes = v.homes.homes; stops = v.homes.stops }) };
 }
 
-fn place_of(epochs: &[Epoch], number: EpochNo) -> usize
+pub(crate) fn place_of(epochs: &[Epoch], number: EpochNo) -> usize
     requires { Rises (map epoch_number epochs.now) }
     ensures place { result ≡ place_among number (map epoch_number epochs.now) }
     ensures bound { result ≤ length epochs.now }
@@ -100,7 +99,7 @@ impl Epochs {
     }
 
     // The live epoch with this number.
-    fn epoch(&self, epoch: EpochNo) -> Option<&Epoch>
+    pub(crate) fn epoch(&self, epoch: EpochNo) -> Option<&Epoch>
         ensures { option_map (λ x. x.now) result ≡ epoch_at self.now epoch }
     {
         let place = place_of(&self.epochs, epoch);

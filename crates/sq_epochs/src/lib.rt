@@ -8,6 +8,7 @@
 mod epoch;
 mod epochs;
 mod homes;
+mod lives;
 mod stops;
 
 pub use epochs::Epochs;
