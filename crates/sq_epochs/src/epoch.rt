@@ -30,7 +30,7 @@ pub struct Epoch {
     pub(crate) number: EpochNo,
     pub(crate) config: Arc<Config>,
     pub(crate) checks: u64,
-    parts: Vec<Part>,
+    pub(crate) parts: Vec<Part>,
 }
 
 impl Model for Epoch {
