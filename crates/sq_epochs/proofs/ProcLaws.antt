@@ -1,22 +1,30 @@
 -- Laws of which processes live in which class.
-use Rattle.std.proofs.Common.{◌≡◌, ℕ, zero, suc, ◌-◌, ◌<◌, List, [], ◌∷◌, ◌++◌, map, length, set, Bool, true, false, not, ◌&&◌, ◌||◌, if◌then◌else◌, nat_lt, ◌==◌, refl, sym, subst, arith, ap, ◌∙◌, Some, None, is_some, get_or, Ok, Err, OnOk, OnErr}
+use Rattle.std.proofs.Common.{◌≡◌, ℕ, zero, suc, ◌-◌, ◌<◌, List, [], ◌∷◌, ◌++◌, map, length, set, Bool, true, false, not, ◌&&◌, ◌||◌, if◌then◌else◌, nat_lt, ◌==◌, refl, sym, subst, arith, ap, ◌∙◌, Some, None, is_some, get_or, Ok, Err, IfOk, OnOk, OnErr}
+use Rattle.std.specs.Prelude.{IfNone, IfSome}
 use Rattle.std.specs.Option.{option_map, option_map_or, option_or}
 use Rattle.std.specs.declared.option.Option.{Option}
 use Rattle.std.specs.declared.result.Result.{Result}
 use Rattle.std.specs.List.{slice_get}
 use Rattle.std.proofs.lemmas.Option.{slice_get_within}
 use Rattle.sq_base.specs.declared.helpers.Cause.{Cause}
+use Rattle.sq_base.specs.declared.helpers.What.{What}
 use Rattle.sq_channel.proofs.RisingLaws.{if_false, if_true}
 use Rattle.sq_rules.specs.Channels.{settled}
+use Rattle.sq_rules.specs.Classes.{Class}
 use Rattle.sq_rules.specs.DueActs.{Place}
 use Rattle.sq_rules.specs.Farms.{Stock, Waiting, after_send, after_send_by, after_start, emptied, ended, failed, fresh, is_last_start, send_of, start_due, started_in}
 use Rattle.sq_rules.specs.Living.{Living, asked_row, find_proc, has_free, lives, sent, settled_in, settled_row, some_free, with_proc, without}
 use Rattle.sq_rules.specs.Marks.{Put}
 use Rattle.sq_rules.specs.Rising.{AreBelow}
 use Rattle.sq_rules.specs.StepRule.{StepSays}
-use Rattle.sq_rows.specs.ClassRows.{ClassRow, after_started, with_took}
-use Rattle.sq_rows.specs.StepRows.{after_says, with_put}
-use Rattle.sq_part.specs.Parts.{PartState}
+use Rattle.sq_rows.specs.ClassRows.{ClassRow, after_reply, with_took}
+use Rattle.sq_rows.specs.StepRows.{after_says, says_of_row, with_put}
+use Rattle.sq_rows.specs.declared.said.Said.{Said}
+use Rattle.sq_part.specs.Losing.{IsHandedOut}
+use Rattle.sq_part.specs.Parts.{IsAsBefore, PartState}
+use Rattle.sq_part.specs.declared.faults.ResolveFault.{ResolveFault}
+use Rattle.sq_part.specs.declared.lost.Lost.{Lost}
+use Rattle.sq_epochs.specs.EpochChanges.{IsResolved}
 use Rattle.sq_epochs.specs.EpochProcs.{AreHomed, HasEnded, HasStarted, IsEnded, IsStarted, SameLiving, is_place, lives_in}
 use Rattle.sq_epochs.specs.EpochStates.{EpochState, EpochsState, IsChanged, change_epoch, epoch_at, epoch_in, home_at, part_at, part_limit, part_of, with_part}
 use Rattle.sq_epochs.specs.HomeStates.{AreHomes, Home, home_in, home_number, without_home}
@@ -308,3 +316,24 @@ homed_less v w g e c p q are there at epochs homes less = λ d b k.
     by_number d b k false n =
         ap (λ z. if e == d && c == b then z else lives_in k (part_at v d b)) (less k ∙ ap (λ z. if z then false else lives k p.row.stock.procs) n)
         ∙ by_place d b k (e == d && c == b) refl
+
+-- the same processes live after each call that ends and starts none
+pub living_step : (r : Result Said ResolveFault) (class : Class) (place : ℕ) (key : List ℕ) (now check count : ℕ) (p q : PartState)
+    → IfOk r (λ s. IsResolved class place key now check count s p q) → OnErr r (IsAsBefore p q) → (k : ℕ) → lives k q.row.stock.procs ≡ lives k p.row.stock.procs
+living_step (Ok s) class place key now check count p q ok err = λ k.
+    ap (λ x. lives k x.stock.procs) (ok 0).row_is ∙ ap (lives k) (procs_says place count (says_of_row class 0 place key now count p.row) p.row)
+living_step (Err e) class place key now check count p q ok err = λ k. ap (λ x. lives k x.stock.procs) err.row_is
+
+pub living_reply : {A B : Type 0} (r : Result A B) (class : Class) (j q : ℕ) (key : List ℕ) (what : What) (date : ℕ) (p p' : PartState)
+    → OnOk r (p'.row ≡ after_reply class j q key what date p.row) → OnErr r (p' ≡ p) → (k : ℕ) → lives k p'.row.stock.procs ≡ lives k p.row.stock.procs
+living_reply (Ok s) class j q key what date p p' ok err = λ k. ap (λ x. lives k x.stock.procs) ok ∙ lives_settled k j q p.row.stock.procs
+living_reply (Err e) class j q key what date p p' ok err = λ k. ap (λ x. lives k x.row.stock.procs) err
+
+pub living_lost : (o : Option Lost) (p q : PartState) → IfSome o (λ l. IsHandedOut l p q) → IfNone o (q ≡ p) → (k : ℕ) → lives k q.row.stock.procs ≡ lives k p.row.stock.procs
+living_lost (Some l) p q some none = λ k. ap (λ x. lives k x.stock.procs) some.row_is
+living_lost None p q some none = λ k. ap (λ x. lives k x.row.stock.procs) none
+
+pub living_failed : {A B : Type 0} (r : Result A B) (p q : PartState) → OnOk r (q ≡ record p { row = record p.row { stock = failed p.row.stock } }) → OnErr r (q ≡ p)
+    → (k : ℕ) → lives k q.row.stock.procs ≡ lives k p.row.stock.procs
+living_failed (Ok s) p q ok err = λ k. ap (λ x. lives k x.row.stock.procs) ok ∙ ap (lives k) (procs_failed p.row.stock)
+living_failed (Err e) p q ok err = λ k. ap (λ x. lives k x.row.stock.procs) err
