@@ -9,3 +9,4 @@ mod InheritLaws
 mod DropLaws
 mod NumberLaws
 mod BegunLaws
+mod ProcLaws

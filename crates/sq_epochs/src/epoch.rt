@@ -11,6 +11,7 @@ ghost use Rattle.sq_epochs.specs.EpochStates.{IsEpochChanged, new_epoch, new_par
 ghost use Rattle.sq_epochs.specs.LiveEpochs.{check_less, check_more};
 ghost use Rattle.sq_epochs.specs.Reconfigured.{alike_in, begun_epoch, begun_part, kept_alike, left_epoch};
 ghost use Rattle.sq_rules.specs.Configurations.{have_distinct_names};
+ghost use Rattle.sq_epochs.specs.EpochProcs.{SameLiving};
 ghost use Rattle.sq_epochs.specs.EpochChanges.{HasFailed, HasLeft, HasNoLoss, HasNoStart, HasReplied, IsHandedOn, IsResolved};
 ghost use Rattle.sq_rules.specs.Channels.{is_open};
 ghost use Rattle.sq_farm.specs.Replies.{got_of};
@@ -33,7 +34,7 @@ pub struct Epoch {
     pub(crate) number: EpochNo,
     pub(crate) config: Arc<Config>,
     pub(crate) checks: u64,
-    parts: Vec<Part>,
+    pub(crate) parts: Vec<Part>,
 }
 
 impl Model for Epoch {
@@ -172,6 +173,7 @@ impl Epoch {
         ensures err { OnErr result (IsEpochChanged class IsAsBefore self.old self.new) }
         ensures number { self.new.epoch ≡ self.old.epoch }
         ensures checks { self.new.checks ≡ self.old.checks }
+        ensures alive { SameLiving self.old self.new }
     {
         let rules = &self.config.classes()[class as usize];
         let part = &mut self.parts[class as usize];
@@ -181,7 +183,8 @@ impl Epoch {
     // Takes a check away from the list in which it waits in the class at this place.
     pub(crate) fn leave(&mut self, class: u32, check: CheckNo)
         requires there { class < length self.old.parts }
-        ensures { IsEpochChanged class (HasLeft check) self.old self.new }
+        ensures changed { IsEpochChanged class (HasLeft check) self.old self.new }
+        ensures alive { SameLiving self.old self.new }
     {
         let part = &mut self.parts[class as usize];
         part.leave(check);
@@ -203,6 +206,7 @@ impl Epoch {
         ensures err { OnErr result (IsEpochChanged class IsAsBefore self.old self.new) }
         ensures number { self.new.epoch ≡ self.old.epoch }
         ensures checks { self.new.checks ≡ self.old.checks }
+        ensures alive { SameLiving self.old self.new }
     {
         let rules = &self.config.classes()[class as usize];
         let part = &mut self.parts[class as usize];
@@ -216,6 +220,7 @@ impl Epoch {
         ensures none { IfNone result (IsEpochChanged class HasNoLoss self.old self.new) }
         ensures number { self.new.epoch ≡ self.old.epoch }
         ensures checks { self.new.checks ≡ self.old.checks }
+        ensures alive { SameLiving self.old self.new }
     {
         let part = &mut self.parts[class as usize];
         part.next_lost()
@@ -228,6 +233,7 @@ impl Epoch {
         ensures err { OnErr result (IsEpochChanged class HasNoStart self.old self.new) }
         ensures number { self.new.epoch ≡ self.old.epoch }
         ensures checks { self.new.checks ≡ self.old.checks }
+        ensures alive { SameLiving self.old self.new }
     {
         let part = &mut self.parts[class as usize];
         part.start_failed()

@@ -7,8 +7,11 @@
 
 mod epoch;
 mod epochs;
+mod faults;
 mod homes;
 mod lives;
+mod procs;
 mod stops;
 
 pub use epochs::Epochs;
+pub use faults::StartedFault;
