@@ -13,7 +13,7 @@ use Rattle.sq_rules.specs.Configurations.{Configuration}
 use Rattle.sq_rules.specs.Rising.{AreAbove, AreBelow, Rises, place_among}
 use Rattle.sq_rows.specs.ClassRows.{ClassRow, new_row}
 use Rattle.sq_part.specs.Parts.{PartState}
-use Rattle.sq_epochs.specs.EpochStates.{EpochState, EpochsState, change_epoch, class_at, class_of, epoch_at, epoch_in, epoch_number, new_epoch, part_of, row_at}
+use Rattle.sq_epochs.specs.EpochStates.{EpochState, EpochsState, change_epoch, class_at, class_of, epoch_at, epoch_in, epoch_number, new_epoch, part_at, part_of, row_at}
 use Rattle.sq_epochs.specs.LiveEpochs.{AreEpochs, checks_at, has_checks, is_used, without_epoch}
 use Rattle.sq_epochs.specs.Reconfigured.{alike_in, begun_epoch, begun_part, emptied, kept_alike, kept_before, kept_in, left_epoch, left_part, left_parts, with_begun, with_epoch}
 use Rattle.sq_epochs.proofs.EpochLaws.{placed}
@@ -191,30 +191,70 @@ row_left begun (Some k) (Some p) = by_test (is_some (alike_in begun k))
     by_test true = refl
     by_test false = refl
 
--- the row of each class after an epoch began
+-- the part of each class after an epoch began
+pub part_begun : (config : Configuration) (v : EpochsState) (e c : ℕ) → AreEpochs v
+    → part_at (with_epoch config v) e c
+    ≡ (if e == suc v.current then option_map (begun_part (kept_before v.epochs v.current)) (slice_get config.classes c)
+    else (if e == v.current then left_at config.classes (class_at v e c) (part_at v e c) else part_at v e c))
+part_begun config v e c is = ap (part_of c) (epoch_begun config v e is) ∙ by_test (e == suc v.current) (e == v.current) (epoch_at v e)
+  where
+    left : (o : Option EpochState) → part_of c (option_map (left_epoch config.classes) o) ≡ left_at config.classes (class_of c o) (part_of c o)
+    left None = refl
+    left (Some x) = parts_left config.classes x.config.classes x.parts c
+
+    by_test : (b d : Bool) (o : Option EpochState)
+        → part_of c (if b then Some (begun_epoch (kept_before v.epochs v.current) (suc v.current) config) else (if d then option_map (left_epoch config.classes) o else o))
+        ≡ (if b then option_map (begun_part (kept_before v.epochs v.current)) (slice_get config.classes c) else (if d then left_at config.classes (class_of c o) (part_of c o) else part_of c o))
+    by_test true d o = slice_get-map (begun_part (kept_before v.epochs v.current)) config.classes c
+    by_test false true o = left o
+    by_test false false o = refl
+
+-- its row
 pub row_begun : (config : Configuration) (v : EpochsState) (e c : ℕ) → AreEpochs v
     → row_at (with_epoch config v) e c
     ≡ (if e == suc v.current then option_map (λ class. new_row (kept_before v.epochs v.current class) class) (slice_get config.classes c)
     else (if e == v.current then left_row_at config.classes (class_at v e c) (row_at v e c) else row_at v e c))
-row_begun config v e c is =
-    ap (λ o. option_map (λ p. p.row) (part_of c o)) (epoch_begun config v e is) ∙ by_test (e == suc v.current) (e == v.current) (epoch_at v e)
+row_begun config v e c is = ap (option_map (λ p. p.row)) (part_begun config v e c is) ∙ by_test (e == suc v.current) (e == v.current)
   where
-    begun : EpochState
-    begun = begun_epoch (kept_before v.epochs v.current) (suc v.current) config
-
     twice : (o : Option Class) → option_map (λ p. p.row) (option_map (begun_part (kept_before v.epochs v.current)) o) ≡ option_map (λ class. new_row (kept_before v.epochs v.current class) class) o
     twice None = refl
     twice (Some k) = refl
 
-    left : (o : Option EpochState) → option_map (λ p. p.row) (part_of c (option_map (left_epoch config.classes) o)) ≡ left_row_at config.classes (class_of c o) (option_map (λ p. p.row) (part_of c o))
+    by_test : (b d : Bool)
+        → option_map (λ p. p.row) (if b then option_map (begun_part (kept_before v.epochs v.current)) (slice_get config.classes c) else (if d then left_at config.classes (class_at v e c) (part_at v e c) else part_at v e c))
+        ≡ (if b then option_map (λ class. new_row (kept_before v.epochs v.current class) class) (slice_get config.classes c)
+        else (if d then left_row_at config.classes (class_at v e c) (option_map (λ p. p.row) (part_at v e c)) else option_map (λ p. p.row) (part_at v e c)))
+    by_test true d = twice (slice_get config.classes c)
+    by_test false true = row_left config.classes (class_at v e c) (part_at v e c)
+    by_test false false = refl
+
+-- the class at each place
+pub class_begun : (config : Configuration) (v : EpochsState) (e c : ℕ) → AreEpochs v → class_at (with_epoch config v) e c ≡ (if e == suc v.current then slice_get config.classes c else class_at v e c)
+class_begun config v e c is = ap (class_of c) (epoch_begun config v e is) ∙ by_test (e == suc v.current) (e == v.current) (epoch_at v e)
+  where
+    left : (o : Option EpochState) → class_of c (option_map (left_epoch config.classes) o) ≡ class_of c o
     left None = refl
-    left (Some x) = ap (option_map (λ p. p.row)) (parts_left config.classes x.config.classes x.parts c) ∙ row_left config.classes (slice_get x.config.classes c) (slice_get x.parts c)
+    left (Some x) = refl
 
     by_test : (b d : Bool) (o : Option EpochState)
-        → option_map (λ p. p.row) (part_of c (if b then Some begun else (if d then option_map (left_epoch config.classes) o else o)))
-        ≡ (if b then option_map (λ class. new_row (kept_before v.epochs v.current class) class) (slice_get config.classes c)
-        else (if d then left_row_at config.classes (class_of c o) (option_map (λ p. p.row) (part_of c o)) else option_map (λ p. p.row) (part_of c o)))
-    by_test true d o = ap (option_map (λ p. p.row)) (slice_get-map (begun_part (kept_before v.epochs v.current)) config.classes c) ∙ twice (slice_get config.classes c)
+        → class_of c (if b then Some (begun_epoch (kept_before v.epochs v.current) (suc v.current) config) else (if d then option_map (left_epoch config.classes) o else o)) ≡ (if b then slice_get config.classes c else class_of c o)
+    by_test true d o = refl
+    by_test false true o = left o
+    by_test false false o = refl
+
+-- the configuration of each epoch
+pub config_begun : (config : Configuration) (v : EpochsState) (e : ℕ) → AreEpochs v
+    → option_map (λ x. x.config) (epoch_at (with_epoch config v) e) ≡ (if e == suc v.current then Some config else option_map (λ x. x.config) (epoch_at v e))
+config_begun config v e is = ap (option_map (λ x. x.config)) (epoch_begun config v e is) ∙ by_test (e == suc v.current) (e == v.current) (epoch_at v e)
+  where
+    left : (o : Option EpochState) → option_map (λ x. x.config) (option_map (left_epoch config.classes) o) ≡ option_map (λ x. x.config) o
+    left None = refl
+    left (Some x) = refl
+
+    by_test : (b d : Bool) (o : Option EpochState)
+        → option_map (λ x. x.config) (if b then Some (begun_epoch (kept_before v.epochs v.current) (suc v.current) config) else (if d then option_map (left_epoch config.classes) o else o))
+        ≡ (if b then Some config else option_map (λ x. x.config) o)
+    by_test true d o = refl
     by_test false true o = left o
     by_test false false o = refl
 

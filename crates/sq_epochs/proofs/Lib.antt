@@ -3,10 +3,12 @@ mod PartLaws
 mod FindLaws
 pub mod HomeLaws
 mod OutcomeLaws
-mod LiveLaws
+pub mod LiveLaws
 mod AlikeLaws
 mod InheritLaws
 mod DropLaws
-mod NumberLaws
-mod BegunLaws
+pub mod NumberLaws
+pub mod BegunLaws
+pub mod EndLaws
+pub mod OverLaws
 mod ProcLaws
