@@ -1,3 +1,4 @@
+mod DueLaws
 mod EpochLaws
 mod PartLaws
 mod FindLaws
