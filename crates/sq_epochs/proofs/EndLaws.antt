@@ -1,5 +1,5 @@
 -- What stands at each number and place after an epoch ended, and who lives where then.
-use Rattle.std.proofs.Common.{◌≡◌, ℕ, suc, ◌<◌, ◌≤◌, List, [], ◌∷◌, map, Bool, true, false, not, ◌&&◌, ◌||◌, if◌then◌else◌, ◌==◌, refl, sym, arith, ap, ◌∙◌, Some, None, is_some}
+use Rattle.std.proofs.Common.{◌≡◌, ℕ, suc, ◌<◌, ◌≤◌, List, [], ◌∷◌, map, Bool, true, false, not, ◌&&◌, ◌||◌, if◌then◌else◌, ◌==◌, refl, sym, arith, ap, ◌∙◌, Some, None, is_some, slice_get}
 use Rattle.std.specs.declared.option.Option.{Option}
 use Rattle.std.specs.Option.{option_map, option_map_or}
 use Rattle.sq_channel.proofs.RisingLaws.{if_false, if_true}
@@ -24,27 +24,29 @@ apart a b l = grind (arith, l)
 pub epoch_dropped : (e f : ℕ) (v : EpochsState) → epoch_at (drop_epoch e v) f ≡ (if e == f then None else epoch_at v f)
 epoch_dropped e f v = in_without e f v.epochs
 
--- the part and the class at a place then, and its row
-pub part_dropped : (e f c : ℕ) (v : EpochsState) → part_at (drop_epoch e v) f c ≡ (if e == f then None else part_at v f c)
-part_dropped e f c v = ap (part_of c) (epoch_dropped e f v) ∙ by_test (e == f)
+-- what is read of the epoch with a number then
+pub read_dropped : {A : Type 0} (read : Option EpochState → Option A) (e f : ℕ) (v : EpochsState) → read None ≡ None → read (epoch_at (drop_epoch e v) f) ≡ (if e == f then None else read (epoch_at v f))
+read_dropped {A = A} read e f v none = ap read (epoch_dropped e f v) ∙ by_test (e == f)
   where
-    by_test : (b : Bool) → part_of c (if b then None else epoch_at v f) ≡ (if b then None else part_of c (epoch_at v f))
-    by_test true = refl
+    by_test : (b : Bool) → read (if b then None else epoch_at v f) ≡ (if b then None else read (epoch_at v f))
+    by_test true = none
     by_test false = refl
 
-pub class_dropped : (e f c : ℕ) (v : EpochsState) → class_at (drop_epoch e v) f c ≡ (if e == f then None else class_at v f c)
-class_dropped e f c v = ap (class_of c) (epoch_dropped e f v) ∙ by_test (e == f)
+-- and what is read of live epochs, by which live then
+pub read_there : {A : Type 0} (read : Option EpochState → Option A) (v : EpochsState) (f : ℕ) → read None ≡ None → read (epoch_at v f) ≡ (if is_some (epoch_at v f) then read (epoch_at v f) else None)
+read_there {A = A} read v f none = by_case (epoch_at v f)
   where
-    by_test : (b : Bool) → class_of c (if b then None else epoch_at v f) ≡ (if b then None else class_of c (epoch_at v f))
-    by_test true = refl
-    by_test false = refl
+    by_case : (o : Option EpochState) → read o ≡ (if is_some o then read o else None)
+    by_case None = none
+    by_case (Some x) = refl
 
-pub row_dropped : (e f c : ℕ) (v : EpochsState) → row_at (drop_epoch e v) f c ≡ (if e == f then None else row_at v f c)
-row_dropped e f c v = ap (option_map (λ p. p.row)) (part_dropped e f c v) ∙ by_test (e == f)
+pub read_left : {A : Type 0} (read : Option EpochState → Option A) (e f : ℕ) (v : EpochsState) → read None ≡ None
+    → read (epoch_at (drop_epoch e v) f) ≡ (if is_some (epoch_at (drop_epoch e v) f) then read (epoch_at v f) else None)
+read_left {A = A} read e f v none = read_dropped read e f v none ∙ by_test (e == f) ∙ ap (λ o. if is_some o then read (epoch_at v f) else None) (sym (epoch_dropped e f v))
   where
-    by_test : (b : Bool) → option_map (λ p. p.row) (if b then None else part_at v f c) ≡ (if b then None else option_map (λ p. p.row) (part_at v f c))
+    by_test : (b : Bool) → (if b then None else read (epoch_at v f)) ≡ (if is_some (if b then None else epoch_at v f) then read (epoch_at v f) else None)
     by_test true = refl
-    by_test false = refl
+    by_test false = read_there read v f none
 
 -- the place is of this epoch
 abbrev pub is_in_epoch : ℕ → Option Place → Bool
@@ -90,7 +92,7 @@ pub epoch_counted : (e f : ℕ) (g : EpochState → EpochState) (v : EpochsState
 epoch_counted e f g v same = in_changed e f g v.epochs same
 
 -- what is the same of an epoch before and after is the same of all
-same_of : {A : Type 0} (read : Option EpochState → A) (e f : ℕ) (g : EpochState → EpochState) (v : EpochsState) → ((x : EpochState) → (g x).epoch ≡ x.epoch) → ((o : Option EpochState) → read (option_map g o) ≡ read o)
+pub same_of : {A : Type 0} (read : Option EpochState → A) (e f : ℕ) (g : EpochState → EpochState) (v : EpochsState) → ((x : EpochState) → (g x).epoch ≡ x.epoch) → ((o : Option EpochState) → read (option_map g o) ≡ read o)
     → read (epoch_at (record v { epochs = change_epoch e g v.epochs }) f) ≡ read (epoch_at v f)
 same_of read e f g v same kept = ap read (epoch_counted e f g v same) ∙ by_test (f == e)
   where
@@ -98,37 +100,38 @@ same_of read e f g v same kept = ap read (epoch_counted e f g v same) ∙ by_tes
     by_test true = kept (epoch_at v f)
     by_test false = refl
 
+-- which epochs live, their parts, classes and configurations, where the counts of checks alone are changed
+pub same_there : (g : EpochState → EpochState) (o : Option EpochState) → is_some (option_map g o) ≡ is_some o
+same_there g None = refl
+same_there g (Some x) = refl
+
+pub same_part : (g : EpochState → EpochState) → ((x : EpochState) → (g x).parts ≡ x.parts) → (c : ℕ) (o : Option EpochState) → part_of c (option_map g o) ≡ part_of c o
+same_part g same c None = refl
+same_part g same c (Some x) = ap (λ ps. slice_get ps c) (same x)
+
+pub same_config : (g : EpochState → EpochState) → ((x : EpochState) → (g x).config ≡ x.config) → (o : Option EpochState) → option_map (λ x. x.config) (option_map g o) ≡ option_map (λ x. x.config) o
+same_config g same None = refl
+same_config g same (Some x) = ap (λ z. Some z) (same x)
+
+pub same_class : (g : EpochState → EpochState) → ((x : EpochState) → (g x).config ≡ x.config) → (c : ℕ) (o : Option EpochState) → class_of c (option_map g o) ≡ class_of c o
+same_class g same c None = refl
+same_class g same c (Some x) = ap (λ z. slice_get z.classes c) (same x)
+
 -- the epochs after a check began: all but the count is as before
 pub there_began : (e f : ℕ) (v : EpochsState) → is_some (epoch_at (after_began e v) f) ≡ is_some (epoch_at v f)
-there_began e f v = same_of is_some e f check_more v (λ x. refl) kept
-  where
-    kept : (o : Option EpochState) → is_some (option_map check_more o) ≡ is_some o
-    kept None = refl
-    kept (Some x) = refl
+there_began e f v = same_of is_some e f check_more v (λ x. refl) (same_there check_more)
 
 pub part_began : (e f c : ℕ) (v : EpochsState) → part_at (after_began e v) f c ≡ part_at v f c
-part_began e f c v = same_of (part_of c) e f check_more v (λ x. refl) kept
-  where
-    kept : (o : Option EpochState) → part_of c (option_map check_more o) ≡ part_of c o
-    kept None = refl
-    kept (Some x) = refl
-
-pub class_began : (e f c : ℕ) (v : EpochsState) → class_at (after_began e v) f c ≡ class_at v f c
-class_began e f c v = same_of (class_of c) e f check_more v (λ x. refl) kept
-  where
-    kept : (o : Option EpochState) → class_of c (option_map check_more o) ≡ class_of c o
-    kept None = refl
-    kept (Some x) = refl
+part_began e f c v = same_of (part_of c) e f check_more v (λ x. refl) (same_part check_more (λ x. refl) c)
 
 pub row_began : (e f c : ℕ) (v : EpochsState) → row_at (after_began e v) f c ≡ row_at v f c
 row_began e f c v = ap (option_map (λ p. p.row)) (part_began e f c v)
 
+pub class_began : (e f c : ℕ) (v : EpochsState) → class_at (after_began e v) f c ≡ class_at v f c
+class_began e f c v = same_of (class_of c) e f check_more v (λ x. refl) (same_class check_more (λ x. refl) c)
+
 pub config_began : (e f : ℕ) (v : EpochsState) → option_map (λ x. x.config) (epoch_at (after_began e v) f) ≡ option_map (λ x. x.config) (epoch_at v f)
-config_began e f v = same_of (option_map (λ x. x.config)) e f check_more v (λ x. refl) kept
-  where
-    kept : (o : Option EpochState) → option_map (λ x. x.config) (option_map check_more o) ≡ option_map (λ x. x.config) o
-    kept None = refl
-    kept (Some x) = refl
+config_began e f v = same_of (option_map (λ x. x.config)) e f check_more v (λ x. refl) (same_config check_more (λ x. refl))
 
 pub checks_began : (e f : ℕ) (v : EpochsState) → is_some (epoch_at v e) ≡ true → checks_at (after_began e v) f ≡ (if f == e then suc (checks_at v f) else checks_at v f)
 checks_began e f v there = ap (λ o. option_map_or (λ x. x.checks) o 0) (epoch_counted e f check_more v (λ x. refl)) ∙ by_test (f == e) refl
@@ -168,15 +171,7 @@ home_there v k p homed is = by_case (epoch_at v p.epoch) refl
     by_case (Some x) q = refl
     by_case None q = let none : lives_in k (part_at v p.epoch p.class) ≡ false = ap (λ o. lives_in k (part_of p.class o)) q in absurd (differ (sym none ∙ lives_here))
 
--- each row is of a class whose epoch lives
-pub row_there : (v : EpochsState) (f c : ℕ) → row_at v f c ≡ (if is_some (epoch_at v f) then row_at v f c else None)
-row_there v f c = by_case (epoch_at v f)
-  where
-    by_case : (o : Option EpochState) → option_map (λ p. p.row) (part_of c o) ≡ (if is_some o then option_map (λ p. p.row) (part_of c o) else None)
-    by_case None = refl
-    by_case (Some x) = refl
-
--- and each home
+-- each home is of an epoch that lives
 pub homes_there : (v : EpochsState) (k : ℕ) → AreHomed v → home_at v k ≡ if_there v (home_at v k)
 homes_there v k homed = by_case (home_at v k) refl
   where
@@ -191,14 +186,7 @@ none_gone v k homed = by_case (home_at v k) refl
     by_case None q = refl
     by_case (Some p) q = ap not (home_there v k p homed q)
 
--- what is left where an epoch ended, by which epochs live then
-pub row_left : (e f c : ℕ) (v : EpochsState) → row_at (drop_epoch e v) f c ≡ (if is_some (epoch_at (drop_epoch e v) f) then row_at v f c else None)
-row_left e f c v = row_dropped e f c v ∙ by_test (e == f) ∙ ap (λ o. if is_some o then row_at v f c else None) (sym (epoch_dropped e f v))
-  where
-    by_test : (b : Bool) → (if b then None else row_at v f c) ≡ (if is_some (if b then None else epoch_at v f) then row_at v f c else None)
-    by_test true = refl
-    by_test false = row_there v f c
-
+-- homes and due stops where an epoch ended, by which epochs live then
 pub home_left : (e k : ℕ) (v : EpochsState) → AreHomed v → Rises (map home_number v.homes) → home_at (drop_epoch e v) k ≡ if_there (drop_epoch e v) (home_at v k)
 home_left e k v homed r = home_dropped e k v r ∙ by_case (home_at v k) refl
   where

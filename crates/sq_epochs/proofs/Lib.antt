@@ -4,6 +4,7 @@ mod PartLaws
 mod FindLaws
 pub mod HomeLaws
 mod OutcomeLaws
+mod RisingRows
 pub mod LiveLaws
 mod AlikeLaws
 mod InheritLaws
