@@ -4,24 +4,26 @@ use Rattle.std.specs.Option.{option_map}
 use Rattle.std.specs.declared.option.Option.{Option}
 use Rattle.std.specs.List.{slice_get}
 use Rattle.std.proofs.lemmas.Option.{slice_get-map}
+use Rattle.sq_base.specs.declared.helpers.Cause.{Cause}
 use Rattle.sq_channel.proofs.RisingLaws.{if_false, if_true}
 use Rattle.sq_rules.specs.Classes.{Class}
 use Rattle.sq_rules.specs.Configurations.{Configuration}
 use Rattle.sq_rules.specs.DueActs.{Place}
+use Rattle.sq_rules.specs.Farms.{fresh}
 use Rattle.sq_rules.specs.KeptLists.{KeptList}
 use Rattle.sq_rules.specs.Living.{lives}
 use Rattle.sq_rules.specs.Rising.{AreAbove, Rises}
 use Rattle.sq_part.specs.Parts.{PartState}
-use Rattle.sq_epochs.specs.EpochProcs.{AreHomed, AreWhole, SameLiving, is_place, lives_in}
+use Rattle.sq_epochs.specs.EpochProcs.{AreHomed, AreWhole, IsEnded, IsStarted, SameLiving, has_start, is_place, is_starting, lives_in}
 use Rattle.sq_epochs.specs.EpochStates.{EpochState, EpochsState, epoch_at, epoch_in, epoch_number, home_at, new_epoch, new_part, part_at, part_of}
-use Rattle.sq_epochs.specs.HomeStates.{AreHomes, Home, home_in, home_number, is_of_epoch, other_homes, procs_of, with_numbers}
+use Rattle.sq_epochs.specs.HomeStates.{AreHomes, Home, home_in, home_number, is_of_epoch, other_homes, procs_of, with_number, with_numbers, without_home}
 use Rattle.sq_epochs.specs.LiveEpochs.{AreEpochs, checks_at, is_used, without_epoch}
 use Rattle.sq_epochs.specs.Reconfigured.{alike_in, begun_epoch, begun_part, emptied, kept_before, left_epoch, left_part, left_parts, with_begun, with_epoch}
 use Rattle.sq_epochs.proofs.BegunLaws.{begun_epochs, epoch_begun, left_epochs, none_past}
 use Rattle.sq_epochs.proofs.DropLaws.{dropped_epochs, in_without}
-use Rattle.sq_epochs.proofs.HomeLaws.{above_other, home_above, homes_dropped}
-use Rattle.sq_epochs.proofs.LiveLaws.{still_epochs, still_used}
-use Rattle.sq_epochs.proofs.ProcLaws.{still_homed}
+use Rattle.sq_epochs.proofs.HomeLaws.{above_other, home_above, home_below, homes_dropped, homes_less, homes_more}
+use Rattle.sq_epochs.proofs.LiveLaws.{same_epochs, still_epochs, still_used}
+use Rattle.sq_epochs.proofs.ProcLaws.{homed_less, homed_more, lives_with, lives_without, still_homed}
 
 equal : (a b : ℕ) → (a == b) ≡ true → a ≡ b
 equal a b e = grind (arith, e)
@@ -212,3 +214,75 @@ first_whole config xs g hs ss p q r s =
       homes = record { rise = tt; born = tt; stops_rise = tt; stops_born = tt; apart = λ k is. absurd cc };
       homed = λ e c k. by_epoch (e == 1) c k;
     }
+
+-- who has a home in a class lives there
+pub home_lives : (v : EpochsState) (k : ℕ) (p : Place) → AreHomed v → home_at v k ≡ Some p → lives_in k (part_at v p.epoch p.class) ≡ true
+home_lives v k p are is = are p.epoch p.class k ∙ ap (is_place p.epoch p.class) is ∙ both p.epoch p.class
+  where
+    both : (a b : ℕ) → (a == a && b == b) ≡ true
+    both a b = ap (λ z. z && b == b) (one a) ∙ one b
+      where
+        one : (a : ℕ) → (a == a) ≡ true
+        one a = grind arith
+
+-- where somebody lives there is a part
+pub lives_there : (k : ℕ) (o : Option PartState) → lives_in k o ≡ true → is_some o ≡ true
+lives_there k None is = absurd cc
+lives_there k (Some p) is = refl
+
+-- epochs are epochs still, where others than they changed
+pub epochs_with : (v w : EpochsState) → AreEpochs v → w.current ≡ v.current → w.epochs ≡ v.epochs → AreEpochs w
+epochs_with v w are current epochs = same_epochs v w are current (ap (map epoch_number) epochs) (ap (map (is_used v.current)) epochs)
+
+-- all is whole, where a process ended
+pub whole_ended : (v w : EpochsState) (cause : Cause) (k : ℕ) (due : Bool) → AreWhole v → AreEpochs w → IsEnded cause k due v w → AreWhole w
+whole_ended v w cause k due are live is = record {
+  live = live;
+  homes =
+      same_homes v.procs w.procs (without_home k v.homes) w.homes (if due then with_number k v.stops else v.stops) w.stops (ap (λ z. z.procs) is.changed.new_is) is.homes_are is.stops_are
+      (homes_less v.procs k v.homes v.stops due are.homes (ap is_some is.home_is));
+  homed =
+      homed_less v w k is.place.epoch is.place.class is.changed.before is.changed.after are.homed is.home_is is.changed.was (ap (λ z. z.epochs) is.changed.new_is) is.homes_are
+      (λ j. ap (λ z. lives j z.row.stock.procs) is.changed.change.value ∙ lives_without j k is.changed.before.row.stock.procs);
+}
+
+-- the next process has no home yet
+pub next_homeless : (v : EpochsState) → AreHomes v.procs v.homes v.stops → is_some (home_at v (suc v.procs)) ≡ false
+next_homeless v are = by_case (is_some (home_at v (suc v.procs))) refl
+  where
+    by_case : (b : Bool) → is_some (home_at v (suc v.procs)) ≡ b → b ≡ false
+    by_case true e = let l = home_below (suc v.procs) (suc v.procs) v.homes are.born e in absurd (omega arith)
+    by_case false e = refl
+
+-- and lives nowhere
+pub next_lifeless : (v : EpochsState) (e c : ℕ) → AreWhole v → lives_in (suc v.procs) (part_at v e c) ≡ false
+next_lifeless v e c are = are.homed e c (suc v.procs) ∙ by_case (home_at v (suc v.procs)) (next_homeless v are.homes)
+  where
+    by_case : (o : Option Place) → is_some o ≡ false → is_place e c o ≡ false
+    by_case None is = refl
+    by_case (Some p) is = absurd cc
+
+-- all is whole, where a process was started
+pub whole_started : (v w : EpochsState) (e c : ℕ) → AreWhole v → AreEpochs w → IsStarted e c v w → AreWhole w
+whole_started v w e c are live is = record {
+  live = live;
+  homes =
+      same_homes (suc v.procs) w.procs (v.homes ++ record { proc = suc v.procs; place = record { epoch = e; class = c } } ∷ []) w.homes v.stops w.stops is.procs_are is.homes_are (ap (λ z. z.stops) is.changed.new_is)
+      (homes_more v.procs (suc v.procs) v.homes v.stops (record { epoch = e; class = c }) refl are.homes);
+  homed =
+      homed_more v w (suc v.procs) e c is.changed.before is.changed.after are.homed (next_homeless v are.homes) is.changed.was (ap (λ z. z.epochs) is.changed.new_is) is.homes_are
+      (λ k. ap (λ z. lives k z.row.stock.procs) is.changed.change ∙ lives_with k (fresh is.changed.before.row.stock.concurrency (suc v.procs)) is.changed.before.row.stock.procs);
+}
+
+-- a class of which a start is open is there
+pub start_there : (v : EpochsState) (e c : ℕ) → has_start v e c ≡ true → is_some (part_at v e c) ≡ true
+start_there v e c is = by_case (part_at v e c) is
+  where
+    by_case : (o : Option PartState) → is_starting o ≡ true → is_some o ≡ true
+    by_case None is = absurd cc
+    by_case (Some p) is = refl
+
+-- the number that was given
+pub next_is : (b : Bool) (n m : ℕ) → Some n ≡ (if b then Some m else None) → n ≡ m
+next_is true n m e = cc
+next_is false n m e = absurd cc
