@@ -32,6 +32,16 @@ read_dropped {A = A} read e f v none = ap read (epoch_dropped e f v) ∙ by_test
     by_test true = none
     by_test false = refl
 
+-- so its part and its class at a place, and the row
+pub part_dropped : (e f c : ℕ) (v : EpochsState) → part_at (drop_epoch e v) f c ≡ (if e == f then None else part_at v f c)
+part_dropped e f c v = read_dropped (part_of c) e f v refl
+
+pub class_dropped : (e f c : ℕ) (v : EpochsState) → class_at (drop_epoch e v) f c ≡ (if e == f then None else class_at v f c)
+class_dropped e f c v = read_dropped (class_of c) e f v refl
+
+pub row_dropped : (e f c : ℕ) (v : EpochsState) → row_at (drop_epoch e v) f c ≡ (if e == f then None else row_at v f c)
+row_dropped e f c v = read_dropped (λ o. option_map (λ p. p.row) (part_of c o)) e f v refl
+
 -- and what is read of live epochs, by which live then
 pub read_there : {A : Type 0} (read : Option EpochState → Option A) (v : EpochsState) (f : ℕ) → read None ≡ None → read (epoch_at v f) ≡ (if is_some (epoch_at v f) then read (epoch_at v f) else None)
 read_there {A = A} read v f none = by_case (epoch_at v f)
