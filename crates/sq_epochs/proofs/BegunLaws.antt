@@ -13,11 +13,12 @@ use Rattle.sq_rules.specs.Configurations.{Configuration}
 use Rattle.sq_rules.specs.Rising.{AreAbove, AreBelow, Rises, place_among}
 use Rattle.sq_rows.specs.ClassRows.{ClassRow, new_row}
 use Rattle.sq_part.specs.Parts.{PartState}
-use Rattle.sq_epochs.specs.EpochStates.{EpochState, EpochsState, change_epoch, class_at, class_of, epoch_at, epoch_in, epoch_number, new_epoch, part_of, row_at}
+use Rattle.sq_epochs.specs.EpochStates.{EpochState, EpochsState, change_epoch, class_at, class_of, epoch_at, epoch_in, epoch_number, new_epoch, part_at, part_of, row_at}
 use Rattle.sq_epochs.specs.LiveEpochs.{AreEpochs, checks_at, has_checks, is_used, without_epoch}
 use Rattle.sq_epochs.specs.Reconfigured.{alike_in, begun_epoch, begun_part, emptied, kept_alike, kept_before, kept_in, left_epoch, left_part, left_parts, with_begun, with_epoch}
 use Rattle.sq_epochs.proofs.EpochLaws.{placed}
-use Rattle.sq_epochs.proofs.DropLaws.{above_without, below_without, in_without, rises_without}
+use Rattle.sq_epochs.proofs.DropLaws.{in_without}
+use Rattle.sq_epochs.proofs.RisingRows.{above_filter, above_push, below_filter, below_push, keys_push, rises_filter, rises_push}
 
 equal : (a b : ℕ) → (a == b) ≡ true → a ≡ b
 equal a b e = grind (arith, e)
@@ -114,37 +115,26 @@ epoch_begun config v f is =
     by_test true t = ap (λ o. option_or o (Some begun)) (none_before (equal f (suc v.current) t))
     by_test false t = no_more before
 
--- epochs with one more that is used and whose number is above each are epochs, where it is current
-above_end : (k n : ℕ) (xs : List EpochState) (y : EpochState) → y.epoch ≡ n → k < n → AreAbove k (map epoch_number xs) → AreAbove k (map epoch_number (xs ++ y ∷ []))
-above_end k n [] y e l a = (omega arith, tt)
-above_end k n (x ∷ xs) y e l a = (a.0, above_end k n xs y e l a.1)
+-- the numbers of the epochs, where one began
+begun_numbers : (config : Configuration) (v : EpochsState) → map epoch_number (with_begun v.current config v.epochs) ≡ map epoch_number v.epochs ++ suc v.current ∷ []
+begun_numbers config v =
+    keys_push epoch_number (change_epoch v.current (left_epoch config.classes) v.epochs) (begun_epoch (kept_before v.epochs v.current) (suc v.current) config)
+    ∙ ap (λ ns. ns ++ suc v.current ∷ []) (changed_numbers v.current (left_epoch config.classes) v.epochs (λ x. refl))
 
-below_end : (k n : ℕ) (xs : List EpochState) (y : EpochState) → y.epoch ≡ n → n < k → AreBelow n (map epoch_number xs) → AreBelow k (map epoch_number (xs ++ y ∷ []))
-below_end k n [] y e l b = (omega arith, tt)
-below_end k n (x ∷ xs) y e l b = (let low = b.0 in omega arith, below_end k n xs y e l b.1)
-
-rises_end : (n : ℕ) (xs : List EpochState) (y : EpochState) → y.epoch ≡ n → AreBelow n (map epoch_number xs) → Rises (map epoch_number xs) → Rises (map epoch_number (xs ++ y ∷ []))
-rises_end n [] y e b r = (tt, tt)
-rises_end n (x ∷ xs) y e b r = (above_end x.epoch n xs y e b.0 r.0, rises_end n xs y e b.1 r.1)
-
--- what is needed of epochs that begin one more, and of those that end the one before
 pub begun_rise : (config : Configuration) (v : EpochsState) → AreEpochs v → Rises (map epoch_number (with_begun v.current config v.epochs))
-begun_rise config v is =
-    let numbers = changed_numbers v.current (left_epoch config.classes) v.epochs (λ x. refl) in
-    rises_end (suc v.current) (change_epoch v.current (left_epoch config.classes) v.epochs) (begun_epoch (kept_before v.epochs v.current) (suc v.current) config) refl
-    (subst (AreBelow (suc v.current)) (sym numbers) is.born) (subst Rises (sym numbers) is.rise)
+begun_rise config v is = subst Rises (sym (begun_numbers config v)) (rises_push (map epoch_number v.epochs) (suc v.current) is.born is.rise)
 
 pub begun_numbered : (config : Configuration) (v : EpochsState) → AreEpochs v → AreAbove 0 (map epoch_number (with_begun v.current config v.epochs))
-begun_numbered config v is =
-    let numbers = changed_numbers v.current (left_epoch config.classes) v.epochs (λ x. refl) in
-    above_end 0 (suc v.current) (change_epoch v.current (left_epoch config.classes) v.epochs) (begun_epoch (kept_before v.epochs v.current) (suc v.current) config) refl (omega arith)
-    (subst (AreAbove 0) (sym numbers) is.numbered)
+begun_numbered config v is = subst (AreAbove 0) (sym (begun_numbers config v)) (above_push 0 (map epoch_number v.epochs) (suc v.current) (omega arith) is.numbered)
+
+below_next : (n : ℕ) (ns : List ℕ) → AreBelow n ns → AreBelow (suc n) ns
+below_next n [] b = tt
+below_next n (m ∷ ns) b = (let low = b.0 in omega arith, below_next n ns b.1)
 
 pub begun_born : (config : Configuration) (v : EpochsState) → AreEpochs v → AreBelow (suc (suc v.current)) (map epoch_number (with_begun v.current config v.epochs))
 begun_born config v is =
-    let numbers = changed_numbers v.current (left_epoch config.classes) v.epochs (λ x. refl) in
-    below_end (suc (suc v.current)) (suc v.current) (change_epoch v.current (left_epoch config.classes) v.epochs) (begun_epoch (kept_before v.epochs v.current) (suc v.current) config) refl (omega arith)
-    (subst (AreBelow (suc v.current)) (sym numbers) is.born)
+    subst (AreBelow (suc (suc v.current))) (sym (begun_numbers config v))
+    (below_push (suc (suc v.current)) (map epoch_number v.epochs) (suc v.current) (omega arith) (below_next (suc v.current) (map epoch_number v.epochs) is.born))
 
 pub begun_here : (config : Configuration) (v : EpochsState) → AreEpochs v → is_some (epoch_at (with_epoch config v) (suc v.current)) ≡ true
 begun_here config v is =
@@ -191,30 +181,70 @@ row_left begun (Some k) (Some p) = by_test (is_some (alike_in begun k))
     by_test true = refl
     by_test false = refl
 
--- the row of each class after an epoch began
+-- the part of each class after an epoch began
+pub part_begun : (config : Configuration) (v : EpochsState) (e c : ℕ) → AreEpochs v
+    → part_at (with_epoch config v) e c
+    ≡ (if e == suc v.current then option_map (begun_part (kept_before v.epochs v.current)) (slice_get config.classes c)
+    else (if e == v.current then left_at config.classes (class_at v e c) (part_at v e c) else part_at v e c))
+part_begun config v e c is = ap (part_of c) (epoch_begun config v e is) ∙ by_test (e == suc v.current) (e == v.current) (epoch_at v e)
+  where
+    left : (o : Option EpochState) → part_of c (option_map (left_epoch config.classes) o) ≡ left_at config.classes (class_of c o) (part_of c o)
+    left None = refl
+    left (Some x) = parts_left config.classes x.config.classes x.parts c
+
+    by_test : (b d : Bool) (o : Option EpochState)
+        → part_of c (if b then Some (begun_epoch (kept_before v.epochs v.current) (suc v.current) config) else (if d then option_map (left_epoch config.classes) o else o))
+        ≡ (if b then option_map (begun_part (kept_before v.epochs v.current)) (slice_get config.classes c) else (if d then left_at config.classes (class_of c o) (part_of c o) else part_of c o))
+    by_test true d o = slice_get-map (begun_part (kept_before v.epochs v.current)) config.classes c
+    by_test false true o = left o
+    by_test false false o = refl
+
+-- its row
 pub row_begun : (config : Configuration) (v : EpochsState) (e c : ℕ) → AreEpochs v
     → row_at (with_epoch config v) e c
     ≡ (if e == suc v.current then option_map (λ class. new_row (kept_before v.epochs v.current class) class) (slice_get config.classes c)
     else (if e == v.current then left_row_at config.classes (class_at v e c) (row_at v e c) else row_at v e c))
-row_begun config v e c is =
-    ap (λ o. option_map (λ p. p.row) (part_of c o)) (epoch_begun config v e is) ∙ by_test (e == suc v.current) (e == v.current) (epoch_at v e)
+row_begun config v e c is = ap (option_map (λ p. p.row)) (part_begun config v e c is) ∙ by_test (e == suc v.current) (e == v.current)
   where
-    begun : EpochState
-    begun = begun_epoch (kept_before v.epochs v.current) (suc v.current) config
-
     twice : (o : Option Class) → option_map (λ p. p.row) (option_map (begun_part (kept_before v.epochs v.current)) o) ≡ option_map (λ class. new_row (kept_before v.epochs v.current class) class) o
     twice None = refl
     twice (Some k) = refl
 
-    left : (o : Option EpochState) → option_map (λ p. p.row) (part_of c (option_map (left_epoch config.classes) o)) ≡ left_row_at config.classes (class_of c o) (option_map (λ p. p.row) (part_of c o))
+    by_test : (b d : Bool)
+        → option_map (λ p. p.row) (if b then option_map (begun_part (kept_before v.epochs v.current)) (slice_get config.classes c) else (if d then left_at config.classes (class_at v e c) (part_at v e c) else part_at v e c))
+        ≡ (if b then option_map (λ class. new_row (kept_before v.epochs v.current class) class) (slice_get config.classes c)
+        else (if d then left_row_at config.classes (class_at v e c) (option_map (λ p. p.row) (part_at v e c)) else option_map (λ p. p.row) (part_at v e c)))
+    by_test true d = twice (slice_get config.classes c)
+    by_test false true = row_left config.classes (class_at v e c) (part_at v e c)
+    by_test false false = refl
+
+-- the class at each place
+pub class_begun : (config : Configuration) (v : EpochsState) (e c : ℕ) → AreEpochs v → class_at (with_epoch config v) e c ≡ (if e == suc v.current then slice_get config.classes c else class_at v e c)
+class_begun config v e c is = ap (class_of c) (epoch_begun config v e is) ∙ by_test (e == suc v.current) (e == v.current) (epoch_at v e)
+  where
+    left : (o : Option EpochState) → class_of c (option_map (left_epoch config.classes) o) ≡ class_of c o
     left None = refl
-    left (Some x) = ap (option_map (λ p. p.row)) (parts_left config.classes x.config.classes x.parts c) ∙ row_left config.classes (slice_get x.config.classes c) (slice_get x.parts c)
+    left (Some x) = refl
 
     by_test : (b d : Bool) (o : Option EpochState)
-        → option_map (λ p. p.row) (part_of c (if b then Some begun else (if d then option_map (left_epoch config.classes) o else o)))
-        ≡ (if b then option_map (λ class. new_row (kept_before v.epochs v.current class) class) (slice_get config.classes c)
-        else (if d then left_row_at config.classes (class_of c o) (option_map (λ p. p.row) (part_of c o)) else option_map (λ p. p.row) (part_of c o)))
-    by_test true d o = ap (option_map (λ p. p.row)) (slice_get-map (begun_part (kept_before v.epochs v.current)) config.classes c) ∙ twice (slice_get config.classes c)
+        → class_of c (if b then Some (begun_epoch (kept_before v.epochs v.current) (suc v.current) config) else (if d then option_map (left_epoch config.classes) o else o)) ≡ (if b then slice_get config.classes c else class_of c o)
+    by_test true d o = refl
+    by_test false true o = left o
+    by_test false false o = refl
+
+-- the configuration of each epoch
+pub config_begun : (config : Configuration) (v : EpochsState) (e : ℕ) → AreEpochs v
+    → option_map (λ x. x.config) (epoch_at (with_epoch config v) e) ≡ (if e == suc v.current then Some config else option_map (λ x. x.config) (epoch_at v e))
+config_begun config v e is = ap (option_map (λ x. x.config)) (epoch_begun config v e is) ∙ by_test (e == suc v.current) (e == v.current) (epoch_at v e)
+  where
+    left : (o : Option EpochState) → option_map (λ x. x.config) (option_map (left_epoch config.classes) o) ≡ option_map (λ x. x.config) o
+    left None = refl
+    left (Some x) = refl
+
+    by_test : (b d : Bool) (o : Option EpochState)
+        → option_map (λ x. x.config) (if b then Some (begun_epoch (kept_before v.epochs v.current) (suc v.current) config) else (if d then option_map (left_epoch config.classes) o else o))
+        ≡ (if b then Some config else option_map (λ x. x.config) o)
+    by_test true d o = refl
     by_test false true o = left o
     by_test false false o = refl
 
@@ -254,31 +284,6 @@ checks_begun config v e is = ap (λ o. option_map_or (λ x. x.checks) o 0) (epoc
     by_test false true o = left o
     by_test false false o = refl
 
--- each epoch above the current one has an open check
-busy_above : (c : ℕ) (xs : List EpochState) → AreAbove c (map epoch_number xs) → list_all (is_used c) xs ≡ true → list_all has_checks xs ≡ true
-busy_above c [] a u = refl
-busy_above c (x ∷ xs) a u = joined (has_checks x) (list_all has_checks xs) here (busy_above c xs a.1 (rest (is_used c x) (list_all (is_used c) xs) u))
-  where
-    rest : (a b : Bool) → (a && b) ≡ true → b ≡ true
-    rest true b e = e
-    rest false b e = absurd cc
-
-    first : (a b : Bool) → (a && b) ≡ true → a ≡ true
-    first true b e = refl
-    first false b e = e
-
-    other : (c == x.epoch) ≡ false
-    other = before c x.epoch a.0
-      where
-        before : (a b : ℕ) → a < b → (a == b) ≡ false
-        before a b l = grind (arith, l)
-
-    here : has_checks x ≡ true
-    here = ap (λ z. z || has_checks x) (sym other) ∙ first (is_used c x) (list_all (is_used c) xs) u
-
-    joined : (a b : Bool) → a ≡ true → b ≡ true → (a && b) ≡ true
-    joined a b p q = cc
-
 rest_of : (a b : Bool) → (a && b) ≡ true → b ≡ true
 rest_of true b e = e
 rest_of false b e = absurd cc
@@ -289,6 +294,16 @@ first_of false b e = e
 
 both_are : (a b : Bool) → a ≡ true → b ≡ true → (a && b) ≡ true
 both_are a b p q = cc
+
+-- each epoch above the current one has an open check
+busy_above : (c : ℕ) (xs : List EpochState) → AreAbove c (map epoch_number xs) → list_all (is_used c) xs ≡ true → list_all has_checks xs ≡ true
+busy_above c [] a u = refl
+busy_above c (x ∷ xs) a u =
+    both_are (has_checks x) (list_all has_checks xs) (ap (λ z. z || has_checks x) (sym (other c x.epoch a.0)) ∙ first_of (is_used c x) (list_all (is_used c) xs) u)
+    (busy_above c xs a.1 (rest_of (is_used c x) (list_all (is_used c) xs) u))
+  where
+    other : (a b : ℕ) → a < b → (a == b) ≡ false
+    other a b l = grind (arith, l)
 
 -- all have an open check, where the current one has one
 busy_changed : (c : ℕ) (g : EpochState → EpochState) (xs : List EpochState) → ((x : EpochState) → (g x).checks ≡ x.checks) → Rises (map epoch_number xs) → list_all (is_used c) xs ≡ true
@@ -366,10 +381,10 @@ begun_without config v =
 -- the same, where the one that was current ended
 pub left_epochs : (config : Configuration) (v w : EpochsState) → AreEpochs v → w.current ≡ suc v.current → w.epochs ≡ without_epoch v.current (with_begun v.current config v.epochs) → AreEpochs w
 left_epochs config v w is current epochs = record {
-  rise = subst (λ z. Rises (map epoch_number z)) (sym epochs) (rises_without v.current (with_begun v.current config v.epochs) (begun_rise config v is));
-  numbered = subst (λ z. AreAbove 0 (map epoch_number z)) (sym epochs) (above_without v.current 0 (with_begun v.current config v.epochs) (begun_numbered config v is));
+  rise = subst (λ z. Rises (map epoch_number z)) (sym epochs) (rises_filter epoch_number (λ x. not (v.current == x.epoch)) (with_begun v.current config v.epochs) (begun_rise config v is));
+  numbered = subst (λ z. AreAbove 0 (map epoch_number z)) (sym epochs) (above_filter epoch_number (λ x. not (v.current == x.epoch)) 0 (with_begun v.current config v.epochs) (begun_numbered config v is));
   born = subst (λ c. AreBelow (suc c) (map epoch_number w.epochs)) (sym current)
-      (subst (λ z. AreBelow (suc (suc v.current)) (map epoch_number z)) (sym epochs) (below_without v.current (suc (suc v.current)) (with_begun v.current config v.epochs) (begun_born config v is)));
+      (subst (λ z. AreBelow (suc (suc v.current)) (map epoch_number z)) (sym epochs) (below_filter epoch_number (λ x. not (v.current == x.epoch)) (suc (suc v.current)) (with_begun v.current config v.epochs) (begun_born config v is)));
   here =
       ap (λ c. is_some (epoch_in c w.epochs)) current ∙ ap (λ z. is_some (epoch_in (suc v.current) z)) epochs
       ∙ ap is_some (in_without v.current (suc v.current) (with_begun v.current config v.epochs) ∙ if_false (v.current == suc v.current) None (epoch_at (with_epoch config v) (suc v.current)) (before v.current))

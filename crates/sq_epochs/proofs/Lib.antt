@@ -5,11 +5,14 @@ mod PartLaws
 mod FindLaws
 pub mod HomeLaws
 mod OutcomeLaws
-mod HomedLaws
-mod ProcLaws
-mod LiveLaws
+mod RisingRows
+pub mod LiveLaws
 mod AlikeLaws
 mod InheritLaws
 mod DropLaws
-mod NumberLaws
-mod BegunLaws
+pub mod NumberLaws
+pub mod BegunLaws
+pub mod EndLaws
+pub mod OverLaws
+pub mod HomedLaws
+mod ProcLaws
