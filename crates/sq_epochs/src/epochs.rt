@@ -31,24 +31,23 @@ use std::sync::Arc;
 /// processes and the due stops.
 #[derive(Drop)]
 pub struct Epochs {
-    current: EpochNo,
-    epochs: Vec<Epoch>,
-    homes: Homes,
+    pub(crate) current: EpochNo,
+    pub(crate) epochs: Vec<Epoch>,
+    pub(crate) homes: Homes,
 }
 
 impl Model for Epochs {
-    ghost use Rattle.std.specs.Prelude.{map};
-    ghost use Rattle.sq_epochs.specs.EpochStates.{EpochsState, epoch_number};
-    ghost use Rattle.sq_rules.specs.Rising.{Rises};
+    ghost use Rattle.sq_epochs.specs.EpochStates.{EpochsState};
+    ghost use Rattle.sq_epochs.specs.EpochProcs.{AreWhole};
 
     ghost Value = { EpochsState };
 
     ghost view = { λ v. record { current = v.current; epochs = v.epochs.items; procs = v.homes.given; homes = v.homes.homes; stops = v.homes.stops } };
 
-    ghost invariant = { λ v. Rises (map epoch_number v.epochs.items) };
+    ghost invariant = { λ v. AreWhole (record { current = v.current; epochs = v.epochs.items; procs = v.homes.given; homes = v.homes.homes; stops = v.homes.stops }) };
 }
 
-fn place_of(epochs: &[Epoch], number: EpochNo) -> usize
+pub(crate) fn place_of(epochs: &[Epoch], number: EpochNo) -> usize
     requires { Rises (map epoch_number epochs.now) }
     ensures place { result ≡ place_among number (map epoch_number epochs.now) }
     ensures bound { result ≤ length epochs.now }
@@ -100,7 +99,7 @@ impl Epochs {
     }
 
     // The live epoch with this number.
-    fn epoch(&self, epoch: EpochNo) -> Option<&Epoch>
+    pub(crate) fn epoch(&self, epoch: EpochNo) -> Option<&Epoch>
         ensures { option_map (λ x. x.now) result ≡ epoch_at self.now epoch }
     {
         let place = place_of(&self.epochs, epoch);
@@ -120,7 +119,9 @@ impl Epochs {
 
     /// The class at a place of a live epoch, lent.
     pub fn class(&self, epoch: EpochNo, class: u32) -> Option<&Class>
-        ensures { option_map (λ c. c.now) result ≡ class_at self.now epoch class }
+        ensures class { option_map (λ c. c.now) result ≡ class_at self.now epoch class }
+        // It is there where its part is.
+        ensures there { is_some (class_at self.now epoch class) ≡ is_some (part_at self.now epoch class) }
     {
         let live = self.epoch(epoch)?;
         live.class(class)

@@ -5,8 +5,15 @@
 //! says (`IsChanged`), and nothing else. No call here knows of a history.
 #![tactic(auto)]
 
+mod acts;
 mod epoch;
 mod epochs;
+mod faults;
 mod homes;
+mod lives;
+mod procs;
+mod stops;
 
+pub use acts::Act;
 pub use epochs::Epochs;
+pub use faults::StartedFault;
