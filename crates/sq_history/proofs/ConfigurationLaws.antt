@@ -92,7 +92,8 @@ known_at n place (x ∷ acls) zero a k known at is =
 known_at n place (x ∷ acls) (suc i) a k known at is =
     known_at n (suc place) acls i a k (and_parts (is_known_body n place x.body) (are_known_bodies n (suc place) acls) known).1 at is
 
-get_some : {A : Type 0} (xs : List A) (i : ℕ) → nat_lt i (length xs) ≡ true → (x : A) × (slice_get xs i ≡ Some x)
+-- a place below the length of a list has something
+pub get_some : {A : Type 0} (xs : List A) (i : ℕ) → nat_lt i (length xs) ≡ true → (x : A) × (slice_get xs i ≡ Some x)
 get_some [] i l = absurd (none i l)
   where
     none : (i : ℕ) → nat_lt i 0 ≡ true → ⊥

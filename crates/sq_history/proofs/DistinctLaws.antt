@@ -34,7 +34,8 @@ use Rattle.sq_history.specs.Waits.{IsNeeded, NeedsPut}
 use Rattle.sq_history.proofs.ClassParts.{bytes_same, equal}
 use Rattle.sq_history.proofs.LegalLaws.{legal_induction}
 use Rattle.sq_history.proofs.NeedLaws.{value_needs}
-use Rattle.sq_history.proofs.WaitLaws.{SaysOf, WaitsNeeded, needs_first, needs_next, step_is}
+use Rattle.sq_history.proofs.RuleLaws.{SaysOf, step_is}
+use Rattle.sq_history.proofs.WaitLaws.{WaitsNeeded, needs_first, needs_next}
 
 or_none : (b : Bool) → (b || false) ≡ b
 or_none true = refl
@@ -44,7 +45,8 @@ or_grouped : (a b c : Bool) → (a || (b || c)) ≡ ((a || b) || c)
 or_grouped true b c = refl
 or_grouped false b c = refl
 
-has_last : (xs : List Answer) (a : Answer) (class : ℕ) (key : List ℕ) → has_answer (xs ++ a ∷ []) class key ≡ (has_answer xs class key || (a.class == class && bytes_eq a.key key))
+-- an answer is among some with one more where it was among them or is that one
+pub has_last : (xs : List Answer) (a : Answer) (class : ℕ) (key : List ℕ) → has_answer (xs ++ a ∷ []) class key ≡ (has_answer xs class key || (a.class == class && bytes_eq a.key key))
 has_last [] a class key = or_none (a.class == class && bytes_eq a.key key)
 has_last (b ∷ xs) a class key =
     ap (λ (t : Bool). (b.class == class && bytes_eq b.key key) || t) (has_last xs a class key)
@@ -112,81 +114,89 @@ takes_need class p now k o f count = by (nat_lt key_limit (length p.key))
     by true = takes_some p (record { class = p.class; key = p.key; what = what.Fault cause.KeyTooLong; question = None; date = now; taken = now }) refl refl
     by false = of_fresh (fresh_for class p.key now k)
 
--- an answer that a check gets is of a class and key that had none
-record GetsNew (configs : List Configuration) (m : Past) (n : ℕ) (o : Option Answer) : Type 0 where
-  fresh : (a : Answer) → o ≡ Some a → has_answer (answers configs m n) a.class a.key ≡ false
+-- an answer of the class and key that check n needs
+pub record MeetsNeed (configs : List Configuration) (m : Past) (n : ℕ) (a : Answer) : Type 0 where
+  pub needed : IsNeeded configs m n
+  pub class_is : a.class ≡ needed.place
+  pub key_is : a.key ≡ needed.key
 
-gets_none : (configs : List Configuration) (m : Past) (n : ℕ) → GetsNew configs m n None
-gets_none configs m n = record { fresh = λ a e. absurd (none-some a e) }
+-- an answer that a check gets is one that it needs
+pub record GetsNeeded (configs : List Configuration) (m : Past) (n : ℕ) (o : Option Answer) : Type 0 where
+  pub gets : (a : Answer) → o ≡ Some a → MeetsNeed configs m n a
 
-gets_it : (configs : List Configuration) (m : Past) (n : ℕ) (d : IsNeeded configs m n) (a : Answer) → a.class ≡ d.place → a.key ≡ d.key → has_answer (answers configs m n) a.class a.key ≡ false
-gets_it configs m n d a class key = ap₂ (has_answer (answers configs m n)) class key ∙ needed_unanswered configs m n d
+gets_none : (configs : List Configuration) (m : Past) (n : ℕ) → GetsNeeded configs m n None
+gets_none configs m n = record { gets = λ a e. absurd (none-some a e) }
 
-took_new : (configs : List Configuration) (m : Past) (n now : ℕ) → GetsNew configs m n (step_says configs m n now).took
-took_new configs m n now = record { fresh = λ a e. by (step_is configs m n now) a e }
+took_needed : (configs : List Configuration) (m : Past) (n now : ℕ) → GetsNeeded configs m n (step_says configs m n now).took
+took_needed configs m n now = record { gets = λ a e. by (step_is configs m n now) a e }
   where
-    by : SaysOf configs m n now (step_says configs m n now) → (a : Answer) → (step_says configs m n now).took ≡ Some a → has_answer (answers configs m n) a.class a.key ≡ false
+    by : SaysOf configs m n now (step_says configs m n now) → (a : Answer) → (step_says configs m n now).took ≡ Some a → MeetsNeed configs m n a
     by (inl done) a e = absurd (none-some a (sym (ap (λ (s : StepSays). s.took) done) ∙ e))
     by (inr r) a e =
         let t = (takes_need r.needed.class (record { epoch = r.needed.asked.epoch; class = r.needed.place; key = r.needed.key }) now
         (kept configs m r.needed.asked.epoch r.needed.place) (pending configs m r.needed.asked.epoch r.needed.place r.needed.key)
         (full (farm_with configs m r.needed.asked.epoch r.needed.place r.needed.class)) (put_count m)).takes a (sym (ap (λ (s : StepSays). s.took) r.is) ∙ e) in
-        gets_it configs m n r.needed a t.0 t.1
+        record { needed = r.needed; class_is = t.0; key_is = t.1 }
 
-ended_new : (configs : List Configuration) (m : Past) (n date : ℕ) (event : Event) (answer : Told) → WaitsNeeded configs m → (o : Option ℕ) → waits_for configs m n ≡ o
-    → GetsNew configs m n (ended_answer configs m o date event answer)
-ended_new configs m n date event answer w None waits = gets_none configs m n
-ended_new configs m n date event answer w (Some q) waits = by (put_of m q) refl (end_at configs m q event answer)
+ended_needed : (configs : List Configuration) (m : Past) (n date : ℕ) (event : Event) (answer : Told) → WaitsNeeded configs m → (o : Option ℕ) → waits_for configs m n ≡ o
+    → GetsNeeded configs m n (ended_answer configs m o date event answer)
+ended_needed configs m n date event answer w None waits = gets_none configs m n
+ended_needed configs m n date event answer w (Some q) waits = by (put_of m q) refl (end_at configs m q event answer)
   where
     s : NeedsPut configs m n q
     s = w.needs n q waits
 
-    by : (p : Option Put) → put_of m q ≡ p → (v : Option What) → GetsNew configs m n (answer_by date q p v)
+    by : (p : Option Put) → put_of m q ≡ p → (v : Option What) → GetsNeeded configs m n (answer_by date q p v)
     by None put v = gets_none configs m n
     by (Some p) put None = gets_none configs m n
     by (Some p) put (Some v) = record {
-      fresh = λ a e.
+      gets = λ a e.
           let same = same_Some _ _ e in
           let t : ((((p.epoch == s.needed.asked.epoch) && (p.class == s.needed.place)) && bytes_eq p.key s.needed.key) ≡ true) =
           ap (put_is s.needed.asked.epoch s.needed.place s.needed.key) (sym put) ∙ s.put_is_it in
           let parts = and_parts ((p.epoch == s.needed.asked.epoch) && (p.class == s.needed.place)) (bytes_eq p.key s.needed.key) t in
-          gets_it configs m n s.needed a
-          (ap (λ (z : Answer). z.class) (sym same) ∙ equal p.class s.needed.place (and_parts (p.epoch == s.needed.asked.epoch) (p.class == s.needed.place) parts.0).1)
-          (ap (λ (z : Answer). z.key) (sym same) ∙ bytes_same p.key s.needed.key parts.1);
+          record {
+            needed = s.needed;
+            class_is = ap (λ (z : Answer). z.class) (sym same) ∙ equal p.class s.needed.place (and_parts (p.epoch == s.needed.asked.epoch) (p.class == s.needed.place) parts.0).1;
+            key_is = ap (λ (z : Answer). z.key) (sym same) ∙ bytes_same p.key s.needed.key parts.1;
+          };
     }
 
-stepped_new : (configs : List Configuration) (m : Past) (now : ℕ) (event : Event) (answer : Told) (n : ℕ) → steps m n event ≡ true
-    → GetsNew configs m n (mark configs m (record { moment = now; event = event; answer = answer })).took
-stepped_new configs m now (Step k) answer n here =
-    record { fresh = λ a e. (took_new configs m n now).fresh a (ap (λ (i : ℕ). (step_says configs m i now).took) (equal n k (and_parts (n == k) (nat_le n (ask_count (entries m))) here).0) ∙ e) }
-stepped_new configs m now event answer n here = gets_none configs m n
+stepped_needed : (configs : List Configuration) (m : Past) (now : ℕ) (event : Event) (answer : Told) (n : ℕ) → steps m n event ≡ true
+    → GetsNeeded configs m n (mark configs m (record { moment = now; event = event; answer = answer })).took
+stepped_needed configs m now (Step k) answer n here =
+    record { gets = λ a e. (took_needed configs m n now).gets a (ap (λ (i : ℕ). (step_says configs m i now).took) (equal n k (and_parts (n == k) (nat_le n (ask_count (entries m))) here).0) ∙ e) }
+stepped_needed configs m now event answer n here = gets_none configs m n
 
-gets_new : (configs : List Configuration) (m : Past) (now : ℕ) (event : Event) (answer : Told) (n : ℕ) → WaitsNeeded configs m
-    → GetsNew configs m n (answer_at configs m n (mark configs m (record { moment = now; event = event; answer = answer })))
-gets_new configs m now event answer n w = by (steps m n event) refl
+-- what an entry gives a check is an answer that it needs
+pub gets_needed : (configs : List Configuration) (m : Past) (now : ℕ) (event : Event) (answer : Told) (n : ℕ) → WaitsNeeded configs m
+    → GetsNeeded configs m n (answer_at configs m n (mark configs m (record { moment = now; event = event; answer = answer })))
+gets_needed configs m now event answer n w = by (steps m n event) refl
   where
     x : Marked
     x = mark configs m (record { moment = now; event = event; answer = answer })
 
-    by : (b : Bool) → steps m n event ≡ b → GetsNew configs m n (if b then x.took else ended_answer configs m (waits_for configs m n) now event answer)
-    by true here = stepped_new configs m now event answer n here
-    by false other = ended_new configs m n now event answer w (waits_for configs m n) refl
+    by : (b : Bool) → steps m n event ≡ b → GetsNeeded configs m n (if b then x.took else ended_answer configs m (waits_for configs m n) now event answer)
+    by true here = stepped_needed configs m now event answer n here
+    by false other = ended_needed configs m n now event answer w (waits_for configs m n) refl
 
 -- no two answers of a check have one class and key
 pub record AnswersDistinct (configs : List Configuration) (m : Past) : Type 0 where
   pub waits : WaitsNeeded configs m
   pub distinct : (n : ℕ) → are_distinct (answers configs m n) ≡ true
 
-distinct_more : (configs : List Configuration) (m : Past) (n : ℕ) (o : Option Answer) → are_distinct (answers configs m n) ≡ true → GetsNew configs m n o
+distinct_more : (configs : List Configuration) (m : Past) (n : ℕ) (o : Option Answer) → are_distinct (answers configs m n) ≡ true → GetsNeeded configs m n o
     → are_distinct (answers configs m n ++ option_to_list o) ≡ true
 distinct_more configs m n None d g = ap are_distinct (append-nil (answers configs m n)) ∙ d
-distinct_more configs m n (Some a) d g = distinct_last (answers configs m n) a d (g.fresh a refl)
+distinct_more configs m n (Some a) d g =
+    let t = g.gets a refl in
+    distinct_last (answers configs m n) a d (ap₂ (has_answer (answers configs m n)) t.class_is t.key_is ∙ needed_unanswered configs m n t.needed)
 
 distinct_next : (configs : List Configuration) (m : Past) (now : ℕ) (event : Event) (answer : Told) → NamesOnce configs → full_next_at configs m now event ≡ gives answer → Carried configs m
     → AnswersDistinct configs m → AnswersDistinct configs (mark configs m (record { moment = now; event = event; answer = answer }) ∷ m)
 distinct_next configs m now event answer once is c d = record {
   waits = needs_next configs m now event answer once is c d.waits;
-  distinct = λ n. distinct_more configs m n (answer_at configs m n (mark configs m (record { moment = now; event = event; answer = answer }))) (d.distinct n) (gets_new configs m now event answer n d.waits);
+  distinct = λ n. distinct_more configs m n (answer_at configs m n (mark configs m (record { moment = now; event = event; answer = answer }))) (d.distinct n) (gets_needed configs m now event answer n d.waits);
 }
 
 distinct_first : (configs : List Configuration) (now : ℕ) (event : Event) (answer : Told) → is_begin event ≡ true → AnswersDistinct configs (mark configs [] (record { moment = now; event = event; answer = answer }) ∷ [])

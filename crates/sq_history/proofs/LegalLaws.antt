@@ -186,8 +186,8 @@ one_class configs m k e c f d class other once at there mine his = by (home_of (
 home_of_run : (m : Past) (e : ℕ) (name : List ℕ) (k : ℕ) → runs_at (entries m) e name k ≡ true → is_at_home (entries m) e name k ≡ true
 home_of_run m e name k runs = (and_parts (is_at_home (entries m) e name k) (is_running (entries m) k) runs).0
 
--- an epoch that lives has begun
-asked_epoch : (h : History) (n : ℕ) (a : Asked) → ask_of h n ≡ Some a → a.epoch ≤ current h
+-- the epoch of a check has begun
+pub asked_epoch : (h : History) (n : ℕ) (a : Asked) → ask_of h n ≡ Some a → a.epoch ≤ current h
 unfolding ask_of
 asked_epoch [] n a e = absurd (none-some a e)
 asked_epoch (x ∷ h) n a e = by (numbered n (ask_count h) (asking x.event)) (asked_epoch h n a) e

@@ -27,8 +27,12 @@ pub mod GivenLaws
 pub mod SoundLaws
 pub mod NeedLaws
 pub mod StayLaws
+pub mod RuleLaws
 pub mod WaitLaws
 pub mod DistinctLaws
 pub mod ConfigurationLaws
 pub mod AloneLaws
 pub mod StopLaws
+pub mod WalkLaws
+pub mod WalkedLaws
+pub mod FaithfulLaws

@@ -5,7 +5,7 @@ use Rattle.std.proofs.lemmas.Bool.{le-leb}
 use Rattle.std.proofs.lemmas.Option.{none-some, same_Some}
 use Rattle.sq_base.specs.declared.helpers.Cause.TheVariants as cause
 use Rattle.sq_rules.specs.declared.entries.Event.{Event}
-use Rattle.sq_rules.specs.declared.entries.Event.TheVariants.{Begin, Act}
+use Rattle.sq_rules.specs.declared.entries.Event.TheVariants.{Act, Begin, Step}
 use Rattle.sq_rules.specs.declared.entries.Told.{Told}
 use Rattle.sq_rules.specs.declared.entries.Told.TheVariants as told
 use Rattle.sq_rules.specs.declared.kept.KeptVerdict.{KeptVerdict}
@@ -17,16 +17,22 @@ use Rattle.sq_rules.specs.FullNext.{FullLegal, full_next_at}
 use Rattle.sq_rules.specs.KeptLists.{KeptList, fresh_for}
 use Rattle.sq_rules.specs.Limits.{key_limit}
 use Rattle.sq_rules.specs.Machine.{gives, is_begin}
-use Rattle.sq_rules.specs.Marking.{mark, marked}
+use Rattle.sq_rules.specs.Marking.{mark, marked, says_at}
 use Rattle.sq_rules.specs.Marks.{Marked, Past, Put}
 use Rattle.sq_rules.specs.Processes.{if_here}
-use Rattle.sq_rules.specs.Questions.{has_ended, put_count, put_is, put_of, sends, sent_to}
-use Rattle.sq_rules.specs.StepRule.{StepSays, refresh, says_asked, says_fault, says_fresh, says_kept, says_need}
+use Rattle.sq_rules.specs.Questions.{has_ended, pending, put_count, put_is, put_of, sends, sent_to}
+use Rattle.sq_rules.specs.StepRule.{StepSays, refresh, says_asked, says_fault, says_fresh, says_kept, says_need, step_says}
 use Rattle.sq_history.specs.Carried.{Carried, NamesOnce}
 use Rattle.sq_history.specs.Given.{sends_question, times_sent}
 use Rattle.sq_history.proofs.ClassParts.{equal}
 use Rattle.sq_history.proofs.LegalLaws.{IsDueSend, legal_induction, next_acts, next_send}
-use Rattle.sq_history.proofs.PendingLaws.{one_open}
+use Rattle.sq_history.proofs.PendingLaws.{one_open, puts_need}
+use Rattle.sq_rules.specs.FarmReadings.{farm_with}
+use Rattle.sq_rules.specs.Farms.{full}
+use Rattle.sq_rules.specs.KeptReadings.{kept}
+use Rattle.sq_history.specs.Faithful.{IsPutSo, PutSo}
+use Rattle.sq_history.specs.Waits.{IsNeeded}
+use Rattle.sq_history.proofs.RuleLaws.{SaysOf, need_says, step_is}
 
 -- two questions of one epoch, class and key that have not ended are one
 pub one_question : (configs : List Configuration) (h : History) (e c : ℕ) (key : List ℕ) (q r : ℕ) → q ≤ put_count (marked configs h) → r ≤ put_count (marked configs h)
@@ -101,3 +107,66 @@ puts_needed class p now k o f count = by (nat_lt key_limit (length p.key))
     by : (b : Bool) → PutsNeeded class now (fresh_for class p.key now k) (if b then says_fault class.name p cause.KeyTooLong now else says_fresh class p now (fresh_for class p.key now k) o f count)
     by true = record { needed = λ q e. absurd (none-some q e) }
     by false = needed_fresh class p now (fresh_for class p.key now k) o f count
+
+-- the rule puts a question where the key is not too long and there is room
+record PutsWithin (p : Put) (f : Bool) (s : StepSays) : Type 0 where
+  short : (q : Put) → s.put ≡ Some q → nat_lt key_limit (length p.key) ≡ false
+  room : (q : Put) → s.put ≡ Some q → f ≡ false
+
+within_none : (p : Put) (f : Bool) (s : StepSays) → s.put ≡ None → PutsWithin p f s
+within_none p f s e = record { short = λ q is. absurd (none-some q (sym e ∙ is)); room = λ q is. absurd (none-some q (sym e ∙ is)) }
+
+puts_within : (class : Class) (p : Put) (now : ℕ) (k : KeptList) (o : Option ℕ) (f : Bool) (count : ℕ) → PutsWithin p f (says_need class p now k o f count)
+puts_within class p now k o f count = by (nat_lt key_limit (length p.key)) refl
+  where
+    of_asked : nat_lt key_limit (length p.key) ≡ false → (o : Option ℕ) (f : Bool) → PutsWithin p f (says_asked class.name p now o f count)
+    of_asked short (Some q) f = within_none p f (says_asked class.name p now (Some q) f count) refl
+    of_asked short None true = within_none p true (says_asked class.name p now None true count) refl
+    of_asked short None false = record { short = λ q is. short; room = λ q is. refl }
+
+    of_kept : nat_lt key_limit (length p.key) ≡ false → (v : KeptVerdict) (due : Bool) (o : Option ℕ) (f : Bool) → PutsWithin p f (says_kept class.name p v now (refresh due o f p))
+    of_kept short v true None false = record { short = λ q is. short; room = λ q is. refl }
+    of_kept short v true None true = within_none p true (says_kept class.name p v now None) refl
+    of_kept short v true (Some q) f = within_none p f (says_kept class.name p v now None) refl
+    of_kept short v false o f = within_none p f (says_kept class.name p v now None) refl
+
+    of_fresh : nat_lt key_limit (length p.key) ≡ false → (v : Option KeptVerdict) → PutsWithin p f (says_fresh class p now v o f count)
+    of_fresh short None = of_asked short o f
+    of_fresh short (Some v) = of_kept short v (is_due class v now) o f
+
+    by : (b : Bool) → nat_lt key_limit (length p.key) ≡ b
+        → PutsWithin p f (if b then says_fault class.name p cause.KeyTooLong now else says_fresh class p now (fresh_for class p.key now k) o f count)
+    by true long = within_none p f (says_fault class.name p cause.KeyTooLong now) refl
+    by false short = of_fresh short (fresh_for class p.key now k)
+
+put_for_need : (configs : List Configuration) (m : Past) (n now : ℕ) (p : Put) (d : IsNeeded configs m n) → (need_says configs m n now d).put ≡ Some p → IsPutSo configs m now (Step n) p
+put_for_need configs m n now p d is =
+    let it : Put = record { epoch = d.asked.epoch; class = d.place; key = d.key } in
+    let k : KeptList = kept configs m d.asked.epoch d.place in
+    let o : Option ℕ = pending configs m d.asked.epoch d.place d.key in
+    let f : Bool = full (farm_with configs m d.asked.epoch d.place d.class) in
+    let fresh = (puts_need d.class it now k o f (put_count m)).fresh p is in
+    let within = puts_within d.class it now k o f (put_count m) in
+    record {
+      check = n;
+      event_is = refl;
+      needed = d;
+      put_is_it = fresh.0;
+      short = within.short p is;
+      stale_or_due = (puts_needed d.class it now k o f (put_count m)).needed p is;
+      none_pending = fresh.1;
+      room = within.room p is;
+    }
+
+put_at_step : (configs : List Configuration) (m : Past) (n now : ℕ) (p : Put) → (step_says configs m n now).put ≡ Some p → IsPutSo configs m now (Step n) p
+put_at_step configs m n now p is = by (step_is configs m n now)
+  where
+    by : SaysOf configs m n now (step_says configs m n now) → IsPutSo configs m now (Step n) p
+    by (inl done) = absurd (none-some p (sym (ap (λ (s : StepSays). s.put) done) ∙ is))
+    by (inr r) = put_for_need configs m n now p r.needed (sym (ap (λ (s : StepSays). s.put) r.is) ∙ is)
+
+-- each question of a history is put at a step of a check that needs its key, where no verdict of it is fresh or a refresh is due, none is pending, and there is room
+pub put_so : (configs : List Configuration) (m : Past) (now : ℕ) (event : Event) (o : Option Put) → (says_at configs m now event).put ≡ o → PutSo configs m now event o
+put_so configs m now event None is = tt
+put_so configs m now (Step n) (Some p) is = put_at_step configs m n now p is
+put_so configs m now event (Some p) is = absurd (none-some p is)

@@ -1,6 +1,6 @@
 -- A check that waits for a question needs the key that the question was put for, and nothing fresh is kept of it: a step of it says to wait for that question, puts nothing and takes nothing.
 use Rattle.std.proofs.Common.{◌≡◌, ◌⊎◌, inl, inr, ℕ, suc, ◌≤◌, ◌-◌, ◌*◌, List, [], ◌∷◌, ◌++◌, append-nil, Bool, true, false, ◌&&◌, ◌==◌, nat_le, nat_lt, length, if◌then◌else◌, Option, Some, None, option_to_list, refl, sym, ap, ap₂, subst, ◌∙◌, arith}
-use Rattle.std.specs.Option.{option_and_then, option_map_or, option_or}
+use Rattle.std.specs.Option.{option_map_or, option_or}
 use Rattle.std.proofs.lemmas.Bool.{and_parts}
 use Rattle.std.proofs.lemmas.Bool.Decides.{nat_tests}
 use Rattle.std.proofs.lemmas.Option.{none-some, same_Some}
@@ -12,14 +12,11 @@ use Rattle.sq_rules.specs.declared.entries.Event.TheVariants.{Begin, Step}
 use Rattle.sq_rules.specs.declared.entries.Told.{Told}
 use Rattle.sq_rules.specs.declared.entries.Told.TheVariants as told
 use Rattle.sq_rules.specs.declared.kept.KeptVerdict.{KeptVerdict}
-use Rattle.sq_rules.specs.declared.values.Value.{Value}
-use Rattle.sq_rules.specs.declared.values.Value.TheVariants as value
 use Rattle.sq_rules.specs.AnswerReadings.{answer_by, answers, ended_answer, last_wait, steps, waits_for, waits_told}
-use Rattle.sq_rules.specs.Checks.{Asked, ask_count, ask_of, numbered}
+use Rattle.sq_rules.specs.Checks.{ask_count, ask_of, numbered}
 use Rattle.sq_rules.specs.Classes.{Class}
 use Rattle.sq_rules.specs.Configurations.{Configuration}
 use Rattle.sq_rules.specs.Entries.{History}
-use Rattle.sq_rules.specs.Epochs.{class_at}
 use Rattle.sq_rules.specs.Events.{Asking, asking}
 use Rattle.sq_rules.specs.FarmReadings.{farm_with}
 use Rattle.sq_rules.specs.Farms.{full}
@@ -28,12 +25,12 @@ use Rattle.sq_rules.specs.FullNext.{FullLegal, full_next_at}
 use Rattle.sq_rules.specs.KeptLists.{fresh_for, if_fresh, verdict_of}
 use Rattle.sq_rules.specs.KeptReadings.{after_took, kept}
 use Rattle.sq_rules.specs.Limits.{key_limit}
-use Rattle.sq_rules.specs.Machine.{config_of, gives, is_begin}
+use Rattle.sq_rules.specs.Machine.{gives, is_begin}
 use Rattle.sq_rules.specs.Marking.{mark, marked, says_at}
 use Rattle.sq_rules.specs.Marks.{Marked, Past, Put, entries}
 use Rattle.sq_rules.specs.Questions.{end_at, has_ended, last_put, pending, put_count, put_is, put_of, unended}
 use Rattle.sq_rules.specs.Readings.{latest}
-use Rattle.sq_rules.specs.StepRule.{StepSays, class_of_acl, says_asked, says_asked_of, says_at_place, says_done, says_fault, says_fresh, says_need, says_of_class, says_value, step_says, value_over}
+use Rattle.sq_rules.specs.StepRule.{StepSays, says_asked, says_asked_of, says_at_place, says_fault, says_fresh, says_of_class, says_value, step_says, value_over}
 use Rattle.sq_rules.proofs.CheckLaws.{ask_of_kept}
 use Rattle.sq_history.specs.Carried.{Carried, NamesOnce}
 use Rattle.sq_history.specs.Waits.{IsNeeded, NeedsPut, NoneLater}
@@ -42,50 +39,9 @@ use Rattle.sq_history.proofs.ClassParts.{bytes_itself, equal, itself}
 use Rattle.sq_history.proofs.LegalLaws.{legal_induction, next_steps}
 use Rattle.sq_history.proofs.NumberLaws.{last_wait_above}
 use Rattle.sq_history.proofs.PendingLaws.{OneOpen, last_put_is, mark_new, one_more}
+use Rattle.sq_history.proofs.RuleLaws.{SaysOf, need_says, step_is}
 use Rattle.sq_history.proofs.SoundLaws.{new_number, still_put}
 use Rattle.sq_history.proofs.StayLaws.{kept_stays, put_within, still_open}
-
--- what the rule says of a need of check n
-abbrev pub need_says : (configs : List Configuration) (m : Past) (n now : ℕ) → IsNeeded configs m n → StepSays
-need_says configs m n now d =
-    says_need d.class (record { epoch = d.asked.epoch; class = d.place; key = d.key }) now (kept configs m d.asked.epoch d.place) (pending configs m d.asked.epoch d.place d.key)
-    (full (farm_with configs m d.asked.epoch d.place d.class)) (put_count m)
-
--- check n needs a key, and the step says what the rule says of that need
-pub record SaysNeed (configs : List Configuration) (m : Past) (n now : ℕ) (s : StepSays) : Type 0 where
-  pub needed : IsNeeded configs m n
-  pub is : s ≡ need_says configs m n now needed
-
--- or it says that the check is done
-abbrev pub SaysOf : List Configuration → Past → ℕ → ℕ → StepSays → Type 0
-SaysOf configs m n now s = (s ≡ says_done) ⊎ SaysNeed configs m n now s
-
-class_says : (configs : List Configuration) (m : Past) (n now : ℕ) (a : Asked) (acl : ℕ) (key : List ℕ) (c : ℕ) (o : Option Class) → ask_of (entries m) n ≡ Some a
-    → value_over configs a (answers configs m n) ≡ value.Need acl key → option_and_then (λ config. class_of_acl config.acls acl) (config_of configs a.epoch) ≡ Some c → class_at configs a.epoch c ≡ o
-    → SaysOf configs m n now (says_of_class configs m a.epoch c key now o)
-class_says configs m n now a acl key c None ask v place at = inl refl
-class_says configs m n now a acl key c (Some class) ask v place at =
-    inr (record { needed = record { asked = a; acl = acl; key = key; place = c; class = class; ask_is = ask; value_is = v; place_is = place; class_is = at }; is = refl })
-
-place_says : (configs : List Configuration) (m : Past) (n now : ℕ) (a : Asked) (acl : ℕ) (key : List ℕ) (o : Option ℕ) → ask_of (entries m) n ≡ Some a
-    → value_over configs a (answers configs m n) ≡ value.Need acl key → option_and_then (λ config. class_of_acl config.acls acl) (config_of configs a.epoch) ≡ o
-    → SaysOf configs m n now (says_at_place configs m a.epoch key now o)
-place_says configs m n now a acl key None ask v place = inl refl
-place_says configs m n now a acl key (Some c) ask v place = class_says configs m n now a acl key c (class_at configs a.epoch c) ask v place refl
-
-value_says : (configs : List Configuration) (m : Past) (n now : ℕ) (a : Asked) (v : Value) → ask_of (entries m) n ≡ Some a → value_over configs a (answers configs m n) ≡ v
-    → SaysOf configs m n now (says_value configs m a.epoch now v)
-value_says configs m n now a (value.Verdict o) ask is = inl refl
-value_says configs m n now a (value.Need acl key) ask is =
-    place_says configs m n now a acl key (option_and_then (λ config. class_of_acl config.acls acl) (config_of configs a.epoch)) ask is refl
-
-check_says : (configs : List Configuration) (m : Past) (n now : ℕ) (o : Option Asked) → ask_of (entries m) n ≡ o → SaysOf configs m n now (says_asked_of configs m now (answers configs m n) o)
-check_says configs m n now None ask = inl refl
-check_says configs m n now (Some a) ask = value_says configs m n now a (value_over configs a (answers configs m n)) ask refl
-
--- what a step of check n says: that it is done, or what the rule says of a need of it
-pub step_is : (configs : List Configuration) (m : Past) (n now : ℕ) → SaysOf configs m n now (step_says configs m n now)
-step_is configs m n now = check_says configs m n now (ask_of (entries m) n) refl
 
 -- what a step finds that tells check n to wait for question q
 record FindsNone (configs : List Configuration) (m : Past) (n now q : ℕ) (s : StepSays) : Type 0 where

@@ -4,3 +4,5 @@ pub mod ClassChanges
 pub mod Carried
 pub mod Given
 pub mod Waits
+pub mod Walked
+pub mod Faithful

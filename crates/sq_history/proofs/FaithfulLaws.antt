@@ -1,0 +1,179 @@
+-- Every legal history is faithful: its outcomes, its questions and their sends have their sources.
+use Rattle.std.proofs.Common.{◌≡◌, ℕ, zero, suc, ◌<◌, ◌≤◌, List, [], ◌∷◌, length, Bool, true, false, not, if◌then◌else◌, Option, Some, None, is_some, refl, sym, ap, subst, ◌∙◌, arith, le_refl}
+use Rattle.std.specs.Option.{option_map, option_map_or, option_or}
+use Rattle.std.proofs.lemmas.Bool.{lt-ltb}
+use Rattle.std.proofs.lemmas.Option.{none-some, same_Some}
+use Rattle.sq_rules.specs.declared.entries.Event.{Event}
+use Rattle.sq_rules.specs.declared.entries.Event.TheVariants.{Take}
+use Rattle.sq_rules.specs.declared.entries.Told.{Told}
+use Rattle.sq_rules.specs.declared.entries.Told.TheVariants as told
+use Rattle.sq_rules.specs.declared.outcomes.Outcome.{Outcome}
+use Rattle.sq_rules.specs.declared.refusals.Refusal.{Refusal}
+use Rattle.sq_rules.specs.declared.values.Value.TheVariants as value
+use Rattle.sq_rules.specs.AnswerReadings.{answers}
+use Rattle.sq_rules.specs.Checks.{Asked, ask_count, ask_of, asked_by, check_open, is_done, numbered}
+use Rattle.sq_rules.specs.Configurations.{Configuration, IsConfiguration}
+use Rattle.sq_rules.specs.Entries.{History, Noted}
+use Rattle.sq_rules.specs.Events.{Asking, Judgement, asking, begins_epoch, judgement}
+use Rattle.sq_rules.specs.FullNext.{FullLegal, full_next, full_next_at, outcome_over}
+use Rattle.sq_rules.specs.Machine.{config_of, epoch_of, gives, refuse_if}
+use Rattle.sq_rules.specs.Marking.{marked, says_at}
+use Rattle.sq_rules.specs.Marks.{Past, entries}
+use Rattle.sq_rules.specs.Questions.{sent_to}
+use Rattle.sq_rules.specs.Readings.{current, epoch_after}
+use Rattle.sq_rules.specs.StepRule.{value_over}
+use Rattle.sq_rules.specs.Verdicts.{outcome_so_far}
+use Rattle.sq_rules.proofs.CheckLaws.{IsAsked, open_asked}
+use Rattle.sq_rules.proofs.EventLaws.{begin_judges, judged_event}
+use Rattle.sq_history.specs.Carried.{NamesOnce}
+use Rattle.sq_history.specs.Faithful.{IsFaithful, IsJudgedSo, JudgedSo, OpenOnce}
+use Rattle.sq_history.specs.Given.{EachOf, IsSound, times_sent}
+use Rattle.sq_history.proofs.ConfigurationLaws.{get_some, names_once}
+use Rattle.sq_history.proofs.DistinctLaws.{answers_distinct}
+use Rattle.sq_history.proofs.LegalLaws.{asked_epoch, marked_entries}
+use Rattle.sq_history.proofs.QuestionLaws.{one_question, put_so, sent_once}
+use Rattle.sq_history.proofs.SoundLaws.{answers_sound}
+use Rattle.sq_history.proofs.StayLaws.{put_within}
+use Rattle.sq_history.proofs.WalkedLaws.{answers_walked, done_verdict, value_is}
+
+-- the current epoch is one of those from 1 up
+current_positive : (h : History) → 1 ≤ current h
+current_positive [] = le_refl 1
+current_positive (x ∷ h) = by (begins_epoch x.event) (current h) (current_positive h)
+  where
+    by : (b : Bool) (n : ℕ) → 1 ≤ n → 1 ≤ epoch_after b n
+    by true n l = omega arith
+    by false n l = l
+
+-- and so is the epoch of a check
+asked_positive : (h : History) (n : ℕ) (a : Asked) → ask_of h n ≡ Some a → 1 ≤ a.epoch
+unfolding ask_of
+asked_positive [] n a e = absurd (none-some a e)
+asked_positive (x ∷ h) n a e = by (numbered n (ask_count h) (asking x.event)) (asked_positive h n a) e
+  where
+    by : (o : Option Asking) → (ask_of h n ≡ Some a → 1 ≤ a.epoch) → option_or (option_map (asked_by h x.moment) o) (ask_of h n) ≡ Some a → 1 ≤ a.epoch
+    by None more e = more e
+    by (Some y) more e = subst (λ (i : ℕ). 1 ≤ i) (ap (λ (z : Asked). z.epoch) (same_Some _ _ e)) (current_positive h)
+
+-- an epoch that has begun has its configuration, where there are so many
+config_there : (configs : List Configuration) (e n : ℕ) → 1 ≤ e → e ≤ n → n ≤ length configs → (config : Configuration) × (config_of configs e ≡ Some config)
+config_there configs zero n low high few = absurd (omega arith)
+config_there configs (suc e) n low high few = get_some configs e (lt-ltb e (length configs) (under e n (length configs) high few))
+  where
+    under : (a b c : ℕ) → suc a ≤ b → b ≤ c → a < c
+    under a b c l k = omega arith
+
+-- what was taken of an open check that is done
+record IsTaken (configs : List Configuration) (m : Past) (n epoch : ℕ) (o : Outcome) : Type 0 where
+  opened : check_open (entries m) n ≡ true
+  done : is_done (entries m) n ≡ true
+  epoch_is : epoch ≡ epoch_of (ask_of (entries m) n)
+  outcome_is : o ≡ outcome_over configs m n (ask_of (entries m) n)
+
+taken_of : (b d : Bool) (r s : Refusal) (e epoch : ℕ) (v o : Outcome) → refuse_if (not b) r (refuse_if (not d) s (gives (told.Judged e v))) ≡ gives (told.Judged epoch o)
+    → (b ≡ true) × (d ≡ true) × (epoch ≡ e) × (o ≡ v)
+taken_of true true r s e epoch v o is = (refl, refl, cc, cc)
+taken_of true false r s e epoch v o is = absurd (cc)
+taken_of false d r s e epoch v o is = absurd (cc)
+
+is_taken : (configs : List Configuration) (m : Past) (now n epoch : ℕ) (o : Outcome) → full_next configs m now (Take n) ≡ gives (told.Judged epoch o) → IsTaken configs m n epoch o
+unfolding full_next full_next_at
+is_taken configs m now n epoch o is =
+    let t = taken_of (check_open (entries m) n) (is_done (entries m) n) _ _ (epoch_of (ask_of (entries m) n)) epoch (outcome_over configs m n (ask_of (entries m) n)) o is in
+    record { opened = t.0; done = t.1; epoch_is = t.2; outcome_is = t.3 }
+
+asked_some : (o : Option Asked) → IsAsked o → (a : Asked) × (o ≡ Some a)
+asked_some None a = let is = a.is in absurd (cc)
+asked_some (Some x) a = (x, refl)
+
+-- an outcome that is taken behind a legal history
+judged_so : (configs : List Configuration) (h : History) (now n epoch : ℕ) (o : Outcome) → EachOf IsConfiguration configs → current h ≤ length configs → FullLegal configs h
+    → full_next configs (marked configs h) now (Take n) ≡ gives (told.Judged epoch o) → IsJudgedSo configs (marked configs h) (record { check = n; epoch = epoch; outcome = o })
+judged_so configs h now n epoch o each few legal is = record {
+  asked = a;
+  config = at.0;
+  ask_is = ask;
+  epoch_is = t.epoch_is ∙ ap epoch_of ask;
+  config_is = at.1;
+  verdict_is = sym (value_is configs a (answers configs m n) at.0 at.1) ∙ v.1 ∙ ap (λ (z : Outcome). value.Verdict z) (sym outcome);
+  walked = answers_walked configs h n a at.0 v.0 once legal ask at.1 v.1;
+  distinct = answers_distinct configs h n once legal;
+  sound = subst (λ (e : ℕ). EachOf (IsSound configs m n e) (answers configs m n)) (ap (λ (z : Option Asked). option_map_or (λ (y : Asked). y.epoch) z 0) ask) ((answers_sound configs h once legal).sound n);
+}
+  where
+    m : Past
+    m = marked configs h
+
+    once : NamesOnce configs
+    once = names_once configs each
+
+    t : IsTaken configs m n epoch o
+    t = is_taken configs m now n epoch o is
+
+    found : (z : Asked) × (ask_of (entries m) n ≡ Some z)
+    found = asked_some (ask_of (entries m) n) (open_asked (entries m) n t.opened)
+
+    a : Asked
+    a = found.0
+
+    ask : ask_of (entries m) n ≡ Some a
+    ask = found.1
+
+    here : ask_of h n ≡ Some a
+    here = ap (λ (k : History). ask_of k n) (sym (marked_entries configs h)) ∙ ask
+
+    at : (config : Configuration) × (config_of configs a.epoch ≡ Some config)
+    at = config_there configs a.epoch (current h) (asked_positive h n a here) (asked_epoch h n a here) few
+
+    v : (z : Outcome) × (value_over configs a (answers configs m n) ≡ value.Verdict z)
+    v = (done_verdict configs h each legal).decided n a t.done ask
+
+    outcome : o ≡ v.0
+    outcome = t.outcome_is ∙ ap (outcome_over configs m n) ask ∙ ap outcome_so_far v.1
+
+judged_at : (configs : List Configuration) (h : History) (now : ℕ) (event : Event) (answer : Told) (j : Option Judgement) → judgement event answer ≡ j → EachOf IsConfiguration configs
+    → current h ≤ length configs → FullLegal configs h → full_next configs (marked configs h) now event ≡ gives answer → JudgedSo configs (marked configs h) j
+judged_at configs h now event answer None same each few legal is = tt
+judged_at configs h now event answer (Some j) same each few legal is =
+    let k = judged_event event answer j same in
+    judged_so configs h now j.check j.epoch j.outcome each few legal (ap (full_next configs (marked configs h) now) (sym k.event_is) ∙ is ∙ ap gives k.told_is)
+
+open_at : (configs : List Configuration) (h : History) → OpenOnce configs (marked configs h)
+open_at configs h = λ e c key q r a b live alive.
+    one_question configs h e c key q r (put_within (marked configs h) e c key q a) (put_within (marked configs h) e c key r b) a b live alive
+
+sent_at_most : (configs : List Configuration) (h : History) → NamesOnce configs → FullLegal configs h → (q : ℕ) → times_sent (marked configs h) q ≤ 1
+sent_at_most configs h once legal q = subst (λ (n : ℕ). n ≤ 1) (sym ((sent_once configs h once legal).once q)) (by (is_some (sent_to (marked configs h) q)))
+  where
+    by : (b : Bool) → (if b then 1 else 0) ≤ 1
+    by true = le_refl 1
+    by false = omega arith
+
+fewer : (x : Noted) (h : History) (n : ℕ) → current (x ∷ h) ≤ n → current h ≤ n
+fewer x h n l = by (begins_epoch x.event) (current h) n l
+  where
+    by : (b : Bool) (k n : ℕ) → epoch_after b k ≤ n → k ≤ n
+    by true k n l = omega arith
+    by false k n l = l
+
+-- every legal history is faithful, where each configuration is one and each epoch that began has its own
+pub legal_faithful : (configs : List Configuration) (h : History) → EachOf IsConfiguration configs → current h ≤ length configs → FullLegal configs h → IsFaithful configs (marked configs h)
+legal_faithful configs [] each few legal = tt
+legal_faithful configs (x ∷ []) each few legal = (
+  record {
+    judged = subst (JudgedSo configs []) (sym (begin_judges x.event x.answer legal.0)) tt;
+    put = put_so configs [] x.moment x.event (says_at configs [] x.moment x.event).put refl;
+    open_once = open_at configs (x ∷ []);
+    sent_once = sent_at_most configs (x ∷ []) (names_once configs each) legal;
+  },
+  tt,
+)
+legal_faithful configs (x ∷ f ∷ h) each few legal = (
+  record {
+    judged = judged_at configs (f ∷ h) x.moment x.event x.answer (judgement x.event x.answer) refl each (fewer x (f ∷ h) (length configs) few) legal.0 legal.4;
+    put = put_so configs (marked configs (f ∷ h)) x.moment x.event (says_at configs (marked configs (f ∷ h)) x.moment x.event).put refl;
+    open_once = open_at configs (x ∷ f ∷ h);
+    sent_once = sent_at_most configs (x ∷ f ∷ h) (names_once configs each) legal;
+  },
+  legal_faithful configs (f ∷ h) each (fewer x (f ∷ h) (length configs) few) legal.0,
+)
