@@ -1,8 +1,9 @@
 -- The acts after an entry: each lowers what is due, so that they come to an end, and what stays with each act stays with all.
-use Rattle.std.proofs.Common.{◌≡◌, ℕ, zero, suc, ◌+◌, ◌<◌, ◌≤◌, List, [], ◌∷◌, length, Option, Some, None, refl, sym, ap, ap₂, subst, ◌∙◌, arith}
+use Rattle.std.proofs.Common.{◌≡◌, ℕ, zero, suc, ◌+◌, ◌<◌, ◌≤◌, List, [], ◌∷◌, ◌++◌, length, map, Option, Some, None, refl, sym, ap, ap₂, subst, ◌∙◌, arith}
+use Rattle.std.specs.List.{flat_map}
+use Rattle.std.specs.Option.{option_map_or}
 use Rattle.sq_rules.specs.declared.entries.Event.TheVariants.{Act}
 use Rattle.sq_rules.specs.declared.entries.Told.{Told}
-use Rattle.sq_rules.specs.declared.refusals.Refusal.{Refusal}
 use Rattle.sq_rules.specs.Configurations.{Configuration, IsConfiguration}
 use Rattle.sq_rules.specs.DueActs.{Place}
 use Rattle.sq_rules.specs.Entries.{History}
@@ -10,16 +11,17 @@ use Rattle.sq_rules.specs.FullNext.{FullLegal, full_next}
 use Rattle.sq_rules.specs.Machine.{Next, gives, nothing, refuses}
 use Rattle.sq_rules.specs.Marking.{marked}
 use Rattle.sq_rules.specs.Marks.{Past, entries}
-use Rattle.sq_rules.specs.Numbered.{picks}
+use Rattle.sq_rules.specs.Numbered.{below, picks}
 use Rattle.sq_rules.specs.Processes.{proc_count, stop_due}
 use Rattle.sq_rules.specs.Readings.{latest}
+use Rattle.sq_rows.specs.CheckRows.{Held}
 use Rattle.sq_history.specs.Given.{EachOf}
 use Rattle.sq_history.proofs.RowLaws.{picks_same}
-use Rattle.sq_state.specs.Acts.{Due, due_in, live_places_in, sends, starts, stops}
+use Rattle.sq_state.specs.Acts.{Due, due_in, live_places_in, places_in, sends, starts, stops}
 use Rattle.sq_state.specs.Answers.{act_of, due_told}
 use Rattle.sq_state.specs.Promises.{IsAnswered, StandsFor, entry_at}
-use Rattle.sq_state.specs.States.{Stands, State}
-use Rattle.sq_state.proofs.ActNext.{act_next_is, places_are}
+use Rattle.sq_state.specs.States.{Stands, State, lives_with}
+use Rattle.sq_state.proofs.ActNext.{act_next_is}
 use Rattle.sq_state.proofs.ActPromises.{send_answered, start_answered, stop_answered}
 use Rattle.sq_state.proofs.PromiseLaws.{legal_more, next_now}
 use Rattle.sq_replay.specs.Dues.{dues, dues_at, dues_in, dues_of_row, state_at, total}
@@ -45,11 +47,22 @@ state_stands configs m = record {
   offset_is = refl;
 }
 
+flat_same : (f g : ℕ → List Place) (xs : List ℕ) → ((e : ℕ) → f e ≡ g e) → flat_map f xs ≡ flat_map g xs
+flat_same f g [] e = refl
+flat_same f g (x ∷ xs) e = ap₂ (λ (a b : List Place). a ++ b) (e x) (flat_same f g xs e)
+
+-- states with the same checks and configurations have the same classes of live epochs
+places_like : (s t : State) → s.current ≡ t.current → s.checks ≡ t.checks → ((e : ℕ) → s.config e ≡ t.config e) → live_places_in s ≡ live_places_in t
+places_like s t current checks configs =
+    ap₂ (λ (n : ℕ) (rows : List Held). flat_map (places_in s) (picks (lives_with n rows) n)) current checks
+    ∙ flat_same (places_in s) (places_in t) (picks (lives_with t.current t.checks) t.current)
+    (λ e. ap (λ (o : Option Configuration). map (λ c. record { epoch = e; class = c }) (below (option_map_or (λ config. length config.classes) o 0))) (configs e))
+
 -- what is due of a state that stands for a history is due after the history
 pub dues_are : (configs : List Configuration) (m : Past) (s : State) → Stands configs m s → dues_in s ≡ dues_in (state_at configs m)
 dues_are configs m s st =
     let t = state_at configs m in
-    let places : live_places_in s ≡ live_places_in t = places_are configs m s st ∙ sym (places_are configs m t (state_stands configs m)) in
+    let places : live_places_in s ≡ live_places_in t = places_like s t st.current_is st.checks_are st.configs_are in
     ap₂ (λ (a b : ℕ). a + b)
     (ap (λ (xs : List ℕ). length xs) (ap (picks s.stop) st.procs_are ∙ picks_same (stop_due (entries m)) s.stop (proc_count (entries m)) (λ k low high. st.stops_are k)))
     (ap (total (dues_at s)) places ∙ total_same (dues_at s) (dues_at t) (live_places_in t) (λ p. ap dues_of_row (st.rows_are p.epoch p.class)))

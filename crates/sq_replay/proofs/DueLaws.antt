@@ -11,7 +11,7 @@ use Rattle.sq_rules.specs.Living.{Living, asked_row, has_free, sent, some_free, 
 use Rattle.sq_rules.specs.Numbered.{picks}
 use Rattle.sq_rows.specs.ClassRows.{ClassRow, after_sending, after_starting}
 use Rattle.sq_history.proofs.ClassParts.{equal, itself}
-use Rattle.sq_state.specs.Acts.{Due, due_in, live_places_in, send_in, sends, start_in, starts, stop_in, stops}
+use Rattle.sq_state.specs.Acts.{Due, due_in, live_places_in, send_in, sends, start_in, starts, stops}
 use Rattle.sq_state.specs.Changes.{after_send_at, after_start_at, after_stop_of, change_row, is_at}
 use Rattle.sq_state.specs.States.{State}
 use Rattle.sq_state.proofs.ActNext.{due_send_is, due_start_is}

@@ -1,6 +1,5 @@
 -- A run only adds to its text.
-use Rattle.std.proofs.Common.{◌≡◌, ◌⊎◌, inl, inr, ℕ, ℤ, ◌+◌, List, [], ◌∷◌, ◌++◌, length, Bool, true, false, if◌then◌else◌, Some, None, Ok, Err, Result, is_some, max, pos, refl, subst}
-use Rattle.std.specs.declared.option.Option.{Option}
+use Rattle.std.proofs.Common.{◌≡◌, ℕ, List, ◌∷◌, Ok, Err, Result, pos, refl, subst}
 use Rattle.sq_outside.specs.Output.{IsPrefix}
 use Rattle.sq_outside.specs.SourceLines.{Line}
 use Rattle.sq_outside.proofs.Writing.{IsPrefix_front, IsPrefix_refl, IsPrefix_trans}
@@ -13,7 +12,7 @@ use Rattle.sq_journal.specs.EntryText.{entry_line, written}
 use Rattle.sq_state.specs.Promises.{entry_at}
 use Rattle.sq_replay.specs.declared.ends.RunEnd.{RunEnd}
 use Rattle.sq_replay.specs.Dues.{dues}
-use Rattle.sq_replay.specs.RunText.{Ran, Shelf, acts, event_step, run_from, run_lines, run_on, begun_history, first_history}
+use Rattle.sq_replay.specs.RunText.{Ran, Shelf, acts, event_step, run_from, run_lines, run_on, begun_history}
 use Rattle.sq_replay.specs.Runs.{step_text}
 use Rattle.sq_replay.specs.Steps.{IsStep}
 use Rattle.sq_replay.proofs.ActLaws.{acts_keep}

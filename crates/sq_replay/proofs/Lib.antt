@@ -1,1 +1,7 @@
 -- Laws of runs.
+pub mod DueLaws
+pub mod ActLaws
+pub mod RunLaws
+pub mod SourceLaws
+pub mod GrowthLaws
+pub mod HeadlineLaws

@@ -1,9 +1,7 @@
 -- What stays with each line of a script stays with the run; the history of a run is legal.
-use Rattle.std.proofs.Common.{◌≡◌, ◌⊎◌, inl, inr, ℕ, ℤ, ◌+◌, ◌≤◌, List, [], ◌∷◌, length, Bool, true, false, ◌&&◌, nat_le, if◌then◌else◌, max, Some, None, Ok, Err, Result, is_some, pos, refl, sym, ap, subst, ◌∙◌, arith}
+use Rattle.std.proofs.Common.{◌≡◌, ◌⊎◌, inl, inr, ℕ, ℤ, ◌+◌, List, [], ◌∷◌, length, Bool, true, false, ◌&&◌, nat_le, if◌then◌else◌, max, Some, None, Ok, Err, Result, is_some, pos, refl, ap, subst, arith}
 use Rattle.std.specs.Option.{option_map}
 use Rattle.std.specs.declared.option.Option.{Option}
-use Rattle.std.proofs.lemmas.Option.{none-some}
-use Rattle.sq_base.specs.Requests.{HttpRequest}
 use Rattle.sq_base.specs.Targets.{Target, target_of}
 use Rattle.sq_base.specs.declared.requests.Field.{Field}
 use Rattle.sq_outside.specs.SourceLines.{Line, is_readable}
@@ -16,7 +14,6 @@ use Rattle.sq_rules.specs.declared.kinds.ConfError.{ConfError}
 use Rattle.sq_rules.specs.Configurations.{Configuration}
 use Rattle.sq_rules.specs.ConfText.{conf_result}
 use Rattle.sq_rules.specs.Entries.{History}
-use Rattle.sq_rules.specs.Events.{begins_epoch}
 use Rattle.sq_rules.specs.FullNext.{FullLegal, full_next}
 use Rattle.sq_rules.specs.Machine.{Next, gives, has_target, is_begin, nothing, refuses}
 use Rattle.sq_rules.specs.Marking.{marked}
@@ -26,7 +23,7 @@ use Rattle.sq_state.proofs.PromiseLaws.{legal_more}
 use Rattle.sq_replay.specs.declared.ends.RunEnd.{RunEnd}
 use Rattle.sq_replay.specs.declared.ends.RunEnd.TheVariants as ends
 use Rattle.sq_replay.specs.RunText.{Ran, Shelf, accepted, acts, answered, asked_next, begun_history, event_step, first_history, line_step, reconfigured, run_first, run_from, run_lines, run_on, run_over, run_stated, stated, stated_step, stopped}
-use Rattle.sq_replay.specs.Steps.{IsEntered, IsNamed, IsStep}
+use Rattle.sq_replay.specs.Steps.{IsEntered, IsStep}
 use Rattle.sq_replay.specs.Dues.{dues}
 use Rattle.sq_replay.proofs.ActLaws.{act_legal, acts_keep}
 

@@ -1,16 +1,13 @@
 -- The configuration of each epoch of a run is that of the text by which the epoch began.
-use Rattle.std.proofs.Common.{◌≡◌, ◌⊎◌, inl, inr, ℕ, ℤ, zero, suc, ◌+◌, List, [], ◌∷◌, ◌++◌, append_assoc, length, length-append, Bool, true, false, Some, None, Ok, Err, Result, slice_get, refl, sym, ap, ap₂, subst, ◌∙◌, arith}
+use Rattle.std.proofs.Common.{◌≡◌, ◌⊎◌, inl, inr, ℕ, ℤ, suc, ◌+◌, ◌≤◌, List, [], ◌∷◌, ◌++◌, append_assoc, length, length-append, Bool, true, false, Some, slice_get, refl, sym, ap, ap₂, subst, ◌∙◌, arith}
 use Rattle.std.specs.declared.option.Option.{Option}
 use Rattle.sq_outside.specs.SourceLines.{Line}
 use Rattle.sq_rules.specs.declared.entries.Event.{Event}
 use Rattle.sq_rules.specs.declared.entries.Event.TheVariants.{Begin, Open, Close, Ask, Step, Take, Started, StartFail, Line as HelperLine, Died, Act, Reconfigure, Seat, Grant, Leave}
-use Rattle.sq_rules.specs.declared.entries.Told.{Told}
 use Rattle.sq_rules.specs.Configurations.{Configuration}
-use Rattle.sq_rules.specs.ConfText.{conf_gives, conf_result}
 use Rattle.sq_rules.specs.Entries.{History}
 use Rattle.sq_rules.specs.Events.{begins_epoch}
 use Rattle.sq_rules.specs.FullNext.{FullLegal}
-use Rattle.sq_rules.specs.Machine.{config_of}
 use Rattle.sq_rules.specs.Readings.{current, epoch_after}
 use Rattle.sq_state.specs.Promises.{entry_at}
 use Rattle.sq_replay.specs.Dues.{dues}
@@ -18,7 +15,7 @@ use Rattle.sq_replay.specs.Headline.{AreSourced, IsAhead, IsSourced}
 use Rattle.sq_replay.specs.RunText.{Shelf, acts, begun_history, configs_of, first_history, named_by, named_from, named_in, run_script, stated, with_config, with_text}
 use Rattle.sq_replay.specs.Steps.{IsEntered, IsNamed, IsStep}
 use Rattle.sq_replay.proofs.ActLaws.{acts_keep}
-use Rattle.sq_replay.proofs.RunLaws.{IsSoAtFirst, OrNone, Stays, begun_legal, run_keeps, step_legal}
+use Rattle.sq_replay.proofs.RunLaws.{OrNone, Stays, begun_legal, run_keeps, step_legal}
 
 -- acts begin no epoch
 pub acts_current : (configs : List Configuration) (h : History) → current (acts configs h) ≡ current h
@@ -56,6 +53,15 @@ pub record IsUnderWay (files : Shelf) (configs : List Configuration) (ls : List 
 pub record IsSourcedRun (configs : List Configuration) (h : History) : Type 0 where
   pub legal : FullLegal configs h
   pub sourced : AreSourced configs h
+  pub reached : current h ≤ length configs
+
+-- each epoch that has begun has its configuration
+ahead_reached : (files : Shelf) (configs : List Configuration) (h : History) (ls : List Line) → IsAhead files configs h ls → current h ≤ length configs
+ahead_reached files configs h ls a =
+    let is : length configs ≡ length a.begun + length (named_from files ls (current h)) =
+    ap (λ (xs : List Configuration). length xs) a.configs_are ∙ length-append a.begun (named_from files ls (current h)) in
+    let count = a.count_is in
+    omega arith
 
 -- where the event is entered as it is
 plain_ahead : (files : Shelf) (configs : List Configuration) (l : Line) (ls : List Line) (h t : History) (now : ℕ) (event : Event) → stated l.bytes ≡ Some (now, event) → begins_epoch event ≡ false
@@ -64,9 +70,9 @@ plain_ahead files configs l ls h t now event states plain same a = record {
   begun = a.begun;
   count_is = a.count_is ∙ sym same;
   configs_are =
-    a.configs_are
-    ∙ ap (λ (xs : List Configuration). a.begun ++ xs)
-    (ap (λ (o : Option (ℕ × Event)). named_in files o (named_from files ls) (current h)) states ∙ plain_named files event (named_from files ls) (current h) plain ∙ ap (named_from files ls) (sym same));
+      a.configs_are
+      ∙ ap (λ (xs : List Configuration). a.begun ++ xs)
+      (ap (λ (o : Option (ℕ × Event)). named_in files o (named_from files ls) (current h)) states ∙ plain_named files event (named_from files ls) (current h) plain ∙ ap (named_from files ls) (sym same));
 }
 
 -- where an epoch begins
@@ -76,14 +82,14 @@ named_ahead files configs l ls h t now name text states n same a = record {
   begun = a.begun ++ n.config ∷ [];
   count_is = length-append a.begun (n.config ∷ []) ∙ (let c = a.count_is in omega arith);
   configs_are =
-    a.configs_are
-    ∙ ap (λ (xs : List Configuration). a.begun ++ xs)
-    (ap (λ (o : Option (ℕ × Event)). named_in files o (named_from files ls) (current h)) states ∙ text_named files (current h) name text (named_from files ls) n)
-    ∙ sym (append_assoc a.begun (n.config ∷ []) (named_from files ls (suc (current h)))) ∙ ap (λ (e : ℕ). (a.begun ++ n.config ∷ []) ++ named_from files ls e) (sym same);
+      a.configs_are
+      ∙ ap (λ (xs : List Configuration). a.begun ++ xs)
+      (ap (λ (o : Option (ℕ × Event)). named_in files o (named_from files ls) (current h)) states ∙ text_named files (current h) name text (named_from files ls) n)
+      ∙ sym (append_assoc a.begun (n.config ∷ []) (named_from files ls (suc (current h)))) ∙ ap (λ (e : ℕ). (a.begun ++ n.config ∷ []) ++ named_from files ls e) (sym same);
 }
 
 -- the configuration of the epoch that such a line begins
-named_source : (files : Shelf) (configs : List Configuration) (l : Line) (ls : List Line) (h : History) (now : ℕ) (name text : List ℕ) → stated l.bytes ≡ Some (now, Reconfigure name)
+pub named_source : (files : Shelf) (configs : List Configuration) (l : Line) (ls : List Line) (h : History) (now : ℕ) (name text : List ℕ) → stated l.bytes ≡ Some (now, Reconfigure name)
     → IsNamed files (current h) name text → IsAhead files configs h (l ∷ ls) → IsSourced configs h (Reconfigure text)
 named_source files configs l ls h now name text states n a =
     let is : configs ≡ a.begun ++ n.config ∷ named_from files ls (suc (current h)) =
@@ -101,51 +107,65 @@ step_sourced : (files : Shelf) (configs : List Configuration) (h : History) (e :
     → AreSourced configs h → AreSourced configs t
 step_sourced files configs h e event t s one so = subst (AreSourced configs) s.history_is (acts_sourced configs (entry_at s.moment s.entered s.answer ∷ h) (one, so))
 
--- a line that is no reconfiguration
-plain_stays : (files : Shelf) (configs : List Configuration) (l : Line) (ls : List Line) (h : History) (now : ℕ) (event : Event) (t : History) → stated l.bytes ≡ Some (now, event)
-    → (s : IsStep files configs h (current h) event t) → s.entered ≡ event → begins_epoch event ≡ false → IsUnderWay files configs (l ∷ ls) h → IsUnderWay files configs ls t
-plain_stays files configs l ls h now event t states s same plain u =
-    let quiet : begins_epoch s.entered ≡ false = ap begins_epoch same ∙ plain in
-    record {
-      legal = step_legal files configs h (current h) event t s u.legal;
-      sourced = step_sourced files configs h (current h) event t s (plain_sourced configs h s.entered quiet) u.sourced;
-      ahead =
-        plain_ahead files configs l ls h t now event states plain
-        (step_current files configs h (current h) event t s ∙ ap (λ (b : Bool). epoch_after b (current h)) quiet) u.ahead;
-    }
+-- an event is entered as it is, or it is a reconfiguration
+record IsNamedEvent (files : Shelf) (e : ℕ) (event entered : Event) : Type 0 where
+  pub name : List ℕ
+  pub text : List ℕ
+  pub event_is : event ≡ Reconfigure name
+  pub entered_is : entered ≡ Reconfigure text
+  pub named : IsNamed files e name text
 
--- a line that is one
-named_stays : (files : Shelf) (configs : List Configuration) (l : Line) (ls : List Line) (h : History) (now : ℕ) (name text : List ℕ) (t : History) → stated l.bytes ≡ Some (now, Reconfigure name)
-    → (s : IsStep files configs h (current h) (Reconfigure name) t) → s.entered ≡ Reconfigure text → IsNamed files (current h) name text → IsUnderWay files configs (l ∷ ls) h
-    → IsUnderWay files configs ls t
-named_stays files configs l ls h now name text t states s same n u = record {
-  legal = step_legal files configs h (current h) (Reconfigure name) t s u.legal;
-  sourced =
-    step_sourced files configs h (current h) (Reconfigure name) t s
-    (subst (IsSourced configs h) (sym same) (named_source files configs l ls h now name text states n u.ahead)) u.sourced;
-  ahead =
-    named_ahead files configs l ls h t now name text states n
-    (step_current files configs h (current h) (Reconfigure name) t s ∙ ap (λ (z : Event). epoch_after (begins_epoch z) (current h)) same) u.ahead;
-}
+abbrev IsEither : Shelf → ℕ → Event → Event → Type 0
+IsEither files e event entered = ((entered ≡ event) × (begins_epoch event ≡ false)) ⊎ IsNamedEvent files e event entered
 
--- so it stays with each line
+either : (files : Shelf) (e : ℕ) (event entered : Event) → IsEntered files e event entered → IsEither files e event entered
+either files e (Reconfigure name) entered is = inr (record { name = name; text = is.0; event_is = refl; entered_is = is.1; named = is.2 })
+either files e (Begin offset) entered is = inl is
+either files e (Open c a p) entered is = inl is
+either files e (Close c) entered is = inl is
+either files e (Ask c m x f) entered is = inl is
+either files e (Step c) entered is = inl is
+either files e (Take c) entered is = inl is
+either files e (Started x c) entered is = inl is
+either files e (StartFail x c) entered is = inl is
+either files e (HelperLine k b) entered is = inl is
+either files e (Died k) entered is = inl is
+either files e Act entered is = inl is
+either files e (Seat c) entered is = inl is
+either files e (Grant x w) entered is = inl is
+either files e (Leave x) entered is = inl is
+
+-- a step leaves the rest of the lines ahead
+pub step_ahead : (files : Shelf) (configs : List Configuration) (l : Line) (ls : List Line) (h : History) (now : ℕ) (event : Event) (t : History) → stated l.bytes ≡ Some (now, event)
+    → IsStep files configs h (current h) event t → IsAhead files configs h (l ∷ ls) → IsAhead files configs t ls
+step_ahead files configs l ls h now event t states s a = by (either files (current h) event s.entered s.entered_is)
+  where
+    after : (b : Bool) → begins_epoch s.entered ≡ b → current t ≡ epoch_after b (current h)
+    after b is = step_current files configs h (current h) event t s ∙ ap (λ (c : Bool). epoch_after c (current h)) is
+
+    by : IsEither files (current h) event s.entered → IsAhead files configs t ls
+    by (inl plain) = plain_ahead files configs l ls h t now event states plain.1 (after false (ap begins_epoch plain.0 ∙ plain.1)) a
+    by (inr n) =
+        named_ahead files configs l ls h t now n.name n.text (states ∙ ap (λ (z : Event). Some (now, z)) n.event_is) n.named
+        (after true (ap begins_epoch n.entered_is)) a
+
+-- what it enters has its source
+step_source : (files : Shelf) (configs : List Configuration) (l : Line) (ls : List Line) (h : History) (now : ℕ) (event : Event) (t : History) → stated l.bytes ≡ Some (now, event)
+    → (s : IsStep files configs h (current h) event t) → IsAhead files configs h (l ∷ ls) → IsSourced configs h s.entered
+step_source files configs l ls h now event t states s a = by (either files (current h) event s.entered s.entered_is)
+  where
+    by : IsEither files (current h) event s.entered → IsSourced configs h s.entered
+    by (inl plain) = plain_sourced configs h s.entered (ap begins_epoch plain.0 ∙ plain.1)
+    by (inr n) =
+        subst (IsSourced configs h) (sym n.entered_is) (named_source files configs l ls h now n.name n.text (states ∙ ap (λ (z : Event). Some (now, z)) n.event_is) n.named a)
+
+-- what is so of a run under way stays with each line
 pub under_way_stays : (files : Shelf) (configs : List Configuration) → Stays files configs (IsUnderWay files configs)
-under_way_stays files configs l ls h now (Reconfigure name) t states s u =
-    let n = s.entered_is in named_stays files configs l ls h now name n.0 t states s n.1 n.2 u
-under_way_stays files configs l ls h now (Begin offset) t states s u = plain_stays files configs l ls h now (Begin offset) t states s s.entered_is.0 refl u
-under_way_stays files configs l ls h now (Open c a p) t states s u = plain_stays files configs l ls h now (Open c a p) t states s s.entered_is.0 refl u
-under_way_stays files configs l ls h now (Close c) t states s u = plain_stays files configs l ls h now (Close c) t states s s.entered_is.0 refl u
-under_way_stays files configs l ls h now (Ask c m x f) t states s u = plain_stays files configs l ls h now (Ask c m x f) t states s s.entered_is.0 refl u
-under_way_stays files configs l ls h now (Step c) t states s u = plain_stays files configs l ls h now (Step c) t states s s.entered_is.0 refl u
-under_way_stays files configs l ls h now (Take c) t states s u = plain_stays files configs l ls h now (Take c) t states s s.entered_is.0 refl u
-under_way_stays files configs l ls h now (Started x c) t states s u = plain_stays files configs l ls h now (Started x c) t states s s.entered_is.0 refl u
-under_way_stays files configs l ls h now (StartFail x c) t states s u = plain_stays files configs l ls h now (StartFail x c) t states s s.entered_is.0 refl u
-under_way_stays files configs l ls h now (HelperLine k b) t states s u = plain_stays files configs l ls h now (HelperLine k b) t states s s.entered_is.0 refl u
-under_way_stays files configs l ls h now (Died k) t states s u = plain_stays files configs l ls h now (Died k) t states s s.entered_is.0 refl u
-under_way_stays files configs l ls h now Act t states s u = plain_stays files configs l ls h now Act t states s s.entered_is.0 refl u
-under_way_stays files configs l ls h now (Seat c) t states s u = plain_stays files configs l ls h now (Seat c) t states s s.entered_is.0 refl u
-under_way_stays files configs l ls h now (Grant x w) t states s u = plain_stays files configs l ls h now (Grant x w) t states s s.entered_is.0 refl u
-under_way_stays files configs l ls h now (Leave x) t states s u = plain_stays files configs l ls h now (Leave x) t states s s.entered_is.0 refl u
+under_way_stays files configs l ls h now event t states s u = record {
+  legal = step_legal files configs h (current h) event t s u.legal;
+  sourced = step_sourced files configs h (current h) event t s (step_source files configs l ls h now event t states s u.ahead) u.sourced;
+  ahead = step_ahead files configs l ls h now event t states s u.ahead;
+}
 
 -- the machine has begun, and these lines are to come
 begun_under_way : (files : Shelf) (config : Configuration) (all ls : List Line) (now : ℕ) (offset : ℤ) → named_from files all 1 ≡ named_from files ls 1
@@ -167,10 +187,10 @@ begun_under_way files config all ls now offset same =
 pub run_sourced : (files : Shelf) (config : Configuration) (ls : List Line) → OrNone (IsSourcedRun (configs_of files config ls)) (run_script files config ls).history
 run_sourced files config ls =
     let configs = configs_of files config ls in
-    run_keeps files configs (IsUnderWay files configs) (IsSourcedRun configs) (λ rest h u. record { legal = u.legal; sourced = u.sourced }) (under_way_stays files configs) ls
+    run_keeps files configs (IsUnderWay files configs) (IsSourcedRun configs) (λ rest h u. record { legal = u.legal; sourced = u.sourced; reached = ahead_reached files configs h rest u.ahead }) (under_way_stays files configs) ls
     (record {
       first = λ now offset. begun_under_way files config ls ls now offset refl;
       past = λ l more at now offset by is states.
-        begun_under_way files config ls more now offset
-        (ap (λ (all : List Line). named_from files all 1) is ∙ ap (λ (o : Option (ℕ × Event)). named_in files o (named_from files more) 1) states);
+          begun_under_way files config ls more now offset
+          (ap (λ (all : List Line). named_from files all 1) is ∙ ap (λ (o : Option (ℕ × Event)). named_in files o (named_from files more) 1) states);
     })

@@ -19,3 +19,26 @@ last_line (Differs line) = []
 last_line ReadFault = codes "error read" ++ 10 ∷ []
 last_line WriteFault = []
 last_line WantOfMemory = []
+
+-- what ended a run from without: a read or a write that failed, or want of memory
+pub data Fault : Type 0 where
+  Reading : Fault
+  Writing : Fault
+  Lacking : Fault
+
+-- how a run ends: its script was read to its end, the script was refused, or a fault ended it
+pub data End : Type 0 where
+  Done : End
+  Refused : End
+  Faulted : Fault → End
+
+-- what kind of end each is
+abbrev pub end_of : RunEnd → End
+end_of Ok = Done
+end_of (Script line) = Refused
+end_of (Config e) = Refused
+end_of (Missing name) = Refused
+end_of (Differs line) = Refused
+end_of ReadFault = Faulted Reading
+end_of WriteFault = Faulted Writing
+end_of WantOfMemory = Faulted Lacking

@@ -7,9 +7,12 @@ use Rattle.sq_rules.specs.Configurations.{Configuration}
 use Rattle.sq_rules.specs.ConfText.{conf_gives}
 use Rattle.sq_rules.specs.Entries.{History, Noted}
 use Rattle.sq_rules.specs.FullNext.{FullLegal}
+use Rattle.sq_rules.specs.BucketLevels.{IsBalanced, Tally}
 use Rattle.sq_rules.specs.Machine.{config_of}
-use Rattle.sq_rules.specs.PoolReadings.{Spot}
+use Rattle.sq_rules.specs.Marking.{marked}
+use Rattle.sq_rules.specs.PoolReadings.{Spot, tally_of}
 use Rattle.sq_rules.specs.Readings.{current}
+use Rattle.sq_history.specs.Faithful.{IsFaithful}
 use Rattle.sq_pools.specs.Flows.{GrantsWithin, Lives}
 use Rattle.sq_replay.specs.RunText.{Shelf, named_from}
 
@@ -27,11 +30,21 @@ AreSourced configs (e ∷ h) = IsSourced configs h e.event × AreSourced configs
 abbrev pub AreWithinLevels : List Configuration → History → Type 0
 AreWithinLevels configs h = (later : List Noted) (before : History) (e : ℕ) (s : Spot) → later ++ before ≡ h → Lives configs later before e s → GrantsWithin configs later before e s
 
+-- the books of each bucket balance: what it opened with and what was restored is what it holds, granted and spilled
+abbrev pub AreBalanced : List Configuration → History → Type 0
+AreBalanced configs h = (e : ℕ) (s : Spot) (b : Tally) → tally_of configs h e s ≡ Some b → IsBalanced b
+
 -- what is so of the history of every run
 pub record IsTrue (configs : List Configuration) (h : History) : Type 0 where
+  -- each answer is the machine's next
   pub legal : FullLegal configs h
+  -- each epoch has the configuration of the text by which it began
   pub sourced : AreSourced configs h
+  -- each outcome is the verdict of the configuration current when its check began, over what it saw and answers that have their sources
+  pub faithful : IsFaithful configs (marked configs h)
+  -- no bucket grants more than its level and what was restored
   pub granted : AreWithinLevels configs h
+  pub balanced : AreBalanced configs h
 
 -- or nothing was run
 abbrev pub IsTrueOrNone : List Configuration → History → Type 0
