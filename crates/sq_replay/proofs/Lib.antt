@@ -5,3 +5,6 @@ pub mod RunLaws
 pub mod SourceLaws
 pub mod GrowthLaws
 pub mod HeadlineLaws
+pub mod LoopLaws
+pub mod MakingLaws
+mod RunRows

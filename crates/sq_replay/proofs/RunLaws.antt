@@ -107,13 +107,14 @@ event_made files configs h number now (Grant s w) t e = asked_step files configs
 event_made files configs h number now (Leave s) t e = asked_step files configs h (current h) number now (Leave s) (Leave s) t (refl, refl) refl refl e
 
 -- a line that is run states an event, which is made
-record IsRun (files : Shelf) (configs : List Configuration) (h : History) (l : Line) (t : History) : Type 0 where
+pub record IsRun (files : Shelf) (configs : List Configuration) (h : History) (l : Line) (t : History) : Type 0 where
   pub now : ℕ
   pub event : Event
   pub states : stated l.bytes ≡ Some (now, event)
   pub step : IsStep files configs h (current h) event t
 
-stated_made : (files : Shelf) (configs : List Configuration) (h : History) (number : ℕ) (l : Line) (o : Option (ℕ × Event)) (t : History) → stated l.bytes ≡ o
+-- so it is of a line that states an event
+pub stated_made : (files : Shelf) (configs : List Configuration) (h : History) (number : ℕ) (l : Line) (o : Option (ℕ × Event)) (t : History) → stated l.bytes ≡ o
     → stated_step files configs h number o ≡ Ok t → IsRun files configs h l t
 stated_made files configs h number l None t is e = absurd (cc)
 stated_made files configs h number l (Some (now, event)) t is e = record { now = now; event = event; states = is; step = event_made files configs h number now event t e }

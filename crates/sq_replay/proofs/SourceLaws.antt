@@ -5,9 +5,11 @@ use Rattle.sq_outside.specs.SourceLines.{Line}
 use Rattle.sq_rules.specs.declared.entries.Event.{Event}
 use Rattle.sq_rules.specs.declared.entries.Event.TheVariants.{Begin, Open, Close, Ask, Step, Take, Started, StartFail, Line as HelperLine, Died, Act, Reconfigure, Seat, Grant, Leave}
 use Rattle.sq_rules.specs.Configurations.{Configuration}
+use Rattle.sq_rules.specs.ConfText.{conf_gives}
 use Rattle.sq_rules.specs.Entries.{History}
 use Rattle.sq_rules.specs.Events.{begins_epoch}
 use Rattle.sq_rules.specs.FullNext.{FullLegal}
+use Rattle.sq_rules.specs.Machine.{config_of}
 use Rattle.sq_rules.specs.Readings.{current, epoch_after}
 use Rattle.sq_state.specs.Promises.{entry_at}
 use Rattle.sq_replay.specs.Dues.{dues}
@@ -88,15 +90,21 @@ named_ahead files configs l ls h t now name text states n same a = record {
       ∙ sym (append_assoc a.begun (n.config ∷ []) (named_from files ls (suc (current h)))) ∙ ap (λ (e : ℕ). (a.begun ++ n.config ∷ []) ++ named_from files ls e) (sym same);
 }
 
--- the configuration of the epoch that such a line begins
-pub named_source : (files : Shelf) (configs : List Configuration) (l : Line) (ls : List Line) (h : History) (now : ℕ) (name text : List ℕ) → stated l.bytes ≡ Some (now, Reconfigure name)
-    → IsNamed files (current h) name text → IsAhead files configs h (l ∷ ls) → IsSourced configs h (Reconfigure text)
-named_source files configs l ls h now name text states n a =
-    let is : configs ≡ a.begun ++ n.config ∷ named_from files ls (suc (current h)) =
+-- the configuration that such a line would read is that of the next epoch
+pub named_next : (files : Shelf) (configs : List Configuration) (l : Line) (ls : List Line) (h : History) (now : ℕ) (name text : List ℕ) (config : Configuration)
+    → stated l.bytes ≡ Some (now, Reconfigure name) → files (current h) name ≡ Some text → conf_gives text config → IsAhead files configs h (l ∷ ls) → config_of configs (suc (current h)) ≡ Some config
+named_next files configs l ls h now name text config states is gives a =
+    let n : IsNamed files (current h) name text = record { config = config; text_is = is; gives_it = gives } in
+    let all : configs ≡ a.begun ++ config ∷ named_from files ls (suc (current h)) =
     a.configs_are
     ∙ ap (λ (xs : List Configuration). a.begun ++ xs)
     (ap (λ (o : Option (ℕ × Event)). named_in files o (named_from files ls) (current h)) states ∙ text_named files (current h) name text (named_from files ls) n) in
-    (n.config, n.gives_it, ap₂ (λ (cs : List Configuration) (k : ℕ). slice_get cs k) is (sym a.count_is) ∙ behind a.begun n.config (named_from files ls (suc (current h))))
+    ap₂ (λ (cs : List Configuration) (k : ℕ). slice_get cs k) all (sym a.count_is) ∙ behind a.begun config (named_from files ls (suc (current h)))
+
+-- the configuration of the epoch that such a line begins
+pub named_source : (files : Shelf) (configs : List Configuration) (l : Line) (ls : List Line) (h : History) (now : ℕ) (name text : List ℕ) → stated l.bytes ≡ Some (now, Reconfigure name)
+    → IsNamed files (current h) name text → IsAhead files configs h (l ∷ ls) → IsSourced configs h (Reconfigure text)
+named_source files configs l ls h now name text states n a = (n.config, n.gives_it, named_next files configs l ls h now name text n.config states n.text_is n.gives_it a)
 
 -- the current epoch after a step
 step_current : (files : Shelf) (configs : List Configuration) (h : History) (e : ℕ) (event : Event) (t : History) (s : IsStep files configs h e event t)
