@@ -17,9 +17,9 @@ use Rattle.sq_rules.specs.Checks.{ask_count}
 use Rattle.sq_rules.specs.Classes.{Class}
 use Rattle.sq_rules.specs.Configurations.{Configuration}
 use Rattle.sq_rules.specs.Entries.{History}
-use Rattle.sq_rules.specs.FullNext.{FullLegal, full_next_at}
 use Rattle.sq_rules.specs.FarmReadings.{farm_with}
 use Rattle.sq_rules.specs.Farms.{full}
+use Rattle.sq_rules.specs.FullNext.{FullLegal, full_next_at}
 use Rattle.sq_rules.specs.KeptLists.{KeptList, fresh_for}
 use Rattle.sq_rules.specs.KeptReadings.{kept}
 use Rattle.sq_rules.specs.Limits.{key_limit}
@@ -31,10 +31,11 @@ use Rattle.sq_rules.specs.StepRule.{StepSays, class_of_acl, says_asked, says_fau
 use Rattle.sq_rules.specs.Values.{answer_for}
 use Rattle.sq_history.specs.Carried.{Carried, NamesOnce}
 use Rattle.sq_history.specs.Waits.{IsNeeded, NeedsPut}
-use Rattle.sq_history.proofs.ClassParts.{bytes_same, equal}
+use Rattle.sq_history.proofs.ClassParts.{equal}
 use Rattle.sq_history.proofs.LegalLaws.{legal_induction}
 use Rattle.sq_history.proofs.NeedLaws.{value_needs}
 use Rattle.sq_history.proofs.RuleLaws.{SaysOf, step_is}
+use Rattle.sq_history.proofs.StayLaws.{put_parts}
 use Rattle.sq_history.proofs.WaitLaws.{WaitsNeeded, needs_first, needs_next}
 
 or_none : (b : Bool) → (b || false) ≡ b
@@ -152,14 +153,8 @@ ended_needed configs m n date event answer w (Some q) waits = by (put_of m q) re
     by (Some p) put (Some v) = record {
       gets = λ a e.
           let same = same_Some _ _ e in
-          let t : ((((p.epoch == s.needed.asked.epoch) && (p.class == s.needed.place)) && bytes_eq p.key s.needed.key) ≡ true) =
-          ap (put_is s.needed.asked.epoch s.needed.place s.needed.key) (sym put) ∙ s.put_is_it in
-          let parts = and_parts ((p.epoch == s.needed.asked.epoch) && (p.class == s.needed.place)) (bytes_eq p.key s.needed.key) t in
-          record {
-            needed = s.needed;
-            class_is = ap (λ (z : Answer). z.class) (sym same) ∙ equal p.class s.needed.place (and_parts (p.epoch == s.needed.asked.epoch) (p.class == s.needed.place) parts.0).1;
-            key_is = ap (λ (z : Answer). z.key) (sym same) ∙ bytes_same p.key s.needed.key parts.1;
-          };
+          let parts = put_parts s.needed.asked.epoch s.needed.place s.needed.key p (ap (put_is s.needed.asked.epoch s.needed.place s.needed.key) (sym put) ∙ s.put_is_it) in
+          record { needed = s.needed; class_is = ap (λ (z : Answer). z.class) (sym same) ∙ parts.1; key_is = ap (λ (z : Answer). z.key) (sym same) ∙ parts.2 };
     }
 
 stepped_needed : (configs : List Configuration) (m : Past) (now : ℕ) (event : Event) (answer : Told) (n : ℕ) → steps m n event ≡ true

@@ -1,37 +1,41 @@
 -- Every legal history is faithful: its outcomes, its questions and their sends have their sources.
-use Rattle.std.proofs.Common.{◌≡◌, ℕ, zero, suc, ◌<◌, ◌≤◌, List, [], ◌∷◌, length, Bool, true, false, not, if◌then◌else◌, Option, Some, None, is_some, refl, sym, ap, subst, ◌∙◌, arith, le_refl}
-use Rattle.std.specs.Option.{option_map, option_map_or, option_or}
+use Rattle.std.proofs.Common.{Bool, List, None, Option, Some, ℕ, [], ap, arith, false, if◌then◌else◌, is_some, le_refl, length, nat_le, not, refl, subst, suc, sym, true, zero, ◌<◌, ◌==◌, ◌∙◌, ◌∷◌, ◌≡◌, ◌≤◌}
+use Rattle.std.specs.Option.{option_and_then, option_map, option_or}
 use Rattle.std.proofs.lemmas.Bool.{lt-ltb}
 use Rattle.std.proofs.lemmas.Option.{none-some, same_Some}
 use Rattle.sq_rules.specs.declared.entries.Event.{Event}
-use Rattle.sq_rules.specs.declared.entries.Event.TheVariants.{Take}
+use Rattle.sq_rules.specs.declared.entries.Event.TheVariants.{Begin, Close, Seat, Take}
 use Rattle.sq_rules.specs.declared.entries.Told.{Told}
 use Rattle.sq_rules.specs.declared.entries.Told.TheVariants as told
 use Rattle.sq_rules.specs.declared.outcomes.Outcome.{Outcome}
 use Rattle.sq_rules.specs.declared.refusals.Refusal.{Refusal}
+use Rattle.sq_rules.specs.declared.refusals.Refusal.TheVariants as refusal
 use Rattle.sq_rules.specs.declared.values.Value.TheVariants as value
 use Rattle.sq_rules.specs.AnswerReadings.{answers}
-use Rattle.sq_rules.specs.Checks.{Asked, ask_count, ask_of, asked_by, check_open, is_done, numbered}
+use Rattle.sq_rules.specs.Checks.{Asked, ask_count, ask_of, asked_by, check_open, conn_of, is_done, numbered}
 use Rattle.sq_rules.specs.Configurations.{Configuration, IsConfiguration}
 use Rattle.sq_rules.specs.Entries.{History, Noted}
-use Rattle.sq_rules.specs.Events.{Asking, Judgement, asking, begins_epoch, judgement}
-use Rattle.sq_rules.specs.FullNext.{FullLegal, full_next, full_next_at, outcome_over}
-use Rattle.sq_rules.specs.Machine.{config_of, epoch_of, gives, refuse_if}
-use Rattle.sq_rules.specs.Marking.{marked, says_at}
+use Rattle.sq_rules.specs.Events.{Asking, Judgement, asking, begins_epoch, is_number, judgement}
+use Rattle.sq_rules.specs.FullNext.{FullLegal, full_next, full_next_at, outcome_over, seat_for, seat_next}
+use Rattle.sq_rules.specs.Limits.{last_number}
+use Rattle.sq_rules.specs.Machine.{config_of, epoch_of, gives, is_begin, refuse_if}
+use Rattle.sq_rules.specs.Marking.{mark, marked, says_at}
 use Rattle.sq_rules.specs.Marks.{Past, entries}
+use Rattle.sq_rules.specs.PoolReadings.{Taking, allowed_of, if_allowed, seat_count, taken_after, taken_of, taking}
 use Rattle.sq_rules.specs.Questions.{sent_to}
-use Rattle.sq_rules.specs.Readings.{current, epoch_after}
+use Rattle.sq_rules.specs.Readings.{counted_moment, current, epoch_after}
 use Rattle.sq_rules.specs.StepRule.{value_over}
-use Rattle.sq_rules.specs.Verdicts.{outcome_so_far}
+use Rattle.sq_rules.specs.Verdicts.{outcome_so_far, pool_of}
 use Rattle.sq_rules.proofs.CheckLaws.{IsAsked, open_asked}
 use Rattle.sq_rules.proofs.EventLaws.{begin_judges, judged_event}
 use Rattle.sq_history.specs.Carried.{NamesOnce}
-use Rattle.sq_history.specs.Faithful.{IsFaithful, IsJudgedSo, JudgedSo, OpenOnce}
-use Rattle.sq_history.specs.Given.{EachOf, IsSound, times_sent}
+use Rattle.sq_history.specs.Faithful.{FaultsSo, IsFaithful, IsJudgedSo, IsSeatedSo, JudgedSo, OpenOnce, SeatedSo, SentSo, seating_of, sending_of}
+use Rattle.sq_history.specs.Given.{EachOf, times_sent}
 use Rattle.sq_history.proofs.ConfigurationLaws.{get_some, names_once}
 use Rattle.sq_history.proofs.DistinctLaws.{answers_distinct}
 use Rattle.sq_history.proofs.LegalLaws.{asked_epoch, marked_entries}
-use Rattle.sq_history.proofs.QuestionLaws.{one_question, put_so, sent_once}
+use Rattle.sq_history.proofs.QuestionLaws.{one_question, put_so, sent_once, sent_so}
+use Rattle.sq_history.proofs.RuleLaws.{long_takes, no_room_takes}
 use Rattle.sq_history.proofs.SoundLaws.{answers_sound}
 use Rattle.sq_history.proofs.StayLaws.{put_within}
 use Rattle.sq_history.proofs.WalkedLaws.{answers_walked, done_verdict, value_is}
@@ -70,16 +74,16 @@ record IsTaken (configs : List Configuration) (m : Past) (n epoch : ℕ) (o : Ou
   epoch_is : epoch ≡ epoch_of (ask_of (entries m) n)
   outcome_is : o ≡ outcome_over configs m n (ask_of (entries m) n)
 
-taken_of : (b d : Bool) (r s : Refusal) (e epoch : ℕ) (v o : Outcome) → refuse_if (not b) r (refuse_if (not d) s (gives (told.Judged e v))) ≡ gives (told.Judged epoch o)
+told_taken : (b d : Bool) (r s : Refusal) (e epoch : ℕ) (v o : Outcome) → refuse_if (not b) r (refuse_if (not d) s (gives (told.Judged e v))) ≡ gives (told.Judged epoch o)
     → (b ≡ true) × (d ≡ true) × (epoch ≡ e) × (o ≡ v)
-taken_of true true r s e epoch v o is = (refl, refl, cc, cc)
-taken_of true false r s e epoch v o is = absurd (cc)
-taken_of false d r s e epoch v o is = absurd (cc)
+told_taken true true r s e epoch v o is = (refl, refl, cc, cc)
+told_taken true false r s e epoch v o is = absurd (cc)
+told_taken false d r s e epoch v o is = absurd (cc)
 
 is_taken : (configs : List Configuration) (m : Past) (now n epoch : ℕ) (o : Outcome) → full_next configs m now (Take n) ≡ gives (told.Judged epoch o) → IsTaken configs m n epoch o
 unfolding full_next full_next_at
 is_taken configs m now n epoch o is =
-    let t = taken_of (check_open (entries m) n) (is_done (entries m) n) _ _ (epoch_of (ask_of (entries m) n)) epoch (outcome_over configs m n (ask_of (entries m) n)) o is in
+    let t = told_taken (check_open (entries m) n) (is_done (entries m) n) _ _ (epoch_of (ask_of (entries m) n)) epoch (outcome_over configs m n (ask_of (entries m) n)) o is in
     record { opened = t.0; done = t.1; epoch_is = t.2; outcome_is = t.3 }
 
 asked_some : (o : Option Asked) → IsAsked o → (a : Asked) × (o ≡ Some a)
@@ -98,7 +102,7 @@ judged_so configs h now n epoch o each few legal is = record {
   verdict_is = sym (value_is configs a (answers configs m n) at.0 at.1) ∙ v.1 ∙ ap (λ (z : Outcome). value.Verdict z) (sym outcome);
   walked = answers_walked configs h n a at.0 v.0 once legal ask at.1 v.1;
   distinct = answers_distinct configs h n once legal;
-  sound = subst (λ (e : ℕ). EachOf (IsSound configs m n e) (answers configs m n)) (ap (λ (z : Option Asked). option_map_or (λ (y : Asked). y.epoch) z 0) ask) ((answers_sound configs h once legal).sound n);
+  sound = (answers_sound configs h once legal).sound n;
 }
   where
     m : Past
@@ -149,6 +153,109 @@ sent_at_most configs h once legal q = subst (λ (n : ℕ). n ≤ 1) (sym ((sent_
     by true = le_refl 1
     by false = omega arith
 
+-- a check whose epoch is one of those that have begun
+record IsBegunCheck (h : History) (a : Asked) : Type 0 where
+  low : 1 ≤ a.epoch
+  high : a.epoch ≤ current h
+
+begun_more : (e : Noted) (h : History) (a : Asked) → IsBegunCheck h a → IsBegunCheck (e ∷ h) a
+begun_more e h a b = record { low = b.low; high = by (begins_epoch e.event) a.epoch (current h) b.high }
+  where
+    by : (b : Bool) (a n : ℕ) → a ≤ n → a ≤ epoch_after b n
+    by true a n l = omega arith
+    by false a n l = l
+
+of_taking : (h : History) (n : ℕ) (answer : Told) (o : Option Asked) (t : Taking) → ask_of h n ≡ o → taking answer o ≡ Some t → IsBegunCheck h t.asked
+of_taking h n (told.Judged epoch o) (Some a) t ask is =
+    let same : a ≡ t.asked = ap (λ (z : Taking). z.asked) (same_Some _ _ is) in
+    subst (IsBegunCheck h) same (record { low = asked_positive h n a ask; high = asked_epoch h n a ask })
+of_taking h n (told.Judged epoch o) None t ask is = absurd (none-some t is)
+of_taking h n answer o t ask is = absurd (none-some t is)
+
+-- the check of a record that was taken
+taken_begun : (h : History) (c : ℕ) (t : Taking) → taken_of h c ≡ Some t → IsBegunCheck h t.asked
+taken_begun [] c t is = absurd (none-some t is)
+taken_begun (e ∷ h) c t is = begun_more e h t.asked (by e.event (taken_begun h c t) is)
+  where
+    of_take : (n : ℕ) (b : Bool) → (taken_of h c ≡ Some t → IsBegunCheck h t.asked) → (if b then taking e.answer (ask_of h n) else taken_of h c) ≡ Some t → IsBegunCheck h t.asked
+    of_take n true more is = of_taking h n e.answer (ask_of h n) t refl is
+    of_take n false more is = more is
+
+    of_close : (b : Bool) → (taken_of h c ≡ Some t → IsBegunCheck h t.asked) → (if b then None else taken_of h c) ≡ Some t → IsBegunCheck h t.asked
+    of_close true more is = absurd (none-some t is)
+    of_close false more is = more is
+
+    by : (event : Event) → (taken_of h c ≡ Some t → IsBegunCheck h t.asked) → taken_after h c event e.answer (taken_of h c) ≡ Some t → IsBegunCheck h t.asked
+    by (Take n) more is = of_take n (is_number c (conn_of h n)) more is
+    by (Close d) more is = of_close (d == c) more is
+    by event more is = more is
+
+allowed_begun : (h : History) (c : ℕ) (a : Asked) → allowed_of h c ≡ Some a → IsBegunCheck h a
+allowed_begun h c a is = by (taken_of h c) refl is
+  where
+    of_allows : (t : Taking) (b : Bool) → taken_of h c ≡ Some t → (if b then Some t.asked else None) ≡ Some a → IsBegunCheck h a
+    of_allows t true at is = subst (IsBegunCheck h) (same_Some _ _ is) (taken_begun h c t at)
+    of_allows t false at is = absurd (none-some a is)
+
+    by : (o : Option Taking) → taken_of h c ≡ o → if_allowed o ≡ Some a → IsBegunCheck h a
+    by None at is = absurd (none-some a is)
+    by (Some t) at is = of_allows t t.allows at is
+
+seat_pool : Told → Option ℕ
+seat_pool (told.Seat n pool) = Some pool
+seat_pool answer = None
+
+-- what is answered to a seat tells its pool
+seat_tells : (count : ℕ) (o : Option ℕ) (answer : Told) → seat_next count o ≡ gives answer → o ≡ seat_pool answer
+unfolding seat_pool
+seat_tells count None answer e = let is : told.NoSeat ≡ answer = cc in ap seat_pool is
+seat_tells count (Some pool) answer e = by (nat_le last_number (suc count)) e
+  where
+    by : (b : Bool) → refuse_if b (refusal.Spent (suc count)) (gives (told.Seat (suc count) pool)) ≡ gives answer → Some pool ≡ seat_pool answer
+    by true e = absurd (cc)
+    by false e = let is : told.Seat (suc count) pool ≡ answer = cc in ap seat_pool is
+
+seated_by : (configs : List Configuration) (h : History) (c : ℕ) (answer : Told) (o : Option Asked) → current h ≤ length configs → allowed_of (entries (marked configs h)) c ≡ o
+    → seat_for configs (seat_count configs (entries (marked configs h))) o ≡ gives answer → IsSeatedSo configs (marked configs h) (record { conn = c; pool = seat_pool answer })
+seated_by configs h c answer None few at e = absurd (cc)
+seated_by configs h c answer (Some a) few at e =
+    let b = allowed_begun h c a (ap (λ (k : History). allowed_of k c) (sym (marked_entries configs h)) ∙ at) in
+    let there = config_there configs a.epoch (current h) b.low b.high few in
+    record {
+      asked = a;
+      config = there.0;
+      allowed_is = at;
+      config_is = there.1;
+      pool_is = sym (seat_tells (seat_count configs (entries (marked configs h))) (option_and_then (λ config. pool_of config a.sight) (config_of configs a.epoch)) answer e)
+          ∙ ap (option_and_then (λ (config : Configuration). pool_of config a.sight)) there.1;
+    }
+
+seated_at : (configs : List Configuration) (h : History) (now : ℕ) (event : Event) (answer : Told) → current h ≤ length configs → full_next configs (marked configs h) now event ≡ gives answer
+    → SeatedSo configs (marked configs h) (seating_of event answer)
+unfolding full_next full_next_at seat_pool
+seated_at configs h now (Seat c) (told.Seat n pool) few e = seated_by configs h c (told.Seat n pool) (allowed_of (entries (marked configs h)) c) few refl e
+seated_at configs h now (Seat c) told.NoSeat few e = seated_by configs h c told.NoSeat (allowed_of (entries (marked configs h)) c) few refl e
+seated_at configs h now (Seat c) answer few e = tt
+seated_at configs h now event answer few e = tt
+
+first_seats : (configs : List Configuration) (event : Event) (answer : Told) → is_begin event ≡ true → SeatedSo configs [] (seating_of event answer)
+first_seats configs (Begin offset) answer b = tt
+first_seats configs event answer b = absurd (cc)
+
+faults_so : (configs : List Configuration) (m : Past) (e : Noted) → FaultsSo configs m (mark configs m e)
+faults_so configs m e = record {
+  long = λ n d at long. ap (λ (v : Event). (says_at configs m e.moment v).took) at ∙ long_takes configs m n e.moment d long;
+  no_room = λ n d at r. ap (λ (v : Event). (says_at configs m e.moment v).took) at ∙ no_room_takes configs m n e.moment d r;
+}
+
+first_sends : (configs : List Configuration) (event : Event) (answer : Told) → is_begin event ≡ true → SentSo configs [] (sending_of event answer)
+first_sends configs (Begin offset) answer b = tt
+first_sends configs event answer b = absurd (cc)
+
+sent_at : (configs : List Configuration) (m : Past) (now : ℕ) (event : Event) (answer : Told) → full_next configs m now event ≡ gives answer → SentSo configs m (sending_of event answer)
+unfolding full_next
+sent_at configs m now event answer e = sent_so configs m (counted_moment (entries m) now) event answer e
+
 fewer : (x : Noted) (h : History) (n : ℕ) → current (x ∷ h) ≤ n → current h ≤ n
 fewer x h n l = by (begins_epoch x.event) (current h) n l
   where
@@ -162,7 +269,10 @@ legal_faithful configs [] each few legal = tt
 legal_faithful configs (x ∷ []) each few legal = (
   record {
     judged = subst (JudgedSo configs []) (sym (begin_judges x.event x.answer legal.0)) tt;
+    seated = first_seats configs x.event x.answer legal.0;
+    faults = faults_so configs [] x;
     put = put_so configs [] x.moment x.event (says_at configs [] x.moment x.event).put refl;
+    sent = first_sends configs x.event x.answer legal.0;
     open_once = open_at configs (x ∷ []);
     sent_once = sent_at_most configs (x ∷ []) (names_once configs each) legal;
   },
@@ -171,7 +281,10 @@ legal_faithful configs (x ∷ []) each few legal = (
 legal_faithful configs (x ∷ f ∷ h) each few legal = (
   record {
     judged = judged_at configs (f ∷ h) x.moment x.event x.answer (judgement x.event x.answer) refl each (fewer x (f ∷ h) (length configs) few) legal.0 legal.4;
+    seated = seated_at configs (f ∷ h) x.moment x.event x.answer (fewer x (f ∷ h) (length configs) few) legal.4;
+    faults = faults_so configs (marked configs (f ∷ h)) x;
     put = put_so configs (marked configs (f ∷ h)) x.moment x.event (says_at configs (marked configs (f ∷ h)) x.moment x.event).put refl;
+    sent = sent_at configs (marked configs (f ∷ h)) x.moment x.event x.answer legal.4;
     open_once = open_at configs (x ∷ f ∷ h);
     sent_once = sent_at_most configs (x ∷ f ∷ h) (names_once configs each) legal;
   },

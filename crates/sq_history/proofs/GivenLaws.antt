@@ -1,42 +1,37 @@
 -- What is kept, and what a check takes, was given by lines of helpers.
-use Rattle.std.proofs.Common.{◌≡◌, ◌⊎◌, inl, inr, ℕ, zero, suc, List, [], ◌∷◌, ◌++◌, take, cond, Bool, true, false, not, ◌&&◌, ◌==◌, nat_lt, length, bytes_eq, if◌then◌else◌, Option, Some, None, is_some, refl, sym, ap, ap₂, subst, ◌∙◌}
+use Rattle.std.proofs.Common.{◌≡◌, ◌⊎◌, inl, inr, ℕ, zero, suc, List, [], ◌∷◌, ◌++◌, take, cond, Bool, true, false, not, ◌&&◌, ◌==◌, nat_lt, bytes_eq, if◌then◌else◌, Option, Some, None, is_some, refl, sym, ap, ap₂, subst, ◌∙◌}
 use Rattle.std.specs.Map.{lookup, lookup_entry}
-use Rattle.std.specs.Option.{option_and_then, option_map_or}
+use Rattle.std.specs.Option.{option_map_or}
 use Rattle.std.proofs.lemmas.Option.{none-some, same_Some}
 use Rattle.sq_base.specs.declared.helpers.Answer.{Answer}
-use Rattle.sq_base.specs.declared.helpers.Cause.TheVariants as cause
 use Rattle.sq_base.specs.declared.helpers.What.{What}
 use Rattle.sq_rules.specs.declared.entries.Event.{Event}
 use Rattle.sq_rules.specs.declared.entries.Event.TheVariants.{Begin, Step, Line, Reconfigure}
 use Rattle.sq_rules.specs.declared.entries.Told.{Told}
 use Rattle.sq_rules.specs.declared.entries.Told.TheVariants as told
 use Rattle.sq_rules.specs.declared.kept.KeptVerdict.{KeptVerdict}
-use Rattle.sq_rules.specs.declared.values.Value.{Value}
-use Rattle.sq_rules.specs.declared.values.Value.TheVariants as value
-use Rattle.sq_rules.specs.AnswerReadings.{answers}
-use Rattle.sq_rules.specs.Checks.{Asked, ask_of}
+use Rattle.sq_rules.specs.Checks.{ask_of}
 use Rattle.sq_rules.specs.Classes.{Class}
 use Rattle.sq_rules.specs.Configurations.{Configuration}
 use Rattle.sq_rules.specs.Entries.{History}
 use Rattle.sq_rules.specs.Epochs.{class_at}
-use Rattle.sq_rules.specs.FarmReadings.{farm_with}
-use Rattle.sq_rules.specs.Farms.{full}
 use Rattle.sq_rules.specs.Freshness.{is_fresh, ttl_of}
 use Rattle.sq_rules.specs.FullNext.{FullLegal, full_next_at, told_of_line}
-use Rattle.sq_rules.specs.Processes.{is_running}
-use Rattle.sq_rules.specs.KeptLists.{KeptList, fresh_for, if_fresh, is_fault, keep, kept_without, same_key, to_front, verdict_of}
+use Rattle.sq_rules.specs.KeptLists.{KeptList, if_fresh, is_fault, keep, kept_without, same_key, to_front, verdict_of}
 use Rattle.sq_rules.specs.KeptReadings.{after_took, alike_place, keep_reply, keep_what, kept, key_here}
-use Rattle.sq_rules.specs.Limits.{key_limit}
-use Rattle.sq_rules.specs.Machine.{config_of, gives, is_begin}
+use Rattle.sq_rules.specs.Machine.{gives, is_begin}
 use Rattle.sq_rules.specs.Marking.{mark, marked}
 use Rattle.sq_rules.specs.Marks.{Marked, Past, Put, entries}
-use Rattle.sq_rules.specs.Questions.{pending, put_count, put_is, put_of, said_by}
+use Rattle.sq_rules.specs.Processes.{is_running}
+use Rattle.sq_rules.specs.Questions.{put_is, put_of, said_by}
 use Rattle.sq_rules.specs.Readings.{current}
-use Rattle.sq_rules.specs.StepRule.{class_of_acl, says_asked, says_asked_of, says_at_place, says_fault, says_fresh, says_need, says_of_class, says_value, step_says, value_over}
+use Rattle.sq_rules.specs.StepRule.{StepSays, step_says}
 use Rattle.sq_history.specs.Carried.{Carried, NamesOnce}
-use Rattle.sq_history.specs.Given.{EachOf, FreshGiven, Given, IsStepFault, epoch_at, gift_of}
+use Rattle.sq_history.specs.Given.{EachOf, Given, TakesFault, TakesFresh, gift_of}
+use Rattle.sq_history.specs.Waits.{IsNeeded}
 use Rattle.sq_history.proofs.ClassParts.{bytes_itself, bytes_same, equal}
 use Rattle.sq_history.proofs.LegalLaws.{IsReplied, legal_induction, line_replied, next_line}
+use Rattle.sq_history.proofs.RuleLaws.{SaysOf, TakesKept, TakesNone, step_is, takes_so}
 
 -- something that holds of each
 pub each_weaker : {A : Type 0} (P Q : A → Type 0) (xs : List A) → ((x : A) → P x → Q x) → EachOf P xs → EachOf Q xs
@@ -216,17 +211,6 @@ kept_is_given configs h once legal =
     (legal_induction configs (AllKeptGiven configs) once (λ x b. given_first configs x.moment x.event x.answer b)
     (λ m now event answer is c g. given_next configs m now event answer once is c g) h legal).1
 
--- where an answer comes from that a step takes
-abbrev pub IsGood : List Configuration → Past → ℕ → Answer → Type 0
-IsGood configs m e a = FreshGiven configs m e a ⊎ IsStepFault a
-
--- of what a step takes, if it takes something
-pub record TakesGood (configs : List Configuration) (m : Past) (e : ℕ) (t : Option Answer) : Type 0 where
-  pub good : (a : Answer) → t ≡ Some a → IsGood configs m e a
-
-takes_none : (configs : List Configuration) (m : Past) (e : ℕ) → TakesGood configs m e None
-takes_none configs m e = record { good = λ a is. absurd (none-some a is) }
-
 if_fresh_is : (class : Class) (now : ℕ) (o : Option KeptVerdict) (v : KeptVerdict) → if_fresh class now o ≡ Some v → (o ≡ Some v) × (is_fresh class v now ≡ true)
 if_fresh_is class now None v e = absurd (none-some v e)
 if_fresh_is class now (Some w) v e = by (is_fresh class w now) refl e
@@ -235,60 +219,52 @@ if_fresh_is class now (Some w) v e = by (is_fresh class w now) refl e
     by true t e = (e, ap (λ (z : KeptVerdict). is_fresh class z now) (sym (same_Some _ _ e)) ∙ t)
     by false t e = absurd (none-some v e)
 
-good_asked : (configs : List Configuration) (m : Past) (e : ℕ) (name : List ℕ) (p : Put) (now : ℕ) (o : Option ℕ) (f : Bool) (count : ℕ) → TakesGood configs m e (says_asked name p now o f count).took
-good_asked configs m e name p now (Some q) f count = takes_none configs m e
-good_asked configs m e name p now None true count =
-    record { good = λ a is. subst (IsGood configs m e) (same_Some _ _ is) (inr (refl, refl, inl refl)) }
-good_asked configs m e name p now None false count = takes_none configs m e
-
-good_fresh : (configs : List Configuration) (m : Past) (e c : ℕ) (key : List ℕ) (class : Class) (now : ℕ) (v : Option KeptVerdict) (o : Option ℕ) (f : Bool) (count : ℕ)
-    → class_at configs e c ≡ Some class → AllKeptGiven configs m → fresh_for class key now (kept configs m e c) ≡ v
-    → TakesGood configs m e (says_fresh class (record { epoch = e; class = c; key = key }) now v o f count).took
-good_fresh configs m e c key class now None o f count at g is = good_asked configs m e class.name (record { epoch = e; class = c; key = key }) now o f count
-good_fresh configs m e c key class now (Some v) o f count at g is =
-    let fresh = if_fresh_is class now (verdict_of key (kept configs m e c)) v is in
-    let found = each_verdict (KeptGiven configs m e c) key (kept configs m e c) v (g.kept_given e c) fresh.0 in
-    record {
-      good = λ a t. subst (IsGood configs m e) (same_Some _ _ t) (inl (record {
-        question = v.question;
-        class = class;
-        question_is = refl;
-        class_is = at;
-        given = subst (λ (k : List ℕ). Given configs m e c (record { key = k; what = v.what; question = v.question; date = v.date })) (sym (bytes_same key found.at found.key_is)) found.holds;
-        fresh = fresh.1;
-      }));
-    }
-
-good_need : (configs : List Configuration) (m : Past) (e c : ℕ) (key : List ℕ) (class : Class) (now : ℕ) (o : Option ℕ) (f : Bool) (count : ℕ)
-    → class_at configs e c ≡ Some class → AllKeptGiven configs m → TakesGood configs m e (says_need class (record { epoch = e; class = c; key = key }) now (kept configs m e c) o f count).took
-good_need configs m e c key class now o f count at g = by (nat_lt key_limit (length key)) refl
-  where
-    p : Put
-    p = record { epoch = e; class = c; key = key }
-
-    by : (b : Bool) → nat_lt key_limit (length key) ≡ b
-        → TakesGood configs m e (if b then says_fault class.name p cause.KeyTooLong now else says_fresh class p now (fresh_for class key now (kept configs m e c)) o f count).took
-    by true long = record { good = λ a is. subst (IsGood configs m e) (same_Some _ _ is) (inr (refl, refl, inr (refl, long))) }
-    by false long = good_fresh configs m e c key class now (fresh_for class key now (kept configs m e c)) o f count at g refl
-
-good_class : (configs : List Configuration) (m : Past) (e c : ℕ) (key : List ℕ) (now : ℕ) (o : Option Class) → class_at configs e c ≡ o → AllKeptGiven configs m
-    → TakesGood configs m e (says_of_class configs m e c key now o).took
-good_class configs m e c key now None at g = takes_none configs m e
-good_class configs m e c key now (Some class) at g = good_need configs m e c key class now (pending configs m e c key) (full (farm_with configs m e c class)) (put_count m) at g
-
-good_place : (configs : List Configuration) (m : Past) (e : ℕ) (key : List ℕ) (now : ℕ) (o : Option ℕ) → AllKeptGiven configs m → TakesGood configs m e (says_at_place configs m e key now o).took
-good_place configs m e key now None g = takes_none configs m e
-good_place configs m e key now (Some c) g = good_class configs m e c key now (class_at configs e c) refl g
-
-good_value : (configs : List Configuration) (m : Past) (e now : ℕ) (v : Value) → AllKeptGiven configs m → TakesGood configs m e (says_value configs m e now v).took
-good_value configs m e now (value.Verdict o) g = takes_none configs m e
-good_value configs m e now (value.Need acl key) g = good_place configs m e key now (option_and_then (λ config. class_of_acl config.acls acl) (config_of configs e)) g
-
-good_asked_of : (configs : List Configuration) (m : Past) (now : ℕ) (s : List Answer) (o : Option Asked) → AllKeptGiven configs m
-    → TakesGood configs m (option_map_or (λ a. a.epoch) o 0) (says_asked_of configs m now s o).took
-good_asked_of configs m now s None g = takes_none configs m 0
-good_asked_of configs m now s (Some a) g = good_value configs m a.epoch now (value_over configs a s) g
+-- a verdict that is kept and fresh was given
+fresh_given : (configs : List Configuration) (m : Past) (e c : ℕ) (key : List ℕ) (v : KeptVerdict) → AllKeptGiven configs m → verdict_of key (kept configs m e c) ≡ Some v
+    → Given configs m e c (record { key = key; what = v.what; question = v.question; date = v.date })
+fresh_given configs m e c key v g is =
+    let found = each_verdict (KeptGiven configs m e c) key (kept configs m e c) v (g.kept_given e c) is in
+    subst (λ (k : List ℕ). Given configs m e c (record { key = k; what = v.what; question = v.question; date = v.date })) (sym (bytes_same key found.at found.key_is)) found.holds
 
 -- what a step of check n takes was given and is fresh, or is a fault of the step
-pub step_good : (configs : List Configuration) (m : Past) (n now : ℕ) → AllKeptGiven configs m → TakesGood configs m (epoch_at m n) (step_says configs m n now).took
-step_good configs m n now g = good_asked_of configs m now (answers configs m n) (ask_of (entries m) n) g
+pub step_takes : (configs : List Configuration) (m : Past) (now n : ℕ) (answer : Told) (a : Answer) → AllKeptGiven configs m → (step_says configs m n now).took ≡ Some a
+    → TakesFresh configs m (mark configs m (record { moment = now; event = Step n; answer = answer })) n a
+    ⊎ TakesFault configs m (mark configs m (record { moment = now; event = Step n; answer = answer })) n a
+step_takes configs m now n answer a g is = by (step_is configs m n now)
+  where
+    x : Marked
+    x = mark configs m (record { moment = now; event = Step n; answer = answer })
+
+    of_need : (d : IsNeeded configs m n) → TakesKept configs m n now d a ⊎ TakesNone configs m n now d a → TakesFresh configs m x n a ⊎ TakesFault configs m x n a
+    of_need d (inl t) =
+        let v : KeptVerdict = record { what = a.what; question = t.question; date = a.date } in
+        let f = if_fresh_is d.class now (verdict_of d.key (kept configs m d.asked.epoch d.place)) v t.fresh_is in
+        inl (record {
+          event_is = refl;
+          took_is = is;
+          needed = d;
+          question = t.question;
+          class_is = t.class_is;
+          key_is = t.key_is;
+          question_is = t.question_is;
+          taken_is = t.taken_is;
+          kept_is = f.0;
+          fresh = ap (is_fresh d.class v) t.taken_is ∙ f.1;
+          given = fresh_given configs m d.asked.epoch d.place d.key v g f.0;
+        })
+    of_need d (inr t) =
+        inr (record {
+          event_is = refl;
+          took_is = is;
+          needed = d;
+          class_is = t.class_is;
+          key_is = t.key_is;
+          question_is = t.question_is;
+          date_is = t.date_is;
+          taken_is = t.taken_is;
+          cause_is = t.cause_is;
+        })
+
+    by : SaysOf configs m n now (step_says configs m n now) → TakesFresh configs m x n a ⊎ TakesFault configs m x n a
+    by (inl done) = absurd (none-some a (sym (ap (λ (s : StepSays). s.took) done) ∙ is))
+    by (inr r) = of_need r.needed (takes_so configs m n now r.needed a (sym (ap (λ (s : StepSays). s.took) r.is) ∙ is))

@@ -17,7 +17,6 @@ use Rattle.sq_rules.specs.declared.entries.Told.{Told}
 use Rattle.sq_rules.specs.declared.entries.Told.TheVariants as told
 use Rattle.sq_rules.specs.declared.refusals.Refusal.{Refusal}
 use Rattle.sq_rules.specs.declared.refusals.Refusal.TheVariants as refusal
-use Rattle.sq_rules.specs.Limits.{last_number}
 use Rattle.sq_rules.specs.declared.values.Value.{Value}
 use Rattle.sq_rules.specs.declared.values.Value.TheVariants as value
 use Rattle.sq_rules.specs.AnswerReadings.{answers}
@@ -30,10 +29,11 @@ use Rattle.sq_rules.specs.Entries.{History, Noted}
 use Rattle.sq_rules.specs.Epochs.{channels_named, class_at, class_named, has_open_check, is_check_of, is_live, live_epochs, name_of_class, place_of_class}
 use Rattle.sq_rules.specs.Events.{Asking, asking, begins_epoch, is_number}
 use Rattle.sq_rules.specs.FarmReadings.{farm_of, farm_with, is_put_for, is_queued, living_of, waiting_of}
-use Rattle.sq_rules.specs.Farms.{Sending, Stock, Waiting, send_of, start_due}
+use Rattle.sq_rules.specs.Farms.{Sending, Stock, Waiting, send_by, send_of, start_due}
+use Rattle.sq_rules.specs.Farms.{full}
 use Rattle.sq_rules.specs.FullNext.{FullLegal, act_next, full_next, full_next_at, has_start, told_of_line, with_place}
 use Rattle.sq_rules.specs.KeptReadings.{kept}
-use Rattle.sq_rules.specs.Farms.{full}
+use Rattle.sq_rules.specs.Limits.{last_number}
 use Rattle.sq_rules.specs.Living.{Living, has_free, target}
 use Rattle.sq_rules.specs.Machine.{Next, config_of, gives, is_begin, refuse_if}
 use Rattle.sq_rules.specs.Marking.{mark, marked}
@@ -373,13 +373,35 @@ none_there : (o : Option ℕ) → is_some o ≡ false → o ≡ None
 none_there None e = refl
 none_there (Some k) e = absurd (cc)
 
--- a send that is due: its question was put for a class, was sent nowhere and has not ended, and it goes to a process of that class
+-- the text of the first of a queue is the key of its question
+first_text : (m : Past) (xs : List ℕ) (w : Waiting) (rest : List Waiting) → map (waiting_of m) xs ≡ w ∷ rest → option_map_or (λ p. p.key) (put_of m w.question) [] ≡ w.text
+first_text m [] w rest e = absurd (cc)
+first_text m (x ∷ xs) w rest e =
+    let is : waiting_of m x ≡ w = ap first e in
+    ap (λ (v : Waiting). option_map_or (λ p. p.key) (put_of m v.question) []) (sym is) ∙ ap (λ (v : Waiting). v.text) is
+  where
+    first : List Waiting → Waiting
+    first [] = w
+    first (v ∷ vs) = v
+
+-- and so is the text that is sent
+sent_text : (queue : List Waiting) (t : Option (ℕ × Option ℕ)) (s : Sending) (w : Waiting) (rest : List Waiting) → send_by queue t ≡ Some s → queue ≡ w ∷ rest → w.text ≡ s.text
+sent_text [] t s w rest e is = absurd (cc)
+sent_text (v ∷ queue) None s w rest e is = absurd (none-some s e)
+sent_text (v ∷ queue) (Some t) s w rest e is = sym (ap text is) ∙ ap (λ (z : Sending). z.text) (same_Some _ _ e)
+  where
+    text : List Waiting → List ℕ
+    text [] = []
+    text (z ∷ zs) = z.text
+
+-- a send that is due: its question was put for a class, with the key that is sent, was sent nowhere and has not ended, and it goes to a process of that class
 pub record IsDueSend (configs : List Configuration) (m : Past) (p q : ℕ) (channel : Option ℕ) (key : List ℕ) : Type 0 where
   pub epoch : ℕ
   pub place : ℕ
   pub class : Class
   pub class_is : class_at configs epoch place ≡ Some class
   pub put : is_put_for epoch place (put_of m q) ≡ true
+  pub key_is : option_map_or (λ p. p.key) (put_of m q) [] ≡ key
   pub unsent : sent_to m q ≡ None
   pub unended : has_ended configs m q ≡ false
   pub given : q ≤ put_count m
@@ -403,6 +425,8 @@ due_send configs m e c class s at due =
       class = class;
       class_is = at;
       put = ap (λ (j : ℕ). is_put_for e c (put_of m j)) (sym i.question_is) ∙ q.0;
+      key_is = ap (λ (j : ℕ). option_map_or (λ p. p.key) (put_of m j) []) (sym i.question_is)
+          ∙ first_text m (picks (is_queued configs m e c) (put_count m)) i.first i.rest i.queue_is ∙ sent_text farm.queue (target farm.procs) s i.first i.rest due i.queue_is;
       unsent = ap (sent_to m) (sym i.question_is) ∙ none_there (sent_to m i.first.question) q.1;
       unended = ap (has_ended configs m) (sym i.question_is) ∙ q.2;
       given = subst (λ (j : ℕ). j ≤ put_count m) i.question_is first.given;

@@ -23,12 +23,12 @@ pub mod PutLaws
 pub mod EpochLaws
 pub mod ProcessLaws
 pub mod QuestionLaws
+pub mod RuleLaws
 pub mod GivenLaws
-pub mod SoundLaws
 pub mod NeedLaws
 pub mod StayLaws
-pub mod RuleLaws
 pub mod WaitLaws
+pub mod SoundLaws
 pub mod DistinctLaws
 pub mod ConfigurationLaws
 pub mod AloneLaws

@@ -4,6 +4,7 @@ use Rattle.std.proofs.Common.{◌≡◌, ℕ, suc, ◌<◌, ◌≤◌, List, [],
 use Rattle.std.specs.Option.{option_or, option_map_or}
 use Rattle.std.proofs.lemmas.Bool.{and_right}
 use Rattle.std.proofs.lemmas.Bool.Decides.{nat_tests}
+use Rattle.std.proofs.lemmas.Option.{none-some}
 use Rattle.sq_base.specs.declared.helpers.Cause.{Cause}
 use Rattle.sq_base.specs.declared.helpers.Cause.TheVariants as cause
 use Rattle.sq_base.specs.declared.helpers.What.TheVariants as what
@@ -16,7 +17,7 @@ use Rattle.sq_rules.specs.Checks.{ask_count, check_open, more_if, numbered}
 use Rattle.sq_rules.specs.Configurations.{Configuration}
 use Rattle.sq_rules.specs.Entries.{History}
 use Rattle.sq_rules.specs.Epochs.{name_of_class}
-use Rattle.sq_rules.specs.Events.{asking, is_number}
+use Rattle.sq_rules.specs.Events.{Asking, asking, is_number}
 use Rattle.sq_rules.specs.Marks.{Past, Put, entries}
 use Rattle.sq_rules.specs.Processes.{cause_here, ended_by, home_of, if_here, line_end, proc_count, proc_end, started_by}
 use Rattle.sq_rules.specs.Questions.{end_at, end_told, first_end, leaves_none, put_count, put_of, question_end, said_by, send_told, sends, sent_to, unended}
@@ -179,3 +180,15 @@ open_positive h n opened = by n (n == 0) refl opened
     by : (n : ℕ) (b : Bool) → (n == 0) ≡ b → check_open h n ≡ true → 1 ≤ n
     by n true z o = let shut = check_open_unborn h n (record { unborn = inl (zero_is n z) }) in absurd (cc)
     by n false z o = grind (arith, nat_tests)
+
+-- a number that is given is above those before
+pub new_number : (n k : ℕ) (o : Option Asking) (a : Asking) → numbered n k o ≡ Some a → k < n
+new_number n k None a e = absurd (none-some a e)
+new_number n k (Some b) a e = by (n == suc k) refl e
+  where
+    above : (n k : ℕ) → (n == suc k) ≡ true → k < n
+    above n k e = grind (arith, nat_tests)
+
+    by : (t : Bool) → (n == suc k) ≡ t → (if t then Some b else None) ≡ Some a → k < n
+    by true t e = above n k t
+    by false t e = absurd (none-some a e)

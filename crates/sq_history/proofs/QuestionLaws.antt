@@ -1,6 +1,6 @@
 -- The questions of a legal history: one of a key has not ended, each is sent once at most, and what is sent was put.
-use Rattle.std.proofs.Common.{◌≡◌, ◌⊎◌, inl, inr, ℕ, suc, ◌≤◌, List, [], ◌∷◌, Bool, true, false, ◌&&◌, ◌==◌, nat_le, nat_lt, length, if◌then◌else◌, Option, Some, None, is_some, refl, sym, ap, subst, ◌∙◌}
-use Rattle.std.specs.Option.{option_or}
+use Rattle.std.proofs.Common.{Bool, List, None, Option, Some, ℕ, [], ap, ap₂, bytes_eq, false, if◌then◌else◌, inl, inr, is_some, length, nat_le, nat_lt, refl, subst, suc, sym, true, ◌&&◌, ◌==◌, ◌∙◌, ◌∷◌, ◌≡◌, ◌≤◌, ◌⊎◌}
+use Rattle.std.specs.Option.{option_map_or, option_or}
 use Rattle.std.proofs.lemmas.Bool.{le-leb}
 use Rattle.std.proofs.lemmas.Option.{none-some, same_Some}
 use Rattle.sq_base.specs.declared.helpers.Cause.TheVariants as cause
@@ -12,9 +12,12 @@ use Rattle.sq_rules.specs.declared.kept.KeptVerdict.{KeptVerdict}
 use Rattle.sq_rules.specs.Classes.{Class}
 use Rattle.sq_rules.specs.Configurations.{Configuration}
 use Rattle.sq_rules.specs.Entries.{History}
+use Rattle.sq_rules.specs.FarmReadings.{farm_with, is_put_for}
+use Rattle.sq_rules.specs.Farms.{full}
 use Rattle.sq_rules.specs.Freshness.{is_due}
 use Rattle.sq_rules.specs.FullNext.{FullLegal, full_next_at}
 use Rattle.sq_rules.specs.KeptLists.{KeptList, fresh_for}
+use Rattle.sq_rules.specs.KeptReadings.{kept}
 use Rattle.sq_rules.specs.Limits.{key_limit}
 use Rattle.sq_rules.specs.Machine.{gives, is_begin}
 use Rattle.sq_rules.specs.Marking.{mark, marked, says_at}
@@ -23,15 +26,12 @@ use Rattle.sq_rules.specs.Processes.{if_here}
 use Rattle.sq_rules.specs.Questions.{has_ended, pending, put_count, put_is, put_of, sends, sent_to}
 use Rattle.sq_rules.specs.StepRule.{StepSays, refresh, says_asked, says_fault, says_fresh, says_kept, says_need, step_says}
 use Rattle.sq_history.specs.Carried.{Carried, NamesOnce}
+use Rattle.sq_history.specs.Faithful.{IsPutSo, IsSentSo, PutSo, SentSo, sending_of}
 use Rattle.sq_history.specs.Given.{sends_question, times_sent}
-use Rattle.sq_history.proofs.ClassParts.{equal}
+use Rattle.sq_history.specs.Waits.{IsNeeded}
+use Rattle.sq_history.proofs.ClassParts.{bytes_itself, equal}
 use Rattle.sq_history.proofs.LegalLaws.{IsDueSend, legal_induction, next_acts, next_send}
 use Rattle.sq_history.proofs.PendingLaws.{one_open, puts_need}
-use Rattle.sq_rules.specs.FarmReadings.{farm_with}
-use Rattle.sq_rules.specs.Farms.{full}
-use Rattle.sq_rules.specs.KeptReadings.{kept}
-use Rattle.sq_history.specs.Faithful.{IsPutSo, PutSo}
-use Rattle.sq_history.specs.Waits.{IsNeeded}
 use Rattle.sq_history.proofs.RuleLaws.{SaysOf, need_says, step_is}
 
 -- two questions of one epoch, class and key that have not ended are one
@@ -170,3 +170,30 @@ pub put_so : (configs : List Configuration) (m : Past) (now : ℕ) (event : Even
 put_so configs m now event None is = tt
 put_so configs m now (Step n) (Some p) is = put_at_step configs m n now p is
 put_so configs m now event (Some p) is = absurd (none-some p is)
+
+put_with_key : (e c : ℕ) (key : List ℕ) (o : Option Put) → is_put_for e c o ≡ true → option_map_or (λ p. p.key) o [] ≡ key → put_is e c key o ≡ true
+put_with_key e c key None t same = absurd (cc)
+put_with_key e c key (Some p) t same = ap₂ (λ (a b : Bool). a && b) t (ap (bytes_eq p.key) (sym same) ∙ bytes_itself p.key)
+
+send_so : (configs : List Configuration) (m : Past) (now p q : ℕ) (channel : Option ℕ) (key : List ℕ) → full_next_at configs m now Act ≡ gives (told.Send p q channel key)
+    → IsSentSo configs m (record { proc = p; question = q; channel = channel; text = key })
+send_so configs m now p q channel key e =
+    let d = send_put configs m now p q channel key e in
+    record {
+      epoch = d.epoch;
+      place = d.place;
+      class = d.class;
+      class_is = d.class_is;
+      put_is_it = put_with_key d.epoch d.place key (put_of m q) d.put d.key_is;
+      runs = d.runs;
+      free = d.free;
+      channel_is = d.channel_is;
+      unsent = d.unsent;
+      unended = d.unended;
+    }
+
+-- each send is of a question that was put for the process's class, with the key that is sent
+pub sent_so : (configs : List Configuration) (m : Past) (now : ℕ) (event : Event) (answer : Told) → full_next_at configs m now event ≡ gives answer → SentSo configs m (sending_of event answer)
+sent_so configs m now Act (told.Send p q channel key) e = send_so configs m now p q channel key e
+sent_so configs m now Act answer e = tt
+sent_so configs m now event answer e = tt

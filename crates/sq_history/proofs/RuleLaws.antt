@@ -1,6 +1,12 @@
--- What a step of a check says: that the check is done, or what the rule says of a key that it needs.
-use Rattle.std.proofs.Common.{◌≡◌, ◌⊎◌, inl, inr, ℕ, List, Option, Some, None, refl}
+-- What a step of a check says: that the check is done, or what the rule says of a key that it needs; and what it takes.
+use Rattle.std.proofs.Common.{Bool, List, None, Option, Some, ℕ, ap, ap₂, false, if◌then◌else◌, inl, inr, length, nat_lt, refl, subst, true, ◌∙◌, ◌≡◌, ◌⊎◌}
 use Rattle.std.specs.Option.{option_and_then}
+use Rattle.std.proofs.lemmas.Option.{none-some, same_Some}
+use Rattle.sq_base.specs.declared.helpers.Answer.{Answer}
+use Rattle.sq_base.specs.declared.helpers.Cause.{Cause}
+use Rattle.sq_base.specs.declared.helpers.Cause.TheVariants as cause
+use Rattle.sq_base.specs.declared.helpers.What.TheVariants as what
+use Rattle.sq_rules.specs.declared.kept.KeptVerdict.{KeptVerdict}
 use Rattle.sq_rules.specs.declared.values.Value.{Value}
 use Rattle.sq_rules.specs.declared.values.Value.TheVariants as value
 use Rattle.sq_rules.specs.AnswerReadings.{answers}
@@ -10,11 +16,14 @@ use Rattle.sq_rules.specs.Configurations.{Configuration}
 use Rattle.sq_rules.specs.Epochs.{class_at}
 use Rattle.sq_rules.specs.FarmReadings.{farm_with}
 use Rattle.sq_rules.specs.Farms.{full}
+use Rattle.sq_rules.specs.KeptLists.{KeptList, fresh_for}
 use Rattle.sq_rules.specs.KeptReadings.{kept}
+use Rattle.sq_rules.specs.Limits.{key_limit}
 use Rattle.sq_rules.specs.Machine.{config_of}
-use Rattle.sq_rules.specs.Marks.{Past, entries}
+use Rattle.sq_rules.specs.Marks.{Past, Put, entries}
 use Rattle.sq_rules.specs.Questions.{pending, put_count}
-use Rattle.sq_rules.specs.StepRule.{StepSays, class_of_acl, says_asked_of, says_at_place, says_done, says_need, says_of_class, says_value, step_says, value_over}
+use Rattle.sq_rules.specs.StepRule.{StepSays, class_of_acl, says_asked, says_asked_of, says_at_place, says_done, says_fault, says_fresh, says_need, says_of_class, says_value, step_says, value_over}
+use Rattle.sq_history.specs.Given.{FindsNoRoom, IsTooLong, fault_for}
 use Rattle.sq_history.specs.Waits.{IsNeeded}
 
 -- what the rule says of a need of check n
@@ -58,3 +67,94 @@ check_says configs m n now (Some a) ask = value_says configs m n now a (value_ov
 -- what a step of check n says: that it is done, or what the rule says of a need of it
 pub step_is : (configs : List Configuration) (m : Past) (n now : ℕ) → SaysOf configs m n now (step_says configs m n now)
 step_is configs m n now = check_says configs m n now (ask_of (entries m) n) refl
+
+-- a step of a check that needs a key says what the rule says of that need
+pub need_step : (configs : List Configuration) (m : Past) (n now : ℕ) (d : IsNeeded configs m n) → step_says configs m n now ≡ need_says configs m n now d
+need_step configs m n now d =
+    ap (says_asked_of configs m now (answers configs m n)) d.ask_is
+    ∙ ap (says_value configs m d.asked.epoch now) d.value_is
+    ∙ ap (says_at_place configs m d.asked.epoch d.key now) d.place_is
+    ∙ ap (says_of_class configs m d.asked.epoch d.place d.key now) d.class_is
+
+-- a step takes the fault of a long key where the key is too long
+pub long_takes : (configs : List Configuration) (m : Past) (n now : ℕ) (d : IsNeeded configs m n) → IsTooLong configs m n d
+    → (step_says configs m n now).took ≡ Some (fault_for configs m n d cause.KeyTooLong now)
+long_takes configs m n now d long =
+    ap (λ (s : StepSays). s.took) (need_step configs m n now d)
+    ∙ ap (λ (b : Bool). (if b then says_fault d.class.name p cause.KeyTooLong now
+    else says_fresh d.class p now (fresh_for d.class d.key now (kept configs m d.asked.epoch d.place)) (pending configs m d.asked.epoch d.place d.key)
+    (full (farm_with configs m d.asked.epoch d.place d.class)) (put_count m)).took) long
+  where
+    p : Put
+    p = record { epoch = d.asked.epoch; class = d.place; key = d.key }
+
+-- and that of a full queue where no verdict is fresh, none is pending and the farm is full
+pub no_room_takes : (configs : List Configuration) (m : Past) (n now : ℕ) (d : IsNeeded configs m n) → FindsNoRoom configs m n now d
+    → (step_says configs m n now).took ≡ Some (fault_for configs m n d cause.QueueFull now)
+no_room_takes configs m n now d r =
+    ap (λ (s : StepSays). s.took) (need_step configs m n now d)
+    ∙ ap (λ (b : Bool). (if b then says_fault d.class.name p cause.KeyTooLong now
+    else says_fresh d.class p now (fresh_for d.class d.key now (kept configs m d.asked.epoch d.place)) (pending configs m d.asked.epoch d.place d.key)
+    (full (farm_with configs m d.asked.epoch d.place d.class)) (put_count m)).took) r.short
+    ∙ ap (λ (v : Option KeptVerdict). (says_fresh d.class p now v (pending configs m d.asked.epoch d.place d.key) (full (farm_with configs m d.asked.epoch d.place d.class)) (put_count m)).took) r.none_fresh
+    ∙ ap₂ (λ (o : Option ℕ) (f : Bool). (says_asked d.class.name p now o f (put_count m)).took) r.none_pending r.is_full
+  where
+    p : Put
+    p = record { epoch = d.asked.epoch; class = d.place; key = d.key }
+
+-- what the rule takes for a need: a verdict that is kept and fresh
+pub record TakesKept (configs : List Configuration) (m : Past) (n now : ℕ) (d : IsNeeded configs m n) (a : Answer) : Type 0 where
+  pub question : ℕ
+  pub class_is : a.class ≡ d.place
+  pub key_is : a.key ≡ d.key
+  pub question_is : a.question ≡ Some question
+  pub taken_is : a.taken ≡ now
+  pub fresh_is : fresh_for d.class d.key now (kept configs m d.asked.epoch d.place) ≡ Some (record { what = a.what; question = question; date = a.date })
+
+-- or a fault, where the key is too long, or where there is no room
+pub record TakesNone (configs : List Configuration) (m : Past) (n now : ℕ) (d : IsNeeded configs m n) (a : Answer) : Type 0 where
+  pub class_is : a.class ≡ d.place
+  pub key_is : a.key ≡ d.key
+  pub question_is : a.question ≡ None
+  pub date_is : a.date ≡ now
+  pub taken_is : a.taken ≡ now
+  pub cause_is : ((a.what ≡ what.Fault cause.KeyTooLong) × IsTooLong configs m n d) ⊎ ((a.what ≡ what.Fault cause.QueueFull) × FindsNoRoom configs m n now d)
+
+-- so it takes one of these
+pub takes_so : (configs : List Configuration) (m : Past) (n now : ℕ) (d : IsNeeded configs m n) (a : Answer) → (need_says configs m n now d).took ≡ Some a
+    → TakesKept configs m n now d a ⊎ TakesNone configs m n now d a
+takes_so configs m n now d a is = by (nat_lt key_limit (length d.key)) refl is
+  where
+    p : Put
+    p = record { epoch = d.asked.epoch; class = d.place; key = d.key }
+
+    k : KeptList
+    k = kept configs m d.asked.epoch d.place
+
+    o : Option ℕ
+    o = pending configs m d.asked.epoch d.place d.key
+
+    f : Bool
+    f = full (farm_with configs m d.asked.epoch d.place d.class)
+
+    of_fault : (c : Cause) → Some (record { class = d.place; key = d.key; what = what.Fault c; question = None; date = now; taken = now }) ≡ Some a
+        → ((what.Fault c ≡ what.Fault cause.KeyTooLong) × IsTooLong configs m n d) ⊎ ((what.Fault c ≡ what.Fault cause.QueueFull) × FindsNoRoom configs m n now d) → TakesNone configs m n now d a
+    of_fault c e so = subst (TakesNone configs m n now d) (same_Some _ _ e) (record { class_is = refl; key_is = refl; question_is = refl; date_is = refl; taken_is = refl; cause_is = so })
+
+    of_asked : nat_lt key_limit (length d.key) ≡ false → fresh_for d.class d.key now k ≡ None → (p' : Option ℕ) → o ≡ p' → (g : Bool) → f ≡ g
+        → (says_asked d.class.name p now p' g (put_count m)).took ≡ Some a → TakesKept configs m n now d a ⊎ TakesNone configs m n now d a
+    of_asked short stale (Some q) waits g room e = absurd (none-some a e)
+    of_asked short stale None waits true room e = inr (of_fault cause.QueueFull e (inr (refl, record { short = short; none_fresh = stale; none_pending = waits; is_full = room })))
+    of_asked short stale None waits false room e = absurd (none-some a e)
+
+    of_fresh : nat_lt key_limit (length d.key) ≡ false → (v : Option KeptVerdict) → fresh_for d.class d.key now k ≡ v → (says_fresh d.class p now v o f (put_count m)).took ≡ Some a
+        → TakesKept configs m n now d a ⊎ TakesNone configs m n now d a
+    of_fresh short None stale e = of_asked short stale o refl f refl e
+    of_fresh short (Some v) fresh e =
+        inl (subst (TakesKept configs m n now d) (same_Some _ _ e) (record { question = v.question; class_is = refl; key_is = refl; question_is = refl; taken_is = refl; fresh_is = fresh }))
+
+    by : (b : Bool) → nat_lt key_limit (length d.key) ≡ b
+        → (if b then says_fault d.class.name p cause.KeyTooLong now else says_fresh d.class p now (fresh_for d.class d.key now k) o f (put_count m)).took ≡ Some a
+        → TakesKept configs m n now d a ⊎ TakesNone configs m n now d a
+    by true long e = inr (of_fault cause.KeyTooLong e (inl (refl, long)))
+    by false short e = of_fresh short (fresh_for d.class d.key now k) refl e

@@ -1,8 +1,8 @@
 -- While a question has not ended, no entry makes a new verdict of its key in the list of its class: a verdict that is found there was found there before.
-use Rattle.std.proofs.Common.{◌≡◌, ℕ, zero, suc, ◌<◌, ◌≤◌, List, [], ◌∷◌, take, cond, Bool, true, false, not, ◌&&◌, ◌==◌, nat_le, nat_lt, if◌then◌else◌, Option, Some, None, is_some, refl, sym, ap, ap₂, ◌∙◌, arith}
+use Rattle.std.proofs.Common.{Bool, List, None, Option, Some, ℕ, [], ap, ap₂, arith, bytes_eq, cond, false, if◌then◌else◌, is_some, nat_le, nat_lt, not, refl, suc, sym, take, true, zero, ◌&&◌, ◌<◌, ◌==◌, ◌∙◌, ◌∷◌, ◌≡◌, ◌≤◌}
 use Rattle.std.specs.Map.{lookup_entry}
-use Rattle.std.specs.Option.{option_map_or}
-use Rattle.std.proofs.lemmas.Bool.{le-leb}
+use Rattle.std.specs.Option.{option_map_or, option_or}
+use Rattle.std.proofs.lemmas.Bool.{and_parts, le-leb}
 use Rattle.std.proofs.lemmas.Bool.Decides.{nat_tests}
 use Rattle.std.proofs.lemmas.Option.{none-some, same_Some}
 use Rattle.sq_base.specs.declared.helpers.Answer.{Answer}
@@ -15,6 +15,7 @@ use Rattle.sq_rules.specs.declared.kept.KeptVerdict.{KeptVerdict}
 use Rattle.sq_rules.specs.Checks.{ask_of}
 use Rattle.sq_rules.specs.Classes.{Class}
 use Rattle.sq_rules.specs.Configurations.{Configuration}
+use Rattle.sq_rules.specs.Entries.{Noted}
 use Rattle.sq_rules.specs.Epochs.{class_at}
 use Rattle.sq_rules.specs.Freshness.{ttl_of}
 use Rattle.sq_rules.specs.FullNext.{full_next_at}
@@ -22,13 +23,13 @@ use Rattle.sq_rules.specs.KeptLists.{KeptList, is_fault, keep, kept_without, sam
 use Rattle.sq_rules.specs.KeptReadings.{after_took, alike_place, keep_reply, keep_what, kept, key_here}
 use Rattle.sq_rules.specs.Machine.{gives}
 use Rattle.sq_rules.specs.Marking.{mark}
-use Rattle.sq_rules.specs.Marks.{Marked, Past, entries}
+use Rattle.sq_rules.specs.Marks.{Marked, Past, Put, entries}
 use Rattle.sq_rules.specs.Processes.{if_here}
 use Rattle.sq_rules.specs.Questions.{QuestionEnd, end_at, first_end, has_ended, put_count, put_is, put_of, question_end, said_by}
 use Rattle.sq_rules.specs.Readings.{current}
 use Rattle.sq_rules.specs.StepRule.{step_says}
 use Rattle.sq_history.specs.Carried.{Carried, NamesOnce}
-use Rattle.sq_history.proofs.ClassParts.{bytes_same, itself}
+use Rattle.sq_history.proofs.ClassParts.{bytes_same, equal, itself, not_next}
 use Rattle.sq_history.proofs.GivenLaws.{key_put_is}
 use Rattle.sq_history.proofs.LegalLaws.{IsReplied, line_replied, next_line}
 use Rattle.sq_history.proofs.NumberLaws.{put_of_above}
@@ -134,6 +135,31 @@ put_within m e c key q put = by (nat_le q (put_count m)) refl
     by : (b : Bool) → nat_le q (put_count m) ≡ b → q ≤ put_count m
     by true l = low q (put_count m) l
     by false l = absurd (let no : false ≡ true = ap (put_is e c key) (sym (put_of_above m q (high q (put_count m) l))) ∙ put in cc)
+
+above_le : (q n : ℕ) → (b : Bool) → nat_le q n ≡ b → (n < q → ⊥) → q ≤ n
+above_le q n true t not_above = grind (arith, nat_tests)
+above_le q n false t not_above = absurd (not_above (grind (arith, nat_tests)))
+
+put_same : (m : Past) (en : Noted) (o : Option Put) (t : Option Answer) (q : ℕ) → is_some (put_of m q) ≡ true → put_of (record { entry = en; put = o; took = t } ∷ m) q ≡ put_of m q
+put_same m en None t q some = refl
+put_same m en (Some p) t q some =
+    ap (λ (b : Bool). option_or (if b then Some p else None) (put_of m q))
+    (not_next q (put_count m) (above_le q (put_count m) (nat_le q (put_count m)) refl (λ l. absurd (let none = put_of_above m q l in let no : false ≡ true = sym (ap is_some none) ∙ some in cc))))
+
+some_put : (e c : ℕ) (key : List ℕ) (o : Option Put) → put_is e c key o ≡ true → is_some o ≡ true
+some_put e c key None t = absurd (cc)
+some_put e c key (Some p) t = refl
+
+-- a question that was put for a key of a class is so with one entry more
+pub still_put : (m : Past) (x : Marked) (e c : ℕ) (key : List ℕ) (q : ℕ) → put_is e c key (put_of m q) ≡ true → put_is e c key (put_of (x ∷ m) q) ≡ true
+still_put m x e c key q t = ap (put_is e c key) (put_same m x.entry x.put x.took q (some_put e c key (put_of m q) t)) ∙ t
+
+-- a question that was put for a key, by its parts
+pub put_parts : (e c : ℕ) (key : List ℕ) (p : Put) → put_is e c key (Some p) ≡ true → (p.epoch ≡ e) × (p.class ≡ c) × (p.key ≡ key)
+put_parts e c key p t =
+    let parts = and_parts ((p.epoch == e) && (p.class == c)) (bytes_eq p.key key) t in
+    let place = and_parts (p.epoch == e) (p.class == c) parts.0 in
+    (equal p.epoch e place.0, equal p.class c place.1, bytes_same p.key key parts.1)
 
 -- what has not ended had not ended before, and the entry does not end it
 pub still_open : (configs : List Configuration) (m : Past) (x : Marked) (q : ℕ) → has_ended configs (x ∷ m) q ≡ false

@@ -30,18 +30,17 @@ use Rattle.sq_rules.specs.Marking.{mark, marked, says_at}
 use Rattle.sq_rules.specs.Marks.{Marked, Past, Put, entries}
 use Rattle.sq_rules.specs.Questions.{end_at, has_ended, last_put, pending, put_count, put_is, put_of, unended}
 use Rattle.sq_rules.specs.Readings.{latest}
-use Rattle.sq_rules.specs.StepRule.{StepSays, says_asked, says_asked_of, says_at_place, says_fault, says_fresh, says_of_class, says_value, step_says, value_over}
+use Rattle.sq_rules.specs.StepRule.{StepSays, says_asked, says_fault, says_fresh, step_says, value_over}
 use Rattle.sq_rules.proofs.CheckLaws.{ask_of_kept}
 use Rattle.sq_history.specs.Carried.{Carried, NamesOnce}
 use Rattle.sq_history.specs.Waits.{IsNeeded, NeedsPut, NoneLater}
 use Rattle.sq_history.proofs.CheckLaws.{answer_by_none}
 use Rattle.sq_history.proofs.ClassParts.{bytes_itself, equal, itself}
 use Rattle.sq_history.proofs.LegalLaws.{legal_induction, next_steps}
-use Rattle.sq_history.proofs.NumberLaws.{last_wait_above}
+use Rattle.sq_history.proofs.NumberLaws.{last_wait_above, new_number}
 use Rattle.sq_history.proofs.PendingLaws.{OneOpen, last_put_is, mark_new, one_more}
-use Rattle.sq_history.proofs.RuleLaws.{SaysOf, need_says, step_is}
-use Rattle.sq_history.proofs.SoundLaws.{new_number, still_put}
-use Rattle.sq_history.proofs.StayLaws.{kept_stays, put_within, still_open}
+use Rattle.sq_history.proofs.RuleLaws.{SaysOf, need_says, need_step, step_is}
+use Rattle.sq_history.proofs.StayLaws.{kept_stays, put_within, still_open, still_put}
 
 -- what a step finds that tells check n to wait for question q
 record FindsNone (configs : List Configuration) (m : Past) (n now q : ℕ) (s : StepSays) : Type 0 where
@@ -267,10 +266,7 @@ waits_needed configs h once legal =
 waiting_by : (configs : List Configuration) (m : Past) (n q now : ℕ) → WaitsNeeded configs m → NoneLater m now → waits_for configs m n ≡ Some q
     → step_says configs m n now ≡ record { answer = told.Waits q; put = None; took = None }
 waiting_by configs m n q now w nl waits =
-    ap (says_asked_of configs m now (answers configs m n)) d.ask_is
-    ∙ ap (says_value configs m e now) d.value_is
-    ∙ ap (says_at_place configs m e d.key now) d.place_is
-    ∙ ap (says_of_class configs m e d.place d.key now) d.class_is
+    need_step configs m n now d
     ∙ ap (λ (b : Bool). if b then says_fault d.class.name p cause.KeyTooLong now
     else says_fresh d.class p now (fresh_for d.class d.key now (kept configs m e d.place)) (pending configs m e d.place d.key) (full (farm_with configs m e d.place d.class)) (put_count m)) s.short
     ∙ ap (λ (v : Option KeptVerdict). says_fresh d.class p now v (pending configs m e d.place d.key) (full (farm_with configs m e d.place d.class)) (put_count m))

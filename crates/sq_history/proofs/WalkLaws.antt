@@ -27,6 +27,7 @@ use Rattle.sq_history.proofs.NeedLaws.{answer_stays}
 abbrev pub then_seen : (TermValue → Bool) → Seen → Seen → Seen
 then_seen goes_on x rest = record { value = if goes_on x.value then rest.value else x.value; walk = x.walk ++ (if goes_on x.value then rest.walk else []) }
 
+-- a value that is turned or not, with its walk
 abbrev pub turned_seen : Bool → Seen → Seen
 turned_seen b x = record { value = turned b x.value; walk = x.walk }
 

@@ -46,8 +46,7 @@ use Rattle.sq_history.proofs.ClassParts.{bytes_itself, bytes_same, equal, itself
 use Rattle.sq_history.proofs.ConfigurationLaws.{done_decided, names_once}
 use Rattle.sq_history.proofs.DistinctLaws.{GetsNeeded, MeetsNeed, gets_needed, has_last}
 use Rattle.sq_history.proofs.LegalLaws.{legal_induction, next_steps}
-use Rattle.sq_history.proofs.NumberLaws.{answers_above, done_above, last_wait_above}
-use Rattle.sq_history.proofs.SoundLaws.{new_number}
+use Rattle.sq_history.proofs.NumberLaws.{answers_above, done_above, last_wait_above, new_number}
 use Rattle.sq_history.proofs.WaitLaws.{WaitsNeeded, needs_first, needs_next}
 use Rattle.sq_history.proofs.WalkLaws.{is_need, need_walked, walk_answered, walk_grows}
 

@@ -1,29 +1,30 @@
 -- What a history gave: answers by the lines of helpers, and what a check has them from.
-use Rattle.std.specs.Prelude.{◌≡◌, ◌⊎◌, ℕ, suc, List, [], ◌∷◌, Bool, true, false, if◌then◌else◌, ◌==◌, length, nat_lt, Some, None}
-use Rattle.std.specs.Option.{option_map_or}
+use Rattle.std.specs.Prelude.{Bool, List, None, Some, ℕ, [], false, if◌then◌else◌, length, nat_lt, suc, true, ◌==◌, ◌∷◌, ◌≡◌, ◌⊎◌}
 use Rattle.sq_base.specs.declared.helpers.Answer.{Answer}
+use Rattle.sq_base.specs.declared.helpers.Cause.{Cause}
 use Rattle.sq_base.specs.declared.helpers.Cause.TheVariants as cause
 use Rattle.sq_base.specs.declared.helpers.What.{What}
 use Rattle.sq_base.specs.declared.helpers.What.TheVariants as what
 use Rattle.sq_base.specs.declared.helpers.Word.{Word}
 use Rattle.sq_rules.specs.declared.entries.Event.{Event}
-use Rattle.sq_rules.specs.declared.entries.Event.TheVariants.{Act, Line}
+use Rattle.sq_rules.specs.declared.entries.Event.TheVariants.{Act, Line, Step}
 use Rattle.sq_rules.specs.declared.entries.Told.{Told}
 use Rattle.sq_rules.specs.declared.entries.Told.TheVariants as told
 use Rattle.sq_rules.specs.declared.kept.KeptVerdict.{KeptVerdict}
-use Rattle.sq_rules.specs.AnswerReadings.{steps, waits_told}
-use Rattle.sq_rules.specs.Checks.{ask_of}
-use Rattle.sq_rules.specs.Classes.{Class}
+use Rattle.sq_rules.specs.AnswerReadings.{waits_for}
 use Rattle.sq_rules.specs.Configurations.{Configuration}
 use Rattle.sq_rules.specs.Epochs.{class_at}
 use Rattle.sq_rules.specs.Events.{begins_epoch}
+use Rattle.sq_rules.specs.FarmReadings.{farm_with}
+use Rattle.sq_rules.specs.Farms.{full}
 use Rattle.sq_rules.specs.Freshness.{is_fresh}
-use Rattle.sq_rules.specs.KeptLists.{is_fault}
-use Rattle.sq_rules.specs.KeptReadings.{alike_place}
+use Rattle.sq_rules.specs.KeptLists.{fresh_for, is_fault, verdict_of}
+use Rattle.sq_rules.specs.KeptReadings.{alike_place, kept}
 use Rattle.sq_rules.specs.Limits.{key_limit}
 use Rattle.sq_rules.specs.Marks.{Marked, Past, entries}
-use Rattle.sq_rules.specs.Questions.{put_is, put_of, question_end, said_by, sent_to}
+use Rattle.sq_rules.specs.Questions.{end_at, pending, put_is, put_of, said_by, sent_to}
 use Rattle.sq_rules.specs.Readings.{current}
+use Rattle.sq_history.specs.Waits.{IsNeeded}
 
 -- something holds of each
 abbrev pub EachOf : {A : Type 0} → (A → Type 0) → List A → Type 0
@@ -62,43 +63,65 @@ Given configs (x ∷ m) e c g =
 abbrev pub gift_of : List ℕ × KeptVerdict → Gift
 gift_of k = record { key = k.0; what = k.1.what; question = k.1.question; date = k.1.date }
 
--- a check took a verdict that was given, and that was fresh when it was taken
-pub record FreshGiven (configs : List Configuration) (m : Past) (e : ℕ) (a : Answer) : Type 0 where
+-- the entry is a step of check n that takes a verdict of the class and key that the check needs: it is kept and fresh then, and was given
+pub record TakesFresh (configs : List Configuration) (m : Past) (x : Marked) (n : ℕ) (a : Answer) : Type 0 where
+  pub event_is : x.entry.event ≡ Step n
+  pub took_is : x.took ≡ Some a
+  pub needed : IsNeeded configs m n
   pub question : ℕ
-  pub class : Class
+  pub class_is : a.class ≡ needed.place
+  pub key_is : a.key ≡ needed.key
   pub question_is : a.question ≡ Some question
-  pub class_is : class_at configs e a.class ≡ Some class
-  pub given : Given configs m e a.class (record { key = a.key; what = a.what; question = question; date = a.date })
-  pub fresh : is_fresh class (record { what = a.what; question = question; date = a.date }) a.taken ≡ true
+  pub taken_is : a.taken ≡ x.entry.moment
+  pub kept_is : verdict_of needed.key (kept configs m needed.asked.epoch needed.place) ≡ Some (record { what = a.what; question = question; date = a.date })
+  pub fresh : is_fresh needed.class (record { what = a.what; question = question; date = a.date }) a.taken ≡ true
+  pub given : Given configs m needed.asked.epoch needed.place (record { key = needed.key; what = a.what; question = question; date = a.date })
 
--- a fault without a question: the key is too long, or the queue was full
-abbrev pub IsStepFault : Answer → Type 0
-IsStepFault a =
-    (a.question ≡ None) × (a.date ≡ a.taken)
-    × ((a.what ≡ what.Fault cause.QueueFull) ⊎ ((a.what ≡ what.Fault cause.KeyTooLong) × (nat_lt key_limit (length a.key) ≡ true)))
+-- the key that check n needs is too long
+abbrev pub IsTooLong : (configs : List Configuration) (m : Past) (n : ℕ) → IsNeeded configs m n → Type 0
+IsTooLong configs m n d = nat_lt key_limit (length d.key) ≡ true
 
--- a step of check n told it to wait for question q
-abbrev pub WaitedFor : Past → ℕ → ℕ → Type 0
-WaitedFor [] n q = ⊥
-WaitedFor (x ∷ m) n q = ((steps m n x.entry.event ≡ true) × (waits_told x.entry.answer ≡ Some q)) ⊎ WaitedFor m n q
+-- no verdict of the key that check n needs is fresh, no question of it is pending, and the farm of its class is full
+pub record FindsNoRoom (configs : List Configuration) (m : Past) (n now : ℕ) (d : IsNeeded configs m n) : Type 0 where
+  pub short : nat_lt key_limit (length d.key) ≡ false
+  pub none_fresh : fresh_for d.class d.key now (kept configs m d.asked.epoch d.place) ≡ None
+  pub none_pending : pending configs m d.asked.epoch d.place d.key ≡ None
+  pub is_full : full (farm_with configs m d.asked.epoch d.place d.class) ≡ true
 
--- the end of a question that check n waited for and that was put for its epoch with this class and key, taken as it came: a fault, or what was given
-pub record Awaited (configs : List Configuration) (m : Past) (n e : ℕ) (a : Answer) : Type 0 where
+-- a fault that a step takes for the class and key that check n needs
+abbrev pub fault_for : (configs : List Configuration) (m : Past) (n : ℕ) → IsNeeded configs m n → Cause → ℕ → Answer
+fault_for configs m n d c now = record { class = d.place; key = d.key; what = what.Fault c; question = None; date = now; taken = now }
+
+-- the entry is a step of check n that takes this fault for the class and key that the check needs: the key is too long, or there is no room
+pub record TakesFault (configs : List Configuration) (m : Past) (x : Marked) (n : ℕ) (a : Answer) : Type 0 where
+  pub event_is : x.entry.event ≡ Step n
+  pub took_is : x.took ≡ Some a
+  pub needed : IsNeeded configs m n
+  pub class_is : a.class ≡ needed.place
+  pub key_is : a.key ≡ needed.key
+  pub question_is : a.question ≡ None
+  pub date_is : a.date ≡ x.entry.moment
+  pub taken_is : a.taken ≡ x.entry.moment
+  pub cause_is : ((a.what ≡ what.Fault cause.KeyTooLong) × IsTooLong configs m n needed) ⊎ ((a.what ≡ what.Fault cause.QueueFull) × FindsNoRoom configs m n x.entry.moment needed)
+
+-- the entry ends the question that check n waits for, which was put for the class and key that the check needs: with a fault, or with what a line gives
+pub record TakesEnd (configs : List Configuration) (m : Past) (x : Marked) (n : ℕ) (a : Answer) : Type 0 where
   pub question : ℕ
+  pub waits : waits_for configs m n ≡ Some question
+  pub needed : IsNeeded configs m n
+  pub put : put_is needed.asked.epoch needed.place needed.key (put_of m question) ≡ true
+  pub class_is : a.class ≡ needed.place
+  pub key_is : a.key ≡ needed.key
   pub question_is : a.question ≡ Some question
-  pub waited : WaitedFor m n question
-  pub put : put_is e a.class a.key (put_of m question) ≡ true
-  pub taken_is : a.taken ≡ a.date
-  pub end_is : question_end configs m question ≡ Some (record { what = a.what; date = a.date })
-  pub given : (is_fault a.what ≡ true) ⊎ Given configs m e a.class (record { key = a.key; what = a.what; question = question; date = a.date })
+  pub date_is : a.date ≡ x.entry.moment
+  pub taken_is : a.taken ≡ x.entry.moment
+  pub end_is : end_at configs m question x.entry.event x.entry.answer ≡ Some a.what
+  pub given : (is_fault a.what ≡ true) ⊎ Gives configs m x needed.asked.epoch needed.place (record { key = needed.key; what = a.what; question = question; date = a.date })
 
--- where an answer of check n, which is of epoch e, comes from
-abbrev pub IsSound : List Configuration → Past → ℕ → ℕ → Answer → Type 0
-IsSound configs m n e a = FreshGiven configs m e a ⊎ (IsStepFault a ⊎ Awaited configs m n e a)
-
--- the epoch of check n
-abbrev pub epoch_at : Past → ℕ → ℕ
-epoch_at m n = option_map_or (λ a. a.epoch) (ask_of (entries m) n) 0
+-- where an answer of check n comes from: some entry gave it
+abbrev pub IsSound : List Configuration → Past → ℕ → Answer → Type 0
+IsSound configs [] n a = ⊥
+IsSound configs (x ∷ m) n a = (TakesFresh configs m x n a ⊎ (TakesFault configs m x n a ⊎ TakesEnd configs m x n a)) ⊎ IsSound configs m n a
 
 -- the event is an act that sends question q
 abbrev pub sends_question : ℕ → Event → Told → Bool

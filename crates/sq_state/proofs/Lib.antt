@@ -11,3 +11,9 @@ pub mod ReconfigureStands
 pub mod ConnStands
 pub mod PromiseLaws
 pub mod ActPromises
+pub mod StepStands
+pub mod PlaceStands
+pub mod DeathStands
+pub mod ReplyStands
+pub mod StepPromises
+pub mod LinePromises

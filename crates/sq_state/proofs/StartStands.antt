@@ -169,7 +169,8 @@ started_stands configs m s now p class answer law st at told_so =
         sym (ap₂ (λ (o : Option Home) (b : Bool). due_by o b (proc_end (entries m) k) (is_live (entries after))) (home_same k other) (stopped_same k)
         ∙ due_like (home_of (entries m) k) (is_stopped (entries m) k) (proc_end (entries m) k) (is_live (entries after)) (is_live (entries m)) live)
 
-served_asked : (ends : Ends) (h : Held) → (served ends h).asked ≡ h.asked
+-- a check is what it was asked, whatever it is served
+pub served_asked : (ends : Ends) (h : Held) → (served ends h).asked ≡ h.asked
 served_asked ends h = by (option_and_then ends h.waits)
   where
     by : (o : Option Answer) → (served_by o h).asked ≡ h.asked
