@@ -20,6 +20,7 @@ use Rattle.sq_pools.proofs.HistoryLaws.{books_balance, grants_within_levels}
 use Rattle.sq_state.proofs.PromiseLaws.{next_now}
 use Rattle.sq_replay.specs.Headline.{AreBalanced, AreWithinLevels, IsTrue, IsTrueOrNone}
 use Rattle.sq_replay.specs.RunText.{Shelf, configs_of, run_script}
+use Rattle.sq_replay.proofs.ReadingLaws.{configs_good}
 use Rattle.sq_replay.proofs.RunLaws.{OrNone}
 use Rattle.sq_replay.proofs.SourceLaws.{IsSourcedRun, run_sourced}
 
@@ -75,11 +76,10 @@ history_true configs h good s = record {
   balanced = balanced configs h s.legal;
 }
 
--- so it holds of every run, where what is read of a text is a configuration
-pub run_true : (files : Shelf) (config : Configuration) (ls : List Line) → EachOf IsConfiguration (configs_of files config ls)
-    → IsTrueOrNone (configs_of files config ls) (run_script files config ls).history
+-- so it holds of every run that begins with a configuration
+pub run_true : (files : Shelf) (config : Configuration) (ls : List Line) → IsConfiguration config → IsTrueOrNone (configs_of files config ls) (run_script files config ls).history
 run_true files config ls good = by (run_script files config ls).history (run_sourced files config ls)
   where
     by : (h : History) → OrNone (IsSourcedRun (configs_of files config ls)) h → IsTrueOrNone (configs_of files config ls) h
     by h (inl none) = inl none
-    by h (inr s) = inr (history_true (configs_of files config ls) h good s)
+    by h (inr s) = inr (history_true (configs_of files config ls) h (configs_good files config ls good) s)

@@ -1,5 +1,6 @@
 -- Laws of runs.
 pub mod DueLaws
+pub mod ReadingLaws
 pub mod ActLaws
 pub mod RunLaws
 pub mod SourceLaws
@@ -7,4 +8,5 @@ pub mod GrowthLaws
 pub mod HeadlineLaws
 pub mod LoopLaws
 pub mod MakingLaws
+pub mod BeginLaws
 mod RunRows

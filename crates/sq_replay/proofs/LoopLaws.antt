@@ -10,7 +10,6 @@ use Rattle.sq_outside.proofs.Writing.{Grew_map, IsPrefix_refl, IsPrefix_trans}
 use Rattle.sq_rules.specs.declared.entries.Event.{Event}
 use Rattle.sq_rules.specs.declared.entries.Event.TheVariants.{Reconfigure}
 use Rattle.sq_rules.specs.Configurations.{Configuration}
-use Rattle.sq_rules.specs.ConfText.{conf_gives}
 use Rattle.sq_rules.specs.Entries.{History}
 use Rattle.sq_rules.specs.Machine.{config_of}
 use Rattle.sq_rules.specs.Readings.{current}

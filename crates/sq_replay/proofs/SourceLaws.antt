@@ -1,22 +1,23 @@
 -- The configuration of each epoch of a run is that of the text by which the epoch began.
-use Rattle.std.proofs.Common.{◌≡◌, ◌⊎◌, inl, inr, ℕ, ℤ, suc, ◌+◌, ◌≤◌, List, [], ◌∷◌, ◌++◌, append_assoc, length, length-append, Bool, true, false, Some, slice_get, refl, sym, ap, ap₂, subst, ◌∙◌, arith}
+use Rattle.std.proofs.Common.{◌≡◌, ◌⊎◌, inl, inr, ℕ, ℤ, suc, ◌+◌, ◌≤◌, List, [], ◌∷◌, ◌++◌, append_assoc, length, length-append, Bool, true, false, Some, slice_get, refl, sym, ap, ap₂, subst, ◌∙◌, arith, Ok}
 use Rattle.std.specs.declared.option.Option.{Option}
 use Rattle.sq_outside.specs.SourceLines.{Line}
 use Rattle.sq_rules.specs.declared.entries.Event.{Event}
 use Rattle.sq_rules.specs.declared.entries.Event.TheVariants.{Begin, Open, Close, Ask, Step, Take, Started, StartFail, Line as HelperLine, Died, Act, Reconfigure, Seat, Grant, Leave}
 use Rattle.sq_rules.specs.Configurations.{Configuration}
-use Rattle.sq_rules.specs.ConfText.{conf_gives}
 use Rattle.sq_rules.specs.Entries.{History}
 use Rattle.sq_rules.specs.Events.{begins_epoch}
 use Rattle.sq_rules.specs.FullNext.{FullLegal}
 use Rattle.sq_rules.specs.Machine.{config_of}
 use Rattle.sq_rules.specs.Readings.{current, epoch_after}
 use Rattle.sq_state.specs.Promises.{entry_at}
+use Rattle.sq_replay.specs.ConfReading.{read_result}
 use Rattle.sq_replay.specs.Dues.{dues}
 use Rattle.sq_replay.specs.Headline.{AreSourced, IsAhead, IsSourced}
 use Rattle.sq_replay.specs.RunText.{Shelf, acts, begun_history, configs_of, first_history, named_by, named_from, named_in, run_script, stated, with_config, with_text}
 use Rattle.sq_replay.specs.Steps.{IsEntered, IsNamed, IsStep}
 use Rattle.sq_replay.proofs.ActLaws.{acts_keep}
+use Rattle.sq_replay.proofs.ReadingLaws.{is_read}
 use Rattle.sq_replay.proofs.RunLaws.{OrNone, Stays, begun_legal, run_keeps, step_legal}
 
 -- acts begin no epoch
@@ -92,7 +93,7 @@ named_ahead files configs l ls h t now name text states n same a = record {
 
 -- the configuration that such a line would read is that of the next epoch
 pub named_next : (files : Shelf) (configs : List Configuration) (l : Line) (ls : List Line) (h : History) (now : ℕ) (name text : List ℕ) (config : Configuration)
-    → stated l.bytes ≡ Some (now, Reconfigure name) → files (current h) name ≡ Some text → conf_gives text config → IsAhead files configs h (l ∷ ls) → config_of configs (suc (current h)) ≡ Some config
+    → stated l.bytes ≡ Some (now, Reconfigure name) → files (current h) name ≡ Some text → read_result text ≡ Ok config → IsAhead files configs h (l ∷ ls) → config_of configs (suc (current h)) ≡ Some config
 named_next files configs l ls h now name text config states is gives a =
     let n : IsNamed files (current h) name text = record { config = config; text_is = is; gives_it = gives } in
     let all : configs ≡ a.begun ++ config ∷ named_from files ls (suc (current h)) =
@@ -104,7 +105,7 @@ named_next files configs l ls h now name text config states is gives a =
 -- the configuration of the epoch that such a line begins
 pub named_source : (files : Shelf) (configs : List Configuration) (l : Line) (ls : List Line) (h : History) (now : ℕ) (name text : List ℕ) → stated l.bytes ≡ Some (now, Reconfigure name)
     → IsNamed files (current h) name text → IsAhead files configs h (l ∷ ls) → IsSourced configs h (Reconfigure text)
-named_source files configs l ls h now name text states n a = (n.config, n.gives_it, named_next files configs l ls h now name text n.config states n.text_is n.gives_it a)
+named_source files configs l ls h now name text states n a = (n.config, (is_read text n.config n.gives_it).gives, named_next files configs l ls h now name text n.config states n.text_is n.gives_it a)
 
 -- the current epoch after a step
 step_current : (files : Shelf) (configs : List Configuration) (h : History) (e : ℕ) (event : Event) (t : History) (s : IsStep files configs h e event t)

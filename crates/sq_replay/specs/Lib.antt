@@ -1,4 +1,5 @@
 -- Definitions that the laws cite, and the contracts of the code that runs scripts.
+pub mod ConfReading
 pub mod Dues
 pub mod Ends
 pub mod Headline

@@ -9,7 +9,6 @@ use Rattle.sq_rules.specs.declared.entries.Event.TheVariants.{Begin, Ask, Act, R
 use Rattle.sq_rules.specs.declared.entries.Told.TheVariants as told
 use Rattle.sq_rules.specs.declared.kinds.ConfError.{ConfError}
 use Rattle.sq_rules.specs.Configurations.{Configuration}
-use Rattle.sq_rules.specs.ConfText.{conf_result}
 use Rattle.sq_rules.specs.Entries.{History}
 use Rattle.sq_rules.specs.FullNext.{full_next}
 use Rattle.sq_rules.specs.Machine.{Next, gives}
@@ -21,6 +20,7 @@ use Rattle.sq_journal.specs.Reading.{dated_of}
 use Rattle.sq_state.specs.Promises.{entry_at}
 use Rattle.sq_replay.specs.declared.ends.RunEnd.{RunEnd}
 use Rattle.sq_replay.specs.declared.ends.RunEnd.TheVariants as ends
+use Rattle.sq_replay.specs.ConfReading.{read_result}
 use Rattle.sq_replay.specs.Dues.{dues}
 use Rattle.sq_replay.specs.Ends.{last_line}
 
@@ -77,7 +77,7 @@ accepted (Err e) step = Err (ends.Config e)
 -- a reconfiguration by the file of this name, where it has this text: the entry holds the text
 abbrev pub reconfigured : List Configuration → History → ℕ → ℕ → List ℕ → Option (List ℕ) → Result History RunEnd
 reconfigured configs h number now name None = Err (ends.Missing name)
-reconfigured configs h number now name (Some text) = accepted (conf_result text) (asked_next configs h number now (Reconfigure text))
+reconfigured configs h number now name (Some text) = accepted (read_result text) (asked_next configs h number now (Reconfigure text))
 
 -- the event of a line of the script, behind the first: `begin` may stand in the first alone, and `act` in none
 abbrev pub event_step : Shelf → List Configuration → History → ℕ → ℕ → Event → Result History RunEnd
@@ -144,7 +144,7 @@ with_config (Err e) more = []
 
 abbrev pub with_text : Option (List ℕ) → List Configuration → List Configuration
 with_text None more = []
-with_text (Some text) more = with_config (conf_result text) more
+with_text (Some text) more = with_config (read_result text) more
 
 abbrev pub named_by : Shelf → Event → (ℕ → List Configuration) → ℕ → List Configuration
 named_by files (Reconfigure name) more e = with_text (files e name) (more (suc e))

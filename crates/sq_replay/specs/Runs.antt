@@ -1,5 +1,5 @@
 -- A run under way: the machine with its pools, what was written, and what the script has left.
-use Rattle.std.specs.Prelude.{◌≡◌, ◌⊎◌, ℕ, ◌+◌, ◌≤◌, suc, List, [], ◌∷◌, ◌++◌, true, Result, Ok, Err, Some, None, IfSome}
+use Rattle.std.specs.Prelude.{◌≡◌, ◌⊎◌, ℕ, ℤ, ◌+◌, ◌≤◌, suc, List, [], ◌∷◌, ◌++◌, true, Result, Ok, Err, Some, None, IfSome}
 use Rattle.std.specs.Io.KnownBytes.{Appends}
 use Rattle.std.specs.declared.option.Option.{Option}
 use Rattle.sq_base.specs.Addresses.{Address}
@@ -12,7 +12,6 @@ use Rattle.sq_rules.specs.declared.entries.Event.TheVariants.{Reconfigure}
 use Rattle.sq_rules.specs.declared.entries.Told.{Told}
 use Rattle.sq_rules.specs.Checks.{Asked}
 use Rattle.sq_rules.specs.Configurations.{Configuration}
-use Rattle.sq_rules.specs.ConfText.{conf_gives}
 use Rattle.sq_rules.specs.Entries.{History, Noted}
 use Rattle.sq_rules.specs.FullNext.{full_next}
 use Rattle.sq_rules.specs.Machine.{config_of, gives}
@@ -27,9 +26,10 @@ use Rattle.sq_state.specs.Promises.{StandsFor, entry_at}
 use Rattle.sq_state.specs.States.{State}
 use Rattle.sq_replay.specs.declared.ends.RunEnd.{RunEnd}
 use Rattle.sq_replay.specs.declared.ends.RunEnd.TheVariants as ends
+use Rattle.sq_replay.specs.ConfReading.{read_result}
 use Rattle.sq_replay.specs.Ends.{End, Done, Refused, Faulted, Fault, Reading, Writing, Lacking, end_of}
 use Rattle.sq_replay.specs.Headline.{IsAhead}
-use Rattle.sq_replay.specs.RunText.{Ran, Shelf, acts, run_lines, stated, stated_step}
+use Rattle.sq_replay.specs.RunText.{Ran, Shelf, acts, begun_history, run_lines, run_script, stated, stated_step}
 
 -- what was written
 
@@ -126,7 +126,7 @@ IsShelf (Some disk) files = (e : ℕ) (name : List ℕ) → files e name ≡ dis
 -- the configuration that a reconfiguration would read is that of the next epoch
 abbrev pub HasNext : Shelf → List Configuration → History → Event → Type 0
 HasNext files configs h (Reconfigure name) =
-    (text : List ℕ) (config : Configuration) → files (current h) name ≡ Some text → conf_gives text config → config_of configs (suc (current h)) ≡ Some config
+    (text : List ℕ) (config : Configuration) → files (current h) name ≡ Some text → read_result text ≡ Ok config → config_of configs (suc (current h)) ≡ Some config
 HasNext files configs h event = Unit {0}
 
 -- one step
@@ -193,6 +193,25 @@ pub record GoesOn (v : Machine) (files : Shelf) (left base contents : Option (Li
 abbrev pub Going : Machine → Texts → Option (List ℕ) → Option (List ℕ) → Option (List ℕ) → Option (List ℕ) → List ℕ → List Configuration → History → (Shelf → List ℕ → Ran) → ℕ → ℕ → Type 0
 Going v texts first left base contents page configs h run number place =
     WhereTold texts first configs h (λ files bytes. GoesOn v files left base contents page configs (run files bytes) number place)
+
+-- the beginning
+
+abbrev pub BeginsAs : End → Option (List ℕ) → Option (List ℕ) → List ℕ → List ℕ → Type 0
+BeginsAs Done base contents page text = ⊥
+BeginsAs Refused base contents page text = ⊥
+BeginsAs (Faulted Reading) base contents page text = ⊥
+BeginsAs (Faulted Writing) base contents page text = WrotePart base contents text
+BeginsAs (Faulted Lacking) base contents page text = WroteFront base contents page text
+
+-- the machine has begun, and the acts were made that are due then; or a fault came first
+abbrev pub Begins : Option (List ℕ) → Option (List ℕ) → List ℕ → List Configuration → ℕ → ℤ → Result Machine RunEnd → Type 0
+Begins base contents page configs now offset (Ok v) = At v base contents page configs (begun_history configs now offset)
+Begins base contents page configs now offset (Err end) = BeginsAs (end_of end) base contents page (written (begun_history configs now offset))
+
+-- the run of a script from its first line on, where script and files tell
+abbrev pub ScriptRuns : Texts → Option (List ℕ) → Option (List ℕ) → Option (List ℕ) → List ℕ → Configuration → RunEnd → Type 0
+ScriptRuns texts left base contents page config end =
+    IfSome left (λ bytes. (files : Shelf) → IsShelf texts files → Reaches base contents page (run_script files config (lines bytes)) end)
 
 -- the counts of the script, of the files and of the sink never fall; one of the first two rose where a read fault came, and the third where
 -- a write fault did

@@ -4,7 +4,6 @@ use Rattle.sq_rules.specs.declared.entries.Event.{Event}
 use Rattle.sq_rules.specs.declared.entries.Event.TheVariants.{Reconfigure}
 use Rattle.sq_rules.specs.declared.entries.Told.{Told}
 use Rattle.sq_rules.specs.Configurations.{Configuration}
-use Rattle.sq_rules.specs.ConfText.{conf_result}
 use Rattle.sq_rules.specs.Entries.{History}
 use Rattle.sq_rules.specs.Events.{begins_epoch}
 use Rattle.sq_rules.specs.FullNext.{full_next}
@@ -12,13 +11,14 @@ use Rattle.sq_rules.specs.Machine.{gives, has_target, is_begin}
 use Rattle.sq_rules.specs.Marking.{marked}
 use Rattle.sq_rules.specs.Readings.{latest}
 use Rattle.sq_state.specs.Promises.{entry_at}
+use Rattle.sq_replay.specs.ConfReading.{read_result}
 use Rattle.sq_replay.specs.RunText.{Shelf, acts}
 
 -- the file of this name has this text, which gives a configuration
 pub record IsNamed (files : Shelf) (e : ℕ) (name text : List ℕ) : Type 0 where
   pub config : Configuration
   pub text_is : files e name ≡ Some text
-  pub gives_it : conf_result text ≡ Ok config
+  pub gives_it : read_result text ≡ Ok config
 
 -- what is entered of an event of a script: of a reconfiguration the text of its file, and of every other the event
 abbrev pub IsEntered : Shelf → ℕ → Event → Event → Type 0
