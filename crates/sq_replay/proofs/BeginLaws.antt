@@ -1,8 +1,8 @@
 -- The beginning of a run: its first line.
-use Rattle.std.proofs.Common.{◌≡◌, ℕ, ℤ, ◌+◌, List, [], ◌∷◌, ◌++◌, length, Bool, true, false, if◌then◌else◌, Some, None, IfSome, Ok, Err, Result, pos, refl, sym, ap, subst, ◌∙◌}
+use Rattle.std.proofs.Common.{◌≡◌, ℕ, ℤ, ◌+◌, List, [], ◌∷◌, length, true, if◌then◌else◌, Some, None, Ok, pos, refl, sym, ap, subst, ◌∙◌}
 use Rattle.std.specs.declared.option.Option.{Option}
 use Rattle.sq_outside.specs.Output.{IsPrefix}
-use Rattle.sq_outside.specs.SourceLines.{Finds, IsFaulty, IsLine, Line, lines}
+use Rattle.sq_outside.specs.SourceLines.{Finds, IsLine, Line, lines}
 use Rattle.sq_outside.specs.Told.{Texts}
 use Rattle.sq_outside.specs.declared.lines.Found.TheVariants as found
 use Rattle.sq_rules.specs.declared.entries.Event.{Event}
@@ -15,8 +15,8 @@ use Rattle.sq_replay.specs.declared.ends.RunEnd.TheVariants as ends
 use Rattle.sq_replay.specs.Ends.{Done, End, Faulted, Lacking, Reading, Refused, Writing, end_of}
 use Rattle.sq_replay.specs.Headline.{IsAhead}
 use Rattle.sq_replay.specs.RunText.{Ran, Shelf, begun_history, configs_of, event_step, first_history, named_from, run_from, run_lines, run_on, run_script, run_stated, stated, stopped}
-use Rattle.sq_replay.specs.Runs.{BeginsAs, IsShelf, Reaches, ReachesAs, ScriptRuns, Stops, WroteFront, WrotePart}
-use Rattle.sq_replay.proofs.GrowthLaws.{event_grows, from_grows, run_grows}
+use Rattle.sq_replay.specs.Runs.{BeginsAs, IsShelf, Reaches, ReachesAs, ScriptRuns, Stops}
+use Rattle.sq_replay.proofs.GrowthLaws.{event_grows, run_grows}
 use Rattle.sq_replay.proofs.LoopLaws.{front_more, part_more, stop_reaches}
 use Rattle.sq_replay.proofs.SourceLaws.{acts_current}
 

@@ -1,9 +1,8 @@
 -- A loop over the lines of a script: what its next line, its end and a fault make of the run.
-use Rattle.std.proofs.Common.{◌≡◌, ◌⊎◌, inl, inr, ℕ, ◌+◌, suc, List, [], ◌∷◌, ◌++◌, append_assoc, length-append, length, Bool, true, false, if◌then◌else◌, Some, None, IfSome, Ok, Err, Result, refl, sym, ap, subst, ◌∙◌, arith}
+use Rattle.std.proofs.Common.{◌≡◌, inl, inr, ℕ, ◌+◌, List, [], ◌∷◌, ◌++◌, append_assoc, length-append, length, true, if◌then◌else◌, Some, None, Ok, Err, Result, refl, sym, ap, subst, ◌∙◌, arith}
 use Rattle.std.specs.declared.option.Option.{Option}
-use Rattle.std.proofs.lemmas.Option.{same_Some}
 use Rattle.sq_outside.specs.Output.{IsPrefix, IsProperPrefix}
-use Rattle.sq_outside.specs.SourceLines.{Finds, IsFaulty, IsLine, Line, lines}
+use Rattle.sq_outside.specs.SourceLines.{Finds, IsLine, Line, lines}
 use Rattle.sq_outside.specs.Told.{Texts}
 use Rattle.sq_outside.specs.declared.lines.Found.TheVariants as found
 use Rattle.sq_outside.proofs.Writing.{Grew_map, IsPrefix_refl, IsPrefix_trans}
@@ -11,7 +10,6 @@ use Rattle.sq_rules.specs.declared.entries.Event.{Event}
 use Rattle.sq_rules.specs.declared.entries.Event.TheVariants.{Reconfigure}
 use Rattle.sq_rules.specs.Configurations.{Configuration}
 use Rattle.sq_rules.specs.Entries.{History}
-use Rattle.sq_rules.specs.Machine.{config_of}
 use Rattle.sq_rules.specs.Readings.{current}
 use Rattle.sq_journal.specs.EntryText.{entry_text, written}
 use Rattle.sq_replay.specs.declared.ends.RunEnd.{RunEnd}
@@ -19,7 +17,7 @@ use Rattle.sq_replay.specs.declared.ends.RunEnd.TheVariants as ends
 use Rattle.sq_replay.specs.Ends.{Done, End, Faulted, Lacking, Reading, Refused, Writing, end_of}
 use Rattle.sq_replay.specs.Headline.{IsAhead}
 use Rattle.sq_replay.specs.RunText.{Ran, Shelf, run_lines, run_on, stated, stated_step}
-use Rattle.sq_replay.specs.Runs.{At, EndsLine, GoesOn, Going, HasNext, IsShelf, LineGoes, Machine, Reaches, ReachesAs, RunsOver, Stops, StopsAs, WhereTold, WroteFront, WroteLines, WrotePart, step_text}
+use Rattle.sq_replay.specs.Runs.{At, EndsLine, GoesOn, Going, HasNext, IsShelf, LineGoes, Machine, Reaches, ReachesAs, RunsOver, Stops, StopsAs, WhereTold, WroteFront, WrotePart, step_text}
 use Rattle.sq_replay.proofs.GrowthLaws.{going_grows, run_grows, step_grows}
 use Rattle.sq_replay.proofs.RunLaws.{stated_made}
 use Rattle.sq_replay.proofs.SourceLaws.{named_next, step_ahead}
@@ -142,8 +140,8 @@ stop_as Done base contents page h step go run end grows more same stops = absurd
 stop_as (Faulted Reading) base contents page h step go run end grows more same stops = record {
   front = written h;
   begins =
-    subst (λ (x : Ran). IsPrefix (written h) (written x.history)) same
-    (IsPrefix_trans (written h) (step_text h step) (written (run_on h step go).history) grows (going_grows h step go more));
+      subst (λ (x : Ran). IsPrefix (written h) (written x.history)) same
+      (IsPrefix_trans (written h) (step_text h step) (written (run_on h step go).history) grows (going_grows h step go more));
   lines = written_lines h;
   wrote = stops;
 }
@@ -192,9 +190,9 @@ going_next v w texts (Some whole) left after base before contents old_page page 
           left_is = x.left;
           ahead = step_ahead files configs l (lines x.rest) g.history made.now made.event goes.0 made.states made.step ahead;
           same =
-            ap (λ p. run_lines files configs goes.0 (number + 1) p (lines x.rest)) moved
-            ∙ sym (ap (λ r. run_on g.history r (λ u. run_lines files configs u (number + 1) (place + length line + 1) (lines x.rest))) goes.1)
-            ∙ next_run files configs g.history number place (run files whole) g.bytes after line g.same x;
+              ap (λ p. run_lines files configs goes.0 (number + 1) p (lines x.rest)) moved
+              ∙ sym (ap (λ r. run_on g.history r (λ u. run_lines files configs u (number + 1) (place + length line + 1) (lines x.rest))) goes.1)
+              ∙ next_run files configs g.history number place (run files whole) g.bytes after line g.same x;
         }
 
 -- it stopped the run

@@ -1,14 +1,13 @@
 -- From what the engine and the pools do to the machine that a script runs.
-use Rattle.std.proofs.Common.{◌≡◌, ℕ, ℤ, suc, ◌≤◌, ◌<◌, max, List, [], ◌∷◌, ◌++◌, Bool, true, false, ◌||◌, ◌==◌, nat_le, if◌then◌else◌, Option, Some, None, Ok, Err, Result, is_some, option_and_then, refl, sym, ap, ap₂, subst, ◌∙◌, arith}
+use Rattle.std.proofs.Common.{◌≡◌, ℕ, ℤ, suc, ◌≤◌, ◌<◌, max, List, [], ◌∷◌, ◌++◌, Bool, true, false, ◌||◌, ◌==◌, nat_le, if◌then◌else◌, Option, Some, None, Ok, Err, is_some, option_and_then, refl, sym, ap, subst, ◌∙◌, arith}
 use Rattle.std.specs.Option.{option_map, option_or}
 use Rattle.std.proofs.lemmas.Bool.Decides.{nat_tests}
 use Rattle.std.proofs.lemmas.Option.{none-some, same_Some}
 use Rattle.sq_rules.specs.declared.entries.Event.{Event}
-use Rattle.sq_rules.specs.declared.entries.Event.TheVariants.{Act, Begin, Close, Grant, Leave, Reconfigure, Seat, Take}
+use Rattle.sq_rules.specs.declared.entries.Event.TheVariants.{Act, Close, Grant, Leave, Reconfigure, Seat, Take}
 use Rattle.sq_rules.specs.declared.entries.Told.{Told}
 use Rattle.sq_rules.specs.declared.entries.Told.TheVariants as told
 use Rattle.sq_rules.specs.declared.outcomes.Outcome.{Outcome}
-use Rattle.sq_rules.specs.declared.refusals.Refusal.{Refusal}
 use Rattle.sq_rules.specs.declared.refusals.Refusal.TheVariants as refusal
 use Rattle.sq_rules.specs.Checks.{Asked, ask_of, numbered}
 use Rattle.sq_rules.specs.Configurations.{Configuration, IsConfiguration}
@@ -18,7 +17,6 @@ use Rattle.sq_rules.specs.FullNext.{full_next, full_next_at, seat_for, seat_next
 use Rattle.sq_rules.specs.Limits.{last_number}
 use Rattle.sq_rules.specs.Machine.{Next, config_of, gives, nothing, refuse_if, refuses}
 use Rattle.sq_rules.specs.Marking.{marked}
-use Rattle.sq_rules.specs.Marks.{entries}
 use Rattle.sq_rules.specs.PoolReadings.{Sat, allowed_of, grant_of, if_allowed, in_use, in_use_after, kept_if, sat_at, seat_count, seat_of, taken_of, taking}
 use Rattle.sq_rules.specs.Readings.{current, latest}
 use Rattle.sq_rules.specs.Verdicts.{pool_of}
@@ -26,16 +24,15 @@ use Rattle.sq_history.specs.Given.{EachOf}
 use Rattle.sq_history.proofs.LegalLaws.{marked_entries}
 use Rattle.sq_journal.specs.EntryText.{entry_line, written}
 use Rattle.sq_pools.specs.Basins.{Basin, HasBegun, HasLeft, IsBasin, IsChosen, IsGranted, IsRenewed, grant_in, seat_in}
-use Rattle.sq_pools.specs.Stands.{PoolsStand, is_elsewhere}
+use Rattle.sq_pools.specs.Stands.{is_elsewhere}
 use Rattle.sq_pools.proofs.StandLaws.{choose_stands, elsewhere_stands, grant_is, grant_stands, leave_stands, new_stands, renew_stands}
 use Rattle.sq_state.specs.Acts.{due_in}
-use Rattle.sq_state.specs.Promises.{IsAnswered, StandsFor, entry_at}
+use Rattle.sq_state.specs.Promises.{IsAnswered, entry_at}
 use Rattle.sq_state.specs.Changes.{first_state}
 use Rattle.sq_state.specs.States.{IsSame, State}
 use Rattle.sq_state.proofs.ActPromises.{none_due}
 use Rattle.sq_state.proofs.Lawful.{stands_same}
 use Rattle.sq_state.proofs.PromiseLaws.{first_for, grant_answered, leave_answered, next_now, seat_answered}
-use Rattle.sq_replay.specs.declared.ends.RunEnd.{RunEnd}
 use Rattle.sq_replay.specs.declared.ends.RunEnd.TheVariants as ends
 use Rattle.sq_replay.specs.RunText.{acts, answered, asked_next, first_history}
 use Rattle.sq_replay.specs.Runs.{At, Is, IsMade, IsRider, Machine, Reached, Rider, Rides, Wrote}

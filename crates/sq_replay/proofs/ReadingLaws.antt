@@ -1,6 +1,5 @@
 -- What is read of a text is a configuration.
-use Rattle.std.proofs.Common.{◌≡◌, ℕ, ◌≤◌, suc, List, [], ◌∷◌, length, Bool, true, false, ◌&&◌, nat_le, if◌then◌else◌, Some, None, Ok, Err, Result, refl, sym, ap, subst, ◌∙◌, arith}
-use Rattle.std.specs.List.{list_all}
+use Rattle.std.proofs.Common.{◌≡◌, ℕ, ◌≤◌, suc, List, [], ◌∷◌, length, Bool, true, false, ◌&&◌, nat_le, if◌then◌else◌, Some, None, Ok, Err, Result, refl, ap, subst, ◌∙◌, arith}
 use Rattle.std.specs.declared.option.Option.{Option}
 use Rattle.std.proofs.lemmas.Bool.{and_parts}
 use Rattle.std.proofs.lemmas.Bool.Decides.{nat_tests}
@@ -9,7 +8,7 @@ use Rattle.sq_rules.specs.declared.entries.Event.{Event}
 use Rattle.sq_rules.specs.declared.entries.Event.TheVariants.{Reconfigure}
 use Rattle.sq_rules.specs.declared.kinds.ConfError.{ConfError}
 use Rattle.sq_rules.specs.declared.kinds.Kind.{Kind}
-use Rattle.sq_rules.specs.Configurations.{Configuration, IsConfiguration, are_known_bodies, are_shallow, are_unique, have_distinct_names, is_known_rule, is_pool}
+use Rattle.sq_rules.specs.Configurations.{Configuration, IsConfiguration}
 use Rattle.sq_rules.specs.ConfText.{conf_gives, conf_refuses, conf_result}
 use Rattle.sq_rules.specs.Limits.{acl_limit, class_limit, initial_limit, pool_limit, rule_limit, text_limit}
 use Rattle.sq_history.specs.Given.{EachOf}

@@ -1,5 +1,5 @@
 -- Worked runs: the acts follow each line by themselves.
-use Rattle.std.specs.Prelude.{◌≡◌, ℕ, pos, List, [], ◌∷◌, ◌++◌, map, refl, codes, true, false, None, Some, Result, Ok, Err}
+use Rattle.std.specs.Prelude.{◌≡◌, ℕ, pos, negsuc, List, [], ◌∷◌, ◌++◌, map, refl, codes, true, false, None, Some, Result, Ok, Err}
 use Rattle.std.specs.Fmt.{digits}
 use Rattle.sq_base.specs.Addresses.{v4, v4_of, v6_of, address_of}
 use Rattle.sq_base.specs.Decimals.{number_of}
@@ -10,9 +10,10 @@ use Rattle.sq_base.specs.declared.helpers.Word.TheVariants as word
 use Rattle.sq_rules.specs.declared.classes.Token.TheVariants as token
 use Rattle.sq_rules.specs.declared.configs.Body.TheVariants as body
 use Rattle.sq_rules.specs.declared.entries.Event.{Event}
-use Rattle.sq_rules.specs.declared.entries.Event.TheVariants.{Open, Ask, Step, Take, Started, Line, Died, Reconfigure}
+use Rattle.sq_rules.specs.declared.entries.Event.TheVariants.{Begin, Open, Ask, Step, Take, Started, Line, Died, Reconfigure, Seat, Grant, Leave}
 use Rattle.sq_rules.specs.declared.entries.Told.{Told}
 use Rattle.sq_rules.specs.declared.entries.Told.TheVariants as told
+use Rattle.sq_rules.specs.declared.leaves.Leaf.TheVariants as leaf
 use Rattle.sq_rules.specs.declared.outcomes.Why.TheVariants as why
 use Rattle.sq_rules.specs.Checks.{ask_count, ask_of, check_open, open_among, is_done}
 use Rattle.sq_rules.specs.Configurations.{Configuration}
@@ -24,8 +25,12 @@ use Rattle.sq_rules.specs.Keys.{key_text, key_escaped}
 use Rattle.sq_rules.specs.Machine.{next_at}
 use Rattle.sq_rules.specs.Readings.{offset_of}
 use Rattle.sq_rules.specs.Transcripts.{line_is}
+use Rattle.sq_journal.specs.Lines.{spaced_words}
+use Rattle.sq_journal.specs.Reading.{dated_of, event_after, event_in, offset_from, word_in}
+use Rattle.sq_outside.specs.SourceLines.{lines}
 use Rattle.sq_replay.specs.declared.ends.RunEnd.{RunEnd}
-use Rattle.sq_replay.specs.RunText.{asked_next, begun_history}
+use Rattle.sq_replay.specs.declared.ends.RunEnd.TheVariants as ends
+use Rattle.sq_replay.specs.RunText.{asked_next, begun_history, run_script}
 
 -- an event at a moment
 record Happening : Type 0 where
@@ -90,3 +95,38 @@ pub started_at_first : runs (asking 1 0 ∷ [])
     ∷ told.Proc 1 ∷ told.Start 1 (codes "v") ∷ told.Epoch 1 ∷ []
 unfolding full_next full_next_at next_at ask_count ask_of check_open open_among is_done peer_at open_besides open_count conns_of offset_of full start_due line_is key_text key_escaped target_of absolute_form host_in port_of with_scheme authority_form v4_of v6_of address_of reply_of reply_line_in result_in pairs_in reply_word_in value_in without_last_cr number_of unquoted quoted_len
 started_at_first = refl
+
+-- one pool with one bucket: a seat, grants as the seconds fill it, and a seat that is left
+abbrev pooled : Configuration
+pooled = record {
+  source = [];
+  classes = [];
+  acls = record { name = codes "all"; body = body.Leaf (leaf.Src (record { first = v4 0; last = v4 4294967295 } ∷ [])) } ∷ [];
+  rules = record { allow = true; terms = record { acl = 0; negated = false } ∷ [] } ∷ [];
+  pools = record { class = 1; pairs = Some (record { restore = 100; max = 1000 }) ∷ []; lists = record { allow = true; terms = record { acl = 0; negated = false } ∷ [] } ∷ [] } ∷ [];
+  initial = 50;
+  port = 3128;
+  notices = [];
+}
+
+pub seated : runs (pooled ∷ [])
+    (at 0 (Open 1 (v4 167838211) 4000) ∷ at 0 (Ask 1 (codes "GET") (codes "http://a.example/") []) ∷ at 0 (Step 1) ∷ at 0 (Take 1) ∷ at 0 (Seat 1) ∷ at 0 (Grant 1 300) ∷ at 1999 (Grant 1 1000)
+    ∷ at 20000 (Grant 1 5000) ∷ at 20000 (Leave 1) ∷ at 20000 (Grant 1 1) ∷ [])
+    ≡ told.Fine ∷ told.Granted 1000 ∷ told.Granted 300 ∷ told.Granted 300 ∷ told.Seat 1 0 ∷ told.Judged 1 (record { allow = true; why = why.Rule 1 }) ∷ told.Done ∷ told.Check 1 ∷ told.Fine ∷ told.Epoch 1 ∷ []
+unfolding full_next full_next_at next_at ask_count ask_of check_open open_among is_done peer_at open_besides open_count conns_of offset_of full start_due line_is key_text key_escaped target_of absolute_form host_in port_of with_scheme authority_form v4_of v6_of address_of reply_of reply_line_in result_in pairs_in reply_word_in value_in without_last_cr number_of unquoted quoted_len
+seated = refl
+
+-- `begin` says where the machine begins, and `act` is no line of a script
+pub act_refused : run_script (λ e name. None) denying (lines (codes "5 begin -60" ++ 10 ∷ codes "6 act" ++ 10 ∷ []))
+    ≡ record { history = record { moment = 5; event = Begin (negsuc 59); answer = told.Epoch 1 } ∷ []; end = ends.Script 2 }
+unfolding digits offset_from spaced_words dated_of event_in event_after word_in full_next full_next_at next_at ask_count ask_of check_open open_among is_done peer_at open_besides open_count conns_of offset_of full start_due line_is key_text key_escaped target_of absolute_form host_in port_of with_scheme authority_form v4_of v6_of address_of reply_of reply_line_in result_in pairs_in reply_word_in value_in without_last_cr number_of unquoted quoted_len
+act_refused = refl
+
+-- as the first line it begins no machine; neither does a line without its end
+pub act_first : run_script (λ e name. None) denying (lines (codes "6 act" ++ 10 ∷ [])) ≡ record { history = []; end = ends.Script 1 }
+unfolding digits offset_from spaced_words dated_of event_in event_after word_in full_next full_next_at next_at ask_count ask_of check_open open_among is_done peer_at open_besides open_count conns_of offset_of full start_due line_is key_text key_escaped target_of absolute_form host_in port_of with_scheme authority_form v4_of v6_of address_of reply_of reply_line_in result_in pairs_in reply_word_in value_in without_last_cr number_of unquoted quoted_len
+act_first = refl
+
+pub open_end : run_script (λ e name. None) denying (lines (codes "5 begin 0")) ≡ record { history = []; end = ends.Script 1 }
+unfolding digits offset_from spaced_words dated_of event_in event_after word_in full_next full_next_at next_at ask_count ask_of check_open open_among is_done peer_at open_besides open_count conns_of offset_of full start_due line_is key_text key_escaped target_of absolute_form host_in port_of with_scheme authority_form v4_of v6_of address_of reply_of reply_line_in result_in pairs_in reply_word_in value_in without_last_cr number_of unquoted quoted_len
+open_end = refl

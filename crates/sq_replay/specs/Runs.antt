@@ -1,5 +1,5 @@
 -- A run under way: the machine with its pools, what was written, and what the script has left.
-use Rattle.std.specs.Prelude.{◌≡◌, ◌⊎◌, ℕ, ℤ, ◌+◌, ◌≤◌, suc, List, [], ◌∷◌, ◌++◌, true, Result, Ok, Err, Some, None, IfSome}
+use Rattle.std.specs.Prelude.{◌≡◌, ◌⊎◌, ℕ, ℤ, ◌≤◌, suc, List, [], ◌∷◌, ◌++◌, true, Result, Ok, Err, Some, None, IfSome}
 use Rattle.std.specs.Io.KnownBytes.{Appends}
 use Rattle.std.specs.declared.option.Option.{Option}
 use Rattle.sq_base.specs.Addresses.{Address}
@@ -12,7 +12,7 @@ use Rattle.sq_rules.specs.declared.entries.Event.TheVariants.{Reconfigure}
 use Rattle.sq_rules.specs.declared.entries.Told.{Told}
 use Rattle.sq_rules.specs.Checks.{Asked}
 use Rattle.sq_rules.specs.Configurations.{Configuration}
-use Rattle.sq_rules.specs.Entries.{History, Noted}
+use Rattle.sq_rules.specs.Entries.{History}
 use Rattle.sq_rules.specs.FullNext.{full_next}
 use Rattle.sq_rules.specs.Machine.{config_of, gives}
 use Rattle.sq_rules.specs.Marking.{marked}
@@ -27,7 +27,7 @@ use Rattle.sq_state.specs.States.{State}
 use Rattle.sq_replay.specs.declared.ends.RunEnd.{RunEnd}
 use Rattle.sq_replay.specs.declared.ends.RunEnd.TheVariants as ends
 use Rattle.sq_replay.specs.ConfReading.{read_result}
-use Rattle.sq_replay.specs.Ends.{End, Done, Refused, Faulted, Fault, Reading, Writing, Lacking, end_of}
+use Rattle.sq_replay.specs.Ends.{End, Done, Refused, Faulted, Reading, Writing, Lacking, end_of}
 use Rattle.sq_replay.specs.Headline.{IsAhead}
 use Rattle.sq_replay.specs.RunText.{Ran, Shelf, acts, begun_history, run_lines, run_script, stated, stated_step}
 
