@@ -8,5 +8,6 @@ pub mod GrowthLaws
 pub mod HeadlineLaws
 pub mod LoopLaws
 pub mod MakingLaws
+pub mod ToldLaws
 pub mod BeginLaws
 mod RunRows
