@@ -1,0 +1,164 @@
+-- The acts after an entry: each lowers what is due, so that they come to an end, and what stays with each act stays with all.
+use Rattle.std.proofs.Common.{◌≡◌, ℕ, zero, suc, ◌+◌, ◌<◌, ◌≤◌, List, [], ◌∷◌, ◌++◌, length, map, Option, Some, None, refl, sym, ap, ap₂, subst, ◌∙◌, arith}
+use Rattle.std.specs.List.{flat_map}
+use Rattle.std.specs.Option.{option_map_or}
+use Rattle.sq_rules.specs.declared.entries.Event.TheVariants.{Act}
+use Rattle.sq_rules.specs.declared.entries.Told.{Told}
+use Rattle.sq_rules.specs.Configurations.{Configuration, IsConfiguration}
+use Rattle.sq_rules.specs.DueActs.{Place}
+use Rattle.sq_rules.specs.Entries.{History}
+use Rattle.sq_rules.specs.FullNext.{FullLegal, full_next}
+use Rattle.sq_rules.specs.Machine.{Next, gives, nothing, refuses}
+use Rattle.sq_rules.specs.Marking.{marked}
+use Rattle.sq_rules.specs.Marks.{Past, entries}
+use Rattle.sq_rules.specs.Numbered.{below, picks}
+use Rattle.sq_rules.specs.Processes.{proc_count, stop_due}
+use Rattle.sq_rules.specs.Readings.{latest}
+use Rattle.sq_rows.specs.CheckRows.{Held}
+use Rattle.sq_history.specs.Given.{EachOf}
+use Rattle.sq_history.proofs.RowLaws.{picks_same}
+use Rattle.sq_state.specs.Acts.{Due, due_in, live_places_in, places_in, sends, starts, stops}
+use Rattle.sq_state.specs.Answers.{act_of, due_told}
+use Rattle.sq_state.specs.Promises.{IsAnswered, StandsFor, entry_at}
+use Rattle.sq_state.specs.States.{Stands, State, lives_with}
+use Rattle.sq_state.proofs.ActNext.{act_next_is}
+use Rattle.sq_state.proofs.ActPromises.{send_answered, start_answered, stop_answered}
+use Rattle.sq_state.proofs.PromiseLaws.{legal_more, next_now}
+use Rattle.sq_replay.specs.Dues.{dues, dues_at, dues_in, dues_of_row, state_at, total}
+use Rattle.sq_replay.specs.RunText.{acted, acts, acts_upto}
+use Rattle.sq_replay.proofs.DueLaws.{send_lowers, start_lowers, stop_lowers, total_same}
+
+-- the state that a history comes to stands for it
+pub state_stands : (configs : List Configuration) (m : Past) → Stands configs m (state_at configs m)
+state_stands configs m = record {
+  clients_are = λ c. refl;
+  conns_are = refl;
+  from_are = λ a. refl;
+  checks_are = refl;
+  asks_are = refl;
+  puts_are = refl;
+  current_is = refl;
+  configs_are = λ e. refl;
+  rows_are = λ e c. refl;
+  procs_are = refl;
+  homes_are = λ k. refl;
+  stops_are = λ k. refl;
+  latest_is = refl;
+  offset_is = refl;
+}
+
+flat_same : (f g : ℕ → List Place) (xs : List ℕ) → ((e : ℕ) → f e ≡ g e) → flat_map f xs ≡ flat_map g xs
+flat_same f g [] e = refl
+flat_same f g (x ∷ xs) e = ap₂ (λ (a b : List Place). a ++ b) (e x) (flat_same f g xs e)
+
+-- states with the same checks and configurations have the same classes of live epochs
+places_like : (s t : State) → s.current ≡ t.current → s.checks ≡ t.checks → ((e : ℕ) → s.config e ≡ t.config e) → live_places_in s ≡ live_places_in t
+places_like s t current checks configs =
+    ap₂ (λ (n : ℕ) (rows : List Held). flat_map (places_in s) (picks (lives_with n rows) n)) current checks
+    ∙ flat_same (places_in s) (places_in t) (picks (lives_with t.current t.checks) t.current)
+    (λ e. ap (λ (o : Option Configuration). map (λ c. record { epoch = e; class = c }) (below (option_map_or (λ config. length config.classes) o 0))) (configs e))
+
+-- what is due of a state that stands for a history is due after the history
+pub dues_are : (configs : List Configuration) (m : Past) (s : State) → Stands configs m s → dues_in s ≡ dues_in (state_at configs m)
+dues_are configs m s st =
+    let t = state_at configs m in
+    let places : live_places_in s ≡ live_places_in t = places_like s t st.current_is st.checks_are st.configs_are in
+    ap₂ (λ (a b : ℕ). a + b)
+    (ap (λ (xs : List ℕ). length xs) (ap (picks s.stop) st.procs_are ∙ picks_same (stop_due (entries m)) s.stop (proc_count (entries m)) (λ k low high. st.stops_are k)))
+    (ap (total (dues_at s)) places ∙ total_same (dues_at s) (dues_at t) (live_places_in t) (λ p. ap dues_of_row (st.rows_are p.epoch p.class)))
+
+-- each act lowers what is due
+pub act_lowers : (configs : List Configuration) (h : History) (answer : Told) → EachOf IsConfiguration configs → FullLegal configs h
+    → full_next configs (marked configs h) (latest h) Act ≡ gives answer → dues configs (entry_at (latest h) Act answer ∷ h) < dues configs h
+act_lowers configs h answer good legal next = by (due_in s) refl told
+  where
+    s : State
+    s = state_at configs (marked configs h)
+
+    st : StandsFor configs h s
+    st = record { good = good; legal = legal; stands = state_stands configs (marked configs h) }
+
+    late : latest h ≤ latest h
+    late = omega arith
+
+    told : act_of s (due_in s) ≡ gives answer
+    told = sym (next_now configs h (latest h) Act late ∙ act_next_is configs (marked configs h) s (latest h) st.stands) ∙ next
+
+    after : (d : Due) (t : State) → IsAnswered configs h (latest h) Act (due_told s d) t → gives (due_told s d) ≡ gives answer → dues_in t < dues_in s
+        → dues configs (entry_at (latest h) Act answer ∷ h) < dues configs h
+    after d t a same l =
+        let is : due_told s d ≡ answer = cc in
+        subst (λ (z : Told). dues configs (entry_at (latest h) Act z ∷ h) < dues configs h) is
+        (subst (λ (n : ℕ). n < dues configs h) (dues_are configs (marked configs (entry_at (latest h) Act (due_told s d) ∷ h)) t a.stands.stands) l)
+
+    by : (o : Option Due) → due_in s ≡ o → act_of s o ≡ gives answer → dues configs (entry_at (latest h) Act answer ∷ h) < dues configs h
+    by None is e = absurd (cc)
+    by (Some (stops k)) is e = after (stops k) _ (stop_answered configs h s (latest h) k st late is) e (stop_lowers s k (latest h) is)
+    by (Some (sends p x)) is e = after (sends p x) _ (send_answered configs h s (latest h) p x st late is) e (send_lowers s p x (latest h) is)
+    by (Some (starts p)) is e = after (starts p) _ (start_answered configs h s (latest h) p st late is) e (start_lowers s p (latest h) is)
+
+-- a legal history stays so with an act
+pub act_legal : (configs : List Configuration) (h : History) (answer : Told) → full_next configs (marked configs h) (latest h) Act ≡ gives answer → FullLegal configs h
+    → FullLegal configs (entry_at (latest h) Act answer ∷ h)
+act_legal configs h answer next legal = legal_more configs h (latest h) Act answer legal refl refl (omega arith) next
+
+-- what stays with each act stays with all
+pub acts_keep : (configs : List Configuration) (P : History → Type 0)
+    → ((h : History) (answer : Told) → full_next configs (marked configs h) (latest h) Act ≡ gives answer → P h → P (entry_at (latest h) Act answer ∷ h))
+    → (k : ℕ) (h : History) → P h → P (acts_upto configs k h)
+acts_keep configs P step zero h p = p
+acts_keep configs P step (suc k) h p = by (full_next configs (marked configs h) (latest h) Act) refl (λ t q. acts_keep configs P step k t q)
+  where
+    by : (n : Next) → full_next configs (marked configs h) (latest h) Act ≡ n → ((t : History) → P t → P (acts_upto configs k t)) → P (acted (acts_upto configs k) h n)
+    by (gives answer) is more = more (entry_at (latest h) Act answer ∷ h) (step h answer is p)
+    by (refuses r) is more = p
+    by nothing is more = p
+
+-- how many acts there may be does not matter where they are enough
+pub acts_enough : (configs : List Configuration) (j k : ℕ) (h : History) → EachOf IsConfiguration configs → FullLegal configs h → dues configs h ≤ j → dues configs h ≤ k
+    → acts_upto configs j h ≡ acts_upto configs k h
+acts_enough configs zero zero h good legal a b = refl
+acts_enough configs zero (suc k) h good legal a b = by (full_next configs (marked configs h) (latest h) Act) refl
+  where
+    by : (n : Next) → full_next configs (marked configs h) (latest h) Act ≡ n → h ≡ acted (acts_upto configs k) h n
+    by (gives answer) is = absurd (let l = act_lowers configs h answer good legal is in omega arith)
+    by (refuses r) is = refl
+    by nothing is = refl
+acts_enough configs (suc j) zero h good legal a b = by (full_next configs (marked configs h) (latest h) Act) refl
+  where
+    by : (n : Next) → full_next configs (marked configs h) (latest h) Act ≡ n → acted (acts_upto configs j) h n ≡ h
+    by (gives answer) is = absurd (let l = act_lowers configs h answer good legal is in omega arith)
+    by (refuses r) is = refl
+    by nothing is = refl
+acts_enough configs (suc j) (suc k) h good legal a b =
+    by (full_next configs (marked configs h) (latest h) Act) refl (λ t legal a b. acts_enough configs j k t good legal a b)
+  where
+    by : (n : Next) → full_next configs (marked configs h) (latest h) Act ≡ n
+        → ((t : History) → FullLegal configs t → dues configs t ≤ j → dues configs t ≤ k → acts_upto configs j t ≡ acts_upto configs k t)
+        → acted (acts_upto configs j) h n ≡ acted (acts_upto configs k) h n
+    by (gives answer) is more =
+        let l = act_lowers configs h answer good legal is in more (entry_at (latest h) Act answer ∷ h) (act_legal configs h answer is legal) (omega arith) (omega arith)
+    by (refuses r) is more = refl
+    by nothing is more = refl
+
+-- where none is due, the history stays
+pub acts_none : (configs : List Configuration) (h : History) → full_next configs (marked configs h) (latest h) Act ≡ nothing → acts configs h ≡ h
+acts_none configs h is = by (dues configs h)
+  where
+    by : (k : ℕ) → acts_upto configs k h ≡ h
+    by zero = refl
+    by (suc k) = ap (acted (acts_upto configs k) h) is
+
+-- where one is due, the history goes on with it
+pub acts_some : (configs : List Configuration) (h : History) (answer : Told) → EachOf IsConfiguration configs → FullLegal configs h
+    → full_next configs (marked configs h) (latest h) Act ≡ gives answer → acts configs h ≡ acts configs (entry_at (latest h) Act answer ∷ h)
+acts_some configs h answer good legal is = by (dues configs h) (omega arith) (act_lowers configs h answer good legal is)
+  where
+    t : History
+    t = entry_at (latest h) Act answer ∷ h
+
+    by : (k : ℕ) → dues configs h ≤ k → dues configs t < k → acts_upto configs k h ≡ acts configs t
+    by zero a l = absurd (omega arith)
+    by (suc k) a l =
+        ap (acted (acts_upto configs k) h) is
+        ∙ acts_enough configs k (dues configs t) t good (act_legal configs h answer is legal) (omega arith) (omega arith)

@@ -1,0 +1,121 @@
+-- What is read of a text is a configuration.
+use Rattle.std.proofs.Common.{◌≡◌, ℕ, ◌≤◌, suc, List, [], ◌∷◌, length, Bool, true, false, ◌&&◌, nat_le, if◌then◌else◌, Some, None, Ok, Err, Result, refl, ap, subst, ◌∙◌, arith}
+use Rattle.std.specs.declared.option.Option.{Option}
+use Rattle.std.proofs.lemmas.Bool.{and_parts}
+use Rattle.std.proofs.lemmas.Bool.Decides.{nat_tests}
+use Rattle.sq_outside.specs.SourceLines.{Line}
+use Rattle.sq_rules.specs.declared.entries.Event.{Event}
+use Rattle.sq_rules.specs.declared.entries.Event.TheVariants.{Reconfigure}
+use Rattle.sq_rules.specs.declared.kinds.ConfError.{ConfError}
+use Rattle.sq_rules.specs.declared.kinds.Kind.{Kind}
+use Rattle.sq_rules.specs.Configurations.{Configuration, IsConfiguration}
+use Rattle.sq_rules.specs.ConfText.{conf_gives, conf_refuses, conf_result}
+use Rattle.sq_rules.specs.Limits.{acl_limit, class_limit, initial_limit, pool_limit, rule_limit, text_limit}
+use Rattle.sq_history.specs.Given.{EachOf}
+use Rattle.sq_replay.specs.ConfReading.{checked, is_configuration, no_configuration, read_result}
+use Rattle.sq_replay.specs.RunText.{Shelf, configs_of, named_by, named_from, named_in, stated, with_config, with_text}
+
+most : (a b : ℕ) → nat_le a b ≡ true → a ≤ b
+most a b e = grind (arith, nat_tests)
+
+is_most : (a b : ℕ) → a ≤ b → nat_le a b ≡ true
+is_most a b l = grind (arith, nat_tests)
+
+both : (a b : Bool) → a ≡ true → b ≡ true → (a && b) ≡ true
+both true b e f = f
+both false b e f = absurd (cc)
+
+-- the test is what holds
+pub tested_is : (c : Configuration) → is_configuration c ≡ true → IsConfiguration c
+tested_is c e =
+    let a = and_parts _ _ e in
+    let b = and_parts _ _ a.1 in
+    let d = and_parts _ _ b.1 in
+    let f = and_parts _ _ d.1 in
+    let g = and_parts _ _ f.1 in
+    let h = and_parts _ _ g.1 in
+    let i = and_parts _ _ h.1 in
+    let j = and_parts _ _ i.1 in
+    let k = and_parts _ _ j.1 in
+    let l = and_parts _ _ k.1 in
+    let m = and_parts _ _ l.1 in
+    record {
+      short = most (length c.source) text_limit a.0;
+      class_names = b.0;
+      names = d.0;
+      members = f.0;
+      shallow = g.0;
+      places = h.0;
+      pools_are = i.0;
+      few_classes = most (length c.classes) class_limit j.0;
+      few_acls = most (length c.acls) acl_limit k.0;
+      few_rules = most (length c.rules) rule_limit l.0;
+      few_pools = most (length c.pools) pool_limit m.0;
+      initial_is = most c.initial initial_limit m.1;
+    }
+
+pub is_tested : (c : Configuration) → IsConfiguration c → is_configuration c ≡ true
+is_tested c is =
+    both _ _ (is_most (length c.source) text_limit is.short)
+    (both _ _ is.class_names
+    (both _ _ is.names
+    (both _ _ is.members
+    (both _ _ is.shallow
+    (both _ _ is.places
+    (both _ _ is.pools_are
+    (both _ _ (is_most (length c.classes) class_limit is.few_classes)
+    (both _ _ (is_most (length c.acls) acl_limit is.few_acls)
+    (both _ _ (is_most (length c.rules) rule_limit is.few_rules)
+    (both _ _ (is_most (length c.pools) pool_limit is.few_pools) (is_most c.initial initial_limit is.initial_is)))))))))))
+
+-- what a text gives, where it is a configuration, is read
+pub read_is : (text : List ℕ) (config : Configuration) → conf_gives text config → IsConfiguration config → read_result text ≡ Ok config
+read_is text config gives is = ap checked gives ∙ ap (λ (b : Bool). if b then Ok config else Err no_configuration) (is_tested config is)
+
+-- a text that is refused is not
+pub read_refused : (text : List ℕ) (line : ℕ) (k : Kind) → conf_refuses text line k → read_result text ≡ Err (record { line = line; kind = k })
+read_refused text line k refused = ap checked refused
+
+-- what was read: the text gives it, and it is a configuration
+pub record IsRead (text : List ℕ) (config : Configuration) : Type 0 where
+  pub gives : conf_gives text config
+  pub good : IsConfiguration config
+
+checked_is : (text : List ℕ) (r : Result Configuration ConfError) (config : Configuration) → conf_result text ≡ r → checked r ≡ Ok config → IsRead text config
+checked_is text (Err e) config is read = absurd (cc)
+checked_is text (Ok c) config is read = by (is_configuration c) refl read
+  where
+    by : (b : Bool) → is_configuration c ≡ b → (if b then Ok c else Err no_configuration) ≡ Ok config → IsRead text config
+    by true test read =
+        let same : c ≡ config = cc in
+        record { gives = is ∙ ap (λ (z : Configuration). Ok z) same; good = subst IsConfiguration same (tested_is c test) }
+    by false test read = absurd (cc)
+
+pub is_read : (text : List ℕ) (config : Configuration) → read_result text ≡ Ok config → IsRead text config
+is_read text config read = checked_is text (conf_result text) config refl read
+
+-- so each configuration that a script names is one
+
+config_good : (text : List ℕ) (r : Result Configuration ConfError) (more : List Configuration) → read_result text ≡ r → EachOf IsConfiguration more → EachOf IsConfiguration (with_config r more)
+config_good text (Ok config) more is good = ((is_read text config is).good, good)
+config_good text (Err e) more is good = tt
+
+text_good : (o : Option (List ℕ)) (more : List Configuration) → EachOf IsConfiguration more → EachOf IsConfiguration (with_text o more)
+text_good None more good = tt
+text_good (Some text) more good = config_good text (read_result text) more refl good
+
+by_good : (files : Shelf) (event : Event) (more : ℕ → List Configuration) (e : ℕ) → ((k : ℕ) → EachOf IsConfiguration (more k)) → EachOf IsConfiguration (named_by files event more e)
+by_good files (Reconfigure name) more e good = text_good (files e name) (more (suc e)) (good (suc e))
+by_good files event more e good = good e
+
+in_good : (files : Shelf) (o : Option (ℕ × Event)) (more : ℕ → List Configuration) (e : ℕ) → ((k : ℕ) → EachOf IsConfiguration (more k)) → EachOf IsConfiguration (named_in files o more e)
+in_good files None more e good = good e
+in_good files (Some (now, event)) more e good = by_good files event more e good
+
+pub named_good : (files : Shelf) (ls : List Line) (e : ℕ) → EachOf IsConfiguration (named_from files ls e)
+named_good files [] e = tt
+named_good files (l ∷ ls) e = in_good files (stated l.bytes) (named_from files ls) e (λ k. named_good files ls k)
+
+-- and so are those of all epochs of a run that begins with one
+pub configs_good : (files : Shelf) (config : Configuration) (ls : List Line) → IsConfiguration config → EachOf IsConfiguration (configs_of files config ls)
+configs_good files config ls good = (good, named_good files ls 1)

@@ -1,0 +1,34 @@
+-- The configuration that a text gives, tested to be one.
+use Rattle.std.specs.Prelude.{ℕ, List, length, Bool, ◌&&◌, nat_le, if◌then◌else◌, Result, Ok, Err}
+use Rattle.std.specs.List.{list_all}
+use Rattle.sq_rules.specs.declared.kinds.ConfError.{ConfError}
+use Rattle.sq_rules.specs.declared.kinds.Kind.TheVariants as kind
+use Rattle.sq_rules.specs.Configurations.{Configuration, are_known_bodies, are_shallow, are_unique, have_distinct_names, is_known_rule, is_pool}
+use Rattle.sq_rules.specs.ConfText.{conf_result}
+use Rattle.sq_rules.specs.Limits.{acl_limit, class_limit, initial_limit, pool_limit, rule_limit, text_limit}
+
+-- what holds of every configuration, as a test
+abbrev pub is_configuration : Configuration → Bool
+is_configuration c =
+    nat_le (length c.source) text_limit
+    && (have_distinct_names c.classes
+    && (are_unique c.acls
+    && (are_known_bodies (length c.classes) 0 c.acls
+    && (are_shallow c.acls
+    && (list_all (is_known_rule (length c.acls)) c.rules
+    && (list_all (is_pool c.acls) c.pools
+    && (nat_le (length c.classes) class_limit
+    && (nat_le (length c.acls) acl_limit && (nat_le (length c.rules) rule_limit && (nat_le (length c.pools) pool_limit && nat_le c.initial initial_limit))))))))))
+
+-- the fault of what is none
+abbrev pub no_configuration : ConfError
+no_configuration = record { line = 0; kind = kind.TooMany }
+
+abbrev pub checked : Result Configuration ConfError → Result Configuration ConfError
+checked (Ok config) = if is_configuration config then Ok config else Err no_configuration
+checked (Err e) = Err e
+
+-- the configuration of a text, or its first fault. The test never fails: the reader, which gives what the text states, gives a
+-- configuration. It stands here so that what a run comes to is said of configurations alone
+abbrev pub read_result : List ℕ → Result Configuration ConfError
+read_result text = checked (conf_result text)

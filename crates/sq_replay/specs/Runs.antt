@@ -1,0 +1,223 @@
+-- A run under way: the machine with its pools, what was written, and what the script has left.
+use Rattle.std.specs.Prelude.{◌≡◌, ◌⊎◌, ℕ, ℤ, ◌≤◌, suc, List, [], ◌∷◌, ◌++◌, true, Result, Ok, Err, Some, None, IfSome}
+use Rattle.std.specs.Io.KnownBytes.{Appends}
+use Rattle.std.specs.declared.option.Option.{Option}
+use Rattle.sq_base.specs.Addresses.{Address}
+use Rattle.sq_outside.specs.Causes.{Rose}
+use Rattle.sq_outside.specs.Output.{Grew, IsPrefix, IsProperPrefix}
+use Rattle.sq_outside.specs.SourceLines.{Line, lines}
+use Rattle.sq_outside.specs.Told.{Texts}
+use Rattle.sq_rules.specs.declared.entries.Event.{Event}
+use Rattle.sq_rules.specs.declared.entries.Event.TheVariants.{Reconfigure}
+use Rattle.sq_rules.specs.declared.entries.Told.{Told}
+use Rattle.sq_rules.specs.Checks.{Asked}
+use Rattle.sq_rules.specs.Configurations.{Configuration}
+use Rattle.sq_rules.specs.Entries.{History}
+use Rattle.sq_rules.specs.FullNext.{full_next}
+use Rattle.sq_rules.specs.Machine.{config_of, gives}
+use Rattle.sq_rules.specs.Marking.{marked}
+use Rattle.sq_rules.specs.PoolReadings.{allowed_of}
+use Rattle.sq_rules.specs.Readings.{current, latest}
+use Rattle.sq_rules.specs.Verdicts.{pool_of}
+use Rattle.sq_journal.specs.EntryText.{written}
+use Rattle.sq_pools.specs.Basins.{Basin}
+use Rattle.sq_pools.specs.Stands.{PoolsStand}
+use Rattle.sq_state.specs.Promises.{StandsFor, entry_at}
+use Rattle.sq_state.specs.States.{State}
+use Rattle.sq_replay.specs.declared.ends.RunEnd.{RunEnd}
+use Rattle.sq_replay.specs.declared.ends.RunEnd.TheVariants as ends
+use Rattle.sq_replay.specs.ConfReading.{read_result}
+use Rattle.sq_replay.specs.Ends.{End, Done, Refused, Faulted, Reading, Writing, Lacking, end_of}
+use Rattle.sq_replay.specs.Headline.{IsAhead}
+use Rattle.sq_replay.specs.RunText.{Ran, Shelf, acts, begun_history, run_lines, run_script, stated, stated_step}
+
+-- what was written
+
+-- since `base` the text was written, but for what the page holds of it
+pub record Wrote (base contents : Option (List ℕ)) (page text : List ℕ) : Type 0 where
+  pub done : List ℕ
+  pub appends : Appends base contents done
+  pub whole : done ++ page ≡ text
+
+-- the same of a front of the text
+pub record WroteFront (base contents : Option (List ℕ)) (page text : List ℕ) : Type 0 where
+  pub front : List ℕ
+  pub begins : IsPrefix front text
+  pub wrote : Wrote base contents page front
+
+-- a text of whole lines, each with its LF
+abbrev pub EndsLine : List ℕ → Type 0
+EndsLine text = (text ≡ []) ⊎ ((front : List ℕ) × (text ≡ front ++ 10 ∷ []))
+
+-- what `WroteFront` says, of a front of whole lines
+pub record WroteLines (base contents : Option (List ℕ)) (page text : List ℕ) : Type 0 where
+  pub front : List ℕ
+  pub begins : IsPrefix front text
+  pub lines : EndsLine front
+  pub wrote : Wrote base contents page front
+
+-- since `base` a front of the text was written, and not all
+abbrev pub WrotePart : Option (List ℕ) → Option (List ℕ) → List ℕ → Type 0
+WrotePart base contents text = Grew base contents (λ part. IsProperPrefix part text)
+
+-- the machine
+
+-- a record that allows, as a seat needs it: its epoch with the configuration, its pool, and the client's address
+pub record Rider : Type 0 where
+  pub epoch : ℕ
+  pub config : Configuration
+  pub pool : Option ℕ
+  pub addr : Address
+
+-- the record is of this check
+pub record IsRider (configs : List Configuration) (a : Asked) (r : Rider) : Type 0 where
+  pub epoch_is : r.epoch ≡ a.epoch
+  pub config_is : config_of configs a.epoch ≡ Some r.config
+  pub pool_is : r.pool ≡ pool_of r.config a.sight
+  pub addr_is : r.addr ≡ a.sight.addr
+
+-- there is such a record exactly where there is a check
+abbrev pub Rides : List Configuration → Option Asked → Option Rider → Type 0
+Rides configs None None = Unit {0}
+Rides configs None (Some r) = ⊥
+Rides configs (Some a) None = ⊥
+Rides configs (Some a) (Some r) = IsRider configs a r
+
+-- the machine that a script runs: the engine's state, the pools, the greatest moment of all entries, and the record last taken on each
+-- connection, where it allows
+pub record Machine : Type 0 where
+  pub state : State
+  pub pools : Basin
+  pub latest : ℕ
+  pub riders : ℕ → Option Rider
+
+-- it stands for this history, which is legal over these configurations
+pub record Is (v : Machine) (configs : List Configuration) (h : History) : Type 0 where
+  pub engine : StandsFor configs h v.state
+  pub pools : PoolsStand v.pools configs h
+  pub latest_is : v.latest ≡ latest h
+  pub riders_are : (c : ℕ) → Rides configs (allowed_of h c) (v.riders c)
+
+-- and the lines of the history were written since `base`, but for what the page holds
+pub record At (v : Machine) (base contents : Option (List ℕ)) (page : List ℕ) (configs : List Configuration) (h : History) : Type 0 where
+  pub is : Is v configs h
+  pub wrote : Wrote base contents page (written h)
+
+-- after this history the machine answers so to an event at this moment, and then stands for the history with the entry
+pub record IsMade (v : Machine) (configs : List Configuration) (h : History) (moment : ℕ) (event : Event) (answer : Told) : Type 0 where
+  pub next_is : full_next configs (marked configs h) moment event ≡ gives answer
+  pub is : Is v configs (entry_at moment event answer ∷ h)
+
+-- the acts
+
+-- a history from which the acts go on to the same end, and whose lines were written
+pub record Reached (v : Machine) (base contents : Option (List ℕ)) (page : List ℕ) (configs : List Configuration) (h : History) : Type 0 where
+  pub history : History
+  pub same : acts configs history ≡ acts configs h
+  pub at : At v base contents page configs history
+
+-- files
+
+-- what files tell is what stands on the shelf, whenever it is opened
+abbrev pub IsShelf : Texts → Shelf → Type 0
+IsShelf None files = ⊥
+IsShelf (Some disk) files = (e : ℕ) (name : List ℕ) → files e name ≡ disk name
+
+-- the configuration that a reconfiguration would read is that of the next epoch
+abbrev pub HasNext : Shelf → List Configuration → History → Event → Type 0
+HasNext files configs h (Reconfigure name) =
+    (text : List ℕ) (config : Configuration) → files (current h) name ≡ Some text → read_result text ≡ Ok config → config_of configs (suc (current h)) ≡ Some config
+HasNext files configs h event = Unit {0}
+
+-- one step
+
+-- the text that a step comes to
+abbrev pub step_text : History → Result History RunEnd → List ℕ
+step_text h (Ok t) = written t
+step_text h (Err end) = written h
+
+abbrev pub StopsAs : End → Option (List ℕ) → Option (List ℕ) → List ℕ → History → Result History RunEnd → RunEnd → Type 0
+StopsAs Done base contents page h step end = ⊥
+StopsAs Refused base contents page h step end = (step ≡ Err end) × Wrote base contents page (written h)
+StopsAs (Faulted Reading) base contents page h step end = Wrote base contents page (written h)
+StopsAs (Faulted Writing) base contents page h step end = WrotePart base contents (step_text h step)
+StopsAs (Faulted Lacking) base contents page h step end = WroteFront base contents page (step_text h step)
+
+-- the run stops at this step: the step is refused, or a fault came; a file is read before the step's lines are written
+abbrev pub Stops : Option (List ℕ) → Option (List ℕ) → List ℕ → History → Result History RunEnd → RunEnd → Type 0
+Stops base contents page h step end = StopsAs (end_of end) base contents page h step end
+
+-- a step was made, and the run goes on; or it stops
+abbrev pub Goes : Machine → Option (List ℕ) → Option (List ℕ) → List ℕ → List Configuration → History → Result History RunEnd → Result (Unit {0}) RunEnd → Type 0
+Goes v base contents page configs h step (Ok done) = (t : History) × (step ≡ Ok t) × At v base contents page configs t
+Goes v base contents page configs h step (Err end) = Stops base contents page h step end
+
+-- a line of a script was run, where the files tell: over every history that the machine stood for, and configurations that go on as the line
+-- and those behind it say
+abbrev pub LineGoes : Machine → Machine → Texts → Option (List ℕ) → Option (List ℕ) → Option (List ℕ) → List ℕ → List ℕ → List Configuration → ℕ → List ℕ → Result (Unit {0}) RunEnd → Type 0
+LineGoes v w texts base before contents old_page page configs number line result =
+    (h : History) (files : Shelf) (ls : List Line) → At v base before old_page configs h → IsShelf texts files → IsAhead files configs h (record { bytes = line; ended = true } ∷ ls)
+    → Goes w base contents page configs h (stated_step files configs h number (stated line)) result
+
+-- the run
+
+abbrev pub ReachesAs : End → Option (List ℕ) → Option (List ℕ) → List ℕ → Ran → RunEnd → Type 0
+ReachesAs Done base contents page ran end = (end ≡ ran.end) × Wrote base contents page (written ran.history)
+ReachesAs Refused base contents page ran end = (end ≡ ran.end) × Wrote base contents page (written ran.history)
+ReachesAs (Faulted Reading) base contents page ran end = WroteLines base contents page (written ran.history)
+ReachesAs (Faulted Writing) base contents page ran end = WrotePart base contents (written ran.history)
+ReachesAs (Faulted Lacking) base contents page ran end = WroteFront base contents page (written ran.history)
+
+-- the run came to its end, and the page holds what was not written; or a fault ended it before
+abbrev pub Reaches : Option (List ℕ) → Option (List ℕ) → List ℕ → Ran → RunEnd → Type 0
+Reaches base contents page ran end = ReachesAs (end_of end) base contents page ran end
+
+-- where script and files tell, something holds over what stands on the shelf, and configurations that go on as the script's lines say
+abbrev pub WhereTold : Texts → Option (List ℕ) → List Configuration → History → (Shelf → List ℕ → Type 0) → Type 0
+WhereTold texts left configs h P = IfSome left (λ bytes. (files : Shelf) → IsShelf texts files → IsAhead files configs h (lines bytes) → P files bytes)
+
+-- the run of what is left
+abbrev pub RunsOver : Texts → Option (List ℕ) → Option (List ℕ) → Option (List ℕ) → List ℕ → List Configuration → History → (Shelf → List ℕ → Ran) → RunEnd → Type 0
+RunsOver texts left base contents page configs h run end = WhereTold texts left configs h (λ files bytes. Reaches base contents page (run files bytes) end)
+
+-- the state that a run has come to: what the script has left runs, from this number and place on, to the whole
+pub record GoesOn (v : Machine) (files : Shelf) (left base contents : Option (List ℕ)) (page : List ℕ) (configs : List Configuration) (run : Ran) (number place : ℕ) : Type 0 where
+  pub history : History
+  pub at : At v base contents page configs history
+  pub bytes : List ℕ
+  pub left_is : left ≡ Some bytes
+  pub ahead : IsAhead files configs history (lines bytes)
+  pub same : run_lines files configs history number place (lines bytes) ≡ run
+
+-- so it is in a loop over lines, where h and `first` are what there was before it
+abbrev pub Going : Machine → Texts → Option (List ℕ) → Option (List ℕ) → Option (List ℕ) → Option (List ℕ) → List ℕ → List Configuration → History → (Shelf → List ℕ → Ran) → ℕ → ℕ → Type 0
+Going v texts first left base contents page configs h run number place =
+    WhereTold texts first configs h (λ files bytes. GoesOn v files left base contents page configs (run files bytes) number place)
+
+-- the beginning
+
+abbrev pub BeginsAs : End → Option (List ℕ) → Option (List ℕ) → List ℕ → List ℕ → Type 0
+BeginsAs Done base contents page text = ⊥
+BeginsAs Refused base contents page text = ⊥
+BeginsAs (Faulted Reading) base contents page text = ⊥
+BeginsAs (Faulted Writing) base contents page text = WrotePart base contents text
+BeginsAs (Faulted Lacking) base contents page text = WroteFront base contents page text
+
+-- the machine has begun, and the acts were made that are due then; or a fault came first
+abbrev pub Begins : Option (List ℕ) → Option (List ℕ) → List ℕ → List Configuration → ℕ → ℤ → Result Machine RunEnd → Type 0
+Begins base contents page configs now offset (Ok v) = At v base contents page configs (begun_history configs now offset)
+Begins base contents page configs now offset (Err end) = BeginsAs (end_of end) base contents page (written (begun_history configs now offset))
+
+-- the run of a script from its first line on, where script and files tell
+abbrev pub ScriptRuns : Texts → Option (List ℕ) → Option (List ℕ) → Option (List ℕ) → List ℕ → Configuration → RunEnd → Type 0
+ScriptRuns texts left base contents page config end =
+    IfSome left (λ bytes. (files : Shelf) → IsShelf texts files → Reaches base contents page (run_script files config (lines bytes)) end)
+
+-- the counts of the script, of the files and of the sink never fall; one of the first two rose where a read fault came, and the third where
+-- a write fault did
+pub record RunHasCauses (script_before script_now files_before files_now out_before out_now : ℕ) (end : RunEnd) : Type 0 where
+  pub script_later : script_before ≤ script_now
+  pub files_later : files_before ≤ files_now
+  pub out_later : out_before ≤ out_now
+  pub read : end ≡ ends.ReadFault → Rose script_before script_now ⊎ Rose files_before files_now
+  pub write : end ≡ ends.WriteFault → Rose out_before out_now
