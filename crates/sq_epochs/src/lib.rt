@@ -1,8 +1,9 @@
 //! The live epochs with a part for each of their classes, of which epoch and class each process is, and due stops.
 //!
 //! `Epochs` finds an epoch by its number, by a binary search over the few that live, and a class by its place in the
-//! epoch's configuration; a process's home by a binary search over the living. Each call changes one part as `sq_part`
-//! says (`IsChanged`), and nothing else. No call here knows of a history.
+//! epoch's configuration; a process's home by a binary search over the living. A call on one class changes its part as
+//! `sq_part` says (`IsChanged`); a start and an end change homes too, an epoch's end takes its processes out, and `act`
+//! makes the first act that is due. No call here knows of a history.
 #![tactic(auto)]
 
 mod acts;
