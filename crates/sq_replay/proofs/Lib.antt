@@ -6,6 +6,7 @@ pub mod RunLaws
 pub mod SourceLaws
 pub mod GrowthLaws
 pub mod HeadlineLaws
+pub mod EndLaws
 pub mod LoopLaws
 pub mod MakingLaws
 pub mod ToldLaws
