@@ -1,5 +1,5 @@
 -- How a run of a script may end.
-use Rattle.std.proofs.Common.{◌≡◌, ℕ, ℤ, ◌+◌, List, [], ◌∷◌, length, Bool, true, false, if◌then◌else◌, max, Some, None, Ok, Err, Result, is_some, pos}
+use Rattle.std.proofs.Common.{ℕ, ◌+◌, List, [], ◌∷◌, length, Bool, true, false, if◌then◌else◌, max, Some, None, Ok, Err, Result, is_some, pos}
 use Rattle.std.specs.declared.option.Option.{Option}
 use Rattle.sq_outside.specs.SourceLines.{Line, is_readable}
 use Rattle.sq_request.specs.Written.{made_request}

@@ -10,5 +10,6 @@ pub mod EndLaws
 pub mod LoopLaws
 pub mod MakingLaws
 pub mod ToldLaws
+pub mod TakenLaws
 pub mod BeginLaws
 mod RunRows
