@@ -1,5 +1,5 @@
 -- Every legal history is faithful: its outcomes, its questions and their sends have their sources.
-use Rattle.std.proofs.Common.{Bool, List, None, Option, Some, ℕ, [], ap, arith, false, if◌then◌else◌, is_some, le_refl, length, nat_le, not, refl, subst, suc, sym, true, zero, ◌<◌, ◌==◌, ◌∙◌, ◌∷◌, ◌≡◌, ◌≤◌}
+use Rattle.std.proofs.Common.{Bool, List, None, Option, Some, ℕ, [], ap, arith, false, if◌then◌else◌, is_some, le_refl, length, nat_le, not, refl, slice_get, subst, suc, sym, true, zero, ◌<◌, ◌==◌, ◌∙◌, ◌∷◌, ◌≡◌, ◌≤◌}
 use Rattle.std.specs.Option.{option_and_then, option_map, option_or}
 use Rattle.std.proofs.lemmas.Bool.{lt-ltb}
 use Rattle.std.proofs.lemmas.Option.{none-some, same_Some}
@@ -66,6 +66,16 @@ config_there configs (suc e) n low high few = get_some configs e (lt-ltb e (leng
   where
     under : (a b c : ℕ) → suc a ≤ b → b ≤ c → a < c
     under a b c l k = omega arith
+
+place_within : {A : Type 0} (xs : List A) (i : ℕ) (x : A) → slice_get xs i ≡ Some x → suc i ≤ length xs
+place_within [] i x e = absurd (none-some x e)
+place_within (y ∷ xs) zero x e = omega arith
+place_within (y ∷ xs) (suc i) x e = let l = place_within xs i x e in omega arith
+
+-- where an epoch has its configuration, there are so many: this of the current epoch is what `legal_faithful` asks for
+pub enough_configs : (configs : List Configuration) (e : ℕ) (config : Configuration) → config_of configs e ≡ Some config → e ≤ length configs
+enough_configs configs zero config is = omega arith
+enough_configs configs (suc e) config is = place_within configs e config is
 
 -- what was taken of an open check that is done
 record IsTaken (configs : List Configuration) (m : Past) (n epoch : ℕ) (o : Outcome) : Type 0 where
