@@ -20,11 +20,11 @@ use Rattle.sq_history.proofs.RowLaws.{picks_same}
 use Rattle.sq_state.specs.Acts.{Due, due_in, live_places_in, places_in, sends, starts, stops}
 use Rattle.sq_state.specs.Answers.{act_of, due_told}
 use Rattle.sq_state.specs.Promises.{IsAnswered, StandsFor, entry_at}
-use Rattle.sq_state.specs.States.{Stands, State, lives_with}
+use Rattle.sq_state.specs.States.{IsSame, Stands, State, lives_with}
 use Rattle.sq_state.proofs.ActNext.{act_next_is}
 use Rattle.sq_state.proofs.ActPromises.{send_answered, start_answered, stop_answered}
 use Rattle.sq_state.proofs.PromiseLaws.{legal_more, next_now}
-use Rattle.sq_replay.specs.Dues.{dues, dues_at, dues_in, dues_of_row, state_at, total}
+use Rattle.sq_replay.specs.Dues.{after_due, dues, dues_at, dues_in, dues_of_row, state_at, total}
 use Rattle.sq_replay.specs.RunText.{acted, acts, acts_upto}
 use Rattle.sq_replay.proofs.DueLaws.{send_lowers, start_lowers, stop_lowers, total_same}
 
@@ -67,6 +67,30 @@ dues_are configs m s st =
     (ap (λ (xs : List ℕ). length xs) (ap (picks s.stop) st.procs_are ∙ picks_same (stop_due (entries m)) s.stop (proc_count (entries m)) (λ k low high. st.stops_are k)))
     (ap (total (dues_at s)) places ∙ total_same (dues_at s) (dues_at t) (live_places_in t) (λ p. ap dues_of_row (st.rows_are p.epoch p.class)))
 
+-- states that are the same have the same due
+pub dues_same : (s t : State) → IsSame s t → dues_in s ≡ dues_in t
+dues_same s t is =
+    ap₂ (λ (a b : ℕ). a + b)
+    (ap (λ (xs : List ℕ). length xs) (ap (picks s.stop) is.procs_are ∙ picks_same t.stop s.stop t.procs (λ k low high. is.stops_are k)))
+    (ap (total (dues_at s)) (places_like s t is.current_is is.checks_are is.configs_are)
+    ∙ total_same (dues_at s) (dues_at t) (live_places_in t) (λ p. ap dues_of_row (is.rows_are p.epoch p.class)))
+
+after_lowers : (s : State) (d : Due) (now : ℕ) → due_in s ≡ Some d → dues_in (after_due d now s) < dues_in s
+after_lowers s (stops k) now is = stop_lowers s k now is
+after_lowers s (sends p x) now is = send_lowers s p x now is
+after_lowers s (starts p) now is = start_lowers s p now is
+
+-- a state that is the same as after the act that was due has less due: a loop of acts ends
+pub due_lowers : (s t : State) (d : Due) (now : ℕ) → due_in s ≡ Some d → IsSame t (after_due d now s) → dues_in t < dues_in s
+due_lowers s t d now is same = subst (λ (n : ℕ). n < dues_in s) (sym (dues_same t (after_due d now s) same)) (after_lowers s d now is)
+
+-- what is answered to the act that is due
+pub due_answered : (configs : List Configuration) (h : History) (s : State) (now : ℕ) (d : Due) → StandsFor configs h s → latest h ≤ now → due_in s ≡ Some d
+    → IsAnswered configs h now Act (due_told s d) (after_due d now s)
+due_answered configs h s now (stops k) st late is = stop_answered configs h s now k st late is
+due_answered configs h s now (sends p x) st late is = send_answered configs h s now p x st late is
+due_answered configs h s now (starts p) st late is = start_answered configs h s now p st late is
+
 -- each act lowers what is due
 pub act_lowers : (configs : List Configuration) (h : History) (answer : Told) → EachOf IsConfiguration configs → FullLegal configs h
     → full_next configs (marked configs h) (latest h) Act ≡ gives answer → dues configs (entry_at (latest h) Act answer ∷ h) < dues configs h
@@ -84,18 +108,14 @@ act_lowers configs h answer good legal next = by (due_in s) refl told
     told : act_of s (due_in s) ≡ gives answer
     told = sym (next_now configs h (latest h) Act late ∙ act_next_is configs (marked configs h) s (latest h) st.stands) ∙ next
 
-    after : (d : Due) (t : State) → IsAnswered configs h (latest h) Act (due_told s d) t → gives (due_told s d) ≡ gives answer → dues_in t < dues_in s
-        → dues configs (entry_at (latest h) Act answer ∷ h) < dues configs h
-    after d t a same l =
-        let is : due_told s d ≡ answer = cc in
-        subst (λ (z : Told). dues configs (entry_at (latest h) Act z ∷ h) < dues configs h) is
-        (subst (λ (n : ℕ). n < dues configs h) (dues_are configs (marked configs (entry_at (latest h) Act (due_told s d) ∷ h)) t a.stands.stands) l)
-
     by : (o : Option Due) → due_in s ≡ o → act_of s o ≡ gives answer → dues configs (entry_at (latest h) Act answer ∷ h) < dues configs h
     by None is e = absurd (cc)
-    by (Some (stops k)) is e = after (stops k) _ (stop_answered configs h s (latest h) k st late is) e (stop_lowers s k (latest h) is)
-    by (Some (sends p x)) is e = after (sends p x) _ (send_answered configs h s (latest h) p x st late is) e (send_lowers s p x (latest h) is)
-    by (Some (starts p)) is e = after (starts p) _ (start_answered configs h s (latest h) p st late is) e (start_lowers s p (latest h) is)
+    by (Some d) is e =
+        let same : due_told s d ≡ answer = cc in
+        let a = due_answered configs h s (latest h) d st late is in
+        subst (λ (z : Told). dues configs (entry_at (latest h) Act z ∷ h) < dues configs h) same
+        (subst (λ (n : ℕ). n < dues configs h) (dues_are configs (marked configs (entry_at (latest h) Act (due_told s d) ∷ h)) (after_due d (latest h) s) a.stands.stands)
+        (after_lowers s d (latest h) is))
 
 -- a legal history stays so with an act
 pub act_legal : (configs : List Configuration) (h : History) (answer : Told) → full_next configs (marked configs h) (latest h) Act ≡ gives answer → FullLegal configs h

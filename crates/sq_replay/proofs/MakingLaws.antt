@@ -26,17 +26,19 @@ use Rattle.sq_journal.specs.EntryText.{entry_line, written}
 use Rattle.sq_pools.specs.Basins.{Basin, HasBegun, HasLeft, IsBasin, IsChosen, IsGranted, IsRenewed, grant_in, seat_in}
 use Rattle.sq_pools.specs.Stands.{is_elsewhere}
 use Rattle.sq_pools.proofs.StandLaws.{choose_stands, elsewhere_stands, grant_is, grant_stands, leave_stands, new_stands, renew_stands}
-use Rattle.sq_state.specs.Acts.{due_in}
+use Rattle.sq_state.specs.Acts.{Due, due_in}
+use Rattle.sq_state.specs.Answers.{due_told}
 use Rattle.sq_state.specs.Promises.{IsAnswered, entry_at}
 use Rattle.sq_state.specs.Changes.{first_state}
 use Rattle.sq_state.specs.States.{IsSame, State}
 use Rattle.sq_state.proofs.ActPromises.{none_due}
 use Rattle.sq_state.proofs.Lawful.{stands_same}
-use Rattle.sq_state.proofs.PromiseLaws.{first_for, grant_answered, leave_answered, next_now, seat_answered}
+use Rattle.sq_state.proofs.PromiseLaws.{answered_same, first_for, grant_answered, leave_answered, next_now, seat_answered}
 use Rattle.sq_replay.specs.declared.ends.RunEnd.TheVariants as ends
+use Rattle.sq_replay.specs.Dues.{after_due}
 use Rattle.sq_replay.specs.RunText.{acts, answered, asked_next, first_history}
 use Rattle.sq_replay.specs.Runs.{At, Is, IsMade, IsRider, Machine, Reached, Rider, Rides, Wrote}
-use Rattle.sq_replay.proofs.ActLaws.{acts_none, acts_some}
+use Rattle.sq_replay.proofs.ActLaws.{acts_none, acts_some, due_answered}
 
 -- the acts, one by one
 
@@ -107,6 +109,22 @@ riders_same h moment c event answer e = refl
 pub riders_kept : (v : Machine) (configs : List Configuration) (h : History) (moment : ℕ) (event : Event) (answer : Told) → Is v configs h → keeps_riders event ≡ true
     → (c : ℕ) → Rides configs (allowed_of (entry_at moment event answer ∷ h) c) (v.riders c)
 riders_kept v configs h moment event answer is e c = subst (λ (o : Option Asked). Rides configs o (v.riders c)) (sym (riders_same h moment c event answer e)) (is.riders_are c)
+
+-- the engine made the act that was due
+pub act_made : (v : Machine) (configs : List Configuration) (h : History) (moment : ℕ) (d : Due) (t : State) → Is v configs h → IsBasin v.pools → v.latest ≤ moment → due_in v.state ≡ Some d
+    → IsSame t (after_due d moment v.state) → IsMade (record v { state = t; latest = moment }) configs h moment Act (due_told v.state d)
+act_made v configs h moment d t is basin late due same =
+    let after : latest h ≤ moment = subst (λ (n : ℕ). n ≤ moment) is.latest_is late in
+    let a = answered_same configs h (after_due d moment v.state) t moment Act (due_told v.state d) same (due_answered configs h v.state moment d is.engine after due) in
+    record {
+      next_is = a.next_is;
+      is = record {
+        engine = a.stands;
+        pools = elsewhere_stands v.pools configs (entry_at moment Act (due_told v.state d)) h basin is.pools after refl;
+        latest_is = refl;
+        riders_are = riders_kept v configs h moment Act (due_told v.state d) is refl;
+      };
+    }
 
 -- an outcome was taken: where it allows, the record is that of its connection from here on
 pub riders_taken : (v : Machine) (configs : List Configuration) (h : History) (moment n epoch : ℕ) (o : Outcome) (a : Asked) (r : Rider) → Is v configs h → ask_of h n ≡ Some a

@@ -1,5 +1,5 @@
 -- What is answered to each event of a script, by the engine's state.
-use Rattle.std.proofs.Common.{◌≡◌, ℕ, suc, ◌≤◌, List, [], ◌∷◌, Bool, true, false, not, ◌&&◌, ◌==◌, nat_le, bytes_eq, slice_get, position, if◌then◌else◌, Option, Some, None, option_and_then, refl, sym, ap, subst, ◌∙◌}
+use Rattle.std.proofs.Common.{◌≡◌, ℕ, suc, ◌≤◌, List, Bool, true, false, not, ◌&&◌, ◌==◌, nat_le, bytes_eq, slice_get, position, if◌then◌else◌, Option, Some, None, option_and_then, refl, sym, ap, ◌∙◌}
 use Rattle.std.proofs.lemmas.Option.{none-some}
 use Rattle.sq_base.proofs.CommonLaws.{then_some}
 use Rattle.sq_base.specs.Addresses.{Address}
@@ -14,7 +14,7 @@ use Rattle.sq_rules.specs.Entries.{History}
 use Rattle.sq_rules.specs.Epochs.{class_at, is_live, place_of_class}
 use Rattle.sq_rules.specs.FullNext.{full_next, full_next_at, has_start, with_place}
 use Rattle.sq_rules.specs.Limits.{last_number}
-use Rattle.sq_rules.specs.Machine.{Next, config_of, gives, nothing, refuse_if}
+use Rattle.sq_rules.specs.Machine.{Next, config_of, gives, refuse_if}
 use Rattle.sq_rules.specs.Marking.{marked}
 use Rattle.sq_rules.specs.Marks.{Past, entries}
 use Rattle.sq_rules.specs.Processes.{proc_count, starting}
@@ -61,7 +61,7 @@ act_told configs h s now st late = next_now configs h now Act late ∙ act_next_
 -- of starts: the script names a class, and the engine its place
 
 -- a configuration that the state has is that of its epoch
-config_there : (configs : List Configuration) (m : Past) (s : State) (e : ℕ) (config : Configuration) → Stands configs m s → s.config e ≡ Some config → config_of configs e ≡ Some config
+pub config_there : (configs : List Configuration) (m : Past) (s : State) (e : ℕ) (config : Configuration) → Stands configs m s → s.config e ≡ Some config → config_of configs e ≡ Some config
 config_there configs m s e config st is = by (is_live (entries m) e) (sym (st.configs_are e) ∙ is)
   where
     by : (b : Bool) → (if b then config_of configs e else None) ≡ Some config → config_of configs e ≡ Some config

@@ -18,7 +18,8 @@ use Rattle.sq_rules.specs.Questions.{put_count}
 use Rattle.sq_rules.specs.Readings.{current, offset_of}
 use Rattle.sq_rows.specs.CheckRows.{held_checks}
 use Rattle.sq_rows.specs.ClassRows.{ClassRow, class_part}
-use Rattle.sq_state.specs.Acts.{live_places_in}
+use Rattle.sq_state.specs.Acts.{Due, live_places_in, sends, starts, stops}
+use Rattle.sq_state.specs.Changes.{after_send_at, after_start_at, after_stop_of}
 use Rattle.sq_state.specs.States.{State, machine_moment, place_of}
 
 -- the state that a history comes to: each part is its reading
@@ -64,3 +65,9 @@ dues_in s = length (picks s.stop s.procs) + total (dues_at s) (live_places_in s)
 -- the acts that are due after a history at most
 abbrev pub dues : List Configuration → History → ℕ
 dues configs h = dues_in (state_at configs (marked configs h))
+
+-- the state after the act that was due
+abbrev pub after_due : Due → ℕ → State → State
+after_due (stops k) now s = after_stop_of k now s
+after_due (sends p x) now s = after_send_at p now s
+after_due (starts p) now s = after_start_at p now s

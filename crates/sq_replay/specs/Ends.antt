@@ -42,3 +42,11 @@ end_of (Differs line) = Refused
 end_of ReadFault = Faulted Reading
 end_of WriteFault = Faulted Writing
 end_of WantOfMemory = Faulted Lacking
+
+-- a run of a script ends by these alone, but for a fault from without
+abbrev pub IsScriptEnd : RunEnd → Type 0
+IsScriptEnd Ok = Unit {0}
+IsScriptEnd (Script line) = Unit {0}
+IsScriptEnd (Config e) = Unit {0}
+IsScriptEnd (Missing name) = Unit {0}
+IsScriptEnd end = ⊥
