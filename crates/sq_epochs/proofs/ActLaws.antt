@@ -1,14 +1,13 @@
 -- Laws of making the act that is due.
-use Rattle.std.proofs.Common.{◌≡◌, ℕ, List, [], ◌∷◌, Bool, true, false, not, if◌then◌else◌, ◌==◌, filter, refl, sym, subst, ap, ◌∙◌, Some, None, is_some, IfOk, Ok, Err}
+use Rattle.std.proofs.Common.{◌≡◌, ℕ, true, refl, ap, ◌∙◌, Some, None, is_some, IfOk, Ok, Err}
 use Rattle.std.specs.Option.{option_and_then, option_map}
 use Rattle.std.specs.declared.option.Option.{Option}
 use Rattle.std.specs.declared.result.Result.{Result}
 use Rattle.std.specs.List.{slice_get}
-use Rattle.std.proofs.lemmas.Option.{same_Some}
 use Rattle.sq_channel.proofs.RisingLaws.{if_true}
 use Rattle.sq_rules.specs.Farms.{Sending, send_of}
 use Rattle.sq_part.specs.Parts.{PartState}
-use Rattle.sq_epochs.specs.DueStates.{DueAt, act_in, after_due, first_place, owes_send, owes_start, send_by, sends, start_by, starts, stops}
+use Rattle.sq_epochs.specs.DueStates.{act_in, after_due, first_place, owes_send, owes_start, send_by, sends, start_by, starts, stops}
 use Rattle.sq_epochs.specs.EpochStates.{EpochState, EpochsState}
 use Rattle.sq_epochs.proofs.DueLaws.{first_is, record_stops}
 

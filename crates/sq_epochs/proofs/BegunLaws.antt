@@ -7,6 +7,7 @@ use Rattle.std.proofs.lemmas.Bool.{lt-ltb}
 use Rattle.std.proofs.lemmas.List.Elements.{filter-append}
 use Rattle.std.proofs.lemmas.List.Folds.{list_all-append}
 use Rattle.std.proofs.lemmas.Option.{slice_get-map}
+use Rattle.sq_base.proofs.CommonLaws.{eq_turned}
 use Rattle.sq_channel.proofs.RisingLaws.{if_false, if_true}
 use Rattle.sq_rules.specs.Classes.{Class}
 use Rattle.sq_rules.specs.Configurations.{Configuration}
@@ -17,6 +18,7 @@ use Rattle.sq_epochs.specs.EpochStates.{EpochState, EpochsState, change_epoch, c
 use Rattle.sq_epochs.specs.LiveEpochs.{AreEpochs, checks_at, has_checks, is_used, without_epoch}
 use Rattle.sq_epochs.specs.Reconfigured.{alike_in, begun_epoch, begun_part, emptied, kept_alike, kept_before, kept_in, left_epoch, left_part, left_parts, with_begun, with_epoch}
 use Rattle.sq_epochs.proofs.EpochLaws.{placed}
+use Rattle.sq_epochs.proofs.ProcLaws.{in_changed}
 use Rattle.sq_epochs.proofs.DropLaws.{in_without}
 use Rattle.sq_epochs.proofs.RisingRows.{above_filter, above_push, below_filter, below_push, keys_push, rises_filter, rises_push}
 
@@ -29,39 +31,10 @@ apart a b l = grind (arith, l)
 itself : (a : ℕ) → (a == a) ≡ true
 itself a = grind arith
 
-none_either : (b : Bool) → ◌≡◌ {A = Option EpochState} None (if b then None else None)
-none_either true = refl
-none_either false = refl
-
 -- the epoch with a number, where one was changed and kept its number
-pub in_changed : (e f : ℕ) (g : EpochState → EpochState) (xs : List EpochState) → ((x : EpochState) → (g x).epoch ≡ x.epoch)
+pub changed_at : (e f : ℕ) (g : EpochState → EpochState) (xs : List EpochState) → ((x : EpochState) → (g x).epoch ≡ x.epoch)
     → epoch_in f (change_epoch e g xs) ≡ (if f == e then option_map g (epoch_in f xs) else epoch_in f xs)
-in_changed e f g [] same = none_either (f == e)
-in_changed e f g (x ∷ xs) same = by_test (e == x.epoch) (f == e) refl refl (in_changed e f g xs same)
-  where
-    here : (b : Bool) → (f == x.epoch) ≡ b → (f == (g x).epoch) ≡ b
-    here b t = ap (λ n. f == n) (same x) ∙ t
-
-    first : (b : Bool) → (f == x.epoch) ≡ b → (if f == (g x).epoch then Some (g x) else epoch_in f xs) ≡ (if b then Some (g x) else epoch_in f xs)
-    first b t = ap (λ z. if z then Some (g x) else epoch_in f xs) (here b t)
-
-    by_test : (b c : Bool) → (e == x.epoch) ≡ b → (f == e) ≡ c → epoch_in f (change_epoch e g xs) ≡ (if c then option_map g (epoch_in f xs) else epoch_in f xs)
-        → epoch_in f (if b then g x ∷ xs else x ∷ change_epoch e g xs)
-        ≡ (if c then option_map g (if f == x.epoch then Some x else epoch_in f xs) else (if f == x.epoch then Some x else epoch_in f xs))
-    by_test true true t s more =
-        let n = equal e x.epoch t in
-        let m = equal f e s in
-        let at : (f == x.epoch) ≡ true = ap (λ z. f == z) (sym n) ∙ s in
-        first true at ∙ ap (λ z. option_map g (if z then Some x else epoch_in f xs)) (sym at)
-    by_test true false t s more =
-        let n = equal e x.epoch t in
-        let other : (f == x.epoch) ≡ false = ap (λ z. f == z) (sym n) ∙ s in
-        first false other ∙ ap (λ z. if z then Some x else epoch_in f xs) (sym other)
-    by_test false true t s more =
-        let m = equal f e s in
-        let other : (f == x.epoch) ≡ false = ap (λ z. z == x.epoch) m ∙ t in
-        ap (λ z. if z then Some x else epoch_in f (change_epoch e g xs)) other ∙ more ∙ ap (λ z. option_map g (if z then Some x else epoch_in f xs)) (sym other)
-    by_test false false t s more = ap (λ z. if f == x.epoch then Some x else z) more
+changed_at e f g xs same = in_changed e g same xs f ∙ ap (λ b. if b then option_map g (epoch_in f xs) else epoch_in f xs) (eq_turned e f)
 
 -- the epoch with a number in two lists, one behind the other
 pub in_append : (f : ℕ) (xs ys : List EpochState) → epoch_in f (xs ++ ys) ≡ option_or (epoch_in f xs) (epoch_in f ys)
@@ -92,7 +65,7 @@ pub epoch_begun : (config : Configuration) (v : EpochsState) (f : ℕ) → AreEp
     else (if f == v.current then option_map (left_epoch config.classes) (epoch_at v f) else epoch_at v f))
 epoch_begun config v f is =
     in_append f (change_epoch v.current (left_epoch config.classes) v.epochs) (begun ∷ [])
-    ∙ ap (λ o. option_or o (if f == suc v.current then Some begun else None)) (in_changed v.current f (left_epoch config.classes) v.epochs (λ x. refl))
+    ∙ ap (λ o. option_or o (if f == suc v.current then Some begun else None)) (changed_at v.current f (left_epoch config.classes) v.epochs (λ x. refl))
     ∙ by_test (f == suc v.current) refl
   where
     begun : EpochState

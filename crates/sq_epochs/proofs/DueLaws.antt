@@ -1,8 +1,7 @@
 -- Laws of the act that is due.
-use Rattle.std.proofs.Common.{◌≡◌, ℕ, zero, suc, ◌+◌, ◌≤◌, ◌<◌, List, [], ◌∷◌, ◌++◌, map, length, set, Bool, true, false, not, cond, if◌then◌else◌, nat_lt, ◌==◌, refl, sym, subst, arith, ap, ◌∙◌, Some, None, is_some, get_or, drop, filter}
+use Rattle.std.proofs.Common.{◌≡◌, ℕ, zero, suc, ◌+◌, ◌<◌, List, [], ◌∷◌, ◌++◌, map, length, set, Bool, true, false, not, cond, if◌then◌else◌, nat_lt, ◌==◌, refl, sym, subst, arith, ap, ◌∙◌, Some, None, is_some, drop, filter}
 use Rattle.std.specs.List.{flat_map, position, prefix_len, slice_get}
 use Rattle.std.specs.Option.{option_and_then, option_map, option_or}
-use Rattle.std.specs.Prelude.{IfSome}
 use Rattle.std.specs.declared.option.Option.{Option}
 use Rattle.std.proofs.lemmas.Option.{same_Some}
 use Rattle.sq_channel.proofs.RisingLaws.{if_false, if_true}

@@ -9,7 +9,7 @@ use Rattle.sq_epochs.specs.EpochProcs.{AreHomed, is_place, lives_in}
 use Rattle.sq_epochs.specs.EpochStates.{EpochState, EpochsState, change_epoch, class_at, class_of, epoch_at, home_at, part_at, part_of, row_at}
 use Rattle.sq_epochs.specs.HomeStates.{Home, home_in, home_number, is_among, is_of_epoch, procs_of}
 use Rattle.sq_epochs.specs.LiveEpochs.{after_began, check_more, checks_at, drop_epoch}
-use Rattle.sq_epochs.proofs.BegunLaws.{in_changed}
+use Rattle.sq_epochs.proofs.BegunLaws.{changed_at}
 use Rattle.sq_epochs.proofs.DropLaws.{in_without}
 use Rattle.sq_epochs.proofs.HomeLaws.{among_all}
 use Rattle.sq_epochs.proofs.HomedLaws.{home_other, place_without}
@@ -99,7 +99,7 @@ checks_dropped e f v = ap (λ o. option_map_or (λ x. x.checks) o 0) (epoch_drop
 -- a check that began or is over changes of each epoch only how many are open
 pub epoch_counted : (e f : ℕ) (g : EpochState → EpochState) (v : EpochsState) → ((x : EpochState) → (g x).epoch ≡ x.epoch)
     → epoch_at (record v { epochs = change_epoch e g v.epochs }) f ≡ (if f == e then option_map g (epoch_at v f) else epoch_at v f)
-epoch_counted e f g v same = in_changed e f g v.epochs same
+epoch_counted e f g v same = changed_at e f g v.epochs same
 
 -- what is the same of an epoch before and after is the same of all
 pub same_of : {A : Type 0} (read : Option EpochState → A) (e f : ℕ) (g : EpochState → EpochState) (v : EpochsState) → ((x : EpochState) → (g x).epoch ≡ x.epoch) → ((o : Option EpochState) → read (option_map g o) ≡ read o)

@@ -12,13 +12,13 @@ use Rattle.sq_rules.specs.DueActs.{Place}
 use Rattle.sq_rules.specs.Farms.{fresh}
 use Rattle.sq_rules.specs.KeptLists.{KeptList}
 use Rattle.sq_rules.specs.Living.{lives}
-use Rattle.sq_rules.specs.Rising.{AreAbove, Rises}
+use Rattle.sq_rules.specs.Rising.{Rises}
 use Rattle.sq_part.specs.Parts.{PartState}
 use Rattle.sq_epochs.specs.EpochProcs.{AreHomed, AreWhole, IsEnded, IsStarted, SameLiving, has_start, is_place, is_starting, lives_in}
 use Rattle.sq_epochs.specs.EpochStates.{EpochState, EpochsState, epoch_at, epoch_in, epoch_number, home_at, new_epoch, new_part, part_at, part_of}
 use Rattle.sq_epochs.specs.HomeStates.{AreHomes, Home, home_in, home_number, is_of_epoch, other_homes, procs_of, with_number, with_numbers, without_home}
 use Rattle.sq_epochs.specs.LiveEpochs.{AreEpochs, checks_at, is_used, without_epoch}
-use Rattle.sq_epochs.specs.Reconfigured.{alike_in, begun_epoch, begun_part, emptied, kept_before, left_epoch, left_part, left_parts, with_begun, with_epoch}
+use Rattle.sq_epochs.specs.Reconfigured.{alike_in, begun_epoch, begun_part, emptied, kept_before, left_epoch, left_parts, with_begun, with_epoch}
 use Rattle.sq_epochs.proofs.BegunLaws.{begun_epochs, epoch_begun, left_epochs, none_past}
 use Rattle.sq_epochs.proofs.DropLaws.{dropped_epochs, in_without}
 use Rattle.sq_epochs.proofs.HomeLaws.{above_other, home_above, home_below, homes_dropped, homes_less, homes_more}

@@ -1,5 +1,5 @@
 mod ActLaws
-mod DueLaws
+pub mod DueLaws
 mod EpochLaws
 mod PartLaws
 mod FindLaws
@@ -15,4 +15,5 @@ pub mod BegunLaws
 pub mod EndLaws
 pub mod OverLaws
 pub mod HomedLaws
-mod ProcLaws
+pub mod ProcLaws
+pub mod ReadLaws

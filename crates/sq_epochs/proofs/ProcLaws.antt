@@ -1,21 +1,18 @@
 -- Laws of which processes live in which class.
-use Rattle.std.proofs.Common.{◌≡◌, ℕ, zero, suc, ◌-◌, ◌<◌, List, [], ◌∷◌, ◌++◌, map, length, set, Bool, true, false, not, ◌&&◌, ◌||◌, if◌then◌else◌, nat_lt, ◌==◌, refl, sym, subst, arith, ap, ◌∙◌, Some, None, is_some, get_or, Ok, Err, IfOk, OnOk, OnErr}
+use Rattle.std.proofs.Common.{◌≡◌, ℕ, zero, suc, ◌-◌, List, [], ◌∷◌, ◌++◌, set, Bool, true, false, ◌&&◌, ◌||◌, if◌then◌else◌, nat_lt, ◌==◌, refl, sym, arith, ap, ◌∙◌, Some, None, is_some, get_or, Ok, Err, IfOk, OnOk, OnErr}
 use Rattle.std.specs.Prelude.{IfNone, IfSome}
-use Rattle.std.specs.Option.{option_map, option_map_or, option_or}
+use Rattle.std.specs.Option.{option_map, option_or}
 use Rattle.std.specs.declared.option.Option.{Option}
 use Rattle.std.specs.declared.result.Result.{Result}
 use Rattle.std.specs.List.{slice_get}
-use Rattle.std.proofs.lemmas.Option.{slice_get_within}
-use Rattle.sq_base.specs.declared.helpers.Cause.{Cause}
 use Rattle.sq_base.specs.declared.helpers.What.{What}
 use Rattle.sq_channel.proofs.RisingLaws.{if_false, if_true}
 use Rattle.sq_rules.specs.Channels.{settled}
 use Rattle.sq_rules.specs.Classes.{Class}
 use Rattle.sq_rules.specs.DueActs.{Place}
-use Rattle.sq_rules.specs.Farms.{Stock, Waiting, after_send, after_send_by, after_start, emptied, ended, failed, fresh, is_last_start, send_of, start_due, started_in}
-use Rattle.sq_rules.specs.Living.{Living, asked_row, find_proc, has_free, lives, sent, settled_in, settled_row, some_free, with_proc, without}
+use Rattle.sq_rules.specs.Farms.{Stock, Waiting, after_send, after_send_by, after_start, emptied, failed, fresh, is_last_start, start_due}
+use Rattle.sq_rules.specs.Living.{Living, asked_row, find_proc, has_free, lives, sent, settled_in, some_free, with_proc, without}
 use Rattle.sq_rules.specs.Marks.{Put}
-use Rattle.sq_rules.specs.Rising.{AreBelow}
 use Rattle.sq_rules.specs.StepRule.{StepSays}
 use Rattle.sq_rows.specs.ClassRows.{ClassRow, after_reply, with_took}
 use Rattle.sq_rows.specs.StepRows.{after_says, says_of_row, with_put}
@@ -25,10 +22,10 @@ use Rattle.sq_part.specs.Parts.{IsAsBefore, PartState}
 use Rattle.sq_part.specs.declared.faults.ResolveFault.{ResolveFault}
 use Rattle.sq_part.specs.declared.lost.Lost.{Lost}
 use Rattle.sq_epochs.specs.EpochChanges.{IsResolved}
-use Rattle.sq_epochs.specs.EpochProcs.{AreHomed, HasEnded, HasStarted, IsEnded, IsStarted, SameLiving, is_place, lives_in}
-use Rattle.sq_epochs.specs.EpochStates.{EpochState, EpochsState, IsChanged, change_epoch, epoch_at, epoch_in, home_at, part_at, part_limit, part_of, with_part}
-use Rattle.sq_epochs.specs.HomeStates.{AreHomes, Home, home_in, home_number, without_home}
-use Rattle.sq_epochs.proofs.HomeLaws.{home_below, home_push, home_without}
+use Rattle.sq_epochs.specs.EpochProcs.{AreHomed, HasStarted, SameLiving, is_place, lives_in}
+use Rattle.sq_epochs.specs.EpochStates.{EpochState, EpochsState, change_epoch, epoch_in, home_at, part_at, part_limit, part_of, with_part}
+use Rattle.sq_epochs.specs.HomeStates.{home_in, without_home}
+use Rattle.sq_epochs.proofs.HomeLaws.{home_push, home_without}
 
 equal : (a b : ℕ) → (a == b) ≡ true → a ≡ b
 equal a b e = grind (arith, e)

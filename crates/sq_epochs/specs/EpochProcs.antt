@@ -1,5 +1,5 @@
 -- Which processes live in which class, and what a start, a failed start and an end make of the live epochs.
-use Rattle.std.specs.Prelude.{◌≡◌, ℕ, suc, List, [], ◌∷◌, ◌++◌, Bool, false, not, ◌&&◌, if◌then◌else◌, ◌==◌, slice_get, Some, None}
+use Rattle.std.specs.Prelude.{◌≡◌, ℕ, suc, [], ◌∷◌, ◌++◌, Bool, false, not, ◌&&◌, if◌then◌else◌, ◌==◌, slice_get, Some, None}
 use Rattle.std.specs.Option.{option_map_or}
 use Rattle.std.specs.declared.option.Option.{Option}
 use Rattle.sq_base.specs.declared.helpers.Cause.{Cause}
@@ -11,7 +11,7 @@ use Rattle.sq_rows.specs.ClassRows.{after_death, after_started}
 use Rattle.sq_part.specs.Losing.{handed_out, lost_cause}
 use Rattle.sq_part.specs.Parts.{PartState}
 use Rattle.sq_epochs.specs.EpochStates.{EpochState, EpochsState, IsChanged, home_at, part_at}
-use Rattle.sq_epochs.specs.HomeStates.{AreHomes, Home, with_number, without_home}
+use Rattle.sq_epochs.specs.HomeStates.{AreHomes, with_number, without_home}
 use Rattle.sq_epochs.specs.LiveEpochs.{AreEpochs}
 
 -- process k lives in this part

@@ -1,8 +1,11 @@
 //! The live epochs with a part for each of their classes, of which epoch and class each process is, and due stops.
 //!
 //! `Epochs` finds an epoch by its number, by a binary search over the few that live, and a class by its place in the
-//! epoch's configuration; a process's home by a binary search over the living. Each call changes one part as `sq_part`
-//! says (`IsChanged`), and nothing else. No call here knows of a history.
+//! epoch's configuration; a process's home by a binary search over the living. A call on one class changes its part as
+//! `sq_part` says (`IsChanged`); a start and an end change homes too, and `act` makes the first act that is due. `began`
+//! and `ended` count the open checks of an epoch, which ends with its last one unless it is current; then its processes
+//! are taken out, and their stops are due. `reconfigure` begins an epoch, whose classes have what was kept of those that
+//! are alike. No call here knows of a history.
 #![tactic(auto)]
 
 mod acts;

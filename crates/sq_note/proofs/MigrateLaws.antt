@@ -1,15 +1,14 @@
 -- A journal of version 1, read line by line.
-use Rattle.std.proofs.Common.{◌≡◌, ℕ, zero, suc, ◌+◌, ◌-◌, ◌^◌, ◌<◌, ◌≤◌, min, List, [], ◌∷◌, ◌++◌, length, Bool, true, false, ◌==◌, if◌then◌else◌, Some, None, IfSome, IfErr, OnOk, Result, Ok, Err, refl, sym, ap, ◌∙◌, append_assoc, subst, arith}
+use Rattle.std.proofs.Common.{◌≡◌, ℕ, ◌+◌, ◌<◌, ◌≤◌, List, [], ◌∷◌, ◌++◌, length, true, false, ◌==◌, if◌then◌else◌, Some, None, IfSome, IfErr, OnOk, Result, Ok, Err, refl, sym, ap, ◌∙◌, append_assoc, subst, arith}
 use Rattle.std.specs.declared.option.Option.{Option}
 use Rattle.std.specs.Io.KnownBytes.{Appends, IsAtEnd, prepend_known}
 use Rattle.std.proofs.KnownBytes.{Appends-trans, Appends-nil}
-use Rattle.std.proofs.lemmas.Option.{same_Some}
 use Rattle.sq_outside.specs.Output.{Grew, IsPrefix, IsProperPrefix}
-use Rattle.sq_outside.specs.SourceLines.{Line, lines, is_readable, IsLine, IsFaulty, Finds}
+use Rattle.sq_outside.specs.SourceLines.{Line, lines, IsLine, Finds}
 use Rattle.sq_outside.specs.declared.lines.Found.TheVariants as found
 use Rattle.sq_outside.proofs.Writing.{IsProperPrefix_after, IsProperPrefix_more}
 use Rattle.sq_rules.specs.Entries.{Noted, History}
-use Rattle.sq_journal.specs.Journals.{next_number, greatest_number, number_at, epoch_at, journal_text}
+use Rattle.sq_journal.specs.Journals.{next_number, greatest_number, number_at, journal_text}
 use Rattle.sq_journal.specs.Lines.{spaced_words}
 use Rattle.sq_journal.specs.ToldReading.{entry_of}
 use Rattle.sq_note.specs.Migrating.{Reading, placed, line_entry, with_next, at_end, read_lines, read_journal, WritesSome, ReadSoFar, Migrates, MigratesLine}

@@ -1,5 +1,5 @@
 -- A journal of version 1, read line by line, as one of version 2.
-use Rattle.std.specs.Prelude.{◌≡◌, ℕ, ◌+◌, List, [], ◌∷◌, ◌++◌, length, Bool, true, false, not, ◌==◌, if◌then◌else◌, Result, Ok, Err, Some, None, IfSome, OnOk, IsErrOf, ◌≤◌}
+use Rattle.std.specs.Prelude.{◌≡◌, ℕ, ◌+◌, List, [], ◌∷◌, ◌++◌, length, Bool, true, false, not, ◌==◌, if◌then◌else◌, Result, Ok, Err, Some, None, IsErrOf, ◌≤◌}
 use Rattle.std.specs.declared.option.Option.{Option}
 use Rattle.std.specs.Io.KnownBytes.{Appends}
 use Rattle.sq_outside.specs.Causes.{Rose}

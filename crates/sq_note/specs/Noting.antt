@@ -1,5 +1,5 @@
 -- What noting an entry does to the entries that a journal tells.
-use Rattle.std.specs.Prelude.{List, ◌∷◌}
+use Rattle.std.specs.Prelude.{◌∷◌}
 use Rattle.std.specs.Option.{option_map}
 use Rattle.std.specs.declared.option.Option.{Option}
 use Rattle.sq_rules.specs.Entries.{Noted, History}

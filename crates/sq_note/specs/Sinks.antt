@@ -1,8 +1,8 @@
 -- What a journal over a sink has written.
-use Rattle.std.specs.Prelude.{◌≡◌, ℕ, ◌+◌, ◌-◌, ◌^◌, min, List, [], ◌∷◌, ◌++◌, Bool, true, false, if◌then◌else◌}
+use Rattle.std.specs.Prelude.{◌≡◌, ℕ, List, ◌∷◌, ◌++◌, Bool, false, if◌then◌else◌}
 use Rattle.std.specs.declared.option.Option.{Option}
 use Rattle.std.specs.Io.KnownBytes.{Appends}
-use Rattle.sq_outside.specs.Output.{Grew, IsProperPrefix}
+use Rattle.sq_outside.specs.Output.{IsProperPrefix}
 use Rattle.sq_rules.specs.declared.entries.Event.{Event}
 use Rattle.sq_rules.specs.Entries.{Noted, History}
 use Rattle.sq_rules.specs.Events.{begins_epoch}

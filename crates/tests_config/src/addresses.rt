@@ -44,11 +44,9 @@ static NO_ADDRESSES: [&str; 5] = ["", " 1.2.3.4", "1.2.3.4 ", "::1 ", "::1/128"]
 /// Ends the process unless this text alone is printed of the address, and spells it.
 fn check(rt: &impl Abort, alloc: Global, addr: Addr, text: &str) -> Result<(), Fail> {
     let printed = print_addr(alloc, addr)?;
-    assert!(rt;
-        printed.as_bytes() == text.as_bytes(),
-        "of {text}: {printed}"
-    );
-    assert!(rt; read_addr(text.as_bytes()) == Ok(addr), "at {text}");
+    let is_printed = printed.as_bytes() == text.as_bytes();
+    let is_read = read_addr(text.as_bytes()) == Ok(addr);
+    assert!(rt; is_printed && is_read, "at {text}");
     Ok(())
 }
 

@@ -19,7 +19,7 @@ struct Case {
     lacks: &'static [u64],
 }
 
-/// How the reading ends, and what the desk was handed: lines as `7 line|`, a stop and a death as words.
+/// How the reading ends, and what the desk was handed: lines as `line|`, a stop and a death as `!stop|` and `!died|`.
 type Outcome = (KeeperEnd, &'static [u8]);
 
 static CASES: [(Case, Outcome); 11] = [
@@ -31,7 +31,7 @@ static CASES: [(Case, Outcome); 11] = [
             wants: 9,
             lacks: &[],
         },
-        (Ended, b"7 died|"),
+        (Ended, b"!died|"),
     ),
     (
         Case {
@@ -41,7 +41,7 @@ static CASES: [(Case, Outcome); 11] = [
             wants: 9,
             lacks: &[],
         },
-        (Ended, b"7 OK|7 |7 died|"),
+        (Ended, b"OK||!died|"),
     ),
     (
         Case {
@@ -51,7 +51,7 @@ static CASES: [(Case, Outcome); 11] = [
             wants: 9,
             lacks: &[],
         },
-        (Ended, b"7 OK|7 |7 died|"),
+        (Ended, b"OK||!died|"),
     ),
     (
         Case {
@@ -61,7 +61,7 @@ static CASES: [(Case, Outcome); 11] = [
             wants: 9,
             lacks: &[],
         },
-        (Ended, b"7 OK\r|7 \0|7 died|"),
+        (Ended, b"OK\r|\0|!died|"),
     ),
     (
         Case {
@@ -71,7 +71,7 @@ static CASES: [(Case, Outcome); 11] = [
             wants: 9,
             lacks: &[],
         },
-        (ReadFault, b"7 died|"),
+        (ReadFault, b"!died|"),
     ),
     (
         Case {
@@ -81,7 +81,7 @@ static CASES: [(Case, Outcome); 11] = [
             wants: 9,
             lacks: &[],
         },
-        (ReadFault, b"7 OK|7 died|"),
+        (ReadFault, b"OK|!died|"),
     ),
     (
         Case {
@@ -91,7 +91,7 @@ static CASES: [(Case, Outcome); 11] = [
             wants: 9,
             lacks: &[],
         },
-        (ReadFault, b"7 OK|7 ERR|7 died|"),
+        (ReadFault, b"OK|ERR|!died|"),
     ),
     (
         Case {
@@ -101,7 +101,7 @@ static CASES: [(Case, Outcome); 11] = [
             wants: 0,
             lacks: &[],
         },
-        (Told, b"7 OK|7 stop|"),
+        (Told, b"OK|!stop|"),
     ),
     (
         Case {
@@ -111,7 +111,7 @@ static CASES: [(Case, Outcome); 11] = [
             wants: 1,
             lacks: &[],
         },
-        (Told, b"7 OK|7 ERR|7 stop|"),
+        (Told, b"OK|ERR|!stop|"),
     ),
     (
         Case {
@@ -121,7 +121,7 @@ static CASES: [(Case, Outcome); 11] = [
             wants: 9,
             lacks: &[1, 2, 4],
         },
-        (Ended, b"7 OK|7 ERR|7 died|"),
+        (Ended, b"OK|ERR|!died|"),
     ),
     (
         Case {
@@ -131,26 +131,27 @@ static CASES: [(Case, Outcome); 11] = [
             wants: 0,
             lacks: &[1],
         },
-        (Told, b"7 OK|7 stop|"),
+        (Told, b"OK|!stop|"),
     ),
 ];
 
-fn put(shown: &mut Text, alloc: Global, proc: ProcNo, what: &[u8]) -> Result<(), Fail> {
-    let number = format!(in alloc; "{} ", proc.0)?;
-    shown.append(number.as_bytes())?;
+fn put(shown: &mut Text, proc: ProcNo, what: &[u8]) -> Result<(), Fail> {
+    if proc != ProcNo(7) {
+        shown.append(b"!another ")?;
+    }
     shown.append(what)?;
     shown.append(b"|")?;
     Ok(())
 }
 
-/// What the desk was handed, as the table writes it down.
+/// What the desk was handed of process 7, as the table writes it down.
 fn shown(alloc: Global, handed: &[Handed]) -> Result<Text, Fail> {
     let mut shown = Text::new(alloc);
     for one in handed {
         match one {
-            Handed::Line(proc, line) => put(&mut shown, alloc, *proc, line.as_bytes())?,
-            Handed::Stop(proc) => put(&mut shown, alloc, *proc, b"stop")?,
-            Handed::Died(proc) => put(&mut shown, alloc, *proc, b"died")?,
+            Handed::Line(proc, line) => put(&mut shown, *proc, line.as_bytes())?,
+            Handed::Stop(proc) => put(&mut shown, *proc, b"!stop")?,
+            Handed::Died(proc) => put(&mut shown, *proc, b"!died")?,
         }
     }
     Ok(shown)
@@ -179,9 +180,9 @@ fn keepers_hand_on_65537_bytes_of_a_longer_line(rt: HostRuntime) -> Result<(), F
     let written = long_text(alloc, b"OK\nOK ", 65535, b"\n")?;
     let mut source = MemSource::new(written.into_vec(), 5000, Vec::new(alloc));
     let mut desk = MemDesk::new(alloc, 9, Vec::new(alloc));
-    let ended = read_lines(&rt, alloc, &mut source, ProcNo(1), &mut desk);
+    let ended = read_lines(&rt, alloc, &mut source, ProcNo(7), &mut desk);
     assert!(rt; ended == Ended);
-    let wanted = long_text(alloc, b"1 OK|1 OK ", 65534, b"|1 died|")?;
+    let wanted = long_text(alloc, b"OK|OK ", 65534, b"|!died|")?;
     let shown = shown(alloc, desk.handed().ok_or("not all was kept")?)?;
     assert!(rt; shown == wanted);
     Ok(())

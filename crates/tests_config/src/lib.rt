@@ -1,5 +1,5 @@
 //! Tests of what a configuration, its helpers and its clients write, where no command shows it: addresses as
-//! numbers, the words of lines, options of classes, replies, heads.
+//! numbers, the words of lines, replies, heads.
 //!
 //! It has no public call. Each test is one table, whose expected values come from the public standards
 //! (RFC 4291, RFC 5952, RFC 9110, RFC 9112, Squid's configuration reference and helper protocol), or
@@ -9,8 +9,6 @@
 
 #[cfg(test)]
 mod addresses;
-#[cfg(test)]
-mod configs;
 #[cfg(test)]
 mod fixtures;
 #[cfg(test)]

@@ -5,8 +5,9 @@ use std::alloc::Global;
 use std::test::Fail;
 
 /// Texts, their lines before the first fault as `number word|word|` and LF, and the number of the first line
-/// that is no UTF-8, or 0. Lines that are too long are shown by `cases/limits.txt`.
-static TEXTS: [(&[u8], &[u8], u32); 43] = [
+/// that is no UTF-8, or 0. Further ones of these are shown by `cases/lines.txt`, lines that are too long by
+/// `cases/limits.txt`.
+static TEXTS: [(&[u8], &[u8], u32); 38] = [
     (b"", b"", 0),
     (b"\n\n \t\n", b"", 0),
     (b"http_port 3128", b"1 http_port|3128|\n", 0),
@@ -52,12 +53,7 @@ static TEXTS: [(&[u8], &[u8], u32); 43] = [
     ),
     (b"a\xc2\xa0b\n", b"1 a\xc2\xa0b|\n", 0),
     (b"a\nb \xff\nc", b"1 a|\n", 2),
-    (b"a\n# \xff\nc", b"1 a|\n", 2),
-    (b"\xc0\xaf", b"", 1),
-    (b"\xed\xa0\x80", b"", 1),
     (b"a\n\nb \\\n c \\\n\xe2\x82\nd", b"1 a|\n", 3),
-    (b"\xc3\\\n\xa9", b"", 1),
-    (b"\xff\n\xff\n", b"", 1),
 ];
 
 fn put_words(shown: &mut Text, words: &Texts) -> Result<(), Fail> {

@@ -132,11 +132,10 @@ fn ranges_hold_what_stands_between_their_ends(rt: HostRuntime) {
 }
 
 fn joe(alloc: Global) -> Result<Pairs, Fail> {
+    let key = Text::from_slice(alloc, b"user")?;
+    let value = Text::from_slice(alloc, b"joe")?;
     let mut pairs = Pairs::new(alloc);
-    pairs.push(Pair {
-        key: Text::from_slice(alloc, b"user")?,
-        value: Text::from_slice(alloc, b"joe")?,
-    })?;
+    pairs.push(Pair { key, value })?;
     Ok(pairs)
 }
 
@@ -172,19 +171,30 @@ fn answers_are_kept_in_order_and_copied(rt: HostRuntime) -> Result<(), Fail> {
     Ok(())
 }
 
+fn is_reply_copied(alloc: Global) -> Result<bool, Fail> {
+    let pairs = joe(alloc)?;
+    let reply = Reply {
+        word: Word::Yes,
+        pairs,
+    };
+    let copy = reply.copy(alloc)?;
+    Ok(copy == reply)
+}
+
+fn is_field_copied(alloc: Global) -> Result<bool, Fail> {
+    let name = Text::from_slice(alloc, b"Host")?;
+    let value = Text::from_slice(alloc, b"a.example")?;
+    let field = Field { name, value };
+    let copy = field.copy(alloc)?;
+    Ok(copy == field)
+}
+
 #[test]
 fn copies_are_equal(rt: HostRuntime) -> Result<(), Fail> {
     let alloc = rt.alloc();
-    let reply = Reply {
-        word: Word::Yes,
-        pairs: joe(alloc)?,
-    };
-    assert!(rt; reply.copy(alloc)? == reply);
-    let field = Field {
-        name: Text::from_slice(alloc, b"Host")?,
-        value: Text::from_slice(alloc, b"a.example")?,
-    };
-    assert!(rt; field.copy(alloc)? == field);
+    let is_reply_copied = is_reply_copied(alloc)?;
+    let is_field_copied = is_field_copied(alloc)?;
+    assert!(rt; is_reply_copied && is_field_copied);
     let address = Addr {
         v6: false,
         number: 7,

@@ -4,7 +4,7 @@ ghost use Rattle.sq_base.specs.Replies.{is_key_byte, is_key, have_keys};
 ghost use Rattle.std.specs.List.{list_all};
 
 use crate::fixtures::long_text;
-use sq_base::{Pair, Reply, Text};
+use sq_base::{Pair, Reply, Text, Word};
 use sq_reply::{ReplyFault, print_question, print_reply, read_reply};
 use std::alloc::Global;
 use std::test::Fail;
@@ -84,7 +84,7 @@ static NO_NUMBERED: [&[u8]; 18] = [
     b"0x1 OK",
 ];
 
-/// Replies of helpers: the line, its channel, word and pairs as `7 Yes|key=value|`, and how it is printed.
+/// Replies of helpers: the line, its word and pairs as `Yes|key=value|`, and how it is printed, with its channel.
 static REPLIES: [(&[u8], &[u8], &[u8]); 30] = [
     (b"OK", b"Yes|", b"OK"),
     (b"ERR", b"No|", b"ERR"),
@@ -160,16 +160,16 @@ static REPLIES: [(&[u8], &[u8], &[u8]); 30] = [
         b"OK m=\"caf\xc3\xa9\xff\t\"",
     ),
     (b"OK foo b.r \\ % \xff 1", b"Yes|", b"OK"),
-    (b"0 OK", b"0 Yes|", b"0 OK"),
+    (b"0 OK", b"Yes|", b"0 OK"),
     (
         b"7 ERR message=\"x\"\r",
-        b"7 No|message=x|",
+        b"No|message=x|",
         b"7 ERR message=\"x\"",
     ),
-    (b"10 BH ", b"10 Broken|", b"10 BH"),
+    (b"10 BH ", b"Broken|", b"10 BH"),
     (
         b"4294967295 OK user=a",
-        b"4294967295 Yes|user=a|",
+        b"Yes|user=a|",
         b"4294967295 OK user=\"a\"",
     ),
 ];
@@ -220,12 +220,13 @@ fn have_keys(pairs: &[Pair]) -> bool
 }
 
 /// A reply as the table writes it down.
-fn shown(alloc: Global, channel: Option<u32>, reply: &Reply) -> Result<Text, Fail> {
-    let front = match channel {
-        Some(number) => format!(in alloc; "{number} {:?}|", reply.word)?,
-        None => format!(in alloc; "{:?}|", reply.word)?,
+fn shown(alloc: Global, reply: &Reply) -> Result<Text, Fail> {
+    let word = match reply.word {
+        Word::Yes => "Yes|",
+        Word::No => "No|",
+        Word::Broken => "Broken|",
     };
-    let mut shown = Text::from_slice(alloc, front.as_bytes())?;
+    let mut shown = Text::from_slice(alloc, word.as_bytes())?;
     for pair in reply.pairs.as_slice() {
         shown.append(pair.key.as_bytes())?;
         shown.push(b'=')?;
@@ -252,7 +253,7 @@ fn replies_of_helpers_are_read_and_printed(rt: HostRuntime) -> Result<(), Fail> 
     for &(line, wanted, text) in &REPLIES {
         let numbered = line.first().is_some_and(|byte| byte.is_ascii_digit());
         let (channel, reply) = read_reply(rt.alloc(), line, numbered)?;
-        let shown = shown(rt.alloc(), channel, &reply)?;
+        let shown = shown(rt.alloc(), &reply)?;
         assert!(rt; shown.as_bytes() == wanted, "at {line:?}");
         assert!(rt; have_keys(reply.pairs.as_slice()));
         let printed = print_reply(rt.alloc(), channel, &reply)?;

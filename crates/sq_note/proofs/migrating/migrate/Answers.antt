@@ -1,7 +1,7 @@
-use Rattle.std.proofs.Common.{List, ℕ, arith, subst, refl, sym, ap, ◌∙◌, IfSome, Ok, Err}
+use Rattle.std.proofs.Common.{arith, subst, refl, sym, ◌∙◌, IfSome, Ok, Err}
 use Rattle.std.specs.Io.KnownBytes.{prepend_known}
 use Rattle.sq_outside.specs.SourceLines.{Finds, Moves, lines}
-use Rattle.sq_note.specs.Migrating.{Migrates, MigratesLine, ReadSoFar, read_journal}
+use Rattle.sq_note.specs.Migrating.{MigratesLine, ReadSoFar, read_journal}
 use Rattle.sq_note.proofs.MigrateLaws.{told_map, left_at_end, on_ok, going_at_end, going_begins, going_ended, going_faulty, going_some, going_stops, going_on}
 use Rattle.sq_note.proofs.migrating.migrate.Goals as goal
 

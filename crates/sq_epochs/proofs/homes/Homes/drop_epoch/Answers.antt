@@ -1,4 +1,4 @@
-use Rattle.std.proofs.Common.{◌≡◌, ◌+◌, ◌∙◌, length, arith, ap, sym, subst, rules}
+use Rattle.std.proofs.Common.{◌≡◌, ◌∙◌, length, arith, ap, sym, subst, rules}
 use Rattle.std.proofs.lemmas.Fn.{filter_same}
 use Rattle.sq_epochs.specs.HomeStates.{AreHomes, other_homes, procs_of, with_numbers}
 use Rattle.sq_epochs.proofs.HomeLaws.{homes_dropped, length_all, length_other}

@@ -1,7 +1,5 @@
-use Rattle.std.proofs.Common.{arith, subst, sym, ◌∙◌, ap, ◌≡◌}
+use Rattle.std.proofs.Common.{arith}
 use Rattle.std.proofs.lemmas.Grind.{common_steps}
-use Rattle.std.specs.List.{insert}
-use Rattle.sq_rules.specs.Rising.{Rises, place_among}
 use Rattle.sq_channel.proofs.RisingLaws.{on_ok, rises_insert}
 use Rattle.sq_epochs.proofs.HomeLaws.{insert_number}
 use Rattle.sq_epochs.proofs.stops.Stops.put.Goals as goal

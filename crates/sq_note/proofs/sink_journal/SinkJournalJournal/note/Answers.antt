@@ -1,6 +1,6 @@
 use Rattle.std.proofs.Common.{◌∙◌, ap, refl, sym, subst}
 use Rattle.sq_outside.specs.Output.{Grew}
-use Rattle.sq_note.specs.Sinks.{IsCutIn, epoch_behind, sink_of}
+use Rattle.sq_note.specs.Sinks.{IsCutIn, epoch_behind}
 use Rattle.sq_note.proofs.JournalLaws.{holds_next, holds_cut}
 use Rattle.sq_note.proofs.sink_journal.SinkJournalJournal.note.Goals as goal
 

@@ -1,4 +1,4 @@
-//! What accepted configurations hold that no command shows.
+//! The options of classes of helpers, which no command shows.
 use sq_conf::read_config;
 use sq_rules::Class;
 use std::test::Fail;
