@@ -93,7 +93,8 @@ impl Epochs {
 
     /// Of which epoch and class a living process is, lent.
     pub fn home(&self, proc: ProcNo) -> Option<&Home>
-        ensures { option_map (λ h. h.now.place) result ≡ home_at self.now proc }
+        ensures place { option_map (λ h. h.now.place) result ≡ home_at self.now proc }
+        ensures number { IfSome result (λ h. h.now.proc ≡ proc) }
     {
         self.homes.get(proc)
     }

@@ -1,5 +1,5 @@
 //! `Homes`: of which epoch and class each living process is, and for which processes a stop is due.
-ghost use Rattle.std.specs.Prelude.{◌≡◌, ◌≤◌, ◌<◌, ◌+◌, ◌++◌, ◌∷◌, ◌==◌, [], ℕ, suc, true, None, drop, length, map, nat_lt, if◌then◌else◌, is_some, Some, OnOk};
+ghost use Rattle.std.specs.Prelude.{◌≡◌, ◌≤◌, ◌<◌, ◌+◌, ◌++◌, ◌∷◌, ◌==◌, [], ℕ, suc, true, None, drop, length, map, nat_lt, if◌then◌else◌, is_some, Some, IfSome, OnOk};
 ghost use Rattle.std.specs.Option.{option_map};
 ghost use Rattle.sq_epochs.specs.HomeStates.{AreHomes, home_in, home_number, is_of_epoch, other_homes, procs_of, with_number, with_numbers, without_home};
 ghost use Rattle.sq_rules.specs.DueActs.{first_of};
@@ -122,7 +122,8 @@ impl Homes {
 
     /// The home of a process, lent.
     pub fn get(&self, proc: ProcNo) -> Option<&Home>
-        ensures { option_map (λ h. h.now.place) result ≡ home_in proc self.now.homes }
+        ensures place { option_map (λ h. h.now.place) result ≡ home_in proc self.now.homes }
+        ensures number { IfSome result (λ h. h.now.proc ≡ proc) }
     {
         let place = place_of(&self.homes, proc);
         match self.homes.get(place) {

@@ -1,10 +1,10 @@
 -- Every legal history is faithful: its outcomes, its questions and their sends have their sources.
-use Rattle.std.proofs.Common.{Bool, List, None, Option, Some, ℕ, [], ap, arith, false, if◌then◌else◌, is_some, le_refl, length, nat_le, not, refl, slice_get, subst, suc, sym, true, zero, ◌<◌, ◌==◌, ◌∙◌, ◌∷◌, ◌≡◌, ◌≤◌}
+use Rattle.std.proofs.Common.{Bool, List, None, Option, Some, ℕ, [], ap, arith, false, if◌then◌else◌, is_some, le_refl, length, max, nat_le, not, refl, slice_get, subst, suc, sym, true, zero, ◌<◌, ◌==◌, ◌∙◌, ◌∷◌, ◌≡◌, ◌≤◌}
 use Rattle.std.specs.Option.{option_and_then, option_map, option_or}
 use Rattle.std.proofs.lemmas.Bool.{lt-ltb}
 use Rattle.std.proofs.lemmas.Option.{none-some, same_Some}
 use Rattle.sq_rules.specs.declared.entries.Event.{Event}
-use Rattle.sq_rules.specs.declared.entries.Event.TheVariants.{Begin, Close, Seat, Take}
+use Rattle.sq_rules.specs.declared.entries.Event.TheVariants.{Begin, Close, Seat, Step, Take}
 use Rattle.sq_rules.specs.declared.entries.Told.{Told}
 use Rattle.sq_rules.specs.declared.entries.Told.TheVariants as told
 use Rattle.sq_rules.specs.declared.outcomes.Outcome.{Outcome}
@@ -29,8 +29,9 @@ use Rattle.sq_rules.specs.Verdicts.{outcome_so_far, pool_of}
 use Rattle.sq_rules.proofs.CheckLaws.{IsAsked, open_asked}
 use Rattle.sq_rules.proofs.EventLaws.{begin_judges, judged_event}
 use Rattle.sq_history.specs.Carried.{NamesOnce}
-use Rattle.sq_history.specs.Faithful.{FaultsSo, IsFaithful, IsJudgedSo, IsSeatedSo, JudgedSo, OpenOnce, SeatedSo, SentSo, seating_of, sending_of}
+use Rattle.sq_history.specs.Faithful.{FaultsSo, IsFaithful, IsJudgedSo, IsSeatedSo, JudgedSo, OpenOnce, SeatedSo, SentSo, StepsSo, seating_of, sending_of}
 use Rattle.sq_history.specs.Given.{EachOf, times_sent}
+use Rattle.sq_history.proofs.CompleteLaws.{done_at, few_taken, waits_at}
 use Rattle.sq_history.proofs.ConfigurationLaws.{get_some, names_once}
 use Rattle.sq_history.proofs.DistinctLaws.{answers_distinct}
 use Rattle.sq_history.proofs.LegalLaws.{asked_epoch, marked_entries}
@@ -258,6 +259,30 @@ faults_so configs m e = record {
   no_room = λ n d at r. ap (λ (v : Event). (says_at configs m e.moment v).took) at ∙ no_room_takes configs m n e.moment d r;
 }
 
+-- at a moment that is none of the past
+next_at : (configs : List Configuration) (x f : Noted) (h : History) → f.moment ≤ x.moment → full_next configs (marked configs (f ∷ h)) x.moment x.event ≡ gives x.answer
+    → full_next_at configs (marked configs (f ∷ h)) x.moment x.event ≡ gives x.answer
+unfolding full_next
+next_at configs x f h late is = sym (ap (λ (now : ℕ). full_next_at configs (marked configs (f ∷ h)) now x.event) (counted x.moment f.moment late)) ∙ is
+  where
+    counted : (a b : ℕ) → b ≤ a → max a b ≡ a
+    counted a b l = omega arith
+
+stepped_at : (configs : List Configuration) (m : Past) (x : Noted) → full_next_at configs m x.moment x.event ≡ gives x.answer → StepsSo configs m (mark configs m x)
+stepped_at configs m x is = record {
+  waits = λ n q at tells. waits_at configs m x.moment x.event x.answer n q is at tells;
+  done = λ n a o at ask v. done_at configs m x.moment x.event x.answer n a o is at ask v;
+}
+
+begin_steps : (event : Event) (n : ℕ) → is_begin event ≡ true → event ≡ Step n → ⊥
+begin_steps event n b at = let no : true ≡ false = sym b ∙ ap is_begin at in cc
+
+first_steps : (configs : List Configuration) (x : Noted) → is_begin x.event ≡ true → StepsSo configs [] (mark configs [] x)
+first_steps configs x b = record {
+  waits = λ n q at tells. absurd (begin_steps x.event n b at);
+  done = λ n a o at ask v. absurd (begin_steps x.event n b at);
+}
+
 first_sends : (configs : List Configuration) (event : Event) (answer : Told) → is_begin event ≡ true → SentSo configs [] (sending_of event answer)
 first_sends configs (Begin offset) answer b = tt
 first_sends configs event answer b = absurd (cc)
@@ -281,6 +306,8 @@ legal_faithful configs (x ∷ []) each few legal = (
     judged = subst (JudgedSo configs []) (sym (begin_judges x.event x.answer legal.0)) tt;
     seated = first_seats configs x.event x.answer legal.0;
     faults = faults_so configs [] x;
+    stepped = first_steps configs x legal.0;
+    few = few_taken configs (x ∷ []) (names_once configs each) legal;
     put = put_so configs [] x.moment x.event (says_at configs [] x.moment x.event).put refl;
     sent = first_sends configs x.event x.answer legal.0;
     open_once = open_at configs (x ∷ []);
@@ -293,6 +320,8 @@ legal_faithful configs (x ∷ f ∷ h) each few legal = (
     judged = judged_at configs (f ∷ h) x.moment x.event x.answer (judgement x.event x.answer) refl each (fewer x (f ∷ h) (length configs) few) legal.0 legal.4;
     seated = seated_at configs (f ∷ h) x.moment x.event x.answer (fewer x (f ∷ h) (length configs) few) legal.4;
     faults = faults_so configs (marked configs (f ∷ h)) x;
+    stepped = stepped_at configs (marked configs (f ∷ h)) x (next_at configs x f h legal.3 legal.4);
+    few = few_taken configs (x ∷ f ∷ h) (names_once configs each) legal;
     put = put_so configs (marked configs (f ∷ h)) x.moment x.event (says_at configs (marked configs (f ∷ h)) x.moment x.event).put refl;
     sent = sent_at configs (marked configs (f ∷ h)) x.moment x.event x.answer legal.4;
     open_once = open_at configs (x ∷ f ∷ h);

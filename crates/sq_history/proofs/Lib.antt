@@ -35,4 +35,5 @@ pub mod AloneLaws
 pub mod StopLaws
 pub mod WalkLaws
 pub mod WalkedLaws
+pub mod CompleteLaws
 pub mod FaithfulLaws

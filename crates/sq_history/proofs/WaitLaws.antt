@@ -146,7 +146,7 @@ none_fresh class now None e = refl
 none_fresh class now (Some v) e = ap (λ (b : Bool). if b then Some v else None) (e v refl)
 
 -- the check that was stepped
-told_needs : (configs : List Configuration) (m : Past) (now n : ℕ) (answer : Told) (q : ℕ) → full_next_at configs m now (Step n) ≡ gives answer → steps m n (Step n) ≡ true
+pub told_needs : (configs : List Configuration) (m : Past) (now n : ℕ) (answer : Told) (q : ℕ) → full_next_at configs m now (Step n) ≡ gives answer → steps m n (Step n) ≡ true
     → waits_told answer ≡ Some q → NeedsPut configs (mark configs m (record { moment = now; event = Step n; answer = answer }) ∷ m) n q
 unfolding needed_more finds
 told_needs configs m now n answer q is here w = record {

@@ -8,6 +8,7 @@ use Rattle.sq_rules.specs.declared.entries.Event.TheVariants.{Act, Seat, Step}
 use Rattle.sq_rules.specs.declared.entries.Told.{Told}
 use Rattle.sq_rules.specs.declared.entries.Told.TheVariants as told
 use Rattle.sq_rules.specs.declared.kept.KeptVerdict.{KeptVerdict}
+use Rattle.sq_rules.specs.declared.outcomes.Outcome.{Outcome}
 use Rattle.sq_rules.specs.declared.values.Value.TheVariants as value
 use Rattle.sq_rules.specs.AnswerReadings.{answers}
 use Rattle.sq_rules.specs.Channels.{channel_name, least_free}
@@ -28,10 +29,11 @@ use Rattle.sq_rules.specs.Marks.{Marked, Past, Put, entries}
 use Rattle.sq_rules.specs.PoolReadings.{allowed_of}
 use Rattle.sq_rules.specs.Processes.{runs_at}
 use Rattle.sq_rules.specs.Questions.{has_ended, pending, put_is, put_of, sent_to}
+use Rattle.sq_rules.specs.StepRule.{value_over}
 use Rattle.sq_rules.specs.Verdicts.{pool_of, verdict_over}
 use Rattle.sq_history.specs.Given.{EachOf, FindsNoRoom, IsSound, IsTooLong, fault_for, times_sent}
-use Rattle.sq_history.specs.Waits.{IsNeeded}
-use Rattle.sq_history.specs.Walked.{AreWalked}
+use Rattle.sq_history.specs.Waits.{IsNeeded, WaitsSo}
+use Rattle.sq_history.specs.Walked.{AreWalked, FewTaken}
 
 -- an outcome is told of the epoch that was current when its check began: it is the verdict of that epoch's configuration over
 -- what the check saw then and its answers, which are those that its walk asks for, one for each class and key, each with its source
@@ -104,6 +106,13 @@ pub record FaultsSo (configs : List Configuration) (m : Past) (x : Marked) : Typ
   pub no_room : (n : ℕ) (d : IsNeeded configs m n) → x.entry.event ≡ Step n → FindsNoRoom configs m n x.entry.moment d
       → x.took ≡ Some (fault_for configs m n d cause.QueueFull x.entry.moment)
 
+-- a step tells a check to wait for a question only of a key that the check needs and has no answer of; of a check that needs no key it tells
+-- that it is done
+pub record StepsSo (configs : List Configuration) (m : Past) (x : Marked) : Type 0 where
+  pub waits : (n q : ℕ) → x.entry.event ≡ Step n → x.entry.answer ≡ told.Waits q → WaitsSo configs (x ∷ m) n q
+  pub done : (n : ℕ) (a : Asked) (o : Outcome) → x.entry.event ≡ Step n → ask_of (entries m) n ≡ Some a → value_over configs a (answers configs m n) ≡ value.Verdict o
+      → x.entry.answer ≡ told.Done
+
 -- what an act sends
 abbrev pub sending_of : Event → Told → Option Sending
 sending_of Act (told.Send p q channel key) = Some (record { proc = p; question = q; channel = channel; text = key })
@@ -142,6 +151,10 @@ pub record IsFaithfulEntry (configs : List Configuration) (m : Past) (x : Marked
   pub seated : SeatedSo configs m (seating_of x.entry.event x.entry.answer)
   -- a step takes the faults of a long key and of a full queue where they are
   pub faults : FaultsSo configs m x
+  -- a step tells to wait for what is needed and has no answer, and that a check is done that needs nothing
+  pub stepped : StepsSo configs m x
+  -- steps of a check took no more answers than its walk asks for
+  pub few : FewTaken configs (x ∷ m)
   -- a question that is put there is needed
   pub put : PutSo configs m x.entry.moment x.entry.event x.put
   -- a question that is sent there was put, and with that key

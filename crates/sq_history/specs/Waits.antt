@@ -1,6 +1,7 @@
 -- What a check needs, and what it needs that waits for a question.
 use Rattle.std.specs.Prelude.{◌≡◌, ℕ, ◌≤◌, List, [], ◌∷◌, true, false, length, nat_lt, Some}
 use Rattle.std.specs.Option.{option_and_then}
+use Rattle.sq_base.specs.Distinct.{has_answer}
 use Rattle.sq_rules.specs.declared.kept.KeptVerdict.{KeptVerdict}
 use Rattle.sq_rules.specs.declared.values.Value.TheVariants as value
 use Rattle.sq_rules.specs.AnswerReadings.{answers}
@@ -33,6 +34,12 @@ pub record IsNeeded (configs : List Configuration) (m : Past) (n : ℕ) : Type 0
   pub value_is : value_over configs asked (answers configs m n) ≡ value.Need acl key
   pub place_is : option_and_then (λ config. class_of_acl config.acls acl) (config_of configs asked.epoch) ≡ Some place
   pub class_is : class_at configs asked.epoch place ≡ Some class
+
+-- check n needs the class and key that question q was put for, and has no answer of it
+pub record WaitsSo (configs : List Configuration) (m : Past) (n q : ℕ) : Type 0 where
+  pub needed : IsNeeded configs m n
+  pub put_is_it : put_is needed.asked.epoch needed.place needed.key (put_of m q) ≡ true
+  pub unanswered : has_answer (answers configs m n) needed.place needed.key ≡ false
 
 -- check n needs the class and key that question q was put for; the key is not too long, and no verdict of it is kept that will be fresh
 pub record NeedsPut (configs : List Configuration) (m : Past) (n q : ℕ) : Type 0 where

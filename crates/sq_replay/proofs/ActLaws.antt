@@ -4,6 +4,7 @@ use Rattle.std.specs.List.{flat_map}
 use Rattle.std.specs.Option.{option_map_or}
 use Rattle.sq_rules.specs.declared.entries.Event.TheVariants.{Act}
 use Rattle.sq_rules.specs.declared.entries.Told.{Told}
+use Rattle.sq_rules.specs.declared.refusals.Refusal.{Refusal}
 use Rattle.sq_rules.specs.Configurations.{Configuration, IsConfiguration}
 use Rattle.sq_rules.specs.DueActs.{Place}
 use Rattle.sq_rules.specs.Entries.{History}
@@ -23,8 +24,10 @@ use Rattle.sq_state.specs.Promises.{IsAnswered, StandsFor, entry_at}
 use Rattle.sq_state.specs.States.{IsSame, Stands, State, lives_with}
 use Rattle.sq_state.proofs.ActNext.{act_next_is}
 use Rattle.sq_state.proofs.ActPromises.{send_answered, start_answered, stop_answered}
+use Rattle.sq_state.proofs.ActStands.{send_stands, start_stands, stop_stands}
+use Rattle.sq_state.proofs.Lawful.{Lawful, lawful}
 use Rattle.sq_state.proofs.PromiseLaws.{legal_more, next_now}
-use Rattle.sq_replay.specs.Dues.{after_due, dues, dues_at, dues_in, dues_of_row, state_at, total}
+use Rattle.sq_replay.specs.Dues.{NoneDue, after_due, dues, dues_at, dues_in, dues_of_row, state_at, total}
 use Rattle.sq_replay.specs.RunText.{acted, acts, acts_upto}
 use Rattle.sq_replay.proofs.DueLaws.{send_lowers, start_lowers, stop_lowers, total_same}
 
@@ -91,6 +94,30 @@ due_answered configs h s now (stops k) st late is = stop_answered configs h s no
 due_answered configs h s now (sends p x) st late is = send_answered configs h s now p x st late is
 due_answered configs h s now (starts p) st late is = start_answered configs h s now p st late is
 
+-- and what then stands for the history
+due_stands : (configs : List Configuration) (h : History) (s : State) (now : ℕ) (d : Due) → Lawful configs (marked configs h) → Stands configs (marked configs h) s → due_in s ≡ Some d
+    → Stands configs (marked configs (entry_at now Act (due_told s d) ∷ h)) (after_due d now s)
+due_stands configs h s now (stops k) law st is = stop_stands configs (marked configs h) s now k st
+due_stands configs h s now (sends p x) law st is = send_stands configs (marked configs h) s now p x law st is
+due_stands configs h s now (starts p) law st is = start_stands configs (marked configs h) s now p law st is
+
+-- what is answered to an act after a history
+due_told_is : (configs : List Configuration) (h : History)
+    → full_next configs (marked configs h) (latest h) Act ≡ act_of (state_at configs (marked configs h)) (due_in (state_at configs (marked configs h)))
+due_told_is configs h =
+    next_now configs h (latest h) Act (omega arith) ∙ act_next_is configs (marked configs h) (state_at configs (marked configs h)) (latest h) (state_stands configs (marked configs h))
+
+-- an act is never refused
+act_unrefused : (configs : List Configuration) (h : History) (r : Refusal) → full_next configs (marked configs h) (latest h) Act ≡ refuses r → ⊥
+act_unrefused configs h r is = by (due_in s) (sym (due_told_is configs h) ∙ is)
+  where
+    s : State
+    s = state_at configs (marked configs h)
+
+    by : (o : Option Due) → act_of s o ≡ refuses r → ⊥
+    by None e = cc
+    by (Some d) e = cc
+
 -- each act lowers what is due
 pub act_lowers : (configs : List Configuration) (h : History) (answer : Told) → EachOf IsConfiguration configs → FullLegal configs h
     → full_next configs (marked configs h) (latest h) Act ≡ gives answer → dues configs (entry_at (latest h) Act answer ∷ h) < dues configs h
@@ -99,22 +126,19 @@ act_lowers configs h answer good legal next = by (due_in s) refl told
     s : State
     s = state_at configs (marked configs h)
 
-    st : StandsFor configs h s
-    st = record { good = good; legal = legal; stands = state_stands configs (marked configs h) }
-
-    late : latest h ≤ latest h
-    late = omega arith
+    st : Stands configs (marked configs h) s
+    st = state_stands configs (marked configs h)
 
     told : act_of s (due_in s) ≡ gives answer
-    told = sym (next_now configs h (latest h) Act late ∙ act_next_is configs (marked configs h) s (latest h) st.stands) ∙ next
+    told = sym (due_told_is configs h) ∙ next
 
     by : (o : Option Due) → due_in s ≡ o → act_of s o ≡ gives answer → dues configs (entry_at (latest h) Act answer ∷ h) < dues configs h
     by None is e = absurd (cc)
     by (Some d) is e =
         let same : due_told s d ≡ answer = cc in
-        let a = due_answered configs h s (latest h) d st late is in
+        let after = due_stands configs h s (latest h) d (lawful configs h good legal) st is in
         subst (λ (z : Told). dues configs (entry_at (latest h) Act z ∷ h) < dues configs h) same
-        (subst (λ (n : ℕ). n < dues configs h) (dues_are configs (marked configs (entry_at (latest h) Act (due_told s d) ∷ h)) (after_due d (latest h) s) a.stands.stands)
+        (subst (λ (n : ℕ). n < dues configs h) (dues_are configs (marked configs (entry_at (latest h) Act (due_told s d) ∷ h)) (after_due d (latest h) s) after)
         (after_lowers s d (latest h) is))
 
 -- a legal history stays so with an act
@@ -160,6 +184,27 @@ acts_enough configs (suc j) (suc k) h good legal a b =
         let l = act_lowers configs h answer good legal is in more (entry_at (latest h) Act answer ∷ h) (act_legal configs h answer is legal) (omega arith) (omega arith)
     by (refuses r) is more = refl
     by nothing is more = refl
+
+-- after enough acts none is due
+upto_none : (configs : List Configuration) (k : ℕ) (h : History) → EachOf IsConfiguration configs → FullLegal configs h → dues configs h ≤ k → NoneDue configs (acts_upto configs k h)
+upto_none configs zero h good legal l = by (full_next configs (marked configs h) (latest h) Act) refl
+  where
+    by : (n : Next) → full_next configs (marked configs h) (latest h) Act ≡ n → NoneDue configs h
+    by (gives answer) is = absurd (let lower = act_lowers configs h answer good legal is in omega arith)
+    by (refuses r) is = absurd (act_unrefused configs h r is)
+    by nothing is = is
+upto_none configs (suc k) h good legal l = by (full_next configs (marked configs h) (latest h) Act) refl (λ t legal l. upto_none configs k t good legal l)
+  where
+    by : (n : Next) → full_next configs (marked configs h) (latest h) Act ≡ n → ((t : History) → FullLegal configs t → dues configs t ≤ k → NoneDue configs (acts_upto configs k t))
+        → NoneDue configs (acted (acts_upto configs k) h n)
+    by (gives answer) is more =
+        let lower = act_lowers configs h answer good legal is in more (entry_at (latest h) Act answer ∷ h) (act_legal configs h answer is legal) (omega arith)
+    by (refuses r) is more = absurd (act_unrefused configs h r is)
+    by nothing is more = is
+
+-- so none is due after the acts
+pub acts_done : (configs : List Configuration) (h : History) → EachOf IsConfiguration configs → FullLegal configs h → NoneDue configs (acts configs h)
+acts_done configs h good legal = upto_none configs (dues configs h) h good legal (omega arith)
 
 -- where none is due, the history stays
 pub acts_none : (configs : List Configuration) (h : History) → full_next configs (marked configs h) (latest h) Act ≡ nothing → acts configs h ≡ h

@@ -1,5 +1,5 @@
 -- What is so of every legal history, and so of the history of every run.
-use Rattle.std.proofs.Common.{◌≡◌, inl, inr, ℕ, ◌≤◌, List, [], ◌∷◌, Bool, true, false, if◌then◌else◌, refl, sym, ap, subst, ◌∙◌, arith}
+use Rattle.std.proofs.Common.{◌≡◌, inl, inr, ℕ, ◌≤◌, List, [], ◌∷◌, ◌++◌, Bool, true, false, if◌then◌else◌, refl, sym, ap, subst, ◌∙◌, arith}
 use Rattle.sq_outside.specs.SourceLines.{Line}
 use Rattle.sq_rules.specs.declared.entries.Event.{Event}
 use Rattle.sq_rules.specs.declared.entries.Event.TheVariants.{Grant}
@@ -22,7 +22,7 @@ use Rattle.sq_replay.specs.Headline.{AreBalanced, AreWithinLevels, IsTrue, IsTru
 use Rattle.sq_replay.specs.RunText.{Shelf, configs_of, run_script}
 use Rattle.sq_replay.proofs.ReadingLaws.{configs_good}
 use Rattle.sq_replay.proofs.RunLaws.{OrNone}
-use Rattle.sq_replay.proofs.SourceLaws.{IsSourcedRun, run_sourced}
+use Rattle.sq_replay.proofs.SourceLaws.{IsSourcedRun, accepted_sourced, run_sourced}
 
 -- each grant of a legal history is what its seat has
 
@@ -57,20 +57,29 @@ legal_grants configs (e ∷ []) legal = (tt, omega arith, begin_grants configs e
 legal_grants configs (e ∷ f ∷ h) legal =
     (legal_grants configs (f ∷ h) legal.0, legal.3, next_grants configs e (f ∷ h) e.event e.answer legal.3 legal.4)
 
--- in every legal history no bucket grants more than its level and what was restored
-pub within_levels : (configs : List Configuration) (h : History) → FullLegal configs h → AreWithinLevels configs h
-within_levels configs h legal = λ later before e s same lives.
-    grants_within_levels configs later before e s (subst (AreGrants configs) (sym same) (legal_grants configs h legal)) lives
+-- so it is before each place of it
+grants_before : (configs : List Configuration) (after : List Noted) (before : History) → AreGrants configs (after ++ before) → AreGrants configs before
+grants_before configs [] before g = g
+grants_before configs (x ∷ after) before g = grants_before configs after before g.0
 
--- and the books of each bucket balance
+place_grants : (configs : List Configuration) (h : History) (after : List Noted) (before : History) → FullLegal configs h → after ++ before ≡ h → AreGrants configs before
+place_grants configs h after before legal same = grants_before configs after before (subst (AreGrants configs) (sym same) (legal_grants configs h legal))
+
+-- in every legal history no bucket grants more than its level and what was restored, between any two places
+pub within_levels : (configs : List Configuration) (h : History) → FullLegal configs h → AreWithinLevels configs h
+within_levels configs h legal = λ after later before e s same lives.
+    grants_within_levels configs later before e s (place_grants configs h after (later ++ before) legal same) lives
+
+-- and at each place the books of each bucket balance
 pub balanced : (configs : List Configuration) (h : History) → FullLegal configs h → AreBalanced configs h
-balanced configs h legal = λ e s b is. books_balance configs h e s b (legal_grants configs h legal) is
+balanced configs h legal = λ after before e s b same is. books_balance configs before e s b (place_grants configs h after before legal same) is
 
 -- the headline holds of a legal history whose configurations are those of its texts
 pub history_true : (configs : List Configuration) (h : History) → EachOf IsConfiguration configs → IsSourcedRun configs h → IsTrue configs h
 history_true configs h good s = record {
   legal = s.legal;
-  sourced = s.sourced;
+  sourced = accepted_sourced configs h s.accepted;
+  accepted = s.accepted;
   faithful = legal_faithful configs h good s.reached s.legal;
   granted = within_levels configs h s.legal;
   balanced = balanced configs h s.legal;

@@ -166,7 +166,7 @@ begun_is configs config offset now p good at begun = record {
 -- a state that is the same does as well
 pub same_is : (v : Machine) (t : State) (configs : List Configuration) (h : History) → IsSame t v.state → Is v configs h → Is (record v { state = t }) configs h
 same_is v t configs h same is = record {
-  engine = record { good = is.engine.good; legal = is.engine.legal; stands = stands_same configs (marked configs h) v.state t same is.engine.stands };
+  engine = record { good = is.engine.good; legal = is.engine.legal; sourced = is.engine.sourced; stands = stands_same configs (marked configs h) v.state t same is.engine.stands };
   pools = is.pools;
   latest_is = is.latest_is;
   riders_are = is.riders_are;

@@ -1,15 +1,18 @@
 -- What is read of a text is a configuration.
-use Rattle.std.proofs.Common.{◌≡◌, ℕ, ◌≤◌, suc, List, [], ◌∷◌, length, Bool, true, false, ◌&&◌, nat_le, if◌then◌else◌, Some, None, Ok, Err, Result, refl, ap, subst, ◌∙◌, arith}
+use Rattle.std.proofs.Common.{◌≡◌, ℕ, ◌≤◌, suc, List, [], ◌∷◌, length, Bool, true, false, ◌&&◌, nat_le, nat_lt, if◌then◌else◌, Some, None, Ok, Err, Result, refl, sym, ap, subst, ◌∙◌, arith}
 use Rattle.std.specs.declared.option.Option.{Option}
 use Rattle.std.proofs.lemmas.Bool.{and_parts}
 use Rattle.std.proofs.lemmas.Bool.Decides.{nat_tests}
+use Rattle.sq_base.specs.Lines.{lexed}
 use Rattle.sq_outside.specs.SourceLines.{Line}
 use Rattle.sq_rules.specs.declared.entries.Event.{Event}
 use Rattle.sq_rules.specs.declared.entries.Event.TheVariants.{Reconfigure}
 use Rattle.sq_rules.specs.declared.kinds.ConfError.{ConfError}
 use Rattle.sq_rules.specs.declared.kinds.Kind.{Kind}
+use Rattle.sq_rules.specs.declared.kinds.Kind.TheVariants as kind
 use Rattle.sq_rules.specs.Configurations.{Configuration, IsConfiguration}
-use Rattle.sq_rules.specs.ConfText.{conf_gives, conf_refuses, conf_result}
+use Rattle.sq_rules.specs.ConfText.{and_then, conf_gives, conf_refuses, conf_result, end_read, error_at, lines_read, text_read}
+use Rattle.sq_rules.specs.Drafts.{Drafts, are_complete, begun, finished}
 use Rattle.sq_rules.specs.Limits.{acl_limit, class_limit, initial_limit, pool_limit, rule_limit, text_limit}
 use Rattle.sq_history.specs.Given.{EachOf}
 use Rattle.sq_replay.specs.ConfReading.{checked, is_configuration, no_configuration, read_result}
@@ -93,6 +96,28 @@ checked_is text (Ok c) config is read = by (is_configuration c) refl read
 
 pub is_read : (text : List ℕ) (config : Configuration) → read_result text ≡ Ok config → IsRead text config
 is_read text config read = checked_is text (conf_result text) config refl read
+
+-- a configuration that a text gives has it as its source
+pub gives_source : (text : List ℕ) (config : Configuration) → conf_gives text config → config.source ≡ text
+unfolding conf_result finished
+gives_source text config gives = by (nat_lt text_limit (length text)) gives
+  where
+    ended : (d : Drafts) (b : Bool) → (if b then Ok (finished text d) else error_at 0 kind.PoolIncomplete) ≡ Ok config → config.source ≡ text
+    ended d true e = let same : finished text d ≡ config = cc in ap (λ (c : Configuration). c.source) (sym same)
+    ended d false e = absurd (cc)
+
+    read : (r : Result Drafts ConfError) → and_then r (end_read text) ≡ Ok config → config.source ≡ text
+    read (Ok d) e = ended d (are_complete d.pools) e
+    read (Err x) e = absurd (cc)
+
+    whole : (r : Result Drafts ConfError) → and_then r (λ d. and_then (text_read d (lexed text).fault) (end_read text)) ≡ Ok config → config.source ≡ text
+    whole (Ok d) e = read (text_read d (lexed text).fault) e
+    whole (Err x) e = absurd (cc)
+
+    by : (b : Bool) → (if b then error_at 0 kind.TooMany else and_then (lines_read begun (lexed text).lines) (λ d. and_then (text_read d (lexed text).fault) (end_read text))) ≡ Ok config
+        → config.source ≡ text
+    by true e = absurd (cc)
+    by false e = whole (lines_read begun (lexed text).lines) e
 
 -- so each configuration that a script names is one
 

@@ -11,26 +11,36 @@ use Rattle.sq_rules.specs.FullNext.{FullLegal}
 use Rattle.sq_rules.specs.Machine.{config_of}
 use Rattle.sq_rules.specs.Readings.{current, epoch_after}
 use Rattle.sq_state.specs.Promises.{entry_at}
+use Rattle.sq_state.specs.Sources.{AreSourced, IsSourced}
 use Rattle.sq_replay.specs.ConfReading.{read_result}
 use Rattle.sq_replay.specs.Dues.{dues}
-use Rattle.sq_replay.specs.Headline.{AreSourced, IsAhead, IsSourced}
+use Rattle.sq_replay.specs.Headline.{AreAccepted, IsAhead, IsAccepted}
 use Rattle.sq_replay.specs.RunText.{Shelf, acts, begun_history, configs_of, first_history, named_by, named_from, named_in, run_script, stated, with_config, with_text}
 use Rattle.sq_replay.specs.Steps.{IsEntered, IsNamed, IsStep}
 use Rattle.sq_replay.proofs.ActLaws.{acts_keep}
-use Rattle.sq_replay.proofs.ReadingLaws.{is_read}
+use Rattle.sq_replay.proofs.ReadingLaws.{gives_source, is_read}
 use Rattle.sq_replay.proofs.RunLaws.{OrNone, Stays, begun_legal, run_keeps, step_legal}
 
 -- acts begin no epoch
 pub acts_current : (configs : List Configuration) (h : History) → current (acts configs h) ≡ current h
 acts_current configs h = acts_keep configs (λ (t : History). current t ≡ current h) (λ t answer next is. is) (dues configs h) h refl
 
-acts_sourced : (configs : List Configuration) (h : History) → AreSourced configs h → AreSourced configs (acts configs h)
-acts_sourced configs h so = acts_keep configs (AreSourced configs) (λ t answer next so. (tt, so)) (dues configs h) h so
+acts_accepted : (configs : List Configuration) (h : History) → AreAccepted configs h → AreAccepted configs (acts configs h)
+acts_accepted configs h so = acts_keep configs (AreAccepted configs) (λ t answer next so. (tt, so)) (dues configs h) h so
 
 -- an event that begins no epoch has no source
-plain_sourced : (configs : List Configuration) (h : History) (event : Event) → begins_epoch event ≡ false → IsSourced configs h event
-plain_sourced configs h (Reconfigure text) e = absurd (cc)
-plain_sourced configs h event e = tt
+plain_accepted : (configs : List Configuration) (h : History) (event : Event) → begins_epoch event ≡ false → IsAccepted configs h event
+plain_accepted configs h (Reconfigure text) e = absurd (cc)
+plain_accepted configs h event e = tt
+
+accepted_source : (configs : List Configuration) (h : History) (event : Event) → IsAccepted configs h event → IsSourced configs h event
+accepted_source configs h (Reconfigure text) a = (a.0, gives_source text a.0 a.1, a.2)
+accepted_source configs h event a = tt
+
+-- a configuration that a text gives has it as its source
+pub accepted_sourced : (configs : List Configuration) (h : History) → AreAccepted configs h → AreSourced configs h
+accepted_sourced configs [] so = tt
+accepted_sourced configs (e ∷ h) so = (accepted_source configs h e.event so.0, accepted_sourced configs h so.1)
 
 -- what stands behind as many configurations
 behind : (begun : List Configuration) (config : Configuration) (more : List Configuration) → slice_get (begun ++ config ∷ more) (length begun) ≡ Some config
@@ -49,13 +59,13 @@ text_named files e name text more n = ap (λ (o : Option (List ℕ)). with_text 
 -- what is so of a run under way
 pub record IsUnderWay (files : Shelf) (configs : List Configuration) (ls : List Line) (h : History) : Type 0 where
   pub legal : FullLegal configs h
-  pub sourced : AreSourced configs h
+  pub accepted : AreAccepted configs h
   pub ahead : IsAhead files configs h ls
 
 -- the same, without the lines that are to come
 pub record IsSourcedRun (configs : List Configuration) (h : History) : Type 0 where
   pub legal : FullLegal configs h
-  pub sourced : AreSourced configs h
+  pub accepted : AreAccepted configs h
   pub reached : current h ≤ length configs
 
 -- each epoch that has begun has its configuration
@@ -104,7 +114,7 @@ named_next files configs l ls h now name text config states is gives a =
 
 -- the configuration of the epoch that such a line begins
 pub named_source : (files : Shelf) (configs : List Configuration) (l : Line) (ls : List Line) (h : History) (now : ℕ) (name text : List ℕ) → stated l.bytes ≡ Some (now, Reconfigure name)
-    → IsNamed files (current h) name text → IsAhead files configs h (l ∷ ls) → IsSourced configs h (Reconfigure text)
+    → IsNamed files (current h) name text → IsAhead files configs h (l ∷ ls) → IsAccepted configs h (Reconfigure text)
 named_source files configs l ls h now name text states n a = (n.config, (is_read text n.config n.gives_it).gives, named_next files configs l ls h now name text n.config states n.text_is n.gives_it a)
 
 -- the current epoch after a step
@@ -112,9 +122,9 @@ step_current : (files : Shelf) (configs : List Configuration) (h : History) (e :
     → current t ≡ epoch_after (begins_epoch s.entered) (current h)
 step_current files configs h e event t s = sym (ap current s.history_is) ∙ acts_current configs (entry_at s.moment s.entered s.answer ∷ h)
 
-step_sourced : (files : Shelf) (configs : List Configuration) (h : History) (e : ℕ) (event : Event) (t : History) (s : IsStep files configs h e event t) → IsSourced configs h s.entered
-    → AreSourced configs h → AreSourced configs t
-step_sourced files configs h e event t s one so = subst (AreSourced configs) s.history_is (acts_sourced configs (entry_at s.moment s.entered s.answer ∷ h) (one, so))
+step_accepted : (files : Shelf) (configs : List Configuration) (h : History) (e : ℕ) (event : Event) (t : History) (s : IsStep files configs h e event t) → IsAccepted configs h s.entered
+    → AreAccepted configs h → AreAccepted configs t
+step_accepted files configs h e event t s one so = subst (AreAccepted configs) s.history_is (acts_accepted configs (entry_at s.moment s.entered s.answer ∷ h) (one, so))
 
 -- an event is entered as it is, or it is a reconfiguration
 record IsNamedEvent (files : Shelf) (e : ℕ) (event entered : Event) : Type 0 where
@@ -160,19 +170,19 @@ step_ahead files configs l ls h now event t states s a = by (either files (curre
 
 -- what it enters has its source
 step_source : (files : Shelf) (configs : List Configuration) (l : Line) (ls : List Line) (h : History) (now : ℕ) (event : Event) (t : History) → stated l.bytes ≡ Some (now, event)
-    → (s : IsStep files configs h (current h) event t) → IsAhead files configs h (l ∷ ls) → IsSourced configs h s.entered
+    → (s : IsStep files configs h (current h) event t) → IsAhead files configs h (l ∷ ls) → IsAccepted configs h s.entered
 step_source files configs l ls h now event t states s a = by (either files (current h) event s.entered s.entered_is)
   where
-    by : IsEither files (current h) event s.entered → IsSourced configs h s.entered
-    by (inl plain) = plain_sourced configs h s.entered (ap begins_epoch plain.0 ∙ plain.1)
+    by : IsEither files (current h) event s.entered → IsAccepted configs h s.entered
+    by (inl plain) = plain_accepted configs h s.entered (ap begins_epoch plain.0 ∙ plain.1)
     by (inr n) =
-        subst (IsSourced configs h) (sym n.entered_is) (named_source files configs l ls h now n.name n.text (states ∙ ap (λ (z : Event). Some (now, z)) n.event_is) n.named a)
+        subst (IsAccepted configs h) (sym n.entered_is) (named_source files configs l ls h now n.name n.text (states ∙ ap (λ (z : Event). Some (now, z)) n.event_is) n.named a)
 
 -- what is so of a run under way stays with each line
 pub under_way_stays : (files : Shelf) (configs : List Configuration) → Stays files configs (IsUnderWay files configs)
 under_way_stays files configs l ls h now event t states s u = record {
   legal = step_legal files configs h (current h) event t s u.legal;
-  sourced = step_sourced files configs h (current h) event t s (step_source files configs l ls h now event t states s u.ahead) u.sourced;
+  accepted = step_accepted files configs h (current h) event t s (step_source files configs l ls h now event t states s u.ahead) u.accepted;
   ahead = step_ahead files configs l ls h now event t states s u.ahead;
 }
 
@@ -184,7 +194,7 @@ begun_under_way files config all ls now offset same =
     let one : current (begun_history configs now offset) ≡ 1 = acts_current configs (first_history now offset) in
     record {
       legal = begun_legal configs now offset;
-      sourced = acts_sourced configs (first_history now offset) (tt, tt);
+      accepted = acts_accepted configs (first_history now offset) (tt, tt);
       ahead = record {
         begun = config ∷ [];
         count_is = sym one;
@@ -196,7 +206,7 @@ begun_under_way files config all ls now offset same =
 pub run_sourced : (files : Shelf) (config : Configuration) (ls : List Line) → OrNone (IsSourcedRun (configs_of files config ls)) (run_script files config ls).history
 run_sourced files config ls =
     let configs = configs_of files config ls in
-    run_keeps files configs (IsUnderWay files configs) (IsSourcedRun configs) (λ rest h u. record { legal = u.legal; sourced = u.sourced; reached = ahead_reached files configs h rest u.ahead }) (under_way_stays files configs) ls
+    run_keeps files configs (IsUnderWay files configs) (IsSourcedRun configs) (λ rest h u. record { legal = u.legal; accepted = u.accepted; reached = ahead_reached files configs h rest u.ahead }) (under_way_stays files configs) ls
     (record {
       first = λ now offset. begun_under_way files config ls ls now offset refl;
       past = λ l more at now offset by is states.

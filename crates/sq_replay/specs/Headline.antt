@@ -14,36 +14,41 @@ use Rattle.sq_rules.specs.PoolReadings.{Spot, tally_of}
 use Rattle.sq_rules.specs.Readings.{current}
 use Rattle.sq_history.specs.Faithful.{IsFaithful}
 use Rattle.sq_pools.specs.Flows.{GrantsWithin, Lives}
+use Rattle.sq_state.specs.Sources.{AreSourced}
 use Rattle.sq_replay.specs.RunText.{Shelf, named_from}
 
 -- the text of a reconfiguration gives the configuration of the epoch that it begins
-abbrev pub IsSourced : List Configuration → History → Event → Type 0
-IsSourced configs h (Reconfigure text) = (config : Configuration) × conf_gives text config × (config_of configs (suc (current h)) ≡ Some config)
-IsSourced configs h event = Unit {0}
+abbrev pub IsAccepted : List Configuration → History → Event → Type 0
+IsAccepted configs h (Reconfigure text) = (config : Configuration) × conf_gives text config × (config_of configs (suc (current h)) ≡ Some config)
+IsAccepted configs h event = Unit {0}
 
--- the configuration of each epoch but the first is that of the text by which it began
-abbrev pub AreSourced : List Configuration → History → Type 0
-AreSourced configs [] = Unit {0}
-AreSourced configs (e ∷ h) = IsSourced configs h e.event × AreSourced configs h
+-- the configuration of each epoch but the first is the one that the text gives by which it began
+abbrev pub AreAccepted : List Configuration → History → Type 0
+AreAccepted configs [] = Unit {0}
+AreAccepted configs (e ∷ h) = IsAccepted configs h e.event × AreAccepted configs h
 
--- between two places from the one to the other of which a bucket lives, it grants at most its level at the first and what was restored
+-- between any two places from the one to the other of which a bucket lives, it grants at most its level at the first and what was restored
 abbrev pub AreWithinLevels : List Configuration → History → Type 0
-AreWithinLevels configs h = (later : List Noted) (before : History) (e : ℕ) (s : Spot) → later ++ before ≡ h → Lives configs later before e s → GrantsWithin configs later before e s
+AreWithinLevels configs h =
+    (after later : List Noted) (before : History) (e : ℕ) (s : Spot) → after ++ (later ++ before) ≡ h → Lives configs later before e s → GrantsWithin configs later before e s
 
--- the books of each bucket balance: what it opened with and what was restored is what it holds, granted and spilled
+-- at each place the books of each bucket balance: what it opened with and what was restored is what it holds, granted and spilled
 abbrev pub AreBalanced : List Configuration → History → Type 0
-AreBalanced configs h = (e : ℕ) (s : Spot) (b : Tally) → tally_of configs h e s ≡ Some b → IsBalanced b
+AreBalanced configs h = (after : List Noted) (before : History) (e : ℕ) (s : Spot) (b : Tally) → after ++ before ≡ h → tally_of configs before e s ≡ Some b → IsBalanced b
 
 -- what is so of the history of every run
 pub record IsTrue (configs : List Configuration) (h : History) : Type 0 where
   -- each answer is the machine's next
   pub legal : FullLegal configs h
-  -- each epoch has the configuration of the text by which it began
+  -- each reconfiguration holds the source of the configuration of its epoch
   pub sourced : AreSourced configs h
+  -- which is the one that this text gives
+  pub accepted : AreAccepted configs h
   -- each outcome is the verdict of the configuration current when its check began, over what it saw and answers that have their sources
   pub faithful : IsFaithful configs (marked configs h)
-  -- no bucket grants more than its level and what was restored
+  -- between any two places no bucket grants more than its level and what was restored
   pub granted : AreWithinLevels configs h
+  -- and at each place the books balance
   pub balanced : AreBalanced configs h
 
 -- or nothing was run

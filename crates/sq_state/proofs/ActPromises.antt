@@ -12,9 +12,10 @@ use Rattle.sq_rules.specs.Farms.{Sending}
 use Rattle.sq_rules.specs.FullNext.{full_next}
 use Rattle.sq_rules.specs.Machine.{config_of, gives, nothing}
 use Rattle.sq_rules.specs.Marking.{marked}
-use Rattle.sq_rules.specs.Marks.{Past}
-use Rattle.sq_rules.specs.Readings.{latest}
+use Rattle.sq_rules.specs.Marks.{Past, entries}
+use Rattle.sq_rules.specs.Readings.{current, latest}
 use Rattle.sq_rows.specs.ClassRows.{ClassRow}
+use Rattle.sq_history.proofs.LegalLaws.{marked_entries}
 use Rattle.sq_state.specs.Acts.{due_in, sends, starts, stops}
 use Rattle.sq_state.specs.Answers.{act_of, failed_answer, has_start_in, name_in, reconfigure_answer, started_answer}
 use Rattle.sq_state.specs.Changes.{after_failed_at, after_reconfigured, after_send_at, after_start_at, after_started_at, after_stop_of}
@@ -30,21 +31,21 @@ use Rattle.sq_state.proofs.StartStands.{failed_next, failed_stands, not_refused,
 pub stop_answered : (configs : List Configuration) (h : History) (s : State) (now k : ℕ) → StandsFor configs h s → latest h ≤ now → due_in s ≡ Some (stops k)
     → IsAnswered configs h now Act (told.Stop k) (after_stop_of k now s)
 stop_answered configs h s now k st late is =
-    answered_so configs h s _ now Act (told.Stop k) st refl refl late (act_next_is configs (marked configs h) s now st.stands ∙ ap (act_of s) is)
+    answered_so configs h s _ now Act (told.Stop k) st refl refl tt late (act_next_is configs (marked configs h) s now st.stands ∙ ap (act_of s) is)
     (stop_stands configs (marked configs h) s now k st.stands)
 
 -- a send
 pub send_answered : (configs : List Configuration) (h : History) (s : State) (now : ℕ) (p : Place) (x : Sending) → StandsFor configs h s → latest h ≤ now → due_in s ≡ Some (sends p x)
     → IsAnswered configs h now Act (sending_told x) (after_send_at p now s)
 send_answered configs h s now p x st late is =
-    answered_so configs h s _ now Act (sending_told x) st refl refl late (act_next_is configs (marked configs h) s now st.stands ∙ ap (act_of s) is)
+    answered_so configs h s _ now Act (sending_told x) st refl refl tt late (act_next_is configs (marked configs h) s now st.stands ∙ ap (act_of s) is)
     (send_stands configs (marked configs h) s now p x (law_of configs h s st) st.stands is)
 
 -- a start
 pub start_answered : (configs : List Configuration) (h : History) (s : State) (now : ℕ) (p : Place) → StandsFor configs h s → latest h ≤ now → due_in s ≡ Some (starts p)
     → IsAnswered configs h now Act (told.Start p.epoch (name_in s p)) (after_start_at p now s)
 start_answered configs h s now p st late is =
-    answered_so configs h s _ now Act (told.Start p.epoch (name_in s p)) st refl refl late (act_next_is configs (marked configs h) s now st.stands ∙ ap (act_of s) is)
+    answered_so configs h s _ now Act (told.Start p.epoch (name_in s p)) st refl refl tt late (act_next_is configs (marked configs h) s now st.stands ∙ ap (act_of s) is)
     (start_stands configs (marked configs h) s now p (law_of configs h s st) st.stands is)
 
 -- nothing is due
@@ -68,7 +69,7 @@ started_answered configs h s now p answer st late is =
     let law = law_of configs h s st in
     let next = started_next configs (marked configs h) s now p row.class law.once st.stands row.class_is ∙ is in
     subst (λ (name : List ℕ). IsAnswered configs h now (Started p.epoch name) answer (after_started_at p now s)) (sym (name_is configs (marked configs h) s p row.class st.stands row.lives row.class_is))
-    (answered_so configs h s _ now (Started p.epoch row.class.name) answer st refl refl late next (started_stands configs (marked configs h) s now p row.class answer law st.stands row.class_is next))
+    (answered_so configs h s _ now (Started p.epoch row.class.name) answer st refl refl tt late next (started_stands configs (marked configs h) s now p row.class answer law st.stands row.class_is next))
 
 -- a start that failed
 pub failed_answered : (configs : List Configuration) (h : History) (s : State) (now : ℕ) (p : Place) (answer : Told) → StandsFor configs h s → latest h ≤ now → failed_answer s p ≡ gives answer
@@ -78,11 +79,14 @@ failed_answered configs h s now p answer st late is =
     let law = law_of configs h s st in
     let next = failed_next configs (marked configs h) s now p row.class law.once st.stands row.class_is ∙ is in
     subst (λ (name : List ℕ). IsAnswered configs h now (StartFail p.epoch name) answer (after_failed_at p now s)) (sym (name_is configs (marked configs h) s p row.class st.stands row.lives row.class_is))
-    (answered_so configs h s _ now (StartFail p.epoch row.class.name) answer st refl refl late next (failed_stands configs (marked configs h) s now p row.class answer law st.stands row.class_is next))
+    (answered_so configs h s _ now (StartFail p.epoch row.class.name) answer st refl refl tt late next (failed_stands configs (marked configs h) s now p row.class answer law st.stands row.class_is next))
 
 -- a reconfiguration, to the configuration of the next epoch
 pub reconfigure_answered : (configs : List Configuration) (h : History) (s : State) (now : ℕ) (text : List ℕ) (config : Configuration) (answer : Told) → StandsFor configs h s → latest h ≤ now
-    → config_of configs (suc s.current) ≡ Some config → reconfigure_answer s ≡ gives answer → IsAnswered configs h now (Reconfigure text) answer (after_reconfigured config now s)
-reconfigure_answered configs h s now text config answer st late at is =
-    answered_so configs h s _ now (Reconfigure text) answer st refl refl late (reconfigure_next configs (marked configs h) s now text st.stands ∙ is)
-    (reconfigure_stands configs (marked configs h) s now text answer config (law_of configs h s st) st.stands (ap (λ (n : ℕ). config_of configs (suc n)) (sym st.stands.current_is) ∙ at))
+    → config.source ≡ text → config_of configs (suc s.current) ≡ Some config → reconfigure_answer s ≡ gives answer
+    → IsAnswered configs h now (Reconfigure text) answer (after_reconfigured config now s)
+reconfigure_answered configs h s now text config answer st late source at is =
+    let there : config_of configs (suc (current (entries (marked configs h)))) ≡ Some config = ap (λ (n : ℕ). config_of configs (suc n)) (sym st.stands.current_is) ∙ at in
+    answered_so configs h s _ now (Reconfigure text) answer st refl refl (config, source, ap (λ (g : History). config_of configs (suc (current g))) (sym (marked_entries configs h)) ∙ there) late
+    (reconfigure_next configs (marked configs h) s now text st.stands ∙ is)
+    (reconfigure_stands configs (marked configs h) s now text answer config (law_of configs h s st) st.stands there)

@@ -48,7 +48,7 @@ pub bad_answered : (configs : List Configuration) (h : History) (s : State) (now
     → s.home k ≡ Some p → channels_in s k ≡ Some channels → line_is channels bytes ≡ Outside
     → IsAnswered configs h now (Line k bytes) told.Bad (after_end_at p k cause.BadReply true now s)
 bad_answered configs h s now k bytes p channels st late home at line =
-    answered_so configs h s _ now (Line k bytes) told.Bad st refl refl late (line_by_channels configs h s now k bytes channels Outside st at line)
+    answered_so configs h s _ now (Line k bytes) told.Bad st refl refl tt late (line_by_channels configs h s now k bytes channels Outside st at line)
     (bad_stands configs (marked configs h) s now k bytes p (law_of configs h s st) st.stands home)
 
 -- and so does one on a free channel
@@ -56,7 +56,7 @@ pub stray_answered : (configs : List Configuration) (h : History) (s : State) (n
     → s.home k ≡ Some p → channels_in s k ≡ Some channels → line_is channels bytes ≡ OnFree
     → IsAnswered configs h now (Line k bytes) told.Stray (after_end_at p k cause.Stray true now s)
 stray_answered configs h s now k bytes p channels st late home at line =
-    answered_so configs h s _ now (Line k bytes) told.Stray st refl refl late (line_by_channels configs h s now k bytes channels OnFree st at line)
+    answered_so configs h s _ now (Line k bytes) told.Stray st refl refl tt late (line_by_channels configs h s now k bytes channels OnFree st at line)
     (stray_stands configs (marked configs h) s now k bytes p (law_of configs h s st) st.stands home)
 
 -- a reply to the question that is open on its channel
@@ -65,7 +65,7 @@ pub reply_answered : (configs : List Configuration) (h : History) (s : State) (n
     → s.row p.epoch p.class ≡ Some r → key_of q r.lookups ≡ Some key
     → IsAnswered configs h now (Line k bytes) (told.Reply q reply.word) (after_reply_at p class k q key (what_of reply) now s)
 reply_answered configs h s now k bytes q reply p class channels r key st late home class_is at line row found =
-    answered_so configs h s _ now (Line k bytes) (told.Reply q reply.word) st refl refl late (line_by_channels configs h s now k bytes channels (ReplyTo q reply) st at line)
+    answered_so configs h s _ now (Line k bytes) (told.Reply q reply.word) st refl refl tt late (line_by_channels configs h s now k bytes channels (ReplyTo q reply) st at line)
     (reply_stands configs (marked configs h) s now k bytes q reply p class channels r key (law_of configs h s st) st.stands home class_is at line row found)
 
 -- a death of a process that lives
@@ -73,6 +73,6 @@ pub died_answered : (configs : List Configuration) (h : History) (s : State) (no
     → IsAnswered configs h now (Died k) told.Fine (after_end_at p k cause.Died false now s)
 died_answered configs h s now k p st late home =
     let law = law_of configs h s st in
-    answered_so configs h s _ now (Died k) told.Fine st refl refl late
+    answered_so configs h s _ now (Died k) told.Fine st refl refl tt late
     (died_next configs (marked configs h) s now k law st.stands ∙ ap (λ (o : Option Place). refuse_if (is_none o) (refusal.UnknownProc k) (gives told.Fine)) home)
     (died_stands configs (marked configs h) s now k p law st.stands home)

@@ -19,6 +19,7 @@ use Rattle.sq_history.proofs.LegalLaws.{marked_entries}
 use Rattle.sq_state.specs.Answers.{ask_answer, asked_in, close_answer, open_answer, take_answer}
 use Rattle.sq_state.specs.Changes.{after_ask, after_close, after_open, after_take, first_state}
 use Rattle.sq_state.specs.Promises.{IsAnswered, StandsFor, entry_at}
+use Rattle.sq_state.specs.Sources.{IsSourced}
 use Rattle.sq_state.specs.States.{IsSame, Stands, State, is_of_pools, machine_moment}
 use Rattle.sq_state.proofs.ConnStands.{ask_next, ask_stands, close_next, close_stands, open_next, open_stands, take_next, take_stands}
 use Rattle.sq_state.proofs.Lawful.{Lawful, lawful, stands_same}
@@ -82,25 +83,25 @@ legal_more configs (f ∷ h) now event answer legal b t late next = (legal, b, t
 
 -- what is answered so, where the answer is the next and a state stands for what it leaves
 pub answered_so : (configs : List Configuration) (h : History) (s after : State) (now : ℕ) (event : Event) (answer : Told) → StandsFor configs h s → is_begin event ≡ false → has_target event ≡ true
-    → latest h ≤ now → full_next_at configs (marked configs h) now event ≡ gives answer → Stands configs (marked configs (entry_at now event answer ∷ h)) after
+    → IsSourced configs h event → latest h ≤ now → full_next_at configs (marked configs h) now event ≡ gives answer → Stands configs (marked configs (entry_at now event answer ∷ h)) after
     → IsAnswered configs h now event answer after
-answered_so configs h s after now event answer st b t late next stands =
+answered_so configs h s after now event answer st b t source late next stands =
     let is = next_now configs h now event late ∙ next in
-    record { next_is = is; stands = record { good = st.good; legal = legal_more configs h now event answer st.legal b t late is; stands = stands } }
+    record { next_is = is; stands = record { good = st.good; legal = legal_more configs h now event answer st.legal b t late is; sourced = (source, st.sourced); stands = stands } }
 
 -- an `open` that the state answers
 pub open_answered : (configs : List Configuration) (h : History) (s : State) (now c : ℕ) (addr : Address) (port : ℕ) (answer : Told) → StandsFor configs h s → latest h ≤ now
     → open_answer s c ≡ gives answer → IsAnswered configs h now (Open c addr port) answer (after_open c (record { addr = addr; port = port }) now s)
 open_answered configs h s now c addr port answer st late is =
     let next = open_next configs (marked configs h) s now c addr port st.stands ∙ is in
-    answered_so configs h s _ now (Open c addr port) answer st refl refl late next (open_stands configs (marked configs h) s now c addr port answer st.stands next)
+    answered_so configs h s _ now (Open c addr port) answer st refl refl tt late next (open_stands configs (marked configs h) s now c addr port answer st.stands next)
 
 -- a `close` that it answers
 pub close_answered : (configs : List Configuration) (h : History) (s : State) (now c : ℕ) (answer : Told) → StandsFor configs h s → latest h ≤ now
     → close_answer s c ≡ gives answer → IsAnswered configs h now (Close c) answer (after_close c now s)
 close_answered configs h s now c answer st late is =
     let next = close_next configs (marked configs h) s now c st.stands ∙ is in
-    answered_so configs h s _ now (Close c) answer st refl refl late next (close_stands configs (marked configs h) s now c answer (law_of configs h s st) st.stands next)
+    answered_so configs h s _ now (Close c) answer st refl refl tt late next (close_stands configs (marked configs h) s now c answer (law_of configs h s st) st.stands next)
 
 -- an `ask` that it answers, whose target has its form
 pub ask_answered : (configs : List Configuration) (h : History) (s : State) (now c : ℕ) (method target : List ℕ) (fields : List Field) (answer : Told) → StandsFor configs h s
@@ -108,40 +109,40 @@ pub ask_answered : (configs : List Configuration) (h : History) (s : State) (now
     → IsAnswered configs h now (Ask c method target fields) answer (after_ask (asked_in s now c method target fields) now s)
 ask_answered configs h s now c method target fields answer st late formed is =
     let next = ask_next configs (marked configs h) s now c method target fields (law_of configs h s st).alone st.stands ∙ is in
-    answered_so configs h s _ now (Ask c method target fields) answer st refl formed late next (ask_stands configs (marked configs h) s now c method target fields answer st.stands)
+    answered_so configs h s _ now (Ask c method target fields) answer st refl formed tt late next (ask_stands configs (marked configs h) s now c method target fields answer st.stands)
 
 -- a `take` that it answers
 pub take_answered : (configs : List Configuration) (h : History) (s : State) (now n : ℕ) (answer : Told) → StandsFor configs h s → latest h ≤ now
     → take_answer s n ≡ gives answer → IsAnswered configs h now (Take n) answer (after_take n now s)
 take_answered configs h s now n answer st late is =
     let next = take_next configs (marked configs h) s now n st.stands ∙ is in
-    answered_so configs h s _ now (Take n) answer st refl refl late next (take_stands configs (marked configs h) s now n answer (law_of configs h s st) st.stands)
+    answered_so configs h s _ now (Take n) answer st refl refl tt late next (take_stands configs (marked configs h) s now n answer (law_of configs h s st) st.stands)
 
 -- a state that is the same has answered so too
 pub answered_same : (configs : List Configuration) (h : History) (s t : State) (now : ℕ) (event : Event) (answer : Told) → IsSame t s → IsAnswered configs h now event answer s
     → IsAnswered configs h now event answer t
 answered_same configs h s t now event answer is a =
-    record { next_is = a.next_is; stands = record { good = a.stands.good; legal = a.stands.legal; stands = stands_same configs _ s t is a.stands.stands } }
+    record { next_is = a.next_is; stands = record { good = a.stands.good; legal = a.stands.legal; sourced = a.stands.sourced; stands = stands_same configs _ s t is a.stands.stands } }
 
 -- the first state, at the beginning
 pub first_for : (configs : List Configuration) (config : Configuration) (offset : ℤ) (now : ℕ) → EachOf IsConfiguration configs → config_of configs 1 ≡ Some config
     → StandsFor configs (entry_at now (Begin offset) (told.Epoch 1) ∷ []) (first_state config offset now)
-first_for configs config offset now good is = record { good = good; legal = (refl, refl); stands = first_stands configs config offset now (told.Epoch 1) is }
+first_for configs config offset now good is = record { good = good; legal = (refl, refl); sourced = (tt, tt); stands = first_stands configs config offset now (told.Epoch 1) is }
 
 -- a seat that is answered leaves the state
 pub seat_answered : (configs : List Configuration) (h : History) (s : State) (now c : ℕ) (answer : Told) → StandsFor configs h s → latest h ≤ now
     → full_next_at configs (marked configs h) now (Seat c) ≡ gives answer → IsAnswered configs h now (Seat c) answer s
 seat_answered configs h s now c answer st late next =
-    answered_so configs h s s now (Seat c) answer st refl refl late next (seat_stands configs (marked configs h) s now c answer st.stands)
+    answered_so configs h s s now (Seat c) answer st refl refl tt late next (seat_stands configs (marked configs h) s now c answer st.stands)
 
 -- so does a grant
 pub grant_answered : (configs : List Configuration) (h : History) (s : State) (now n wanted : ℕ) (answer : Told) → StandsFor configs h s → latest h ≤ now
     → full_next_at configs (marked configs h) now (Grant n wanted) ≡ gives answer → IsAnswered configs h now (Grant n wanted) answer s
 grant_answered configs h s now n wanted answer st late next =
-    answered_so configs h s s now (Grant n wanted) answer st refl refl late next (grant_stands configs (marked configs h) s now n wanted answer st.stands)
+    answered_so configs h s s now (Grant n wanted) answer st refl refl tt late next (grant_stands configs (marked configs h) s now n wanted answer st.stands)
 
 -- and a seat that is left
 pub leave_answered : (configs : List Configuration) (h : History) (s : State) (now n : ℕ) (answer : Told) → StandsFor configs h s → latest h ≤ now
     → full_next_at configs (marked configs h) now (Leave n) ≡ gives answer → IsAnswered configs h now (Leave n) answer s
 leave_answered configs h s now n answer st late next =
-    answered_so configs h s s now (Leave n) answer st refl refl late next (leave_stands configs (marked configs h) s now n answer st.stands)
+    answered_so configs h s s now (Leave n) answer st refl refl tt late next (leave_stands configs (marked configs h) s now n answer st.stands)

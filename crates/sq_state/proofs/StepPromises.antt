@@ -48,7 +48,7 @@ step_answered configs h s now n k answer st late found is =
     let law = law_of configs h s st in
     let says : StepSays = says_in s now k in
     let same : says.answer ≡ answer = gives_same (is_some says.put && nat_le last_number (suc s.puts)) (refusal.Spent (suc s.puts)) says.answer answer is in
-    answered_so configs h s _ now (Step n) answer st refl refl late (step_next_is configs (marked configs h) s now n law st.stands ∙ ap (step_of_held s n now) found ∙ is)
+    answered_so configs h s _ now (Step n) answer st refl refl tt late (step_next_is configs (marked configs h) s now n law st.stands ∙ ap (step_of_held s n now) found ∙ is)
     (subst (λ (t : Told). Stands configs (marked configs (entry_at now (Step n) t ∷ h)) (after_step_of n k.asked.epoch (says_in s now k) now s)) same
     (step_marked configs (marked configs h) s now n k law st.stands found))
 

@@ -4,4 +4,5 @@ pub mod Says
 pub mod Acts
 pub mod Changes
 pub mod Answers
+pub mod Sources
 pub mod Promises

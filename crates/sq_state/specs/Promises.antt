@@ -8,12 +8,14 @@ use Rattle.sq_rules.specs.FullNext.{FullLegal, full_next}
 use Rattle.sq_rules.specs.Machine.{gives}
 use Rattle.sq_rules.specs.Marking.{marked}
 use Rattle.sq_history.specs.Given.{EachOf}
+use Rattle.sq_state.specs.Sources.{AreSourced}
 use Rattle.sq_state.specs.States.{Stands, State}
 
--- the state stands for this history, which is legal over these configurations
+-- the state stands for this history, which is legal over these configurations, and whose reconfigurations hold their sources
 pub record StandsFor (configs : List Configuration) (h : History) (s : State) : Type 0 where
   pub good : EachOf IsConfiguration configs
   pub legal : FullLegal configs h
+  pub sourced : AreSourced configs h
   pub stands : Stands configs (marked configs h) s
 
 abbrev pub entry_at : ℕ → Event → Told → Noted

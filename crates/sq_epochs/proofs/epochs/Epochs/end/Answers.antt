@@ -13,7 +13,7 @@ pub index_mut-live-requires : goal.index_mut-live-requires
 index_mut-live-requires c =
     let v : EpochsState = record { current = c.self.inside.current; epochs = c.self.inside.epochs.items; procs = c.self.inside.homes.given; homes = c.self.inside.homes.homes; stops = c.self.inside.homes.stops } in
     let home : Place = record { epoch = c.home.inside.epoch; class = c.home.inside.class } in
-    let home_is : home_at v c.args.proc ≡ Some home = sym c.in-Some.ensures ∙ ap (λ h. Some h.place) (sym c.home.view_is) in
+    let home_is : home_at v c.args.proc ≡ Some home = sym c.in-Some.ensures.place ∙ ap (λ h. Some h.place) (sym c.home.view_is) in
     let alive = home_lives v c.args.proc home c.self.invariant.homed home_is in
     let f = find_at v v home.epoch home.class c.place_of-place.result refl c.self.invariant.live (lives_there c.args.proc (part_at v home.epoch home.class) alive)
     (c.place_of-place.ensures.place ∙ ap (λ z. place_among home.epoch (map epoch_number z)) c.deref.ensures.value) in
@@ -24,7 +24,7 @@ pub end-requires-clause-there : goal.end-requires-clause-there
 end-requires-clause-there c =
     let v : EpochsState = record { current = c.self.inside.current; epochs = c.self.inside.epochs.items; procs = c.self.inside.homes.given; homes = c.self.inside.homes.homes; stops = c.self.inside.homes.stops } in
     let home : Place = record { epoch = c.home.inside.epoch; class = c.home.inside.class } in
-    let home_is : home_at v c.args.proc ≡ Some home = sym c.in-Some.ensures ∙ ap (λ h. Some h.place) (sym c.home.view_is) in
+    let home_is : home_at v c.args.proc ≡ Some home = sym c.in-Some.ensures.place ∙ ap (λ h. Some h.place) (sym c.home.view_is) in
     let alive = home_lives v c.args.proc home c.self.invariant.homed home_is in
     let f = find_at v v home.epoch home.class c.place_of-place.result refl c.self.invariant.live (lives_there c.args.proc (part_at v home.epoch home.class) alive)
     (c.place_of-place.ensures.place ∙ ap (λ z. place_among home.epoch (map epoch_number z)) c.deref.ensures.value) in
@@ -34,7 +34,7 @@ pub end-requires-clause-alive : goal.end-requires-clause-alive
 end-requires-clause-alive c = λ p at.
     let v : EpochsState = record { current = c.self.inside.current; epochs = c.self.inside.epochs.items; procs = c.self.inside.homes.given; homes = c.self.inside.homes.homes; stops = c.self.inside.homes.stops } in
     let home : Place = record { epoch = c.home.inside.epoch; class = c.home.inside.class } in
-    let home_is : home_at v c.args.proc ≡ Some home = sym c.in-Some.ensures ∙ ap (λ h. Some h.place) (sym c.home.view_is) in
+    let home_is : home_at v c.args.proc ≡ Some home = sym c.in-Some.ensures.place ∙ ap (λ h. Some h.place) (sym c.home.view_is) in
     let alive = home_lives v c.args.proc home c.self.invariant.homed home_is in
     let f = find_at v v home.epoch home.class c.place_of-place.result refl c.self.invariant.live (lives_there c.args.proc (part_at v home.epoch home.class) alive)
     (c.place_of-place.ensures.place ∙ ap (λ z. place_among home.epoch (map epoch_number z)) c.deref.ensures.value) in
@@ -44,7 +44,7 @@ pub invariant_of-self : goal.invariant_of-self
 invariant_of-self c =
     let v : EpochsState = record { current = c.self.inside.current; epochs = c.self.inside.epochs.items; procs = c.self.inside.homes.given; homes = c.self.inside.homes.homes; stops = c.self.inside.homes.stops } in
     let home : Place = record { epoch = c.home.inside.epoch; class = c.home.inside.class } in
-    let home_is : home_at v c.args.proc ≡ Some home = sym c.in-Some.ensures ∙ ap (λ h. Some h.place) (sym c.home.view_is) in
+    let home_is : home_at v c.args.proc ≡ Some home = sym c.in-Some.ensures.place ∙ ap (λ h. Some h.place) (sym c.home.view_is) in
     let alive = home_lives v c.args.proc home c.self.invariant.homed home_is in
     let f = find_at v v home.epoch home.class c.place_of-place.result refl c.self.invariant.live (lives_there c.args.proc (part_at v home.epoch home.class) alive)
     (c.place_of-place.ensures.place ∙ ap (λ z. place_among home.epoch (map epoch_number z)) c.deref.ensures.value) in
@@ -67,7 +67,7 @@ pub returns : goal.returns
 returns c =
     let v : EpochsState = record { current = c.self.inside.current; epochs = c.self.inside.epochs.items; procs = c.self.inside.homes.given; homes = c.self.inside.homes.homes; stops = c.self.inside.homes.stops } in
     let home : Place = record { epoch = c.home.inside.epoch; class = c.home.inside.class } in
-    let home_is : home_at v c.args.proc ≡ Some home = sym c.in-Some.ensures ∙ ap (λ h. Some h.place) (sym c.home.view_is) in
+    let home_is : home_at v c.args.proc ≡ Some home = sym c.in-Some.ensures.place ∙ ap (λ h. Some h.place) (sym c.home.view_is) in
     let alive = home_lives v c.args.proc home c.self.invariant.homed home_is in
     let f = find_at v v home.epoch home.class c.place_of-place.result refl c.self.invariant.live (lives_there c.args.proc (part_at v home.epoch home.class) alive)
     (c.place_of-place.ensures.place ∙ ap (λ z. place_among home.epoch (map epoch_number z)) c.deref.ensures.value) in

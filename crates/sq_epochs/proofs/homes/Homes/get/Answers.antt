@@ -7,8 +7,8 @@ use Rattle.sq_epochs.proofs.FindLaws.{home_read, home_other, home_none}
 use Rattle.sq_epochs.proofs.homes.Homes.get.Goals as goal
 use Rattle.sq_epochs.proofs.homes.Homes.get.Goals.{in_default-via-in-Some+else-home-proc, in_default-via-in_default}
 
-pub returns-in-Some : goal.returns-in-Some
-returns-in-Some c =
+pub returns-in-Some-clause-place : goal.returns-in-Some-clause-place
+returns-in-Some-clause-place c =
     let xs = c.self.inside.homes.items in
     let k = c.args.proc in
     let x = c.in-Some.home.now in
@@ -18,8 +18,11 @@ returns-in-Some c =
     let number : x.proc ≡ k = sym (ap (λ i. i.proc) c.home-inside.view_is ∙ ap (λ l. l.proc) c.home.view_is) ∙ c.if-home-proc.true ∙ c.proc.view_is in
     home_read k i xs x c.self.invariant.0.rise place there number ∙ ap (λ z. home_in k z.homes) c.self.view_is
 
-pub returns-in_default : goal.returns-in_default
-returns-in_default c =
+pub returns-in-Some-clause-number : goal.returns-in-Some-clause-number
+returns-in-Some-clause-number c = sym (ap (λ i. i.proc) c.home-inside.view_is ∙ ap (λ l. l.proc) c.home.view_is) ∙ c.if-home-proc.true ∙ c.proc.view_is
+
+pub returns-in_default-clause-place : goal.returns-in_default-clause-place
+returns-in_default-clause-place c =
     let xs = c.self.inside.homes.items in
     let k = c.args.proc in
     let i = c.place_of-place.result in
