@@ -36,7 +36,7 @@ more_by_place begun a b n (Some k) at e more =
     line_first begun k (a ++ b) (position_more is_lf a b k at) long
     ∙ ap (λ l. step (begun && is_empty_line l) k (lines_later begun l k (a ++ b))) line
     ∙ step_more (begun && is_empty_line (take k a)) k n (lines_later begun (take k a) k a) (lines_later begun (take k a) k (a ++ b)) (sym (line_first begun k a at below) ∙ e)
-        (λ m h. ap (λ r. ends_from behind (ended_lines r)) rest ∙ more k below m h)
+    (λ m h. ap (λ r. ends_from behind (ended_lines r)) rest ∙ more k below m h)
 
 more_ends : (most : ℕ) (begun : Bool) (a b : List ℕ) (n : ℕ) → length a ≤ most → ends_from begun (ended_lines a) ≡ Some n → ends_from begun (ended_lines (a ++ b)) ≡ Some n
 more_ends zero begun a b n room e =

@@ -1,0 +1,3 @@
+mod CopyLaws
+mod PayLaws
+mod WayLaws

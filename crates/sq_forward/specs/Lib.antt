@@ -1,0 +1,4 @@
+pub mod Copying
+pub mod Halves
+pub mod Meters
+pub mod Tunnels
