@@ -238,3 +238,8 @@ pub piece_as : {seated now_seated c now_c : Bool} {p q : Place} {left next b d :
     → now_seated ≡ seated → now_c ≡ c → CopiesPiece now_seated now_c p q left next b d h k ended → CopiesPiece seated c p q left next b d h k ended
 piece_as {seated} {now_seated} {c} {now_c} {p} {q} {left} {next} {b} {d} {h} {k} {ended} e f x =
     subst (λ s. CopiesPiece s c p q left next b d h k ended) e (subst (λ t. CopiesPiece now_seated t p q left next b d h k ended) f x)
+
+-- what is to come behind the bytes that were dropped
+pub passed : {S : Type 0} (left : S → Option (List ℕ)) (ahead : List ℕ) (used : ℕ) {now : List ℕ} {a b : S} → now ≡ drop used ahead → a ≡ b
+    → prepend_known now (left a) ≡ prepend_known (drop used ahead) (left b)
+passed left ahead used {now} {a} {b} e f = ap (λ l. prepend_known l (left a)) e ∙ ap (λ s. prepend_known (drop used ahead) (left s)) f

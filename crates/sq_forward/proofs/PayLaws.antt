@@ -6,7 +6,7 @@ use Rattle.std.specs.Io.KnownBytes.{Appends}
 use Rattle.std.proofs.KnownBytes.{Appends-trans, Appends-nil}
 use Rattle.sq_outside.specs.Causes.{count_limit}
 use Rattle.sq_outside.specs.Output.{IsPrefix, Grew}
-use Rattle.sq_outside.proofs.Writing.{IsPrefix_refl, IsPrefix_more, IsPrefix_after}
+use Rattle.sq_outside.proofs.Writing.{IsPrefix_refl, IsPrefix_nil, IsPrefix_more, IsPrefix_after}
 use Rattle.sq_forward.specs.Meters.{granted_after, PaysAll, PaysPart, piece_limit, Gives, dry_after_grant}
 
 -- no byte more
@@ -64,6 +64,10 @@ dry_reset given dry h = let some : (given == 0) ≡ false = grind arith in rw so
 -- nothing was written yet
 pub pays_none : (seated : Bool) (out : Option (List ℕ)) (g : ℕ) → g ≤ count_limit → PaysAll seated [] out out g g
 pays_none seated out g few = record { wrote = Appends-nil out; granted = granted_none seated g few }
+
+-- nothing was written of a text
+pub pays_nothing : (seated : Bool) (text : List ℕ) (out : Option (List ℕ)) (g : ℕ) → g ≤ count_limit → PaysPart seated text out out g g 0
+pays_nothing seated text out g few = record { part = []; more = 0; front = IsPrefix_nil text; wrote = Appends-nil out; granted = granted_none seated g few; close = omega arith }
 
 -- a text behind another
 pub pays_after : {seated : Bool} {front text : List ℕ} {a b d : Option (List ℕ)} {g h k : ℕ} → PaysAll seated front a b g h → PaysAll seated text b d h k → PaysAll seated (front ++ text) a d g k

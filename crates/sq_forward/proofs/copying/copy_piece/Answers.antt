@@ -2,14 +2,9 @@ use Rattle.std.proofs.Common.{◌≡◌, List, ℕ, Option, drop, length, sym, a
 use Rattle.std.specs.Io.KnownBytes.{prepend_known}
 use Rattle.sq_body.specs.declared.faults.FeedFault.TheVariants as fault
 use Rattle.sq_forward.specs.Halves.{Filled}
-use Rattle.sq_forward.proofs.CopyLaws.{piece_fed, piece_part, piece_no_sink, piece_starved, piece_no_memory, piece_whole, piece_bad, piece_goes, piece_no_source, piece_no_room, piece_cut, all_used}
+use Rattle.sq_forward.proofs.CopyLaws.{piece_fed, piece_part, piece_no_sink, piece_starved, piece_no_memory, piece_whole, piece_bad, piece_goes, piece_no_source, piece_no_room, piece_cut, all_used, passed}
 use Rattle.sq_forward.proofs.PayLaws.{pays_whole}
 use Rattle.sq_forward.proofs.copying.copy_piece.Goals as goal
-
--- what is to come behind the bytes that were dropped
-passed : {S : Type 0} (left : S → Option (List ℕ)) (ahead : List ℕ) (used : ℕ) {now : List ℕ} {a b : S} → now ≡ drop used ahead → a ≡ b
-    → prepend_known now (left a) ≡ prepend_known (drop used ahead) (left b)
-passed left ahead used {now} {a} {b} e f = ap (λ l. prepend_known l (left a)) e ∙ ap (λ s. prepend_known (drop used ahead) (left s)) f
 
 pub returns-in-Err-Failed-clause-copies : goal.returns-in-Err-Failed-clause-copies
 returns-in-Err-Failed-clause-copies g c =
