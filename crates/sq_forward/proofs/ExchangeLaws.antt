@@ -1,7 +1,7 @@
 -- An exchange, put together of its request and its reply.
-use Rattle.std.proofs.Common.{◌≡◌, ◌⊎◌, inl, inr, ℕ, ◌+◌, ◌-◌, ◌≤◌, List, [], ◌++◌, length, Bool, true, false, Option, Some, None, Result, Ok, Err, IfSome, if◌then◌else◌, refl, sym, ap, subst, ◌∙◌, arith, append_assoc, append-nil, length-append}
+use Rattle.std.proofs.Common.{◌≡◌, ◌⊎◌, inl, inr, ℕ, ◌+◌, ◌-◌, ◌≤◌, List, [], ◌++◌, length, Bool, true, false, Option, Some, None, Ok, Err, IfSome, if◌then◌else◌, refl, sym, ap, subst, ◌∙◌, arith, append-nil, length-append}
 use Rattle.std.specs.Io.KnownBytes.{Appends}
-use Rattle.std.proofs.KnownBytes.{Appends-trans, Appends-nil}
+use Rattle.std.proofs.KnownBytes.{Appends-trans}
 use Rattle.sq_base.specs.Addresses.{Address}
 use Rattle.sq_base.specs.Requests.{HttpRequest}
 use Rattle.sq_base.specs.declared.plans.BodyPlan.{BodyPlan}
@@ -11,7 +11,7 @@ use Rattle.sq_outside.specs.Output.{IsPrefix, Grew}
 use Rattle.sq_outside.proofs.Writing.{IsPrefix_refl, IsPrefix_nil, IsPrefix_after, IsPrefix_more, Grew_whole}
 use Rattle.sq_head.specs.RequestHeads.{head_out, is_chunked}
 use Rattle.sq_head.specs.declared.replies.ReplyHead.{ReplyHead}
-use Rattle.sq_forward.specs.Exchanges.{Exchange, answered, exchange, continue_part, interim_texts, replied, replied_if, Exact, Fronts, Unreached, EndsExchange, Exchanges, ExchangeHasCause}
+use Rattle.sq_forward.specs.Exchanges.{answered, continue_part, interim_texts, replied, replied_if, Fronts, EndsExchange, Exchanges, ExchangeHasCause}
 use Rattle.sq_forward.specs.Leading.{LeadsReply, LeadHasCause, PaysHeads, SentReply, SendsReply}
 use Rattle.sq_forward.specs.Meters.{granted_after, PaysAll, PaysPart, piece_limit}
 use Rattle.sq_forward.specs.Replies.{Reading, IsReading}
@@ -19,7 +19,7 @@ use Rattle.sq_forward.specs.Sending.{SentSo, SendsRequest, SendHasCause}
 use Rattle.sq_forward.specs.declared.exchanging.Exchanged.{Exchanged}
 use Rattle.sq_forward.specs.declared.exchanging.Exchanged.TheVariants.{Kept, Closed, Cut, ClientFault, BadBody, NoReply, OriginCut, OriginFault, Starved, WantOfMemory}
 use Rattle.sq_forward.proofs.LeadLaws.{heads_alone}
-use Rattle.sq_forward.proofs.PayLaws.{granted_none, pays_after, pays_part_after, pays_part_more, pays_whole}
+use Rattle.sq_forward.proofs.PayLaws.{granted_none, pays_after, pays_part_after}
 
 -- no reply was looked at
 abbrev nothing : Reading

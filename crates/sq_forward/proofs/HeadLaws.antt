@@ -1,14 +1,14 @@
 -- Heads at the front of what comes.
-use Rattle.std.proofs.Common.{◌≡◌, ℕ, ◌+◌, ◌<◌, ◌≤◌, List, [], ◌++◌, length, take, drop, Option, Some, None, IfSome, refl, sym, ap, subst, ◌∙◌, arith, append_assoc, take-append-drop}
+use Rattle.std.proofs.Common.{◌≡◌, ℕ, ◌≤◌, List, [], ◌++◌, length, take, drop, Option, Some, None, IfSome, refl, sym, ap, subst, ◌∙◌, arith, append_assoc, take-append-drop}
 use Rattle.std.proofs.lemmas.List.{take-append-le, take_all}
 use Rattle.std.proofs.lemmas.Option.{none-some, same_Some}
 use Rattle.std.specs.Io.KnownBytes.{Keeps, prepend_known}
 use Rattle.sq_request.specs.Endings.{head_end, IsWholeHead}
 use Rattle.sq_request.proofs.MoreLaws.{head_end_more}
-use Rattle.sq_head.specs.ReplyHeads.{HasReply, RefusesReply, most_bytes}
+use Rattle.sq_head.specs.ReplyHeads.{HasReply, RefusesReply}
 use Rattle.sq_head.specs.declared.faults.ReplyHeadFault.TheVariants.{BadHead}
 use Rattle.sq_head.specs.declared.replies.ReplyHead.{ReplyHead}
-use Rattle.sq_forward.specs.Replies.{BeginsHead, IsHead}
+use Rattle.sq_forward.specs.Replies.{BeginsHead}
 use Rattle.sq_forward.specs.Leading.{TakenHead}
 use Rattle.sq_forward.proofs.FindLaws.{IsLarge}
 

@@ -1,15 +1,13 @@
 -- The heads of an origin's bytes, one after the other.
 use Rattle.std.proofs.Common.{◌≡◌, ◌⊎◌, inl, inr, ℕ, ◌+◌, ◌≤◌, List, [], ◌∷◌, ◌++◌, Bool, true, false, ◌==◌, length, Option, Some, None, Result, Ok, Err, IfSome, refl, sym, ap, subst, ◌∙◌, arith, append_assoc, append-nil, length-append}
-use Rattle.std.specs.List.{flat_map}
 use Rattle.sq_base.specs.Requests.{HttpRequest}
 use Rattle.sq_outside.specs.Causes.{count_limit}
-use Rattle.sq_outside.specs.Output.{IsPrefix}
 use Rattle.sq_outside.proofs.Writing.{IsPrefix_refl}
 use Rattle.sq_head.specs.declared.replies.ReplyHead.{ReplyHead}
 use Rattle.sq_forward.specs.Exchanges.{interim_text, interim_texts}
-use Rattle.sq_forward.specs.Leading.{TakenHead, TakesHead, LedTo, LedNowhere, Leads, LeadsReply, PaysHeads, LeadHasCause, own_head}
-use Rattle.sq_forward.specs.Meters.{PaysAll, PaysPart, piece_limit}
-use Rattle.sq_forward.specs.Replies.{BeginsHead, AreInterim, IsReading, EndsReading, is_interim, interim_limit, IsHead}
+use Rattle.sq_forward.specs.Leading.{TakenHead, LedNowhere, LeadsReply, PaysHeads, LeadHasCause, own_head}
+use Rattle.sq_forward.specs.Meters.{PaysAll}
+use Rattle.sq_forward.specs.Replies.{BeginsHead, AreInterim, IsReading, is_interim, interim_limit, IsHead}
 use Rattle.sq_forward.specs.declared.exchanging.Exchanged.{Exchanged}
 use Rattle.sq_forward.specs.declared.exchanging.Exchanged.TheVariants.{Kept, Closed, Cut, ClientFault, BadBody, NoReply, OriginCut, OriginFault, Starved, WantOfMemory}
 use Rattle.sq_forward.proofs.HeadLaws.{missing_all}

@@ -1,5 +1,5 @@
 -- The reply of an exchange: what of it was sent.
-use Rattle.std.proofs.Common.{◌≡◌, ℕ, ◌≤◌, List, [], ◌++◌, Bool, true, false, ◌&&◌, ◌||◌, not, if◌then◌else◌, Option, Some, None, Result, Ok, Err, IfSome, refl, sym, ap, subst, ◌∙◌, arith}
+use Rattle.std.proofs.Common.{◌≡◌, ℕ, ◌≤◌, List, ◌++◌, Bool, true, false, Option, Some, None, Ok, Err, refl, sym, subst, arith}
 use Rattle.sq_base.specs.Requests.{HttpRequest}
 use Rattle.sq_base.specs.declared.plans.BodyPlan.{BodyPlan}
 use Rattle.sq_body.specs.Bodies.{Walk, after, body_of, is_whole_body, is_refused}
@@ -16,7 +16,7 @@ use Rattle.sq_forward.specs.Meters.{PaysAll, PaysPart, piece_limit}
 use Rattle.sq_forward.specs.declared.copying.Copied.{Copied}
 use Rattle.sq_forward.specs.declared.copying.Copied.TheVariants as copied
 use Rattle.sq_forward.specs.declared.exchanging.Exchanged.{Exchanged}
-use Rattle.sq_forward.specs.declared.exchanging.Exchanged.TheVariants.{Kept, Closed, Cut, ClientFault, BadBody, NoReply, OriginCut, OriginFault, Starved, WantOfMemory}
+use Rattle.sq_forward.specs.declared.exchanging.Exchanged.TheVariants.{ClientFault, NoReply, OriginCut, Starved, WantOfMemory}
 use Rattle.sq_forward.proofs.CopyLaws.{copies_after}
 use Rattle.sq_forward.proofs.PayLaws.{pays_none, pays_nothing, pays_part_more}
 use Rattle.sq_forward.proofs.RequestLaws.{refused_unfinished}

@@ -1,5 +1,5 @@
 -- The request of an exchange: what of it was sent.
-use Rattle.std.proofs.Common.{◌≡◌, ◌⊎◌, inl, inr, ℕ, ◌≤◌, List, [], ◌++◌, Bool, true, false, Option, Some, None, IfSome, refl, sym, ap, subst, ◌∙◌, arith}
+use Rattle.std.proofs.Common.{◌≡◌, ◌⊎◌, inl, ℕ, ◌≤◌, List, ◌++◌, Bool, true, false, Option, Some, None, IfSome, refl, sym, subst, arith}
 use Rattle.std.specs.Io.KnownBytes.{Appends}
 use Rattle.std.proofs.KnownBytes.{Appends-trans}
 use Rattle.sq_base.specs.Addresses.{Address}
@@ -14,7 +14,7 @@ use Rattle.sq_outside.proofs.Writing.{IsPrefix_nil, Grew_none, Grew_whole, Grew_
 use Rattle.sq_head.specs.RequestHeads.{head_out, is_chunked}
 use Rattle.sq_forward.specs.Copying.{CopiesBody, Copies, CopyHasCause, dry_after_copy}
 use Rattle.sq_forward.specs.Exchanges.{continue_part, dry_after_exchange}
-use Rattle.sq_forward.specs.Meters.{PaysAll, PaysPart}
+use Rattle.sq_forward.specs.Meters.{PaysPart}
 use Rattle.sq_forward.specs.Sending.{sent, SentSo, SendsRequest, SendHasCause}
 use Rattle.sq_forward.specs.declared.copying.Copied.{Copied}
 use Rattle.sq_forward.specs.declared.copying.Copied.TheVariants as copied

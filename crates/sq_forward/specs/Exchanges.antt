@@ -17,7 +17,7 @@ use Rattle.sq_head.specs.Wishes.{wants_close, wants_continue}
 use Rattle.sq_head.specs.declared.faults.BadBody as bad
 use Rattle.sq_head.specs.declared.replies.ReplyHead.{ReplyHead}
 use Rattle.sq_head.specs.declared.replies.Shape.{Shape}
-use Rattle.sq_forward.specs.Meters.{granted_after, dry_limit, piece_limit, PaysAll, PaysPart}
+use Rattle.sq_forward.specs.Meters.{granted_after, dry_limit, piece_limit}
 use Rattle.sq_forward.specs.Replies.{Reading, IsReading}
 use Rattle.sq_forward.specs.declared.exchanging.Exchanged.{Exchanged}
 use Rattle.sq_forward.specs.declared.exchanging.Exchanged.TheVariants.{Kept, Closed, Cut, ClientFault, BadBody, NoReply, OriginCut, OriginFault, Starved, WantOfMemory}

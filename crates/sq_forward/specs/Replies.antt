@@ -1,8 +1,8 @@
 -- How the bytes of an origin begin: RFC 9110 section 15.2 (interim replies), RFC 9112 section 4.
-use Rattle.std.specs.Prelude.{◌≡◌, ◌⊎◌, ℕ, ◌≤◌, ◌<◌, List, [], ◌∷◌, ◌++◌, length, take, Bool, true, false, ◌&&◌, not, ◌==◌, nat_le, nat_lt, Some, None, IfSome, ⊤}
+use Rattle.std.specs.Prelude.{◌≡◌, ◌⊎◌, ℕ, ◌≤◌, List, [], ◌∷◌, ◌++◌, length, Bool, true, false, ◌&&◌, not, ◌==◌, nat_le, nat_lt, Some, None}
 use Rattle.std.specs.declared.option.Option.{Option}
-use Rattle.sq_request.specs.Endings.{head_end, IsWholeHead}
-use Rattle.sq_head.specs.ReplyHeads.{HasReply, most_bytes}
+use Rattle.sq_request.specs.Endings.{IsWholeHead}
+use Rattle.sq_head.specs.ReplyHeads.{HasReply}
 use Rattle.sq_head.specs.declared.replies.ReplyHead.{ReplyHead}
 
 -- so many heads at most are passed on before that of the reply

@@ -1,5 +1,4 @@
-use Rattle.std.proofs.Common.{◌≡◌, List, ℕ, Option, drop, length, sym, ap, ◌∙◌, arith, Err, IsErrOf, subst, false}
-use Rattle.std.specs.Io.KnownBytes.{prepend_known}
+use Rattle.std.proofs.Common.{◌≡◌, length, sym, ap, ◌∙◌, arith, Err, IsErrOf, subst, false}
 use Rattle.sq_body.specs.declared.faults.FeedFault.TheVariants as fault
 use Rattle.sq_forward.specs.Halves.{Filled}
 use Rattle.sq_forward.proofs.CopyLaws.{piece_fed, piece_part, piece_no_sink, piece_starved, piece_no_memory, piece_whole, piece_bad, piece_goes, piece_no_source, piece_no_room, piece_cut, all_used, passed}

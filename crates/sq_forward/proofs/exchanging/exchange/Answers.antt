@@ -1,4 +1,4 @@
-use Rattle.std.proofs.Common.{◌≡◌, ◌⊎◌, inl, inr, subst, rules}
+use Rattle.std.proofs.Common.{◌⊎◌, inl, inr, subst, rules}
 use Rattle.std.specs.Io.KnownBytes.{prepend_known}
 use Rattle.sq_outside.specs.Causes.{Rose}
 use Rattle.sq_forward.specs.Sending.{SendHasCause}

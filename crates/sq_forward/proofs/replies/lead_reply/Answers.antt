@@ -1,9 +1,8 @@
-use Rattle.std.proofs.Common.{◌≡◌, true, false, inl, inr, IfSome, Err, refl, sym, ap, subst, ◌∙◌, arith, rules}
+use Rattle.std.proofs.Common.{inr, IfSome, Err, refl, sym, ap, subst, ◌∙◌, arith, rules}
 use Rattle.std.specs.Io.KnownBytes.{prepend_known}
 use Rattle.sq_forward.specs.Exchanges.{interim_text}
 use Rattle.sq_forward.specs.Leading.{TakesHead, PaysHeads}
 use Rattle.sq_forward.specs.Meters.{PaysAll}
-use Rattle.sq_forward.specs.Replies.{is_interim}
 use Rattle.sq_forward.proofs.LeadLaws.{leads_none, leads_own, leads_missing, leads_refused, leads_failed, leads_no_memory, leads_more, leads_part}
 use Rattle.sq_forward.proofs.replies.lead_reply.Goals as goal
 
