@@ -1,5 +1,5 @@
-mod BodyLaws
+pub mod BodyLaws
 mod GrowthLaws
 mod LineLaws
-mod PieceLaws
+pub mod PieceLaws
 mod TakeLaws

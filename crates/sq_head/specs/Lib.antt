@@ -6,3 +6,4 @@ pub mod RequestHeads
 pub mod Spans
 pub mod Statuses
 pub mod Values
+pub mod Wishes

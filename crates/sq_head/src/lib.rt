@@ -22,6 +22,7 @@ mod reply_reading;
 mod request_out;
 mod spanning;
 mod values;
+mod wishes;
 
 pub use faults::{BadBody, ReplyHeadFault};
 pub use own::{Own, denial, error_text};
@@ -30,3 +31,4 @@ pub use replies::{ReplyHead, Shape};
 pub use reply_out::reply_head_out;
 pub use reply_reading::read_reply_head;
 pub use request_out::head_out;
+pub use wishes::{wants_close, wants_continue};

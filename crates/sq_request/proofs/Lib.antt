@@ -2,6 +2,7 @@ mod EndLaws
 mod FieldLaws
 mod HeadLaws
 mod MadeLaws
+pub mod MoreLaws
 mod OneLaws
 mod PortLaws
 mod TargetLaws

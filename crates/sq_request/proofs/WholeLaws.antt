@@ -9,7 +9,7 @@ use Rattle.sq_request.proofs.EndLaws.{ends_from, position_cons, position_below, 
 use Rattle.sq_request.specs.Endings.{is_empty_line, head_end, IsWholeHead}
 
 -- a place in a list, by that in the list behind its first element
-place_by_first : (b : Bool) (o o' : Option ℕ) (k : ℕ) → (if b then Some 0 else option_map (λ m. 1 + m) o) ≡ Some k
+pub place_by_first : (b : Bool) (o o' : Option ℕ) (k : ℕ) → (if b then Some 0 else option_map (λ m. 1 + m) o) ≡ Some k
     → ((m : ℕ) → o ≡ Some m → 1 + m ≡ k → o' ≡ Some m) → (if b then Some 0 else option_map (λ m. 1 + m) o') ≡ Some k
 place_by_first true o o' k h more = h
 place_by_first false o o' k h more =
@@ -25,11 +25,11 @@ position_take p (x ∷ xs) (suc n) k e below =
     ∙ place_by_first (p x) (position p xs) (position p (take n xs)) k (sym (position_cons p x xs) ∙ e) (λ m at is. position_take p xs n m at (omega arith))
 
 -- what a line of k bytes comes to, where the lines behind it come to o
-abbrev step : Bool → ℕ → Option ℕ → Option ℕ
+abbrev pub step : Bool → ℕ → Option ℕ → Option ℕ
 step b k o = if b then Some (k + 1) else option_map (λ m. k + 1 + m) o
 
 -- the lines behind the first one
-abbrev lines_later : Bool → List ℕ → ℕ → List ℕ → Option ℕ
+abbrev pub lines_later : Bool → List ℕ → ℕ → List ℕ → Option ℕ
 lines_later begun line k bytes = ends_from (begun || not (is_empty_line line)) (ended_lines (drop (k + 1) bytes))
 
 -- a front of the bytes that has the first line

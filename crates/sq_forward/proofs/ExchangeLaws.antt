@@ -1,0 +1,280 @@
+-- An exchange, put together of its request and its reply.
+use Rattle.std.proofs.Common.{◌≡◌, ◌⊎◌, inl, inr, ℕ, ◌+◌, ◌-◌, ◌≤◌, List, [], ◌++◌, length, Bool, true, false, Option, Some, None, Ok, Err, IfSome, if◌then◌else◌, refl, sym, ap, subst, ◌∙◌, arith, append-nil, length-append}
+use Rattle.std.specs.Io.KnownBytes.{Appends}
+use Rattle.std.proofs.KnownBytes.{Appends-trans}
+use Rattle.sq_base.specs.Addresses.{Address}
+use Rattle.sq_base.specs.Requests.{HttpRequest}
+use Rattle.sq_base.specs.declared.plans.BodyPlan.{BodyPlan}
+use Rattle.sq_body.specs.Bodies.{Walk, body_of, is_whole_body, is_refused}
+use Rattle.sq_outside.specs.Causes.{count_limit}
+use Rattle.sq_outside.specs.Output.{IsPrefix, Grew}
+use Rattle.sq_outside.proofs.Writing.{IsPrefix_refl, IsPrefix_nil, IsPrefix_after, IsPrefix_more, Grew_whole}
+use Rattle.sq_head.specs.RequestHeads.{head_out, is_chunked}
+use Rattle.sq_head.specs.declared.replies.ReplyHead.{ReplyHead}
+use Rattle.sq_forward.specs.Exchanges.{answered, continue_part, interim_texts, replied, replied_if, Fronts, EndsExchange, Exchanges, ExchangeHasCause}
+use Rattle.sq_forward.specs.Leading.{LeadsReply, LeadHasCause, PaysHeads, SentReply, SendsReply}
+use Rattle.sq_forward.specs.Meters.{granted_after, PaysAll, PaysPart, piece_limit}
+use Rattle.sq_forward.specs.Replies.{Reading, IsReading}
+use Rattle.sq_forward.specs.Sending.{SentSo, SendsRequest, SendHasCause}
+use Rattle.sq_forward.specs.declared.exchanging.Exchanged.{Exchanged}
+use Rattle.sq_forward.specs.declared.exchanging.Exchanged.TheVariants.{Kept, Closed, Cut, ClientFault, BadBody, NoReply, OriginCut, OriginFault, Starved, WantOfMemory}
+use Rattle.sq_forward.proofs.LeadLaws.{heads_alone}
+use Rattle.sq_forward.proofs.PayLaws.{granted_none, pays_after, pays_part_after}
+
+-- no reply was looked at
+abbrev nothing : Reading
+nothing = record { interim = []; final = None; rest = [] }
+
+reads_nothing : IsReading [] nothing
+reads_nothing = heads_alone [] [] refl (omega arith)
+
+-- the request went out whole
+answered_whole : (r : HttpRequest) (own origin : List ℕ) (body : Walk) (reading : Reading) → is_whole_body body.place ≡ true
+    → answered r own origin body reading ≡ record { own = own; client = interim_texts r reading.interim ++ (replied_if r reading.final reading.rest).text; origin = origin; rest = body.rest; end = (replied_if r reading.final reading.rest).end }
+answered_whole r own origin body reading e = rw e refl
+
+-- or not
+answered_short : (r : HttpRequest) (own origin : List ℕ) (body : Walk) (reading : Reading) → is_whole_body body.place ≡ false
+    → answered r own origin body reading ≡ record { own = own; client = []; origin = origin; rest = []; end = if is_refused body.place then BadBody else Cut }
+answered_short r own origin body reading e = rw e refl
+
+-- fronts of what goes out before the reply
+fronts_own : (own origin rest : List ℕ) (xend : Exchanged) (seated : Bool) (a b c d : Option (List ℕ)) (g spare : ℕ) → g ≤ count_limit → Grew a b (λ part. IsPrefix part own) → Grew c d (λ part. IsPrefix part origin)
+    → Fronts (record { own = own; client = []; origin = origin; rest = rest; end = xend }) seated a b c d g g spare
+fronts_own own origin rest xend seated a b c d g spare few (part, grew, (more, front)) v =
+    let none : 0 ≡ length part - length own + 0 = omega (arith, ap length front, length-append part more) in
+    record {
+      part = part;
+      more = 0;
+      front = IsPrefix_more part own [] (more, front);
+      client = grew;
+      granted = granted_none seated g few ∙ ap (granted_after seated g) none;
+      close = omega arith;
+      origin = v;
+    }
+
+-- fronts of what the client gets behind that
+fronts_after : (own text origin rest : List ℕ) (xend : Exchanged) (seated : Bool) (a b e c d : Option (List ℕ)) (g h spare : ℕ) → Appends a b own → PaysPart seated text b e g h spare → Appends c d origin
+    → Fronts (record { own = own; client = text; origin = origin; rest = rest; end = xend }) seated a e c d g h spare
+fronts_after own text origin rest xend seated a b e c d g h spare w p v =
+    let count : length p.part + p.more ≡ length (own ++ p.part) - length own + p.more = omega (arith, length-append own p.part) in
+    record {
+      part = own ++ p.part;
+      more = p.more;
+      front = IsPrefix_after own p.part text p.front;
+      client = Appends-trans a b e own p.part w p.wrote;
+      granted = p.granted ∙ ap (granted_after seated g) count;
+      close = p.close;
+      origin = Grew_whole c d origin v;
+    }
+
+-- a fault before the reply
+fault_ends : (own origin rest : List ℕ) (xend : Exchanged) (body : Walk) (reply : List ℕ) (seated : Bool) (left a b c d : Option (List ℕ)) (g : ℕ) (failed : Type 0) (end : Exchanged)
+    → g ≤ count_limit → SentSo own origin body left a b c d (Some end) → (end ≡ NoReply → failed) → (end ≡ Cut → ⊥) → (end ≡ BadBody → ⊥)
+    → EndsExchange (record { own = own; client = []; origin = origin; rest = rest; end = xend }) [] reply seated left a b c d g g failed end
+fault_ends own origin rest xend body reply seated left a b c d g failed NoReply few s f i j =
+    inr (f refl, record { client = subst (Appends a b) (sym (append-nil own)) s.0; granted = granted_none seated g few; origin = s.1 })
+fault_ends own origin rest xend body reply seated left a b c d g failed ClientFault few s f i j = fronts_own own origin rest xend seated a b c d g piece_limit few s.0 s.1
+fault_ends own origin rest xend body reply seated left a b c d g failed WantOfMemory few s f i j = fronts_own own origin rest xend seated a b c d g 0 few s.0 s.1
+fault_ends own origin rest xend body reply seated left a b c d g failed Cut few s f i j = absurd (i refl)
+fault_ends own origin rest xend body reply seated left a b c d g failed BadBody few s f i j = absurd (j refl)
+fault_ends own origin rest xend body reply seated left a b c d g failed Kept few s f i j = absurd s
+fault_ends own origin rest xend body reply seated left a b c d g failed Closed few s f i j = absurd s
+fault_ends own origin rest xend body reply seated left a b c d g failed OriginCut few s f i j = absurd s
+fault_ends own origin rest xend body reply seated left a b c d g failed OriginFault few s f i j = absurd s
+fault_ends own origin rest xend body reply seated left a b c d g failed Starved few s f i j = absurd s
+
+-- whether its body is complete or not
+by_whole : (r : HttpRequest) (own origin : List ℕ) (body : Walk) (reply : List ℕ) (seated : Bool) (left a b c d : Option (List ℕ)) (g : ℕ) (failed : Type 0) (end : Exchanged)
+    → g ≤ count_limit → SentSo own origin body left a b c d (Some end) → (end ≡ NoReply → failed) → (end ≡ Cut → ⊥) → (end ≡ BadBody → ⊥) → EndsExchange (answered r own origin body nothing) [] reply seated left a b c d g g failed end
+by_whole r own origin body reply seated left a b c d g failed end few s f i j = by (is_whole_body body.place) refl
+  where
+    by : (t : Bool) → is_whole_body body.place ≡ t → EndsExchange (answered r own origin body nothing) [] reply seated left a b c d g g failed end
+    by true e =
+        subst (λ x. EndsExchange x [] reply seated left a b c d g g failed end) (sym (answered_whole r own origin body nothing e))
+        (fault_ends own origin body.rest NoReply body reply seated left a b c d g failed end few s f i j)
+    by false e =
+        subst (λ x. EndsExchange x [] reply seated left a b c d g g failed end) (sym (answered_short r own origin body nothing e))
+        (fault_ends own origin [] (if is_refused body.place then BadBody else Cut) body reply seated left a b c d g failed end few s f i j)
+
+-- the request did not go out whole
+unsent_ends : (r : HttpRequest) (own origin : List ℕ) (body : Walk) (reply : List ℕ) (seated : Bool) (left a b c d : Option (List ℕ)) (g : ℕ) (failed : Type 0) (end : Exchanged)
+    → g ≤ count_limit → SentSo own origin body left a b c d (Some end) → (end ≡ NoReply → failed) → EndsExchange (answered r own origin body nothing) [] reply seated left a b c d g g failed end
+unsent_ends r own origin body reply seated left a b c d g failed Cut few s f =
+    subst (λ x. EndsExchange x [] reply seated left a b c d g g failed Cut) (sym (answered_short r own origin body nothing s.0)) (record {
+      client = subst (Appends a b) (sym (append-nil own)) s.2;
+      granted = granted_none seated g few;
+      origin = s.3;
+      rest = λ e. absurd cc;
+      ends = rw s.1 refl;
+    })
+unsent_ends r own origin body reply seated left a b c d g failed BadBody few s f =
+    subst (λ x. EndsExchange x [] reply seated left a b c d g g failed BadBody) (sym (answered_short r own origin body nothing s.0)) (record {
+      client = subst (Appends a b) (sym (append-nil own)) s.2;
+      granted = granted_none seated g few;
+      origin = s.3;
+      rest = λ e. absurd cc;
+      ends = rw s.1 refl;
+    })
+unsent_ends r own origin body reply seated left a b c d g failed NoReply few s f = by_whole r own origin body reply seated left a b c d g failed NoReply few s f (λ e. cc) (λ e. cc)
+unsent_ends r own origin body reply seated left a b c d g failed ClientFault few s f = by_whole r own origin body reply seated left a b c d g failed ClientFault few s f (λ e. cc) (λ e. cc)
+unsent_ends r own origin body reply seated left a b c d g failed WantOfMemory few s f = by_whole r own origin body reply seated left a b c d g failed WantOfMemory few s f (λ e. cc) (λ e. cc)
+unsent_ends r own origin body reply seated left a b c d g failed Kept few s f = absurd s
+unsent_ends r own origin body reply seated left a b c d g failed Closed few s f = absurd s
+unsent_ends r own origin body reply seated left a b c d g failed OriginCut few s f = absurd s
+unsent_ends r own origin body reply seated left a b c d g failed OriginFault few s f = absurd s
+unsent_ends r own origin body reply seated left a b c d g failed Starved few s f = absurd s
+
+pub exchange_unsent : (r : HttpRequest) (addr : Address) (p : BodyPlan) (first told left a b c d : Option (List ℕ)) (seated : Bool) (g : ℕ) (failed : Type 0) (end : Exchanged)
+    → g ≤ count_limit → SendsRequest r addr p first left a b c d (Some end) → (end ≡ NoReply → failed)
+    → IfSome first (λ input. IfSome told (λ reply. Exchanges r addr p input reply seated left a b c d g g failed end))
+exchange_unsent r addr p None told left a b c d seated g failed end few s f = tt
+exchange_unsent r addr p (Some input) None left a b c d seated g failed end few s f = tt
+exchange_unsent r addr p (Some input) (Some reply) left a b c d seated g failed end few s f =
+    let body = body_of p (is_chunked p) input in
+    record {
+      seen = [];
+      reading = nothing;
+      front = IsPrefix_nil reply;
+      reads = reads_nothing;
+      ends = unsent_ends r (continue_part r p) (head_out r addr p ++ body.out) body reply seated left a b c d g failed end few s.known f;
+    }
+
+-- no reply's own head was reached
+led_ends : (own text origin : List ℕ) (rest seen reply : List ℕ) (seated : Bool) (left a b e c d : Option (List ℕ)) (g h : ℕ) (failed : Type 0) (end : Exchanged)
+    → Appends a b own → Appends c d origin → PaysHeads text seated b e g h end → (end ≡ NoReply → (seen ≡ reply) ⊎ failed)
+    → EndsExchange (record { own = own; client = text; origin = origin; rest = rest; end = NoReply }) seen reply seated left a e c d g h failed end
+led_ends own text origin rest seen reply seated left a b e c d g h failed NoReply w v p all = by (all refl)
+  where
+    by : (seen ≡ reply) ⊎ failed → EndsExchange (record { own = own; client = text; origin = origin; rest = rest; end = NoReply }) seen reply seated left a e c d g h failed NoReply
+    by (inl i) = inl (i, record { client = Appends-trans a b e own text w p.wrote; granted = p.granted; origin = v; rest = λ x. absurd cc; ends = refl })
+    by (inr f) = inr (f, record { client = Appends-trans a b e own text w p.wrote; granted = p.granted; origin = Grew_whole c d origin v })
+led_ends own text origin rest seen reply seated left a b e c d g h failed ClientFault w v p all = fronts_after own text origin rest NoReply seated a b e c d g h piece_limit w p v
+led_ends own text origin rest seen reply seated left a b e c d g h failed Starved w v p all = fronts_after own text origin rest NoReply seated a b e c d g h 0 w p v
+led_ends own text origin rest seen reply seated left a b e c d g h failed WantOfMemory w v p all = fronts_after own text origin rest NoReply seated a b e c d g h 0 w p v
+led_ends own text origin rest seen reply seated left a b e c d g h failed Kept w v p all = absurd p
+led_ends own text origin rest seen reply seated left a b e c d g h failed Closed w v p all = absurd p
+led_ends own text origin rest seen reply seated left a b e c d g h failed Cut w v p all = absurd p
+led_ends own text origin rest seen reply seated left a b e c d g h failed BadBody w v p all = absurd p
+led_ends own text origin rest seen reply seated left a b e c d g h failed OriginCut w v p all = absurd p
+led_ends own text origin rest seen reply seated left a b e c d g h failed OriginFault w v p all = absurd p
+
+pub exchange_led : (r : HttpRequest) (addr : Address) (p : BodyPlan) (first told left next a b e c d : Option (List ℕ)) (seated : Bool) (g h : ℕ) (source failed : Type 0) (end : Exchanged)
+    → SendsRequest r addr p first left a b c d None → LeadsReply r seated told next b e g h source (Err end) → (source → failed)
+    → IfSome first (λ input. IfSome told (λ reply. Exchanges r addr p input reply seated left a e c d g h failed end))
+exchange_led r addr p None told left next a b e c d seated g h source failed end s l f = tt
+exchange_led r addr p (Some input) None left next a b e c d seated g h source failed end s l f = tt
+exchange_led r addr p (Some input) (Some reply) left next a b e c d seated g h source failed end s l f =
+    let body = body_of p (is_chunked p) input in
+    let own = continue_part r p in
+    let origin = head_out r addr p ++ body.out in
+    let y = l.known in
+    let text = interim_texts r y.interim in
+    let whole : answered r own origin body (record { interim = y.interim; final = None; rest = [] }) ≡ record { own = own; client = text; origin = origin; rest = body.rest; end = NoReply } =
+    answered_whole r own origin body (record { interim = y.interim; final = None; rest = [] }) s.known.0
+    ∙ ap (λ t. record { own = own; client = t; origin = origin; rest = body.rest; end = NoReply }) (append-nil text) in
+    record {
+      seen = y.seen;
+      reading = record { interim = y.interim; final = None; rest = [] };
+      front = y.front;
+      reads = y.reads;
+      ends =
+          subst (λ x. EndsExchange x y.seen reply seated left a e c d g h failed end) (sym whole)
+          (led_ends own text origin body.rest y.seen reply seated left a b e c d g h failed end s.known.2 s.known.3 y.pays (λ i. or_failed (y.all i)));
+    }
+  where
+    or_failed : {A : Type 0} → A ⊎ source → A ⊎ failed
+    or_failed (inl i) = inl i
+    or_failed (inr x) = inr (f x)
+
+-- the reply was sent, as far as it goes
+sent_ends : (own front text origin rest reply : List ℕ) (xend : Exchanged) (seated : Bool) (left a b e m c d : Option (List ℕ)) (g h i : ℕ) (failed : Type 0) (end : Exchanged)
+    → left ≡ Some rest → Appends a b own → Appends c d origin → PaysAll seated front b e g h → SentReply text xend seated e m h i end
+    → EndsExchange (record { own = own; client = front ++ text; origin = origin; rest = rest; end = xend }) reply reply seated left a m c d g i failed end
+sent_ends own front text origin rest reply xend seated left a b e m c d g h i failed Kept at w v p (x, same) =
+    let all = pays_after p x in
+    (refl, record { client = Appends-trans a b m own (front ++ text) w all.wrote; granted = all.granted; origin = v; rest = λ _. at; ends = same })
+sent_ends own front text origin rest reply xend seated left a b e m c d g h i failed Closed at w v p (x, same) =
+    let all = pays_after p x in
+    (refl, record { client = Appends-trans a b m own (front ++ text) w all.wrote; granted = all.granted; origin = v; rest = λ _. at; ends = same })
+sent_ends own front text origin rest reply xend seated left a b e m c d g h i failed OriginCut at w v p (x, same) =
+    let all = pays_after p x in
+    (refl, record { client = Appends-trans a b m own (front ++ text) w all.wrote; granted = all.granted; origin = v; rest = λ _. at; ends = same })
+sent_ends own front text origin rest reply xend seated left a b e m c d g h i failed NoReply at w v p (x, same) =
+    let all = pays_after p x in
+    inl (refl, record { client = Appends-trans a b m own (front ++ text) w all.wrote; granted = all.granted; origin = v; rest = λ _. at; ends = same })
+sent_ends own front text origin rest reply xend seated left a b e m c d g h i failed ClientFault at w v p x = fronts_after own (front ++ text) origin rest xend seated a b m c d g i piece_limit w (pays_part_after p x) v
+sent_ends own front text origin rest reply xend seated left a b e m c d g h i failed OriginFault at w v p x = fronts_after own (front ++ text) origin rest xend seated a b m c d g i 0 w (pays_part_after p x) v
+sent_ends own front text origin rest reply xend seated left a b e m c d g h i failed Starved at w v p x = fronts_after own (front ++ text) origin rest xend seated a b m c d g i 0 w (pays_part_after p x) v
+sent_ends own front text origin rest reply xend seated left a b e m c d g h i failed WantOfMemory at w v p x = fronts_after own (front ++ text) origin rest xend seated a b m c d g i 0 w (pays_part_after p x) v
+sent_ends own front text origin rest reply xend seated left a b e m c d g h i failed Cut at w v p x = absurd x
+sent_ends own front text origin rest reply xend seated left a b e m c d g h i failed BadBody at w v p x = absurd x
+
+-- the reply with its own head, where what comes behind the head is told
+sent_known : {r : HttpRequest} {head : ReplyHead} {seated : Bool} {a b : Option (List ℕ)} {g h : ℕ} {end : Exchanged} (next : Option (List ℕ)) (rest : List ℕ) → next ≡ Some rest → SendsReply r head seated next a b g h end
+    → SentReply (replied r head rest).text (replied r head rest).end seated a b g h end
+sent_known {r} {head} {seated} {a} {b} {g} {h} {end} None rest e x = absurd cc
+sent_known {r} {head} {seated} {a} {b} {g} {h} {end} (Some bytes) rest e x =
+    let same : bytes ≡ rest = cc in
+    subst (λ l. SentReply (replied r head l).text (replied r head l).end seated a b g h end) same x.known
+
+pub exchange_sent : (r : HttpRequest) (addr : Address) (p : BodyPlan) (first told left next a b e m c d : Option (List ℕ)) (seated now_seated : Bool) (g h i : ℕ) (source failed : Type 0) (head : ReplyHead) (end : Exchanged)
+    → SendsRequest r addr p first left a b c d None → LeadsReply r seated told next b e g h source (Ok head) → now_seated ≡ seated → SendsReply r head now_seated next e m h i end
+    → IfSome first (λ input. IfSome told (λ reply. Exchanges r addr p input reply seated left a m c d g i failed end))
+exchange_sent r addr p None told left next a b e m c d seated now_seated g h i source failed head end s l same x = tt
+exchange_sent r addr p (Some input) None left next a b e m c d seated now_seated g h i source failed head end s l same x = tt
+exchange_sent r addr p (Some input) (Some reply) left next a b e m c d seated now_seated g h i source failed head end s l same x =
+    let body = body_of p (is_chunked p) input in
+    let own = continue_part r p in
+    let origin = head_out r addr p ++ body.out in
+    let y = l.known in
+    let reading : Reading = record { interim = y.interim; final = Some head; rest = y.rest } in
+    record {
+      seen = reply;
+      reading = reading;
+      front = IsPrefix_refl reply;
+      reads = record { heads = y.heads; more = y.more; cut = y.cut; interim = y.are; few = y.few; final = (y.begins, y.own, y.goes) };
+      ends =
+          subst (λ x. EndsExchange x reply reply seated left a m c d g i failed end) (sym (answered_whole r own origin body reading s.known.0))
+          (sent_ends own (interim_texts r y.interim) (replied r head y.rest).text origin body.rest reply (replied r head y.rest).end seated left a b e m c d g h i failed end
+          s.known.1 s.known.2 s.known.3 y.pays (sent_known next y.rest y.left_is (subst (λ t. SendsReply r head t next e m h i end) same x)));
+    }
+
+-- the link that failed in sending the request
+pub send_cause : (A B C : Type 0) (end : Exchanged) → SendHasCause A B end → ExchangeHasCause A C end
+send_cause A B C ClientFault x = x
+send_cause A B C NoReply x = tt
+send_cause A B C Cut x = tt
+send_cause A B C BadBody x = tt
+send_cause A B C WantOfMemory x = tt
+send_cause A B C Kept x = tt
+send_cause A B C Closed x = tt
+send_cause A B C OriginCut x = tt
+send_cause A B C OriginFault x = absurd x
+send_cause A B C Starved x = tt
+
+-- and in passing heads on
+pub lead_cause : (A B C : Type 0) (end : Exchanged) → (A → B) → LeadHasCause A end → ExchangeHasCause B C end
+lead_cause A B C ClientFault f x = f x
+lead_cause A B C NoReply f x = tt
+lead_cause A B C Cut f x = tt
+lead_cause A B C BadBody f x = tt
+lead_cause A B C WantOfMemory f x = tt
+lead_cause A B C Kept f x = tt
+lead_cause A B C Closed f x = tt
+lead_cause A B C OriginCut f x = tt
+lead_cause A B C OriginFault f x = absurd x
+lead_cause A B C Starved f x = tt
+
+-- and in sending the reply
+pub reply_cause : {A B C D : Type 0} (end : Exchanged) → (A → B) → (C → D) → ExchangeHasCause A C end → ExchangeHasCause B D end
+reply_cause ClientFault f j x = f x
+reply_cause OriginFault f j x = j x
+reply_cause NoReply f j x = tt
+reply_cause Cut f j x = tt
+reply_cause BadBody f j x = tt
+reply_cause WantOfMemory f j x = tt
+reply_cause Kept f j x = tt
+reply_cause Closed f j x = tt
+reply_cause OriginCut f j x = tt
+reply_cause Starved f j x = tt

@@ -1,0 +1,9 @@
+mod CopyLaws
+mod ExchangeLaws
+mod FindLaws
+mod HeadLaws
+mod LeadLaws
+mod PayLaws
+mod ReplyLaws
+mod RequestLaws
+mod WayLaws

@@ -1,0 +1,16 @@
+use Rattle.std.proofs.Common.{◌≡◌, ◌≤◌, ◌+◌, length, max}
+use Rattle.std.specs.Io.KnownBytes.{Keeps, prepend_known}
+use Rattle.sq_head.specs.ReplyHeads.{most_bytes}
+use Rattle.sq_forward.specs.Halves.{read_limit}
+use Rattle.sq_forward.proofs.heads.find_head.Given as goal
+
+-- all that came is ahead
+abbrev pub invariant-loop : goal.invariant-loop
+invariant-loop g l =
+    let left = g.S.Source.left in
+    record {
+      kept : Keeps (prepend_known l.fn.from.ahead (left l.fn.from.source)) (prepend_known l.from.ahead (left l.from.source));
+      later : g.S.Source.faults l.fn.from.source ≤ g.S.Source.faults l.from.source;
+      origin : g.S.Source.origin l.from.source ≡ g.S.Source.origin l.fn.from.source;
+      few : length l.from.ahead ≤ max (length l.fn.from.ahead) (most_bytes + read_limit);
+    }

@@ -1,0 +1,6 @@
+use Rattle.std.proofs.Common.{rules}
+use Rattle.sq_forward.proofs.WayLaws.{tunnel_goes}
+use Rattle.sq_forward.proofs.tunnels.tunnel.Goals as goal
+
+pub returns-clause-down : goal.returns-clause-down
+returns-clause-down g c = tunnel_goes _ _ c.joined.result _ _ _ _ _ _ c.joined.ensures (search rules) (search rules)

@@ -1,0 +1,172 @@
+-- The part of a turn behind the dial: RFC 9112 sections 6 and 9.3, RFC 9110 section 10.1.1.
+use Rattle.std.specs.Prelude.{◌≡◌, ◌⊎◌, ℕ, ◌+◌, ◌-◌, ◌≤◌, List, [], ◌++◌, length, Bool, true, false, ◌&&◌, ◌||◌, not, ◌==◌, if◌then◌else◌, codes, Some, None, Ok, Err, ⊤}
+use Rattle.std.specs.List.{flat_map}
+use Rattle.std.specs.declared.option.Option.{Option}
+use Rattle.std.specs.declared.result.Result.{Result}
+use Rattle.std.specs.Io.KnownBytes.{Appends}
+use Rattle.sq_base.specs.Addresses.{Address}
+use Rattle.sq_base.specs.Requests.{HttpRequest}
+use Rattle.sq_base.specs.declared.plans.BodyPlan.{BodyPlan}
+use Rattle.sq_base.specs.declared.plans.BodyPlan.TheVariants as plan
+use Rattle.sq_body.specs.Bodies.{Walk, body_of, is_whole_body, is_refused}
+use Rattle.sq_outside.specs.Output.{IsPrefix, Grew}
+use Rattle.sq_head.specs.BodyPlans.{reply_plan}
+use Rattle.sq_head.specs.ReplyHeads.{reply_head_out}
+use Rattle.sq_head.specs.RequestHeads.{crlf, head_out, is_chunked}
+use Rattle.sq_head.specs.Wishes.{wants_close, wants_continue}
+use Rattle.sq_head.specs.declared.faults.BadBody as bad
+use Rattle.sq_head.specs.declared.replies.ReplyHead.{ReplyHead}
+use Rattle.sq_head.specs.declared.replies.Shape.{Shape}
+use Rattle.sq_forward.specs.Meters.{granted_after, dry_limit, piece_limit}
+use Rattle.sq_forward.specs.Replies.{Reading, IsReading}
+use Rattle.sq_forward.specs.declared.exchanging.Exchanged.{Exchanged}
+use Rattle.sq_forward.specs.declared.exchanging.Exchanged.TheVariants.{Kept, Closed, Cut, ClientFault, BadBody, NoReply, OriginCut, OriginFault, Starved, WantOfMemory}
+
+-- what a client hears that waits until its body may come
+abbrev pub continue_text : List ℕ
+continue_text = codes "HTTP/1.1 100 Continue" ++ crlf ++ crlf
+
+abbrev pub continue_part : HttpRequest → BodyPlan → List ℕ
+continue_part r p = if wants_continue r p then continue_text else []
+
+-- the body ends where the connection does
+abbrev pub is_to_close : BodyPlan → Bool
+is_to_close plan.ToClose = true
+is_to_close plan.None = false
+is_to_close (plan.Length n) = false
+is_to_close plan.Chunked = false
+
+-- a chunked body goes to a client of version 1.0 as its data, up to the close; a body up to the close stays one
+abbrev pub shape_of : HttpRequest → BodyPlan → Shape
+shape_of r p = record { chunked = is_chunked p && not (r.minor == 0); closes = wants_close r || is_to_close p }
+
+-- a head that is not the reply's own: clients of version 1.0 do not know them
+abbrev pub interim_text : HttpRequest → ReplyHead → List ℕ
+interim_text r h = if r.minor == 0 then [] else reply_head_out h (record { chunked = false; closes = false })
+
+abbrev pub interim_texts : HttpRequest → List ReplyHead → List ℕ
+interim_texts r hs = flat_map (interim_text r) hs
+
+-- what the client gets from a reply, and how the exchange ends
+pub record Replied : Type 0 where
+  pub text : List ℕ
+  pub end : Exchanged
+
+-- nothing, since there is no reply that can be passed on
+abbrev pub no_reply : Replied
+no_reply = record { text = []; end = NoReply }
+
+-- how a reply's body ended
+abbrev pub body_end : Bool → Bool → Walk → Exchanged
+body_end to_close closes body =
+    if is_whole_body body.place || (to_close && not (is_refused body.place)) then (if closes then Closed else Kept) else OriginCut
+
+abbrev pub replied_by : HttpRequest → ReplyHead → Result BodyPlan bad.BadBody → List ℕ → Replied
+replied_by r h (Err fault) bytes = no_reply
+replied_by r h (Ok p) bytes =
+    let body = body_of p (shape_of r p).chunked bytes in
+    record { text = reply_head_out h (shape_of r p) ++ body.out; end = body_end (is_to_close p) (shape_of r p).closes body }
+
+-- a reply with this head, and its body at the front of these bytes
+abbrev pub replied : HttpRequest → ReplyHead → List ℕ → Replied
+replied r h bytes = replied_by r h (reply_plan r.method h) bytes
+
+abbrev pub replied_if : HttpRequest → Option ReplyHead → List ℕ → Replied
+replied_if r None bytes = no_reply
+replied_if r (Some h) bytes = replied r h bytes
+
+-- what the client gets, of which `client` came from the origin; what the origin gets; what is left of the
+-- client's input; and how it ends
+pub record Exchange : Type 0 where
+  pub own : List ℕ
+  pub client : List ℕ
+  pub origin : List ℕ
+  pub rest : List ℕ
+  pub end : Exchanged
+
+-- the request went out whole, or its body ended early or is refused
+abbrev pub answered : HttpRequest → List ℕ → List ℕ → Walk → Reading → Exchange
+answered r own origin body reading =
+    let reply = replied_if r reading.final reading.rest in
+    if is_whole_body body.place
+    then record { own = own; client = interim_texts r reading.interim ++ reply.text; origin = origin; rest = body.rest; end = reply.end }
+    else record { own = own; client = []; origin = origin; rest = []; end = if is_refused body.place then BadBody else Cut }
+
+-- the exchange of a request from this address, whose body begins the input, with an origin whose bytes read so
+abbrev pub exchange : HttpRequest → Address → BodyPlan → List ℕ → Reading → Exchange
+exchange r addr p input reading =
+    let body = body_of p (is_chunked p) input in
+    answered r (continue_part r p) (head_out r addr p ++ body.out) body reading
+
+-- both texts were written, and what came from the origin was granted; a kept connection stands behind the body
+pub record Exact (x : Exchange) (seated : Bool) (left client_before client_now origin_before origin_now : Option (List ℕ)) (g h : ℕ) (end : Exchanged) : Type 0 where
+  pub client : Appends client_before client_now (x.own ++ x.client)
+  pub granted : h ≡ granted_after seated g (length x.client)
+  pub origin : Appends origin_before origin_now x.origin
+  pub rest : end ≡ Kept → left ≡ Some x.rest
+  pub ends : end ≡ x.end
+
+-- fronts of both texts were written, and up to `spare` more was granted than came from the origin
+pub record Fronts (x : Exchange) (seated : Bool) (client_before client_now origin_before origin_now : Option (List ℕ)) (g h spare : ℕ) : Type 0 where
+  pub part : List ℕ
+  pub more : ℕ
+  pub front : IsPrefix part (x.own ++ x.client)
+  pub client : Appends client_before client_now part
+  pub granted : h ≡ granted_after seated g (length part - length x.own + more)
+  pub close : more ≤ spare
+  pub origin : Grew origin_before origin_now (λ part. IsPrefix part x.origin)
+
+-- all that the client gets without a reply was written, and a front of what the origin gets
+pub record Unreached (x : Exchange) (seated : Bool) (client_before client_now origin_before origin_now : Option (List ℕ)) (g h : ℕ) : Type 0 where
+  pub client : Appends client_before client_now (x.own ++ x.client)
+  pub granted : h ≡ granted_after seated g (length x.client)
+  pub origin : Grew origin_before origin_now (λ part. IsPrefix part x.origin)
+
+-- what an exchange comes to by its answer, where the origin's bytes are this reply, and it looked at these of them
+abbrev pub EndsExchange : Exchange → List ℕ → List ℕ → Bool → Option (List ℕ) → Option (List ℕ) → Option (List ℕ) → Option (List ℕ) → Option (List ℕ) → ℕ → ℕ → Type 0 → Exchanged → Type 0
+EndsExchange x seen reply seated left a b c d g h failed ClientFault = Fronts x seated a b c d g h piece_limit
+EndsExchange x seen reply seated left a b c d g h failed OriginFault = Fronts x seated a b c d g h 0
+EndsExchange x seen reply seated left a b c d g h failed Starved = Fronts x seated a b c d g h 0
+EndsExchange x seen reply seated left a b c d g h failed WantOfMemory = Fronts x seated a b c d g h 0
+EndsExchange x seen reply seated left a b c d g h failed NoReply =
+    ((seen ≡ reply) × Exact x seated left a b c d g h NoReply) ⊎ (failed × Unreached x seated a b c d g h)
+EndsExchange x seen reply seated left a b c d g h failed Kept = (seen ≡ reply) × Exact x seated left a b c d g h Kept
+EndsExchange x seen reply seated left a b c d g h failed Closed = (seen ≡ reply) × Exact x seated left a b c d g h Closed
+EndsExchange x seen reply seated left a b c d g h failed OriginCut = (seen ≡ reply) × Exact x seated left a b c d g h OriginCut
+EndsExchange x seen reply seated left a b c d g h failed Cut = Exact x seated left a b c d g h Cut
+EndsExchange x seen reply seated left a b c d g h failed BadBody = Exact x seated left a b c d g h BadBody
+
+-- the exchange of this request: over a front of the origin's bytes that it looked at, by how these read
+pub record Exchanges (r : HttpRequest) (addr : Address) (p : BodyPlan) (input reply : List ℕ) (seated : Bool)
+    (left a b c d : Option (List ℕ)) (g h : ℕ) (failed : Type 0) (end : Exchanged) : Type 0 where
+  pub seen : List ℕ
+  pub reading : Reading
+  pub front : IsPrefix seen reply
+  pub reads : IsReading seen reading
+  pub ends : EndsExchange (exchange r addr p input reading) seen reply seated left a b c d g h failed end
+
+-- the count of the link that failed rose
+abbrev pub ExchangeHasCause : Type 0 → Type 0 → Exchanged → Type 0
+ExchangeHasCause client origin ClientFault = client
+ExchangeHasCause client origin OriginFault = origin
+ExchangeHasCause client origin Kept = ⊤
+ExchangeHasCause client origin Closed = ⊤
+ExchangeHasCause client origin Cut = ⊤
+ExchangeHasCause client origin BadBody = ⊤
+ExchangeHasCause client origin NoReply = ⊤
+ExchangeHasCause client origin OriginCut = ⊤
+ExchangeHasCause client origin Starved = ⊤
+ExchangeHasCause client origin WantOfMemory = ⊤
+
+-- how dry the meter is behind an exchange
+abbrev pub dry_after_exchange : Exchanged → ℕ
+dry_after_exchange Starved = dry_limit
+dry_after_exchange Kept = 0
+dry_after_exchange Closed = 0
+dry_after_exchange Cut = 0
+dry_after_exchange ClientFault = 0
+dry_after_exchange BadBody = 0
+dry_after_exchange NoReply = 0
+dry_after_exchange OriginCut = 0
+dry_after_exchange OriginFault = 0
+dry_after_exchange WantOfMemory = 0

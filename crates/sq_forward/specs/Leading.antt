@@ -1,0 +1,132 @@
+-- The heads of an origin's bytes, one after the other, up to the reply's own.
+use Rattle.std.specs.Prelude.{◌≡◌, ◌⊎◌, ℕ, ◌≤◌, List, [], ◌++◌, length, Bool, false, Some, None, Ok, Err, IfSome, ⊤, if◌then◌else◌, ◌==◌}
+use Rattle.std.specs.declared.option.Option.{Option}
+use Rattle.std.specs.declared.result.Result.{Result}
+use Rattle.sq_base.specs.Requests.{HttpRequest}
+use Rattle.sq_outside.specs.Output.{IsPrefix}
+use Rattle.sq_head.specs.declared.replies.ReplyHead.{ReplyHead}
+use Rattle.sq_forward.specs.Exchanges.{interim_texts, replied, dry_after_exchange}
+use Rattle.sq_forward.specs.Meters.{PaysAll, PaysPart, piece_limit}
+use Rattle.sq_forward.specs.Replies.{BeginsHead, AreInterim, IsReading, is_interim, interim_limit}
+use Rattle.sq_forward.specs.declared.copying.Copied.{Copied}
+use Rattle.sq_forward.specs.declared.copying.Copied.TheVariants as copied
+use Rattle.sq_forward.specs.declared.exchanging.Exchanged.{Exchanged}
+use Rattle.sq_forward.specs.declared.exchanging.Exchanged.TheVariants.{Kept, Closed, Cut, ClientFault, BadBody, NoReply, OriginCut, OriginFault, Starved, WantOfMemory}
+use Rattle.sq_forward.specs.declared.replies.NoHead.{NoHead}
+use Rattle.sq_forward.specs.declared.replies.NoHead.TheVariants as none
+
+-- the one head that bytes begin with was taken
+pub record TakenHead (bytes : List ℕ) (left : Option (List ℕ)) (h : ReplyHead) : Type 0 where
+  pub rest : List ℕ
+  pub left_is : left ≡ Some rest
+  pub begins : BeginsHead bytes h rest
+  pub one : (other : ReplyHead) (more : List ℕ) → BeginsHead bytes other more → other ≡ h
+
+-- a head was taken, or the bytes begin with none
+abbrev pub TakesHead : List ℕ → Option (List ℕ) → Result ReplyHead NoHead → Type 0
+TakesHead bytes left (Ok h) = TakenHead bytes left h
+TakesHead bytes left (Err none.Missing) = (h : ReplyHead) (rest : List ℕ) → BeginsHead bytes h rest → ⊥
+TakesHead bytes left (Err none.Failed) = ⊤
+TakesHead bytes left (Err none.WantOfMemory) = ⊤
+
+-- behind heads that are not the reply's own, which were passed on, stands its own, and it was taken
+pub record LedTo (r : HttpRequest) (bytes : List ℕ) (seated : Bool) (left before now : Option (List ℕ)) (g h : ℕ) (final : ReplyHead) : Type 0 where
+  pub heads : List ℕ
+  pub more : List ℕ
+  pub interim : List ReplyHead
+  pub rest : List ℕ
+  pub cut : bytes ≡ heads ++ more
+  pub are : AreInterim heads interim
+  pub few : length interim ≤ interim_limit
+  pub begins : BeginsHead more final rest
+  pub own : is_interim final ≡ false
+  pub goes : final.status ≡ 101 → ⊥
+  pub left_is : left ≡ Some rest
+  pub pays : PaysAll seated (interim_texts r interim) before now g h
+
+-- how much of the heads that were looked at went to the client
+abbrev pub PaysHeads : List ℕ → Bool → Option (List ℕ) → Option (List ℕ) → ℕ → ℕ → Exchanged → Type 0
+PaysHeads text seated before now g h NoReply = PaysAll seated text before now g h
+PaysHeads text seated before now g h ClientFault = PaysPart seated text before now g h piece_limit
+PaysHeads text seated before now g h Starved = PaysPart seated text before now g h 0
+PaysHeads text seated before now g h WantOfMemory = PaysPart seated text before now g h 0
+PaysHeads text seated before now g h Kept = ⊥
+PaysHeads text seated before now g h Closed = ⊥
+PaysHeads text seated before now g h Cut = ⊥
+PaysHeads text seated before now g h BadBody = ⊥
+PaysHeads text seated before now g h OriginCut = ⊥
+PaysHeads text seated before now g h OriginFault = ⊥
+
+-- the count of the client's link rose where that failed
+abbrev pub LeadHasCause : Type 0 → Exchanged → Type 0
+LeadHasCause client ClientFault = client
+LeadHasCause client NoReply = ⊤
+LeadHasCause client Starved = ⊤
+LeadHasCause client WantOfMemory = ⊤
+LeadHasCause client Kept = ⊥
+LeadHasCause client Closed = ⊥
+LeadHasCause client Cut = ⊥
+LeadHasCause client BadBody = ⊥
+LeadHasCause client OriginCut = ⊥
+LeadHasCause client OriginFault = ⊥
+
+-- no reply's own head was reached: a front of the bytes was looked at, which is all of them where no link failed
+pub record LedNowhere (r : HttpRequest) (bytes : List ℕ) (seated : Bool) (before now : Option (List ℕ)) (g h : ℕ) (failed : Type 0) (end : Exchanged) : Type 0 where
+  pub seen : List ℕ
+  pub interim : List ReplyHead
+  pub front : IsPrefix seen bytes
+  pub reads : IsReading seen (record { interim = interim; final = None; rest = [] })
+  pub all : end ≡ NoReply → (seen ≡ bytes) ⊎ failed
+  pub pays : PaysHeads (interim_texts r interim) seated before now g h end
+
+abbrev pub Leads : HttpRequest → List ℕ → Bool → Option (List ℕ) → Option (List ℕ) → Option (List ℕ) → ℕ → ℕ → Type 0 → Result ReplyHead Exchanged → Type 0
+Leads r bytes seated left before now g h failed (Ok final) = LedTo r bytes seated left before now g h final
+Leads r bytes seated left before now g h failed (Err end) = LedNowhere r bytes seated before now g h failed end
+
+-- the same of what is to come, where that is told
+pub record LeadsReply (r : HttpRequest) (seated : Bool) (first left before now : Option (List ℕ)) (g h : ℕ) (failed : Type 0) (led : Result ReplyHead Exchanged) : Type 0 where
+  pub known : IfSome first (λ bytes. Leads r bytes seated left before now g h failed led)
+
+-- how much of the reply went to the client
+abbrev pub SentReply : List ℕ → Exchanged → Bool → Option (List ℕ) → Option (List ℕ) → ℕ → ℕ → Exchanged → Type 0
+SentReply text end seated before now g h ClientFault = PaysPart seated text before now g h piece_limit
+SentReply text end seated before now g h OriginFault = PaysPart seated text before now g h 0
+SentReply text end seated before now g h Starved = PaysPart seated text before now g h 0
+SentReply text end seated before now g h WantOfMemory = PaysPart seated text before now g h 0
+SentReply text end seated before now g h Kept = PaysAll seated text before now g h × (Kept ≡ end)
+SentReply text end seated before now g h Closed = PaysAll seated text before now g h × (Closed ≡ end)
+SentReply text end seated before now g h OriginCut = PaysAll seated text before now g h × (OriginCut ≡ end)
+SentReply text end seated before now g h NoReply = PaysAll seated text before now g h × (NoReply ≡ end)
+SentReply text end seated before now g h Cut = ⊥
+SentReply text end seated before now g h BadBody = ⊥
+
+-- the reply with this head, whose body begins what is to come, where that is told
+pub record SendsReply (r : HttpRequest) (head : ReplyHead) (seated : Bool) (first before now : Option (List ℕ)) (g h : ℕ) (end : Exchanged) : Type 0 where
+  pub known : IfSome first (λ bytes. SentReply (replied r head bytes).text (replied r head bytes).end seated before now g h end)
+
+-- the reply's own head may not be 101
+abbrev pub own_head : ReplyHead → Result ReplyHead Exchanged
+own_head h = if h.status == 101 then Err NoReply else Ok h
+
+-- how much of a text went to the client
+abbrev pub SendsText : {T : Type 0} → List ℕ → Bool → Option (List ℕ) → Option (List ℕ) → ℕ → ℕ → Result T Exchanged → Type 0
+SendsText text seated before now g h (Ok u) = PaysAll seated text before now g h
+SendsText text seated before now g h (Err end) = PaysHeads text seated before now g h end
+
+-- how dry the meter is then
+abbrev pub dry_after_sending : {T : Type 0} → Result T Exchanged → ℕ
+dry_after_sending (Ok x) = 0
+dry_after_sending (Err end) = dry_after_exchange end
+
+abbrev pub complete : Bool → Exchanged
+complete closes = if closes then Closed else Kept
+
+-- how the exchange ends, by how the copying of the reply's body did
+abbrev pub body_sent : Copied → Bool → Bool → Exchanged
+body_sent copied.Whole to_close closes = complete closes
+body_sent copied.Cut to_close closes = if to_close then complete closes else OriginCut
+body_sent copied.Bad to_close closes = OriginCut
+body_sent copied.NoSource to_close closes = OriginFault
+body_sent copied.NoSink to_close closes = ClientFault
+body_sent copied.Starved to_close closes = Starved
+body_sent copied.WantOfMemory to_close closes = WantOfMemory

@@ -1,0 +1,9 @@
+pub mod Copying
+pub mod Exchanges
+pub mod Halves
+pub mod Heads
+pub mod Leading
+pub mod Meters
+pub mod Replies
+pub mod Sending
+pub mod Tunnels

@@ -1,0 +1,49 @@
+-- Grants of bytes, and what is written of them.
+use Rattle.std.specs.Prelude.{◌≡◌, ℕ, ◌+◌, ◌≤◌, Bool, true, false, ◌&&◌, ◌==◌, nat_lt, if◌then◌else◌, min, List, length}
+use Rattle.std.specs.declared.option.Option.{Option}
+use Rattle.std.specs.Io.KnownBytes.{Appends}
+use Rattle.sq_outside.specs.Causes.{count_limit}
+use Rattle.sq_outside.specs.Output.{IsPrefix}
+
+-- at most so many bytes are wanted at a time
+abbrev pub piece_limit : ℕ
+piece_limit = 16384
+
+-- so many pauses since a grant gave some, each behind a grant that gave none, end it
+abbrev pub dry_limit : ℕ
+dry_limit = 3600
+
+-- a grant wanted some and gave none
+abbrev pub is_short : ℕ → ℕ → Bool
+is_short wanted given = nat_lt 0 wanted && given == 0
+
+-- without a seat all that is wanted is given
+abbrev pub Gives : Bool → ℕ → ℕ → Type 0
+Gives true wanted given = given ≤ wanted
+Gives false wanted given = given ≡ wanted
+
+-- the count of granted bytes after n more: without a seat they are not counted
+abbrev pub granted_after : Bool → ℕ → ℕ → ℕ
+granted_after seated before n = if seated then min (before + n) count_limit else before
+
+-- the count of pauses after a grant
+abbrev pub dry_after_grant : ℕ → ℕ → ℕ
+dry_after_grant given dry = if given == 0 then dry else 0
+
+-- and after a pause: it stays at the limit of counts
+abbrev pub dry_after_pause : Bool → ℕ → ℕ
+dry_after_pause short dry = if short then min (dry + 1) count_limit else dry
+
+-- the text was written, and as many bytes were granted
+pub record PaysAll (seated : Bool) (text : List ℕ) (before now : Option (List ℕ)) (granted_before granted_now : ℕ) : Type 0 where
+  pub wrote : Appends before now text
+  pub granted : granted_now ≡ granted_after seated granted_before (length text)
+
+-- a front of the text was written, and as many bytes were granted, or up to `spare` more
+pub record PaysPart (seated : Bool) (text : List ℕ) (before now : Option (List ℕ)) (granted_before granted_now spare : ℕ) : Type 0 where
+  pub part : List ℕ
+  pub more : ℕ
+  pub front : IsPrefix part text
+  pub wrote : Appends before now part
+  pub granted : granted_now ≡ granted_after seated granted_before (length part + more)
+  pub close : more ≤ spare

@@ -1,0 +1,63 @@
+//! Heads of messages, as they come.
+ghost use Rattle.std.specs.Prelude.{◌≡◌, ◌≤◌, ◌+◌, length, max};
+ghost use Rattle.std.specs.Io.KnownBytes.{Keeps};
+ghost use Rattle.sq_head.specs.ReplyHeads.{most_bytes};
+ghost use Rattle.sq_outside.specs.Causes.{Rose};
+ghost use Rattle.sq_forward.specs.Halves.{to_come, read_limit};
+ghost use Rattle.sq_forward.specs.Heads.{FindsHead};
+
+use crate::half::Half;
+use sq_outside::{Source, Unread};
+use sq_request::head_end;
+use std::alloc::Global;
+use std::sync::Wait;
+
+// A head has so many bytes at most.
+const MOST_BYTES: usize = 65_536;
+
+/// What was found at the front of what comes.
+#[derive(Clone, Copy, Debug, PartialEq, Eq)]
+pub enum HeadFound {
+    /// A whole head of so many bytes stands ahead.
+    Whole(usize),
+    /// No head ends within the limit.
+    TooLarge,
+    /// The input ended before a head did. What is ahead is all.
+    Ended,
+    /// The source failed.
+    Failed,
+    /// There was no memory.
+    WantOfMemory,
+}
+
+/// Reads until a head stands ahead, or can't. Nothing is dropped, but what there was no memory for.
+pub fn find_head<R: Wait, S: Source>(rt: &R, alloc: Global, from: &mut Half<S>) -> HeadFound
+    ensures found { FindsHead from.new.ahead (to_come S.left from.new) result }
+    ensures kept { (result ≡ HeadFound.WantOfMemory → ⊥) → Keeps (to_come S.left from.old) (to_come S.left from.new) }
+    ensures cause { result ≡ HeadFound.Failed → Rose (S.faults from.old.source) (S.faults from.new.source) }
+    ensures later { S.faults from.old.source ≤ S.faults from.new.source }
+    ensures origin { S.origin from.new.source ≡ S.origin from.old.source }
+    ensures few { length from.new.ahead ≤ max (length from.old.ahead) (most_bytes + read_limit) }
+{
+    for _ in rt.forever() {
+        match head_end(from.ahead.as_bytes()) {
+            Some(len) => {
+                if len > MOST_BYTES {
+                    return HeadFound::TooLarge;
+                }
+                return HeadFound::Whole(len);
+            }
+            None => {}
+        }
+        if from.ahead.len() >= MOST_BYTES {
+            return HeadFound::TooLarge;
+        }
+        match from.fill(alloc) {
+            Ok(true) => {}
+            Ok(false) => return HeadFound::Ended,
+            Err(Unread::Failed) => return HeadFound::Failed,
+            Err(Unread::WantOfMemory) => return HeadFound::WantOfMemory,
+        }
+    }
+    unreachable!()
+}
