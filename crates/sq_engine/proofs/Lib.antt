@@ -1,0 +1,3 @@
+-- Lemmas, by subject.
+mod TableLaws
+mod HeldLaws

@@ -1,0 +1,5 @@
+-- Definitions that the contracts cite.
+pub mod EngineViews
+pub mod Engines
+pub mod Stepping
+pub mod Tellings
