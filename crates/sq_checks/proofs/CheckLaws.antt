@@ -19,7 +19,7 @@ use Rattle.sq_rows.specs.declared.said.Stepped.TheVariants as told
 use Rattle.sq_rules.specs.declared.values.Value.{Value}
 use Rattle.sq_rules.specs.declared.values.Value.TheVariants as value
 use Rattle.sq_checks.specs.OpenChecks.{CheckParts, IsFit, answers_in, comes_to, ended_by, finished, is_need, noted, row, says_of, settled, step_more}
-use Rattle.sq_checks.specs.Stages.{IsStage, came_in, ended_stage, given, is_done_in, is_idle, is_noted, is_settled, noted_stage, question_told}
+use Rattle.sq_checks.specs.Stages.{IsStage, came_in, ended_stage, given, is_done_in, is_idle, is_noted, is_settled, need_in, noted_stage, question_told}
 use Rattle.sq_checks.specs.declared.stages.Stage.{Stage}
 use Rattle.sq_checks.specs.declared.stages.Stage.TheVariants as stage
 
@@ -145,6 +145,14 @@ came_new config sight answers stage.Ready a i e = absurd cc
 came_new config sight answers (stage.Came b) a i e = let same : a ≡ b = cc in rw same i
 came_new config sight answers (stage.Waits k) a i e = absurd cc
 came_new config sight answers (stage.Done o) a i e = absurd cc
+
+-- for what is waited for: it is new
+pub need_new : (config : Configuration) (sight : Sight) (answers : List Answer) (s : Stage) → IsStage config sight answers s
+    → IfSome (need_in s) (λ n. has_answer answers n.class n.key ≡ false)
+need_new config sight answers stage.Ready i = tt
+need_new config sight answers (stage.Came a) i = tt
+need_new config sight answers (stage.Waits n) i = i
+need_new config sight answers (stage.Done o) i = tt
 
 -- for what holds of a value that is there
 pub found_has : {A : Type 0} (P : A → Type 0) (o : Option A) (x : A) → o ≡ Some x → IfSome o P → P x

@@ -46,7 +46,8 @@ served_asked (Some a) h = refl
 pub of_epoch_ended : (e : ℕ) (ends : Ends) (checks : List Held) → of_epoch e (after_ends ends checks) ≡ of_epoch e checks
 of_epoch_ended e ends checks = mapped e (served ends) checks (λ h. served_asked (option_and_then ends h.waits) h)
 
-none_at : (n : ℕ) (checks : List Held) → AreAbove n (map (λ h. h.number) checks) → without_check n checks ≡ checks
+-- a check that is not there: there is none to leave out
+pub none_at : (n : ℕ) (checks : List Held) → AreAbove n (map (λ h. h.number) checks) → without_check n checks ≡ checks
 none_at n [] a = refl
 none_at n (x ∷ checks) a =
     let below : n < x.number = a.0 in

@@ -1,3 +1,4 @@
+pub mod AloneLaws
 mod CheckLaws
 mod EndLaws
 pub mod EpochLaws

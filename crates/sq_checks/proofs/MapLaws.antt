@@ -1,5 +1,5 @@
 -- What a change of the map of open checks makes of its entries and of the rows.
-use Rattle.std.proofs.Common.{◌≡◌, ◌∙◌, ◌==◌, ◌&&◌, Bool, true, false, ℕ, List, [], ◌∷◌, ◌++◌, None, Some, if◌then◌else◌, map, nat_lt, refl, ap, sym, subst, arith}
+use Rattle.std.proofs.Common.{◌≡◌, ◌∙◌, ◌==◌, ◌&&◌, ◌<◌, Bool, true, false, ℕ, List, [], ◌∷◌, ◌++◌, None, Some, if◌then◌else◌, map, nat_lt, refl, ap, sym, subst, arith}
 use Rattle.std.specs.BTreeMap.{is_at, insert_entry}
 use Rattle.std.specs.List.{IsDistinct, AllByRecursion}
 use Rattle.std.specs.List.Sorted.{IsStrictlySortedBy}
@@ -7,6 +7,7 @@ use Rattle.std.specs.Map.{remove_entry, set_value, keys_of}
 use Rattle.std.specs.Ordering.{nat_cmp, eq_by_cmp}
 use Rattle.std.specs.declared.cmp.Ordering.TheVariants.{Less, Equal, Greater}
 use Rattle.std.proofs.lemmas.Map.Keys.{IsDistinct-from_sorted}
+use Rattle.sq_rules.specs.Rising.{AreAbove, Rises}
 use Rattle.sq_rows.specs.CheckRows.{Held, without_check}
 use Rattle.sq_checks.specs.OpenChecks.{CheckParts, all_before, change_at, entry_row, row, rows_of, without_entry}
 use Rattle.sq_checks.specs.Tables.{value_at, without}
@@ -42,6 +43,19 @@ once_from (e ∷ es) d = (absent_from e.0 es d.0, once_from es d.1)
 -- for a map: its numbers ascend, so each is there once
 pub sorted_once : {A : Type 0} (es : List (ℕ × A)) → IsStrictlySortedBy nat_cmp (keys_of es) → AreOnce es
 sorted_once es s = once_from es (IsDistinct-from_sorted nat_cmp (keys_of es) s)
+
+less : (a b : ℕ) → nat_cmp a b ≡ Less → a < b
+less a b h = grind (arith, h)
+
+above_from : (n : ℕ) (es : List (ℕ × CheckParts)) → AllByRecursion (λ k. nat_cmp n k ≡ Less) (keys_of es) → AreAbove n (map (λ h. h.number) (rows_of es))
+above_from n [] a = tt
+above_from n (e ∷ es) a = (less n e.0 a.0, above_from n es a.1)
+
+-- for a map: the numbers of the rows rise
+pub sorted_rises : (es : List (ℕ × CheckParts)) → IsStrictlySortedBy nat_cmp (keys_of es) → Rises (map (λ h. h.number) (rows_of es))
+unfolding IsStrictlySortedBy
+sorted_rises [] s = tt
+sorted_rises (e ∷ es) s = (above_from e.0 es s.0, sorted_rises es s.1)
 
 -- for a number without a value
 pub absent_is : {A : Type 0} (n : ℕ) (es : List (ℕ × A)) → value_at es n ≡ None → IsAbsent n es

@@ -15,7 +15,7 @@ use Rattle.sq_rules.specs.declared.outcomes.Outcome.{Outcome}
 use Rattle.sq_rules.specs.declared.sights.Sight.{Sight}
 use Rattle.sq_rules.specs.declared.values.Value.{Value}
 use Rattle.sq_rules.specs.declared.values.Value.TheVariants as value
-use Rattle.sq_rows.specs.CheckRows.{Ends, Held}
+use Rattle.sq_rows.specs.CheckRows.{Ends, Held, held_on}
 use Rattle.sq_rows.specs.StepRows.{told_of}
 use Rattle.sq_rows.specs.declared.said.Said.{Said}
 use Rattle.sq_checks.specs.Stages.{IsStage, came_in, ended_stage, given, is_done_in, is_noted, noted_stage, question_in, question_told}
@@ -161,6 +161,11 @@ AllAre w (x ∷ xs) = (x ≡ w) × AllAre w xs
 pub record IsNoted (class : ℕ) (key : List ℕ) (s : Said) : Type 0 where
   pub fits : is_noted s.took s.stepped ≡ true
   pub took : IfSome s.took (λ a. (a.class ≡ class) × (a.key ≡ key))
+
+-- each connection has one of these checks at most
+abbrev pub AreAlone : List Held → Type 0
+AreAlone [] = Unit {0}
+AreAlone (h ∷ checks) = (held_on h.asked.conn checks ≡ None) × AreAlone checks
 
 -- how many of these checks began in an epoch
 abbrev pub of_epoch : ℕ → List Held → ℕ

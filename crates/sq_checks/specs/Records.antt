@@ -5,6 +5,7 @@ use Rattle.std.specs.declared.option.Option.{Option}
 use Rattle.sq_base.specs.Addresses.{Address}
 use Rattle.sq_base.specs.declared.helpers.Answer.{Answer}
 use Rattle.sq_rules.specs.Configurations.{Configuration}
+use Rattle.sq_rules.specs.Facts.{facts_of}
 use Rattle.sq_rules.specs.Verdicts.{is_passed_over, pool_of, verdict_over}
 use Rattle.sq_rules.specs.declared.outcomes.Outcome.{Outcome}
 use Rattle.sq_rules.specs.declared.pools.Pool.{Pool}
@@ -25,8 +26,9 @@ pub record Judged : Type 0 where
   pub looks : ℕ
   pub steps : ℕ
 
--- the outcome is the verdict of the configuration over what was seen and the answers, and the pool is theirs
-pub record IsJudged (r : Judged) : Type 0 where
+-- its facts are those of what was seen, the outcome is the verdict of the configuration over that and the answers, and the pool is theirs
+pub record IsJudged (r : Judged) (facts : List Bool) : Type 0 where
+  pub facts_are : facts ≡ facts_of r.config.acls r.sight
   pub verdict_is : verdict_over r.answers r.config r.sight ≡ value.Verdict r.outcome
   pub pool_is : r.pool ≡ pool_of r.config r.sight
 

@@ -21,6 +21,11 @@ abbrev pub question_in : Stage → Option ℕ
 question_in (stage.Waits n) = Some n.question
 question_in s = None
 
+-- what is waited for
+abbrev pub need_in : Stage → Option Need
+need_in (stage.Waits n) = Some n
+need_in s = None
+
 -- the answer that came and is not put among the others
 abbrev pub came_in : Stage → Option Answer
 came_in (stage.Came a) = Some a

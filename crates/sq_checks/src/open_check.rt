@@ -9,10 +9,10 @@ ghost use Rattle.sq_rules.specs.StepRule.{class_of_acl};
 ghost use Rattle.sq_rules.specs.declared.values.Value.TheVariants as value;
 ghost use Rattle.sq_checks.specs.OpenChecks.{IsNoted, begun_parts, comes_to, ended_by, finished, is_need, noted, settled, step_more};
 ghost use Rattle.sq_checks.specs.Records.{judged_of};
-ghost use Rattle.sq_checks.specs.Stages.{decided_in, is_idle, is_settled, question_in};
+ghost use Rattle.sq_checks.specs.Stages.{decided_in, is_idle, is_settled, need_in, question_in};
 
 use crate::records::Record;
-use crate::stages::{Stage, came, decided, ended, noted, question, told};
+use crate::stages::{Need, Stage, came, decided, ended, need_of, noted, question, told};
 use sq_base::{Answers, CheckNo, ConnNo, EpochNo, Moment, QuestionNo, Text, WantOfMemory, What};
 use sq_eval::{evaluate, pool_of};
 use sq_rows::Said;
@@ -124,6 +124,15 @@ impl OpenCheck {
         question(&self.stage)
     }
 
+    /// What it waits for, if it waits: the question, and the class and key that it is for, of which it has no
+    /// answer.
+    pub fn need(&self) -> Option<&Need>
+        ensures value { option_copied result ≡ need_in self.now.stage }
+        ensures other { IfSome (need_in self.now.stage) (λ n. has_answer self.now.answers n.class n.key ≡ false) }
+    {
+        need_of(&self.stage)
+    }
+
     /// The outcome, where a step said that it is done.
     pub fn outcome(&self) -> Option<&Outcome>
         ensures { option_copied result ≡ decided_in self.now.stage }
@@ -207,7 +216,7 @@ impl OpenCheck {
             epoch,
             config,
             sight,
-            facts: _,
+            facts,
             pool,
             answers,
             stage,
@@ -215,7 +224,7 @@ impl OpenCheck {
         } = self;
         match stage {
             Stage::Done(outcome) => Record::new(
-                check, epoch, config, sight, answers, outcome, pool, steps,
+                check, epoch, config, sight, facts, answers, outcome, pool, steps,
             ),
             _ => unreachable!(),
         }

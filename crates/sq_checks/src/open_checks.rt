@@ -1,10 +1,11 @@
 //! The open checks by number.
-ghost use Rattle.std.specs.Prelude.{◌≡◌, ◌++◌, ◌∷◌, [], ℕ, true, false, length, is_some, IfSome, IfErr, OnOk, OnErr, Some};
+ghost use Rattle.std.specs.Prelude.{◌≡◌, ◌++◌, ◌∷◌, [], ℕ, true, false, length, map, is_some, IfSome, IfErr, OnOk, OnErr, Some};
 ghost use Rattle.std.specs.Option.{option_copied};
 ghost use Rattle.sq_base.specs.Distinct.{has_answer};
 ghost use Rattle.sq_lookup.specs.Waits.{has_check};
 ghost use Rattle.sq_rows.specs.CheckRows.{after_step, without_check};
 ghost use Rattle.sq_rules.specs.Events.{is_number};
+ghost use Rattle.sq_rules.specs.Rising.{Rises};
 ghost use Rattle.sq_rules.specs.StepRule.{says_done};
 ghost use Rattle.sq_rules.specs.declared.values.Value.TheVariants as value;
 ghost use Rattle.sq_checks.specs.OpenChecks.{AllAre, IsNoted, all_before, all_ended, change_at, comes_to, ended_by, finished, noted, row, rows_of, says_of, settled, wait_at, without_entry};
@@ -45,9 +46,10 @@ impl OpenChecks {
         }
     }
 
-    /// How many checks are open.
+    /// How many checks are open. Their numbers rise.
     pub fn len(&self) -> usize
-        ensures { result ≡ length self.now }
+        ensures value { result ≡ length self.now }
+        ensures rise { Rises (map (λ h. h.number) (rows_of self.now)) }
     {
         self.map.len()
     }

@@ -1,21 +1,24 @@
 //! Checks whose outcomes were taken.
 ghost use Rattle.std.specs.Prelude.{◌≡◌, true, IfSome};
 ghost use Rattle.std.specs.Arc.{arc_value};
+ghost use Rattle.sq_rules.specs.Facts.{facts_of};
 ghost use Rattle.sq_rules.specs.Verdicts.{pool_of, verdict_over};
 ghost use Rattle.sq_rules.specs.declared.values.Value.TheVariants as value;
 
 use sq_base::{Answers, CheckNo, EpochNo};
-use sq_rules::{Config, Outcome, Sight};
+use sq_rules::{Config, Facts, Outcome, Sight};
 use std::marker::Model;
 use std::sync::Arc;
 
-/// A check that is over. Its outcome is the verdict of its configuration over what it saw and its answers.
+/// A check that is over, with the facts of what it saw. Its outcome is the verdict of its configuration over that
+/// and its answers.
 #[derive(Drop)]
 pub struct Record {
     check: CheckNo,
     epoch: EpochNo,
     config: Arc<Config>,
     sight: Sight,
+    facts: Facts,
     answers: Answers,
     outcome: Outcome,
     pool: Option<u32>,
@@ -31,11 +34,11 @@ impl Model for Record {
 
     ghost view = { λ r. record { check = r.check; epoch = r.epoch; config = arc_value r.config; sight = r.sight; answers = r.answers; outcome = r.outcome; pool = r.pool; looks = r.looks; steps = r.steps } };
 
-    ghost invariant = { λ r. IsJudged (record { check = r.check; epoch = r.epoch; config = arc_value r.config; sight = r.sight; answers = r.answers; outcome = r.outcome; pool = r.pool; looks = r.looks; steps = r.steps }) };
+    ghost invariant = { λ r. IsJudged (record { check = r.check; epoch = r.epoch; config = arc_value r.config; sight = r.sight; answers = r.answers; outcome = r.outcome; pool = r.pool; looks = r.looks; steps = r.steps }) r.facts };
 }
 
 impl Record {
-    ghost use Rattle.sq_checks.specs.Records.{IsJudged, takes_client};
+    ghost use Rattle.sq_checks.specs.Records.{takes_client};
 
     // A check that is over, of its parts.
     pub(crate) fn new(
@@ -43,11 +46,13 @@ impl Record {
         epoch: EpochNo,
         config: Arc<Config>,
         sight: Sight,
+        facts: Facts,
         answers: Answers,
         outcome: Outcome,
         pool: Option<u32>,
         steps: u64,
     ) -> Record
+        requires facts { facts ≡ facts_of (arc_value config).acls sight }
         requires verdict { verdict_over answers (arc_value config) sight ≡ value.Verdict outcome }
         requires pool { pool ≡ pool_of (arc_value config) sight }
         ensures { result ≡ record { check = check; epoch = epoch; config = arc_value config; sight = sight; answers = answers; outcome = outcome; pool = pool; looks = 0; steps = steps } }
@@ -57,6 +62,7 @@ impl Record {
             epoch,
             config,
             sight,
+            facts,
             answers,
             outcome,
             pool,
@@ -93,6 +99,13 @@ impl Record {
         &self.sight
     }
 
+    /// Whether each leaf of its configuration held over what it saw.
+    pub fn facts(&self) -> &Facts
+        ensures { result.now ≡ facts_of self.now.config.acls self.now.sight }
+    {
+        &self.facts
+    }
+
     /// The answers of helpers that it took, in their order.
     pub fn answers(&self) -> &Answers
         ensures { result.now ≡ self.now.answers }
@@ -103,7 +116,7 @@ impl Record {
     /// What it came to.
     pub fn outcome(&self) -> &Outcome
         ensures value { result.now ≡ self.now.outcome }
-        ensures judged { IsJudged self.now }
+        ensures verdict { verdict_over self.now.answers self.now.config self.now.sight ≡ value.Verdict self.now.outcome }
     {
         &self.outcome
     }
@@ -111,6 +124,7 @@ impl Record {
     /// Its delay pool, by its place from 0, if it has one.
     pub fn pool(&self) -> Option<u32>
         ensures value { result ≡ self.now.pool }
+        ensures theirs { result ≡ pool_of self.now.config self.now.sight }
         ensures takes { IfSome result (λ p. takes_client self.now.config.pools self.now.sight.addr p ≡ true) }
     {
         self.pool

@@ -1,7 +1,7 @@
 //! How far an open check has come.
 ghost use Rattle.std.specs.Prelude.{◌≡◌, Some, IfOk};
 ghost use Rattle.std.specs.Option.{option_copied};
-ghost use Rattle.sq_checks.specs.Stages.{came_in, decided_in, ended_stage, given, noted_stage, question_in, question_told};
+ghost use Rattle.sq_checks.specs.Stages.{came_in, decided_in, ended_stage, given, need_in, noted_stage, question_in, question_told};
 
 use sq_base::{Answer, Copying, Moment, QuestionNo, Text, WantOfMemory, What};
 use sq_rows::Stepped;
@@ -106,6 +106,16 @@ pub(crate) fn question(stage: &Stage) -> Option<QuestionNo>
 {
     match stage {
         Stage::Waits(need) => Some(need.question),
+        _ => None,
+    }
+}
+
+/// What is waited for, if something is.
+pub(crate) fn need_of(stage: &Stage) -> Option<&Need>
+    ensures { option_copied result ≡ need_in stage.now }
+{
+    match stage {
+        Stage::Waits(need) => Some(need),
         _ => None,
     }
 }
