@@ -11,3 +11,4 @@ mod PartLaws
 mod ResolveLaws
 mod ResolvedLaws
 mod AskingLaws
+mod NowLaws
