@@ -1,4 +1,5 @@
 mod EpochLaws
 mod PartLaws
 mod FindLaws
+pub mod HomeLaws
 mod OutcomeLaws

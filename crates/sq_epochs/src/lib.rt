@@ -8,5 +8,6 @@
 mod epoch;
 mod epochs;
 mod homes;
+mod stops;
 
 pub use epochs::Epochs;
