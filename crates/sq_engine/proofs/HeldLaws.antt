@@ -3,13 +3,12 @@ use Rattle.std.proofs.Common.{◌≡◌, ◌∙◌, ◌==◌, ◌&&◌, ◌||◌
 use Rattle.std.specs.List.{list_any}
 use Rattle.std.specs.Option.{option_map, option_and_then}
 use Rattle.sq_base.specs.declared.helpers.Answer.{Answer}
-use Rattle.sq_rules.specs.Rising.{AreAbove, Rises}
 use Rattle.sq_rules.specs.StepRule.{StepSays}
 use Rattle.sq_rows.specs.CheckRows.{Ends, Held, after_ends, after_step, held_at, held_on, served, served_by, stepped, without_check, without_conn}
-use Rattle.sq_checks.specs.OpenChecks.{all_before, of_epoch}
+use Rattle.sq_checks.specs.OpenChecks.{AreAlone, all_before, of_epoch}
 use Rattle.sq_state.specs.States.{lives_with}
 use Rattle.sq_epochs.specs.EpochStates.{EpochState}
-use Rattle.sq_engine.specs.Engines.{AreAsked, AreCounted, HaveOwnConns, held_number}
+use Rattle.sq_engine.specs.Engines.{AreAsked, AreCounted, held_number}
 use Rattle.sq_engine.proofs.TableLaws.{number_is, number_self, number_sym}
 
 -- a change of rows that keeps what they are
@@ -44,8 +43,8 @@ on_mapped f c [] k = refl
 on_mapped f c (h ∷ checks) k = by (c == h.asked.conn) refl (on_mapped f c checks k)
   where
     by : (b : Bool) → (c == h.asked.conn) ≡ b → held_on c (map f checks) ≡ option_map f (held_on c checks) → held_on c (map f (h ∷ checks)) ≡ option_map f (held_on c (h ∷ checks))
-    by true x more = rw (k.askeds h, x) refl
-    by false x more = rw (k.askeds h, x) more
+    by true x more = let head : (c == (f h).asked.conn) ≡ true = ap (λ a. c == a.conn) (k.askeds h) ∙ x in rw (head, x) refl
+    by false x more = let head : (c == (f h).asked.conn) ≡ false = ap (λ a. c == a.conn) (k.askeds h) ∙ x in rw (head, x) more
 
 number_mapped : (f : Held → Held) (o : Option Held) → IsKeeping f → option_map held_number (option_map f o) ≡ option_map held_number o
 number_mapped f None k = refl
@@ -55,14 +54,10 @@ none_mapped : (f : Held → Held) (o : Option Held) → o ≡ None → option_ma
 none_mapped f None e = refl
 none_mapped f (Some h) e = absurd (cc)
 
-own_mapped : (f : Held → Held) (checks : List Held) → IsKeeping f → HaveOwnConns checks → HaveOwnConns (map f checks)
-own_mapped f [] k o = tt
-own_mapped f (h ∷ checks) k o =
-    (ap (λ a. held_on a.conn (map f checks)) (k.askeds h) ∙ on_mapped f h.asked.conn checks k ∙ none_mapped f (held_on h.asked.conn checks) o.0, own_mapped f checks k o.1)
-
-numbers_mapped : (f : Held → Held) (checks : List Held) → IsKeeping f → map held_number (map f checks) ≡ map held_number checks
-numbers_mapped f [] k = refl
-numbers_mapped f (h ∷ checks) k = ap₂ (λ (n : ℕ) (ns : List ℕ). n ∷ ns) (k.numbers h) (numbers_mapped f checks k)
+alone_mapped : (f : Held → Held) (checks : List Held) → IsKeeping f → AreAlone checks → AreAlone (map f checks)
+alone_mapped f [] k o = tt
+alone_mapped f (h ∷ checks) k o =
+    (ap (λ a. held_on a.conn (map f checks)) (k.askeds h) ∙ on_mapped f h.asked.conn checks k ∙ none_mapped f (held_on h.asked.conn checks) o.0, alone_mapped f checks k o.1)
 
 before_mapped : (f : Held → Held) (n : ℕ) (checks : List Held) → IsKeeping f → all_before n (map f checks) ≡ all_before n checks
 before_mapped f n [] k = refl
@@ -72,8 +67,7 @@ before_mapped f n (h ∷ checks) k = ap₂ (λ (m : ℕ) (b : Bool). nat_lt m n 
 pub asked_mapped : (f : Held → Held) (check : ℕ → Option ℕ) (checks : List Held) (asks : ℕ) → IsKeeping f → AreAsked check checks asks → AreAsked check (map f checks) asks
 asked_mapped f check checks asks k a = record {
   on_conns = λ c. a.on_conns c ∙ sym (ap (option_map held_number) (on_mapped f c checks k) ∙ number_mapped f (held_on c checks) k);
-  own_conns = own_mapped f checks k a.own_conns;
-  rise = subst Rises (sym (numbers_mapped f checks k)) a.rise;
+  alone = alone_mapped f checks k a.alone;
   given = before_mapped f (suc asks) checks k ∙ a.given;
   few = a.few;
 }
@@ -99,3 +93,10 @@ counted_mapped f current epoch checks k a = record {
   counts = λ e x is. a.counts e x is ∙ sym (count_mapped f e checks k);
   parts = a.parts;
 }
+
+-- so do steps
+pub asked_stepped : (n : ℕ) (s : StepSays) (check : ℕ → Option ℕ) (checks rows : List Held) (asks : ℕ) → rows ≡ after_step n s checks → AreAsked check checks asks → AreAsked check rows asks
+asked_stepped n s check checks rows asks is a = subst (λ r. AreAsked check r asks) (sym is) (asked_mapped (λ h. if n == h.number then stepped s h else h) check checks asks (step_keeps n s) a)
+
+pub counted_stepped : (n : ℕ) (s : StepSays) (current : ℕ) (epoch : ℕ → Option EpochState) (checks rows : List Held) → rows ≡ after_step n s checks → AreCounted current epoch checks → AreCounted current epoch rows
+counted_stepped n s current epoch checks rows is a = subst (λ r. AreCounted current epoch r) (sym is) (counted_mapped (λ h. if n == h.number then stepped s h else h) current epoch checks (step_keeps n s) a)

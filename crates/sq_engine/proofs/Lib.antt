@@ -1,3 +1,12 @@
 -- Lemmas, by subject.
 mod TableLaws
 mod HeldLaws
+mod PlaceLaws
+mod FreshLaws
+mod OpenLaws
+mod StepLaws
+mod LookupLaws
+mod ChangedLaws
+mod PartLaws
+mod ResolveLaws
+mod ResolvedLaws

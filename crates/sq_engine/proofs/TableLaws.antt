@@ -59,6 +59,10 @@ changed_at m n f (e ∷ es) = by (m == e.0) (n == e.0) refl refl (changed_at m n
     by false true x y more = rw (x, same_key n e.0, y, apart_left m n e.0 x y) refl
     by false false x y more = rw (x, same_key n e.0, y) more
 
+both_none : {A : Type 0} (b : Bool) (o p : Option A) → b ≡ true → none_if b o ≡ none_if b p
+both_none true o p e = refl
+both_none false o p e = absurd (cc)
+
 -- what stands at a number, where check m was taken out
 pub removed_at : (m n : ℕ) (es : List (ℕ × CheckParts)) → value_at (without_entry m es) n ≡ none_if (m == n) (value_at es n)
 removed_at m n [] = sym (none_none (m == n))
@@ -66,10 +70,10 @@ removed_at m n (e ∷ es) = by (m == e.0) (n == e.0) refl refl (removed_at m n e
   where
     by : (s t : Bool) → (m == e.0) ≡ s → (n == e.0) ≡ t → value_at (without_entry m es) n ≡ none_if (m == n) (value_at es n)
         → value_at (without_entry m (e ∷ es)) n ≡ none_if (m == n) (value_at (e ∷ es) n)
-    by true true x y more = let same = together m n e.0 x y in rw (x, same_key n e.0, y, same) (more ∙ ap (λ b. none_if b (value_at es n)) same)
+    by true true x y more = rw x (more ∙ both_none (m == n) (value_at es n) (value_at (e ∷ es) n) (together m n e.0 x y))
     by true false x y more = rw (x, same_key n e.0, y) more
-    by false true x y more = rw (x, same_key n e.0, y, apart_left m n e.0 x y) (rw (same_key n e.0, y) refl)
-    by false false x y more = rw (x, same_key n e.0, y) (rw (same_key n e.0, y) more)
+    by false true x y more = rw (x, same_key n e.0, y, apart_left m n e.0 x y) refl
+    by false false x y more = rw (x, same_key n e.0, y) more
 
 left : (a b : Bool) → (a && b) ≡ true → a ≡ true
 left true b h = refl

@@ -1,14 +1,13 @@
 -- What holds of every engine: its parts agree. No history is in it.
-use Rattle.std.specs.Prelude.{◌≡◌, ℕ, suc, ◌<◌, List, [], ◌∷◌, map, length, true, ◌==◌, if◌then◌else◌, Some, None, is_some}
+use Rattle.std.specs.Prelude.{◌≡◌, ℕ, suc, ◌<◌, List, [], length, true, ◌==◌, if◌then◌else◌, Some, None, is_some}
 use Rattle.std.specs.Option.{option_map}
 use Rattle.std.specs.declared.option.Option.{Option}
 use Rattle.sq_rules.specs.Limits.{last_number}
 use Rattle.sq_rules.specs.OpenLookups.{all_below, is_open_lookup, question_of}
-use Rattle.sq_rules.specs.Rising.{Rises}
 use Rattle.sq_rows.specs.CheckRows.{Held, held_on}
 use Rattle.sq_part.specs.Parts.{PartState}
 use Rattle.sq_checks.specs.Conns.{check_in}
-use Rattle.sq_checks.specs.OpenChecks.{CheckParts, all_before, of_epoch, rows_of}
+use Rattle.sq_checks.specs.OpenChecks.{AreAlone, CheckParts, all_before, of_epoch, rows_of}
 use Rattle.sq_checks.specs.Stages.{need_in}
 use Rattle.sq_checks.specs.Tables.{value_at}
 use Rattle.sq_checks.specs.declared.stages.Need.{Need}
@@ -16,19 +15,13 @@ use Rattle.sq_epochs.specs.EpochStates.{EpochState, epoch_at, part_at}
 use Rattle.sq_state.specs.States.{lives_with}
 use Rattle.sq_engine.specs.EngineViews.{EngineView, config_at, config_in}
 
--- no connection has two of these checks
-abbrev pub HaveOwnConns : List Held → Type 0
-HaveOwnConns [] = Unit {0}
-HaveOwnConns (h ∷ checks) = (held_on h.asked.conn checks ≡ None) × HaveOwnConns checks
-
 abbrev pub held_number : Held → ℕ
 held_number h = h.number
 
--- the open checks are those of the connections, each under a number that was given
+-- the open checks are those of the connections, one of each at most, under numbers that were given
 pub record AreAsked (check : ℕ → Option ℕ) (checks : List Held) (asks : ℕ) : Type 0 where
   pub on_conns : (c : ℕ) → check c ≡ option_map held_number (held_on c checks)
-  pub own_conns : HaveOwnConns checks
-  pub rise : Rises (map held_number checks)
+  pub alone : AreAlone checks
   pub given : all_before (suc asks) checks ≡ true
   pub few : asks < last_number
 

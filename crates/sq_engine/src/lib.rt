@@ -8,5 +8,6 @@
 
 mod engines;
 mod opening;
+mod stepping;
 
 pub use engines::Engine;

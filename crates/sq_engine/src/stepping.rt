@@ -1,0 +1,83 @@
+//! A check goes on.
+ghost use Rattle.std.specs.Prelude.{◌≡◌, ◌^◌, ℕ, max, true, false, is_some, IfSome, OnOk, OnErr, Some, None};
+ghost use Rattle.sq_base.specs.Distinct.{has_answer};
+ghost use Rattle.sq_rules.specs.FullNext.{step_next};
+ghost use Rattle.sq_rules.specs.StepRule.{class_of_acl, says_done};
+ghost use Rattle.sq_rules.specs.declared.values.Value.TheVariants as value;
+ghost use Rattle.sq_rows.specs.CheckRows.{after_step};
+ghost use Rattle.sq_checks.specs.OpenChecks.{change_at, comes_to, rows_of, settled};
+ghost use Rattle.sq_checks.specs.Stages.{is_idle, is_settled, need_in};
+ghost use Rattle.sq_checks.specs.Tables.{value_at};
+ghost use Rattle.sq_epochs.specs.EpochStates.{part_at};
+ghost use Rattle.sq_state.specs.Changes.{after_step_of};
+ghost use Rattle.sq_state.specs.Says.{says_place_in};
+ghost use Rattle.sq_state.specs.States.{IsSame};
+ghost use Rattle.sq_engine.specs.EngineViews.{state_of};
+ghost use Rattle.sq_engine.specs.Stepping.{after_step_now, epoch_of, says_waits, step_now, stepped_told};
+ghost use Rattle.sq_engine.specs.Tellings.{IsTold};
+
+use crate::engines::{Engine, later};
+use sq_base::{CheckNo, Copying, EpochNo, Moment, QuestionNo, Text, WantOfMemory};
+use sq_part::ResolveFault;
+use sq_rows::{Said, Stepped};
+use sq_rules::{Outcome, Refusal};
+use std::alloc::Global;
+
+// The same answer of a step.
+fn again(stepped: &Stepped) -> Stepped
+    ensures { result ≡ stepped.now }
+{
+    match stepped {
+        Stepped::Took(class) => Stepped::Took(*class),
+        Stepped::Waits(question) => Stepped::Waits(*question),
+        Stepped::Done => Stepped::Done,
+    }
+}
+
+impl Engine {
+    // A step of a check that waits for this question, which is of this class and key.
+    fn wait_on(
+        &mut self,
+        check: CheckNo,
+        question: QuestionNo,
+        class: u32,
+        key: Text,
+        moment: Moment,
+    )
+        requires there { is_some (value_at self.old.checks check) ≡ true }
+        requires waits { IfSome (value_at self.old.checks check) (λ k. need_in k.stage ≡ Some (record { question = question; class = class; key = key })) }
+        requires other { IfSome (value_at self.old.checks check) (λ k. has_answer k.answers class key ≡ false) }
+        ensures value { self.new ≡ record self.old { checks = self.new.checks; latest = moment } }
+        ensures rows { rows_of self.new.checks ≡ after_step check (says_waits question) (rows_of self.old.checks) }
+    {
+        let said = Said {
+            stepped: Stepped::Waits(question),
+            took: None,
+            put: false,
+        };
+        self.checks.note(check, said, class, key);
+        self.latest = moment;
+    }
+
+    // Puts the answer that came to a check among its others, if one did.
+    fn settle(&mut self, alloc: Global, check: CheckNo) -> Result<(), WantOfMemory>
+        ensures value { self.new ≡ record self.old { checks = self.new.checks } }
+        ensures ok { OnOk result (self.new.checks ≡ change_at check settled self.old.checks) }
+        ensures rows { rows_of self.new.checks ≡ rows_of self.old.checks }
+    {
+        self.checks.settle(alloc, check)
+    }
+
+    // A step of a check that has come to this verdict.
+    fn decide(&mut self, check: CheckNo, outcome: Outcome, moment: Moment)
+        requires there { is_some (value_at self.old.checks check) ≡ true }
+        requires settled { IfSome (value_at self.old.checks check) (λ k. is_settled k.stage ≡ true) }
+        requires idle { IfSome (value_at self.old.checks check) (λ k. need_in k.stage ≡ None) }
+        requires verdict { IfSome (value_at self.old.checks check) (λ k. comes_to k ≡ value.Verdict outcome) }
+        ensures value { self.new ≡ record self.old { checks = self.new.checks; latest = moment } }
+        ensures rows { rows_of self.new.checks ≡ after_step check says_done (rows_of self.old.checks) }
+    {
+        self.checks.finish(check, outcome);
+        self.latest = moment;
+    }
+}
