@@ -10,3 +10,4 @@ mod ChangedLaws
 mod PartLaws
 mod ResolveLaws
 mod ResolvedLaws
+mod HandingLaws
