@@ -3,3 +3,4 @@ mod PartLaws
 mod FindLaws
 pub mod HomeLaws
 mod OutcomeLaws
+mod ProcLaws
