@@ -22,6 +22,7 @@ use Rattle.sq_checks.specs.declared.stages.Stage.{Stage}
 use Rattle.sq_checks.specs.declared.stages.Stage.TheVariants as stage
 use Rattle.sq_epochs.specs.EpochChanges.{HasNoLoss, IsHandedOn}
 use Rattle.sq_epochs.specs.EpochStates.{EpochState, EpochsState, IsChanged, change_epoch, epoch_at, epoch_in, part_at, part_of, with_part}
+use Rattle.sq_epochs.specs.HomeStates.{Home}
 use Rattle.sq_engine.specs.Handing.{AreListed, HasHandedOut, all_lost, still_waits}
 use Rattle.sq_engine.proofs.PlaceLaws.{part_changed}
 use Rattle.sq_engine.proofs.TableLaws.{ended_at, number_is, number_self, number_sym}
@@ -182,6 +183,32 @@ changed_twice e c R S T old mid new join i j =
       new_is = j.new_is ∙ ap (λ (z : EpochsState). record z { epochs = change_epoch e (with_part c j.after) z.epochs }) i.new_is
           ∙ ap (λ xs. record old { epochs = xs }) (epoch_twice e c i.after j.after old.epochs);
     }
+
+-- one part is changed, and then once more
+pub changed_then : (e c : ℕ) (R S T : PartState → PartState → Type 0) (old mid new : EpochsState) (i : IsChanged e c R old mid) (j : IsChanged e c S mid new) → T i.before j.after → IsChanged e c T old new
+changed_then e c R S T old mid new i j change = record {
+  before = i.before;
+  after = j.after;
+  was = i.was;
+  change = change;
+  new_is = j.new_is ∙ ap (λ (z : EpochsState). record z { epochs = change_epoch e (with_part c j.after) z.epochs }) i.new_is
+      ∙ ap (λ xs. record old { epochs = xs }) (epoch_twice e c i.after j.after old.epochs);
+}
+
+-- what was changed first is what is changed then
+pub same_between : (e c : ℕ) (R S : PartState → PartState → Type 0) (old mid new : EpochsState) (i : IsChanged e c R old mid) (j : IsChanged e c S mid new) → j.before ≡ i.after
+same_between e c R S old mid new i j = same_Some j.before i.after (sym j.was ∙ (part_changed e c R old mid i).here)
+
+-- homes and stops beside it are others
+pub changed_beside : (e c : ℕ) (R : PartState → PartState → Type 0) (old new : EpochsState) (homes : List Home) (stops : List ℕ) → IsChanged e c R old new
+    → IsChanged e c R (record old { homes = homes; stops = stops }) (record new { homes = homes; stops = stops })
+changed_beside e c R old new homes stops i = record {
+  before = i.before;
+  after = i.after;
+  was = i.was;
+  change = i.change;
+  new_is = ap (λ (z : EpochsState). record z { homes = homes; stops = stops }) i.new_is;
+}
 
 -- or not at all
 pub changed_not : (e c : ℕ) (R : PartState → PartState → Type 0) (v : EpochsState) → is_some (part_at v e c) ≡ true → ((p : PartState) → R p p) → IsChanged e c R v v

@@ -11,3 +11,6 @@ mod PartLaws
 mod ResolveLaws
 mod ResolvedLaws
 mod HandingLaws
+mod KeyLaws
+mod LostLaws
+mod EndedLaws
