@@ -14,3 +14,4 @@ mod HandingLaws
 mod KeyLaws
 mod LostLaws
 mod EndedLaws
+mod AskingLaws

@@ -27,7 +27,7 @@ use Rattle.sq_checks.specs.Stages.{is_noted, need_in, noted_stage, question_told
 use Rattle.sq_checks.specs.Tables.{value_at}
 use Rattle.sq_checks.specs.declared.stages.Need.{Need}
 use Rattle.sq_epochs.specs.EpochChanges.{IsResolved}
-use Rattle.sq_epochs.specs.EpochStates.{EpochsState, IsChanged, class_at, epoch_at, part_at}
+use Rattle.sq_epochs.specs.EpochStates.{EpochsState, IsChanged, class_at, epoch_at, part_at, row_at}
 use Rattle.sq_state.specs.States.{IsSame}
 use Rattle.sq_engine.specs.Engines.{AreConfigured, AreFed, AreKeyed, AreWaiting, IsEngine, asked_of, waits_at}
 use Rattle.sq_engine.specs.EngineViews.{EngineView, config_at, config_in, state_of}
@@ -193,5 +193,64 @@ resolved_engine v t e c n key class said new cs puts i a ch list rows put =
       waiting = subst (λ es. AreWaiting (part_at new) (value_at es)) (sym list) (waiting_resolved v t e c n key class said new i a ch);
       fed = fed_resolved v t e c n key class said new puts i ch put;
       keyed = subst (λ es. AreKeyed (part_at new) (value_at es)) (sym list) (keyed_resolved v.epochs new v.checks t e c n v.puts key class said a.check i.keyed i.fed.below a.found a.epoch_is ch);
+      setup_is = ap (config_at new) k.current_is ∙ configs_kept e c ch.before ch.after v.epochs new k v.epochs.current ∙ i.setup_is;
+    }
+
+row_before : (v : EngineView) (e c : ℕ) (new : EpochsState) (ch : IsChanged e c IsAsBefore v.epochs new) → (f d : ℕ) → row_at new f d ≡ row_at v.epochs f d
+row_before v e c new ch f d = by (e == f && c == d) refl
+  where
+    both : (a b : Bool) → (a && b) ≡ true → (a ≡ true) × (b ≡ true)
+    both true b h = (refl, h)
+    both false b h = absurd (cc)
+
+    k : PartChanged e c ch.before ch.after v.epochs new
+    k = part_changed e c IsAsBefore v.epochs new ch
+
+    by : (b : Bool) → (e == f && c == d) ≡ b → row_at new f d ≡ row_at v.epochs f d
+    by true x =
+        let two = both (e == f) (c == d) x in
+        let here : row_at new e c ≡ row_at v.epochs e c = ap (option_map (λ p. p.row)) k.here ∙ ap Some ch.change.row_is ∙ sym (ap (option_map (λ p. p.row)) ch.was) in
+        subst (λ g. row_at new g d ≡ row_at v.epochs g d) (number_is e f two.0) (subst (λ j. row_at new e j ≡ row_at v.epochs e j) (number_is c d two.1) here)
+    by false x = ap (option_map (λ p. p.row)) (k.other f d x)
+
+-- a step that failed leaves the state
+pub same_before : (v : EngineView) (e c : ℕ) (new : EpochsState) → IsChanged e c IsAsBefore v.epochs new → IsSame (state_of (record v { epochs = new })) (state_of v)
+same_before v e c new ch =
+    let k = part_changed e c IsAsBefore v.epochs new ch in
+    record {
+      clients_are = λ d. refl;
+      conns_are = refl;
+      from_are = λ a. refl;
+      checks_are = refl;
+      asks_are = refl;
+      puts_are = refl;
+      current_is = k.current_is;
+      configs_are = λ f. configs_kept e c ch.before ch.after v.epochs new k f;
+      rows_are = λ f d. row_before v e c new ch f d;
+      procs_are = k.procs_are;
+      homes_are = k.homes_are;
+      stops_are = k.stops_are;
+      latest_is = refl;
+      offset_is = refl;
+    }
+
+-- and the engine is one still
+pub before_engine : (v : EngineView) (e c : ℕ) (new : EpochsState) → IsEngine v → IsChanged e c IsAsBefore v.epochs new → IsEngine (record v { epochs = new })
+before_engine v e c new i ch =
+    let k = part_changed e c IsAsBefore v.epochs new ch in
+    let row = ch.change.row_is in
+    record {
+      asked = i.asked;
+      counted = counted_part e c ch.before ch.after v.epochs new (rows_of v.checks) k i.counted;
+      configured = configured_part e c ch.before ch.after v.epochs new (value_at v.checks) k i.configured;
+      waiting = waiting_part e c ch.before ch.after v.epochs new (value_at v.checks) (value_at v.checks) k i.waiting (λ n. ch.change.waiting_are n ∙ i.waiting.waits e c ch.before ch.was n)
+          (λ f d n apart there. refl) i.waiting.there;
+      fed = fed_changed e c ch.before ch.after v.epochs new v.puts v.puts k i.fed
+          (record {
+            below = ap (λ r. all_below (suc v.puts) r.lookups) row ∙ i.fed.below e c ch.before ch.was;
+            none_lost = ap (λ r. r.stock.losses) row ∙ i.fed.none_lost e c ch.before ch.was;
+            waits_open = λ n q waits. ap (λ r. is_open_lookup q r.lookups) row ∙ i.fed.waits_open e c n q ch.before ch.was (sym (ch.change.waiting_are n) ∙ waits);
+          })
+          (λ q here. inl (ap (λ r. is_open_lookup q r.lookups) (sym row) ∙ here)) (λ p h. h) i.fed.few;
       setup_is = ap (config_at new) k.current_is ∙ configs_kept e c ch.before ch.after v.epochs new k v.epochs.current ∙ i.setup_is;
     }

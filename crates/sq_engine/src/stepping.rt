@@ -1,5 +1,5 @@
 //! A check goes on.
-ghost use Rattle.std.specs.Prelude.{◌≡◌, ◌^◌, ℕ, max, true, false, is_some, IfSome, OnOk, OnErr, Some, None};
+ghost use Rattle.std.specs.Prelude.{◌≡◌, ◌<◌, ◌^◌, suc, if◌then◌else◌, ℕ, max, true, false, is_some, IfSome, OnOk, OnErr, Some, None};
 ghost use Rattle.sq_base.specs.Distinct.{has_answer};
 ghost use Rattle.sq_rules.specs.FullNext.{step_next};
 ghost use Rattle.sq_rules.specs.StepRule.{class_of_acl, says_done};
@@ -32,6 +32,14 @@ fn again(stepped: &Stepped) -> Stepped
         Stepped::Waits(question) => Stepped::Waits(*question),
         Stepped::Done => Stepped::Done,
     }
+}
+
+// How many questions were put, with one that is put.
+fn puts_after(puts: u64, put: bool) -> u64
+    requires { puts < 2 ^ 63 }
+    ensures { result ≡ (if put then suc puts else puts) }
+{
+    if put { puts + 1 } else { puts }
 }
 
 impl Engine {
@@ -79,5 +87,40 @@ impl Engine {
     {
         self.checks.finish(check, outcome);
         self.latest = moment;
+    }
+
+    // A step of a check that needs the answer of this key of the class at this place of its epoch.
+    fn resolve(
+        &mut self,
+        alloc: Global,
+        check: CheckNo,
+        epoch: EpochNo,
+        class: u32,
+        key: Text,
+        moment: Moment,
+    ) -> Result<Stepped, Refusal>
+        requires there { is_some (value_at self.old.checks check) ≡ true }
+        requires part { is_some (part_at self.old.epochs epoch class) ≡ true }
+        requires of_epoch { IfSome (value_at self.old.checks check) (λ k. k.epoch ≡ epoch) }
+        requires idle { IfSome (value_at self.old.checks check) (λ k. is_idle k.stage ≡ true) }
+        requires needs_none { IfSome (value_at self.old.checks check) (λ k. need_in k.stage ≡ None) }
+        requires other { IfSome (value_at self.old.checks check) (λ k. has_answer k.answers class key ≡ false) }
+        ensures told { IsTold (stepped_told (state_of self.old) epoch) (step_next self.old.puts (says_place_in (state_of self.old) moment epoch key (Some class))) result }
+        ensures ok { OnOk result (IsSame (state_of self.new) (after_step_of check epoch (says_place_in (state_of self.old) moment epoch key (Some class)) moment (state_of self.old))) }
+        ensures err { OnErr result (IsSame (state_of self.new) (state_of self.old)) }
+    {
+        let said = match self
+            .epochs
+            .resolve(alloc, epoch, class, &key, moment, check, self.puts)
+        {
+            Ok(said) => said,
+            Err(ResolveFault::Spent) => return Err(Refusal::Spent(self.puts + 1)),
+            Err(ResolveFault::WantOfMemory) => return Err(Refusal::WantOfMemory),
+        };
+        let stepped = again(&said.stepped);
+        self.puts = puts_after(self.puts, said.put);
+        self.checks.note(check, said, class, key);
+        self.latest = moment;
+        Ok(stepped)
     }
 }
