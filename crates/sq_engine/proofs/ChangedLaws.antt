@@ -14,7 +14,8 @@ use Rattle.sq_rules.specs.declared.outcomes.Outcome.{Outcome}
 use Rattle.sq_rows.specs.declared.said.Stepped.TheVariants as told
 use Rattle.sq_epochs.specs.EpochStates.{EpochState, epoch_at, part_at}
 use Rattle.sq_part.specs.Parts.{PartState}
-use Rattle.sq_engine.specs.Engines.{AreAsked, AreConfigured, AreCounted, AreWaiting, IsEngine, asked_of, waits_at}
+use Rattle.sq_engine.proofs.KeyLaws.{keyed_from}
+use Rattle.sq_engine.specs.Engines.{AreKeyed, AreAsked, AreConfigured, AreCounted, AreWaiting, IsEngine, asked_of, waits_at}
 use Rattle.sq_engine.specs.EngineViews.{EngineView, config_in}
 use Rattle.sq_engine.proofs.TableLaws.{changed_at, mapped_if, number_is}
 
@@ -68,6 +69,15 @@ waiting_changed part es n f keeps a = record {
       ap (λ z. is_some (part z x.class)) w.keeps.epoch_is ∙ a.there m w.check x w.was (sym w.keeps.need_is ∙ needs);
 }
 
+-- and waits with the key with which it waited
+pub keyed_changed : (part : ℕ → ℕ → Option PartState) (es : List (ℕ × CheckParts)) (n : ℕ) (f : CheckParts → CheckParts) → ((m : ℕ) → (n == m) ≡ true → (j : CheckParts) → value_at es m ≡ Some j → Keeps j (f j))
+    → AreKeyed part (value_at es) → AreKeyed part (value_at (change_at n f es))
+keyed_changed part es n f keeps a =
+    keyed_from part part (value_at es) (value_at (change_at n f es)) a (λ e c p is. record { part = p; was = is; lookups_are = refl })
+    (λ m k x is needs.
+        let w = was_check Keeps (n == m) f (value_at es m) k keeps_self (keeps m) (sym (changed_at n m f es) ∙ is) in
+        record { check = w.check; was = w.was; epoch_is = sym w.keeps.epoch_is; need_is = sym w.keeps.need_is ∙ needs })
+
 -- the engine after such a change of a check, where its row is one of the same check
 pub changed_engine : (v : EngineView) (cs : List (ℕ × CheckParts)) (t n : ℕ) (f : CheckParts → CheckParts) → IsEngine v → cs ≡ change_at n f v.checks
     → AreAsked (check_in v.conns) (rows_of cs) v.asks → AreCounted v.epochs.current (epoch_at v.epochs) (rows_of cs)
@@ -79,6 +89,7 @@ changed_engine v cs t n f i list asked counted keeps = record {
       (configured_changed (epoch_at v.epochs) v.checks n f (λ m same j is. let k = keeps m same j is in record { epoch_is = k.epoch_is; config_is = k.config_is }) i.configured);
   waiting = subst (λ es. AreWaiting (part_at v.epochs) (value_at es)) (sym list) (waiting_changed (part_at v.epochs) v.checks n f keeps i.waiting);
   fed = i.fed;
+  keyed = subst (λ es. AreKeyed (part_at v.epochs) (value_at es)) (sym list) (keyed_changed (part_at v.epochs) v.checks n f keeps i.keyed);
   setup_is = i.setup_is;
 }
 

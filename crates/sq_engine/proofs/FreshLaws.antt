@@ -18,7 +18,7 @@ use Rattle.sq_checks.specs.Tables.{value_at}
 use Rattle.sq_epochs.specs.EpochStates.{EpochState, EpochsState, epoch_at, epoch_in, home_at, new_epoch, new_part, part_at, part_of, row_at}
 use Rattle.sq_state.specs.Changes.{first_state}
 use Rattle.sq_state.specs.States.{IsSame, lives_with}
-use Rattle.sq_engine.specs.Engines.{AreAsked, AreConfigured, AreCounted, AreFed, AreWaiting, IsEngine, held_number, waits_at}
+use Rattle.sq_engine.specs.Engines.{AreAsked, AreConfigured, AreCounted, AreFed, AreOnce, AreWaiting, IsEngine, held_number, waits_at}
 use Rattle.sq_engine.specs.EngineViews.{EngineView, config_at, config_in, state_of, stop_at}
 
 -- the epochs that begin
@@ -102,6 +102,10 @@ fresh_engine v config offset now f =
         waits_open = λ e c n q p is waits. let h = ap (λ z. question_of n z.waiting) (part e c p is).1 ∙ waits in absurd (cc);
         none_lost = λ e c p is. ap (λ z. z.row.stock.losses) (sym (part e c p is).1);
         few = subst (λ n. n < last_number) (sym f.puts_are) few_zero;
+      };
+      keyed = record {
+        once = λ e c p is. subst (λ z. AreOnce z.row.lookups) (part e c p is).1 tt;
+        keys = λ n k x p is. absurd (none_of _ k (none n) is);
       };
       setup_is = ap (λ z. config_at z z.current) f.epochs_are ∙ ap Some (sym f.setup_is);
     }

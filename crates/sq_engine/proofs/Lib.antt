@@ -10,5 +10,9 @@ mod ChangedLaws
 mod PartLaws
 mod ResolveLaws
 mod ResolvedLaws
+mod HandingLaws
+mod KeyLaws
+mod LostLaws
+mod EndedLaws
 mod AskingLaws
 mod NowLaws

@@ -43,6 +43,7 @@ opened_engine v k t c p o i = record {
   configured = i.configured;
   waiting = i.waiting;
   fed = i.fed;
+  keyed = i.keyed;
   setup_is = i.setup_is;
 }
 

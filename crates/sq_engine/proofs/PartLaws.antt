@@ -61,7 +61,7 @@ IsOwn part e c before after =
     (q : ℕ) → is_open_lookup q after.row.lookups ≡ true
     → (is_open_lookup q before.row.lookups ≡ true) ⊎ ((f d : ℕ) (p : PartState) → part f d ≡ Some p → is_open_lookup q p.row.lookups ≡ true → (e ≡ f) × (c ≡ d))
 
-two_ways : {A B C : Type 0} → A ⊎ B → (A → C) → (B → C) → C
+pub two_ways : {A B C : Type 0} → A ⊎ B → (A → C) → (B → C) → C
 two_ways (inl a) f g = f a
 two_ways (inr b) f g = g b
 

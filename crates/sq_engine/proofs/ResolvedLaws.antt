@@ -29,10 +29,11 @@ use Rattle.sq_checks.specs.declared.stages.Need.{Need}
 use Rattle.sq_epochs.specs.EpochChanges.{IsResolved}
 use Rattle.sq_epochs.specs.EpochStates.{EpochsState, IsChanged, class_at, epoch_at, part_at, row_at}
 use Rattle.sq_state.specs.States.{IsSame}
-use Rattle.sq_engine.specs.Engines.{AreConfigured, AreFed, AreWaiting, IsEngine, asked_of, waits_at}
+use Rattle.sq_engine.specs.Engines.{AreConfigured, AreFed, AreKeyed, AreWaiting, IsEngine, asked_of, waits_at}
 use Rattle.sq_engine.specs.EngineViews.{EngineView, config_at, config_in, state_of}
 use Rattle.sq_engine.proofs.ChangedLaws.{KeepsEpoch, configured_changed}
 use Rattle.sq_engine.proofs.HeldLaws.{asked_stepped, counted_stepped}
+use Rattle.sq_engine.proofs.KeyLaws.{keyed_resolved}
 use Rattle.sq_engine.proofs.LookupLaws.{losses_put, need_open, not_open, open_still, put_below, put_higher, puts_after, was_open}
 use Rattle.sq_engine.proofs.PartLaws.{IsOwn, PartFed, fed_changed, waiting_part}
 use Rattle.sq_engine.proofs.PlaceLaws.{PartChanged, configs_kept, configured_part, counted_part, part_changed}
@@ -191,6 +192,7 @@ resolved_engine v t e c n key class said new cs puts i a ch list rows put =
           (configured_changed (epoch_at v.epochs) v.checks n (noted said c key) (λ m same j is. record { epoch_is = refl; config_is = refl }) i.configured));
       waiting = subst (λ es. AreWaiting (part_at new) (value_at es)) (sym list) (waiting_resolved v t e c n key class said new i a ch);
       fed = fed_resolved v t e c n key class said new puts i ch put;
+      keyed = subst (λ es. AreKeyed (part_at new) (value_at es)) (sym list) (keyed_resolved v.epochs new v.checks t e c n v.puts key class said a.check i.keyed i.fed.below a.found a.epoch_is ch);
       setup_is = ap (config_at new) k.current_is ∙ configs_kept e c ch.before ch.after v.epochs new k v.epochs.current ∙ i.setup_is;
     }
 

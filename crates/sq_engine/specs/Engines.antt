@@ -1,9 +1,9 @@
 -- What holds of every engine: its parts agree. No history is in it.
-use Rattle.std.specs.Prelude.{◌≡◌, ℕ, suc, ◌<◌, List, [], length, true, ◌==◌, if◌then◌else◌, Some, None, is_some}
+use Rattle.std.specs.Prelude.{◌≡◌, ℕ, suc, ◌<◌, List, [], ◌∷◌, length, true, false, ◌==◌, if◌then◌else◌, Some, None, is_some}
 use Rattle.std.specs.Option.{option_map}
 use Rattle.std.specs.declared.option.Option.{Option}
 use Rattle.sq_rules.specs.Limits.{last_number}
-use Rattle.sq_rules.specs.OpenLookups.{all_below, is_open_lookup, question_of}
+use Rattle.sq_rules.specs.OpenLookups.{LookupRow, all_below, is_open_lookup, key_of, question_of}
 use Rattle.sq_rows.specs.CheckRows.{Held, held_on}
 use Rattle.sq_part.specs.Parts.{PartState}
 use Rattle.sq_checks.specs.Conns.{check_in}
@@ -59,6 +59,16 @@ pub record AreFed (part : ℕ → ℕ → Option PartState) (puts : ℕ) : Type 
   pub none_lost : (e c : ℕ) (p : PartState) → part e c ≡ Some p → p.row.stock.losses ≡ []
   pub few : puts < last_number
 
+-- no question is open twice
+abbrev pub AreOnce : List LookupRow → Type 0
+AreOnce [] = Unit {0}
+AreOnce (l ∷ rows) = (is_open_lookup l.question rows ≡ false) × AreOnce rows
+
+-- each question is open once, and a check waits with the key with which its question was put
+pub record AreKeyed (part : ℕ → ℕ → Option PartState) (check : ℕ → Option CheckParts) : Type 0 where
+  pub once : (e c : ℕ) (p : PartState) → part e c ≡ Some p → AreOnce p.row.lookups
+  pub keys : (n : ℕ) (k : CheckParts) (x : Need) (p : PartState) → check n ≡ Some k → need_in k.stage ≡ Some x → part k.epoch x.class ≡ Some p → key_of x.question p.row.lookups ≡ Some x.key
+
 -- the parts of an engine agree
 pub record IsEngine (v : EngineView) : Type 0 where
   pub asked : AreAsked (check_in v.conns) (rows_of v.checks) v.asks
@@ -66,4 +76,5 @@ pub record IsEngine (v : EngineView) : Type 0 where
   pub configured : AreConfigured (epoch_at v.epochs) (value_at v.checks)
   pub waiting : AreWaiting (part_at v.epochs) (value_at v.checks)
   pub fed : AreFed (part_at v.epochs) v.puts
+  pub keyed : AreKeyed (part_at v.epochs) (value_at v.checks)
   pub setup_is : config_at v.epochs v.epochs.current ≡ Some v.setup

@@ -7,6 +7,7 @@
 #![tactic(auto)]
 
 mod engines;
+mod handing;
 mod opening;
 mod stepping;
 

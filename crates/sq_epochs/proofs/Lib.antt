@@ -1,4 +1,6 @@
 mod EpochLaws
 mod PartLaws
 mod FindLaws
+pub mod HomeLaws
 mod OutcomeLaws
+mod ProcLaws

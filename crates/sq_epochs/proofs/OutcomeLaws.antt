@@ -57,6 +57,10 @@ pub both_ok : {A B : Type 0} (r : Result A B) (P Q R : Type 0) → OnOk r P → 
 both_ok (Ok s) P Q R p q f = f p q
 both_ok (Err e) P Q R p q f = tt
 
+pub three_ok : {A B : Type 0} (r : Result A B) (P Q S R : Type 0) → OnOk r P → OnOk r Q → OnOk r S → (P → Q → S → R) → OnOk r R
+three_ok (Ok s) P Q S R p q t f = f p q t
+three_ok (Err e) P Q S R p q t f = tt
+
 pub both_err : {A B : Type 0} (r : Result A B) (P Q R : Type 0) → OnErr r P → OnErr r Q → (P → Q → R) → OnErr r R
 both_err (Ok s) P Q R p q f = tt
 both_err (Err e) P Q R p q f = f p q

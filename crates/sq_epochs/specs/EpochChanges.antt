@@ -1,15 +1,16 @@
 -- What the calls of one class do to its part, as changes of a part.
-use Rattle.std.specs.Prelude.{◌≡◌, ℕ, ◌==◌, if◌then◌else◌, None, List, []}
+use Rattle.std.specs.Prelude.{◌≡◌, ℕ, ◌==◌, ◌&&◌, if◌then◌else◌, None, Some, List, []}
+use Rattle.sq_base.specs.declared.helpers.Cause.TheVariants as cause
 use Rattle.sq_rules.specs.Classes.{Class}
 use Rattle.sq_rules.specs.OpenLookups.{question_of}
 use Rattle.sq_rows.specs.StepRows.{says_of_row}
 use Rattle.sq_rows.specs.declared.said.Said.{Said}
 use Rattle.sq_base.specs.declared.helpers.What.{What}
 use Rattle.sq_lookup.specs.Waits.{has_check}
-use Rattle.sq_rules.specs.Farms.{failed}
+use Rattle.sq_rules.specs.Farms.{failed, is_last_start}
 use Rattle.sq_rules.specs.OpenLookups.{waits_in}
-use Rattle.sq_rows.specs.ClassRows.{after_failed, after_reply}
-use Rattle.sq_part.specs.Losing.{IsHandedOut, handed_out}
+use Rattle.sq_rows.specs.ClassRows.{after_failed, after_reply, is_waiting}
+use Rattle.sq_part.specs.Losing.{IsHandedOut, handed_out, lost_cause}
 use Rattle.sq_part.specs.declared.lost.Lost.{Lost}
 use Rattle.sq_part.specs.Parts.{PartState}
 use Rattle.sq_part.specs.Steps.{IsStepped}
@@ -43,10 +44,11 @@ pub record HasNoLoss (old new : PartState) : Type 0 where
   pub same : new ≡ old
   pub done : handed_out old.row ≡ old.row
 
--- a start failed; once the questions that it lost were handed out, the row is that of a failed start
+-- a start failed; these questions are lost, and once they were handed out, the row is that of a failed start
 pub record HasFailed (old new : PartState) : Type 0 where
   pub value : new ≡ record old { row = record old.row { stock = failed old.row.stock } }
   pub after : old.row.stock.losses ≡ [] → handed_out new.row ≡ after_failed old.row
+  pub lost : old.row.stock.losses ≡ [] → (q : ℕ) → lost_cause q new.row.stock.losses ≡ (if is_last_start old.row.stock && is_waiting q old.row.stock.queue then Some cause.NoHelper else None)
 
 -- no start was open, and nothing changed
 pub record HasNoStart (old new : PartState) : Type 0 where

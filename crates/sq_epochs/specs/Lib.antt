@@ -1,4 +1,6 @@
 -- Definitions that the contracts cite.
+pub mod DueStates
 pub mod EpochChanges
+pub mod EpochProcs
 pub mod EpochStates
 pub mod HomeStates

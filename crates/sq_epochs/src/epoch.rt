@@ -8,6 +8,7 @@ ghost use Rattle.sq_rules.specs.Classes.{Class};
 ghost use Rattle.sq_rules.specs.OpenLookups.{all_below, question_of};
 ghost use Rattle.sq_rows.specs.StepRows.{says_of_row};
 ghost use Rattle.sq_epochs.specs.EpochStates.{IsEpochChanged, new_epoch, new_part};
+ghost use Rattle.sq_epochs.specs.EpochProcs.{SameLiving};
 ghost use Rattle.sq_epochs.specs.EpochChanges.{HasFailed, HasLeft, HasNoLoss, HasNoStart, HasReplied, IsHandedOn, IsResolved};
 ghost use Rattle.sq_rules.specs.Channels.{is_open};
 ghost use Rattle.sq_farm.specs.Replies.{got_of};
@@ -30,7 +31,7 @@ pub struct Epoch {
     pub(crate) number: EpochNo,
     pub(crate) config: Arc<Config>,
     pub(crate) checks: u64,
-    parts: Vec<Part>,
+    pub(crate) parts: Vec<Part>,
 }
 
 impl Model for Epoch {
@@ -99,6 +100,8 @@ impl Epoch {
         ensures ok { IfOk result (λ s. (k : Class) → slice_get self.old.config.classes class ≡ Some k → IsEpochChanged class (IsResolved k class key.now now check count s) self.old self.new) }
         ensures err { OnErr result (IsEpochChanged class IsAsBefore self.old self.new) }
         ensures number { self.new.epoch ≡ self.old.epoch }
+        ensures checks { self.new.checks ≡ self.old.checks }
+        ensures alive { SameLiving self.old self.new }
     {
         let rules = &self.config.classes()[class as usize];
         let part = &mut self.parts[class as usize];
@@ -108,7 +111,8 @@ impl Epoch {
     // Takes a check away from the list in which it waits in the class at this place.
     pub(crate) fn leave(&mut self, class: u32, check: CheckNo)
         requires there { class < length self.old.parts }
-        ensures { IsEpochChanged class (HasLeft check) self.old self.new }
+        ensures changed { IsEpochChanged class (HasLeft check) self.old self.new }
+        ensures alive { SameLiving self.old self.new }
     {
         let part = &mut self.parts[class as usize];
         part.leave(check);
@@ -129,6 +133,8 @@ impl Epoch {
         ensures ok { IfOk result (λ checks. (k : Class) → slice_get self.old.config.classes class ≡ Some k → IsEpochChanged class (HasReplied k proc question key what date checks) self.old self.new) }
         ensures err { OnErr result (IsEpochChanged class IsAsBefore self.old self.new) }
         ensures number { self.new.epoch ≡ self.old.epoch }
+        ensures checks { self.new.checks ≡ self.old.checks }
+        ensures alive { SameLiving self.old self.new }
     {
         let rules = &self.config.classes()[class as usize];
         let part = &mut self.parts[class as usize];
@@ -141,6 +147,8 @@ impl Epoch {
         ensures handed { IfSome result (λ l. IsEpochChanged class (IsHandedOn l) self.old self.new) }
         ensures none { IfNone result (IsEpochChanged class HasNoLoss self.old self.new) }
         ensures number { self.new.epoch ≡ self.old.epoch }
+        ensures checks { self.new.checks ≡ self.old.checks }
+        ensures alive { SameLiving self.old self.new }
     {
         let part = &mut self.parts[class as usize];
         part.next_lost()
@@ -152,6 +160,8 @@ impl Epoch {
         ensures ok { OnOk result (IsEpochChanged class HasFailed self.old self.new) }
         ensures err { OnErr result (IsEpochChanged class HasNoStart self.old self.new) }
         ensures number { self.new.epoch ≡ self.old.epoch }
+        ensures checks { self.new.checks ≡ self.old.checks }
+        ensures alive { SameLiving self.old self.new }
     {
         let part = &mut self.parts[class as usize];
         part.start_failed()

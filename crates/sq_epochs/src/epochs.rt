@@ -31,9 +31,9 @@ use std::sync::Arc;
 /// processes and the due stops.
 #[derive(Drop)]
 pub struct Epochs {
-    current: EpochNo,
-    epochs: Vec<Epoch>,
-    homes: Homes,
+    pub(crate) current: EpochNo,
+    pub(crate) epochs: Vec<Epoch>,
+    pub(crate) homes: Homes,
 }
 
 impl Model for Epochs {
@@ -48,7 +48,7 @@ impl Model for Epochs {
     ghost invariant = { λ v. Rises (map epoch_number v.epochs.items) };
 }
 
-fn place_of(epochs: &[Epoch], number: EpochNo) -> usize
+pub(crate) fn place_of(epochs: &[Epoch], number: EpochNo) -> usize
     requires { Rises (map epoch_number epochs.now) }
     ensures place { result ≡ place_among number (map epoch_number epochs.now) }
     ensures bound { result ≤ length epochs.now }
@@ -100,7 +100,7 @@ impl Epochs {
     }
 
     // The live epoch with this number.
-    fn epoch(&self, epoch: EpochNo) -> Option<&Epoch>
+    pub(crate) fn epoch(&self, epoch: EpochNo) -> Option<&Epoch>
         ensures { option_map (λ x. x.now) result ≡ epoch_at self.now epoch }
     {
         let place = place_of(&self.epochs, epoch);

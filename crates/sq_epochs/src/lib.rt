@@ -7,6 +7,10 @@
 
 mod epoch;
 mod epochs;
+mod faults;
 mod homes;
+mod procs;
+mod stops;
 
 pub use epochs::Epochs;
+pub use faults::StartedFault;

@@ -227,6 +227,13 @@ impl Farm {
         }
     }
 
+    /// Whether a start is open.
+    pub fn start_open(&self) -> bool
+        ensures { result ≡ not (self.now.starting == 0) }
+    {
+        self.starting != 0
+    }
+
     /// How many processes live.
     pub fn living(&self) -> usize
         ensures { result ≡ length self.now.procs }

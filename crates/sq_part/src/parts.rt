@@ -1,5 +1,5 @@
 //! `Part`: one helper class of one epoch, and what is asked of its processes.
-ghost use Rattle.std.specs.Prelude.{◌≡◌, ◌↔◌, [], ℕ, length, is_some, true, false, Some, None, if◌then◌else◌, ◌==◌, IfOk, IfSome, OnOk, OnErr, IsErrOf};
+ghost use Rattle.std.specs.Prelude.{◌≡◌, ◌↔◌, [], ℕ, length, is_some, true, false, not, Some, None, if◌then◌else◌, ◌==◌, IfOk, IfSome, OnOk, OnErr, IsErrOf};
 ghost use Rattle.sq_channel.specs.Gots.{names_open};
 ghost use Rattle.sq_farm.specs.Replies.{got_of};
 ghost use Rattle.sq_lookup.specs.Index.{IsListed};
@@ -98,6 +98,13 @@ impl Part {
         ensures { result ≡ start_due self.now.row.stock }
     {
         self.farm.start_due()
+    }
+
+    /// Whether a start is open.
+    pub fn start_open(&self) -> bool
+        ensures { result ≡ not (self.now.row.stock.starting == 0) }
+    {
+        self.farm.start_open()
     }
 
     /// A process was started for an open start.

@@ -1,1 +1,19 @@
 -- Laws of the machine's state.
+pub mod Lawful
+pub mod EndStands
+pub mod QuietStands
+pub mod InsideStands
+pub mod ActNext
+pub mod ActStands
+pub mod FailedEnds
+pub mod StartStands
+pub mod ReconfigureStands
+pub mod ConnStands
+pub mod PromiseLaws
+pub mod ActPromises
+pub mod StepStands
+pub mod PlaceStands
+pub mod DeathStands
+pub mod ReplyStands
+pub mod StepPromises
+pub mod LinePromises

@@ -4,3 +4,4 @@ pub mod Says
 pub mod Acts
 pub mod Changes
 pub mod Answers
+pub mod Promises

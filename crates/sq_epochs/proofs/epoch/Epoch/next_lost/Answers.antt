@@ -1,10 +1,12 @@
-use Rattle.std.proofs.Common.{◌≡◌, [], refl, map}
+use Rattle.std.proofs.Common.{◌≡◌, [], refl, map, subst}
 use Rattle.std.specs.Arc.{arc_value}
 use Rattle.sq_epochs.specs.EpochChanges.{HasNoLoss, IsHandedOn}
-use Rattle.sq_epochs.specs.EpochStates.{EpochState, class_cache}
+use Rattle.sq_epochs.specs.EpochStates.{EpochState, class_cache, with_part}
 use Rattle.sq_epochs.proofs.PartLaws.{limits_kept}
 use Rattle.sq_part.specs.Losing.{IsHandedOut, handed_out}
 use Rattle.sq_epochs.proofs.OutcomeLaws.{more_some, none_epoch, some_epoch, lost_limit, three_none}
+use Rattle.sq_epochs.specs.EpochProcs.{SameLiving}
+use Rattle.sq_epochs.proofs.ProcLaws.{living_lost, same_living}
 use Rattle.sq_epochs.proofs.epoch.Epoch.next_lost.Goals as goal
 
 pub invariant_of-self : goal.invariant_of-self
@@ -28,3 +30,11 @@ returns-clause-none c =
     none_epoch c.next_lost.result old c.args.self.now _ c.args.class c.index_mut-part.result.now c.next_lost.new.self HasNoLoss c.self.view_is c.requires.there c.index_mut-part.ensures.value refl
     (three_none c.next_lost.result (p.row.stock.losses ≡ []) (q ≡ p) (handed_out p.row ≡ p.row) (HasNoLoss p q) c.next_lost.ensures.none c.next_lost.ensures.same c.next_lost.ensures.done
     (λ a b d. record { none = a; same = b; done = d }))
+
+pub returns-clause-alive : goal.returns-clause-alive
+returns-clause-alive c =
+    let old : EpochState = record { epoch = c.self.inside.number; config = arc_value c.self.inside.config; checks = c.self.inside.checks; parts = c.self.inside.parts.items } in
+    let p = c.index_mut-part.result.now in
+    let q = c.next_lost.new.self in
+    subst (λ z. SameLiving z (with_part c.args.class q old)) c.self.view_is (same_living old c.args.class p q c.index_mut-part.ensures.value
+    (living_lost c.next_lost.result p q c.next_lost.ensures.handed c.next_lost.ensures.same))

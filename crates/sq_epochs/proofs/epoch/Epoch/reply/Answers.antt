@@ -1,10 +1,12 @@
 use Rattle.std.proofs.Common.{◌≡◌, ◌<◌, length, refl, subst, sym, ap, ◌∙◌, map, Some, slice_get}
 use Rattle.std.specs.Arc.{arc_value}
 use Rattle.sq_part.specs.Parts.{IsAsBefore}
-use Rattle.sq_epochs.specs.EpochStates.{EpochState, class_cache}
+use Rattle.sq_epochs.specs.EpochStates.{EpochState, class_cache, with_part}
 use Rattle.sq_epochs.proofs.PartLaws.{class_there, limits_kept}
 use Rattle.std.proofs.lemmas.Option.{slice_get_read}
 use Rattle.sq_epochs.proofs.OutcomeLaws.{as_before, both_err, err_epoch, limit_there, replied}
+use Rattle.sq_epochs.specs.EpochProcs.{SameLiving}
+use Rattle.sq_epochs.proofs.ProcLaws.{living_reply, same_living}
 use Rattle.sq_epochs.proofs.epoch.Epoch.reply.Goals as goal
 
 pub reply-requires-clause-opened : goal.reply-requires-clause-opened
@@ -50,3 +52,11 @@ returns-clause-err c =
     let q = c.reply.new.self in
     err_epoch c.reply.result old c.args.self.now _ c.args.class c.index_mut-part.result.now c.reply.new.self IsAsBefore c.self.view_is c.requires.there c.index_mut-part.ensures.value refl
     (both_err c.reply.result (q ≡ p) (q ≡ p) (IsAsBefore p q) c.reply.ensures.err c.reply.ensures.err (λ e f. as_before p q e))
+
+pub returns-clause-alive : goal.returns-clause-alive
+returns-clause-alive c =
+    let old : EpochState = record { epoch = c.self.inside.number; config = arc_value c.self.inside.config; checks = c.self.inside.checks; parts = c.self.inside.parts.items } in
+    let p = c.index_mut-part.result.now in
+    let q = c.reply.new.self in
+    subst (λ z. SameLiving z (with_part c.args.class q old)) c.self.view_is (same_living old c.args.class p q c.index_mut-part.ensures.value
+    (living_reply c.reply.result c.index-classes-class.result c.args.proc c.args.question c.args.key c.args.what c.args.date p q c.reply.ensures.row c.reply.ensures.err))

@@ -1,7 +1,9 @@
 use Rattle.std.proofs.Common.{◌≡◌, ◌<◌, length, refl, subst, sym, ap, ◌∙◌, map, Some, slice_get}
 use Rattle.std.specs.Arc.{arc_value}
-use Rattle.sq_epochs.specs.EpochStates.{EpochState, class_cache}
+use Rattle.sq_epochs.specs.EpochStates.{EpochState, class_cache, with_part}
 use Rattle.sq_epochs.proofs.PartLaws.{class_there, limit_kept, limits_kept, refused, resolved, spends}
+use Rattle.sq_epochs.specs.EpochProcs.{SameLiving}
+use Rattle.sq_epochs.proofs.ProcLaws.{living_step, same_living}
 use Rattle.sq_epochs.proofs.epoch.Epoch.resolve.Goals as goal
 
 pub invariant_of-self : goal.invariant_of-self
@@ -31,3 +33,11 @@ pub returns-clause-err : goal.returns-clause-err
 returns-clause-err c =
     let old : EpochState = record { epoch = c.self.inside.number; config = arc_value c.self.inside.config; checks = c.self.inside.checks; parts = c.self.inside.parts.items } in
     refused c.resolve.result c.args.class old c.args.self.now _ c.index_mut-part.result.now c.resolve.new.self c.self.view_is c.requires.there c.index_mut-part.ensures.value refl c.resolve.ensures.err
+
+pub returns-clause-alive : goal.returns-clause-alive
+returns-clause-alive c =
+    let old : EpochState = record { epoch = c.self.inside.number; config = arc_value c.self.inside.config; checks = c.self.inside.checks; parts = c.self.inside.parts.items } in
+    let p = c.index_mut-part.result.now in
+    let q = c.resolve.new.self in
+    subst (λ z. SameLiving z (with_part c.args.class q old)) c.self.view_is (same_living old c.args.class p q c.index_mut-part.ensures.value
+    (living_step c.resolve.result c.index-classes-class.result c.args.class c.args.key.now c.args.now c.args.check c.args.count p q c.resolve.ensures.ok c.resolve.ensures.err))

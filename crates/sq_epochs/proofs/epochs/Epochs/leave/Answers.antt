@@ -24,11 +24,11 @@ leave-requires c =
 
 pub invariant_of-self : goal.invariant_of-self
 invariant_of-self c =
-    still_rises c.self.inside.epochs.items c.place_of-place.result c.index_mut-live.result.now c.leave.new.self c.self.invariant c.index_mut-live.ensures.value (ap epoch_number c.leave.ensures.new_is)
+    still_rises c.self.inside.epochs.items c.place_of-place.result c.index_mut-live.result.now c.leave.new.self c.self.invariant c.index_mut-live.ensures.value (ap epoch_number c.leave.ensures.changed.new_is)
 
 pub returns : goal.returns
 returns c =
     let v : EpochsState = record { current = c.self.inside.current; epochs = c.self.inside.epochs.items; procs = c.self.inside.homes.given; homes = c.self.inside.homes.homes; stops = c.self.inside.homes.stops } in
     let f = find_at v c.args.self.now c.args.epoch c.args.class c.place_of-place.result c.self.view_is c.self.invariant c.requires.there
     (c.place_of-place.ensures.place ∙ ap (λ z. place_among c.args.epoch (map epoch_number z)) c.deref.ensures.value) in
-    lifted v c.args.self.now _ c.args.epoch c.args.class c.place_of-place.result f c.index_mut-live.result.now c.leave.new.self (HasLeft c.args.check) c.self.view_is c.index_mut-live.ensures.value refl c.leave.ensures
+    lifted v c.args.self.now _ c.args.epoch c.args.class c.place_of-place.result f c.index_mut-live.result.now c.leave.new.self (HasLeft c.args.check) c.self.view_is c.index_mut-live.ensures.value refl c.leave.ensures.changed

@@ -1,0 +1,68 @@
+-- The act that is due in live epochs, and what making it leaves.
+use Rattle.std.specs.Prelude.{◌≡◌, ℕ, suc, List, [], ◌∷◌, zero, not, ◌==◌, if◌then◌else◌, filter, slice_set, Some, None, length}
+use Rattle.std.specs.List.{flat_map, slice_get}
+use Rattle.std.specs.Option.{option_and_then, option_map, option_or}
+use Rattle.std.specs.Prelude.{map}
+use Rattle.std.specs.declared.option.Option.{Option}
+use Rattle.sq_rules.specs.DueActs.{Place, first_made, first_of}
+use Rattle.sq_rules.specs.Farms.{Sending, send_of, start_due}
+use Rattle.sq_rules.specs.Numbered.{below}
+use Rattle.sq_rows.specs.ClassRows.{after_sending, after_starting}
+use Rattle.sq_part.specs.Parts.{PartState}
+use Rattle.sq_epochs.specs.EpochStates.{EpochState, EpochsState, change_epoch, part_at}
+
+-- an act: the stop of a process, a send of the class at a place, or a start of it
+pub data DueAt : Type 0 where
+  stops : ℕ → DueAt
+  sends : Place → Sending → DueAt
+  starts : Place → DueAt
+
+-- the classes of an epoch, in order
+abbrev pub places_in : EpochState → List Place
+places_in x = map (λ c. record { epoch = x.epoch; class = c }) (below (length x.config.classes))
+
+-- the classes of the live epochs, by epoch and place
+abbrev pub live_places : EpochsState → List Place
+live_places v = flat_map places_in v.epochs
+
+-- the send of the class at a place, where one is due
+abbrev pub send_at : EpochsState → Place → Option DueAt
+send_at v p = option_map (sends p) (option_and_then (λ x. send_of x.row.stock) (part_at v p.epoch p.class))
+
+-- the start of the class at a place, where one is due
+abbrev pub start_at : EpochsState → Place → Option DueAt
+start_at v p = option_and_then (λ x. if start_due x.row.stock then Some (starts p) else None) (part_at v p.epoch p.class)
+
+-- the next act: first stops, then sends, then starts
+abbrev pub due_of : EpochsState → Option DueAt
+due_of v =
+    option_or (option_map stops (first_of v.stops))
+    (option_or (first_made (send_at v) (live_places v))
+    (first_made (start_at v) (live_places v)))
+
+-- the part at a place of these changed
+abbrev pub change_at : ℕ → (PartState → PartState) → List PartState → List PartState
+change_at c f [] = []
+change_at zero f (p ∷ ps) = f p ∷ ps
+change_at (suc c) f (p ∷ ps) = p ∷ change_at c f ps
+
+-- the part of the class at this place of an epoch changed
+abbrev pub change_class : ℕ → (PartState → PartState) → EpochState → EpochState
+change_class c f x = record x { parts = change_at c f x.parts }
+
+-- the part of the class at a place changed
+abbrev pub change_part : Place → (PartState → PartState) → EpochsState → EpochsState
+change_part p f v = record v { epochs = change_epoch p.epoch (change_class p.class f) v.epochs }
+
+abbrev pub sent_part : PartState → PartState
+sent_part p = record p { row = after_sending p.row }
+
+abbrev pub started_part : PartState → PartState
+started_part p = record p { row = after_starting p.row }
+
+-- the act was made
+abbrev pub after_due : Option DueAt → EpochsState → EpochsState
+after_due None v = v
+after_due (Some (stops k)) v = record v { stops = filter (λ j. not (k == j)) v.stops }
+after_due (Some (sends p s)) v = change_part p sent_part v
+after_due (Some (starts p)) v = change_part p started_part v
