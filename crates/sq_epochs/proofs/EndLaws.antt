@@ -1,23 +1,18 @@
 -- What stands at each number and place after an epoch ended, and who lives where then.
-use Rattle.std.proofs.Common.{◌≡◌, ℕ, suc, zero, ◌<◌, ◌≤◌, List, [], ◌∷◌, map, filter, Bool, true, false, not, ◌&&◌, ◌||◌, cond, if◌then◌else◌, ◌==◌, refl, sym, arith, ap, ◌∙◌, Some, None, is_some, slice_get, subst}
+use Rattle.std.proofs.Common.{◌≡◌, ℕ, suc, ◌<◌, ◌≤◌, List, [], ◌∷◌, map, Bool, true, false, not, ◌&&◌, ◌||◌, if◌then◌else◌, ◌==◌, refl, sym, arith, ap, ◌∙◌, Some, None, is_some}
 use Rattle.std.specs.declared.option.Option.{Option}
 use Rattle.std.specs.Option.{option_map, option_map_or}
 use Rattle.sq_channel.proofs.RisingLaws.{if_false, if_true}
-use Rattle.sq_rules.specs.Classes.{Class}
-use Rattle.sq_rules.specs.Configurations.{Configuration}
 use Rattle.sq_rules.specs.DueActs.{Place}
-use Rattle.sq_rules.specs.Living.{lives}
-use Rattle.sq_rules.specs.Rising.{AreAbove, AreBelow, Rises}
-use Rattle.sq_rows.specs.ClassRows.{ClassRow}
-use Rattle.sq_part.specs.Parts.{PartState}
+use Rattle.sq_rules.specs.Rising.{AreAbove, Rises}
 use Rattle.sq_epochs.specs.EpochProcs.{AreHomed, is_place, lives_in}
-use Rattle.sq_epochs.specs.EpochStates.{EpochState, EpochsState, change_epoch, class_at, class_of, epoch_at, epoch_in, home_at, part_at, part_of, row_at}
-use Rattle.sq_epochs.specs.HomeStates.{Home, home_in, home_number, is_among, is_of_epoch, other_homes, procs_of, with_numbers}
-use Rattle.sq_epochs.specs.LiveEpochs.{AreEpochs, after_began, check_more, checks_at, drop_epoch, without_epoch}
-use Rattle.sq_epochs.specs.Reconfigured.{alike_in, begun_part, emptied, kept_before, with_begun, with_epoch}
-use Rattle.sq_epochs.proofs.BegunLaws.{in_changed, left_at, none_past, part_begun}
+use Rattle.sq_epochs.specs.EpochStates.{EpochState, EpochsState, change_epoch, class_at, class_of, epoch_at, home_at, part_at, part_of, row_at}
+use Rattle.sq_epochs.specs.HomeStates.{Home, home_in, home_number, is_among, is_of_epoch, procs_of}
+use Rattle.sq_epochs.specs.LiveEpochs.{after_began, check_more, checks_at, drop_epoch}
+use Rattle.sq_epochs.proofs.BegunLaws.{in_changed}
 use Rattle.sq_epochs.proofs.DropLaws.{in_without}
 use Rattle.sq_epochs.proofs.HomeLaws.{among_all}
+use Rattle.sq_epochs.proofs.HomedLaws.{home_other, place_without}
 
 equal : (a b : ℕ) → (a == b) ≡ true → a ≡ b
 equal a b e = grind (arith, e)
@@ -51,11 +46,6 @@ row_dropped e f c v = ap (option_map (λ p. p.row)) (part_dropped e f c v) ∙ b
     by_test true = refl
     by_test false = refl
 
--- a place, unless it is of this epoch
-abbrev pub other_place : ℕ → Option Place → Option Place
-other_place e None = None
-other_place e (Some p) = if e == p.epoch then None else Some p
-
 -- the place is of this epoch
 abbrev pub is_in_epoch : ℕ → Option Place → Bool
 is_in_epoch e p = option_map_or (λ x. e == x.epoch) p false
@@ -65,22 +55,8 @@ no_home j k [] l a = refl
 no_home j k (h ∷ hs) l a = let low = a.0 in if_false (k == h.proc) (Some h.place) (home_in k hs) (apart k h.proc (omega arith)) ∙ no_home j k hs l a.1
 
 -- of which epoch and class a process is after an epoch ended
-pub home_other : (e k : ℕ) (hs : List Home) → Rises (map home_number hs) → home_in k (other_homes e hs) ≡ other_place e (home_in k hs)
-home_other e k [] r = refl
-home_other e k (h ∷ hs) r = by_test (is_of_epoch e h) refl (k == h.proc) refl (home_other e k hs r.1)
-  where
-    none_later : k ≡ h.proc → home_in k hs ≡ None
-    none_later n = no_home h.proc k hs (omega arith) r.0
-
-    by_test : (b : Bool) → is_of_epoch e h ≡ b → (d : Bool) → (k == h.proc) ≡ d → home_in k (other_homes e hs) ≡ other_place e (home_in k hs)
-        → home_in k (cond (not b) (h ∷ other_homes e hs) (other_homes e hs)) ≡ other_place e (if d then Some h.place else home_in k hs)
-    by_test true t true s more = more ∙ ap (other_place e) (none_later (equal k h.proc s)) ∙ sym (ap (λ z. if z then None else Some h.place) t)
-    by_test true t false s more = more
-    by_test false t true s more = ap (λ z. if z then Some h.place else home_in k (other_homes e hs)) s ∙ sym (ap (λ z. if z then None else Some h.place) t)
-    by_test false t false s more = ap (λ z. if z then Some h.place else home_in k (other_homes e hs)) s ∙ more
-
-pub home_dropped : (e k : ℕ) (v : EpochsState) → Rises (map home_number v.homes) → home_at (drop_epoch e v) k ≡ other_place e (home_at v k)
-home_dropped e k v r = home_other e k v.homes r
+pub home_dropped : (e k : ℕ) (v : EpochsState) → Rises (map home_number v.homes) → home_at (drop_epoch e v) k ≡ place_without e (home_at v k)
+home_dropped e k v r = home_other k e v.homes r
 
 among_procs : (e k : ℕ) (hs : List Home) → Rises (map home_number hs) → is_among k (procs_of e hs) ≡ is_in_epoch e (home_in k hs)
 among_procs e k [] r = refl
@@ -107,68 +83,6 @@ checks_dropped e f v = ap (λ o. option_map_or (λ x. x.checks) o 0) (epoch_drop
     by_test : (b : Bool) → option_map_or (λ x. x.checks) (if b then None else epoch_at v f) 0 ≡ (if b then 0 else option_map_or (λ x. x.checks) (epoch_at v f) 0)
     by_test true = refl
     by_test false = refl
-
-place_left : (e f c : ℕ) (o : Option Place) → is_place f c (other_place e o) ≡ (if e == f then false else is_place f c o)
-place_left e f c None = neither (e == f)
-  where
-    neither : (b : Bool) → false ≡ (if b then false else false)
-    neither true = refl
-    neither false = refl
-place_left e f c (Some p) = by_test (e == p.epoch) refl (e == f) refl
-  where
-    elsewhere : e ≡ p.epoch → (e == f) ≡ false → (p.epoch == f && p.class == c) ≡ false
-    elsewhere n s = ap (λ z. z == f && p.class == c) (sym n) ∙ ap (λ z. z && p.class == c) s
-
-    not_there : (e == p.epoch) ≡ false → e ≡ f → (p.epoch == f && p.class == c) ≡ false
-    not_there t n = ap (λ z. z && p.class == c) (turned p.epoch f (ap (λ z. z == p.epoch) (sym n) ∙ t))
-      where
-        turned : (a b : ℕ) → (b == a) ≡ false → (a == b) ≡ false
-        turned a b q = grind (arith, q)
-
-    by_test : (b : Bool) → (e == p.epoch) ≡ b → (d : Bool) → (e == f) ≡ d → is_place f c (if b then None else Some p) ≡ (if d then false else is_place f c (Some p))
-    by_test true t true s = refl
-    by_test true t false s = sym (elsewhere (equal e p.epoch t) s)
-    by_test false t true s = not_there t (equal e f s)
-    by_test false t false s = refl
-
--- processes live where their homes say so after an epoch ended
-pub homed_dropped : (v w : EpochsState) (e : ℕ) → AreHomed v → Rises (map home_number v.homes) → w.epochs ≡ without_epoch e v.epochs → w.homes ≡ other_homes e v.homes → AreHomed w
-homed_dropped v w e homed r epochs homes f c k =
-    ap (λ z. lives_in k (part_of c (epoch_in f z))) epochs ∙ ap (lives_in k) (part_dropped e f c v) ∙ by_test (e == f) ∙ ap (λ b. if e == f then false else b) (homed f c k)
-    ∙ sym (place_left e f c (home_at v k)) ∙ ap (is_place f c) (sym (ap (home_in k) homes ∙ home_other e k v.homes r))
-  where
-    by_test : (b : Bool) → lives_in k (if b then None else part_at v f c) ≡ (if b then false else lives_in k (part_at v f c))
-    by_test true = refl
-    by_test false = refl
-
--- the same after one began
-pub homed_begun : (config : Configuration) (v w : EpochsState) → AreEpochs v → AreHomed v → w.epochs ≡ with_begun v.current config v.epochs → w.homes ≡ v.homes → AreHomed w
-homed_begun config v w is homed epochs homes f c k =
-    ap (λ z. lives_in k (part_of c (epoch_in f z))) epochs ∙ ap (lives_in k) (part_begun config v f c is) ∙ by_test (f == suc v.current) refl (f == v.current) ∙ homed f c k ∙ ap (λ z. is_place f c (home_in k z)) (sym homes)
-  where
-    new : (o : Option Class) → lives_in k (option_map (begun_part (kept_before v.epochs v.current)) o) ≡ false
-    new None = refl
-    new (Some class) = refl
-
-    none_yet : f ≡ suc v.current → lives_in k (part_at v f c) ≡ false
-    none_yet n = ap (λ z. lives_in k (part_at v z c)) n ∙ ap (λ o. lives_in k (part_of c o)) (none_past (suc v.current) v.epochs is.born)
-
-    one_left : (class : Class) (p : PartState) (b : Bool) → lives_in k (Some (if b then emptied p else p)) ≡ lives_in k (Some p)
-    one_left class p true = refl
-    one_left class p false = refl
-
-    left : (class : Option Class) (o : Option PartState) → lives_in k (left_at config.classes class o) ≡ lives_in k o
-    left None None = refl
-    left None (Some p) = refl
-    left (Some class) None = refl
-    left (Some class) (Some p) = one_left class p (is_some (alike_in config.classes class))
-
-    by_test : (b : Bool) → (f == suc v.current) ≡ b → (d : Bool)
-        → lives_in k (if b then option_map (begun_part (kept_before v.epochs v.current)) (slice_get config.classes c) else (if d then left_at config.classes (class_at v f c) (part_at v f c) else part_at v f c))
-        ≡ lives_in k (part_at v f c)
-    by_test true t d = new (slice_get config.classes c) ∙ sym (none_yet (equal f (suc v.current) t))
-    by_test false t true = left (class_at v f c) (part_at v f c)
-    by_test false t false = refl
 
 -- a check that began or is over changes of each epoch only how many are open
 pub epoch_counted : (e f : ℕ) (g : EpochState → EpochState) (v : EpochsState) → ((x : EpochState) → (g x).epoch ≡ x.epoch)
@@ -292,7 +206,7 @@ home_left e k v homed r = home_dropped e k v r ∙ by_case (home_at v k) refl
     by_test p true q = refl
     by_test p false q = sym (if_true (is_some (epoch_at v p.epoch)) (Some p) None (home_there v k p homed q))
 
-    by_case : (o : Option Place) → home_at v k ≡ o → other_place e o ≡ if_there (drop_epoch e v) o
+    by_case : (o : Option Place) → home_at v k ≡ o → place_without e o ≡ if_there (drop_epoch e v) o
     by_case None q = refl
     by_case (Some p) q = by_test p (e == p.epoch) q ∙ ap (λ o. if is_some o then Some p else None) (sym (epoch_dropped e p.epoch v))
 

@@ -1,3 +1,4 @@
+mod DueLaws
 mod EpochLaws
 mod PartLaws
 mod FindLaws
@@ -11,4 +12,5 @@ pub mod NumberLaws
 pub mod BegunLaws
 pub mod EndLaws
 pub mod OverLaws
+pub mod HomedLaws
 mod ProcLaws

@@ -1,8 +1,7 @@
 -- What is left after a check is over and after another configuration began, by which epochs live then.
-use Rattle.std.proofs.Common.{◌≡◌, ℕ, suc, ◌<◌, ◌-◌, map, Bool, true, false, not, ◌&&◌, ◌||◌, if◌then◌else◌, ◌==◌, refl, sym, arith, ap, ◌∙◌, Some, None, is_some}
+use Rattle.std.proofs.Common.{◌≡◌, ℕ, suc, ◌-◌, map, Bool, true, false, not, ◌&&◌, ◌||◌, if◌then◌else◌, ◌==◌, refl, sym, arith, ap, ◌∙◌, Some, None, is_some}
 use Rattle.std.specs.declared.option.Option.{Option}
 use Rattle.std.specs.Option.{option_map, option_map_or}
-use Rattle.sq_channel.proofs.RisingLaws.{if_false, if_true}
 use Rattle.sq_rules.specs.Configurations.{Configuration}
 use Rattle.sq_rules.specs.DueActs.{Place}
 use Rattle.sq_rules.specs.Rising.{Rises}
@@ -12,7 +11,8 @@ use Rattle.sq_epochs.specs.HomeStates.{home_number, is_among}
 use Rattle.sq_epochs.specs.LiveEpochs.{AreEpochs, after_ended, check_less, checks_at, drop_epoch, ends_with_check}
 use Rattle.sq_epochs.specs.Reconfigured.{after_reconfigured, with_epoch}
 use Rattle.sq_epochs.proofs.BegunLaws.{checks_begun}
-use Rattle.sq_epochs.proofs.EndLaws.{checks_dropped, epoch_counted, epoch_dropped, home_left, homed_begun, homes_there, if_there, is_gone, none_gone, row_left, row_there, stop_left}
+use Rattle.sq_epochs.proofs.HomedLaws.{homed_begun}
+use Rattle.sq_epochs.proofs.EndLaws.{checks_dropped, epoch_counted, epoch_dropped, home_left, homes_there, if_there, is_gone, none_gone, row_left, row_there, stop_left}
 
 equal : (a b : ℕ) → (a == b) ≡ true → a ≡ b
 equal a b e = grind (arith, e)
@@ -162,7 +162,7 @@ pub home_reconfigured : (config : Configuration) (k : ℕ) (v : EpochsState) →
 home_reconfigured config k v is homed r = by_test (checks_at v v.current == 0)
   where
     homed_there : AreHomed (with_epoch config v)
-    homed_there = homed_begun config v (with_epoch config v) is homed refl refl
+    homed_there = homed_begun config v is homed
 
     by_test : (b : Bool) → home_at (if b then drop_epoch v.current (with_epoch config v) else with_epoch config v) k
         ≡ if_there (if b then drop_epoch v.current (with_epoch config v) else with_epoch config v) (home_at v k)
@@ -174,7 +174,7 @@ pub stop_reconfigured : (config : Configuration) (k : ℕ) (v : EpochsState) →
 stop_reconfigured config k v is homed r = by_test (checks_at v v.current == 0)
   where
     homed_there : AreHomed (with_epoch config v)
-    homed_there = homed_begun config v (with_epoch config v) is homed refl refl
+    homed_there = homed_begun config v is homed
 
     or_none : (a : Bool) → a ≡ (a || false)
     or_none true = refl
