@@ -17,3 +17,9 @@ mod EndedLaws
 mod AskingLaws
 mod NowLaws
 mod CountLaws
+mod LeavingLaws
+mod OverLaws
+mod TakeLaws
+mod CloseLaws
+mod OnLaws
+mod AskLaws
