@@ -6,10 +6,12 @@
 //! agree with each other.
 #![tactic(auto)]
 
+mod asking;
 mod ending;
 mod engines;
 mod handing;
 mod opening;
+mod sighting;
 mod stepping;
 
 pub use engines::Engine;
