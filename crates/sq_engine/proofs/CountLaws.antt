@@ -204,7 +204,7 @@ counted_began v e h checks is there a = record {
     alive f true x =
         ap (λ z. is_some (epoch_at v z)) (number_is f e x) ∙ there
         ∙ sym (or_true (f == v.current) (list_any (λ (z : Held). z.asked.epoch == f) (checks ++ h ∷ []))
-            (any_is f (checks ++ h ∷ []) ∙ ap (λ k. not (k == 0)) (count f ∙ if_true (f == e) (suc (of_epoch f checks)) (of_epoch f checks) x) ∙ not_zero (of_epoch f checks)))
+        (any_is f (checks ++ h ∷ []) ∙ ap (λ k. not (k == 0)) (count f ∙ if_true (f == e) (suc (of_epoch f checks)) (of_epoch f checks) x) ∙ not_zero (of_epoch f checks)))
     alive f false x = a.live f ∙ lives_same v.current f checks (checks ++ h ∷ []) (sym (count f ∙ if_false (f == e) (suc (of_epoch f checks)) (of_epoch f checks) x))
 
     counted : (f : ℕ) (y : EpochState) → epoch_at v f ≡ Some y → (b : Bool) → (f == e) ≡ b → (if f == e then check_more y else y).checks ≡ of_epoch f (checks ++ h ∷ [])
@@ -219,8 +219,8 @@ counted_began v e h checks is there a = record {
 pub counts_some : (v : EpochsState) (e n : ℕ) (h : Held) (checks : List Held) → Rises (map held_number checks) → held_at n checks ≡ Some h → h.asked.epoch ≡ e → AreCounted v.current (epoch_at v) checks → 0 < checks_at v e
 counts_some v e n h checks r found is a =
     let here : of_epoch e checks ≡ suc (of_epoch e (without_check n checks)) =
-        of_epoch_without e n h checks r found
-        ∙ ap (λ z. if e == z then suc (of_epoch e (without_check n checks)) else of_epoch e (without_check n checks)) is
-        ∙ if_true (e == e) (suc (of_epoch e (without_check n checks))) (of_epoch e (without_check n checks)) (number_self e) in
+    of_epoch_without e n h checks r found
+    ∙ ap (λ z. if e == z then suc (of_epoch e (without_check n checks)) else of_epoch e (without_check n checks)) is
+    ∙ if_true (e == e) (suc (of_epoch e (without_check n checks))) (of_epoch e (without_check n checks)) (number_self e) in
     let at : checks_at v e ≡ suc (of_epoch e (without_check n checks)) = counts_open v e checks a (lives_open v e (of_epoch e (without_check n checks)) checks a here) ∙ here in
     omega (arith, at)
