@@ -1,0 +1,25 @@
+-- Lemmas, by subject.
+mod TableLaws
+mod HeldLaws
+mod PlaceLaws
+mod FreshLaws
+mod OpenLaws
+mod StepLaws
+mod LookupLaws
+mod ChangedLaws
+mod PartLaws
+mod ResolveLaws
+mod ResolvedLaws
+mod HandingLaws
+mod KeyLaws
+mod LostLaws
+mod EndedLaws
+mod AskingLaws
+mod NowLaws
+mod CountLaws
+mod LeavingLaws
+mod OverLaws
+mod TakeLaws
+mod CloseLaws
+mod OnLaws
+mod AskLaws

@@ -1,0 +1,29 @@
+use Rattle.std.proofs.Common.{refl, ap, ◌∙◌}
+use Rattle.sq_engine.proofs.FreshLaws.{first_epochs, fresh_engine, fresh_same}
+use Rattle.sq_engine.proofs.engines.Engine.new.Goals as goal
+
+pub invariant_of-result : goal.invariant_of-result
+invariant_of-result c = fresh_engine _ c.args.setup c.args.offset c.args.now record {
+  links_are = c.new-2.ensures.links;
+  counts_are = c.new-2.ensures.counts;
+  checks_are = c.new-3.ensures;
+  asks_are = refl;
+  puts_are = refl;
+  epochs_are = c.in_ok-epochs.ensures ∙ ap first_epochs (c.in_ok-config.ensures ∙ c.config.ensures);
+  setup_is = refl;
+  offset_is = refl;
+  latest_is = refl;
+}
+
+pub returns : goal.returns
+returns c = fresh_same _ c.args.setup c.args.offset c.args.now record {
+  links_are = c.new-2.ensures.links;
+  counts_are = c.new-2.ensures.counts;
+  checks_are = c.new-3.ensures;
+  asks_are = refl;
+  puts_are = refl;
+  epochs_are = c.in_ok-epochs.ensures ∙ ap first_epochs (c.in_ok-config.ensures ∙ c.config.ensures);
+  setup_is = refl;
+  offset_is = refl;
+  latest_is = refl;
+}

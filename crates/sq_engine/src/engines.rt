@@ -1,0 +1,79 @@
+//! `Engine`: the parts of the machine.
+ghost use Rattle.std.specs.Prelude.{◌≡◌, ◌<◌, ◌^◌, suc, max, IfOk};
+ghost use Rattle.sq_state.specs.Changes.{first_state};
+ghost use Rattle.sq_state.specs.States.{IsSame};
+ghost use Rattle.sq_engine.specs.EngineViews.{state_of};
+
+use sq_base::{Moment, WantOfMemory};
+use sq_cache::HashSeed;
+use sq_checks::{Conns, OpenChecks};
+use sq_epochs::Epochs;
+use sq_rules::Offset;
+use sq_urlmatch::Setup;
+use std::alloc::Global;
+use std::marker::Model;
+use std::sync::Arc;
+
+/// The number that is never given.
+pub(crate) const LAST_NUMBER: u64 = 0x7FFF_FFFF_FFFF_FFFF;
+
+/// The machine. A contract sees its parts, and by `state_of` the machine's state.
+#[derive(Drop)]
+pub struct Engine {
+    pub(crate) conns: Conns,
+    pub(crate) checks: OpenChecks,
+    pub(crate) asks: u64,
+    pub(crate) puts: u64,
+    pub(crate) epochs: Epochs,
+    // Of the current epoch.
+    pub(crate) setup: Setup,
+    pub(crate) offset: Offset,
+    pub(crate) latest: Moment,
+    pub(crate) seed: HashSeed,
+}
+
+impl Model for Engine {
+    ghost use Rattle.sq_engine.specs.Engines.{IsEngine};
+    ghost use Rattle.sq_engine.specs.EngineViews.{EngineView};
+
+    ghost Value = { EngineView };
+
+    ghost view = { λ g. record { conns = g.conns; checks = g.checks; asks = g.asks; puts = g.puts; epochs = g.epochs; setup = g.setup; offset = g.offset; latest = g.latest } };
+
+    ghost invariant = { λ g. IsEngine (record { conns = g.conns; checks = g.checks; asks = g.asks; puts = g.puts; epochs = g.epochs; setup = g.setup; offset = g.offset; latest = g.latest }) };
+}
+
+// The later of two moments.
+pub(crate) fn later(now: Moment, latest: Moment) -> Moment
+    ensures { result ≡ max now latest }
+{
+    Moment(now.0.max(latest.0))
+}
+
+impl Engine {
+    /// The machine that begins at this moment with epoch 1, at this offset of local time. The seed is for the hashes
+    /// of keys.
+    pub fn new(
+        alloc: Global,
+        setup: Setup,
+        offset: Offset,
+        now: Moment,
+        seed: HashSeed,
+    ) -> Result<Engine, WantOfMemory>
+        ensures { IfOk result (λ g. IsSame (state_of g) (first_state setup offset now)) }
+    {
+        let config = Arc::try_clone(setup.config())?;
+        let epochs = Epochs::new(alloc, config, seed)?;
+        Ok(Engine {
+            conns: Conns::new(alloc),
+            checks: OpenChecks::new(alloc),
+            asks: 0,
+            puts: 0,
+            epochs,
+            setup,
+            offset,
+            latest: now,
+            seed,
+        })
+    }
+}

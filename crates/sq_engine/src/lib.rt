@@ -1,0 +1,17 @@
+//! The machine: connections, checks and live epochs together.
+//!
+//! Each call of `Engine` is one event. Its clauses say what it answers and what it leaves by the machine's state
+//! alone, as `sq_state` defines both (`state_of` is the state of an engine); no history is in them. A call that is
+//! refused, or that wants memory, leaves the state as it is. What holds of every engine is `IsEngine`: its parts
+//! agree with each other.
+#![tactic(auto)]
+
+mod asking;
+mod ending;
+mod engines;
+mod handing;
+mod opening;
+mod sighting;
+mod stepping;
+
+pub use engines::Engine;

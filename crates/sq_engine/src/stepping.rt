@@ -1,0 +1,196 @@
+//! A check goes on.
+ghost use Rattle.std.specs.Prelude.{◌≡◌, ◌<◌, ◌^◌, suc, if◌then◌else◌, ℕ, max, true, false, is_some, slice_get, IfSome, OnOk, OnErr, Some, None};
+ghost use Rattle.sq_base.specs.Distinct.{has_answer};
+ghost use Rattle.sq_rules.specs.FullNext.{step_next};
+ghost use Rattle.sq_rules.specs.StepRule.{class_of_acl, says_done};
+ghost use Rattle.sq_rules.specs.declared.values.Value.TheVariants as value;
+ghost use Rattle.sq_rows.specs.CheckRows.{after_step};
+ghost use Rattle.sq_checks.specs.OpenChecks.{change_at, comes_to, rows_of, settled};
+ghost use Rattle.sq_checks.specs.Stages.{is_idle, is_settled, need_in};
+ghost use Rattle.sq_checks.specs.Tables.{value_at};
+ghost use Rattle.sq_epochs.specs.EpochStates.{part_at};
+ghost use Rattle.sq_state.specs.Changes.{after_step_of};
+ghost use Rattle.sq_state.specs.Says.{says_place_in};
+ghost use Rattle.sq_state.specs.States.{IsSame};
+ghost use Rattle.sq_engine.specs.EngineViews.{state_of};
+ghost use Rattle.sq_engine.specs.Stepping.{NeedsAcl, after_step_now, epoch_of, says_waits, step_now, stepped_told};
+ghost use Rattle.sq_engine.specs.Tellings.{IsTold};
+
+use crate::engines::{Engine, later};
+use sq_base::{CheckNo, Copying, EpochNo, Moment, QuestionNo, Text, WantOfMemory};
+use sq_checks::class_of;
+use sq_part::ResolveFault;
+use sq_rows::{Said, Stepped};
+use sq_rules::{Config, Outcome, Refusal, Value};
+use std::alloc::Global;
+
+// The same answer of a step.
+fn again(stepped: &Stepped) -> Stepped
+    ensures { result ≡ stepped.now }
+{
+    match stepped {
+        Stepped::Took(class) => Stepped::Took(*class),
+        Stepped::Waits(question) => Stepped::Waits(*question),
+        Stepped::Done => Stepped::Done,
+    }
+}
+
+// The class that an acl asks whose answer is needed.
+fn needed_class(config: &Config, acl: u32) -> u32
+    requires { NeedsAcl config.now acl }
+    ensures class { class_of_acl config.now.acls acl ≡ Some result }
+    ensures there { is_some (slice_get config.now.classes result) ≡ true }
+{
+    config.facts();
+    match class_of(config, acl) {
+        Some(class) => class,
+        None => unreachable!(),
+    }
+}
+
+// How many questions were put, with one that is put.
+fn puts_after(puts: u64, put: bool) -> u64
+    requires { puts < 2 ^ 63 }
+    ensures { result ≡ (if put then suc puts else puts) }
+{
+    if put { puts + 1 } else { puts }
+}
+
+impl Engine {
+    // A step of a check that waits for this question, which is of this class and key.
+    fn wait_on(
+        &mut self,
+        check: CheckNo,
+        question: QuestionNo,
+        class: u32,
+        key: Text,
+        moment: Moment,
+    )
+        requires there { is_some (value_at self.old.checks check) ≡ true }
+        requires waits { IfSome (value_at self.old.checks check) (λ k. need_in k.stage ≡ Some (record { question = question; class = class; key = key })) }
+        requires other { IfSome (value_at self.old.checks check) (λ k. has_answer k.answers class key ≡ false) }
+        ensures value { self.new ≡ record self.old { checks = self.new.checks; latest = moment } }
+        ensures rows { rows_of self.new.checks ≡ after_step check (says_waits question) (rows_of self.old.checks) }
+    {
+        let said = Said {
+            stepped: Stepped::Waits(question),
+            took: None,
+            put: false,
+        };
+        self.checks.note(check, said, class, key);
+        self.latest = moment;
+    }
+
+    // Puts the answer that came to a check among its others, if one did.
+    fn settle(&mut self, alloc: Global, check: CheckNo) -> Result<(), WantOfMemory>
+        ensures value { self.new ≡ record self.old { checks = self.new.checks } }
+        ensures ok { OnOk result (self.new.checks ≡ change_at check settled self.old.checks) }
+        ensures rows { rows_of self.new.checks ≡ rows_of self.old.checks }
+    {
+        self.checks.settle(alloc, check)
+    }
+
+    // A step of a check that has come to this verdict.
+    fn decide(&mut self, check: CheckNo, outcome: Outcome, moment: Moment)
+        requires there { is_some (value_at self.old.checks check) ≡ true }
+        requires settled { IfSome (value_at self.old.checks check) (λ k. is_settled k.stage ≡ true) }
+        requires idle { IfSome (value_at self.old.checks check) (λ k. need_in k.stage ≡ None) }
+        requires verdict { IfSome (value_at self.old.checks check) (λ k. comes_to k ≡ value.Verdict outcome) }
+        ensures value { self.new ≡ record self.old { checks = self.new.checks; latest = moment } }
+        ensures rows { rows_of self.new.checks ≡ after_step check says_done (rows_of self.old.checks) }
+    {
+        self.checks.finish(check, outcome);
+        self.latest = moment;
+    }
+
+    // A step of a check that needs the answer of this key of the class at this place of its epoch.
+    fn resolve(
+        &mut self,
+        alloc: Global,
+        check: CheckNo,
+        epoch: EpochNo,
+        class: u32,
+        key: Text,
+        moment: Moment,
+    ) -> Result<Stepped, Refusal>
+        requires there { is_some (value_at self.old.checks check) ≡ true }
+        requires part { is_some (part_at self.old.epochs epoch class) ≡ true }
+        requires of_epoch { IfSome (value_at self.old.checks check) (λ k. k.epoch ≡ epoch) }
+        requires idle { IfSome (value_at self.old.checks check) (λ k. is_idle k.stage ≡ true) }
+        requires needs_none { IfSome (value_at self.old.checks check) (λ k. need_in k.stage ≡ None) }
+        requires other { IfSome (value_at self.old.checks check) (λ k. has_answer k.answers class key ≡ false) }
+        ensures told { IsTold (stepped_told (state_of self.old) epoch) (step_next self.old.puts (says_place_in (state_of self.old) moment epoch key (Some class))) result }
+        ensures ok { OnOk result (IsSame (state_of self.new) (after_step_of check epoch (says_place_in (state_of self.old) moment epoch key (Some class)) moment (state_of self.old))) }
+        ensures err { OnErr result (IsSame (state_of self.new) (state_of self.old)) }
+    {
+        let said = match self
+            .epochs
+            .resolve(alloc, epoch, class, &key, moment, check, self.puts)
+        {
+            Ok(said) => said,
+            Err(ResolveFault::Spent) => return Err(Refusal::Spent(self.puts + 1)),
+            Err(ResolveFault::WantOfMemory) => return Err(Refusal::WantOfMemory),
+        };
+        let stepped = again(&said.stepped);
+        self.puts = puts_after(self.puts, said.put);
+        self.checks.note(check, said, class, key);
+        self.latest = moment;
+        Ok(stepped)
+    }
+
+    // A step of a check that waits for nothing, and whose answers are put among the others.
+    fn go_on(&mut self, alloc: Global, check: CheckNo, moment: Moment) -> Result<Stepped, Refusal>
+        requires there { is_some (value_at self.old.checks check) ≡ true }
+        requires settled { IfSome (value_at self.old.checks check) (λ k. is_settled k.stage ≡ true) }
+        requires idle { IfSome (value_at self.old.checks check) (λ k. need_in k.stage ≡ None) }
+        ensures told { IsTold (stepped_told (state_of self.old) (epoch_of (state_of self.old) check)) (step_now (state_of self.old) check moment) result }
+        ensures ok { OnOk result (IsSame (state_of self.new) (after_step_now (state_of self.old) check moment)) }
+        ensures err { OnErr result (IsSame (state_of self.new) (state_of self.old)) }
+    {
+        let Some(open) = self.checks.get(check) else {
+            unreachable!();
+        };
+        let epoch = open.epoch();
+        let value = match open.come_to(alloc) {
+            Ok(value) => value,
+            Err(WantOfMemory) => return Err(Refusal::WantOfMemory),
+        };
+        match value {
+            Value::Verdict(outcome) => {
+                self.decide(check, outcome, moment);
+                Ok(Stepped::Done)
+            }
+            Value::Need { acl, key } => {
+                let class = needed_class(open.config(), acl);
+                self.resolve(alloc, check, epoch, class, key, moment)
+            }
+        }
+    }
+
+    /// A check goes on: it takes an answer, waits for one, or has its outcome.
+    pub fn step(&mut self, alloc: Global, check: CheckNo, now: Moment) -> Result<Stepped, Refusal>
+        ensures told { IsTold (stepped_told (state_of self.old) (epoch_of (state_of self.old) check)) (step_now (state_of self.old) check (max now self.old.latest)) result }
+        ensures ok { OnOk result (IsSame (state_of self.new) (after_step_now (state_of self.old) check (max now self.old.latest))) }
+        ensures err { OnErr result (IsSame (state_of self.new) (state_of self.old)) }
+    {
+        let moment = later(now, self.latest);
+        let Some(open) = self.checks.get(check) else {
+            return Err(Refusal::UnknownCheck(check));
+        };
+        if let Some(need) = open.need() {
+            let question = need.question;
+            let class = need.class;
+            let key = match need.key.copy(alloc) {
+                Ok(key) => key,
+                Err(WantOfMemory) => return Err(Refusal::WantOfMemory),
+            };
+            self.wait_on(check, question, class, key, moment);
+            return Ok(Stepped::Waits(question));
+        }
+        match self.settle(alloc, check) {
+            Ok(()) => {}
+            Err(WantOfMemory) => return Err(Refusal::WantOfMemory),
+        }
+        self.go_on(alloc, check, moment)
+    }
+}
