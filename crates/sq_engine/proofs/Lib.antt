@@ -15,3 +15,4 @@ mod KeyLaws
 mod LostLaws
 mod EndedLaws
 mod AskingLaws
+mod LosingLaws

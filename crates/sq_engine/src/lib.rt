@@ -9,6 +9,7 @@
 mod engines;
 mod handing;
 mod opening;
+mod starts;
 mod stepping;
 
 pub use engines::Engine;

@@ -1,0 +1,46 @@
+//! How starts of processes end.
+ghost use Rattle.std.specs.Prelude.{◌≡◌, max, true, OnOk, OnErr};
+ghost use Rattle.sq_rules.specs.declared.entries.Told.TheVariants as told;
+ghost use Rattle.sq_epochs.specs.EpochChanges.{HasFailed};
+ghost use Rattle.sq_epochs.specs.EpochProcs.{has_start};
+ghost use Rattle.sq_epochs.specs.EpochStates.{IsChanged};
+ghost use Rattle.sq_state.specs.Answers.{failed_answer};
+ghost use Rattle.sq_state.specs.Changes.{after_failed_at};
+ghost use Rattle.sq_state.specs.States.{IsSame};
+ghost use Rattle.sq_engine.specs.EngineViews.{state_of};
+ghost use Rattle.sq_engine.specs.Tellings.{IsTold};
+
+use crate::engines::{Engine, later};
+use crate::handing::hand_out;
+use sq_base::{EpochNo, Moment};
+use sq_epochs::Epochs;
+use sq_rules::Refusal;
+
+// A start of this class, of which one is open, failed.
+fn fail(epochs: &mut Epochs, epoch: EpochNo, class: u32)
+    requires { has_start epochs.old epoch class ≡ true }
+    ensures { IsChanged epoch class HasFailed epochs.old epochs.new }
+{
+    match epochs.start_failed(epoch, class) {
+        Ok(()) => {}
+        Err(_) => unreachable!(),
+    }
+}
+
+impl Engine {
+    /// A start of a class failed. It takes no memory.
+    pub fn start_failed(&mut self, epoch: EpochNo, class: u32, now: Moment) -> Result<(), Refusal>
+        ensures told { IsTold (λ _. told.Fine) (failed_answer (state_of self.old) (record { epoch = epoch; class = class })) result }
+        ensures ok { OnOk result (IsSame (state_of self.new) (after_failed_at (record { epoch = epoch; class = class }) (max now self.old.latest) (state_of self.old))) }
+        ensures err { OnErr result (self.new ≡ self.old) }
+    {
+        if !self.epochs.has_start(epoch, class) {
+            return Err(Refusal::NoStartOpen(epoch, class));
+        }
+        let moment = later(now, self.latest);
+        fail(&mut self.epochs, epoch, class);
+        hand_out(&mut self.epochs, &mut self.checks, epoch, class, moment);
+        self.latest = moment;
+        Ok(())
+    }
+}
