@@ -16,3 +16,4 @@ mod LostLaws
 mod EndedLaws
 mod AskingLaws
 mod LosingLaws
+mod NowLaws

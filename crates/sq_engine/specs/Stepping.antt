@@ -1,13 +1,18 @@
 -- What a step says, where a check that waits waits on.
-use Rattle.std.specs.Prelude.{ℕ, None, Some}
+use Rattle.std.specs.Prelude.{◌≡◌, ℕ, List, None, Some}
 use Rattle.std.specs.Option.{option_map_or}
 use Rattle.std.specs.declared.option.Option.{Option}
+use Rattle.sq_base.specs.declared.helpers.Answer.{Answer}
 use Rattle.sq_rules.specs.declared.entries.Told.{Told}
 use Rattle.sq_rules.specs.declared.entries.Told.TheVariants as told
 use Rattle.sq_rules.specs.declared.refusals.Refusal.TheVariants as refusal
+use Rattle.sq_rules.specs.declared.sights.Sight.{Sight}
+use Rattle.sq_rules.specs.declared.values.Value.TheVariants as value
+use Rattle.sq_rules.specs.Configurations.{Configuration}
 use Rattle.sq_rules.specs.FullNext.{step_next}
 use Rattle.sq_rules.specs.Machine.{Next, refuses}
 use Rattle.sq_rules.specs.StepRule.{StepSays}
+use Rattle.sq_rules.specs.Verdicts.{verdict_over}
 use Rattle.sq_rows.specs.CheckRows.{Held, held_at}
 use Rattle.sq_rows.specs.declared.said.Stepped.{Stepped}
 use Rattle.sq_rows.specs.declared.said.Stepped.TheVariants as stepped
@@ -53,3 +58,10 @@ after_step_held s n now (Some h) = after_step_of n h.asked.epoch (says_now s now
 -- what a step makes of the state
 abbrev pub after_step_now : State → ℕ → ℕ → State
 after_step_now s n now = after_step_held s n now (held_at n s.checks)
+
+-- over some answers and what some check sees, the rules of a configuration need an answer of this acl
+pub record NeedsAcl (config : Configuration) (acl : ℕ) : Type 0 where
+  pub answers : List Answer
+  pub sight : Sight
+  pub key : List ℕ
+  pub needs : verdict_over answers config sight ≡ value.Need acl key

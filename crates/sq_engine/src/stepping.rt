@@ -1,5 +1,5 @@
 //! A check goes on.
-ghost use Rattle.std.specs.Prelude.{◌≡◌, ◌<◌, ◌^◌, suc, if◌then◌else◌, ℕ, max, true, false, is_some, IfSome, OnOk, OnErr, Some, None};
+ghost use Rattle.std.specs.Prelude.{◌≡◌, ◌<◌, ◌^◌, suc, if◌then◌else◌, ℕ, max, true, false, is_some, slice_get, IfSome, OnOk, OnErr, Some, None};
 ghost use Rattle.sq_base.specs.Distinct.{has_answer};
 ghost use Rattle.sq_rules.specs.FullNext.{step_next};
 ghost use Rattle.sq_rules.specs.StepRule.{class_of_acl, says_done};
@@ -13,14 +13,15 @@ ghost use Rattle.sq_state.specs.Changes.{after_step_of};
 ghost use Rattle.sq_state.specs.Says.{says_place_in};
 ghost use Rattle.sq_state.specs.States.{IsSame};
 ghost use Rattle.sq_engine.specs.EngineViews.{state_of};
-ghost use Rattle.sq_engine.specs.Stepping.{after_step_now, epoch_of, says_waits, step_now, stepped_told};
+ghost use Rattle.sq_engine.specs.Stepping.{NeedsAcl, after_step_now, epoch_of, says_waits, step_now, stepped_told};
 ghost use Rattle.sq_engine.specs.Tellings.{IsTold};
 
 use crate::engines::{Engine, later};
 use sq_base::{CheckNo, Copying, EpochNo, Moment, QuestionNo, Text, WantOfMemory};
+use sq_checks::class_of;
 use sq_part::ResolveFault;
 use sq_rows::{Said, Stepped};
-use sq_rules::{Outcome, Refusal};
+use sq_rules::{Config, Outcome, Refusal, Value};
 use std::alloc::Global;
 
 // The same answer of a step.
@@ -31,6 +32,19 @@ fn again(stepped: &Stepped) -> Stepped
         Stepped::Took(class) => Stepped::Took(*class),
         Stepped::Waits(question) => Stepped::Waits(*question),
         Stepped::Done => Stepped::Done,
+    }
+}
+
+// The class that an acl asks whose answer is needed.
+fn needed_class(config: &Config, acl: u32) -> u32
+    requires { NeedsAcl config.now acl }
+    ensures class { class_of_acl config.now.acls acl ≡ Some result }
+    ensures there { is_some (slice_get config.now.classes result) ≡ true }
+{
+    config.facts();
+    match class_of(config, acl) {
+        Some(class) => class,
+        None => unreachable!(),
     }
 }
 
@@ -122,5 +136,74 @@ impl Engine {
         self.checks.note(check, said, class, key);
         self.latest = moment;
         Ok(stepped)
+    }
+
+    // A step of a check that waits for nothing, and whose answers are put among the others.
+    fn go_on(
+        &mut self,
+        alloc: Global,
+        check: CheckNo,
+        moment: Moment,
+    ) -> Result<Stepped, Refusal>
+        requires there { is_some (value_at self.old.checks check) ≡ true }
+        requires settled { IfSome (value_at self.old.checks check) (λ k. is_settled k.stage ≡ true) }
+        requires idle { IfSome (value_at self.old.checks check) (λ k. need_in k.stage ≡ None) }
+        ensures told { IsTold (stepped_told (state_of self.old) (epoch_of (state_of self.old) check)) (step_now (state_of self.old) check moment) result }
+        ensures ok { OnOk result (IsSame (state_of self.new) (after_step_now (state_of self.old) check moment)) }
+        ensures err { OnErr result (IsSame (state_of self.new) (state_of self.old)) }
+    {
+        let Some(open) = self.checks.get(check) else {
+            unreachable!();
+        };
+        let epoch = open.epoch();
+        let value = match open.come_to(alloc) {
+            Ok(value) => value,
+            Err(WantOfMemory) => return Err(Refusal::WantOfMemory),
+        };
+        match value {
+            Value::Verdict(outcome) => {
+                self.decide(check, outcome, moment);
+                Ok(Stepped::Done)
+            }
+            Value::Need {
+                acl,
+                key,
+            } => {
+                let class = needed_class(open.config(), acl);
+                self.resolve(alloc, check, epoch, class, key, moment)
+            }
+        }
+    }
+
+    /// A check goes on: it takes an answer, waits for one, or has its outcome.
+    pub fn step(
+        &mut self,
+        alloc: Global,
+        check: CheckNo,
+        now: Moment,
+    ) -> Result<Stepped, Refusal>
+        ensures told { IsTold (stepped_told (state_of self.old) (epoch_of (state_of self.old) check)) (step_now (state_of self.old) check (max now self.old.latest)) result }
+        ensures ok { OnOk result (IsSame (state_of self.new) (after_step_now (state_of self.old) check (max now self.old.latest))) }
+        ensures err { OnErr result (IsSame (state_of self.new) (state_of self.old)) }
+    {
+        let moment = later(now, self.latest);
+        let Some(open) = self.checks.get(check) else {
+            return Err(Refusal::UnknownCheck(check));
+        };
+        if let Some(need) = open.need() {
+            let question = need.question;
+            let class = need.class;
+            let key = match need.key.copy(alloc) {
+                Ok(key) => key,
+                Err(WantOfMemory) => return Err(Refusal::WantOfMemory),
+            };
+            self.wait_on(check, question, class, key, moment);
+            return Ok(Stepped::Waits(question));
+        }
+        match self.settle(alloc, check) {
+            Ok(()) => {}
+            Err(WantOfMemory) => return Err(Refusal::WantOfMemory),
+        }
+        self.go_on(alloc, check, moment)
     }
 }

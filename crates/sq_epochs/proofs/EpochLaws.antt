@@ -1,9 +1,8 @@
 -- Laws of the live epochs by number.
-use Rattle.std.proofs.Common.{◌≡◌, ℕ, suc, ◌<◌, List, [], ◌∷◌, map, length, set, Bool, true, false, if◌then◌else◌, nat_lt, ◌==◌, refl, sym, arith, ap, ◌∙◌, Some, None, is_some, get_or, subst}
+use Rattle.std.proofs.Common.{◌≡◌, ℕ, suc, ◌<◌, List, [], ◌∷◌, map, length, set, Bool, true, false, if◌then◌else◌, nat_lt, ◌==◌, refl, sym, arith, ap, ◌∙◌, Some, None, is_some, get_or}
 use Rattle.std.specs.declared.option.Option.{Option}
 use Rattle.std.specs.List.{slice_get}
 use Rattle.std.proofs.lemmas.Bool.{lt-ltb, le-ltb}
-use Rattle.std.proofs.Math.Seq.{map-set_same}
 use Rattle.sq_channel.proofs.RisingLaws.{if_false, if_true}
 use Rattle.sq_rules.specs.Rising.{AreAbove, Rises, place_among}
 use Rattle.sq_part.specs.Parts.{PartState}
@@ -83,7 +82,3 @@ changed v new e c x y Change is placed change n = record {
   change = change.change;
   new_is = n ∙ ap (λ z. record v { epochs = set v.epochs (place_among e (map epoch_number v.epochs)) z }) change.new_is ∙ ap (λ z. record v { epochs = z }) (placed.set_is (with_part c change.after));
 }
-
--- the numbers are as before, where one epoch was changed
-pub still_rises : (xs : List EpochState) (i : ℕ) (x y : EpochState) → Rises (map epoch_number xs) → x ≡ get_or xs i x → y.epoch ≡ x.epoch → Rises (map epoch_number (set xs i y))
-still_rises xs i x y r is same = subst Rises (sym (map-set_same epoch_number xs i y x (same ∙ ap epoch_number is))) r

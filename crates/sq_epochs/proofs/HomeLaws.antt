@@ -1,11 +1,10 @@
 -- Laws of homes and of due stops by number.
-use Rattle.std.proofs.Common.{◌≡◌, ℕ, suc, ◌+◌, ◌≤◌, ◌<◌, List, [], ◌∷◌, ◌++◌, map, length, filter, Bool, true, false, not, cond, ◌&&◌, ◌||◌, if◌then◌else◌, nat_lt, ◌==◌, refl, sym, subst, arith, ap, ◌∙◌, ⊎_elim, Some, None, is_some, drop, get_or}
+use Rattle.std.proofs.Common.{◌≡◌, ℕ, suc, ◌+◌, ◌≤◌, ◌<◌, List, [], ◌∷◌, ◌++◌, map, length, Bool, true, false, not, cond, ◌||◌, if◌then◌else◌, nat_lt, ◌==◌, refl, sym, subst, arith, ap, ◌∙◌, Some, None, is_some}
 use Rattle.std.specs.List.{insert, remove}
 use Rattle.std.specs.Option.{option_or}
 use Rattle.std.specs.declared.option.Option.{Option}
-use Rattle.std.proofs.lemmas.Bool.{cases_Bool, lt-ltb, le-ltb, ltb-true, ltb-false}
-use Rattle.std.proofs.lemmas.List.{drop_more}
-use Rattle.sq_channel.proofs.RisingLaws.{above_more, if_false, if_true, rises_insert}
+use Rattle.std.proofs.lemmas.Bool.{lt-ltb, le-ltb}
+use Rattle.sq_channel.proofs.RisingLaws.{if_false, if_true, rises_insert}
 use Rattle.sq_rules.specs.DueActs.{Place}
 use Rattle.sq_rules.specs.Rising.{AreAbove, AreBelow, Rises, place_among, times_of}
 use Rattle.sq_epochs.specs.HomeStates.{AreHomes, Home, home_in, home_number, is_among, is_of_epoch, other_homes, procs_of, with_number, with_numbers, without_home}

@@ -5,7 +5,7 @@ use Rattle.std.specs.List.{slice_get}
 use Rattle.std.proofs.lemmas.Option.{same_Some, slice_get_read, slice_get_within}
 use Rattle.std.proofs.Math.Seq.{map-set_same}
 use Rattle.sq_rules.specs.Classes.{Class}
-use Rattle.sq_rules.specs.Rising.{Rises, place_among}
+use Rattle.sq_rules.specs.Rising.{place_among}
 use Rattle.sq_rows.specs.StepRows.{says_of_row}
 use Rattle.sq_rows.specs.declared.said.Said.{Said}
 use Rattle.sq_part.specs.Parts.{IsAsBefore, PartState}
@@ -13,9 +13,10 @@ use Rattle.sq_part.specs.Steps.{IsSpent}
 use Rattle.sq_part.specs.declared.faults.ResolveFault.{ResolveFault}
 use Rattle.sq_epochs.specs.EpochChanges.{IsResolved}
 use Rattle.sq_epochs.specs.EpochStates.{EpochState, EpochsState, IsChanged, IsEpochChanged, class_at, class_cache, class_of, epoch_at, epoch_number, new_part, part_at, part_limit, part_of, with_part}
+use Rattle.sq_epochs.specs.LiveEpochs.{AreEpochs}
 use Rattle.sq_epochs.proofs.EpochLaws.{IsPlaced, IsThere, changed, is_there, placed}
 
-len_map : {A B : Type 0} (f : A → B) (xs : List A) → length (map f xs) ≡ length xs
+pub len_map : {A B : Type 0} (f : A → B) (xs : List A) → length (map f xs) ≡ length xs
 len_map f [] = refl
 len_map f (x ∷ xs) = ap suc (len_map f xs)
 
@@ -97,10 +98,10 @@ pub record IsFound (v : EpochsState) (e c i : ℕ) : Type 0 where
   pub placed : IsPlaced e v.epochs epoch
   pub place : i ≡ place_among e (map epoch_number v.epochs)
 
-pub find_at : (v w : EpochsState) (e c i : ℕ) → v ≡ w → Rises (map epoch_number v.epochs) → is_some (part_at w e c) ≡ true → i ≡ place_among e (map epoch_number v.epochs) → IsFound v e c i
-find_at v w e c i same r is p =
+pub find_at : (v w : EpochsState) (e c i : ℕ) → v ≡ w → AreEpochs v → is_some (part_at w e c) ≡ true → i ≡ place_among e (map epoch_number v.epochs) → IsFound v e c i
+find_at v w e c i same live is p =
     let there : IsThere v e c = is_there v e c (ap (λ z. is_some (part_at z e c)) same ∙ is) in
-    let at = placed e v.epochs there.epoch r there.epoch_is in
+    let at = placed e v.epochs there.epoch live.rise there.epoch_is in
     record {
       epoch = there.epoch;
       part = there.part;

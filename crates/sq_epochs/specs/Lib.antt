@@ -4,3 +4,5 @@ pub mod EpochChanges
 pub mod EpochProcs
 pub mod EpochStates
 pub mod HomeStates
+pub mod LiveEpochs
+pub mod Reconfigured

@@ -1,5 +1,5 @@
 //! `Epoch`: a live epoch with a part for each class of its configuration.
-ghost use Rattle.std.specs.Prelude.{◌≡◌, ◌<◌, ◌^◌, ℕ, suc, true, None, Some, map, length, slice_get, IfOk, IfNone, IfSome, OnOk, OnErr, IsErrOf};
+ghost use Rattle.std.specs.Prelude.{◌≡◌, ◌<◌, ◌^◌, ◌∷◌, [], ℕ, suc, true, None, Some, map, length, slice_get, IfOk, IfNone, IfSome, OnOk, OnErr, IsErrOf};
 ghost use Rattle.std.specs.Option.{option_map};
 ghost use Rattle.std.specs.Arc.{arc_value};
 ghost use Rattle.sq_part.specs.Parts.{IsAsBefore, PartState};
@@ -8,6 +8,9 @@ ghost use Rattle.sq_rules.specs.Classes.{Class};
 ghost use Rattle.sq_rules.specs.OpenLookups.{all_below, question_of};
 ghost use Rattle.sq_rows.specs.StepRows.{says_of_row};
 ghost use Rattle.sq_epochs.specs.EpochStates.{IsEpochChanged, new_epoch, new_part};
+ghost use Rattle.sq_epochs.specs.LiveEpochs.{check_less, check_more};
+ghost use Rattle.sq_epochs.specs.Reconfigured.{alike_in, begun_epoch, begun_part, kept_alike, left_epoch};
+ghost use Rattle.sq_rules.specs.Configurations.{have_distinct_names};
 ghost use Rattle.sq_epochs.specs.EpochProcs.{SameLiving};
 ghost use Rattle.sq_epochs.specs.EpochChanges.{HasFailed, HasLeft, HasNoLoss, HasNoStart, HasReplied, IsHandedOn, IsResolved};
 ghost use Rattle.sq_rules.specs.Channels.{is_open};
@@ -56,6 +59,27 @@ fn parts_of(alloc: Global, classes: &[Class], seed: HashSeed) -> Result<Vec<Part
     Ok(parts)
 }
 
+// The place of the class among these that is alike to this one.
+fn alike_place(classes: &[Class], class: &Class) -> Option<usize>
+    ensures first { result ≡ alike_in classes.now class.now }
+    ensures inside { IfSome result (λ i. i < length classes.now) }
+{
+    classes.iter().position(|other| other.alike(class))
+}
+
+// Hands what is kept of an epoch's classes on to new parts of the classes that are alike.
+fn inherit_parts(classes: &[Class], parts: &mut [Part], before: &mut Epoch)
+    requires new { parts.old ≡ map new_part classes.now }
+    requires own { have_distinct_names classes.now ≡ true }
+    ensures begun { parts.new ≡ map (begun_part (kept_alike before.old)) classes.now }
+    ensures left { before.new ≡ left_epoch classes.now before.old }
+{
+    for (place, class) in classes.iter().enumerate() {
+        let part = &mut parts[place];
+        before.hand_on(class, part);
+    }
+}
+
 impl Epoch {
     // An epoch that begins.
     pub(crate) fn new(
@@ -73,6 +97,54 @@ impl Epoch {
             checks: 0,
             parts,
         })
+    }
+
+    // One check more is open.
+    pub(crate) fn begin_check(&mut self)
+        requires { suc self.old.checks < 2 ^ 64 }
+        ensures { self.new ≡ check_more self.old }
+    {
+        self.checks += 1;
+    }
+
+    // One check fewer is open.
+    pub(crate) fn end_check(&mut self)
+        requires { 0 < self.old.checks }
+        ensures { self.new ≡ check_less self.old }
+    {
+        self.checks -= 1;
+    }
+
+    // How many checks are open.
+    pub(crate) fn open_checks(&self) -> u64
+        ensures { result ≡ self.now.checks }
+    {
+        self.checks
+    }
+
+    // Hands what is kept of the class that is alike to this one on to a new part of it.
+    fn hand_on(&mut self, class: &Class, part: &mut Part)
+        requires fits { part.old.limit ≡ class.now.cache }
+        requires empty { part.old.row.kept ≡ [] }
+        ensures part { part.new ≡ record part.old { row = record part.old.row { kept = kept_alike self.old class.now } } }
+        ensures left { self.new ≡ left_epoch (class.now ∷ []) self.old }
+    {
+        self.config.facts();
+        let Some(place) = alike_place(self.config.classes(), class) else {
+            return;
+        };
+        let own = &mut self.parts[place];
+        own.exchange_kept(part);
+    }
+
+    // Begins with what is kept of the classes of the epoch before that are alike.
+    pub(crate) fn inherit(&mut self, before: &mut Epoch)
+        requires { self.old ≡ new_epoch self.old.epoch self.old.config }
+        ensures begun { self.new ≡ begun_epoch (kept_alike before.old) self.old.epoch self.old.config }
+        ensures left { before.new ≡ left_epoch self.old.config.classes before.old }
+    {
+        self.config.facts();
+        inherit_parts(self.config.classes(), &mut self.parts, before);
     }
 
     // The class at this place.

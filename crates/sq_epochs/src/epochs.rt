@@ -37,15 +37,14 @@ pub struct Epochs {
 }
 
 impl Model for Epochs {
-    ghost use Rattle.std.specs.Prelude.{map};
-    ghost use Rattle.sq_epochs.specs.EpochStates.{EpochsState, epoch_number};
-    ghost use Rattle.sq_rules.specs.Rising.{Rises};
+    ghost use Rattle.sq_epochs.specs.EpochStates.{EpochsState};
+    ghost use Rattle.sq_epochs.specs.LiveEpochs.{AreEpochs};
 
     ghost Value = { EpochsState };
 
     ghost view = { λ v. record { current = v.current; epochs = v.epochs.items; procs = v.homes.given; homes = v.homes.homes; stops = v.homes.stops } };
 
-    ghost invariant = { λ v. Rises (map epoch_number v.epochs.items) };
+    ghost invariant = { λ v. AreEpochs (record { current = v.current; epochs = v.epochs.items; procs = v.homes.given; homes = v.homes.homes; stops = v.homes.stops }) };
 }
 
 pub(crate) fn place_of(epochs: &[Epoch], number: EpochNo) -> usize

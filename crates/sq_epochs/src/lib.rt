@@ -9,6 +9,7 @@ mod epoch;
 mod epochs;
 mod faults;
 mod homes;
+mod lives;
 mod procs;
 mod stops;
 

@@ -3,7 +3,7 @@ use Rattle.std.proofs.lemmas.Grind.{common_steps}
 use Rattle.sq_rules.specs.Rising.{place_among}
 use Rattle.sq_epochs.specs.EpochChanges.{HasNoLoss, IsHandedOn}
 use Rattle.sq_epochs.specs.EpochStates.{EpochsState, epoch_number}
-use Rattle.sq_epochs.proofs.EpochLaws.{still_rises}
+use Rattle.sq_epochs.proofs.LiveLaws.{still_epochs}
 use Rattle.sq_epochs.proofs.OutcomeLaws.{none_lifted, some_lifted}
 use Rattle.sq_epochs.proofs.PartLaws.{find_at, within_at}
 use Rattle.sq_epochs.proofs.epochs.Epochs.next_lost.Goals as goal
@@ -25,7 +25,8 @@ next_lost-requires c =
 
 pub invariant_of-self : goal.invariant_of-self
 invariant_of-self c =
-    still_rises c.self.inside.epochs.items c.place_of-place.result c.index_mut-live.result.now c.next_lost.new.self c.self.invariant c.index_mut-live.ensures.value c.next_lost.ensures.number
+    let v : EpochsState = record { current = c.self.inside.current; epochs = c.self.inside.epochs.items; procs = c.self.inside.homes.given; homes = c.self.inside.homes.homes; stops = c.self.inside.homes.stops } in
+    still_epochs v c.place_of-place.result c.index_mut-live.result.now c.next_lost.new.self c.self.invariant c.index_mut-live.ensures.value c.next_lost.ensures.number c.next_lost.ensures.checks
 
 pub returns-clause-handed : goal.returns-clause-handed
 returns-clause-handed c =

@@ -3,7 +3,7 @@ use Rattle.std.proofs.lemmas.Grind.{common_steps}
 use Rattle.sq_rules.specs.Rising.{place_among}
 use Rattle.sq_part.specs.Parts.{IsAsBefore}
 use Rattle.sq_epochs.specs.EpochStates.{EpochsState, epoch_number}
-use Rattle.sq_epochs.proofs.EpochLaws.{still_rises}
+use Rattle.sq_epochs.proofs.LiveLaws.{still_epochs}
 use Rattle.sq_epochs.proofs.OutcomeLaws.{all_replied, err_lifted}
 use Rattle.sq_epochs.proofs.PartLaws.{find_at, part_here, within_at}
 use Rattle.sq_epochs.proofs.epochs.Epochs.reply.Goals as goal
@@ -32,7 +32,8 @@ reply-requires-clause-opened c = λ p at.
 
 pub invariant_of-self : goal.invariant_of-self
 invariant_of-self c =
-    still_rises c.self.inside.epochs.items c.place_of-place.result c.index_mut-live.result.now c.reply.new.self c.self.invariant c.index_mut-live.ensures.value c.reply.ensures.number
+    let v : EpochsState = record { current = c.self.inside.current; epochs = c.self.inside.epochs.items; procs = c.self.inside.homes.given; homes = c.self.inside.homes.homes; stops = c.self.inside.homes.stops } in
+    still_epochs v c.place_of-place.result c.index_mut-live.result.now c.reply.new.self c.self.invariant c.index_mut-live.ensures.value c.reply.ensures.number c.reply.ensures.checks
 
 pub returns-clause-ok : goal.returns-clause-ok
 returns-clause-ok c =

@@ -2,7 +2,7 @@ use Rattle.std.proofs.Common.{refl, ap, ◌∙◌, sym, map, arith}
 use Rattle.std.proofs.lemmas.Grind.{common_steps}
 use Rattle.sq_rules.specs.Rising.{place_among}
 use Rattle.sq_epochs.specs.EpochStates.{EpochsState, epoch_number}
-use Rattle.sq_epochs.proofs.EpochLaws.{still_rises}
+use Rattle.sq_epochs.proofs.LiveLaws.{still_epochs}
 use Rattle.sq_epochs.proofs.PartLaws.{all_refused, all_resolved, class_here, find_at, part_here, within_at}
 use Rattle.sq_epochs.proofs.epochs.Epochs.resolve.Goals as goal
 
@@ -37,7 +37,8 @@ resolve-requires-clause-counted c = λ p at.
 
 pub invariant_of-self : goal.invariant_of-self
 invariant_of-self c =
-    still_rises c.self.inside.epochs.items c.place_of-place.result c.index_mut-live.result.now c.resolve.new.self c.self.invariant c.index_mut-live.ensures.value c.resolve.ensures.number
+    let v : EpochsState = record { current = c.self.inside.current; epochs = c.self.inside.epochs.items; procs = c.self.inside.homes.given; homes = c.self.inside.homes.homes; stops = c.self.inside.homes.stops } in
+    still_epochs v c.place_of-place.result c.index_mut-live.result.now c.resolve.new.self c.self.invariant c.index_mut-live.ensures.value c.resolve.ensures.number c.resolve.ensures.checks
 
 pub returns-clause-spent : goal.returns-clause-spent
 returns-clause-spent c = λ is p k at_p at_k e.

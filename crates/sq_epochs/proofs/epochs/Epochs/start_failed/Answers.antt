@@ -3,7 +3,7 @@ use Rattle.std.proofs.lemmas.Grind.{common_steps}
 use Rattle.sq_rules.specs.Rising.{place_among}
 use Rattle.sq_epochs.specs.EpochChanges.{HasFailed, HasNoStart}
 use Rattle.sq_epochs.specs.EpochStates.{EpochsState, epoch_number}
-use Rattle.sq_epochs.proofs.EpochLaws.{still_rises}
+use Rattle.sq_epochs.proofs.LiveLaws.{still_epochs}
 use Rattle.sq_epochs.proofs.OutcomeLaws.{err_lifted, ok_lifted}
 use Rattle.sq_epochs.proofs.PartLaws.{find_at, within_at}
 use Rattle.sq_epochs.proofs.epochs.Epochs.start_failed.Goals as goal
@@ -25,7 +25,8 @@ start_failed-requires c =
 
 pub invariant_of-self : goal.invariant_of-self
 invariant_of-self c =
-    still_rises c.self.inside.epochs.items c.place_of-place.result c.index_mut-live.result.now c.start_failed.new.self c.self.invariant c.index_mut-live.ensures.value c.start_failed.ensures.number
+    let v : EpochsState = record { current = c.self.inside.current; epochs = c.self.inside.epochs.items; procs = c.self.inside.homes.given; homes = c.self.inside.homes.homes; stops = c.self.inside.homes.stops } in
+    still_epochs v c.place_of-place.result c.index_mut-live.result.now c.start_failed.new.self c.self.invariant c.index_mut-live.ensures.value c.start_failed.ensures.number c.start_failed.ensures.checks
 
 pub returns-clause-ok : goal.returns-clause-ok
 returns-clause-ok c =
