@@ -152,6 +152,21 @@ keyed_from part now check next a parts needs = record {
       ap (key_of x.question) w.lookups_are ∙ a.keys n u.check x w.part u.was u.need_is (ap (λ z. part z x.class) u.epoch_is ∙ w.was);
 }
 
+-- where a class has the lookups that it had
+pub keyed_before : (e c : ℕ) (before after : PartState) (old new : EpochsState) (check : ℕ → Option CheckParts) → PartChanged e c before after old new → after.row.lookups ≡ before.row.lookups
+    → AreKeyed (part_at old) check → AreKeyed (part_at new) check
+keyed_before e c before after old new check k same a =
+    keyed_from (part_at old) (part_at new) check check a parts (λ n j x is need. record { check = j; was = is; epoch_is = refl; need_is = need })
+  where
+    parts : (f d : ℕ) (p : PartState) → part_at new f d ≡ Some p → WasPart (part_at old f d) p
+    parts f d p is = two_ways (part_found e c before after old new k f d p is)
+        (λ h. record {
+          part = before;
+          was = ap (λ z. part_at old z d) (sym h.epoch_is) ∙ ap (part_at old e) (sym h.class_is) ∙ k.was;
+          lookups_are = ap (λ (z : PartState). z.row.lookups) (sym h.part_is) ∙ same;
+        })
+        (λ o. record { part = p; was = o.was; lookups_are = refl })
+
 asked_told : (c : ℕ) (t : Told) → question_told (stepped_of c t) ≡ waits_told t
 asked_told c (told.Waits q) = refl
 asked_told c told.Done = refl

@@ -11,7 +11,7 @@ use Rattle.sq_rules.specs.DueActs.{Place}
 use Rattle.sq_rules.specs.Farms.{is_last_start}
 use Rattle.sq_rules.specs.Living.{slots_in}
 use Rattle.sq_rules.specs.Losses.{Loss}
-use Rattle.sq_rules.specs.OpenLookups.{LookupRow, is_open_lookup, key_of, question_of}
+use Rattle.sq_rules.specs.OpenLookups.{LookupRow, is_open_lookup, key_of, question_of, waits_in}
 use Rattle.sq_rules.specs.Rising.{Rises}
 use Rattle.sq_rows.specs.CheckRows.{after_ends}
 use Rattle.sq_rows.specs.ClassRows.{ClassRow, after_death, after_failed, is_waiting}
@@ -27,10 +27,10 @@ use Rattle.sq_state.specs.Changes.{after_failed_at, end_answer, is_stranded, row
 use Rattle.sq_state.specs.States.{IsSame}
 use Rattle.sq_engine.specs.Engines.{IsEngine, held_number}
 use Rattle.sq_engine.specs.EngineViews.{EngineView, state_of, stop_at}
-use Rattle.sq_engine.specs.Handing.{HasHandedOut, all_lost, still_waits}
+use Rattle.sq_engine.specs.Handing.{AreListed, HasHandedOut, all_lost, still_waits}
 use Rattle.sq_engine.proofs.EndedLaws.{HasEnds, IsEnding, ended_configs, ended_engine, ended_rows, left_need, left_waits}
 use Rattle.sq_engine.proofs.HandingLaws.{changed_beside, changed_then, part_after, same_between}
-use Rattle.sq_engine.proofs.LostLaws.{engine_needing, lost_answer, lost_at, lost_by, lost_config, lost_ends, lost_epoch, lost_need, rows_lost, same_ends, still_needs}
+use Rattle.sq_engine.proofs.LostLaws.{engine_listed, engine_needing, lost_answer, lost_at, lost_by, lost_config, lost_ends, lost_epoch, lost_need, rows_lost, same_ends, still_needs}
 
 -- these questions of a class are lost by this cause, and once they were handed out its row is F of what it was
 pub record HasLost (k : Cause) (F : ClassRow → ClassRow) (gone : ClassRow → ℕ → Bool) (before mid : PartState) : Type 0 where
@@ -81,6 +81,14 @@ waits_if losses gone (Some q) h = ap (λ b. if b then None else Some q) (h q)
 needs_if : (losses : List Loss) (gone : ℕ → Bool) (o : Option Need) → ((q : ℕ) → is_some (lost_cause q losses) ≡ gone q) → still_needs losses o ≡ left_need gone o
 needs_if losses gone None h = refl
 needs_if losses gone (Some x) h = ap (λ b. if b then None else Some x) (h x.question)
+
+-- the checks that wait for questions of the class are listed in it before they are handed out
+pub still_listed : (v : EngineView) (mid : EpochsState) (e c : ℕ) (k : Cause) (F : ClassRow → ClassRow) (gone : ClassRow → ℕ → Bool) → IsEngine v
+    → IsChanged e c (HasLost k F gone) v.epochs (record mid { homes = v.epochs.homes; stops = v.epochs.stops }) → (p : PartState) → part_at mid e c ≡ Some p → AreListed p v.checks
+still_listed v mid e c k F gone engine i p is n q here =
+    let same : i.after ≡ p = same_Some i.after p (sym (part_after e c (HasLost k F gone) v.epochs (record mid { homes = v.epochs.homes; stops = v.epochs.stops }) i) ∙ is) in
+    ap (λ w. waits_in w q n) (ap (λ (z : PartState). z.waiting) (sym same) ∙ i.change.waiting_are)
+    ∙ engine_listed v e c i.before engine i.was n q (ap (is_open_lookup q) (sym (ap (λ (z : PartState). z.row.lookups) (sym same) ∙ i.change.lookups_are)) ∙ here)
 
 -- how a class and the checks are left, once its questions that were lost by one cause were handed out
 pub record IsLost (v : EngineView) (e c t : ℕ) (k : Cause) (F : ClassRow → ClassRow) (gone : ClassRow → ℕ → Bool) (new : EpochsState) (cs : List (ℕ × CheckParts)) : Type 0 where
@@ -170,13 +178,21 @@ lost_out v mid new cs e c t k F gone engine cut none i j list rise = record {
         ∙ same_ends (lost_ends c t i.before.row.lookups losses) (row_ends c (what.Fault k) t (gone i.before.row) (Some i.before.row)) (rows_of v.checks)
         (λ q. ap (lost_answer c t q (key_of q i.before.row.lookups)) (i.change.lost q) ∙ answer_if (gone i.before.row q) c t q (key_of q i.before.row.lookups) k)
 
+-- a failed start, as one by which questions are lost
+failed_change : (v : EngineView) (mid : EpochsState) (e c : ℕ) → IsEngine v → IsChanged e c HasFailed v.epochs mid
+    → IsChanged e c (HasLost cause.NoHelper after_failed gone_stranded) v.epochs (record mid { homes = v.epochs.homes; stops = v.epochs.stops })
+failed_change v mid e c engine i =
+    changed_as e c HasFailed (HasLost cause.NoHelper after_failed gone_stranded) v.epochs (record mid { homes = v.epochs.homes; stops = v.epochs.stops }) (λ p r at h. has_failed p r (engine.fed.none_lost e c p at) h)
+    (changed_beside e c HasFailed v.epochs mid v.epochs.homes v.epochs.stops i)
+
+pub failed_listed : (v : EngineView) (mid : EpochsState) (e c : ℕ) → IsEngine v → IsChanged e c HasFailed v.epochs mid → (p : PartState) → part_at mid e c ≡ Some p → AreListed p v.checks
+failed_listed v mid e c engine i = still_listed v mid e c cause.NoHelper after_failed gone_stranded engine (failed_change v mid e c engine i)
+
 -- a class that a failed start left, and the checks
 pub failed_out : (v : EngineView) (mid new : EpochsState) (cs : List (ℕ × CheckParts)) (e c t : ℕ) → IsEngine v → IsChanged e c HasFailed v.epochs mid → IsChanged e c HasHandedOut mid new
     → ((p : PartState) → part_at mid e c ≡ Some p → cs ≡ all_lost p.row.stock.losses t v.checks) → Rises (map held_number (rows_of v.checks)) → IsLost v e c t cause.NoHelper after_failed gone_stranded new cs
 failed_out v mid new cs e c t engine i j list rise =
-    lost_out v mid new cs e c t cause.NoHelper after_failed gone_stranded engine (λ r. refl) (λ r. refl)
-    (changed_as e c HasFailed (HasLost cause.NoHelper after_failed gone_stranded) v.epochs (record mid { homes = v.epochs.homes; stops = v.epochs.stops }) (λ p r at h. has_failed p r (engine.fed.none_lost e c p at) h)
-    (changed_beside e c HasFailed v.epochs mid v.epochs.homes v.epochs.stops i)) j list rise
+    lost_out v mid new cs e c t cause.NoHelper after_failed gone_stranded engine (λ r. refl) (λ r. refl) (failed_change v mid e c engine i) j list rise
 
 pub failed_engine : (v : EngineView) (mid new : EpochsState) (cs : List (ℕ × CheckParts)) (e c t : ℕ) → IsEngine v → IsChanged e c HasFailed v.epochs mid → IsChanged e c HasHandedOut mid new
     → ((p : PartState) → part_at mid e c ≡ Some p → cs ≡ all_lost p.row.stock.losses t v.checks) → Rises (map held_number (rows_of v.checks)) → IsEngine (record v { checks = cs; epochs = new; latest = t })

@@ -33,7 +33,7 @@ use Rattle.sq_engine.specs.Engines.{AreConfigured, AreFed, AreKeyed, AreWaiting,
 use Rattle.sq_engine.specs.EngineViews.{EngineView, config_at, config_in, state_of}
 use Rattle.sq_engine.proofs.ChangedLaws.{KeepsEpoch, configured_changed}
 use Rattle.sq_engine.proofs.HeldLaws.{asked_stepped, counted_stepped}
-use Rattle.sq_engine.proofs.KeyLaws.{keyed_resolved}
+use Rattle.sq_engine.proofs.KeyLaws.{keyed_before, keyed_resolved}
 use Rattle.sq_engine.proofs.LookupLaws.{losses_put, need_open, not_open, open_still, put_below, put_higher, puts_after, was_open}
 use Rattle.sq_engine.proofs.PartLaws.{IsOwn, PartFed, fed_changed, waiting_part}
 use Rattle.sq_engine.proofs.PlaceLaws.{PartChanged, configs_kept, configured_part, counted_part, part_changed}
@@ -252,5 +252,6 @@ before_engine v e c new i ch =
             waits_open = λ n q waits. ap (λ r. is_open_lookup q r.lookups) row ∙ i.fed.waits_open e c n q ch.before ch.was (sym (ch.change.waiting_are n) ∙ waits);
           })
           (λ q here. inl (ap (λ r. is_open_lookup q r.lookups) (sym row) ∙ here)) (λ p h. h) i.fed.few;
+      keyed = keyed_before e c ch.before ch.after v.epochs new (value_at v.checks) k (ap (λ r. r.lookups) row) i.keyed;
       setup_is = ap (config_at new) k.current_is ∙ configs_kept e c ch.before ch.after v.epochs new k v.epochs.current ∙ i.setup_is;
     }

@@ -1,0 +1,28 @@
+use Rattle.std.proofs.Common.{◌≡◌, max, ap, sym, subst, ◌∙◌}
+use Rattle.sq_epochs.specs.EpochChanges.{HasFailed}
+use Rattle.sq_state.specs.Changes.{after_failed_at}
+use Rattle.sq_state.specs.States.{IsSame}
+use Rattle.sq_engine.specs.EngineViews.{EngineView, state_of}
+use Rattle.sq_engine.proofs.HandingLaws.{there_after}
+use Rattle.sq_engine.proofs.LosingLaws.{failed_engine, failed_listed, failed_same}
+use Rattle.sq_engine.proofs.engines.Engine.start_failed.Goals as goal
+
+pub hand_out-requires-clause-there : goal.hand_out-requires-clause-there
+hand_out-requires-clause-there c = there_after c.args.epoch c.args.class HasFailed c.self.inside.epochs c.fail.new.epochs c.fail.ensures
+
+pub hand_out-requires-clause-listed : goal.hand_out-requires-clause-listed
+hand_out-requires-clause-listed c =
+    let v : EngineView = record { conns = c.self.inside.conns; checks = c.self.inside.checks; asks = c.self.inside.asks; puts = c.self.inside.puts; epochs = c.self.inside.epochs; setup = c.self.inside.setup; offset = c.self.inside.offset; latest = c.self.inside.latest } in
+    failed_listed v c.fail.new.epochs c.args.epoch c.args.class c.self.invariant c.fail.ensures
+
+pub invariant_of-self : goal.invariant_of-self
+invariant_of-self c =
+    let v : EngineView = record { conns = c.self.inside.conns; checks = c.self.inside.checks; asks = c.self.inside.asks; puts = c.self.inside.puts; epochs = c.self.inside.epochs; setup = c.self.inside.setup; offset = c.self.inside.offset; latest = c.self.inside.latest } in
+    failed_engine v c.fail.new.epochs c.hand_out.new.epochs c.hand_out.new.checks c.args.epoch c.args.class c.later-moment.result c.self.invariant c.fail.ensures c.hand_out.ensures.part c.hand_out.ensures.checks c.hand_out.ensures.rise
+
+pub returns-clause-ok : goal.returns-clause-ok
+returns-clause-ok c =
+    let v : EngineView = record { conns = c.self.inside.conns; checks = c.self.inside.checks; asks = c.self.inside.asks; puts = c.self.inside.puts; epochs = c.self.inside.epochs; setup = c.self.inside.setup; offset = c.self.inside.offset; latest = c.self.inside.latest } in
+    subst (λ z. IsSame (state_of (record v { checks = c.hand_out.new.checks; epochs = c.hand_out.new.epochs; latest = c.later-moment.result })) (after_failed_at (record { epoch = c.args.epoch; class = c.args.class }) (max c.args.now z.latest) (state_of z))) c.self.view_is
+    (subst (λ m. IsSame (state_of (record v { checks = c.hand_out.new.checks; epochs = c.hand_out.new.epochs; latest = c.later-moment.result })) (after_failed_at (record { epoch = c.args.epoch; class = c.args.class }) m (state_of v))) c.later-moment.ensures
+    (failed_same v c.fail.new.epochs c.hand_out.new.epochs c.hand_out.new.checks c.args.epoch c.args.class c.later-moment.result c.self.invariant c.fail.ensures c.hand_out.ensures.part c.hand_out.ensures.checks c.hand_out.ensures.rise))
