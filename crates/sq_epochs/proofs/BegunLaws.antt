@@ -17,7 +17,8 @@ use Rattle.sq_epochs.specs.EpochStates.{EpochState, EpochsState, change_epoch, c
 use Rattle.sq_epochs.specs.LiveEpochs.{AreEpochs, checks_at, has_checks, is_used, without_epoch}
 use Rattle.sq_epochs.specs.Reconfigured.{alike_in, begun_epoch, begun_part, emptied, kept_alike, kept_before, kept_in, left_epoch, left_part, left_parts, with_begun, with_epoch}
 use Rattle.sq_epochs.proofs.EpochLaws.{placed}
-use Rattle.sq_epochs.proofs.DropLaws.{above_without, below_without, in_without, rises_without}
+use Rattle.sq_epochs.proofs.DropLaws.{in_without}
+use Rattle.sq_epochs.proofs.RisingRows.{above_filter, above_push, below_filter, below_push, keys_push, rises_filter, rises_push}
 
 equal : (a b : ℕ) → (a == b) ≡ true → a ≡ b
 equal a b e = grind (arith, e)
@@ -114,37 +115,26 @@ epoch_begun config v f is =
     by_test true t = ap (λ o. option_or o (Some begun)) (none_before (equal f (suc v.current) t))
     by_test false t = no_more before
 
--- epochs with one more that is used and whose number is above each are epochs, where it is current
-above_end : (k n : ℕ) (xs : List EpochState) (y : EpochState) → y.epoch ≡ n → k < n → AreAbove k (map epoch_number xs) → AreAbove k (map epoch_number (xs ++ y ∷ []))
-above_end k n [] y e l a = (omega arith, tt)
-above_end k n (x ∷ xs) y e l a = (a.0, above_end k n xs y e l a.1)
+-- the numbers of the epochs, where one began
+begun_numbers : (config : Configuration) (v : EpochsState) → map epoch_number (with_begun v.current config v.epochs) ≡ map epoch_number v.epochs ++ suc v.current ∷ []
+begun_numbers config v =
+    keys_push epoch_number (change_epoch v.current (left_epoch config.classes) v.epochs) (begun_epoch (kept_before v.epochs v.current) (suc v.current) config)
+    ∙ ap (λ ns. ns ++ suc v.current ∷ []) (changed_numbers v.current (left_epoch config.classes) v.epochs (λ x. refl))
 
-below_end : (k n : ℕ) (xs : List EpochState) (y : EpochState) → y.epoch ≡ n → n < k → AreBelow n (map epoch_number xs) → AreBelow k (map epoch_number (xs ++ y ∷ []))
-below_end k n [] y e l b = (omega arith, tt)
-below_end k n (x ∷ xs) y e l b = (let low = b.0 in omega arith, below_end k n xs y e l b.1)
-
-rises_end : (n : ℕ) (xs : List EpochState) (y : EpochState) → y.epoch ≡ n → AreBelow n (map epoch_number xs) → Rises (map epoch_number xs) → Rises (map epoch_number (xs ++ y ∷ []))
-rises_end n [] y e b r = (tt, tt)
-rises_end n (x ∷ xs) y e b r = (above_end x.epoch n xs y e b.0 r.0, rises_end n xs y e b.1 r.1)
-
--- what is needed of epochs that begin one more, and of those that end the one before
 pub begun_rise : (config : Configuration) (v : EpochsState) → AreEpochs v → Rises (map epoch_number (with_begun v.current config v.epochs))
-begun_rise config v is =
-    let numbers = changed_numbers v.current (left_epoch config.classes) v.epochs (λ x. refl) in
-    rises_end (suc v.current) (change_epoch v.current (left_epoch config.classes) v.epochs) (begun_epoch (kept_before v.epochs v.current) (suc v.current) config) refl
-    (subst (AreBelow (suc v.current)) (sym numbers) is.born) (subst Rises (sym numbers) is.rise)
+begun_rise config v is = subst Rises (sym (begun_numbers config v)) (rises_push (map epoch_number v.epochs) (suc v.current) is.born is.rise)
 
 pub begun_numbered : (config : Configuration) (v : EpochsState) → AreEpochs v → AreAbove 0 (map epoch_number (with_begun v.current config v.epochs))
-begun_numbered config v is =
-    let numbers = changed_numbers v.current (left_epoch config.classes) v.epochs (λ x. refl) in
-    above_end 0 (suc v.current) (change_epoch v.current (left_epoch config.classes) v.epochs) (begun_epoch (kept_before v.epochs v.current) (suc v.current) config) refl (omega arith)
-    (subst (AreAbove 0) (sym numbers) is.numbered)
+begun_numbered config v is = subst (AreAbove 0) (sym (begun_numbers config v)) (above_push 0 (map epoch_number v.epochs) (suc v.current) (omega arith) is.numbered)
+
+below_next : (n : ℕ) (ns : List ℕ) → AreBelow n ns → AreBelow (suc n) ns
+below_next n [] b = tt
+below_next n (m ∷ ns) b = (let low = b.0 in omega arith, below_next n ns b.1)
 
 pub begun_born : (config : Configuration) (v : EpochsState) → AreEpochs v → AreBelow (suc (suc v.current)) (map epoch_number (with_begun v.current config v.epochs))
 begun_born config v is =
-    let numbers = changed_numbers v.current (left_epoch config.classes) v.epochs (λ x. refl) in
-    below_end (suc (suc v.current)) (suc v.current) (change_epoch v.current (left_epoch config.classes) v.epochs) (begun_epoch (kept_before v.epochs v.current) (suc v.current) config) refl (omega arith)
-    (subst (AreBelow (suc v.current)) (sym numbers) is.born)
+    subst (AreBelow (suc (suc v.current))) (sym (begun_numbers config v))
+    (below_push (suc (suc v.current)) (map epoch_number v.epochs) (suc v.current) (omega arith) (below_next (suc v.current) (map epoch_number v.epochs) is.born))
 
 pub begun_here : (config : Configuration) (v : EpochsState) → AreEpochs v → is_some (epoch_at (with_epoch config v) (suc v.current)) ≡ true
 begun_here config v is =
@@ -294,31 +284,6 @@ checks_begun config v e is = ap (λ o. option_map_or (λ x. x.checks) o 0) (epoc
     by_test false true o = left o
     by_test false false o = refl
 
--- each epoch above the current one has an open check
-busy_above : (c : ℕ) (xs : List EpochState) → AreAbove c (map epoch_number xs) → list_all (is_used c) xs ≡ true → list_all has_checks xs ≡ true
-busy_above c [] a u = refl
-busy_above c (x ∷ xs) a u = joined (has_checks x) (list_all has_checks xs) here (busy_above c xs a.1 (rest (is_used c x) (list_all (is_used c) xs) u))
-  where
-    rest : (a b : Bool) → (a && b) ≡ true → b ≡ true
-    rest true b e = e
-    rest false b e = absurd cc
-
-    first : (a b : Bool) → (a && b) ≡ true → a ≡ true
-    first true b e = refl
-    first false b e = e
-
-    other : (c == x.epoch) ≡ false
-    other = before c x.epoch a.0
-      where
-        before : (a b : ℕ) → a < b → (a == b) ≡ false
-        before a b l = grind (arith, l)
-
-    here : has_checks x ≡ true
-    here = ap (λ z. z || has_checks x) (sym other) ∙ first (is_used c x) (list_all (is_used c) xs) u
-
-    joined : (a b : Bool) → a ≡ true → b ≡ true → (a && b) ≡ true
-    joined a b p q = cc
-
 rest_of : (a b : Bool) → (a && b) ≡ true → b ≡ true
 rest_of true b e = e
 rest_of false b e = absurd cc
@@ -329,6 +294,16 @@ first_of false b e = e
 
 both_are : (a b : Bool) → a ≡ true → b ≡ true → (a && b) ≡ true
 both_are a b p q = cc
+
+-- each epoch above the current one has an open check
+busy_above : (c : ℕ) (xs : List EpochState) → AreAbove c (map epoch_number xs) → list_all (is_used c) xs ≡ true → list_all has_checks xs ≡ true
+busy_above c [] a u = refl
+busy_above c (x ∷ xs) a u =
+    both_are (has_checks x) (list_all has_checks xs) (ap (λ z. z || has_checks x) (sym (other c x.epoch a.0)) ∙ first_of (is_used c x) (list_all (is_used c) xs) u)
+    (busy_above c xs a.1 (rest_of (is_used c x) (list_all (is_used c) xs) u))
+  where
+    other : (a b : ℕ) → a < b → (a == b) ≡ false
+    other a b l = grind (arith, l)
 
 -- all have an open check, where the current one has one
 busy_changed : (c : ℕ) (g : EpochState → EpochState) (xs : List EpochState) → ((x : EpochState) → (g x).checks ≡ x.checks) → Rises (map epoch_number xs) → list_all (is_used c) xs ≡ true
@@ -406,10 +381,10 @@ begun_without config v =
 -- the same, where the one that was current ended
 pub left_epochs : (config : Configuration) (v w : EpochsState) → AreEpochs v → w.current ≡ suc v.current → w.epochs ≡ without_epoch v.current (with_begun v.current config v.epochs) → AreEpochs w
 left_epochs config v w is current epochs = record {
-  rise = subst (λ z. Rises (map epoch_number z)) (sym epochs) (rises_without v.current (with_begun v.current config v.epochs) (begun_rise config v is));
-  numbered = subst (λ z. AreAbove 0 (map epoch_number z)) (sym epochs) (above_without v.current 0 (with_begun v.current config v.epochs) (begun_numbered config v is));
+  rise = subst (λ z. Rises (map epoch_number z)) (sym epochs) (rises_filter epoch_number (λ x. not (v.current == x.epoch)) (with_begun v.current config v.epochs) (begun_rise config v is));
+  numbered = subst (λ z. AreAbove 0 (map epoch_number z)) (sym epochs) (above_filter epoch_number (λ x. not (v.current == x.epoch)) 0 (with_begun v.current config v.epochs) (begun_numbered config v is));
   born = subst (λ c. AreBelow (suc c) (map epoch_number w.epochs)) (sym current)
-      (subst (λ z. AreBelow (suc (suc v.current)) (map epoch_number z)) (sym epochs) (below_without v.current (suc (suc v.current)) (with_begun v.current config v.epochs) (begun_born config v is)));
+      (subst (λ z. AreBelow (suc (suc v.current)) (map epoch_number z)) (sym epochs) (below_filter epoch_number (λ x. not (v.current == x.epoch)) (suc (suc v.current)) (with_begun v.current config v.epochs) (begun_born config v is)));
   here =
       ap (λ c. is_some (epoch_in c w.epochs)) current ∙ ap (λ z. is_some (epoch_in (suc v.current) z)) epochs
       ∙ ap is_some (in_without v.current (suc v.current) (with_begun v.current config v.epochs) ∙ if_false (v.current == suc v.current) None (epoch_at (with_epoch config v) (suc v.current)) (before v.current))

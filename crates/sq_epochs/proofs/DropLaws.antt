@@ -8,6 +8,7 @@ use Rattle.sq_rules.specs.Rising.{AreAbove, AreBelow, Rises, place_among}
 use Rattle.sq_epochs.specs.EpochStates.{EpochState, EpochsState, epoch_in, epoch_number}
 use Rattle.sq_epochs.specs.LiveEpochs.{AreEpochs, checks_at, ends_with_check, is_used, without_epoch}
 use Rattle.sq_epochs.proofs.LiveLaws.{above_found, equal}
+use Rattle.sq_epochs.proofs.RisingRows.{above_filter, below_filter, rises_filter}
 
 apart : (a b : ℕ) → a < b → (a == b) ≡ false
 apart a b l = grind (arith, l)
@@ -69,30 +70,6 @@ in_without e f (x ∷ xs) = by_dropped (e == x.epoch) refl (in_without e f xs)
     by_dropped true t more = more ∙ gone (e == f) refl t
     by_dropped false t more = found (f == x.epoch) refl t more
 
-pub above_without : (e k : ℕ) (xs : List EpochState) → AreAbove k (map epoch_number xs) → AreAbove k (map epoch_number (without_epoch e xs))
-above_without e k [] a = tt
-above_without e k (x ∷ xs) a = by_test (not (e == x.epoch)) (above_without e k xs a.1)
-  where
-    by_test : (b : Bool) → AreAbove k (map epoch_number (without_epoch e xs)) → AreAbove k (map epoch_number (cond b (x ∷ without_epoch e xs) (without_epoch e xs)))
-    by_test true more = (a.0, more)
-    by_test false more = more
-
-pub below_without : (e k : ℕ) (xs : List EpochState) → AreBelow k (map epoch_number xs) → AreBelow k (map epoch_number (without_epoch e xs))
-below_without e k [] a = tt
-below_without e k (x ∷ xs) a = by_test (not (e == x.epoch)) (below_without e k xs a.1)
-  where
-    by_test : (b : Bool) → AreBelow k (map epoch_number (without_epoch e xs)) → AreBelow k (map epoch_number (cond b (x ∷ without_epoch e xs) (without_epoch e xs)))
-    by_test true more = (a.0, more)
-    by_test false more = more
-
-pub rises_without : (e : ℕ) (xs : List EpochState) → Rises (map epoch_number xs) → Rises (map epoch_number (without_epoch e xs))
-rises_without e [] r = tt
-rises_without e (x ∷ xs) r = by_test (not (e == x.epoch)) (rises_without e xs r.1)
-  where
-    by_test : (b : Bool) → Rises (map epoch_number (without_epoch e xs)) → Rises (map epoch_number (cond b (x ∷ without_epoch e xs) (without_epoch e xs)))
-    by_test true more = (above_without e x.epoch xs r.0, more)
-    by_test false more = more
-
 used_rest : (a b : Bool) → (a && b) ≡ true → b ≡ true
 used_rest true b e = e
 used_rest false b e = absurd cc
@@ -112,9 +89,9 @@ used_without e c (x ∷ xs) u = by_test (not (e == x.epoch)) (used_without e c x
 -- epochs are epochs still, where one ended that was not current
 pub dropped_epochs : (v w : EpochsState) (e : ℕ) → AreEpochs v → (e == v.current) ≡ false → w.current ≡ v.current → w.epochs ≡ without_epoch e v.epochs → AreEpochs w
 dropped_epochs v w e is other current epochs = record {
-  rise = subst (λ z. Rises (map epoch_number z)) (sym epochs) (rises_without e v.epochs is.rise);
-  numbered = subst (λ z. AreAbove 0 (map epoch_number z)) (sym epochs) (above_without e 0 v.epochs is.numbered);
-  born = subst (λ c. AreBelow (suc c) (map epoch_number w.epochs)) (sym current) (subst (λ z. AreBelow (suc v.current) (map epoch_number z)) (sym epochs) (below_without e (suc v.current) v.epochs is.born));
+  rise = subst (λ z. Rises (map epoch_number z)) (sym epochs) (rises_filter epoch_number (λ x. not (e == x.epoch)) v.epochs is.rise);
+  numbered = subst (λ z. AreAbove 0 (map epoch_number z)) (sym epochs) (above_filter epoch_number (λ x. not (e == x.epoch)) 0 v.epochs is.numbered);
+  born = subst (λ c. AreBelow (suc c) (map epoch_number w.epochs)) (sym current) (subst (λ z. AreBelow (suc v.current) (map epoch_number z)) (sym epochs) (below_filter epoch_number (λ x. not (e == x.epoch)) (suc v.current) v.epochs is.born));
   here = ap (λ c. is_some (epoch_in c w.epochs)) current ∙ ap (λ z. is_some (epoch_in v.current z)) epochs ∙ ap is_some (in_without e v.current v.epochs ∙ if_false (e == v.current) None (epoch_in v.current v.epochs) other) ∙ is.here;
   used = ap (λ c. list_all (is_used c) w.epochs) current ∙ ap (list_all (is_used v.current)) epochs ∙ used_without e v.current v.epochs is.used;
 }

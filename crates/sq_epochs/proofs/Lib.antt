@@ -1,8 +1,10 @@
+mod DueLaws
 mod EpochLaws
 mod PartLaws
 mod FindLaws
 pub mod HomeLaws
 mod OutcomeLaws
+mod RisingRows
 pub mod LiveLaws
 mod AlikeLaws
 mod InheritLaws
@@ -11,4 +13,5 @@ pub mod NumberLaws
 pub mod BegunLaws
 pub mod EndLaws
 pub mod OverLaws
+pub mod HomedLaws
 mod ProcLaws

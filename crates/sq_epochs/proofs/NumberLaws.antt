@@ -7,6 +7,7 @@ use Rattle.sq_rules.specs.Rising.{AreAbove, AreBelow, Rises}
 use Rattle.sq_epochs.specs.EpochStates.{EpochState, EpochsState, epoch_at, epoch_in, epoch_number}
 use Rattle.sq_epochs.specs.HomeStates.{is_among}
 use Rattle.sq_epochs.specs.LiveEpochs.{AreEpochs, busy_count, checks_at, has_checks}
+use Rattle.sq_epochs.proofs.RisingRows.{above_filter, below_filter, below_push, rises_filter, rises_push}
 
 equal : (a b : ℕ) → (a == b) ≡ true → a ≡ b
 equal a b e = grind (arith, e)
@@ -74,18 +75,6 @@ rising_same (m ∷ ms) (n ∷ ns) r s same = joined first (rising_same ms ns r.1
 
     joined : m ≡ n → ms ≡ ns → m ∷ ms ≡ n ∷ ns
     joined p q = cc
-
-above_push : (k : ℕ) (ns : List ℕ) (n : ℕ) → k < n → AreAbove k ns → AreAbove k (ns ++ n ∷ [])
-above_push k [] n l a = (l, tt)
-above_push k (m ∷ ns) n l a = (a.0, above_push k ns n l a.1)
-
-rises_push : (ns : List ℕ) (n : ℕ) → AreBelow n ns → Rises ns → Rises (ns ++ n ∷ [])
-rises_push [] n b r = (tt, tt)
-rises_push (m ∷ ns) n b r = (above_push m ns n b.0 r.0, rises_push ns n b.1 r.1)
-
-below_push : (k : ℕ) (ns : List ℕ) (n : ℕ) → n < k → AreBelow k ns → AreBelow k (ns ++ n ∷ [])
-below_push k [] n l b = (l, tt)
-below_push k (m ∷ ns) n l b = (b.0, below_push k ns n l b.1)
 
 below_picks : (k : ℕ) (t : ℕ → Bool) (n : ℕ) → n < k → AreBelow k (picks t n)
 below_picks k t zero l = tt
@@ -213,30 +202,6 @@ found_among e (x ∷ xs) = by_test (e == x.epoch) (found_among e xs)
 pub live_numbers : (v : EpochsState) → AreEpochs v → map epoch_number v.epochs ≡ picks (λ e. is_some (epoch_at v e)) v.current
 live_numbers v is = rising_picked (λ e. is_some (epoch_at v e)) v.current (map epoch_number v.epochs) is.rise is.numbered is.born (λ k. found_among k v.epochs)
 
-above_busy : (k : ℕ) (xs : List EpochState) → AreAbove k (map epoch_number xs) → AreAbove k (map epoch_number (filter has_checks xs))
-above_busy k [] a = tt
-above_busy k (x ∷ xs) a = by_test (has_checks x) (above_busy k xs a.1)
-  where
-    by_test : (b : Bool) → AreAbove k (map epoch_number (filter has_checks xs)) → AreAbove k (map epoch_number (cond b (x ∷ filter has_checks xs) (filter has_checks xs)))
-    by_test true more = (a.0, more)
-    by_test false more = more
-
-below_busy : (k : ℕ) (xs : List EpochState) → AreBelow k (map epoch_number xs) → AreBelow k (map epoch_number (filter has_checks xs))
-below_busy k [] a = tt
-below_busy k (x ∷ xs) a = by_test (has_checks x) (below_busy k xs a.1)
-  where
-    by_test : (b : Bool) → AreBelow k (map epoch_number (filter has_checks xs)) → AreBelow k (map epoch_number (cond b (x ∷ filter has_checks xs) (filter has_checks xs)))
-    by_test true more = (a.0, more)
-    by_test false more = more
-
-rises_busy : (xs : List EpochState) → Rises (map epoch_number xs) → Rises (map epoch_number (filter has_checks xs))
-rises_busy [] r = tt
-rises_busy (x ∷ xs) r = by_test (has_checks x) (rises_busy xs r.1)
-  where
-    by_test : (b : Bool) → Rises (map epoch_number (filter has_checks xs)) → Rises (map epoch_number (cond b (x ∷ filter has_checks xs) (filter has_checks xs)))
-    by_test true more = (above_busy x.epoch xs r.0, more)
-    by_test false more = more
-
 among_busy : (e : ℕ) (xs : List EpochState) → Rises (map epoch_number xs) → is_among e (map epoch_number (filter has_checks xs)) ≡ nat_lt 0 (option_map_or (λ x. x.checks) (epoch_in e xs) 0)
 among_busy e [] r = refl
 among_busy e (x ∷ xs) r = by_busy (has_checks x) refl (among_busy e xs r.1)
@@ -245,7 +210,7 @@ among_busy e (x ∷ xs) r = by_busy (has_checks x) refl (among_busy e xs r.1)
         → is_among e (map epoch_number (cond b (x ∷ filter has_checks xs) (filter has_checks xs))) ≡ nat_lt 0 (option_map_or (λ y. y.checks) (if c then Some x else epoch_in e xs) 0)
     by_number true true s t more = ap (λ z. z || is_among e (map epoch_number (filter has_checks xs))) s ∙ sym t
     by_number true false s t more = ap (λ z. z || is_among e (map epoch_number (filter has_checks xs))) s ∙ more
-    by_number false true s t more = let num = equal e x.epoch s in not_among e x.epoch (map epoch_number (filter has_checks xs)) (omega arith) (above_busy x.epoch xs r.0) ∙ sym t
+    by_number false true s t more = let num = equal e x.epoch s in not_among e x.epoch (map epoch_number (filter has_checks xs)) (omega arith) (above_filter epoch_number has_checks x.epoch xs r.0) ∙ sym t
     by_number false false s t more = more
 
     by_busy : (b : Bool) → has_checks x ≡ b → is_among e (map epoch_number (filter has_checks xs)) ≡ nat_lt 0 (option_map_or (λ y. y.checks) (epoch_in e xs) 0)
@@ -260,5 +225,5 @@ long f (x ∷ xs) = ap suc (long f xs)
 pub busy_is : (v : EpochsState) → AreEpochs v → length (filter has_checks v.epochs) ≡ busy_count v
 busy_is v is =
     sym (long epoch_number (filter has_checks v.epochs))
-    ∙ ap length (rising_picked (λ e. nat_lt 0 (checks_at v e)) v.current (map epoch_number (filter has_checks v.epochs)) (rises_busy v.epochs is.rise) (above_busy 0 v.epochs is.numbered)
-    (below_busy (suc v.current) v.epochs is.born) (λ e. among_busy e v.epochs is.rise))
+    ∙ ap length (rising_picked (λ e. nat_lt 0 (checks_at v e)) v.current (map epoch_number (filter has_checks v.epochs)) (rises_filter epoch_number has_checks v.epochs is.rise) (above_filter epoch_number has_checks 0 v.epochs is.numbered)
+    (below_filter epoch_number has_checks (suc v.current) v.epochs is.born) (λ e. among_busy e v.epochs is.rise))

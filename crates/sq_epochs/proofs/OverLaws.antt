@@ -1,18 +1,18 @@
 -- What is left after a check is over and after another configuration began, by which epochs live then.
-use Rattle.std.proofs.Common.{◌≡◌, ℕ, suc, ◌<◌, ◌-◌, map, Bool, true, false, not, ◌&&◌, ◌||◌, if◌then◌else◌, ◌==◌, refl, sym, arith, ap, ◌∙◌, Some, None, is_some}
+use Rattle.std.proofs.Common.{◌≡◌, ℕ, suc, ◌-◌, map, Bool, true, false, not, ◌&&◌, ◌||◌, if◌then◌else◌, ◌==◌, refl, sym, arith, ap, ◌∙◌, Some, None, is_some}
 use Rattle.std.specs.declared.option.Option.{Option}
 use Rattle.std.specs.Option.{option_map, option_map_or}
-use Rattle.sq_channel.proofs.RisingLaws.{if_false, if_true}
 use Rattle.sq_rules.specs.Configurations.{Configuration}
 use Rattle.sq_rules.specs.DueActs.{Place}
 use Rattle.sq_rules.specs.Rising.{Rises}
 use Rattle.sq_epochs.specs.EpochProcs.{AreHomed}
-use Rattle.sq_epochs.specs.EpochStates.{EpochState, EpochsState, change_epoch, epoch_at, home_at, part_of, row_at}
+use Rattle.sq_epochs.specs.EpochStates.{EpochState, EpochsState, change_epoch, class_at, class_of, epoch_at, home_at, part_at, part_of, row_at}
 use Rattle.sq_epochs.specs.HomeStates.{home_number, is_among}
 use Rattle.sq_epochs.specs.LiveEpochs.{AreEpochs, after_ended, check_less, checks_at, drop_epoch, ends_with_check}
 use Rattle.sq_epochs.specs.Reconfigured.{after_reconfigured, with_epoch}
 use Rattle.sq_epochs.proofs.BegunLaws.{checks_begun}
-use Rattle.sq_epochs.proofs.EndLaws.{checks_dropped, epoch_counted, epoch_dropped, home_left, homed_begun, homes_there, if_there, is_gone, none_gone, row_left, row_there, stop_left}
+use Rattle.sq_epochs.proofs.HomedLaws.{homed_begun}
+use Rattle.sq_epochs.proofs.EndLaws.{checks_dropped, epoch_counted, home_left, homes_there, if_there, is_gone, none_gone, read_left, read_there, same_class, same_config, same_of, same_part, same_there, stop_left}
 
 equal : (a b : ℕ) → (a == b) ≡ true → a ≡ b
 equal a b e = grind (arith, e)
@@ -21,33 +21,8 @@ equal a b e = grind (arith, e)
 abbrev fewer : ℕ → EpochsState → EpochsState
 fewer e v = record v { epochs = change_epoch e check_less v.epochs }
 
-fewer_is : {A : Type 0} (read : Option EpochState → A) (e f : ℕ) (v : EpochsState) → ((o : Option EpochState) → read (option_map check_less o) ≡ read o) → read (epoch_at (fewer e v) f) ≡ read (epoch_at v f)
-fewer_is read e f v kept = ap read (epoch_counted e f check_less v (λ x. refl)) ∙ by_test (f == e)
-  where
-    by_test : (b : Bool) → read (if b then option_map check_less (epoch_at v f) else epoch_at v f) ≡ read (epoch_at v f)
-    by_test true = kept (epoch_at v f)
-    by_test false = refl
-
 there_fewer : (e f : ℕ) (v : EpochsState) → is_some (epoch_at (fewer e v) f) ≡ is_some (epoch_at v f)
-there_fewer e f v = fewer_is is_some e f v kept
-  where
-    kept : (o : Option EpochState) → is_some (option_map check_less o) ≡ is_some o
-    kept None = refl
-    kept (Some x) = refl
-
-row_fewer : (e f c : ℕ) (v : EpochsState) → row_at (fewer e v) f c ≡ row_at v f c
-row_fewer e f c v = fewer_is (λ o. option_map (λ p. p.row) (part_of c o)) e f v kept
-  where
-    kept : (o : Option EpochState) → option_map (λ p. p.row) (part_of c (option_map check_less o)) ≡ option_map (λ p. p.row) (part_of c o)
-    kept None = refl
-    kept (Some x) = refl
-
-config_fewer : (e f : ℕ) (v : EpochsState) → option_map (λ x. x.config) (epoch_at (fewer e v) f) ≡ option_map (λ x. x.config) (epoch_at v f)
-config_fewer e f v = fewer_is (option_map (λ x. x.config)) e f v kept
-  where
-    kept : (o : Option EpochState) → option_map (λ x. x.config) (option_map check_less o) ≡ option_map (λ x. x.config) o
-    kept None = refl
-    kept (Some x) = refl
+there_fewer e f v = same_of is_some e f check_less v (λ x. refl) (same_there check_less)
 
 checks_fewer : (e f : ℕ) (v : EpochsState) → checks_at (fewer e v) f ≡ (if f == e then checks_at v f - 1 else checks_at v f)
 checks_fewer e f v = ap (λ o. option_map_or (λ x. x.checks) o 0) (epoch_counted e f check_less v (λ x. refl)) ∙ by_test (f == e)
@@ -69,37 +44,29 @@ gone_same : (v w : EpochsState) (o : Option Place) → ((f : ℕ) → is_some (e
 gone_same v w None same = refl
 gone_same v w (Some p) same = ap not (same p.epoch)
 
--- each configuration is of an epoch that lives
-config_there : (v : EpochsState) (f : ℕ) → option_map (λ x. x.config) (epoch_at v f) ≡ (if is_some (epoch_at v f) then option_map (λ x. x.config) (epoch_at v f) else None)
-config_there v f = by_case (epoch_at v f)
+-- what is read of an epoch, but how many checks are open, is after a check is over as before where the epoch still lives
+pub read_ended : {A : Type 0} (read : Option EpochState → Option A) (e f : ℕ) (v : EpochsState) → read None ≡ None → ((o : Option EpochState) → read (option_map check_less o) ≡ read o)
+    → read (epoch_at (after_ended e v) f) ≡ (if is_some (epoch_at (after_ended e v) f) then read (epoch_at v f) else None)
+read_ended {A = A} read e f v none kept = by_test (ends_with_check e v)
   where
-    by_case : (o : Option EpochState) → option_map (λ x. x.config) o ≡ (if is_some o then option_map (λ x. x.config) o else None)
-    by_case None = refl
-    by_case (Some x) = refl
+    by_test : (b : Bool) → read (epoch_at (if b then drop_epoch e v else fewer e v) f) ≡ (if is_some (epoch_at (if b then drop_epoch e v else fewer e v) f) then read (epoch_at v f) else None)
+    by_test true = read_left read e f v none
+    by_test false = same_of read e f check_less v (λ x. refl) kept ∙ read_there read v f none ∙ ap (λ b. if b then read (epoch_at v f) else None) (sym (there_fewer e f v))
 
-config_left : (e f : ℕ) (v : EpochsState) → option_map (λ x. x.config) (epoch_at (drop_epoch e v) f) ≡ (if is_some (epoch_at (drop_epoch e v) f) then option_map (λ x. x.config) (epoch_at v f) else None)
-config_left e f v = ap (option_map (λ x. x.config)) (epoch_dropped e f v) ∙ by_test (e == f) ∙ ap (λ o. if is_some o then option_map (λ x. x.config) (epoch_at v f) else None) (sym (epoch_dropped e f v))
-  where
-    by_test : (b : Bool) → option_map (λ x. x.config) (if b then None else epoch_at v f) ≡ (if is_some (if b then None else epoch_at v f) then option_map (λ x. x.config) (epoch_at v f) else None)
-    by_test true = refl
-    by_test false = config_there v f
+-- so each part, row, class and configuration
+pub part_ended : (e f c : ℕ) (v : EpochsState) → part_at (after_ended e v) f c ≡ (if is_some (epoch_at (after_ended e v) f) then part_at v f c else None)
+part_ended e f c v = read_ended (part_of c) e f v refl (same_part check_less (λ x. refl) c)
 
--- after a check is over, each class, configuration, home and stop is as before where its epoch still lives
 pub row_ended : (e f c : ℕ) (v : EpochsState) → row_at (after_ended e v) f c ≡ (if is_some (epoch_at (after_ended e v) f) then row_at v f c else None)
-row_ended e f c v = by_test (ends_with_check e v)
-  where
-    by_test : (b : Bool) → row_at (if b then drop_epoch e v else fewer e v) f c ≡ (if is_some (epoch_at (if b then drop_epoch e v else fewer e v) f) then row_at v f c else None)
-    by_test true = row_left e f c v
-    by_test false = row_fewer e f c v ∙ row_there v f c ∙ ap (λ b. if b then row_at v f c else None) (sym (there_fewer e f v))
+row_ended e f c v = read_ended (λ o. option_map (λ p. p.row) (part_of c o)) e f v refl (λ o. ap (option_map (λ p. p.row)) (same_part check_less (λ x. refl) c o))
+
+pub class_ended : (e f c : ℕ) (v : EpochsState) → class_at (after_ended e v) f c ≡ (if is_some (epoch_at (after_ended e v) f) then class_at v f c else None)
+class_ended e f c v = read_ended (class_of c) e f v refl (same_class check_less (λ x. refl) c)
 
 pub config_ended : (e f : ℕ) (v : EpochsState) → option_map (λ x. x.config) (epoch_at (after_ended e v) f) ≡ (if is_some (epoch_at (after_ended e v) f) then option_map (λ x. x.config) (epoch_at v f) else None)
-config_ended e f v = by_test (ends_with_check e v)
-  where
-    by_test : (b : Bool) → option_map (λ x. x.config) (epoch_at (if b then drop_epoch e v else fewer e v) f)
-        ≡ (if is_some (epoch_at (if b then drop_epoch e v else fewer e v) f) then option_map (λ x. x.config) (epoch_at v f) else None)
-    by_test true = config_left e f v
-    by_test false = config_fewer e f v ∙ config_there v f ∙ ap (λ b. if b then option_map (λ x. x.config) (epoch_at v f) else None) (sym (there_fewer e f v))
+config_ended e f v = read_ended (option_map (λ x. x.config)) e f v refl (same_config check_less (λ x. refl))
 
+-- and homes and due stops
 pub home_ended : (e k : ℕ) (v : EpochsState) → AreHomed v → Rises (map home_number v.homes) → home_at (after_ended e v) k ≡ if_there (after_ended e v) (home_at v k)
 home_ended e k v homed r = by_test (ends_with_check e v)
   where
@@ -140,29 +107,36 @@ checks_ended e f v = by_test (ends_with_check e v) refl
     by_test true t = checks_dropped e f v ∙ ap (λ b. if b then 0 else checks_at v f) (turned e f) ∙ by_number (f == e) refl (first_of (checks_at v e == 1) (not (e == v.current)) t)
     by_test false t = checks_fewer e f v
 
--- after another configuration began, each class, configuration, home and stop is that of `with_epoch` where its epoch still lives
-pub row_reconfigured : (config : Configuration) (f c : ℕ) (v : EpochsState) → row_at (after_reconfigured config v) f c ≡ (if is_some (epoch_at (after_reconfigured config v) f) then row_at (with_epoch config v) f c else None)
-row_reconfigured config f c v = by_test (checks_at v v.current == 0)
+-- what is read of an epoch is after another configuration that of `with_epoch` where the epoch still lives
+pub read_reconfigured : {A : Type 0} (read : Option EpochState → Option A) (config : Configuration) (f : ℕ) (v : EpochsState) → read None ≡ None
+    → read (epoch_at (after_reconfigured config v) f) ≡ (if is_some (epoch_at (after_reconfigured config v) f) then read (epoch_at (with_epoch config v) f) else None)
+read_reconfigured {A = A} read config f v none = by_test (checks_at v v.current == 0)
   where
-    by_test : (b : Bool) → row_at (if b then drop_epoch v.current (with_epoch config v) else with_epoch config v) f c
-        ≡ (if is_some (epoch_at (if b then drop_epoch v.current (with_epoch config v) else with_epoch config v) f) then row_at (with_epoch config v) f c else None)
-    by_test true = row_left v.current f c (with_epoch config v)
-    by_test false = row_there (with_epoch config v) f c
+    by_test : (b : Bool) → read (epoch_at (if b then drop_epoch v.current (with_epoch config v) else with_epoch config v) f)
+        ≡ (if is_some (epoch_at (if b then drop_epoch v.current (with_epoch config v) else with_epoch config v) f) then read (epoch_at (with_epoch config v) f) else None)
+    by_test true = read_left read v.current f (with_epoch config v) none
+    by_test false = read_there read (with_epoch config v) f none
+
+-- so each part, row, class and configuration
+pub part_reconfigured : (config : Configuration) (f c : ℕ) (v : EpochsState) → part_at (after_reconfigured config v) f c ≡ (if is_some (epoch_at (after_reconfigured config v) f) then part_at (with_epoch config v) f c else None)
+part_reconfigured config f c v = read_reconfigured (part_of c) config f v refl
+
+pub row_reconfigured : (config : Configuration) (f c : ℕ) (v : EpochsState) → row_at (after_reconfigured config v) f c ≡ (if is_some (epoch_at (after_reconfigured config v) f) then row_at (with_epoch config v) f c else None)
+row_reconfigured config f c v = read_reconfigured (λ o. option_map (λ p. p.row) (part_of c o)) config f v refl
+
+pub class_reconfigured : (config : Configuration) (f c : ℕ) (v : EpochsState) → class_at (after_reconfigured config v) f c ≡ (if is_some (epoch_at (after_reconfigured config v) f) then class_at (with_epoch config v) f c else None)
+class_reconfigured config f c v = read_reconfigured (class_of c) config f v refl
 
 pub config_reconfigured : (config : Configuration) (f : ℕ) (v : EpochsState)
     → option_map (λ x. x.config) (epoch_at (after_reconfigured config v) f) ≡ (if is_some (epoch_at (after_reconfigured config v) f) then option_map (λ x. x.config) (epoch_at (with_epoch config v) f) else None)
-config_reconfigured config f v = by_test (checks_at v v.current == 0)
-  where
-    by_test : (b : Bool) → option_map (λ x. x.config) (epoch_at (if b then drop_epoch v.current (with_epoch config v) else with_epoch config v) f)
-        ≡ (if is_some (epoch_at (if b then drop_epoch v.current (with_epoch config v) else with_epoch config v) f) then option_map (λ x. x.config) (epoch_at (with_epoch config v) f) else None)
-    by_test true = config_left v.current f (with_epoch config v)
-    by_test false = config_there (with_epoch config v) f
+config_reconfigured config f v = read_reconfigured (option_map (λ x. x.config)) config f v refl
 
+-- and homes and due stops
 pub home_reconfigured : (config : Configuration) (k : ℕ) (v : EpochsState) → AreEpochs v → AreHomed v → Rises (map home_number v.homes) → home_at (after_reconfigured config v) k ≡ if_there (after_reconfigured config v) (home_at v k)
 home_reconfigured config k v is homed r = by_test (checks_at v v.current == 0)
   where
     homed_there : AreHomed (with_epoch config v)
-    homed_there = homed_begun config v (with_epoch config v) is homed refl refl
+    homed_there = homed_begun config v is homed
 
     by_test : (b : Bool) → home_at (if b then drop_epoch v.current (with_epoch config v) else with_epoch config v) k
         ≡ if_there (if b then drop_epoch v.current (with_epoch config v) else with_epoch config v) (home_at v k)
@@ -174,7 +148,7 @@ pub stop_reconfigured : (config : Configuration) (k : ℕ) (v : EpochsState) →
 stop_reconfigured config k v is homed r = by_test (checks_at v v.current == 0)
   where
     homed_there : AreHomed (with_epoch config v)
-    homed_there = homed_begun config v (with_epoch config v) is homed refl refl
+    homed_there = homed_begun config v is homed
 
     or_none : (a : Bool) → a ≡ (a || false)
     or_none true = refl

@@ -1,14 +1,15 @@
 -- The act that is due in live epochs, and what making it leaves.
-use Rattle.std.specs.Prelude.{◌≡◌, ℕ, suc, List, [], ◌∷◌, zero, not, ◌==◌, if◌then◌else◌, filter, slice_set, Some, None, length}
-use Rattle.std.specs.List.{flat_map, slice_get}
+use Rattle.std.specs.Prelude.{ℕ, zero, suc, List, [], ◌∷◌, Bool, not, ◌==◌, if◌then◌else◌, map, filter, length, slice_get, Some, None, is_some}
+use Rattle.std.specs.List.{flat_map}
 use Rattle.std.specs.Option.{option_and_then, option_map, option_or}
-use Rattle.std.specs.Prelude.{map}
 use Rattle.std.specs.declared.option.Option.{Option}
 use Rattle.sq_rules.specs.DueActs.{Place, first_made, first_of}
 use Rattle.sq_rules.specs.Farms.{Sending, send_of, start_due}
 use Rattle.sq_rules.specs.Numbered.{below}
 use Rattle.sq_rows.specs.ClassRows.{after_sending, after_starting}
 use Rattle.sq_part.specs.Parts.{PartState}
+use Rattle.sq_epochs.specs.declared.acts.Act.{Act}
+use Rattle.sq_epochs.specs.declared.acts.Act.TheVariants as act
 use Rattle.sq_epochs.specs.EpochStates.{EpochState, EpochsState, change_epoch, part_at}
 
 -- an act: the stop of a process, a send of the class at a place, or a start of it
@@ -66,3 +67,46 @@ after_due None v = v
 after_due (Some (stops k)) v = record v { stops = filter (λ j. not (k == j)) v.stops }
 after_due (Some (sends p s)) v = change_part p sent_part v
 after_due (Some (starts p)) v = change_part p started_part v
+
+-- the act as it is told
+abbrev pub told_act : DueAt → Act
+told_act (stops k) = act.Stop k
+told_act (sends p s) = act.Send s.proc s.question s.channel s.text
+told_act (starts p) = act.Start p.epoch p.class
+
+abbrev pub told_due : Option DueAt → Option Act
+told_due d = option_map told_act d
+
+-- the place of the first that the test holds of
+abbrev pub first_place : {A : Type 0} → (A → Bool) → List A → Option ℕ
+first_place test [] = None
+first_place test (x ∷ xs) = if test x then Some 0 else option_map suc (first_place test xs)
+
+-- a send of the class is due
+abbrev pub owes_send : PartState → Bool
+owes_send p = is_some (send_of p.row.stock)
+
+-- a start of the class is due
+abbrev pub owes_start : PartState → Bool
+owes_start p = start_due p.row.stock
+
+-- the send of a class of the epoch, where one is due
+abbrev pub send_in : EpochState → Option DueAt
+send_in x = option_and_then (λ c. option_map (sends (record { epoch = x.epoch; class = c })) (option_and_then (λ p. send_of p.row.stock) (slice_get x.parts c))) (first_place owes_send x.parts)
+
+-- the start of a class of the epoch, where one is due
+abbrev pub start_in : EpochState → Option DueAt
+start_in x = option_map (λ c. starts (record { epoch = x.epoch; class = c })) (first_place owes_start x.parts)
+
+abbrev pub has_send_in : EpochState → Bool
+has_send_in x = is_some (first_place owes_send x.parts)
+
+abbrev pub has_start_in : EpochState → Bool
+has_start_in x = is_some (first_place owes_start x.parts)
+
+-- the epoch after an act of it
+abbrev pub after_act_in : Option DueAt → EpochState → EpochState
+after_act_in None x = x
+after_act_in (Some (stops k)) x = x
+after_act_in (Some (sends p s)) x = change_class p.class sent_part x
+after_act_in (Some (starts p)) x = change_class p.class started_part x

@@ -11,7 +11,8 @@ use Rattle.sq_rows.specs.ClassRows.{after_death, after_started}
 use Rattle.sq_part.specs.Losing.{handed_out, lost_cause}
 use Rattle.sq_part.specs.Parts.{PartState}
 use Rattle.sq_epochs.specs.EpochStates.{EpochState, EpochsState, IsChanged, home_at, part_at}
-use Rattle.sq_epochs.specs.HomeStates.{Home, with_number, without_home}
+use Rattle.sq_epochs.specs.HomeStates.{AreHomes, Home, with_number, without_home}
+use Rattle.sq_epochs.specs.LiveEpochs.{AreEpochs}
 
 -- process k lives in this part
 abbrev pub lives_in : ℕ → Option PartState → Bool
@@ -28,6 +29,12 @@ SameLiving old new = (c k : ℕ) → lives_in k (slice_get new.parts c) ≡ live
 -- a process lives in a class exactly where its home says so
 abbrev pub AreHomed : EpochsState → Type 0
 AreHomed v = (e c k : ℕ) → lives_in k (part_at v e c) ≡ is_place e c (home_at v k)
+
+-- what holds of all that is kept by epoch: of the live epochs, of homes and due stops, and that homes and processes agree
+pub record AreWhole (v : EpochsState) : Type 0 where
+  pub live : AreEpochs v
+  pub homes : AreHomes v.procs v.homes v.stops
+  pub homed : AreHomed v
 
 -- a start of the part is open
 abbrev pub is_starting : Option PartState → Bool

@@ -38,13 +38,13 @@ pub struct Epochs {
 
 impl Model for Epochs {
     ghost use Rattle.sq_epochs.specs.EpochStates.{EpochsState};
-    ghost use Rattle.sq_epochs.specs.LiveEpochs.{AreEpochs};
+    ghost use Rattle.sq_epochs.specs.EpochProcs.{AreWhole};
 
     ghost Value = { EpochsState };
 
     ghost view = { λ v. record { current = v.current; epochs = v.epochs.items; procs = v.homes.given; homes = v.homes.homes; stops = v.homes.stops } };
 
-    ghost invariant = { λ v. AreEpochs (record { current = v.current; epochs = v.epochs.items; procs = v.homes.given; homes = v.homes.homes; stops = v.homes.stops }) };
+    ghost invariant = { λ v. AreWhole (record { current = v.current; epochs = v.epochs.items; procs = v.homes.given; homes = v.homes.homes; stops = v.homes.stops }) };
 }
 
 pub(crate) fn place_of(epochs: &[Epoch], number: EpochNo) -> usize

@@ -5,6 +5,7 @@
 //! says (`IsChanged`), and nothing else. No call here knows of a history.
 #![tactic(auto)]
 
+mod acts;
 mod epoch;
 mod epochs;
 mod faults;
@@ -13,5 +14,6 @@ mod lives;
 mod procs;
 mod stops;
 
+pub use acts::Act;
 pub use epochs::Epochs;
 pub use faults::StartedFault;

@@ -3,9 +3,10 @@ ghost use Rattle.std.specs.Prelude.{◌≡◌, ◌<◌, ◌^◌, ◌∷◌, [], 
 ghost use Rattle.std.specs.Arc.{arc_value};
 ghost use Rattle.std.specs.Vec.{vec_capacity, vec_len};
 ghost use Rattle.sq_rules.specs.Rising.{Rises};
+ghost use Rattle.sq_epochs.specs.EpochProcs.{AreWhole};
 ghost use Rattle.sq_epochs.specs.EpochStates.{epoch_at, epoch_in, epoch_number, new_epoch};
 ghost use Rattle.sq_epochs.specs.HomeStates.{other_homes, procs_of, with_numbers};
-ghost use Rattle.sq_epochs.specs.LiveEpochs.{AreEpochs, after_began, after_ended, busy_count, checks_at, has_checks, without_epoch};
+ghost use Rattle.sq_epochs.specs.LiveEpochs.{after_began, after_ended, busy_count, checks_at, has_checks, without_epoch};
 ghost use Rattle.sq_epochs.specs.Reconfigured.{after_reconfigured, with_begun};
 
 use crate::epoch::Epoch;
@@ -59,7 +60,7 @@ fn busy_among(epochs: &[Epoch]) -> usize
 impl Epochs {
     /// What holds of them: it changes nothing, and its contract says it to a proof.
     pub fn facts(&self)
-        ensures { AreEpochs self.now }
+        ensures { AreWhole self.now }
     {
         let _current = self.current;
     }

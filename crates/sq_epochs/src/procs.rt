@@ -96,4 +96,52 @@ impl Epochs {
             None => false,
         }
     }
+
+    /// A process was started for an open start of this class: its number. It is refused where no start is open, as
+    /// where the class is not there, and where the number would be 2^63 - 1.
+    pub fn started(
+        &mut self,
+        alloc: Global,
+        epoch: EpochNo,
+        class: u32,
+    ) -> Result<ProcNo, StartedFault>
+        ensures none { IsErrOf result StartedFault.NoStartOpen ↔ (has_start self.old epoch class ≡ false) }
+        ensures spent { IsErrOf result StartedFault.Spent → (has_start self.old epoch class ≡ true) × (last_number ≤ suc self.old.procs) }
+        ensures fits { OnOk result (suc self.old.procs < last_number) }
+        ensures number { IfOk result (λ k. k ≡ suc self.old.procs) }
+        ensures ok { OnOk result (IsStarted epoch class self.old self.new) }
+        ensures err { OnErr result (self.new ≡ self.old) }
+    {
+        if !self.has_start(epoch, class) {
+            return Err(StartedFault::NoStartOpen);
+        }
+        let Some(number) = self.homes.next() else {
+            return Err(StartedFault::Spent);
+        };
+        self.homes.make_room()?;
+        let place = place_of(&self.epochs, epoch);
+        let live = &mut self.epochs[place];
+        let Ok(_) = live.started(alloc, class, number) else {
+            return Err(StartedFault::WantOfMemory);
+        };
+        self.homes.add(epoch, class);
+        Ok(number)
+    }
+
+    /// A living process ends, by this cause; where it ends by a line, its stop is due. Its open questions are lost, and
+    /// `next_lost` hands them out. It takes no memory.
+    pub fn end(&mut self, proc: ProcNo, cause: Cause, by_line: bool)
+        requires { is_some (home_at self.old proc) ≡ true }
+        ensures { IsEnded cause proc by_line self.old self.new }
+    {
+        let Some(home) = self.homes.get(proc) else {
+            unreachable!();
+        };
+        let epoch = home.epoch;
+        let class = home.class;
+        let place = place_of(&self.epochs, epoch);
+        let live = &mut self.epochs[place];
+        live.end(class, proc, cause);
+        self.homes.remove(proc, by_line);
+    }
 }
