@@ -17,3 +17,4 @@ mod EndedLaws
 mod AskingLaws
 mod LosingLaws
 mod NowLaws
+mod CountLaws

@@ -1,6 +1,5 @@
 -- The engine as contracts see it, and the machine's state that can be read off it.
-use Rattle.std.specs.Prelude.{ℕ, ℤ, List, length, Bool, ◌==◌}
-use Rattle.std.specs.List.{list_any}
+use Rattle.std.specs.Prelude.{ℕ, ℤ, List, length, Bool}
 use Rattle.std.specs.Option.{option_map}
 use Rattle.std.specs.declared.option.Option.{Option}
 use Rattle.sq_rules.specs.Configurations.{Configuration}
@@ -8,6 +7,7 @@ use Rattle.sq_checks.specs.Conns.{OpenConns, client_in}
 use Rattle.sq_checks.specs.Counts.{tally}
 use Rattle.sq_checks.specs.OpenChecks.{CheckParts, rows_of}
 use Rattle.sq_epochs.specs.EpochStates.{EpochState, EpochsState, epoch_at, home_at, row_at}
+use Rattle.sq_epochs.specs.HomeStates.{is_among}
 use Rattle.sq_state.specs.States.{State}
 
 -- the open connections; the open checks; how many checks began and questions were put; the live epochs; the configuration of the
@@ -31,7 +31,7 @@ config_at v e = config_in (epoch_at v e)
 
 -- a stop of the process is due
 abbrev pub stop_at : EpochsState → ℕ → Bool
-stop_at v k = list_any (λ j. k == j) v.stops
+stop_at v k = is_among k v.stops
 
 -- the machine's state
 abbrev pub state_of : EngineView → State
