@@ -18,3 +18,6 @@ mod AskingLaws
 mod LosingLaws
 mod NowLaws
 mod CountLaws
+mod EndingLaws
+pub mod PromiseLaws
+mod ReaderLaws

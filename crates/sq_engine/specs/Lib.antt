@@ -2,5 +2,6 @@
 pub mod EngineViews
 pub mod Engines
 pub mod Handing
+pub mod Promised
 pub mod Stepping
 pub mod Tellings

@@ -6,9 +6,11 @@
 //! agree with each other.
 #![tactic(auto)]
 
+mod ending;
 mod engines;
 mod handing;
 mod opening;
+mod readers;
 mod starts;
 mod stepping;
 

@@ -1,5 +1,6 @@
 //! How starts of processes end.
 ghost use Rattle.std.specs.Prelude.{◌≡◌, max, true, OnOk, OnErr};
+ghost use Rattle.sq_rules.specs.declared.entries.Event.TheVariants as event;
 ghost use Rattle.sq_rules.specs.declared.entries.Told.TheVariants as told;
 ghost use Rattle.sq_epochs.specs.EpochChanges.{HasFailed};
 ghost use Rattle.sq_epochs.specs.EpochProcs.{has_start};
@@ -8,6 +9,7 @@ ghost use Rattle.sq_state.specs.Answers.{failed_answer};
 ghost use Rattle.sq_state.specs.Changes.{after_failed_at};
 ghost use Rattle.sq_state.specs.States.{IsSame};
 ghost use Rattle.sq_engine.specs.EngineViews.{state_of};
+ghost use Rattle.sq_engine.specs.Promised.{IsPromisedAt};
 ghost use Rattle.sq_engine.specs.Tellings.{IsTold};
 
 use crate::engines::{Engine, later};
@@ -33,6 +35,7 @@ impl Engine {
         ensures told { IsTold (λ _. told.Fine) (failed_answer (state_of self.old) (record { epoch = epoch; class = class })) result }
         ensures ok { OnOk result (IsSame (state_of self.new) (after_failed_at (record { epoch = epoch; class = class }) (max now self.old.latest) (state_of self.old))) }
         ensures err { OnErr result (self.new ≡ self.old) }
+        ensures promised { IsPromisedAt (λ _. told.Fine) (state_of self.old) (max now self.old.latest) event.StartFail (record { epoch = epoch; class = class }) result (state_of self.new) }
     {
         if !self.epochs.has_start(epoch, class) {
             return Err(Refusal::NoStartOpen(epoch, class));
