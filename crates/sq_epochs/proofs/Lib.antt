@@ -1,3 +1,4 @@
+mod ActLaws
 mod DueLaws
 mod EpochLaws
 mod PartLaws

@@ -26,20 +26,24 @@ places_in x = map (λ c. record { epoch = x.epoch; class = c }) (below (length x
 abbrev pub live_places : EpochsState → List Place
 live_places v = flat_map places_in v.epochs
 
--- the send of the class at a place, where one is due
-abbrev pub send_at : EpochsState → Place → Option DueAt
-send_at v p = option_map (sends p) (option_and_then (λ x. send_of x.row.stock) (part_at v p.epoch p.class))
+-- what a class at a place is to do, by its part
+abbrev pub act_at : (Place → PartState → Option DueAt) → EpochsState → Place → Option DueAt
+act_at by v p = option_and_then (by p) (part_at v p.epoch p.class)
 
--- the start of the class at a place, where one is due
-abbrev pub start_at : EpochsState → Place → Option DueAt
-start_at v p = option_and_then (λ x. if start_due x.row.stock then Some (starts p) else None) (part_at v p.epoch p.class)
+-- the send of a class, where one is due
+abbrev pub send_by : Place → PartState → Option DueAt
+send_by p x = option_map (sends p) (send_of x.row.stock)
+
+-- the start of a class, where one is due
+abbrev pub start_by : Place → PartState → Option DueAt
+start_by p x = if start_due x.row.stock then Some (starts p) else None
 
 -- the next act: first stops, then sends, then starts
 abbrev pub due_of : EpochsState → Option DueAt
 due_of v =
     option_or (option_map stops (first_of v.stops))
-    (option_or (first_made (send_at v) (live_places v))
-    (first_made (start_at v) (live_places v)))
+    (option_or (first_made (act_at send_by v) (live_places v))
+    (first_made (act_at start_by v) (live_places v)))
 
 -- the part at a place of these changed
 abbrev pub change_at : ℕ → (PartState → PartState) → List PartState → List PartState
@@ -90,19 +94,13 @@ owes_send p = is_some (send_of p.row.stock)
 abbrev pub owes_start : PartState → Bool
 owes_start p = start_due p.row.stock
 
--- the send of a class of the epoch, where one is due
-abbrev pub send_in : EpochState → Option DueAt
-send_in x = option_and_then (λ c. option_map (sends (record { epoch = x.epoch; class = c })) (option_and_then (λ p. send_of p.row.stock) (slice_get x.parts c))) (first_place owes_send x.parts)
+-- some class of the epoch meets the test
+abbrev pub has_act : (PartState → Bool) → EpochState → Bool
+has_act test x = is_some (first_place test x.parts)
 
--- the start of a class of the epoch, where one is due
-abbrev pub start_in : EpochState → Option DueAt
-start_in x = option_map (λ c. starts (record { epoch = x.epoch; class = c })) (first_place owes_start x.parts)
-
-abbrev pub has_send_in : EpochState → Bool
-has_send_in x = is_some (first_place owes_send x.parts)
-
-abbrev pub has_start_in : EpochState → Bool
-has_start_in x = is_some (first_place owes_start x.parts)
+-- what the first class of the epoch is to do that meets the test
+abbrev pub act_in : (Place → PartState → Option DueAt) → (PartState → Bool) → EpochState → Option DueAt
+act_in by test x = option_and_then (λ c. option_and_then (by (record { epoch = x.epoch; class = c })) (slice_get x.parts c)) (first_place test x.parts)
 
 -- the epoch after an act of it
 abbrev pub after_act_in : Option DueAt → EpochState → EpochState

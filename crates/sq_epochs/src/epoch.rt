@@ -1,5 +1,5 @@
 //! `Epoch`: a live epoch with a part for each class of its configuration.
-ghost use Rattle.std.specs.Prelude.{◌≡◌, ◌<◌, ◌^◌, ◌∷◌, [], ℕ, suc, true, None, Some, map, length, slice_get, IfOk, IfNone, IfSome, OnOk, OnErr, IsErrOf};
+ghost use Rattle.std.specs.Prelude.{◌≡◌, ◌<◌, ◌^◌, ◌∷◌, [], ℕ, suc, true, None, Some, is_some, map, length, slice_get, IfOk, IfNone, IfSome, OnOk, OnErr, IsErrOf};
 ghost use Rattle.std.specs.Option.{option_map};
 ghost use Rattle.std.specs.Arc.{arc_value};
 ghost use Rattle.sq_part.specs.Parts.{IsAsBefore, PartState};
@@ -149,7 +149,8 @@ impl Epoch {
 
     // The class at this place.
     pub(crate) fn class(&self, class: u32) -> Option<&Class>
-        ensures { option_map (λ c. c.now) result ≡ slice_get self.now.config.classes class }
+        ensures class { option_map (λ c. c.now) result ≡ slice_get self.now.config.classes class }
+        ensures there { is_some (slice_get self.now.config.classes class) ≡ is_some (slice_get self.now.parts class) }
     {
         self.config.classes().get(class as usize)
     }

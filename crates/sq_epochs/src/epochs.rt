@@ -119,7 +119,9 @@ impl Epochs {
 
     /// The class at a place of a live epoch, lent.
     pub fn class(&self, epoch: EpochNo, class: u32) -> Option<&Class>
-        ensures { option_map (λ c. c.now) result ≡ class_at self.now epoch class }
+        ensures class { option_map (λ c. c.now) result ≡ class_at self.now epoch class }
+        // It is there where its part is.
+        ensures there { is_some (class_at self.now epoch class) ≡ is_some (part_at self.now epoch class) }
     {
         let live = self.epoch(epoch)?;
         live.class(class)
