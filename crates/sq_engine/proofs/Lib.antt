@@ -21,3 +21,6 @@ mod CountLaws
 mod EndingLaws
 pub mod PromiseLaws
 mod ReaderLaws
+mod QuietLaws
+mod StartedLaws
+mod ReplyLaws
