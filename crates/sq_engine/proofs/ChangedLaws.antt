@@ -75,8 +75,8 @@ pub keyed_changed : (part : ℕ → ℕ → Option PartState) (es : List (ℕ ×
 keyed_changed part es n f keeps a =
     keyed_from part part (value_at es) (value_at (change_at n f es)) a (λ e c p is. record { part = p; was = is; lookups_are = refl })
     (λ m k x is needs.
-        let w = was_check Keeps (n == m) f (value_at es m) k keeps_self (keeps m) (sym (changed_at n m f es) ∙ is) in
-        record { check = w.check; was = w.was; epoch_is = sym w.keeps.epoch_is; need_is = sym w.keeps.need_is ∙ needs })
+    let w = was_check Keeps (n == m) f (value_at es m) k keeps_self (keeps m) (sym (changed_at n m f es) ∙ is) in
+    record { check = w.check; was = w.was; epoch_is = sym w.keeps.epoch_is; need_is = sym w.keeps.need_is ∙ needs })
 
 -- the engine after such a change of a check, where its row is one of the same check
 pub changed_engine : (v : EngineView) (cs : List (ℕ × CheckParts)) (t n : ℕ) (f : CheckParts → CheckParts) → IsEngine v → cs ≡ change_at n f v.checks

@@ -204,7 +204,7 @@ counted_began v e h checks is there a = record {
     alive f true x =
         ap (λ z. is_some (epoch_at v z)) (number_is f e x) ∙ there
         ∙ sym (or_true (f == v.current) (list_any (λ (z : Held). z.asked.epoch == f) (checks ++ h ∷ []))
-            (any_is f (checks ++ h ∷ []) ∙ ap (λ k. not (k == 0)) (count f ∙ if_true (f == e) (suc (of_epoch f checks)) (of_epoch f checks) x) ∙ not_zero (of_epoch f checks)))
+        (any_is f (checks ++ h ∷ []) ∙ ap (λ k. not (k == 0)) (count f ∙ if_true (f == e) (suc (of_epoch f checks)) (of_epoch f checks) x) ∙ not_zero (of_epoch f checks)))
     alive f false x = a.live f ∙ lives_same v.current f checks (checks ++ h ∷ []) (sym (count f ∙ if_false (f == e) (suc (of_epoch f checks)) (of_epoch f checks) x))
 
     counted : (f : ℕ) (y : EpochState) → epoch_at v f ≡ Some y → (b : Bool) → (f == e) ≡ b → (if f == e then check_more y else y).checks ≡ of_epoch f (checks ++ h ∷ [])

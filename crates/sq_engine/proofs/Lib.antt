@@ -24,3 +24,6 @@ mod ReaderLaws
 mod QuietLaws
 mod StartedLaws
 mod ReplyLaws
+mod GiveLaws
+mod LineLaws
+mod RepliedLaws

@@ -75,11 +75,11 @@ fed_changed e c before after old new puts more k a fed own higher few = record {
   apart = λ q f d g i p r is other here there.
       two_ways (part_found e c before after old new k f d p is)
       (λ h. two_ways (part_found e c before after old new k g i r other)
-          (λ j. (sym h.epoch_is ∙ j.epoch_is, sym h.class_is ∙ j.class_is))
-          (λ o. let w = at_other q g i r o.was (ap (λ z. is_open_lookup q z.row.lookups) h.part_is ∙ here) there in (sym h.epoch_is ∙ w.0, sym h.class_is ∙ w.1)))
+      (λ j. (sym h.epoch_is ∙ j.epoch_is, sym h.class_is ∙ j.class_is))
+      (λ o. let w = at_other q g i r o.was (ap (λ z. is_open_lookup q z.row.lookups) h.part_is ∙ here) there in (sym h.epoch_is ∙ w.0, sym h.class_is ∙ w.1)))
       (λ o. two_ways (part_found e c before after old new k g i r other)
-          (λ j. let w = at_other q f d p o.was (ap (λ z. is_open_lookup q z.row.lookups) j.part_is ∙ there) here in (sym w.0 ∙ j.epoch_is, sym w.1 ∙ j.class_is))
-          (λ u. a.apart q f d g i p r o.was u.was here there));
+      (λ j. let w = at_other q f d p o.was (ap (λ z. is_open_lookup q z.row.lookups) j.part_is ∙ there) here in (sym w.0 ∙ j.epoch_is, sym w.1 ∙ j.class_is))
+      (λ u. a.apart q f d g i p r o.was u.was here there));
   waits_open = λ f d n q p is waits. two_ways (part_found e c before after old new k f d p is)
       (λ h. ap (λ z. is_open_lookup q z.row.lookups) (sym h.part_is) ∙ fed.waits_open n q (ap (λ z. question_of n z.waiting) h.part_is ∙ waits))
       (λ o. a.waits_open f d n q p o.was waits);

@@ -43,7 +43,7 @@ by_laws tell s new after next now event (Err r) t ok law answered = λ configs h
 -- the same of an event that names a class
 pub by_laws_at : {A : Type 0} (tell : A → Told) (s new after : State) (next : Next) (now : ℕ) (event : ℕ → List ℕ → Event) (p : Place) (r : Result A Refusal) → IsTold tell next r → OnOk r (IsSame new after)
     → ((configs : List Configuration) (h : History) (class : Class) → StandsFor configs h s → latest h ≤ now → class_at configs p.epoch p.class ≡ Some class
-        → full_next configs (marked configs h) now (event p.epoch class.name) ≡ next)
+    → full_next configs (marked configs h) now (event p.epoch class.name) ≡ next)
     → ((answer : Told) → next ≡ gives answer → (configs : List Configuration) (h : History) → StandsFor configs h s → latest h ≤ now → IsAnswered configs h now (event p.epoch (name_in s p)) answer after)
     → IsPromisedAt tell s now event p r new
 by_laws_at tell s new after next now event p (Ok a) t ok law answered = λ configs h st late. answered_same configs h after new now (event p.epoch (name_in s p)) (tell a) ok (answered (tell a) t configs h st late)

@@ -95,7 +95,7 @@ need_one q t w (stage.Done o) = refl
 ending_one : (q t : ℕ) (w : What) → IsEnding (gone_one q) (ended_by q w t)
 ending_one q t w = record { epoch_is = λ k. refl; config_is = λ k. refl; need_is = λ k. need_one q t w k.stage }
 
-key_open : (q : ℕ) (key : List ℕ) (rows : List LookupRow) → key_of q rows ≡ Some key → is_open_lookup q rows ≡ true
+pub key_open : (q : ℕ) (key : List ℕ) (rows : List LookupRow) → key_of q rows ≡ Some key → is_open_lookup q rows ≡ true
 key_open q key [] h = absurd (cc)
 key_open q key (r ∷ rows) h = by (q == r.question) refl h (λ k. key_open q key rows k)
   where
@@ -120,7 +120,7 @@ reply_rows v cs e c q t key w i of found list rise =
     let here = key_open q key of.part.row.lookups (found of.part of.is) in
     ap rows_of list
     ∙ rows_ended q a w t v.checks (fit_each q t a w v.checks (each_at (λ x. IsFit q a w t x.1.stage) v.checks rise
-        (λ x at. fit_at v e c q t key w of.part x.0 x.1 i of.is here (found of.part of.is) at x.1.stage refl)))
+    (λ x at. fit_at v e c q t key w of.part x.0 x.1 i of.is here (found of.part of.is) at x.1.stage refl)))
 
 -- a reply, as the end of one question
 pub reply_change : (v : EngineView) (new : EpochsState) (e c k q t : ℕ) (key : List ℕ) (w : What) (class : Class) (checks : List ℕ) → IsEngine v

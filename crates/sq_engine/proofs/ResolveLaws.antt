@@ -148,8 +148,8 @@ rows_resolved v t e c n key class said new ch f d = by (e == f && c == d) refl
         let k = part_changed e c (IsResolved class c key t n v.puts said) v.epochs new ch in
         let place = need_place class (record { epoch = e; class = c; key = key }) t ch.before.row.kept (pending_in key ch.before.row.lookups) (full ch.before.row.stock) v.puts in
         let here : row_at new e c ≡ option_map (after_said (e == e) e c v.puts s) (row_at v.epochs e c) =
-            ap (option_map (λ p. p.row)) k.here ∙ ap Some ((ch.change e).row_is ∙ sym (said_here e c v.puts s ch.before.row place))
-            ∙ sym (ap (λ b. option_map (after_said b e c v.puts s) (row_at v.epochs e c)) (number_self e) ∙ ap (λ o. option_map (after_said true e c v.puts s) (option_map (λ p. p.row) o)) ch.was) in
+        ap (option_map (λ p. p.row)) k.here ∙ ap Some ((ch.change e).row_is ∙ sym (said_here e c v.puts s ch.before.row place))
+        ∙ sym (ap (λ b. option_map (after_said b e c v.puts s) (row_at v.epochs e c)) (number_self e) ∙ ap (λ o. option_map (after_said true e c v.puts s) (option_map (λ p. p.row) o)) ch.was) in
         let two = both (e == f) (c == d) x in
         subst (λ g. row_at new g d ≡ option_map (after_said (e == g) g d v.puts s) (row_at v.epochs g d)) (number_is e f two.0)
         (subst (λ i. row_at new e i ≡ option_map (after_said (e == e) e i v.puts s) (row_at v.epochs e i)) (number_is c d two.1) here)

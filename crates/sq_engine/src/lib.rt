@@ -9,6 +9,7 @@
 mod ending;
 mod engines;
 mod handing;
+mod lines;
 mod opening;
 mod readers;
 mod starts;

@@ -16,13 +16,7 @@ const CONN_LIMIT: u32 = 65_536;
 
 impl Engine {
     /// A client's connection opens.
-    pub fn open(
-        &mut self,
-        conn: ConnNo,
-        addr: Addr,
-        port: u16,
-        now: Moment,
-    ) -> Result<(), Refusal>
+    pub fn open(&mut self, conn: ConnNo, addr: Addr, port: u16, now: Moment) -> Result<(), Refusal>
         ensures told { IsTold (λ _. told.Fine) (open_answer (state_of self.old) conn) result }
         ensures ok { OnOk result (IsSame (state_of self.new) (after_open conn (record { addr = addr; port = port }) (max now self.old.latest) (state_of self.old))) }
         ensures err { OnErr result (self.new ≡ self.old) }

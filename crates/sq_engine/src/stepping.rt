@@ -139,12 +139,7 @@ impl Engine {
     }
 
     // A step of a check that waits for nothing, and whose answers are put among the others.
-    fn go_on(
-        &mut self,
-        alloc: Global,
-        check: CheckNo,
-        moment: Moment,
-    ) -> Result<Stepped, Refusal>
+    fn go_on(&mut self, alloc: Global, check: CheckNo, moment: Moment) -> Result<Stepped, Refusal>
         requires there { is_some (value_at self.old.checks check) ≡ true }
         requires settled { IfSome (value_at self.old.checks check) (λ k. is_settled k.stage ≡ true) }
         requires idle { IfSome (value_at self.old.checks check) (λ k. need_in k.stage ≡ None) }
@@ -165,10 +160,7 @@ impl Engine {
                 self.decide(check, outcome, moment);
                 Ok(Stepped::Done)
             }
-            Value::Need {
-                acl,
-                key,
-            } => {
+            Value::Need { acl, key } => {
                 let class = needed_class(open.config(), acl);
                 self.resolve(alloc, check, epoch, class, key, moment)
             }
@@ -176,12 +168,7 @@ impl Engine {
     }
 
     /// A check goes on: it takes an answer, waits for one, or has its outcome.
-    pub fn step(
-        &mut self,
-        alloc: Global,
-        check: CheckNo,
-        now: Moment,
-    ) -> Result<Stepped, Refusal>
+    pub fn step(&mut self, alloc: Global, check: CheckNo, now: Moment) -> Result<Stepped, Refusal>
         ensures told { IsTold (stepped_told (state_of self.old) (epoch_of (state_of self.old) check)) (step_now (state_of self.old) check (max now self.old.latest)) result }
         ensures ok { OnOk result (IsSame (state_of self.new) (after_step_now (state_of self.old) check (max now self.old.latest))) }
         ensures err { OnErr result (IsSame (state_of self.new) (state_of self.old)) }

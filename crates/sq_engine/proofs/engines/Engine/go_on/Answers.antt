@@ -83,7 +83,7 @@ returns-in-Need-clause-ok c =
     let comes : comes_to k ≡ value.Need c.in-Need.acl c.in-Need.key = sym c.in-Ok.ensures.value ∙ c.in-Need.is in
     let epoch = c.epoch-epoch.ensures in
     let after =
-        ap (λ e. after_step_of c.args.check e (says_here w c.args.moment e c.needed_class-class.result c.in-Need.key) c.args.moment (state_of w)) epoch
-        ∙ sym (after_found w c.args.check c.args.moment k found
-        ∙ ap (λ z. after_step_of c.args.check k.epoch z c.args.moment (state_of w)) (says_asks w c.args.check c.args.moment k c.in-Need.acl c.needed_class-class.result c.in-Need.key i found none comes of)) in
+    ap (λ e. after_step_of c.args.check e (says_here w c.args.moment e c.needed_class-class.result c.in-Need.key) c.args.moment (state_of w)) epoch
+    ∙ sym (after_found w c.args.check c.args.moment k found
+    ∙ ap (λ z. after_step_of c.args.check k.epoch z c.args.moment (state_of w)) (says_asks w c.args.check c.args.moment k c.in-Need.acl c.needed_class-class.result c.in-Need.key i found none comes of)) in
     subst (λ z. OnOk c.resolve.result (IsSame (state_of c.resolve.new.self) z)) after c.resolve.ensures.ok

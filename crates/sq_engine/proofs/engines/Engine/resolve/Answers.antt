@@ -76,5 +76,5 @@ returns-clause-ok c =
     let k = class_there v c.args.epoch c.args.class c.self.invariant (rw (← c.self.view_is) at c.requires.part) in
     let ch = c.in-Ok.ensures.ok k.0 k.1 in
     subst (λ z. IsSame (state_of (record v { checks = c.note.new.self; puts = c.puts_after-self-inside.result; epochs = c.resolve.new.self; latest = c.args.moment }))
-        (after_step_of c.args.check c.args.epoch (says_here z c.args.moment c.args.epoch c.args.class c.args.key) c.args.moment (state_of z))) c.self.view_is
+    (after_step_of c.args.check c.args.epoch (says_here z c.args.moment c.args.epoch c.args.class c.args.key) c.args.moment (state_of z))) c.self.view_is
     (same_resolved v c.args.moment c.args.epoch c.args.class c.args.check c.args.key k.0 c.in-Ok.said c.resolve.new.self c.note.new.self c.puts_after-self-inside.result k.1 ch c.note.ensures.rows c.puts_after-self-inside.ensures)
