@@ -49,11 +49,11 @@ pub lives_open : (v : EpochsState) (e n : ℕ) (checks : List Held) → AreCount
 lives_open v e n checks a c =
     a.live e ∙ or_true (e == v.current) (list_any (λ (h : Held). h.asked.epoch == e) checks) (any_is e checks ∙ ap (λ k. not (k == 0)) c ∙ not_zero n)
 
-if_false : {A : Type 0} (b : Bool) (x y : A) → b ≡ false → (if b then x else y) ≡ y
+pub if_false : {A : Type 0} (b : Bool) (x y : A) → b ≡ false → (if b then x else y) ≡ y
 if_false true x y e = absurd (cc)
 if_false false x y e = refl
 
-if_true : {A : Type 0} (b : Bool) (x y : A) → b ≡ true → (if b then x else y) ≡ x
+pub if_true : {A : Type 0} (b : Bool) (x y : A) → b ≡ true → (if b then x else y) ≡ x
 if_true true x y e = refl
 if_true false x y e = absurd (cc)
 
@@ -214,3 +214,13 @@ counted_began v e h checks is there a = record {
     parted : (y : EpochState) (b : Bool) → length y.parts ≡ length y.config.classes → length (if b then check_more y else y).parts ≡ length (if b then check_more y else y).config.classes
     parted y true e = e
     parted y false e = e
+
+-- an epoch of which one of these checks is open counts it
+pub counts_some : (v : EpochsState) (e n : ℕ) (h : Held) (checks : List Held) → Rises (map held_number checks) → held_at n checks ≡ Some h → h.asked.epoch ≡ e → AreCounted v.current (epoch_at v) checks → 0 < checks_at v e
+counts_some v e n h checks r found is a =
+    let here : of_epoch e checks ≡ suc (of_epoch e (without_check n checks)) =
+        of_epoch_without e n h checks r found
+        ∙ ap (λ z. if e == z then suc (of_epoch e (without_check n checks)) else of_epoch e (without_check n checks)) is
+        ∙ if_true (e == e) (suc (of_epoch e (without_check n checks))) (of_epoch e (without_check n checks)) (number_self e) in
+    let at : checks_at v e ≡ suc (of_epoch e (without_check n checks)) = counts_open v e checks a (lives_open v e (of_epoch e (without_check n checks)) checks a here) ∙ here in
+    omega (arith, at)

@@ -27,3 +27,9 @@ mod ReplyLaws
 mod GiveLaws
 mod LineLaws
 mod RepliedLaws
+mod LeavingLaws
+mod OverLaws
+mod TakeLaws
+mod CloseLaws
+mod OnLaws
+mod AskLaws

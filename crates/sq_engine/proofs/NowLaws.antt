@@ -66,7 +66,7 @@ pub says_waiting : (v : EngineView) (n t : ℕ) (k : CheckParts) (x : Need) → 
 says_waiting v n t k x is = ap (λ o. says_of_wait o (says_in (state_of v) t (row n k))) (question_by k.stage (Some x) is)
 
 -- what a check that waits for nothing comes to
-value_is : (v : EngineView) (n : ℕ) (k : CheckParts) → IsEngine v → value_at v.checks n ≡ Some k → value_in (state_of v) (row n k) ≡ comes_to k
+pub value_is : (v : EngineView) (n : ℕ) (k : CheckParts) → IsEngine v → value_at v.checks n ≡ Some k → value_in (state_of v) (row n k) ≡ comes_to k
 value_is v n k i is = ap (λ o. option_map_or (λ config. verdict_over (row n k).answers config (row n k).asked.sight) o (value.Verdict (record { allow = false; why = why.Empty }))) (i.configured n k is)
 
 says_idle : (v : EngineView) (n t : ℕ) (k : CheckParts) → IsEngine v → value_at v.checks n ≡ Some k → need_in k.stage ≡ None → says_now (state_of v) t (row n k) ≡ says_value_in (state_of v) t k.epoch (comes_to k)

@@ -1,55 +1,107 @@
-//! Processes end.
-ghost use Rattle.std.specs.Prelude.{◌≡◌, max, true, false, is_some, Some, OnOk, OnErr};
-ghost use Rattle.sq_base.specs.declared.helpers.Cause.TheVariants as cause;
-ghost use Rattle.sq_rules.specs.DueActs.{Place};
-ghost use Rattle.sq_rules.specs.declared.entries.Event.TheVariants as event;
+//! The outcome of a check is taken, and a connection closes.
+ghost use Rattle.std.specs.Prelude.{◌≡◌, ◌==◌, if◌then◌else◌, ℕ, max, true, is_some, Some, None, IfOk, OnOk, OnErr};
 ghost use Rattle.sq_rules.specs.declared.entries.Told.TheVariants as told;
-ghost use Rattle.sq_epochs.specs.EpochStates.{home_at};
-ghost use Rattle.sq_state.specs.Answers.{died_answer};
-ghost use Rattle.sq_state.specs.Changes.{after_end_at};
+ghost use Rattle.sq_rows.specs.CheckRows.{without_conn};
+ghost use Rattle.sq_checks.specs.Conns.{check_in};
+ghost use Rattle.sq_checks.specs.OpenChecks.{CheckParts, rows_of};
+ghost use Rattle.sq_checks.specs.Records.{judged_of};
+ghost use Rattle.sq_checks.specs.Stages.{need_in};
+ghost use Rattle.sq_checks.specs.Tables.{value_at};
+ghost use Rattle.sq_checks.specs.declared.stages.Need.{Need};
+ghost use Rattle.sq_epochs.specs.EpochChanges.{HasLeft};
+ghost use Rattle.sq_epochs.specs.EpochStates.{IsChanged, part_at};
+ghost use Rattle.sq_state.specs.Answers.{close_answer, take_answer};
+ghost use Rattle.sq_state.specs.Changes.{after_close, after_take, with_checks};
 ghost use Rattle.sq_state.specs.States.{IsSame};
 ghost use Rattle.sq_engine.specs.EngineViews.{state_of};
-ghost use Rattle.sq_engine.specs.Promised.{IsPromised};
 ghost use Rattle.sq_engine.specs.Tellings.{IsTold};
 
 use crate::engines::{Engine, later};
-use crate::handing::hand_out;
-use sq_base::{Cause, EpochNo, Moment, ProcNo};
+use sq_base::{CheckNo, ConnNo, Moment};
+use sq_checks::{OpenCheck, Record};
+use sq_epochs::Epochs;
 use sq_rules::Refusal;
 
+// Takes a check away from the list in which it waits, if it waits.
+fn leave(epochs: &mut Epochs, taken: &OpenCheck, check: CheckNo)
+    requires { (x : Need) → need_in taken.now.stage ≡ Some x → is_some (part_at epochs.old taken.now.epoch x.class) ≡ true }
+    ensures waited { (x : Need) → need_in taken.now.stage ≡ Some x → IsChanged taken.now.epoch x.class (HasLeft check) epochs.old epochs.new }
+    ensures none { need_in taken.now.stage ≡ None → epochs.new ≡ epochs.old }
+{
+    if let Some(need) = taken.need() {
+        epochs.leave(taken.epoch(), need.class, check);
+    }
+}
+
 impl Engine {
-    // A living process of this class ends, by this cause; where it ends by a line, its stop is due. It takes no memory.
-    pub(crate) fn end(
-        &mut self,
-        epoch: EpochNo,
-        class: u32,
-        proc: ProcNo,
-        cause: Cause,
-        by_line: bool,
-        moment: Moment,
-    )
-        requires { home_at self.old.epochs proc ≡ Some (record { epoch = epoch; class = class }) }
-        ensures { IsSame (state_of self.new) (after_end_at (record { epoch = epoch; class = class }) proc cause by_line moment (state_of self.old)) }
+    // Takes an open check out: its connection has none, and its epoch ends where it is not current and had no other.
+    fn remove(&mut self, check: CheckNo) -> OpenCheck
+        requires { is_some (value_at self.old.checks check) ≡ true }
+        ensures check { Some result ≡ value_at self.old.checks check }
+        ensures same { IsSame (state_of self.new) (after_take check self.old.latest (state_of self.old)) }
+        ensures conns { (c : ℕ) → check_in self.new.conns c ≡ (if result.conn == c then None else check_in self.old.conns c) }
+        ensures latest { self.new.latest ≡ self.old.latest }
     {
-        self.epochs.end(proc, cause, by_line);
-        hand_out(&mut self.epochs, &mut self.checks, epoch, class, moment);
-        self.latest = moment;
+        // For the proof: the numbers ascend.
+        let _len = self.checks.len();
+        let Some(open) = self.checks.remove(check) else {
+            unreachable!();
+        };
+        let epoch = open.epoch();
+        leave(&mut self.epochs, &open, check);
+        self.conns.set_check(open.conn(), None);
+        self.epochs.facts();
+        self.epochs.ended(epoch);
+        open
     }
 
-    /// A process died. It takes no memory.
-    pub fn died(&mut self, proc: ProcNo, now: Moment) -> Result<(), Refusal>
-        ensures told { IsTold (λ _. told.Fine) (died_answer (state_of self.old) proc) result }
-        ensures ok { OnOk result ((p : Place) → home_at self.old.epochs proc ≡ Some p → IsSame (state_of self.new) (after_end_at p proc cause.Died false (max now self.old.latest) (state_of self.old))) }
+    /// The outcome of a check is taken, and the check is over. It takes no memory.
+    pub fn take(&mut self, check: CheckNo, now: Moment) -> Result<Record, Refusal>
+        ensures told { IsTold (λ r. told.Judged r.epoch r.outcome) (take_answer (state_of self.old) check) result }
+        ensures ok { OnOk result (IsSame (state_of self.new) (after_take check (max now self.old.latest) (state_of self.old))) }
+        ensures record { IfOk result (λ r. (k : CheckParts) → value_at self.old.checks check ≡ Some k → r ≡ judged_of check r.outcome k) }
         ensures err { OnErr result (self.new ≡ self.old) }
-        ensures promised { IsPromised (λ _. told.Fine) (state_of self.old) (max now self.old.latest) (event.Died proc) result (state_of self.new) }
     {
-        let Some(home) = self.epochs.home(proc) else {
-            return Err(Refusal::UnknownProc(proc));
+        let Some(open) = self.checks.get(check) else {
+            return Err(Refusal::UnknownCheck(check));
         };
-        let epoch = home.epoch;
-        let class = home.class;
-        let moment = later(now, self.latest);
-        self.end(epoch, class, proc, Cause::Died, false, moment);
+        if open.outcome().is_none() {
+            return Err(Refusal::NotDone(check));
+        }
+        let record = self.remove(check).into_record(check);
+        // For the proof: its outcome is the verdict.
+        let _outcome = record.outcome();
+        self.latest = later(now, self.latest);
+        Ok(record)
+    }
+
+    // Takes the open check of a connection out, if it has one.
+    fn drop_check(&mut self, conn: ConnNo)
+        ensures same { IsSame (state_of self.new) (with_checks (without_conn conn (rows_of self.old.checks)) (state_of self.old)) }
+        ensures free { check_in self.new.conns conn ≡ None }
+        ensures latest { self.new.latest ≡ self.old.latest }
+    {
+        self.epochs.facts();
+        // For the proof: the numbers ascend.
+        let _len = self.checks.len();
+        if let Some(check) = self.conns.check(conn) {
+            let _open = self.remove(check);
+        }
+    }
+
+    /// A connection closes, and its open check is dropped; the question for which it waits goes on. It takes no
+    /// memory.
+    pub fn close(&mut self, conn: ConnNo, now: Moment) -> Result<(), Refusal>
+        ensures told { IsTold (λ _. told.Fine) (close_answer (state_of self.old) conn) result }
+        ensures ok { OnOk result (IsSame (state_of self.new) (after_close conn (max now self.old.latest) (state_of self.old))) }
+        ensures err { OnErr result (self.new ≡ self.old) }
+    {
+        if self.conns.peer(conn).is_none() {
+            return Err(Refusal::UnknownConn(conn));
+        }
+        self.drop_check(conn);
+        let _peer = self.conns.close(conn);
+        self.latest = later(now, self.latest);
         Ok(())
     }
 }

@@ -6,6 +6,7 @@
 //! agree with each other.
 #![tactic(auto)]
 
+mod deaths;
 mod ending;
 mod engines;
 mod handing;
