@@ -226,6 +226,9 @@ begun_engine v c n t sight ks cs ep i k is = subst (λ e. IsEngine (record v { c
     two : {P : Type 0} (m : ℕ) (j : CheckParts) → value_at cs m ≡ Some j → (value_at v.checks m ≡ Some j → P) → (parts ≡ j → P) → P
     two m j found f g = two_ways (found_begun n m (m == n) (value_at v.checks m) parts j (sym (at m) ∙ found)) f (λ b. g b.1)
 
+abbrev the_sight : HttpRequest → Address → ℕ → ℕ → ℕ → Sight
+the_sight request addr port minute conns = record { request = request; addr = addr; port = port; minute = minute; conns = conns }
+
 -- what is left: the check that is asked is the one that began
 pub begun_same : (v : EngineView) (c n t : ℕ) (method target : List ℕ) (fields : List Field) (p : Peer) (sight : Sight) (ks : OpenConns) (cs : List (ℕ × CheckParts)) (ep : EpochsState) → Begun v c n sight ks cs
     → ep ≡ after_began v.epochs.current v.epochs → client_in v.conns c ≡ Some p → unversioned sight.request ≡ asked_request method target fields → sight.addr ≡ p.addr → sight.port ≡ p.port → sight.minute ≡ minute_of_week t v.offset
@@ -254,11 +257,11 @@ begun_same v c n t method target fields p sight ks cs ep k is peer request addr 
 
     seen : unversioned_sight sight ≡ sight_in (state_of v) t c method target fields
     seen =
-        ap (λ z. record { request = z; addr = sight.addr; port = sight.port; minute = sight.minute; conns = sight.conns }) request
-        ∙ ap (λ z. record { request = asked_request method target fields; addr = z; port = sight.port; minute = sight.minute; conns = sight.conns }) (addr ∙ ap (λ z. z.addr) (sym who))
-        ∙ ap (λ z. record { request = asked_request method target fields; addr = (peer_or_nobody (client_in v.conns c)).addr; port = z; minute = sight.minute; conns = sight.conns }) (port ∙ ap (λ z. z.port) (sym who))
-        ∙ ap (λ z. record { request = asked_request method target fields; addr = (peer_or_nobody (client_in v.conns c)).addr; port = (peer_or_nobody (client_in v.conns c)).port; minute = z; conns = sight.conns }) minute
-        ∙ ap (λ z. record { request = asked_request method target fields; addr = (peer_or_nobody (client_in v.conns c)).addr; port = (peer_or_nobody (client_in v.conns c)).port; minute = minute_of_week t v.offset; conns = z })
+        ap (λ z. the_sight z sight.addr sight.port sight.minute sight.conns) request
+        ∙ ap (λ z. the_sight (asked_request method target fields) z sight.port sight.minute sight.conns) (addr ∙ ap (λ z. z.addr) (sym who))
+        ∙ ap (λ z. the_sight (asked_request method target fields) (peer_or_nobody (client_in v.conns c)).addr z sight.minute sight.conns) (port ∙ ap (λ z. z.port) (sym who))
+        ∙ ap (λ z. the_sight (asked_request method target fields) (peer_or_nobody (client_in v.conns c)).addr (peer_or_nobody (client_in v.conns c)).port z sight.conns) minute
+        ∙ ap (λ z. the_sight (asked_request method target fields) (peer_or_nobody (client_in v.conns c)).addr (peer_or_nobody (client_in v.conns c)).port (minute_of_week t v.offset) z)
             (conns ∙ ap (λ z. tally v.conns.counts z.addr) (sym who))
 
     held : row n (begun_parts c v.epochs.current v.setup sight) ≡ begun (suc v.asks) (asked_in (state_of v) t c method target fields)

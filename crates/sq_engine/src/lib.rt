@@ -7,6 +7,7 @@
 #![tactic(auto)]
 
 mod deaths;
+mod asking;
 mod ending;
 mod engines;
 mod handing;
@@ -14,6 +15,7 @@ mod lines;
 mod opening;
 mod readers;
 mod starts;
+mod sighting;
 mod stepping;
 
 pub use engines::Engine;

@@ -1,0 +1,89 @@
+//! A request arrives.
+ghost use Rattle.std.specs.Prelude.{◌≡◌, ℕ, List, max, suc, IfOk, OnOk, OnErr};
+ghost use Rattle.sq_base.specs.declared.requests.Field.{Field};
+ghost use Rattle.sq_rules.specs.Sights.{asked_request, unversioned};
+ghost use Rattle.sq_rules.specs.declared.entries.Told.TheVariants as told;
+ghost use Rattle.sq_checks.specs.OpenChecks.{begun_parts};
+ghost use Rattle.sq_state.specs.Answers.{ask_answer, asked_in};
+ghost use Rattle.sq_state.specs.Changes.{after_ask};
+ghost use Rattle.sq_state.specs.States.{IsSame};
+ghost use Rattle.sq_engine.specs.EngineViews.{state_of};
+ghost use Rattle.sq_engine.specs.Tellings.{IsTold};
+
+use crate::engines::{Engine, LAST_NUMBER, later};
+use crate::sighting::minute_of_week;
+use sq_base::{CheckNo, ConnNo, EpochNo, Moment, Request, WantOfMemory};
+use sq_checks::OpenCheck;
+use sq_facts::read_facts;
+use sq_rules::{Refusal, Sight};
+use sq_urlmatch::Setup;
+use std::alloc::Global;
+use std::sync::Arc;
+
+// The check that begins on a connection, in the epoch of this setup.
+fn begun(
+    alloc: Global,
+    setup: &mut Setup,
+    conn: ConnNo,
+    epoch: EpochNo,
+    sight: Sight,
+) -> Result<OpenCheck, WantOfMemory>
+    ensures ok { IfOk result (λ c. c ≡ begun_parts conn epoch setup.old sight) }
+    ensures same { setup.new ≡ setup.old }
+{
+    let facts = read_facts(alloc, setup, &sight)?;
+    let config = Arc::try_clone(setup.config())?;
+    Ok(OpenCheck::new(alloc, conn, epoch, config, sight, facts))
+}
+
+impl Engine {
+    /// A request arrives on a connection, and its check begins in the current epoch: what it sees is read now.
+    pub fn ask(
+        &mut self,
+        alloc: Global,
+        conn: ConnNo,
+        request: Request,
+        now: Moment,
+    ) -> Result<CheckNo, Refusal>
+        ensures told { IsTold (λ n. told.Check n) (ask_answer (state_of self.old) conn) result }
+        ensures ok { OnOk result ((method target : List ℕ) (fields : List Field) → unversioned request ≡ asked_request method target fields
+            → IsSame (state_of self.new) (after_ask (asked_in (state_of self.old) (max now self.old.latest) conn method target fields) (max now self.old.latest) (state_of self.old))) }
+        ensures err { OnErr result (self.new ≡ self.old) }
+    {
+        let Some(peer) = self.conns.peer(conn) else {
+            return Err(Refusal::UnknownConn(conn));
+        };
+        if let Some(check) = self.conns.check(conn) {
+            return Err(Refusal::CheckOpen(check));
+        }
+        let number = self.asks + 1;
+        if number >= LAST_NUMBER {
+            return Err(Refusal::Spent(number));
+        }
+        // For the proof: the numbers ascend.
+        let _len = self.checks.len();
+        let check = CheckNo(number);
+        let epoch = self.epochs.current();
+        let moment = later(now, self.latest);
+        let sight = Sight {
+            request,
+            addr: peer.addr,
+            port: peer.port,
+            minute: minute_of_week(moment, self.offset),
+            conns: self.conns.of(peer.addr),
+        };
+        let open = match begun(alloc, &mut self.setup, conn, epoch, sight) {
+            Ok(open) => open,
+            Err(WantOfMemory) => return Err(Refusal::WantOfMemory),
+        };
+        match self.checks.begin(check, open) {
+            Ok(()) => {}
+            Err(WantOfMemory) => return Err(Refusal::WantOfMemory),
+        }
+        self.conns.set_check(conn, Some(check));
+        self.epochs.began(epoch);
+        self.asks = number;
+        self.latest = moment;
+        Ok(check)
+    }
+}
