@@ -6,16 +6,16 @@
 //! agree with each other.
 #![tactic(auto)]
 
-mod deaths;
 mod asking;
+mod deaths;
 mod ending;
 mod engines;
 mod handing;
 mod lines;
 mod opening;
 mod readers;
-mod starts;
 mod sighting;
+mod starts;
 mod stepping;
 
 pub use engines::Engine;
