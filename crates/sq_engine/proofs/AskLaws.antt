@@ -262,7 +262,7 @@ begun_same v c n t method target fields p sight ks cs ep k is peer request addr 
         ∙ ap (λ z. the_sight (asked_request method target fields) (peer_or_nobody (client_in v.conns c)).addr z sight.minute sight.conns) (port ∙ ap (λ z. z.port) (sym who))
         ∙ ap (λ z. the_sight (asked_request method target fields) (peer_or_nobody (client_in v.conns c)).addr (peer_or_nobody (client_in v.conns c)).port z sight.conns) minute
         ∙ ap (λ z. the_sight (asked_request method target fields) (peer_or_nobody (client_in v.conns c)).addr (peer_or_nobody (client_in v.conns c)).port (minute_of_week t v.offset) z)
-            (conns ∙ ap (λ z. tally v.conns.counts z.addr) (sym who))
+        (conns ∙ ap (λ z. tally v.conns.counts z.addr) (sym who))
 
     held : row n (begun_parts c v.epochs.current v.setup sight) ≡ begun (suc v.asks) (asked_in (state_of v) t c method target fields)
     held = ap (λ z. begun n (record { conn = c; epoch = v.epochs.current; sight = z })) seen ∙ ap (λ z. begun z (asked_in (state_of v) t c method target fields)) k.number_is

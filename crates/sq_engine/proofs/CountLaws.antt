@@ -219,8 +219,8 @@ counted_began v e h checks is there a = record {
 pub counts_some : (v : EpochsState) (e n : ℕ) (h : Held) (checks : List Held) → Rises (map held_number checks) → held_at n checks ≡ Some h → h.asked.epoch ≡ e → AreCounted v.current (epoch_at v) checks → 0 < checks_at v e
 counts_some v e n h checks r found is a =
     let here : of_epoch e checks ≡ suc (of_epoch e (without_check n checks)) =
-        of_epoch_without e n h checks r found
-        ∙ ap (λ z. if e == z then suc (of_epoch e (without_check n checks)) else of_epoch e (without_check n checks)) is
-        ∙ if_true (e == e) (suc (of_epoch e (without_check n checks))) (of_epoch e (without_check n checks)) (number_self e) in
+    of_epoch_without e n h checks r found
+    ∙ ap (λ z. if e == z then suc (of_epoch e (without_check n checks)) else of_epoch e (without_check n checks)) is
+    ∙ if_true (e == e) (suc (of_epoch e (without_check n checks))) (of_epoch e (without_check n checks)) (number_self e) in
     let at : checks_at v e ≡ suc (of_epoch e (without_check n checks)) = counts_open v e checks a (lives_open v e (of_epoch e (without_check n checks)) checks a here) ∙ here in
     omega (arith, at)

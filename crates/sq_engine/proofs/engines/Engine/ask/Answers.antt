@@ -57,8 +57,8 @@ returns-clause-ok c = λ method target fields e.
     } in
     let is : c.began.new.self ≡ after_began v.epochs.current v.epochs = c.began.ensures ∙ ap (λ z. after_began z v.epochs) c.current-epoch.ensures in
     subst (λ z. IsSame (state_of (record v { conns = c.set_check.new.self; checks = c.begin.new.self; asks = n; epochs = c.began.new.self; latest = c.later-moment.result }))
-        (after_ask (asked_in (state_of z) (max c.args.now z.latest) c.args.conn method target fields) (max c.args.now z.latest) (state_of z))) c.self.view_is
+    (after_ask (asked_in (state_of z) (max c.args.now z.latest) c.args.conn method target fields) (max c.args.now z.latest) (state_of z))) c.self.view_is
     (subst (λ z. IsSame (state_of (record v { conns = c.set_check.new.self; checks = c.begin.new.self; asks = n; epochs = c.began.new.self; latest = c.later-moment.result }))
-        (after_ask (asked_in (state_of v) z c.args.conn method target fields) z (state_of v))) c.later-moment.ensures
+    (after_ask (asked_in (state_of v) z c.args.conn method target fields) z (state_of v))) c.later-moment.ensures
     (begun_same v c.args.conn n c.later-moment.result method target fields c.in-Some.peer sight c.set_check.new.self c.begin.new.self c.began.new.self k is (sym c.in-Some.ensures) e refl refl
     c.minute_of_week.ensures c.of.ensures c.set_check.ensures.clients c.set_check.ensures.len c.set_check.ensures.counts))

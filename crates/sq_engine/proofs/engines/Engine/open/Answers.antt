@@ -37,7 +37,7 @@ returns-clause-promised c =
     let here : is_some (s.client c.args.conn) ≡ false = ap (λ z. is_some (client_in z.conns c.args.conn)) (sym c.self.view_is) ∙ free in
     let few : nat_le conn_limit s.conns ≡ false = ap (λ z. nat_le conn_limit (length z.conns.links)) (sym c.self.view_is) ∙ room in
     let ok : IsSame (state_of new) (after_open c.args.conn p (max c.args.now c.args.self.now.latest) s) =
-        subst (λ z. IsSame (state_of new) (after_open c.args.conn p (max c.args.now z.latest) (state_of z))) c.self.view_is
-        (subst (λ m. IsSame (state_of new) (after_open c.args.conn p m (state_of v))) c.later-self-inside.ensures
-        (opened_same v c.open.new.self c.later-self-inside.result c.args.conn p (record { clients = c.in-Ok.ensures.clients; checks = c.in-Ok.ensures.checks; len = c.in-Ok.ensures.len; counts = c.in-Ok.ensures.counts }))) in
+    subst (λ z. IsSame (state_of new) (after_open c.args.conn p (max c.args.now z.latest) (state_of z))) c.self.view_is
+    (subst (λ m. IsSame (state_of new) (after_open c.args.conn p m (state_of v))) c.later-self-inside.ensures
+    (opened_same v c.open.new.self c.later-self-inside.result c.args.conn p (record { clients = c.in-Ok.ensures.clients; checks = c.in-Ok.ensures.checks; len = c.in-Ok.ensures.len; counts = c.in-Ok.ensures.counts }))) in
     open_promised {A = Unit {0}} s (state_of new) (max c.args.now c.args.self.now.latest) c.args.conn c.args.addr c.args.port (Ok tt) (open_fine s c.args.conn here few) ok
