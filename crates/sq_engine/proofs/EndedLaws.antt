@@ -257,9 +257,9 @@ ended_engine v new cs t e c F gone f ends i ch fits at rows = record {
         let same : j.epoch ≡ w.check.epoch = ap (λ z. z.epoch) (sym w.is) ∙ fits.epoch_is w.check in
         two_ways (part_found e c ch.before ch.after v.epochs next k j.epoch x.class p found)
         (λ h.
-            let at_before : part_at v.epochs w.check.epoch x.class ≡ Some ch.before = ap (λ z. part_at v.epochs z x.class) (sym same) ∙ ap (λ z. part_at v.epochs z x.class) (sym h.epoch_is) ∙ ap (part_at v.epochs e) (sym h.class_is) ∙ ch.was in
-            ap (λ z. key_of x.question z.row.lookups) (sym h.part_is) ∙ ap (key_of x.question) ch.change.lookups_are ∙ key_kept x.question gone ch.before.row.lookups u.left
-            ∙ i.keyed.keys n w.check x ch.before w.was u.was at_before)
+        let at_before : part_at v.epochs w.check.epoch x.class ≡ Some ch.before = ap (λ z. part_at v.epochs z x.class) (sym same) ∙ ap (λ z. part_at v.epochs z x.class) (sym h.epoch_is) ∙ ap (part_at v.epochs e) (sym h.class_is) ∙ ch.was in
+        ap (λ z. key_of x.question z.row.lookups) (sym h.part_is) ∙ ap (key_of x.question) ch.change.lookups_are ∙ key_kept x.question gone ch.before.row.lookups u.left
+        ∙ i.keyed.keys n w.check x ch.before w.was u.was at_before)
         (λ o. i.keyed.keys n w.check x p w.was u.was (ap (λ z. part_at v.epochs z x.class) (sym same) ∙ o.was))
 
 -- a class of the state after it

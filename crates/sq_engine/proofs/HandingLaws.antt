@@ -200,7 +200,7 @@ pub same_between : (e c : ℕ) (R S : PartState → PartState → Type 0) (old m
 same_between e c R S old mid new i j = same_Some j.before i.after (sym j.was ∙ (part_changed e c R old mid i).here)
 
 -- homes and stops beside it are others
-pub changed_beside : (e c : ℕ) (R : PartState → PartState → Type 0) (old new : EpochsState) (homes : List Home) (stops : List ℕ) → IsChanged e c R old new
+abbrev pub changed_beside : (e c : ℕ) (R : PartState → PartState → Type 0) (old new : EpochsState) (homes : List Home) (stops : List ℕ) → IsChanged e c R old new
     → IsChanged e c R (record old { homes = homes; stops = stops }) (record new { homes = homes; stops = stops })
 changed_beside e c R old new homes stops i = record {
   before = i.before;

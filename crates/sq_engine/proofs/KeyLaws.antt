@@ -223,7 +223,7 @@ keyed_resolved old new cs t e c n puts key class said check a below found epoch 
             ∙ ap Some (sym u.key_is)
         by false y was = two_ways (part_found e c ch.before ch.after old new k j.epoch x.class p at)
             (λ h.
-                let at_before : part_at old j.epoch x.class ≡ Some ch.before = ap (λ z. part_at old z x.class) (sym h.epoch_is) ∙ ap (part_at old e) (sym h.class_is) ∙ ch.was in
-                ap (λ z. key_of x.question z.row.lookups) (sym h.part_is) ∙ ap (λ r. key_of x.question r.lookups) row
-                ∙ key_still puts s.put (with_took c s.took ch.before.row) x.question x.key (a.keys m j x ch.before was need at_before))
+            let at_before : part_at old j.epoch x.class ≡ Some ch.before = ap (λ z. part_at old z x.class) (sym h.epoch_is) ∙ ap (part_at old e) (sym h.class_is) ∙ ch.was in
+            ap (λ z. key_of x.question z.row.lookups) (sym h.part_is) ∙ ap (λ r. key_of x.question r.lookups) row
+            ∙ key_still puts s.put (with_took c s.took ch.before.row) x.question x.key (a.keys m j x ch.before was need at_before))
             (λ o. a.keys m j x p was need o.was)

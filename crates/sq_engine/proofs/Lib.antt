@@ -15,8 +15,18 @@ mod KeyLaws
 mod LostLaws
 mod EndedLaws
 mod AskingLaws
+mod LosingLaws
 mod NowLaws
 mod CountLaws
+mod EndingLaws
+pub mod PromiseLaws
+mod ReaderLaws
+mod QuietLaws
+mod StartedLaws
+mod ReplyLaws
+mod GiveLaws
+mod LineLaws
+mod RepliedLaws
 mod LeavingLaws
 mod OverLaws
 mod TakeLaws

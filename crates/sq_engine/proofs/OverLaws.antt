@@ -19,7 +19,7 @@ use Rattle.sq_checks.specs.OpenChecks.{AreAlone, CheckParts, all_before, row, ro
 use Rattle.sq_checks.specs.Stages.{need_in}
 use Rattle.sq_checks.specs.Tables.{value_at}
 use Rattle.sq_checks.specs.declared.stages.Need.{Need}
-use Rattle.sq_epochs.proofs.EndLaws.{epoch_counted, epoch_dropped, if_there, is_gone, part_dropped}
+use Rattle.sq_epochs.proofs.EndLaws.{epoch_counted, epoch_dropped, if_there, is_gone}
 use Rattle.sq_epochs.proofs.OverLaws.{config_ended, home_ended, row_ended, stop_ended}
 use Rattle.sq_epochs.specs.EpochProcs.{AreHomed}
 use Rattle.sq_epochs.specs.EpochStates.{EpochState, EpochsState, change_epoch, epoch_at, home_at, part_at, part_of, row_at}

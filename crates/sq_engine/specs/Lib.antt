@@ -2,5 +2,7 @@
 pub mod EngineViews
 pub mod Engines
 pub mod Handing
+pub mod Lines
+pub mod Promised
 pub mod Stepping
 pub mod Tellings

@@ -7,11 +7,15 @@
 #![tactic(auto)]
 
 mod asking;
+mod deaths;
 mod ending;
 mod engines;
 mod handing;
+mod lines;
 mod opening;
+mod readers;
 mod sighting;
+mod starts;
 mod stepping;
 
 pub use engines::Engine;

@@ -84,6 +84,14 @@ impl Epochs {
         self.epochs.len()
     }
 
+    /// How many processes were started.
+    pub fn procs(&self) -> u64
+        ensures value { result ≡ self.now.procs }
+        ensures few { result < 2 ^ 63 }
+    {
+        self.homes.given()
+    }
+
     /// How many processes of live epochs live.
     pub fn living(&self) -> usize
         ensures { result ≡ length self.now.homes }

@@ -1,5 +1,5 @@
 //! `Homes`: of which epoch and class each living process is, and for which processes a stop is due.
-ghost use Rattle.std.specs.Prelude.{◌≡◌, ◌≤◌, ◌<◌, ◌+◌, ◌++◌, ◌∷◌, ◌==◌, [], ℕ, suc, true, None, drop, length, map, nat_lt, if◌then◌else◌, is_some, Some, IfSome, OnOk};
+ghost use Rattle.std.specs.Prelude.{◌≡◌, ◌≤◌, ◌<◌, ◌+◌, ◌++◌, ◌∷◌, ◌==◌, [], ℕ, suc, true, None, drop, length, map, nat_lt, if◌then◌else◌, is_some, Some, IfSome, OnOk, ◌^◌};
 ghost use Rattle.std.specs.Option.{option_map};
 ghost use Rattle.sq_epochs.specs.HomeStates.{AreHomes, home_in, home_number, is_of_epoch, other_homes, procs_of, with_number, with_numbers, without_home};
 ghost use Rattle.sq_rules.specs.DueActs.{first_of};
@@ -111,6 +111,14 @@ impl Homes {
         ensures { AreHomes self.now.given self.now.homes self.now.stops }
     {
         let _given = self.given;
+    }
+
+    /// How many processes were numbered.
+    pub fn given(&self) -> u64
+        ensures value { result ≡ self.now.given }
+        ensures few { result < 2 ^ 63 }
+    {
+        self.given
     }
 
     /// How many processes live.

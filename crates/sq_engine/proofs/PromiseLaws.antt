@@ -1,0 +1,104 @@
+-- From what a call answers and leaves by the machine's state to what is promised of it.
+use Rattle.std.proofs.Common.{◌≡◌, ◌∙◌, ℕ, suc, ◌≤◌, List, Bool, true, false, Option, None, Some, Result, Ok, Err, is_some, OnOk, refl, ap, sym}
+use Rattle.sq_base.specs.Addresses.{Address}
+use Rattle.sq_base.specs.Targets.{target_of}
+use Rattle.sq_base.specs.declared.helpers.Cause.TheVariants as cause
+use Rattle.sq_base.specs.declared.requests.Field.{Field}
+use Rattle.sq_rules.specs.declared.entries.Event.{Event}
+use Rattle.sq_rules.specs.declared.entries.Event.TheVariants.{Ask, Close, Died, Open, Reconfigure, StartFail, Started, Take}
+use Rattle.sq_rules.specs.declared.entries.Told.{Told}
+use Rattle.sq_rules.specs.declared.entries.Told.TheVariants as told
+use Rattle.sq_rules.specs.declared.refusals.Refusal.{Refusal}
+use Rattle.sq_rules.specs.declared.refusals.Refusal.TheVariants as refusal
+use Rattle.sq_rules.specs.Classes.{Class}
+use Rattle.sq_rules.specs.Configurations.{Configuration}
+use Rattle.sq_rules.specs.DueActs.{Place}
+use Rattle.sq_rules.specs.Entries.{History}
+use Rattle.sq_rules.specs.Epochs.{class_at}
+use Rattle.sq_rules.specs.FullNext.{full_next}
+use Rattle.sq_rules.specs.Machine.{Next, config_of, gives, refuses}
+use Rattle.sq_rules.specs.Marking.{marked}
+use Rattle.sq_rules.specs.Readings.{latest}
+use Rattle.sq_state.specs.Answers.{ask_answer, asked_in, close_answer, died_answer, failed_answer, name_in, open_answer, reconfigure_answer, started_answer, take_answer}
+use Rattle.sq_state.specs.Changes.{after_ask, after_close, after_end_at, after_failed_at, after_open, after_reconfigured, after_started_at, after_take}
+use Rattle.sq_state.specs.Promises.{IsAnswered, StandsFor}
+use Rattle.sq_state.specs.States.{IsSame, State}
+use Rattle.sq_state.proofs.ActPromises.{failed_answered, reconfigure_answered, started_answered}
+use Rattle.sq_state.proofs.ConnStands.{ask_next, close_next, open_next, take_next}
+use Rattle.sq_state.proofs.LinePromises.{died_answered, died_told}
+use Rattle.sq_state.proofs.PromiseLaws.{answered_same, ask_answered, close_answered, law_of, next_now, open_answered, take_answered}
+use Rattle.sq_state.proofs.StartStands.{failed_next, started_next}
+use Rattle.sq_engine.specs.Promised.{IsPromised, IsPromisedAt}
+use Rattle.sq_engine.specs.Tellings.{IsTold}
+
+-- where the machine answers so by the state, and such an answer leaves what stands for the history with it
+pub by_laws : {A : Type 0} (tell : A → Told) (s new after : State) (next : Next) (now : ℕ) (event : Event) (r : Result A Refusal) → IsTold tell next r → OnOk r (IsSame new after)
+    → ((configs : List Configuration) (h : History) → StandsFor configs h s → latest h ≤ now → full_next configs (marked configs h) now event ≡ next)
+    → ((answer : Told) → next ≡ gives answer → (configs : List Configuration) (h : History) → StandsFor configs h s → latest h ≤ now → IsAnswered configs h now event answer after)
+    → IsPromised tell s now event r new
+by_laws tell s new after next now event (Ok a) t ok law answered = λ configs h st late. answered_same configs h after new now event (tell a) ok (answered (tell a) t configs h st late)
+by_laws tell s new after next now event (Err refusal.WantOfMemory) t ok law answered = tt
+by_laws tell s new after next now event (Err r) t ok law answered = λ configs h st late. law configs h st late ∙ t
+
+-- the same of an event that names a class
+pub by_laws_at : {A : Type 0} (tell : A → Told) (s new after : State) (next : Next) (now : ℕ) (event : ℕ → List ℕ → Event) (p : Place) (r : Result A Refusal) → IsTold tell next r → OnOk r (IsSame new after)
+    → ((configs : List Configuration) (h : History) (class : Class) → StandsFor configs h s → latest h ≤ now → class_at configs p.epoch p.class ≡ Some class
+    → full_next configs (marked configs h) now (event p.epoch class.name) ≡ next)
+    → ((answer : Told) → next ≡ gives answer → (configs : List Configuration) (h : History) → StandsFor configs h s → latest h ≤ now → IsAnswered configs h now (event p.epoch (name_in s p)) answer after)
+    → IsPromisedAt tell s now event p r new
+by_laws_at tell s new after next now event p (Ok a) t ok law answered = λ configs h st late. answered_same configs h after new now (event p.epoch (name_in s p)) (tell a) ok (answered (tell a) t configs h st late)
+by_laws_at tell s new after next now event p (Err refusal.WantOfMemory) t ok law answered = tt
+by_laws_at tell s new after next now event p (Err r) t ok law answered = λ configs h class st late at. law configs h class st late at ∙ t
+
+pub open_promised : {A : Type 0} (s new : State) (now c : ℕ) (addr : Address) (port : ℕ) (r : Result A Refusal) → IsTold (λ x. told.Fine) (open_answer s c) r
+    → OnOk r (IsSame new (after_open c (record { addr = addr; port = port }) now s)) → IsPromised (λ x. told.Fine) s now (Open c addr port) r new
+open_promised s new now c addr port r t ok =
+    by_laws (λ x. told.Fine) s new (after_open c (record { addr = addr; port = port }) now s) (open_answer s c) now (Open c addr port) r t ok
+    (λ configs h st late. next_now configs h now (Open c addr port) late ∙ open_next configs (marked configs h) s now c addr port st.stands)
+    (λ answer is configs h st late. open_answered configs h s now c addr port answer st late is)
+
+pub close_promised : {A : Type 0} (s new : State) (now c : ℕ) (r : Result A Refusal) → IsTold (λ x. told.Fine) (close_answer s c) r → OnOk r (IsSame new (after_close c now s))
+    → IsPromised (λ x. told.Fine) s now (Close c) r new
+close_promised s new now c r t ok =
+    by_laws (λ x. told.Fine) s new (after_close c now s) (close_answer s c) now (Close c) r t ok
+    (λ configs h st late. next_now configs h now (Close c) late ∙ close_next configs (marked configs h) s now c st.stands)
+    (λ answer is configs h st late. close_answered configs h s now c answer st late is)
+
+-- where the target of the request has its form
+pub ask_promised : {A : Type 0} (tell : A → Told) (s new : State) (now c : ℕ) (method target : List ℕ) (fields : List Field) (r : Result A Refusal) → is_some (target_of method target) ≡ true
+    → IsTold tell (ask_answer s c) r → OnOk r (IsSame new (after_ask (asked_in s now c method target fields) now s)) → IsPromised tell s now (Ask c method target fields) r new
+ask_promised tell s new now c method target fields r formed t ok =
+    by_laws tell s new (after_ask (asked_in s now c method target fields) now s) (ask_answer s c) now (Ask c method target fields) r t ok
+    (λ configs h st late. next_now configs h now (Ask c method target fields) late ∙ ask_next configs (marked configs h) s now c method target fields (law_of configs h s st).alone st.stands)
+    (λ answer is configs h st late. ask_answered configs h s now c method target fields answer st late formed is)
+
+pub take_promised : {A : Type 0} (tell : A → Told) (s new : State) (now n : ℕ) (r : Result A Refusal) → IsTold tell (take_answer s n) r → OnOk r (IsSame new (after_take n now s))
+    → IsPromised tell s now (Take n) r new
+take_promised tell s new now n r t ok =
+    by_laws tell s new (after_take n now s) (take_answer s n) now (Take n) r t ok
+    (λ configs h st late. next_now configs h now (Take n) late ∙ take_next configs (marked configs h) s now n st.stands)
+    (λ answer is configs h st late. take_answered configs h s now n answer st late is)
+
+pub started_promised : {A : Type 0} (tell : A → Told) (s new : State) (now : ℕ) (p : Place) (r : Result A Refusal) → IsTold tell (started_answer s p) r → OnOk r (IsSame new (after_started_at p now s))
+    → IsPromisedAt tell s now Started p r new
+started_promised tell s new now p r t ok =
+    by_laws_at tell s new (after_started_at p now s) (started_answer s p) now Started p r t ok
+    (λ configs h class st late at. next_now configs h now (Started p.epoch class.name) late ∙ started_next configs (marked configs h) s now p class (law_of configs h s st).once st.stands at)
+    (λ answer is configs h st late. started_answered configs h s now p answer st late is)
+
+pub failed_promised : {A : Type 0} (s new : State) (now : ℕ) (p : Place) (r : Result A Refusal) → IsTold (λ x. told.Fine) (failed_answer s p) r → OnOk r (IsSame new (after_failed_at p now s))
+    → IsPromisedAt (λ x. told.Fine) s now StartFail p r new
+failed_promised s new now p r t ok =
+    by_laws_at (λ x. told.Fine) s new (after_failed_at p now s) (failed_answer s p) now StartFail p r t ok
+    (λ configs h class st late at. next_now configs h now (StartFail p.epoch class.name) late ∙ failed_next configs (marked configs h) s now p class (law_of configs h s st).once st.stands at)
+    (λ answer is configs h st late. failed_answered configs h s now p answer st late is)
+
+pub died_promised : {A : Type 0} (s new : State) (now k : ℕ) (r : Result A Refusal) → IsTold (λ x. told.Fine) (died_answer s k) r
+    → OnOk r ((p : Place) → s.home k ≡ Some p → IsSame new (after_end_at p k cause.Died false now s)) → IsPromised (λ x. told.Fine) s now (Died k) r new
+died_promised s new now k (Ok a) t ok = λ configs h st late. by (s.home k) refl t configs h st late
+  where
+    by : (o : Option Place) → s.home k ≡ o → died_answer s k ≡ gives told.Fine → (configs : List Configuration) (h : History) → StandsFor configs h s → latest h ≤ now → IsAnswered configs h now (Died k) told.Fine new
+    by None is t configs h st late = absurd (let e : refuses (refusal.UnknownProc k) ≡ gives told.Fine = rw is at t in cc)
+    by (Some p) is t configs h st late = answered_same configs h (after_end_at p k cause.Died false now s) new now (Died k) told.Fine (ok p is) (died_answered configs h s now k p st late is)
+died_promised s new now k (Err refusal.WantOfMemory) t ok = tt
+died_promised s new now k (Err r) t ok = λ configs h st late. died_told configs h s now k st late ∙ t

@@ -1,0 +1,49 @@
+//! What can be read of the machine.
+ghost use Rattle.std.specs.Prelude.{◌≡◌, length};
+ghost use Rattle.std.specs.Arc.{arc_value};
+ghost use Rattle.std.specs.Option.{option_map};
+ghost use Rattle.sq_state.specs.Says.{class_in};
+ghost use Rattle.sq_engine.specs.EngineViews.{state_of};
+
+use crate::engines::Engine;
+use sq_base::{EpochNo, Moment, Text};
+use sq_rules::{Class, Config};
+use std::sync::Arc;
+
+impl Engine {
+    /// How many epochs live. It takes no memory, nor does any other reader.
+    pub fn epochs(&self) -> usize
+        ensures { result ≡ length self.now.epochs.epochs }
+    {
+        self.epochs.len()
+    }
+
+    /// The greatest moment so far.
+    pub fn latest(&self) -> Moment
+        ensures { result ≡ self.now.latest }
+    {
+        self.latest
+    }
+
+    /// The configuration of a live epoch, lent.
+    pub fn config(&self, epoch: EpochNo) -> Option<&Arc<Config>>
+        ensures { option_map (λ c. arc_value c.now) result ≡ (state_of self.now).config epoch }
+    {
+        self.epochs.config(epoch)
+    }
+
+    /// The class at a place of a live epoch, lent.
+    pub fn class(&self, epoch: EpochNo, class: u32) -> Option<&Class>
+        ensures { option_map (λ c. c.now) result ≡ class_in (state_of self.now) epoch class }
+    {
+        self.epochs.class(epoch, class)
+    }
+
+    /// The name of a class of a live epoch, lent.
+    pub fn name(&self, epoch: EpochNo, class: u32) -> Option<&Text>
+        ensures { option_map (λ t. t.now) result ≡ option_map (λ c. c.name) (class_in (state_of self.now) epoch class) }
+    {
+        let class = self.class(epoch, class)?;
+        Some(&class.name)
+    }
+}
