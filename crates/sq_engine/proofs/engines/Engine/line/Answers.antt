@@ -16,7 +16,7 @@ look-requires-clause-there c =
     let v : EngineView = record { conns = c.self.inside.conns; checks = c.self.inside.checks; asks = c.self.inside.asks; puts = c.self.inside.puts; epochs = c.self.inside.epochs; setup = c.self.inside.setup; offset = c.self.inside.offset; latest = c.self.inside.latest } in
     let e = c.home-2.inside.epoch in
     let d = c.home-2.inside.class in
-    let home : home_at v.epochs c.args.proc ≡ Some (record { epoch = e; class = d }) = sym (ap (λ h. Some h.place) c.home-2.view_is ∙ c.in-Some.ensures) in
+    let home : home_at v.epochs c.args.proc ≡ Some (record { epoch = e; class = d }) = sym (ap (λ h. Some h.place) c.home-2.view_is ∙ c.in-Some.ensures.place) in
     home_there v e d c.args.proc c.facts.ensures.homed home
 
 pub look-requires-clause-alive : goal.look-requires-clause-alive
@@ -24,7 +24,7 @@ look-requires-clause-alive c =
     let v : EngineView = record { conns = c.self.inside.conns; checks = c.self.inside.checks; asks = c.self.inside.asks; puts = c.self.inside.puts; epochs = c.self.inside.epochs; setup = c.self.inside.setup; offset = c.self.inside.offset; latest = c.self.inside.latest } in
     let e = c.home-2.inside.epoch in
     let d = c.home-2.inside.class in
-    let home : home_at v.epochs c.args.proc ≡ Some (record { epoch = e; class = d }) = sym (ap (λ h. Some h.place) c.home-2.view_is ∙ c.in-Some.ensures) in
+    let home : home_at v.epochs c.args.proc ≡ Some (record { epoch = e; class = d }) = sym (ap (λ h. Some h.place) c.home-2.view_is ∙ c.in-Some.ensures.place) in
     home_alive v e d c.args.proc c.facts.ensures.homed home
 
 pub reply-requires-clause-there : goal.reply-requires-clause-there
@@ -32,7 +32,7 @@ reply-requires-clause-there c =
     let v : EngineView = record { conns = c.self.inside.conns; checks = c.self.inside.checks; asks = c.self.inside.asks; puts = c.self.inside.puts; epochs = c.self.inside.epochs; setup = c.self.inside.setup; offset = c.self.inside.offset; latest = c.self.inside.latest } in
     let e = c.home-2.inside.epoch in
     let d = c.home-2.inside.class in
-    let home : home_at v.epochs c.args.proc ≡ Some (record { epoch = e; class = d }) = sym (ap (λ h. Some h.place) c.home-2.view_is ∙ c.in-Some.ensures) in
+    let home : home_at v.epochs c.args.proc ≡ Some (record { epoch = e; class = d }) = sym (ap (λ h. Some h.place) c.home-2.view_is ∙ c.in-Some.ensures.place) in
     ap (λ z. is_some (part_at z.epochs e d)) (sym c.self.view_is) ∙ home_there v e d c.args.proc c.facts.ensures.homed home
 
 pub reply-requires-clause-opened : goal.reply-requires-clause-opened
@@ -46,7 +46,7 @@ returns-in-Bad-clause-told c =
     let v : EngineView = record { conns = c.self.inside.conns; checks = c.self.inside.checks; asks = c.self.inside.asks; puts = c.self.inside.puts; epochs = c.self.inside.epochs; setup = c.self.inside.setup; offset = c.self.inside.offset; latest = c.self.inside.latest } in
     let e = c.home-2.inside.epoch in
     let d = c.home-2.inside.class in
-    let home : home_at v.epochs c.args.proc ≡ Some (record { epoch = e; class = d }) = sym (ap (λ h. Some h.place) c.home-2.view_is ∙ c.in-Some.ensures) in
+    let home : home_at v.epochs c.args.proc ≡ Some (record { epoch = e; class = d }) = sym (ap (λ h. Some h.place) c.home-2.view_is ∙ c.in-Some.ensures.place) in
     let x = at_home v e d c.args.proc c.facts.ensures.homed home in
     subst (λ z. line_answer (state_of z) c.args.proc c.args.bytes.now ≡ gives told.Bad) c.self.view_is
     (line_got v e d c.args.proc c.args.bytes.now got.Bad x.part home x.is (c.in-Ok.ensures x.part x.is ∙ ap Some c.in-Bad.is))
@@ -56,7 +56,7 @@ returns-in-Bad-clause-ok c =
     let v : EngineView = record { conns = c.self.inside.conns; checks = c.self.inside.checks; asks = c.self.inside.asks; puts = c.self.inside.puts; epochs = c.self.inside.epochs; setup = c.self.inside.setup; offset = c.self.inside.offset; latest = c.self.inside.latest } in
     let e = c.home-2.inside.epoch in
     let d = c.home-2.inside.class in
-    let home : home_at v.epochs c.args.proc ≡ Some (record { epoch = e; class = d }) = sym (ap (λ h. Some h.place) c.home-2.view_is ∙ c.in-Some.ensures) in
+    let home : home_at v.epochs c.args.proc ≡ Some (record { epoch = e; class = d }) = sym (ap (λ h. Some h.place) c.home-2.view_is ∙ c.in-Some.ensures.place) in
     record {
       place = record { epoch = e; class = d };
       home_is = ap (λ z. home_at z.epochs c.args.proc) (sym c.self.view_is) ∙ home;
@@ -69,7 +69,7 @@ returns-in-Stray-clause-told c =
     let v : EngineView = record { conns = c.self.inside.conns; checks = c.self.inside.checks; asks = c.self.inside.asks; puts = c.self.inside.puts; epochs = c.self.inside.epochs; setup = c.self.inside.setup; offset = c.self.inside.offset; latest = c.self.inside.latest } in
     let e = c.home-2.inside.epoch in
     let d = c.home-2.inside.class in
-    let home : home_at v.epochs c.args.proc ≡ Some (record { epoch = e; class = d }) = sym (ap (λ h. Some h.place) c.home-2.view_is ∙ c.in-Some.ensures) in
+    let home : home_at v.epochs c.args.proc ≡ Some (record { epoch = e; class = d }) = sym (ap (λ h. Some h.place) c.home-2.view_is ∙ c.in-Some.ensures.place) in
     let x = at_home v e d c.args.proc c.facts.ensures.homed home in
     subst (λ z. line_answer (state_of z) c.args.proc c.args.bytes.now ≡ gives told.Stray) c.self.view_is
     (line_got v e d c.args.proc c.args.bytes.now got.Stray x.part home x.is (c.in-Ok.ensures x.part x.is ∙ ap Some c.in-Stray.is))
@@ -79,7 +79,7 @@ returns-in-Stray-clause-ok c =
     let v : EngineView = record { conns = c.self.inside.conns; checks = c.self.inside.checks; asks = c.self.inside.asks; puts = c.self.inside.puts; epochs = c.self.inside.epochs; setup = c.self.inside.setup; offset = c.self.inside.offset; latest = c.self.inside.latest } in
     let e = c.home-2.inside.epoch in
     let d = c.home-2.inside.class in
-    let home : home_at v.epochs c.args.proc ≡ Some (record { epoch = e; class = d }) = sym (ap (λ h. Some h.place) c.home-2.view_is ∙ c.in-Some.ensures) in
+    let home : home_at v.epochs c.args.proc ≡ Some (record { epoch = e; class = d }) = sym (ap (λ h. Some h.place) c.home-2.view_is ∙ c.in-Some.ensures.place) in
     record {
       place = record { epoch = e; class = d };
       home_is = ap (λ z. home_at z.epochs c.args.proc) (sym c.self.view_is) ∙ home;
@@ -92,7 +92,7 @@ returns-in-Ok-reply-clause-told c =
     let v : EngineView = record { conns = c.self.inside.conns; checks = c.self.inside.checks; asks = c.self.inside.asks; puts = c.self.inside.puts; epochs = c.self.inside.epochs; setup = c.self.inside.setup; offset = c.self.inside.offset; latest = c.self.inside.latest } in
     let e = c.home-2.inside.epoch in
     let d = c.home-2.inside.class in
-    let home : home_at v.epochs c.args.proc ≡ Some (record { epoch = e; class = d }) = sym (ap (λ h. Some h.place) c.home-2.view_is ∙ c.in-Some.ensures) in
+    let home : home_at v.epochs c.args.proc ≡ Some (record { epoch = e; class = d }) = sym (ap (λ h. Some h.place) c.home-2.view_is ∙ c.in-Some.ensures.place) in
     let x = at_home v e d c.args.proc c.facts.ensures.homed home in
     subst (λ z. line_answer (state_of z) c.args.proc c.args.bytes.now ≡ gives (told.Reply c.in-Reply.question c.in-Reply.reply.word)) c.self.view_is
     (line_got v e d c.args.proc c.args.bytes.now (got.Reply c.in-Reply.question c.in-Reply.reply) x.part home x.is (c.in-Ok.ensures x.part x.is ∙ ap Some c.in-Reply.is))
