@@ -9,9 +9,10 @@ use Rattle.sq_body.specs.Bodies.{Walk, body_of, is_whole_body, is_refused}
 use Rattle.sq_outside.specs.Causes.{count_limit}
 use Rattle.sq_outside.specs.Output.{IsPrefix, Grew}
 use Rattle.sq_outside.proofs.Writing.{IsPrefix_refl, IsPrefix_nil, IsPrefix_after, IsPrefix_more, Grew_whole}
+use Rattle.sq_head.specs.ReplyHeads.{reply_head_out}
 use Rattle.sq_head.specs.RequestHeads.{head_out, is_chunked}
 use Rattle.sq_head.specs.declared.replies.ReplyHead.{ReplyHead}
-use Rattle.sq_forward.specs.Exchanges.{answered, continue_part, interim_texts, replied, replied_if, Fronts, EndsExchange, Exchanges, ExchangeHasCause}
+use Rattle.sq_forward.specs.Exchanges.{shape_of, answered, continue_part, interim_texts, replied, replied_if, Fronts, EndsExchange, Exchanges, ExchangeHasCause}
 use Rattle.sq_forward.specs.Leading.{LeadsReply, LeadHasCause, PaysHeads, SentReply, SendsReply}
 use Rattle.sq_forward.specs.Meters.{granted_after, PaysAll, PaysPart, piece_limit}
 use Rattle.sq_forward.specs.Replies.{Reading, IsReading}
@@ -69,39 +70,39 @@ fronts_after own text origin rest xend seated a b e c d g h spare w p v =
     }
 
 -- a fault before the reply
-fault_ends : (own origin rest : List ℕ) (xend : Exchanged) (body : Walk) (reply : List ℕ) (seated : Bool) (left a b c d : Option (List ℕ)) (g : ℕ) (failed : Type 0) (end : Exchanged)
+fault_ends : (r : HttpRequest) (own origin rest : List ℕ) (xend : Exchanged) (body : Walk) (reply : List ℕ) (seated : Bool) (left a b c d : Option (List ℕ)) (g : ℕ) (failed : Type 0) (end : Exchanged)
     → g ≤ count_limit → SentSo own origin body left a b c d (Some end) → (end ≡ NoReply → failed) → (end ≡ Cut → ⊥) → (end ≡ BadBody → ⊥)
-    → EndsExchange (record { own = own; client = []; origin = origin; rest = rest; end = xend }) [] reply seated left a b c d g g failed end
-fault_ends own origin rest xend body reply seated left a b c d g failed NoReply few s f i j =
-    inr (f refl, record { client = subst (Appends a b) (sym (append-nil own)) s.0; granted = granted_none seated g few; origin = s.1 })
-fault_ends own origin rest xend body reply seated left a b c d g failed ClientFault few s f i j = fronts_own own origin rest xend seated a b c d g piece_limit few s.0 s.1
-fault_ends own origin rest xend body reply seated left a b c d g failed WantOfMemory few s f i j = fronts_own own origin rest xend seated a b c d g 0 few s.0 s.1
-fault_ends own origin rest xend body reply seated left a b c d g failed Cut few s f i j = absurd (i refl)
-fault_ends own origin rest xend body reply seated left a b c d g failed BadBody few s f i j = absurd (j refl)
-fault_ends own origin rest xend body reply seated left a b c d g failed Kept few s f i j = absurd s
-fault_ends own origin rest xend body reply seated left a b c d g failed Closed few s f i j = absurd s
-fault_ends own origin rest xend body reply seated left a b c d g failed OriginCut few s f i j = absurd s
-fault_ends own origin rest xend body reply seated left a b c d g failed OriginFault few s f i j = absurd s
-fault_ends own origin rest xend body reply seated left a b c d g failed Starved few s f i j = absurd s
+    → EndsExchange r nothing (record { own = own; client = []; origin = origin; rest = rest; end = xend }) [] reply seated left a b c d g g failed end
+fault_ends r own origin rest xend body reply seated left a b c d g failed NoReply few s f i j =
+    inr (f refl, record { headless = refl; client = subst (Appends a b) (sym (append-nil own)) s.0; granted = granted_none seated g few; origin = s.1 })
+fault_ends r own origin rest xend body reply seated left a b c d g failed ClientFault few s f i j = fronts_own own origin rest xend seated a b c d g piece_limit few s.0 s.1
+fault_ends r own origin rest xend body reply seated left a b c d g failed WantOfMemory few s f i j = fronts_own own origin rest xend seated a b c d g 0 few s.0 s.1
+fault_ends r own origin rest xend body reply seated left a b c d g failed Cut few s f i j = absurd (i refl)
+fault_ends r own origin rest xend body reply seated left a b c d g failed BadBody few s f i j = absurd (j refl)
+fault_ends r own origin rest xend body reply seated left a b c d g failed Kept few s f i j = absurd s
+fault_ends r own origin rest xend body reply seated left a b c d g failed Closed few s f i j = absurd s
+fault_ends r own origin rest xend body reply seated left a b c d g failed OriginCut few s f i j = absurd s
+fault_ends r own origin rest xend body reply seated left a b c d g failed OriginFault few s f i j = absurd s
+fault_ends r own origin rest xend body reply seated left a b c d g failed Starved few s f i j = absurd s
 
 -- whether its body is complete or not
 by_whole : (r : HttpRequest) (own origin : List ℕ) (body : Walk) (reply : List ℕ) (seated : Bool) (left a b c d : Option (List ℕ)) (g : ℕ) (failed : Type 0) (end : Exchanged)
-    → g ≤ count_limit → SentSo own origin body left a b c d (Some end) → (end ≡ NoReply → failed) → (end ≡ Cut → ⊥) → (end ≡ BadBody → ⊥) → EndsExchange (answered r own origin body nothing) [] reply seated left a b c d g g failed end
+    → g ≤ count_limit → SentSo own origin body left a b c d (Some end) → (end ≡ NoReply → failed) → (end ≡ Cut → ⊥) → (end ≡ BadBody → ⊥) → EndsExchange r nothing (answered r own origin body nothing) [] reply seated left a b c d g g failed end
 by_whole r own origin body reply seated left a b c d g failed end few s f i j = by (is_whole_body body.place) refl
   where
-    by : (t : Bool) → is_whole_body body.place ≡ t → EndsExchange (answered r own origin body nothing) [] reply seated left a b c d g g failed end
+    by : (t : Bool) → is_whole_body body.place ≡ t → EndsExchange r nothing (answered r own origin body nothing) [] reply seated left a b c d g g failed end
     by true e =
-        subst (λ x. EndsExchange x [] reply seated left a b c d g g failed end) (sym (answered_whole r own origin body nothing e))
-        (fault_ends own origin body.rest NoReply body reply seated left a b c d g failed end few s f i j)
+        subst (λ x. EndsExchange r nothing x [] reply seated left a b c d g g failed end) (sym (answered_whole r own origin body nothing e))
+        (fault_ends r own origin body.rest NoReply body reply seated left a b c d g failed end few s f i j)
     by false e =
-        subst (λ x. EndsExchange x [] reply seated left a b c d g g failed end) (sym (answered_short r own origin body nothing e))
-        (fault_ends own origin [] (if is_refused body.place then BadBody else Cut) body reply seated left a b c d g failed end few s f i j)
+        subst (λ x. EndsExchange r nothing x [] reply seated left a b c d g g failed end) (sym (answered_short r own origin body nothing e))
+        (fault_ends r own origin [] (if is_refused body.place then BadBody else Cut) body reply seated left a b c d g failed end few s f i j)
 
 -- the request did not go out whole
 unsent_ends : (r : HttpRequest) (own origin : List ℕ) (body : Walk) (reply : List ℕ) (seated : Bool) (left a b c d : Option (List ℕ)) (g : ℕ) (failed : Type 0) (end : Exchanged)
-    → g ≤ count_limit → SentSo own origin body left a b c d (Some end) → (end ≡ NoReply → failed) → EndsExchange (answered r own origin body nothing) [] reply seated left a b c d g g failed end
+    → g ≤ count_limit → SentSo own origin body left a b c d (Some end) → (end ≡ NoReply → failed) → EndsExchange r nothing (answered r own origin body nothing) [] reply seated left a b c d g g failed end
 unsent_ends r own origin body reply seated left a b c d g failed Cut few s f =
-    subst (λ x. EndsExchange x [] reply seated left a b c d g g failed Cut) (sym (answered_short r own origin body nothing s.0)) (record {
+    subst (λ x. EndsExchange r nothing x [] reply seated left a b c d g g failed Cut) (sym (answered_short r own origin body nothing s.0)) (record {
       client = subst (Appends a b) (sym (append-nil own)) s.2;
       granted = granted_none seated g few;
       origin = s.3;
@@ -109,7 +110,7 @@ unsent_ends r own origin body reply seated left a b c d g failed Cut few s f =
       ends = rw s.1 refl;
     })
 unsent_ends r own origin body reply seated left a b c d g failed BadBody few s f =
-    subst (λ x. EndsExchange x [] reply seated left a b c d g g failed BadBody) (sym (answered_short r own origin body nothing s.0)) (record {
+    subst (λ x. EndsExchange r nothing x [] reply seated left a b c d g g failed BadBody) (sym (answered_short r own origin body nothing s.0)) (record {
       client = subst (Appends a b) (sym (append-nil own)) s.2;
       granted = granted_none seated g few;
       origin = s.3;
@@ -141,23 +142,23 @@ exchange_unsent r addr p (Some input) (Some reply) left a b c d seated g failed 
     }
 
 -- no reply's own head was reached
-led_ends : (own text origin : List ℕ) (rest seen reply : List ℕ) (seated : Bool) (left a b e c d : Option (List ℕ)) (g h : ℕ) (failed : Type 0) (end : Exchanged)
-    → Appends a b own → Appends c d origin → PaysHeads text seated b e g h end → (end ≡ NoReply → (seen ≡ reply) ⊎ failed)
-    → EndsExchange (record { own = own; client = text; origin = origin; rest = rest; end = NoReply }) seen reply seated left a e c d g h failed end
-led_ends own text origin rest seen reply seated left a b e c d g h failed NoReply w v p all = by (all refl)
+led_ends : (r : HttpRequest) (reading : Reading) (own text origin : List ℕ) (rest seen reply : List ℕ) (seated : Bool) (left a b e c d : Option (List ℕ)) (g h : ℕ) (failed : Type 0) (end : Exchanged)
+    → reading.final ≡ None → Appends a b own → Appends c d origin → PaysHeads text seated b e g h end → (end ≡ NoReply → (seen ≡ reply) ⊎ failed)
+    → EndsExchange r reading (record { own = own; client = text; origin = origin; rest = rest; end = NoReply }) seen reply seated left a e c d g h failed end
+led_ends r reading own text origin rest seen reply seated left a b e c d g h failed NoReply n w v p all = by (all refl)
   where
-    by : (seen ≡ reply) ⊎ failed → EndsExchange (record { own = own; client = text; origin = origin; rest = rest; end = NoReply }) seen reply seated left a e c d g h failed NoReply
+    by : (seen ≡ reply) ⊎ failed → EndsExchange r reading (record { own = own; client = text; origin = origin; rest = rest; end = NoReply }) seen reply seated left a e c d g h failed NoReply
     by (inl i) = inl (i, record { client = Appends-trans a b e own text w p.wrote; granted = p.granted; origin = v; rest = λ x. absurd cc; ends = refl })
-    by (inr f) = inr (f, record { client = Appends-trans a b e own text w p.wrote; granted = p.granted; origin = Grew_whole c d origin v })
-led_ends own text origin rest seen reply seated left a b e c d g h failed ClientFault w v p all = fronts_after own text origin rest NoReply seated a b e c d g h piece_limit w p v
-led_ends own text origin rest seen reply seated left a b e c d g h failed Starved w v p all = fronts_after own text origin rest NoReply seated a b e c d g h 0 w p v
-led_ends own text origin rest seen reply seated left a b e c d g h failed WantOfMemory w v p all = fronts_after own text origin rest NoReply seated a b e c d g h 0 w p v
-led_ends own text origin rest seen reply seated left a b e c d g h failed Kept w v p all = absurd p
-led_ends own text origin rest seen reply seated left a b e c d g h failed Closed w v p all = absurd p
-led_ends own text origin rest seen reply seated left a b e c d g h failed Cut w v p all = absurd p
-led_ends own text origin rest seen reply seated left a b e c d g h failed BadBody w v p all = absurd p
-led_ends own text origin rest seen reply seated left a b e c d g h failed OriginCut w v p all = absurd p
-led_ends own text origin rest seen reply seated left a b e c d g h failed OriginFault w v p all = absurd p
+    by (inr f) = inr (f, record { headless = n; client = Appends-trans a b e own text w p.wrote; granted = p.granted; origin = Grew_whole c d origin v })
+led_ends r reading own text origin rest seen reply seated left a b e c d g h failed ClientFault n w v p all = fronts_after own text origin rest NoReply seated a b e c d g h piece_limit w p v
+led_ends r reading own text origin rest seen reply seated left a b e c d g h failed Starved n w v p all = fronts_after own text origin rest NoReply seated a b e c d g h 0 w p v
+led_ends r reading own text origin rest seen reply seated left a b e c d g h failed WantOfMemory n w v p all = fronts_after own text origin rest NoReply seated a b e c d g h 0 w p v
+led_ends r reading own text origin rest seen reply seated left a b e c d g h failed Kept n w v p all = absurd p
+led_ends r reading own text origin rest seen reply seated left a b e c d g h failed Closed n w v p all = absurd p
+led_ends r reading own text origin rest seen reply seated left a b e c d g h failed Cut n w v p all = absurd p
+led_ends r reading own text origin rest seen reply seated left a b e c d g h failed BadBody n w v p all = absurd p
+led_ends r reading own text origin rest seen reply seated left a b e c d g h failed OriginCut n w v p all = absurd p
+led_ends r reading own text origin rest seen reply seated left a b e c d g h failed OriginFault n w v p all = absurd p
 
 pub exchange_led : (r : HttpRequest) (addr : Address) (p : BodyPlan) (first told left next a b e c d : Option (List ℕ)) (seated : Bool) (g h : ℕ) (source failed : Type 0) (end : Exchanged)
     → SendsRequest r addr p first left a b c d None → LeadsReply r seated told next b e g h source (Err end) → (source → failed)
@@ -170,17 +171,18 @@ exchange_led r addr p (Some input) (Some reply) left next a b e c d seated g h s
     let origin = head_out r addr p ++ body.out in
     let y = l.known in
     let text = interim_texts r y.interim in
-    let whole : answered r own origin body (record { interim = y.interim; final = None; rest = [] }) ≡ record { own = own; client = text; origin = origin; rest = body.rest; end = NoReply } =
-    answered_whole r own origin body (record { interim = y.interim; final = None; rest = [] }) s.known.0
+    let reading : Reading = record { interim = y.interim; final = None; rest = [] } in
+    let whole : answered r own origin body reading ≡ record { own = own; client = text; origin = origin; rest = body.rest; end = NoReply } =
+    answered_whole r own origin body reading s.known.0
     ∙ ap (λ t. record { own = own; client = t; origin = origin; rest = body.rest; end = NoReply }) (append-nil text) in
     record {
       seen = y.seen;
-      reading = record { interim = y.interim; final = None; rest = [] };
+      reading = reading;
       front = y.front;
       reads = y.reads;
       ends =
-          subst (λ x. EndsExchange x y.seen reply seated left a e c d g h failed end) (sym whole)
-          (led_ends own text origin body.rest y.seen reply seated left a b e c d g h failed end s.known.2 s.known.3 y.pays (λ i. or_failed (y.all i)));
+          subst (λ x. EndsExchange r reading x y.seen reply seated left a e c d g h failed end) (sym whole)
+          (led_ends r reading own text origin body.rest y.seen reply seated left a b e c d g h failed end refl s.known.2 s.known.3 y.pays (λ i. or_failed (y.all i)));
     }
   where
     or_failed : {A : Type 0} → A ⊎ source → A ⊎ failed
@@ -188,35 +190,46 @@ exchange_led r addr p (Some input) (Some reply) left next a b e c d seated g h s
     or_failed (inr x) = inr (f x)
 
 -- the reply was sent, as far as it goes
-sent_ends : (own front text origin rest reply : List ℕ) (xend : Exchanged) (seated : Bool) (left a b e m c d : Option (List ℕ)) (g h i : ℕ) (failed : Type 0) (end : Exchanged)
-    → left ≡ Some rest → Appends a b own → Appends c d origin → PaysAll seated front b e g h → SentReply text xend seated e m h i end
-    → EndsExchange (record { own = own; client = front ++ text; origin = origin; rest = rest; end = xend }) reply reply seated left a m c d g i failed end
-sent_ends own front text origin rest reply xend seated left a b e m c d g h i failed Kept at w v p (x, same) =
+sent_ends : (r : HttpRequest) (reading : Reading) (final : ReplyHead) (own text origin rest reply : List ℕ) (xend : Exchanged) (seated : Bool) (left a b e m c d : Option (List ℕ)) (g h i : ℕ) (failed : Type 0) (end : Exchanged)
+    → reading.final ≡ Some final → left ≡ Some rest → Appends a b own → Appends c d origin → PaysAll seated (interim_texts r reading.interim) b e g h → SentReply r final text xend seated e m h i end
+    → EndsExchange r reading (record { own = own; client = interim_texts r reading.interim ++ text; origin = origin; rest = rest; end = xend }) reply reply seated left a m c d g i failed end
+unfolding fronts_after pays_part_after
+sent_ends r reading final own text origin rest reply xend seated left a b e m c d g h i failed Kept n at w v p (x, same) =
     let all = pays_after p x in
-    (refl, record { client = Appends-trans a b m own (front ++ text) w all.wrote; granted = all.granted; origin = v; rest = λ _. at; ends = same })
-sent_ends own front text origin rest reply xend seated left a b e m c d g h i failed Closed at w v p (x, same) =
+    (refl, record { client = Appends-trans a b m own (interim_texts r reading.interim ++ text) w all.wrote; granted = all.granted; origin = v; rest = λ _. at; ends = same })
+sent_ends r reading final own text origin rest reply xend seated left a b e m c d g h i failed Closed n at w v p (x, same) =
     let all = pays_after p x in
-    (refl, record { client = Appends-trans a b m own (front ++ text) w all.wrote; granted = all.granted; origin = v; rest = λ _. at; ends = same })
-sent_ends own front text origin rest reply xend seated left a b e m c d g h i failed OriginCut at w v p (x, same) =
+    (refl, record { client = Appends-trans a b m own (interim_texts r reading.interim ++ text) w all.wrote; granted = all.granted; origin = v; rest = λ _. at; ends = same })
+sent_ends r reading final own text origin rest reply xend seated left a b e m c d g h i failed OriginCut n at w v p (x, same) =
     let all = pays_after p x in
-    (refl, record { client = Appends-trans a b m own (front ++ text) w all.wrote; granted = all.granted; origin = v; rest = λ _. at; ends = same })
-sent_ends own front text origin rest reply xend seated left a b e m c d g h i failed NoReply at w v p (x, same) =
+    (refl, record { client = Appends-trans a b m own (interim_texts r reading.interim ++ text) w all.wrote; granted = all.granted; origin = v; rest = λ _. at; ends = same })
+sent_ends r reading final own text origin rest reply xend seated left a b e m c d g h i failed NoReply n at w v p (x, same) =
     let all = pays_after p x in
-    inl (refl, record { client = Appends-trans a b m own (front ++ text) w all.wrote; granted = all.granted; origin = v; rest = λ _. at; ends = same })
-sent_ends own front text origin rest reply xend seated left a b e m c d g h i failed ClientFault at w v p x = fronts_after own (front ++ text) origin rest xend seated a b m c d g i piece_limit w (pays_part_after p x) v
-sent_ends own front text origin rest reply xend seated left a b e m c d g h i failed OriginFault at w v p x = fronts_after own (front ++ text) origin rest xend seated a b m c d g i 0 w (pays_part_after p x) v
-sent_ends own front text origin rest reply xend seated left a b e m c d g h i failed Starved at w v p x = fronts_after own (front ++ text) origin rest xend seated a b m c d g i 0 w (pays_part_after p x) v
-sent_ends own front text origin rest reply xend seated left a b e m c d g h i failed WantOfMemory at w v p x = fronts_after own (front ++ text) origin rest xend seated a b m c d g i 0 w (pays_part_after p x) v
-sent_ends own front text origin rest reply xend seated left a b e m c d g h i failed Cut at w v p x = absurd x
-sent_ends own front text origin rest reply xend seated left a b e m c d g h i failed BadBody at w v p x = absurd x
+    inl (refl, record { client = Appends-trans a b m own (interim_texts r reading.interim ++ text) w all.wrote; granted = all.granted; origin = v; rest = λ _. at; ends = same })
+sent_ends r reading final own text origin rest reply xend seated left a b e m c d g h i failed ClientFault n at w v p x = fronts_after own (interim_texts r reading.interim ++ text) origin rest xend seated a b m c d g i piece_limit w (pays_part_after p x) v
+sent_ends r reading final own text origin rest reply xend seated left a b e m c d g h i failed OriginFault n at w v p x =
+    let front = interim_texts r reading.interim in
+    let text_of = reply_head_out final (shape_of r x.plan) in
+    record {
+      head = final;
+      plan = x.plan;
+      final = n;
+      planned = x.planned;
+      fronts = fronts_after own (front ++ text) origin rest xend seated a b m c d g i 0 w (pays_part_after p x.pays) v;
+      sent = IsPrefix_after own (front ++ text_of) (front ++ x.pays.part) (IsPrefix_after front text_of x.pays.part x.sent);
+    }
+sent_ends r reading final own text origin rest reply xend seated left a b e m c d g h i failed Starved n at w v p x = fronts_after own (interim_texts r reading.interim ++ text) origin rest xend seated a b m c d g i 0 w (pays_part_after p x) v
+sent_ends r reading final own text origin rest reply xend seated left a b e m c d g h i failed WantOfMemory n at w v p x = fronts_after own (interim_texts r reading.interim ++ text) origin rest xend seated a b m c d g i 0 w (pays_part_after p x) v
+sent_ends r reading final own text origin rest reply xend seated left a b e m c d g h i failed Cut n at w v p x = absurd x
+sent_ends r reading final own text origin rest reply xend seated left a b e m c d g h i failed BadBody n at w v p x = absurd x
 
 -- the reply with its own head, where what comes behind the head is told
 sent_known : {r : HttpRequest} {head : ReplyHead} {seated : Bool} {a b : Option (List ℕ)} {g h : ℕ} {end : Exchanged} (next : Option (List ℕ)) (rest : List ℕ) → next ≡ Some rest → SendsReply r head seated next a b g h end
-    → SentReply (replied r head rest).text (replied r head rest).end seated a b g h end
+    → SentReply r head (replied r head rest).text (replied r head rest).end seated a b g h end
 sent_known {r} {head} {seated} {a} {b} {g} {h} {end} None rest e x = absurd cc
 sent_known {r} {head} {seated} {a} {b} {g} {h} {end} (Some bytes) rest e x =
     let same : bytes ≡ rest = cc in
-    subst (λ l. SentReply (replied r head l).text (replied r head l).end seated a b g h end) same x.known
+    subst (λ l. SentReply r head (replied r head l).text (replied r head l).end seated a b g h end) same x.known
 
 pub exchange_sent : (r : HttpRequest) (addr : Address) (p : BodyPlan) (first told left next a b e m c d : Option (List ℕ)) (seated now_seated : Bool) (g h i : ℕ) (source failed : Type 0) (head : ReplyHead) (end : Exchanged)
     → SendsRequest r addr p first left a b c d None → LeadsReply r seated told next b e g h source (Ok head) → now_seated ≡ seated → SendsReply r head now_seated next e m h i end
@@ -235,9 +248,9 @@ exchange_sent r addr p (Some input) (Some reply) left next a b e m c d seated no
       front = IsPrefix_refl reply;
       reads = record { heads = y.heads; more = y.more; cut = y.cut; interim = y.are; few = y.few; final = (y.begins, y.own, y.goes) };
       ends =
-          subst (λ x. EndsExchange x reply reply seated left a m c d g i failed end) (sym (answered_whole r own origin body reading s.known.0))
-          (sent_ends own (interim_texts r y.interim) (replied r head y.rest).text origin body.rest reply (replied r head y.rest).end seated left a b e m c d g h i failed end
-          s.known.1 s.known.2 s.known.3 y.pays (sent_known next y.rest y.left_is (subst (λ t. SendsReply r head t next e m h i end) same x)));
+          subst (λ x. EndsExchange r reading x reply reply seated left a m c d g i failed end) (sym (answered_whole r own origin body reading s.known.0))
+          (sent_ends r reading head own (replied r head y.rest).text origin body.rest reply (replied r head y.rest).end seated left a b e m c d g h i failed end
+          refl s.known.1 s.known.2 s.known.3 y.pays (sent_known next y.rest y.left_is (subst (λ t. SendsReply r head t next e m h i end) same x)));
     }
 
 -- the link that failed in sending the request

@@ -79,7 +79,7 @@ pays_after {seated} {front} {text} {a} {b} {d} {g} {h} {k} x y = record {
 }
 
 -- a part of a text behind another
-pub pays_part_after : {seated : Bool} {front text : List ℕ} {a b d : Option (List ℕ)} {g h k spare : ℕ} → PaysAll seated front a b g h → PaysPart seated text b d h k spare → PaysPart seated (front ++ text) a d g k spare
+unfoldable pub pays_part_after : {seated : Bool} {front text : List ℕ} {a b d : Option (List ℕ)} {g h k spare : ℕ} → PaysAll seated front a b g h → PaysPart seated text b d h k spare → PaysPart seated (front ++ text) a d g k spare
 pays_part_after {seated} {front} {text} {a} {b} {d} {g} {h} {k} {spare} x y = record {
   part = front ++ y.part;
   more = y.more;

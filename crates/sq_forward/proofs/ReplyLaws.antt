@@ -2,7 +2,7 @@
 use Rattle.std.proofs.Common.{◌≡◌, ℕ, ◌≤◌, List, ◌++◌, Bool, true, false, Option, Some, None, Ok, Err, refl, sym, subst, arith}
 use Rattle.sq_base.specs.Requests.{HttpRequest}
 use Rattle.sq_base.specs.declared.plans.BodyPlan.{BodyPlan}
-use Rattle.sq_body.specs.Bodies.{Walk, after, body_of, is_whole_body, is_refused}
+use Rattle.sq_body.specs.Bodies.{Walk, body_of, is_whole_body, is_refused}
 use Rattle.sq_outside.specs.Causes.{count_limit, Rose}
 use Rattle.sq_head.specs.BodyPlans.{reply_plan}
 use Rattle.sq_head.specs.ReplyHeads.{reply_head_out}
@@ -17,8 +17,7 @@ use Rattle.sq_forward.specs.declared.copying.Copied.{Copied}
 use Rattle.sq_forward.specs.declared.copying.Copied.TheVariants as copied
 use Rattle.sq_forward.specs.declared.exchanging.Exchanged.{Exchanged}
 use Rattle.sq_forward.specs.declared.exchanging.Exchanged.TheVariants.{ClientFault, NoReply, OriginCut, Starved, WantOfMemory}
-use Rattle.sq_forward.proofs.CopyLaws.{copies_after}
-use Rattle.sq_forward.proofs.PayLaws.{pays_none, pays_nothing, pays_part_more}
+use Rattle.sq_forward.proofs.PayLaws.{pays_none, pays_nothing, pays_after, pays_part_after, pays_part_more}
 use Rattle.sq_forward.proofs.RequestLaws.{refused_unfinished}
 
 -- the plan of its body is refused
@@ -26,7 +25,7 @@ pub reply_unplanned : (r : HttpRequest) (head : ReplyHead) (fault : bad.BadBody)
     → SendsReply r head seated first a a g g NoReply
 reply_unplanned r head fault seated None a g few e = record { known = tt }
 reply_unplanned r head fault seated (Some bytes) a g few e = record {
-  known = subst (λ p. SentReply (replied_by r head p bytes).text (replied_by r head p bytes).end seated a a g g NoReply) (sym e) (pays_none seated a g few, refl);
+  known = subst (λ p. SentReply r head (replied_by r head p bytes).text (replied_by r head p bytes).end seated a a g g NoReply) (sym e) (pays_none seated a g few, refl);
 }
 
 -- there was no memory for its head
@@ -54,9 +53,9 @@ reply_starved r head p seated (Some bytes) a b g h text e f x = record {
 }
 
 -- it is complete
-complete_by : (text : List ℕ) (closes : Bool) (end : Exchanged) (seated : Bool) (a b : Option (List ℕ)) (g h : ℕ) → PaysAll seated text a b g h → complete closes ≡ end → SentReply text end seated a b g h (complete closes)
-complete_by text true end seated a b g h x e = (x, e)
-complete_by text false end seated a b g h x e = (x, e)
+complete_by : (r : HttpRequest) (head : ReplyHead) (text : List ℕ) (closes : Bool) (end : Exchanged) (seated : Bool) (a b : Option (List ℕ)) (g h : ℕ) → PaysAll seated text a b g h → complete closes ≡ end → SentReply r head text end seated a b g h (complete closes)
+complete_by r head text true end seated a b g h x e = (x, e)
+complete_by r head text false end seated a b g h x e = (x, e)
 
 whole_end : (to_close closes : Bool) (body : Walk) → is_whole_body body.place ≡ true → complete closes ≡ body_end to_close closes body
 whole_end to_close closes body e = rw e refl
@@ -71,18 +70,21 @@ bad_end : (to_close closes : Bool) (body : Walk) → is_whole_body body.place �
 bad_end true closes body e f = rw (e, f) refl
 bad_end false closes body e f = rw e refl
 
-by_copied : (front : List ℕ) (body : Walk) (to_close closes seated : Bool) (left a b : Option (List ℕ)) (g h : ℕ) (k : Copied)
-    → CopiesBody seated (after front body) left a b g h k → SentReply (front ++ body.out) (body_end to_close closes body) seated a b g h (body_sent k to_close closes)
-by_copied front body to_close closes seated left a b g h copied.Whole x =
-    complete_by (front ++ body.out) closes (body_end to_close closes body) seated a b g h x.2 (whole_end to_close closes body x.0)
-by_copied front body true closes seated left a b g h copied.Cut x =
-    complete_by (front ++ body.out) closes (body_end true closes body) seated a b g h x.3 (cut_end closes body x.0 x.1)
-by_copied front body false closes seated left a b g h copied.Cut x = (x.3, short_end closes body x.0)
-by_copied front body to_close closes seated left a b g h copied.Bad x = (x.1, bad_end to_close closes body (refused_unfinished body.place x.0) x.0)
-by_copied front body to_close closes seated left a b g h copied.NoSource x = x
-by_copied front body to_close closes seated left a b g h copied.NoSink x = x
-by_copied front body to_close closes seated left a b g h copied.Starved x = x
-by_copied front body to_close closes seated left a b g h copied.WantOfMemory x = x
+by_copied : (r : HttpRequest) (head : ReplyHead) (p : BodyPlan) (body : Walk) (to_close closes seated : Bool) (left a b d : Option (List ℕ)) (g h i : ℕ) (k : Copied)
+    → reply_plan r.method head ≡ Ok p → PaysAll seated (reply_head_out head (shape_of r p)) a b g h → CopiesBody seated body left b d h i k
+    → SentReply r head (reply_head_out head (shape_of r p) ++ body.out) (body_end to_close closes body) seated a d g i (body_sent k to_close closes)
+unfolding pays_part_after
+by_copied r head p body to_close closes seated left a b d g h i copied.NoSource e w x =
+    record { plan = p; planned = e; pays = pays_part_after w x; sent = (x.part, refl) }
+by_copied r head p body to_close closes seated left a b d g h i copied.NoSink e w x = pays_part_after w x
+by_copied r head p body to_close closes seated left a b d g h i copied.Starved e w x = pays_part_after w x
+by_copied r head p body to_close closes seated left a b d g h i copied.WantOfMemory e w x = pays_part_after w x
+by_copied r head p body to_close closes seated left a b d g h i copied.Whole e w x =
+    complete_by r head (reply_head_out head (shape_of r p) ++ body.out) closes (body_end to_close closes body) seated a d g i (pays_after w x.2) (whole_end to_close closes body x.0)
+by_copied r head p body true closes seated left a b d g h i copied.Cut e w x =
+    complete_by r head (reply_head_out head (shape_of r p) ++ body.out) closes (body_end true closes body) seated a d g i (pays_after w x.3) (cut_end closes body x.0 x.1)
+by_copied r head p body false closes seated left a b d g h i copied.Cut e w x = (pays_after w x.3, short_end closes body x.0)
+by_copied r head p body to_close closes seated left a b d g h i copied.Bad e w x = (pays_after w x.1, bad_end to_close closes body (refused_unfinished body.place x.0) x.0)
 
 -- its head was sent, and the body as its copying says
 pub reply_sent : (r : HttpRequest) (head : ReplyHead) (p : BodyPlan) (shape : Shape) (seated now_seated : Bool) (first left a b d : Option (List ℕ)) (g h i : ℕ) (text : List ℕ) (k : Copied) (end : Exchanged)
@@ -98,12 +100,12 @@ reply_sent r head p shape seated now_seated first left a b d g h i text k end e 
         let body = body_of p (shape_of r p).chunked bytes in
         let head_text = reply_head_out head (shape_of r p) in
         let copies : CopiesBody seated body left b d h i k = subst (λ t. CopiesBody t body left b d h i k) s c.body in
-        let all : SentReply (head_text ++ body.out) (body_end (is_to_close p) (shape_of r p).closes body) seated a d g i (body_sent k (is_to_close p) (shape_of r p).closes) =
-        by_copied head_text body (is_to_close p) (shape_of r p).closes seated left a d g i k (copies_after body left d i k (subst (λ t. PaysAll seated t a b g h) f x) copies) in
+        let all : SentReply r head (head_text ++ body.out) (body_end (is_to_close p) (shape_of r p).closes body) seated a d g i (body_sent k (is_to_close p) (shape_of r p).closes) =
+        by_copied r head p body (is_to_close p) (shape_of r p).closes seated left a b d g h i k e (subst (λ t. PaysAll seated t a b g h) f x) copies in
         record {
           known =
-              subst (λ o. SentReply (replied_by r head o bytes).text (replied_by r head o bytes).end seated a d g i end) (sym e)
-              (subst (SentReply (head_text ++ body.out) (body_end (is_to_close p) (shape_of r p).closes body) seated a d g i) (sym n) all);
+              subst (λ o. SentReply r head (replied_by r head o bytes).text (replied_by r head o bytes).end seated a d g i end) (sym e)
+              (subst (SentReply r head (head_text ++ body.out) (body_end (is_to_close p) (shape_of r p).closes body) seated a d g i) (sym n) all);
         }
 
 -- the link that failed, by that of the copying

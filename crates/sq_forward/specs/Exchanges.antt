@@ -116,25 +116,35 @@ pub record Fronts (x : Exchange) (seated : Bool) (client_before client_now origi
   pub close : more ≤ spare
   pub origin : Grew origin_before origin_now (λ part. IsPrefix part x.origin)
 
--- all that the client gets without a reply was written, and a front of what the origin gets
-pub record Unreached (x : Exchange) (seated : Bool) (client_before client_now origin_before origin_now : Option (List ℕ)) (g h : ℕ) : Type 0 where
+-- behind the reply's head: all up to that head was written to the client, and a front of what follows; nothing more was granted
+pub record Broken (r : HttpRequest) (reading : Reading) (x : Exchange) (seated : Bool) (client_before client_now origin_before origin_now : Option (List ℕ)) (g h : ℕ) : Type 0 where
+  pub head : ReplyHead
+  pub plan : BodyPlan
+  pub final : reading.final ≡ Some head
+  pub planned : reply_plan r.method head ≡ Ok plan
+  pub fronts : Fronts x seated client_before client_now origin_before origin_now g h 0
+  pub sent : IsPrefix (x.own ++ (interim_texts r reading.interim ++ reply_head_out head (shape_of r plan))) fronts.part
+
+-- no head of the reply's own was reached: all that the client gets without a reply was written, and a front of what the origin gets
+pub record Unreached (reading : Reading) (x : Exchange) (seated : Bool) (client_before client_now origin_before origin_now : Option (List ℕ)) (g h : ℕ) : Type 0 where
+  pub headless : reading.final ≡ None
   pub client : Appends client_before client_now (x.own ++ x.client)
   pub granted : h ≡ granted_after seated g (length x.client)
   pub origin : Grew origin_before origin_now (λ part. IsPrefix part x.origin)
 
 -- what an exchange comes to by its answer, where the origin's bytes are this reply, and it looked at these of them
-abbrev pub EndsExchange : Exchange → List ℕ → List ℕ → Bool → Option (List ℕ) → Option (List ℕ) → Option (List ℕ) → Option (List ℕ) → Option (List ℕ) → ℕ → ℕ → Type 0 → Exchanged → Type 0
-EndsExchange x seen reply seated left a b c d g h failed ClientFault = Fronts x seated a b c d g h piece_limit
-EndsExchange x seen reply seated left a b c d g h failed OriginFault = Fronts x seated a b c d g h 0
-EndsExchange x seen reply seated left a b c d g h failed Starved = Fronts x seated a b c d g h 0
-EndsExchange x seen reply seated left a b c d g h failed WantOfMemory = Fronts x seated a b c d g h 0
-EndsExchange x seen reply seated left a b c d g h failed NoReply =
-    ((seen ≡ reply) × Exact x seated left a b c d g h NoReply) ⊎ (failed × Unreached x seated a b c d g h)
-EndsExchange x seen reply seated left a b c d g h failed Kept = (seen ≡ reply) × Exact x seated left a b c d g h Kept
-EndsExchange x seen reply seated left a b c d g h failed Closed = (seen ≡ reply) × Exact x seated left a b c d g h Closed
-EndsExchange x seen reply seated left a b c d g h failed OriginCut = (seen ≡ reply) × Exact x seated left a b c d g h OriginCut
-EndsExchange x seen reply seated left a b c d g h failed Cut = Exact x seated left a b c d g h Cut
-EndsExchange x seen reply seated left a b c d g h failed BadBody = Exact x seated left a b c d g h BadBody
+abbrev pub EndsExchange : HttpRequest → Reading → Exchange → List ℕ → List ℕ → Bool → Option (List ℕ) → Option (List ℕ) → Option (List ℕ) → Option (List ℕ) → Option (List ℕ) → ℕ → ℕ → Type 0 → Exchanged → Type 0
+EndsExchange r reading x seen reply seated left a b c d g h failed ClientFault = Fronts x seated a b c d g h piece_limit
+EndsExchange r reading x seen reply seated left a b c d g h failed OriginFault = Broken r reading x seated a b c d g h
+EndsExchange r reading x seen reply seated left a b c d g h failed Starved = Fronts x seated a b c d g h 0
+EndsExchange r reading x seen reply seated left a b c d g h failed WantOfMemory = Fronts x seated a b c d g h 0
+EndsExchange r reading x seen reply seated left a b c d g h failed NoReply =
+    ((seen ≡ reply) × Exact x seated left a b c d g h NoReply) ⊎ (failed × Unreached reading x seated a b c d g h)
+EndsExchange r reading x seen reply seated left a b c d g h failed Kept = (seen ≡ reply) × Exact x seated left a b c d g h Kept
+EndsExchange r reading x seen reply seated left a b c d g h failed Closed = (seen ≡ reply) × Exact x seated left a b c d g h Closed
+EndsExchange r reading x seen reply seated left a b c d g h failed OriginCut = (seen ≡ reply) × Exact x seated left a b c d g h OriginCut
+EndsExchange r reading x seen reply seated left a b c d g h failed Cut = Exact x seated left a b c d g h Cut
+EndsExchange r reading x seen reply seated left a b c d g h failed BadBody = Exact x seated left a b c d g h BadBody
 
 -- the exchange of this request: over a front of the origin's bytes that it looked at, by how these read
 pub record Exchanges (r : HttpRequest) (addr : Address) (p : BodyPlan) (input reply : List ℕ) (seated : Bool)
@@ -143,7 +153,7 @@ pub record Exchanges (r : HttpRequest) (addr : Address) (p : BodyPlan) (input re
   pub reading : Reading
   pub front : IsPrefix seen reply
   pub reads : IsReading seen reading
-  pub ends : EndsExchange (exchange r addr p input reading) seen reply seated left a b c d g h failed end
+  pub ends : EndsExchange r reading (exchange r addr p input reading) seen reply seated left a b c d g h failed end
 
 -- the count of the link that failed rose
 abbrev pub ExchangeHasCause : Type 0 → Type 0 → Exchanged → Type 0

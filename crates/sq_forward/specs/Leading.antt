@@ -3,9 +3,12 @@ use Rattle.std.specs.Prelude.{◌≡◌, ◌⊎◌, ℕ, ◌≤◌, List, [], �
 use Rattle.std.specs.declared.option.Option.{Option}
 use Rattle.std.specs.declared.result.Result.{Result}
 use Rattle.sq_base.specs.Requests.{HttpRequest}
+use Rattle.sq_base.specs.declared.plans.BodyPlan.{BodyPlan}
 use Rattle.sq_outside.specs.Output.{IsPrefix}
+use Rattle.sq_head.specs.BodyPlans.{reply_plan}
+use Rattle.sq_head.specs.ReplyHeads.{reply_head_out}
 use Rattle.sq_head.specs.declared.replies.ReplyHead.{ReplyHead}
-use Rattle.sq_forward.specs.Exchanges.{interim_texts, replied, dry_after_exchange}
+use Rattle.sq_forward.specs.Exchanges.{shape_of, interim_texts, replied, dry_after_exchange}
 use Rattle.sq_forward.specs.Meters.{PaysAll, PaysPart, piece_limit}
 use Rattle.sq_forward.specs.Replies.{BeginsHead, AreInterim, IsReading, is_interim, interim_limit}
 use Rattle.sq_forward.specs.declared.copying.Copied.{Copied}
@@ -87,22 +90,29 @@ Leads r bytes seated left before now g h failed (Err end) = LedNowhere r bytes s
 pub record LeadsReply (r : HttpRequest) (seated : Bool) (first left before now : Option (List ℕ)) (g h : ℕ) (failed : Type 0) (led : Result ReplyHead Exchanged) : Type 0 where
   pub known : IfSome first (λ bytes. Leads r bytes seated left before now g h failed led)
 
+-- the reply's head went to the client, and a front of its body
+pub record SentHead (r : HttpRequest) (head : ReplyHead) (text : List ℕ) (seated : Bool) (before now : Option (List ℕ)) (g h : ℕ) : Type 0 where
+  pub plan : BodyPlan
+  pub planned : reply_plan r.method head ≡ Ok plan
+  pub pays : PaysPart seated text before now g h 0
+  pub sent : IsPrefix (reply_head_out head (shape_of r plan)) pays.part
+
 -- how much of the reply went to the client
-abbrev pub SentReply : List ℕ → Exchanged → Bool → Option (List ℕ) → Option (List ℕ) → ℕ → ℕ → Exchanged → Type 0
-SentReply text end seated before now g h ClientFault = PaysPart seated text before now g h piece_limit
-SentReply text end seated before now g h OriginFault = PaysPart seated text before now g h 0
-SentReply text end seated before now g h Starved = PaysPart seated text before now g h 0
-SentReply text end seated before now g h WantOfMemory = PaysPart seated text before now g h 0
-SentReply text end seated before now g h Kept = PaysAll seated text before now g h × (Kept ≡ end)
-SentReply text end seated before now g h Closed = PaysAll seated text before now g h × (Closed ≡ end)
-SentReply text end seated before now g h OriginCut = PaysAll seated text before now g h × (OriginCut ≡ end)
-SentReply text end seated before now g h NoReply = PaysAll seated text before now g h × (NoReply ≡ end)
-SentReply text end seated before now g h Cut = ⊥
-SentReply text end seated before now g h BadBody = ⊥
+abbrev pub SentReply : HttpRequest → ReplyHead → List ℕ → Exchanged → Bool → Option (List ℕ) → Option (List ℕ) → ℕ → ℕ → Exchanged → Type 0
+SentReply r head text end seated before now g h ClientFault = PaysPart seated text before now g h piece_limit
+SentReply r head text end seated before now g h OriginFault = SentHead r head text seated before now g h
+SentReply r head text end seated before now g h Starved = PaysPart seated text before now g h 0
+SentReply r head text end seated before now g h WantOfMemory = PaysPart seated text before now g h 0
+SentReply r head text end seated before now g h Kept = PaysAll seated text before now g h × (Kept ≡ end)
+SentReply r head text end seated before now g h Closed = PaysAll seated text before now g h × (Closed ≡ end)
+SentReply r head text end seated before now g h OriginCut = PaysAll seated text before now g h × (OriginCut ≡ end)
+SentReply r head text end seated before now g h NoReply = PaysAll seated text before now g h × (NoReply ≡ end)
+SentReply r head text end seated before now g h Cut = ⊥
+SentReply r head text end seated before now g h BadBody = ⊥
 
 -- the reply with this head, whose body begins what is to come, where that is told
 pub record SendsReply (r : HttpRequest) (head : ReplyHead) (seated : Bool) (first before now : Option (List ℕ)) (g h : ℕ) (end : Exchanged) : Type 0 where
-  pub known : IfSome first (λ bytes. SentReply (replied r head bytes).text (replied r head bytes).end seated before now g h end)
+  pub known : IfSome first (λ bytes. SentReply r head (replied r head bytes).text (replied r head bytes).end seated before now g h end)
 
 -- the reply's own head may not be 101
 abbrev pub own_head : ReplyHead → Result ReplyHead Exchanged
