@@ -33,3 +33,4 @@ mod TakeLaws
 mod CloseLaws
 mod OnLaws
 mod AskLaws
+mod ReconfigureLaws

@@ -68,7 +68,7 @@ or_true true b e = refl
 or_true false b e = e
 
 -- the epoch of a check that is found has one
-found_lives : (m : ℕ) (k : CheckParts) (es : List (ℕ × CheckParts)) → value_at es m ≡ Some k → list_any (λ (h : Held). h.asked.epoch == k.epoch) (rows_of es) ≡ true
+pub found_lives : (m : ℕ) (k : CheckParts) (es : List (ℕ × CheckParts)) → value_at es m ≡ Some k → list_any (λ (h : Held). h.asked.epoch == k.epoch) (rows_of es) ≡ true
 found_lives m k [] f = absurd (none-some k f)
 found_lives m k (e ∷ es) f = by (m == e.0) refl f (found_lives m k es)
   where
@@ -115,7 +115,7 @@ part_over e f c v = by (ends_with_check e v) refl
         subst (λ z. part_at z f c ≡ (if is_some (epoch_at z f) then part_at v f c else None)) (sym w)
         (ap (part_of c) read ∙ less_part (f == e) c (epoch_at v f) ∙ sym (ap (λ o. if is_some o then part_at v f c else None) read))
 
-some_then : (b : Bool) (o : Option PartState) (p : PartState) → (if b then o else None) ≡ Some p → (b ≡ true) × (o ≡ Some p)
+pub some_then : (b : Bool) (o : Option PartState) (p : PartState) → (if b then o else None) ≡ Some p → (b ≡ true) × (o ≡ Some p)
 some_then true o p e = (refl, e)
 some_then false o p e = absurd (none-some p e)
 
@@ -221,11 +221,11 @@ over_engine v n t k left ep ks cs i o is list rows conns = subst (λ e. IsEngine
     not_gone true q a e = absurd (none-some a e)
     not_gone false q a e = e
 
-live_place : (w : EpochsState) (lives : ℕ → Bool) → ((f : ℕ) → is_some (epoch_at w f) ≡ lives f) → (p : Option Place) → if_there w p ≡ if_live lives p
+pub live_place : (w : EpochsState) (lives : ℕ → Bool) → ((f : ℕ) → is_some (epoch_at w f) ≡ lives f) → (p : Option Place) → if_there w p ≡ if_live lives p
 live_place w lives is None = refl
 live_place w lives is (Some p) = ap (λ b. if b then Some p else None) (is p.epoch)
 
-live_gone : (w : EpochsState) (lives : ℕ → Bool) → ((f : ℕ) → is_some (epoch_at w f) ≡ lives f) → (p : Option Place) → is_gone w p ≡ is_over lives p
+pub live_gone : (w : EpochsState) (lives : ℕ → Bool) → ((f : ℕ) → is_some (epoch_at w f) ≡ lives f) → (p : Option Place) → is_gone w p ≡ is_over lives p
 live_gone w lives is None = refl
 live_gone w lives is (Some p) = ap not (is p.epoch)
 

@@ -1,7 +1,8 @@
 -- What is promised of the result of a call: for every legal history that the machine's state stood for, it is the machine's next answer,
 -- and the state that is left stands for the history with this entry.
-use Rattle.std.specs.Prelude.{◌≡◌, ℕ, ◌≤◌, List, Result, Ok, Err, Some}
+use Rattle.std.specs.Prelude.{◌≡◌, ℕ, suc, ◌≤◌, List, Result, Ok, Err, Some}
 use Rattle.sq_rules.specs.declared.entries.Event.{Event}
+use Rattle.sq_rules.specs.declared.entries.Event.TheVariants.{Reconfigure}
 use Rattle.sq_rules.specs.declared.entries.Told.{Told}
 use Rattle.sq_rules.specs.declared.refusals.Refusal.{Refusal}
 use Rattle.sq_rules.specs.declared.refusals.Refusal.TheVariants as refusal
@@ -11,7 +12,7 @@ use Rattle.sq_rules.specs.DueActs.{Place}
 use Rattle.sq_rules.specs.Entries.{History}
 use Rattle.sq_rules.specs.Epochs.{class_at}
 use Rattle.sq_rules.specs.FullNext.{full_next}
-use Rattle.sq_rules.specs.Machine.{refuses}
+use Rattle.sq_rules.specs.Machine.{config_of, refuses}
 use Rattle.sq_rules.specs.Marking.{marked}
 use Rattle.sq_rules.specs.Readings.{latest}
 use Rattle.sq_state.specs.Answers.{name_in}
@@ -32,3 +33,11 @@ IsPromisedAt told s now event p (Err refusal.WantOfMemory) new = Unit {0}
 IsPromisedAt told s now event p (Err r) new =
     (configs : List Configuration) (h : History) (class : Class) → StandsFor configs h s → latest h ≤ now → class_at configs p.epoch p.class ≡ Some class
     → full_next configs (marked configs h) now (event p.epoch class.name) ≡ refuses r
+
+-- the same of a reconfiguration: its answer, where this is the configuration of the next epoch
+abbrev pub IsPromisedNext : {A : Type 0} → (A → Told) → State → ℕ → Configuration → Result A Refusal → State → Type 0
+IsPromisedNext told s now config (Ok a) new =
+    (configs : List Configuration) (h : History) → StandsFor configs h s → latest h ≤ now → config_of configs (suc s.current) ≡ Some config → IsAnswered configs h now (Reconfigure config.source) (told a) new
+IsPromisedNext told s now config (Err refusal.WantOfMemory) new = Unit {0}
+IsPromisedNext told s now config (Err r) new =
+    (configs : List Configuration) (h : History) → StandsFor configs h s → latest h ≤ now → full_next configs (marked configs h) now (Reconfigure config.source) ≡ refuses r

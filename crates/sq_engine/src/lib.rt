@@ -14,6 +14,7 @@ mod handing;
 mod lines;
 mod opening;
 mod readers;
+mod reconfiguring;
 mod sighting;
 mod starts;
 mod stepping;
