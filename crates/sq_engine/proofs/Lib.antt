@@ -34,3 +34,4 @@ mod CloseLaws
 mod OnLaws
 mod AskLaws
 mod ReconfigureLaws
+mod ActLaws

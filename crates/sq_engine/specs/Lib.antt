@@ -1,4 +1,5 @@
 -- Definitions that the contracts cite.
+pub mod Acting
 pub mod EngineViews
 pub mod Engines
 pub mod Handing

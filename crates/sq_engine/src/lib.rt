@@ -6,6 +6,8 @@
 //! agree with each other.
 #![tactic(auto)]
 
+mod deaths;
+mod acts;
 mod asking;
 mod deaths;
 mod ending;

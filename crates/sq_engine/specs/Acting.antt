@@ -1,0 +1,58 @@
+-- Acts as they are told, and what an act makes of the state.
+use Rattle.std.specs.Prelude.{◌≡◌, ℕ, ◌≤◌, List, None, Some}
+use Rattle.std.specs.Option.{option_map}
+use Rattle.std.specs.declared.option.Option.{Option}
+use Rattle.sq_rules.specs.declared.entries.Event.TheVariants as event
+use Rattle.sq_rules.specs.declared.entries.Told.{Told}
+use Rattle.sq_rules.specs.declared.entries.Told.TheVariants as told
+use Rattle.sq_rules.specs.Configurations.{Configuration}
+use Rattle.sq_rules.specs.Entries.{History}
+use Rattle.sq_rules.specs.FullNext.{full_next}
+use Rattle.sq_rules.specs.Machine.{nothing}
+use Rattle.sq_rules.specs.Marking.{marked}
+use Rattle.sq_rules.specs.Readings.{latest}
+use Rattle.sq_epochs.specs.DueStates as dues
+use Rattle.sq_epochs.specs.declared.acts.Act.{Act}
+use Rattle.sq_epochs.specs.declared.acts.Act.TheVariants as act
+use Rattle.sq_state.specs.Acts.{Due, sends, starts, stops}
+use Rattle.sq_state.specs.Answers.{name_in}
+use Rattle.sq_state.specs.Changes.{after_send_at, after_start_at, after_stop_of}
+use Rattle.sq_state.specs.Promises.{IsAnswered, StandsFor}
+use Rattle.sq_state.specs.States.{State}
+use Rattle.sq_engine.specs.EngineViews.{EngineView}
+
+-- an act of the live epochs, as one of the state
+abbrev pub as_due : dues.DueAt → Due
+as_due (dues.stops k) = stops k
+as_due (dues.sends p s) = sends p s
+as_due (dues.starts p) = starts p
+
+-- the next act of an engine: where no stop of a process 0 is due, it is that of its state
+abbrev pub due_now : EngineView → Option Due
+due_now v = option_map as_due (dues.due_of v.epochs)
+
+-- an act as a call answers it
+abbrev pub act_told : Due → Act
+act_told (stops k) = act.Stop k
+act_told (sends p s) = act.Send s.proc s.question s.channel s.text
+act_told (starts p) = act.Start p.epoch p.class
+
+-- what an act makes of the state
+abbrev pub after_act : Option Due → ℕ → State → State
+after_act None now s = s
+after_act (Some (stops k)) now s = after_stop_of k now s
+after_act (Some (sends p sending)) now s = after_send_at p now s
+after_act (Some (starts p)) now s = after_start_at p now s
+
+-- the answer of a call, as a history tells it
+abbrev pub told_of_act : State → Act → Told
+told_of_act s (act.Stop k) = told.Stop k
+told_of_act s (act.Send k q channel text) = told.Send k q channel text
+told_of_act s (act.Start e c) = told.Start e (name_in s (record { epoch = e; class = c }))
+
+-- what is promised of an act: for every legal history that the state stood for, it is the machine's next answer, and the state that is
+-- left stands for the history with it; where there is no act, the machine has none
+abbrev pub IsActPromised : State → ℕ → Option Act → State → Type 0
+IsActPromised s now None new = (configs : List Configuration) (h : History) → StandsFor configs h s → latest h ≤ now → full_next configs (marked configs h) now event.Act ≡ nothing
+IsActPromised s now (Some a) new =
+    (configs : List Configuration) (h : History) → StandsFor configs h s → latest h ≤ now → IsAnswered configs h now event.Act (told_of_act s a) new

@@ -1,0 +1,42 @@
+//! What is to be done next.
+ghost use Rattle.std.specs.Prelude.{◌≡◌, max, false, IfNone, IfOk, IfSome};
+ghost use Rattle.std.specs.Option.{option_map};
+ghost use Rattle.sq_state.specs.Acts.{due_in};
+ghost use Rattle.sq_state.specs.States.{IsSame};
+ghost use Rattle.sq_engine.specs.Acting.{IsActPromised, act_told, after_act, due_now};
+ghost use Rattle.sq_engine.specs.EngineViews.{state_of, stop_at};
+
+use crate::engines::{Engine, later};
+use sq_base::{Moment, WantOfMemory};
+use sq_epochs::Act;
+use std::alloc::Global;
+
+impl Engine {
+    /// The next act that is due, which counts as made with this call. Where none is, nothing changes, the greatest
+    /// moment neither. It takes no memory.
+    pub fn act(&mut self, now: Moment) -> Option<Act>
+        ensures act { result ≡ option_map act_told (due_now self.old) }
+        ensures state { stop_at self.old.epochs 0 ≡ false → due_now self.old ≡ due_in (state_of self.old) }
+        ensures some { IfSome result (λ a. IsSame (state_of self.new) (after_act (due_now self.old) (max now self.old.latest) (state_of self.old))) }
+        ensures none { IfNone result (self.new ≡ self.old) }
+        ensures promised { IsActPromised (state_of self.old) (max now self.old.latest) result (state_of self.new) }
+    {
+        // For the proof: what holds of live epochs.
+        self.epochs.facts();
+        let Some(act) = self.epochs.act() else {
+            return None;
+        };
+        self.latest = later(now, self.latest);
+        Some(act)
+    }
+
+    /// A copy of what `act` would answer. Nothing changes.
+    pub fn due(&self, alloc: Global) -> Result<Option<Act>, WantOfMemory>
+        ensures act { IfOk result (λ a. a ≡ option_map act_told (due_now self.now)) }
+        ensures state { stop_at self.now.epochs 0 ≡ false → due_now self.now ≡ due_in (state_of self.now) }
+    {
+        // For the proof: what holds of live epochs.
+        self.epochs.facts();
+        self.epochs.due(alloc)
+    }
+}
