@@ -6,7 +6,6 @@
 //! agree with each other.
 #![tactic(auto)]
 
-mod deaths;
 mod acts;
 mod asking;
 mod deaths;
