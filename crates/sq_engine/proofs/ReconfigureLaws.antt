@@ -391,7 +391,7 @@ reconfigured_same v config ep t i is homed rise made =
 pub reconfigure_promised : {A : Type 0} (tell : A → Told) (s new : State) (now : ℕ) (config : Configuration) (r : Result A Refusal) → IsTold tell (reconfigure_answer s) r
     → OnOk r (IsSame new (changes.after_reconfigured config now s)) → IsPromisedNext tell s now config r new
 reconfigure_promised tell s new now config (Ok a) t ok = λ configs h st late at.
-    answered_same configs h (changes.after_reconfigured config now s) new now (Reconfigure config.source) (tell a) ok (reconfigure_answered configs h s now config.source config (tell a) st late at t)
+    answered_same configs h (changes.after_reconfigured config now s) new now (Reconfigure config.source) (tell a) ok (reconfigure_answered configs h s now config.source config (tell a) st late refl at t)
 reconfigure_promised tell s new now config (Err refusal.WantOfMemory) t ok = tt
 reconfigure_promised tell s new now config (Err r) t ok = λ configs h st late.
     next_now configs h now (Reconfigure config.source) late ∙ reconfigure_next configs _ s now config.source st.stands ∙ t
