@@ -32,6 +32,13 @@ close_unknown s c e = rw e refl
 pub close_fine : (s : State) (c : ℕ) → is_none (s.client c) ≡ false → close_answer s c ≡ gives told.Fine
 close_fine s c e = rw e refl
 
+-- whether there is none, by whether there is one
+pub none_by : (o : Option Peer) (b : Bool) → is_some o ≡ not b → is_none o ≡ b
+none_by None true e = refl
+none_by None false e = absurd (cc)
+none_by (Some p) true e = absurd (cc)
+none_by (Some p) false e = refl
+
 no_number : (o : Option Held) → None ≡ option_map held_number o → o ≡ None
 no_number None e = refl
 no_number (Some h) e = absurd (none-some h.number e)

@@ -27,6 +27,7 @@ use Rattle.sq_epochs.specs.EpochChanges.{HasLeft}
 use Rattle.sq_epochs.specs.EpochStates.{EpochsState, IsChanged}
 use Rattle.sq_epochs.specs.LiveEpochs.{checks_at}
 use Rattle.sq_state.specs.Answers.{take_answer, take_of_held}
+use Rattle.sq_state.specs.Changes.{after_take}
 use Rattle.sq_state.specs.Says.{outcome_in, value_in}
 use Rattle.sq_state.specs.States.{IsSame, State}
 use Rattle.sq_engine.specs.Engines.{IsEngine, held_number}
@@ -134,3 +135,22 @@ judged_is n r k = by (decided_in k.stage)
     by : (o : Option Outcome) → IfSome o (λ x. r ≡ judged_of n x k) → is_some o ≡ true → r ≡ judged_of n r.outcome k
     by None h e = absurd (cc)
     by (Some x) h e = h ∙ ap (λ z. judged_of n z k) (sym (ap (λ (z : Judged). z.outcome) h))
+
+-- a check taken out at another moment
+pub taken_at : (w : EngineView) (n l t : ℕ) (s : State) → IsSame (state_of w) (after_take n l s) → IsSame (state_of (record w { latest = t })) (after_take n t s)
+taken_at w n l t s same = record {
+  clients_are = same.clients_are;
+  conns_are = same.conns_are;
+  from_are = same.from_are;
+  checks_are = same.checks_are;
+  asks_are = same.asks_are;
+  puts_are = same.puts_are;
+  current_is = same.current_is;
+  configs_are = same.configs_are;
+  rows_are = same.rows_are;
+  procs_are = same.procs_are;
+  homes_are = same.homes_are;
+  stops_are = same.stops_are;
+  latest_is = refl;
+  offset_is = same.offset_is;
+}

@@ -1,5 +1,6 @@
 //! The outcome of a check is taken, and a connection closes.
 ghost use Rattle.std.specs.Prelude.{◌≡◌, ◌==◌, if◌then◌else◌, ℕ, max, true, is_some, Some, None, IfOk, OnOk, OnErr};
+ghost use Rattle.sq_rules.specs.declared.entries.Event.TheVariants as event;
 ghost use Rattle.sq_rules.specs.declared.entries.Told.TheVariants as told;
 ghost use Rattle.sq_rows.specs.CheckRows.{without_conn};
 ghost use Rattle.sq_checks.specs.Conns.{check_in};
@@ -14,6 +15,7 @@ ghost use Rattle.sq_state.specs.Answers.{close_answer, take_answer};
 ghost use Rattle.sq_state.specs.Changes.{after_close, after_take, with_checks};
 ghost use Rattle.sq_state.specs.States.{IsSame};
 ghost use Rattle.sq_engine.specs.EngineViews.{state_of};
+ghost use Rattle.sq_engine.specs.Promised.{IsPromised};
 ghost use Rattle.sq_engine.specs.Tellings.{IsTold};
 
 use crate::engines::{Engine, later};
@@ -61,6 +63,7 @@ impl Engine {
         ensures ok { OnOk result (IsSame (state_of self.new) (after_take check (max now self.old.latest) (state_of self.old))) }
         ensures record { IfOk result (λ r. (k : CheckParts) → value_at self.old.checks check ≡ Some k → r ≡ judged_of check r.outcome k) }
         ensures err { OnErr result (self.new ≡ self.old) }
+        ensures promised { IsPromised (λ r. told.Judged r.epoch r.outcome) (state_of self.old) (max now self.old.latest) (event.Take check) result (state_of self.new) }
     {
         let Some(open) = self.checks.get(check) else {
             return Err(Refusal::UnknownCheck(check));
@@ -95,6 +98,7 @@ impl Engine {
         ensures told { IsTold (λ _. told.Fine) (close_answer (state_of self.old) conn) result }
         ensures ok { OnOk result (IsSame (state_of self.new) (after_close conn (max now self.old.latest) (state_of self.old))) }
         ensures err { OnErr result (self.new ≡ self.old) }
+        ensures promised { IsPromised (λ _. told.Fine) (state_of self.old) (max now self.old.latest) (event.Close conn) result (state_of self.new) }
     {
         if self.conns.peer(conn).is_none() {
             return Err(Refusal::UnknownConn(conn));

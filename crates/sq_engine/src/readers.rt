@@ -1,12 +1,12 @@
 //! What can be read of the machine.
-ghost use Rattle.std.specs.Prelude.{◌≡◌, length};
+ghost use Rattle.std.specs.Prelude.{◌≡◌, ◌+◌, length};
 ghost use Rattle.std.specs.Arc.{arc_value};
 ghost use Rattle.std.specs.Option.{option_map};
 ghost use Rattle.sq_state.specs.Says.{class_in};
 ghost use Rattle.sq_engine.specs.EngineViews.{state_of};
 
 use crate::engines::Engine;
-use sq_base::{EpochNo, Moment, Text};
+use sq_base::{EpochNo, Moment, Text, Texts};
 use sq_rules::{Class, Config};
 use std::sync::Arc;
 
@@ -16,6 +16,13 @@ impl Engine {
         ensures { result ≡ length self.now.epochs.epochs }
     {
         self.epochs.len()
+    }
+
+    /// How many connections are open and how many processes of live epochs live, together.
+    pub fn load(&self) -> u128
+        ensures { result ≡ length self.now.conns.links + length self.now.epochs.homes }
+    {
+        self.conns.len() as u128 + self.epochs.living() as u128
     }
 
     /// The greatest moment so far.
@@ -45,5 +52,13 @@ impl Engine {
     {
         let class = self.class(epoch, class)?;
         Some(&class.name)
+    }
+
+    /// The words of the program of a class of a live epoch, lent.
+    pub fn words(&self, epoch: EpochNo, class: u32) -> Option<&Texts>
+        ensures { option_map (λ t. t.now) result ≡ option_map (λ c. c.words) (class_in (state_of self.now) epoch class) }
+    {
+        let class = self.class(epoch, class)?;
+        Some(&class.words)
     }
 }

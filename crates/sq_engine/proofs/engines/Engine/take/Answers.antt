@@ -1,10 +1,16 @@
-use Rattle.std.proofs.Common.{◌≡◌, ◌∙◌, None, Some, IfSome, is_some, true, ap, sym, subst, rules}
+use Rattle.std.proofs.Common.{◌≡◌, ◌∙◌, max, Err, Ok, None, Some, IfSome, is_some, true, ap, sym, subst, rules}
 use Rattle.std.proofs.lemmas.Option.{same_Some}
-use Rattle.sq_checks.specs.Records.{judged_of}
+use Rattle.sq_rules.specs.declared.entries.Told.TheVariants as told
+use Rattle.sq_rules.specs.declared.refusals.Refusal.TheVariants as refusal
+use Rattle.sq_checks.specs.Records.{Judged, judged_of}
 use Rattle.sq_checks.specs.Stages.{decided_in}
 use Rattle.sq_checks.specs.Tables.{value_at}
 use Rattle.sq_engine.specs.Engines.{IsEngine}
-use Rattle.sq_engine.proofs.TakeLaws.{judged_is, take_early, take_told, take_unknown}
+use Rattle.sq_state.specs.Changes.{after_take}
+use Rattle.sq_state.specs.States.{IsSame}
+use Rattle.sq_engine.specs.EngineViews.{EngineView, state_of}
+use Rattle.sq_engine.proofs.PromiseLaws.{take_promised}
+use Rattle.sq_engine.proofs.TakeLaws.{judged_is, take_early, take_told, take_unknown, taken_at}
 use Rattle.sq_engine.proofs.engines.Engine.take.Goals as goal
 
 pub returns-in_default-clause-told : goal.returns-in_default-clause-told
@@ -32,3 +38,27 @@ returns-clause-told c =
     let r = c.into_record-record.result in
     take_told w c.args.check k r i found some
     (judged_is c.args.check r k (subst (λ z. IfSome (decided_in z.stage) (λ o. r ≡ judged_of c.args.check o z)) same c.into_record-record.ensures) some) c.outcome-outcome.ensures.verdict
+
+pub returns-in_default-clause-promised : goal.returns-in_default-clause-promised
+returns-in_default-clause-promised c =
+    let s = state_of c.args.self.now in
+    take_promised {A = Judged} (λ r. told.Judged r.epoch r.outcome) s s (max c.args.now c.args.self.now.latest) c.args.check (Err (refusal.UnknownCheck c.args.check)) (returns-in_default-clause-told c) tt
+
+pub returns-then-is_none-clause-promised : goal.returns-then-is_none-clause-promised
+returns-then-is_none-clause-promised c =
+    let s = state_of c.args.self.now in
+    take_promised {A = Judged} (λ r. told.Judged r.epoch r.outcome) s s (max c.args.now c.args.self.now.latest) c.args.check (Err (refusal.NotDone c.args.check)) (returns-then-is_none-clause-told c) tt
+
+pub returns-clause-ok : goal.returns-clause-ok
+returns-clause-ok c =
+    let w = c.args.self.now in
+    let v : EngineView = record { conns = c.self-2.inside.conns; checks = c.self-2.inside.checks; asks = c.self-2.inside.asks; puts = c.self-2.inside.puts; epochs = c.self-2.inside.epochs; setup = c.self-2.inside.setup; offset = c.self-2.inside.offset; latest = c.self-2.inside.latest } in
+    let same : IsSame (state_of v) (after_take c.args.check w.latest (state_of w)) = subst (λ z. IsSame (state_of z) (after_take c.args.check w.latest (state_of w))) (sym c.self-2.view_is) c.remove.ensures.same in
+    let moment : c.later-self-inside.result ≡ max c.args.now w.latest = c.later-self-inside.ensures ∙ ap (λ z. max c.args.now z.latest) c.self-2.view_is ∙ ap (λ t. max c.args.now t) c.remove.ensures.latest in
+    subst (λ t. IsSame (state_of (record v { latest = c.later-self-inside.result })) (after_take c.args.check t (state_of w))) moment (taken_at v c.args.check w.latest c.later-self-inside.result (state_of w) same)
+
+pub returns-clause-promised : goal.returns-clause-promised
+returns-clause-promised c =
+    let s = state_of c.args.self.now in
+    let v : EngineView = record { conns = c.self-2.inside.conns; checks = c.self-2.inside.checks; asks = c.self-2.inside.asks; puts = c.self-2.inside.puts; epochs = c.self-2.inside.epochs; setup = c.self-2.inside.setup; offset = c.self-2.inside.offset; latest = c.self-2.inside.latest } in
+    take_promised {A = Judged} (λ r. told.Judged r.epoch r.outcome) s (state_of (record v { latest = c.later-self-inside.result })) (max c.args.now c.args.self.now.latest) c.args.check (Ok c.into_record-record.result) (returns-clause-told c) (returns-clause-ok c)
