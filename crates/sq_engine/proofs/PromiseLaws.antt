@@ -1,11 +1,11 @@
 -- From what a call answers and leaves by the machine's state to what is promised of it.
-use Rattle.std.proofs.Common.{◌≡◌, ◌∙◌, ℕ, suc, ◌≤◌, List, Bool, true, false, Option, None, Some, Result, Ok, Err, is_some, OnOk, refl, ap, sym}
+use Rattle.std.proofs.Common.{◌≡◌, ◌∙◌, ℕ, ℤ, suc, ◌≤◌, List, Bool, true, false, Option, None, Some, Result, Ok, Err, is_some, OnOk, refl, ap, sym, subst}
 use Rattle.sq_base.specs.Addresses.{Address}
 use Rattle.sq_base.specs.Targets.{target_of}
 use Rattle.sq_base.specs.declared.helpers.Cause.TheVariants as cause
 use Rattle.sq_base.specs.declared.requests.Field.{Field}
 use Rattle.sq_rules.specs.declared.entries.Event.{Event}
-use Rattle.sq_rules.specs.declared.entries.Event.TheVariants.{Ask, Close, Died, Open, Reconfigure, StartFail, Started, Take}
+use Rattle.sq_rules.specs.declared.entries.Event.TheVariants.{Ask, Close, Died, Open, Reconfigure, StartFail, Started, Step, Take}
 use Rattle.sq_rules.specs.declared.entries.Told.{Told}
 use Rattle.sq_rules.specs.declared.entries.Told.TheVariants as told
 use Rattle.sq_rules.specs.declared.refusals.Refusal.{Refusal}
@@ -15,20 +15,26 @@ use Rattle.sq_rules.specs.Configurations.{Configuration}
 use Rattle.sq_rules.specs.DueActs.{Place}
 use Rattle.sq_rules.specs.Entries.{History}
 use Rattle.sq_rules.specs.Epochs.{class_at}
-use Rattle.sq_rules.specs.FullNext.{full_next}
+use Rattle.sq_rules.specs.FullNext.{full_next, step_next}
 use Rattle.sq_rules.specs.Machine.{Next, config_of, gives, refuses}
 use Rattle.sq_rules.specs.Marking.{marked}
 use Rattle.sq_rules.specs.Readings.{latest}
-use Rattle.sq_state.specs.Answers.{ask_answer, asked_in, close_answer, died_answer, failed_answer, name_in, open_answer, reconfigure_answer, started_answer, take_answer}
-use Rattle.sq_state.specs.Changes.{after_ask, after_close, after_end_at, after_failed_at, after_open, after_reconfigured, after_started_at, after_take}
+use Rattle.sq_rules.specs.StepRule.{StepSays}
+use Rattle.sq_rows.specs.CheckRows.{Held, held_at}
+use Rattle.sq_state.specs.Answers.{ask_answer, asked_in, close_answer, died_answer, failed_answer, name_in, open_answer, reconfigure_answer, started_answer, step_answer, step_of_held, take_answer}
+use Rattle.sq_state.specs.Changes.{after_ask, after_close, after_end_at, after_failed_at, after_open, after_reconfigured, after_started_at, after_step_of, after_take, first_state}
 use Rattle.sq_state.specs.Promises.{IsAnswered, StandsFor}
+use Rattle.sq_state.specs.Says.{says_in}
 use Rattle.sq_state.specs.States.{IsSame, State}
 use Rattle.sq_state.proofs.ActPromises.{failed_answered, reconfigure_answered, started_answered}
 use Rattle.sq_state.proofs.ConnStands.{ask_next, close_next, open_next, take_next}
 use Rattle.sq_state.proofs.LinePromises.{died_answered, died_told}
-use Rattle.sq_state.proofs.PromiseLaws.{answered_same, ask_answered, close_answered, law_of, next_now, open_answered, take_answered}
+use Rattle.sq_state.proofs.PromiseLaws.{answered_same, ask_answered, close_answered, first_for, law_of, next_now, open_answered, take_answered}
+use Rattle.sq_state.proofs.Lawful.{stands_same}
 use Rattle.sq_state.proofs.StartStands.{failed_next, started_next}
-use Rattle.sq_engine.specs.Promised.{IsPromised, IsPromisedAt}
+use Rattle.sq_state.proofs.StepPromises.{step_answered, step_told, step_waiting}
+use Rattle.sq_engine.specs.Promised.{IsBegun, IsPromised, IsPromisedAt}
+use Rattle.sq_engine.specs.Stepping.{after_step_held, after_step_now, says_now, says_of_wait, step_now, step_of}
 use Rattle.sq_engine.specs.Tellings.{IsTold}
 
 -- where the machine answers so by the state, and such an answer leaves what stands for the history with it
@@ -102,3 +108,36 @@ died_promised s new now k (Ok a) t ok = λ configs h st late. by (s.home k) refl
     by (Some p) is t configs h st late = answered_same configs h (after_end_at p k cause.Died false now s) new now (Died k) told.Fine (ok p is) (died_answered configs h s now k p st late is)
 died_promised s new now k (Err refusal.WantOfMemory) t ok = tt
 died_promised s new now k (Err r) t ok = λ configs h st late. died_told configs h s now k st late ∙ t
+
+-- for a legal history, what a check that waits says is what a step says by the rule
+says_same : (configs : List Configuration) (h : History) (s : State) (now n : ℕ) (k : Held) → StandsFor configs h s → latest h ≤ now → held_at n s.checks ≡ Some k → says_now s now k ≡ says_in s now k
+says_same configs h s now n k st late found = by k.waits refl
+  where
+    by : (o : Option ℕ) → k.waits ≡ o → says_of_wait k.waits (says_in s now k) ≡ says_in s now k
+    by None e = ap (λ (o : Option ℕ). says_of_wait o (says_in s now k)) e
+    by (Some q) e = ap (λ (o : Option ℕ). says_of_wait o (says_in s now k)) e ∙ sym (step_waiting configs h s now n q k st late found e)
+
+step_same : (configs : List Configuration) (h : History) (s : State) (now n : ℕ) → StandsFor configs h s → latest h ≤ now → (o : Option Held) → held_at n s.checks ≡ o → step_of_held s n now o ≡ step_of s n now o
+step_same configs h s now n st late None e = refl
+step_same configs h s now n st late (Some k) e = ap (step_next s.puts) (sym (says_same configs h s now n k st late e))
+
+pub step_promised : {A : Type 0} (tell : A → Told) (s new : State) (now n : ℕ) (r : Result A Refusal) → IsTold tell (step_now s n now) r → OnOk r (IsSame new (after_step_now s n now))
+    → IsPromised tell s now (Step n) r new
+step_promised tell s new now n r t ok =
+    by_laws tell s new (after_step_now s n now) (step_now s n now) now (Step n) r t ok
+    (λ configs h st late. step_told configs h s now n st late ∙ step_same configs h s now n st late (held_at n s.checks) refl)
+    (λ answer is configs h st late. by answer configs h st late (held_at n s.checks) refl is)
+  where
+    by : (answer : Told) (configs : List Configuration) (h : History) → StandsFor configs h s → latest h ≤ now → (o : Option Held) → held_at n s.checks ≡ o → step_of s n now o ≡ gives answer
+        → IsAnswered configs h now (Step n) answer (after_step_held s n now o)
+    by answer configs h st late None e is = absurd (cc)
+    by answer configs h st late (Some k) e is =
+        let same : says_now s now k ≡ says_in s now k = says_same configs h s now n k st late e in
+        subst (λ (z : StepSays). IsAnswered configs h now (Step n) answer (after_step_of n k.asked.epoch z now s)) (sym same)
+        (step_answered configs h s now n k answer st late e (ap (step_next s.puts) (sym same) ∙ is))
+
+-- a machine that begins
+pub begun_promised : (s : State) (config : Configuration) (offset : ℤ) (now : ℕ) → IsSame s (first_state config offset now) → IsBegun config offset now s
+begun_promised s config offset now same = λ configs good is.
+    let st = first_for configs config offset now good is in
+    record { good = st.good; legal = st.legal; sourced = st.sourced; stands = stands_same configs _ (first_state config offset now) s same st.stands }

@@ -1,13 +1,15 @@
 -- What is promised of the result of a call: for every legal history that the machine's state stood for, it is the machine's next answer,
 -- and the state that is left stands for the history with this entry.
-use Rattle.std.specs.Prelude.{◌≡◌, ℕ, suc, ◌≤◌, List, Result, Ok, Err, Some}
+use Rattle.std.specs.Prelude.{◌≡◌, ℕ, ℤ, suc, ◌≤◌, List, [], ◌∷◌, Result, Ok, Err, Some}
 use Rattle.sq_rules.specs.declared.entries.Event.{Event}
 use Rattle.sq_rules.specs.declared.entries.Event.TheVariants.{Reconfigure}
+use Rattle.sq_rules.specs.declared.entries.Event.TheVariants as event
 use Rattle.sq_rules.specs.declared.entries.Told.{Told}
+use Rattle.sq_rules.specs.declared.entries.Told.TheVariants as told
 use Rattle.sq_rules.specs.declared.refusals.Refusal.{Refusal}
 use Rattle.sq_rules.specs.declared.refusals.Refusal.TheVariants as refusal
 use Rattle.sq_rules.specs.Classes.{Class}
-use Rattle.sq_rules.specs.Configurations.{Configuration}
+use Rattle.sq_rules.specs.Configurations.{Configuration, IsConfiguration}
 use Rattle.sq_rules.specs.DueActs.{Place}
 use Rattle.sq_rules.specs.Entries.{History}
 use Rattle.sq_rules.specs.Epochs.{class_at}
@@ -15,8 +17,9 @@ use Rattle.sq_rules.specs.FullNext.{full_next}
 use Rattle.sq_rules.specs.Machine.{config_of, refuses}
 use Rattle.sq_rules.specs.Marking.{marked}
 use Rattle.sq_rules.specs.Readings.{latest}
+use Rattle.sq_history.specs.Given.{EachOf}
 use Rattle.sq_state.specs.Answers.{name_in}
-use Rattle.sq_state.specs.Promises.{IsAnswered, StandsFor}
+use Rattle.sq_state.specs.Promises.{IsAnswered, StandsFor, entry_at}
 use Rattle.sq_state.specs.States.{State}
 
 -- a call answers the event at this moment as it is told, and leaves the new state; where memory is wanting, nothing is promised
@@ -41,3 +44,8 @@ IsPromisedNext told s now config (Ok a) new =
 IsPromisedNext told s now config (Err refusal.WantOfMemory) new = Unit {0}
 IsPromisedNext told s now config (Err r) new =
     (configs : List Configuration) (h : History) → StandsFor configs h s → latest h ≤ now → full_next configs (marked configs h) now (Reconfigure config.source) ≡ refuses r
+
+-- the state stands for the beginning with this configuration, at this offset and moment
+abbrev pub IsBegun : Configuration → ℤ → ℕ → State → Type 0
+IsBegun config offset now s =
+    (configs : List Configuration) → EachOf IsConfiguration configs → config_of configs 1 ≡ Some config → StandsFor configs (entry_at now (event.Begin offset) (told.Epoch 1) ∷ []) s

@@ -3,6 +3,7 @@ ghost use Rattle.std.specs.Prelude.{◌≡◌, ◌<◌, ◌^◌, suc, max, IfOk}
 ghost use Rattle.sq_state.specs.Changes.{first_state};
 ghost use Rattle.sq_state.specs.States.{IsSame};
 ghost use Rattle.sq_engine.specs.EngineViews.{state_of};
+ghost use Rattle.sq_engine.specs.Promised.{IsBegun};
 
 use sq_base::{Moment, WantOfMemory};
 use sq_cache::HashSeed;
@@ -60,7 +61,8 @@ impl Engine {
         now: Moment,
         seed: HashSeed,
     ) -> Result<Engine, WantOfMemory>
-        ensures { IfOk result (λ g. IsSame (state_of g) (first_state setup offset now)) }
+        ensures same { IfOk result (λ g. IsSame (state_of g) (first_state setup offset now)) }
+        ensures promised { IfOk result (λ g. IsBegun setup offset now (state_of g)) }
     {
         let config = Arc::try_clone(setup.config())?;
         let epochs = Epochs::new(alloc, config, seed)?;

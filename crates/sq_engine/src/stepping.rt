@@ -2,6 +2,7 @@
 ghost use Rattle.std.specs.Prelude.{◌≡◌, ◌<◌, ◌^◌, suc, if◌then◌else◌, ℕ, max, true, false, is_some, slice_get, IfSome, OnOk, OnErr, Some, None};
 ghost use Rattle.sq_base.specs.Distinct.{has_answer};
 ghost use Rattle.sq_rules.specs.FullNext.{step_next};
+ghost use Rattle.sq_rules.specs.declared.entries.Event.TheVariants as event;
 ghost use Rattle.sq_rules.specs.StepRule.{class_of_acl, says_done};
 ghost use Rattle.sq_rules.specs.declared.values.Value.TheVariants as value;
 ghost use Rattle.sq_rows.specs.CheckRows.{after_step};
@@ -13,6 +14,7 @@ ghost use Rattle.sq_state.specs.Changes.{after_step_of};
 ghost use Rattle.sq_state.specs.Says.{says_place_in};
 ghost use Rattle.sq_state.specs.States.{IsSame};
 ghost use Rattle.sq_engine.specs.EngineViews.{state_of};
+ghost use Rattle.sq_engine.specs.Promised.{IsPromised};
 ghost use Rattle.sq_engine.specs.Stepping.{NeedsAcl, after_step_now, epoch_of, says_waits, step_now, stepped_told};
 ghost use Rattle.sq_engine.specs.Tellings.{IsTold};
 
@@ -167,8 +169,8 @@ impl Engine {
         }
     }
 
-    /// A check goes on: it takes an answer, waits for one, or has its outcome.
-    pub fn step(&mut self, alloc: Global, check: CheckNo, now: Moment) -> Result<Stepped, Refusal>
+    // A step of a check, by the state alone.
+    fn step_on(&mut self, alloc: Global, check: CheckNo, now: Moment) -> Result<Stepped, Refusal>
         ensures told { IsTold (stepped_told (state_of self.old) (epoch_of (state_of self.old) check)) (step_now (state_of self.old) check (max now self.old.latest)) result }
         ensures ok { OnOk result (IsSame (state_of self.new) (after_step_now (state_of self.old) check (max now self.old.latest))) }
         ensures err { OnErr result (IsSame (state_of self.new) (state_of self.old)) }
@@ -192,5 +194,15 @@ impl Engine {
             Err(WantOfMemory) => return Err(Refusal::WantOfMemory),
         }
         self.go_on(alloc, check, moment)
+    }
+
+    /// A check goes on: it takes an answer, waits for one, or has its outcome.
+    pub fn step(&mut self, alloc: Global, check: CheckNo, now: Moment) -> Result<Stepped, Refusal>
+        ensures told { IsTold (stepped_told (state_of self.old) (epoch_of (state_of self.old) check)) (step_now (state_of self.old) check (max now self.old.latest)) result }
+        ensures ok { OnOk result (IsSame (state_of self.new) (after_step_now (state_of self.old) check (max now self.old.latest))) }
+        ensures err { OnErr result (IsSame (state_of self.new) (state_of self.old)) }
+        ensures promised { IsPromised (stepped_told (state_of self.old) (epoch_of (state_of self.old) check)) (state_of self.old) (max now self.old.latest) (event.Step check) result (state_of self.new) }
+    {
+        self.step_on(alloc, check, now)
     }
 }

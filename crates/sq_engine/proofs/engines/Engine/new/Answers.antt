@@ -1,5 +1,6 @@
 use Rattle.std.proofs.Common.{refl, ap, ◌∙◌}
 use Rattle.sq_engine.proofs.FreshLaws.{first_epochs, fresh_engine, fresh_same}
+use Rattle.sq_engine.proofs.PromiseLaws.{begun_promised}
 use Rattle.sq_engine.proofs.engines.Engine.new.Goals as goal
 
 pub invariant_of-result : goal.invariant_of-result
@@ -15,8 +16,8 @@ invariant_of-result c = fresh_engine _ c.args.setup c.args.offset c.args.now rec
   latest_is = refl;
 }
 
-pub returns : goal.returns
-returns c = fresh_same _ c.args.setup c.args.offset c.args.now record {
+pub returns-clause-same : goal.returns-clause-same
+returns-clause-same c = fresh_same _ c.args.setup c.args.offset c.args.now record {
   links_are = c.new-2.ensures.links;
   counts_are = c.new-2.ensures.counts;
   checks_are = c.new-3.ensures;
@@ -27,3 +28,6 @@ returns c = fresh_same _ c.args.setup c.args.offset c.args.now record {
   offset_is = refl;
   latest_is = refl;
 }
+
+pub returns-clause-promised : goal.returns-clause-promised
+returns-clause-promised c = begun_promised _ c.args.setup c.args.offset c.args.now (returns-clause-same c)
