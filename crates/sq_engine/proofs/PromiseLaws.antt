@@ -109,6 +109,11 @@ died_promised s new now k (Ok a) t ok = λ configs h st late. by (s.home k) refl
 died_promised s new now k (Err refusal.WantOfMemory) t ok = tt
 died_promised s new now k (Err r) t ok = λ configs h st late. died_told configs h s now k st late ∙ t
 
+-- what holds of a result that is fine
+pub on_ok : {A B : Type 0} (P Q : Type 0) (r : Result A B) → OnOk r P → (P → Q) → OnOk r Q
+on_ok P Q (Ok a) h f = f h
+on_ok P Q (Err b) h f = h
+
 -- for a legal history, what a check that waits says is what a step says by the rule
 says_same : (configs : List Configuration) (h : History) (s : State) (now n : ℕ) (k : Held) → StandsFor configs h s → latest h ≤ now → held_at n s.checks ≡ Some k → says_now s now k ≡ says_in s now k
 says_same configs h s now n k st late found = by k.waits refl

@@ -1,13 +1,16 @@
 //! A request arrives.
-ghost use Rattle.std.specs.Prelude.{◌≡◌, ℕ, List, max, suc, IfOk, OnOk, OnErr};
+ghost use Rattle.std.specs.Prelude.{◌≡◌, ℕ, List, max, suc, true, is_some, IfOk, OnOk, OnErr};
+ghost use Rattle.sq_base.specs.Targets.{target_of};
 ghost use Rattle.sq_base.specs.declared.requests.Field.{Field};
 ghost use Rattle.sq_rules.specs.Sights.{asked_request, unversioned};
+ghost use Rattle.sq_rules.specs.declared.entries.Event.TheVariants as event;
 ghost use Rattle.sq_rules.specs.declared.entries.Told.TheVariants as told;
 ghost use Rattle.sq_checks.specs.OpenChecks.{begun_parts};
 ghost use Rattle.sq_state.specs.Answers.{ask_answer, asked_in};
 ghost use Rattle.sq_state.specs.Changes.{after_ask};
 ghost use Rattle.sq_state.specs.States.{IsSame};
 ghost use Rattle.sq_engine.specs.EngineViews.{state_of};
+ghost use Rattle.sq_engine.specs.Promised.{IsPromised};
 ghost use Rattle.sq_engine.specs.Tellings.{IsTold};
 
 use crate::engines::{Engine, LAST_NUMBER, later};
@@ -37,8 +40,8 @@ fn begun(
 }
 
 impl Engine {
-    /// A request arrives on a connection, and its check begins in the current epoch: what it sees is read now.
-    pub fn ask(
+    // A request arrives, by the state alone.
+    fn ask_on(
         &mut self,
         alloc: Global,
         conn: ConnNo,
@@ -85,5 +88,23 @@ impl Engine {
         self.asks = number;
         self.latest = moment;
         Ok(check)
+    }
+
+    /// A request arrives on a connection, and its check begins in the current epoch: what it sees is read now.
+    pub fn ask(
+        &mut self,
+        alloc: Global,
+        conn: ConnNo,
+        request: Request,
+        now: Moment,
+    ) -> Result<CheckNo, Refusal>
+        ensures told { IsTold (λ n. told.Check n) (ask_answer (state_of self.old) conn) result }
+        ensures ok { OnOk result ((method target : List ℕ) (fields : List Field) → unversioned request ≡ asked_request method target fields
+            → IsSame (state_of self.new) (after_ask (asked_in (state_of self.old) (max now self.old.latest) conn method target fields) (max now self.old.latest) (state_of self.old))) }
+        ensures err { OnErr result (self.new ≡ self.old) }
+        ensures promised { (method target : List ℕ) (fields : List Field) → unversioned request ≡ asked_request method target fields → is_some (target_of method target) ≡ true
+            → IsPromised (λ n. told.Check n) (state_of self.old) (max now self.old.latest) (event.Ask conn method target fields) result (state_of self.new) }
+    {
+        self.ask_on(alloc, conn, request, now)
     }
 }
