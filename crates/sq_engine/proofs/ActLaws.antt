@@ -1,5 +1,5 @@
 -- The act of an engine: that of its state, what it leaves, and what is promised of it.
-use Rattle.std.proofs.Common.{◌≡◌, ◌∙◌, ◌==◌, ◌<◌, ◌≤◌, ◌||◌, ℕ, zero, suc, List, [], ◌∷◌, ◌++◌, ◌-◌, length, map, Bool, true, false, not, if◌then◌else◌, Option, None, Some, IfSome, is_some, refl, ap, sym, subst, arith}
+use Rattle.std.proofs.Common.{◌≡◌, ◌∙◌, ◌==◌, ◌<◌, ◌||◌, ℕ, zero, suc, List, [], ◌∷◌, ◌++◌, ◌-◌, length, map, Bool, true, false, if◌then◌else◌, Option, None, Some, IfSome, is_some, refl, ap, sym, subst, arith}
 use Rattle.std.proofs.lemmas.Option.{same_Some}
 use Rattle.std.specs.List.{flat_map, slice_get}
 use Rattle.std.specs.Prelude.{slice_set}
@@ -17,7 +17,6 @@ use Rattle.sq_rules.specs.Numbered.{below, picks}
 use Rattle.sq_rules.specs.OpenLookups.{question_of}
 use Rattle.sq_rules.specs.Processes.{Home, home_of, is_stopped, proc_count, proc_end, started_by, stop_due}
 use Rattle.sq_rules.specs.Epochs.{is_live}
-use Rattle.sq_rules.specs.Readings.{latest}
 use Rattle.sq_rules.specs.Rising.{AreAbove}
 use Rattle.sq_rows.specs.ClassRows.{ClassRow, after_sending, after_starting}
 use Rattle.sq_history.proofs.ProcessLaws.{due_by}
@@ -35,10 +34,10 @@ use Rattle.sq_epochs.proofs.ReadLaws.{config_acted, row_acted, stop_told}
 use Rattle.sq_state.specs.Acts.{Due, due_in, live_places_in, places_in, send_in, sends, start_in, starts, stops}
 use Rattle.sq_state.specs.Promises.{StandsFor}
 use Rattle.sq_state.specs.States.{IsSame, State, live}
-use Rattle.sq_state.specs.Changes.{after_send_at, after_start_at, after_stop_of, at, change_row}
+use Rattle.sq_state.specs.Changes.{at, change_row}
 use Rattle.sq_state.proofs.ActPromises.{none_due, send_answered, start_answered, stop_answered}
 use Rattle.sq_state.proofs.PromiseLaws.{answered_same}
-use Rattle.sq_engine.specs.Acting.{IsActPromised, act_told, after_act, as_due, due_now, told_of_act}
+use Rattle.sq_engine.specs.Acting.{IsActPromised, act_told, after_act, as_due, due_now}
 use Rattle.sq_engine.specs.Engines.{IsEngine}
 use Rattle.sq_engine.specs.EngineViews.{EngineView, config_in, state_of, stop_at}
 use Rattle.sq_engine.proofs.QuietLaws.{IsQuiet, quiet_engine}

@@ -1,8 +1,8 @@
 -- A check that begins: what is answered, and what is left.
-use Rattle.std.proofs.Common.{◌≡◌, ◌∙◌, ◌==◌, ◌+◌, ◌^◌, ◌<◌, ◌≤◌, ◌&&◌, ◌⊎◌, inl, inr, ℕ, suc, List, [], ◌∷◌, ◌++◌, Bool, true, false, if◌then◌else◌, map, length, nat_le, nat_lt, Option, None, Some, is_none, is_some, refl, ap, ap₂, sym, subst, arith}
+use Rattle.std.proofs.Common.{◌≡◌, ◌∙◌, ◌==◌, ◌+◌, ◌^◌, ◌<◌, ◌≤◌, ◌&&◌, ◌⊎◌, inl, inr, ℕ, suc, List, [], ◌∷◌, ◌++◌, Bool, true, false, if◌then◌else◌, map, length, nat_le, nat_lt, Option, None, Some, is_none, is_some, refl, ap, sym, subst, arith}
 use Rattle.std.proofs.lemmas.Bool.Decides.{nat_tests}
 use Rattle.std.proofs.lemmas.Option.{none-some, same_Some}
-use Rattle.std.specs.Option.{option_map, option_map_or}
+use Rattle.std.specs.Option.{option_map}
 use Rattle.sq_base.specs.Addresses.{Address}
 use Rattle.sq_base.specs.Requests.{HttpRequest}
 use Rattle.sq_base.specs.declared.requests.Field.{Field}
@@ -10,27 +10,24 @@ use Rattle.sq_rules.specs.declared.entries.Told.TheVariants as told
 use Rattle.sq_rules.specs.declared.refusals.Refusal.TheVariants as refusal
 use Rattle.sq_rules.specs.declared.sights.Peer.{Peer}
 use Rattle.sq_rules.specs.declared.sights.Sight.{Sight}
-use Rattle.sq_rules.specs.Checks.{Asked, peer_or_nobody}
-use Rattle.sq_rules.specs.Configurations.{Configuration}
+use Rattle.sq_rules.specs.Checks.{peer_or_nobody}
 use Rattle.sq_rules.specs.Limits.{last_number}
 use Rattle.sq_rules.specs.Machine.{gives, refuse_if, refuse_open, refuses}
 use Rattle.sq_rules.specs.Rising.{AreAbove, Rises}
 use Rattle.sq_rules.specs.Sights.{asked_request, minute_of_week, unversioned, unversioned_sight}
 use Rattle.sq_rows.specs.CheckRows.{Held, begun, held_on}
-use Rattle.sq_part.specs.Parts.{PartState}
 use Rattle.sq_checks.proofs.AloneLaws.{alone_more, held_on_kept, held_on_more}
 use Rattle.sq_checks.specs.Conns.{OpenConns, check_in, client_in}
 use Rattle.sq_checks.specs.Counts.{tally}
 use Rattle.sq_checks.specs.OpenChecks.{AreAlone, CheckParts, all_before, begun_parts, of_epoch, row, rows_of}
 use Rattle.sq_checks.specs.Stages.{need_in}
 use Rattle.sq_checks.specs.Tables.{value_at}
-use Rattle.sq_checks.specs.declared.stages.Need.{Need}
 use Rattle.sq_epochs.proofs.EndLaws.{config_began, part_began, row_began}
-use Rattle.sq_epochs.specs.EpochStates.{EpochState, EpochsState, epoch_at, part_at}
+use Rattle.sq_epochs.specs.EpochStates.{EpochState, EpochsState, epoch_at}
 use Rattle.sq_epochs.specs.LiveEpochs.{after_began, checks_at}
 use Rattle.sq_state.specs.Answers.{ask_answer, asked_in, check_on, sight_in}
 use Rattle.sq_state.specs.Changes.{after_ask}
-use Rattle.sq_state.specs.States.{IsSame, State}
+use Rattle.sq_state.specs.States.{IsSame}
 use Rattle.sq_engine.specs.Engines.{AreCounted, IsEngine, asked_of, held_number, waits_at}
 use Rattle.sq_engine.specs.EngineViews.{EngineView, config_at, config_in, state_of}
 use Rattle.sq_engine.proofs.CloseLaws.{none_on}

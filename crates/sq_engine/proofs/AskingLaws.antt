@@ -1,20 +1,18 @@
 -- The class and the check of a step that asks a class.
-use Rattle.std.proofs.Common.{◌≡◌, ◌∙◌, ◌==◌, ◌<◌, ℕ, zero, suc, List, [], ◌∷◌, Bool, true, false, if◌then◌else◌, length, Option, None, Some, IfSome, is_some, refl, ap, sym, subst, arith}
-use Rattle.std.proofs.lemmas.Option.{none-some, same_Some}
+use Rattle.std.proofs.Common.{◌≡◌, ◌∙◌, ◌==◌, ℕ, zero, suc, List, [], ◌∷◌, Bool, true, false, if◌then◌else◌, length, Option, None, Some, IfSome, is_some, refl, ap, sym, subst, arith}
 use Rattle.std.specs.List.{slice_get}
 use Rattle.sq_rules.specs.Classes.{Class}
 use Rattle.sq_rules.specs.Farms.{full}
 use Rattle.sq_rules.specs.OpenLookups.{pending_in, question_of}
-use Rattle.sq_rows.specs.StepRows.{says_of_row}
 use Rattle.sq_rows.specs.declared.said.Said.{Said}
 use Rattle.sq_part.specs.Parts.{PartState}
 use Rattle.sq_checks.proofs.StepLaws.{need_noted}
-use Rattle.sq_checks.specs.OpenChecks.{CheckParts, IsNoted}
+use Rattle.sq_checks.specs.OpenChecks.{IsNoted}
 use Rattle.sq_checks.specs.Stages.{need_in}
 use Rattle.sq_checks.specs.Tables.{value_at}
 use Rattle.sq_epochs.specs.EpochChanges.{IsResolved}
 use Rattle.sq_epochs.specs.EpochStates.{EpochState, EpochsState, IsChanged, class_at, class_of, epoch_at, part_at, part_of}
-use Rattle.sq_engine.specs.Engines.{AreCounted, IsEngine, asked_of, waits_at}
+use Rattle.sq_engine.specs.Engines.{IsEngine, asked_of, waits_at}
 use Rattle.sq_engine.specs.EngineViews.{EngineView}
 use Rattle.sq_engine.proofs.ChangedLaws.{some_has}
 use Rattle.sq_engine.proofs.ResolvedLaws.{IsAsking}

@@ -1,13 +1,11 @@
 -- An engine of which one check was changed is an engine still.
 use Rattle.std.proofs.Common.{◌≡◌, ◌∙◌, ◌==◌, ℕ, List, Bool, true, false, if◌then◌else◌, Option, None, Some, IfSome, OnOk, OnErr, Ok, Err, is_some, refl, ap, sym, subst}
 use Rattle.std.proofs.lemmas.Option.{none-some, same_Some}
-use Rattle.std.specs.Option.{option_map}
 use Rattle.std.specs.declared.result.Result.{Result}
 use Rattle.sq_checks.specs.Conns.{check_in}
 use Rattle.sq_checks.specs.OpenChecks.{CheckParts, change_at, finished, noted, rows_of, settled, settled_by}
 use Rattle.sq_checks.specs.Stages.{came_in, need_in}
 use Rattle.sq_checks.specs.Tables.{value_at}
-use Rattle.sq_checks.specs.declared.stages.Need.{Need}
 use Rattle.sq_checks.specs.declared.stages.Stage.{Stage}
 use Rattle.sq_checks.specs.declared.stages.Stage.TheVariants as stage
 use Rattle.sq_rules.specs.declared.outcomes.Outcome.{Outcome}

@@ -1,22 +1,19 @@
 -- A connection that closes: what is answered, and what is left.
-use Rattle.std.proofs.Common.{◌≡◌, ◌∙◌, ◌==◌, ◌-◌, ◌||◌, ℕ, List, Bool, true, false, not, if◌then◌else◌, map, length, Option, None, Some, is_none, is_some, refl, ap, ap₂, sym, subst, arith}
-use Rattle.std.proofs.lemmas.Option.{none-some, same_Some}
+use Rattle.std.proofs.Common.{◌≡◌, ◌∙◌, ◌==◌, ◌-◌, ◌||◌, ℕ, Bool, true, false, not, if◌then◌else◌, length, Option, None, Some, is_none, is_some, refl, ap, sym, subst, arith}
+use Rattle.std.proofs.lemmas.Option.{none-some}
 use Rattle.std.specs.Option.{option_map}
 use Rattle.sq_base.specs.Addresses.{Address}
 use Rattle.sq_rules.specs.declared.entries.Told.TheVariants as told
 use Rattle.sq_rules.specs.declared.refusals.Refusal.TheVariants as refusal
 use Rattle.sq_rules.specs.declared.sights.Peer.{Peer}
-use Rattle.sq_rules.specs.Configurations.{Configuration}
 use Rattle.sq_rules.specs.Connections.{is_address}
 use Rattle.sq_rules.specs.DueActs.{Place}
 use Rattle.sq_rules.specs.Machine.{gives, refuses}
-use Rattle.sq_rows.specs.CheckRows.{Held, held_on, without_check, without_conn}
-use Rattle.sq_rows.specs.ClassRows.{ClassRow}
+use Rattle.sq_rows.specs.CheckRows.{Held, held_on, without_conn}
 use Rattle.sq_checks.proofs.AloneLaws.{conn_absent}
 use Rattle.sq_checks.specs.Conns.{OpenConns, check_in, client_in, lowered}
 use Rattle.sq_checks.specs.Counts.{tally}
-use Rattle.sq_checks.specs.OpenChecks.{CheckParts, rows_of}
-use Rattle.sq_checks.specs.Tables.{value_at}
+use Rattle.sq_checks.specs.OpenChecks.{rows_of}
 use Rattle.sq_epochs.proofs.EndLaws.{homes_there, if_there, is_gone, none_gone}
 use Rattle.sq_epochs.specs.EpochProcs.{AreHomed}
 use Rattle.sq_epochs.specs.EpochStates.{EpochState, EpochsState, epoch_at, home_at, part_of, row_at}

@@ -1,5 +1,5 @@
 -- An engine is one still after questions of one class ended.
-use Rattle.std.proofs.Common.{◌≡◌, ◌∙◌, ◌==◌, ◌&&◌, ◌||◌, ◌⊎◌, inl, inr, ℕ, suc, List, [], ◌∷◌, Bool, true, false, not, if◌then◌else◌, nat_lt, filter, map, Option, None, Some, is_some, is_none, refl, ap, sym, subst, arith}
+use Rattle.std.proofs.Common.{◌≡◌, ◌∙◌, ◌==◌, ◌&&◌, ◌||◌, inl, ℕ, suc, List, [], ◌∷◌, Bool, true, false, not, if◌then◌else◌, nat_lt, filter, Option, None, Some, is_some, refl, ap, sym, subst}
 use Rattle.std.proofs.lemmas.Option.{none-some, same_Some}
 use Rattle.std.specs.Option.{option_map}
 use Rattle.sq_rules.specs.OpenLookups.{LookupRow, all_below, is_open_lookup, key_of, question_of}
@@ -12,12 +12,12 @@ use Rattle.sq_checks.specs.Stages.{need_in}
 use Rattle.sq_checks.specs.Tables.{value_at}
 use Rattle.sq_checks.specs.declared.stages.Need.{Need}
 use Rattle.sq_epochs.specs.EpochStates.{EpochsState, IsChanged, epoch_at, part_at, row_at}
-use Rattle.sq_engine.specs.Engines.{AreAsked, AreConfigured, AreCounted, AreFed, AreKeyed, AreOnce, AreWaiting, IsEngine, asked_of, held_number, waits_at}
+use Rattle.sq_engine.specs.Engines.{AreAsked, AreConfigured, AreCounted, AreOnce, IsEngine, asked_of, waits_at}
 use Rattle.sq_engine.specs.EngineViews.{EngineView, config_at, config_in}
 use Rattle.sq_engine.proofs.HeldLaws.{asked_mapped, counted_mapped, ends_keep}
 use Rattle.sq_engine.proofs.PartLaws.{PartFed, fed_changed, part_found, two_ways, waiting_part}
 use Rattle.sq_engine.proofs.PlaceLaws.{PartChanged, configs_kept, configured_part, counted_part, part_changed}
-use Rattle.sq_engine.proofs.TableLaws.{number_is, number_self, same_key}
+use Rattle.sq_engine.proofs.TableLaws.{number_is, number_self}
 
 -- what is left of a question that is waited for, and of a need, where these questions ended
 abbrev pub left_waits : (ℕ → Bool) → Option ℕ → Option ℕ

@@ -1,5 +1,5 @@
 -- The end of a process: what is left.
-use Rattle.std.proofs.Common.{◌≡◌, ◌∙◌, ◌==◌, ◌&&◌, ◌||◌, ℕ, List, [], ◌∷◌, Bool, true, false, if◌then◌else◌, map, nat_lt, Option, None, Some, is_some, refl, ap, sym, subst}
+use Rattle.std.proofs.Common.{◌≡◌, ◌∙◌, ◌==◌, ◌&&◌, ◌||◌, ℕ, List, [], ◌∷◌, Bool, true, false, if◌then◌else◌, map, Some, is_some, refl, ap, sym, subst}
 use Rattle.std.proofs.lemmas.Option.{same_Some}
 use Rattle.std.specs.List.{list_any}
 use Rattle.sq_base.specs.declared.helpers.Cause.{Cause}
@@ -12,7 +12,7 @@ use Rattle.sq_part.specs.Parts.{PartState}
 use Rattle.sq_checks.specs.OpenChecks.{CheckParts, rows_of}
 use Rattle.sq_epochs.specs.EpochProcs.{HasEnded, IsEnded}
 use Rattle.sq_epochs.specs.EpochStates.{EpochsState, IsChanged, home_at, part_at}
-use Rattle.sq_epochs.specs.HomeStates.{home_in, is_among, with_number, without_home}
+use Rattle.sq_epochs.specs.HomeStates.{home_in, is_among, with_number}
 use Rattle.sq_epochs.proofs.HomeLaws.{among_with, home_without}
 use Rattle.sq_state.specs.Changes.{after_end_at, is_open_at, row_ends}
 use Rattle.sq_state.specs.States.{IsSame}

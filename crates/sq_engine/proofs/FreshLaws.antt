@@ -1,5 +1,5 @@
 -- The engine that begins.
-use Rattle.std.proofs.Common.{◌≡◌, ◌∙◌, ◌==◌, ◌<◌, ℕ, ℤ, zero, suc, List, [], ◌∷◌, Bool, true, false, ◌||◌, if◌then◌else◌, map, length, Option, None, Some, is_some, refl, ap, ap₂, sym, subst, arith}
+use Rattle.std.proofs.Common.{◌≡◌, ◌∙◌, ◌==◌, ◌<◌, ℕ, ℤ, zero, suc, List, [], ◌∷◌, Bool, true, false, ◌||◌, if◌then◌else◌, map, length, Option, None, Some, is_some, refl, ap, sym, subst, arith}
 use Rattle.std.proofs.lemmas.Option.{same_Some}
 use Rattle.std.specs.List.{slice_get}
 use Rattle.std.specs.Option.{option_and_then, option_map}
@@ -8,17 +8,16 @@ use Rattle.sq_rules.specs.Classes.{Class}
 use Rattle.sq_rules.specs.Configurations.{Configuration}
 use Rattle.sq_rules.specs.Limits.{last_number}
 use Rattle.sq_rules.specs.OpenLookups.{all_below, is_open_lookup, question_of}
-use Rattle.sq_rows.specs.CheckRows.{Held, held_on}
-use Rattle.sq_rows.specs.ClassRows.{ClassRow, new_row}
+use Rattle.sq_rows.specs.CheckRows.{held_on}
+use Rattle.sq_rows.specs.ClassRows.{new_row}
 use Rattle.sq_part.specs.Parts.{PartState}
-use Rattle.sq_checks.specs.Conns.{check_in, client_in}
 use Rattle.sq_checks.specs.Counts.{tally}
-use Rattle.sq_checks.specs.OpenChecks.{AreAlone, CheckParts, all_before, of_epoch, rows_of}
+use Rattle.sq_checks.specs.OpenChecks.{AreAlone, all_before, of_epoch, rows_of}
 use Rattle.sq_checks.specs.Tables.{value_at}
-use Rattle.sq_epochs.specs.EpochStates.{EpochState, EpochsState, epoch_at, epoch_in, home_at, new_epoch, new_part, part_at, part_of, row_at}
+use Rattle.sq_epochs.specs.EpochStates.{EpochState, EpochsState, epoch_at, home_at, new_epoch, new_part, part_at, part_of, row_at}
 use Rattle.sq_state.specs.Changes.{first_state}
 use Rattle.sq_state.specs.States.{IsSame, lives_with}
-use Rattle.sq_engine.specs.Engines.{AreAsked, AreConfigured, AreCounted, AreFed, AreOnce, AreWaiting, IsEngine, held_number, waits_at}
+use Rattle.sq_engine.specs.Engines.{AreOnce, IsEngine, held_number, waits_at}
 use Rattle.sq_engine.specs.EngineViews.{EngineView, config_at, config_in, state_of, stop_at}
 
 -- the epochs that begin

@@ -1,5 +1,5 @@
 -- Checks that are given, one after the other, what a question ended with.
-use Rattle.std.proofs.Common.{◌≡◌, ◌∙◌, ◌==◌, ◌||◌, ℕ, List, [], ◌∷◌, ◌++◌, Bool, true, false, if◌then◌else◌, map, Bor, Option, None, Some, refl, ap, sym}
+use Rattle.std.proofs.Common.{◌≡◌, ◌∙◌, ◌==◌, ℕ, List, [], ◌∷◌, ◌++◌, Bool, true, false, if◌then◌else◌, map, Bor, refl, ap, sym}
 use Rattle.std.proofs.lemmas.List.{map-append}
 use Rattle.std.specs.Map.Iter.{deref}
 use Rattle.std.specs.Option.{option_and_then}
@@ -9,7 +9,6 @@ use Rattle.sq_rules.specs.Events.{is_number}
 use Rattle.sq_rules.specs.Rising.{Rises}
 use Rattle.sq_checks.specs.OpenChecks.{CheckParts, all_ended, change_at, change_entry, ended_by, rows_of, wait_at}
 use Rattle.sq_checks.specs.Stages.{ended_stage, question_in}
-use Rattle.sq_checks.specs.Tables.{value_at}
 use Rattle.sq_checks.specs.declared.stages.Stage.{Stage}
 use Rattle.sq_checks.specs.declared.stages.Stage.TheVariants as stage
 use Rattle.sq_engine.specs.Engines.{held_number}

@@ -1,6 +1,6 @@
 -- The lost questions of a class, handed out one after the other.
-use Rattle.std.proofs.Common.{◌≡◌, ◌∙◌, ◌==◌, ◌&&◌, ◌||◌, ◌<◌, ℕ, zero, suc, List, [], ◌∷◌, Bool, true, false, not, if◌then◌else◌, filter, length, Option, None, Some, is_some, is_none, refl, ap, ap₂, sym, subst, arith}
-use Rattle.std.proofs.lemmas.Option.{none-some, same_Some}
+use Rattle.std.proofs.Common.{◌≡◌, ◌∙◌, ◌==◌, ◌||◌, ◌<◌, ℕ, zero, suc, List, [], ◌∷◌, Bool, true, false, not, if◌then◌else◌, filter, length, Option, None, Some, is_some, refl, ap, sym, subst, arith}
+use Rattle.std.proofs.lemmas.Option.{same_Some}
 use Rattle.std.specs.List.{slice_get}
 use Rattle.std.specs.Prelude.{slice_set}
 use Rattle.std.specs.Option.{option_and_then, option_map, option_map_or}
@@ -9,7 +9,7 @@ use Rattle.sq_base.specs.declared.helpers.What.{What}
 use Rattle.sq_base.specs.declared.helpers.What.TheVariants as what
 use Rattle.sq_rules.specs.Events.{is_number}
 use Rattle.sq_rules.specs.Losses.{Loss}
-use Rattle.sq_rules.specs.OpenLookups.{LookupRow, is_open_lookup, key_of, question_of, waits_in}
+use Rattle.sq_rules.specs.OpenLookups.{LookupRow, is_open_lookup, key_of, question_of}
 use Rattle.sq_rows.specs.ClassRows.{ClassRow}
 use Rattle.sq_lookup.specs.Waits.{has_check}
 use Rattle.sq_part.specs.Losing.{IsHandedOut, handed_out, lost_cause}
@@ -21,11 +21,11 @@ use Rattle.sq_checks.specs.Tables.{value_at}
 use Rattle.sq_checks.specs.declared.stages.Stage.{Stage}
 use Rattle.sq_checks.specs.declared.stages.Stage.TheVariants as stage
 use Rattle.sq_epochs.specs.EpochChanges.{HasNoLoss, IsHandedOn}
-use Rattle.sq_epochs.specs.EpochStates.{EpochState, EpochsState, IsChanged, change_epoch, epoch_at, epoch_in, part_at, part_of, with_part}
+use Rattle.sq_epochs.specs.EpochStates.{EpochState, EpochsState, IsChanged, change_epoch, epoch_in, part_at, part_of, with_part}
 use Rattle.sq_epochs.specs.HomeStates.{Home}
 use Rattle.sq_engine.specs.Handing.{AreListed, HasHandedOut, all_lost, still_waits}
 use Rattle.sq_engine.proofs.PlaceLaws.{part_changed}
-use Rattle.sq_engine.proofs.TableLaws.{ended_at, number_is, number_self, number_sym}
+use Rattle.sq_engine.proofs.TableLaws.{ended_at, number_is, number_sym}
 
 apart : (a b c : ℕ) → (a == c) ≡ true → (b == c) ≡ false → (a == b) ≡ false
 apart a b c x y = grind (arith, x, y)

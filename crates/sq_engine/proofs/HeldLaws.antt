@@ -1,15 +1,13 @@
 -- What is the same of rows of checks that are changed and keep their numbers and what they are of.
-use Rattle.std.proofs.Common.{◌≡◌, ◌∙◌, ◌==◌, ◌&&◌, ◌||◌, ◌<◌, ℕ, suc, List, [], ◌∷◌, ◌++◌, Bool, true, false, not, if◌then◌else◌, map, nat_lt, length, Option, None, Some, is_some, refl, ap, ap₂, sym, subst, arith}
+use Rattle.std.proofs.Common.{◌≡◌, ◌∙◌, ◌==◌, ◌&&◌, ◌||◌, ℕ, suc, List, [], ◌∷◌, Bool, true, false, if◌then◌else◌, map, nat_lt, Option, None, Some, refl, ap, ap₂, sym, subst}
 use Rattle.std.specs.List.{list_any}
 use Rattle.std.specs.Option.{option_map, option_and_then}
 use Rattle.sq_base.specs.declared.helpers.Answer.{Answer}
 use Rattle.sq_rules.specs.StepRule.{StepSays}
-use Rattle.sq_rows.specs.CheckRows.{Ends, Held, after_ends, after_step, held_at, held_on, served, served_by, stepped, without_check, without_conn}
+use Rattle.sq_rows.specs.CheckRows.{Ends, Held, after_step, held_on, served, served_by, stepped}
 use Rattle.sq_checks.specs.OpenChecks.{AreAlone, all_before, of_epoch}
-use Rattle.sq_state.specs.States.{lives_with}
 use Rattle.sq_epochs.specs.EpochStates.{EpochState}
 use Rattle.sq_engine.specs.Engines.{AreAsked, AreCounted, held_number}
-use Rattle.sq_engine.proofs.TableLaws.{number_is, number_self, number_sym}
 
 -- a change of rows that keeps what they are
 pub record IsKeeping (f : Held → Held) : Type 0 where

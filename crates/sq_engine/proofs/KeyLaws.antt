@@ -1,5 +1,5 @@
 -- The keys of open questions, and those that checks wait with.
-use Rattle.std.proofs.Common.{◌≡◌, ◌∙◌, ◌==◌, ◌&&◌, ◌||◌, ◌⊎◌, inl, inr, ℕ, suc, List, [], ◌∷◌, ◌++◌, Bool, true, false, if◌then◌else◌, nat_lt, length, Option, None, Some, is_some, refl, ap, sym, subst, arith}
+use Rattle.std.proofs.Common.{◌≡◌, ◌∙◌, ◌==◌, ◌&&◌, ◌||◌, ℕ, suc, List, [], ◌∷◌, ◌++◌, Bool, true, false, if◌then◌else◌, nat_lt, Option, None, Some, refl, ap, sym, subst, arith}
 use Rattle.std.proofs.lemmas.Bool.Decides.{nat_tests}
 use Rattle.std.proofs.lemmas.Option.{none-some, same_Some}
 use Rattle.std.specs.Cmp.Lexicographic.{same_text}
@@ -28,10 +28,10 @@ use Rattle.sq_checks.specs.declared.stages.Need.{Need}
 use Rattle.sq_epochs.specs.EpochChanges.{IsResolved}
 use Rattle.sq_epochs.specs.EpochStates.{EpochsState, IsChanged, part_at}
 use Rattle.sq_engine.specs.Engines.{AreKeyed, AreOnce}
-use Rattle.sq_engine.proofs.LookupLaws.{below_more, not_open, open_more, pending_open}
+use Rattle.sq_engine.proofs.LookupLaws.{not_open, open_more, pending_open}
 use Rattle.sq_engine.proofs.PartLaws.{part_found, two_ways}
 use Rattle.sq_engine.proofs.PlaceLaws.{PartChanged, part_changed}
-use Rattle.sq_engine.proofs.TableLaws.{changed_at, mapped_if, number_is, number_self, number_sym}
+use Rattle.sq_engine.proofs.TableLaws.{changed_at, mapped_if, number_is, number_self}
 
 both : (a b : Bool) → (a && b) ≡ true → (a ≡ true) × (b ≡ true)
 both true b h = (refl, h)

@@ -1,11 +1,10 @@
 -- Live epochs from whose lists a check was taken away.
-use Rattle.std.proofs.Common.{◌≡◌, ◌∙◌, ◌==◌, ◌&&◌, ◌⊎◌, inl, inr, ℕ, suc, List, Bool, true, false, if◌then◌else◌, Option, None, Some, is_some, refl, ap, sym, subst, arith}
-use Rattle.std.proofs.lemmas.Option.{none-some, same_Some}
+use Rattle.std.proofs.Common.{◌≡◌, ◌∙◌, ◌==◌, ◌&&◌, ◌⊎◌, inl, inr, ℕ, List, Bool, true, false, if◌then◌else◌, Option, None, Some, is_some, refl, ap, sym, subst, arith}
 use Rattle.std.specs.Option.{option_map}
 use Rattle.sq_rules.specs.OpenLookups.{question_of}
 use Rattle.sq_rows.specs.CheckRows.{Held}
 use Rattle.sq_part.specs.Parts.{PartState}
-use Rattle.sq_checks.specs.OpenChecks.{CheckParts, rows_of}
+use Rattle.sq_checks.specs.OpenChecks.{CheckParts}
 use Rattle.sq_checks.specs.Stages.{need_in}
 use Rattle.sq_checks.specs.Tables.{value_at}
 use Rattle.sq_checks.specs.declared.stages.Need.{Need}
@@ -15,7 +14,7 @@ use Rattle.sq_engine.specs.Engines.{AreCounted, IsEngine, asked_of, waits_at}
 use Rattle.sq_engine.specs.EngineViews.{EngineView, config_in, stop_at}
 use Rattle.sq_engine.proofs.PartLaws.{IsHere, IsOther, part_found, part_there}
 use Rattle.sq_engine.proofs.PlaceLaws.{PartChanged, configs_kept, counted_part, part_changed}
-use Rattle.sq_engine.proofs.TableLaws.{number_is, number_self, number_sym}
+use Rattle.sq_engine.proofs.TableLaws.{number_is, number_sym}
 
 -- a part that is found was there with this row, and check n waits in it no more
 pub record WasPart (n : ℕ) (old : Option PartState) (p : PartState) : Type 0 where

@@ -1,5 +1,5 @@
 -- How a line of a process is answered by the state, and what it is.
-use Rattle.std.proofs.Common.{◌≡◌, ◌∙◌, ◌==◌, ◌&&◌, ℕ, zero, suc, List, [], ◌∷◌, Bool, true, false, if◌then◌else◌, Option, None, Some, is_some, refl, ap, sym, subst}
+use Rattle.std.proofs.Common.{◌≡◌, ◌∙◌, ◌==◌, ℕ, zero, suc, List, [], ◌∷◌, Bool, true, false, Option, None, Some, is_some, refl, ap, sym, subst}
 use Rattle.std.proofs.lemmas.Option.{none-some, same_Some}
 use Rattle.std.specs.List.{slice_get}
 use Rattle.std.specs.Option.{option_and_then, option_map, unwrap_or}
@@ -17,7 +17,7 @@ use Rattle.sq_rules.specs.Transcripts.{line_at, line_by, line_is, line_told}
 use Rattle.sq_rules.specs.declared.refusals.Refusal.TheVariants as refusal
 use Rattle.sq_part.specs.Parts.{PartState}
 use Rattle.sq_epochs.specs.EpochProcs.{AreHomed, is_place, lives_in}
-use Rattle.sq_epochs.specs.EpochStates.{EpochsState, home_at, part_at}
+use Rattle.sq_epochs.specs.EpochStates.{home_at, part_at}
 use Rattle.sq_state.specs.Answers.{channels_in, line_answer, line_of}
 use Rattle.sq_state.specs.States.{State}
 use Rattle.sq_engine.specs.EngineViews.{EngineView, state_of}

@@ -1,5 +1,5 @@
 -- Open lookups after a question was put.
-use Rattle.std.proofs.Common.{◌≡◌, ◌∙◌, ◌==◌, ◌&&◌, ◌||◌, ℕ, suc, List, [], ◌∷◌, ◌++◌, Bool, true, false, if◌then◌else◌, nat_lt, Option, None, Some, is_some, refl, ap, sym, arith}
+use Rattle.std.proofs.Common.{◌≡◌, ◌∙◌, ◌==◌, ◌&&◌, ◌||◌, ℕ, suc, List, [], ◌∷◌, ◌++◌, Bool, true, false, if◌then◌else◌, nat_lt, Option, None, Some, is_some, refl, sym, arith}
 use Rattle.std.proofs.lemmas.Bool.Decides.{nat_tests}
 use Rattle.std.proofs.lemmas.Option.{none-some, same_Some}
 use Rattle.sq_base.specs.declared.helpers.Cause.TheVariants as cause
@@ -11,7 +11,7 @@ use Rattle.sq_rules.specs.Marks.{Put}
 use Rattle.sq_rules.specs.OpenLookups.{LookupRow, all_below, is_open_lookup, pending_in}
 use Rattle.sq_rules.specs.StepRule.{StepSays, says_asked, says_fault, says_fresh, says_need}
 use Rattle.sq_rules.specs.declared.kept.KeptVerdict.{KeptVerdict}
-use Rattle.sq_rows.specs.ClassRows.{ClassRow, with_took}
+use Rattle.sq_rows.specs.ClassRows.{ClassRow}
 use Rattle.sq_rows.specs.StepRows.{after_says, with_put}
 use Rattle.sq_engine.proofs.TableLaws.{number_self}
 

@@ -1,13 +1,11 @@
 -- Questions of a class that are lost by one cause: once they were handed out.
-use Rattle.std.proofs.Common.{◌≡◌, ◌∙◌, ◌==◌, ◌&&◌, ◌||◌, ℕ, suc, List, [], ◌∷◌, Bool, true, false, not, if◌then◌else◌, filter, map, Option, None, Some, is_some, is_none, refl, ap, sym, subst, arith}
+use Rattle.std.proofs.Common.{◌≡◌, ◌∙◌, ◌==◌, ◌&&◌, ℕ, List, [], ◌∷◌, Bool, true, false, not, if◌then◌else◌, filter, map, Option, None, Some, is_some, refl, ap, sym, subst}
 use Rattle.std.proofs.lemmas.Option.{same_Some}
 use Rattle.std.specs.Option.{option_map}
-use Rattle.sq_base.specs.declared.helpers.Answer.{Answer}
 use Rattle.sq_base.specs.declared.helpers.Cause.{Cause}
 use Rattle.sq_base.specs.declared.helpers.Cause.TheVariants as cause
 use Rattle.sq_base.specs.declared.helpers.What.TheVariants as what
 use Rattle.sq_rules.specs.Channels.{is_open}
-use Rattle.sq_rules.specs.DueActs.{Place}
 use Rattle.sq_rules.specs.Farms.{is_last_start}
 use Rattle.sq_rules.specs.Living.{slots_in}
 use Rattle.sq_rules.specs.Losses.{Loss}
@@ -29,7 +27,7 @@ use Rattle.sq_engine.specs.Engines.{IsEngine, held_number}
 use Rattle.sq_engine.specs.EngineViews.{EngineView, state_of, stop_at}
 use Rattle.sq_engine.specs.Handing.{AreListed, HasHandedOut, all_lost, still_waits}
 use Rattle.sq_engine.proofs.EndedLaws.{HasEnds, IsEnding, ended_configs, ended_engine, ended_rows, left_need, left_waits}
-use Rattle.sq_engine.proofs.HandingLaws.{changed_beside, changed_then, part_after, same_between}
+use Rattle.sq_engine.proofs.HandingLaws.{changed_beside, changed_then, part_after}
 use Rattle.sq_engine.proofs.LostLaws.{engine_listed, engine_needing, lost_answer, lost_at, lost_by, lost_config, lost_ends, lost_epoch, lost_need, rows_lost, same_ends, still_needs}
 
 -- these questions of a class are lost by this cause, and once they were handed out its row is F of what it was

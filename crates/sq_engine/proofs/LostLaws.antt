@@ -1,10 +1,9 @@
 -- The checks after the lost questions of a class were handed out.
-use Rattle.std.proofs.Common.{◌≡◌, ◌∙◌, ◌==◌, ◌&&◌, ◌||◌, ◌<◌, ℕ, suc, List, [], ◌∷◌, Bool, true, false, not, if◌then◌else◌, filter, map, Option, None, Some, is_some, is_none, refl, ap, sym, subst, arith}
+use Rattle.std.proofs.Common.{◌≡◌, ◌∙◌, ◌==◌, ◌<◌, ℕ, List, [], ◌∷◌, Bool, true, false, if◌then◌else◌, map, Option, None, Some, is_some, refl, ap, sym, arith}
 use Rattle.std.proofs.lemmas.Option.{none-some, same_Some}
 use Rattle.std.specs.Option.{option_and_then, option_map}
 use Rattle.sq_base.specs.declared.helpers.Answer.{Answer}
 use Rattle.sq_base.specs.declared.helpers.Cause.{Cause}
-use Rattle.sq_base.specs.declared.helpers.What.{What}
 use Rattle.sq_base.specs.declared.helpers.What.TheVariants as what
 use Rattle.sq_rules.specs.Losses.{Loss}
 use Rattle.sq_rules.specs.Events.{is_number}
@@ -14,7 +13,7 @@ use Rattle.sq_part.specs.Parts.{PartState}
 use Rattle.sq_rows.specs.CheckRows.{Ends, Held, after_ends, no_end, one_end, served, served_by}
 use Rattle.sq_part.specs.Losing.{lost_cause}
 use Rattle.sq_checks.specs.OpenChecks.{AllFit, CheckParts, IsFit, all_ended, both_ends, ended_by, rows_of}
-use Rattle.sq_checks.specs.Stages.{ended_stage, given, need_in, question_in}
+use Rattle.sq_checks.specs.Stages.{ended_stage, need_in, question_in}
 use Rattle.sq_checks.specs.Tables.{value_at}
 use Rattle.sq_checks.specs.declared.stages.Need.{Need}
 use Rattle.sq_checks.specs.declared.stages.Stage.{Stage}
@@ -25,7 +24,7 @@ use Rattle.sq_epochs.specs.EpochStates.{part_at}
 use Rattle.sq_engine.specs.Engines.{IsEngine, asked_of, held_number, waits_at}
 use Rattle.sq_engine.specs.EngineViews.{EngineView}
 use Rattle.sq_engine.specs.Handing.{AreListed, all_lost}
-use Rattle.sq_engine.proofs.TableLaws.{ended_at, number_is, number_self, number_sym, same_key}
+use Rattle.sq_engine.proofs.TableLaws.{ended_at, number_is, number_self, same_key}
 
 below_apart : (a b : ℕ) → a < b → (a == b) ≡ false
 below_apart a b h = grind (arith, h)

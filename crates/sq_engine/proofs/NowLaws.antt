@@ -1,25 +1,21 @@
 -- What a step says of a check, by how far the check has come.
-use Rattle.std.proofs.Common.{◌≡◌, ◌∙◌, ◌==◌, ℕ, suc, List, [], ◌∷◌, Bool, true, false, if◌then◌else◌, Option, None, Some, IfSome, OnOk, Result, Ok, Err, is_some, refl, ap, ap₂, sym, subst}
+use Rattle.std.proofs.Common.{◌≡◌, ◌∙◌, ℕ, List, [], ◌∷◌, true, false, Option, None, Some, IfSome, Result, is_some, refl, ap, sym, subst}
 use Rattle.std.proofs.lemmas.Option.{none-some, same_Some}
 use Rattle.std.specs.List.{slice_get}
 use Rattle.std.specs.Option.{option_and_then, option_map, option_map_or}
 use Rattle.sq_rules.specs.declared.entries.Told.{Told}
-use Rattle.sq_rules.specs.declared.entries.Told.TheVariants as told
 use Rattle.sq_rules.specs.declared.outcomes.Outcome.{Outcome}
 use Rattle.sq_rules.specs.declared.outcomes.Why.TheVariants as why
 use Rattle.sq_rules.specs.declared.refusals.Refusal.{Refusal}
 use Rattle.sq_rules.specs.declared.refusals.Refusal.TheVariants as refusal
-use Rattle.sq_rules.specs.declared.values.Value.{Value}
 use Rattle.sq_rules.specs.declared.values.Value.TheVariants as value
 use Rattle.sq_rules.specs.Checks.{Asked}
-use Rattle.sq_rules.specs.Classes.{Class}
 use Rattle.sq_rules.specs.Configurations.{Configuration, IsConfiguration}
-use Rattle.sq_rules.specs.Machine.{Next, gives, refuses}
+use Rattle.sq_rules.specs.Machine.{Next, refuses}
 use Rattle.sq_rules.specs.FullNext.{step_next}
-use Rattle.sq_rules.specs.StepRule.{StepSays, class_of_acl, says_done}
+use Rattle.sq_rules.specs.StepRule.{class_of_acl, says_done}
 use Rattle.sq_rules.specs.Verdicts.{verdict_over}
-use Rattle.sq_rows.specs.CheckRows.{Held, held_at}
-use Rattle.sq_rows.specs.declared.said.Stepped.{Stepped}
+use Rattle.sq_rows.specs.CheckRows.{held_at}
 use Rattle.sq_history.proofs.ConfigurationLaws.{NeedsClass, needs_class}
 use Rattle.sq_checks.specs.OpenChecks.{CheckParts, change_at, comes_to, row, rows_of, settled, settled_by}
 use Rattle.sq_checks.specs.Stages.{came_in, is_settled, need_in, question_in}
@@ -27,15 +23,14 @@ use Rattle.sq_checks.specs.Tables.{value_at}
 use Rattle.sq_checks.specs.declared.stages.Need.{Need}
 use Rattle.sq_checks.specs.declared.stages.Stage.{Stage}
 use Rattle.sq_checks.specs.declared.stages.Stage.TheVariants as stage
-use Rattle.sq_epochs.specs.EpochStates.{EpochState, class_at, class_of, epoch_at, part_at}
+use Rattle.sq_epochs.specs.EpochStates.{EpochState, class_of, epoch_at, part_at}
 use Rattle.sq_state.specs.Changes.{after_step_of}
 use Rattle.sq_state.specs.Says.{says_in, says_place_in, says_value_in, value_in}
-use Rattle.sq_state.specs.States.{IsSame, State}
 use Rattle.sq_engine.specs.Engines.{IsEngine}
-use Rattle.sq_engine.specs.EngineViews.{EngineView, config_at, config_in, state_of}
-use Rattle.sq_engine.specs.Stepping.{NeedsAcl, after_step_held, after_step_now, epoch_of, says_now, says_of_wait, says_waits, step_now, step_of, stepped_told}
+use Rattle.sq_engine.specs.EngineViews.{EngineView, config_in, state_of}
+use Rattle.sq_engine.specs.Stepping.{NeedsAcl, after_step_held, after_step_now, epoch_of, says_now, says_of_wait, says_waits, step_now, step_of}
 use Rattle.sq_engine.specs.Tellings.{IsTold}
-use Rattle.sq_engine.proofs.AskingLaws.{part_of_class, some_of}
+use Rattle.sq_engine.proofs.AskingLaws.{part_of_class}
 use Rattle.sq_engine.proofs.ResolveLaws.{says_here}
 use Rattle.sq_engine.proofs.TableLaws.{changed_at, mapped_if, number_self, row_at_number}
 

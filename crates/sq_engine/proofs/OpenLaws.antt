@@ -1,5 +1,5 @@
 -- A connection that opens: what is answered, and what is left.
-use Rattle.std.proofs.Common.{◌≡◌, ◌∙◌, ◌==◌, ℕ, suc, true, false, if◌then◌else◌, nat_le, length, Some, None, is_some, refl, ap, sym}
+use Rattle.std.proofs.Common.{◌≡◌, ◌∙◌, ◌==◌, ℕ, suc, true, false, if◌then◌else◌, nat_le, length, Some, is_some, refl}
 use Rattle.sq_base.specs.Addresses.{Address}
 use Rattle.sq_rules.specs.declared.entries.Told.TheVariants as told
 use Rattle.sq_rules.specs.declared.refusals.Refusal.TheVariants as refusal

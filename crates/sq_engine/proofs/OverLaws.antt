@@ -1,8 +1,8 @@
 -- An engine of which an open check is over: it is one still, and what is left.
-use Rattle.std.proofs.Common.{◌≡◌, ◌∙◌, ◌==◌, ◌-◌, ◌&&◌, ◌||◌, ◌<◌, ℕ, suc, List, [], ◌∷◌, Bool, true, false, not, if◌then◌else◌, map, filter, length, nat_lt, Option, None, Some, is_some, refl, ap, ap₂, sym, subst, arith}
+use Rattle.std.proofs.Common.{◌≡◌, ◌∙◌, ◌==◌, ◌&&◌, ◌||◌, ℕ, suc, List, [], ◌∷◌, Bool, true, false, not, if◌then◌else◌, map, length, nat_lt, Option, None, Some, is_some, refl, ap, ap₂, sym, subst}
 use Rattle.std.proofs.lemmas.Option.{none-some, same_Some}
 use Rattle.std.specs.List.{list_any}
-use Rattle.std.specs.Option.{option_map, option_map_or}
+use Rattle.std.specs.Option.{option_map}
 use Rattle.sq_base.specs.Addresses.{Address}
 use Rattle.sq_rules.specs.declared.sights.Peer.{Peer}
 use Rattle.sq_rules.specs.Configurations.{Configuration}
@@ -16,19 +16,17 @@ use Rattle.sq_checks.proofs.AloneLaws.{alone_without, conn_alone, held_on_left}
 use Rattle.sq_checks.specs.Conns.{OpenConns, check_in, client_in}
 use Rattle.sq_checks.specs.Counts.{tally}
 use Rattle.sq_checks.specs.OpenChecks.{AreAlone, CheckParts, all_before, row, rows_of, without_entry}
-use Rattle.sq_checks.specs.Stages.{need_in}
 use Rattle.sq_checks.specs.Tables.{value_at}
-use Rattle.sq_checks.specs.declared.stages.Need.{Need}
 use Rattle.sq_epochs.proofs.EndLaws.{epoch_counted, epoch_dropped, if_there, is_gone}
 use Rattle.sq_epochs.proofs.OverLaws.{config_ended, home_ended, row_ended, stop_ended}
 use Rattle.sq_epochs.specs.EpochProcs.{AreHomed}
-use Rattle.sq_epochs.specs.EpochStates.{EpochState, EpochsState, change_epoch, epoch_at, home_at, part_at, part_of, row_at}
+use Rattle.sq_epochs.specs.EpochStates.{EpochState, EpochsState, change_epoch, epoch_at, home_at, part_at, part_of}
 use Rattle.sq_epochs.specs.HomeStates.{home_number}
 use Rattle.sq_epochs.specs.LiveEpochs.{after_ended, check_less, drop_epoch, ends_with_check}
 use Rattle.sq_state.specs.Changes.{if_live, is_over, with_checks}
-use Rattle.sq_state.specs.States.{IsSame, State, lives_with}
-use Rattle.sq_engine.specs.Engines.{AreAsked, AreConfigured, AreCounted, AreFed, AreKeyed, AreOnce, AreWaiting, IsEngine, held_number, waits_at}
-use Rattle.sq_engine.specs.EngineViews.{EngineView, config_at, config_in, state_of, stop_at}
+use Rattle.sq_state.specs.States.{IsSame, lives_with}
+use Rattle.sq_engine.specs.Engines.{AreCounted, AreOnce, IsEngine, held_number, waits_at}
+use Rattle.sq_engine.specs.EngineViews.{EngineView, config_at, config_in, state_of}
 use Rattle.sq_engine.proofs.CountLaws.{counted_over, if_false, if_true}
 use Rattle.sq_engine.proofs.LeavingLaws.{LeftBy, WasPart}
 use Rattle.sq_engine.proofs.NowLaws.{held_is}

@@ -1,13 +1,13 @@
 -- What holds of the parts of an engine of which one was changed.
-use Rattle.std.proofs.Common.{◌≡◌, ◌∙◌, ◌==◌, ◌&&◌, ◌⊎◌, inl, inr, ◌<◌, ℕ, suc, List, [], Bool, true, false, if◌then◌else◌, Option, None, Some, is_some, refl, ap, sym, subst, arith}
-use Rattle.std.proofs.lemmas.Option.{none-some, same_Some}
+use Rattle.std.proofs.Common.{◌≡◌, ◌∙◌, ◌==◌, ◌&&◌, ◌⊎◌, inl, inr, ◌<◌, ℕ, suc, [], Bool, true, false, Option, Some, is_some, refl, ap, sym}
+use Rattle.std.proofs.lemmas.Option.{same_Some}
 use Rattle.sq_rules.specs.Limits.{last_number}
 use Rattle.sq_rules.specs.OpenLookups.{all_below, is_open_lookup, question_of}
 use Rattle.sq_checks.specs.OpenChecks.{CheckParts}
 use Rattle.sq_checks.specs.Stages.{need_in}
 use Rattle.sq_checks.specs.declared.stages.Need.{Need}
-use Rattle.sq_epochs.specs.EpochStates.{EpochsState, IsChanged, part_at}
-use Rattle.sq_part.specs.Parts.{IsAsBefore, PartState}
+use Rattle.sq_epochs.specs.EpochStates.{EpochsState, part_at}
+use Rattle.sq_part.specs.Parts.{PartState}
 use Rattle.sq_engine.specs.Engines.{AreFed, AreWaiting, waits_at}
 use Rattle.sq_engine.proofs.PlaceLaws.{PartChanged}
 use Rattle.sq_engine.proofs.TableLaws.{number_is}

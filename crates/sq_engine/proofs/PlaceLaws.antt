@@ -1,17 +1,15 @@
 -- What is found by number in live epochs of which one, or one part of one, was changed.
-use Rattle.std.proofs.Common.{◌≡◌, ◌∙◌, ◌==◌, ◌&&◌, ℕ, zero, suc, List, [], ◌∷◌, Bool, true, false, if◌then◌else◌, length, Option, None, Some, is_some, refl, ap, sym, subst, arith}
+use Rattle.std.proofs.Common.{◌≡◌, ◌∙◌, ◌==◌, ◌&&◌, ℕ, zero, suc, List, [], ◌∷◌, Bool, true, false, length, Option, None, Some, is_some, refl, ap, sym, subst, arith}
 use Rattle.std.proofs.lemmas.Option.{same_Some}
 use Rattle.std.specs.List.{slice_get}
 use Rattle.std.specs.Prelude.{slice_set}
-use Rattle.std.specs.Option.{option_map}
-use Rattle.sq_rules.specs.Configurations.{Configuration}
 use Rattle.sq_part.specs.Parts.{PartState}
 use Rattle.sq_rows.specs.CheckRows.{Held}
 use Rattle.sq_checks.specs.OpenChecks.{CheckParts}
 use Rattle.sq_epochs.specs.EpochStates.{EpochState, EpochsState, IsChanged, change_epoch, epoch_at, epoch_in, home_at, part_at, part_of, with_part}
 use Rattle.sq_engine.specs.Engines.{AreConfigured, AreCounted}
 use Rattle.sq_engine.specs.EngineViews.{config_in, stop_at}
-use Rattle.sq_engine.proofs.TableLaws.{mapped_if, number_is, number_self}
+use Rattle.sq_engine.proofs.TableLaws.{mapped_if, number_self}
 
 together : (a b c : ℕ) → (a == c) ≡ true → (b == c) ≡ true → (a == b) ≡ true
 together a b c x y = grind (arith, x, y)

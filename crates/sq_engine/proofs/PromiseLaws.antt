@@ -1,11 +1,11 @@
 -- From what a call answers and leaves by the machine's state to what is promised of it.
-use Rattle.std.proofs.Common.{◌≡◌, ◌∙◌, ℕ, ℤ, suc, ◌≤◌, List, Bool, true, false, Option, None, Some, Result, Ok, Err, is_some, OnOk, refl, ap, sym, subst}
+use Rattle.std.proofs.Common.{◌≡◌, ◌∙◌, ℕ, ℤ, ◌≤◌, List, true, false, Option, None, Some, Result, Ok, Err, is_some, OnOk, refl, ap, sym, subst}
 use Rattle.sq_base.specs.Addresses.{Address}
 use Rattle.sq_base.specs.Targets.{target_of}
 use Rattle.sq_base.specs.declared.helpers.Cause.TheVariants as cause
 use Rattle.sq_base.specs.declared.requests.Field.{Field}
 use Rattle.sq_rules.specs.declared.entries.Event.{Event}
-use Rattle.sq_rules.specs.declared.entries.Event.TheVariants.{Ask, Close, Died, Open, Reconfigure, StartFail, Started, Step, Take}
+use Rattle.sq_rules.specs.declared.entries.Event.TheVariants.{Ask, Close, Died, Open, StartFail, Started, Step, Take}
 use Rattle.sq_rules.specs.declared.entries.Told.{Told}
 use Rattle.sq_rules.specs.declared.entries.Told.TheVariants as told
 use Rattle.sq_rules.specs.declared.refusals.Refusal.{Refusal}
@@ -16,17 +16,17 @@ use Rattle.sq_rules.specs.DueActs.{Place}
 use Rattle.sq_rules.specs.Entries.{History}
 use Rattle.sq_rules.specs.Epochs.{class_at}
 use Rattle.sq_rules.specs.FullNext.{full_next, step_next}
-use Rattle.sq_rules.specs.Machine.{Next, config_of, gives, refuses}
+use Rattle.sq_rules.specs.Machine.{Next, gives, refuses}
 use Rattle.sq_rules.specs.Marking.{marked}
 use Rattle.sq_rules.specs.Readings.{latest}
 use Rattle.sq_rules.specs.StepRule.{StepSays}
 use Rattle.sq_rows.specs.CheckRows.{Held, held_at}
-use Rattle.sq_state.specs.Answers.{ask_answer, asked_in, close_answer, died_answer, failed_answer, name_in, open_answer, reconfigure_answer, started_answer, step_answer, step_of_held, take_answer}
-use Rattle.sq_state.specs.Changes.{after_ask, after_close, after_end_at, after_failed_at, after_open, after_reconfigured, after_started_at, after_step_of, after_take, first_state}
+use Rattle.sq_state.specs.Answers.{ask_answer, asked_in, close_answer, died_answer, failed_answer, name_in, open_answer, started_answer, step_of_held, take_answer}
+use Rattle.sq_state.specs.Changes.{after_ask, after_close, after_end_at, after_failed_at, after_open, after_started_at, after_step_of, after_take, first_state}
 use Rattle.sq_state.specs.Promises.{IsAnswered, StandsFor}
 use Rattle.sq_state.specs.Says.{says_in}
 use Rattle.sq_state.specs.States.{IsSame, State}
-use Rattle.sq_state.proofs.ActPromises.{failed_answered, reconfigure_answered, started_answered}
+use Rattle.sq_state.proofs.ActPromises.{failed_answered, started_answered}
 use Rattle.sq_state.proofs.ConnStands.{ask_next, close_next, open_next, take_next}
 use Rattle.sq_state.proofs.LinePromises.{died_answered, died_told}
 use Rattle.sq_state.proofs.PromiseLaws.{answered_same, ask_answered, close_answered, first_for, law_of, next_now, open_answered, take_answered}

@@ -1,5 +1,5 @@
 -- A reply, from what the calls say that make it.
-use Rattle.std.proofs.Common.{◌≡◌, ◌∙◌, ℕ, List, ◌∷◌, map, true, Option, None, Some, Result, Ok, Err, OnErr, is_some, refl, ap, sym, subst}
+use Rattle.std.proofs.Common.{◌≡◌, ◌∙◌, ℕ, List, map, true, Option, None, Some, Result, Ok, Err, OnErr, is_some, refl, ap, sym, subst}
 use Rattle.std.specs.Option.{option_map}
 use Rattle.sq_base.specs.declared.helpers.Reply.{Reply}
 use Rattle.sq_base.specs.declared.helpers.What.{What}

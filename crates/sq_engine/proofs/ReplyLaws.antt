@@ -1,23 +1,19 @@
 -- A reply to a question: the checks that wait for it are given what it says, and what is left.
-use Rattle.std.proofs.Common.{◌≡◌, ◌∙◌, ◌==◌, ◌&&◌, ◌||◌, ◌<◌, ℕ, suc, List, [], ◌∷◌, ◌++◌, Bool, true, false, not, if◌then◌else◌, filter, map, Option, None, Some, is_some, refl, ap, sym, subst, arith}
+use Rattle.std.proofs.Common.{◌≡◌, ◌∙◌, ◌==◌, ◌<◌, ℕ, List, [], ◌∷◌, Bool, true, false, if◌then◌else◌, map, Option, None, Some, refl, ap, sym, arith}
 use Rattle.std.proofs.lemmas.Option.{none-some, same_Some}
-use Rattle.std.specs.Option.{option_and_then, option_map}
 use Rattle.sq_base.specs.declared.helpers.Answer.{Answer}
 use Rattle.sq_base.specs.declared.helpers.What.{What}
-use Rattle.sq_lookup.specs.Waits.{has_check}
 use Rattle.sq_rules.specs.Classes.{Class}
-use Rattle.sq_rules.specs.DueActs.{Place}
 use Rattle.sq_rules.specs.Events.{is_number}
-use Rattle.sq_rules.specs.OpenLookups.{LookupRow, is_open_lookup, key_of, question_of, waits_in}
+use Rattle.sq_rules.specs.OpenLookups.{LookupRow, is_open_lookup, key_of, question_of}
 use Rattle.sq_rules.specs.Rising.{AreAbove, Rises}
 use Rattle.sq_rows.specs.CheckRows.{after_ends, one_end}
 use Rattle.sq_rows.specs.ClassRows.{ClassRow, after_reply}
 use Rattle.sq_part.specs.Parts.{PartState}
 use Rattle.sq_checks.proofs.RowLaws.{rows_ended}
-use Rattle.sq_checks.specs.OpenChecks.{AllFit, CheckParts, IsFit, all_ended, change_at, ended_by, rows_of, wait_at}
-use Rattle.sq_checks.specs.Stages.{ended_stage, given, need_in, question_in}
+use Rattle.sq_checks.specs.OpenChecks.{AllFit, CheckParts, IsFit, all_ended, ended_by, rows_of}
+use Rattle.sq_checks.specs.Stages.{ended_stage, need_in}
 use Rattle.sq_checks.specs.Tables.{value_at}
-use Rattle.sq_checks.specs.declared.stages.Need.{Need}
 use Rattle.sq_checks.specs.declared.stages.Stage.{Stage}
 use Rattle.sq_checks.specs.declared.stages.Stage.TheVariants as stage
 use Rattle.sq_epochs.specs.EpochChanges.{HasReplied}

@@ -1,12 +1,9 @@
 -- A step that asks a class: what is told, and what is left.
-use Rattle.std.proofs.Common.{◌≡◌, ◌∙◌, ◌==◌, ◌&&◌, ◌⊎◌, inl, inr, ◌<◌, ◌≤◌, ℕ, suc, List, [], length, Bool, true, false, not, if◌then◌else◌, nat_le, nat_lt, Option, None, Some, is_some, refl, ap, ap₂, sym, subst, arith}
+use Rattle.std.proofs.Common.{◌≡◌, ◌∙◌, ◌==◌, ◌&&◌, ◌<◌, ◌≤◌, ℕ, suc, List, [], length, Bool, true, false, if◌then◌else◌, nat_le, nat_lt, Option, None, Some, is_some, refl, ap, sym, subst, arith}
 use Rattle.std.proofs.lemmas.Bool.Decides.{nat_tests}
-use Rattle.std.proofs.lemmas.Option.{none-some, same_Some}
 use Rattle.std.specs.List.{slice_get}
 use Rattle.std.specs.Option.{option_and_then, option_map, option_map_or}
-use Rattle.sq_base.specs.declared.helpers.Answer.{Answer}
 use Rattle.sq_base.specs.declared.helpers.Cause.TheVariants as cause
-use Rattle.sq_rules.specs.AnswerReadings.{waits_told}
 use Rattle.sq_rules.specs.Classes.{Class}
 use Rattle.sq_rules.specs.Farms.{full}
 use Rattle.sq_rules.specs.FullNext.{step_next}
@@ -14,35 +11,29 @@ use Rattle.sq_rules.specs.KeptLists.{KeptList, fresh_for}
 use Rattle.sq_rules.specs.Limits.{key_limit, last_number}
 use Rattle.sq_rules.specs.Machine.{gives, refuses}
 use Rattle.sq_rules.specs.Marks.{Put}
-use Rattle.sq_rules.specs.OpenLookups.{all_below, is_open_lookup, pending_in, question_of}
+use Rattle.sq_rules.specs.OpenLookups.{pending_in}
 use Rattle.sq_rules.specs.StepRule.{StepSays, says_asked, says_fault, says_fresh, says_need}
 use Rattle.sq_rules.specs.declared.entries.Told.{Told}
 use Rattle.sq_rules.specs.declared.entries.Told.TheVariants as told
 use Rattle.sq_rules.specs.declared.kept.KeptVerdict.{KeptVerdict}
 use Rattle.sq_rules.specs.declared.refusals.Refusal.TheVariants as refusal
 use Rattle.sq_rows.specs.CheckRows.{after_step}
-use Rattle.sq_rows.specs.ClassRows.{ClassRow}
-use Rattle.sq_rows.specs.StepRows.{after_says, said_of, says_of_row, stepped_of, told_of}
+use Rattle.sq_rows.specs.StepRows.{says_of_row, stepped_of, told_of}
 use Rattle.sq_rows.specs.declared.said.Said.{Said}
-use Rattle.sq_rows.specs.declared.said.Stepped.{Stepped}
-use Rattle.sq_rows.specs.declared.said.Stepped.TheVariants as stepped
 use Rattle.sq_history.specs.ClassChanges.{after_said}
-use Rattle.sq_part.specs.Parts.{IsAsBefore, PartState}
-use Rattle.sq_part.specs.Steps.{IsSpent, IsStepped}
+use Rattle.sq_part.specs.Parts.{PartState}
+use Rattle.sq_part.specs.Steps.{IsSpent}
 use Rattle.sq_checks.proofs.StepLaws as check_steps
-use Rattle.sq_checks.specs.OpenChecks.{CheckParts, change_at, noted, rows_of, says_of}
-use Rattle.sq_checks.specs.Stages.{is_noted, need_in, noted_stage, question_told}
-use Rattle.sq_checks.specs.Tables.{value_at}
+use Rattle.sq_checks.specs.OpenChecks.{CheckParts, rows_of, says_of}
 use Rattle.sq_epochs.specs.EpochChanges.{IsResolved}
 use Rattle.sq_epochs.specs.EpochStates.{EpochState, EpochsState, IsChanged, class_at, class_of, epoch_at, part_at, row_at}
 use Rattle.sq_state.specs.Answers.{name_in}
 use Rattle.sq_state.specs.Changes.{after_step_of}
 use Rattle.sq_state.specs.Says.{class_in, says_class_in, says_place_in}
 use Rattle.sq_state.specs.States.{IsSame, State}
-use Rattle.sq_engine.specs.Engines.{IsEngine}
-use Rattle.sq_engine.specs.EngineViews.{EngineView, config_at, config_in, state_of}
+use Rattle.sq_engine.specs.EngineViews.{EngineView, config_in, state_of}
 use Rattle.sq_engine.specs.Stepping.{stepped_told}
-use Rattle.sq_engine.proofs.PlaceLaws.{PartChanged, configs_kept, part_changed}
+use Rattle.sq_engine.proofs.PlaceLaws.{configs_kept, part_changed}
 use Rattle.sq_engine.proofs.StepLaws.{SaysPlace, need_place, said_else, said_here}
 use Rattle.sq_engine.proofs.TableLaws.{number_is, number_self}
 

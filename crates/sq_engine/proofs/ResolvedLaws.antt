@@ -7,19 +7,17 @@ use Rattle.sq_rules.specs.AnswerReadings.{waits_told}
 use Rattle.sq_rules.specs.Classes.{Class}
 use Rattle.sq_rules.specs.Farms.{full}
 use Rattle.sq_rules.specs.Limits.{last_number}
-use Rattle.sq_rules.specs.Marks.{Put}
 use Rattle.sq_rules.specs.OpenLookups.{all_below, is_open_lookup, pending_in, question_of}
 use Rattle.sq_rules.specs.StepRule.{StepSays}
 use Rattle.sq_rules.specs.declared.entries.Told.{Told}
 use Rattle.sq_rules.specs.declared.entries.Told.TheVariants as told
 use Rattle.sq_rows.specs.CheckRows.{after_step}
 use Rattle.sq_rows.specs.ClassRows.{with_took}
-use Rattle.sq_rows.specs.StepRows.{after_says, said_of, says_of_row, stepped_of}
+use Rattle.sq_rows.specs.StepRows.{after_says, says_of_row, stepped_of}
 use Rattle.sq_rows.specs.declared.said.Said.{Said}
 use Rattle.sq_rows.specs.declared.said.Stepped.{Stepped}
 use Rattle.sq_rows.specs.declared.said.Stepped.TheVariants as stepped
 use Rattle.sq_part.specs.Parts.{IsAsBefore, PartState}
-use Rattle.sq_part.specs.Steps.{IsStepped}
 use Rattle.sq_checks.proofs.StepLaws.{need_noted}
 use Rattle.sq_checks.specs.Conns.{check_in}
 use Rattle.sq_checks.specs.OpenChecks.{CheckParts, change_at, noted, rows_of, says_of}
@@ -27,11 +25,11 @@ use Rattle.sq_checks.specs.Stages.{is_noted, need_in, noted_stage, question_told
 use Rattle.sq_checks.specs.Tables.{value_at}
 use Rattle.sq_checks.specs.declared.stages.Need.{Need}
 use Rattle.sq_epochs.specs.EpochChanges.{IsResolved}
-use Rattle.sq_epochs.specs.EpochStates.{EpochsState, IsChanged, class_at, epoch_at, part_at, row_at}
+use Rattle.sq_epochs.specs.EpochStates.{EpochsState, IsChanged, epoch_at, part_at, row_at}
 use Rattle.sq_state.specs.States.{IsSame}
 use Rattle.sq_engine.specs.Engines.{AreConfigured, AreFed, AreKeyed, AreWaiting, IsEngine, asked_of, waits_at}
-use Rattle.sq_engine.specs.EngineViews.{EngineView, config_at, config_in, state_of}
-use Rattle.sq_engine.proofs.ChangedLaws.{KeepsEpoch, configured_changed}
+use Rattle.sq_engine.specs.EngineViews.{EngineView, config_at, state_of}
+use Rattle.sq_engine.proofs.ChangedLaws.{configured_changed}
 use Rattle.sq_engine.proofs.HeldLaws.{asked_stepped, counted_stepped}
 use Rattle.sq_engine.proofs.KeyLaws.{keyed_before, keyed_resolved}
 use Rattle.sq_engine.proofs.LookupLaws.{losses_put, need_open, not_open, open_still, put_below, put_higher, puts_after, was_open}

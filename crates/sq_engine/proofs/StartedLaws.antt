@@ -1,5 +1,5 @@
 -- How starts of processes are answered, and what a process that was started leaves.
-use Rattle.std.proofs.Common.{◌≡◌, ◌∙◌, ◌==◌, ◌<◌, ◌≤◌, ℕ, suc, List, Bool, true, false, not, if◌then◌else◌, nat_le, Option, None, Some, Result, Ok, Err, is_some, refl, ap, sym, arith}
+use Rattle.std.proofs.Common.{◌≡◌, ◌∙◌, ◌==◌, ◌<◌, ◌≤◌, ℕ, suc, List, Bool, true, false, if◌then◌else◌, nat_le, Option, None, Some, is_some, refl, ap, arith}
 use Rattle.std.proofs.lemmas.Bool.Decides.{nat_tests}
 use Rattle.std.specs.Option.{option_or}
 use Rattle.sq_rules.specs.declared.entries.Told.TheVariants as told
@@ -10,8 +10,8 @@ use Rattle.sq_rules.specs.Machine.{gives, refuses}
 use Rattle.sq_rules.specs.OpenLookups.{question_of}
 use Rattle.sq_rows.specs.ClassRows.{after_started}
 use Rattle.sq_part.specs.Parts.{PartState}
-use Rattle.sq_epochs.specs.EpochProcs.{HasStarted, IsStarted, has_start, is_starting}
-use Rattle.sq_epochs.specs.EpochStates.{EpochsState, IsChanged, home_at, part_at}
+use Rattle.sq_epochs.specs.EpochProcs.{HasStarted, IsStarted, has_start}
+use Rattle.sq_epochs.specs.EpochStates.{EpochsState, IsChanged, part_at}
 use Rattle.sq_epochs.specs.HomeStates.{AreHomes, Home, home_in}
 use Rattle.sq_epochs.proofs.HomeLaws.{home_below, home_push}
 use Rattle.sq_state.specs.Answers.{died_answer, failed_answer, has_start_in, started_answer}

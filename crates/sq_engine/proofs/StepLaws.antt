@@ -1,5 +1,5 @@
 -- A step of a check: what it makes of classes and of the state.
-use Rattle.std.proofs.Common.{◌≡◌, ◌∙◌, ◌==◌, ◌&&◌, ℕ, suc, List, length, Bool, true, false, not, if◌then◌else◌, nat_lt, Option, None, Some, is_some, refl, ap, ap₂, sym, arith}
+use Rattle.std.proofs.Common.{◌≡◌, ◌∙◌, ◌==◌, ◌&&◌, ℕ, List, length, Bool, true, false, if◌then◌else◌, nat_lt, Option, None, Some, refl, ap, sym, arith}
 use Rattle.std.proofs.lemmas.Option.{none-some, same_Some}
 use Rattle.std.specs.Option.{option_map}
 use Rattle.sq_base.specs.declared.helpers.Answer.{Answer}
@@ -8,9 +8,8 @@ use Rattle.sq_base.specs.declared.helpers.Cause.TheVariants as cause
 use Rattle.sq_rules.specs.declared.entries.Told.{Told}
 use Rattle.sq_rules.specs.declared.kept.KeptVerdict.{KeptVerdict}
 use Rattle.sq_rules.specs.Classes.{Class}
-use Rattle.sq_rules.specs.FarmReadings.{is_put_for}
 use Rattle.sq_rules.specs.Freshness.{is_due}
-use Rattle.sq_rules.specs.KeptLists.{KeptList, fresh_for, is_fault, to_front}
+use Rattle.sq_rules.specs.KeptLists.{KeptList, fresh_for}
 use Rattle.sq_rules.specs.KeptReadings.{after_took}
 use Rattle.sq_rules.specs.Limits.{key_limit}
 use Rattle.sq_rules.specs.Marks.{Put}
@@ -21,7 +20,7 @@ use Rattle.sq_rows.specs.StepRows.{after_says, with_put}
 use Rattle.sq_history.specs.ClassChanges.{after_said, with_put_for}
 use Rattle.sq_checks.specs.OpenChecks.{CheckParts, rows_of}
 use Rattle.sq_state.specs.Changes.{after_step_of}
-use Rattle.sq_state.specs.States.{IsSame, State}
+use Rattle.sq_state.specs.States.{IsSame}
 use Rattle.sq_engine.specs.EngineViews.{EngineView, state_of}
 
 -- a step that says so puts a question for this class alone, and takes an answer of it alone

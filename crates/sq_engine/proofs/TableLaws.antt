@@ -1,9 +1,9 @@
 -- What stands at a number in the open checks after a change of them, and in their rows.
-use Rattle.std.proofs.Common.{◌≡◌, ◌∙◌, ◌==◌, ◌&&◌, ℕ, suc, List, [], ◌∷◌, ◌++◌, Bool, true, false, if◌then◌else◌, cond, nat_lt, Option, None, Some, is_some, refl, ap, sym, arith}
+use Rattle.std.proofs.Common.{◌≡◌, ◌∙◌, ◌==◌, ◌&&◌, ℕ, List, [], ◌∷◌, ◌++◌, Bool, true, false, nat_lt, Option, None, Some, refl, ap, sym, arith}
 use Rattle.std.specs.Option.{option_map}
 use Rattle.std.specs.Ordering.{is_eq, nat_cmp}
 use Rattle.sq_base.specs.declared.helpers.What.{What}
-use Rattle.sq_rows.specs.CheckRows.{Held, held_at}
+use Rattle.sq_rows.specs.CheckRows.{held_at}
 use Rattle.sq_checks.specs.OpenChecks.{CheckParts, all_before, all_ended, change_at, ended_by, row, rows_of, without_entry}
 use Rattle.sq_checks.specs.Tables.{value_at}
 

@@ -1,21 +1,18 @@
 -- A check whose outcome is taken, and the removal of a check.
-use Rattle.std.proofs.Common.{◌≡◌, ◌∙◌, ◌==◌, ◌++◌, ◌<◌, ℕ, List, [], Bool, true, false, not, if◌then◌else◌, map, Option, None, Some, IfSome, is_some, refl, ap, sym, subst}
+use Rattle.std.proofs.Common.{◌≡◌, ◌∙◌, ◌++◌, ◌<◌, ℕ, true, Option, None, Some, IfSome, is_some, refl, ap, sym, subst}
 use Rattle.std.proofs.lemmas.List.{append-nil}
-use Rattle.std.proofs.lemmas.Option.{none-some, same_Some}
+use Rattle.std.proofs.lemmas.Option.{none-some}
 use Rattle.std.specs.Option.{option_and_then, option_map, option_to_list}
-use Rattle.sq_base.specs.declared.helpers.Answer.{Answer}
 use Rattle.sq_rules.proofs.SightLaws.{over_unversioned}
 use Rattle.sq_rules.specs.declared.entries.Told.TheVariants as told
 use Rattle.sq_rules.specs.declared.outcomes.Outcome.{Outcome}
 use Rattle.sq_rules.specs.declared.refusals.Refusal.TheVariants as refusal
 use Rattle.sq_rules.specs.declared.values.Value.TheVariants as value
 use Rattle.sq_rules.specs.Machine.{gives, refuses}
-use Rattle.sq_rules.specs.Rising.{Rises}
 use Rattle.sq_rules.specs.Sights.{unversioned_sight}
 use Rattle.sq_rules.specs.Verdicts.{outcome_so_far, verdict_over}
-use Rattle.sq_rows.specs.CheckRows.{held_at, held_on}
 use Rattle.sq_checks.specs.Conns.{OpenConns, check_in, client_in}
-use Rattle.sq_checks.specs.OpenChecks.{CheckParts, answers_in, comes_to, row, rows_of}
+use Rattle.sq_checks.specs.OpenChecks.{CheckParts, comes_to, row, rows_of}
 use Rattle.sq_checks.specs.Records.{Judged, judged_of}
 use Rattle.sq_checks.specs.Stages.{came_in, decided_in, is_done_in, need_in}
 use Rattle.sq_checks.specs.Tables.{value_at}
@@ -28,7 +25,7 @@ use Rattle.sq_epochs.specs.EpochStates.{EpochsState, IsChanged}
 use Rattle.sq_epochs.specs.LiveEpochs.{checks_at}
 use Rattle.sq_state.specs.Answers.{take_answer, take_of_held}
 use Rattle.sq_state.specs.Changes.{after_take}
-use Rattle.sq_state.specs.Says.{outcome_in, value_in}
+use Rattle.sq_state.specs.Says.{outcome_in}
 use Rattle.sq_state.specs.States.{IsSame, State}
 use Rattle.sq_engine.specs.Engines.{IsEngine, held_number}
 use Rattle.sq_engine.specs.EngineViews.{EngineView, state_of}

@@ -1,4 +1,4 @@
-use Rattle.std.proofs.Common.{◌≡◌, ◌∙◌, ◌==◌, if◌then◌else◌, None, Some, is_some, map, ap, sym, subst, rules}
+use Rattle.std.proofs.Common.{◌≡◌, ◌∙◌, ◌==◌, None, Some, is_some, map, ap, sym, subst, rules}
 use Rattle.std.proofs.lemmas.Option.{same_Some}
 use Rattle.sq_rules.specs.Rising.{Rises}
 use Rattle.sq_checks.proofs.AloneLaws.{conn_numbered}
@@ -11,7 +11,7 @@ use Rattle.sq_engine.specs.Engines.{IsEngine, held_number}
 use Rattle.sq_engine.specs.EngineViews.{state_of}
 use Rattle.sq_engine.proofs.CloseLaws.{dropped_none}
 use Rattle.sq_engine.proofs.CountLaws.{if_true}
-use Rattle.sq_engine.proofs.OnLaws.{StandsOn, stands_on}
+use Rattle.sq_engine.proofs.OnLaws.{stands_on}
 use Rattle.sq_engine.proofs.TableLaws.{number_self}
 use Rattle.sq_engine.proofs.engines.Engine.drop_check.Goals as goal
 

@@ -1,5 +1,4 @@
-use Rattle.std.proofs.Common.{◌≡◌, Some, is_some, ap, sym, subst, ◌∙◌}
-use Rattle.sq_epochs.specs.EpochStates.{home_at}
+use Rattle.std.proofs.Common.{is_some, ap, subst}
 use Rattle.sq_state.specs.Changes.{after_end_at}
 use Rattle.sq_state.specs.States.{IsSame}
 use Rattle.sq_engine.specs.EngineViews.{EngineView, state_of}

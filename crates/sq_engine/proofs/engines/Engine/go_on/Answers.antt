@@ -1,4 +1,4 @@
-use Rattle.std.proofs.Common.{◌≡◌, ◌∙◌, None, Some, OnOk, is_some, true, ap, sym, subst}
+use Rattle.std.proofs.Common.{◌≡◌, ◌∙◌, None, Some, OnOk, is_some, ap, sym, subst}
 use Rattle.std.specs.List.{slice_get}
 use Rattle.sq_rules.specs.FullNext.{step_next}
 use Rattle.sq_rules.specs.StepRule.{class_of_acl, says_done}

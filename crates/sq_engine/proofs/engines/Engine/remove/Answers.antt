@@ -1,4 +1,4 @@
-use Rattle.std.proofs.Common.{◌≡◌, ◌∙◌, ◌==◌, ◌<◌, if◌then◌else◌, None, Some, is_some, length, ap, refl, sym, subst}
+use Rattle.std.proofs.Common.{◌≡◌, ◌∙◌, ◌==◌, ◌<◌, if◌then◌else◌, None, Some, is_some, length, ap, sym, subst}
 use Rattle.sq_checks.specs.Conns.{check_in, client_in}
 use Rattle.sq_checks.specs.Counts.{tally}
 use Rattle.sq_checks.specs.Tables.{value_at}

@@ -4,7 +4,7 @@ use Rattle.sq_rules.specs.Channels.{is_open}
 use Rattle.sq_rules.specs.Living.{slots_in}
 use Rattle.sq_rules.specs.OpenLookups.{key_of}
 use Rattle.sq_part.specs.Parts.{PartState}
-use Rattle.sq_epochs.specs.EpochStates.{home_at, part_at}
+use Rattle.sq_epochs.specs.EpochStates.{part_at}
 use Rattle.sq_state.specs.States.{IsSame}
 use Rattle.sq_engine.specs.EngineViews.{EngineView, state_of}
 use Rattle.sq_engine.specs.Lines.{IsReplied}

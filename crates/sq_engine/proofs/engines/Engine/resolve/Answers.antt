@@ -6,7 +6,7 @@ use Rattle.sq_state.specs.Changes.{after_step_of}
 use Rattle.sq_state.specs.States.{IsSame}
 use Rattle.sq_engine.specs.EngineViews.{EngineView, state_of}
 use Rattle.sq_engine.specs.Stepping.{stepped_told}
-use Rattle.sq_engine.proofs.AskingLaws.{asking, class_there, free_asking, said_noted, some_of}
+use Rattle.sq_engine.proofs.AskingLaws.{asking, class_there, free_asking, said_noted}
 use Rattle.sq_engine.proofs.ResolveLaws.{same_resolved, says_here, told_resolved, told_spent}
 use Rattle.sq_engine.proofs.ResolvedLaws.{before_engine, resolved_engine, same_before}
 use Rattle.sq_engine.proofs.engines.Engine.resolve.Goals as goal

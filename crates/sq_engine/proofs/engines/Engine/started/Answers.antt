@@ -1,11 +1,10 @@
-use Rattle.std.proofs.Common.{◌≡◌, ◌∙◌, ◌+◌, ◌≤◌, ◌<◌, suc, max, true, false, Ok, Err, ap, sym, subst, arith}
+use Rattle.std.proofs.Common.{◌≡◌, ◌∙◌, ◌+◌, suc, max, true, Ok, Err, ap, sym, subst, arith}
 use Rattle.sq_rules.specs.DueActs.{Place}
-use Rattle.sq_rules.specs.Limits.{last_number}
 use Rattle.sq_rules.specs.Machine.{gives, refuses}
 use Rattle.sq_rules.specs.declared.entries.Told.TheVariants as told
 use Rattle.sq_rules.specs.declared.refusals.Refusal.TheVariants as refusal
 use Rattle.sq_epochs.specs.EpochProcs.{has_start}
-use Rattle.sq_state.specs.Answers.{has_start_in, started_answer}
+use Rattle.sq_state.specs.Answers.{started_answer}
 use Rattle.sq_state.specs.Changes.{after_started_at}
 use Rattle.sq_state.specs.States.{IsSame}
 use Rattle.sq_engine.specs.EngineViews.{EngineView, state_of}

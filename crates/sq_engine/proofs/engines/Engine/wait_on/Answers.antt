@@ -1,6 +1,6 @@
 use Rattle.std.proofs.Common.{Some, ◌≡◌, false}
 use Rattle.sq_checks.specs.Conns.{check_in}
-use Rattle.sq_checks.specs.OpenChecks.{noted, rows_of}
+use Rattle.sq_checks.specs.OpenChecks.{rows_of}
 use Rattle.sq_checks.specs.Stages.{need_in}
 use Rattle.sq_epochs.specs.EpochStates.{epoch_at}
 use Rattle.sq_engine.specs.EngineViews.{EngineView}
