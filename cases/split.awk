@@ -1,12 +1,14 @@
 # Splits a file of cases into what ./test runs: `awk -v to=FOLDER -f cases/split.awk FILE`. Block N gives FOLDER/N.shows
 # and N.conf, and each run of a command over it N.M.wanted (what must be written, and the status) and, for `replay`,
-# N.M.script. The status is 1 where the file has a block without a run or a line of no form.
+# N.M.script, for `verify` N.M.journal. The status is 1 where the file has a block without a run or a line of no form.
 #
 #     == SHOWS                       begins a block; the lines behind it are squid.conf, up to the first of these:
 #     => LINE                        `parse` writes this line. Where it is an error, `replay` writes it of any script.
 #     MOMENT EVENT => ANSWER         `replay` is given the event, and writes the line; an error it writes alone, and ends
 #     - MOMENT EVENT                 `replay` is given the event
 #     + LINE                         `replay` writes this line
+#     | LINE                         `verify` is given the line of a journal; `|` alone begins a journal
+#     |> LINE                        `verify` writes this line; the next line of a journal begins another one
 #     CLIENT METHOD TARGET [FIELD ..] => OUTCOME
 #                                    a request of a client comes to this, or is `refused`, which ends the run. A day and
 #                                    a time (`Mon 09:00`) may stand before; they may not fall within a run
@@ -85,7 +87,9 @@ function put_conf(line,    ends, number, one) {
 function status(last) {
     if (last ~ /^error config /) return 2
     if (last ~ /^error script /) return 3
-    if (last ~ /^error unbuilt /) return 11
+    if (last ~ /^error read/) return 4
+    if (last ~ /^error missing /) return 7
+    if (last ~ /^(differs|machine|journal) /) return 8
     return 0
 }
 
@@ -108,9 +112,19 @@ function want(line) {
     if (status(line)) end_run()
 }
 
+# Begins a journal, unless one goes on that nothing was written of.
+function begin_journal() {
+    if (run != "" && !told) return
+    if (run != "") end_run()
+    run = sprintf("%s.%02d", block, ++runs)
+    printf "" >(run ".journal")
+    told = 0
+}
+
 function end_run() {
     print "status " status(last) >(run ".wanted")
     close(run ".script")
+    close(run ".journal")
     close(run ".wanted")
     run = ""
 }
@@ -155,6 +169,15 @@ function take(line, number,    cut, given_line, answer) {
         in_conf = 0
         parsed = substr(line, 4)
         print parsed >(block ".00.wanted")
+    } else if (line ~ /^[|]> /) {
+        if (run == "") complain(number, "nothing was given to `verify`")
+        last = expanded(substr(line, 4))
+        print last >(run ".wanted")
+        told = 1
+    } else if (line ~ /^[|]( |$)/) {
+        in_conf = 0
+        begin_journal()
+        if (line ~ /^[|] /) put(run ".journal", expanded(substr(line, 3)))
     } else if (line ~ /^[+] /) {
         in_conf = 0
         begin_run()
@@ -191,6 +214,7 @@ function write_block(word,    place, line) {
     in_conf = 1
     runs = 0
     run = parsed = ""
+    told = 0
     for (place = 1; place <= lines; place++) {
         line = body[place]
         if (word != "" && match(line, /<each [^<>]*>/))

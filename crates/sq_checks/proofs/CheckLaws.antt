@@ -12,14 +12,14 @@ use Rattle.sq_rules.specs.StepRule.{says_done}
 use Rattle.sq_rules.specs.declared.outcomes.Outcome.{Outcome}
 use Rattle.sq_rules.specs.declared.sights.Sight.{Sight}
 use Rattle.sq_rows.specs.CheckRows.{one_end, served, stepped}
-use Rattle.sq_rows.specs.StepRows.{told_of}
+use Rattle.sq_rows.specs.StepRows.{question_told, told_of}
 use Rattle.sq_rows.specs.declared.said.Said.{Said}
 use Rattle.sq_rows.specs.declared.said.Stepped.{Stepped}
 use Rattle.sq_rows.specs.declared.said.Stepped.TheVariants as told
 use Rattle.sq_rules.specs.declared.values.Value.{Value}
 use Rattle.sq_rules.specs.declared.values.Value.TheVariants as value
 use Rattle.sq_checks.specs.OpenChecks.{CheckParts, IsFit, answers_in, comes_to, ended_by, finished, is_need, noted, row, says_of, settled, step_more}
-use Rattle.sq_checks.specs.Stages.{IsStage, came_in, ended_stage, given, is_done_in, is_idle, is_noted, is_settled, need_in, noted_stage, question_told}
+use Rattle.sq_checks.specs.Stages.{IsStage, came_in, decided_in, ended_stage, given, is_done_in, is_idle, is_noted, is_settled, need_in, noted_stage}
 use Rattle.sq_checks.specs.declared.stages.Stage.{Stage}
 use Rattle.sq_checks.specs.declared.stages.Stage.TheVariants as stage
 
@@ -153,6 +153,14 @@ need_new config sight answers stage.Ready i = tt
 need_new config sight answers (stage.Came a) i = tt
 need_new config sight answers (stage.Waits n) i = i
 need_new config sight answers (stage.Done o) i = tt
+
+-- for an outcome that a step said: it is the verdict over what is seen as it is
+pub decided_is : (config : Configuration) (sight : Sight) (answers : List Answer) (s : Stage) → IsStage config sight answers s
+    → IfSome (decided_in s) (λ o. verdict_over answers config sight ≡ value.Verdict o)
+decided_is config sight answers stage.Ready i = tt
+decided_is config sight answers (stage.Came a) i = tt
+decided_is config sight answers (stage.Waits n) i = tt
+decided_is config sight answers (stage.Done o) i = sym (over_unversioned answers config sight) ∙ i
 
 -- for what holds of a value that is there
 pub found_has : {A : Type 0} (P : A → Type 0) (o : Option A) (x : A) → o ≡ Some x → IfSome o P → P x

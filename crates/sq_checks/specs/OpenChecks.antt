@@ -16,9 +16,9 @@ use Rattle.sq_rules.specs.declared.sights.Sight.{Sight}
 use Rattle.sq_rules.specs.declared.values.Value.{Value}
 use Rattle.sq_rules.specs.declared.values.Value.TheVariants as value
 use Rattle.sq_rows.specs.CheckRows.{Ends, Held, held_on}
-use Rattle.sq_rows.specs.StepRows.{told_of}
+use Rattle.sq_rows.specs.StepRows.{question_told, told_of}
 use Rattle.sq_rows.specs.declared.said.Said.{Said}
-use Rattle.sq_checks.specs.Stages.{IsStage, came_in, ended_stage, given, is_done_in, is_noted, noted_stage, question_in, question_told}
+use Rattle.sq_checks.specs.Stages.{IsStage, came_in, ended_stage, given, is_done_in, is_noted, noted_stage, question_in}
 use Rattle.sq_checks.specs.Tables.{value_at}
 use Rattle.sq_checks.specs.declared.stages.Stage.{Stage}
 use Rattle.sq_checks.specs.declared.stages.Stage.TheVariants as stage

@@ -64,12 +64,6 @@ ended_stage q w now (stage.Came a) = stage.Came a
 ended_stage q w now (stage.Waits n) = if n.question == q then stage.Came (given w now n) else stage.Waits n
 ended_stage q w now (stage.Done o) = stage.Done o
 
--- the question that a step said to wait for
-abbrev pub question_told : Stepped → Option ℕ
-question_told (told.Took c) = None
-question_told (told.Waits q) = Some q
-question_told told.Done = None
-
 -- the stage after a step that asked for this key of this class: what it took has come, or it waits for what it was told to
 abbrev pub noted_stage : Option Answer → Option ℕ → ℕ → List ℕ → Stage
 noted_stage (Some a) q class key = stage.Came a

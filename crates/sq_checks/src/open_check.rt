@@ -6,13 +6,14 @@ ghost use Rattle.sq_base.specs.Distinct.{has_answer};
 ghost use Rattle.sq_rules.specs.Facts.{facts_of};
 ghost use Rattle.sq_rules.specs.Limits.{last_number};
 ghost use Rattle.sq_rules.specs.StepRule.{class_of_acl};
+ghost use Rattle.sq_rules.specs.Verdicts.{verdict_over};
 ghost use Rattle.sq_rules.specs.declared.values.Value.TheVariants as value;
 ghost use Rattle.sq_checks.specs.OpenChecks.{IsNoted, begun_parts, comes_to, ended_by, finished, is_need, noted, settled, step_more};
 ghost use Rattle.sq_checks.specs.Records.{judged_of};
 ghost use Rattle.sq_checks.specs.Stages.{decided_in, is_idle, is_settled, need_in, question_in};
 
 use crate::records::Record;
-use crate::stages::{Need, Stage, came, decided, ended, need_of, noted, question, told};
+use crate::stages::{Need, Stage, came, decided, ended, need_of, noted, question};
 use sq_base::{Answers, CheckNo, ConnNo, EpochNo, Moment, QuestionNo, Text, WantOfMemory, What};
 use sq_eval::{evaluate, pool_of};
 use sq_rows::Said;
@@ -133,9 +134,11 @@ impl OpenCheck {
         need_of(&self.stage)
     }
 
-    /// The outcome, where a step said that it is done.
+    /// The outcome, where a step said that it is done: the verdict of its configuration over what it sees and its
+    /// answers.
     pub fn outcome(&self) -> Option<&Outcome>
-        ensures { option_copied result ≡ decided_in self.now.stage }
+        ensures value { option_copied result ≡ decided_in self.now.stage }
+        ensures verdict { IfSome (decided_in self.now.stage) (λ o. verdict_over self.now.answers self.now.config self.now.sight ≡ value.Verdict o) }
     {
         decided(&self.stage)
     }
@@ -184,7 +187,7 @@ impl OpenCheck {
             took,
             put: _,
         } = said;
-        self.stage = noted(took, told(&stepped), class, key);
+        self.stage = noted(took, stepped.question(), class, key);
         self.steps = step_more(self.steps);
     }
 

@@ -1,7 +1,7 @@
 //! How far an open check has come.
 ghost use Rattle.std.specs.Prelude.{◌≡◌, Some, IfOk};
 ghost use Rattle.std.specs.Option.{option_copied};
-ghost use Rattle.sq_checks.specs.Stages.{came_in, decided_in, ended_stage, given, need_in, noted_stage, question_in, question_told};
+ghost use Rattle.sq_checks.specs.Stages.{came_in, decided_in, ended_stage, given, need_in, noted_stage, question_in};
 
 use sq_base::{Answer, Copying, Moment, QuestionNo, Text, WantOfMemory, What};
 use sq_rows::Stepped;
@@ -56,16 +56,6 @@ pub(crate) fn ended(stage: Stage, question: QuestionNo, what: What, now: Moment)
             }
         }
         other => other,
-    }
-}
-
-/// The question that a step said to wait for, if it said so.
-pub(crate) fn told(stepped: &Stepped) -> Option<QuestionNo>
-    ensures { result ≡ question_told stepped.now }
-{
-    match stepped {
-        Stepped::Waits(question) => Some(*question),
-        _ => None,
     }
 }
 

@@ -1,38 +1,27 @@
 -- The act of an engine: that of its state, what it leaves, and what is promised of it.
-use Rattle.std.proofs.Common.{◌≡◌, ◌∙◌, ◌==◌, ◌<◌, ◌||◌, ℕ, zero, suc, List, [], ◌∷◌, ◌++◌, ◌-◌, length, map, Bool, true, false, if◌then◌else◌, Option, None, Some, IfSome, is_some, refl, ap, sym, subst, arith}
+use Rattle.std.proofs.Common.{◌≡◌, ◌∙◌, ◌==◌, ℕ, zero, suc, List, [], ◌∷◌, ◌++◌, ◌-◌, length, map, Bool, true, false, if◌then◌else◌, Option, None, Some, IfSome, is_some, refl, ap, sym, subst}
 use Rattle.std.proofs.lemmas.Option.{same_Some}
 use Rattle.std.specs.List.{flat_map, slice_get}
 use Rattle.std.specs.Prelude.{slice_set}
 use Rattle.std.specs.Option.{option_and_then, option_map, option_map_or, option_or}
 use Rattle.sq_rules.specs.declared.entries.Event.TheVariants as event
-use Rattle.sq_rules.specs.Checks.{numbered}
-use Rattle.sq_rules.specs.Configurations.{Configuration}
 use Rattle.sq_rules.specs.DueActs.{Place, first_made, first_of}
-use Rattle.sq_rules.specs.Entries.{History}
 use Rattle.sq_rules.specs.Farms.{Sending, Stock, Waiting, after_send, after_send_by, after_start, send_of, start_due}
 use Rattle.sq_rules.specs.Living.{some_free}
-use Rattle.sq_rules.specs.Marking.{marked}
-use Rattle.sq_rules.specs.Marks.{entries}
 use Rattle.sq_rules.specs.Numbered.{below, picks}
 use Rattle.sq_rules.specs.OpenLookups.{question_of}
-use Rattle.sq_rules.specs.Processes.{Home, home_of, is_stopped, proc_count, proc_end, started_by, stop_due}
-use Rattle.sq_rules.specs.Epochs.{is_live}
-use Rattle.sq_rules.specs.Rising.{AreAbove}
 use Rattle.sq_rows.specs.ClassRows.{ClassRow, after_sending, after_starting}
-use Rattle.sq_history.proofs.ProcessLaws.{due_by}
 use Rattle.sq_history.proofs.RowLaws.{picks_same}
 use Rattle.sq_part.specs.Parts.{PartState}
 use Rattle.sq_epochs.specs.DueStates as dues
 use Rattle.sq_epochs.specs.DueStates.{act_at, after_due, change_at, change_class, change_part, due_of, live_places, send_by, sent_part, start_by, started_part}
 use Rattle.sq_epochs.specs.EpochProcs.{AreWhole}
 use Rattle.sq_epochs.specs.EpochStates.{EpochState, EpochsState, IsChanged, change_epoch, epoch_at, epoch_in, epoch_number, part_at, part_of, with_part}
-use Rattle.sq_epochs.specs.HomeStates.{is_among}
 use Rattle.sq_epochs.specs.declared.acts.Act.{Act}
 use Rattle.sq_epochs.proofs.DueLaws.{found_self, made_same}
 use Rattle.sq_epochs.proofs.NumberLaws.{live_numbers, rising_picked}
 use Rattle.sq_epochs.proofs.ReadLaws.{config_acted, row_acted, stop_told}
 use Rattle.sq_state.specs.Acts.{Due, due_in, live_places_in, places_in, send_in, sends, start_in, starts, stops}
-use Rattle.sq_state.specs.Promises.{StandsFor}
 use Rattle.sq_state.specs.States.{IsSame, State, live}
 use Rattle.sq_state.specs.Changes.{at, change_row}
 use Rattle.sq_state.proofs.ActPromises.{none_due, send_answered, start_answered, stop_answered}
@@ -60,21 +49,9 @@ made_by {A = A} {B = B} f (x ∷ xs) b is = by (f x) refl is (made_by f xs b)
     by None e is more = more is
     by (Some z) e is more = (x, e ∙ is)
 
--- numbers without 0 are above it
-above_zero : (ns : List ℕ) → is_among 0 ns ≡ false → AreAbove 0 ns
-above_zero [] is = tt
-above_zero (n ∷ ns) is = by n is (above_zero ns)
-  where
-    by : (n : ℕ) → (0 == n || is_among 0 ns) ≡ false → (is_among 0 ns ≡ false → AreAbove 0 ns) → (0 < n) × AreAbove 0 ns
-    by zero is more = absurd (cc)
-    by (suc n) is more = (omega arith, more (late n is))
-      where
-        late : (n : ℕ) → (0 == suc n || is_among 0 ns) ≡ false → is_among 0 ns ≡ false
-        late n is = let other : (0 == suc n) ≡ false = grind arith in rw other at is
-
 -- the due stops are those of the state
-stops_read : (v : EngineView) → AreWhole v.epochs → stop_at v.epochs 0 ≡ false → v.epochs.stops ≡ picks (stop_at v.epochs) v.epochs.procs
-stops_read v w none = rising_picked (stop_at v.epochs) v.epochs.procs v.epochs.stops w.homes.stops_rise (above_zero v.epochs.stops none) w.homes.stops_born (λ k. refl)
+stops_read : (v : EngineView) → AreWhole v.epochs → v.epochs.stops ≡ picks (stop_at v.epochs) v.epochs.procs
+stops_read v w = rising_picked (stop_at v.epochs) v.epochs.procs v.epochs.stops w.homes.stops_rise w.homes.stops_above w.homes.stops_born (λ k. refl)
 
 -- lists that are made of each of these alike
 flat_same : {A : Type 0} (f : EpochState → List A) (g : ℕ → List A) (xs : List EpochState) → ((i : ℕ) (x : EpochState) → slice_get xs i ≡ Some x → f x ≡ g x.epoch)
@@ -119,10 +96,10 @@ stop_mapped None = refl
 stop_mapped (Some k) = refl
 
 -- the next act is that of the state
-pub due_read : (v : EngineView) → IsEngine v → AreWhole v.epochs → stop_at v.epochs 0 ≡ false → due_now v ≡ due_in (state_of v)
-due_read v i w none =
+pub due_read : (v : EngineView) → IsEngine v → AreWhole v.epochs → due_now v ≡ due_in (state_of v)
+due_read v i w =
     mapped_or as_due (option_map dues.stops (first_of v.epochs.stops)) _
-    ∙ ap (λ z. option_or z (option_map as_due (option_or made_send made_start))) (stop_mapped (first_of v.epochs.stops) ∙ ap (λ ns. option_map stops (first_of ns)) (stops_read v w none))
+    ∙ ap (λ z. option_or z (option_map as_due (option_or made_send made_start))) (stop_mapped (first_of v.epochs.stops) ∙ ap (λ ns. option_map stops (first_of ns)) (stops_read v w))
     ∙ ap (option_or (option_map stops (first_of (picks (stop_at v.epochs) v.epochs.procs)))) (mapped_or as_due made_send made_start)
     ∙ ap (λ z. option_or (option_map stops (first_of (picks (stop_at v.epochs) v.epochs.procs))) (option_or z (option_map as_due made_start)))
     (mapped_made as_due (act_at send_by v.epochs) (live_places v.epochs) ∙ made_same _ (send_in (state_of v)) (live_places v.epochs) (send_read v) ∙ ap (first_made (send_in (state_of v))) (places_read v i w))
@@ -286,40 +263,21 @@ left_same v new t a left is = subst (λ z. IsSame (state_of (record v { epochs =
     by None is = absurd (cc)
     by (Some d) is = act_same v d t
 
--- no process has the number 0
-home_zero : (h : History) → home_of h 0 ≡ None
-home_zero [] = refl
-home_zero (e ∷ h) = by (started_by e.event) ∙ home_zero h
-  where
-    apart : (n : ℕ) → (0 == suc n) ≡ false
-    apart n = grind arith
-
-    by : (o : Option Home) → option_or (numbered 0 (proc_count h) o) (home_of h 0) ≡ home_of h 0
-    by None = refl
-    by (Some x) = ap (λ (b : Bool). option_or (if b then Some x else None) (home_of h 0)) (apart (proc_count h))
-
-due_zero : (h : History) → stop_due h 0 ≡ false
-due_zero h = ap (λ (o : Option Home). due_by o (is_stopped h 0) (proc_end h 0) (is_live h)) (home_zero h)
-
--- the act of an engine whose state stands for a history
-due_stands : (v : EngineView) (configs : List Configuration) (h : History) → IsEngine v → AreWhole v.epochs → StandsFor configs h (state_of v) → due_now v ≡ due_in (state_of v)
-due_stands v configs h i w st = due_read v i w (st.stands.stops_are 0 ∙ due_zero (entries (marked configs h)))
-
 -- what is promised of it
 pub act_promised : (v : EngineView) (new : State) (now : ℕ) (r : Option Act) → IsEngine v → AreWhole v.epochs → r ≡ option_map act_told (due_now v)
     → IfSome r (λ a. IsSame new (after_act (due_now v) now (state_of v))) → IsActPromised (state_of v) now r new
 act_promised v new now r i w is ok = by (due_now v) refl r is ok
   where
-    read : (o : Option Due) → due_now v ≡ o → (configs : List Configuration) (h : History) → StandsFor configs h (state_of v) → due_in (state_of v) ≡ o
-    read o e configs h st = sym (due_stands v configs h i w st) ∙ e
+    read : (o : Option Due) → due_now v ≡ o → due_in (state_of v) ≡ o
+    read o e = sym (due_read v i w) ∙ e
 
     done : (d : Due) → due_now v ≡ Some d → IsSame new (after_act (Some d) now (state_of v)) → IsActPromised (state_of v) now (Some (act_told d)) new
-    done (stops k) e same = λ configs h st late. answered_same configs h _ new now event.Act _ same (stop_answered configs h (state_of v) now k st late (read (Some (stops k)) e configs h st))
-    done (sends p s) e same = λ configs h st late. answered_same configs h _ new now event.Act _ same (send_answered configs h (state_of v) now p s st late (read (Some (sends p s)) e configs h st))
-    done (starts p) e same = λ configs h st late. answered_same configs h _ new now event.Act _ same (start_answered configs h (state_of v) now p st late (read (Some (starts p)) e configs h st))
+    done (stops k) e same = λ configs h st late. answered_same configs h _ new now event.Act _ same (stop_answered configs h (state_of v) now k st late (read (Some (stops k)) e))
+    done (sends p s) e same = λ configs h st late. answered_same configs h _ new now event.Act _ same (send_answered configs h (state_of v) now p s st late (read (Some (sends p s)) e))
+    done (starts p) e same = λ configs h st late. answered_same configs h _ new now event.Act _ same (start_answered configs h (state_of v) now p st late (read (Some (starts p)) e))
 
     by : (o : Option Due) → due_now v ≡ o → (r : Option Act) → r ≡ option_map act_told o → IfSome r (λ a. IsSame new (after_act o now (state_of v))) → IsActPromised (state_of v) now r new
-    by None e None is ok = λ configs h st late. none_due configs h (state_of v) now st late (read None e configs h st)
+    by None e None is ok = λ configs h st late. none_due configs h (state_of v) now st late (read None e)
     by None e (Some a) is ok = absurd (cc)
     by (Some d) e None is ok = absurd (cc)
     by (Some d) e (Some a) is ok = subst (λ z. IsActPromised (state_of v) now (Some z) new) (sym (same_Some _ _ is)) (done d e ok)

@@ -18,11 +18,11 @@ use Rattle.sq_rules.specs.declared.entries.Told.{Told}
 use Rattle.sq_rules.specs.declared.entries.Told.TheVariants as told
 use Rattle.sq_rules.specs.declared.kept.KeptVerdict.{KeptVerdict}
 use Rattle.sq_rows.specs.ClassRows.{ClassRow, with_took}
-use Rattle.sq_rows.specs.StepRows.{after_says, says_of_row, stepped_of, with_put}
+use Rattle.sq_rows.specs.StepRows.{after_says, question_told, says_of_row, stepped_of, with_put}
 use Rattle.sq_rows.specs.declared.said.Said.{Said}
 use Rattle.sq_part.specs.Parts.{PartState}
 use Rattle.sq_checks.specs.OpenChecks.{CheckParts, change_at, noted}
-use Rattle.sq_checks.specs.Stages.{need_in, noted_stage, question_told}
+use Rattle.sq_checks.specs.Stages.{need_in, noted_stage}
 use Rattle.sq_checks.specs.Tables.{value_at}
 use Rattle.sq_checks.specs.declared.stages.Need.{Need}
 use Rattle.sq_epochs.specs.EpochChanges.{IsResolved}
@@ -167,7 +167,8 @@ keyed_before e c before after old new check k same a =
         })
         (λ o. record { part = p; was = o.was; lookups_are = refl })
 
-asked_told : (c : ℕ) (t : Told) → question_told (stepped_of c t) ≡ waits_told t
+-- the question that a step said to wait for, as it is told
+pub asked_told : (c : ℕ) (t : Told) → question_told (stepped_of c t) ≡ waits_told t
 asked_told c (told.Waits q) = refl
 asked_told c told.Done = refl
 asked_told c t = refl

@@ -1,5 +1,6 @@
 -- Lemmas, by subject.
-mod TableLaws
+pub mod TableLaws
+mod BegunLaws
 mod HeldLaws
 mod PlaceLaws
 mod FreshLaws
@@ -19,13 +20,13 @@ mod LosingLaws
 mod NowLaws
 mod CountLaws
 mod EndingLaws
+mod LineLaws
 pub mod PromiseLaws
 mod ReaderLaws
 mod QuietLaws
 mod StartedLaws
 mod ReplyLaws
 mod GiveLaws
-mod LineLaws
 mod RepliedLaws
 mod LeavingLaws
 mod OverLaws

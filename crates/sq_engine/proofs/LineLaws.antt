@@ -13,7 +13,7 @@ use Rattle.sq_rules.specs.Channels.{Channels, is_open, slot_of}
 use Rattle.sq_rules.specs.DueActs.{Place}
 use Rattle.sq_rules.specs.Living.{find_proc, lives, slots_by, slots_in}
 use Rattle.sq_rules.specs.Machine.{gives, refuses}
-use Rattle.sq_rules.specs.Transcripts.{line_at, line_by, line_is, line_told}
+use Rattle.sq_rules.specs.Transcripts.{LineIs, OnFree, Outside, ReplyTo, line_at, line_by, line_is, line_told}
 use Rattle.sq_rules.specs.declared.refusals.Refusal.TheVariants as refusal
 use Rattle.sq_part.specs.Parts.{PartState}
 use Rattle.sq_epochs.specs.EpochProcs.{AreHomed, is_place, lives_in}
@@ -21,7 +21,7 @@ use Rattle.sq_epochs.specs.EpochStates.{home_at, part_at}
 use Rattle.sq_state.specs.Answers.{channels_in, line_answer, line_of}
 use Rattle.sq_state.specs.States.{State}
 use Rattle.sq_engine.specs.EngineViews.{EngineView, state_of}
-use Rattle.sq_engine.specs.Lines.{got_told}
+use Rattle.sq_engine.specs.Lines.{IsRead, got_told}
 use Rattle.sq_engine.proofs.TableLaws.{number_self}
 
 slot_open : (slots : List (Option ℕ)) (n q : ℕ) → unwrap_or (slice_get slots n) None ≡ Some q → is_open q slots ≡ true
@@ -52,18 +52,33 @@ got_open : (p : Channels) (line : List ℕ) (q : ℕ) (reply : Reply) → got_in
 unfolding got_in
 got_open p line q reply h = by_open p.slots (reply_of p.numbered line) q reply h
 
-told_at : (o : Option ℕ) (reply : Reply) → line_told (line_at o reply) ≡ got_told (got_at o reply)
-told_at None reply = refl
-told_at (Some q) reply = refl
+-- what a line came to, as what it is
+abbrev pub as_line : Got → LineIs
+as_line (got.Reply q reply) = ReplyTo q reply
+as_line got.Bad = Outside
+as_line got.Stray = OnFree
 
-told_by : (p : Channels) (o : Option Answer) → line_told (line_by p o) ≡ got_told (got_by p.slots o)
-told_by p None = refl
-told_by p (Some a) = told_at (slot_of p.slots a.0) a.1
+is_at : (o : Option ℕ) (reply : Reply) → line_at o reply ≡ as_line (got_at o reply)
+is_at None reply = refl
+is_at (Some q) reply = refl
 
--- the line is told as what it came to
-told_got : (p : Channels) (line : List ℕ) → line_told (line_is p line) ≡ got_told (got_in p line)
+is_by : (p : Channels) (o : Option Answer) → line_by p o ≡ as_line (got_by p.slots o)
+is_by p None = refl
+is_by p (Some a) = is_at (slot_of p.slots a.0) a.1
+
+-- a line is what it came to
+pub line_as_line : (p : Channels) (line : List ℕ) → line_is p line ≡ as_line (got_in p line)
 unfolding got_in line_is
-told_got p line = told_by p (reply_of p.numbered line)
+line_as_line p line = is_by p (reply_of p.numbered line)
+
+-- and is told so
+told_is : (g : Got) → line_told (as_line g) ≡ got_told g
+told_is (got.Reply q reply) = refl
+told_is got.Bad = refl
+told_is got.Stray = refl
+
+told_got : (p : Channels) (line : List ℕ) → line_told (line_is p line) ≡ got_told (got_in p line)
+told_got p line = ap line_told (line_as_line p line) ∙ told_is (got_in p line)
 
 -- the channels of the process of which a line came to this
 pub record HasGot (k : ℕ) (p : PartState) (line : List ℕ) (g : Got) : Type 0 where
@@ -110,11 +125,23 @@ home_alive v e c k homed home p is =
 pub line_unknown : (s : State) (k : ℕ) (line : List ℕ) → s.home k ≡ None → line_answer s k line ≡ refuses (refusal.UnknownProc k)
 line_unknown s k line e = rw e refl
 
+-- the channels of a process that lives at its home
+home_channels : (v : EngineView) (e c k : ℕ) (p : PartState) → home_at v.epochs k ≡ Some (record { epoch = e; class = c }) → part_at v.epochs e c ≡ Some p
+    → channels_in (state_of v) k ≡ find_proc k p.row.stock.procs
+home_channels v e c k p home is =
+    ap (option_and_then (λ (z : Place). option_and_then (λ r. find_proc k r.stock.procs) ((state_of v).row z.epoch z.class))) home
+    ∙ ap (λ o. option_and_then (λ r. find_proc k r.stock.procs) (option_map (λ (z : PartState). z.row) o)) is
+
 pub line_got : (v : EngineView) (e c k : ℕ) (line : List ℕ) (g : Got) (p : PartState) → home_at v.epochs k ≡ Some (record { epoch = e; class = c }) → part_at v.epochs e c ≡ Some p
     → got_of k p.row.stock line ≡ Some g → line_answer (state_of v) k line ≡ gives (got_told g)
 line_got v e c k line g p home is h =
     let x = has_got k p line g h in
-    let channels : channels_in (state_of v) k ≡ Some x.channels =
-    ap (option_and_then (λ (z : Place). option_and_then (λ r. find_proc k r.stock.procs) ((state_of v).row z.epoch z.class))) home
-    ∙ ap (λ o. option_and_then (λ r. find_proc k r.stock.procs) (option_map (λ (z : PartState). z.row) o)) is ∙ x.found in
-    ap (line_of k line) channels ∙ ap gives (told_got x.channels line ∙ ap got_told x.got_is)
+    ap (line_of k line) (home_channels v e c k p home is ∙ x.found) ∙ ap gives (told_got x.channels line ∙ ap got_told x.got_is)
+
+-- what is read of the line is what it came to
+pub line_read : (v : EngineView) (e c k : ℕ) (line : List ℕ) (g : Got) (p : PartState) → home_at v.epochs k ≡ Some (record { epoch = e; class = c }) → part_at v.epochs e c ≡ Some p
+    → got_of k p.row.stock line ≡ Some g → IsRead (state_of v) k line g
+line_read v e c k line g p home is h = λ d at.
+    let x = has_got k p line g h in
+    let same : d ≡ x.channels = same_Some _ _ (sym at ∙ home_channels v e c k p home is ∙ x.found) in
+    ap (λ z. got_in z line) same ∙ x.got_is

@@ -50,6 +50,9 @@ after_found v n t k is = ap (after_step_held (state_of v) n t) (held_is v n k is
 pub epoch_found : (v : EngineView) (n : ℕ) (k : CheckParts) → value_at v.checks n ≡ Some k → epoch_of (state_of v) n ≡ k.epoch
 epoch_found v n k is = ap (λ o. option_map_or (λ h. h.asked.epoch) o 0) (held_is v n k is)
 
+pub epoch_missing : (v : EngineView) (n : ℕ) → value_at v.checks n ≡ None → epoch_of (state_of v) n ≡ 0
+epoch_missing v n is = ap (λ o. option_map_or (λ h. h.asked.epoch) o 0) (row_at_number n v.checks ∙ ap (option_map (row n)) is)
+
 question_by : (s : Stage) (o : Option Need) → need_in s ≡ o → question_in s ≡ option_map (λ x. x.question) o
 question_by stage.Ready o e = ap (option_map (λ x. x.question)) e
 question_by (stage.Came a) o e = ap (option_map (λ x. x.question)) e

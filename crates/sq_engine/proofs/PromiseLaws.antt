@@ -1,15 +1,16 @@
 -- From what a call answers and leaves by the machine's state to what is promised of it.
-use Rattle.std.proofs.Common.{◌≡◌, ◌∙◌, ℕ, ℤ, ◌≤◌, List, true, false, Option, None, Some, Result, Ok, Err, is_some, OnOk, refl, ap, sym, subst}
+use Rattle.std.proofs.Common.{◌≡◌, ◌∙◌, ℕ, ℤ, ◌≤◌, List, true, false, Option, None, Some, Result, Ok, Err, is_some, IfOk, OnOk, refl, ap, sym, subst}
 use Rattle.sq_base.specs.Addresses.{Address}
 use Rattle.sq_base.specs.Targets.{target_of}
 use Rattle.sq_base.specs.declared.helpers.Cause.TheVariants as cause
 use Rattle.sq_base.specs.declared.requests.Field.{Field}
 use Rattle.sq_rules.specs.declared.entries.Event.{Event}
-use Rattle.sq_rules.specs.declared.entries.Event.TheVariants.{Ask, Close, Died, Open, StartFail, Started, Step, Take}
+use Rattle.sq_rules.specs.declared.entries.Event.TheVariants.{Ask, Close, Died, Line, Open, StartFail, Started, Step, Take}
 use Rattle.sq_rules.specs.declared.entries.Told.{Told}
 use Rattle.sq_rules.specs.declared.entries.Told.TheVariants as told
 use Rattle.sq_rules.specs.declared.refusals.Refusal.{Refusal}
 use Rattle.sq_rules.specs.declared.refusals.Refusal.TheVariants as refusal
+use Rattle.sq_rules.specs.Channels.{Channels}
 use Rattle.sq_rules.specs.Classes.{Class}
 use Rattle.sq_rules.specs.Configurations.{Configuration}
 use Rattle.sq_rules.specs.DueActs.{Place}
@@ -20,22 +21,27 @@ use Rattle.sq_rules.specs.Machine.{Next, gives, refuses}
 use Rattle.sq_rules.specs.Marking.{marked}
 use Rattle.sq_rules.specs.Readings.{latest}
 use Rattle.sq_rules.specs.StepRule.{StepSays}
+use Rattle.sq_rules.specs.Transcripts.{line_is}
+use Rattle.sq_channel.specs.declared.replies.Got.{Got}
+use Rattle.sq_channel.specs.declared.replies.Got.TheVariants as got
 use Rattle.sq_rows.specs.CheckRows.{Held, held_at}
-use Rattle.sq_state.specs.Answers.{ask_answer, asked_in, close_answer, died_answer, failed_answer, name_in, open_answer, started_answer, step_of_held, take_answer}
+use Rattle.sq_state.specs.Answers.{ask_answer, asked_in, channels_in, close_answer, died_answer, failed_answer, line_answer, line_of, name_in, open_answer, started_answer, step_of_held, take_answer}
 use Rattle.sq_state.specs.Changes.{after_ask, after_close, after_end_at, after_failed_at, after_open, after_started_at, after_step_of, after_take, first_state}
 use Rattle.sq_state.specs.Promises.{IsAnswered, StandsFor}
 use Rattle.sq_state.specs.Says.{says_in}
 use Rattle.sq_state.specs.States.{IsSame, State}
 use Rattle.sq_state.proofs.ActPromises.{failed_answered, started_answered}
 use Rattle.sq_state.proofs.ConnStands.{ask_next, close_next, open_next, take_next}
-use Rattle.sq_state.proofs.LinePromises.{died_answered, died_told}
+use Rattle.sq_state.proofs.LinePromises.{bad_answered, died_answered, died_told, line_told_to, reply_answered, stray_answered}
 use Rattle.sq_state.proofs.PromiseLaws.{answered_same, ask_answered, close_answered, first_for, law_of, next_now, open_answered, take_answered}
 use Rattle.sq_state.proofs.Lawful.{stands_same}
 use Rattle.sq_state.proofs.StartStands.{failed_next, started_next}
 use Rattle.sq_state.proofs.StepPromises.{step_answered, step_told, step_waiting}
+use Rattle.sq_engine.specs.Lines.{IsLineDone, IsRead, got_told}
 use Rattle.sq_engine.specs.Promised.{IsBegun, IsPromised, IsPromisedAt}
 use Rattle.sq_engine.specs.Stepping.{after_step_held, after_step_now, says_now, says_of_wait, step_now, step_of}
 use Rattle.sq_engine.specs.Tellings.{IsTold}
+use Rattle.sq_engine.proofs.LineLaws.{as_line, line_as_line}
 
 -- where the machine answers so by the state, and such an answer leaves what stands for the history with it
 pub by_laws : {A : Type 0} (tell : A → Told) (s new after : State) (next : Next) (now : ℕ) (event : Event) (r : Result A Refusal) → IsTold tell next r → OnOk r (IsSame new after)
@@ -108,6 +114,34 @@ died_promised s new now k (Ok a) t ok = λ configs h st late. by (s.home k) refl
     by (Some p) is t configs h st late = answered_same configs h (after_end_at p k cause.Died false now s) new now (Died k) told.Fine (ok p is) (died_answered configs h s now k p st late is)
 died_promised s new now k (Err refusal.WantOfMemory) t ok = tt
 died_promised s new now k (Err r) t ok = λ configs h st late. died_told configs h s now k st late ∙ t
+
+-- the channels on which a line of a process is read that is answered
+pub record HasChannels (s : State) (k : ℕ) (line : List ℕ) (g : Got) : Type 0 where
+  pub channels : Channels
+  pub found : channels_in s k ≡ Some channels
+  pub is_read : line_is channels line ≡ as_line g
+
+has_channels : (s : State) (k : ℕ) (line : List ℕ) (g : Got) → line_answer s k line ≡ gives (got_told g) → IsRead s k line g → HasChannels s k line g
+has_channels s k line g t read = by (channels_in s k) refl t
+  where
+    by : (o : Option Channels) → channels_in s k ≡ o → line_of k line o ≡ gives (got_told g) → HasChannels s k line g
+    by None is t = absurd (cc)
+    by (Some c) is t = record { channels = c; found = is; is_read = line_as_line c line ∙ ap as_line (read c is) }
+
+pub line_promised : (s new : State) (now k : ℕ) (line : List ℕ) (r : Result Got Refusal) → IsTold got_told (line_answer s k line) r → IfOk r (λ g. IsRead s k line g) → IfOk r (λ g. IsLineDone s k g now new)
+    → IsPromised got_told s now (Line k line) r new
+line_promised s new now k line (Ok (got.Reply q reply)) t read ok = λ configs h st late.
+    let x = has_channels s k line (got.Reply q reply) t read in
+    answered_same configs h _ new now (Line k line) (told.Reply q reply.word) ok.same
+    (reply_answered configs h s now k line q reply ok.place ok.class x.channels ok.row ok.key st late ok.home_is ok.class_is x.found x.is_read ok.row_is ok.key_is)
+line_promised s new now k line (Ok got.Bad) t read ok = λ configs h st late.
+    let x = has_channels s k line got.Bad t read in
+    answered_same configs h _ new now (Line k line) told.Bad ok.same (bad_answered configs h s now k line ok.place x.channels st late ok.home_is x.found x.is_read)
+line_promised s new now k line (Ok got.Stray) t read ok = λ configs h st late.
+    let x = has_channels s k line got.Stray t read in
+    answered_same configs h _ new now (Line k line) told.Stray ok.same (stray_answered configs h s now k line ok.place x.channels st late ok.home_is x.found x.is_read)
+line_promised s new now k line (Err refusal.WantOfMemory) t read ok = tt
+line_promised s new now k line (Err r) t read ok = λ configs h st late. line_told_to configs h s now k line st late ∙ t
 
 -- what holds of a result that is fine
 pub on_ok : {A B : Type 0} (P Q : Type 0) (r : Result A B) → OnOk r P → (P → Q) → OnOk r Q

@@ -9,11 +9,9 @@ use Rattle.sq_rules.specs.Farms.{full}
 use Rattle.sq_rules.specs.Limits.{last_number}
 use Rattle.sq_rules.specs.OpenLookups.{all_below, is_open_lookup, pending_in, question_of}
 use Rattle.sq_rules.specs.StepRule.{StepSays}
-use Rattle.sq_rules.specs.declared.entries.Told.{Told}
-use Rattle.sq_rules.specs.declared.entries.Told.TheVariants as told
 use Rattle.sq_rows.specs.CheckRows.{after_step}
 use Rattle.sq_rows.specs.ClassRows.{with_took}
-use Rattle.sq_rows.specs.StepRows.{after_says, says_of_row, stepped_of}
+use Rattle.sq_rows.specs.StepRows.{after_says, question_told, says_of_row}
 use Rattle.sq_rows.specs.declared.said.Said.{Said}
 use Rattle.sq_rows.specs.declared.said.Stepped.{Stepped}
 use Rattle.sq_rows.specs.declared.said.Stepped.TheVariants as stepped
@@ -21,7 +19,7 @@ use Rattle.sq_part.specs.Parts.{IsAsBefore, PartState}
 use Rattle.sq_checks.proofs.StepLaws.{need_noted}
 use Rattle.sq_checks.specs.Conns.{check_in}
 use Rattle.sq_checks.specs.OpenChecks.{CheckParts, change_at, noted, rows_of, says_of}
-use Rattle.sq_checks.specs.Stages.{is_noted, need_in, noted_stage, question_told}
+use Rattle.sq_checks.specs.Stages.{is_noted, need_in, noted_stage}
 use Rattle.sq_checks.specs.Tables.{value_at}
 use Rattle.sq_checks.specs.declared.stages.Need.{Need}
 use Rattle.sq_epochs.specs.EpochChanges.{IsResolved}
@@ -31,16 +29,11 @@ use Rattle.sq_engine.specs.Engines.{AreConfigured, AreFed, AreKeyed, AreWaiting,
 use Rattle.sq_engine.specs.EngineViews.{EngineView, config_at, state_of}
 use Rattle.sq_engine.proofs.ChangedLaws.{configured_changed}
 use Rattle.sq_engine.proofs.HeldLaws.{asked_stepped, counted_stepped}
-use Rattle.sq_engine.proofs.KeyLaws.{keyed_before, keyed_resolved}
+use Rattle.sq_engine.proofs.KeyLaws.{asked_told, keyed_before, keyed_resolved}
 use Rattle.sq_engine.proofs.LookupLaws.{losses_put, need_open, not_open, open_still, put_below, put_higher, puts_after, was_open}
 use Rattle.sq_engine.proofs.PartLaws.{IsOwn, PartFed, fed_changed, waiting_part}
 use Rattle.sq_engine.proofs.PlaceLaws.{PartChanged, configs_kept, configured_part, counted_part, part_changed}
 use Rattle.sq_engine.proofs.TableLaws.{changed_at, mapped_if, number_is, number_self, number_sym}
-
-asked_told : (c : ℕ) (t : Told) → question_told (stepped_of c t) ≡ waits_told t
-asked_told c (told.Waits q) = refl
-asked_told c told.Done = refl
-asked_told c t = refl
 
 -- a check that is told so waits in the class that it asked, and nowhere else
 noted_waits : (c : ℕ) (key : List ℕ) (took : Option Answer) (st : Stepped) → is_noted took st ≡ true → asked_of c (need_in (noted_stage took (question_told st) c key)) ≡ question_told st

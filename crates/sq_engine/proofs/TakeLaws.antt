@@ -29,9 +29,10 @@ use Rattle.sq_state.specs.Says.{outcome_in}
 use Rattle.sq_state.specs.States.{IsSame, State}
 use Rattle.sq_engine.specs.Engines.{IsEngine, held_number}
 use Rattle.sq_engine.specs.EngineViews.{EngineView, state_of}
+use Rattle.sq_engine.specs.Stepping.{epoch_of}
 use Rattle.sq_engine.proofs.CountLaws.{counts_some}
 use Rattle.sq_engine.proofs.LeavingLaws.{LeftBy, left_none, left_part}
-use Rattle.sq_engine.proofs.NowLaws.{held_is, value_is}
+use Rattle.sq_engine.proofs.NowLaws.{epoch_found, held_is, value_is}
 use Rattle.sq_engine.proofs.OverLaws.{IsOver, held_alone}
 use Rattle.sq_engine.proofs.TableLaws.{row_at_number}
 
@@ -68,6 +69,15 @@ take_told v n k r i is done of verdict =
     let comes : comes_to k ≡ value.Verdict r.outcome = comes_by k done ∙ sym (ap (λ z. verdict_over z.answers z.config z.sight) of) ∙ verdict in
     let out : outcome_in (state_of v) (row n k) ≡ r.outcome = ap outcome_so_far (value_is v n k i is ∙ comes) in
     take_found v n k is ∙ rw (done_by k.stage ∙ done) (ap (λ z. gives (told.Judged k.epoch z)) out ∙ ap (λ z. gives (told.Judged z r.outcome)) (ap (λ z. z.epoch) (sym of)))
+
+-- the outcome that a check has is the one that is taken
+pub outcome_told : (v : EngineView) (n : ℕ) (k : CheckParts) (o : Outcome) → IsEngine v → value_at v.checks n ≡ Some k → decided_in k.stage ≡ Some o
+    → IfSome (decided_in k.stage) (λ x. verdict_over k.answers k.config k.sight ≡ value.Verdict x) → take_answer (state_of v) n ≡ gives (told.Judged (epoch_of (state_of v) n) o)
+outcome_told v n k o i is done verdict =
+    take_told v n k (judged_of n o k) i is (ap is_some done) refl (found_so verdict) ∙ ap (λ e. gives (told.Judged e o)) (sym (epoch_found v n k is))
+  where
+    found_so : IfSome (decided_in k.stage) (λ x. verdict_over k.answers k.config k.sight ≡ value.Verdict x) → verdict_over k.answers k.config k.sight ≡ value.Verdict o
+    found_so h = subst (λ (z : Option Outcome). IfSome z (λ x. verdict_over k.answers k.config k.sight ≡ value.Verdict x)) done h
 
 -- the client of a connection with a check is there
 client_of : (o : Option Link) (n : ℕ) → option_and_then (λ l. l.check) o ≡ Some n → is_some (option_map (λ l. l.peer) o) ≡ true

@@ -27,7 +27,7 @@ as_due (dues.stops k) = stops k
 as_due (dues.sends p s) = sends p s
 as_due (dues.starts p) = starts p
 
--- the next act of an engine: where no stop of a process 0 is due, it is that of its state
+-- the next act of an engine
 abbrev pub due_now : EngineView → Option Due
 due_now v = option_map as_due (dues.due_of v.epochs)
 

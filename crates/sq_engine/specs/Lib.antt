@@ -1,5 +1,6 @@
 -- Definitions that the contracts cite.
 pub mod Acting
+pub mod Begun
 pub mod EngineViews
 pub mod Engines
 pub mod Handing

@@ -6,15 +6,18 @@ use Rattle.sq_base.specs.declared.helpers.Reply.{Reply}
 use Rattle.sq_base.specs.declared.helpers.What.{What}
 use Rattle.sq_rules.specs.declared.entries.Told.{Told}
 use Rattle.sq_rules.specs.declared.entries.Told.TheVariants as told
+use Rattle.sq_rules.specs.Channels.{Channels}
 use Rattle.sq_rules.specs.Classes.{Class}
 use Rattle.sq_rules.specs.DueActs.{Place}
 use Rattle.sq_rules.specs.OpenLookups.{key_of}
 use Rattle.sq_rules.specs.Questions.{what_of}
+use Rattle.sq_channel.specs.Gots.{got_in}
 use Rattle.sq_channel.specs.declared.replies.Got.{Got}
 use Rattle.sq_channel.specs.declared.replies.Got.TheVariants as got
 use Rattle.sq_rows.specs.ClassRows.{ClassRow}
 use Rattle.sq_checks.specs.OpenChecks.{CheckParts, change_at, ended_by}
 use Rattle.sq_engine.specs.declared.lines.Share.{Share}
+use Rattle.sq_state.specs.Answers.{channels_in}
 use Rattle.sq_state.specs.Changes.{after_end_at, after_reply_at}
 use Rattle.sq_state.specs.Says.{class_in}
 use Rattle.sq_state.specs.States.{IsSame, State}
@@ -24,6 +27,10 @@ abbrev pub got_told : Got → Told
 got_told (got.Reply q reply) = told.Reply q reply.word
 got_told got.Bad = told.Bad
 got_told got.Stray = told.Stray
+
+-- a line of process k comes to this on the channels of the process
+abbrev pub IsRead : State → ℕ → List ℕ → Got → Type 0
+IsRead s k line g = (c : Channels) → channels_in s k ≡ Some c → got_in c line ≡ g
 
 -- process k ended by a line, by this cause
 pub record IsEndedBy (s : State) (k : ℕ) (by : Cause) (now : ℕ) (t : State) : Type 0 where

@@ -10,3 +10,8 @@ abbrev pub IsTold : {A : Type 0} → (A → Told) → Next → Result A Refusal 
 IsTold told next (Ok a) = next ≡ gives (told a)
 IsTold told next (Err refusal.WantOfMemory) = Unit {0}
 IsTold told next (Err r) = next ≡ refuses r
+
+-- the same of a call that takes no memory: it never answers that memory is wanting
+abbrev pub IsAlwaysTold : {A : Type 0} → (A → Told) → Next → Result A Refusal → Type 0
+IsAlwaysTold told next (Ok a) = next ≡ gives (told a)
+IsAlwaysTold told next (Err r) = next ≡ refuses r

@@ -1,14 +1,15 @@
 //! What is to be done next.
-ghost use Rattle.std.specs.Prelude.{◌≡◌, max, false, IfNone, IfOk, IfSome};
+ghost use Rattle.std.specs.Prelude.{◌≡◌, max, IfNone, IfOk, IfSome};
 ghost use Rattle.std.specs.Option.{option_map};
 ghost use Rattle.sq_state.specs.Acts.{due_in};
 ghost use Rattle.sq_state.specs.States.{IsSame};
 ghost use Rattle.sq_engine.specs.Acting.{IsActPromised, act_told, after_act, due_now};
-ghost use Rattle.sq_engine.specs.EngineViews.{state_of, stop_at};
+ghost use Rattle.sq_engine.specs.EngineViews.{state_of};
 
-use crate::engines::{Engine, later};
+use crate::engines::Engine;
 use sq_base::{Moment, WantOfMemory};
 use sq_epochs::Act;
+use sq_state::later;
 use std::alloc::Global;
 
 impl Engine {
@@ -16,9 +17,10 @@ impl Engine {
     /// moment neither. It takes no memory.
     pub fn act(&mut self, now: Moment) -> Option<Act>
         ensures act { result ≡ option_map act_told (due_now self.old) }
-        ensures state { stop_at self.old.epochs 0 ≡ false → due_now self.old ≡ due_in (state_of self.old) }
+        ensures state { due_now self.old ≡ due_in (state_of self.old) }
         ensures some { IfSome result (λ a. IsSame (state_of self.new) (after_act (due_now self.old) (max now self.old.latest) (state_of self.old))) }
         ensures none { IfNone result (self.new ≡ self.old) }
+        ensures checks { self.new.checks ≡ self.old.checks }
         ensures promised { IsActPromised (state_of self.old) (max now self.old.latest) result (state_of self.new) }
     {
         // For the proof: what holds of live epochs.
@@ -33,7 +35,7 @@ impl Engine {
     /// A copy of what `act` would answer. Nothing changes.
     pub fn due(&self, alloc: Global) -> Result<Option<Act>, WantOfMemory>
         ensures act { IfOk result (λ a. a ≡ option_map act_told (due_now self.now)) }
-        ensures state { stop_at self.now.epochs 0 ≡ false → due_now self.now ≡ due_in (state_of self.now) }
+        ensures state { due_now self.now ≡ due_in (state_of self.now) }
     {
         // For the proof: what holds of live epochs.
         self.epochs.facts();

@@ -9,16 +9,17 @@ ghost use Rattle.sq_checks.specs.OpenChecks.{begun_parts};
 ghost use Rattle.sq_state.specs.Answers.{ask_answer, asked_in};
 ghost use Rattle.sq_state.specs.Changes.{after_ask};
 ghost use Rattle.sq_state.specs.States.{IsSame};
+ghost use Rattle.sq_engine.specs.Begun.{HasBegun};
 ghost use Rattle.sq_engine.specs.EngineViews.{state_of};
 ghost use Rattle.sq_engine.specs.Promised.{IsPromised};
 ghost use Rattle.sq_engine.specs.Tellings.{IsTold};
 
-use crate::engines::{Engine, LAST_NUMBER, later};
-use crate::sighting::minute_of_week;
+use crate::engines::{Engine, LAST_NUMBER};
 use sq_base::{CheckNo, ConnNo, EpochNo, Moment, Request, WantOfMemory};
 use sq_checks::OpenCheck;
 use sq_facts::read_facts;
 use sq_rules::{Refusal, Sight};
+use sq_state::{later, minute_of_week};
 use sq_urlmatch::Setup;
 use std::alloc::Global;
 use std::sync::Arc;
@@ -52,6 +53,7 @@ impl Engine {
         ensures ok { OnOk result ((method target : List ℕ) (fields : List Field) → unversioned request ≡ asked_request method target fields
             → IsSame (state_of self.new) (after_ask (asked_in (state_of self.old) (max now self.old.latest) conn method target fields) (max now self.old.latest) (state_of self.old))) }
         ensures err { OnErr result (self.new ≡ self.old) }
+        ensures begun { IfOk result (λ n. HasBegun n self.old.setup request self.old.checks self.new.checks) }
     {
         let Some(peer) = self.conns.peer(conn) else {
             return Err(Refusal::UnknownConn(conn));
@@ -102,6 +104,7 @@ impl Engine {
         ensures ok { OnOk result ((method target : List ℕ) (fields : List Field) → unversioned request ≡ asked_request method target fields
             → IsSame (state_of self.new) (after_ask (asked_in (state_of self.old) (max now self.old.latest) conn method target fields) (max now self.old.latest) (state_of self.old))) }
         ensures err { OnErr result (self.new ≡ self.old) }
+        ensures begun { IfOk result (λ n. HasBegun n self.old.setup request self.old.checks self.new.checks) }
         ensures promised { (method target : List ℕ) (fields : List Field) → unversioned request ≡ asked_request method target fields → is_some (target_of method target) ≡ true
             → IsPromised (λ n. told.Check n) (state_of self.old) (max now self.old.latest) (event.Ask conn method target fields) result (state_of self.new) }
     {

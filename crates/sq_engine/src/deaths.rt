@@ -8,14 +8,16 @@ ghost use Rattle.sq_epochs.specs.EpochStates.{home_at};
 ghost use Rattle.sq_state.specs.Answers.{died_answer};
 ghost use Rattle.sq_state.specs.Changes.{after_end_at};
 ghost use Rattle.sq_state.specs.States.{IsSame};
+ghost use Rattle.sq_engine.specs.Begun.{AreKept};
 ghost use Rattle.sq_engine.specs.EngineViews.{state_of};
 ghost use Rattle.sq_engine.specs.Promised.{IsPromised};
-ghost use Rattle.sq_engine.specs.Tellings.{IsTold};
+ghost use Rattle.sq_engine.specs.Tellings.{IsAlwaysTold};
 
-use crate::engines::{Engine, later};
+use crate::engines::Engine;
 use crate::handing::hand_out;
 use sq_base::{Cause, EpochNo, Moment, ProcNo};
 use sq_rules::Refusal;
+use sq_state::later;
 
 impl Engine {
     // A living process of this class ends, by this cause; where it ends by a line, its stop is due. It takes no memory.
@@ -29,7 +31,8 @@ impl Engine {
         moment: Moment,
     )
         requires { home_at self.old.epochs proc ≡ Some (record { epoch = epoch; class = class }) }
-        ensures { IsSame (state_of self.new) (after_end_at (record { epoch = epoch; class = class }) proc cause by_line moment (state_of self.old)) }
+        ensures same { IsSame (state_of self.new) (after_end_at (record { epoch = epoch; class = class }) proc cause by_line moment (state_of self.old)) }
+        ensures kept { AreKept self.old.checks self.new.checks }
     {
         self.epochs.end(proc, cause, by_line);
         hand_out(&mut self.epochs, &mut self.checks, epoch, class, moment);
@@ -38,9 +41,10 @@ impl Engine {
 
     /// A process died. It takes no memory.
     pub fn died(&mut self, proc: ProcNo, now: Moment) -> Result<(), Refusal>
-        ensures told { IsTold (λ _. told.Fine) (died_answer (state_of self.old) proc) result }
+        ensures told { IsAlwaysTold (λ _. told.Fine) (died_answer (state_of self.old) proc) result }
         ensures ok { OnOk result ((p : Place) → home_at self.old.epochs proc ≡ Some p → IsSame (state_of self.new) (after_end_at p proc cause.Died false (max now self.old.latest) (state_of self.old))) }
         ensures err { OnErr result (self.new ≡ self.old) }
+        ensures kept { AreKept self.old.checks self.new.checks }
         ensures promised { IsPromised (λ _. told.Fine) (state_of self.old) (max now self.old.latest) (event.Died proc) result (state_of self.new) }
     {
         let Some(home) = self.epochs.home(proc) else {

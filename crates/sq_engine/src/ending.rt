@@ -14,15 +14,17 @@ ghost use Rattle.sq_epochs.specs.EpochStates.{IsChanged, part_at};
 ghost use Rattle.sq_state.specs.Answers.{close_answer, take_answer};
 ghost use Rattle.sq_state.specs.Changes.{after_close, after_take, with_checks};
 ghost use Rattle.sq_state.specs.States.{IsSame};
+ghost use Rattle.sq_engine.specs.Begun.{AreKept};
 ghost use Rattle.sq_engine.specs.EngineViews.{state_of};
 ghost use Rattle.sq_engine.specs.Promised.{IsPromised};
-ghost use Rattle.sq_engine.specs.Tellings.{IsTold};
+ghost use Rattle.sq_engine.specs.Tellings.{IsAlwaysTold};
 
-use crate::engines::{Engine, later};
+use crate::engines::Engine;
 use sq_base::{CheckNo, ConnNo, Moment};
 use sq_checks::{OpenCheck, Record};
 use sq_epochs::Epochs;
 use sq_rules::Refusal;
+use sq_state::later;
 
 // Takes a check away from the list in which it waits, if it waits.
 fn leave(epochs: &mut Epochs, taken: &OpenCheck, check: CheckNo)
@@ -43,6 +45,7 @@ impl Engine {
         ensures same { IsSame (state_of self.new) (after_take check self.old.latest (state_of self.old)) }
         ensures conns { (c : ℕ) → check_in self.new.conns c ≡ (if result.conn == c then None else check_in self.old.conns c) }
         ensures latest { self.new.latest ≡ self.old.latest }
+        ensures kept { AreKept self.old.checks self.new.checks }
     {
         // For the proof: the numbers ascend.
         let _len = self.checks.len();
@@ -59,10 +62,11 @@ impl Engine {
 
     /// The outcome of a check is taken, and the check is over. It takes no memory.
     pub fn take(&mut self, check: CheckNo, now: Moment) -> Result<Record, Refusal>
-        ensures told { IsTold (λ r. told.Judged r.epoch r.outcome) (take_answer (state_of self.old) check) result }
+        ensures told { IsAlwaysTold (λ r. told.Judged r.epoch r.outcome) (take_answer (state_of self.old) check) result }
         ensures ok { OnOk result (IsSame (state_of self.new) (after_take check (max now self.old.latest) (state_of self.old))) }
         ensures record { IfOk result (λ r. (k : CheckParts) → value_at self.old.checks check ≡ Some k → r ≡ judged_of check r.outcome k) }
         ensures err { OnErr result (self.new ≡ self.old) }
+        ensures kept { AreKept self.old.checks self.new.checks }
         ensures promised { IsPromised (λ r. told.Judged r.epoch r.outcome) (state_of self.old) (max now self.old.latest) (event.Take check) result (state_of self.new) }
     {
         let Some(open) = self.checks.get(check) else {
@@ -83,6 +87,7 @@ impl Engine {
         ensures same { IsSame (state_of self.new) (with_checks (without_conn conn (rows_of self.old.checks)) (state_of self.old)) }
         ensures free { check_in self.new.conns conn ≡ None }
         ensures latest { self.new.latest ≡ self.old.latest }
+        ensures kept { AreKept self.old.checks self.new.checks }
     {
         self.epochs.facts();
         // For the proof: the numbers ascend.
@@ -95,9 +100,10 @@ impl Engine {
     /// A connection closes, and its open check is dropped; the question for which it waits goes on. It takes no
     /// memory.
     pub fn close(&mut self, conn: ConnNo, now: Moment) -> Result<(), Refusal>
-        ensures told { IsTold (λ _. told.Fine) (close_answer (state_of self.old) conn) result }
+        ensures told { IsAlwaysTold (λ _. told.Fine) (close_answer (state_of self.old) conn) result }
         ensures ok { OnOk result (IsSame (state_of self.new) (after_close conn (max now self.old.latest) (state_of self.old))) }
         ensures err { OnErr result (self.new ≡ self.old) }
+        ensures kept { AreKept self.old.checks self.new.checks }
         ensures promised { IsPromised (λ _. told.Fine) (state_of self.old) (max now self.old.latest) (event.Close conn) result (state_of self.new) }
     {
         if self.conns.peer(conn).is_none() {

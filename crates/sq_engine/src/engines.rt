@@ -44,13 +44,6 @@ impl Model for Engine {
     ghost invariant = { λ g. IsEngine (record { conns = g.conns; checks = g.checks; asks = g.asks; puts = g.puts; epochs = g.epochs; setup = g.setup; offset = g.offset; latest = g.latest }) };
 }
 
-// The later of two moments.
-pub(crate) fn later(now: Moment, latest: Moment) -> Moment
-    ensures { result ≡ max now latest }
-{
-    Moment(now.0.max(latest.0))
-}
-
 impl Engine {
     /// The machine that begins at this moment with epoch 1, at this offset of local time. The seed is for the hashes
     /// of keys.

@@ -12,11 +12,11 @@ mod deaths;
 mod ending;
 mod engines;
 mod handing;
+mod holding;
 mod lines;
 mod opening;
 mod readers;
 mod reconfiguring;
-mod sighting;
 mod starts;
 mod stepping;
 

@@ -3,22 +3,26 @@ ghost use Rattle.std.specs.Prelude.{◌≡◌, max, map, true, is_some, Some, If
 ghost use Rattle.sq_part.specs.Parts.{PartState};
 ghost use Rattle.sq_rules.specs.Channels.{is_open};
 ghost use Rattle.sq_rules.specs.Living.{slots_in};
-ghost use Rattle.sq_rules.specs.Questions.{what_of};
+ghost use Rattle.sq_rules.specs.declared.entries.Event.TheVariants as event;
 ghost use Rattle.sq_epochs.specs.EpochStates.{home_at, part_at};
 ghost use Rattle.sq_state.specs.Answers.{line_answer};
 ghost use Rattle.sq_state.specs.States.{IsSame};
+ghost use Rattle.sq_engine.specs.Begun.{AreKept};
 ghost use Rattle.sq_engine.specs.EngineViews.{state_of};
-ghost use Rattle.sq_engine.specs.Lines.{IsLineDone, IsReplied, all_given, got_told, share_of};
+ghost use Rattle.sq_engine.specs.Lines.{IsLineDone, IsRead, IsReplied, all_given, got_told, share_of};
+ghost use Rattle.sq_engine.specs.Promised.{IsPromised};
 ghost use Rattle.sq_engine.specs.Tellings.{IsTold};
 
-use crate::engines::{Engine, later};
+use crate::engines::Engine;
 use sq_base::{
-    Cause, CheckNo, Copying, EpochNo, Moment, ProcNo, QuestionNo, Reply, WantOfMemory, What, Word,
+    Cause, CheckNo, Copying, EpochNo, Moment, ProcNo, QuestionNo, Reply, WantOfMemory, What,
 };
 use sq_checks::OpenChecks;
 use sq_farm::Got;
+use sq_history::what_of;
 use sq_lookup::Checks;
 use sq_rules::Refusal;
+use sq_state::later;
 use std::alloc::Global;
 
 // A check's copy of what the question ended with that it waits for.
@@ -26,23 +30,6 @@ use std::alloc::Global;
 pub(crate) struct Share {
     check: CheckNo,
     what: What,
-}
-
-// What a reply says.
-fn what_of(alloc: Global, reply: &Reply) -> Result<What, WantOfMemory>
-    ensures { IfOk result (λ w. w ≡ what_of reply.now) }
-{
-    match reply.word {
-        Word::Yes => {
-            let pairs = reply.pairs.copy(alloc)?;
-            Ok(What::Yes(pairs))
-        }
-        Word::No => {
-            let pairs = reply.pairs.copy(alloc)?;
-            Ok(What::No(pairs))
-        }
-        Word::Broken => Ok(What::Fault(Cause::Bh)),
-    }
 }
 
 // A copy for each of these checks.
@@ -86,6 +73,7 @@ impl Engine {
         requires opened { (p : PartState) → part_at self.old.epochs epoch class ≡ Some p → is_open question (slots_in proc p.row.stock.procs) ≡ true }
         ensures ok { OnOk result (IsReplied (state_of self.old) proc question reply.now moment (state_of self.new)) }
         ensures err { OnErr result (IsSame (state_of self.new) (state_of self.old)) }
+        ensures kept { AreKept self.old.checks self.new.checks }
     {
         // For the proof: the numbers of the checks rise.
         let _checks = self.checks.len();
@@ -112,8 +100,11 @@ impl Engine {
         now: Moment,
     ) -> Result<Got, Refusal>
         ensures told { IsTold got_told (line_answer (state_of self.old) proc bytes.now) result }
+        ensures read { IfOk result (λ g. IsRead (state_of self.old) proc bytes.now g) }
         ensures ok { IfOk result (λ g. IsLineDone (state_of self.old) proc g (max now self.old.latest) (state_of self.new)) }
         ensures err { OnErr result (IsSame (state_of self.new) (state_of self.old)) }
+        ensures kept { AreKept self.old.checks self.new.checks }
+        ensures promised { IsPromised got_told (state_of self.old) (max now self.old.latest) (event.Line proc bytes.now) result (state_of self.new) }
     {
         // For the proof: a process lives where its home is.
         self.epochs.facts();

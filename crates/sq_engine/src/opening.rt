@@ -9,9 +9,10 @@ ghost use Rattle.sq_engine.specs.EngineViews.{state_of};
 ghost use Rattle.sq_engine.specs.Promised.{IsPromised};
 ghost use Rattle.sq_engine.specs.Tellings.{IsTold};
 
-use crate::engines::{Engine, later};
+use crate::engines::Engine;
 use sq_base::{Addr, ConnNo, Moment, WantOfMemory};
 use sq_rules::Refusal;
+use sq_state::later;
 
 /// Connections that may be open at a time.
 const CONN_LIMIT: u32 = 65_536;
@@ -22,6 +23,7 @@ impl Engine {
         ensures told { IsTold (λ _. told.Fine) (open_answer (state_of self.old) conn) result }
         ensures ok { OnOk result (IsSame (state_of self.new) (after_open conn (record { addr = addr; port = port }) (max now self.old.latest) (state_of self.old))) }
         ensures err { OnErr result (self.new ≡ self.old) }
+        ensures checks { self.new.checks ≡ self.old.checks }
         ensures promised { IsPromised (λ _. told.Fine) (state_of self.old) (max now self.old.latest) (event.Open conn addr port) result (state_of self.new) }
     {
         if self.conns.peer(conn).is_some() {

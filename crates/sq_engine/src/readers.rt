@@ -2,12 +2,16 @@
 ghost use Rattle.std.specs.Prelude.{◌≡◌, ◌+◌, length};
 ghost use Rattle.std.specs.Arc.{arc_value};
 ghost use Rattle.std.specs.Option.{option_map};
+ghost use Rattle.sq_rules.specs.declared.entries.Told.TheVariants as told;
+ghost use Rattle.sq_state.specs.Answers.{take_answer};
 ghost use Rattle.sq_state.specs.Says.{class_in};
 ghost use Rattle.sq_engine.specs.EngineViews.{state_of};
+ghost use Rattle.sq_engine.specs.Stepping.{epoch_of};
+ghost use Rattle.sq_engine.specs.Tellings.{IsAlwaysTold};
 
 use crate::engines::Engine;
-use sq_base::{EpochNo, Moment, Text, Texts};
-use sq_rules::{Class, Config};
+use sq_base::{CheckNo, EpochNo, Moment, Text, Texts};
+use sq_rules::{Class, Config, Outcome, Refusal};
 use std::sync::Arc;
 
 impl Engine {
@@ -60,5 +64,28 @@ impl Engine {
     {
         let class = self.class(epoch, class)?;
         Some(&class.words)
+    }
+
+    /// The outcome of a check that `take` would give, lent. It is refused as `take` is.
+    pub fn outcome(&self, check: CheckNo) -> Result<&Outcome, Refusal>
+        ensures { IsAlwaysTold (λ o. told.Judged (epoch_of (state_of self.now) check) o.now) (take_answer (state_of self.now) check) result }
+    {
+        let Some(open) = self.checks.get(check) else {
+            return Err(Refusal::UnknownCheck(check));
+        };
+        match open.outcome() {
+            Some(outcome) => Ok(outcome),
+            None => Err(Refusal::NotDone(check)),
+        }
+    }
+
+    /// The epoch of an open check; 0 where it is not open.
+    pub fn epoch_of(&self, check: CheckNo) -> EpochNo
+        ensures { result ≡ epoch_of (state_of self.now) check }
+    {
+        match self.checks.get(check) {
+            Some(open) => open.epoch(),
+            None => EpochNo(0),
+        }
     }
 }

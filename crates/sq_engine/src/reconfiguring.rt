@@ -8,9 +8,10 @@ ghost use Rattle.sq_engine.specs.EngineViews.{state_of};
 ghost use Rattle.sq_engine.specs.Promised.{IsPromisedNext};
 ghost use Rattle.sq_engine.specs.Tellings.{IsTold};
 
-use crate::engines::{Engine, LAST_NUMBER, later};
+use crate::engines::{Engine, LAST_NUMBER};
 use sq_base::{EpochNo, Moment, WantOfMemory};
 use sq_rules::Refusal;
+use sq_state::later;
 use sq_urlmatch::Setup;
 use std::alloc::Global;
 use std::sync::Arc;
@@ -29,6 +30,7 @@ impl Engine {
         ensures told { IsTold (λ n. told.Epoch n) (reconfigure_answer (state_of self.old)) result }
         ensures ok { OnOk result (IsSame (state_of self.new) (after_reconfigured setup (max now self.old.latest) (state_of self.old))) }
         ensures err { OnErr result (self.new ≡ self.old) }
+        ensures checks { self.new.checks ≡ self.old.checks }
         ensures promised { IsPromisedNext (λ n. told.Epoch n) (state_of self.old) (max now self.old.latest) setup result (state_of self.new) }
     {
         // For the proof: what holds of epochs and homes.

@@ -8,15 +8,17 @@ ghost use Rattle.sq_epochs.specs.EpochStates.{IsChanged};
 ghost use Rattle.sq_state.specs.Answers.{failed_answer, started_answer};
 ghost use Rattle.sq_state.specs.Changes.{after_failed_at, after_started_at};
 ghost use Rattle.sq_state.specs.States.{IsSame};
+ghost use Rattle.sq_engine.specs.Begun.{AreKept};
 ghost use Rattle.sq_engine.specs.EngineViews.{state_of};
 ghost use Rattle.sq_engine.specs.Promised.{IsPromisedAt};
-ghost use Rattle.sq_engine.specs.Tellings.{IsTold};
+ghost use Rattle.sq_engine.specs.Tellings.{IsAlwaysTold, IsTold};
 
-use crate::engines::{Engine, later};
+use crate::engines::Engine;
 use crate::handing::hand_out;
 use sq_base::{EpochNo, Moment, ProcNo};
 use sq_epochs::{Epochs, StartedFault};
 use sq_rules::Refusal;
+use sq_state::later;
 use std::alloc::Global;
 
 // A start of this class, of which one is open, failed.
@@ -43,6 +45,7 @@ impl Engine {
         ensures told { IsTold told.Proc (started_answer (state_of self.old) (record { epoch = epoch; class = class })) result }
         ensures ok { OnOk result (IsSame (state_of self.new) (after_started_at (record { epoch = epoch; class = class }) (max now self.old.latest) (state_of self.old))) }
         ensures err { OnErr result (self.new ≡ self.old) }
+        ensures checks { self.new.checks ≡ self.old.checks }
         ensures promised { IsPromisedAt told.Proc (state_of self.old) (max now self.old.latest) event.Started (record { epoch = epoch; class = class }) result (state_of self.new) }
     {
         // For the proof: what holds of homes.
@@ -59,9 +62,10 @@ impl Engine {
 
     /// A start of a class failed. It takes no memory.
     pub fn start_failed(&mut self, epoch: EpochNo, class: u32, now: Moment) -> Result<(), Refusal>
-        ensures told { IsTold (λ _. told.Fine) (failed_answer (state_of self.old) (record { epoch = epoch; class = class })) result }
+        ensures told { IsAlwaysTold (λ _. told.Fine) (failed_answer (state_of self.old) (record { epoch = epoch; class = class })) result }
         ensures ok { OnOk result (IsSame (state_of self.new) (after_failed_at (record { epoch = epoch; class = class }) (max now self.old.latest) (state_of self.old))) }
         ensures err { OnErr result (self.new ≡ self.old) }
+        ensures kept { AreKept self.old.checks self.new.checks }
         ensures promised { IsPromisedAt (λ _. told.Fine) (state_of self.old) (max now self.old.latest) event.StartFail (record { epoch = epoch; class = class }) result (state_of self.new) }
     {
         if !self.epochs.has_start(epoch, class) {

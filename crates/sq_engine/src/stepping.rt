@@ -13,29 +13,20 @@ ghost use Rattle.sq_epochs.specs.EpochStates.{part_at};
 ghost use Rattle.sq_state.specs.Changes.{after_step_of};
 ghost use Rattle.sq_state.specs.Says.{says_place_in};
 ghost use Rattle.sq_state.specs.States.{IsSame};
+ghost use Rattle.sq_engine.specs.Begun.{AreKept};
 ghost use Rattle.sq_engine.specs.EngineViews.{state_of};
 ghost use Rattle.sq_engine.specs.Promised.{IsPromised};
 ghost use Rattle.sq_engine.specs.Stepping.{NeedsAcl, after_step_now, epoch_of, says_waits, step_now, stepped_told};
 ghost use Rattle.sq_engine.specs.Tellings.{IsTold};
 
-use crate::engines::{Engine, later};
+use crate::engines::Engine;
 use sq_base::{CheckNo, Copying, EpochNo, Moment, QuestionNo, Text, WantOfMemory};
 use sq_checks::class_of;
 use sq_part::ResolveFault;
 use sq_rows::{Said, Stepped};
 use sq_rules::{Config, Outcome, Refusal, Value};
+use sq_state::later;
 use std::alloc::Global;
-
-// The same answer of a step.
-fn again(stepped: &Stepped) -> Stepped
-    ensures { result ≡ stepped.now }
-{
-    match stepped {
-        Stepped::Took(class) => Stepped::Took(*class),
-        Stepped::Waits(question) => Stepped::Waits(*question),
-        Stepped::Done => Stepped::Done,
-    }
-}
 
 // The class that an acl asks whose answer is needed.
 fn needed_class(config: &Config, acl: u32) -> u32
@@ -73,6 +64,7 @@ impl Engine {
         requires other { IfSome (value_at self.old.checks check) (λ k. has_answer k.answers class key ≡ false) }
         ensures value { self.new ≡ record self.old { checks = self.new.checks; latest = moment } }
         ensures rows { rows_of self.new.checks ≡ after_step check (says_waits question) (rows_of self.old.checks) }
+        ensures kept { AreKept self.old.checks self.new.checks }
     {
         let said = Said {
             stepped: Stepped::Waits(question),
@@ -88,6 +80,7 @@ impl Engine {
         ensures value { self.new ≡ record self.old { checks = self.new.checks } }
         ensures ok { OnOk result (self.new.checks ≡ change_at check settled self.old.checks) }
         ensures rows { rows_of self.new.checks ≡ rows_of self.old.checks }
+        ensures kept { AreKept self.old.checks self.new.checks }
     {
         self.checks.settle(alloc, check)
     }
@@ -100,6 +93,7 @@ impl Engine {
         requires verdict { IfSome (value_at self.old.checks check) (λ k. comes_to k ≡ value.Verdict outcome) }
         ensures value { self.new ≡ record self.old { checks = self.new.checks; latest = moment } }
         ensures rows { rows_of self.new.checks ≡ after_step check says_done (rows_of self.old.checks) }
+        ensures kept { AreKept self.old.checks self.new.checks }
     {
         self.checks.finish(check, outcome);
         self.latest = moment;
@@ -124,6 +118,7 @@ impl Engine {
         ensures told { IsTold (stepped_told (state_of self.old) epoch) (step_next self.old.puts (says_place_in (state_of self.old) moment epoch key (Some class))) result }
         ensures ok { OnOk result (IsSame (state_of self.new) (after_step_of check epoch (says_place_in (state_of self.old) moment epoch key (Some class)) moment (state_of self.old))) }
         ensures err { OnErr result (IsSame (state_of self.new) (state_of self.old)) }
+        ensures kept { AreKept self.old.checks self.new.checks }
     {
         let said = match self
             .epochs
@@ -133,7 +128,7 @@ impl Engine {
             Err(ResolveFault::Spent) => return Err(Refusal::Spent(self.puts + 1)),
             Err(ResolveFault::WantOfMemory) => return Err(Refusal::WantOfMemory),
         };
-        let stepped = again(&said.stepped);
+        let stepped = said.stepped;
         self.puts = puts_after(self.puts, said.put);
         self.checks.note(check, said, class, key);
         self.latest = moment;
@@ -148,6 +143,7 @@ impl Engine {
         ensures told { IsTold (stepped_told (state_of self.old) (epoch_of (state_of self.old) check)) (step_now (state_of self.old) check moment) result }
         ensures ok { OnOk result (IsSame (state_of self.new) (after_step_now (state_of self.old) check moment)) }
         ensures err { OnErr result (IsSame (state_of self.new) (state_of self.old)) }
+        ensures kept { AreKept self.old.checks self.new.checks }
     {
         let Some(open) = self.checks.get(check) else {
             unreachable!();
@@ -174,6 +170,7 @@ impl Engine {
         ensures told { IsTold (stepped_told (state_of self.old) (epoch_of (state_of self.old) check)) (step_now (state_of self.old) check (max now self.old.latest)) result }
         ensures ok { OnOk result (IsSame (state_of self.new) (after_step_now (state_of self.old) check (max now self.old.latest))) }
         ensures err { OnErr result (IsSame (state_of self.new) (state_of self.old)) }
+        ensures kept { AreKept self.old.checks self.new.checks }
     {
         let moment = later(now, self.latest);
         let Some(open) = self.checks.get(check) else {
@@ -201,6 +198,7 @@ impl Engine {
         ensures told { IsTold (stepped_told (state_of self.old) (epoch_of (state_of self.old) check)) (step_now (state_of self.old) check (max now self.old.latest)) result }
         ensures ok { OnOk result (IsSame (state_of self.new) (after_step_now (state_of self.old) check (max now self.old.latest))) }
         ensures err { OnErr result (IsSame (state_of self.new) (state_of self.old)) }
+        ensures kept { AreKept self.old.checks self.new.checks }
         ensures promised { IsPromised (stepped_told (state_of self.old) (epoch_of (state_of self.old) check)) (state_of self.old) (max now self.old.latest) (event.Step check) result (state_of self.new) }
     {
         self.step_on(alloc, check, now)

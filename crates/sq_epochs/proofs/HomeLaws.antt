@@ -96,6 +96,18 @@ pub below_all : (m : ℕ) (ks ns : List ℕ) → AreBelow m ks → AreBelow m ns
 below_all m [] ns a b = b
 below_all m (k ∷ ks) ns a b = below_all m ks (with_number k ns) a.1 (below_with m k ns a.0 b)
 
+pub above_with : (m k : ℕ) (ns : List ℕ) → m < k → AreAbove m ns → AreAbove m (with_number k ns)
+above_with m k [] l a = (l, tt)
+above_with m k (n ∷ ns) l a = by_test (nat_lt n k) (above_with m k ns l a.1)
+  where
+    by_test : (b : Bool) → AreAbove m (with_number k ns) → AreAbove m (if b then n ∷ with_number k ns else k ∷ n ∷ ns)
+    by_test true more = (a.0, more)
+    by_test false more = (l, a)
+
+pub above_all : (m : ℕ) (ks ns : List ℕ) → AreAbove m ks → AreAbove m ns → AreAbove m (with_numbers ks ns)
+above_all m [] ns a b = b
+above_all m (k ∷ ks) ns a b = above_all m ks (with_number k ns) a.1 (above_with m k ns a.0 b)
+
 -- the processes of an epoch, one home further
 pub procs_step : (e : ℕ) (h : Home) (hs : List Home) (ns : List ℕ)
     → with_numbers (procs_of e (h ∷ hs)) ns ≡ with_numbers (procs_of e hs) (if is_of_epoch e h then with_number h.proc ns else ns)
@@ -190,8 +202,10 @@ home_push k h (x ∷ hs) = by_test (k == x.proc) (home_push k h hs)
 pub homes_more : (g n : ℕ) (hs : List Home) (ss : List ℕ) (p : Place) → n ≡ suc g → AreHomes g hs ss → AreHomes n (hs ++ record { proc = n; place = p } ∷ []) ss
 homes_more g n hs ss p e are = record {
   rise = rises_push h hs (below_more (suc g) n (map home_number hs) (omega (arith, e)) are.born) are.rise;
+  above = above_push 0 h hs (omega (arith, e)) are.above;
   born = below_push (suc n) h hs (omega arith) (below_more (suc g) (suc n) (map home_number hs) (omega (arith, e)) are.born);
   stops_rise = are.stops_rise;
+  stops_above = are.stops_above;
   stops_born = below_more (suc g) (suc n) ss (omega (arith, e)) are.stops_born;
   apart = λ k is. by_test k (k == n) refl (home_in k hs) refl (ap is_some (sym (home_push k h hs)) ∙ is);
 }
@@ -296,6 +310,10 @@ below_if : (due : Bool) (m k : ℕ) (ns : List ℕ) → k < m → AreBelow m ns 
 below_if true m k ns l a = below_with m k ns l a
 below_if false m k ns l a = a
 
+above_if : (due : Bool) (m k : ℕ) (ns : List ℕ) → m < k → AreAbove m ns → AreAbove m (if due then with_number k ns else ns)
+above_if true m k ns l a = above_with m k ns l a
+above_if false m k ns l a = a
+
 times_if : (due : Bool) (j k : ℕ) (ns : List ℕ) → (j == k) ≡ false → times_of j (if due then with_number k ns else ns) ≡ times_of j ns
 times_if true j k ns e = times_with j k ns ∙ if_false (j == k) (suc (times_of j ns)) (times_of j ns) e
 times_if false j k ns e = refl
@@ -303,8 +321,10 @@ times_if false j k ns e = refl
 pub homes_less : (g k : ℕ) (hs : List Home) (ss : List ℕ) (due : Bool) → AreHomes g hs ss → is_some (home_in k hs) ≡ true → AreHomes g (without_home k hs) (if due then with_number k ss else ss)
 homes_less g k hs ss due are is = record {
   rise = rises_without k hs are.rise;
+  above = above_without 0 k hs are.above;
   born = below_without (suc g) k hs are.born;
   stops_rise = rises_if due k ss (are.apart k is) are.stops_rise;
+  stops_above = above_if due 0 k ss (home_above 0 k hs are.above is) are.stops_above;
   stops_born = below_if due (suc g) k ss (home_below (suc g) k hs are.born is) are.stops_born;
   apart = λ j at. by_test j (k == j) refl (ap is_some (sym (home_without j k hs)) ∙ at);
 }
@@ -402,8 +422,10 @@ rises_all e (h ∷ hs) ns r s none =
 pub homes_dropped : (g e : ℕ) (hs : List Home) (ss : List ℕ) → AreHomes g hs ss → AreHomes g (other_homes e hs) (with_numbers (procs_of e hs) ss)
 homes_dropped g e hs ss are = record {
   rise = rises_other e hs are.rise;
+  above = above_other 0 e hs are.above;
   born = below_other (suc g) e hs are.born;
   stops_rise = rises_all e hs ss are.rise are.stops_rise are.apart;
+  stops_above = above_all 0 (procs_of e hs) ss (above_procs 0 e hs are.above) are.stops_above;
   stops_born = below_all (suc g) (procs_of e hs) ss (below_procs (suc g) e hs are.born) are.stops_born;
   apart = λ k is. times_all k (procs_of e hs) ss ∙ (let a = times_other k e hs are.rise is in let b = are.apart k (home_was k e hs is) in omega arith);
 }

@@ -211,7 +211,7 @@ first_whole config xs g hs ss p q r s =
     first : AreWhole (record { current = 1; epochs = new_epoch 1 config ∷ []; procs = 0; homes = []; stops = [] })
     first = record {
       live = record { rise = (tt, tt); numbered = (omega arith, tt); born = (omega arith, tt); here = refl; used = refl };
-      homes = record { rise = tt; born = tt; stops_rise = tt; stops_born = tt; apart = λ k is. absurd cc };
+      homes = record { rise = tt; above = tt; born = tt; stops_rise = tt; stops_above = tt; stops_born = tt; apart = λ k is. absurd cc };
       homed = λ e c k. by_epoch (e == 1) c k;
     }
 

@@ -2,7 +2,7 @@
 use Rattle.std.specs.Prelude.{◌≡◌, ℕ, suc, List, [], ◌∷◌, map, filter, Bool, false, not, ◌||◌, if◌then◌else◌, nat_lt, ◌==◌, Some, None, is_some, true}
 use Rattle.std.specs.declared.option.Option.{Option}
 use Rattle.sq_rules.specs.DueActs.{Place}
-use Rattle.sq_rules.specs.Rising.{AreBelow, Rises, times_of}
+use Rattle.sq_rules.specs.Rising.{AreAbove, AreBelow, Rises, times_of}
 
 -- a living process, and the epoch and the class of which it is
 pub record Home : Type 0 where
@@ -63,10 +63,12 @@ abbrev pub with_numbers : List ℕ → List ℕ → List ℕ
 with_numbers [] ns = ns
 with_numbers (k ∷ ks) ns = with_numbers ks (with_number k ns)
 
--- processes rise, and so do due stops; none has a number that was not given
+-- processes rise, and so do due stops; none has the number 0, or one that was not given
 pub record AreHomes (given : ℕ) (homes : List Home) (stops : List ℕ) : Type 0 where
   pub rise : Rises (map home_number homes)
+  pub above : AreAbove 0 (map home_number homes)
   pub born : AreBelow (suc given) (map home_number homes)
   pub stops_rise : Rises stops
+  pub stops_above : AreAbove 0 stops
   pub stops_born : AreBelow (suc given) stops
   pub apart : (k : ℕ) → is_some (home_in k homes) ≡ true → times_of k stops ≡ 0

@@ -4,13 +4,13 @@ ghost use Rattle.std.specs.List.{list_any};
 ghost use Rattle.percent_encoding.specs.Percent.{percent_decode};
 ghost use Rattle.sq_rules.specs.Facts.{acl_fact, facts_of};
 ghost use Rattle.sq_rules.specs.Leaves.{holds, in_ranges};
-ghost use Rattle.sq_urlmatch.specs.Values.{domains_at, domains_of_leaf, ranges_at, ranges_of_leaf};
+ghost use Rattle.sq_urlmatch.specs.Values.{domains_at, domains_of_leaf, ports_at, ports_of_leaf, ranges_at, ranges_of_leaf};
 ghost use Rattle.sq_facts.specs.Patterns.{acl_has_patterns, is_plain_leaf};
 
 use sq_base::{Addr, WantOfMemory};
 use sq_rules::{Acl, Body, Leaf, Sight};
 use sq_urlmatch::Setup;
-use sq_values::{maxconn_has, method_has, port_has, proto_has, time_has};
+use sq_values::{maxconn_has, method_has, proto_has, time_has};
 use std::alloc::Global;
 
 /// Whether the acl at a place holds of what a check sees; of an acl that is no leaf, false.
@@ -51,13 +51,14 @@ fn leaf_fact(setup: &Setup, place: u32, leaf: &Leaf, sight: &Sight) -> bool
     requires plain { is_plain_leaf leaf.now ≡ true }
     requires ranges { ranges_at setup.now.acls place ≡ ranges_of_leaf leaf.now }
     requires domains { domains_at setup.now.acls place ≡ domains_of_leaf leaf.now }
+    requires ports { ports_at setup.now.acls place ≡ ports_of_leaf leaf.now }
     ensures { result ≡ holds leaf.now sight.now }
 {
     match leaf {
         Leaf::Src(_) => setup.has_address(place, sight.addr),
         Leaf::Dst(_) => has_literal(setup, place, sight.request.literal),
         Leaf::DstDomain(_) => setup.has_host(place, &sight.request.host),
-        Leaf::Port(values) => port_has(values, sight),
+        Leaf::Port(_) => setup.has_port(place, sight.request.port),
         Leaf::Method(values) => method_has(values, sight),
         Leaf::Proto(values) => proto_has(values, sight),
         Leaf::Time(values) => time_has(values, sight),

@@ -10,7 +10,7 @@ use Rattle.sq_head.specs.declared.faults.ReplyHeadFault.TheVariants.{BadHead}
 use Rattle.sq_head.specs.declared.replies.ReplyHead.{ReplyHead}
 use Rattle.sq_forward.specs.Replies.{BeginsHead}
 use Rattle.sq_forward.specs.Leading.{TakenHead}
-use Rattle.sq_forward.proofs.FindLaws.{IsLarge}
+use Rattle.sq_forward.specs.Heads.{IsTooLarge}
 
 -- a head at the front ends where the bytes say
 head_place : {bytes : List ℕ} {h : ReplyHead} {rest : List ℕ} → (b : BeginsHead bytes h rest) → head_end bytes ≡ Some (length b.head)
@@ -24,9 +24,9 @@ head_bytes {bytes} {h} {rest} len b e =
     sym (take_all len b.head (omega (arith, same))) ∙ sym front ∙ ap (take len) (sym b.cut)
 
 -- none of more bytes than a head may have
-pub missing_large : (bytes : List ℕ) → IsLarge bytes → (h : ReplyHead) (rest : List ℕ) → BeginsHead bytes h rest → ⊥
+pub missing_large : (bytes : List ℕ) → IsTooLarge bytes → (h : ReplyHead) (rest : List ℕ) → BeginsHead bytes h rest → ⊥
 missing_large bytes large h rest b =
-    let over = large (length b.head) (head_place b) in
+    let over = large.endless (length b.head) (head_place b) in
     let small = b.is.reads.1.small in
     absurd (omega (arith, over, small))
 

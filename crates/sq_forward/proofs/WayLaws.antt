@@ -6,8 +6,8 @@ use Rattle.sq_body.specs.declared.place.Place.TheVariants.{Open}
 use Rattle.sq_body.specs.Bodies.{Walk, body_of, walk}
 use Rattle.sq_body.proofs.BodyLaws.{copy_open, walk_none}
 use Rattle.sq_forward.specs.Copying.{CopiesBody, Copies, dry_after_copy}
-use Rattle.sq_forward.specs.Meters.{PaysPart, piece_limit}
-use Rattle.sq_forward.specs.Tunnels.{way_of, dry_after_way, spare_of_way, JoinsWays, spare_of_tunnel, GoesInPart, GoesWhole, GoesGranted}
+use Rattle.sq_forward.specs.Meters.{PaysAll, PaysPart, piece_limit}
+use Rattle.sq_forward.specs.Tunnels.{way_of, dry_after_way, spare_of_way, JoinsWays, spare_of_tunnel, GoesInPart, GoesWhole, GoesPaid, PaidAtEnd, GoesGranted}
 use Rattle.sq_forward.specs.declared.copying.Copied.{Copied}
 use Rattle.sq_forward.specs.declared.copying.Copied.TheVariants as copied
 use Rattle.sq_forward.specs.declared.tunnels.Tunnelled.{Tunnelled}
@@ -44,6 +44,16 @@ whole_of seated bytes left before now g h copied.NoSink e x = absurd cc
 whole_of seated bytes left before now g h copied.Starved e x = absurd cc
 whole_of seated bytes left before now g h copied.WantOfMemory e x = absurd cc
 
+paid_of : (seated : Bool) (bytes : List ℕ) (left before now : Option (List ℕ)) (g h : ℕ) (c : Copied)
+    → way_of c ≡ Ended → CopiesBody seated (record { place = Open; out = bytes; rest = [] }) left before now g h c → PaysAll seated bytes before now g h
+paid_of seated bytes left before now g h copied.Whole e x = let f : false ≡ true = x.0 in absurd cc
+paid_of seated bytes left before now g h copied.Cut e x = x.3
+paid_of seated bytes left before now g h copied.Bad e x = let f : false ≡ true = x.0 in absurd cc
+paid_of seated bytes left before now g h copied.NoSource e x = absurd cc
+paid_of seated bytes left before now g h copied.NoSink e x = absurd cc
+paid_of seated bytes left before now g h copied.Starved e x = absurd cc
+paid_of seated bytes left before now g h copied.WantOfMemory e x = absurd cc
+
 -- a front of the bytes went as it was granted
 pub way_goes : {seated : Bool} {left before mid : Option (List ℕ)} {g h : ℕ} {c : Copied} (first now : Option (List ℕ)) (w : Way) → now ≡ mid → w ≡ way_of c
     → Copies seated plan.ToClose false first left before mid g h c → GoesGranted seated first before now g h (spare_of_way w)
@@ -60,6 +70,14 @@ way_whole None now w same e x i = tt
 way_whole {seated} {left} {before} {mid} {g} {h} {c} (Some bytes) now w same e x i =
     subst (λ o. IsAtEnd left × Appends before o bytes) (sym same)
     (whole_of seated bytes left before mid g h c (sym e ∙ i) (subst (λ b. CopiesBody seated b left before mid g h c) (open_body bytes) x.body))
+
+-- all of it was granted
+pub way_paid : {seated : Bool} {left before mid : Option (List ℕ)} {g h : ℕ} {c : Copied} (first now : Option (List ℕ)) (w : Way) → now ≡ mid → w ≡ way_of c
+    → Copies seated plan.ToClose false first left before mid g h c → w ≡ Ended → GoesPaid seated first before now g h
+way_paid None now w same e x i = tt
+way_paid {seated} {left} {before} {mid} {g} {h} {c} (Some bytes) now w same e x i =
+    subst (λ o. PaysAll seated bytes before o g h) (sym same)
+    (paid_of seated bytes left before mid g h c (sym e ∙ i) (subst (λ b. CopiesBody seated b left before mid g h c) (open_body bytes) x.body))
 
 -- what was written where nothing is counted
 pub way_grew : (first before now : Option (List ℕ)) (spare : ℕ) → GoesGranted false first before now 0 0 spare → GoesInPart first before now
@@ -103,3 +121,8 @@ pub tunnel_goes : (up down : Way) (t : Tunnelled) (seated : Bool) (first before 
     → GoesGranted seated first before now g h (spare_of_way down) → GoesGranted seated first before now g h (spare_of_tunnel t)
 tunnel_goes up down t seated None before now g h j fed x = tt
 tunnel_goes up down t seated (Some bytes) before now g h j fed x = pays_spare (spare_of_way down) (spare_of_tunnel t) (tunnel_spare up down t j fed) x
+
+-- what was granted to a way that ended was to a tunnel that did
+pub tunnel_paid : {seated : Bool} {first before now : Option (List ℕ)} {g h : ℕ} (up down : Way) (t : Tunnelled) → JoinsWays up down t → PaidAtEnd seated first before now g h down
+    → t ≡ tunnelled.Ended → GoesPaid seated first before now g h
+tunnel_paid up down t j p e = let k : JoinsWays up down tunnelled.Ended = subst (JoinsWays up down) e j in p.paid k.1

@@ -4,7 +4,7 @@ use Rattle.std.specs.declared.option.Option.{Option}
 use Rattle.std.specs.Io.KnownBytes.{Appends, IsAtEnd}
 use Rattle.sq_outside.specs.Causes.{Rose}
 use Rattle.sq_outside.specs.Output.{IsPrefix, Grew}
-use Rattle.sq_forward.specs.Meters.{PaysPart, piece_limit, dry_limit}
+use Rattle.sq_forward.specs.Meters.{PaysAll, PaysPart, piece_limit, dry_limit}
 use Rattle.sq_forward.specs.declared.copying.Copied.{Copied}
 use Rattle.sq_forward.specs.declared.copying.Copied.TheVariants as copied
 use Rattle.sq_forward.specs.declared.tunnels.Tunnelled.{Tunnelled}
@@ -77,6 +77,14 @@ GoesInPart first before now = IfSome first (λ bytes. Grew before now (λ part. 
 -- all that was to come was written, and the source was read to its end
 abbrev pub GoesWhole : Option (List ℕ) → Option (List ℕ) → Option (List ℕ) → Option (List ℕ) → Type 0
 GoesWhole first left before now = IfSome first (λ bytes. IsAtEnd left × Appends before now bytes)
+
+-- all that was to come was granted and written
+abbrev pub GoesPaid : Bool → Option (List ℕ) → Option (List ℕ) → Option (List ℕ) → ℕ → ℕ → Type 0
+GoesPaid seated first before now g h = IfSome first (λ bytes. PaysAll seated bytes before now g h)
+
+-- where the way ended
+pub record PaidAtEnd (seated : Bool) (first before now : Option (List ℕ)) (g h : ℕ) (w : Way) : Type 0 where
+  pub paid : w ≡ Ended → GoesPaid seated first before now g h
 
 -- a front of what was to come was written as it was granted
 abbrev pub GoesGranted : Bool → Option (List ℕ) → Option (List ℕ) → Option (List ℕ) → ℕ → ℕ → ℕ → Type 0

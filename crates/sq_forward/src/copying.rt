@@ -48,6 +48,7 @@ pub(crate) fn copy_body<R: Wait, S: Source, O: Sink, M: Meter>(
     ensures cause { CopyHasCause (S.faults from.old.source) (S.faults from.new.source) (O.faults to.old) (O.faults to.new) result }
     ensures dry { M.dry meter.new ≡ dry_after_copy result }
     ensures seated { M.seated meter.new ≡ M.seated meter.old }
+    ensures besides { M.besides meter.new ≡ M.besides meter.old }
     ensures source_later { S.faults from.old.source ≤ S.faults from.new.source }
     ensures sink_later { O.faults to.old ≤ O.faults to.new }
     ensures origin { S.origin from.new.source ≡ S.origin from.old.source }
@@ -78,6 +79,7 @@ fn copy_piece<S: Source, O: Sink, M: Meter>(
     ensures cause { IfSome result (CopyHasCause (S.faults from.old.source) (S.faults from.new.source) (O.faults to.old) (O.faults to.new)) }
     ensures dry { M.dry meter.new ≡ dry_after_piece result }
     ensures seated { M.seated meter.new ≡ M.seated meter.old }
+    ensures besides { M.besides meter.new ≡ M.besides meter.old }
     ensures source_later { S.faults from.old.source ≤ S.faults from.new.source }
     ensures sink_later { O.faults to.old ≤ O.faults to.new }
     ensures origin { S.origin from.new.source ≡ S.origin from.old.source }

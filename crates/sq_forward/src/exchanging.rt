@@ -66,6 +66,7 @@ pub fn exchange<R: Wait, I: Source, O: Sink, P: Source, Q: Sink, M: Meter>(
     // Starved exactly where the meter is that dry.
     ensures dry { M.dry meter.new ≡ dry_after_exchange result }
     ensures seated { M.seated meter.new ≡ M.seated meter.old }
+    ensures besides { M.besides meter.new ≡ M.besides meter.old }
     ensures client_later { I.faults client.old.source ≤ I.faults client.new.source }
     ensures to_client_later { O.faults to_client.old ≤ O.faults to_client.new }
     ensures origin_later { P.faults origin.old.source ≤ P.faults origin.new.source }

@@ -17,6 +17,10 @@ impl Meter for Free {
 
     ghost dry = { λ _. 0 };
 
+    ghost Besides = { Unit {0} };
+
+    ghost besides = { λ _. tt };
+
     ghost capped = { λ _. Prim.search rules };
 
     fn grant(&mut self, wanted: u64) -> u64 {

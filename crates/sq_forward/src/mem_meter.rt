@@ -26,6 +26,10 @@ impl Meter for MemMeter {
 
     ghost dry = { λ m. m.dry };
 
+    ghost Besides = { Unit {0} };
+
+    ghost besides = { λ _. tt };
+
     ghost capped = { λ m. m.granted_capped };
 
     fn grant(&mut self, wanted: u64) -> u64 {

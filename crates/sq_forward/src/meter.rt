@@ -17,10 +17,16 @@ pub trait Meter {
     /// How many pauses came since a grant gave some, each of them behind a grant that gave none.
     ghost dry: { Self → ℕ };
 
+    /// What else it stands for. No grant and no pause changes that.
+    ghost Besides: { Type 0 };
+
+    ghost besides: { Self → Besides };
+
     /// Grants at most so many bytes, and all of them where no seat is held.
     fn grant(&mut self, wanted: u64) -> u64
         ensures gives { Gives (seated self.old) wanted result }
         ensures seated { seated self.new ≡ seated self.old }
+        ensures besides { besides self.new ≡ besides self.old }
         ensures granted { granted self.new ≡ granted_after (seated self.old) (granted self.old) result }
         ensures short { short self.new ≡ is_short wanted result }
         ensures dry { dry self.new ≡ dry_after_grant result (dry self.old) };
@@ -28,6 +34,7 @@ pub trait Meter {
     /// Waits a while.
     fn pause(&mut self)
         ensures seated { seated self.new ≡ seated self.old }
+        ensures besides { besides self.new ≡ besides self.old }
         ensures granted { granted self.new ≡ granted self.old }
         ensures short { short self.new ≡ false }
         ensures dry { dry self.new ≡ dry_after_pause (short self.old) (dry self.old) };

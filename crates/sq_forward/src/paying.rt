@@ -33,6 +33,7 @@ pub(crate) fn pay<M: Meter, O: Sink>(meter: &mut M, to: &mut O, bytes: &[u8]) ->
     ensures dry_at_failed { IsErrOf result Unpaid.Failed → M.dry meter.new ≡ 0 }
     ensures dry_at_starved { IsErrOf result Unpaid.Starved → M.dry meter.new ≡ dry_limit }
     ensures seated { M.seated meter.new ≡ M.seated meter.old }
+    ensures besides { M.besides meter.new ≡ M.besides meter.old }
     ensures later { O.faults to.old ≤ O.faults to.new }
     ensures cause { IsErrOf result Unpaid.Failed → Rose (O.faults to.old) (O.faults to.new) }
 {

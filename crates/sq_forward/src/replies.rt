@@ -117,6 +117,7 @@ pub(crate) fn lead_reply<R: Wait, P: Source, O: Sink, M: Meter>(
     ensures cause { IfErr result (LeadHasCause (Rose (O.faults to_client.old) (O.faults to_client.new))) }
     ensures dry { M.dry meter.new ≡ dry_after_sending result }
     ensures seated { M.seated meter.new ≡ M.seated meter.old }
+    ensures besides { M.besides meter.new ≡ M.besides meter.old }
     ensures origin_later { P.faults origin.old.source ≤ P.faults origin.new.source }
     ensures client_later { O.faults to_client.old ≤ O.faults to_client.new }
     ensures dialled { P.origin origin.new.source ≡ P.origin origin.old.source }
@@ -169,6 +170,7 @@ fn pass_on<O: Sink, M: Meter>(
     ensures other { IfErr result (λ end. end ≡ Exchanged.NoReply → ⊥) }
     ensures dry { M.dry meter.new ≡ dry_after_sending result }
     ensures seated { M.seated meter.new ≡ M.seated meter.old }
+    ensures besides { M.besides meter.new ≡ M.besides meter.old }
     ensures later { O.faults to_client.old ≤ O.faults to_client.new }
 {
     if request.minor == 0 {
@@ -204,6 +206,7 @@ pub(crate) fn send_reply<R: Wait, P: Source, O: Sink, M: Meter>(
     ensures cause { ExchangeHasCause (Rose (O.faults to_client.old) (O.faults to_client.new)) (Rose (P.faults origin.old.source) (P.faults origin.new.source)) result }
     ensures dry { M.dry meter.new ≡ dry_after_exchange result }
     ensures seated { M.seated meter.new ≡ M.seated meter.old }
+    ensures besides { M.besides meter.new ≡ M.besides meter.old }
     ensures origin_later { P.faults origin.old.source ≤ P.faults origin.new.source }
     ensures client_later { O.faults to_client.old ≤ O.faults to_client.new }
     ensures dialled { P.origin origin.new.source ≡ P.origin origin.old.source }

@@ -3,7 +3,7 @@ ghost use Rattle.std.specs.Prelude.{◌≡◌, ◌≤◌, ◌⊎◌, length, max
 ghost use Rattle.sq_outside.specs.Causes.{Rose};
 ghost use Rattle.sq_outside.specs.Dials.{IsClosed};
 ghost use Rattle.sq_forward.specs.Halves.{to_come, read_limit};
-ghost use Rattle.sq_forward.specs.Tunnels.{JoinsWays, dry_after_tunnel, spare_of_tunnel, GoesInPart, GoesWhole, GoesGranted};
+ghost use Rattle.sq_forward.specs.Tunnels.{JoinsWays, dry_after_tunnel, spare_of_tunnel, GoesInPart, GoesWhole, GoesPaid, GoesGranted};
 
 use crate::half::Half;
 use crate::meter::Meter;
@@ -71,12 +71,15 @@ pub fn tunnel<
         (M.granted meter.old) (M.granted meter.new) (spare_of_tunnel result) }
     ensures up_ended { result ≡ Tunnelled.Ended → GoesWhole (to_come I.left client.old) (to_come I.left client.new) (Q.Sink.contents to_origin.old) (Q.Sink.contents to_origin.new) }
     ensures down_ended { result ≡ Tunnelled.Ended → GoesWhole (to_come P.left origin.old) (to_come P.left origin.new) (O.Sink.contents to_client.old) (O.Sink.contents to_client.new) }
+    ensures down_paid { result ≡ Tunnelled.Ended → GoesPaid (M.seated meter.old) (to_come P.left origin.old) (O.Sink.contents to_client.old) (O.Sink.contents to_client.new)
+        (M.granted meter.old) (M.granted meter.new) }
     ensures closed { IsClosed (Q.closed to_origin.new) × IsClosed (O.closed to_client.new) }
     ensures client { result ≡ Tunnelled.ClientFault → Rose (I.faults client.old.source) (I.faults client.new.source) ⊎ Rose (O.Sink.faults to_client.old) (O.Sink.faults to_client.new) }
     ensures origin { result ≡ Tunnelled.OriginFault → Rose (P.faults origin.old.source) (P.faults origin.new.source) ⊎ Rose (Q.Sink.faults to_origin.old) (Q.Sink.faults to_origin.new) }
     // Starved exactly where the meter is that dry.
     ensures dry { M.dry meter.new ≡ dry_after_tunnel result }
     ensures seated { M.seated meter.new ≡ M.seated meter.old }
+    ensures besides { M.besides meter.new ≡ M.besides meter.old }
     ensures client_later { (I.faults client.old.source ≤ I.faults client.new.source) × (O.Sink.faults to_client.old ≤ O.Sink.faults to_client.new) }
     ensures origin_later { (P.faults origin.old.source ≤ P.faults origin.new.source) × (Q.Sink.faults to_origin.old ≤ Q.Sink.faults to_origin.new) }
     ensures dialled { (I.origin client.new.source ≡ I.origin client.old.source) × (P.origin origin.new.source ≡ P.origin origin.old.source) }

@@ -2,7 +2,7 @@
 ghost use Rattle.std.specs.Prelude.{◌≡◌, ◌≤◌, length, max};
 ghost use Rattle.sq_outside.specs.Dials.{IsClosed};
 ghost use Rattle.sq_forward.specs.Halves.{to_come, read_limit};
-ghost use Rattle.sq_forward.specs.Tunnels.{way_of, WayHasCause, dry_after_way, spare_of_way, GoesInPart, GoesWhole, GoesGranted};
+ghost use Rattle.sq_forward.specs.Tunnels.{way_of, WayHasCause, dry_after_way, spare_of_way, GoesInPart, GoesWhole, PaidAtEnd, GoesGranted};
 
 use crate::copying::{Copied, copy_body};
 use crate::free::Free;
@@ -52,10 +52,13 @@ pub(crate) fn copy_way<R: Wait, S: Source, O: Out, M: Meter>(
     ensures goes { GoesGranted (M.seated meter.old) (to_come S.left from.old) (O.Sink.contents to.old) (O.Sink.contents to.new)
         (M.granted meter.old) (M.granted meter.new) (spare_of_way result) }
     ensures whole { result ≡ Way.Ended → GoesWhole (to_come S.left from.old) (to_come S.left from.new) (O.Sink.contents to.old) (O.Sink.contents to.new) }
+    ensures paid { PaidAtEnd (M.seated meter.old) (to_come S.left from.old) (O.Sink.contents to.old) (O.Sink.contents to.new)
+        (M.granted meter.old) (M.granted meter.new) result }
     ensures closed { IsClosed (O.closed to.new) }
     ensures cause { WayHasCause (S.faults from.old.source) (S.faults from.new.source) (O.Sink.faults to.old) (O.Sink.faults to.new) result }
     ensures dry { M.dry meter.new ≡ dry_after_way result }
     ensures seated { M.seated meter.new ≡ M.seated meter.old }
+    ensures besides { M.besides meter.new ≡ M.besides meter.old }
     ensures source_later { S.faults from.old.source ≤ S.faults from.new.source }
     ensures sink_later { O.Sink.faults to.old ≤ O.Sink.faults to.new }
     ensures origin { S.origin from.new.source ≡ S.origin from.old.source }

@@ -19,7 +19,8 @@ spans_inside_send =
     let parts : FieldsHave IsSend (spans_inside.the_type).parts = (search (sendable, Vec-send, span_send), tt) in
     declared_send spans_inside.the_type parts
 
-spans_send : IsSend spans.the_row
+-- spans cross threads
+pub spans_send : IsSend spans.the_row
 spans_send = view_send _ _ _ _ _ spans_inside_send
 
 addr_set_inside_send : IsSend addr_set_inside.the_row
@@ -51,7 +52,8 @@ spans_inside_sync =
     let parts : FieldsHave IsSync (spans_inside.the_type).parts = (search (sendable, Vec-sync, span_sync), tt) in
     declared_sync spans_inside.the_type parts
 
-spans_sync : IsSync spans.the_row
+-- spans cross threads
+pub spans_sync : IsSync spans.the_row
 spans_sync = view_sync _ _ _ _ _ spans_inside_sync
 
 addr_set_inside_sync : IsSync addr_set_inside.the_row

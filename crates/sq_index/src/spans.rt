@@ -39,12 +39,20 @@ impl Spans {
     pub fn of(alloc: Global, ranges: &[Range], v6: bool) -> Result<Spans, WantOfMemory>
         ensures { IfOk result (λ s. (n : ℕ) → n < 2 ^ 128 → in_spans s n ≡ in_some_range ranges.now (record { v6 = v6; number = n })) }
     {
-        let spans = sorted(parts(alloc, ranges, v6)?)?;
+        let spans = parts(alloc, ranges, v6)?;
+        Spans::make(alloc, spans)
+    }
+
+    /// The numbers of these spans, which may come in any order and share numbers.
+    pub fn make(alloc: Global, spans: Vec<Span>) -> Result<Spans, WantOfMemory>
+        ensures { IfOk result (λ s. (n : ℕ) → in_spans s n ≡ in_spans spans.items n) }
+    {
+        let spans = sorted(spans)?;
         let spans = apart(alloc, spans.as_slice())?;
         Ok(Spans { spans })
     }
 
-    /// Whether some span holds the number: the last one that begins up to it decides.
+    /// Whether some span holds the number: the last one that begins up to it decides. It takes no memory.
     pub fn has(&self, number: u128) -> bool
         ensures { result ≡ in_spans self.now number }
     {

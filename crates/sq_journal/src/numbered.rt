@@ -70,6 +70,8 @@ pub fn read_numbered(alloc: Global, line: &[u8]) -> Result<(u64, EpochNo, Entry)
     // No two numbered entries have one text.
     ensures one { (m n i j : ℕ) (a b : Noted) → IsNumber m → IsNumber n → IsNumber i → IsNumber j → IsNoted a → IsNoted b
         → numbered_text m i a ≡ numbered_text n j b → (m ≡ n) × (i ≡ j) × (a ≡ b) }
+    // So it is what the reading of the line's words gives.
+    ensures read { ReadsText result (numbered_of (spaced_words line.now)) }
 {
     numbered(alloc, line)
 }

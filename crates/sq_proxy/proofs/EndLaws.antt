@@ -5,9 +5,10 @@ use Rattle.sq_outside.specs.Output.{Grew, IsPrefix, IsProperPrefix, IsWritten}
 use Rattle.sq_outside.specs.Told.{Texts}
 use Rattle.sq_outside.proofs.Writing.{IsWritten_since}
 use Rattle.sq_proxy.specs.declared.ends.Status.{Status}
-use Rattle.sq_proxy.specs.declared.ends.Status.TheVariants.{Ok, Usage, Config, Script, ReadFault, WriteFault, Missing, WantOfMemory, Unbuilt}
+use Rattle.sq_proxy.specs.declared.ends.Status.TheVariants.{Ok, Usage, Config, Script, ReadFault, WriteFault, Differs, Missing, WantOfMemory}
 use Rattle.sq_proxy.specs.Commands.{Disk, Output}
-use Rattle.sq_proxy.specs.Ends.{End, Done, Refused, Faulted, Fault, Reading, Writing, Lacking, IsToldEnd, end_of, status_of, last_line}
+use Rattle.sq_replay.specs.Ends.{End, Done, Refused, Faulted, Fault, Reading, Writing, Lacking}
+use Rattle.sq_proxy.specs.Ends.{IsToldEnd, end_of, status_of, last_line}
 use Rattle.sq_proxy.specs.Outputs.{Delivers, DeliversAs, EndsWith, IsCutOff, IsOutput, IsOutputAs, Remains}
 use Rattle.sq_proxy.proofs.SettleLaws.{fault_is}
 
@@ -41,9 +42,9 @@ done_is (Config l k) e = absurd (cc)
 done_is (Script n) e = absurd (cc)
 done_is ReadFault e = absurd (cc)
 done_is WriteFault e = absurd (cc)
+done_is (Differs l m j) e = absurd (cc)
 done_is (Missing n) e = absurd (cc)
 done_is WantOfMemory e = absurd (cc)
-done_is (Unbuilt q) e = absurd (cc)
 
 -- the command's text, and then its last line
 with_line_as : (k : End) (a b c : Option (List ℕ)) (o : Output) (before mid now : ℕ) (s : Status) → end_of s ≡ k → before ≤ mid → (IsToldEnd k → mid ≡ before)

@@ -7,22 +7,27 @@ use Rattle.sq_outside.specs.Output.{Grew, IsWritten}
 use Rattle.sq_outside.specs.SourceLines.{lines}
 use Rattle.sq_outside.specs.Told.{Opening, Openings, AddsOpening, AddsText, Texts}
 use Rattle.sq_outside.proofs.Writing.{IsPrefix_nil}
-use Rattle.sq_rules.specs.Configurations.{Configuration, asks_nobody}
+use Rattle.sq_rules.specs.Configurations.{Configuration, IsConfiguration}
+use Rattle.sq_rules.specs.declared.kinds.ConfError.{ConfError}
 use Rattle.sq_rules.specs.ConfText.{conf_result}
 use Rattle.sq_rules.specs.Limits.{text_limit}
 use Rattle.sq_rules.specs.declared.kinds.Kind.TheVariants as kind
-use Rattle.sq_proxy.specs.declared.ends.Part.TheVariants as part
+use Rattle.sq_replay.specs.declared.ends.RunEnd.{RunEnd}
+use Rattle.sq_replay.specs.Ends.{End, Done, Refused, Faulted, Fault, Reading, Writing, Lacking}
+use Rattle.sq_replay.specs.ConfReading.{checked}
+use Rattle.sq_replay.specs.RunText.{Ran, run_script}
+use Rattle.sq_replay.specs.Runs.{Adds, Reaches, ScriptRuns, missed}
+use Rattle.sq_replay.proofs.ReadingLaws.{read_is}
 use Rattle.sq_proxy.specs.declared.ends.Status.{Status}
 use Rattle.sq_proxy.specs.declared.ends.Status.TheVariants as ends
-use Rattle.sq_proxy.specs.Commands.{Command, Parse, Replay, Disk, Output, conf_read, conf_stage, without_helpers, parse_output, ran_output, script_stage, silent, staged}
-use Rattle.sq_proxy.specs.Ends.{End, Done, Refused, Faulted, Fault, Reading, Writing, Lacking, Comes, IsFault, IsFaultEnd, IsMissingOr, IsToldEnd, end_of, last_line}
-use Rattle.sq_proxy.specs.Opened.{Added, IsOnce, IsBoth, IsOpened, first_text, second_text, opened_output}
-use Rattle.sq_proxy.specs.Outputs.{Delivers, DeliversAs, IsOutput, Reaches}
-use Rattle.sq_proxy.specs.Runs.{RunsOver}
+use Rattle.sq_proxy.specs.Commands.{Command, Parse, Replay, Disk, Output, conf_read, conf_stage, parse_output, replay_output, shelf_of, start_stage, ran_output, script_stage, silent, staged}
+use Rattle.sq_proxy.specs.Ends.{Comes, IsFault, IsFaultEnd, IsMissingOr, IsToldEnd, end_of, last_line}
+use Rattle.sq_proxy.specs.Opened.{Added, BeginsWith, IsOnce, IsOpened, PlayOpened, behind_first, first_text, opened_output, shelf_over}
+use Rattle.sq_proxy.specs.Outputs.{Delivers, DeliversAs, IsOutput}
 use Rattle.sq_proxy.specs.ParseText.{parse_text}
-use Rattle.sq_proxy.specs.RunText.{Ran, run_script}
 use Rattle.sq_proxy.proofs.EndLaws.{with_line_is}
 use Rattle.sq_proxy.proofs.SettleLaws.{delivers_later}
+use Rattle.sq_proxy.proofs.ShelfLaws.{begins_is, behind_is, first_is, tells_over}
 use Rattle.sq_proxy.proofs.StageLaws.{too_long}
 
 -- more is said of the openings that were added
@@ -79,7 +84,7 @@ missing_comes name (ends.Config l k) e = absurd e
 missing_comes name (ends.Script n) e = absurd e
 missing_comes name ends.ReadFault e = absurd e
 missing_comes name ends.WriteFault e = absurd e
-missing_comes name (ends.Unbuilt q) e = absurd e
+missing_comes name (ends.Differs l m j) e = absurd e
 
 pub conf_missing : (old new : Openings) (name : List ℕ) (end : Status) → new ≡ old → IsMissingOr name end → Added old new (ConfOpened name (Err end))
 conf_missing old new name end same missing = Added_none old new (ConfOpened name (Err end)) same (tt, missing_comes name end missing)
@@ -97,7 +102,7 @@ nothing_as (Faulted Writing) a n o end other e = absurd (other refl)
 pub nothing_delivers : (a : Option (List ℕ)) (n : ℕ) (o : Output) (end : Status) → (end_of end ≡ Faulted Writing → ⊥) → (o ≡ silent end) ⊎ IsFault end → Delivers a a n n o end
 nothing_delivers a n o end other e = nothing_as (end_of end) a n o end other e
 
-missing_silent : (name : List ℕ) (end : Status) → IsMissingOr name end → (silent (ends.Missing name) ≡ silent end) ⊎ IsFault end
+pub missing_silent : (name : List ℕ) (end : Status) → IsMissingOr name end → (silent (ends.Missing name) ≡ silent end) ⊎ IsFault end
 missing_silent name (ends.Missing other) e = inl (ap (λ n. silent (ends.Missing n)) (sym e))
 missing_silent name ends.WantOfMemory e = inr tt
 missing_silent name ends.Ok e = absurd e
@@ -106,9 +111,9 @@ missing_silent name (ends.Config l k) e = absurd e
 missing_silent name (ends.Script n) e = absurd e
 missing_silent name ends.ReadFault e = absurd e
 missing_silent name ends.WriteFault e = absurd e
-missing_silent name (ends.Unbuilt q) e = absurd e
+missing_silent name (ends.Differs l m j) e = absurd e
 
-missing_no_write : (name : List ℕ) (end : Status) → IsMissingOr name end → end_of end ≡ Faulted Writing → ⊥
+pub missing_no_write : (name : List ℕ) (end : Status) → IsMissingOr name end → end_of end ≡ Faulted Writing → ⊥
 missing_no_write name ends.WriteFault m e = m
 missing_no_write name (ends.Missing other) m e = absurd (cc)
 missing_no_write name ends.WantOfMemory m e = absurd (cc)
@@ -117,45 +122,63 @@ missing_no_write name ends.Usage m e = m
 missing_no_write name (ends.Config l k) m e = m
 missing_no_write name (ends.Script n) m e = m
 missing_no_write name ends.ReadFault m e = m
-missing_no_write name (ends.Unbuilt q) m e = m
+missing_no_write name (ends.Differs l x j) m e = m
 
--- what `play` says of its openings
-abbrev pub PlayOpened : List ℕ → (List ℕ → Ran) → Option (List ℕ) → Option (List ℕ) → ℕ → ℕ → Status → List Opening → Type 0
-PlayOpened name run a b before now result more = IsOnce name more × Delivers a b before now (staged (script_stage name (first_text more)) (λ text. ran_output (run text))) result
-
-pub play_opened : (old mid new : Openings) (left a b written : Option (List ℕ)) (before later now : ℕ) (name page : List ℕ) (run : List ℕ → Ran) (end result : Status)
-    → AddsOpening old mid name left → new ≡ mid → before ≤ later → RunsOver left a written page run end
+-- the script was opened, and run with what it names
+pub play_opened : (texts : Texts) (old mid last new : Openings) (left a b written : Option (List ℕ)) (before later now : ℕ) (name page : List ℕ) (config : Configuration) (end : RunEnd) (result : Status)
+    → AddsOpening old mid name left → Adds mid last → new ≡ last → before ≤ later → ScriptRuns texts mid last left a written page config end
     → ((base : Option (List ℕ)) (ran : Ran) → Reaches base written page ran end → Delivers base b later now (ran_output ran) result)
-    → Added old new (PlayOpened name run a b before now result)
-play_opened None mid new left a b written before later now name page run end result adds same le runs settle = tt
-play_opened (Some earlier) mid new None a b written before later now name page run end result adds same le runs settle = absurd adds
-play_opened (Some earlier) mid new (Some text) a b written before later now name page run end result adds same le runs settle =
-    (record { name = name; text = text } ∷ [], same ∙ adds, (refl, delivers_later a b before later now (ran_output (run text)) result le (settle a (run text) runs)))
+    → Added old new (PlayOpened name config a b before now result)
+play_opened texts None mid last new left a b written before later now name page config end result adds more same le runs settle = tt
+play_opened texts (Some earlier) mid last new None a b written before later now name page config end result adds more same le runs settle = absurd adds
+play_opened texts (Some earlier) mid last new (Some text) a b written before later now name page config end result adds more same le runs settle =
+    let o : Opening = record { name = name; text = text } in
+    let x = subst (λ (m : Openings). Adds m last) adds more in
+    let run = run_script (shelf_over x.0) config (lines text) in
+    let tells = tells_over texts (o ∷ earlier) x.0 mid last (missed end) adds x.1 in
+    let delivers : Delivers a b before now (ran_output run) result = delivers_later a b before later now (ran_output run) result le (settle a run (runs (shelf_over x.0) tells)) in (
+      x.0 ++ o ∷ [],
+      same ∙ x.1 ∙ ap (λ (l : List Opening). Some l) (sym (append_assoc x.0 (o ∷ []) earlier)),
+      (
+        begins_is x.0 o name refl,
+        subst (λ (f : Option (List ℕ)). Delivers a b before now
+            (staged (script_stage name f) (λ t. ran_output (run_script (shelf_over (behind_first (x.0 ++ o ∷ []))) config (lines t)))) result) (sym (first_is x.0 o))
+            (subst (λ (l : List Opening). Delivers a b before now (ran_output (run_script (shelf_over l) config (lines text))) result) (sym (behind_is x.0 o)) delivers),
+      ),
+    )
 
-pub play_missing : (old new : Openings) (a : Option (List ℕ)) (n : ℕ) (name : List ℕ) (run : List ℕ → Ran) (end : Status) → new ≡ old → IsMissingOr name end
-    → Added old new (PlayOpened name run a a n n end)
-play_missing old new a n name run end same missing =
-    Added_none old new (PlayOpened name run a a n n end) same (tt, nothing_delivers a n (silent (ends.Missing name)) end (missing_no_write name end missing) (missing_silent name end missing))
+pub play_missing : (old new : Openings) (a : Option (List ℕ)) (n : ℕ) (name : List ℕ) (config : Configuration) (end : Status) → new ≡ old → IsMissingOr name end
+    → Added old new (PlayOpened name config a a n n end)
+play_missing old new a n name config end same missing =
+    Added_none old new (PlayOpened name config a a n n end) same (tt, nothing_delivers a n (silent (ends.Missing name)) end (missing_no_write name end missing) (missing_silent name end missing))
 
-pub play_fault : (old new : Openings) (a : Option (List ℕ)) (n : ℕ) (name : List ℕ) (run : List ℕ → Ran) (end : Status) → new ≡ old → (end_of end ≡ Faulted Writing → ⊥) → IsFault end
-    → Added old new (PlayOpened name run a a n n end)
-play_fault old new a n name run end same other fault =
-    Added_none old new (PlayOpened name run a a n n end) same (tt, nothing_delivers a n (silent (ends.Missing name)) end other (inr fault))
+pub play_fault : (old new : Openings) (a : Option (List ℕ)) (n : ℕ) (name : List ℕ) (config : Configuration) (end : Status) → new ≡ old → (end_of end ≡ Faulted Writing → ⊥) → IsFault end
+    → Added old new (PlayOpened name config a a n n end)
+play_fault old new a n name config end same other fault =
+    Added_none old new (PlayOpened name config a a n n end) same (tt, nothing_delivers a n (silent (ends.Missing name)) end other (inr fault))
 
 -- a stage that ended a command
-staged_ends : {A : Type 0} (stage : Result A Status) (go : A → Output) (end : Status) → Comes (Err end) stage → (staged stage go ≡ silent end) ⊎ IsFault end
+pub staged_ends : {A : Type 0} (stage : Result A Status) (go : A → Output) (end : Status) → Comes (Err end) stage → (staged stage go ≡ silent end) ⊎ IsFault end
 staged_ends stage go end (inl e) = inl (ap (λ s. staged s go) e)
 staged_ends stage go end (inr fault) = inr fault
 
-leaves_comes : (stage : Result Configuration Status) (end : Status) → Comes (Err end) stage → Comes (Err end) (without_helpers stage)
-leaves_comes stage end (inl e) = inl (ap without_helpers e)
-leaves_comes stage end (inr fault) = inr fault
+-- what a text gives to begin with is what it gives
+start_text : (name text : List ℕ) (r : Result Configuration ConfError) (end : Status) → conf_result text ≡ r → Comes (Err end) (conf_read r) → Comes (Err end) (conf_read (checked r))
+start_text name text (Ok config) end is (inl e) = absurd (cc)
+start_text name text (Ok config) end is (inr fault) = inr fault
+start_text name text (Err x) end is c = c
 
-leaves_ok : (stage : Result Configuration Status) (config : Configuration) → stage ≡ Ok config → asks_nobody config ≡ true → without_helpers stage ≡ Ok config
-leaves_ok stage config e leaves = ap without_helpers e ∙ ap (λ b. if b then Ok config else Err (ends.Unbuilt part.Conf)) leaves
+pub start_ends : (name : List ℕ) (o : Option (List ℕ)) (end : Status) → Comes (Err end) (conf_stage name o) → Comes (Err end) (start_stage name o)
+start_ends name None end c = c
+start_ends name (Some text) end c = start_text name text (conf_result text) end refl c
 
-leaves_none : (stage : Result Configuration Status) (config : Configuration) → stage ≡ Ok config → asks_nobody config ≡ false → without_helpers stage ≡ Err (ends.Unbuilt part.Conf)
-leaves_none stage config e leaves = ap without_helpers e ∙ ap (λ b. if b then Ok config else Err (ends.Unbuilt part.Conf)) leaves
+start_gives : (text : List ℕ) (r : Result Configuration ConfError) (config : Configuration) → conf_result text ≡ r → conf_read r ≡ Ok config → conf_result text ≡ Ok config
+start_gives text (Ok c) config is e = is ∙ (let same : c ≡ config = cc in ap (λ (x : Configuration). Ok x) same)
+start_gives text (Err x) config is e = absurd (cc)
+
+pub start_is : (name : List ℕ) (o : Option (List ℕ)) (config : Configuration) → conf_stage name o ≡ Ok config → IsConfiguration config → start_stage name o ≡ Ok config
+start_is name None config e good = absurd (cc)
+start_is name (Some text) config e good = ap conf_read (read_is text config (start_gives text (conf_result text) config refl e) good)
 
 -- what a command says of its openings
 abbrev pub CommandOpened : Option Command → Option (List ℕ) → Option (List ℕ) → ℕ → ℕ → Status → List Opening → Type 0
@@ -174,51 +197,63 @@ parse_opened old new a b before now conf config result added delivers =
     Added_map old new (ConfOpened conf (Ok config)) (CommandOpened (Some (Parse conf)) a b before now result)
     (λ more p. (p.0, subst (λ s. Delivers a b before now (staged s (λ c. record { text = parse_text c; end = ends.Ok })) result) (sym p.1) delivers)) added
 
+conf_begins : (conf script : List ℕ) (more : List Opening) → IsOnce conf more → BeginsWith conf more × BeginsWith script (behind_first more)
+conf_begins conf script [] once = (tt, tt)
+conf_begins conf script (o ∷ []) once = (once, tt)
+conf_begins conf script (o ∷ p ∷ more) once = absurd once
+
 pub replay_ends : (old new : Openings) (a : Option (List ℕ)) (n : ℕ) (conf script : List ℕ) (end : Status) → (end_of end ≡ Faulted Writing → ⊥) → Added old new (ConfOpened conf (Err end))
     → Added old new (CommandOpened (Some (Replay conf script)) a a n n end)
 replay_ends old new a n conf script end other added =
     Added_map old new (ConfOpened conf (Err end)) (CommandOpened (Some (Replay conf script)) a a n n end)
     (λ more p. (
-      inl p.0,
-      nothing_delivers a n (opened_output (Some (Replay conf script)) more) end other
-          (staged_ends (without_helpers (conf_stage conf (first_text more))) _ end (leaves_comes (conf_stage conf (first_text more)) end p.1)),
-    )) added
-
-pub replay_unbuilt : (old new : Openings) (a : Option (List ℕ)) (n : ℕ) (conf script : List ℕ) (config : Configuration) → asks_nobody config ≡ false → Added old new (ConfOpened conf (Ok config))
-    → Added old new (CommandOpened (Some (Replay conf script)) a a n n (ends.Unbuilt part.Conf))
-replay_unbuilt old new a n conf script config leaves added =
-    Added_map old new (ConfOpened conf (Ok config)) (CommandOpened (Some (Replay conf script)) a a n n (ends.Unbuilt part.Conf))
-    (λ more p. (
-      inl p.0,
-      nothing_delivers a n (opened_output (Some (Replay conf script)) more) (ends.Unbuilt part.Conf) (λ e. absurd (cc))
-          (staged_ends (without_helpers (conf_stage conf (first_text more))) _ (ends.Unbuilt part.Conf) (inl (leaves_none (conf_stage conf (first_text more)) config p.1 leaves))),
+      conf_begins conf script more p.0,
+      nothing_delivers a n (opened_output (Some (Replay conf script)) more) end other (staged_ends (start_stage conf (first_text more)) _ end (start_ends conf (first_text more) end p.1)),
     )) added
 
 -- the script's run, over the configuration that was read
-abbrev script_run : List ℕ → Configuration → Option (List ℕ) → Output
-script_run script config text = staged (script_stage script text) (λ t. ran_output (run_script config (lines t)))
+abbrev script_run : List Opening → List ℕ → Option (List ℕ) → Configuration → Output
+script_run later script text config = staged (script_stage script text) (λ t. ran_output (run_script (shelf_over later) config (lines t)))
 
-played : (a b : Option (List ℕ)) (before now : ℕ) (conf script : List ℕ) (config : Configuration) (result : Status) → asks_nobody config ≡ true
-    → (first next : List Opening) → ConfOpened conf (Ok config) first → PlayOpened script (λ text. run_script config (lines text)) a b before now result next
+played : (a b : Option (List ℕ)) (before now : ℕ) (conf script : List ℕ) (config : Configuration) (result : Status) → IsConfiguration config
+    → (first next : List Opening) → ConfOpened conf (Ok config) first → PlayOpened script config a b before now result next
     → CommandOpened (Some (Replay conf script)) a b before now result (next ++ first)
-played a b before now conf script config result leaves [] next p q = absurd (cc)
-played a b before now conf script config result leaves (o ∷ []) [] p q = (
-  inl p.0,
-  subst (λ s. Delivers a b before now (staged s (λ c. script_run script c None)) result) (sym (leaves_ok (conf_stage conf (Some o.text)) config p.1 leaves)) q.1,
-)
-played a b before now conf script config result leaves (o ∷ []) (s ∷ []) p q = (
-  inr (p.0, q.0),
-  subst (λ r. Delivers a b before now (staged r (λ c. script_run script c (Some s.text))) result) (sym (leaves_ok (conf_stage conf (Some o.text)) config p.1 leaves)) q.1,
-)
-played a b before now conf script config result leaves (o ∷ []) (s ∷ t ∷ next) p q = absurd q.0
-played a b before now conf script config result leaves (o ∷ u ∷ first) next p q = absurd p.0
+played a b before now conf script config result good [] next p q = absurd (cc)
+played a b before now conf script config result good (o ∷ []) next p q =
+    let start : start_stage conf (Some o.text) ≡ Ok config = start_is conf (Some o.text) config p.1 good in
+    let all = next ++ o ∷ [] in
+    let behind : next ≡ behind_first all = sym (behind_is next o) in
+    let there : start_stage conf (first_text all) ≡ Ok config = ap (start_stage conf) (first_is next o) ∙ start in
+    let run : Delivers a b before now (script_run (behind_first (behind_first all)) script (first_text (behind_first all)) config) result =
+    subst (λ (l : List Opening). Delivers a b before now (script_run (behind_first l) script (first_text l) config) result) behind q.1 in (
+      (begins_is next o conf p.0, subst (BeginsWith script) behind q.0),
+      subst (λ r. Delivers a b before now (staged r (script_run (behind_first (behind_first all)) script (first_text (behind_first all)))) result) (sym there) run,
+    )
+played a b before now conf script config result good (o ∷ u ∷ first) next p q = absurd p.0
 
-pub replay_opened : (old mid new : Openings) (a b : Option (List ℕ)) (before now : ℕ) (conf script : List ℕ) (config : Configuration) (result : Status) → asks_nobody config ≡ true
-    → Added old mid (ConfOpened conf (Ok config)) → Added mid new (PlayOpened script (λ text. run_script config (lines text)) a b before now result)
+pub replay_opened : (old mid new : Openings) (a b : Option (List ℕ)) (before now : ℕ) (conf script : List ℕ) (config : Configuration) (result : Status) → IsConfiguration config
+    → Added old mid (ConfOpened conf (Ok config)) → Added mid new (PlayOpened script config a b before now result)
     → Added old new (CommandOpened (Some (Replay conf script)) a b before now result)
-replay_opened old mid new a b before now conf script config result leaves first next =
-    Added_then old mid new (ConfOpened conf (Ok config)) (PlayOpened script (λ text. run_script config (lines text)) a b before now result)
-    (CommandOpened (Some (Replay conf script)) a b before now result) first next (played a b before now conf script config result leaves)
+replay_opened old mid new a b before now conf script config result good first next =
+    Added_then old mid new (ConfOpened conf (Ok config)) (PlayOpened script config a b before now result)
+    (CommandOpened (Some (Replay conf script)) a b before now result) first next (played a b before now conf script config result good)
+
+-- the same where texts are told
+pub replay_told : (texts : Texts) (same : Texts) (a b : Option (List ℕ)) (before now : ℕ) (conf script : List ℕ) (config : Configuration) (result : Status) → same ≡ texts → IsConfiguration config
+    → IfSome texts (λ disk. Comes (Ok config) (conf_stage conf (disk conf)))
+    → IfSome same (λ disk. Delivers a b before now (staged (script_stage script (disk script)) (λ text. ran_output (run_script (shelf_of disk) config (lines text)))) result)
+    → IfSome texts (λ disk. Delivers a b before now (replay_output disk conf script) result)
+replay_told None same a b before now conf script config result is good comes runs = tt
+replay_told (Some disk) same a b before now conf script config result is good comes runs =
+    subst (λ r. Delivers a b before now (staged r (λ c. staged (script_stage script (disk script)) (λ text. ran_output (run_script (shelf_of disk) c (lines text))))) result)
+    (sym (start_is conf (disk conf) config comes good))
+    (subst (λ (t : Texts). IfSome t (λ d. Delivers a b before now (staged (script_stage script (d script)) (λ text. ran_output (run_script (shelf_of d) config (lines text)))) result)) is runs)
+
+pub replay_stops : (texts : Texts) (a : Option (List ℕ)) (n : ℕ) (conf script : List ℕ) (end : Status) → (end_of end ≡ Faulted Writing → ⊥)
+    → IfSome texts (λ disk. Comes {A = Configuration} (Err end) (conf_stage conf (disk conf))) → IfSome texts (λ disk. Delivers a a n n (replay_output disk conf script) end)
+replay_stops None a n conf script end other comes = tt
+replay_stops (Some disk) a n conf script end other comes =
+    nothing_delivers a n (replay_output disk conf script) end other (staged_ends (start_stage conf (disk conf)) _ end (start_ends conf (disk conf) end comes))
 
 -- words that are no command open nothing
 pub usage_opened : (old : Openings) (a : Option (List ℕ)) (n : ℕ) → Added old old (CommandOpened None a a n n ends.Usage)

@@ -1,20 +1,29 @@
 -- The commands, and what each comes to over files: the text that is written before the last line, and the end.
-use Rattle.std.specs.Prelude.{◌≡◌, ◌⊎◌, ℕ, List, [], ◌∷◌, Result, Ok, Err, Some, None, codes, bytes_eq, if◌then◌else◌}
+use Rattle.std.specs.Prelude.{◌≡◌, ◌⊎◌, ℕ, ◌+◌, List, [], ◌∷◌, length, Bool, true, false, Result, Ok, Err, Some, None, IfSome, codes, bytes_eq, if◌then◌else◌}
 use Rattle.std.specs.declared.option.Option.{Option}
-use Rattle.sq_outside.specs.SourceLines.{lines}
-use Rattle.sq_rules.specs.Configurations.{Configuration, asks_nobody}
+use Rattle.sq_outside.specs.SourceLines.{Line, lines}
+use Rattle.sq_outside.specs.Told.{Texts}
+use Rattle.sq_rules.specs.declared.entries.Event.TheVariants.{Reconfigure}
+use Rattle.sq_rules.specs.Configurations.{Configuration}
 use Rattle.sq_rules.specs.ConfText.{conf_result}
-use Rattle.sq_rules.specs.Direct.{IsDirect}
-use Rattle.sq_rules.specs.Machine.{Legal}
 use Rattle.sq_rules.specs.declared.kinds.ConfError.{ConfError}
 use Rattle.sq_journal.specs.EntryText.{written}
-use Rattle.sq_proxy.specs.declared.ends.Part.TheVariants as part
+use Rattle.sq_journal.specs.Journals.{journal_text}
+use Rattle.sq_note.specs.Migrating.{Reading, read_journal}
+use Rattle.sq_replay.specs.ConfReading.{read_result}
+use Rattle.sq_replay.specs.Headline.{IsTrueOrNone}
+use Rattle.sq_replay.specs.RunText.{Ran, Shelf, configs_of, run_script, stated}
+use Rattle.sq_verify.specs.declared.findings.Finding.{Finding}
+use Rattle.sq_verify.specs.declared.findings.Finding.TheVariants as finding
+use Rattle.sq_verify.specs.Audits.{IsAudited}
+use Rattle.sq_verify.specs.Judging.{judged}
+use Rattle.sq_verify.specs.Telling.{finding_text}
 use Rattle.sq_proxy.specs.declared.ends.Status.{Status}
 use Rattle.sq_proxy.specs.declared.ends.Status.TheVariants as ends
 use Rattle.sq_proxy.specs.declared.command.Command as Words
 use Rattle.sq_proxy.specs.declared.command.Command.TheVariants as words
+use Rattle.sq_proxy.specs.Ends.{run_status}
 use Rattle.sq_proxy.specs.ParseText.{parse_text}
-use Rattle.sq_proxy.specs.RunText.{Ran, run_script}
 
 -- the files that are there, as the text of each name
 abbrev pub Disk : Type 0
@@ -24,18 +33,40 @@ Disk = List ℕ → Option (List ℕ)
 pub data Command : Type 0 where
   Parse : List ℕ → Command
   Replay : List ℕ → List ℕ → Command
+  Verify : List ℕ → List ℕ → Command
+  Migrate : List ℕ → Command
+
+-- the command of a word and a name
+abbrev pub single_command : List ℕ → List ℕ → Option Command
+single_command word file = if bytes_eq word (codes "parse") then Some (Parse file) else (if bytes_eq word (codes "migrate") then Some (Migrate file) else None)
+
+-- the command of a word and two names
+abbrev pub pair_command : List ℕ → List ℕ → List ℕ → Option Command
+pair_command word conf file =
+    if bytes_eq word (codes "replay") then Some (Replay conf file) else (if bytes_eq word (codes "verify") then Some (Verify conf file) else None)
 
 -- the command that the words are, the program's name left out
 abbrev pub command_of : List (List ℕ) → Option Command
-command_of (word ∷ conf ∷ []) = if bytes_eq word (codes "parse") then Some (Parse conf) else None
-command_of (word ∷ conf ∷ script ∷ []) = if bytes_eq word (codes "replay") then Some (Replay conf script) else None
+command_of (word ∷ file ∷ []) = single_command word file
+command_of (word ∷ conf ∷ file ∷ []) = pair_command word conf file
 command_of words = None
 
--- the file is one that the command names
-abbrev pub IsNamed : Option Command → List ℕ → Type 0
-IsNamed None name = ⊥
-IsNamed (Some (Parse conf)) name = name ≡ conf
-IsNamed (Some (Replay conf script)) name = (name ≡ conf) ⊎ (name ≡ script)
+-- a line of a script states a reconfiguration by the file of this name
+abbrev pub NamesIn : List Line → List ℕ → Type 0
+NamesIn [] name = ⊥
+NamesIn (l ∷ ls) name = ((now : ℕ) × (stated l.bytes ≡ Some (now, Reconfigure name))) ⊎ NamesIn ls name
+
+-- where the files tell the script, one of its lines does
+abbrev pub NamesFile : Texts → List ℕ → List ℕ → Type 0
+NamesFile texts script name = IfSome texts (λ disk. IfSome (disk script) (λ text. NamesIn (lines text) name))
+
+-- the file is one that the command names, or its script does
+abbrev pub IsNamed : Texts → Option Command → List ℕ → Type 0
+IsNamed texts None name = ⊥
+IsNamed texts (Some (Parse conf)) name = name ≡ conf
+IsNamed texts (Some (Replay conf script)) name = (name ≡ conf) ⊎ ((name ≡ script) ⊎ NamesFile texts script name)
+IsNamed texts (Some (Verify conf journal)) name = (name ≡ conf) ⊎ (name ≡ journal)
+IsNamed texts (Some (Migrate journal)) name = name ≡ journal
 
 -- what a command writes before its last line, and how it ends
 pub record Output : Type 0 where
@@ -48,7 +79,7 @@ silent end = record { text = []; end = end }
 
 -- the text of a run, and its end
 abbrev pub ran_output : Ran → Output
-ran_output ran = record { text = written ran.history; end = ran.end }
+ran_output ran = record { text = written ran.history; end = run_status ran.end }
 
 -- one stage after another
 abbrev pub staged : {A : Type 0} → Result A Status → (A → Output) → Output
@@ -64,11 +95,12 @@ abbrev pub conf_stage : List ℕ → Option (List ℕ) → Result Configuration 
 conf_stage name None = Err (ends.Missing name)
 conf_stage name (Some text) = conf_read (conf_result text)
 
-abbrev pub without_helpers : Result Configuration Status → Result Configuration Status
-without_helpers (Ok config) = if asks_nobody config then Ok config else Err (ends.Unbuilt part.Conf)
-without_helpers (Err end) = Err end
+-- the same of a configuration that a run begins with
+abbrev pub start_stage : List ℕ → Option (List ℕ) → Result Configuration Status
+start_stage name None = Err (ends.Missing name)
+start_stage name (Some text) = conf_read (read_result text)
 
--- the text of a script's file, if it is there
+-- the text of the file of a script or a journal, if it is there
 abbrev pub script_stage : List ℕ → Option (List ℕ) → Result (List ℕ) Status
 script_stage name None = Err (ends.Missing name)
 script_stage name (Some text) = Ok text
@@ -80,40 +112,96 @@ parse_over text conf = staged (conf_stage conf text) (λ config. record { text =
 abbrev pub parse_output : Disk → List ℕ → Output
 parse_output disk conf = parse_over (disk conf) conf
 
--- what `replay` comes to, where these are the texts of the two files, if they are there: the configuration is read and judged, then
--- the script is opened and run
-abbrev pub replay_over : Option (List ℕ) → Option (List ℕ) → List ℕ → List ℕ → Output
-replay_over conf_text script_text conf script =
-    staged (without_helpers (conf_stage conf conf_text))
-    (λ config. staged (script_stage script script_text) (λ text. ran_output (run_script config (lines text))))
+-- what `replay` comes to, where these are the texts of the two files, if they are there, and this stands on the shelf for the files that
+-- the script names: the configuration is read and judged, then the script is opened and run
+abbrev pub replay_over : Shelf → Option (List ℕ) → Option (List ℕ) → List ℕ → List ℕ → Output
+replay_over files conf_text script_text conf script =
+    staged (start_stage conf conf_text)
+    (λ config. staged (script_stage script script_text) (λ text. ran_output (run_script files config (lines text))))
+
+-- what a name has is what it has in each epoch
+abbrev pub shelf_of : Disk → Shelf
+shelf_of disk e = disk
 
 abbrev pub replay_output : Disk → List ℕ → List ℕ → Output
-replay_output disk conf script = replay_over (disk conf) (disk script) conf script
+replay_output disk conf script = replay_over (shelf_of disk) (disk conf) (disk script) conf script
+
+-- what was found of a journal, as what a command comes to: before its last line it writes how many entries were verified, and else nothing
+abbrev pub found_output : Finding → Output
+found_output (finding.Verified count) = record { text = finding_text (finding.Verified count); end = ends.Ok }
+found_output (finding.Script line) = silent (ends.Script line)
+found_output (finding.Differs line machine journal) = silent (ends.Differs line machine journal)
+found_output finding.ReadFault = silent ends.ReadFault
+found_output finding.WantOfMemory = silent ends.WantOfMemory
+
+-- what a journal of this text comes to over a configuration
+abbrev pub journal_output : Configuration → List ℕ → Output
+journal_output config bytes = found_output (judged config (lines bytes)).found
+
+-- what `verify` comes to, where these are the texts of the two files, if they are there: the configuration is read and judged, then the
+-- journal is opened and judged
+abbrev pub verify_over : Option (List ℕ) → Option (List ℕ) → List ℕ → List ℕ → Output
+verify_over conf_text journal_text conf journal =
+    staged (start_stage conf conf_text) (λ config. staged (script_stage journal journal_text) (journal_output config))
+
+abbrev pub verify_output : Disk → List ℕ → List ℕ → Output
+verify_output disk conf journal = verify_over (disk conf) (disk journal) conf journal
+
+-- a migration ends well, or at the line with this number
+abbrev pub migrated_end : Bool → ℕ → Status
+migrated_end true line = ends.Ok
+migrated_end false line = ends.Script line
+
+-- the text of version 2 of the entries before the first line that is none in its place
+abbrev pub migrated : Reading → Output
+migrated read = record { text = journal_text read.history; end = migrated_end read.whole (length read.history + 1) }
+
+abbrev pub migrated_output : List ℕ → Output
+migrated_output bytes = migrated (read_journal (lines bytes))
+
+-- what `migrate` comes to, where this is the text of the journal, if it is there
+abbrev pub migrate_over : Option (List ℕ) → List ℕ → Output
+migrate_over text journal = staged (script_stage journal text) migrated_output
+
+abbrev pub migrate_output : Disk → List ℕ → Output
+migrate_output disk journal = migrate_over (disk journal) journal
 
 abbrev pub command_output : Disk → Option Command → Output
 command_output disk None = silent ends.Usage
 command_output disk (Some (Parse conf)) = parse_output disk conf
 command_output disk (Some (Replay conf script)) = replay_output disk conf script
+command_output disk (Some (Verify conf journal)) = verify_output disk conf journal
+command_output disk (Some (Migrate journal)) = migrate_output disk journal
 
 -- what the words come to over these files
 abbrev pub output_of : Disk → List (List ℕ) → Output
 output_of disk words = command_output disk (command_of words)
 
--- the history of the run is legal, and each verdict in it is the direct evaluation of the configuration
-abbrev pub IsDirectRun : Configuration → List ℕ → Type 0
-IsDirectRun config text =
-    Legal (config ∷ []) (run_script config (lines text)).history × IsDirect (config ∷ []) (run_script config (lines text)).history
+-- what is true of the run over each configuration and script that are there, with the files that the script names: nothing was run, or the
+-- history is legal, with what is so of every legal history
+abbrev pub RunsTruly : Disk → List (List ℕ) → Type 0
+RunsTruly disk words = (conf script text : List ℕ) (config : Configuration) → command_of words ≡ Some (Replay conf script)
+    → start_stage conf (disk conf) ≡ Ok config → disk script ≡ Some text
+    → IsTrueOrNone (configs_of (shelf_of disk) config (lines text)) (run_script (shelf_of disk) config (lines text)).history
 
--- no history, or a legal one in which each verdict is direct
-abbrev pub IsDirectOrNone : Configuration → List ℕ → Type 0
-IsDirectOrNone config text = ((run_script config (lines text)).history ≡ []) ⊎ IsDirectRun config text
+-- the two files are there, and the journal is, byte for byte, the text of a history over the configuration, with all that is so of every run
+pub record AuditedFiles (disk : Disk) (conf journal : List ℕ) : Type 0 where
+  pub text : List ℕ
+  pub config : Configuration
+  pub bytes : List ℕ
+  pub count : ℕ
+  pub conf_there : disk conf ≡ Some text
+  pub conf_reads : read_result text ≡ Ok config
+  pub journal_there : disk journal ≡ Some bytes
+  pub audited : IsAudited config bytes count
 
--- so it is of each run over a configuration and a script that are there
-abbrev pub RunsDirectly : Disk → List (List ℕ) → Type 0
-RunsDirectly disk words = (conf script text : List ℕ) (config : Configuration) → command_of words ≡ Some (Replay conf script)
-    → without_helpers (conf_stage conf (disk conf)) ≡ Ok config → disk script ≡ Some text → IsDirectOrNone config text
+-- so it is of the files that `verify` names
+abbrev pub AuditsFiles : Disk → List (List ℕ) → Type 0
+AuditsFiles disk words = (conf journal : List ℕ) → command_of words ≡ Some (Verify conf journal) → AuditedFiles disk conf journal
 
 -- the command that the code reads
 abbrev pub shown_command : Words.Command → Command
 shown_command (words.Parse conf) = Parse conf.now
 shown_command (words.Replay conf script) = Replay conf.now script.now
+shown_command (words.Verify conf journal) = Verify conf.now journal.now
+shown_command (words.Migrate journal) = Migrate journal.now

@@ -1,21 +1,23 @@
 -- How a command ends: its last line and its exit status, the causes of faults, and the ends that a command and each part of it may have.
 use Rattle.std.specs.Prelude.{◌≡◌, ◌⊎◌, ℕ, ◌≤◌, List, [], ◌∷◌, ◌++◌, Bool, true, false, codes, decimal, Result}
+use Rattle.sq_note.specs.declared.migrating.MigrateFault.{MigrateFault}
+use Rattle.sq_note.specs.declared.migrating.MigrateFault.TheVariants as migrating
 use Rattle.std.specs.declared.result.Result.TheVariants as result
 use Rattle.sq_base.specs.Escapes.{text_word}
 use Rattle.sq_outside.specs.Causes.{Rose}
 use Rattle.sq_outside.specs.Told.{Texts, IsNotTold}
 use Rattle.sq_rules.specs.Kinds.{kind_number}
-use Rattle.sq_proxy.specs.declared.ends.Part.{Part}
-use Rattle.sq_proxy.specs.declared.ends.Part.TheVariants as part
+use Rattle.sq_replay.specs.declared.ends.RunEnd.{RunEnd}
+use Rattle.sq_replay.specs.declared.ends.RunEnd.TheVariants as ended
+use Rattle.sq_replay.specs.Ends.{End, Done, Refused, Faulted, Fault, Reading, Writing, Lacking}
+use Rattle.sq_verify.specs.declared.findings.Finding.{Finding}
+use Rattle.sq_verify.specs.declared.findings.Finding.TheVariants as finding
+use Rattle.sq_verify.specs.Telling.{differs_text}
 use Rattle.sq_proxy.specs.declared.ends.Status.{Status}
-use Rattle.sq_proxy.specs.declared.ends.Status.TheVariants.{Ok, Usage, Config, Script, ReadFault, WriteFault, Missing, WantOfMemory, Unbuilt}
+use Rattle.sq_proxy.specs.declared.ends.Status.TheVariants.{Ok, Usage, Config, Script, ReadFault, WriteFault, Differs, Missing, WantOfMemory}
 
 abbrev pub usage_line : List ℕ
-usage_line = codes "usage: aclproxy parse CONF | replay CONF SCRIPT | verify CONF JOURNAL | rehearse N | serve CONF [--port P] [--workers W] [--utc-offset M]" ++ 10 ∷ []
-
-abbrev pub part_word : Part → List ℕ
-part_word part.Conf = codes "conf"
-part_word part.Script = codes "script"
+usage_line = codes "usage: aclproxy parse CONF | replay CONF SCRIPT | verify CONF JOURNAL | migrate JOURNAL | rehearse N | serve CONF [--port P] [--workers W] [--utc-offset M]" ++ 10 ∷ []
 
 -- the line of a configuration's fault
 abbrev pub config_line : ℕ → ℕ → List ℕ
@@ -29,9 +31,9 @@ last_line (Config line kind) = config_line line (kind_number kind)
 last_line (Script line) = codes "error script " ++ decimal line ++ 10 ∷ []
 last_line ReadFault = codes "error read" ++ 10 ∷ []
 last_line WriteFault = []
+last_line (Differs line machine journal) = differs_text line machine journal
 last_line (Missing name) = codes "error missing " ++ text_word name ++ 10 ∷ []
 last_line WantOfMemory = []
-last_line (Unbuilt p) = codes "error unbuilt " ++ part_word p ++ 10 ∷ []
 
 -- the exit status of the process
 abbrev pub code_of : Status → ℕ
@@ -42,20 +44,8 @@ code_of (Script line) = 3
 code_of ReadFault = 4
 code_of WriteFault = 5
 code_of (Missing name) = 7
+code_of (Differs line machine journal) = 8
 code_of WantOfMemory = 10
-code_of (Unbuilt p) = 11
-
--- what ended a command from without: a read or a write that failed, or want of memory
-pub data Fault : Type 0 where
-  Reading : Fault
-  Writing : Fault
-  Lacking : Fault
-
--- how a command ends: it did what it was asked, its input was refused, or a fault ended it
-pub data End : Type 0 where
-  Done : End
-  Refused : End
-  Faulted : Fault → End
 
 -- what kind of end each status is
 abbrev pub end_of : Status → End
@@ -65,9 +55,28 @@ end_of (Config line kind) = Refused
 end_of (Script line) = Refused
 end_of ReadFault = Faulted Reading
 end_of WriteFault = Faulted Writing
+end_of (Differs line machine journal) = Refused
 end_of (Missing name) = Refused
 end_of WantOfMemory = Faulted Lacking
-end_of (Unbuilt p) = Refused
+
+-- the status of a run of a script that ends so; such a run ends by no difference
+abbrev pub run_status : RunEnd → Status
+run_status ended.Ok = Ok
+run_status (ended.Script line) = Script line
+run_status (ended.Config e) = Config e.line e.kind
+run_status (ended.Missing name) = Missing name
+run_status (ended.Differs line) = Script line
+run_status ended.ReadFault = ReadFault
+run_status ended.WriteFault = WriteFault
+run_status ended.WantOfMemory = WantOfMemory
+
+-- the status of a migration that ends so
+abbrev pub migrate_status : Result (Unit {0}) MigrateFault → Status
+migrate_status (result.Ok done) = Ok
+migrate_status (result.Err (migrating.Script line)) = Script line
+migrate_status (result.Err migrating.ReadFault) = ReadFault
+migrate_status (result.Err migrating.WriteFault) = WriteFault
+migrate_status (result.Err migrating.WantOfMemory) = WantOfMemory
 
 -- the status of a fault
 abbrev pub status_of : Fault → Status
@@ -151,8 +160,22 @@ IsPlayedEnd texts name Usage = ⊥
 IsPlayedEnd texts name (Missing other) = (other ≡ name) × IsNotTold texts name
 IsPlayedEnd texts name status = Unit {0}
 
--- a replay misses only a file that it names, and is no usage
-abbrev pub IsReplayEnd : Texts → List ℕ → List ℕ → Status → Type 0
-IsReplayEnd texts conf script Usage = ⊥
-IsReplayEnd texts conf script (Missing other) = ((other ≡ conf) ⊎ (other ≡ script)) × IsNotTold texts other
-IsReplayEnd texts conf script status = Unit {0}
+-- a replay misses a file that is told nowhere, and is no usage
+abbrev pub IsReplayEnd : Texts → Status → Type 0
+IsReplayEnd texts Usage = ⊥
+IsReplayEnd texts (Missing other) = IsNotTold texts other
+IsReplayEnd texts status = Unit {0}
+
+-- what was found of a journal ends a command by these alone; where the journal was verified, telling so may fail
+abbrev pub IsFoundEnd : Finding → Status → Type 0
+IsFoundEnd (finding.Verified count) status = (status ≡ Ok) ⊎ (status ≡ WriteFault)
+IsFoundEnd (finding.Script line) status = status ≡ Script line
+IsFoundEnd (finding.Differs line machine journal) status = status ≡ Differs line machine journal
+IsFoundEnd finding.ReadFault status = status ≡ ReadFault
+IsFoundEnd finding.WantOfMemory status = status ≡ WantOfMemory
+
+-- a command over two files misses one of them that is told nowhere, and is no usage
+abbrev pub IsVerifyEnd : Texts → List ℕ → List ℕ → Status → Type 0
+IsVerifyEnd texts conf journal Usage = ⊥
+IsVerifyEnd texts conf journal (Missing other) = ((other ≡ conf) ⊎ (other ≡ journal)) × IsNotTold texts other
+IsVerifyEnd texts conf journal status = Unit {0}

@@ -1,14 +1,6 @@
 pub mod Commands
-pub mod Counts
 pub mod Ends
-pub mod Firsts
-pub mod Judging
-pub mod Machines
-pub mod Making
 pub mod Opened
 pub mod Outputs
 pub mod ParseText
 pub mod Pieces
-pub mod RunText
-pub mod Runs
-pub mod Tables

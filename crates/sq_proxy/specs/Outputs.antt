@@ -4,54 +4,12 @@ use Rattle.std.specs.declared.option.Option.{Option}
 use Rattle.std.specs.Io.KnownBytes.{Appends}
 use Rattle.sq_outside.specs.Causes.{Rose}
 use Rattle.sq_outside.specs.Output.{Grew, IsPrefix, IsProperPrefix, IsWritten}
-use Rattle.sq_journal.specs.EntryText.{written}
+use Rattle.sq_replay.specs.Ends.{End, Done, Refused, Faulted, Fault, Reading, Writing, Lacking}
+use Rattle.sq_replay.specs.Runs.{EndsLine, WrotePart}
 use Rattle.sq_proxy.specs.declared.ends.Status.{Status}
 use Rattle.sq_proxy.specs.declared.ends.Status.TheVariants as ends
 use Rattle.sq_proxy.specs.Commands.{Output}
-use Rattle.sq_proxy.specs.Ends.{End, Done, Refused, Faulted, Fault, Reading, Writing, Lacking, end_of, status_of, last_line}
-use Rattle.sq_proxy.specs.RunText.{Ran}
-
--- since `base` the text was written, but for what the page holds of it
-pub record Wrote (base contents : Option (List ℕ)) (page text : List ℕ) : Type 0 where
-  pub done : List ℕ
-  pub appends : Appends base contents done
-  pub whole : done ++ page ≡ text
-
--- the same of a front of the text
-pub record WroteFront (base contents : Option (List ℕ)) (page text : List ℕ) : Type 0 where
-  pub front : List ℕ
-  pub begins : IsPrefix front text
-  pub wrote : Wrote base contents page front
-
--- since `base` a front of the text was written, and not all
-abbrev pub WrotePart : Option (List ℕ) → Option (List ℕ) → List ℕ → Type 0
-WrotePart base contents text = Grew base contents (λ part. IsProperPrefix part text)
-
--- a text of whole lines, each with its LF
-abbrev pub EndsLine : List ℕ → Type 0
-EndsLine text = (text ≡ []) ⊎ ((front : List ℕ) × (text ≡ front ++ 10 ∷ []))
-
--- what `WroteFront` says, of a front of whole lines
-pub record WroteLines (base contents : Option (List ℕ)) (page text : List ℕ) : Type 0 where
-  pub front : List ℕ
-  pub begins : IsPrefix front text
-  pub lines : EndsLine front
-  pub wrote : Wrote base contents page front
-
--- what a run had gathered when a fault ended it: whole lines before a read fault, a front where memory ran out
-abbrev pub Gathered : Fault → Option (List ℕ) → Option (List ℕ) → List ℕ → List ℕ → Type 0
-Gathered Reading base contents page text = WroteLines base contents page text
-Gathered Lacking base contents page text = WroteFront base contents page text
-Gathered Writing base contents page text = WrotePart base contents text
-
-abbrev pub ReachesAs : End → Option (List ℕ) → Option (List ℕ) → List ℕ → Ran → Status → Type 0
-ReachesAs (Faulted fault) base contents page ran end = Gathered fault base contents page (written ran.history)
-ReachesAs Done base contents page ran end = (end ≡ ran.end) × Wrote base contents page (written ran.history)
-ReachesAs Refused base contents page ran end = (end ≡ ran.end) × Wrote base contents page (written ran.history)
-
--- The run came to its end, and the page holds what was not written; or a fault ended it before.
-abbrev pub Reaches : Option (List ℕ) → Option (List ℕ) → List ℕ → Ran → Status → Type 0
-Reaches base contents page ran end = ReachesAs (end_of end) base contents page ran end
+use Rattle.sq_proxy.specs.Ends.{end_of, status_of, last_line}
 
 -- whole lines of a text, or any front of it where the sink's count rose
 abbrev pub IsLines : ℕ → ℕ → List ℕ → List ℕ → Type 0
@@ -93,12 +51,6 @@ IsOutputAs (Faulted fault) output before now end bytes = IsCutOff fault output.t
 -- the bytes that a command which ends so wrote; the two numbers are the sink's count before and after the whole call
 abbrev pub IsOutput : Output → ℕ → ℕ → Status → List ℕ → Type 0
 IsOutput output before now end bytes = IsOutputAs (end_of end) output before now end bytes
-
--- the page holds a front of this text more
-pub record HoldsFront (old new text : List ℕ) : Type 0 where
-  pub front : List ℕ
-  pub begins : IsPrefix front text
-  pub page_is : new ≡ old ++ front
 
 -- a run that ended so ends a command so, or by a fault of writing
 abbrev pub IsSettled : Status → Status → Type 0

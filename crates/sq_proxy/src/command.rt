@@ -1,6 +1,6 @@
 //! The words of a command.
 ghost use Rattle.std.specs.Prelude.{◌≡◌, Some, None, MatchOption};
-ghost use Rattle.sq_proxy.specs.Commands.{command_of, shown_command};
+ghost use Rattle.sq_proxy.specs.Commands.{command_of, pair_command, shown_command, single_command};
 
 use sq_base::Text;
 
@@ -11,6 +11,10 @@ pub enum Command<'a> {
     Parse { conf: &'a Text },
     /// `replay CONF SCRIPT`
     Replay { conf: &'a Text, script: &'a Text },
+    /// `verify CONF JOURNAL`
+    Verify { conf: &'a Text, journal: &'a Text },
+    /// `migrate JOURNAL`
+    Migrate { journal: &'a Text },
 }
 
 /// The command that these words are, the program's name left out.
@@ -18,20 +22,37 @@ pub fn read_command(words: &[Text]) -> Option<Command<'_>>
     ensures { MatchOption result (command_of words.now ≡ None) (λ c. command_of words.now ≡ Some (shown_command c)) }
 {
     match words {
-        [word, conf] => {
-            if word.as_bytes() == b"parse".as_slice() {
-                Some(Command::Parse { conf })
-            } else {
-                None
-            }
-        }
-        [word, conf, script] => {
-            if word.as_bytes() == b"replay".as_slice() {
-                Some(Command::Replay { conf, script })
-            } else {
-                None
-            }
-        }
+        [word, file] => read_single(word, file),
+        [word, conf, file] => read_pair(word, conf, file),
         _ => None,
+    }
+}
+
+// The command of a word and a name.
+fn read_single<'a>(word: &Text, file: &'a Text) -> Option<Command<'a>>
+    ensures { MatchOption result (single_command word.now file.now ≡ None) (λ c. single_command word.now file.now ≡ Some (shown_command c)) }
+{
+    if word.as_bytes() == b"parse".as_slice() {
+        Some(Command::Parse { conf: file })
+    } else if word.as_bytes() == b"migrate".as_slice() {
+        Some(Command::Migrate { journal: file })
+    } else {
+        None
+    }
+}
+
+// The command of a word and two names.
+fn read_pair<'a>(word: &Text, conf: &'a Text, file: &'a Text) -> Option<Command<'a>>
+    ensures { MatchOption result (pair_command word.now conf.now file.now ≡ None) (λ c. pair_command word.now conf.now file.now ≡ Some (shown_command c)) }
+{
+    if word.as_bytes() == b"replay".as_slice() {
+        Some(Command::Replay { conf, script: file })
+    } else if word.as_bytes() == b"verify".as_slice() {
+        Some(Command::Verify {
+            conf,
+            journal: file,
+        })
+    } else {
+        None
     }
 }

@@ -4,17 +4,19 @@ ghost use Rattle.std.specs.Io.KnownBytes.{Appends};
 ghost use Rattle.sq_base.specs.Escapes.{escaped, text_word};
 ghost use Rattle.sq_outside.specs.Causes.{HasCause};
 ghost use Rattle.sq_outside.specs.Output.{Grew, IsPrefix, IsWritten};
-ghost use Rattle.sq_proxy.specs.Ends.{config_line, end_of, is_silent, last_line, part_word};
+ghost use Rattle.sq_proxy.specs.Ends.{config_line, end_of, is_silent, last_line};
+ghost use Rattle.sq_verify.specs.Telling.{differs_text};
 
-use crate::ends::{Part, Status};
+use crate::ends::Status;
 use itoa::Buffer;
 use percent_encoding::percent_encode;
 use sq_journal::ESCAPES;
 use sq_outside::{Failed, Sink, write_all, write_line};
+use sq_verify::write_differs;
 
 /// What a command answers to words that are none.
 const USAGE: &[u8] =
-    b"usage: aclproxy parse CONF | replay CONF SCRIPT | verify CONF JOURNAL | rehearse N | serve CONF [--port P] [--workers W] [--utc-offset M]";
+    b"usage: aclproxy parse CONF | replay CONF SCRIPT | verify CONF JOURNAL | migrate JOURNAL | rehearse N | serve CONF [--port P] [--workers W] [--utc-offset M]";
 
 // Writes bytes escaped, piece by piece.
 fn write_escaped<O: Sink>(out: &mut O, bytes: &[u8]) -> Result<(), Failed>
@@ -118,14 +120,18 @@ fn write_config_line<O: Sink>(out: &mut O, line: u32, kind: u8) -> Result<(), Fa
     write_pair_line(out, b"error config ", line, kind)
 }
 
-// The word of a part.
-fn part_word(part: Part) -> &'static [u8]
-    ensures { result.now ≡ part_word part }
+// Writes the three lines of a line that differs.
+fn write_differs_lines<O: Sink>(
+    out: &mut O,
+    line: u64,
+    machine: &[u8],
+    journal: &[u8],
+) -> Result<(), Failed>
+    ensures ok { OnOk result (Appends (O.contents out.old) (O.contents out.new) (differs_text line machine.now journal.now)) }
+    ensures err { OnErr result (Grew (O.contents out.old) (O.contents out.new) (λ part. IsPrefix part (differs_text line machine.now journal.now))) }
+    ensures cause { HasCause (O.faults out.old) (O.faults out.new) result }
 {
-    match part {
-        Part::Conf => b"conf".as_slice(),
-        Part::Script => b"script".as_slice(),
-    }
+    write_differs(out, line, machine, journal)
 }
 
 // Writes the last line of a status.
@@ -140,8 +146,12 @@ fn write_last_line<O: Sink>(out: &mut O, status: &Status) -> Result<(), Failed>
         Status::Config { line, kind } => write_config_line(out, *line, kind.number()),
         Status::Script(line) => write_number_line(out, b"error script ", *line),
         Status::ReadFault => write_line(out, b"error read", b""),
+        Status::Differs {
+            line,
+            machine,
+            journal,
+        } => write_differs_lines(out, *line, machine.as_bytes(), journal.as_bytes()),
         Status::Missing(name) => write_text_line(out, b"error missing ", name.as_bytes()),
-        Status::Unbuilt(part) => write_line(out, b"error unbuilt ", part_word(*part)),
         Status::Ok => Ok(()),
         Status::WriteFault => Ok(()),
         Status::WantOfMemory => Ok(()),

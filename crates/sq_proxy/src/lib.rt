@@ -2,24 +2,18 @@
 //!
 //! `proxy` is the top call. It takes any list of words, any files and any sink. Each status has its
 //! cause. Where files and sink tell their bytes, it promises what it writes and how it ends: a run's text
-//! is that of the machine's history, whose answers are each the next one by the definitions of the rules.
+//! is that of the machine's history, whose answers are each the next one by the definitions of the rules, and
+//! a journal that is verified is the text of such a history.
 #![tactic(auto)]
 
-mod beginning;
 mod command;
-mod counts;
 mod ends;
-mod events;
-mod judging;
 mod last_line;
-mod machine;
-mod page;
+mod migrating;
 mod parsing;
-mod replay;
-mod sighting;
 mod stages;
-mod tables;
 mod top;
+mod verifying;
 
-pub use ends::{Part, Status};
+pub use ends::Status;
 pub use top::proxy;

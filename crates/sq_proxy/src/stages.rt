@@ -1,8 +1,9 @@
 //! The files of a command, read and judged.
-ghost use Rattle.std.specs.Prelude.{◌≡◌, ◌≤◌, IfSome, IfErr, IsErrOf};
+ghost use Rattle.std.specs.Prelude.{◌≡◌, ◌≤◌, IfSome, IfErr, IfOk, IsErrOf};
 ghost use Rattle.sq_outside.specs.Causes.{Rose};
 ghost use Rattle.sq_proxy.specs.declared.ends.Status.TheVariants as ends;
 ghost use Rattle.sq_rules.specs.ConfText.{conf_result};
+ghost use Rattle.sq_rules.specs.Configurations.{IsConfiguration};
 ghost use Rattle.sq_proxy.specs.Commands.{conf_read, conf_stage};
 ghost use Rattle.sq_proxy.specs.Opened.{Added, IsOnce, first_text};
 ghost use Rattle.sq_proxy.specs.Ends.{Comes, IsConfEnd, IsMissingOr, IsOpenEnd};
@@ -28,10 +29,15 @@ pub fn missing(alloc: Global, name: &Text) -> Status
 // The configuration of a text.
 fn judge_text(alloc: Global, text: &[u8]) -> Result<Setup, Status>
     ensures comes { Comes result (conf_read (conf_result text.now)) }
+    ensures good { IfOk result IsConfiguration }
     ensures end { IfErr result IsConfEnd }
 {
     match read_config(alloc, text) {
-        Ok(setup) => Ok(setup),
+        Ok(setup) => {
+            // For the proof: what holds of the configuration.
+            setup.config().facts();
+            Ok(setup)
+        }
         Err(ConfFault::At(fault)) => Err(Status::Config {
             line: fault.line,
             kind: fault.kind,
@@ -43,6 +49,7 @@ fn judge_text(alloc: Global, text: &[u8]) -> Result<Setup, Status>
 /// Reads the configuration of the file of this name.
 pub fn open_conf<F: Files>(alloc: Global, name: &Text, files: &mut F) -> Result<Setup, Status>
     ensures comes { IfSome (F.texts files.old) (λ disk. Comes result (conf_stage name.now (disk name.now))) }
+    ensures good { IfOk result IsConfiguration }
     ensures end { IfErr result (IsOpenEnd (F.texts files.old) name.now) }
     ensures later { F.faults files.old ≤ F.faults files.new }
     ensures read { IfErr result (λ end. end ≡ ends.ReadFault → Rose (F.faults files.old) (F.faults files.new)) }

@@ -5,23 +5,24 @@ ghost use Rattle.sq_outside.specs.Told.{IsNotTold};
 ghost use Rattle.sq_outside.specs.Output.{Grew};
 ghost use Rattle.sq_outside.specs.SourceLines.{lines};
 ghost use Rattle.sq_proxy.specs.declared.ends.Status.TheVariants as ends;
-ghost use Rattle.sq_proxy.specs.Commands.{command_of, output_of, parse_output, ran_output, replay_output, script_stage, staged, IsNamed, Parse, Replay, RunsDirectly};
-ghost use Rattle.sq_proxy.specs.Ends.{EndsBy, EndsWithoutFault, HasCauses, IfMissing, IsPlayedEnd, IsReplayEnd, IsToldEnd, end_of};
-ghost use Rattle.sq_rules.specs.Configurations.{asks_nobody};
-ghost use Rattle.sq_proxy.specs.Opened.{Added, IsOnce, IsOpened, first_text, opened_output};
-ghost use Rattle.sq_proxy.specs.Outputs.{Delivers, IsOutput, IsSettled, Reaches, failed_end, is_write_fault};
-ghost use Rattle.sq_proxy.specs.RunText.{run_script, Ran};
+ghost use Rattle.sq_proxy.specs.Commands.{command_of, output_of, parse_output, ran_output, replay_output, script_stage, shelf_of, staged, AuditsFiles, IsNamed, Parse, Replay, RunsTruly};
+ghost use Rattle.sq_proxy.specs.Ends.{EndsBy, EndsWithoutFault, HasCauses, IfMissing, IsPlayedEnd, IsReplayEnd, IsToldEnd, end_of, run_status};
+ghost use Rattle.sq_rules.specs.Configurations.{IsConfiguration};
+ghost use Rattle.sq_replay.specs.RunText.{Ran, run_script};
+ghost use Rattle.sq_replay.specs.Runs.{Reaches};
+ghost use Rattle.sq_proxy.specs.Opened.{Added, IsOpened, PlayOpened, opened_output};
+ghost use Rattle.sq_proxy.specs.Outputs.{Delivers, IsOutput, IsSettled, failed_end, is_write_fault};
 
-use crate::beginning::run;
 use crate::command::{Command, read_command};
-use crate::ends::{Part, Status};
+use crate::ends::{Status, status_of};
 use crate::last_line::finish;
-use crate::page::write_page;
+use crate::migrating::migrate;
 use crate::parsing::parse_text;
 use crate::stages::{missing, open_conf};
+use crate::verifying::verify;
 use sq_base::{Text, WantOfMemory};
 use sq_outside::{Failed, Files, NoOpen, Sink, write_all};
-use sq_rules::asks_nobody;
+use sq_replay::{RunEnd, replay as run, write_page};
 use sq_urlmatch::Setup;
 use std::alloc::Global;
 
@@ -48,15 +49,16 @@ fn failed_end(end: Status) -> Status
 }
 
 // Writes what the page holds at the end of a run.
-fn settle<O: Sink>(page: &mut Vec<u8>, out: &mut O, end: Status) -> Status
+fn settle<O: Sink>(page: &mut Vec<u8>, out: &mut O, end: RunEnd) -> Status
     ensures delivers { (base : Option (List ℕ)) (ran : Ran) → Reaches base (O.contents out.old) page.old.items ran end
         → Delivers base (O.contents out.new) (O.faults out.old) (O.faults out.new) (ran_output ran) result }
-    ensures same { IsSettled end result }
-    ensures read { end ≡ ends.ReadFault → result ≡ ends.ReadFault }
+    ensures same { IsSettled (run_status end) result }
+    ensures read { run_status end ≡ ends.ReadFault → result ≡ ends.ReadFault }
     ensures later { O.faults out.old ≤ O.faults out.new }
-    ensures write { result ≡ ends.WriteFault → (end ≡ ends.WriteFault) ⊎ Rose (O.faults out.old) (O.faults out.new) }
+    ensures write { result ≡ ends.WriteFault → (run_status end ≡ ends.WriteFault) ⊎ Rose (O.faults out.old) (O.faults out.new) }
     ensures quiet { IsToldEnd (end_of result) → O.faults out.new ≡ O.faults out.old }
 {
+    let end = status_of(end);
     if is_write_fault(&end) {
         return end;
     }
@@ -74,13 +76,10 @@ fn play<F: Files, O: Sink>(
     files: &mut F,
     out: &mut O,
 ) -> Status
-    requires { asks_nobody setup ≡ true }
     ensures delivers { IfSome (F.texts files.old) (λ disk. Delivers (O.contents out.old) (O.contents out.new) (O.faults out.old) (O.faults out.new)
-        (staged (script_stage script.now (disk script.now)) (λ text. ran_output (run_script setup (lines text)))) result) }
-    ensures opened { Added (F.opened files.old) (F.opened files.new) (λ more. IsOnce script.now more
-        × Delivers (O.contents out.old) (O.contents out.new) (O.faults out.old) (O.faults out.new)
-        (staged (script_stage script.now (first_text more)) (λ text. ran_output (run_script setup (lines text)))) result) }
-    ensures end { IsPlayedEnd (F.texts files.old) script.now result }
+        (staged (script_stage script.now (disk script.now)) (λ text. ran_output (run_script (shelf_of disk) setup (lines text)))) result) }
+    ensures opened { Added (F.opened files.old) (F.opened files.new) (PlayOpened script.now setup (O.contents out.old) (O.contents out.new) (O.faults out.old) (O.faults out.new) result) }
+    ensures end { IsReplayEnd (F.texts files.old) result }
     ensures causes { HasCauses (F.faults files.old) (F.faults files.new) (O.faults out.old) (O.faults out.new) result }
 {
     let mut source = match files.open(alloc, script) {
@@ -90,7 +89,7 @@ fn play<F: Files, O: Sink>(
         Err(NoOpen::WantOfMemory) => return Status::WantOfMemory,
     };
     let mut page = Vec::new(alloc);
-    let end = run(alloc, setup, &mut source, &mut page, out);
+    let end = run(alloc, setup, &mut source, files, &mut page, out);
     files.give_back(source);
     settle(&mut page, out, end)
 }
@@ -108,17 +107,12 @@ fn replay<F: Files, O: Sink>(
     ensures opened { Added (F.opened files.old) (F.opened files.new) (λ more. IsOpened (Some (Replay conf.now script.now)) more
         × Delivers (O.contents out.old) (O.contents out.new) (O.faults out.old) (O.faults out.new)
         (opened_output (Some (Replay conf.now script.now)) more) result) }
-    ensures end { IsReplayEnd (F.texts files.old) conf.now script.now result }
+    ensures end { IsReplayEnd (F.texts files.old) result }
     ensures causes { HasCauses (F.faults files.old) (F.faults files.new) (O.faults out.old) (O.faults out.new) result }
 {
-    let setup = match open_conf(alloc, conf, files) {
-        Ok(setup) => setup,
-        Err(end) => return end,
-    };
-    match asks_nobody(alloc, setup.config()) {
-        Ok(true) => play(alloc, setup, script, files, out),
-        Ok(false) => Status::Unbuilt(Part::Conf),
-        Err(WantOfMemory) => Status::WantOfMemory,
+    match open_conf(alloc, conf, files) {
+        Ok(setup) => play(alloc, setup, script, files, out),
+        Err(end) => end,
     }
 }
 
@@ -154,25 +148,29 @@ fn run_words<F: Files, O: Sink>(alloc: Global, words: &[Text], files: &mut F, ou
         × Delivers (O.contents out.old) (O.contents out.new) (O.faults out.old) (O.faults out.new)
         (opened_output (command_of words.now) more) result) }
     ensures usage { (result ≡ ends.Usage) ↔ (command_of words.now ≡ None) }
-    ensures missing { IfMissing result (λ name. IsNamed (command_of words.now) name × IsNotTold (F.texts files.old) name) }
+    ensures missing { IfMissing result (λ name. IsNamed (F.texts files.old) (command_of words.now) name × IsNotTold (F.texts files.old) name) }
     ensures causes { HasCauses (F.faults files.old) (F.faults files.new) (O.faults out.old) (O.faults out.new) result }
 {
     match read_command(words) {
         Some(Command::Parse { conf }) => parse(alloc, conf, files, out),
         Some(Command::Replay { conf, script }) => replay(alloc, conf, script, files, out),
+        Some(Command::Verify { conf, journal }) => verify(alloc, conf, journal, files, out),
+        Some(Command::Migrate { journal }) => migrate(alloc, journal, files, out),
         None => Status::Usage,
     }
 }
 
 /// Does what the words say, over these files, and writes what comes of it: `parse CONF` reads the
-/// configuration and counts what it states, and `replay CONF SCRIPT` runs the script over the
-/// configuration and writes a line for each event. The words are those after the program's name.
+/// configuration and counts what it states, `replay CONF SCRIPT` runs the script over the configuration
+/// and writes a line for each event, `verify CONF JOURNAL` judges the journal over the configuration, and
+/// `migrate JOURNAL` writes a journal of version 1 as one of version 2. The words are those after the
+/// program's name.
 pub fn proxy<F: Files, O: Sink>(alloc: Global, words: &[Text], files: &mut F, out: &mut O) -> Status
     // What it writes, where the files and the sink tell: the command's text, and the last line.
     ensures bytes { IfSome (F.texts files.old) (λ disk. Grew (O.contents out.old) (O.contents out.new)
         (IsOutput (output_of disk words.now) (O.faults out.old) (O.faults out.new) result)) }
-    // Where the files tell their openings: each file is opened once at most, CONF first, and what is written
-    // is what comes of the texts that these openings gave.
+    // Where the files tell their openings: CONF is opened first, once, then JOURNAL, once, or SCRIPT, and then what the script names,
+    // one file in each epoch; and what is written is what comes of the texts that these openings gave.
     ensures opened { Added (F.opened files.old) (F.opened files.new) (λ more. IsOpened (command_of words.now) more
         × Grew (O.contents out.old) (O.contents out.new)
         (IsOutput (opened_output (command_of words.now) more) (O.faults out.old) (O.faults out.new) result)) }
@@ -182,11 +180,15 @@ pub fn proxy<F: Files, O: Sink>(alloc: Global, words: &[Text], files: &mut F, ou
     ensures complete { IfSome (F.texts files.old) (λ disk.
         (Rose (F.faults files.old) (F.faults files.new) → ⊥) → (Rose (O.faults out.old) (O.faults out.new) → ⊥)
         → EndsWithoutFault (output_of disk words.now).end result) }
-    // The history of a run is legal, and each verdict in it is the direct evaluation of the configuration
-    // current when its check began, over what the check saw then.
-    ensures direct { IfSome (F.texts files.old) (λ disk. RunsDirectly disk words.now) }
+    // The history of a run is legal; each verdict in it is that of the configuration current when its check began, over what the
+    // check saw then and answers that have their sources; each reconfiguration's is the configuration of its text; and between any two
+    // places no bucket grants more than its level and what was restored.
+    ensures truly { IfSome (F.texts files.old) (λ disk. RunsTruly disk words.now) }
+    // After `Ok` a journal that was judged is, byte for byte, the text of a history over the configuration that CONF holds and those that
+    // the journal's reconfigurations hold, and all holds of it that holds of every run.
+    ensures audits { result ≡ ends.Ok → IfSome (F.texts files.old) (λ disk. AuditsFiles disk words.now) }
     ensures usage { (result ≡ ends.Usage) ↔ (command_of words.now ≡ None) }
-    ensures missing { IfMissing result (λ name. IsNamed (command_of words.now) name × IsNotTold (F.texts files.old) name) }
+    ensures missing { IfMissing result (λ name. IsNamed (F.texts files.old) (command_of words.now) name × IsNotTold (F.texts files.old) name) }
     ensures read { result ≡ ends.ReadFault → Rose (F.faults files.old) (F.faults files.new) }
     ensures write { result ≡ ends.WriteFault → Rose (O.faults out.old) (O.faults out.new) }
     // The first fault of a device ends the run: where it ended otherwise, no count rose.

@@ -3,7 +3,7 @@ use Rattle.std.proofs.Common.{◌≡◌, inl, inr, ℕ, ◌+◌, List, [], ◌�
 use Rattle.std.specs.declared.option.Option.{Option}
 use Rattle.sq_outside.specs.Output.{IsPrefix, IsProperPrefix}
 use Rattle.sq_outside.specs.SourceLines.{Finds, IsLine, Line, lines}
-use Rattle.sq_outside.specs.Told.{Texts}
+use Rattle.sq_outside.specs.Told.{Openings, Texts}
 use Rattle.sq_outside.specs.declared.lines.Found.TheVariants as found
 use Rattle.sq_outside.proofs.Writing.{Grew_map, IsPrefix_refl, IsPrefix_trans}
 use Rattle.sq_rules.specs.declared.entries.Event.{Event}
@@ -17,24 +17,28 @@ use Rattle.sq_replay.specs.declared.ends.RunEnd.TheVariants as ends
 use Rattle.sq_replay.specs.Ends.{Done, End, Faulted, Lacking, Reading, Refused, Writing, end_of}
 use Rattle.sq_replay.specs.Headline.{IsAhead}
 use Rattle.sq_replay.specs.RunText.{Ran, Shelf, run_lines, run_on, stated, stated_step}
-use Rattle.sq_replay.specs.Runs.{At, EndsLine, GoesOn, Going, HasNext, IsShelf, LineGoes, Machine, Reaches, ReachesAs, RunsOver, Stops, StopsAs, WhereTold, WroteFront, WrotePart, step_text}
+use Rattle.sq_replay.specs.Runs.{Adds, AddsCount, At, EndsLine, GoesOn, Going, HasNext, LineGoes, Machine, Reaches, ReachesAs, RunsOver, Stops, StopsAs, Tells, WhereTold, WroteFront, WrotePart, missed, openings_in, openings_of, step_text}
 use Rattle.sq_replay.proofs.GrowthLaws.{going_grows, run_grows, step_grows}
+use Rattle.sq_replay.proofs.OpeningLaws.{adds_none, count_adds, count_none, count_then, tells_after, tells_before}
 use Rattle.sq_replay.proofs.RunLaws.{stated_made}
-use Rattle.sq_replay.proofs.SourceLaws.{named_next, step_ahead}
+use Rattle.sq_replay.proofs.SourceLaws.{named_next, step_ahead, step_epoch}
 
 -- of what is told
 
--- what follows where script and files tell
-pub told_map : (texts : Texts) (left : Option (List ℕ)) (configs : List Configuration) (h : History) (P Q : Shelf → List ℕ → Type 0) → ((files : Shelf) (bytes : List ℕ) → P files bytes → Q files bytes)
-    → WhereTold texts left configs h P → WhereTold texts left configs h Q
-told_map texts None configs h P Q f p = tt
-told_map texts (Some bytes) configs h P Q f p = λ files shelf ahead. f files bytes (p files shelf ahead)
+-- what follows where script and files tell, of a part of what they told
+pub told_map : (texts : Texts) (old mid new : Openings) (missing : Option (List ℕ)) (left : Option (List ℕ)) (configs : List Configuration) (h : History) (P Q : Shelf → List ℕ → Type 0) → Adds old mid → Adds mid new
+    → ((files : Shelf) (bytes : List ℕ) → P files bytes → Q files bytes) → WhereTold texts old mid None left configs h P → WhereTold texts old new missing left configs h Q
+told_map texts old mid new missing None configs h P Q a b f p = tt
+told_map texts old mid new missing (Some bytes) configs h P Q a b f p = λ files tells ahead. f files bytes (p files (tells_before texts old mid new files (current h) missing a b tells) ahead)
 
 -- a reconfiguration that the next line states reads the configuration of the next epoch
 pub ahead_next : (files : Shelf) (configs : List Configuration) (h : History) (l : Line) (ls : List Line) (now : ℕ) (event : Event) → stated l.bytes ≡ Some (now, event) → IsAhead files configs h (l ∷ ls)
     → HasNext files configs h event
 ahead_next files configs h l ls now (Reconfigure name) states a = λ text config is gives. named_next files configs l ls h now name text config states is gives a
 ahead_next files configs h l ls now event states a = tt
+
+pub ahead_stated : (files : Shelf) (configs : List Configuration) (h : History) (l : Line) (ls : List Line) (o : ℕ × Event) → stated l.bytes ≡ Some o → IsAhead files configs h (l ∷ ls) → HasNext files configs h o.1
+ahead_stated files configs h l ls (now, event) states a = ahead_next files configs h l ls now event states a
 
 -- texts
 
@@ -60,26 +64,35 @@ written_lines (e ∷ h) = lines_last (written h) (entry_text e)
 -- the loop
 
 -- what was written so far begins the text of the run
-goes_begins : (v : Machine) (files : Shelf) (left base contents : Option (List ℕ)) (page : List ℕ) (configs : List Configuration) (run : Ran) (number place : ℕ)
-    → (g : GoesOn v files left base contents page configs run number place) → IsPrefix (written g.history) (written run.history)
-goes_begins v files left base contents page configs run number place g =
+goes_begins : (v : Machine) (files : Shelf) (old new : Openings) (left base contents : Option (List ℕ)) (page : List ℕ) (configs : List Configuration) (run : Ran) (e number place : ℕ)
+    → (g : GoesOn v files old new left base contents page configs run e number place) → IsPrefix (written g.history) (written run.history)
+goes_begins v files old new left base contents page configs run e number place g =
     subst (λ (x : Ran). IsPrefix (written g.history) (written x.history)) g.same (run_grows files configs g.history number place (lines g.bytes))
 
 -- before the loop
-pub going_first : (v : Machine) (texts : Texts) (left base contents : Option (List ℕ)) (page : List ℕ) (configs : List Configuration) (h : History) (number place : ℕ) → At v base contents page configs h
-    → Going v texts left left base contents page configs h (λ files bytes. run_lines files configs h number place (lines bytes)) number place
-going_first v texts None base contents page configs h number place at = tt
-going_first v texts (Some bytes) base contents page configs h number place at = λ files shelf ahead.
-    record { history = h; at = at; bytes = bytes; left_is = refl; ahead = ahead; same = refl }
+pub going_first : (v : Machine) (texts : Texts) (opened : Openings) (left base contents : Option (List ℕ)) (page : List ℕ) (configs : List Configuration) (h : History) (number place : ℕ) → At v base contents page configs h
+    → Going v texts opened opened left left base contents page configs h (λ files bytes. run_lines files configs h number place (lines bytes)) number place
+going_first v texts opened None base contents page configs h number place at = tt
+going_first v texts opened (Some bytes) base contents page configs h number place at = λ files tells ahead. record {
+  history = h;
+  at = at;
+  bytes = bytes;
+  left_is = refl;
+  ahead = ahead;
+  count = 0;
+  adds = count_none opened opened refl;
+  epoch_is = omega arith;
+  same = refl;
+}
 
 -- the script was read to its end
-pub going_end : (v : Machine) (texts : Texts) (first left after base contents : Option (List ℕ)) (page line : List ℕ) (configs : List Configuration) (h : History) (run : Shelf → List ℕ → Ran) (number place : ℕ)
-    → Going v texts first left base contents page configs h run number place → Finds place left after line found.End → RunsOver texts first base contents page configs h run ends.Ok
-going_end v texts first left after base contents page line configs h run number place going f =
-    told_map texts first configs h (λ files bytes. GoesOn v files left base contents page configs (run files bytes) number place) (λ files bytes. Reaches base contents page (run files bytes) ends.Ok)
-    (λ files bytes g. by files bytes g) going
+pub going_end : (v : Machine) (texts : Texts) (old new : Openings) (first left after base contents : Option (List ℕ)) (page line : List ℕ) (configs : List Configuration) (h : History) (run : Shelf → List ℕ → Ran) (number place : ℕ)
+    → Adds old new → Going v texts old new first left base contents page configs h run number place → Finds place left after line found.End → RunsOver texts old new first base contents page configs h run ends.Ok
+going_end v texts old new first left after base contents page line configs h run number place adds going f =
+    told_map texts old new new None first configs h (λ files bytes. GoesOn v files old new left base contents page configs (run files bytes) (current h) number place)
+    (λ files bytes. Reaches base contents page (run files bytes) ends.Ok) adds (adds_none new new refl) (λ files bytes g. by files bytes g) going
   where
-    by : (files : Shelf) (bytes : List ℕ) → GoesOn v files left base contents page configs (run files bytes) number place → Reaches base contents page (run files bytes) ends.Ok
+    by : (files : Shelf) (bytes : List ℕ) → GoesOn v files old new left base contents page configs (run files bytes) (current h) number place → Reaches base contents page (run files bytes) ends.Ok
     by files bytes g =
         let none = (subst (λ l. Finds place l after line found.End) g.left_is f).0 in
         let is : record { history = g.history; end = ends.Ok } ≡ run files bytes =
@@ -87,14 +100,14 @@ going_end v texts first left after base contents page line configs h run number 
         subst (λ (x : Ran). Reaches base contents page x ends.Ok) is (refl, g.at.wrote)
 
 -- its next line cannot be read
-pub going_faulty : (v : Machine) (texts : Texts) (first left after base contents : Option (List ℕ)) (page line : List ℕ) (configs : List Configuration) (h : History) (run : Shelf → List ℕ → Ran) (number place : ℕ)
-    → Going v texts first left base contents page configs h run number place → Finds place left after line found.Faulty
-    → RunsOver texts first base contents page configs h run (ends.Script number)
-going_faulty v texts first left after base contents page line configs h run number place going f =
-    told_map texts first configs h (λ files bytes. GoesOn v files left base contents page configs (run files bytes) number place)
-    (λ files bytes. Reaches base contents page (run files bytes) (ends.Script number)) (λ files bytes g. by files bytes g) going
+pub going_faulty : (v : Machine) (texts : Texts) (old new : Openings) (first left after base contents : Option (List ℕ)) (page line : List ℕ) (configs : List Configuration) (h : History) (run : Shelf → List ℕ → Ran) (number place : ℕ)
+    → Adds old new → Going v texts old new first left base contents page configs h run number place → Finds place left after line found.Faulty
+    → RunsOver texts old new first base contents page configs h run (ends.Script number)
+going_faulty v texts old new first left after base contents page line configs h run number place adds going f =
+    told_map texts old new new None first configs h (λ files bytes. GoesOn v files old new left base contents page configs (run files bytes) (current h) number place)
+    (λ files bytes. Reaches base contents page (run files bytes) (ends.Script number)) adds (adds_none new new refl) (λ files bytes g. by files bytes g) going
   where
-    by : (files : Shelf) (bytes : List ℕ) → GoesOn v files left base contents page configs (run files bytes) number place → Reaches base contents page (run files bytes) (ends.Script number)
+    by : (files : Shelf) (bytes : List ℕ) → GoesOn v files old new left base contents page configs (run files bytes) (current h) number place → Reaches base contents page (run files bytes) (ends.Script number)
     by files bytes g =
         let x = subst (λ l. Finds place l after line found.Faulty) g.left_is f in
         let is : record { history = g.history; end = ends.Script number } ≡ run files bytes =
@@ -105,21 +118,22 @@ going_faulty v texts first left after base contents page line configs h run numb
         subst (λ (y : Ran). Reaches base contents page y (ends.Script number)) is (refl, g.at.wrote)
 
 -- memory ran out before the next line
-pub going_lacking : (v : Machine) (texts : Texts) (first left base contents : Option (List ℕ)) (page : List ℕ) (configs : List Configuration) (h : History) (run : Shelf → List ℕ → Ran) (number place : ℕ)
-    → Going v texts first left base contents page configs h run number place → RunsOver texts first base contents page configs h run ends.WantOfMemory
-going_lacking v texts first left base contents page configs h run number place going =
-    told_map texts first configs h (λ files bytes. GoesOn v files left base contents page configs (run files bytes) number place)
-    (λ files bytes. Reaches base contents page (run files bytes) ends.WantOfMemory)
-    (λ files bytes g. record { front = written g.history; begins = goes_begins v files left base contents page configs (run files bytes) number place g; wrote = g.at.wrote }) going
+pub going_lacking : (v : Machine) (texts : Texts) (old new : Openings) (first left base contents : Option (List ℕ)) (page : List ℕ) (configs : List Configuration) (h : History) (run : Shelf → List ℕ → Ran) (number place : ℕ)
+    → Adds old new → Going v texts old new first left base contents page configs h run number place → RunsOver texts old new first base contents page configs h run ends.WantOfMemory
+going_lacking v texts old new first left base contents page configs h run number place adds going =
+    told_map texts old new new None first configs h (λ files bytes. GoesOn v files old new left base contents page configs (run files bytes) (current h) number place)
+    (λ files bytes. Reaches base contents page (run files bytes) ends.WantOfMemory) adds (adds_none new new refl)
+    (λ files bytes g. record { front = written g.history; begins = goes_begins v files old new left base contents page configs (run files bytes) (current h) number place g; wrote = g.at.wrote }) going
 
 -- a fault of reading came before it
-pub going_unread : (v : Machine) (texts : Texts) (first left base contents : Option (List ℕ)) (page : List ℕ) (configs : List Configuration) (h : History) (run : Shelf → List ℕ → Ran) (number place : ℕ)
-    → Going v texts first left base contents page configs h run number place → RunsOver texts first base contents page configs h run ends.ReadFault
-going_unread v texts first left base contents page configs h run number place going =
-    told_map texts first configs h (λ files bytes. GoesOn v files left base contents page configs (run files bytes) number place) (λ files bytes. Reaches base contents page (run files bytes) ends.ReadFault)
+pub going_unread : (v : Machine) (texts : Texts) (old new : Openings) (first left base contents : Option (List ℕ)) (page : List ℕ) (configs : List Configuration) (h : History) (run : Shelf → List ℕ → Ran) (number place : ℕ)
+    → Adds old new → Going v texts old new first left base contents page configs h run number place → RunsOver texts old new first base contents page configs h run ends.ReadFault
+going_unread v texts old new first left base contents page configs h run number place adds going =
+    told_map texts old new new None first configs h (λ files bytes. GoesOn v files old new left base contents page configs (run files bytes) (current h) number place)
+    (λ files bytes. Reaches base contents page (run files bytes) ends.ReadFault) adds (adds_none new new refl)
     (λ files bytes g. record {
       front = written g.history;
-      begins = goes_begins v files left base contents page configs (run files bytes) number place g;
+      begins = goes_begins v files old new left base contents page configs (run files bytes) (current h) number place g;
       lines = written_lines g.history;
       wrote = g.at.wrote;
     }) going
@@ -169,26 +183,36 @@ stated_grows files configs h number line =
     by (Err end) more = IsPrefix_refl (written h)
 
 -- the next line was run
-pub going_next : (v w : Machine) (texts : Texts) (first left after base before contents : Option (List ℕ)) (old_page page line : List ℕ) (configs : List Configuration) (h : History) (run : Shelf → List ℕ → Ran)
-    (number place after_place : ℕ) → Going v texts first left base before old_page configs h run number place → Finds place left after line found.Whole → after_place ≡ place + length line + 1
-    → LineGoes v w texts base before contents old_page page configs number line (Ok tt) → Going w texts first after base contents page configs h run (number + 1) after_place
-going_next v w texts None left after base before contents old_page page line configs h run number place after_place going f moved step = tt
-going_next v w texts (Some whole) left after base before contents old_page page line configs h run number place after_place going f moved step = λ files shelf ahead. by files shelf (going files shelf ahead)
+pub going_next : (v w : Machine) (texts : Texts) (old mid new : Openings) (first left after base before contents : Option (List ℕ)) (old_page page line : List ℕ) (configs : List Configuration) (h : History)
+    (run : Shelf → List ℕ → Ran) (number place after_place : ℕ) → Adds old mid → Going v texts old mid first left base before old_page configs h run number place → Finds place left after line found.Whole
+    → after_place ≡ place + length line + 1 → AddsCount mid new (openings_in (stated line)) → LineGoes v w texts mid new base before contents old_page page configs number line (Ok tt)
+    → Going w texts old new first after base contents page configs h run (number + 1) after_place
+going_next v w texts old mid new None left after base before contents old_page page line configs h run number place after_place adds going f moved counts step = tt
+going_next v w texts old mid new (Some whole) left after base before contents old_page page line configs h run number place after_place adds going f moved counts step =
+    λ files tells ahead. by files tells (going files (tells_before texts old mid new files (current h) None adds (count_adds mid new _ counts) tells) ahead)
   where
-    by : (files : Shelf) → IsShelf texts files → GoesOn v files left base before old_page configs (run files whole) number place
-        → GoesOn w files after base contents page configs (run files whole) (number + 1) after_place
-    by files shelf g =
+    by : (files : Shelf) → Tells texts old new files (current h) None → GoesOn v files old mid left base before old_page configs (run files whole) (current h) number place
+        → GoesOn w files old new after base contents page configs (run files whole) (current h) (number + 1) after_place
+    by files tells g =
         let l : Line = record { bytes = line; ended = true } in
         let x = subst (λ o. Finds place o after line found.Whole) g.left_is f in
         let ahead : IsAhead files configs g.history (l ∷ lines x.rest) = subst (IsAhead files configs g.history) x.first g.ahead in
-        let goes = step g.history files (lines x.rest) g.at shelf ahead in
+        let told : Tells texts mid new files (current g.history) None =
+        subst (λ (e : ℕ). Tells texts mid new files e None) (sym g.epoch_is) (tells_after texts old mid new files (current h) g.count None g.adds (count_adds mid new _ counts) tells) in
+        let goes = step g.history files (lines x.rest) g.at told ahead in
         let made = stated_made files configs g.history number l (stated line) goes.0 refl goes.1 in
+        let more : AddsCount mid new (openings_of made.event) = subst (λ (o : Option (ℕ × Event)). AddsCount mid new (openings_in o)) made.states counts in
+        let was = g.epoch_is in
+        let now = step_epoch files configs g.history made.event goes.0 made.step in
         record {
           history = goes.0;
           at = goes.2;
           bytes = x.rest;
           left_is = x.left;
           ahead = step_ahead files configs l (lines x.rest) g.history made.now made.event goes.0 made.states made.step ahead;
+          count = g.count + openings_of made.event;
+          adds = count_then old mid new g.count (openings_of made.event) g.adds more;
+          epoch_is = omega (arith, was, now);
           same =
               ap (λ p. run_lines files configs goes.0 (number + 1) p (lines x.rest)) moved
               ∙ sym (ap (λ r. run_on g.history r (λ u. run_lines files configs u (number + 1) (place + length line + 1) (lines x.rest))) goes.1)
@@ -196,17 +220,21 @@ going_next v w texts (Some whole) left after base before contents old_page page 
         }
 
 -- it stopped the run
-pub going_stop : (v w : Machine) (texts : Texts) (first left after base before contents : Option (List ℕ)) (old_page page line : List ℕ) (configs : List Configuration) (h : History) (run : Shelf → List ℕ → Ran)
-    (number place : ℕ) (end : RunEnd) → Going v texts first left base before old_page configs h run number place → Finds place left after line found.Whole
-    → LineGoes v w texts base before contents old_page page configs number line (Err end) → RunsOver texts first base contents page configs h run end
-going_stop v w texts None left after base before contents old_page page line configs h run number place end going f step = tt
-going_stop v w texts (Some whole) left after base before contents old_page page line configs h run number place end going f step = λ files shelf ahead. by files shelf (going files shelf ahead)
+pub going_stop : (v w : Machine) (texts : Texts) (old mid new : Openings) (first left after base before contents : Option (List ℕ)) (old_page page line : List ℕ) (configs : List Configuration) (h : History)
+    (run : Shelf → List ℕ → Ran) (number place : ℕ) (end : RunEnd) → Adds old mid → Adds mid new → Going v texts old mid first left base before old_page configs h run number place → Finds place left after line found.Whole
+    → LineGoes v w texts mid new base before contents old_page page configs number line (Err end) → RunsOver texts old new first base contents page configs h run end
+going_stop v w texts old mid new None left after base before contents old_page page line configs h run number place end adds more going f step = tt
+going_stop v w texts old mid new (Some whole) left after base before contents old_page page line configs h run number place end adds more going f step =
+    λ files tells ahead. by files tells (going files (tells_before texts old mid new files (current h) (missed end) adds more tells) ahead)
   where
-    by : (files : Shelf) → IsShelf texts files → GoesOn v files left base before old_page configs (run files whole) number place → Reaches base contents page (run files whole) end
-    by files shelf g =
+    by : (files : Shelf) → Tells texts old new files (current h) (missed end) → GoesOn v files old mid left base before old_page configs (run files whole) (current h) number place
+        → Reaches base contents page (run files whole) end
+    by files tells g =
         let x = subst (λ o. Finds place o after line found.Whole) g.left_is f in
         let ahead : IsAhead files configs g.history (record { bytes = line; ended = true } ∷ lines x.rest) = subst (IsAhead files configs g.history) x.first g.ahead in
+        let told : Tells texts mid new files (current g.history) (missed end) =
+        subst (λ (e : ℕ). Tells texts mid new files e (missed end)) (sym g.epoch_is) (tells_after texts old mid new files (current h) g.count (missed end) g.adds more tells) in
         stop_reaches base contents page g.history (stated_step files configs g.history number (stated line))
         (λ u. run_lines files configs u (number + 1) (place + length line + 1) (lines x.rest)) (run files whole) end (stated_grows files configs g.history number line)
         (λ u. run_grows files configs u (number + 1) (place + length line + 1) (lines x.rest)) (next_run files configs g.history number place (run files whole) g.bytes after line g.same x)
-        (step g.history files (lines x.rest) g.at shelf ahead)
+        (step g.history files (lines x.rest) g.at told ahead)

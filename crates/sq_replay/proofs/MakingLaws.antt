@@ -36,6 +36,7 @@ use Rattle.sq_state.proofs.Lawful.{stands_same}
 use Rattle.sq_state.proofs.PromiseLaws.{answered_same, first_for, grant_answered, leave_answered, next_now, seat_answered}
 use Rattle.sq_replay.specs.declared.ends.RunEnd.TheVariants as ends
 use Rattle.sq_replay.specs.Dues.{after_due}
+use Rattle.sq_replay.specs.Making.{is_refused}
 use Rattle.sq_replay.specs.RunText.{acts, answered, asked_next, first_history}
 use Rattle.sq_replay.specs.Runs.{At, Is, IsMade, IsRider, Machine, Reached, Rider, Rides, Wrote}
 use Rattle.sq_replay.proofs.ActLaws.{acts_none, acts_some, due_answered}
@@ -74,11 +75,6 @@ pub made_asks : (v w : Machine) (configs : List Configuration) (h : History) (nu
 made_asks v w configs h number now event answer is m =
     ap (λ (n : ℕ). answered configs h number (max now n) event (full_next configs (marked configs h) (max now n) event)) (sym is.latest_is)
     ∙ ap (answered configs h number (max now v.latest) event) m.next_is
-
-abbrev pub is_refused : Next → Bool
-is_refused (gives answer) = false
-is_refused (refuses r) = true
-is_refused nothing = true
 
 refused_ends : (configs : List Configuration) (h : History) (number moment : ℕ) (event : Event) (n : Next) → is_refused n ≡ true → answered configs h number moment event n ≡ Err (ends.Script number)
 refused_ends configs h number moment event (gives answer) e = absurd (cc)
@@ -269,6 +265,19 @@ seated_made v configs h moment c pool r q is basin late rides has few chosen =
         riders_are = riders_kept v configs h moment (Seat c) (told.Seat (suc v.pools.given) pool) is refl;
       };
     }
+
+is_last : (n : ℕ) → suc n ≡ last_number → nat_le last_number (suc n) ≡ true
+is_last n e = grind (arith, nat_tests)
+
+-- where no number is left, none is seated
+pub seat_spent : (v : Machine) (configs : List Configuration) (h : History) (moment c pool : ℕ) (r : Rider) → Is v configs h → v.latest ≤ moment → v.riders c ≡ Some r → r.pool ≡ Some pool
+    → suc v.pools.given ≡ last_number → is_refused (full_next configs (marked configs h) moment (Seat c)) ≡ true
+seat_spent v configs h moment c pool r is late rides has spent =
+    let late : latest h ≤ moment = subst (λ (n : ℕ). n ≤ moment) is.latest_is late in
+    let x = ridden configs h c (allowed_of h c) (v.riders c) r refl rides (is.riders_are c) in
+    ap is_refused (next_now configs h moment (Seat c) late ∙ seat_asks configs h moment c r x ∙ ap (seat_next (seat_count configs h)) has)
+    ∙ ap (λ (n : ℕ). is_refused (refuse_if (nat_le last_number (suc n)) (refusal.Spent (suc n)) (gives (told.Seat (suc n) pool)))) (sym is.pools.given_is)
+    ∙ ap (λ (b : Bool). is_refused (refuse_if b (refusal.Spent (suc v.pools.given)) (gives (told.Seat (suc v.pools.given) pool)))) (is_last v.pools.given spent)
 
 -- a connection without such a record has no seat to give
 pub unridden : (v : Machine) (configs : List Configuration) (h : History) (moment c : ℕ) → Is v configs h → v.latest ≤ moment → v.riders c ≡ None

@@ -1,5 +1,5 @@
 -- What is read of a text is a configuration.
-use Rattle.std.proofs.Common.{◌≡◌, ℕ, ◌≤◌, suc, List, [], ◌∷◌, length, Bool, true, false, ◌&&◌, nat_le, nat_lt, if◌then◌else◌, Some, None, Ok, Err, Result, refl, sym, ap, subst, ◌∙◌, arith}
+use Rattle.std.proofs.Common.{◌≡◌, ℕ, ◌<◌, ◌≤◌, suc, List, [], ◌∷◌, length, Bool, true, false, ◌&&◌, nat_le, nat_lt, if◌then◌else◌, Some, None, Ok, Err, Result, refl, sym, ap, subst, ◌∙◌, arith}
 use Rattle.std.specs.declared.option.Option.{Option}
 use Rattle.std.proofs.lemmas.Bool.{and_parts}
 use Rattle.std.proofs.lemmas.Bool.Decides.{nat_tests}
@@ -78,6 +78,14 @@ read_is text config gives is = ap checked gives ∙ ap (λ (b : Bool). if b then
 -- a text that is refused is not
 pub read_refused : (text : List ℕ) (line : ℕ) (k : Kind) → conf_refuses text line k → read_result text ≡ Err (record { line = line; kind = k })
 read_refused text line k refused = ap checked refused
+
+-- a text past its limit is
+pub too_long : (bytes : List ℕ) → text_limit < length bytes → conf_result bytes ≡ Err (record { line = 0; kind = kind.TooMany })
+unfolding conf_result
+too_long bytes l = let long : nat_lt text_limit (length bytes) ≡ true = grind (arith, nat_tests) in rw long refl
+
+pub read_long : (bytes : List ℕ) → text_limit < length bytes → read_result bytes ≡ Err (record { line = 0; kind = kind.TooMany })
+read_long bytes l = read_refused bytes 0 kind.TooMany (too_long bytes l)
 
 -- what was read: the text gives it, and it is a configuration
 pub record IsRead (text : List ℕ) (config : Configuration) : Type 0 where

@@ -1,5 +1,5 @@
 -- The configuration of each epoch of a run is that of the text by which the epoch began.
-use Rattle.std.proofs.Common.{◌≡◌, ◌⊎◌, inl, inr, ℕ, ℤ, suc, ◌+◌, ◌≤◌, List, [], ◌∷◌, ◌++◌, append_assoc, length, length-append, Bool, true, false, Some, slice_get, refl, sym, ap, ap₂, subst, ◌∙◌, arith, Ok}
+use Rattle.std.proofs.Common.{◌≡◌, ◌⊎◌, inl, inr, ℕ, ℤ, suc, ◌+◌, ◌≤◌, List, [], ◌∷◌, ◌++◌, append_assoc, length, length-append, Bool, true, false, if◌then◌else◌, Some, slice_get, refl, sym, ap, ap₂, subst, ◌∙◌, arith, Ok}
 use Rattle.std.specs.declared.option.Option.{Option}
 use Rattle.sq_outside.specs.SourceLines.{Line}
 use Rattle.sq_rules.specs.declared.entries.Event.{Event}
@@ -153,6 +153,24 @@ either files e Act entered is = inl is
 either files e (Seat c) entered is = inl is
 either files e (Grant x w) entered is = inl is
 either files e (Leave x) entered is = inl is
+
+-- an epoch begins with each reconfiguration, and with no other event
+pub step_epoch : (files : Shelf) (configs : List Configuration) (h : History) (event : Event) (t : History) → IsStep files configs h (current h) event t
+    → current t ≡ current h + (if begins_epoch event then 1 else 0)
+step_epoch files configs h event t s = by (either files (current h) event s.entered s.entered_is)
+  where
+    more : (b : Bool) → epoch_after b (current h) ≡ current h + (if b then 1 else 0)
+    more true = omega arith
+    more false = omega arith
+
+    after : (b : Bool) → begins_epoch s.entered ≡ b → begins_epoch event ≡ b → current t ≡ current h + (if begins_epoch event then 1 else 0)
+    after b entered is =
+        step_current files configs h (current h) event t s ∙ ap (λ (c : Bool). epoch_after c (current h)) entered ∙ more b
+        ∙ sym (ap (λ (c : Bool). current h + (if c then 1 else 0)) is)
+
+    by : IsEither files (current h) event s.entered → current t ≡ current h + (if begins_epoch event then 1 else 0)
+    by (inl plain) = after false (ap begins_epoch plain.0 ∙ plain.1) plain.1
+    by (inr n) = after true (ap begins_epoch n.entered_is) (ap begins_epoch n.event_is)
 
 -- a step leaves the rest of the lines ahead
 pub step_ahead : (files : Shelf) (configs : List Configuration) (l : Line) (ls : List Line) (h : History) (now : ℕ) (event : Event) (t : History) → stated l.bytes ≡ Some (now, event)

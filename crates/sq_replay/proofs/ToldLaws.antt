@@ -28,7 +28,7 @@ use Rattle.sq_state.proofs.ConnStands.{ask_next, close_next, open_next, take_nex
 use Rattle.sq_state.proofs.PromiseLaws.{law_of, next_now}
 use Rattle.sq_state.proofs.ReconfigureStands.{reconfigure_next}
 use Rattle.sq_state.proofs.StartStands.{failed_next, started_next}
-use Rattle.sq_replay.proofs.MakingLaws.{is_refused}
+use Rattle.sq_replay.specs.Making.{is_refused}
 
 -- of connections and checks
 
@@ -69,7 +69,7 @@ config_there configs m s e config st is = by (is_live (entries m) e) (sym (st.co
     by false e = absurd (none-some config e)
 
 -- so is a class
-class_there : (configs : List Configuration) (m : Past) (s : State) (e c : ℕ) (class : Class) → Stands configs m s → class_in s e c ≡ Some class → class_at configs e c ≡ Some class
+pub class_there : (configs : List Configuration) (m : Past) (s : State) (e c : ℕ) (class : Class) → Stands configs m s → class_in s e c ≡ Some class → class_at configs e c ≡ Some class
 class_there configs m s e c class st is =
     let k = then_some (λ (config : Configuration). slice_get config.classes c) (s.config e) class is in
     ap (option_and_then (λ (config : Configuration). slice_get config.classes c)) (config_there configs m s e k.0 st k.1) ∙ k.2

@@ -2,7 +2,12 @@
 pub mod ConfReading
 pub mod Dues
 pub mod Ends
+pub mod Entering
 pub mod Headline
+pub mod MachineViews
+pub mod Making
+pub mod Naming
+pub mod Riding
 pub mod RunText
 pub mod Runs
 pub mod Steps

@@ -1,18 +1,19 @@
 -- A run under way: the machine with its pools, what was written, and what the script has left.
-use Rattle.std.specs.Prelude.{◌≡◌, ◌⊎◌, ℕ, ℤ, ◌≤◌, suc, List, [], ◌∷◌, ◌++◌, true, Result, Ok, Err, Some, None, IfSome}
+use Rattle.std.specs.Prelude.{◌≡◌, ◌⊎◌, ℕ, ◌+◌, ℤ, ◌≤◌, suc, List, [], ◌∷◌, ◌++◌, length, Bool, if◌then◌else◌, true, Result, Ok, Err, Some, None, IfSome}
 use Rattle.std.specs.Io.KnownBytes.{Appends}
 use Rattle.std.specs.declared.option.Option.{Option}
 use Rattle.sq_base.specs.Addresses.{Address}
 use Rattle.sq_outside.specs.Causes.{Rose}
 use Rattle.sq_outside.specs.Output.{Grew, IsPrefix, IsProperPrefix}
 use Rattle.sq_outside.specs.SourceLines.{Line, lines}
-use Rattle.sq_outside.specs.Told.{Texts}
+use Rattle.sq_outside.specs.Told.{Opening, Openings, Texts}
 use Rattle.sq_rules.specs.declared.entries.Event.{Event}
 use Rattle.sq_rules.specs.declared.entries.Event.TheVariants.{Reconfigure}
 use Rattle.sq_rules.specs.declared.entries.Told.{Told}
 use Rattle.sq_rules.specs.Checks.{Asked}
 use Rattle.sq_rules.specs.Configurations.{Configuration}
 use Rattle.sq_rules.specs.Entries.{History}
+use Rattle.sq_rules.specs.Events.{begins_epoch}
 use Rattle.sq_rules.specs.FullNext.{full_next}
 use Rattle.sq_rules.specs.Machine.{config_of, gives}
 use Rattle.sq_rules.specs.Marking.{marked}
@@ -29,7 +30,7 @@ use Rattle.sq_replay.specs.declared.ends.RunEnd.TheVariants as ends
 use Rattle.sq_replay.specs.ConfReading.{read_result}
 use Rattle.sq_replay.specs.Ends.{End, Done, Refused, Faulted, Reading, Writing, Lacking, end_of}
 use Rattle.sq_replay.specs.Headline.{IsAhead}
-use Rattle.sq_replay.specs.RunText.{Ran, Shelf, acts, begun_history, run_lines, run_script, stated, stated_step}
+use Rattle.sq_replay.specs.RunText.{Ran, Shelf, acts, begun_history, configs_of, run_lines, run_script, stated, stated_step}
 
 -- what was written
 
@@ -44,6 +45,12 @@ pub record WroteFront (base contents : Option (List ℕ)) (page text : List ℕ)
   pub front : List ℕ
   pub begins : IsPrefix front text
   pub wrote : Wrote base contents page front
+
+-- the page holds a front of this text more
+pub record HoldsFront (old new text : List ℕ) : Type 0 where
+  pub front : List ℕ
+  pub begins : IsPrefix front text
+  pub page_is : new ≡ old ++ front
 
 -- a text of whole lines, each with its LF
 abbrev pub EndsLine : List ℕ → Type 0
@@ -123,6 +130,54 @@ abbrev pub IsShelf : Texts → Shelf → Type 0
 IsShelf None files = ⊥
 IsShelf (Some disk) files = (e : ℕ) (name : List ℕ) → files e name ≡ disk name
 
+-- these openings, the newest first, gave what stands on the shelf, one in each epoch from this one on
+abbrev pub StandOn : Shelf → ℕ → List Opening → Type 0
+StandOn files e [] = Unit {0}
+StandOn files e (o ∷ more) = (files (e + length more) o.name ≡ Some o.text) × StandOn files e more
+
+-- the file that a run misses
+abbrev pub missed : RunEnd → Option (List ℕ)
+missed (ends.Missing name) = Some name
+missed end = None
+
+abbrev pub missed_by : {A : Type 0} → Result A RunEnd → Option (List ℕ)
+missed_by (Ok done) = None
+missed_by (Err end) = missed end
+
+-- a file that is missed does not stand on the shelf
+abbrev pub Lacks : Shelf → ℕ → Option (List ℕ) → Type 0
+Lacks files e None = Unit {0}
+Lacks files e (Some name) = files e name ≡ None
+
+-- the openings that were added gave what stands on the shelf from this epoch on, and a file that was missed then does not stand there
+pub record Opened (old new : Openings) (files : Shelf) (e : ℕ) (missing : Option (List ℕ)) : Type 0 where
+  pub earlier : List Opening
+  pub more : List Opening
+  pub old_is : old ≡ Some earlier
+  pub new_is : new ≡ Some (more ++ earlier)
+  pub stand : StandOn files e more
+  pub lacks : Lacks files (e + length more) missing
+
+-- the files tell what stands on the shelf: by the text of each name, or by their openings since this epoch
+abbrev pub Tells : Texts → Openings → Openings → Shelf → ℕ → Option (List ℕ) → Type 0
+Tells texts old new files e missing = IsShelf texts files ⊎ Opened old new files e missing
+
+-- where openings are told, some were added
+abbrev pub Adds : Openings → Openings → Type 0
+Adds old new = IfSome old (λ earlier. (more : List Opening) × (new ≡ Some (more ++ earlier)))
+
+-- so many of them
+abbrev pub AddsCount : Openings → Openings → ℕ → Type 0
+AddsCount old new n = IfSome old (λ earlier. (more : List Opening) × (new ≡ Some (more ++ earlier)) × (length more ≡ n))
+
+-- the openings that an event of a line takes
+abbrev pub openings_of : Event → ℕ
+openings_of event = if begins_epoch event then 1 else 0
+
+abbrev pub openings_in : Option (ℕ × Event) → ℕ
+openings_in None = 0
+openings_in (Some (now, event)) = openings_of event
+
 -- the configuration that a reconfiguration would read is that of the next epoch
 abbrev pub HasNext : Shelf → List Configuration → History → Event → Type 0
 HasNext files configs h (Reconfigure name) =
@@ -154,10 +209,10 @@ Goes v base contents page configs h step (Err end) = Stops base contents page h 
 
 -- a line of a script was run, where the files tell: over every history that the machine stood for, and configurations that go on as the line
 -- and those behind it say
-abbrev pub LineGoes : Machine → Machine → Texts → Option (List ℕ) → Option (List ℕ) → Option (List ℕ) → List ℕ → List ℕ → List Configuration → ℕ → List ℕ → Result (Unit {0}) RunEnd → Type 0
-LineGoes v w texts base before contents old_page page configs number line result =
-    (h : History) (files : Shelf) (ls : List Line) → At v base before old_page configs h → IsShelf texts files → IsAhead files configs h (record { bytes = line; ended = true } ∷ ls)
-    → Goes w base contents page configs h (stated_step files configs h number (stated line)) result
+abbrev pub LineGoes : Machine → Machine → Texts → Openings → Openings → Option (List ℕ) → Option (List ℕ) → Option (List ℕ) → List ℕ → List ℕ → List Configuration → ℕ → List ℕ → Result (Unit {0}) RunEnd → Type 0
+LineGoes v w texts old new base before contents old_page page configs number line result =
+    (h : History) (files : Shelf) (ls : List Line) → At v base before old_page configs h → Tells texts old new files (current h) (missed_by result)
+    → IsAhead files configs h (record { bytes = line; ended = true } ∷ ls) → Goes w base contents page configs h (stated_step files configs h number (stated line)) result
 
 -- the run
 
@@ -173,26 +228,32 @@ abbrev pub Reaches : Option (List ℕ) → Option (List ℕ) → List ℕ → Ra
 Reaches base contents page ran end = ReachesAs (end_of end) base contents page ran end
 
 -- where script and files tell, something holds over what stands on the shelf, and configurations that go on as the script's lines say
-abbrev pub WhereTold : Texts → Option (List ℕ) → List Configuration → History → (Shelf → List ℕ → Type 0) → Type 0
-WhereTold texts left configs h P = IfSome left (λ bytes. (files : Shelf) → IsShelf texts files → IsAhead files configs h (lines bytes) → P files bytes)
+abbrev pub WhereTold : Texts → Openings → Openings → Option (List ℕ) → Option (List ℕ) → List Configuration → History → (Shelf → List ℕ → Type 0) → Type 0
+WhereTold texts old new missing left configs h P =
+    IfSome left (λ bytes. (files : Shelf) → Tells texts old new files (current h) missing → IsAhead files configs h (lines bytes) → P files bytes)
 
 -- the run of what is left
-abbrev pub RunsOver : Texts → Option (List ℕ) → Option (List ℕ) → Option (List ℕ) → List ℕ → List Configuration → History → (Shelf → List ℕ → Ran) → RunEnd → Type 0
-RunsOver texts left base contents page configs h run end = WhereTold texts left configs h (λ files bytes. Reaches base contents page (run files bytes) end)
+abbrev pub RunsOver : Texts → Openings → Openings → Option (List ℕ) → Option (List ℕ) → Option (List ℕ) → List ℕ → List Configuration → History → (Shelf → List ℕ → Ran) → RunEnd → Type 0
+RunsOver texts old new left base contents page configs h run end =
+    WhereTold texts old new (missed end) left configs h (λ files bytes. Reaches base contents page (run files bytes) end)
 
--- the state that a run has come to: what the script has left runs, from this number and place on, to the whole
-pub record GoesOn (v : Machine) (files : Shelf) (left base contents : Option (List ℕ)) (page : List ℕ) (configs : List Configuration) (run : Ran) (number place : ℕ) : Type 0 where
+-- the state that a run has come to: what the script has left runs, from this number and place on, to the whole; and each epoch since e took
+-- an opening
+pub record GoesOn (v : Machine) (files : Shelf) (old new : Openings) (left base contents : Option (List ℕ)) (page : List ℕ) (configs : List Configuration) (run : Ran) (e number place : ℕ) : Type 0 where
   pub history : History
   pub at : At v base contents page configs history
   pub bytes : List ℕ
   pub left_is : left ≡ Some bytes
   pub ahead : IsAhead files configs history (lines bytes)
+  pub count : ℕ
+  pub adds : AddsCount old new count
+  pub epoch_is : current history ≡ e + count
   pub same : run_lines files configs history number place (lines bytes) ≡ run
 
--- so it is in a loop over lines, where h and `first` are what there was before it
-abbrev pub Going : Machine → Texts → Option (List ℕ) → Option (List ℕ) → Option (List ℕ) → Option (List ℕ) → List ℕ → List Configuration → History → (Shelf → List ℕ → Ran) → ℕ → ℕ → Type 0
-Going v texts first left base contents page configs h run number place =
-    WhereTold texts first configs h (λ files bytes. GoesOn v files left base contents page configs (run files bytes) number place)
+-- so it is in a loop over lines, where h, `old` and `first` are what there was before it
+abbrev pub Going : Machine → Texts → Openings → Openings → Option (List ℕ) → Option (List ℕ) → Option (List ℕ) → Option (List ℕ) → List ℕ → List Configuration → History → (Shelf → List ℕ → Ran) → ℕ → ℕ → Type 0
+Going v texts old new first left base contents page configs h run number place =
+    WhereTold texts old new None first configs h (λ files bytes. GoesOn v files old new left base contents page configs (run files bytes) (current h) number place)
 
 -- the beginning
 
@@ -203,21 +264,40 @@ BeginsAs (Faulted Reading) base contents page text = ⊥
 BeginsAs (Faulted Writing) base contents page text = WrotePart base contents text
 BeginsAs (Faulted Lacking) base contents page text = WroteFront base contents page text
 
--- the machine has begun, and the acts were made that are due then; or a fault came first
-abbrev pub Begins : Option (List ℕ) → Option (List ℕ) → List ℕ → List Configuration → ℕ → ℤ → Result Machine RunEnd → Type 0
-Begins base contents page configs now offset (Ok v) = At v base contents page configs (begun_history configs now offset)
-Begins base contents page configs now offset (Err end) = BeginsAs (end_of end) base contents page (written (begun_history configs now offset))
+-- a line with its LF
+abbrev pub whole_line : List ℕ → Line
+whole_line bytes = record { bytes = bytes; ended = true }
+
+-- the run of what is left behind the first line, over the configurations that this line and the others name
+abbrev pub FirstRuns : Texts → Openings → Openings → Option (List ℕ) → Option (List ℕ) → Option (List ℕ) → List ℕ → Configuration → Line → (Shelf → List Configuration → List ℕ → Ran) → RunEnd → Type 0
+FirstRuns texts old new left base contents page config l run end =
+    IfSome left (λ bytes. (files : Shelf) → Tells texts old new files 1 (missed end)
+    → Reaches base contents page (run files (configs_of files config (l ∷ lines bytes)) bytes) end)
 
 -- the run of a script from its first line on, where script and files tell
-abbrev pub ScriptRuns : Texts → Option (List ℕ) → Option (List ℕ) → Option (List ℕ) → List ℕ → Configuration → RunEnd → Type 0
-ScriptRuns texts left base contents page config end =
-    IfSome left (λ bytes. (files : Shelf) → IsShelf texts files → Reaches base contents page (run_script files config (lines bytes)) end)
+abbrev pub ScriptRuns : Texts → Openings → Openings → Option (List ℕ) → Option (List ℕ) → Option (List ℕ) → List ℕ → Configuration → RunEnd → Type 0
+ScriptRuns texts old new left base contents page config end =
+    IfSome left (λ bytes. (files : Shelf) → Tells texts old new files 1 (missed end) → Reaches base contents page (run_script files config (lines bytes)) end)
 
 -- the counts of the script, of the files and of the sink never fall; one of the first two rose where a read fault came, and the third where
--- a write fault did
+-- a write fault did; and each stays where no such fault came
 pub record RunHasCauses (script_before script_now files_before files_now out_before out_now : ℕ) (end : RunEnd) : Type 0 where
   pub script_later : script_before ≤ script_now
   pub files_later : files_before ≤ files_now
   pub out_later : out_before ≤ out_now
   pub read : end ≡ ends.ReadFault → Rose script_before script_now ⊎ Rose files_before files_now
   pub write : end ≡ ends.WriteFault → Rose out_before out_now
+  pub script_quiet : (end ≡ ends.ReadFault → ⊥) → script_now ≡ script_before
+  pub files_quiet : (end ≡ ends.ReadFault → ⊥) → files_now ≡ files_before
+  pub out_quiet : (end ≡ ends.WriteFault → ⊥) → out_now ≡ out_before
+
+-- a run of a script ends by these alone
+abbrev pub IsRunEnd : RunEnd → Type 0
+IsRunEnd (ends.Differs line) = ⊥
+IsRunEnd end = Unit {0}
+
+-- a step ends a run by these alone
+abbrev pub IsStepEnd : RunEnd → Type 0
+IsStepEnd ends.Ok = ⊥
+IsStepEnd (ends.Differs line) = ⊥
+IsStepEnd end = Unit {0}

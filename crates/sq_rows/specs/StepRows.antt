@@ -38,6 +38,12 @@ stepped_of c (told.Waits q) = stepped.Waits q
 stepped_of c told.Done = stepped.Done
 stepped_of c answer = stepped.Took c
 
+-- the question that a step said to wait for
+abbrev pub question_told : Stepped → Option ℕ
+question_told (stepped.Took c) = None
+question_told (stepped.Waits q) = Some q
+question_told stepped.Done = None
+
 -- what a step says, as the engine's parts hand it up
 abbrev pub said_of : ℕ → StepSays → Said
 said_of c s = record { stepped = stepped_of c s.answer; took = s.took; put = is_some s.put }

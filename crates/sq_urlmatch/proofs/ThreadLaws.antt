@@ -3,7 +3,7 @@ use denote.Param.Send.{IsSend, IsSync, sendable, view_send, view_sync}
 use denote.Param.SendFields.{FieldsHave, declared_send, declared_sync}
 use Rattle.std.proofs.Crossing.{crosses, Vec-send, Vec-sync}
 use Rattle.sq_rules.proofs.ThreadLaws.{config_send, config_sync}
-use Rattle.sq_index.proofs.ThreadLaws.{addr_set_send, addr_set_sync, domain_set_send, domain_set_sync}
+use Rattle.sq_index.proofs.ThreadLaws.{addr_set_send, addr_set_sync, domain_set_send, domain_set_sync, spans_send, spans_sync}
 use Rattle.regex_hir.specs.contracts.hir.Hir as hir
 use Rattle.regex_hir.proofs.hir.Hir.TheLaws.TheKnot as knot
 use Rattle.regex_dfa.specs.contracts.dfa.Dfa as dfa
@@ -115,7 +115,7 @@ patterns_send = view_send _ _ _ _ _ patterns_inside_send
 
 value_sets_send : IsSend value_sets.the_row
 value_sets_send =
-    let parts : FieldsHave IsSend (value_sets.the_type).parts = (search (sendable, addr_set_send), (search (sendable, domain_set_send), tt)) in
+    let parts : FieldsHave IsSend (value_sets.the_type).parts = (search (sendable, addr_set_send), (search (sendable, domain_set_send), (search (sendable, spans_send), tt))) in
     declared_send value_sets.the_type parts
 
 setup_inside_send : IsSend setup_inside.the_row
@@ -152,7 +152,7 @@ patterns_sync = view_sync _ _ _ _ _ patterns_inside_sync
 
 value_sets_sync : IsSync value_sets.the_row
 value_sets_sync =
-    let parts : FieldsHave IsSync (value_sets.the_type).parts = (search (sendable, addr_set_sync), (search (sendable, domain_set_sync), tt)) in
+    let parts : FieldsHave IsSync (value_sets.the_type).parts = (search (sendable, addr_set_sync), (search (sendable, domain_set_sync), (search (sendable, spans_sync), tt))) in
     declared_sync value_sets.the_type parts
 
 setup_inside_sync : IsSync setup_inside.the_row

@@ -4,7 +4,7 @@ ghost use Rattle.std.specs.Arc.{arc_value};
 ghost use Rattle.sq_index.specs.Members.{in_some_domain, in_some_range};
 ghost use Rattle.sq_rules.specs.Patterns.{some_found};
 ghost use Rattle.sq_urlmatch.specs.Found.{fault_from, finds_at};
-ghost use Rattle.sq_urlmatch.specs.Values.{domains_at, ranges_at};
+ghost use Rattle.sq_urlmatch.specs.Values.{domains_at, in_some_ports, ports_at, ranges_at};
 
 use crate::patterns::Patterns;
 use crate::sets::{ValueSets, sets_of_each};
@@ -49,7 +49,7 @@ pub struct Setup {
 impl Model for Setup {
     ghost use Rattle.std.specs.Arc.{arc_value};
     ghost use Rattle.sq_rules.specs.Configurations.{Configuration};
-    ghost use Rattle.sq_urlmatch.specs.Values.{IsSetUp};
+    ghost use Rattle.sq_urlmatch.specs.Values.{in_some_ports, ports_at, IsSetUp};
 
     ghost Value = { Configuration };
 
@@ -118,6 +118,16 @@ impl Setup {
         match self.sets.get(acl as usize) {
             None => false,
             Some(sets) => sets.domains.has(host),
+        }
+    }
+    /// Whether some range of the acl at a place holds the port; only `port` has ranges of ports. It takes no
+    /// memory.
+    pub fn has_port(&self, acl: u32, port: u16) -> bool
+        ensures { result ≡ in_some_ports (ports_at self.now.acls acl) port }
+    {
+        match self.sets.get(acl as usize) {
+            None => false,
+            Some(sets) => sets.ports.has(port as u128),
         }
     }
 }

@@ -3,16 +3,7 @@ ghost use Rattle.std.specs.Prelude.{◌≡◌};
 ghost use Rattle.sq_rules.specs.Leaves.{holds};
 ghost use Rattle.sq_rules.specs.Times.{has_day, in_hour};
 
-use crate::ranges::some_range;
-use sq_base::Ranges;
 use sq_rules::{DAY_MINUTES, Hour, Hours, Leaf, Numbers, Sight};
-
-/// `src`: the client's address lies in some range.
-pub fn src_has(values: &Ranges, sight: &Sight) -> bool
-    ensures { result ≡ holds (Leaf.Src values.now) sight.now }
-{
-    some_range(values.as_slice(), sight.addr)
-}
 
 /// `maxconn`: the client's address has more connections open than some value.
 pub fn maxconn_has(values: &Numbers, sight: &Sight) -> bool

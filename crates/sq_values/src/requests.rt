@@ -1,42 +1,11 @@
-//! Leaf acls that read the request's method and the parts of its target.
+//! Leaf acls that read the request's method and the scheme of its target.
 ghost use Rattle.std.specs.Prelude.{◌≡◌};
 ghost use Rattle.std.specs.List.{list_any};
 ghost use Rattle.std.specs.Str.{str_eq_ignore_ascii_case};
-ghost use Rattle.sq_rules.specs.Leaves.{has_scheme, holds, in_ranges};
+ghost use Rattle.sq_rules.specs.Leaves.{has_scheme, holds};
 
-use crate::ranges::some_range;
-use sq_base::{Addr, Range, Ranges, Text, Texts};
-use sq_rules::{Leaf, PortRanges, Sight};
-
-/// `dst`: the address that the request's host spells lies in some range. A host that spells none lies
-/// in none.
-pub fn dst_has(values: &Ranges, sight: &Sight) -> bool
-    ensures { result ≡ holds (Leaf.Dst values.now) sight.now }
-{
-    let literal = sight.request.literal;
-    in_ranges(values.as_slice(), literal)
-}
-
-// Whether there is an address, and it lies in some range.
-fn in_ranges(ranges: &[Range], literal: Option<Addr>) -> bool
-    ensures { result ≡ in_ranges ranges.now literal }
-{
-    match literal {
-        None => false,
-        Some(addr) => some_range(ranges, addr),
-    }
-}
-
-/// `port`: the destination port lies in some range.
-pub fn port_has(values: &PortRanges, sight: &Sight) -> bool
-    ensures { result ≡ holds (Leaf.Port values.now) sight.now }
-{
-    let port = sight.request.port;
-    values
-        .as_slice()
-        .iter()
-        .any(|range| range.first <= port && port <= range.last)
-}
+use sq_base::{Text, Texts};
+use sq_rules::{Leaf, Sight};
 
 /// `method`: the method is some value, with case.
 pub fn method_has(values: &Texts, sight: &Sight) -> bool

@@ -1,9 +1,9 @@
 //! Leaf acls whose values no line of squid.conf states.
 use sq_addr::read_addr;
-use sq_base::{Fields, Ranges, Text, Texts};
+use sq_base::{Fields, Text, Texts};
 use sq_request::make_request;
 use sq_rules::{Hour, Hours, Numbers, Sight};
-use sq_values::{maxconn_has, proto_has, src_has, time_has};
+use sq_values::{maxconn_has, proto_has, time_has};
 use std::test::Fail;
 
 #[test]
@@ -16,7 +16,6 @@ fn lists_of_no_values_hold_of_nothing(rt: HostRuntime) -> Result<(), Fail> {
         minute: 4320,
         conns: 9,
     };
-    assert!(rt; !src_has(&Ranges::new(alloc), &sight));
     assert!(rt; !maxconn_has(&Numbers::new(alloc), &sight));
     let mut no_days = Hours::new(alloc);
     no_days.push(Hour {

@@ -6,7 +6,7 @@ use sq_outside::{
     COUNT_LIMIT, Calls, Failed, Files, MemFiles, MemSink, MemSource, NoOpen, RealFiles, RealSink,
     RealSource, Sink, Source, read_file, read_whole, write_all, write_line,
 };
-use sq_proxy::{Part, Status};
+use sq_proxy::Status;
 use sq_rules::Kind;
 use std::io::{self, ErrorKind, Read, Write};
 use std::test::Fail;
@@ -145,8 +145,6 @@ fn each_status_has_its_code(rt: HostRuntime) -> Result<(), Fail> {
         (Status::WriteFault, 5),
         (Status::Missing(name), 7),
         (Status::WantOfMemory, 10),
-        (Status::Unbuilt(Part::Conf), 11),
-        (Status::Unbuilt(Part::Script), 11),
     ] {
         assert!(rt; status.code() == code);
     }

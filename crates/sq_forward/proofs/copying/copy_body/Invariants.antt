@@ -14,6 +14,7 @@ invariant-loop g l =
           (g.O.Sink.contents l.fn.to) (g.O.Sink.contents l.to) (g.M.Meter.granted l.fn.meter) (g.M.Meter.granted l.meter);
       dry : g.M.Meter.dry l.meter ≡ 0;
       seated : g.M.Meter.seated l.meter ≡ g.M.Meter.seated l.fn.meter;
+      besides : g.M.Meter.besides l.meter ≡ g.M.Meter.besides l.fn.meter;
       source_later : g.S.Source.faults l.fn.from.source ≤ g.S.Source.faults l.from.source;
       sink_later : g.O.Sink.faults l.fn.to ≤ g.O.Sink.faults l.to;
       origin : g.S.Source.origin l.from.source ≡ g.S.Source.origin l.fn.from.source;

@@ -1,11 +1,11 @@
-use Rattle.std.proofs.Common.{sym, ap, ◌∙◌, arith}
+use Rattle.std.proofs.Common.{sym, ap, ◌∙◌, arith, length}
 use Rattle.sq_request.specs.Endings.{head_end}
 use Rattle.sq_forward.proofs.FindLaws.{large_by_end, large_by_room}
 use Rattle.sq_forward.proofs.heads.find_head.Goals as goal
 
 pub returns-then-len-gt-MOST_BYTES-clause-found : goal.returns-then-len-gt-MOST_BYTES-clause-found
 returns-then-len-gt-MOST_BYTES-clause-found g c =
-    large_by_end c.loop.from.ahead (g.S.Source.left c.loop.from.source) c.in-Some-head_end.len (ap head_end (sym c.as_bytes.ensures.value) ∙ sym c.in-Some-head_end.ensures.place) (omega (arith, c.if-len-gt-MOST_BYTES.true))
+    large_by_end c.loop.from.ahead (g.S.Source.left c.loop.from.source) c.in-Some-head_end.len (ap head_end (sym c.as_bytes.ensures.value) ∙ sym c.in-Some-head_end.ensures.place) (omega (arith, c.in-Some-head_end.ensures.inside, ap length c.as_bytes.ensures.value)) (omega (arith, c.if-len-gt-MOST_BYTES.true))
 
 pub returns-then-len-ge-MOST_BYTES-clause-found : goal.returns-then-len-ge-MOST_BYTES-clause-found
 returns-then-len-ge-MOST_BYTES-clause-found g c =

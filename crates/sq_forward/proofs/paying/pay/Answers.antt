@@ -25,6 +25,7 @@ loop-at-preserved g c =
       few = omega arith;
       rested = λ _. refl;
       seated = c.grant-count.ensures.seated ∙ inv.seated;
+      besides = c.grant-count.ensures.besides ∙ inv.besides;
       granted =
           c.grant-count.ensures.granted ∙ ap (λ s. granted_after s (g.M.Meter.granted c.loop-at.meter) n) inv.seated ∙ ap (λ b. granted_after seated b n) inv.granted ∙ granted_more seated start at n;
       later = omega (arith, inv.later, c.in-Ok.ensures.cause);

@@ -12,6 +12,7 @@ invariant-loop-at g l = record {
   few : l.dry < dry_limit;
   rested : length l.bytes ≤ l.at → l.dry ≡ 0;
   seated : g.M.Meter.seated l.meter ≡ g.M.Meter.seated l.fn.meter;
+  besides : g.M.Meter.besides l.meter ≡ g.M.Meter.besides l.fn.meter;
   granted : g.M.Meter.granted l.meter ≡ granted_after (g.M.Meter.seated l.fn.meter) (g.M.Meter.granted l.fn.meter) l.at;
   later : g.O.Sink.faults l.fn.to ≤ g.O.Sink.faults l.to;
 }

@@ -16,6 +16,7 @@ invariant-loop g l =
       room : l.passed ≤ interim_limit;
       dry : g.M.Meter.dry l.meter ≡ 0;
       seated : g.M.Meter.seated l.meter ≡ g.M.Meter.seated l.fn.meter;
+      besides : g.M.Meter.besides l.meter ≡ g.M.Meter.besides l.fn.meter;
       origin_later : g.P.Source.faults l.fn.origin.source ≤ g.P.Source.faults l.origin.source;
       client_later : g.O.Sink.faults l.fn.to_client ≤ g.O.Sink.faults l.to_client;
       dialled : g.P.Source.origin l.origin.source ≡ g.P.Source.origin l.fn.origin.source;

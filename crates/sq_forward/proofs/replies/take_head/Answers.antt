@@ -5,14 +5,14 @@ use Rattle.sq_head.specs.ReplyHeads.{HasReply, RefusesReply}
 use Rattle.sq_head.specs.declared.faults.ReplyHeadFault.TheVariants as fault
 use Rattle.sq_head.specs.declared.replies.ReplyHead.{ReplyHead}
 use Rattle.sq_forward.proofs.CopyLaws.{passed}
-use Rattle.sq_forward.proofs.FindLaws.{IsLarge}
+use Rattle.sq_forward.specs.Heads.{IsTooLarge}
 use Rattle.sq_forward.proofs.HeadLaws.{missing_by, missing_large, missing_end, missing_ahead, taken_head}
 use Rattle.sq_forward.proofs.replies.take_head.Goals as goal
 
 pub returns-in-TooLarge-clause-takes : goal.returns-in-TooLarge-clause-takes
 returns-in-TooLarge-clause-takes g c =
     let left = g.P.Source.left in
-    missing_by (prepend_known c.args.origin.now.ahead (left c.args.origin.now.source)) (prepend_known c.find_head.new.from.ahead (left c.find_head.new.from.source)) IsLarge
+    missing_by (prepend_known c.args.origin.now.ahead (left c.args.origin.now.source)) (prepend_known c.find_head.new.from.ahead (left c.find_head.new.from.source)) IsTooLarge
     (c.in-TooLarge.ensures.kept (λ e. cc)) c.in-TooLarge.ensures.found missing_large
 
 pub returns-in-Ended-clause-takes : goal.returns-in-Ended-clause-takes
@@ -20,7 +20,7 @@ returns-in-Ended-clause-takes g c =
     let left = g.P.Source.left in
     let ahead = c.find_head.new.from.ahead in
     missing_by (prepend_known c.args.origin.now.ahead (left c.args.origin.now.source)) (prepend_known ahead (left c.find_head.new.from.source)) (λ bytes. bytes ≡ ahead)
-    (c.in-Ended.ensures.kept (λ e. cc)) c.in-Ended.ensures.found.1 (λ bytes e. missing_end bytes (ap head_end e ∙ c.in-Ended.ensures.found.0))
+    (c.in-Ended.ensures.kept (λ e. cc)) c.in-Ended.ensures.found.2 (λ bytes e. missing_end bytes (ap head_end e ∙ c.in-Ended.ensures.found.0))
 
 pub returns-in-Err-BadHead-clause-takes : goal.returns-in-Err-BadHead-clause-takes
 returns-in-Err-BadHead-clause-takes g c =

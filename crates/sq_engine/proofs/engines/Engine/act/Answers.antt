@@ -1,9 +1,9 @@
-use Rattle.std.proofs.Common.{◌≡◌, ◌∙◌, max, false, None, Some, sym, subst}
+use Rattle.std.proofs.Common.{◌≡◌, ◌∙◌, max, None, Some, sym, subst}
 use Rattle.sq_epochs.specs.DueStates.{due_of}
 use Rattle.sq_state.specs.Acts.{due_in}
 use Rattle.sq_state.specs.States.{IsSame}
 use Rattle.sq_engine.specs.Acting.{IsActPromised, after_act, due_now}
-use Rattle.sq_engine.specs.EngineViews.{EngineView, state_of, stop_at}
+use Rattle.sq_engine.specs.EngineViews.{EngineView, state_of}
 use Rattle.sq_engine.proofs.ActLaws.{act_left, act_promised, due_read, left_same, told_read}
 use Rattle.sq_engine.proofs.engines.Engine.act.Goals as goal
 
@@ -15,7 +15,7 @@ invariant_of-self c =
 pub returns-in_default-clause-state : goal.returns-in_default-clause-state
 returns-in_default-clause-state c =
     let v : EngineView = record { conns = c.self.inside.conns; checks = c.self.inside.checks; asks = c.self.inside.asks; puts = c.self.inside.puts; epochs = c.self.inside.epochs; setup = c.self.inside.setup; offset = c.self.inside.offset; latest = c.self.inside.latest } in
-    subst (λ z. stop_at z.epochs 0 ≡ false → due_now z ≡ due_in (state_of z)) c.self.view_is (due_read v c.self.invariant c.facts.ensures)
+    subst (λ z. due_now z ≡ due_in (state_of z)) c.self.view_is (due_read v c.self.invariant c.facts.ensures)
 
 pub returns-in_default-clause-promised : goal.returns-in_default-clause-promised
 returns-in_default-clause-promised c =
@@ -31,7 +31,7 @@ invariant_of-self-2 c =
 pub returns-clause-state : goal.returns-clause-state
 returns-clause-state c =
     let v : EngineView = record { conns = c.self.inside.conns; checks = c.self.inside.checks; asks = c.self.inside.asks; puts = c.self.inside.puts; epochs = c.self.inside.epochs; setup = c.self.inside.setup; offset = c.self.inside.offset; latest = c.self.inside.latest } in
-    subst (λ z. stop_at z.epochs 0 ≡ false → due_now z ≡ due_in (state_of z)) c.self.view_is (due_read v c.self.invariant c.facts.ensures)
+    subst (λ z. due_now z ≡ due_in (state_of z)) c.self.view_is (due_read v c.self.invariant c.facts.ensures)
 
 pub returns-clause-some : goal.returns-clause-some
 returns-clause-some c =

@@ -1,8 +1,8 @@
-use Rattle.std.proofs.Common.{◌≡◌, ◌∙◌, ◌+◌, ◌^◌, ◌<◌, ◌++◌, ◌∷◌, [], suc, None, ap, max, refl, sym, subst, arith, rules}
+use Rattle.std.proofs.Common.{◌≡◌, ◌∙◌, ◌+◌, ◌^◌, ◌<◌, ◌++◌, ◌∷◌, [], suc, None, ap, max, refl, sym, subst, arith, rules, true}
 use Rattle.sq_rules.specs.Limits.{last_number}
 use Rattle.sq_rules.specs.declared.sights.Sight.{Sight}
 use Rattle.sq_checks.specs.Conns.{check_in}
-use Rattle.sq_checks.specs.OpenChecks.{begun_parts, row, rows_of}
+use Rattle.sq_checks.specs.OpenChecks.{all_before, begun_parts, row, rows_of}
 use Rattle.sq_epochs.specs.LiveEpochs.{after_began, checks_at}
 use Rattle.sq_state.specs.Answers.{asked_in}
 use Rattle.sq_state.specs.Changes.{after_ask}
@@ -10,6 +10,8 @@ use Rattle.sq_state.specs.States.{IsSame}
 use Rattle.sq_engine.specs.Engines.{IsEngine}
 use Rattle.sq_engine.specs.EngineViews.{EngineView, state_of}
 use Rattle.sq_engine.proofs.AskLaws.{Begun, began_room, begun_engine, begun_same}
+use Rattle.sq_engine.specs.Begun.{HasBegun}
+use Rattle.sq_engine.proofs.BegunLaws.{has_begun}
 use Rattle.sq_engine.proofs.engines.Engine.ask_on.Goals as goal
 
 pub began-requires-clause-room : goal.began-requires-clause-room
@@ -62,3 +64,15 @@ returns-clause-ok c = λ method target fields e.
     (after_ask (asked_in (state_of v) z c.args.conn method target fields) z (state_of v))) c.later-moment.ensures
     (begun_same v c.args.conn n c.later-moment.result method target fields c.in-Some.peer sight c.set_check.new.self c.begin.new.self c.began.new.self k is (sym c.in-Some.ensures) e refl refl
     c.minute_of_week.ensures c.of.ensures c.set_check.ensures.clients c.set_check.ensures.len c.set_check.ensures.counts))
+
+pub returns-clause-begun : goal.returns-clause-begun
+returns-clause-begun c =
+    let v : EngineView = record { conns = c.self.inside.conns; checks = c.self.inside.checks; asks = c.self.inside.asks; puts = c.self.inside.puts; epochs = c.self.inside.epochs; setup = c.self.inside.setup; offset = c.self.inside.offset; latest = c.self.inside.latest } in
+    let n = c.self.inside.asks + 1 in
+    let sight : Sight = record { request = c.args.request; addr = c.in-Some.peer.addr; port = c.in-Some.peer.port; minute = c.minute_of_week.result; conns = c.of.result } in
+    let parts : c.in-Ok.open ≡ begun_parts c.args.conn v.epochs.current v.setup sight = c.in-Ok.ensures.ok ∙ ap (λ e. begun_parts c.args.conn e v.setup sight) c.current-epoch.ensures in
+    let list : c.begin.new.self ≡ v.checks ++ (n, begun_parts c.args.conn v.epochs.current v.setup sight) ∷ [] = c.in-Ok-begin.ensures.list ∙ ap (λ z. v.checks ++ (n, z) ∷ []) parts in
+    let one : suc v.asks ≡ n = omega arith in
+    let above : all_before n (rows_of v.checks) ≡ true = subst (λ z. all_before z (rows_of v.checks) ≡ true) one c.self.invariant.asked.given in
+    subst (λ z. HasBegun n z.setup c.args.request z.checks c.begin.new.self) c.self.view_is
+    (subst (HasBegun n v.setup c.args.request v.checks) (sym list) (has_begun n c.args.conn v.epochs.current v.setup sight c.args.request v.checks above refl))

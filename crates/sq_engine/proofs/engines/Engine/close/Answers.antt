@@ -8,6 +8,7 @@ use Rattle.sq_state.specs.States.{IsSame}
 use Rattle.sq_engine.specs.EngineViews.{EngineView, state_of}
 use Rattle.sq_engine.proofs.CloseLaws.{Closed, close_fine, close_unknown, closed_same, none_by}
 use Rattle.sq_engine.proofs.PromiseLaws.{close_promised}
+use Rattle.sq_engine.specs.Begun.{AreKept}
 use Rattle.sq_engine.proofs.engines.Engine.close.Goals as goal
 
 pub returns-then-is_none-clause-promised : goal.returns-then-is_none-clause-promised
@@ -33,3 +34,6 @@ returns-clause-promised c =
     let v : EngineView = record { conns = c.self-2.inside.conns; checks = c.self-2.inside.checks; asks = c.self-2.inside.asks; puts = c.self-2.inside.puts; epochs = c.self-2.inside.epochs; setup = c.self-2.inside.setup; offset = c.self-2.inside.offset; latest = c.self-2.inside.latest } in
     let known : is_none (client_in w.conns c.args.conn) ≡ false = sym (ap is_none (c.peer.ensures ∙ ap (λ z. client_in z.conns c.args.conn) c.self.view_is)) ∙ none_by c.peer.result c.is_none.result c.is_none.ensures ∙ c.if-is_none.false in
     close_promised {A = Unit {0}} (state_of w) (state_of (record v { conns = c.close-peer.new.self; latest = c.later-self-inside.result })) (max c.args.now w.latest) c.args.conn (Ok tt) (close_fine (state_of w) c.args.conn known) (returns-clause-ok c)
+
+pub returns-clause-kept : goal.returns-clause-kept
+returns-clause-kept c = subst (λ z. AreKept c.args.self.now.checks z.checks) (sym c.self-2.view_is) c.drop_check.ensures.kept

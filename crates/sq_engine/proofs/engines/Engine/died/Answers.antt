@@ -16,7 +16,7 @@ returns-clause-ok c = λ p is.
     let same : record { epoch = c.home-2.inside.epoch; class = c.home-2.inside.class } ≡ p =
     same_Some _ _ (ap (λ h. Some h.place) c.home-2.view_is ∙ c.in-Some.ensures.place ∙ ap (λ z. home_at z.epochs c.args.proc) c.self.view_is ∙ is) in
     subst (λ m. IsSame (state_of c.end.new.self) (after_end_at p c.args.proc cause.Died false m (state_of c.args.self.now))) (c.later-moment.ensures ∙ ap (λ z. max c.args.now z.latest) c.self.view_is)
-    (subst (λ (x : Place). IsSame (state_of c.end.new.self) (after_end_at x c.args.proc cause.Died false c.later-moment.result (state_of c.args.self.now))) same c.end.ensures)
+    (subst (λ (x : Place). IsSame (state_of c.end.new.self) (after_end_at x c.args.proc cause.Died false c.later-moment.result (state_of c.args.self.now))) same c.end.ensures.same)
 
 pub returns-in_default-clause-promised : goal.returns-in_default-clause-promised
 returns-in_default-clause-promised c =

@@ -9,6 +9,8 @@ use Rattle.sq_engine.specs.EngineViews.{EngineView, state_of}
 use Rattle.sq_engine.proofs.LeavingLaws.{LeftBy}
 use Rattle.sq_engine.proofs.OverLaws.{IsOver, over_engine, over_same}
 use Rattle.sq_engine.proofs.TakeLaws.{client_there, left_by, marked_there, over_counts}
+use Rattle.sq_engine.specs.Begun.{AreKept}
+use Rattle.sq_engine.proofs.BegunLaws.{kept_removed}
 use Rattle.sq_engine.proofs.engines.Engine.remove.Goals as goal
 
 pub leave-requires : goal.leave-requires
@@ -59,3 +61,8 @@ returns-clause-same c =
     subst (λ z. IsSame (state_of (record v { conns = c.set_check.new.self; checks = c.remove.new.self; epochs = c.ended.new.self })) (after_take c.args.check z.latest (state_of z))) c.self.view_is
     (over_same v c.args.check v.latest k left c.ended.new.self c.set_check.new.self c.remove.new.self (client_in v.conns) (length v.conns.links) (tally v.conns.counts) c.self.invariant o
     c.facts.ensures.homed c.facts.ensures.homes.rise is c.remove.ensures.rows c.set_check.ensures.clients c.set_check.ensures.len (λ a. ap (λ z. tally z a) c.set_check.ensures.counts))
+
+pub returns-clause-kept : goal.returns-clause-kept
+returns-clause-kept c =
+    let v : EngineView = record { conns = c.self.inside.conns; checks = c.self.inside.checks; asks = c.self.inside.asks; puts = c.self.inside.puts; epochs = c.self.inside.epochs; setup = c.self.inside.setup; offset = c.self.inside.offset; latest = c.self.inside.latest } in
+    subst (λ z. AreKept z.checks c.remove.new.self) c.self.view_is (subst (AreKept v.checks) (sym c.remove.ensures.list) (kept_removed c.args.check v.checks))

@@ -12,6 +12,8 @@ use Rattle.sq_engine.proofs.AskingLaws.{class_there}
 use Rattle.sq_engine.proofs.RepliedLaws.{on_err, part_there, reply_done, reply_list}
 use Rattle.sq_engine.proofs.ReplyLaws.{reply_engine}
 use Rattle.sq_engine.proofs.ResolvedLaws.{before_engine, same_before}
+use Rattle.sq_engine.specs.Begun.{AreKept}
+use Rattle.sq_engine.proofs.BegunLaws.{kept_given, kept_same}
 use Rattle.sq_engine.proofs.engines.Engine.reply.Goals as goal
 
 pub unreachable-requires : goal.unreachable-requires
@@ -60,3 +62,12 @@ returns-clause-ok c =
     subst (λ z. IsReplied (state_of z) c.args.proc c.args.question c.args.reply.now c.args.moment (state_of (record v { checks = c.give.new.checks; epochs = c.reply.new.self; latest = c.args.moment }))) c.self.view_is
     (reply_done v c.reply.new.self c.give.new.checks c.args.epoch c.args.class c.args.proc c.args.question c.args.moment c.in_ok-key.key c.in_ok-what.what c.args.reply.now k.0 c.in_ok-_waited._waited x.part c.self.invariant
     (rw (← c.self.view_is) at c.requires.home) k.1 x.is found ch c.in_ok-what.ensures list c.len-checks.ensures.rise)
+
+pub returns-clause-kept : goal.returns-clause-kept
+returns-clause-kept c =
+    let v : EngineView = record { conns = c.self.inside.conns; checks = c.self.inside.checks; asks = c.self.inside.asks; puts = c.self.inside.puts; epochs = c.self.inside.epochs; setup = c.self.inside.setup; offset = c.self.inside.offset; latest = c.self.inside.latest } in
+    subst (λ z. AreKept z.checks c.give.new.checks) c.self.view_is
+    (subst (AreKept v.checks) (sym c.give.ensures) (kept_given c.args.question c.args.moment c.in_ok-shares.shares.items v.checks))
+
+pub returns-in_err-_waited-clause-kept : goal.returns-in_err-_waited-clause-kept
+returns-in_err-_waited-clause-kept c = subst (λ z. AreKept z.checks c.self.inside.checks) c.self.view_is (kept_same c.self.inside.checks)

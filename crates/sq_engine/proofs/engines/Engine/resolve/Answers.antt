@@ -1,4 +1,4 @@
-use Rattle.std.proofs.Common.{◌≡◌, ◌∙◌, ◌+◌, suc, Err, ap, sym, subst, arith}
+use Rattle.std.proofs.Common.{◌≡◌, ◌∙◌, ◌+◌, suc, Err, ap, subst, arith, refl}
 use Rattle.sq_rules.specs.FullNext.{step_next}
 use Rattle.sq_rules.specs.Machine.{gives, refuses}
 use Rattle.sq_rules.specs.declared.refusals.Refusal.TheVariants as refusal
@@ -9,6 +9,8 @@ use Rattle.sq_engine.specs.Stepping.{stepped_told}
 use Rattle.sq_engine.proofs.AskingLaws.{asking, class_there, free_asking, said_noted}
 use Rattle.sq_engine.proofs.ResolveLaws.{same_resolved, says_here, told_resolved, told_spent}
 use Rattle.sq_engine.proofs.ResolvedLaws.{before_engine, resolved_engine, same_before}
+use Rattle.sq_engine.specs.Begun.{AreKept}
+use Rattle.sq_engine.proofs.BegunLaws.{kept_change, kept_same}
 use Rattle.sq_engine.proofs.engines.Engine.resolve.Goals as goal
 
 pub resolve-requires-clause-free : goal.resolve-requires-clause-free
@@ -67,8 +69,8 @@ returns-clause-told c =
     let v : EngineView = record { conns = c.self.inside.conns; checks = c.self.inside.checks; asks = c.self.inside.asks; puts = c.self.inside.puts; epochs = c.self.inside.epochs; setup = c.self.inside.setup; offset = c.self.inside.offset; latest = c.self.inside.latest } in
     let k = class_there v c.args.epoch c.args.class c.self.invariant (rw (← c.self.view_is) at c.requires.part) in
     let ch = c.in-Ok.ensures.ok k.0 k.1 in
-    subst (λ z. step_next z.puts (says_here z c.args.moment c.args.epoch c.args.class c.args.key) ≡ gives (stepped_told (state_of z) c.args.epoch c.again-stepped.result)) c.self.view_is
-    (told_resolved v c.args.moment c.args.epoch c.args.class c.args.check c.args.key k.0 c.in-Ok.said c.resolve.new.self k.1 ch ∙ ap (λ z. gives (stepped_told (state_of v) c.args.epoch z)) (sym c.again-stepped.ensures))
+    subst (λ z. step_next z.puts (says_here z c.args.moment c.args.epoch c.args.class c.args.key) ≡ gives (stepped_told (state_of z) c.args.epoch c.in-Ok.said.stepped)) c.self.view_is
+    (told_resolved v c.args.moment c.args.epoch c.args.class c.args.check c.args.key k.0 c.in-Ok.said c.resolve.new.self k.1 ch)
 
 pub returns-clause-ok : goal.returns-clause-ok
 returns-clause-ok c =
@@ -78,3 +80,14 @@ returns-clause-ok c =
     subst (λ z. IsSame (state_of (record v { checks = c.note.new.self; puts = c.puts_after-self-inside.result; epochs = c.resolve.new.self; latest = c.args.moment }))
     (after_step_of c.args.check c.args.epoch (says_here z c.args.moment c.args.epoch c.args.class c.args.key) c.args.moment (state_of z))) c.self.view_is
     (same_resolved v c.args.moment c.args.epoch c.args.class c.args.check c.args.key k.0 c.in-Ok.said c.resolve.new.self c.note.new.self c.puts_after-self-inside.result k.1 ch c.note.ensures.rows c.puts_after-self-inside.ensures)
+
+pub returns-in-Err-Spent-clause-kept : goal.returns-in-Err-Spent-clause-kept
+returns-in-Err-Spent-clause-kept c = subst (λ z. AreKept z.checks c.self.inside.checks) c.self.view_is (kept_same c.self.inside.checks)
+
+pub returns-in-Err-WantOfMemory-clause-kept : goal.returns-in-Err-WantOfMemory-clause-kept
+returns-in-Err-WantOfMemory-clause-kept c = subst (λ z. AreKept z.checks c.self.inside.checks) c.self.view_is (kept_same c.self.inside.checks)
+
+pub returns-clause-kept : goal.returns-clause-kept
+returns-clause-kept c =
+    let v : EngineView = record { conns = c.self.inside.conns; checks = c.self.inside.checks; asks = c.self.inside.asks; puts = c.self.inside.puts; epochs = c.self.inside.epochs; setup = c.self.inside.setup; offset = c.self.inside.offset; latest = c.self.inside.latest } in
+    subst (λ z. AreKept z.checks c.note.new.self) c.self.view_is (kept_change c.args.check _ v.checks c.note.new.self c.note.ensures.list (λ k. refl))

@@ -10,6 +10,9 @@ use Rattle.sq_rules.specs.declared.refusals.Refusal.TheVariants as refusal
 use Rattle.sq_state.specs.Answers.{has_start_in}
 use Rattle.sq_engine.proofs.PromiseLaws.{failed_promised}
 use Rattle.sq_engine.proofs.StartedLaws.{failed_fine, failed_none, start_read}
+use Rattle.sq_engine.specs.Begun.{AreKept}
+use Rattle.sq_engine.proofs.BegunLaws.{kept_lost}
+use Rattle.sq_engine.proofs.RepliedLaws.{part_there}
 use Rattle.sq_engine.proofs.engines.Engine.start_failed.Goals as goal
 
 pub hand_out-requires-clause-there : goal.hand_out-requires-clause-there
@@ -47,3 +50,11 @@ returns-clause-promised c =
     let s = state_of c.args.self.now in
     let some : has_start_in s p ≡ true = ap (λ z. has_start_in (state_of z) p) (sym c.self.view_is) ∙ sym (start_read v c.args.epoch c.args.class) ∙ sym c.has_start.ensures ∙ c.if-not-has_start.false in
     failed_promised {A = Unit {0}} s (state_of (record v { checks = c.hand_out.new.checks; epochs = c.hand_out.new.epochs; latest = c.later-moment.result })) (max c.args.now c.args.self.now.latest) p (Ok tt) (failed_fine s p some) (returns-clause-ok c)
+
+pub returns-clause-kept : goal.returns-clause-kept
+returns-clause-kept c =
+    let v : EngineView = record { conns = c.self.inside.conns; checks = c.self.inside.checks; asks = c.self.inside.asks; puts = c.self.inside.puts; epochs = c.self.inside.epochs; setup = c.self.inside.setup; offset = c.self.inside.offset; latest = c.self.inside.latest } in
+    let there = there_after c.args.epoch c.args.class HasFailed c.self.inside.epochs c.fail.new.epochs c.fail.ensures in
+    let x = part_there (record v { epochs = c.fail.new.epochs }) c.args.epoch c.args.class there in
+    subst (λ z. AreKept z.checks c.hand_out.new.checks) c.self.view_is
+    (subst (AreKept v.checks) (sym (c.hand_out.ensures.checks x.part x.is)) (kept_lost x.part.row.stock.losses c.later-moment.result v.checks))

@@ -9,6 +9,7 @@ use Rattle.sq_engine.specs.EngineViews.{state_of}
 use Rattle.sq_engine.specs.Stepping.{says_waits}
 use Rattle.sq_engine.proofs.NowLaws.{after_found, says_waiting, settled_idle, settled_settled, step_found, step_unknown, there_settled}
 use Rattle.sq_engine.proofs.StepLaws.{quiet_same}
+use Rattle.sq_engine.proofs.BegunLaws.{kept_then}
 use Rattle.sq_engine.proofs.engines.Engine.step_on.Goals as goal
 
 pub returns-in_default-clause-told : goal.returns-in_default-clause-told
@@ -63,3 +64,6 @@ go_on-requires-clause-idle c =
     let found : value_at w.checks c.args.check ≡ Some k = subst (λ z. value_at z.checks c.args.check ≡ Some k) c.self.view_is (sym c.in-Some.ensures) in
     let none : need_in k.stage ≡ None = search rules in
     settled_idle w.checks c.settle.new.self.checks c.args.check k found c.in-Ok-settle.ensures.ok none
+
+pub returns-clause-kept : goal.returns-clause-kept
+returns-clause-kept c = kept_then c.args.self.now.checks c.settle.new.self.checks c.go_on.new.self.checks c.settle.ensures.kept c.go_on.ensures.kept

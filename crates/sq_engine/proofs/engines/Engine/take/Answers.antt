@@ -11,6 +11,7 @@ use Rattle.sq_state.specs.States.{IsSame}
 use Rattle.sq_engine.specs.EngineViews.{EngineView, state_of}
 use Rattle.sq_engine.proofs.PromiseLaws.{take_promised}
 use Rattle.sq_engine.proofs.TakeLaws.{judged_is, take_early, take_told, take_unknown, taken_at}
+use Rattle.sq_engine.specs.Begun.{AreKept}
 use Rattle.sq_engine.proofs.engines.Engine.take.Goals as goal
 
 pub returns-in_default-clause-told : goal.returns-in_default-clause-told
@@ -62,3 +63,6 @@ returns-clause-promised c =
     let s = state_of c.args.self.now in
     let v : EngineView = record { conns = c.self-2.inside.conns; checks = c.self-2.inside.checks; asks = c.self-2.inside.asks; puts = c.self-2.inside.puts; epochs = c.self-2.inside.epochs; setup = c.self-2.inside.setup; offset = c.self-2.inside.offset; latest = c.self-2.inside.latest } in
     take_promised {A = Judged} (λ r. told.Judged r.epoch r.outcome) s (state_of (record v { latest = c.later-self-inside.result })) (max c.args.now c.args.self.now.latest) c.args.check (Ok c.into_record-record.result) (returns-clause-told c) (returns-clause-ok c)
+
+pub returns-clause-kept : goal.returns-clause-kept
+returns-clause-kept c = subst (λ z. AreKept c.args.self.now.checks z.checks) (sym c.self-2.view_is) c.remove.ensures.kept

@@ -1,4 +1,4 @@
-use Rattle.std.proofs.Common.{Some, ◌≡◌, false}
+use Rattle.std.proofs.Common.{Some, ◌≡◌, false, subst, refl}
 use Rattle.sq_checks.specs.Conns.{check_in}
 use Rattle.sq_checks.specs.OpenChecks.{rows_of}
 use Rattle.sq_checks.specs.Stages.{need_in}
@@ -7,6 +7,8 @@ use Rattle.sq_engine.specs.EngineViews.{EngineView}
 use Rattle.sq_engine.specs.Stepping.{says_waits}
 use Rattle.sq_engine.proofs.ChangedLaws.{at_number, changed_engine, waited_keeps}
 use Rattle.sq_engine.proofs.HeldLaws.{asked_stepped, counted_stepped}
+use Rattle.sq_engine.specs.Begun.{AreKept}
+use Rattle.sq_engine.proofs.BegunLaws.{kept_change}
 use Rattle.sq_engine.proofs.engines.Engine.wait_on.Goals as goal
 
 pub invariant_of-self : goal.invariant_of-self
@@ -16,3 +18,8 @@ invariant_of-self c =
     (asked_stepped c.args.check (says_waits c.args.question) (check_in v.conns) (rows_of v.checks) _ v.asks c.note.ensures.rows c.self.invariant.asked)
     (counted_stepped c.args.check (says_waits c.args.question) v.epochs.current (epoch_at v.epochs) (rows_of v.checks) _ c.note.ensures.rows c.self.invariant.counted)
     (λ m same j is. waited_keeps c.args.question c.args.class c.args.key false j (at_number (λ k. need_in k.stage ≡ Some (record { question = c.args.question; class = c.args.class; key = c.args.key })) v.checks c.args.check m same j is (rw (← c.self.view_is) at c.requires.waits)))
+
+pub returns-clause-kept : goal.returns-clause-kept
+returns-clause-kept c =
+    let v : EngineView = record { conns = c.self.inside.conns; checks = c.self.inside.checks; asks = c.self.inside.asks; puts = c.self.inside.puts; epochs = c.self.inside.epochs; setup = c.self.inside.setup; offset = c.self.inside.offset; latest = c.self.inside.latest } in
+    subst (λ z. AreKept z.checks c.note.new.self) c.self.view_is (kept_change c.args.check _ v.checks c.note.new.self c.note.ensures.list (λ k. refl))

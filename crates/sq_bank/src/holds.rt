@@ -1,0 +1,62 @@
+//! The holds of the pools' lock. Nothing is proved here of what lies under it but what its type keeps; each function
+//! takes the lock, makes the one call of its name with the arguments that it was handed, and lets go.
+ghost use Rattle.std.specs.Prelude.{◌≡◌, ◌+◌, ◌<◌, ◌≤◌, true};
+ghost use Rattle.sq_pools.specs.Basins.{has_pool};
+
+use crate::bank::Bank;
+use sq_base::{Addr, EpochNo, Moment, WantOfMemory};
+use sq_pools::{ChooseFault, Seat};
+use sq_rules::Config;
+use std::alloc::Global;
+use std::sync::ledger::{Ledger, Share};
+use std::sync::{Arc, Mutex, Wait};
+
+/// Gives a seat.
+pub fn choose<R: Wait, G: Ledger>(
+    rt: &R,
+    alloc: Global,
+    bank: &Mutex<Bank<G>>,
+    epoch: EpochNo,
+    config: &Arc<Config>,
+    pool: u32,
+    addr: Addr,
+    now: Moment,
+) -> Result<Seat, ChooseFault>
+    requires { has_pool config.now.value pool addr ≡ true }
+{
+    bank.lock(rt).choose(alloc, epoch, config, pool, addr, now)
+}
+
+/// Grants bytes to a seat, which the share counts.
+pub fn grant<R: Wait, G: Ledger>(
+    rt: &R,
+    bank: &Mutex<Bank<G>>,
+    seat: &Seat,
+    wanted: u64,
+    now: Moment,
+    share: &mut Share<G>,
+) -> u64
+    requires { 0 < share.old.parts }
+    ensures within { result ≤ wanted }
+    ensures amount { share.new.amount ≡ share.old.amount + result }
+    ensures parts { share.new.parts ≡ share.old.parts }
+{
+    bank.lock(rt).grant(seat, wanted, now, share)
+}
+
+/// Gives a seat up.
+pub fn leave<R: Wait, G: Ledger>(rt: &R, bank: &Mutex<Bank<G>>, seat: Seat) {
+    bank.lock(rt).leave(seat);
+}
+
+/// Makes the generation of an epoch.
+pub fn renew<R: Wait, G: Ledger>(
+    rt: &R,
+    alloc: Global,
+    bank: &Mutex<Bank<G>>,
+    epoch: EpochNo,
+    config: &Arc<Config>,
+    now: Moment,
+) -> Result<(), WantOfMemory> {
+    bank.lock(rt).renew(alloc, epoch, config, now)
+}

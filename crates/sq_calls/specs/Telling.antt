@@ -1,0 +1,123 @@
+-- What a desk's call adds to the journal, and what it counts.
+use Rattle.std.specs.Prelude.{◌≡◌, ◌⊎◌, ℕ, ◌+◌, ◌≤◌, List, ◌∷◌, Some, None, IfSome, Result, Ok, Err}
+use Rattle.std.specs.declared.option.Option.{Option}
+use Rattle.sq_outside.specs.Causes.{raised}
+use Rattle.sq_base.specs.Addresses.{Address}
+use Rattle.sq_base.specs.Requests.{HttpRequest}
+use Rattle.sq_rules.specs.declared.entries.Event.{Event}
+use Rattle.sq_rules.specs.declared.entries.Event.TheVariants as event
+use Rattle.sq_rules.specs.declared.entries.Told.{Told}
+use Rattle.sq_rules.specs.declared.entries.Told.TheVariants as told
+use Rattle.sq_checks.specs.Records.{Judged}
+use Rattle.sq_rows.specs.declared.said.Stepped.{Stepped}
+use Rattle.sq_rows.specs.declared.said.Stepped.TheVariants as stepped
+use Rattle.sq_rules.specs.Configurations.{Configuration}
+use Rattle.sq_rules.specs.Entries.{History, Noted}
+use Rattle.sq_channel.specs.declared.replies.Got.{Got}
+use Rattle.sq_channel.specs.declared.replies.Got.TheVariants as got
+use Rattle.sq_epochs.specs.declared.acts.Act.{Act}
+use Rattle.sq_epochs.specs.declared.acts.Act.TheVariants as act
+use Rattle.sq_calls.specs.declared.faults.DeskFault.{DeskFault}
+use Rattle.sq_calls.specs.declared.faults.DeskFault.TheVariants as fault
+
+-- an entry of a moment, an event and an answer
+abbrev pub entry_at : ℕ → Event → Told → Noted
+entry_at moment event answer = record { moment = moment; event = event; answer = answer }
+
+-- where the journal is told, one entry was added, with this answer, and P holds of its event
+abbrev pub AddsOne : (Event → Type 0) → Told → Option History → Option History → Type 0
+AddsOne P answer None new = new ≡ None
+AddsOne P answer (Some h) new = (moment : ℕ) × (e : Event) × P e × (new ≡ Some (entry_at moment e answer ∷ h))
+
+-- the same, with an answer of which R holds
+abbrev pub AddsSome : (Told → Type 0) → (Event → Type 0) → Option History → Option History → Type 0
+AddsSome R P None new = new ≡ None
+AddsSome R P (Some h) new = (answer : Told) × R answer × (moment : ℕ) × (e : Event) × P e × (new ≡ Some (entry_at moment e answer ∷ h))
+
+-- a call that was made added its entry; one that was not added nothing
+abbrev pub Notes : {A : Type 0} → (A → Told) → (Event → Type 0) → Option History → Option History → Result A DeskFault → Type 0
+Notes told P old new (Ok a) = AddsOne P (told a) old new
+Notes told P old new (Err f) = new ≡ old
+
+-- a call that was made added its entry, whose answer tells what it gave; one that was not added nothing
+abbrev pub NotesAs : {A : Type 0} → (A → Told → Type 0) → (Event → Type 0) → Option History → Option History → Result A DeskFault → Type 0
+NotesAs R P old new (Ok a) = AddsSome (R a) P old new
+NotesAs R P old new (Err f) = new ≡ old
+
+-- the count rose by one where the call was refused or its note failed, up to its limit, and stayed otherwise
+abbrev pub CountsRefusal : {A : Type 0} → ℕ → ℕ → Result A DeskFault → Type 0
+CountsRefusal before now (Ok a) = now ≡ before
+CountsRefusal before now (Err fault.WantOfMemory) = now ≡ before
+CountsRefusal before now (Err f) = (before ≤ now) × (now ≡ raised before)
+
+-- the same of a line, where one that was bad or stray counts as a refusal
+abbrev pub CountsLine : ℕ → ℕ → Result Got DeskFault → Type 0
+CountsLine before now (Ok (got.Reply question reply)) = now ≡ before
+CountsLine before now (Ok got.Bad) = (before ≤ now) × (now ≡ raised before)
+CountsLine before now (Ok got.Stray) = (before ≤ now) × (now ≡ raised before)
+CountsLine before now (Err fault.WantOfMemory) = now ≡ before
+CountsLine before now (Err f) = (before ≤ now) × (now ≡ raised before)
+
+-- the events of calls; the name is that of the class
+abbrev pub IsOpening : ℕ → Address → ℕ → Event → Type 0
+IsOpening conn addr port e = e ≡ event.Open conn addr port
+
+abbrev pub IsClosing : ℕ → Event → Type 0
+IsClosing conn e = e ≡ event.Close conn
+
+abbrev pub IsAsking : ℕ → HttpRequest → Event → Type 0
+IsAsking conn r e = e ≡ event.Ask conn r.method r.target r.fields
+
+abbrev pub IsStep : ℕ → Event → Type 0
+IsStep check e = e ≡ event.Step check
+
+abbrev pub IsTaking : ℕ → Event → Type 0
+IsTaking check e = e ≡ event.Take check
+
+abbrev pub IsStarted : ℕ → Event → Type 0
+IsStarted epoch e = (name : List ℕ) × (e ≡ event.Started epoch name)
+
+abbrev pub IsFailed : ℕ → Event → Type 0
+IsFailed epoch e = (name : List ℕ) × (e ≡ event.StartFail epoch name)
+
+abbrev pub IsDead : ℕ → Event → Type 0
+IsDead proc e = e ≡ event.Died proc
+
+abbrev pub IsLine : ℕ → List ℕ → Event → Type 0
+IsLine proc bytes e = e ≡ event.Line proc bytes
+
+abbrev pub IsReread : Configuration → Event → Type 0
+IsReread setup e = e ≡ event.Reconfigure setup.source
+
+-- how what a line gave is told
+abbrev pub got_told : Got → Told
+got_told (got.Reply q r) = told.Reply q r.word
+got_told got.Bad = told.Bad
+got_told got.Stray = told.Stray
+
+-- how a step is told, with the name of the class
+abbrev pub IsStepTold : Stepped → Told → Type 0
+IsStepTold (stepped.Took class) answer = (name : List ℕ) × (answer ≡ told.Took name)
+IsStepTold (stepped.Waits question) answer = answer ≡ told.Waits question
+IsStepTold stepped.Done answer = answer ≡ told.Done
+
+-- how a record is told
+abbrev pub IsTakeTold : Judged → Told → Type 0
+IsTakeTold r answer = answer ≡ told.Judged r.epoch r.outcome
+
+-- how an act is told
+abbrev pub IsEventOf : Act → Told → Type 0
+IsEventOf (act.Stop proc) answer = answer ≡ told.Stop proc
+IsEventOf (act.Send proc question channel text) answer = answer ≡ told.Send proc question channel text
+IsEventOf (act.Start epoch class) answer = (name : List ℕ) × (answer ≡ told.Start epoch name)
+
+-- an act was noted as it is told; where none is due, or the call was not made, nothing was
+abbrev pub MayAct : Option History → Option History → Result (Option Act) DeskFault → Type 0
+MayAct old new (Ok (Some a)) = AddsSome (IsEventOf a) (λ e. e ≡ event.Act) old new
+MayAct old new (Ok None) = new ≡ old
+MayAct old new (Err f) = new ≡ old
+
+-- A reconfiguration that was made is counted, and its epoch is one above the count. One that was not made leaves the count, or leaves it untold.
+abbrev pub Counts : Option ℕ → Option ℕ → Result ℕ DeskFault → Type 0
+Counts old new (Ok e) = IfSome old (λ m. (new ≡ Some (m + 1)) × (e ≡ m + 1 + 1))
+Counts old new (Err f) = (new ≡ old) ⊎ (new ≡ None)

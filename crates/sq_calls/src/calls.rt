@@ -1,0 +1,142 @@
+//! What a desk's calls are to those who make them.
+ghost use Rattle.std.specs.Prelude.{◌≡◌, ◌≤◌, ℕ, Bool, true, IsSome, OnOk};
+ghost use Rattle.sq_outside.specs.Causes.{count_limit};
+ghost use Rattle.std.specs.declared.option.Option.{Option};
+ghost use Rattle.sq_rules.specs.Entries.{History};
+ghost use Rattle.sq_rules.specs.declared.entries.Told.TheVariants as answer;
+ghost use Rattle.sq_calls.specs.Telling.{Counts, CountsLine, CountsRefusal, IsAsking, IsClosing, IsDead, IsFailed, IsLine, IsOpening, IsReread, IsStarted, IsStep, IsStepTold, IsTakeTold, IsTaking, MayAct, Notes, NotesAs, got_told};
+
+use crate::faults::DeskFault;
+use sq_base::{Addr, CheckNo, ConnNo, EpochNo, Moment, ProcNo, Request, Texts, WantOfMemory};
+use sq_channel::Got;
+use sq_checks::Record;
+use sq_epochs::Act;
+use sq_rows::Stepped;
+use sq_rules::Config;
+use sq_urlmatch::Setup;
+use std::alloc::Global;
+use std::sync::Arc;
+
+/// The calls of a desk. Each that is made notes its entry; `act` notes none where nothing is due.
+pub trait DeskCalls {
+    /// The journal's entries, the newest first, where it tells them.
+    ghost told: { Self → Option History };
+
+    /// How many calls were refused, or could not be noted, with the lines that were bad or stray. It never falls.
+    ghost refused: { Self → ℕ };
+
+    /// How many reconfigurations it made, where it tells that.
+    ghost made: { Self → Option ℕ };
+
+    /// Whether each desk of this type tells that of a reconfiguration that it makes.
+    ghost is_counting: { Bool };
+
+    /// A client's connection opens.
+    fn open(&mut self, conn: ConnNo, addr: Addr, port: u16, now: Moment) -> Result<(), DeskFault>
+        ensures told { Notes (λ _. answer.Fine) (IsOpening conn addr port) (told self.old) (told self.new) result }
+        ensures refused { CountsRefusal (refused self.old) (refused self.new) result }
+        ensures made { made self.new ≡ made self.old };
+
+    /// A connection closes.
+    fn close(&mut self, conn: ConnNo, now: Moment) -> Result<(), DeskFault>
+        ensures told { Notes (λ _. answer.Fine) (IsClosing conn) (told self.old) (told self.new) result }
+        ensures refused { CountsRefusal (refused self.old) (refused self.new) result }
+        ensures made { made self.new ≡ made self.old };
+
+    /// A request arrives on a connection, and its check begins: its number.
+    fn ask(
+        &mut self,
+        alloc: Global,
+        conn: ConnNo,
+        request: Request,
+        now: Moment,
+    ) -> Result<CheckNo, DeskFault>
+        ensures told { Notes answer.Check (IsAsking conn request) (told self.old) (told self.new) result }
+        ensures refused { CountsRefusal (refused self.old) (refused self.new) result }
+        ensures made { made self.new ≡ made self.old };
+
+    /// A check goes on.
+    fn step(&mut self, alloc: Global, check: CheckNo, now: Moment) -> Result<Stepped, DeskFault>
+        ensures told { NotesAs IsStepTold (IsStep check) (told self.old) (told self.new) result }
+        ensures refused { CountsRefusal (refused self.old) (refused self.new) result }
+        ensures made { made self.new ≡ made self.old };
+
+    /// The outcome of a check is taken.
+    fn take(&mut self, alloc: Global, check: CheckNo, now: Moment) -> Result<Record, DeskFault>
+        ensures told { NotesAs IsTakeTold (IsTaking check) (told self.old) (told self.new) result }
+        ensures refused { CountsRefusal (refused self.old) (refused self.new) result }
+        ensures made { made self.new ≡ made self.old };
+
+    /// A process was started: its number.
+    fn started(
+        &mut self,
+        alloc: Global,
+        epoch: EpochNo,
+        class: u32,
+        now: Moment,
+    ) -> Result<ProcNo, DeskFault>
+        ensures told { Notes answer.Proc (IsStarted epoch) (told self.old) (told self.new) result }
+        ensures refused { CountsRefusal (refused self.old) (refused self.new) result }
+        ensures made { made self.new ≡ made self.old };
+
+    /// A start failed.
+    fn start_failed(
+        &mut self,
+        alloc: Global,
+        epoch: EpochNo,
+        class: u32,
+        now: Moment,
+    ) -> Result<(), DeskFault>
+        ensures told { Notes (λ _. answer.Fine) (IsFailed epoch) (told self.old) (told self.new) result }
+        ensures refused { CountsRefusal (refused self.old) (refused self.new) result }
+        ensures made { made self.new ≡ made self.old };
+
+    /// A process wrote a line.
+    fn line(
+        &mut self,
+        alloc: Global,
+        proc: ProcNo,
+        bytes: &[u8],
+        now: Moment,
+    ) -> Result<Got, DeskFault>
+        ensures told { Notes got_told (IsLine proc bytes.now) (told self.old) (told self.new) result }
+        ensures refused { CountsLine (refused self.old) (refused self.new) result }
+        ensures made { made self.new ≡ made self.old };
+
+    /// A process died.
+    fn died(&mut self, proc: ProcNo, now: Moment) -> Result<(), DeskFault>
+        ensures told { Notes (λ _. answer.Fine) (IsDead proc) (told self.old) (told self.new) result }
+        ensures refused { CountsRefusal (refused self.old) (refused self.new) result }
+        ensures made { made self.new ≡ made self.old };
+
+    /// The next act that is due, which counts as made with this call.
+    fn act(&mut self, alloc: Global, now: Moment) -> Result<Option<Act>, DeskFault>
+        ensures told { MayAct (told self.old) (told self.new) result }
+        ensures refused { CountsRefusal (refused self.old) (refused self.new) result }
+        ensures made { made self.new ≡ made self.old };
+
+    /// Another configuration is current: the number of its epoch, which where `made` is told is one above it.
+    fn reconfigure(
+        &mut self,
+        alloc: Global,
+        setup: Setup,
+        now: Moment,
+    ) -> Result<EpochNo, DeskFault>
+        ensures told { Notes answer.Epoch (IsReread setup) (told self.old) (told self.new) result }
+        ensures refused { CountsRefusal (refused self.old) (refused self.new) result }
+        ensures made { Counts (made self.old) (made self.new) result }
+        ensures counting { is_counting ≡ true → OnOk result (IsSome (made self.old)) };
+
+    /// A copy of the words of the program of the class at a place of a live epoch.
+    fn words(
+        &self,
+        alloc: Global,
+        epoch: EpochNo,
+        class: u32,
+    ) -> Result<Option<Texts>, WantOfMemory>;
+
+    /// The configuration of a live epoch.
+    fn config(&self, epoch: EpochNo) -> Option<Arc<Config>>;
+
+    ghost capped: { (desk : Self) → refused desk ≤ count_limit };
+}

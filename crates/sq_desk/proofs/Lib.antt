@@ -1,0 +1,6 @@
+-- Lemmas, by subject.
+mod CallLaws
+mod PlaceLaws
+mod ReplayLaws
+mod EventLaws
+mod TellingLaws

@@ -1,0 +1,4 @@
+-- Definitions that the contracts cite.
+pub mod Noting
+pub mod Desks
+pub mod Calling

@@ -1,0 +1,102 @@
+//! What is to be done next.
+ghost use Rattle.std.specs.Prelude.{◌≡◌, ◌+◌, max, IfOk};
+ghost use Rattle.sq_engine.specs.Acting.{IsActPromised, told_of_act};
+ghost use Rattle.sq_engine.specs.EngineViews.{state_of};
+ghost use Rattle.sq_desk.specs.Calling.{Acts, Leaves, desk_of, load_of, told_due};
+
+use crate::desks::Desk;
+use crate::naming::name_of;
+use crate::notes::Notes;
+use sq_base::{Moment, WantOfMemory};
+use sq_calls::DeskFault;
+use sq_engine::Engine;
+use sq_epochs::Act;
+use sq_note::Journal;
+use sq_rules::{Entry, Event, Told};
+use sq_state::later;
+use std::alloc::Global;
+
+// The answer that tells of an act.
+fn told_of(alloc: Global, engine: &Engine, act: Act) -> Result<Told, WantOfMemory>
+    ensures { IfOk result (λ t. t ≡ told_of_act (state_of engine.now) act) }
+{
+    match act {
+        Act::Stop(proc) => Ok(Told::Stop(proc)),
+        Act::Send {
+            proc,
+            question,
+            channel,
+            text,
+        } => Ok(Told::Send {
+            proc,
+            question,
+            channel,
+            key: text,
+        }),
+        Act::Start { epoch, class } => match name_of(alloc, engine, epoch, class) {
+            Ok(name) => Ok(Told::Start { epoch, class: name }),
+            Err(WantOfMemory) => Err(WantOfMemory),
+        },
+    }
+}
+
+// The answer that tells of the act that is due, if one is.
+fn told_next(alloc: Global, engine: &Engine) -> Result<Option<Told>, WantOfMemory>
+    ensures { IfOk result (λ t. t ≡ told_due engine.now) }
+{
+    match engine.due(alloc) {
+        Ok(Some(act)) => match told_of(alloc, engine, act) {
+            Ok(told) => Ok(Some(told)),
+            Err(WantOfMemory) => Err(WantOfMemory),
+        },
+        Ok(None) => Ok(None),
+        Err(WantOfMemory) => Err(WantOfMemory),
+    }
+}
+
+// The next act that is due, which counts as made.
+fn act<J: Journal>(
+    engine: &mut Engine,
+    notes: &mut Notes<J>,
+    alloc: Global,
+    now: Moment,
+) -> Result<Option<Act>, DeskFault>
+    ensures acts { Acts (max now engine.old.latest) (desk_of engine.old notes.old) result (desk_of engine.new notes.new) }
+    ensures leaves { Leaves (load_of engine.old + 1) notes.old result notes.new }
+    ensures promised { IfOk result (λ a. IsActPromised (state_of engine.old) (max now engine.old.latest) a (state_of engine.new)) }
+{
+    let moment = later(now, engine.latest());
+    match notes.ready(engine.load(), 1) {
+        Ok(()) => {}
+        Err(fault) => return Err(fault),
+    }
+    let answer = match told_next(alloc, engine) {
+        Ok(answer) => answer,
+        Err(WantOfMemory) => return Err(DeskFault::WantOfMemory),
+    };
+    let Some(act) = engine.act(now) else {
+        return Ok(None);
+    };
+    let Some(answer) = answer else {
+        unreachable!();
+    };
+    let entry = Entry {
+        moment,
+        event: Event::Act,
+        answer,
+    };
+    match notes.note(entry) {
+        Ok(()) => Ok(Some(act)),
+        Err(fault) => Err(fault),
+    }
+}
+
+impl<J: Journal> Desk<J> {
+    /// The next act that is due, which counts as made with this call. Where none is, nothing is noted.
+    pub fn act(&mut self, alloc: Global, now: Moment) -> Result<Option<Act>, DeskFault>
+        ensures acts { Acts (max now self.old.engine.latest) self.old result self.new }
+        ensures promised { IfOk result (λ a. IsActPromised (state_of self.old.engine) (max now self.old.engine.latest) a (state_of self.new.engine)) }
+    {
+        act(&mut self.engine, &mut self.notes, alloc, now)
+    }
+}

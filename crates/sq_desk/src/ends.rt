@@ -1,0 +1,56 @@
+//! Processes end.
+ghost use Rattle.std.specs.Prelude.{◌≡◌, ◌<◌, max, true, false, is_some};
+ghost use Rattle.sq_epochs.specs.EpochStates.{home_at};
+ghost use Rattle.sq_rules.specs.declared.entries.Event.TheVariants as event;
+ghost use Rattle.sq_rules.specs.declared.entries.Told.TheVariants as told;
+ghost use Rattle.sq_state.specs.Answers.{died_answer};
+ghost use Rattle.sq_engine.specs.EngineViews.{state_of};
+ghost use Rattle.sq_desk.specs.Calling.{Leaves, Makes, after_died, desk_of};
+
+use crate::desks::Desk;
+use crate::notes::Notes;
+use sq_base::{Moment, ProcNo};
+use sq_calls::DeskFault;
+use sq_engine::Engine;
+use sq_note::Journal;
+use sq_rules::{Entry, Event, Told};
+use sq_state::later;
+
+// A process died. The place is there.
+fn died<J: Journal>(
+    engine: &mut Engine,
+    notes: &mut Notes<J>,
+    proc: ProcNo,
+    now: Moment,
+) -> Result<(), DeskFault>
+    requires { notes.old.stopped ≡ false → is_some (home_at engine.old.epochs proc) ≡ true → 0 < notes.old.spare }
+    ensures makes { Makes (λ _. told.Fine) (died_answer (state_of engine.old) proc) (max now engine.old.latest) (event.Died proc)
+        (after_died proc (max now engine.old.latest) (state_of engine.old)) (desk_of engine.old notes.old) result (desk_of engine.new notes.new) }
+    ensures leaves { Leaves notes.old.spare notes.old result notes.new }
+{
+    let moment = later(now, engine.latest());
+    match notes.going() {
+        Ok(()) => {}
+        Err(fault) => return Err(fault),
+    }
+    match engine.died(proc, now) {
+        Ok(()) => {}
+        Err(refusal) => return Err(notes.refuse(refusal)),
+    }
+    let entry = Entry {
+        moment,
+        event: Event::Died { proc },
+        answer: Told::Fine,
+    };
+    notes.note(entry)
+}
+
+impl<J: Journal> Desk<J> {
+    /// A process died. It takes no memory.
+    pub fn died(&mut self, proc: ProcNo, now: Moment) -> Result<(), DeskFault>
+        ensures { Makes (λ _. told.Fine) (died_answer (state_of self.old.engine) proc) (max now self.old.engine.latest) (event.Died proc)
+            (after_died proc (max now self.old.engine.latest) (state_of self.old.engine)) self.old result self.new }
+    {
+        died(&mut self.engine, &mut self.notes, proc, now)
+    }
+}

@@ -1,0 +1,79 @@
+//! Outcomes of checks are taken.
+ghost use Rattle.std.specs.Prelude.{◌≡◌, ◌+◌, ℕ, max, Some, IfOk};
+ghost use Rattle.sq_checks.specs.OpenChecks.{CheckParts};
+ghost use Rattle.sq_checks.specs.Records.{judged_of};
+ghost use Rattle.sq_checks.specs.Tables.{value_at};
+ghost use Rattle.sq_rules.specs.declared.entries.Event.TheVariants as event;
+ghost use Rattle.sq_rules.specs.declared.entries.Told.TheVariants as told;
+ghost use Rattle.sq_state.specs.Answers.{take_answer};
+ghost use Rattle.sq_state.specs.Changes.{after_take};
+ghost use Rattle.sq_engine.specs.EngineViews.{state_of};
+ghost use Rattle.sq_desk.specs.Calling.{Leaves, Makes, desk_of, load_of};
+
+use crate::desks::Desk;
+use crate::notes::Notes;
+use sq_base::{CheckNo, Moment, WantOfMemory};
+use sq_calls::DeskFault;
+use sq_checks::Record;
+use sq_engine::Engine;
+use sq_note::Journal;
+use sq_rules::{Entry, Event, Told};
+use sq_state::{copy_outcome, later};
+use std::alloc::Global;
+
+// The outcome of a check is taken, and the check is over.
+fn take<J: Journal>(
+    engine: &mut Engine,
+    notes: &mut Notes<J>,
+    alloc: Global,
+    check: CheckNo,
+    now: Moment,
+) -> Result<Record, DeskFault>
+    ensures makes { Makes (λ r. told.Judged r.epoch r.outcome) (take_answer (state_of engine.old) check) (max now engine.old.latest) (event.Take check)
+        (after_take check (max now engine.old.latest) (state_of engine.old)) (desk_of engine.old notes.old) result (desk_of engine.new notes.new) }
+    ensures leaves { Leaves (load_of engine.old + 1) notes.old result notes.new }
+    ensures record { IfOk result (λ r. (k : CheckParts) → value_at engine.old.checks check ≡ Some k → r ≡ judged_of check r.outcome k) }
+{
+    let moment = later(now, engine.latest());
+    match notes.ready(engine.load(), 1) {
+        Ok(()) => {}
+        Err(fault) => return Err(fault),
+    }
+    let outcome = match engine.outcome(check) {
+        Ok(outcome) => match copy_outcome(alloc, outcome) {
+            Ok(outcome) => outcome,
+            Err(WantOfMemory) => return Err(DeskFault::WantOfMemory),
+        },
+        Err(refusal) => return Err(notes.refuse(refusal)),
+    };
+    let record = match engine.take(check, now) {
+        Ok(record) => record,
+        Err(refusal) => return Err(notes.refuse(refusal)),
+    };
+    // For the proof: its outcome is the verdict.
+    let _outcome = record.outcome();
+    let entry = Entry {
+        moment,
+        event: Event::Take { check },
+        answer: Told::Judged {
+            epoch: record.epoch(),
+            outcome,
+        },
+    };
+    match notes.note(entry) {
+        Ok(()) => Ok(record),
+        Err(fault) => Err(fault),
+    }
+}
+
+impl<J: Journal> Desk<J> {
+    /// The outcome of a check is taken, and the check is over. The record comes exactly where its entry is in the
+    /// journal.
+    pub fn take(&mut self, alloc: Global, check: CheckNo, now: Moment) -> Result<Record, DeskFault>
+        ensures makes { Makes (λ r. told.Judged r.epoch r.outcome) (take_answer (state_of self.old.engine) check) (max now self.old.engine.latest) (event.Take check)
+            (after_take check (max now self.old.engine.latest) (state_of self.old.engine)) self.old result self.new }
+        ensures record { IfOk result (λ r. (k : CheckParts) → value_at self.old.engine.checks check ≡ Some k → r ≡ judged_of check r.outcome k) }
+    {
+        take(&mut self.engine, &mut self.notes, alloc, check, now)
+    }
+}

@@ -1,0 +1,2 @@
+mod HubLaws
+mod SameLaws

@@ -1,0 +1,10 @@
+use Rattle.std.proofs.Common.{◌≡◌, ◌≤◌}
+use Rattle.sq_hub.proofs.judging.finish.Given as goal
+
+-- nothing was asked or granted meanwhile
+abbrev pub invariant-loop : goal.invariant-loop
+invariant-loop g l = record {
+  asked : g.H.Hub.asked l.hub ≡ g.H.Hub.asked l.fn.hub;
+  refused_later : g.H.Hub.refused l.fn.hub ≤ g.H.Hub.refused l.hub;
+  granted : g.H.Hub.granted l.hub ≡ g.H.Hub.granted l.fn.hub;
+}

@@ -1,0 +1,2 @@
+mod QuestionLaws
+mod PipeLaws

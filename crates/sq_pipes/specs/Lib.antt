@@ -1,0 +1,2 @@
+pub mod PipeViews
+pub mod Pipes

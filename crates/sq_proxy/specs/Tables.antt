@@ -1,9 +1,0 @@
--- The machine's tables: values by number.
-use Rattle.std.specs.Prelude.{ℕ, List}
-use Rattle.std.specs.Map.{lookup}
-use Rattle.std.specs.Ordering.{nat_cmp, is_eq}
-use Rattle.std.specs.declared.option.Option.{Option}
-
--- what a table has at a number
-abbrev pub value_at : {A : Type 0} → List (ℕ × A) → ℕ → Option A
-value_at entries c = lookup (λ k. is_eq (nat_cmp c k)) entries

@@ -1,0 +1,38 @@
+use Rattle.std.proofs.Common.{◌∷◌, [], pos, subst}
+use Rattle.std.specs.Io.KnownBytes.{prepend_known}
+use Rattle.sq_outside.specs.SourceLines.{lines}
+use Rattle.sq_outside.specs.Told.{IsNotTold}
+use Rattle.sq_replay.specs.Entering.{IfMissed}
+use Rattle.sq_replay.specs.MachineViews.{machine_of}
+use Rattle.sq_replay.specs.RunText.{begun_history, run_from, run_lines}
+use Rattle.sq_replay.specs.Runs.{RunsOver, missed}
+use Rattle.sq_replay.proofs.BeginLaws.{begins_first, from_first_goes, from_first_stops}
+use Rattle.sq_replay.proofs.GrowthLaws.{from_grows}
+use Rattle.sq_replay.proofs.OpeningLaws.{adds_then}
+use Rattle.sq_replay.proofs.beginning.run_from.Goals as goal
+
+pub returns-in-Err-clause-runs : goal.returns-in-Err-clause-runs
+returns-in-Err-clause-runs g c = λ base l states w.
+    begins_first _ _ _ _ base _ _ c.args.setup l (λ files configs bytes. run_from files configs c.args.place (lines bytes) c.args.now c.args.event) c.args.now (pos 0) c.in-Err.end c.requires.good
+    (λ files configs bytes. from_grows files configs c.args.place c.args.now (lines bytes) c.args.event) (λ configs good at. c.in-Err.ensures.begins base configs good at w)
+
+pub returns-in-Err-run_event-clause-runs : goal.returns-in-Err-run_event-clause-runs
+returns-in-Err-run_event-clause-runs g c = λ base l states w.
+    from_first_stops _ _ _ _ base _ _ c.args.setup l c.args.place c.args.now c.args.event c.in-Err-run_event.end c.requires.good states
+    (λ configs good at files tells next. c.in-Err-run_event.ensures.goes base configs (begun_history configs c.args.now (pos 0)) files (c.in-Ok.ensures.begins base configs good at w) tells next)
+
+pub returns-clause-runs : goal.returns-clause-runs
+returns-clause-runs g c = λ base l states w.
+    from_first_goes (machine_of c.run_event.new.machine) _ _ (g.F.Files.opened c.run_event.new.files) _ _ base (g.O.Sink.contents c.run_event.new.out) _ c.run_event.new.page.items _ c.args.setup l c.args.place c.args.now c.args.event c.run_rest.result c.requires.good states
+    c.in-Ok-run_event.ensures.counts c.run_rest.ensures.adds
+    (λ configs good at files tells next. c.in-Ok-run_event.ensures.goes base configs (begun_history configs c.args.now (pos 0)) files (c.in-Ok.ensures.begins base configs good at w) tells next)
+    (λ configs t is.
+    subst (λ tx. RunsOver tx (g.F.Files.opened c.run_event.new.files) (g.F.Files.opened c.run_rest.new.files) (prepend_known c.args.held.now (g.S.Source.left c.args.script.now)) base (g.O.Sink.contents c.run_rest.new.out)
+    c.run_rest.new.page.items configs t (λ shelf bytes. run_lines shelf configs t 2 c.args.place (lines bytes)) c.run_rest.result)
+    c.in-Ok-run_event.ensures.texts (c.run_rest.ensures.runs base configs t is))
+
+pub returns-clause-adds : goal.returns-clause-adds
+returns-clause-adds g c = adds_then _ _ _ c.in-Ok-run_event.ensures.adds c.run_rest.ensures.adds
+
+pub returns-clause-missing : goal.returns-clause-missing
+returns-clause-missing g c = subst (λ t. IfMissed (missed c.run_rest.result) (IsNotTold t)) c.in-Ok-run_event.ensures.texts c.run_rest.ensures.missing

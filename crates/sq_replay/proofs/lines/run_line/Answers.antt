@@ -1,0 +1,24 @@
+use Rattle.std.proofs.Common.{OnOk, subst, sym}
+use Rattle.sq_journal.specs.EntryText.{written}
+use Rattle.sq_replay.specs.MachineViews.{machine_of}
+use Rattle.sq_replay.specs.Runs.{AddsCount, Goes, openings_in, whole_line}
+use Rattle.sq_replay.specs.RunText.{stated_step}
+use Rattle.sq_replay.proofs.LoopLaws.{ahead_stated, stated_grows}
+use Rattle.sq_replay.proofs.lines.run_line.Goals as goal
+
+pub returns-in-Ok-clause-goes : goal.returns-in-Ok-clause-goes
+returns-in-Ok-clause-goes g c = λ base configs h shelf ls at tells ahead.
+    subst (λ o. Goes (machine_of c.run_event.new.machine) base (g.O.Sink.contents c.run_event.new.out) c.run_event.new.page.items configs h (stated_step shelf configs h c.args.number o) c.run_event.result)
+    (sym c.in-Ok.ensures.read)
+    (c.run_event.ensures.goes base configs h shelf at tells (ahead_stated shelf configs h (whole_line c.args.line.now) ls _ c.in-Ok.ensures.read ahead))
+
+pub returns-in-Ok-clause-counts : goal.returns-in-Ok-clause-counts
+returns-in-Ok-clause-counts g c =
+    subst (λ o. OnOk c.run_event.result (AddsCount (g.F.Files.opened c.args.files.now) (g.F.Files.opened c.run_event.new.files) (openings_in o))) (sym c.in-Ok.ensures.read) c.run_event.ensures.counts
+
+pub returns-in-Err-WantOfMemory-clause-goes : goal.returns-in-Err-WantOfMemory-clause-goes
+returns-in-Err-WantOfMemory-clause-goes g c = λ base configs h shelf ls at tells ahead. record {
+  front = written h;
+  begins = stated_grows shelf configs h c.args.number c.args.line.now;
+  wrote = at.wrote;
+}

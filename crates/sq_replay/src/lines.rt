@@ -1,0 +1,204 @@
+//! The lines of a script, run one after another.
+ghost use Rattle.std.specs.Prelude.{◌≡◌, ◌≤◌, ℕ, List, Option, true, false, IfErr, IsErrOf, OnOk};
+ghost use Rattle.std.specs.Io.KnownBytes.{prepend_known};
+ghost use Rattle.sq_outside.specs.Causes.{Rose};
+ghost use Rattle.sq_outside.specs.SourceLines.{lines, total_limit};
+ghost use Rattle.sq_outside.specs.Told.{IsNotTold};
+ghost use Rattle.sq_rules.specs.Configurations.{Configuration};
+ghost use Rattle.sq_rules.specs.Entries.{History, is_event};
+ghost use Rattle.sq_rules.specs.Events.{begins_epoch};
+ghost use Rattle.sq_rules.specs.Readings.{current};
+ghost use Rattle.sq_rules.specs.declared.entries.Event.TheVariants as event;
+ghost use Rattle.sq_replay.specs.Entering.{IfMissed, IsPlainEnd, StepHasCauses, named_of};
+ghost use Rattle.sq_replay.specs.MachineViews.{machine_of};
+ghost use Rattle.sq_replay.specs.RunText.{Shelf, event_step, run_lines, stated};
+ghost use Rattle.sq_replay.specs.Runs.{Adds, AddsCount, At, Goes, HasNext, IsRunEnd, IsStepEnd, LineGoes, RunHasCauses, RunsOver, Tells, missed, missed_by, openings_in, openings_of};
+ghost use Rattle.sq_replay.specs.declared.ends.RunEnd.TheVariants as ends;
+
+use crate::ends::RunEnd;
+use crate::entering::enter;
+use crate::machines::Machine;
+use crate::named::read_named;
+use crate::page::Untold;
+use crate::stops::Stop;
+use sq_base::{Moment, Text};
+use sq_journal::{EntryFault, read_event};
+use sq_outside::{Files, Found, Held, Sink, Source, Unread, next_line};
+use sq_rules::Event;
+use std::alloc::Global;
+
+// The name of a reconfiguration's file, and any other event as it is.
+fn named_of(event: Event) -> Result<Text, Event>
+    requires { is_event event ≡ true }
+    ensures named { result ≡ named_of event }
+    ensures event { IfErr result (λ e. is_event e ≡ true) }
+    ensures plain { IfErr result (λ e. begins_epoch e ≡ false) }
+{
+    match event {
+        Event::Reconfigure { text } => Ok(text),
+        event => Err(event),
+    }
+}
+
+// Runs the event of line `number`, which names no file.
+fn run_plain<O: Sink>(
+    alloc: Global,
+    number: u64,
+    now: Moment,
+    event: Event,
+    machine: &mut Machine,
+    page: &mut Vec<u8>,
+    out: &mut O,
+) -> Result<(), RunEnd>
+    requires event { is_event event ≡ true }
+    requires plain { begins_epoch event ≡ false }
+    ensures goes { (base : Option (List ℕ)) (configs : List Configuration) (h : History) (shelf : Shelf) → At (machine_of machine.old) base (O.contents out.old) page.old.items configs h
+        → Goes (machine_of machine.new) base (O.contents out.new) page.new.items configs h (event_step shelf configs h number now event) result }
+    ensures later { O.faults out.old ≤ O.faults out.new }
+    ensures write { IsErrOf result ends.WriteFault → Rose (O.faults out.old) (O.faults out.new) }
+    ensures quiet { (IsErrOf result ends.WriteFault → ⊥) → O.faults out.new ≡ O.faults out.old }
+    ensures end { IfErr result IsPlainEnd }
+{
+    let answer = match machine.make(alloc, &event, now) {
+        Ok(answer) => answer,
+        Err(Stop::Refused) => return Err(RunEnd::Script(number)),
+        Err(Stop::WantOfMemory) => return Err(RunEnd::WantOfMemory),
+    };
+    match enter(alloc, machine.latest(), event, answer, machine, page, out) {
+        Ok(()) => Ok(()),
+        Err(Untold::Failed) => Err(RunEnd::WriteFault),
+        Err(Untold::WantOfMemory) => Err(RunEnd::WantOfMemory),
+    }
+}
+
+// Runs the reconfiguration of line `number` by the file of this name.
+fn run_named<F: Files, O: Sink>(
+    alloc: Global,
+    number: u64,
+    now: Moment,
+    name: Text,
+    machine: &mut Machine,
+    files: &mut F,
+    page: &mut Vec<u8>,
+    out: &mut O,
+) -> Result<(), RunEnd>
+    ensures goes { (base : Option (List ℕ)) (configs : List Configuration) (h : History) (shelf : Shelf) → At (machine_of machine.old) base (O.contents out.old) page.old.items configs h
+        → Tells (F.texts files.old) (F.opened files.old) (F.opened files.new) shelf (current h) (missed_by result) → HasNext shelf configs h (event.Reconfigure name)
+        → Goes (machine_of machine.new) base (O.contents out.new) page.new.items configs h (event_step shelf configs h number now (event.Reconfigure name)) result }
+    ensures adds { Adds (F.opened files.old) (F.opened files.new) }
+    ensures counts { OnOk result (AddsCount (F.opened files.old) (F.opened files.new) 1) }
+    ensures missing { IfMissed (missed_by result) (IsNotTold (F.texts files.old)) }
+    ensures causes { StepHasCauses (F.faults files.old) (F.faults files.new) (O.faults out.old) (O.faults out.new) result }
+    ensures texts { F.texts files.new ≡ F.texts files.old }
+    ensures end { IfErr result IsStepEnd }
+{
+    let (text, setup) = match read_named(alloc, name, files) {
+        Ok(named) => named,
+        Err(end) => return Err(end),
+    };
+    let answer = match machine.reconfigure(alloc, setup, now) {
+        Ok(answer) => answer,
+        Err(Stop::Refused) => return Err(RunEnd::Script(number)),
+        Err(Stop::WantOfMemory) => return Err(RunEnd::WantOfMemory),
+    };
+    let event = Event::Reconfigure { text };
+    match enter(alloc, machine.latest(), event, answer, machine, page, out) {
+        Ok(()) => Ok(()),
+        Err(Untold::Failed) => Err(RunEnd::WriteFault),
+        Err(Untold::WantOfMemory) => Err(RunEnd::WantOfMemory),
+    }
+}
+
+/// Runs the event of line `number`, at this moment.
+pub fn run_event<F: Files, O: Sink>(
+    alloc: Global,
+    number: u64,
+    now: Moment,
+    event: Event,
+    machine: &mut Machine,
+    files: &mut F,
+    page: &mut Vec<u8>,
+    out: &mut O,
+) -> Result<(), RunEnd>
+    requires { is_event event ≡ true }
+    ensures goes { (base : Option (List ℕ)) (configs : List Configuration) (h : History) (shelf : Shelf) → At (machine_of machine.old) base (O.contents out.old) page.old.items configs h
+        → Tells (F.texts files.old) (F.opened files.old) (F.opened files.new) shelf (current h) (missed_by result) → HasNext shelf configs h event
+        → Goes (machine_of machine.new) base (O.contents out.new) page.new.items configs h (event_step shelf configs h number now event) result }
+    ensures adds { Adds (F.opened files.old) (F.opened files.new) }
+    ensures counts { OnOk result (AddsCount (F.opened files.old) (F.opened files.new) (openings_of event)) }
+    ensures missing { IfMissed (missed_by result) (IsNotTold (F.texts files.old)) }
+    ensures causes { StepHasCauses (F.faults files.old) (F.faults files.new) (O.faults out.old) (O.faults out.new) result }
+    ensures texts { F.texts files.new ≡ F.texts files.old }
+    ensures end { IfErr result IsStepEnd }
+{
+    match named_of(event) {
+        Ok(name) => run_named(alloc, number, now, name, machine, files, page, out),
+        Err(event) => run_plain(alloc, number, now, event, machine, page, out),
+    }
+}
+
+// Runs line `number`.
+fn run_line<F: Files, O: Sink>(
+    alloc: Global,
+    number: u64,
+    line: &[u8],
+    machine: &mut Machine,
+    files: &mut F,
+    page: &mut Vec<u8>,
+    out: &mut O,
+) -> Result<(), RunEnd>
+    ensures goes { (base : Option (List ℕ)) (configs : List Configuration) → LineGoes (machine_of machine.old) (machine_of machine.new) (F.texts files.old) (F.opened files.old) (F.opened files.new)
+        base (O.contents out.old) (O.contents out.new) page.old.items page.new.items configs number line.now result }
+    ensures adds { Adds (F.opened files.old) (F.opened files.new) }
+    ensures counts { OnOk result (AddsCount (F.opened files.old) (F.opened files.new) (openings_in (stated line.now))) }
+    ensures missing { IfMissed (missed_by result) (IsNotTold (F.texts files.old)) }
+    ensures causes { StepHasCauses (F.faults files.old) (F.faults files.new) (O.faults out.old) (O.faults out.new) result }
+    ensures texts { F.texts files.new ≡ F.texts files.old }
+    ensures end { IfErr result IsStepEnd }
+{
+    match read_event(alloc, line) {
+        Ok((now, event)) => run_event(alloc, number, now, event, machine, files, page, out),
+        Err(EntryFault::BadEntry) => Err(RunEnd::Script(number)),
+        Err(EntryFault::WantOfMemory) => Err(RunEnd::WantOfMemory),
+    }
+}
+
+/// Runs the lines that are left, from line 2 on. `place` bytes came before them.
+pub fn run_rest<S: Source, F: Files, O: Sink>(
+    alloc: Global,
+    place: u64,
+    machine: &mut Machine,
+    held: &mut Held,
+    script: &mut S,
+    files: &mut F,
+    page: &mut Vec<u8>,
+    out: &mut O,
+) -> RunEnd
+    requires { place ≤ total_limit }
+    ensures runs { (base : Option (List ℕ)) (configs : List Configuration) (h : History) → At (machine_of machine.old) base (O.contents out.old) page.old.items configs h
+        → RunsOver (F.texts files.old) (F.opened files.old) (F.opened files.new) (prepend_known held.old (S.left script.old)) base (O.contents out.new) page.new.items configs h
+        (λ shelf bytes. run_lines shelf configs h 2 place (lines bytes)) result }
+    ensures adds { Adds (F.opened files.old) (F.opened files.new) }
+    ensures missing { IfMissed (missed result) (IsNotTold (F.texts files.old)) }
+    ensures causes { RunHasCauses (S.faults script.old) (S.faults script.new) (F.faults files.old) (F.faults files.new) (O.faults out.old) (O.faults out.new) result }
+    ensures texts { F.texts files.new ≡ F.texts files.old }
+    ensures end { IsRunEnd result }
+{
+    let mut number = 2;
+    let mut place = place;
+    let mut line = Vec::new(alloc);
+    'lines: loop {
+        match next_line(held, script, &mut place, &mut line) {
+            Ok(Found::Whole) => {}
+            Ok(Found::End) => return RunEnd::Ok,
+            Ok(Found::Faulty) => return RunEnd::Script(number),
+            Err(Unread::Failed) => return RunEnd::ReadFault,
+            Err(Unread::WantOfMemory) => return RunEnd::WantOfMemory,
+        }
+        match run_line(alloc, number, line.as_slice(), machine, files, page, out) {
+            Ok(()) => {}
+            Err(end) => return end,
+        }
+        number += 1;
+    }
+}

@@ -1,0 +1,2 @@
+pub mod ControlViews
+pub mod Rereading

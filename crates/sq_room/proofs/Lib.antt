@@ -1,0 +1,2 @@
+mod BookLaws
+mod ShareLaws

@@ -1,0 +1,28 @@
+//! What the threads of a server share, each value behind a lock of its own.
+//!
+//! `Hall` is the desk with the books of its requests, reconfigurations and refusals; `Door` is the listener with the
+//! word whether it failed. Their methods say what a call does to the value and to the shares that are handed in, and
+//! their types keep what their books count. `Room` is the desk's lock, and `LockDesk` the desk behind it, as one thread
+//! sees it; `ControlDesk` is the same with the right to make reconfigurations. The lines that take a lock stand in
+//! `holds`, `door_holds`
+//! and `waits`.
+#![tactic(auto)]
+
+mod control_desk;
+mod counting;
+mod door;
+mod door_holds;
+mod hall;
+mod hall_calls;
+mod holds;
+mod lock_desk;
+mod room;
+mod waits;
+
+pub use control_desk::ControlDesk;
+pub use door::Door;
+pub use door_holds::{accept, has_failed};
+pub use hall::Hall;
+pub use lock_desk::LockDesk;
+pub use room::Room;
+pub use waits::{changes, set_done, wait_answered, wait_due};

@@ -1,0 +1,5 @@
+pub mod Entries
+pub mod Handing
+pub mod LineViews
+pub mod Pumps
+pub mod Turning

@@ -1,0 +1,86 @@
+//! `ServePump`: what performs the acts of a desk.
+ghost use Rattle.std.specs.Prelude.{◌≡◌, ◌++◌, ◌∷◌, ◌<◌, [], None, IfNone, IfSome};
+
+use crate::turns::{Left, Reader};
+use sq_base::ProcNo;
+use sq_calls::DeskCalls;
+use sq_outside::Spawner;
+use sq_pipes::Pipes;
+use std::alloc::Global;
+use std::marker::Model;
+
+/// What performs the acts of a desk: it starts processes, writes questions to them and stops them. A contract sees what
+/// its desk and its spawner tell, the halves of processes, and what a turn left.
+#[derive(Drop)]
+pub struct ServePump<S: Spawner, K: DeskCalls> {
+    pub(crate) alloc: Global,
+    pub(crate) spawner: S,
+    pub(crate) desk: K,
+    pub(crate) pipes: Pipes<S::ChildIn>,
+    pub(crate) readers: Vec<Reader<S::ChildOut>>,
+    pub(crate) left: Option<Left<S::ChildOut, S::ChildIn>>,
+}
+
+impl<S: Spawner, K: DeskCalls> Model for ServePump<S, K> {
+    ghost use Rattle.std.specs.Prelude.{◌-◌, vec_capacity, vec_len};
+    ghost use Rattle.sq_pipes.specs.PipeViews.{pipes_of};
+    ghost use Rattle.sq_serve.specs.Pumps.{PumpView};
+
+    ghost Value = { PumpView S.ChildOut S.ChildIn };
+
+    ghost view = { λ p. record {
+      told = K.told p.desk;
+      refused = K.refused p.desk;
+      made = K.made p.desk;
+      starts = S.starts p.spawner;
+      faults = S.faults p.spawner;
+      pipes = pipes_of p.pipes;
+      readers = p.readers.items;
+      room = vec_capacity p.readers - vec_len p.readers;
+      left = p.left;
+    } };
+}
+
+impl<S: Spawner, K: DeskCalls> ServePump<S, K> {
+    /// A pump over this spawner and this desk, which holds nothing.
+    pub fn new(alloc: Global, spawner: S, desk: K) -> ServePump<S, K>
+        ensures told { result.told ≡ K.told desk }
+        ensures refused { result.refused ≡ K.refused desk }
+        ensures made { result.made ≡ K.made desk }
+        ensures starts { result.starts ≡ S.starts spawner }
+        ensures faults { result.faults ≡ S.faults spawner }
+        ensures pipes { result.pipes ≡ [] }
+        ensures readers { result.readers ≡ [] }
+        ensures left { result.left ≡ None }
+    {
+        ServePump {
+            alloc,
+            spawner,
+            desk,
+            pipes: Pipes::new(alloc),
+            readers: Vec::new(alloc),
+            left: None,
+        }
+    }
+
+    /// Hands out the half of a process that is to be read, the one that was taken up last, for a keeper. None where it
+    /// holds none. It takes no memory.
+    pub fn reader(&mut self) -> Option<(ProcNo, S::ChildOut)>
+        ensures some { IfSome result (λ r. self.old.readers ≡ self.new.readers ++ record { proc = r.0; from = r.1 } ∷ []) }
+        ensures room { IfSome result (λ r. 0 < self.new.room) }
+        ensures none { IfNone result ((self.old.readers ≡ []) × (self.new ≡ self.old)) }
+        ensures same { self.new ≡ record self.old { readers = self.new.readers; room = self.new.room } }
+    {
+        let Reader { proc, from } = self.readers.pop()?;
+        Some((proc, from))
+    }
+
+    /// Takes back one that was handed out since the last turn, where its keeper could not be started. It takes no memory.
+    pub fn unread(&mut self, proc: ProcNo, from: S::ChildOut)
+        requires { 0 < self.old.room }
+        ensures readers { self.new.readers ≡ self.old.readers ++ record { proc = proc; from = from } ∷ [] }
+        ensures same { self.new ≡ record self.old { readers = self.new.readers; room = self.new.room } }
+    {
+        self.readers.push_reserved(Reader { proc, from });
+    }
+}

@@ -1,0 +1,9 @@
+mod BeginLaws
+mod CarryLaws
+mod ForwardLaws
+mod GoesLaws
+mod PartLaws
+mod ServeLaws
+mod SessionLaws
+mod TellLaws
+mod TurnLaws

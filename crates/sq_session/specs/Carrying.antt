@@ -1,0 +1,40 @@
+-- What follows an allowed verdict.
+use Rattle.std.specs.Prelude.{◌≡◌, ℕ, List, [], ◌∷◌, ◌++◌, Bool, true, false, ◌&&◌, Ok, Err}
+use Rattle.std.specs.declared.option.Option.{Option}
+use Rattle.sq_base.specs.Addresses.{Address}
+use Rattle.sq_base.specs.Requests.{HttpRequest}
+use Rattle.sq_base.specs.declared.plans.BodyPlan.{BodyPlan}
+use Rattle.sq_checks.specs.Records.{Judged}
+use Rattle.sq_outside.specs.Dials.{Dialled}
+use Rattle.sq_session.specs.Fronts.{FrontTold, OfOpen, OfDecide, OfSit, names_pool}
+use Rattle.sq_session.specs.Steps.{Goes}
+use Rattle.sq_session.specs.Turns.{is_connect, carried, recorded}
+use Rattle.sq_session.specs.declared.ends.Carried.{Carried}
+
+-- method, version and fields are the same
+pub record IsSameMessage (sent judged : HttpRequest) : Type 0 where
+  pub method : sent.method ≡ judged.method
+  pub minor : sent.minor ≡ judged.minor
+  pub fields : sent.fields ≡ judged.fields
+
+-- a seat was given, if there was a pool
+abbrev pub sat : List FrontTold → Bool
+sat (OfSit (Ok u) ∷ more) = true
+sat (OfSit (Err e) ∷ more) = false
+sat (OfDecide d ∷ more) = false
+sat (OfOpen o ∷ more) = false
+sat [] = false
+
+-- the part of a turn from the scheme on, with the answers that the front gave in it
+pub record Carries (r : HttpRequest) (addr : Address) (p : BodyPlan) (rest : List ℕ) (j : Judged) (stood stands : List FrontTold → Type 0) (left a b : Option (List ℕ))
+    (dialled_before : Option Dialled) (dialled_now : Dialled) (failed : Type 0) (g h : ℕ) (ended : Carried) : Type 0 where
+  pub answers : List FrontTold
+  pub told : (list : List FrontTold) → stood list → stands (list ++ answers)
+  pub goes : Goes (is_connect r) (carried r addr p rest answers) [] (names_pool j && sat answers) left a b dialled_before dialled_now failed g h ended
+
+-- the part of a turn from the record on
+pub record Obeys (r : HttpRequest) (addr : Address) (p : BodyPlan) (rest : List ℕ) (j : Judged) (stood stands : List FrontTold → Type 0) (left a b : Option (List ℕ))
+    (dialled_before : Option Dialled) (dialled_now : Dialled) (failed : Type 0) (g h : ℕ) (ended : Carried) : Type 0 where
+  pub answers : List FrontTold
+  pub told : (list : List FrontTold) → stood list → stands (list ++ answers)
+  pub goes : Goes (is_connect r) (recorded r addr p rest j answers) [] (names_pool j && sat answers) left a b dialled_before dialled_now failed g h ended

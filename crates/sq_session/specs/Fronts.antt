@@ -1,0 +1,52 @@
+-- What a front's answers say: the engine and the pools as one connection sees them.
+use Rattle.std.specs.Prelude.{◌≡◌, ◌⊎◌, ℕ, Bool, is_some, ⊤}
+use Rattle.std.specs.declared.result.Result.{Result}
+use Rattle.sq_base.specs.Requests.{HttpRequest}
+use Rattle.sq_checks.specs.Records.{Judged}
+use Rattle.sq_outside.specs.Causes.{Rose, raised}
+use Rattle.sq_session.specs.declared.front.Opened.{Opened}
+use Rattle.sq_session.specs.declared.front.Opened.TheVariants as opened
+use Rattle.sq_session.specs.declared.front.SitFault.{SitFault}
+use Rattle.sq_session.specs.declared.front.Decided.{Decided}
+use Rattle.sq_session.specs.declared.front.Decided.TheVariants.{Record, Mismatch, Refused, JournalFault, WantOfMemory}
+
+-- an answer that a front gave
+pub data FrontTold : Type 0 where
+  OfOpen : Opened → FrontTold
+  OfDecide : Decided → FrontTold
+  OfSit : Result (Unit {0}) SitFault → FrontTold
+
+-- a record has the request that was asked about; another that was judged is told
+abbrev pub Decides : HttpRequest → Decided → Type 0
+Decides r (Record j) = j.sight.request ≡ r
+Decides r (Mismatch other) = other ≡ r → ⊥
+Decides r (Refused why) = ⊤
+Decides r JournalFault = ⊤
+Decides r WantOfMemory = ⊤
+
+-- a question more, or none where there is no record
+abbrev pub Asks : ℕ → ℕ → Decided → Type 0
+Asks before now (Record j) = now ≡ raised before
+Asks before now (Mismatch other) = now ≡ raised before
+Asks before now (Refused why) = (now ≡ before) ⊎ (now ≡ raised before)
+Asks before now JournalFault = (now ≡ before) ⊎ (now ≡ raised before)
+Asks before now WantOfMemory = (now ≡ before) ⊎ (now ≡ raised before)
+
+-- a refusal comes only where the count of refusals rose
+abbrev pub OpenRefuses : ℕ → ℕ → Opened → Type 0
+OpenRefuses before now opened.In = ⊤
+OpenRefuses before now opened.Full = Rose before now
+OpenRefuses before now (opened.Refused why) = Rose before now
+OpenRefuses before now opened.JournalFault = Rose before now
+OpenRefuses before now opened.WantOfMemory = ⊤
+
+abbrev pub DecideRefuses : ℕ → ℕ → Decided → Type 0
+DecideRefuses before now (Record j) = ⊤
+DecideRefuses before now (Mismatch other) = ⊤
+DecideRefuses before now (Refused why) = Rose before now
+DecideRefuses before now JournalFault = Rose before now
+DecideRefuses before now WantOfMemory = ⊤
+
+-- the record names a pool
+abbrev pub names_pool : Judged → Bool
+names_pool j = is_some j.pool

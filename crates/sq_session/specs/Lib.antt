@@ -1,0 +1,9 @@
+pub mod Begins
+pub mod Carrying
+pub mod Forwarding
+pub mod Fronts
+pub mod Sessions
+pub mod Steps
+pub mod Telling
+pub mod Told
+pub mod Turns

@@ -1,0 +1,108 @@
+//! What a client's input begins with.
+ghost use Rattle.std.specs.Prelude.{◌≡◌, ◌≤◌, ◌+◌, length, max, count_by};
+ghost use Rattle.sq_head.specs.ReplyHeads.{most_bytes};
+ghost use Rattle.sq_outside.specs.Causes.{Rose};
+ghost use Rattle.sq_forward.specs.Halves.{to_come, read_limit};
+ghost use Rattle.sq_session.specs.Told.{BeginsTold};
+ghost use Rattle.sq_session.specs.Begins.{is_blank, ended_as, is_host, fits_hosts};
+
+use sq_base::{Field, Request};
+use sq_forward::{Half, HeadFound, find_head};
+use sq_outside::Source;
+use sq_request::{BadRequest, read_request};
+use std::alloc::Global;
+use std::sync::Wait;
+
+/// What an input begins with.
+#[derive(Drop, Debug)]
+pub enum Begun {
+    /// A request.
+    Asks(Request),
+    /// Nothing, or empty lines alone.
+    Nothing,
+    /// A head that the end cuts off.
+    Cut,
+    /// A head with too many bytes or fields.
+    TooLarge,
+    /// A head that is refused.
+    Bad,
+    /// The link failed.
+    Failed,
+    /// There was no memory.
+    WantOfMemory,
+}
+
+/// Reads the head of the next request. What follows it stays.
+pub(crate) fn next_request<R: Wait, S: Source>(rt: &R, alloc: Global, client: &mut Half<S>) -> Begun
+    ensures begins { BeginsTold (to_come S.left client.old) (to_come S.left client.new) result }
+    ensures cause { result ≡ Begun.Failed → Rose (S.faults client.old.source) (S.faults client.new.source) }
+    ensures later { S.faults client.old.source ≤ S.faults client.new.source }
+    ensures dialled { S.origin client.new.source ≡ S.origin client.old.source }
+    ensures few { length client.new.ahead ≤ max (length client.old.ahead) (most_bytes + read_limit) }
+{
+    let len = match find_head(rt, alloc, client) {
+        HeadFound::Whole(len) => len,
+        HeadFound::TooLarge => return Begun::TooLarge,
+        HeadFound::Ended => return ended(client.ahead.as_bytes()),
+        HeadFound::Failed => return Begun::Failed,
+        HeadFound::WantOfMemory => return Begun::WantOfMemory,
+    };
+    let (head, _) = client.ahead.as_bytes().split_at(len);
+    let request = match read_request(alloc, head) {
+        Ok(request) => request,
+        Err(BadRequest::BadHead) => return Begun::Bad,
+        Err(BadRequest::TooManyFields) => return Begun::TooLarge,
+        Err(BadRequest::BadTarget) => return Begun::Bad,
+        Err(BadRequest::WantOfMemory) => return Begun::WantOfMemory,
+    };
+    client.pass(alloc, len);
+    Begun::Asks(request)
+}
+
+// What an input is that ends before a head does.
+fn ended(ahead: &[u8]) -> Begun
+    ensures { result ≡ ended_as (is_blank ahead.now) }
+{
+    if is_blank(ahead) {
+        Begun::Nothing
+    } else {
+        Begun::Cut
+    }
+}
+
+// Whether the bytes are empty lines alone.
+fn is_blank(bytes: &[u8]) -> bool
+    ensures { result ≡ is_blank bytes.now }
+{
+    let mut after_cr = false;
+    for byte in bytes {
+        if *byte == b'\n' {
+            after_cr = false;
+        } else if *byte == b'\r' && !after_cr {
+            after_cr = true;
+        } else {
+            return false;
+        }
+    }
+    !after_cr
+}
+
+/// Whether the request has one Host field, or none in version 1.0. It takes no memory.
+pub(crate) fn fits_hosts(request: &Request) -> bool
+    ensures { result ≡ fits_hosts request.now }
+{
+    let hosts = host_count(request.fields.as_slice());
+    hosts == 1 || (hosts == 0 && request.minor == 0)
+}
+
+fn host_count(fields: &[Field]) -> usize
+    ensures { result ≡ count_by is_host fields.now }
+{
+    fields.iter().filter(|field| is_host(field)).count()
+}
+
+fn is_host(field: &Field) -> bool
+    ensures { result ≡ is_host field.now }
+{
+    field.name.as_bytes().eq_ignore_ascii_case(b"host")
+}

@@ -1,0 +1,158 @@
+//! `session`: one connection of a client.
+ghost use Rattle.std.specs.Prelude.{◌≡◌, ◌-◌, ◌≤◌, ◌⊎◌, false};
+ghost use Rattle.sq_outside.specs.Causes.{Rose};
+ghost use Rattle.sq_outside.specs.Dials.{IsClosed};
+ghost use Rattle.sq_head.specs.OwnReplies.{error_text};
+ghost use Rattle.sq_forward.specs.Halves.{to_come};
+ghost use Rattle.sq_session.specs.Told.{ServesTold, SessionTold};
+ghost use Rattle.sq_session.specs.Sessions.{TellsWhole, SessionHasCause, dry_after_session};
+
+use crate::ends::{Carried, End};
+use crate::front::{Front, Opened};
+use crate::telling::say;
+use crate::turning::turn;
+use sq_base::Addr;
+use sq_forward::{Half, Meter};
+use sq_head::Own;
+use sq_outside::{Dialer, Out, Sink, Source};
+use std::alloc::Global;
+use std::sync::Wait;
+use std::thread::Threads;
+
+/// How a session ended, and what it asked for and was granted.
+#[derive(Clone, Copy, Debug, PartialEq, Eq)]
+pub struct SessionEnd {
+    /// Why it ended.
+    pub why: End,
+    /// How many requests were asked about.
+    pub requests: u64,
+    /// How many bytes were granted on seats.
+    pub granted: u64,
+}
+
+/// Serves the connection of a client at this address and port, from its first byte to its last, and closes it. It
+/// may wait as long as a source gives bytes, and as a helper owes an answer.
+pub fn session<R: Threads + Wait + Sync, I: Source + Send, O: Out, F: Front, D: Dialer>(
+    rt: &R,
+    alloc: Global,
+    client: &mut Half<I>,
+    to: &mut O,
+    addr: Addr,
+    port: u16,
+    front: &mut F,
+    dialer: &mut D,
+) -> SessionEnd
+    requires dry { F.Meter.dry front.old ≡ 0 }
+    requires unseated { F.Meter.seated front.old ≡ false }
+    // What was written is what the turns of the input give, with the front's answers and the origins' bytes.
+    ensures told { SessionTold addr (to_come I.left client.old) (D.dialled dialer.old) (D.dialled dialer.new) (F.stands front.old) (F.stands front.new)
+        (O.Sink.contents to.old) (O.Sink.contents to.new) (Rose (D.faults dialer.old) (D.faults dialer.new))
+        (F.Meter.granted front.old) (F.Meter.granted front.new) result.why }
+    ensures requests { result.requests ≡ F.asked front.new - F.asked front.old }
+    ensures granted { result.granted ≡ F.Meter.granted front.new - F.Meter.granted front.old }
+    ensures cause { SessionHasCause (Rose (I.faults client.old.source) (I.faults client.new.source) ⊎ Rose (O.Sink.faults to.old) (O.Sink.faults to.new))
+        (Rose (D.faults dialer.old) (D.faults dialer.new)) result.why }
+    // Starved exactly where the front is that dry.
+    ensures dry { F.Meter.dry front.new ≡ dry_after_session result.why }
+    ensures unseated { F.Meter.seated front.new ≡ false }
+    ensures closed { IsClosed (O.closed to.new) }
+    ensures client_later { I.faults client.old.source ≤ I.faults client.new.source }
+    ensures to_later { O.Sink.faults to.old ≤ O.Sink.faults to.new }
+    ensures dialer_later { D.faults dialer.old ≤ D.faults dialer.new }
+{
+    let before = front.counted();
+    let why = open(rt, alloc, client, to, addr, port, front, dialer);
+    to.close();
+    let after = front.counted();
+    SessionEnd {
+        why,
+        requests: after.asked - before.asked,
+        granted: after.granted.saturating_sub(before.granted),
+    }
+}
+
+// Opens the connection, serves it and closes it; or says why it is not opened.
+fn open<R: Threads + Wait + Sync, I: Source + Send, O: Out, F: Front, D: Dialer>(
+    rt: &R,
+    alloc: Global,
+    client: &mut Half<I>,
+    to: &mut O,
+    addr: Addr,
+    port: u16,
+    front: &mut F,
+    dialer: &mut D,
+) -> End
+    requires dry { F.Meter.dry front.old ≡ 0 }
+    requires unseated { F.Meter.seated front.old ≡ false }
+    ensures told { SessionTold addr (to_come I.left client.old) (D.dialled dialer.old) (D.dialled dialer.new) (F.stands front.old) (F.stands front.new)
+        (O.Sink.contents to.old) (O.Sink.contents to.new) (Rose (D.faults dialer.old) (D.faults dialer.new))
+        (F.Meter.granted front.old) (F.Meter.granted front.new) result }
+    ensures cause { SessionHasCause (Rose (I.faults client.old.source) (I.faults client.new.source) ⊎ Rose (O.Sink.faults to.old) (O.Sink.faults to.new))
+        (Rose (D.faults dialer.old) (D.faults dialer.new)) result }
+    ensures dry { F.Meter.dry front.new ≡ dry_after_session result }
+    ensures unseated { F.Meter.seated front.new ≡ false }
+    ensures asked { F.asked front.old ≤ F.asked front.new }
+    ensures client_later { I.faults client.old.source ≤ I.faults client.new.source }
+    ensures to_later { O.Sink.faults to.old ≤ O.Sink.faults to.new }
+    ensures dialer_later { D.faults dialer.old ≤ D.faults dialer.new }
+{
+    match front.open(alloc, addr, port) {
+        Opened::In => {
+            let why = serve(rt, alloc, client, to, addr, front, dialer);
+            front.close();
+            why
+        }
+        Opened::Full => refuse(alloc, to, Own::TooManyConns),
+        Opened::Refused(_) => refuse(alloc, to, Own::Inner),
+        Opened::JournalFault => refuse(alloc, to, Own::Stopped),
+        Opened::WantOfMemory => refuse(alloc, to, Own::NoMemory),
+    }
+}
+
+// Says why the connection is not opened.
+fn refuse<O: Sink>(alloc: Global, to: &mut O, own: Own) -> End
+    ensures tells { TellsWhole (error_text own false) (O.contents to.old) (O.contents to.new) result }
+    ensures cause { SessionHasCause (Rose (O.faults to.old) (O.faults to.new)) ⊥ result }
+    ensures later { O.faults to.old ≤ O.faults to.new }
+    ensures dry { dry_after_session result ≡ 0 }
+{
+    match say(alloc, to, own, false) {
+        Carried::Stays => End::Finished,
+        Carried::Closes => End::Finished,
+        Carried::Over(end) => end,
+    }
+}
+
+// Takes one turn after the other.
+fn serve<R: Threads + Wait + Sync, I: Source + Send, O: Out, F: Front, D: Dialer>(
+    rt: &R,
+    alloc: Global,
+    client: &mut Half<I>,
+    to: &mut O,
+    addr: Addr,
+    front: &mut F,
+    dialer: &mut D,
+) -> End
+    requires dry { F.Meter.dry front.old ≡ 0 }
+    requires unseated { F.Meter.seated front.old ≡ false }
+    ensures told { ServesTold addr (to_come I.left client.old) (D.dialled dialer.old) (D.dialled dialer.new) (F.stands front.old) (F.stands front.new)
+        (O.Sink.contents to.old) (O.Sink.contents to.new) (Rose (D.faults dialer.old) (D.faults dialer.new))
+        (F.Meter.granted front.old) (F.Meter.granted front.new) result }
+    ensures cause { SessionHasCause (Rose (I.faults client.old.source) (I.faults client.new.source) ⊎ Rose (O.Sink.faults to.old) (O.Sink.faults to.new))
+        (Rose (D.faults dialer.old) (D.faults dialer.new)) result }
+    ensures dry { F.Meter.dry front.new ≡ dry_after_session result }
+    ensures unseated { F.Meter.seated front.new ≡ false }
+    ensures asked { F.asked front.old ≤ F.asked front.new }
+    ensures client_later { I.faults client.old.source ≤ I.faults client.new.source }
+    ensures to_later { O.Sink.faults to.old ≤ O.Sink.faults to.new }
+    ensures dialer_later { D.faults dialer.old ≤ D.faults dialer.new }
+{
+    for _ in rt.forever() {
+        match turn(rt, alloc, client, to, addr, front, dialer) {
+            Carried::Stays => {}
+            Carried::Closes => return End::Finished,
+            Carried::Over(end) => return end,
+        }
+    }
+    unreachable!()
+}

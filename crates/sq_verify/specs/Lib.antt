@@ -1,0 +1,6 @@
+-- Definitions that the contracts cite.
+pub mod Audits
+pub mod Promised
+pub mod JournalLines
+pub mod Judging
+pub mod Telling

@@ -1,0 +1,146 @@
+//! A journal, judged from its beginning.
+ghost use Rattle.std.specs.Prelude.{◌≡◌, ◌≤◌, List, IfSome};
+ghost use Rattle.std.specs.Io.KnownBytes.{IsAtEnd, prepend_known};
+ghost use Rattle.sq_outside.specs.SourceLines.{lines, total_limit};
+ghost use Rattle.sq_verify.specs.JournalLines.{noted_in};
+ghost use Rattle.sq_rules.specs.declared.entries.Event.TheVariants as event;
+ghost use Rattle.sq_verify.specs.Judging.{begun_line, epochs_of, judged, judged_behind, judged_first, stated_first};
+ghost use Rattle.sq_verify.specs.Promised.{BeginsLine, Comes, JudgeHasCauses, ReachesEnd};
+ghost use Rattle.sq_verify.specs.declared.versions.Version.TheVariants as version;
+
+use crate::comparing::{compare, read_line};
+use crate::findings::Finding;
+use crate::halts::Halt;
+use crate::judging::{halted, judge_rest};
+use crate::players::Player;
+use crate::playing::configuration_facts;
+use crate::versions::{Version, is_version_line};
+use sq_base::{EpochNo, Moment, WantOfMemory};
+use sq_journal::EntryFault;
+use sq_outside::{Found, Held, Source, Unread, next_line};
+use sq_rules::{Entry, Event, Offset, Told};
+use sq_urlmatch::Setup;
+use std::alloc::Global;
+
+/// How many bytes of a journal are read at once.
+const CHUNK: usize = 65_536;
+
+// Begins the machine where the first entry says, and compares its line.
+fn begin<M: Player>(
+    alloc: Global,
+    version: Version,
+    setup: Setup,
+    line: &[u8],
+    now: Moment,
+    offset: Offset,
+) -> Result<M, Halt>
+    ensures { BeginsLine M.machine setup (begun_line version line.now now (event.Begin offset)) result }
+{
+    let machine = match M::begin(alloc, setup, offset, now) {
+        Ok(machine) => machine,
+        Err(WantOfMemory) => return Err(Halt::WantOfMemory),
+    };
+    let entry = Entry {
+        moment: now,
+        event: Event::Begin { offset },
+        answer: Told::Epoch(EpochNo(1)),
+    };
+    match compare(alloc, version, 1, EpochNo(1), &entry, line) {
+        Ok(()) => Ok(machine),
+        Err(halt) => Err(halt),
+    }
+}
+
+// Begins the machine by the line of the first entry.
+fn begin_line<M: Player>(
+    alloc: Global,
+    version: Version,
+    setup: Setup,
+    line: &[u8],
+) -> Result<M, Halt>
+    ensures { BeginsLine M.machine setup (stated_first version line.now (noted_in version line.now)) result }
+{
+    let entry = match read_line(alloc, version, line) {
+        Ok(entry) => entry,
+        Err(EntryFault::BadEntry) => return Err(Halt::NoLine),
+        Err(EntryFault::WantOfMemory) => return Err(Halt::WantOfMemory),
+    };
+    match &entry.event {
+        Event::Begin { offset } => begin(alloc, version, setup, line, entry.moment, *offset),
+        _ => Err(Halt::NoLine),
+    }
+}
+
+// Judges a journal from the line of its first entry on, which can be read; `place` bytes came with it and before it.
+fn judge_from<M: Player, S: Source>(
+    alloc: Global,
+    version: Version,
+    setup: Setup,
+    line: Vec<u8>,
+    place: u64,
+    held: &mut Held,
+    journal: &mut S,
+) -> Finding
+    requires { place ≤ total_limit }
+    ensures judges { IfSome (prepend_known held.old (S.left journal.old)) (λ bytes. Comes (judged_behind version setup line.items place (lines bytes)) result) }
+    ensures end { ReachesEnd result (prepend_known held.old (S.left journal.old)) (prepend_known held.new (S.left journal.new)) }
+    ensures causes { JudgeHasCauses (S.faults journal.old) (S.faults journal.new) result }
+{
+    configuration_facts(&setup);
+    let mut machine: M = match begin_line(alloc, version, setup, line.as_slice()) {
+        Ok(machine) => machine,
+        Err(halt) => return halted(version, 0, line, halt),
+    };
+    judge_rest(alloc, version, &mut machine, place, held, journal)
+}
+
+// Judges a journal of version 2 behind its first line.
+fn judge_second<M: Player, S: Source>(
+    alloc: Global,
+    setup: Setup,
+    place: u64,
+    held: &mut Held,
+    journal: &mut S,
+) -> Finding
+    requires { place ≤ total_limit }
+    ensures judges { IfSome (prepend_known held.old (S.left journal.old)) (λ bytes. Comes (judged_first version.Two (epochs_of version.Two setup (lines bytes)) place (lines bytes)) result) }
+    ensures end { ReachesEnd result (prepend_known held.old (S.left journal.old)) (prepend_known held.new (S.left journal.new)) }
+    ensures causes { JudgeHasCauses (S.faults journal.old) (S.faults journal.new) result }
+{
+    let mut place = place;
+    let mut line = Vec::new(alloc);
+    match next_line(held, journal, &mut place, &mut line) {
+        Ok(Found::Whole) => {}
+        Ok(Found::End) => return Finding::Script(2),
+        Ok(Found::Faulty) => return Finding::Script(2),
+        Err(Unread::Failed) => return Finding::ReadFault,
+        Err(Unread::WantOfMemory) => return Finding::WantOfMemory,
+    }
+    judge_from::<M, S>(alloc, Version::Two, setup, line, place, held, journal)
+}
+
+/// Judges a journal over the configuration that it begins with.
+pub fn judge<M: Player, S: Source>(alloc: Global, setup: Setup, journal: &mut S) -> Finding
+    ensures judges { IfSome (S.left journal.old) (λ bytes. Comes (judged setup (lines bytes)) result) }
+    ensures end { ReachesEnd result (S.left journal.old) (S.left journal.new) }
+    ensures causes { JudgeHasCauses (S.faults journal.old) (S.faults journal.new) result }
+{
+    let mut held = match Held::new(alloc, CHUNK) {
+        Ok(held) => held,
+        Err(WantOfMemory) => return Finding::WantOfMemory,
+    };
+    let mut place = 0;
+    let mut line = Vec::new(alloc);
+    match next_line(&mut held, journal, &mut place, &mut line) {
+        Ok(Found::Whole) => {}
+        Ok(Found::End) => return Finding::Script(1),
+        Ok(Found::Faulty) => return Finding::Script(1),
+        Err(Unread::Failed) => return Finding::ReadFault,
+        Err(Unread::WantOfMemory) => return Finding::WantOfMemory,
+    }
+    if is_version_line(line.as_slice()) {
+        judge_second::<M, S>(alloc, setup, place, &mut held, journal)
+    } else {
+        judge_from::<M, S>(alloc, Version::One, setup, line, place, &mut held, journal)
+    }
+}

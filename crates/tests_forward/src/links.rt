@@ -1,0 +1,76 @@
+//! Links in memory, and requests.
+ghost use Rattle.std.specs.Prelude.{◌≡◌};
+
+use sq_base::{Addr, Field, Fields, Request, Text};
+use sq_forward::{Half, MemMeter};
+use sq_outside::{MemSink, MemSource};
+use sq_request::make_request;
+use std::alloc::Global;
+use std::process::Abort;
+
+/// The client's address, 10.1.2.3.
+pub const CLIENT: Addr = Addr {
+    v6: false,
+    number: 0x0A01_0203,
+};
+
+/// A half of these bytes, where a read gives at most `step`, and the listed reads fail.
+pub fn half(
+    rt: &impl Abort,
+    alloc: Global,
+    text: &str,
+    step: usize,
+    fails: &[u64],
+) -> Half<MemSource> {
+    let bytes = Vec::from_slice(alloc, text.as_bytes()).expect(rt, "memory");
+    let fails = Vec::from_slice(alloc, fails).expect(rt, "memory");
+    Half {
+        source: MemSource::new(bytes, step, fails),
+        ahead: Text::new(alloc),
+    }
+}
+
+/// A sink with much room, of which a write takes at most `step` bytes, and the listed writes fail.
+pub fn sink(rt: &impl Abort, alloc: Global, step: usize, fails: &[u64]) -> MemSink {
+    let fails = Vec::from_slice(alloc, fails).expect(rt, "memory");
+    MemSink::new(alloc, 4096, step, fails).expect(rt, "memory")
+}
+
+/// A request of version 1.0 where it is old, and else of version 1.1.
+pub fn request(
+    rt: &impl Abort,
+    alloc: Global,
+    method: &str,
+    target: &str,
+    old: bool,
+    fields: &[(&str, &str)],
+) -> Request {
+    let mut list = Fields::new(alloc);
+    for (name, value) in fields {
+        let name = Text::from_slice(alloc, name.as_bytes()).expect(rt, "memory");
+        let value = Text::from_slice(alloc, value.as_bytes()).expect(rt, "memory");
+        list.push(Field { name, value }).expect(rt, "memory");
+    }
+    let minor = if old { 0 } else { 1 };
+    make_request(alloc, method.as_bytes(), target.as_bytes(), minor, list).expect(rt, "a request")
+}
+
+/// A meter that grants so many bytes, or all where there is no limit.
+pub fn meter(limit: Option<u64>) -> MemMeter
+    ensures { result.dry ≡ 0 }
+{
+    MemMeter {
+        seated: limit.is_some(),
+        room: limit.unwrap_or(0),
+        granted: 0,
+        short: false,
+        dry: 0,
+    }
+}
+
+/// All that is to come of a half.
+pub fn rest(rt: &impl Abort, alloc: Global, half: &Half<MemSource>) -> Text {
+    let mut text = Text::from_slice(alloc, half.ahead.as_bytes()).expect(rt, "memory");
+    text.append(half.source.left()).expect(rt, "memory");
+    text
+}
