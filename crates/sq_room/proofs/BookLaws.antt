@@ -130,7 +130,7 @@ pub kept_ask : (conn : ℕ) (request : HttpRequest) (old new : Option History) (
     → SharesMade asks more r → AreCounted asks makes old → AreCounted more makes new
 kept_ask conn request old new (Ok n) asks more makes is made c =
     subst (λ k. AreCounted k makes new) (sym made)
-        (counted_one true false (IsAsking conn request) (answer.Check n) old new asks makes (λ e p. (ap is_ask p, ap begins_epoch p)) is c)
+    (counted_one true false (IsAsking conn request) (answer.Check n) old new asks makes (λ e p. (ap is_ask p, ap begins_epoch p)) is c)
 kept_ask conn request old new (Err f) asks more makes is made c = subst (λ k. AreCounted k makes new) (sym made) (subst (AreCounted asks makes) (sym is) c)
 
 -- and so is a reconfiguration
@@ -138,7 +138,7 @@ pub kept_reread : (config : Configuration) (old new : Option History) (r : Resul
     → SharesMade makes more r → AreCounted asks makes old → AreCounted asks more new
 kept_reread config old new (Ok n) asks makes more is made c =
     subst (λ k. AreCounted asks k new) (sym made)
-        (counted_one false true (IsReread config) (answer.Epoch n) old new asks makes (λ e p. (ap is_ask p, ap begins_epoch p)) is c)
+    (counted_one false true (IsReread config) (answer.Epoch n) old new asks makes (λ e p. (ap is_ask p, ap begins_epoch p)) is c)
 kept_reread config old new (Err f) asks makes more is made c = subst (λ k. AreCounted asks k new) (sym made) (subst (AreCounted asks makes) (sym is) c)
 
 if_made : (old new : Option ℕ) (r : Result ℕ DeskFault) (makes more : ℕ) → Counts old new r → OnOk r (IsSome old) → SharesMade makes more r
