@@ -9,6 +9,7 @@ mod RisingRows
 pub mod LiveLaws
 mod AlikeLaws
 mod InheritLaws
+mod MarkLaws
 mod DropLaws
 pub mod NumberLaws
 pub mod BegunLaws

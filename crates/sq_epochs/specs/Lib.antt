@@ -1,4 +1,5 @@
 -- Definitions that the contracts cite.
+pub mod DueSets
 pub mod DueStates
 pub mod EpochChanges
 pub mod EpochProcs

@@ -8,7 +8,7 @@ ghost use Rattle.sq_epochs.specs.EpochProcs.{SameLiving};
 use crate::epoch::Epoch;
 use crate::epochs::Epochs;
 use sq_base::{EpochNo, ProcNo, QuestionNo, Text, WantOfMemory};
-use sq_part::{Part, Sending};
+use sq_part::Sending;
 use std::alloc::Global;
 
 /// What is to be done next.
@@ -30,22 +30,6 @@ pub enum Act {
     },
 }
 
-// The first of these parts of which a send is due.
-fn sender(parts: &[Part]) -> Option<usize>
-    ensures first { result ≡ first_place owes_send parts.now }
-    ensures inside { IfSome result (λ c. c < length parts.now) }
-{
-    parts.iter().position(|part| part.send_due())
-}
-
-// The first of these parts of which a start is due.
-fn starter(parts: &[Part]) -> Option<usize>
-    ensures first { result ≡ first_place owes_start parts.now }
-    ensures inside { IfSome result (λ c. c < length parts.now) }
-{
-    parts.iter().position(|part| part.start_due())
-}
-
 fn told(sending: Sending) -> Act
     ensures { result ≡ Act.Send sending.proc sending.question sending.channel sending.text }
 {
@@ -63,10 +47,7 @@ impl Epoch {
         ensures first { result ≡ first_place owes_send self.now.parts }
         ensures few { IfSome result (λ c. c < length self.now.config.classes) }
     {
-        // For the proof: there are few classes.
-        let _classes = self.config.classes();
-        let place = sender(&self.parts)?;
-        Some(place as u32)
+        self.due.sender()
     }
 
     // The first class of which a start is due.
@@ -74,10 +55,7 @@ impl Epoch {
         ensures first { result ≡ first_place owes_start self.now.parts }
         ensures few { IfSome result (λ c. c < length self.now.config.classes) }
     {
-        // For the proof: there are few classes.
-        let _classes = self.config.classes();
-        let place = starter(&self.parts)?;
-        Some(place as u32)
+        self.due.starter()
     }
 
     // Makes the send that is due of the first class of which one is.
@@ -94,6 +72,7 @@ impl Epoch {
         let Some(sending) = part.send() else {
             unreachable!();
         };
+        self.due.mark(class, part);
         Some(told(sending))
     }
 
@@ -110,6 +89,7 @@ impl Epoch {
         let epoch = self.number;
         let part = &mut self.parts[class as usize];
         part.start();
+        self.due.mark(class, part);
         Some(Act::Start { epoch, class })
     }
 

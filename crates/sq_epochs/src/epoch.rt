@@ -17,6 +17,7 @@ ghost use Rattle.sq_rules.specs.Channels.{is_open};
 ghost use Rattle.sq_farm.specs.Replies.{got_of};
 ghost use Rattle.sq_rules.specs.Living.{lives, slots_in};
 
+use crate::due::Due;
 use sq_base::{CheckNo, EpochNo, Moment, ProcNo, QuestionNo, Text, WantOfMemory, What};
 use sq_cache::HashSeed;
 use sq_farm::{Got, StartFault};
@@ -35,17 +36,20 @@ pub struct Epoch {
     pub(crate) config: Arc<Config>,
     pub(crate) checks: u64,
     pub(crate) parts: Vec<Part>,
+    // What is due of each class.
+    pub(crate) due: Due,
 }
 
 impl Model for Epoch {
     ghost use Rattle.std.specs.Arc.{arc_value};
-    ghost use Rattle.sq_epochs.specs.EpochStates.{AreParts, EpochState};
+    ghost use Rattle.sq_epochs.specs.DueSets.{IsEpoch};
+    ghost use Rattle.sq_epochs.specs.EpochStates.{EpochState};
 
     ghost Value = { EpochState };
 
     ghost view = { λ x. record { epoch = x.number; config = arc_value x.config; checks = x.checks; parts = x.parts.items } };
 
-    ghost invariant = { λ x. AreParts (arc_value x.config).classes x.parts.items };
+    ghost invariant = { λ x. IsEpoch (arc_value x.config).classes x.parts.items x.due };
 }
 
 // A part for each class, of which nothing is kept.
@@ -91,11 +95,13 @@ impl Epoch {
         ensures { IfOk result (λ x. x ≡ new_epoch number (arc_value config)) }
     {
         let parts = parts_of(alloc, config.classes(), seed)?;
+        let due = Due::of(&parts);
         Ok(Epoch {
             number,
             config,
             checks: 0,
             parts,
+            due,
         })
     }
 
@@ -178,7 +184,9 @@ impl Epoch {
     {
         let rules = &self.config.classes()[class as usize];
         let part = &mut self.parts[class as usize];
-        part.resolve(alloc, rules, class, key, now, check, count)
+        let said = part.resolve(alloc, rules, class, key, now, check, count);
+        self.due.mark(class, part);
+        said
     }
 
     // Takes a check away from the list in which it waits in the class at this place.
@@ -211,7 +219,9 @@ impl Epoch {
     {
         let rules = &self.config.classes()[class as usize];
         let part = &mut self.parts[class as usize];
-        part.reply(rules, proc, question, key, what, date)
+        let checks = part.reply(rules, proc, question, key, what, date);
+        self.due.mark(class, part);
+        checks
     }
 
     // Hands out the least question that is lost in the class at this place.
@@ -224,7 +234,9 @@ impl Epoch {
         ensures alive { SameLiving self.old self.new }
     {
         let part = &mut self.parts[class as usize];
-        part.next_lost()
+        let lost = part.next_lost();
+        self.due.mark(class, part);
+        lost
     }
 
     // A start of the class at this place failed.
@@ -237,7 +249,9 @@ impl Epoch {
         ensures alive { SameLiving self.old self.new }
     {
         let part = &mut self.parts[class as usize];
-        part.start_failed()
+        let failed = part.start_failed();
+        self.due.mark(class, part);
+        failed
     }
 
     // What a line of a living process of the class at this place comes to.

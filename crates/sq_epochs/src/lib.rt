@@ -9,6 +9,7 @@
 #![tactic(auto)]
 
 mod acts;
+mod due;
 mod epoch;
 mod epochs;
 mod faults;

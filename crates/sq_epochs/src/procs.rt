@@ -54,7 +54,9 @@ impl Epoch {
         ensures checks { self.new.checks ≡ self.old.checks }
     {
         let part = &mut self.parts[class as usize];
-        part.started(alloc, proc)
+        let started = part.started(alloc, proc);
+        self.due.mark(class, part);
+        started
     }
 
     // A living process of the class at this place ends.
@@ -65,6 +67,7 @@ impl Epoch {
     {
         let part = &mut self.parts[class as usize];
         part.end(proc, cause);
+        self.due.mark(class, part);
     }
 }
 

@@ -1,17 +1,18 @@
 use Rattle.std.proofs.Common.{ap, refl, subst}
 use Rattle.sq_rules.specs.Living.{lives}
 use Rattle.std.specs.Arc.{arc_value}
-use Rattle.std.proofs.Common.{map}
-use Rattle.sq_epochs.specs.EpochStates.{EpochState, class_cache, with_part}
+use Rattle.sq_epochs.specs.EpochStates.{EpochState, with_part}
 use Rattle.sq_epochs.specs.EpochChanges.{HasLeft}
-use Rattle.sq_epochs.proofs.PartLaws.{epoch_changed, limits_kept}
+use Rattle.sq_epochs.proofs.PartLaws.{epoch_changed}
 use Rattle.sq_epochs.specs.EpochProcs.{SameLiving}
 use Rattle.sq_epochs.proofs.ProcLaws.{same_living}
+use Rattle.sq_epochs.proofs.MarkLaws.{unmarked}
 use Rattle.sq_epochs.proofs.epoch.Epoch.leave.Goals as goal
 
 pub invariant_of-self : goal.invariant_of-self
 invariant_of-self c =
-    limits_kept c.self.inside.parts.items (map class_cache (arc_value c.self.inside.config).classes) c.args.class c.index_mut-part.result.now c.leave.new.self c.self.invariant c.index_mut-part.ensures.value c.leave.ensures.limit
+    unmarked (arc_value c.self.inside.config).classes c.self.inside.parts.items c.self.inside.due c.args.class c.index_mut-part.result.now c.leave.new.self c.self.invariant c.index_mut-part.ensures.value
+    c.leave.ensures.limit (ap (λ r. r.stock) c.leave.ensures.row)
 
 pub returns-clause-changed : goal.returns-clause-changed
 returns-clause-changed c =

@@ -1,21 +1,37 @@
-use Rattle.std.proofs.Common.{◌≡◌, Some, length, refl, ap, ◌∙◌, sym, map, subst}
+use Rattle.std.proofs.Common.{◌≡◌, Some, length, refl, ap, ◌∙◌, sym, subst, ◌<◌}
 use Rattle.std.specs.Arc.{arc_value}
 use Rattle.std.specs.List.{slice_get}
 use Rattle.std.proofs.lemmas.Option.{slice_get_read, slice_get_within}
 use Rattle.sq_rules.specs.Living.{lives}
 use Rattle.sq_epochs.specs.DueStates.{act_in, after_act_in, first_place, owes_start, start_by, started_part, told_due}
 use Rattle.sq_epochs.specs.EpochProcs.{SameLiving}
-use Rattle.sq_epochs.specs.EpochStates.{EpochState, class_cache, part_limit, with_part}
+use Rattle.sq_epochs.specs.EpochStates.{EpochState, part_limit, with_part}
 use Rattle.sq_epochs.proofs.ActLaws.{start_told}
 use Rattle.sq_epochs.proofs.DueLaws.{change_set, first_is}
-use Rattle.sq_epochs.proofs.PartLaws.{limits_kept}
 use Rattle.sq_epochs.proofs.ProcLaws.{procs_after_start, same_living}
+use Rattle.sq_epochs.proofs.MarkLaws.{is_few, marked}
 use Rattle.sq_epochs.proofs.epoch.Epoch.start.Goals as goal
+
+pub mark-requires : goal.mark-requires
+mark-requires c =
+    let old : EpochState = record { epoch = c.self.inside.number; config = arc_value c.self.inside.config; checks = c.self.inside.checks; parts = c.self.inside.parts.items } in
+    let ps = old.parts in
+    let cl = c.in_ok-class.class in
+    let first : first_place owes_start ps ≡ Some cl = ap (λ z. first_place owes_start z.parts) c.self.view_is ∙ sym c.in_ok-class.ensures.first in
+    let f = first_is owes_start ps cl first in
+    let within : cl < length ps = slice_get_within ps cl f.it f.at in
+    is_few old.config.classes old.parts c.self.inside.due c.in_ok-class.class c.self.invariant within
 
 pub invariant_of-self : goal.invariant_of-self
 invariant_of-self c =
-    limits_kept c.self.inside.parts.items (map class_cache (arc_value c.self.inside.config).classes) c.in_ok-class.class c.index_mut-part.result.now c.start.new.self c.self.invariant c.index_mut-part.ensures.value
-    (ap part_limit c.start.ensures.value)
+    let old : EpochState = record { epoch = c.self.inside.number; config = arc_value c.self.inside.config; checks = c.self.inside.checks; parts = c.self.inside.parts.items } in
+    let ps = old.parts in
+    let cl = c.in_ok-class.class in
+    let first : first_place owes_start ps ≡ Some cl = ap (λ z. first_place owes_start z.parts) c.self.view_is ∙ sym c.in_ok-class.ensures.first in
+    let f = first_is owes_start ps cl first in
+    let within : cl < length ps = slice_get_within ps cl f.it f.at in
+    marked old.config.classes old.parts c.self.inside.due c.mark.new.self c.in_ok-class.class c.index_mut-part.result.now c.start.new.self c.self.invariant within c.index_mut-part.ensures.value
+    (ap part_limit c.start.ensures.value) c.mark.ensures
 
 pub returns-clause-act : goal.returns-clause-act
 returns-clause-act c =
