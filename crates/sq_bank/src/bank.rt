@@ -1,6 +1,8 @@
 //! The delay pools, as they lie behind their lock.
-ghost use Rattle.std.specs.Prelude.{◌≡◌, ◌+◌, ◌<◌, ◌≤◌, ◌^◌, min, true, IfOk, OnOk, OnErr, IfErr};
-ghost use Rattle.sq_pools.specs.Basins.{has_pool};
+ghost use Rattle.std.specs.Prelude.{◌≡◌, ◌+◌, ◌<◌, ◌≤◌, ◌^◌, ◌==◌, ◌||◌, cond, is_some, max, min, nat_lt, suc, false, true, IfOk, OnOk, OnErr, IfErr};
+ghost use Rattle.sq_pools.specs.Basins.{grant_in, has_pool, is_dry, made_in, seat_in, HasLeft, IsChosen, IsGranted, IsRenewed};
+ghost use Rattle.sq_pools.specs.declared.pools.ChooseFault.TheVariants as fault;
+ghost use Rattle.sq_rules.specs.Limits.{last_number};
 
 use sq_base::{Addr, EpochNo, Moment, WantOfMemory};
 use sq_pools::{ChooseFault, Pools, Seat};
@@ -18,15 +20,17 @@ pub struct Bank<G: Ledger> {
 }
 
 impl<G: Ledger> Bank<G> {
+    ghost use Rattle.sq_bank.specs.BankViews.{pools_of};
+
     /// Pools that granted nothing yet, and their book.
     pub fn new(pools: Pools, grants: Book<G>) -> Bank<G>
         requires { pools.granted ≡ min (2 ^ 127) grants.total }
-        ensures { result.pools ≡ pools }
+        ensures { pools_of result ≡ pools }
     {
         Bank { pools, grants }
     }
 
-    /// Gives a seat.
+    /// Gives a seat, as the pools do.
     pub fn choose(
         &mut self,
         alloc: Global,
@@ -37,14 +41,22 @@ impl<G: Ledger> Bank<G> {
         now: Moment,
     ) -> Result<Seat, ChooseFault>
         requires { has_pool config.now.value pool addr ≡ true }
+        ensures number { IfOk result (λ n. n ≡ suc (pools_of self.old).given) }
+        ensures chosen { OnOk result (IsChosen (pools_of self.old) (pools_of self.new) epoch config.now.value pool addr (max now (pools_of self.old).latest)) }
+        ensures spent { IfErr result (λ e. e ≡ fault.Spent → suc (pools_of self.old).given ≡ last_number) }
+        ensures not_spent { IfErr result (λ e. e ≡ fault.WantOfMemory → suc (pools_of self.old).given < last_number) }
+        ensures err { OnErr result (pools_of self.new ≡ pools_of self.old) }
     {
         self.pools.choose(alloc, epoch, config, pool, addr, now)
     }
 
-    /// Grants bytes to a seat, and adds them to the share.
+    /// Grants bytes to a seat, as the pools do, and adds them to the share.
     pub fn grant(&mut self, seat: &Seat, wanted: u64, now: Moment, share: &mut Share<G>) -> u64
         requires { 0 < share.old.parts }
+        ensures granted { result ≡ grant_in (pools_of self.old) (max now (pools_of self.old).latest) wanted (seat_in (pools_of self.old) seat.now) }
         ensures within { result ≤ wanted }
+        ensures nothing { 0 < wanted → (result == 0) ≡ is_dry (pools_of self.old) (max now (pools_of self.old).latest) (seat_in (pools_of self.old) seat.now) }
+        ensures taken { IsGranted (pools_of self.old) (pools_of self.new) (max now (pools_of self.old).latest) result (seat_in (pools_of self.old) seat.now) }
         ensures amount { share.new.amount ≡ share.old.amount + result }
         ensures parts { share.new.parts ≡ share.old.parts }
     {
@@ -55,18 +67,24 @@ impl<G: Ledger> Bank<G> {
     }
 
     /// Gives a seat up.
-    pub fn leave(&mut self, seat: Seat) {
+    pub fn leave(&mut self, seat: Seat)
+        ensures { HasLeft (pools_of self.old) (pools_of self.new) seat }
+    {
         self.pools.leave(seat);
     }
 
-    /// Makes the generation of an epoch.
+    /// Makes the generation of an epoch, unless it is there or the epoch is before the newest.
     pub fn renew(
         &mut self,
         alloc: Global,
         epoch: EpochNo,
         config: &Arc<Config>,
         now: Moment,
-    ) -> Result<(), WantOfMemory> {
+    ) -> Result<(), WantOfMemory>
+        ensures ok { OnOk result (cond (nat_lt epoch (pools_of self.old).newest || is_some (made_in (pools_of self.old) epoch)) (pools_of self.new ≡ pools_of self.old) (IsRenewed (pools_of self.old) (pools_of self.new) epoch config.now.value (max now (pools_of self.old).latest))) }
+        ensures err { OnErr result (pools_of self.new ≡ pools_of self.old) }
+        ensures needed { IfErr result (λ _. (nat_lt epoch (pools_of self.old).newest || is_some (made_in (pools_of self.old) epoch)) ≡ false) }
+    {
         self.pools.renew(alloc, epoch, config, now)
     }
 

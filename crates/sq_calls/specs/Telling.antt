@@ -1,5 +1,5 @@
 -- What a desk's call adds to the journal, and what it counts.
-use Rattle.std.specs.Prelude.{◌≡◌, ◌⊎◌, ℕ, ◌+◌, ◌≤◌, List, ◌∷◌, Some, None, IfSome, Result, Ok, Err}
+use Rattle.std.specs.Prelude.{◌≡◌, ℕ, ◌+◌, ◌≤◌, List, ◌∷◌, Some, None, IfSome, Result, Ok, Err}
 use Rattle.std.specs.declared.option.Option.{Option}
 use Rattle.sq_outside.specs.Causes.{raised}
 use Rattle.sq_base.specs.Addresses.{Address}
@@ -13,6 +13,10 @@ use Rattle.sq_rows.specs.declared.said.Stepped.{Stepped}
 use Rattle.sq_rows.specs.declared.said.Stepped.TheVariants as stepped
 use Rattle.sq_rules.specs.Configurations.{Configuration}
 use Rattle.sq_rules.specs.Entries.{History, Noted}
+use Rattle.sq_rules.specs.FullNext.{FullLegal, full_next}
+use Rattle.sq_rules.specs.Machine.{Next, gives, nothing}
+use Rattle.sq_rules.specs.Marking.{marked}
+use Rattle.sq_rules.specs.Readings.{latest}
 use Rattle.sq_channel.specs.declared.replies.Got.{Got}
 use Rattle.sq_channel.specs.declared.replies.Got.TheVariants as got
 use Rattle.sq_epochs.specs.declared.acts.Act.{Act}
@@ -111,13 +115,28 @@ IsEventOf (act.Stop proc) answer = answer ≡ told.Stop proc
 IsEventOf (act.Send proc question channel text) answer = answer ≡ told.Send proc question channel text
 IsEventOf (act.Start epoch class) answer = (name : List ℕ) × (answer ≡ told.Start epoch name)
 
+-- over some configurations, over which the history is legal, this is what the machine answers next to the event
+pub record HasNext (h : History) (e : Event) (next : Next) : Type 0 where
+  pub configs : List Configuration
+  pub moment : ℕ
+  pub legal : FullLegal configs h
+  pub late : latest h ≤ moment
+  pub next_is : full_next configs (marked configs h) moment e ≡ next
+
+-- where the journal is told, an act that was given is the machine's next, and none was given where the machine has none
+abbrev pub IsNextAct : Option History → Result (Option Act) DeskFault → Type 0
+IsNextAct None r = Unit {0}
+IsNextAct (Some h) (Ok (Some a)) = (answer : Told) × IsEventOf a answer × HasNext h event.Act (gives answer)
+IsNextAct (Some h) (Ok None) = HasNext h event.Act nothing
+IsNextAct (Some h) (Err f) = Unit {0}
+
 -- an act was noted as it is told; where none is due, or the call was not made, nothing was
 abbrev pub MayAct : Option History → Option History → Result (Option Act) DeskFault → Type 0
 MayAct old new (Ok (Some a)) = AddsSome (IsEventOf a) (λ e. e ≡ event.Act) old new
 MayAct old new (Ok None) = new ≡ old
 MayAct old new (Err f) = new ≡ old
 
--- A reconfiguration that was made is counted, and its epoch is one above the count. One that was not made leaves the count, or leaves it untold.
+-- a reconfiguration that was made is counted, and its epoch is one above the count; one that was not made leaves the count
 abbrev pub Counts : Option ℕ → Option ℕ → Result ℕ DeskFault → Type 0
 Counts old new (Ok e) = IfSome old (λ m. (new ≡ Some (m + 1)) × (e ≡ m + 1 + 1))
-Counts old new (Err f) = (new ≡ old) ⊎ (new ≡ None)
+Counts old new (Err f) = new ≡ old

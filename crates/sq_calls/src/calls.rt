@@ -1,10 +1,13 @@
 //! What a desk's calls are to those who make them.
-ghost use Rattle.std.specs.Prelude.{◌≡◌, ◌≤◌, ℕ, Bool, true, IsSome, OnOk};
+ghost use Rattle.std.specs.Prelude.{◌≡◌, ◌≤◌, ℕ, ⊤, Bool, true, IsErrOf, IsSome, OnOk, Result};
 ghost use Rattle.sq_outside.specs.Causes.{count_limit};
 ghost use Rattle.std.specs.declared.option.Option.{Option};
+ghost use Rattle.sq_rules.specs.Configurations.{Configuration};
 ghost use Rattle.sq_rules.specs.Entries.{History};
 ghost use Rattle.sq_rules.specs.declared.entries.Told.TheVariants as answer;
-ghost use Rattle.sq_calls.specs.Telling.{Counts, CountsLine, CountsRefusal, IsAsking, IsClosing, IsDead, IsFailed, IsLine, IsOpening, IsReread, IsStarted, IsStep, IsStepTold, IsTakeTold, IsTaking, MayAct, Notes, NotesAs, got_told};
+ghost use Rattle.sq_calls.specs.declared.faults.DeskFault.{DeskFault as Fault};
+ghost use Rattle.sq_calls.specs.declared.faults.DeskFault.TheVariants as fault;
+ghost use Rattle.sq_calls.specs.Telling.{Counts, CountsLine, CountsRefusal, IsAsking, IsClosing, IsDead, IsFailed, IsLine, IsNextAct, IsOpening, IsReread, IsStarted, IsStep, IsStepTold, IsTakeTold, IsTaking, MayAct, Notes, NotesAs, got_told};
 
 use crate::faults::DeskFault;
 use sq_base::{Addr, CheckNo, ConnNo, EpochNo, Moment, ProcNo, Request, Texts, WantOfMemory};
@@ -31,15 +34,20 @@ pub trait DeskCalls {
     /// Whether each desk of this type tells that of a reconfiguration that it makes.
     ghost is_counting: { Bool };
 
+    /// What `reconfigure` with a configuration at a moment answers and leaves, where a desk says more of it than its entries
+    /// and counts tell: the desk before, the configuration, the moment, the answer, and the desk after.
+    ghost rereads: { Self → Configuration → ℕ → Result ℕ Fault → Self → Type 0 } = { λ _ _ _ _ _. ⊤ };
+
     /// A client's connection opens.
     fn open(&mut self, conn: ConnNo, addr: Addr, port: u16, now: Moment) -> Result<(), DeskFault>
         ensures told { Notes (λ _. answer.Fine) (IsOpening conn addr port) (told self.old) (told self.new) result }
         ensures refused { CountsRefusal (refused self.old) (refused self.new) result }
         ensures made { made self.new ≡ made self.old };
 
-    /// A connection closes.
+    /// A connection closes. It takes no memory.
     fn close(&mut self, conn: ConnNo, now: Moment) -> Result<(), DeskFault>
         ensures told { Notes (λ _. answer.Fine) (IsClosing conn) (told self.old) (told self.new) result }
+        ensures memory { IsErrOf result fault.WantOfMemory → ⊥ }
         ensures refused { CountsRefusal (refused self.old) (refused self.new) result }
         ensures made { made self.new ≡ made self.old };
 
@@ -103,15 +111,17 @@ pub trait DeskCalls {
         ensures refused { CountsLine (refused self.old) (refused self.new) result }
         ensures made { made self.new ≡ made self.old };
 
-    /// A process died.
+    /// A process died. It takes no memory.
     fn died(&mut self, proc: ProcNo, now: Moment) -> Result<(), DeskFault>
         ensures told { Notes (λ _. answer.Fine) (IsDead proc) (told self.old) (told self.new) result }
+        ensures memory { IsErrOf result fault.WantOfMemory → ⊥ }
         ensures refused { CountsRefusal (refused self.old) (refused self.new) result }
         ensures made { made self.new ≡ made self.old };
 
     /// The next act that is due, which counts as made with this call.
     fn act(&mut self, alloc: Global, now: Moment) -> Result<Option<Act>, DeskFault>
         ensures told { MayAct (told self.old) (told self.new) result }
+        ensures next { IsNextAct (told self.old) result }
         ensures refused { CountsRefusal (refused self.old) (refused self.new) result }
         ensures made { made self.new ≡ made self.old };
 
@@ -123,6 +133,7 @@ pub trait DeskCalls {
         now: Moment,
     ) -> Result<EpochNo, DeskFault>
         ensures told { Notes answer.Epoch (IsReread setup) (told self.old) (told self.new) result }
+        ensures rereads { rereads self.old setup now result self.new }
         ensures refused { CountsRefusal (refused self.old) (refused self.new) result }
         ensures made { Counts (made self.old) (made self.new) result }
         ensures counting { is_counting ≡ true → OnOk result (IsSome (made self.old)) };

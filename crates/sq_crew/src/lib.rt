@@ -1,11 +1,16 @@
 //! The threads that serve helper processes: the pump's, and one keeper for each process.
 //!
 //! `pump_all` performs the acts of a desk behind its lock until no more is to be done, and has a keeper thread for each
-//! process that it started; it returns once every keeper has. It claims nothing of when a thread gets on.
+//! process that it started; it returns once every keeper has. Where a keeper has ended, the pump lets go of its process
+//! before its next turn; a keeper that could not be started is tried again after a pause. The two share a `Shelf`.
+//! It claims nothing of when a thread gets on.
 #![tactic(auto)]
 
+mod board;
 mod keeping;
 mod pumping;
+mod shelf;
+mod watching;
 
-pub use keeping::Shelf;
 pub use pumping::pump_all;
+pub use shelf::Shelf;

@@ -4,3 +4,4 @@ mod PlaceLaws
 mod ReplayLaws
 mod EventLaws
 mod TellingLaws
+mod DueLaws

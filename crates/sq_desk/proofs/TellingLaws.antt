@@ -1,5 +1,5 @@
 -- From what a call of a desk answers and leaves to what it tells those who make it.
-use Rattle.std.proofs.Common.{◌≡◌, ◌∙◌, ℕ, ◌+◌, ◌≤◌, List, max, min, Option, Some, None, IsSome, Result, Ok, Err, OnOk, inl, refl, ap, arith}
+use Rattle.std.proofs.Common.{◌≡◌, ◌∙◌, ℕ, ◌+◌, ◌≤◌, List, max, min, Option, Some, None, IsSome, Result, Ok, Err, OnOk, refl, ap, arith}
 use Rattle.sq_base.specs.Addresses.{Address}
 use Rattle.sq_base.specs.Requests.{HttpRequest}
 use Rattle.sq_outside.specs.Causes.{count_limit, raised}
@@ -100,7 +100,7 @@ step_told s epoch (stepped.Took c) = (_, refl)
 step_told s epoch (stepped.Waits q) = refl
 step_told s epoch stepped.Done = refl
 
-act_told : (s : State) (a : Act) → IsEventOf a (told_of_act s a)
+pub act_told : (s : State) (a : Act) → IsEventOf a (told_of_act s a)
 act_told s (act.Stop k) = refl
 act_told s (act.Send k q channel text) = refl
 act_told s (act.Start e c) = (_, refl)
@@ -250,7 +250,7 @@ rereads_refused v w config now (Err fault.WantOfMemory) m = stays _ _ (ap (λ z.
 
 pub made_counts : (before now : ℕ) (r : Result ℕ DeskFault) → CountsMade before r now → Counts (Some before) (Some now) r
 made_counts before now (Ok e) c = (ap (λ n. Some n) c.0, c.1 ∙ ap (λ (n : ℕ). n + 1) c.0)
-made_counts before now (Err f) c = inl (ap (λ n. Some n) c)
+made_counts before now (Err f) c = ap (λ n. Some n) c
 
 pub always_told : (before : ℕ) (r : Result ℕ DeskFault) → OnOk r (IsSome (Some before))
 always_told before (Ok e) = refl

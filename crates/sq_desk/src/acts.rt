@@ -1,5 +1,6 @@
 //! What is to be done next.
 ghost use Rattle.std.specs.Prelude.{◌≡◌, ◌+◌, max, IfOk};
+ghost use Rattle.sq_calls.specs.Telling.{IsNextAct};
 ghost use Rattle.sq_engine.specs.Acting.{IsActPromised, told_of_act};
 ghost use Rattle.sq_engine.specs.EngineViews.{state_of};
 ghost use Rattle.sq_desk.specs.Calling.{Acts, Leaves, desk_of, load_of, told_due};
@@ -96,6 +97,8 @@ impl<J: Journal> Desk<J> {
     pub fn act(&mut self, alloc: Global, now: Moment) -> Result<Option<Act>, DeskFault>
         ensures acts { Acts (max now self.old.engine.latest) self.old result self.new }
         ensures promised { IfOk result (λ a. IsActPromised (state_of self.old.engine) (max now self.old.engine.latest) a (state_of self.new.engine)) }
+        // Where the journal is told, what is given is the machine's next act.
+        ensures next { IsNextAct self.old.notes.history result }
     {
         act(&mut self.engine, &mut self.notes, alloc, now)
     }

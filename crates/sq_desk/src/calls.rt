@@ -1,6 +1,7 @@
 //! A desk, as those see it who make its calls.
 ghost use Rattle.std.proofs.Common.{arith};
-ghost use Rattle.std.specs.Prelude.{Some, true, min};
+ghost use Rattle.std.specs.Prelude.{Some, true, max, min};
+ghost use Rattle.sq_desk.specs.Calling.{Rereads};
 ghost use Rattle.sq_outside.specs.Causes.{count_limit};
 
 use crate::desks::Desk;
@@ -24,6 +25,8 @@ impl<J: Journal> DeskCalls for Desk<J> {
     ghost made = { λ d. Some d.notes.made };
 
     ghost is_counting = { true };
+
+    ghost rereads = { λ d config now answer after. Rereads (max now d.engine.latest) config d answer after };
 
     ghost capped = { λ d. Prim.search arith };
 

@@ -1,5 +1,6 @@
 //! Connections open and close.
-ghost use Rattle.std.specs.Prelude.{◌≡◌, ◌+◌, ◌<◌, max, true, false, is_some};
+ghost use Rattle.std.specs.Prelude.{◌≡◌, ◌+◌, ◌<◌, IsErrOf, max, true, false, is_some};
+ghost use Rattle.sq_calls.specs.declared.faults.DeskFault.TheVariants as fault;
 ghost use Rattle.sq_checks.specs.Conns.{client_in};
 ghost use Rattle.sq_rules.specs.declared.entries.Event.TheVariants as event;
 ghost use Rattle.sq_rules.specs.declared.entries.Told.TheVariants as told;
@@ -58,6 +59,7 @@ fn close<J: Journal>(
     ensures makes { Makes (λ _. told.Fine) (close_answer (state_of engine.old) conn) (max now engine.old.latest) (event.Close conn)
         (after_close conn (max now engine.old.latest) (state_of engine.old)) (desk_of engine.old notes.old) result (desk_of engine.new notes.new) }
     ensures leaves { Leaves notes.old.spare notes.old result notes.new }
+    ensures memory { IsErrOf result fault.WantOfMemory → ⊥ }
 {
     let moment = later(now, engine.latest());
     match notes.going() {
@@ -95,6 +97,7 @@ impl<J: Journal> Desk<J> {
     pub fn close(&mut self, conn: ConnNo, now: Moment) -> Result<(), DeskFault>
         ensures makes { Makes (λ _. told.Fine) (close_answer (state_of self.old.engine) conn) (max now self.old.engine.latest) (event.Close conn)
             (after_close conn (max now self.old.engine.latest) (state_of self.old.engine)) self.old result self.new }
+        ensures memory { IsErrOf result fault.WantOfMemory → ⊥ }
     {
         close(&mut self.engine, &mut self.notes, conn, now)
     }

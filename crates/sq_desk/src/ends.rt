@@ -1,5 +1,6 @@
 //! Processes end.
-ghost use Rattle.std.specs.Prelude.{◌≡◌, ◌<◌, max, true, false, is_some};
+ghost use Rattle.std.specs.Prelude.{◌≡◌, ◌<◌, IsErrOf, max, true, false, is_some};
+ghost use Rattle.sq_calls.specs.declared.faults.DeskFault.TheVariants as fault;
 ghost use Rattle.sq_epochs.specs.EpochStates.{home_at};
 ghost use Rattle.sq_rules.specs.declared.entries.Event.TheVariants as event;
 ghost use Rattle.sq_rules.specs.declared.entries.Told.TheVariants as told;
@@ -27,6 +28,7 @@ fn died<J: Journal>(
     ensures makes { Makes (λ _. told.Fine) (died_answer (state_of engine.old) proc) (max now engine.old.latest) (event.Died proc)
         (after_died proc (max now engine.old.latest) (state_of engine.old)) (desk_of engine.old notes.old) result (desk_of engine.new notes.new) }
     ensures leaves { Leaves notes.old.spare notes.old result notes.new }
+    ensures memory { IsErrOf result fault.WantOfMemory → ⊥ }
 {
     let moment = later(now, engine.latest());
     match notes.going() {
@@ -48,8 +50,9 @@ fn died<J: Journal>(
 impl<J: Journal> Desk<J> {
     /// A process died. It takes no memory.
     pub fn died(&mut self, proc: ProcNo, now: Moment) -> Result<(), DeskFault>
-        ensures { Makes (λ _. told.Fine) (died_answer (state_of self.old.engine) proc) (max now self.old.engine.latest) (event.Died proc)
+        ensures makes { Makes (λ _. told.Fine) (died_answer (state_of self.old.engine) proc) (max now self.old.engine.latest) (event.Died proc)
             (after_died proc (max now self.old.engine.latest) (state_of self.old.engine)) self.old result self.new }
+        ensures memory { IsErrOf result fault.WantOfMemory → ⊥ }
     {
         died(&mut self.engine, &mut self.notes, proc, now)
     }

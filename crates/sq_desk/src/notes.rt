@@ -1,7 +1,8 @@
 //! The journal of a desk.
-ghost use Rattle.std.specs.Prelude.{◌≡◌, ◌+◌, ◌-◌, ◌<◌, ◌≤◌, false};
+ghost use Rattle.std.specs.Prelude.{◌≡◌, ◌+◌, ◌-◌, ◌<◌, ◌≤◌, IsErrOf, false};
 ghost use Rattle.sq_outside.specs.Causes.{raised};
 ghost use Rattle.sq_calls.specs.Faults.{fault_of};
+ghost use Rattle.sq_calls.specs.declared.faults.DeskFault.TheVariants as fault;
 ghost use Rattle.sq_desk.specs.Noting.{IsNoted, IsReady, after_refusal, counted};
 
 use sq_base::{EpochNo, WantOfMemory};
@@ -102,7 +103,8 @@ impl<J: Journal> Notes<J> {
 
     /// Makes sure that no note failed.
     pub fn going(&mut self) -> Result<(), DeskFault>
-        ensures { IsReady 0 self.old result self.new }
+        ensures ready { IsReady 0 self.old result self.new }
+        ensures memory { IsErrOf result fault.WantOfMemory → ⊥ }
     {
         if self.stopped {
             self.count();

@@ -1,2 +1,6 @@
 mod HubLaws
+mod JudgeLaws
+mod OpenLaws
 mod SameLaws
+mod StandLaws
+mod TellLaws

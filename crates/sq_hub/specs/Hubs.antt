@@ -1,5 +1,6 @@
 -- What the answers of a hub say.
 use Rattle.std.specs.Prelude.{ℕ, ◌+◌, min, Ok, Err, ⊤}
+use Rattle.std.specs.declared.option.Option.{Option}
 use Rattle.std.specs.declared.result.Result.{Result}
 use Rattle.sq_outside.specs.Causes.{Rose, count_limit, raised}
 use Rattle.sq_rules.specs.declared.refusals.Refusal.TheVariants as refusal
@@ -7,6 +8,7 @@ use Rattle.sq_session.specs.declared.front.Decided.{Decided}
 use Rattle.sq_session.specs.declared.front.Decided.TheVariants as decided
 use Rattle.sq_session.specs.declared.front.Opened.{Opened}
 use Rattle.sq_session.specs.declared.front.Opened.TheVariants as opened
+use Rattle.sq_state.specs.States.{State}
 use Rattle.sq_hub.specs.declared.hub.HubFault.{HubFault}
 use Rattle.sq_hub.specs.declared.hub.HubFault.TheVariants.{Refused, JournalFault, WantOfMemory}
 
@@ -39,8 +41,10 @@ asked_by before (Err fault) = before
 abbrev pub granted_by : ℕ → ℕ → ℕ
 granted_by before given = min (before + given) count_limit
 
--- what of a front no grant and no pause changes
+-- what of a front no grant and no pause changes: its connection, the machine where the hub tells it, and two counts
 pub record Counted : Type 0 where
+  pub conn : ℕ
+  pub machine : Option State
   pub asked : ℕ
   pub refused : ℕ
 

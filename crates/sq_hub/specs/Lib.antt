@@ -1,1 +1,4 @@
 pub mod Hubs
+pub mod Tellings
+pub mod Judging
+pub mod Pieces

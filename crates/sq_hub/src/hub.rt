@@ -2,7 +2,10 @@
 ghost use Rattle.std.specs.Prelude.{◌≡◌, ℕ, ◌≤◌, true};
 ghost use Rattle.sq_outside.specs.Causes.{count_limit};
 ghost use Rattle.sq_pools.specs.Basins.{has_pool};
+ghost use Rattle.std.specs.declared.option.Option.{Option};
+ghost use Rattle.sq_rules.specs.declared.entries.Event.TheVariants as event;
 ghost use Rattle.sq_hub.specs.Hubs.{HubRefuses, HubFails, asked_by, granted_by};
+ghost use Rattle.sq_hub.specs.Tellings.{HubState, Tells, MakesOn, Asks, Takes, Waited, Paused, Chooses, Grants, Leaves, IsFine, IsStep};
 
 use sq_base::{Addr, CheckNo, ConnNo, EpochNo, Request};
 use sq_checks::Record;
@@ -38,8 +41,12 @@ pub trait Hub {
     /// How often the journal failed. It never falls.
     ghost faults: { Self → ℕ };
 
+    /// What the machine and the pools are, where it tells that.
+    ghost told: { Self → Option HubState };
+
     /// Opens a connection.
     fn open(&mut self, alloc: Global, conn: ConnNo, addr: Addr, port: u16) -> Result<(), HubFault>
+        ensures told { Tells (MakesOn IsFine (event.Open conn addr port) result) (told self.old) (told self.new) }
         ensures refused { HubRefuses (refused self.old) (refused self.new) result }
         ensures failed { HubFails (faults self.old) (faults self.new) result }
         ensures asked { asked self.new ≡ asked self.old }
@@ -49,6 +56,7 @@ pub trait Hub {
 
     /// Closes a connection.
     fn close(&mut self, conn: ConnNo) -> Result<(), HubFault>
+        ensures told { Tells (MakesOn IsFine (event.Close conn) result) (told self.old) (told self.new) }
         ensures refused { HubRefuses (refused self.old) (refused self.new) result }
         ensures failed { HubFails (faults self.old) (faults self.new) result }
         ensures asked { asked self.new ≡ asked self.old }
@@ -58,6 +66,7 @@ pub trait Hub {
 
     /// Asks about a request of a connection.
     fn ask(&mut self, alloc: Global, conn: ConnNo, request: Request) -> Result<CheckNo, HubFault>
+        ensures told { Tells (Asks conn request result) (told self.old) (told self.new) }
         ensures refused { HubRefuses (refused self.old) (refused self.new) result }
         ensures failed { HubFails (faults self.old) (faults self.new) result }
         ensures asked { asked self.new ≡ asked_by (asked self.old) result }
@@ -67,6 +76,7 @@ pub trait Hub {
 
     /// Takes a check a step further.
     fn step(&mut self, alloc: Global, check: CheckNo) -> Result<Stepped, HubFault>
+        ensures told { Tells (MakesOn IsStep (event.Step check) result) (told self.old) (told self.new) }
         ensures refused { HubRefuses (refused self.old) (refused self.new) result }
         ensures failed { HubFails (faults self.old) (faults self.new) result }
         ensures asked { asked self.new ≡ asked self.old }
@@ -76,6 +86,7 @@ pub trait Hub {
 
     /// Takes the record of a check that is done.
     fn take(&mut self, alloc: Global, check: CheckNo) -> Result<Record, HubFault>
+        ensures told { Tells (Takes check result) (told self.old) (told self.new) }
         ensures refused { HubRefuses (refused self.old) (refused self.new) result }
         ensures failed { HubFails (faults self.old) (faults self.new) result }
         ensures asked { asked self.new ≡ asked self.old }
@@ -93,6 +104,7 @@ pub trait Hub {
         addr: Addr,
     ) -> Result<Seat, ChooseFault>
         requires there { has_pool config.now.value pool addr ≡ true }
+        ensures told { Tells (Chooses epoch config.now.value pool addr result) (told self.old) (told self.new) }
         ensures asked { asked self.new ≡ asked self.old }
         ensures granted { granted self.new ≡ granted self.old }
         ensures refused_later { refused self.old ≤ refused self.new }
@@ -100,6 +112,7 @@ pub trait Hub {
 
     /// Grants at most so many bytes on a seat. It takes no memory.
     fn grant(&mut self, seat: &Seat, wanted: u64) -> u64
+        ensures told { Tells (Grants seat.now wanted result) (told self.old) (told self.new) }
         ensures within { result ≤ wanted }
         ensures granted { granted self.new ≡ granted_by (granted self.old) result }
         ensures asked { asked self.new ≡ asked self.old }
@@ -108,6 +121,7 @@ pub trait Hub {
 
     /// Gives a seat up. It takes no memory.
     fn leave(&mut self, seat: Seat)
+        ensures told { Tells (Leaves seat) (told self.old) (told self.new) }
         ensures asked { asked self.new ≡ asked self.old }
         ensures granted { granted self.new ≡ granted self.old }
         ensures refused_later { refused self.old ≤ refused self.new }
@@ -115,6 +129,7 @@ pub trait Hub {
 
     /// Waits until something changed.
     fn wait(&mut self)
+        ensures told { Tells Waited (told self.old) (told self.new) }
         ensures asked { asked self.new ≡ asked self.old }
         ensures granted { granted self.new ≡ granted self.old }
         ensures refused_later { refused self.old ≤ refused self.new }
@@ -122,6 +137,7 @@ pub trait Hub {
 
     /// Waits a while.
     fn pause(&mut self)
+        ensures told { Tells Paused (told self.old) (told self.new) }
         ensures asked { asked self.new ≡ asked self.old }
         ensures granted { granted self.new ≡ granted self.old }
         ensures refused { refused self.new ≡ refused self.old }

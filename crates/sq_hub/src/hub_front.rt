@@ -1,6 +1,10 @@
 //! `HubFront`: the front of one connection over a hub.
 ghost use Rattle.std.specs.Prelude.{◌≡◌, ◌≤◌, ◌-◌, ◌^◌, is_some, false};
+ghost use Rattle.sq_forward.specs.Meters.{granted_after};
+ghost use Rattle.std.specs.declared.option.Option.{Option};
 ghost use Rattle.sq_hub.specs.Hubs.{opened_of};
+ghost use Rattle.sq_hub.specs.Judging.{GrantsOn};
+ghost use Rattle.sq_hub.specs.Tellings.{Tells};
 
 use crate::hub::{Hub, HubFault};
 use crate::judging::judge;
@@ -27,12 +31,20 @@ pub struct HubFront<'a, R: Wait, H: Hub + Drop> {
 }
 
 impl<'a, R: Wait, H: Hub + Drop> HubFront<'a, R, H> {
+    ghost use Rattle.std.specs.Prelude.{List, [], IfSome};
+    ghost use Rattle.sq_rules.specs.Configurations.{Configuration};
+    ghost use Rattle.sq_rules.specs.Entries.{History};
+    ghost use Rattle.sq_hub.specs.Pieces.{FrontStands, machine_told};
+    ghost use Rattle.sq_hub.specs.Tellings.{StandsAt};
+
     /// The front of a connection of this number. It holds no seat. It takes no memory.
     pub fn new(rt: &'a R, hub: H, conn: ConnNo) -> HubFront<'a, R, H>
         ensures hub { result.hub ≡ hub }
         ensures conn { result.conn ≡ conn }
         ensures seat { is_some result.seat ≡ false }
         ensures dry { result.dry ≡ 0 }
+        // Where the hub tells a state that stands for a history, the front stands for no answers so far.
+        ensures stands { IfSome (H.told hub) (λ v. (configs : List Configuration) (h : History) → StandsAt configs h v.machine → FrontStands conn (machine_told (H.told hub)) []) }
     {
         HubFront {
             rt,
@@ -56,6 +68,8 @@ impl<'a, R: Wait, H: Hub + Drop> HubFront<'a, R, H> {
 impl<'a, R: Wait, H: Hub + Drop> Meter for HubFront<'a, R, H> {
     ghost use Rattle.std.specs.Prelude.{is_some};
     ghost use Rattle.sq_hub.specs.Hubs.{Counted};
+    ghost use Rattle.sq_hub.specs.Pieces.{machine_told};
+    ghost use Rattle.sq_forward.specs.Meters.{is_short, Gives, granted_after, dry_after_grant};
 
     ghost seated = { λ f. is_some f.seat };
 
@@ -67,15 +81,24 @@ impl<'a, R: Wait, H: Hub + Drop> Meter for HubFront<'a, R, H> {
 
     ghost Besides = { Counted };
 
-    ghost besides = { λ f. record { asked = H.asked f.hub; refused = H.refused f.hub } };
+    ghost besides = { λ f. record { conn = f.conn; machine = machine_told (H.told f.hub); asked = H.asked f.hub; refused = H.refused f.hub } };
 
     ghost capped = { λ f. H.granted_capped f.hub };
 
-    fn grant(&mut self, wanted: u64) -> u64 {
-        let given = match &self.seat {
-            Some(seat) => self.hub.grant(seat, wanted),
-            None => wanted,
-        };
+    fn grant(&mut self, wanted: u64) -> u64
+        // It is the hub's grant on its seat, where it holds one.
+        ensures told { Tells (GrantsOn self.old.seat wanted result) (H.told self.old.hub) (H.told self.new.hub) }
+        ensures gives { Gives (is_some self.old.seat) wanted result }
+        ensures seated { is_some self.new.seat ≡ is_some self.old.seat }
+        ensures besides { ◌≡◌ {A = Counted} (record { conn = self.new.conn; machine = machine_told (H.told self.new.hub); asked = H.asked self.new.hub; refused = H.refused self.new.hub })
+            (record { conn = self.old.conn; machine = machine_told (H.told self.old.hub); asked = H.asked self.old.hub; refused = H.refused self.old.hub }) }
+        ensures granted { H.granted self.new.hub ≡ granted_after (is_some self.old.seat) (H.granted self.old.hub) result }
+        ensures short { self.new.short ≡ is_short wanted result }
+        ensures dry { self.new.dry ≡ dry_after_grant result self.old.dry }
+        ensures conn { self.new.conn ≡ self.old.conn }
+        ensures seat { self.new.seat ≡ self.old.seat }
+    {
+        let given = granted(&mut self.hub, &self.seat, wanted);
         self.short = wanted > 0 && given == 0;
         if given > 0 {
             self.dry = 0;
@@ -93,27 +116,65 @@ impl<'a, R: Wait, H: Hub + Drop> Meter for HubFront<'a, R, H> {
 }
 
 impl<'a, R: Wait, H: Hub + Drop> Front for HubFront<'a, R, H> {
-    ghost use Rattle.std.proofs.Common.{ap};
+    ghost use Rattle.std.proofs.Common.{ap, subst};
+    ghost use Rattle.std.specs.Prelude.{List, ◌∷◌, ◌++◌, [], OnOk, OnErr};
+    ghost use Rattle.sq_session.specs.Fronts.{FrontTold, OfOpen, OfDecide, OfSit, Decides, Asks, OpenRefuses, DecideRefuses, names_pool};
     ghost use Rattle.sq_hub.specs.Hubs.{Counted};
+    ghost use Rattle.sq_hub.specs.Judging.{Judges, Opens, Rises, Sits};
+    ghost use Rattle.sq_hub.specs.Pieces.{FrontStands, machine_told};
 
-    ghost stands = { λ _ _. ⊥ };
+    ghost stands = { λ f list. FrontStands f.conn (machine_told (H.told f.hub)) list };
 
     ghost asked = { λ f. H.asked f.hub };
 
     ghost refused = { λ f. H.refused f.hub };
 
-    fn open(&mut self, alloc: Global, addr: Addr, port: u16) -> Opened {
+    fn open(&mut self, alloc: Global, addr: Addr, port: u16) -> Opened
+        // It opens, or is full or refused, as the machine answers.
+        ensures opens { Tells (Opens self.old.conn addr port result) (H.told self.old.hub) (H.told self.new.hub) }
+        ensures told { (list : List FrontTold) → FrontStands self.old.conn (machine_told (H.told self.old.hub)) list → FrontStands self.new.conn (machine_told (H.told self.new.hub)) (list ++ OfOpen result ∷ []) }
+        ensures asked { H.asked self.new.hub ≡ H.asked self.old.hub }
+        ensures refused_later { H.refused self.old.hub ≤ H.refused self.new.hub }
+        ensures refused { OpenRefuses (H.refused self.old.hub) (H.refused self.new.hub) result }
+        ensures seated { is_some self.new.seat ≡ is_some self.old.seat }
+        ensures granted { H.granted self.new.hub ≡ H.granted self.old.hub }
+        ensures dry { self.new.dry ≡ self.old.dry }
+    {
         match self.hub.open(alloc, self.conn, addr, port) {
             Ok(()) => Opened::In,
             Err(fault) => opened_of(fault),
         }
     }
 
-    fn decide(&mut self, alloc: Global, request: &Request) -> Decided {
+    fn decide(&mut self, alloc: Global, request: &Request) -> Decided
+        // Where the hub tells, the record is of the check of this very request, and is taken last; no other request is
+        // judged; and a refusal is the machine's.
+        ensures judges { Tells (Judges self.old.conn request.now result) (H.told self.old.hub) (H.told self.new.hub) }
+        ensures told { (list : List FrontTold) → FrontStands self.old.conn (machine_told (H.told self.old.hub)) list → FrontStands self.new.conn (machine_told (H.told self.new.hub)) (list ++ OfDecide result ∷ []) }
+        ensures record { Decides request.now result }
+        ensures asked_later { H.asked self.old.hub ≤ H.asked self.new.hub }
+        ensures asked { Asks (H.asked self.old.hub) (H.asked self.new.hub) result }
+        ensures refused_later { H.refused self.old.hub ≤ H.refused self.new.hub }
+        ensures refused { DecideRefuses (H.refused self.old.hub) (H.refused self.new.hub) result }
+        ensures seated { is_some self.new.seat ≡ is_some self.old.seat }
+        ensures granted { H.granted self.new.hub ≡ H.granted self.old.hub }
+        ensures dry { self.new.dry ≡ self.old.dry }
+    {
         judge(self.rt, alloc, &mut self.hub, self.conn, request)
     }
 
-    fn sit(&mut self, alloc: Global, judged: &Record) -> Result<(), SitFault> {
+    fn sit(&mut self, alloc: Global, judged: &Record) -> Result<(), SitFault>
+        requires unseated { is_some self.old.seat ≡ false }
+        // It is the hub's choice of the record's pool, if that has one.
+        ensures sits { Tells (Sits judged.now result self.old.seat self.new.seat) (H.told self.old.hub) (H.told self.new.hub) }
+        ensures told { (list : List FrontTold) → FrontStands self.old.conn (machine_told (H.told self.old.hub)) list → FrontStands self.new.conn (machine_told (H.told self.new.hub)) (list ++ OfSit result ∷ []) }
+        ensures seated { OnOk result (is_some self.new.seat ≡ names_pool judged.now) }
+        ensures refused_seat { OnErr result (is_some self.new.seat ≡ false) }
+        ensures asked { H.asked self.new.hub ≡ H.asked self.old.hub }
+        ensures refused_later { H.refused self.old.hub ≤ H.refused self.new.hub }
+        ensures granted { H.granted self.new.hub ≡ H.granted self.old.hub }
+        ensures dry { self.new.dry ≡ self.old.dry }
+    {
         let Some(pool) = judged.pool() else {
             return Ok(());
         };
@@ -133,7 +194,16 @@ impl<'a, R: Wait, H: Hub + Drop> Front for HubFront<'a, R, H> {
         }
     }
 
-    fn rise(&mut self) {
+    fn rise(&mut self)
+        // It gives back the seat that it holds.
+        ensures rises { Tells (Rises self.old.seat) (H.told self.old.hub) (H.told self.new.hub) }
+        ensures told { (list : List FrontTold) → FrontStands self.old.conn (machine_told (H.told self.old.hub)) list → FrontStands self.new.conn (machine_told (H.told self.new.hub)) list }
+        ensures seated { is_some self.new.seat ≡ false }
+        ensures asked { H.asked self.new.hub ≡ H.asked self.old.hub }
+        ensures refused_later { H.refused self.old.hub ≤ H.refused self.new.hub }
+        ensures granted { H.granted self.new.hub ≡ H.granted self.old.hub }
+        ensures dry { self.new.dry ≡ self.old.dry }
+    {
         match self.seat.take() {
             Some(seat) => self.hub.leave(seat),
             None => {}
@@ -154,7 +224,7 @@ impl<'a, R: Wait, H: Hub + Drop> Front for HubFront<'a, R, H> {
 
     ghost refused_besides = { λ a b e. ap Counted.refused e };
 
-    ghost stands_besides = { λ a b e list s. s };
+    ghost stands_besides = { λ a b e list s. subst (λ k. FrontStands k.conn k.machine list) e s };
 }
 
 // What the opening of a connection comes to that the hub did not open.
@@ -167,5 +237,20 @@ fn opened_of(fault: HubFault) -> Opened
         HubFault::Refused(why) => Opened::Refused(why),
         HubFault::JournalFault => Opened::JournalFault,
         HubFault::WantOfMemory => Opened::WantOfMemory,
+    }
+}
+
+// What the hub grants on a seat; without one all that is wanted.
+fn granted<H: Hub>(hub: &mut H, seat: &Option<Seat>, wanted: u64) -> u64
+    ensures told { Tells (GrantsOn seat.now wanted result) (H.told hub.old) (H.told hub.new) }
+    ensures within { result ≤ wanted }
+    ensures all { is_some seat.now ≡ false → result ≡ wanted }
+    ensures granted { H.granted hub.new ≡ granted_after (is_some seat.now) (H.granted hub.old) result }
+    ensures asked { H.asked hub.new ≡ H.asked hub.old }
+    ensures refused { H.refused hub.new ≡ H.refused hub.old }
+{
+    match seat {
+        Some(seat) => hub.grant(seat, wanted),
+        None => wanted,
     }
 }

@@ -2,7 +2,10 @@
 ghost use Rattle.std.specs.Prelude.{◌≡◌, ℕ, ◌≤◌};
 ghost use Rattle.sq_outside.specs.Causes.{raised};
 ghost use Rattle.sq_session.specs.Fronts.{Decides, Asks, DecideRefuses};
+ghost use Rattle.sq_session.specs.declared.front.Decided.TheVariants as decided;
 ghost use Rattle.sq_hub.specs.Hubs.{HubRefuses, decided_of};
+ghost use Rattle.sq_hub.specs.Judging.{Finishes, Judges};
+ghost use Rattle.sq_hub.specs.Tellings.{Tells};
 
 use crate::hub::{Hub, HubFault};
 use crate::same::same_request;
@@ -22,6 +25,7 @@ pub(crate) fn judge<R: Wait, H: Hub>(
     conn: ConnNo,
     request: &Request,
 ) -> Decided
+    ensures told { Tells (Judges conn request.now result) (H.told hub.old) (H.told hub.new) }
     ensures record { Decides request.now result }
     ensures asked { Asks (H.asked hub.old) (H.asked hub.new) result }
     ensures refused { DecideRefuses (H.refused hub.old) (H.refused hub.new) result }
@@ -49,6 +53,7 @@ fn finish<R: Wait, H: Hub>(
     hub: &mut H,
     check: CheckNo,
 ) -> Result<Record, HubFault>
+    ensures told { Tells (Finishes check result) (H.told hub.old) (H.told hub.new) }
     ensures refused { HubRefuses (H.refused hub.old) (H.refused hub.new) result }
     ensures asked { H.asked hub.new ≡ H.asked hub.old }
     ensures refused_later { H.refused hub.old ≤ H.refused hub.new }
@@ -79,6 +84,7 @@ fn decided_of(fault: HubFault) -> Decided
 
 // A record, where it is of this request.
 fn compared(alloc: Global, judged: Record, request: &Request) -> Decided
+    ensures same { judged.sight.request ≡ request.now → result ≡ decided.Record judged }
     ensures record { Decides request.now result }
     ensures asked { (before : ℕ) → Asks before (raised before) result }
     ensures quiet { (before now : ℕ) → DecideRefuses before now result }

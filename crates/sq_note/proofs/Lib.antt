@@ -1,3 +1,2 @@
-mod JournalLaws
+pub mod JournalLaws
 mod MemLaws
-mod MigrateLaws

@@ -1,4 +1,3 @@
 pub mod Memory
-pub mod Migrating
 pub mod Noting
 pub mod Sinks

@@ -4,6 +4,7 @@ mod HalfwayLaws
 mod MigrateLaws
 mod MissingLaws
 mod OpenedLaws
+mod RehearseLaws
 mod SettleLaws
 mod ShelfLaws
 mod StageLaws

@@ -30,21 +30,21 @@ Flushes a b page now = (base : Option (List ℕ)) (text : List ℕ) → Wrote ba
 abbrev pub Breaks : Option (List ℕ) → Option (List ℕ) → List ℕ → Type 0
 Breaks a b page = (base : Option (List ℕ)) (text : List ℕ) → Wrote base a page text → WrotePart base b text
 
-all_written : (base b : Option (List ℕ)) (now text : List ℕ) → now ≡ [] → Wrote base b now text → Appends base b text
+pub all_written : (base b : Option (List ℕ)) (now text : List ℕ) → now ≡ [] → Wrote base b now text → Appends base b text
 all_written base b now text e w = subst (Appends base b) (sym (append-nil w.done) ∙ ap (λ p. w.done ++ p) (sym e) ∙ w.whole) w.appends
 
-front_written : (base a b : Option (List ℕ)) (page now text : List ℕ) → Flushes a b page now → now ≡ [] → WroteFront base a page text → Grew base b (λ part. IsPrefix part text)
+pub front_written : (base a b : Option (List ℕ)) (page now text : List ℕ) → Flushes a b page now → now ≡ [] → WroteFront base a page text → Grew base b (λ part. IsPrefix part text)
 front_written base a b page now text flush e w = (w.front, all_written base b now w.front e (flush base w.front w.wrote), w.begins)
 
-front_broken : (base a b : Option (List ℕ)) (page text : List ℕ) → Breaks a b page → WroteFront base a page text → Grew base b (λ part. IsPrefix part text)
+pub front_broken : (base a b : Option (List ℕ)) (page text : List ℕ) → Breaks a b page → WroteFront base a page text → Grew base b (λ part. IsPrefix part text)
 front_broken base a b page text break w =
     Grew_map base b _ _ (λ bytes p. IsPrefix_trans bytes w.front text (IsProperPrefix_front bytes w.front p) w.begins) (break base w.front w.wrote)
 
-lines_written : (base a b : Option (List ℕ)) (page now text : List ℕ) (before after : ℕ) → Flushes a b page now → now ≡ [] → WroteLines base a page text
+pub lines_written : (base a b : Option (List ℕ)) (page now text : List ℕ) (before after : ℕ) → Flushes a b page now → now ≡ [] → WroteLines base a page text
     → Grew base b (IsLines before after text)
 lines_written base a b page now text before after flush e w = (w.front, all_written base b now w.front e (flush base w.front w.wrote), (w.begins, inl w.lines))
 
-lines_broken : (base a b : Option (List ℕ)) (page text : List ℕ) (before after : ℕ) → Breaks a b page → Rose before after → WroteLines base a page text
+pub lines_broken : (base a b : Option (List ℕ)) (page text : List ℕ) (before after : ℕ) → Breaks a b page → Rose before after → WroteLines base a page text
     → Grew base b (IsLines before after text)
 lines_broken base a b page text before after break rose w =
     Grew_map base b _ _ (λ bytes p. (IsPrefix_trans bytes w.front text (IsProperPrefix_front bytes w.front p) w.begins, inr rose)) (break base w.front w.wrote)

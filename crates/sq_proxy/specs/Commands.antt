@@ -1,6 +1,7 @@
 -- The commands, and what each comes to over files: the text that is written before the last line, and the end.
 use Rattle.std.specs.Prelude.{◌≡◌, ◌⊎◌, ℕ, ◌+◌, List, [], ◌∷◌, length, Bool, true, false, Result, Ok, Err, Some, None, IfSome, codes, bytes_eq, if◌then◌else◌}
 use Rattle.std.specs.declared.option.Option.{Option}
+use Rattle.sq_base.specs.Decimals.{number_of}
 use Rattle.sq_outside.specs.SourceLines.{Line, lines}
 use Rattle.sq_outside.specs.Told.{Texts}
 use Rattle.sq_rules.specs.declared.entries.Event.TheVariants.{Reconfigure}
@@ -9,14 +10,16 @@ use Rattle.sq_rules.specs.ConfText.{conf_result}
 use Rattle.sq_rules.specs.declared.kinds.ConfError.{ConfError}
 use Rattle.sq_journal.specs.EntryText.{written}
 use Rattle.sq_journal.specs.Journals.{journal_text}
-use Rattle.sq_note.specs.Migrating.{Reading, read_journal}
 use Rattle.sq_replay.specs.ConfReading.{read_result}
 use Rattle.sq_replay.specs.Headline.{IsTrueOrNone}
 use Rattle.sq_replay.specs.RunText.{Ran, Shelf, configs_of, run_script, stated}
+use Rattle.sq_rehearse.specs.Rehearsals.{configuration_text, rehearsal}
+use Rattle.sq_rehearse.specs.Summaries.{summary_line}
 use Rattle.sq_verify.specs.declared.findings.Finding.{Finding}
 use Rattle.sq_verify.specs.declared.findings.Finding.TheVariants as finding
 use Rattle.sq_verify.specs.Audits.{IsAudited}
 use Rattle.sq_verify.specs.Judging.{judged}
+use Rattle.sq_verify.specs.Migrating.{Reading, read_journal}
 use Rattle.sq_verify.specs.Telling.{finding_text}
 use Rattle.sq_proxy.specs.declared.ends.Status.{Status}
 use Rattle.sq_proxy.specs.declared.ends.Status.TheVariants as ends
@@ -29,16 +32,32 @@ use Rattle.sq_proxy.specs.ParseText.{parse_text}
 abbrev pub Disk : Type 0
 Disk = List ℕ → Option (List ℕ)
 
--- a command with the names of its files
+-- a command with the names of its files, or its number
 pub data Command : Type 0 where
   Parse : List ℕ → Command
   Replay : List ℕ → List ℕ → Command
   Verify : List ℕ → List ℕ → Command
   Migrate : List ℕ → Command
+  Rehearse : ℕ → Command
 
--- the command of a word and a name
+-- up to so many requests are rehearsed
+abbrev pub rehearse_limit : ℕ
+rehearse_limit = 1000000
+
+-- a rehearsal of this number of requests, if it is one
+abbrev pub rehearse_of : Option ℕ → Option Command
+rehearse_of None = None
+rehearse_of (Some count) = Some (Rehearse count)
+
+-- the number is spelled as in scripts
+abbrev pub rehearse_command : List ℕ → Option Command
+rehearse_command word = rehearse_of (number_of (rehearse_limit + 1) word)
+
+-- the command of a word and a name or a number
 abbrev pub single_command : List ℕ → List ℕ → Option Command
-single_command word file = if bytes_eq word (codes "parse") then Some (Parse file) else (if bytes_eq word (codes "migrate") then Some (Migrate file) else None)
+single_command word file =
+    if bytes_eq word (codes "parse") then Some (Parse file)
+    else (if bytes_eq word (codes "migrate") then Some (Migrate file) else (if bytes_eq word (codes "rehearse") then rehearse_command file else None))
 
 -- the command of a word and two names
 abbrev pub pair_command : List ℕ → List ℕ → List ℕ → Option Command
@@ -67,6 +86,7 @@ IsNamed texts (Some (Parse conf)) name = name ≡ conf
 IsNamed texts (Some (Replay conf script)) name = (name ≡ conf) ⊎ ((name ≡ script) ⊎ NamesFile texts script name)
 IsNamed texts (Some (Verify conf journal)) name = (name ≡ conf) ⊎ (name ≡ journal)
 IsNamed texts (Some (Migrate journal)) name = name ≡ journal
+IsNamed texts (Some (Rehearse count)) name = ⊥
 
 -- what a command writes before its last line, and how it ends
 pub record Output : Type 0 where
@@ -166,12 +186,25 @@ migrate_over text journal = staged (script_stage journal text) migrated_output
 abbrev pub migrate_output : Disk → List ℕ → Output
 migrate_output disk journal = migrate_over (disk journal) journal
 
+-- the line that a rehearsal of so many requests comes to, over the configuration that was read
+abbrev pub rehearsed_by : ℕ → Result Configuration Status → Result (List ℕ) Status
+rehearsed_by count (Ok config) = Ok (summary_line (rehearsal config count))
+rehearsed_by count (Err end) = Err end
+
+unfoldable pub rehearsed_stage : ℕ → Result (List ℕ) Status
+rehearsed_stage count = rehearsed_by count (conf_read (conf_result configuration_text))
+
+-- what `rehearse` comes to, which reads no file
+abbrev pub rehearse_output : ℕ → Output
+rehearse_output count = staged (rehearsed_stage count) (λ line. record { text = line; end = ends.Ok })
+
 abbrev pub command_output : Disk → Option Command → Output
 command_output disk None = silent ends.Usage
 command_output disk (Some (Parse conf)) = parse_output disk conf
 command_output disk (Some (Replay conf script)) = replay_output disk conf script
 command_output disk (Some (Verify conf journal)) = verify_output disk conf journal
 command_output disk (Some (Migrate journal)) = migrate_output disk journal
+command_output disk (Some (Rehearse count)) = rehearse_output count
 
 -- what the words come to over these files
 abbrev pub output_of : Disk → List (List ℕ) → Output
@@ -205,3 +238,4 @@ shown_command (words.Parse conf) = Parse conf.now
 shown_command (words.Replay conf script) = Replay conf.now script.now
 shown_command (words.Verify conf journal) = Verify conf.now journal.now
 shown_command (words.Migrate journal) = Migrate journal.now
+shown_command (words.Rehearse count) = Rehearse count

@@ -1,7 +1,7 @@
 -- How a command ends: its last line and its exit status, the causes of faults, and the ends that a command and each part of it may have.
 use Rattle.std.specs.Prelude.{◌≡◌, ◌⊎◌, ℕ, ◌≤◌, List, [], ◌∷◌, ◌++◌, Bool, true, false, codes, decimal, Result}
-use Rattle.sq_note.specs.declared.migrating.MigrateFault.{MigrateFault}
-use Rattle.sq_note.specs.declared.migrating.MigrateFault.TheVariants as migrating
+use Rattle.sq_verify.specs.declared.migrating.MigrateFault.{MigrateFault}
+use Rattle.sq_verify.specs.declared.migrating.MigrateFault.TheVariants as migrating
 use Rattle.std.specs.declared.result.Result.TheVariants as result
 use Rattle.sq_base.specs.Escapes.{text_word}
 use Rattle.sq_outside.specs.Causes.{Rose}
@@ -153,6 +153,14 @@ abbrev pub IsConfEnd : Status → Type 0
 IsConfEnd (Config line kind) = Unit {0}
 IsConfEnd WantOfMemory = Unit {0}
 IsConfEnd status = ⊥
+
+-- a rehearsal ends by these alone: it reads no file
+abbrev pub IsRehearsedEnd : Status → Type 0
+IsRehearsedEnd Ok = Unit {0}
+IsRehearsedEnd (Config line kind) = Unit {0}
+IsRehearsedEnd WriteFault = Unit {0}
+IsRehearsedEnd WantOfMemory = Unit {0}
+IsRehearsedEnd status = ⊥
 
 -- a command over one file misses only this one, and is no usage
 abbrev pub IsPlayedEnd : Texts → List ℕ → Status → Type 0

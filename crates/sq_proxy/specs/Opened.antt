@@ -8,7 +8,7 @@ use Rattle.sq_rules.specs.Configurations.{Configuration}
 use Rattle.sq_replay.specs.RunText.{Shelf, run_script}
 use Rattle.sq_proxy.specs.declared.ends.Status.{Status}
 use Rattle.sq_proxy.specs.declared.ends.Status.TheVariants as ends
-use Rattle.sq_proxy.specs.Commands.{Command, Parse, Replay, Verify, Migrate, Output, silent, migrate_over, parse_over, ran_output, replay_over, script_stage, staged, verify_over}
+use Rattle.sq_proxy.specs.Commands.{Command, Parse, Replay, Verify, Migrate, Rehearse, Output, silent, migrate_over, parse_over, ran_output, rehearse_output, replay_over, script_stage, staged, verify_over}
 use Rattle.sq_proxy.specs.Outputs.{Delivers}
 
 -- where openings are told, some were added, newest first, of which P holds
@@ -40,6 +40,7 @@ IsOpened (Some (Parse conf)) more = IsOnce conf more
 IsOpened (Some (Replay conf script)) more = BeginsWith conf more × BeginsWith script (behind_first more)
 IsOpened (Some (Verify conf journal)) more = BeginsWith conf more × IsOnce journal (behind_first more)
 IsOpened (Some (Migrate journal)) more = IsOnce journal more
+IsOpened (Some (Rehearse count)) more = more ≡ []
 
 -- the text that the first opening gave
 abbrev pub first_text : List Opening → Option (List ℕ)
@@ -70,3 +71,4 @@ opened_output (Some (Parse conf)) more = parse_over (first_text more) conf
 opened_output (Some (Replay conf script)) more = replay_over (shelf_over (behind_first (behind_first more))) (first_text more) (first_text (behind_first more)) conf script
 opened_output (Some (Verify conf journal)) more = verify_over (first_text more) (first_text (behind_first more)) conf journal
 opened_output (Some (Migrate journal)) more = migrate_over (first_text more) journal
+opened_output (Some (Rehearse count)) more = rehearse_output count

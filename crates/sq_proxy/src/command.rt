@@ -1,10 +1,13 @@
 //! The words of a command.
 ghost use Rattle.std.specs.Prelude.{◌≡◌, Some, None, MatchOption};
-ghost use Rattle.sq_proxy.specs.Commands.{command_of, pair_command, shown_command, single_command};
+ghost use Rattle.sq_proxy.specs.Commands.{command_of, pair_command, rehearse_command, shown_command, single_command};
 
-use sq_base::Text;
+use sq_base::{Text, number_of};
 
-/// A command with the names of its files.
+/// Numbers of requests that are rehearsed are below this.
+const REHEARSE_LIMIT: u64 = 1_000_001;
+
+/// A command with the names of its files, or its number.
 #[derive(Drop)]
 pub enum Command<'a> {
     /// `parse CONF`
@@ -15,6 +18,8 @@ pub enum Command<'a> {
     Verify { conf: &'a Text, journal: &'a Text },
     /// `migrate JOURNAL`
     Migrate { journal: &'a Text },
+    /// `rehearse N`
+    Rehearse { count: u32 },
 }
 
 /// The command that these words are, the program's name left out.
@@ -22,13 +27,13 @@ pub fn read_command(words: &[Text]) -> Option<Command<'_>>
     ensures { MatchOption result (command_of words.now ≡ None) (λ c. command_of words.now ≡ Some (shown_command c)) }
 {
     match words {
-        [word, file] => read_single(word, file),
+        [word, other] => read_single(word, other),
         [word, conf, file] => read_pair(word, conf, file),
         _ => None,
     }
 }
 
-// The command of a word and a name.
+// The command of a word and a name or a number.
 fn read_single<'a>(word: &Text, file: &'a Text) -> Option<Command<'a>>
     ensures { MatchOption result (single_command word.now file.now ≡ None) (λ c. single_command word.now file.now ≡ Some (shown_command c)) }
 {
@@ -36,8 +41,22 @@ fn read_single<'a>(word: &Text, file: &'a Text) -> Option<Command<'a>>
         Some(Command::Parse { conf: file })
     } else if word.as_bytes() == b"migrate".as_slice() {
         Some(Command::Migrate { journal: file })
+    } else if word.as_bytes() == b"rehearse".as_slice() {
+        read_rehearse(file)
     } else {
         None
+    }
+}
+
+// A rehearsal of the number of requests that a word spells.
+fn read_rehearse<'a>(word: &'a Text) -> Option<Command<'a>>
+    ensures { MatchOption result (rehearse_command word.now ≡ None) (λ c. rehearse_command word.now ≡ Some (shown_command c)) }
+{
+    match number_of(word.as_bytes(), REHEARSE_LIMIT) {
+        Some(count) => Some(Command::Rehearse {
+            count: count as u32,
+        }),
+        None => None,
     }
 }
 

@@ -11,6 +11,7 @@ mod ends;
 mod last_line;
 mod migrating;
 mod parsing;
+mod rehearsing;
 mod stages;
 mod top;
 mod verifying;

@@ -1,15 +1,19 @@
 //! Journals of version 1, written as those of version 2.
-ghost use Rattle.std.specs.Prelude.{◌≡◌, IfSome, Some};
-ghost use Rattle.sq_proxy.specs.Commands.{migrate_output, Migrate};
-ghost use Rattle.sq_proxy.specs.Ends.{HasCauses, IsPlayedEnd, migrate_status};
+ghost use Rattle.std.specs.Prelude.{◌≡◌, ◌⊎◌, ◌≤◌, ℕ, List, Option, IfSome, Some};
+ghost use Rattle.sq_outside.specs.Causes.{Rose};
+ghost use Rattle.sq_proxy.specs.declared.ends.Status.TheVariants as ends;
+ghost use Rattle.sq_proxy.specs.Commands.{migrate_output, migrated, Migrate};
+ghost use Rattle.sq_proxy.specs.Ends.{HasCauses, IsPlayedEnd, IsToldEnd, end_of, migrate_status};
 ghost use Rattle.sq_proxy.specs.Opened.{Added, IsOpened, opened_output};
-ghost use Rattle.sq_proxy.specs.Outputs.{Delivers};
+ghost use Rattle.sq_proxy.specs.Outputs.{Delivers, IsSettled, failed_end, is_write_fault};
+ghost use Rattle.sq_verify.specs.Migrating.{Migrates, Reading};
 
 use crate::ends::Status;
 use crate::stages::missing;
 use sq_base::Text;
-use sq_note::{MigrateFault, migrate as write_second};
-use sq_outside::{Files, NoOpen, Sink};
+use sq_outside::{Failed, Files, NoOpen, Sink};
+use sq_replay::write_page;
+use sq_verify::{MigrateFault, migrate as write_second};
 use std::alloc::Global;
 
 // The status of a migration that ends so.
@@ -22,6 +26,48 @@ fn migrate_status(ended: Result<(), MigrateFault>) -> Status
         Err(MigrateFault::ReadFault) => Status::ReadFault,
         Err(MigrateFault::WriteFault) => Status::WriteFault,
         Err(MigrateFault::WantOfMemory) => Status::WantOfMemory,
+    }
+}
+
+// Whether a migration ended since its output could not be written.
+fn is_write_fault(end: &Status) -> bool
+    ensures { result ≡ is_write_fault end.now }
+{
+    match end {
+        Status::WriteFault => true,
+        _ => false,
+    }
+}
+
+// How a migration ends whose last page could not be written: a fault that ended it stays, and any other end becomes a
+// write fault.
+fn failed_end(end: Status) -> Status
+    ensures { result ≡ failed_end end }
+{
+    match end {
+        Status::ReadFault => Status::ReadFault,
+        Status::WantOfMemory => Status::WantOfMemory,
+        _ => Status::WriteFault,
+    }
+}
+
+// Writes what the page holds at the end of a migration.
+fn settle<O: Sink>(page: &mut Vec<u8>, out: &mut O, ended: Result<(), MigrateFault>) -> Status
+    ensures delivers { (base : Option (List ℕ)) (read : Reading) → Migrates base (O.contents out.old) page.old.items read ended
+        → Delivers base (O.contents out.new) (O.faults out.old) (O.faults out.new) (migrated read) result }
+    ensures same { IsSettled (migrate_status ended) result }
+    ensures read { migrate_status ended ≡ ends.ReadFault → result ≡ ends.ReadFault }
+    ensures later { O.faults out.old ≤ O.faults out.new }
+    ensures write { result ≡ ends.WriteFault → (migrate_status ended ≡ ends.WriteFault) ⊎ Rose (O.faults out.old) (O.faults out.new) }
+    ensures quiet { IsToldEnd (end_of result) → O.faults out.new ≡ O.faults out.old }
+{
+    let end = migrate_status(ended);
+    if is_write_fault(&end) {
+        return end;
+    }
+    match write_page(page, out) {
+        Ok(()) => end,
+        Err(Failed) => failed_end(end),
     }
 }
 
@@ -46,7 +92,8 @@ pub fn migrate<F: Files, O: Sink>(
         Err(NoOpen::Failed) => return Status::ReadFault,
         Err(NoOpen::WantOfMemory) => return Status::WantOfMemory,
     };
-    let ended = write_second(alloc, &mut source, out);
+    let mut page = Vec::new(alloc);
+    let ended = write_second(alloc, &mut source, &mut page, out);
     files.give_back(source);
-    migrate_status(ended)
+    settle(&mut page, out, ended)
 }

@@ -26,8 +26,8 @@ pub fn missing(alloc: Global, name: &Text) -> Status
     }
 }
 
-// The configuration of a text.
-fn judge_text(alloc: Global, text: &[u8]) -> Result<Setup, Status>
+/// The configuration of a text.
+pub fn judge_text(alloc: Global, text: &[u8]) -> Result<Setup, Status>
     ensures comes { Comes result (conf_read (conf_result text.now)) }
     ensures good { IfOk result IsConfiguration }
     ensures end { IfErr result IsConfEnd }

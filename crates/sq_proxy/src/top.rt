@@ -18,6 +18,7 @@ use crate::ends::{Status, status_of};
 use crate::last_line::finish;
 use crate::migrating::migrate;
 use crate::parsing::parse_text;
+use crate::rehearsing::rehearse;
 use crate::stages::{missing, open_conf};
 use crate::verifying::verify;
 use sq_base::{Text, WantOfMemory};
@@ -156,21 +157,22 @@ fn run_words<F: Files, O: Sink>(alloc: Global, words: &[Text], files: &mut F, ou
         Some(Command::Replay { conf, script }) => replay(alloc, conf, script, files, out),
         Some(Command::Verify { conf, journal }) => verify(alloc, conf, journal, files, out),
         Some(Command::Migrate { journal }) => migrate(alloc, journal, files, out),
+        Some(Command::Rehearse { count }) => rehearse(alloc, count, out),
         None => Status::Usage,
     }
 }
 
 /// Does what the words say, over these files, and writes what comes of it: `parse CONF` reads the
 /// configuration and counts what it states, `replay CONF SCRIPT` runs the script over the configuration
-/// and writes a line for each event, `verify CONF JOURNAL` judges the journal over the configuration, and
-/// `migrate JOURNAL` writes a journal of version 1 as one of version 2. The words are those after the
-/// program's name.
+/// and writes a line for each event, `verify CONF JOURNAL` judges the journal over the configuration,
+/// `migrate JOURNAL` writes a journal of version 1 as one of version 2, and `rehearse N` runs a rehearsal of
+/// so many requests and writes what came of them. The words are those after the program's name.
 pub fn proxy<F: Files, O: Sink>(alloc: Global, words: &[Text], files: &mut F, out: &mut O) -> Status
     // What it writes, where the files and the sink tell: the command's text, and the last line.
     ensures bytes { IfSome (F.texts files.old) (λ disk. Grew (O.contents out.old) (O.contents out.new)
         (IsOutput (output_of disk words.now) (O.faults out.old) (O.faults out.new) result)) }
     // Where the files tell their openings: CONF is opened first, once, then JOURNAL, once, or SCRIPT, and then what the script names,
-    // one file in each epoch; and what is written is what comes of the texts that these openings gave.
+    // one file in each epoch, and a rehearsal opens none; and what is written is what comes of the texts that these openings gave.
     ensures opened { Added (F.opened files.old) (F.opened files.new) (λ more. IsOpened (command_of words.now) more
         × Grew (O.contents out.old) (O.contents out.new)
         (IsOutput (opened_output (command_of words.now) more) (O.faults out.old) (O.faults out.new) result)) }

@@ -24,5 +24,5 @@ mod stops;
 pub use beginning::replay;
 pub use ends::RunEnd;
 pub use machines::Machine;
-pub use page::write_page;
+pub use page::{Untold, put_line, write_page};
 pub use stops::Stop;

@@ -29,6 +29,14 @@ is_refusal reread.Spent = true
 is_refusal reread.Journal = true
 is_refusal r = false
 
+-- the desk's answer alone comes to it
+abbrev pub is_answer : Reread → Bool
+is_answer (reread.Made epoch) = true
+is_answer reread.Epochs = true
+is_answer reread.Spent = true
+is_answer reread.Journal = true
+is_answer r = false
+
 -- P holds of the whole text of the file of this name, where the files tell texts, and of that of the opening that was added, where they
 -- tell openings
 pub record OfFile (texts : Texts) (before now : Openings) (name : List ℕ) (P : List ℕ → Type 0) : Type 0 where
@@ -43,13 +51,22 @@ IsRefused texts before now name e = OfFile texts before now name (λ bytes. conf
 abbrev pub States : Configuration → List ℕ → Type 0
 States config bytes = conf_gives bytes config × (config.source ≡ bytes)
 
+-- the desk was asked to go on with the configuration that the text of the file states, R holds of that and of what it gave, and this is answered
+abbrev pub IsAnswered : Texts → Openings → Openings → List ℕ → (Configuration → Result ℕ DeskFault → Type 0) → Reread → Type 0
+IsAnswered texts before now name R r =
+    (config : Configuration) × (gave : Result ℕ DeskFault) × OfFile texts before now name (States config) × R config gave × (r ≡ answers gave)
+
+-- either the desk was asked, and what it gave is answered; or it is as it was, and the answer is none of its
+abbrev pub Asks : {K : Type 0} → Texts → Openings → Openings → List ℕ → (Configuration → Result ℕ DeskFault → Type 0) → K → K → Reread → Type 0
+Asks texts before now name R old new r = IsAnswered texts before now name R r ⊎ ((new ≡ old) × (is_answer r ≡ false))
+
 -- one entry was added exactly where the reconfiguration was made: that of the configuration that the text of the file states
 abbrev pub Adds : Texts → Openings → Openings → List ℕ → Option History → Option History → Reread → Type 0
 Adds texts before now name old new (reread.Made epoch) =
     (config : Configuration) × OfFile texts before now name (States config) × AddsOne (IsReread config) (answer.Epoch epoch) old new
 Adds texts before now name old new r = new ≡ old
 
--- A reconfiguration that was made is counted, and its epoch is one above the count. Else the count stays, or is told no more.
+-- a reconfiguration that was made is counted, and its epoch is one above the count; else the count stays
 abbrev pub CountsMade : Option ℕ → Option ℕ → Reread → Type 0
 CountsMade old new (reread.Made epoch) = IfSome old (λ m. (new ≡ Some (m + 1)) × (epoch ≡ m + 1 + 1))
-CountsMade old new r = (new ≡ old) ⊎ (new ≡ None)
+CountsMade old new r = new ≡ old

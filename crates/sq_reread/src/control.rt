@@ -7,7 +7,8 @@ ghost use Rattle.sq_outside.specs.Told.{IsNotTold};
 ghost use Rattle.sq_rules.specs.ConfText.{conf_gives, conf_refuses};
 ghost use Rattle.sq_rules.specs.Limits.{text_limit};
 ghost use Rattle.sq_rules.specs.declared.kinds.Kind.{Kind};
-ghost use Rattle.sq_reread.specs.Rereading.{Adds, CountsMade, IsRefused, answers, is_refusal};
+ghost use Rattle.sq_calls.specs.Telling.{CountsRefusal};
+ghost use Rattle.sq_reread.specs.Rereading.{Adds, Asks, CountsMade, IsRefused, answers, is_refusal};
 
 use sq_base::{EpochNo, Moment, Text};
 use sq_calls::{DeskCalls, DeskFault};
@@ -82,12 +83,30 @@ impl<K: DeskCalls> Control<K> {
         Control { alloc, desk }
     }
 
+    /// The desk, lent.
+    pub fn desk(&self) -> &K
+        ensures { result.now ≡ desk_of self.now }
+    {
+        &self.desk
+    }
+
+    /// The desk, given back.
+    pub fn into_desk(self) -> K
+        ensures { result ≡ desk_of self }
+    {
+        self.desk
+    }
+
     /// Reads the file of this name, and makes one reconfiguration of what it states.
     pub fn reread<F: Files>(&mut self, conf: &Text, files: &mut F, now: Moment) -> Reread
         // At most one entry is added: the reconfiguration of the text that was read, and that exactly where it was made.
         ensures adds { Adds (F.texts files.old) (F.opened files.old) (F.opened files.new) conf.now (K.told (desk_of self.old)) (K.told (desk_of self.new)) result }
         // Where it tells its count, that rose by one, and the epoch is one above it.
         ensures made { CountsMade (K.made (desk_of self.old)) (K.made (desk_of self.new)) result }
+        // What the desk's `reconfigure` gave is answered, and none of its answers comes otherwise.
+        ensures asks { Asks (F.texts files.old) (F.opened files.old) (F.opened files.new) conf.now
+            (λ config gave. K.rereads (desk_of self.old) config now gave (desk_of self.new) × CountsRefusal (K.refused (desk_of self.old)) (K.refused (desk_of self.new)) gave)
+            (desk_of self.old) (desk_of self.new) result }
         ensures at { (e : ConfError) → result ≡ Reread.At e → IsRefused (F.texts files.old) (F.opened files.old) (F.opened files.new) conf.now e }
         ensures missing { result ≡ Reread.Missing → IsNotTold (F.texts files.old) conf.now }
         ensures read { result ≡ Reread.Read → Rose (F.faults files.old) (F.faults files.new) }

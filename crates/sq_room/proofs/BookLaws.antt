@@ -1,5 +1,5 @@
 -- Books, over a history that grows.
-use Rattle.std.proofs.Common.{◌≡◌, ℕ, ◌+◌, min, List, ◌∷◌, Bool, true, false, Result, Ok, Err, Some, None, IfSome, IsSome, IfOk, OnOk, ⊎_elim, refl, sym, ap, subst, ◌∙◌, arith}
+use Rattle.std.proofs.Common.{◌≡◌, ℕ, ◌+◌, min, List, ◌∷◌, Bool, true, false, Result, Ok, Err, Some, None, IfSome, IsSome, IfOk, OnOk, refl, sym, ap, subst, ◌∙◌, arith}
 use Rattle.std.specs.Option.{ForSome}
 use Rattle.std.specs.declared.option.Option.{Option}
 use Rattle.std.proofs.lemmas.Bool.{false≢true}
@@ -145,11 +145,7 @@ if_made : (old new : Option ℕ) (r : Result ℕ DeskFault) (makes more : ℕ) �
     → IfSome old (λ m. m ≡ makes) → IfSome new (λ m. m ≡ more)
 if_made None new (Ok e) makes more c some made is = absurd (false≢true some)
 if_made (Some m) new (Ok e) makes more c some made is = subst (λ o. IfSome o (λ k. k ≡ more)) (sym c.0) (omega (arith, made, is))
-if_made old new (Err f) makes more c some made is =
-    ⊎_elim
-    (λ same. subst (λ o. IfSome o (λ k. k ≡ more)) (sym same) (subst (λ n. IfSome old (λ m. m ≡ n)) (sym made) is))
-    (λ none. subst (λ o. IfSome o (λ k. k ≡ more)) (sym none) tt)
-    c
+if_made old new (Err f) makes more c some made is = subst (λ o. IfSome o (λ k. k ≡ more)) (sym c) (subst (λ n. IfSome old (λ m. m ≡ n)) (sym made) is)
 
 -- the count of reconfigurations that the desk tells is the book's
 pub kept_made : (old new : Option ℕ) (r : Result ℕ DeskFault) (makes more : ℕ) → Counts old new r → OnOk r (IsSome old) → SharesMade makes more r

@@ -1,5 +1,5 @@
 -- What a desk that tells no journal says of its calls, and how its count of refusals stands to a share.
-use Rattle.std.proofs.Common.{◌≡◌, ℕ, ◌+◌, ◌≤◌, ◌==◌, if◌then◌else◌, min, Bool, true, false, Result, Ok, Err, Some, None, IfOk, inl, refl, sym, ap, subst, ◌∙◌, arith}
+use Rattle.std.proofs.Common.{◌≡◌, ℕ, ◌+◌, ◌≤◌, ◌==◌, if◌then◌else◌, min, Bool, true, false, Result, Ok, Err, Some, None, IfOk, refl, sym, ap, subst, ◌∙◌, arith}
 use Rattle.std.proofs.lemmas.Bool.Decides.{nat_tests}
 use Rattle.std.specs.declared.option.Option.{Option}
 use Rattle.sq_outside.specs.Causes.{count_limit, raised}
@@ -54,9 +54,9 @@ share_counts_line a b (Err fault.JournalFault) s = (rises a b s, is_raised a b s
 -- what a share tells of reconfigurations, where it is the whole of their book
 made_if : (t : Bool) (a b : ℕ) (r : Result ℕ DeskFault) → SharesMade a b r → (t ≡ true → IfOk r (λ e. e ≡ b + 1)) → Counts (if t then Some a else None) (if t then Some b else None) r
 made_if true a b (Ok e) s whole = (ap Some s, whole refl ∙ ap (λ n. n + 1) s)
-made_if true a b (Err f) s whole = inl (ap Some s)
+made_if true a b (Err f) s whole = ap Some s
 made_if false a b (Ok e) s whole = tt
-made_if false a b (Err f) s whole = inl refl
+made_if false a b (Err f) s whole = refl
 
 is_same : (p m : ℕ) → (p == m) ≡ true → p ≡ m
 is_same p m e = grind (arith, nat_tests)

@@ -35,6 +35,13 @@ impl<'a, R: Wait, D: DeskCalls, A: Ledger, M: Ledger, N: Ledger> ControlDesk<'a,
     {
         ControlDesk { desk, made }
     }
+
+    /// The share of reconfigurations, given back.
+    pub fn finish(self) -> Share<M>
+        ensures { result ≡ self.entry.made }
+    {
+        self.made
+    }
 }
 
 impl<'a, R: Wait, D: DeskCalls, A: Ledger, M: Ledger, N: Ledger> DeskCalls

@@ -3,6 +3,7 @@ ghost use Rattle.std.specs.Prelude.{◌≡◌, ◌+◌, ◌<◌, min, true, IfOk
 ghost use Rattle.std.specs.Option.{ForSome};
 ghost use Rattle.sq_outside.specs.Causes.{count_limit};
 ghost use Rattle.sq_room.specs.Books.{AreCounted, asks_in};
+ghost use Rattle.sq_rules.specs.Readings.{current};
 
 use sq_base::{EpochNo, Texts, WantOfMemory};
 use sq_calls::DeskCalls;
@@ -11,8 +12,9 @@ use std::alloc::Global;
 use std::sync::Arc;
 use std::sync::ledger::{Book, Ledger, Share};
 
-/// A desk with the books of its requests, reconfigurations and refusals, and how often it changed. A book goes on
-/// counting where the number that the desk tells stands at its limit.
+/// A desk with the books of its requests, reconfigurations and refusals, how often it changed, how often a question may
+/// have been answered, and whether it was given up. A book goes on counting where the number that the desk tells stands
+/// at its limit.
 #[derive(Drop)]
 pub struct Hall<D: DeskCalls, A: Ledger, M: Ledger, N: Ledger> {
     pub(crate) desk: D,
@@ -20,6 +22,8 @@ pub struct Hall<D: DeskCalls, A: Ledger, M: Ledger, N: Ledger> {
     pub(crate) makes: Book<M>,
     pub(crate) refusals: Book<N>,
     pub(crate) changes: u64,
+    pub(crate) answers: u64,
+    pub(crate) stopped: bool,
     pub(crate) done: bool,
     ghost entries_are: { AreCounted requests.total makes.total (D.told desk) },
     ghost makes_are: { ForSome (D.made desk) (λ m. m ≡ makes.total) },
@@ -40,6 +44,8 @@ impl<D: DeskCalls, A: Ledger, M: Ledger, N: Ledger> Hall<D, A, M, N> {
             makes,
             refusals,
             changes: 0,
+            answers: 0,
+            stopped: false,
             done: false,
         }
     }
@@ -66,6 +72,30 @@ impl<D: DeskCalls, A: Ledger, M: Ledger, N: Ledger> Hall<D, A, M, N> {
         self.changes
     }
 
+    /// How often a line was read, or a process died or could not be started: a question may have been answered.
+    pub fn answers(&self) -> u64
+        ensures { result ≡ self.now.answers }
+    {
+        self.answers
+    }
+
+    /// Whether it was given up.
+    pub fn is_stopped(&self) -> bool
+        ensures { result ≡ self.now.stopped }
+    {
+        self.stopped
+    }
+
+    /// Gives it up: its journal failed, so no call of it is made any more. Who waits for it has to look again.
+    pub fn give_up(&mut self)
+        ensures stopped { self.new.stopped ≡ true }
+        ensures desk { self.new.desk ≡ self.old.desk }
+    {
+        self.changes = self.changes.wrapping_add(1);
+        self.answers = self.answers.wrapping_add(1);
+        self.stopped = true;
+    }
+
     /// Whether no more is to be done.
     pub fn is_done(&self) -> bool
         ensures { result ≡ self.now.done }
@@ -81,19 +111,25 @@ impl<D: DeskCalls, A: Ledger, M: Ledger, N: Ledger> Hall<D, A, M, N> {
         self.done = true;
     }
 
-    /// The desk, given back: its requests, where it tells its journal, are the whole share of their book.
-    pub fn end(self, all: Share<A>) -> D
-        requires { all.parts ≡ A.parts }
+    /// The desk, given back. Where it tells its journal, its requests are the whole share of their book, and so are its
+    /// reconfigurations.
+    pub fn end(self, asked: Share<A>, made: Share<M>) -> D
+        requires asked { asked.parts ≡ A.parts }
+        requires made { made.parts ≡ M.parts }
         ensures desk { result ≡ self.desk }
-        ensures asks { ForSome (D.told result) (λ h. all.amount ≡ asks_in h) }
+        ensures asks { ForSome (D.told result) (λ h. asked.amount ≡ asks_in h) }
+        ensures makes { ForSome (D.told result) (λ h. made.amount + 1 ≡ current h) }
     {
         let Hall {
             desk,
             mut requests,
+            mut makes,
             ..
         } = self;
-        let mut all = all;
-        requests.audit(&mut all);
+        let mut asked = asked;
+        let mut made = made;
+        requests.audit(&mut asked);
+        makes.audit(&mut made);
         desk
     }
 }

@@ -1,5 +1,6 @@
 //! The calls of the desk under its lock, each counted.
-ghost use Rattle.std.specs.Prelude.{◌≡◌, ◌+◌, ◌<◌, true, IfOk};
+ghost use Rattle.std.specs.Prelude.{◌≡◌, ◌+◌, ◌<◌, true, IfOk, IsErrOf};
+ghost use Rattle.sq_calls.specs.declared.faults.DeskFault.TheVariants as fault;
 ghost use Rattle.sq_calls.specs.Telling.{IsAsking, IsClosing, IsDead, IsFailed, IsLine, IsOpening, IsReread, IsStarted, IsStep, IsStepTold, IsTakeTold, IsTaking, MayAct, Notes, NotesAs, got_told};
 ghost use Rattle.sq_rules.specs.declared.entries.Told.TheVariants as answer;
 ghost use Rattle.sq_room.specs.Books.{SharesLine, SharesMade, SharesRefusal};
@@ -54,6 +55,7 @@ impl<D: DeskCalls, A: Ledger, M: Ledger, N: Ledger> Hall<D, A, M, N> {
     ) -> Result<(), DeskFault>
         requires { 0 < refused.old.parts }
         ensures noted { Notes (λ _. answer.Fine) (IsClosing conn) (D.told self.old.desk) (D.told self.new.desk) result }
+        ensures memory { IsErrOf result fault.WantOfMemory → ⊥ }
         ensures refused { SharesRefusal refused.old.amount refused.new.amount result }
         ensures parts { refused.new.parts ≡ refused.old.parts }
     {
@@ -200,9 +202,11 @@ impl<D: DeskCalls, A: Ledger, M: Ledger, N: Ledger> Hall<D, A, M, N> {
             desk,
             refusals,
             changes,
+            answers,
             ..
         } = self;
         *changes = changes.wrapping_add(1);
+        *answers = answers.wrapping_add(1);
         let gave = desk.start_failed(alloc, epoch, class, now);
         count(refusals, refused, &gave);
         gave
@@ -227,9 +231,11 @@ impl<D: DeskCalls, A: Ledger, M: Ledger, N: Ledger> Hall<D, A, M, N> {
             desk,
             refusals,
             changes,
+            answers,
             ..
         } = self;
         *changes = changes.wrapping_add(1);
+        *answers = answers.wrapping_add(1);
         let gave = desk.line(alloc, proc, bytes, now);
         count_line(refusals, refused, &gave);
         gave
@@ -245,6 +251,7 @@ impl<D: DeskCalls, A: Ledger, M: Ledger, N: Ledger> Hall<D, A, M, N> {
     ) -> Result<(), DeskFault>
         requires { 0 < refused.old.parts }
         ensures noted { Notes (λ _. answer.Fine) (IsDead proc) (D.told self.old.desk) (D.told self.new.desk) result }
+        ensures memory { IsErrOf result fault.WantOfMemory → ⊥ }
         ensures refused { SharesRefusal refused.old.amount refused.new.amount result }
         ensures parts { refused.new.parts ≡ refused.old.parts }
     {
@@ -252,9 +259,11 @@ impl<D: DeskCalls, A: Ledger, M: Ledger, N: Ledger> Hall<D, A, M, N> {
             desk,
             refusals,
             changes,
+            answers,
             ..
         } = self;
         *changes = changes.wrapping_add(1);
+        *answers = answers.wrapping_add(1);
         let gave = desk.died(proc, now);
         count(refusals, refused, &gave);
         gave

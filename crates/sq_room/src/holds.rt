@@ -1,7 +1,8 @@
 //! The holds of the desk's lock. Nothing is proved here of what lies under it but what its type keeps; each function
 //! takes the lock, makes the one call of its name with the arguments that it was handed, and lets go. What it says is
 //! what the shares tell.
-ghost use Rattle.std.specs.Prelude.{◌≡◌, ◌+◌, ◌<◌, true, IfOk};
+ghost use Rattle.std.specs.Prelude.{◌≡◌, ◌+◌, ◌<◌, true, IfOk, IsErrOf};
+ghost use Rattle.sq_calls.specs.declared.faults.DeskFault.TheVariants as fault;
 ghost use Rattle.sq_room.specs.Books.{SharesLine, SharesMade, SharesRefusal};
 
 use crate::room::Room;
@@ -43,6 +44,7 @@ pub fn close<R: Wait, D: DeskCalls, A: Ledger, M: Ledger, N: Ledger>(
     refused: &mut Share<N>,
 ) -> Result<(), DeskFault>
     requires { 0 < refused.old.parts }
+    ensures memory { IsErrOf result fault.WantOfMemory → ⊥ }
     ensures refused { SharesRefusal refused.old.amount refused.new.amount result }
     ensures parts { refused.new.parts ≡ refused.old.parts }
 {
@@ -63,6 +65,26 @@ pub fn step<R: Wait, D: DeskCalls, A: Ledger, M: Ledger, N: Ledger>(
     ensures parts { refused.new.parts ≡ refused.old.parts }
 {
     room.hall.lock(rt).step(alloc, check, now, refused)
+}
+
+/// A check goes on. `seen` is then how often questions may have been answered so far.
+pub fn step_on<R: Wait, D: DeskCalls, A: Ledger, M: Ledger, N: Ledger>(
+    rt: &R,
+    room: &Room<D, A, M, N>,
+    alloc: Global,
+    check: CheckNo,
+    now: Moment,
+    refused: &mut Share<N>,
+    seen: &mut u64,
+) -> Result<Stepped, DeskFault>
+    requires { 0 < refused.old.parts }
+    ensures refused { SharesRefusal refused.old.amount refused.new.amount result }
+    ensures parts { refused.new.parts ≡ refused.old.parts }
+{
+    let mut hall = room.hall.lock(rt);
+    let gave = hall.step(alloc, check, now, refused);
+    *seen = hall.answers();
+    gave
 }
 
 /// The outcome of a check is taken.
@@ -145,6 +167,7 @@ pub fn died<R: Wait, D: DeskCalls, A: Ledger, M: Ledger, N: Ledger>(
     refused: &mut Share<N>,
 ) -> Result<(), DeskFault>
     requires { 0 < refused.old.parts }
+    ensures memory { IsErrOf result fault.WantOfMemory → ⊥ }
     ensures refused { SharesRefusal refused.old.amount refused.new.amount result }
     ensures parts { refused.new.parts ≡ refused.old.parts }
 {

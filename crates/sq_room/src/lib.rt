@@ -4,8 +4,7 @@
 //! word whether it failed. Their methods say what a call does to the value and to the shares that are handed in, and
 //! their types keep what their books count. `Room` is the desk's lock, and `LockDesk` the desk behind it, as one thread
 //! sees it; `ControlDesk` is the same with the right to make reconfigurations. The lines that take a lock stand in
-//! `holds`, `door_holds`
-//! and `waits`.
+//! `holds`, `door_holds` and `waits`.
 #![tactic(auto)]
 
 mod control_desk;
@@ -14,7 +13,7 @@ mod door;
 mod door_holds;
 mod hall;
 mod hall_calls;
-mod holds;
+pub mod holds;
 mod lock_desk;
 mod room;
 mod waits;
@@ -25,4 +24,4 @@ pub use door_holds::{accept, has_failed};
 pub use hall::Hall;
 pub use lock_desk::LockDesk;
 pub use room::Room;
-pub use waits::{changes, set_done, wait_answered, wait_due};
+pub use waits::{changes, is_stopped, set_done, tell, wait_answered, wait_due};

@@ -6,6 +6,7 @@ ghost use Rattle.sq_outside.specs.Causes.{count_limit};
 
 use crate::holds;
 use crate::room::Room;
+use crate::waits::{tell, tell_answer, tell_end};
 use sq_base::{Addr, CheckNo, ConnNo, EpochNo, Moment, ProcNo, Request, Texts, WantOfMemory};
 use sq_calls::{DeskCalls, DeskFault};
 use sq_channel::Got;
@@ -65,7 +66,7 @@ impl<'a, R: Wait, D: DeskCalls, A: Ledger, M: Ledger, N: Ledger> LockDesk<'a, R,
             made,
             &mut self.refused,
         );
-        self.room.tell();
+        tell(self.rt, self.room, &gave);
         gave
     }
 }
@@ -85,28 +86,28 @@ impl<'a, R: Wait, D: DeskCalls, A: Ledger, M: Ledger, N: Ledger> DeskCalls
     #[tactic(auto, using(crate::proofs::ShareLaws::untold, crate::proofs::ShareLaws::untold_as, crate::proofs::ShareLaws::untold_act, crate::proofs::ShareLaws::share_counts, crate::proofs::ShareLaws::share_counts_line))]
     fn open(&mut self, conn: ConnNo, addr: Addr, port: u16, now: Moment) -> Result<(), DeskFault> {
         let gave = holds::open(self.rt, self.room, conn, addr, port, now, &mut self.refused);
-        self.room.tell();
+        tell(self.rt, self.room, &gave);
         gave
     }
 
     #[tactic(auto, using(crate::proofs::ShareLaws::untold, crate::proofs::ShareLaws::untold_as, crate::proofs::ShareLaws::untold_act, crate::proofs::ShareLaws::share_counts, crate::proofs::ShareLaws::share_counts_line))]
     fn close(&mut self, conn: ConnNo, now: Moment) -> Result<(), DeskFault> {
         let gave = holds::close(self.rt, self.room, conn, now, &mut self.refused);
-        self.room.tell();
+        tell(self.rt, self.room, &gave);
         gave
     }
 
     #[tactic(auto, using(crate::proofs::ShareLaws::untold, crate::proofs::ShareLaws::untold_as, crate::proofs::ShareLaws::untold_act, crate::proofs::ShareLaws::share_counts, crate::proofs::ShareLaws::share_counts_line))]
     fn step(&mut self, alloc: Global, check: CheckNo, now: Moment) -> Result<Stepped, DeskFault> {
         let gave = holds::step(self.rt, self.room, alloc, check, now, &mut self.refused);
-        self.room.tell();
+        tell(self.rt, self.room, &gave);
         gave
     }
 
     #[tactic(auto, using(crate::proofs::ShareLaws::untold, crate::proofs::ShareLaws::untold_as, crate::proofs::ShareLaws::untold_act, crate::proofs::ShareLaws::share_counts, crate::proofs::ShareLaws::share_counts_line))]
     fn take(&mut self, alloc: Global, check: CheckNo, now: Moment) -> Result<Record, DeskFault> {
         let gave = holds::take(self.rt, self.room, alloc, check, now, &mut self.refused);
-        self.room.tell();
+        tell(self.rt, self.room, &gave);
         gave
     }
 
@@ -127,7 +128,7 @@ impl<'a, R: Wait, D: DeskCalls, A: Ledger, M: Ledger, N: Ledger> DeskCalls
             now,
             &mut self.refused,
         );
-        self.room.tell();
+        tell(self.rt, self.room, &gave);
         gave
     }
 
@@ -148,7 +149,7 @@ impl<'a, R: Wait, D: DeskCalls, A: Ledger, M: Ledger, N: Ledger> DeskCalls
             now,
             &mut self.refused,
         );
-        self.room.tell();
+        tell_answer(self.rt, self.room, &gave);
         gave
     }
 
@@ -169,20 +170,21 @@ impl<'a, R: Wait, D: DeskCalls, A: Ledger, M: Ledger, N: Ledger> DeskCalls
             now,
             &mut self.refused,
         );
-        self.room.tell();
+        tell_answer(self.rt, self.room, &gave);
         gave
     }
 
     #[tactic(auto, using(crate::proofs::ShareLaws::untold, crate::proofs::ShareLaws::untold_as, crate::proofs::ShareLaws::untold_act, crate::proofs::ShareLaws::share_counts, crate::proofs::ShareLaws::share_counts_line))]
     fn died(&mut self, proc: ProcNo, now: Moment) -> Result<(), DeskFault> {
         let gave = holds::died(self.rt, self.room, proc, now, &mut self.refused);
-        self.room.tell();
+        tell_answer(self.rt, self.room, &gave);
         gave
     }
 
     #[tactic(auto, using(crate::proofs::ShareLaws::untold, crate::proofs::ShareLaws::untold_as, crate::proofs::ShareLaws::untold_act, crate::proofs::ShareLaws::share_counts, crate::proofs::ShareLaws::share_counts_line))]
     fn act(&mut self, alloc: Global, now: Moment) -> Result<Option<Act>, DeskFault> {
         let gave = holds::act(self.rt, self.room, alloc, now, &mut self.refused);
+        tell_end(self.rt, self.room, &gave);
         gave
     }
 

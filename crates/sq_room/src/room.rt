@@ -4,7 +4,8 @@ use sq_calls::DeskCalls;
 use std::sync::ledger::Ledger;
 use std::sync::{Condvar, Mutex};
 
-/// The desk behind its lock, and where threads sleep until it changed: sessions at `answered`, the pump at `due`.
+/// The desk behind its lock, and where threads sleep: sessions at `answered` until a question may have been answered,
+/// the pump at `due` until the desk changed.
 #[derive(Drop)]
 pub struct Room<D: DeskCalls, A: Ledger, M: Ledger, N: Ledger> {
     pub(crate) hall: Mutex<Hall<D, A, M, N>>,
@@ -32,8 +33,13 @@ impl<D: DeskCalls, A: Ledger, M: Ledger, N: Ledger> Room<D, A, M, N> {
         hall.into_inner()
     }
 
-    /// Wakes all threads that wait for a change.
-    pub(crate) fn tell(&self) {
+    /// Wakes the pump: the desk changed.
+    pub(crate) fn tell_pump(&self) {
+        self.due.notify_all();
+    }
+
+    /// Wakes the pump, and the sessions: a question may have been answered.
+    pub(crate) fn tell_all(&self) {
         self.answered.notify_all();
         self.due.notify_all();
     }

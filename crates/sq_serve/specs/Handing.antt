@@ -1,11 +1,11 @@
 -- What is said of a line that was handed to the desk.
-use Rattle.std.specs.Prelude.{◌≡◌, ℕ, List, Result, Ok, Err}
+use Rattle.std.specs.Prelude.{◌≡◌, ℕ, List, IsErrOf, Result, Ok, Err}
 use Rattle.std.specs.declared.option.Option.{Option}
 use Rattle.sq_channel.specs.declared.replies.Got.{Got}
 use Rattle.sq_channel.specs.declared.replies.Got.TheVariants as got
 use Rattle.sq_calls.specs.declared.faults.DeskFault.{DeskFault}
 use Rattle.sq_calls.specs.declared.faults.DeskFault.TheVariants as fault
-use Rattle.sq_calls.specs.Telling.{IsDead, IsLine, Notes, got_told}
+use Rattle.sq_calls.specs.Telling.{CountsLine, CountsRefusal, IsDead, IsLine, Notes, got_told}
 use Rattle.sq_keeper.specs.declared.desk.LineEnd.{LineEnd}
 use Rattle.sq_keeper.specs.declared.desk.LineEnd.TheVariants as end
 use Rattle.sq_rules.specs.Entries.{History}
@@ -19,10 +19,12 @@ line_end (Ok got.Stray) = end.End
 line_end (Err fault.WantOfMemory) = end.WantOfMemory
 line_end (Err f) = end.End
 
--- the desk was handed this line of this process, and what it gave is answered so
-abbrev pub HandsLine : Option History → Option History → ℕ → List ℕ → LineEnd → Type 0
-HandsLine old new proc bytes result = (gave : Result Got DeskFault) × Notes got_told (IsLine proc bytes) old new gave × (result ≡ line_end gave)
+-- the desk was handed this line of this process, and what it gave is answered so; `before` and `now` are its counts of refusals
+abbrev pub HandsLine : Option History → Option History → ℕ → ℕ → ℕ → List ℕ → LineEnd → Type 0
+HandsLine old new before now proc bytes result =
+    (gave : Result Got DeskFault) × Notes got_told (IsLine proc bytes) old new gave × CountsLine before now gave × (result ≡ line_end gave)
 
--- the desk was told of this death
-abbrev pub HandsDeath : Option History → Option History → ℕ → Type 0
-HandsDeath old new proc = (gave : Result (Unit {0}) DeskFault) × Notes (λ _. told.Fine) (IsDead proc) old new gave
+-- the desk was told of this death, and noted or refused it
+abbrev pub HandsDeath : Option History → Option History → ℕ → ℕ → ℕ → Type 0
+HandsDeath old new before now proc =
+    (gave : Result (Unit {0}) DeskFault) × Notes (λ _. told.Fine) (IsDead proc) old new gave × CountsRefusal before now gave × (IsErrOf gave fault.WantOfMemory → ⊥)

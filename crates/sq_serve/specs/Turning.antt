@@ -9,7 +9,7 @@ use Rattle.sq_pipes.specs.declared.pipes.Pipe.{Pipe}
 use Rattle.sq_pipes.specs.Pipes.{Asks, Fails, Shuts, Changes, open_ones, pipe_place}
 use Rattle.sq_epochs.specs.declared.acts.Act.{Act}
 use Rattle.sq_epochs.specs.declared.acts.Act.TheVariants as act
-use Rattle.sq_calls.specs.Telling.{AddsOne, MayAct, IsDead, IsFailed, IsStarted}
+use Rattle.sq_calls.specs.Telling.{AddsOne, IsDead, IsFailed, IsNextAct, IsStarted, MayAct}
 use Rattle.sq_rules.specs.Entries.{History}
 use Rattle.sq_rules.specs.declared.entries.Told.TheVariants as answer
 use Rattle.sq_serve.specs.Pumps.{PumpView}
@@ -98,6 +98,11 @@ pub record IsFresh {P Q : Type 0} (out_faults : P → ℕ) (contents : Q → Opt
 abbrev pub swept : {P Q : Type 0} → PumpView P Q → PumpView P Q
 swept v = record v { pipes = open_ones v.pipes }
 
+-- the half of the process was closed, where there is one, and those that were closed are held no more
+abbrev pub LetsGo : {Q : Type 0} → (Q → Option (List ℕ)) → (Q → ℕ) → (Q → Option Bool) → ℕ → List (Pipe Q) → List (Pipe Q) → Type 0
+LetsGo {Q = Q} contents faults closed proc old new =
+    (shut : List (Pipe Q)) × (Changes proc (Shuts contents faults closed) old shut ⊎ ((pipe_place proc old ≡ None) × (shut ≡ old))) × (new ≡ open_ones shut)
+
 -- There is no such class, or no memory for its words, and nothing was done; or the spawner failed, and that is reported; or it started a
 -- process, which is reported and taken up.
 abbrev pub IsStarting : {P Q : Type 0} → (P → ℕ) → (Q → Option (List ℕ)) → (Q → ℕ) → (Q → Option Bool) → ℕ → ℕ → PumpView P Q → Turn → PumpView P Q → Type 0
@@ -125,19 +130,20 @@ Resumes out_faults contents faults closed (left.Died proc a) v result w = Report
 abbrev pub SameButRefused : {P Q : Type 0} → PumpView P Q → PumpView P Q → Type 0
 SameButRefused v w = (w ≡ record v { refused = w.refused }) × (v.refused ≤ w.refused)
 
--- the act was noted, and is performed
+-- the act was noted, which is the machine's next where the journal is told, and is performed
 pub record IsActing {P Q : Type 0} (out_faults : P → ℕ) (contents : Q → Option (List ℕ)) (faults : Q → ℕ) (closed : Q → Option Bool) (v : PumpView P Q) (result : Turn) (w : PumpView P Q) : Type 0 where
   pub act : Act
   pub mid : PumpView P Q
   pub noted : MayAct v.told mid.told (Ok (Some act))
+  pub next : IsNextAct v.told (Ok (Some act))
   pub same : mid ≡ record v { told = mid.told; refused = mid.refused }
   pub later : v.refused ≤ mid.refused
   pub performs : Performs out_faults contents faults closed act mid result w
 
--- Nothing is due; or there was no memory, or the desk has stopped, and nothing was noted; or an act was noted, and is performed.
+-- Nothing is due, as the machine has it where the journal is told; or there was no memory, or the desk has stopped, and nothing was noted; or an act was noted, and is performed.
 abbrev pub BeginsTurn : {P Q : Type 0} → (P → ℕ) → (Q → Option (List ℕ)) → (Q → ℕ) → (Q → Option Bool) → PumpView P Q → Turn → PumpView P Q → Type 0
 BeginsTurn out_faults contents faults closed v result w =
-    ((result ≡ turn.Idle) × SameButRefused v w)
+    ((result ≡ turn.Idle) × SameButRefused v w × IsNextAct v.told (Ok None))
     ⊎ ((result ≡ turn.WantOfMemory) × SameButRefused v w)
     ⊎ ((result ≡ turn.Ended) × SameButRefused v w × Rose v.refused w.refused)
     ⊎ IsActing out_faults contents faults closed v result w

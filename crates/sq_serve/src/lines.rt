@@ -57,7 +57,7 @@ impl<K: DeskCalls, C: Clock> LineDesk for ServeLines<K, C> {
         ensures later { K.refused (lines_desk self.old) ≤ K.refused (lines_desk self.new) }
         ensures refused { result ≡ LineEnd.End → Rose (K.refused (lines_desk self.old)) (K.refused (lines_desk self.new)) }
         // The desk was handed this line, and its answer decides.
-        ensures hands { HandsLine (K.told (lines_desk self.old)) (K.told (lines_desk self.new)) proc bytes.now result }
+        ensures hands { HandsLine (K.told (lines_desk self.old)) (K.told (lines_desk self.new)) (K.refused (lines_desk self.old)) (K.refused (lines_desk self.new)) proc bytes.now result }
         ensures made { K.made (lines_desk self.new) ≡ K.made (lines_desk self.old) }
     {
         let now = self.clock.now();
@@ -72,8 +72,8 @@ impl<K: DeskCalls, C: Clock> LineDesk for ServeLines<K, C> {
     fn died(&mut self, proc: ProcNo)
         ensures handed { Adds None None (handed.Died proc ∷ []) }
         ensures later { K.refused (lines_desk self.old) ≤ K.refused (lines_desk self.new) }
-        // The desk was told of this death.
-        ensures hands { HandsDeath (K.told (lines_desk self.old)) (K.told (lines_desk self.new)) proc }
+        // The desk was told of this death, and noted or refused it.
+        ensures hands { HandsDeath (K.told (lines_desk self.old)) (K.told (lines_desk self.new)) (K.refused (lines_desk self.old)) (K.refused (lines_desk self.new)) proc }
         ensures made { K.made (lines_desk self.new) ≡ K.made (lines_desk self.old) }
     {
         let now = self.clock.now();

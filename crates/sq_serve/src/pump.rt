@@ -1,5 +1,6 @@
 //! `ServePump`: what performs the acts of a desk.
 ghost use Rattle.std.specs.Prelude.{◌≡◌, ◌++◌, ◌∷◌, ◌<◌, [], None, IfNone, IfSome};
+ghost use Rattle.sq_serve.specs.Turning.{LetsGo};
 
 use crate::turns::{Left, Reader};
 use sq_base::ProcNo;
@@ -82,5 +83,20 @@ impl<S: Spawner, K: DeskCalls> ServePump<S, K> {
         ensures same { self.new ≡ record self.old { readers = self.new.readers; room = self.new.room } }
     {
         self.readers.push_reserved(Reader { proc, from });
+    }
+}
+
+impl<S: Spawner, K: DeskCalls> ServePump<S, K>
+where
+    S::ChildIn: Drop,
+{
+    /// This process ended by itself, or its lines are no more read: the half of it that is written to is closed and let go
+    /// of, with those that were closed before. Nothing is noted.
+    pub fn ended(&mut self, proc: ProcNo)
+        ensures pipes { LetsGo S.ChildIn.contents S.ChildIn.faults S.ChildIn.closed proc self.old.pipes self.new.pipes }
+        ensures same { self.new ≡ record self.old { pipes = self.new.pipes } }
+    {
+        self.pipes.stop(proc);
+        self.pipes.sweep();
     }
 }

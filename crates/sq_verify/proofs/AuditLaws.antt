@@ -1,5 +1,5 @@
 -- A journal that was verified is the text of a history of which all is so that is so of every run.
-use Rattle.std.proofs.Common.{◌≡◌, ℕ, ◌+◌, ◌≤◌, max, List, [], ◌∷◌, ◌++◌, length, length-append, Bool, true, false, ◌&&◌, nat_le, if◌then◌else◌, bytes_eq, codes, is_some, Option, Some, None, Result, Ok, Err, refl, sym, ap, subst, ◌∙◌, arith}
+use Rattle.std.proofs.Common.{◌≡◌, ℕ, ◌+◌, ◌≤◌, max, List, [], ◌∷◌, ◌++◌, length, length-append, Bool, true, false, ◌&&◌, nat_le, if◌then◌else◌, bytes_eq, codes, is_some, Option, Some, None, IfSome, Result, Ok, Err, refl, sym, ap, subst, ◌∙◌, arith}
 use Rattle.std.specs.Option.{option_map}
 use Rattle.std.proofs.lemmas.Bool.{and_parts}
 use Rattle.sq_base.specs.Targets.{Target, target_of}
@@ -21,13 +21,14 @@ use Rattle.sq_state.proofs.PromiseLaws.{legal_more}
 use Rattle.sq_replay.specs.Headline.{AreAccepted, IsAccepted, IsTrue}
 use Rattle.sq_replay.proofs.HeadlineLaws.{history_true}
 use Rattle.sq_replay.proofs.ReadingLaws.{is_read}
+use Rattle.sq_verify.specs.declared.findings.Finding.{Finding}
 use Rattle.sq_verify.specs.declared.findings.Finding.TheVariants as finding
 use Rattle.sq_verify.specs.declared.halts.Halt.{Halt}
 use Rattle.sq_verify.specs.declared.halts.Halt.TheVariants as halt
 use Rattle.sq_verify.specs.declared.versions.Version.{Version}
 use Rattle.sq_verify.specs.declared.versions.Version.TheVariants as version
-use Rattle.sq_verify.specs.Audits.{IsAudited, behind_end, bytes_of, lines_in}
-use Rattle.sq_verify.specs.Promised.{AreAhead, HasNext, IsNext, MayFollow}
+use Rattle.sq_verify.specs.Audits.{Audits, IsAudited, behind_end, bytes_of, lines_in}
+use Rattle.sq_verify.specs.Promised.{AreAhead, Comes, HasNext, IsNext, MayFollow}
 use Rattle.sq_verify.specs.JournalLines.{is_version_line, line_in, noted_in}
 use Rattle.sq_verify.specs.Judging.{Judged, epochs_of, first_line, go_on, judged, judged_first, judged_lines, judged_one, judged_two, later_line, named_from, named_in}
 use Rattle.sq_verify.proofs.FirstLaws.{epochs_good, first_ok}
@@ -206,3 +207,15 @@ by_lines config (l ∷ ls) bytes n good same is = either config l ls bytes n (is
 -- a journal that is verified is audited
 pub audited : (config : Configuration) (bytes : List ℕ) (n : ℕ) → IsConfiguration config → (judged config (lines bytes)).found ≡ finding.Verified n → IsAudited config bytes n
 audited config bytes n good is = by_lines config (lines bytes) bytes n good (lines_back bytes) is
+
+audits_known : (config : Configuration) (left : Option (List ℕ)) (n : ℕ) → IsConfiguration config → IfSome left (λ bytes. (judged config (lines bytes)).found ≡ finding.Verified n) → IfSome left (λ bytes. IsAudited config bytes n)
+audits_known config None n good is = tt
+audits_known config (Some bytes) n good is = audited config bytes n good is
+
+-- whatever is found of a journal
+pub comes_audited : (config : Configuration) (left : Option (List ℕ)) (f : Finding) → IsConfiguration config → IfSome left (λ bytes. Comes (judged config (lines bytes)) f) → Audits config left f
+comes_audited config left (finding.Verified n) good comes = audits_known config left n good comes
+comes_audited config left (finding.Script line) good comes = tt
+comes_audited config left (finding.Differs line machine journal) good comes = tt
+comes_audited config left finding.ReadFault good comes = tt
+comes_audited config left finding.WantOfMemory good comes = tt

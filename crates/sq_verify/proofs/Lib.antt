@@ -1,9 +1,10 @@
 pub mod AuditLaws
 mod BeginLaws
+pub mod CompleteLaws
 mod FirstLaws
 mod LaterLaws
 mod LoopLaws
+mod MigrateLaws
 mod PlayLaws
 mod StepLaws
-mod TellLaws
 mod TextLaws

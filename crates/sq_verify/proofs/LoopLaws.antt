@@ -155,7 +155,7 @@ known_line place left after line f k =
     let i = subst (λ (l : Option (List ℕ)). Finds place l after line found.Whole) k.1 f in
     (i.rest, i.left)
 
-known_end : (place : ℕ) (left after : Option (List ℕ)) (line : List ℕ) → Finds place left after line found.End → IsKnown left → IsAtEnd after
+pub known_end : (place : ℕ) (left after : Option (List ℕ)) (line : List ℕ) → Finds place left after line found.End → IsKnown left → IsAtEnd after
 known_end place left after line f k = (subst (λ (l : Option (List ℕ)). Finds place l after line found.End) k.1 f).1
 
 -- behind a line that was found

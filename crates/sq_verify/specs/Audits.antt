@@ -1,5 +1,6 @@
 -- What a journal is that was verified.
-use Rattle.std.specs.Prelude.{◌≡◌, ℕ, List, [], ◌∷◌, ◌++◌, length, Bool, true, false}
+use Rattle.std.specs.Prelude.{◌≡◌, ℕ, List, [], ◌∷◌, ◌++◌, length, Bool, true, false, IfSome}
+use Rattle.std.specs.declared.option.Option.{Option}
 use Rattle.sq_outside.specs.SourceLines.{Line}
 use Rattle.sq_rules.specs.Configurations.{Configuration}
 use Rattle.sq_rules.specs.Entries.{History}
@@ -31,10 +32,10 @@ pub record IsAudited (config : Configuration) (bytes : List ℕ) (count : ℕ) :
   pub count_is : length history ≡ count
   pub is_true : IsTrue (config ∷ more) history
 
--- so it is of what was verified
-abbrev pub Audits : Configuration → List ℕ → Finding → Type 0
-Audits config bytes (finding.Verified count) = IsAudited config bytes count
-Audits config bytes found = Unit {0}
+-- so it is of what was verified, where the journal told what it had left
+abbrev pub Audits : Configuration → Option (List ℕ) → Finding → Type 0
+Audits config left (finding.Verified count) = IfSome left (λ bytes. IsAudited config bytes count)
+Audits config left found = Unit {0}
 
 -- what stands behind a line
 abbrev pub behind_end : Bool → List ℕ → List ℕ

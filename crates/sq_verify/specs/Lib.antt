@@ -3,4 +3,6 @@ pub mod Audits
 pub mod Promised
 pub mod JournalLines
 pub mod Judging
+pub mod Migrating
+pub mod Tellable
 pub mod Telling

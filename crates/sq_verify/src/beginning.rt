@@ -1,11 +1,15 @@
 //! A journal, judged from its beginning.
-ghost use Rattle.std.specs.Prelude.{◌≡◌, ◌≤◌, List, IfSome};
+ghost use Rattle.std.specs.Prelude.{◌≡◌, ◌≤◌, List, Some, length, IfSome};
 ghost use Rattle.std.specs.Io.KnownBytes.{IsAtEnd, prepend_known};
 ghost use Rattle.sq_outside.specs.SourceLines.{lines, total_limit};
+ghost use Rattle.sq_rules.specs.Entries.{History};
+ghost use Rattle.sq_verify.specs.Audits.{Audits, text_of};
 ghost use Rattle.sq_verify.specs.JournalLines.{noted_in};
 ghost use Rattle.sq_rules.specs.declared.entries.Event.TheVariants as event;
 ghost use Rattle.sq_verify.specs.Judging.{begun_line, epochs_of, judged, judged_behind, judged_first, stated_first};
 ghost use Rattle.sq_verify.specs.Promised.{BeginsLine, Comes, JudgeHasCauses, ReachesEnd};
+ghost use Rattle.sq_verify.specs.Tellable.{IsTellable, Verifies};
+ghost use Rattle.sq_verify.specs.declared.versions.Version.{Version};
 ghost use Rattle.sq_verify.specs.declared.versions.Version.TheVariants as version;
 
 use crate::comparing::{compare, read_line};
@@ -119,8 +123,8 @@ fn judge_second<M: Player, S: Source>(
     judge_from::<M, S>(alloc, Version::Two, setup, line, place, held, journal)
 }
 
-/// Judges a journal over the configuration that it begins with.
-pub fn judge<M: Player, S: Source>(alloc: Global, setup: Setup, journal: &mut S) -> Finding
+// Judges a journal from its first line on.
+fn judge_all<M: Player, S: Source>(alloc: Global, setup: Setup, journal: &mut S) -> Finding
     ensures judges { IfSome (S.left journal.old) (λ bytes. Comes (judged setup (lines bytes)) result) }
     ensures end { ReachesEnd result (S.left journal.old) (S.left journal.new) }
     ensures causes { JudgeHasCauses (S.faults journal.old) (S.faults journal.new) result }
@@ -143,4 +147,19 @@ pub fn judge<M: Player, S: Source>(alloc: Global, setup: Setup, journal: &mut S)
     } else {
         judge_from::<M, S>(alloc, Version::One, setup, line, place, &mut held, journal)
     }
+}
+
+/// Judges a journal of version 1 or 2, line by line, over the configuration that it begins with: each line against the line
+/// that the machine has for its event. What is verified is, byte for byte, the text of a history of which all holds that
+/// holds of every run, and was read to its end.
+pub fn judge<M: Player, S: Source>(alloc: Global, setup: Setup, journal: &mut S) -> Finding
+    ensures judges { IfSome (S.left journal.old) (λ bytes. Comes (judged setup (lines bytes)) result) }
+    ensures audits { Audits setup (S.left journal.old) result }
+    // A journal that tells a legal history is verified, unless a read fails or memory is wanting.
+    ensures complete { (v : Version) (h : History) → IsTellable setup v h → S.left journal.old ≡ Some (text_of v h) → Verifies result (length h) }
+    ensures end { ReachesEnd result (S.left journal.old) (S.left journal.new) }
+    ensures causes { JudgeHasCauses (S.faults journal.old) (S.faults journal.new) result }
+{
+    configuration_facts(&setup);
+    judge_all::<M, S>(alloc, setup, journal)
 }

@@ -7,6 +7,4 @@
 #[cfg(test)]
 mod lines;
 #[cfg(test)]
-mod migrations;
-#[cfg(test)]
 mod notes;

@@ -1,8 +1,9 @@
 use Rattle.std.proofs.Common.{◌≡◌, Some, subst, sym}
 use Rattle.sq_outside.specs.Told.{IsNotTold}
-use Rattle.sq_proxy.specs.Commands.{IsNamed, Replay, Verify, command_of, shown_command}
+use Rattle.sq_proxy.specs.Commands.{IsNamed, Rehearse, Replay, Verify, command_of, shown_command}
 use Rattle.sq_proxy.specs.Ends.{IfMissing}
 use Rattle.sq_proxy.proofs.MissingLaws.{replay_missing}
+use Rattle.sq_proxy.proofs.RehearseLaws.{rehearse_missing, rehearse_opened, rehearse_told, rehearse_usage}
 use Rattle.sq_proxy.proofs.VerifyLaws.{verify_missing}
 use Rattle.sq_proxy.proofs.top.run_words.Goals as goal
 
@@ -22,3 +23,31 @@ returns-in-Some-Verify-clause-missing g c =
     subst (λ x. command_of c.args.words.now ≡ Some (shown_command x)) c.in-Some-Verify.field-0-is c.in-Some-Verify.ensures in
     subst (λ o. IfMissing c.verify.result (λ name. IsNamed texts o name × IsNotTold texts name)) (sym is)
     (verify_missing texts c.in-Some-Verify.conf.now c.in-Some-Verify.journal.now c.verify.result c.verify.ensures.end)
+
+pub returns-in-Some-Rehearse-clause-delivers : goal.returns-in-Some-Rehearse-clause-delivers
+returns-in-Some-Rehearse-clause-delivers g c =
+    let is : command_of c.args.words.now ≡ Some (Rehearse c.in-Some-Rehearse.count) =
+    subst (λ x. command_of c.args.words.now ≡ Some (shown_command x)) c.in-Some-Rehearse.field-0-is c.in-Some-Rehearse.ensures in
+    rehearse_told (g.F.Files.texts c.args.files.now) (g.O.Sink.contents c.args.out.now) (g.O.Sink.contents c.rehearse.new.out) (g.O.Sink.faults c.args.out.now) (g.O.Sink.faults c.rehearse.new.out)
+    c.args.words.now c.in-Some-Rehearse.count c.rehearse.result is c.rehearse.ensures.delivers
+
+pub returns-in-Some-Rehearse-clause-opened : goal.returns-in-Some-Rehearse-clause-opened
+returns-in-Some-Rehearse-clause-opened g c =
+    let is : command_of c.args.words.now ≡ Some (Rehearse c.in-Some-Rehearse.count) =
+    subst (λ x. command_of c.args.words.now ≡ Some (shown_command x)) c.in-Some-Rehearse.field-0-is c.in-Some-Rehearse.ensures in
+    rehearse_opened (g.F.Files.opened c.args.files.now) (g.O.Sink.contents c.args.out.now) (g.O.Sink.contents c.rehearse.new.out) (g.O.Sink.faults c.args.out.now) (g.O.Sink.faults c.rehearse.new.out)
+    c.args.words.now c.in-Some-Rehearse.count c.rehearse.result is c.rehearse.ensures.delivers
+
+pub returns-in-Some-Rehearse-clause-usage : goal.returns-in-Some-Rehearse-clause-usage
+returns-in-Some-Rehearse-clause-usage g c =
+    let is : command_of c.args.words.now ≡ Some (Rehearse c.in-Some-Rehearse.count) =
+    subst (λ x. command_of c.args.words.now ≡ Some (shown_command x)) c.in-Some-Rehearse.field-0-is c.in-Some-Rehearse.ensures in
+    rehearse_usage c.args.words.now c.in-Some-Rehearse.count c.rehearse.result is c.rehearse.ensures.end
+
+pub returns-in-Some-Rehearse-clause-missing : goal.returns-in-Some-Rehearse-clause-missing
+returns-in-Some-Rehearse-clause-missing g c =
+    let texts = g.F.Files.texts c.args.files.now in
+    rehearse_missing (λ name. IsNamed texts (command_of c.args.words.now) name × IsNotTold texts name) c.rehearse.result c.rehearse.ensures.end
+
+pub returns-in-Some-Rehearse-clause-causes : goal.returns-in-Some-Rehearse-clause-causes
+returns-in-Some-Rehearse-clause-causes g c = c.rehearse.ensures.causes (g.F.Files.faults c.args.files.now)

@@ -1,4 +1,4 @@
-use Rattle.std.proofs.Common.{sym, subst}
+use Rattle.std.proofs.Common.{inl, sym, subst}
 use Rattle.sq_rules.specs.ConfText.{conf_refuses}
 use Rattle.sq_reread.specs.Rereading.{Adds, States}
 use Rattle.sq_reread.proofs.RereadLaws.{adds_of, of_file, states_of}
@@ -22,3 +22,17 @@ returns-clause-adds g c =
     (of_file texts before now c.args.conf.now c.in-Ok.text (States c.in-Ok-set_up.setup) c.in-Ok.ensures.text c.in-Ok.ensures.opened_list
     (states_of c.in-Ok.text c.in-Ok-set_up.setup c.in-Ok-set_up.ensures.ok))
     c.reconfigure.ensures.told)
+
+pub returns-clause-asks : goal.returns-clause-asks
+returns-clause-asks g c =
+    let texts = g.F.Files.texts c.args.files.now in
+    let before = g.F.Files.opened c.args.files.now in
+    let now = g.F.Files.opened c.read_file.new.files in
+    inl (
+      c.in-Ok-set_up.setup,
+      c.reconfigure.result,
+      of_file texts before now c.args.conf.now c.in-Ok.text (States c.in-Ok-set_up.setup) c.in-Ok.ensures.text c.in-Ok.ensures.opened_list
+          (states_of c.in-Ok.text c.in-Ok-set_up.setup c.in-Ok-set_up.ensures.ok),
+      (c.reconfigure.ensures.rereads, c.reconfigure.ensures.refused),
+      c.answer_of.ensures,
+    )

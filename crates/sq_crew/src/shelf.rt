@@ -1,0 +1,47 @@
+//! The shelf: what the pump and the keepers share. Each call is one hold of its lock.
+use crate::board::{Board, Task};
+use sq_base::ProcNo;
+use std::alloc::Global;
+use std::sync::ledger::Ledger;
+use std::sync::{Mutex, Wait};
+
+/// The halves of processes that keepers are to take up, and which keepers have ended. A thread that could not be started
+/// hands back no half, so they lie here meanwhile, each with the part of the book of refusals that its keeper needs.
+#[derive(Drop)]
+pub struct Shelf<P, N: Ledger> {
+    board: Mutex<Board<P, N>>,
+}
+
+impl<P: Drop, N: Ledger> Shelf<P, N> {
+    /// Nothing lies there yet.
+    pub fn new(alloc: Global) -> Shelf<P, N> {
+        Shelf {
+            board: Mutex::new(Board::new(alloc)),
+        }
+    }
+
+    // Puts a task for a keeper, which is handed back where memory is wanting.
+    pub(crate) fn put<R: Wait>(&self, rt: &R, task: Task<P, N>) -> Result<(), Task<P, N>> {
+        self.board.lock(rt).put(task)
+    }
+
+    // A task, for a keeper.
+    pub(crate) fn take<R: Wait>(&self, rt: &R) -> Option<Task<P, N>> {
+        self.board.lock(rt).take()
+    }
+
+    // A task, for the pump.
+    pub(crate) fn take_back<R: Wait>(&self, rt: &R) -> Option<Task<P, N>> {
+        self.board.lock(rt).take_back()
+    }
+
+    // The keeper of this process has ended.
+    pub(crate) fn end<R: Wait>(&self, rt: &R, proc: ProcNo) {
+        self.board.lock(rt).end(proc);
+    }
+
+    // A process whose keeper has ended.
+    pub(crate) fn ended<R: Wait>(&self, rt: &R) -> Option<ProcNo> {
+        self.board.lock(rt).ended()
+    }
+}

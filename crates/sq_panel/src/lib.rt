@@ -1,0 +1,16 @@
+//! The control of a server in the calling thread: the lines that it reads, what it does at each, and what it writes.
+//!
+//! `next_order` takes the next line of the control's input, in memory of a fixed size. `attend` goes through these lines
+//! until `shutdown`, the end, or a fault; at each `reconfigure` it has the configuration read again and writes one line
+//! that says what became of it. `ControlPanel` is `attend` as what the calling thread of a server does.
+#![tactic(auto)]
+
+mod attending;
+mod control_panel;
+mod orders;
+mod telling;
+
+pub use attending::{Beside, attend};
+pub use control_panel::{ControlPanel, take_back};
+pub use orders::{Order, next_order};
+pub use telling::write_reread;

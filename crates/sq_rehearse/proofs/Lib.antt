@@ -1,0 +1,5 @@
+-- Laws of turns, of what they count, and of the history of a rehearsal.
+mod CountLaws
+mod TurnLaws
+mod LoopLaws
+pub mod LegalLaws

@@ -1,0 +1,4 @@
+mod BeginLaws
+mod EndLaws
+mod SetupLaws
+mod ThreadLaws

@@ -1,0 +1,107 @@
+//! The desk, the pools and their books, as a server begins with them.
+ghost use Rattle.std.specs.Prelude.{◌≡◌, ◌+◌, ◌≤◌, [], true, IfOk, IfErr, IfSome, Some, min};
+ghost use Rattle.sq_desk.specs.Calling.{IsUnbegun};
+ghost use Rattle.sq_outside.specs.Causes.{count_limit};
+ghost use Rattle.sq_server.specs.Beginning.{HasCountedNone};
+
+use crate::running::Wholes;
+use crate::starting::Start;
+use crate::watched::{Before, Watched};
+use sq_bank::Bank;
+use sq_base::{EpochNo, Moment, WantOfMemory};
+use sq_calls::{DeskCalls, DeskFault};
+use sq_desk::Desk;
+use sq_note::Journal;
+use sq_pools::Pools;
+use sq_room::Hall;
+use std::alloc::Global;
+use std::sync::ledger::{Blank, Ledger};
+
+/// A blank for each book.
+#[derive(Drop)]
+pub(crate) struct Blanks {
+    pub asks: Blank,
+    pub makes: Blank,
+    pub refusals: Blank,
+    pub grants: Blank,
+}
+
+/// The machine with its journal, and the pools.
+#[derive(Drop)]
+pub(crate) struct Machine<J: Journal, B: Before> {
+    pub desk: Desk<Watched<J, B>>,
+    pub pools: Pools,
+}
+
+/// Makes the desk over this journal, and the pools of its first epoch. Where none is made the journal is handed back.
+#[tactic(auto, using(crate::proofs::BeginLaws::has_counted))]
+pub(crate) fn begin<J: Journal, B: Before>(
+    alloc: Global,
+    start: Start,
+    journal: J,
+    now: Moment,
+) -> Result<Machine<J, B>, (DeskFault, J)>
+    requires before { B.faults ≡ J.faults journal }
+    requires empty { IfSome (J.history journal) (λ h. h ≡ []) }
+    ensures begun { IfOk result (λ m. HasCountedNone m.desk.notes.history (Some m.desk.notes.made) (min m.desk.notes.refusals count_limit) m.pools.granted) }
+    ensures unbegun { IfErr result (λ e. IsUnbegun e.0 (J.faults journal) (J.faults e.1)) }
+    ensures history { IfErr result (λ e. J.history e.1 ≡ J.history journal) }
+{
+    let Start {
+        setup,
+        offset,
+        seed,
+    } = start;
+    let pools = match Pools::new(alloc, EpochNo(1), setup.config(), now) {
+        Ok(pools) => pools,
+        Err(WantOfMemory) => return Err((DeskFault::WantOfMemory, journal)),
+    };
+    let watched = Watched::<J, B>::new(journal);
+    match Desk::new(alloc, setup, offset, watched, now, seed) {
+        Ok(desk) => Ok(Machine { desk, pools }),
+        Err((fault, watched)) => {
+            let (journal, _) = watched.finish();
+            Err((fault, journal))
+        }
+    }
+}
+
+/// Opens the books of a desk and of pools that counted nothing yet.
+#[tactic(auto, using(crate::proofs::BeginLaws::counted_none, crate::proofs::BeginLaws::made_none, crate::proofs::BeginLaws::refused_none, crate::proofs::BeginLaws::granted_none))]
+pub(crate) fn open_books<D: DeskCalls, A: Ledger, M: Ledger, N: Ledger, G: Ledger>(
+    desk: D,
+    pools: Pools,
+    blanks: Blanks,
+) -> (Hall<D, A, M, N>, Bank<G>, Wholes<A, M, N, G>)
+    requires asks { (blanks.asks.name ≡ A.name) × (blanks.asks.parts ≡ A.parts) }
+    requires makes { (blanks.makes.name ≡ M.name) × (blanks.makes.parts ≡ M.parts) }
+    requires refusals { (blanks.refusals.name ≡ N.name) × (blanks.refusals.parts ≡ N.parts) }
+    requires grants { (blanks.grants.name ≡ G.name) × (blanks.grants.parts ≡ G.parts) }
+    requires begun { HasCountedNone (D.told desk) (D.made desk) (D.refused desk) pools.granted }
+    ensures asked { (result.2.asked.parts ≡ A.parts) × (result.2.asked.amount ≡ 0) }
+    ensures made { (result.2.made.parts ≡ M.parts) × (result.2.made.amount ≡ 0) }
+    ensures refused { result.2.refused.parts ≡ N.parts }
+    ensures grants { (result.2.grants.parts ≡ G.parts) × (result.2.grants.amount ≡ 0) }
+{
+    let Blanks {
+        asks,
+        makes,
+        refusals,
+        grants,
+    } = blanks;
+    let (asks, asked) = asks.open::<A>();
+    let (makes, made) = makes.open::<M>();
+    let (refusals, refused) = refusals.open::<N>();
+    let (grants, granted) = grants.open::<G>();
+    let wholes = Wholes {
+        asked,
+        made,
+        refused,
+        grants: granted,
+    };
+    (
+        Hall::new(desk, asks, makes, refusals),
+        Bank::new(pools, grants),
+        wholes,
+    )
+}

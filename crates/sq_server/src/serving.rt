@@ -1,0 +1,172 @@
+//! `serve`: a server from its beginning to its end.
+ghost use Rattle.std.specs.Prelude.{◌≡◌, ◌+◌, ◌<◌, ◌≤◌, ◌^◌, ℕ, [], min, true, IfOk, IfErr, IfSome};
+ghost use Rattle.std.specs.Option.{ForSome};
+ghost use Rattle.sq_outside.specs.Causes.{Rose, count_limit};
+ghost use Rattle.sq_room.specs.Books.{asks_in};
+ghost use Rattle.sq_rules.specs.Readings.{current};
+ghost use Rattle.sq_desk.specs.Calling.{IsUnbegun};
+ghost use Rattle.sq_desk.specs.Desks.{IsLegal};
+
+use crate::beginning::{Blanks, Machine, begin, open_books};
+use crate::running::{REFUSALS, Ran, Tools, run};
+use crate::starting::{Served, Start, Unserved};
+use crate::watched::{Before, Watched};
+use sq_control::Panel;
+use sq_desk::Desk;
+use sq_note::Journal;
+use sq_outside::{Another, Clock, Dialer, Listener, Net, Parts, Spawner, Stopper};
+use std::alloc::Global;
+use std::marker::Brand;
+use std::sync::Wait;
+use std::sync::ledger::{Blank, Ledger};
+use std::thread::Threads;
+
+// The journal of a desk, and whether a note of it failed.
+fn journal_of<J: Journal, B: Before>(desk: Desk<Watched<J, B>>) -> (J, bool)
+    ensures legal { IfSome (J.history result.0) IsLegal }
+    ensures history { J.history result.0 ≡ desk.notes.history }
+    ensures later { B.faults ≤ J.faults result.0 }
+    ensures cause { result.1 ≡ true → Rose B.faults (J.faults result.0) }
+{
+    desk.facts();
+    desk.finish().finish()
+}
+
+// Makes the desk and the pools, and runs the server.
+fn serve_with<
+    R: Threads + Wait + Sync,
+    L: Listener + Send + Drop,
+    T: Stopper + Drop,
+    Q: Dialer + Another + Send + Drop,
+    S: Spawner + Send + Drop,
+    C: Clock + Another + Send + Drop,
+    J: Journal + Send + Drop,
+    K: Panel + Drop,
+    B: Before + Send + Sync,
+    A: Ledger + Send + Sync,
+    M: Ledger + Send + Sync,
+    N: Ledger + Send + Sync,
+    G: Ledger + Send + Sync,
+>(
+    rt: &R,
+    alloc: Global,
+    start: Start,
+    listener: L,
+    mut tools: Tools<T, Q, S, C>,
+    journal: J,
+    workers: u32,
+    panel: K,
+    blanks: Blanks,
+) -> Result<Served<L, J, K>, Unserved<L, J, K>>
+    requires begun { B.faults ≡ J.faults journal }
+    requires empty { IfSome (J.history journal) (λ h. h ≡ []) }
+    requires some { (0 < workers) × (workers ≤ 2 ^ 31) }
+    requires asks { (blanks.asks.name ≡ A.name) × (blanks.asks.parts ≡ A.parts) × (A.parts ≡ workers + workers) }
+    requires makes { (blanks.makes.name ≡ M.name) × (blanks.makes.parts ≡ M.parts) × (M.parts ≡ 1) }
+    requires refusals { (blanks.refusals.name ≡ N.name) × (blanks.refusals.parts ≡ N.parts) × (N.parts ≡ REFUSALS) }
+    requires grants { (blanks.grants.name ≡ G.name) × (blanks.grants.parts ≡ G.parts) × (G.parts ≡ workers + workers) }
+    ensures legal { IfOk result (λ s. IfSome (J.history s.journal) IsLegal) }
+    ensures asks { IfOk result (λ s. ForSome (J.history s.journal) (λ h. s.requests ≡ min (asks_in h) count_limit)) }
+    ensures grants { IfOk result (λ s. s.granted ≡ min s.pools.granted count_limit) }
+    ensures panel { IfOk result (λ s. (n : ℕ) × K.gives panel s.panel s.end n × ForSome (J.history s.journal) (λ h. n + 1 ≡ current h)) }
+    ensures stopped { IfOk result (λ s. s.stopped ≡ true → Rose (J.faults journal) (J.faults s.journal)) }
+    ensures failed { IfOk result (λ s. s.failed ≡ true → 0 < L.faults s.listener) }
+    ensures later { IfOk result (λ s. J.faults journal ≤ J.faults s.journal) }
+    ensures unserved { IfErr result (λ u. IsUnbegun u.fault (J.faults journal) (J.faults u.journal)) }
+    ensures unwritten { IfErr result (λ u. J.history u.journal ≡ J.history journal) }
+    ensures unrun { IfErr result (λ u. (u.panel ≡ panel) × (u.listener ≡ listener)) }
+{
+    let now = tools.clock.now();
+    let machine = match begin::<J, B>(alloc, start, journal, now) {
+        Ok(machine) => machine,
+        Err((fault, journal)) => {
+            return Err(Unserved {
+                fault,
+                listener,
+                journal,
+                panel,
+            });
+        }
+    };
+    let Machine { desk, pools } = machine;
+    let (hall, bank, wholes) = open_books::<Desk<Watched<J, B>>, A, M, N, G>(desk, pools, blanks);
+    let Ran {
+        desk,
+        pools,
+        listener,
+        failed,
+        panel,
+        end,
+        requests,
+        granted,
+    } = run(
+        rt, alloc, hall, bank, listener, tools, workers, panel, wholes,
+    );
+    let (journal, stopped) = journal_of(desk);
+    Ok(Served {
+        listener,
+        journal,
+        panel,
+        end,
+        pools,
+        stopped,
+        failed,
+        requests,
+        granted,
+    })
+}
+
+/// Makes the desk of a configuration over a journal without an entry, and serves the links that come to the parts of an
+/// opened net with so many workers, until the run of the panel has ended. Then the listener is stopped; the open sessions
+/// go on to their end, every process is stopped, and all threads return. Where no desk is made all is handed back.
+pub fn serve<R: Threads + Wait + Sync, N: Net, J: Journal + Send + Drop, K: Panel + Drop>(
+    rt: &R,
+    alloc: Global,
+    start: Start,
+    parts: Parts<N>,
+    journal: J,
+    workers: u32,
+    panel: K,
+) -> Result<Served<N::L, J, K>, Unserved<N::L, J, K>>
+    requires empty { IfSome (J.history journal) (λ h. h ≡ []) }
+    requires some { (0 < workers) × (workers ≤ 2 ^ 31) }
+    // A journal that tells is legal over configurations.
+    ensures legal { IfOk result (λ s. IfSome (J.history s.journal) IsLegal) }
+    // Its requests are the sum of those of all sessions, and what the pools granted is the sum of what sessions were.
+    ensures asks { IfOk result (λ s. ForSome (J.history s.journal) (λ h. s.requests ≡ min (asks_in h) count_limit)) }
+    ensures grants { IfOk result (λ s. s.granted ≡ min s.pools.granted count_limit) }
+    // The panel ran, and the reconfigurations that it made are the journal's.
+    ensures panel { IfOk result (λ s. (n : ℕ) × K.gives panel s.panel s.end n × ForSome (J.history s.journal) (λ h. n + 1 ≡ current h)) }
+    ensures stopped { IfOk result (λ s. s.stopped ≡ true → Rose (J.faults journal) (J.faults s.journal)) }
+    ensures failed { IfOk result (λ s. s.failed ≡ true → 0 < N.L.faults s.listener) }
+    ensures later { IfOk result (λ s. J.faults journal ≤ J.faults s.journal) }
+    // Why no desk was made.
+    ensures unserved { IfErr result (λ u. IsUnbegun u.fault (J.faults journal) (J.faults u.journal)) }
+    ensures unwritten { IfErr result (λ u. J.history u.journal ≡ J.history journal) }
+    ensures unrun { IfErr result (λ u. (u.panel ≡ panel) × (u.listener ≡ parts.listener)) }
+{
+    let Parts {
+        listener,
+        stopper,
+        dialer,
+        spawner,
+        clock,
+        resolver: _,
+    } = parts;
+    let tools = Tools {
+        stopper,
+        dialer,
+        spawner,
+        clock,
+    };
+    let both = u64::from(workers) + u64::from(workers);
+    let blanks = Blanks {
+        asks: Blank::new(both),
+        makes: Blank::new(1),
+        refusals: Blank::new(REFUSALS),
+        grants: Blank::new(both),
+    };
+    serve_with::<R, N::L, N::T, N::D, N::S, N::C, J, K, Brand, Brand, Brand, Brand, Brand>(
+        rt, alloc, start, listener, tools, journal, workers, panel, blanks,
+    )
+}

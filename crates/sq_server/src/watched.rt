@@ -1,0 +1,83 @@
+//! `Watched`: a journal that remembers whether a note of it failed.
+ghost use Rattle.std.specs.Prelude.{◌≡◌, ◌≤◌, ℕ, true};
+ghost use Rattle.sq_outside.specs.Causes.{Rose};
+
+use sq_base::WantOfMemory;
+use sq_note::Journal;
+use sq_outside::Failed;
+use sq_rules::Entry;
+use std::marker::{Brand, PhantomData};
+
+/// The count of faults with which a journal began.
+pub trait Before {
+    ghost faults: { ℕ };
+}
+
+impl Before for Brand {
+    ghost faults = { 0 };
+}
+
+/// A journal, and whether a note of it failed. It says so only where its count of faults rose since it began.
+#[derive(Drop)]
+pub struct Watched<J: Journal, B: Before> {
+    journal: J,
+    failed: bool,
+    begun: PhantomData<B>,
+    ghost later: { B.faults ≤ J.faults journal },
+    ghost said: { failed ≡ true → Rose B.faults (J.faults journal) },
+}
+
+impl<J: Journal, B: Before> Watched<J, B> {
+    /// A journal that begins with this count.
+    pub fn new(journal: J) -> Watched<J, B>
+        requires { B.faults ≡ J.faults journal }
+        ensures { result.journal ≡ journal }
+    {
+        Watched {
+            journal,
+            failed: false,
+            begun: PhantomData,
+        }
+    }
+
+    /// The journal, given back, and whether a note of it failed.
+    pub fn finish(self) -> (J, bool)
+        ensures journal { result.0 ≡ self.journal }
+        ensures later { B.faults ≤ J.faults result.0 }
+        ensures cause { result.1 ≡ true → Rose B.faults (J.faults result.0) }
+    {
+        let Watched {
+            journal,
+            failed,
+            ..
+        } = self;
+        (journal, failed)
+    }
+}
+
+impl<J: Journal, B: Before> Journal for Watched<J, B> {
+    ghost history = { λ w. J.history w.journal };
+
+    ghost spare = { λ w. J.spare w.journal };
+
+    ghost faults = { λ w. J.faults w.journal };
+
+    ghost capped = { λ w. J.capped w.journal };
+
+    fn reserve(&mut self, n: u32) -> Result<(), WantOfMemory> {
+        self.journal.reserve(n)
+    }
+
+    fn note(&mut self, entry: Entry) -> Result<(), Failed> {
+        let Watched {
+            journal,
+            failed,
+            ..
+        } = self;
+        let noted = journal.note(entry);
+        if noted.is_err() {
+            *failed = true;
+        }
+        noted
+    }
+}

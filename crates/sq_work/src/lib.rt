@@ -1,0 +1,17 @@
+//! The workers of a server.
+//!
+//! `LockHub` is the engine and the pools behind their locks, as the sessions of one worker see them: what it asked and
+//! was granted are its shares of the books, and each of its calls that has the name of a call of the desk or of the
+//! pools is one hold of that lock. `work_all` runs workers beside one another; each takes a link from the door, serves
+//! it, and takes the next, until the listener stops. What comes back are the sums over all sessions, which are the
+//! shares of the books.
+#![tactic(auto)]
+
+mod attending;
+mod lock_hub;
+mod sums;
+mod working;
+
+pub use lock_hub::{LockHub, Shares};
+pub use sums::Sums;
+pub use working::work_all;

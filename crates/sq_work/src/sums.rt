@@ -1,0 +1,56 @@
+//! `Sums`: what the sessions of workers came to.
+ghost use Rattle.std.specs.Prelude.{◌≡◌, ◌+◌, min};
+ghost use Rattle.sq_outside.specs.Causes.{count_limit};
+
+use sq_outside::COUNT_LIMIT;
+use std::sync::ledger::{Ledger, Share};
+
+/// The sums of what the sessions of workers asked and were granted, each up to 2^63 - 1, with the workers' shares of the
+/// books of requests and of grants: they are the same.
+#[derive(Drop)]
+pub struct Sums<A: Ledger, G: Ledger> {
+    /// The sum of the sessions' requests.
+    pub requests: u64,
+    /// The sum of the bytes that the sessions were granted.
+    pub granted: u64,
+    pub asked: Share<A>,
+    pub grants: Share<G>,
+    pub ghost requests_are: { requests ≡ min asked.amount count_limit },
+    pub ghost granted_are: { granted ≡ min grants.amount count_limit },
+}
+
+// The lesser of a sum and the limit.
+pub(crate) fn add(one: u64, other: u64) -> u64
+    ensures { result ≡ min (one + other) count_limit }
+{
+    one.saturating_add(other).min(COUNT_LIMIT)
+}
+
+/// The sums of both.
+pub(crate) fn both<A: Ledger, G: Ledger>(one: Sums<A, G>, other: Sums<A, G>) -> Sums<A, G>
+    ensures requests { result.requests ≡ min (one.requests + other.requests) count_limit }
+    ensures granted { result.granted ≡ min (one.granted + other.granted) count_limit }
+    ensures asked { result.asked.parts ≡ one.asked.parts + other.asked.parts }
+    ensures grants { result.grants.parts ≡ one.grants.parts + other.grants.parts }
+{
+    let Sums {
+        requests,
+        granted,
+        mut asked,
+        mut grants,
+    } = one;
+    let Sums {
+        requests: more_requests,
+        granted: more_granted,
+        asked: more_asked,
+        grants: more_grants,
+    } = other;
+    asked.merge(more_asked);
+    grants.merge(more_grants);
+    Sums {
+        requests: add(requests, more_requests),
+        granted: add(granted, more_granted),
+        asked,
+        grants,
+    }
+}
