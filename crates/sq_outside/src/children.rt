@@ -1,6 +1,6 @@
 //! Helper processes: the trusted edge. It relies on the system to start programs, on pipes to hand on what
 //! they read and write, and on `kill` and `wait` to end and reap them. What a program started in its turn is
-//! not ended with it.
+//! not ended with it. What a program writes to its standard error is dropped, since the program's own may be a journal.
 ghost use Rattle.std.specs.Prelude.{◌≡◌, ◌≤◌, ◌-◌, ◌^◌, None, IfSome};
 
 use crate::again::{raise, write_again};
@@ -93,7 +93,10 @@ fn command_of(alloc: Global, words: &[Text]) -> Option<Command> {
     for word in arguments {
         command.arg(str::from_utf8(word.as_bytes()).ok()?).ok()?;
     }
-    command.stdin(Stdio::piped()).stdout(Stdio::piped());
+    command
+        .stdin(Stdio::piped())
+        .stdout(Stdio::piped())
+        .stderr(Stdio::null());
     Some(command)
 }
 
