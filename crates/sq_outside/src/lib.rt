@@ -8,7 +8,7 @@
 //! std's objects tell (the system's tell nothing), and are the trusted edge.
 //! `read_whole`, `read_file`, `write_all` and `write_line` read and write whole texts. `next_line` reads a
 //! script line by line: each line of the source that can be read, in order, and then its end or a line that
-//! no LF ends or that is over a limit.
+//! no LF ends or that is over a limit; `next_line_within` does so with another limit for the line.
 #![tactic(auto)]
 
 mod again;
@@ -44,7 +44,7 @@ pub use calls::{COUNT_LIMIT, Calls};
 pub use children::{RealChildIn, RealSpawner};
 pub use held::Held;
 pub use input::{Unread, read_file, read_whole};
-pub use lines::{Found, LINE_LIMIT, TOTAL_LIMIT, next_line};
+pub use lines::{Found, LINE_LIMIT, TOTAL_LIMIT, next_line, next_line_within};
 pub use links::{Accepted, Dialer, Listener, Out};
 pub use mem_child::{MemChildOut, MemWait};
 pub use mem_clock::{MemClock, MemName, MemResolver};
