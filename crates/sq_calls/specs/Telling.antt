@@ -11,6 +11,7 @@ use Rattle.sq_rules.specs.declared.entries.Told.TheVariants as told
 use Rattle.sq_checks.specs.Records.{Judged}
 use Rattle.sq_rows.specs.declared.said.Stepped.{Stepped}
 use Rattle.sq_rows.specs.declared.said.Stepped.TheVariants as stepped
+use Rattle.sq_rules.specs.ConfText.{conf_gives}
 use Rattle.sq_rules.specs.Configurations.{Configuration}
 use Rattle.sq_rules.specs.Entries.{History, Noted}
 use Rattle.sq_rules.specs.FullNext.{FullLegal, full_next}
@@ -89,6 +90,10 @@ IsDead proc e = e ≡ event.Died proc
 
 abbrev pub IsLine : ℕ → List ℕ → Event → Type 0
 IsLine proc bytes e = e ≡ event.Line proc bytes
+
+-- the configuration is the one that its source states
+abbrev pub IsStated : Configuration → Type 0
+IsStated c = conf_gives c.source c
 
 abbrev pub IsReread : Configuration → Event → Type 0
 IsReread setup e = e ≡ event.Reconfigure setup.source

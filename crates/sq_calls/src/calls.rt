@@ -1,5 +1,6 @@
 //! What a desk's calls are to those who make them.
-ghost use Rattle.std.specs.Prelude.{◌≡◌, ◌≤◌, ℕ, ⊤, Bool, true, IsErrOf, IsSome, OnOk, Result};
+ghost use Rattle.std.specs.Prelude.{◌≡◌, ◌≤◌, ℕ, ⊤, Bool, List, None, Some, true, IfOk, IfSome, IsErrOf, IsSome, OnOk, Result};
+ghost use Rattle.std.specs.Arc.{arc_value};
 ghost use Rattle.sq_outside.specs.Causes.{count_limit};
 ghost use Rattle.std.specs.declared.option.Option.{Option};
 ghost use Rattle.sq_rules.specs.Configurations.{Configuration};
@@ -7,7 +8,7 @@ ghost use Rattle.sq_rules.specs.Entries.{History};
 ghost use Rattle.sq_rules.specs.declared.entries.Told.TheVariants as answer;
 ghost use Rattle.sq_calls.specs.declared.faults.DeskFault.{DeskFault as Fault};
 ghost use Rattle.sq_calls.specs.declared.faults.DeskFault.TheVariants as fault;
-ghost use Rattle.sq_calls.specs.Telling.{Counts, CountsLine, CountsRefusal, IsAsking, IsClosing, IsDead, IsFailed, IsLine, IsNextAct, IsOpening, IsReread, IsStarted, IsStep, IsStepTold, IsTakeTold, IsTaking, MayAct, Notes, NotesAs, got_told};
+ghost use Rattle.sq_calls.specs.Telling.{Counts, CountsLine, CountsRefusal, IsAsking, IsClosing, IsDead, IsFailed, IsLine, IsNextAct, IsOpening, IsReread, IsStarted, IsStated, IsStep, IsStepTold, IsTakeTold, IsTaking, MayAct, Notes, NotesAs, got_told};
 
 use crate::faults::DeskFault;
 use sq_base::{Addr, CheckNo, ConnNo, EpochNo, Moment, ProcNo, Request, Texts, WantOfMemory};
@@ -37,6 +38,12 @@ pub trait DeskCalls {
     /// What `reconfigure` with a configuration at a moment answers and leaves, where a desk says more of it than its entries
     /// and counts tell: the desk before, the configuration, the moment, the answer, and the desk after.
     ghost rereads: { Self → Configuration → ℕ → Result ℕ Fault → Self → Type 0 } = { λ _ _ _ _ _. ⊤ };
+
+    /// The words of the program of the class at a place of a live epoch, if there is such a class, where it tells that.
+    ghost programs: { Self → ℕ → ℕ → Option (Option (List (List ℕ))) } = { λ _ _ _. None };
+
+    /// The configuration of a live epoch, if there is such an epoch, where it tells that.
+    ghost configs: { Self → ℕ → Option (Option Configuration) } = { λ _ _. None };
 
     /// A client's connection opens.
     fn open(&mut self, conn: ConnNo, addr: Addr, port: u16, now: Moment) -> Result<(), DeskFault>
@@ -125,13 +132,15 @@ pub trait DeskCalls {
         ensures refused { CountsRefusal (refused self.old) (refused self.new) result }
         ensures made { made self.new ≡ made self.old };
 
-    /// Another configuration is current: the number of its epoch, which where `made` is told is one above it.
+    /// Another configuration is current, which is the one that its source states: the number of its epoch, which where
+    /// `made` is told is one above it.
     fn reconfigure(
         &mut self,
         alloc: Global,
         setup: Setup,
         now: Moment,
     ) -> Result<EpochNo, DeskFault>
+        requires { IsStated setup }
         ensures told { Notes answer.Epoch (IsReread setup) (told self.old) (told self.new) result }
         ensures rereads { rereads self.old setup now result self.new }
         ensures refused { CountsRefusal (refused self.old) (refused self.new) result }
@@ -144,10 +153,12 @@ pub trait DeskCalls {
         alloc: Global,
         epoch: EpochNo,
         class: u32,
-    ) -> Result<Option<Texts>, WantOfMemory>;
+    ) -> Result<Option<Texts>, WantOfMemory>
+        ensures { IfSome (programs self.now epoch class) (λ p. IfOk result (λ t. t ≡ p)) };
 
-    /// The configuration of a live epoch.
-    fn config(&self, epoch: EpochNo) -> Option<Arc<Config>>;
+    /// The configuration of a live epoch; none, too, where it cannot be shared once more.
+    fn config(&self, epoch: EpochNo) -> Option<Arc<Config>>
+        ensures { IfSome (configs self.now epoch) (λ o. IfSome result (λ c. o ≡ Some (arc_value c))) };
 
     ghost capped: { (desk : Self) → refused desk ≤ count_limit };
 }

@@ -1,6 +1,7 @@
 -- The act that a desk gives is the machine's next.
-use Rattle.std.proofs.Common.{◌≡◌, ◌++◌, ℕ, ◌≤◌, [], max, Option, None, Some, IfOk, IfSome, Result, Ok, Err, subst, arith}
+use Rattle.std.proofs.Common.{◌≡◌, ◌++◌, ℕ, ◌≤◌, [], ◌∷◌, max, Option, None, Some, IfOk, IfSome, Result, Ok, Err, subst, arith}
 use Rattle.sq_rules.specs.declared.entries.Event.TheVariants as event
+use Rattle.sq_rules.specs.Configurations.{Configuration}
 use Rattle.sq_rules.specs.Entries.{History}
 use Rattle.sq_rules.specs.Machine.{gives, nothing}
 use Rattle.sq_rules.specs.Readings.{latest}
@@ -17,30 +18,30 @@ use Rattle.sq_desk.proofs.TellingLaws.{act_told}
 no_sooner : (n moment l : ℕ) → l ≡ n → n ≤ max moment l
 no_sooner n moment l e = omega arith
 
-none_next : (s t : State) (moment : ℕ) (o : Option History) → IfSome o (IsReplay s) → IsActPromised s (max moment s.latest) None t → IsNextAct o (Ok None)
-none_next s t moment None r p = tt
-none_next s t moment (Some h) r p =
+none_next : (first : Configuration) (s t : State) (moment : ℕ) (o : Option History) → IfSome o (IsReplay first s) → IsActPromised s (max moment s.latest) None t → IsNextAct o (Ok None)
+none_next first s t moment None r p = tt
+none_next first s t moment (Some h) r p =
     let st = r.stands [] tt in
     let late = no_sooner (latest h) moment s.latest r.late in
-    record { configs = r.given ++ []; moment = max moment s.latest; legal = st.legal; late = late; next_is = p (r.given ++ []) h st late }
+    record { configs = first ∷ r.given ++ []; moment = max moment s.latest; legal = st.legal; late = late; next_is = p (first ∷ r.given ++ []) h st late }
 
-some_next : (s t : State) (moment : ℕ) (a : Act) (o : Option History) → IfSome o (IsReplay s) → IsActPromised s (max moment s.latest) (Some a) t → IsNextAct o (Ok (Some a))
-some_next s t moment a None r p = tt
-some_next s t moment a (Some h) r p =
+some_next : (first : Configuration) (s t : State) (moment : ℕ) (a : Act) (o : Option History) → IfSome o (IsReplay first s) → IsActPromised s (max moment s.latest) (Some a) t → IsNextAct o (Ok (Some a))
+some_next first s t moment a None r p = tt
+some_next first s t moment a (Some h) r p =
     let st = r.stands [] tt in
     let late = no_sooner (latest h) moment s.latest r.late in
-    let answered = p (r.given ++ []) h st late in (
+    let answered = p (first ∷ r.given ++ []) h st late in (
       told_of_act s a,
       act_told s a,
-      record { configs = r.given ++ []; moment = max moment s.latest; legal = st.legal; late = late; next_is = answered.next_is },
+      record { configs = first ∷ r.given ++ []; moment = max moment s.latest; legal = st.legal; late = late; next_is = answered.next_is },
     )
 
 err_next : (o : Option History) (f : DeskFault) → IsNextAct o (Err f)
 err_next None f = tt
 err_next (Some h) f = tt
 
-pub act_next : (v w : DeskView) (moment : ℕ) (r : Result (Option Act) DeskFault) → IsDesk v → Acts (max moment v.engine.latest) v r w
+pub act_next : {first : Configuration} (v w : DeskView) (moment : ℕ) (r : Result (Option Act) DeskFault) → IsDesk first v → Acts (max moment v.engine.latest) v r w
     → IfOk r (λ a. IsActPromised (state_of v.engine) (max moment v.engine.latest) a (state_of w.engine)) → IsNextAct v.notes.history r
-act_next v w moment (Ok None) d m p = none_next (state_of v.engine) (state_of w.engine) moment v.notes.history (d.replay m.going) p
-act_next v w moment (Ok (Some a)) d m p = some_next (state_of v.engine) (state_of w.engine) moment a v.notes.history (d.replay m.going) p
-act_next v w moment (Err f) d m p = err_next v.notes.history f
+act_next {first = first} v w moment (Ok None) d m p = none_next first (state_of v.engine) (state_of w.engine) moment v.notes.history (d.replay m.going) p
+act_next {first = first} v w moment (Ok (Some a)) d m p = some_next first (state_of v.engine) (state_of w.engine) moment a v.notes.history (d.replay m.going) p
+act_next {first = first} v w moment (Err f) d m p = err_next v.notes.history f

@@ -5,7 +5,7 @@ ghost use Rattle.sq_engine.specs.Acting.{IsActPromised, told_of_act};
 ghost use Rattle.sq_engine.specs.EngineViews.{state_of};
 ghost use Rattle.sq_desk.specs.Calling.{Acts, Leaves, desk_of, load_of, told_due};
 
-use crate::desks::Desk;
+use crate::desks::{Desk, First};
 use crate::naming::name_of;
 use crate::notes::Notes;
 use sq_base::{Moment, WantOfMemory};
@@ -92,7 +92,7 @@ fn act<J: Journal>(
     }
 }
 
-impl<J: Journal> Desk<J> {
+impl<J: Journal, F: First> Desk<J, F> {
     /// The next act that is due, which counts as made with this call. Where none is, nothing is noted.
     pub fn act(&mut self, alloc: Global, now: Moment) -> Result<Option<Act>, DeskFault>
         ensures acts { Acts (max now self.old.engine.latest) self.old result self.new }

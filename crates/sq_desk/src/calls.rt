@@ -1,10 +1,13 @@
 //! A desk, as those see it who make its calls.
 ghost use Rattle.std.proofs.Common.{arith};
 ghost use Rattle.std.specs.Prelude.{Some, true, max, min};
+ghost use Rattle.std.specs.Option.{option_map};
+ghost use Rattle.sq_state.specs.Says.{class_in};
+ghost use Rattle.sq_engine.specs.EngineViews.{state_of};
 ghost use Rattle.sq_desk.specs.Calling.{Rereads};
 ghost use Rattle.sq_outside.specs.Causes.{count_limit};
 
-use crate::desks::Desk;
+use crate::desks::{Desk, First};
 use sq_base::{Addr, CheckNo, ConnNo, EpochNo, Moment, ProcNo, Request, Texts, WantOfMemory};
 use sq_calls::{DeskCalls, DeskFault};
 use sq_channel::Got;
@@ -17,7 +20,7 @@ use sq_urlmatch::Setup;
 use std::alloc::Global;
 use std::sync::Arc;
 
-impl<J: Journal> DeskCalls for Desk<J> {
+impl<J: Journal, F: First> DeskCalls for Desk<J, F> {
     ghost told = { λ d. d.notes.history };
 
     ghost refused = { λ d. min d.notes.refusals count_limit };
@@ -27,6 +30,10 @@ impl<J: Journal> DeskCalls for Desk<J> {
     ghost is_counting = { true };
 
     ghost rereads = { λ d config now answer after. Rereads (max now d.engine.latest) config d answer after };
+
+    ghost programs = { λ d epoch class. Some (option_map (λ c. c.words) (class_in (state_of d.engine) epoch class)) };
+
+    ghost configs = { λ d epoch. Some ((state_of d.engine).config epoch) };
 
     ghost capped = { λ d. Prim.search arith };
 

@@ -10,7 +10,7 @@ ghost use Rattle.sq_state.specs.Changes.{after_ask};
 ghost use Rattle.sq_engine.specs.EngineViews.{state_of};
 ghost use Rattle.sq_desk.specs.Calling.{Leaves, Makes, desk_of, load_of};
 
-use crate::desks::Desk;
+use crate::desks::{Desk, First};
 use crate::notes::Notes;
 use sq_base::{CheckNo, ConnNo, Copying, Moment, Request, WantOfMemory};
 use sq_calls::DeskFault;
@@ -84,7 +84,7 @@ fn ask<J: Journal>(
     }
 }
 
-impl<J: Journal> Desk<J> {
+impl<J: Journal, F: First> Desk<J, F> {
     /// A request arrives on a connection, and its check begins in the current epoch.
     pub fn ask(
         &mut self,

@@ -9,7 +9,7 @@ ghost use Rattle.sq_state.specs.Changes.{after_close, after_open};
 ghost use Rattle.sq_engine.specs.EngineViews.{state_of};
 ghost use Rattle.sq_desk.specs.Calling.{Leaves, Makes, desk_of, load_of};
 
-use crate::desks::Desk;
+use crate::desks::{Desk, First};
 use crate::notes::Notes;
 use sq_base::{Addr, ConnNo, Moment};
 use sq_calls::DeskFault;
@@ -78,7 +78,7 @@ fn close<J: Journal>(
     notes.note(entry)
 }
 
-impl<J: Journal> Desk<J> {
+impl<J: Journal, F: First> Desk<J, F> {
     /// A client's connection opens.
     pub fn open(
         &mut self,

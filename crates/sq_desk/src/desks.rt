@@ -1,8 +1,9 @@
 //! `Desk`: the machine, and the journal of what it did.
 ghost use Rattle.std.specs.Prelude.{◌≡◌, ◌≤◌, suc, [], false, Some, IfOk, IfErr, IfSome};
 ghost use Rattle.sq_desk.specs.Calling.{HasBegun, IsUnbegun};
-ghost use Rattle.sq_desk.specs.Desks.{HasPlaces, IsLegal, IsReplay};
+ghost use Rattle.sq_desk.specs.Desks.{HasPlaces, IsLegal, IsReplay, no_configuration};
 ghost use Rattle.sq_engine.specs.EngineViews.{state_of};
+ghost use Rattle.sq_rules.specs.Configurations.{Configuration};
 
 use crate::notes::Notes;
 use crate::reconfiguring::good;
@@ -15,27 +16,37 @@ use sq_outside::COUNT_LIMIT;
 use sq_rules::{Entry, Event, Offset, Told};
 use sq_urlmatch::Setup;
 use std::alloc::Global;
-use std::marker::Model;
+use std::marker::{Brand, Model, PhantomData};
 
-/// The machine and its journal. A contract sees both, whether a note failed, how many calls were refused, and how many
-/// reconfigurations were noted.
-#[derive(Drop)]
-pub struct Desk<J: Journal> {
-    pub(crate) engine: Engine,
-    pub(crate) notes: Notes<J>,
+/// The configuration with which a desk begins.
+pub trait First {
+    ghost first: { Configuration };
 }
 
-impl<J: Journal> Model for Desk<J> {
+impl First for Brand {
+    ghost first = { no_configuration };
+}
+
+/// The machine and its journal. A contract sees both, whether a note failed, how many calls were refused, and how many
+/// reconfigurations were noted. Its type says with which configuration it began.
+#[derive(Drop)]
+pub struct Desk<J: Journal, F: First> {
+    pub(crate) engine: Engine,
+    pub(crate) notes: Notes<J>,
+    begun: PhantomData<F>,
+}
+
+impl<J: Journal, F: First> Model for Desk<J, F> {
     ghost use Rattle.sq_desk.specs.Desks.{DeskView, IsDesk};
 
     ghost Value = { DeskView };
 
     ghost view = { λ d. record { engine = d.engine; notes = d.notes } };
 
-    ghost invariant = { λ d. IsDesk (record { engine = d.engine; notes = d.notes }) };
+    ghost invariant = { λ d. IsDesk F.first (record { engine = d.engine; notes = d.notes }) };
 }
 
-impl<J: Journal> Desk<J> {
+impl<J: Journal, F: First> Desk<J, F> {
     /// The machine that begins at this moment with epoch 1, over a journal without an entry, whose first entry it notes.
     /// The seed is for the hashes of keys. Where it does not begin, the journal is handed back.
     pub fn new(
@@ -45,8 +56,9 @@ impl<J: Journal> Desk<J> {
         journal: J,
         now: Moment,
         seed: HashSeed,
-    ) -> Result<Desk<J>, (DeskFault, J)>
-        requires { IfSome (J.history journal) (λ h. h ≡ []) }
+    ) -> Result<Desk<J, F>, (DeskFault, J)>
+        requires first { F.first ≡ setup }
+        requires empty { IfSome (J.history journal) (λ h. h ≡ []) }
         ensures begun { IfOk result (λ d. HasBegun setup offset now (J.history journal) d) }
         ensures later { IfOk result (λ d. J.faults journal ≤ d.notes.faults) }
         ensures history { IfErr result (λ e. J.history e.1 ≡ J.history journal) }
@@ -69,7 +81,11 @@ impl<J: Journal> Desk<J> {
             answer: Told::Epoch(EpochNo(1)),
         };
         match notes.note(entry) {
-            Ok(()) => Ok(Desk { engine, notes }),
+            Ok(()) => Ok(Desk {
+                engine,
+                notes,
+                begun: PhantomData,
+            }),
             Err(fault) => Err((fault, notes.into_journal())),
         }
     }
@@ -92,8 +108,8 @@ impl<J: Journal> Desk<J> {
 
     /// What holds of it: it changes nothing, and its contract says it to a proof.
     pub fn facts(&self)
-        ensures legal { IfSome self.now.notes.history IsLegal }
-        ensures replay { self.now.notes.stopped ≡ false → IfSome self.now.notes.history (IsReplay (state_of self.now.engine)) }
+        ensures legal { IfSome self.now.notes.history (IsLegal F.first) }
+        ensures replay { self.now.notes.stopped ≡ false → IfSome self.now.notes.history (IsReplay F.first (state_of self.now.engine)) }
         ensures places { self.now.notes.stopped ≡ false → HasPlaces self.now.notes.spare (state_of self.now.engine) }
         ensures made { self.now.notes.stopped ≡ false → self.now.engine.epochs.current ≡ suc self.now.notes.made }
     {

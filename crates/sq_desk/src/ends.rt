@@ -8,7 +8,7 @@ ghost use Rattle.sq_state.specs.Answers.{died_answer};
 ghost use Rattle.sq_engine.specs.EngineViews.{state_of};
 ghost use Rattle.sq_desk.specs.Calling.{Leaves, Makes, after_died, desk_of};
 
-use crate::desks::Desk;
+use crate::desks::{Desk, First};
 use crate::notes::Notes;
 use sq_base::{Moment, ProcNo};
 use sq_calls::DeskFault;
@@ -47,7 +47,7 @@ fn died<J: Journal>(
     notes.note(entry)
 }
 
-impl<J: Journal> Desk<J> {
+impl<J: Journal, F: First> Desk<J, F> {
     /// A process died. It takes no memory.
     pub fn died(&mut self, proc: ProcNo, now: Moment) -> Result<(), DeskFault>
         ensures makes { Makes (λ _. told.Fine) (died_answer (state_of self.old.engine) proc) (max now self.old.engine.latest) (event.Died proc)

@@ -5,7 +5,8 @@
 //! call is refused as the machine refuses it (`DeskFault::Engine`), for want of memory, because its note failed, or because
 //! an earlier note did: then the desk is stopped for good. Until then the machine's state stands for the journal, where
 //! that tells its entries, and there is a spare place for the close of each open connection and the death of each living
-//! process. A journal that tells is legal, also once the desk is stopped. It
+//! process. A journal that tells is legal, also once the desk is stopped: over the configuration with which the desk
+//! began and those of its reconfigurations, each of which its source states. It
 //! counts the reconfigurations that it noted, and until a note failed the number of the current epoch is one above them.
 //! To those who make its calls it is a `DeskCalls`, which tells its journal and its counts.
 #![tactic(auto)]
@@ -25,5 +26,5 @@ mod starts;
 mod stepping;
 mod taking;
 
-pub use desks::Desk;
+pub use desks::{Desk, First};
 pub use sq_calls::DeskFault;

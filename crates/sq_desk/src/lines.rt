@@ -6,7 +6,7 @@ ghost use Rattle.sq_engine.specs.Promised.{IsPromised};
 ghost use Rattle.sq_rules.specs.declared.entries.Event.TheVariants as event;
 ghost use Rattle.sq_desk.specs.Calling.{IsLinePromised, Leaves, Reads, desk_of, load_of};
 
-use crate::desks::Desk;
+use crate::desks::{Desk, First};
 use crate::notes::Notes;
 use sq_base::{Moment, ProcNo, Text, WantOfMemory};
 use sq_calls::DeskFault;
@@ -75,7 +75,7 @@ fn line<J: Journal>(
     Ok(got)
 }
 
-impl<J: Journal> Desk<J> {
+impl<J: Journal, F: First> Desk<J, F> {
     /// A line of a process: a reply to a question that is open on it, or one that ends it, which counts as a refusal.
     pub fn line(
         &mut self,

@@ -5,14 +5,14 @@ ghost use Rattle.std.specs.Option.{option_map};
 ghost use Rattle.sq_state.specs.Says.{class_in};
 ghost use Rattle.sq_engine.specs.EngineViews.{state_of};
 
-use crate::desks::Desk;
+use crate::desks::{Desk, First};
 use sq_base::{Copying, EpochNo, Texts, WantOfMemory};
 use sq_note::Journal;
 use sq_rules::Config;
 use std::alloc::Global;
 use std::sync::Arc;
 
-impl<J: Journal> Desk<J> {
+impl<J: Journal, F: First> Desk<J, F> {
     /// A copy of the words of the program of the class at a place of a live epoch.
     pub fn words(
         &self,

@@ -1,9 +1,10 @@
 //! Another configuration.
 ghost use Rattle.std.specs.Prelude.{◌≡◌, ◌+◌, max, IfOk};
 ghost use Rattle.sq_rules.specs.Configurations.{IsConfiguration};
+ghost use Rattle.sq_calls.specs.Telling.{IsStated};
 ghost use Rattle.sq_desk.specs.Calling.{CountsMade, Leaves, Rereads, desk_of, load_of};
 
-use crate::desks::Desk;
+use crate::desks::{Desk, First};
 use crate::notes::Notes;
 use sq_base::{Copying, EpochNo, Moment, Text, WantOfMemory};
 use sq_calls::DeskFault;
@@ -65,14 +66,15 @@ pub(crate) fn good(setup: &Setup)
     setup.config().facts();
 }
 
-impl<J: Journal> Desk<J> {
-    /// Another configuration is current, in an epoch of its own: its number.
+impl<J: Journal, F: First> Desk<J, F> {
+    /// Another configuration is current, which is the one that its source states, in an epoch of its own: its number.
     pub fn reconfigure(
         &mut self,
         alloc: Global,
         setup: Setup,
         now: Moment,
     ) -> Result<EpochNo, DeskFault>
+        requires { IsStated setup }
         ensures rereads { Rereads (max now self.old.engine.latest) setup self.old result self.new }
         ensures made { CountsMade self.old.notes.made result self.new.notes.made }
     {

@@ -7,7 +7,7 @@ ghost use Rattle.sq_state.specs.Changes.{after_failed_at, after_started_at};
 ghost use Rattle.sq_engine.specs.EngineViews.{state_of};
 ghost use Rattle.sq_desk.specs.Calling.{Leaves, Makes, desk_of, load_of};
 
-use crate::desks::Desk;
+use crate::desks::{Desk, First};
 use crate::naming::name_of;
 use crate::notes::Notes;
 use sq_base::{EpochNo, Moment, ProcNo, WantOfMemory};
@@ -89,7 +89,7 @@ fn start_failed<J: Journal>(
     notes.note(entry)
 }
 
-impl<J: Journal> Desk<J> {
+impl<J: Journal, F: First> Desk<J, F> {
     /// A process was started for an open start of the class at a place of an epoch: its number. Where no start is open,
     /// the caller stops the process itself.
     pub fn started(

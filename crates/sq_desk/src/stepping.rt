@@ -7,7 +7,7 @@ ghost use Rattle.sq_engine.specs.EngineViews.{state_of};
 ghost use Rattle.sq_engine.specs.Stepping.{after_step_now, epoch_of, step_now, stepped_told};
 ghost use Rattle.sq_desk.specs.Calling.{Leaves, Makes, desk_of, load_of};
 
-use crate::desks::Desk;
+use crate::desks::{Desk, First};
 use crate::notes::Notes;
 use sq_base::{CheckNo, EpochNo, Moment, Text, WantOfMemory};
 use sq_calls::DeskFault;
@@ -96,7 +96,7 @@ fn step<J: Journal>(
     }
 }
 
-impl<J: Journal> Desk<J> {
+impl<J: Journal, F: First> Desk<J, F> {
     /// A check goes on: it takes an answer, waits for one, or has its outcome.
     pub fn step(&mut self, alloc: Global, check: CheckNo, now: Moment) -> Result<Stepped, DeskFault>
         ensures { Makes (stepped_told (state_of self.old.engine) (epoch_of (state_of self.old.engine) check)) (step_now (state_of self.old.engine) check (max now self.old.engine.latest)) (max now self.old.engine.latest) (event.Step check)

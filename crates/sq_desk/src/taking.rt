@@ -10,7 +10,7 @@ ghost use Rattle.sq_state.specs.Changes.{after_take};
 ghost use Rattle.sq_engine.specs.EngineViews.{state_of};
 ghost use Rattle.sq_desk.specs.Calling.{Leaves, Makes, desk_of, load_of};
 
-use crate::desks::Desk;
+use crate::desks::{Desk, First};
 use crate::notes::Notes;
 use sq_base::{CheckNo, Moment, WantOfMemory};
 use sq_calls::DeskFault;
@@ -66,7 +66,7 @@ fn take<J: Journal>(
     }
 }
 
-impl<J: Journal> Desk<J> {
+impl<J: Journal, F: First> Desk<J, F> {
     /// The outcome of a check is taken, and the check is over. The record comes exactly where its entry is in the
     /// journal.
     pub fn take(&mut self, alloc: Global, check: CheckNo, now: Moment) -> Result<Record, DeskFault>

@@ -1,1 +1,1 @@
-mod RereadLaws
+pub mod RereadLaws

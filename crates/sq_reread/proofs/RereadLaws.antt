@@ -6,7 +6,7 @@ use Rattle.sq_base.specs.Lines.{lexed}
 use Rattle.sq_outside.specs.Input.{IsWhole, ReadsFile, ReadsOpening}
 use Rattle.sq_outside.specs.Told.{AddsText, Openings, Texts}
 use Rattle.sq_rules.specs.Configurations.{Configuration}
-use Rattle.sq_calls.specs.Telling.{IsReread, Notes}
+use Rattle.sq_calls.specs.Telling.{IsReread, IsStated, Notes}
 use Rattle.sq_calls.specs.declared.faults.DeskFault.{DeskFault}
 use Rattle.sq_calls.specs.declared.faults.DeskFault.TheVariants as desk
 use Rattle.sq_conf.specs.declared.faults.ConfFault.TheVariants as fault
@@ -47,6 +47,10 @@ gives_source text config gives = by (nat_lt text_limit (length text)) gives
         → config.source ≡ text
     by true e = absurd (cc)
     by false e = whole (lines_read begun (lexed text).lines) e
+
+-- and it is the one that its source states
+pub is_stated : (text : List ℕ) (config : Configuration) → conf_gives text config → IsStated config
+is_stated text config gives = subst (λ t. conf_gives t config) (sym (gives_source text config gives)) gives
 
 file_of : (texts : Texts) (name : List ℕ) (text : Option (List ℕ)) (P : List ℕ → Type 0) → ReadsFile text_limit texts name text
     → ((bytes : List ℕ) → IsWhole text_limit bytes text → P bytes) → IfSome texts (λ of. (bytes : List ℕ) × (of name ≡ Some bytes) × P bytes)

@@ -7,7 +7,7 @@ ghost use Rattle.sq_outside.specs.Told.{IsNotTold};
 ghost use Rattle.sq_rules.specs.ConfText.{conf_gives, conf_refuses};
 ghost use Rattle.sq_rules.specs.Limits.{text_limit};
 ghost use Rattle.sq_rules.specs.declared.kinds.Kind.{Kind};
-ghost use Rattle.sq_calls.specs.Telling.{CountsRefusal};
+ghost use Rattle.sq_calls.specs.Telling.{CountsRefusal, IsStated};
 ghost use Rattle.sq_reread.specs.Rereading.{Adds, Asks, CountsMade, IsRefused, answers, is_refusal};
 
 use sq_base::{EpochNo, Moment, Text};
@@ -47,8 +47,10 @@ pub struct Control<K> {
 }
 
 // What a text states, or its first fault; a file that has more bytes than a text may have is refused.
+#[tactic(auto, using(crate::proofs::RereadLaws::is_stated))]
 fn set_up(alloc: Global, text: Option<Text>) -> Result<Setup, ConfFault>
     ensures ok { IfOk result (λ c. (bytes : List ℕ) → IsWhole text_limit bytes text → conf_gives bytes c) }
+    ensures stated { IfOk result (λ c. IsStated c) }
     ensures err { IfErr result (λ e. (line : ℕ) (kind : Kind) → e ≡ ConfFault.At (record { line = line; kind = kind }) → (bytes : List ℕ) → IsWhole text_limit bytes text → conf_refuses bytes line kind) }
 {
     match text {

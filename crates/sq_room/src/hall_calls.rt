@@ -1,7 +1,7 @@
 //! The calls of the desk under its lock, each counted.
 ghost use Rattle.std.specs.Prelude.{◌≡◌, ◌+◌, ◌<◌, true, IfOk, IsErrOf};
 ghost use Rattle.sq_calls.specs.declared.faults.DeskFault.TheVariants as fault;
-ghost use Rattle.sq_calls.specs.Telling.{IsAsking, IsClosing, IsDead, IsFailed, IsLine, IsOpening, IsReread, IsStarted, IsStep, IsStepTold, IsTakeTold, IsTaking, MayAct, Notes, NotesAs, got_told};
+ghost use Rattle.sq_calls.specs.Telling.{IsAsking, IsClosing, IsDead, IsFailed, IsLine, IsOpening, IsReread, IsStarted, IsStated, IsStep, IsStepTold, IsTakeTold, IsTaking, MayAct, Notes, NotesAs, got_told};
 ghost use Rattle.sq_rules.specs.declared.entries.Told.TheVariants as answer;
 ghost use Rattle.sq_room.specs.Books.{SharesLine, SharesMade, SharesRefusal};
 
@@ -298,6 +298,7 @@ impl<D: DeskCalls, A: Ledger, M: Ledger, N: Ledger> Hall<D, A, M, N> {
         made: &mut Share<M>,
         refused: &mut Share<N>,
     ) -> Result<EpochNo, DeskFault>
+        requires stated { IsStated setup }
         requires counting { D.is_counting ≡ true }
         requires made { 0 < made.old.parts }
         requires refused { 0 < refused.old.parts }

@@ -3,6 +3,7 @@
 //! what the shares tell.
 ghost use Rattle.std.specs.Prelude.{◌≡◌, ◌+◌, ◌<◌, true, IfOk, IsErrOf};
 ghost use Rattle.sq_calls.specs.declared.faults.DeskFault.TheVariants as fault;
+ghost use Rattle.sq_calls.specs.Telling.{IsStated};
 ghost use Rattle.sq_room.specs.Books.{SharesLine, SharesMade, SharesRefusal};
 
 use crate::room::Room;
@@ -222,6 +223,7 @@ pub fn reconfigure<R: Wait, D: DeskCalls, A: Ledger, M: Ledger, N: Ledger>(
     made: &mut Share<M>,
     refused: &mut Share<N>,
 ) -> Result<EpochNo, DeskFault>
+    requires stated { IsStated setup }
     requires counting { D.is_counting ≡ true }
     requires made { 0 < made.old.parts }
     requires refused { 0 < refused.old.parts }

@@ -3,6 +3,7 @@ ghost use Rattle.std.specs.Prelude.{◌≡◌, ◌+◌, ◌<◌, None, IfOk, min
 ghost use Rattle.sq_room.specs.Books.{SharesMade, SharesRefusal};
 ghost use Rattle.std.proofs.Common.{arith};
 ghost use Rattle.sq_outside.specs.Causes.{count_limit};
+ghost use Rattle.sq_calls.specs.Telling.{IsStated};
 
 use crate::holds;
 use crate::room::Room;
@@ -50,6 +51,7 @@ impl<'a, R: Wait, D: DeskCalls, A: Ledger, M: Ledger, N: Ledger> LockDesk<'a, R,
         now: Moment,
         made: &mut Share<M>,
     ) -> Result<EpochNo, DeskFault>
+        requires stated { IsStated setup }
         requires counting { D.is_counting ≡ true }
         requires made { 0 < made.old.parts }
         ensures made { SharesMade made.old.amount made.new.amount result }

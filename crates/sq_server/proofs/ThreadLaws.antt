@@ -36,6 +36,7 @@ use Rattle.sq_engine.specs.contracts.engines.Engine.TheInside as engine_inside
 use Rattle.sq_note.specs.declared.journal.Journal as journal
 use Rattle.sq_desk.specs.contracts.notes.Notes as notes
 use Rattle.sq_desk.specs.contracts.notes.Notes.TheInside as notes_inside
+use Rattle.sq_desk.specs.declared.desks.First as first
 use Rattle.sq_desk.specs.contracts.desks.Desk as desk
 use Rattle.sq_desk.specs.contracts.desks.Desk.TheInside as desk_inside
 use Rattle.sq_server.specs.declared.watched.Before as before
@@ -137,14 +138,14 @@ notes_inside_send J j s =
 notes_send : (J : RattleType) (j : journal.Ghosts J.Denot) → IsSend J → IsSend (notes.the_row J j)
 notes_send J j s = view_send _ _ _ _ _ (notes_inside_send J j s)
 
-desk_inside_send : (J : RattleType) (j : journal.Ghosts J.Denot) → IsSend J → IsSend (desk_inside.the_row J j)
-desk_inside_send J j s =
-    let parts : FieldsHave IsSend (desk_inside.the_type J j).parts = (search (sendable, engine_send), (search (sendable, notes_send), tt)) in
-    declared_send (desk_inside.the_type J j) parts
+desk_inside_send : (J F : RattleType) (j : journal.Ghosts J.Denot) (f : first.Ghosts F.Denot) → IsSend J → IsSend F → IsSend (desk_inside.the_row J F j f)
+desk_inside_send J F j f s t =
+    let parts : FieldsHave IsSend (desk_inside.the_type J F j f).parts = (search (sendable, engine_send), (search (sendable, notes_send), (search (sendable, crosses, param_send), tt))) in
+    declared_send (desk_inside.the_type J F j f) parts
 
 -- a desk over a journal that crosses threads does so, too
-pub desk_send : (J : RattleType) (j : journal.Ghosts J.Denot) → IsSend J → IsSend (desk.the_row J j)
-desk_send J j s = view_send _ _ _ _ _ (desk_inside_send J j s)
+pub desk_send : (J F : RattleType) (j : journal.Ghosts J.Denot) (f : first.Ghosts F.Denot) → IsSend J → IsSend F → IsSend (desk.the_row J F j f)
+desk_send J F j f s t = view_send _ _ _ _ _ (desk_inside_send J F j f s t)
 
 -- and so does a journal that remembers whether it failed
 pub watched_send : (J B : RattleType) (j : journal.Ghosts J.Denot) (b : before.Ghosts B.Denot) → IsSend J → IsSend B → IsSend (watched.the_row J B j b)

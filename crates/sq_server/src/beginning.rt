@@ -10,7 +10,7 @@ use crate::watched::{Before, Watched};
 use sq_bank::Bank;
 use sq_base::{EpochNo, Moment, WantOfMemory};
 use sq_calls::{DeskCalls, DeskFault};
-use sq_desk::Desk;
+use sq_desk::{Desk, First};
 use sq_note::Journal;
 use sq_pools::Pools;
 use sq_room::Hall;
@@ -28,19 +28,20 @@ pub(crate) struct Blanks {
 
 /// The machine with its journal, and the pools.
 #[derive(Drop)]
-pub(crate) struct Machine<J: Journal, B: Before> {
-    pub desk: Desk<Watched<J, B>>,
+pub(crate) struct Machine<J: Journal, B: Before, F: First> {
+    pub desk: Desk<Watched<J, B>, F>,
     pub pools: Pools,
 }
 
 /// Makes the desk over this journal, and the pools of its first epoch. Where none is made the journal is handed back.
 #[tactic(auto, using(crate::proofs::BeginLaws::has_counted))]
-pub(crate) fn begin<J: Journal, B: Before>(
+pub(crate) fn begin<J: Journal, B: Before, F: First>(
     alloc: Global,
     start: Start,
     journal: J,
     now: Moment,
-) -> Result<Machine<J, B>, (DeskFault, J)>
+) -> Result<Machine<J, B, F>, (DeskFault, J)>
+    requires first { F.first ≡ start.setup }
     requires before { B.faults ≡ J.faults journal }
     requires empty { IfSome (J.history journal) (λ h. h ≡ []) }
     ensures begun { IfOk result (λ m. HasCountedNone m.desk.notes.history (Some m.desk.notes.made) (min m.desk.notes.refusals count_limit) m.pools.granted) }

@@ -12,7 +12,7 @@ use crate::running::{REFUSALS, Ran, Tools, run};
 use crate::starting::{Served, Start, Unserved};
 use crate::watched::{Before, Watched};
 use sq_control::Panel;
-use sq_desk::Desk;
+use sq_desk::{Desk, First};
 use sq_note::Journal;
 use sq_outside::{Another, Clock, Dialer, Listener, Net, Parts, Spawner, Stopper};
 use std::alloc::Global;
@@ -22,8 +22,8 @@ use std::sync::ledger::{Blank, Ledger};
 use std::thread::Threads;
 
 // The journal of a desk, and whether a note of it failed.
-fn journal_of<J: Journal, B: Before>(desk: Desk<Watched<J, B>>) -> (J, bool)
-    ensures legal { IfSome (J.history result.0) IsLegal }
+fn journal_of<J: Journal, B: Before, F: First>(desk: Desk<Watched<J, B>, F>) -> (J, bool)
+    ensures legal { IfSome (J.history result.0) (IsLegal F.first) }
     ensures history { J.history result.0 ≡ desk.notes.history }
     ensures later { B.faults ≤ J.faults result.0 }
     ensures cause { result.1 ≡ true → Rose B.faults (J.faults result.0) }
@@ -43,6 +43,7 @@ fn serve_with<
     J: Journal + Send + Drop,
     K: Panel + Drop,
     B: Before + Send + Sync,
+    F: First + Send + Sync,
     A: Ledger + Send + Sync,
     M: Ledger + Send + Sync,
     N: Ledger + Send + Sync,
@@ -59,13 +60,14 @@ fn serve_with<
     blanks: Blanks,
 ) -> Result<Served<L, J, K>, Unserved<L, J, K>>
     requires begun { B.faults ≡ J.faults journal }
+    requires first { F.first ≡ start.setup }
     requires empty { IfSome (J.history journal) (λ h. h ≡ []) }
     requires some { (0 < workers) × (workers ≤ 2 ^ 31) }
     requires asks { (blanks.asks.name ≡ A.name) × (blanks.asks.parts ≡ A.parts) × (A.parts ≡ workers + workers) }
     requires makes { (blanks.makes.name ≡ M.name) × (blanks.makes.parts ≡ M.parts) × (M.parts ≡ 1) }
     requires refusals { (blanks.refusals.name ≡ N.name) × (blanks.refusals.parts ≡ N.parts) × (N.parts ≡ REFUSALS) }
     requires grants { (blanks.grants.name ≡ G.name) × (blanks.grants.parts ≡ G.parts) × (G.parts ≡ workers + workers) }
-    ensures legal { IfOk result (λ s. IfSome (J.history s.journal) IsLegal) }
+    ensures legal { IfOk result (λ s. IfSome (J.history s.journal) (IsLegal start.setup)) }
     ensures asks { IfOk result (λ s. ForSome (J.history s.journal) (λ h. s.requests ≡ min (asks_in h) count_limit)) }
     ensures grants { IfOk result (λ s. s.granted ≡ min s.pools.granted count_limit) }
     ensures panel { IfOk result (λ s. (n : ℕ) × K.gives panel s.panel s.end n × ForSome (J.history s.journal) (λ h. n + 1 ≡ current h)) }
@@ -77,7 +79,7 @@ fn serve_with<
     ensures unrun { IfErr result (λ u. (u.panel ≡ panel) × (u.listener ≡ listener)) }
 {
     let now = tools.clock.now();
-    let machine = match begin::<J, B>(alloc, start, journal, now) {
+    let machine = match begin::<J, B, F>(alloc, start, journal, now) {
         Ok(machine) => machine,
         Err((fault, journal)) => {
             return Err(Unserved {
@@ -89,7 +91,7 @@ fn serve_with<
         }
     };
     let Machine { desk, pools } = machine;
-    let (hall, bank, wholes) = open_books::<Desk<Watched<J, B>>, A, M, N, G>(desk, pools, blanks);
+    let (hall, bank, wholes) = open_books::<Desk<Watched<J, B>, F>, A, M, N, G>(desk, pools, blanks);
     let Ran {
         desk,
         pools,
@@ -130,8 +132,9 @@ pub fn serve<R: Threads + Wait + Sync, N: Net, J: Journal + Send + Drop, K: Pane
 ) -> Result<Served<N::L, J, K>, Unserved<N::L, J, K>>
     requires empty { IfSome (J.history journal) (λ h. h ≡ []) }
     requires some { (0 < workers) × (workers ≤ 2 ^ 31) }
-    // A journal that tells is legal over configurations.
-    ensures legal { IfOk result (λ s. IfSome (J.history s.journal) IsLegal) }
+    // A journal that tells is legal over the configuration of its beginning and those of its reconfigurations, each of which its source
+    // states.
+    ensures legal { IfOk result (λ s. IfSome (J.history s.journal) (IsLegal start.setup)) }
     // Its requests are the sum of those of all sessions, and what the pools granted is the sum of what sessions were.
     ensures asks { IfOk result (λ s. ForSome (J.history s.journal) (λ h. s.requests ≡ min (asks_in h) count_limit)) }
     ensures grants { IfOk result (λ s. s.granted ≡ min s.pools.granted count_limit) }
@@ -166,7 +169,7 @@ pub fn serve<R: Threads + Wait + Sync, N: Net, J: Journal + Send + Drop, K: Pane
         refusals: Blank::new(REFUSALS),
         grants: Blank::new(both),
     };
-    serve_with::<R, N::L, N::T, N::D, N::S, N::C, J, K, Brand, Brand, Brand, Brand, Brand>(
+    serve_with::<R, N::L, N::T, N::D, N::S, N::C, J, K, Brand, Brand, Brand, Brand, Brand, Brand>(
         rt, alloc, start, listener, tools, journal, workers, panel, blanks,
     )
 }

@@ -1,6 +1,6 @@
 use Rattle.sq_server.proofs.serving.serve.Given as goal
 
--- each book is named by its blank, and the journal begins with the count that it has
+-- each book is named by its blank, the journal begins with the count that it has, and the desk with the configuration
 abbrev pub ghosts-serve_with-A-Ledger : goal.ghosts-serve_with-A-Ledger
 ghosts-serve_with-A-Ledger g a = record { name = a.blanks.asks.name; parts = a.blanks.asks.parts }
 
@@ -15,3 +15,6 @@ ghosts-serve_with-G-Ledger g a = record { name = a.blanks.grants.name; parts = a
 
 abbrev pub ghosts-serve_with-B-Before : goal.ghosts-serve_with-B-Before
 ghosts-serve_with-B-Before g a = record { faults = g.J.Journal.faults a.journal }
+
+abbrev pub ghosts-serve_with-F-First : goal.ghosts-serve_with-F-First
+ghosts-serve_with-F-First g a = record { first = a.start.setup }
