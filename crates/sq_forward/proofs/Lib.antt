@@ -6,4 +6,5 @@ mod LeadLaws
 mod PayLaws
 mod ReplyLaws
 mod RequestLaws
+mod SearchLaws
 mod WayLaws

@@ -5,5 +5,6 @@ pub mod Heads
 pub mod Leading
 pub mod Meters
 pub mod Replies
+pub mod Searching
 pub mod Sending
 pub mod Tunnels

@@ -2,6 +2,7 @@
 ghost use Rattle.std.specs.Prelude.{◌≡◌, ◌+◌, ◌≤◌, length, drop, IfOk, IsErrOf};
 ghost use Rattle.std.specs.Io.KnownBytes.{Keeps};
 ghost use Rattle.sq_outside.specs.Input.{ReadHasCause};
+ghost use Rattle.sq_outside.specs.Output.{IsPrefix};
 ghost use Rattle.sq_forward.specs.Halves.{to_come, read_limit, Filled};
 
 use sq_base::{Text, WantOfMemory};
@@ -25,6 +26,7 @@ impl<S: Source> Half<S> {
     pub fn fill(&mut self, alloc: Global) -> Result<bool, Unread>
         ensures kept { IfOk result (λ _. Keeps (to_come S.left self.old) (to_come S.left self.new)) }
         ensures filled { IfOk result (Filled self.old.ahead self.new.ahead (S.left self.new.source)) }
+        ensures front { IsPrefix self.old.ahead self.new.ahead }
         ensures failed { IsErrOf result Unread.Failed → Keeps (to_come S.left self.old) (to_come S.left self.new) }
         ensures few { length self.new.ahead ≤ length self.old.ahead + read_limit }
         ensures origin { S.origin self.new.source ≡ S.origin self.old.source }

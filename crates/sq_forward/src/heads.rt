@@ -7,8 +7,8 @@ ghost use Rattle.sq_forward.specs.Halves.{to_come, read_limit};
 ghost use Rattle.sq_forward.specs.Heads.{FindsHead};
 
 use crate::half::Half;
+use crate::searching::HeadSearch;
 use sq_outside::{Source, Unread};
-use sq_request::head_end;
 use std::alloc::Global;
 use std::sync::Wait;
 
@@ -30,7 +30,8 @@ pub enum HeadFound {
     WantOfMemory,
 }
 
-/// Reads until a head stands ahead, or can't. Nothing is dropped, but what there was no memory for.
+/// Reads until a head stands ahead, or can't. Nothing is dropped, but what there was no memory for. Each byte
+/// is looked at once.
 pub fn find_head<R: Wait, S: Source>(rt: &R, alloc: Global, from: &mut Half<S>) -> HeadFound
     ensures found { FindsHead from.new.ahead (to_come S.left from.new) result }
     ensures kept { (result ≡ HeadFound.WantOfMemory → ⊥) → Keeps (to_come S.left from.old) (to_come S.left from.new) }
@@ -39,8 +40,9 @@ pub fn find_head<R: Wait, S: Source>(rt: &R, alloc: Global, from: &mut Half<S>) 
     ensures origin { S.origin from.new.source ≡ S.origin from.old.source }
     ensures few { length from.new.ahead ≤ max (length from.old.ahead) (most_bytes + read_limit) }
 {
+    let mut search = HeadSearch::new();
     for _ in rt.forever() {
-        match head_end(from.ahead.as_bytes()) {
+        match search.look(from.ahead.as_bytes()) {
             Some(len) => {
                 if len > MOST_BYTES {
                     return HeadFound::TooLarge;

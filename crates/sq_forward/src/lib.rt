@@ -19,6 +19,7 @@ mod meter;
 mod paying;
 mod replies;
 mod requests;
+mod searching;
 mod tunnels;
 mod ways;
 
