@@ -1,10 +1,12 @@
 -- A question about a request, over a hub that tells.
-use Rattle.std.proofs.Common.{◌≡◌, ◌⊎◌, inl, inr, ℕ, List, [], ◌∷◌, ◌++◌, Bool, true, Option, Some, None, Result, Ok, Err, refl, sym, subst, ap, ◌∙◌, append_assoc}
+use Rattle.std.proofs.Common.{◌≡◌, inl, inr, ℕ, List, [], ◌∷◌, ◌++◌, true, Option, None, is_some, Ok, Err, refl, sym, subst, ap, ◌∙◌, append_assoc}
 use Rattle.std.specs.List.{list_all}
 use Rattle.std.proofs.lemmas.Option.{same_Some}
 use Rattle.sq_base.specs.Requests.{HttpRequest}
 use Rattle.sq_checks.specs.Records.{Judged}
+use Rattle.sq_rules.specs.Checks.{check_open, open_check}
 use Rattle.sq_rules.specs.Configurations.{Configuration}
+use Rattle.sq_rules.specs.Connections.{peer_at}
 use Rattle.sq_rules.specs.Entries.{History}
 use Rattle.sq_rules.specs.declared.entries.Event.{Event}
 use Rattle.sq_rules.specs.declared.entries.Told.TheVariants as told
@@ -14,8 +16,9 @@ use Rattle.sq_session.specs.declared.front.Decided.{Decided}
 use Rattle.sq_session.specs.declared.front.Decided.TheVariants as decided
 use Rattle.sq_state.specs.Promises.{entry_at}
 use Rattle.sq_hub.specs.Hubs.{decided_of}
-use Rattle.sq_hub.specs.Judging.{EndsSo, Finishes, FitsDecided, IsAttempt, IsDecision, IsOfGoing, IsOfQuestion, IsOwn, Judges, JudgesAfter, RefusesLast, goes_on}
-use Rattle.sq_hub.specs.Tellings.{Asks, HubState, StandsAt, Tells, asks_for, begun_of, machine_now}
+use Rattle.sq_hub.proofs.SpentLaws.{ask_spent, asked_open}
+use Rattle.sq_hub.specs.Judging.{EndsSo, Finishes, FitsDecided, IsAttempt, IsOfGoing, IsOfQuestion, IsOwn, IsForLastNumber, Judges, RefusesLast, goes_on}
+use Rattle.sq_hub.specs.Tellings.{Asks, HubState, StandsAt, Tells, asks_for, machine_now}
 use Rattle.sq_hub.specs.declared.hub.HubFault.{HubFault}
 use Rattle.sq_hub.specs.declared.hub.HubFault.TheVariants.{Refused, JournalFault, WantOfMemory}
 use Rattle.sq_hub.proofs.TellLaws.{tells_then, tells_as, tells_self, stands_at_same}
@@ -52,18 +55,19 @@ judges_record conn n r j v w x ask done = record {
 record Fault (configs : List Configuration) (h : History) (conn : ℕ) (r : HttpRequest) (fault : HubFault) (more : History) : Type 0 where
   pub attempt : IsAttempt conn r more
   pub refused : (why : Refusal) → fault ≡ Refused why → ¬ (why ≡ refusal.WantOfMemory) → (e : Event) × IsOfQuestion conn r e × RefusesLast configs (more ++ h) e why
+  pub spent : (why : Refusal) → fault ≡ Refused why → ¬ (why ≡ refusal.WantOfMemory) → is_some (peer_at h conn) ≡ true → open_check h conn ≡ None → IsForLastNumber why
 
 fits_fault : (configs : List Configuration) (h : History) (conn : ℕ) (r : HttpRequest) (fault : HubFault) (more : History) → Fault configs h conn r fault more → FitsDecided configs h conn r (decided_of fault) more
-fits_fault configs h conn r (Refused (refusal.ConnInUse n)) more f = (f.attempt, f.refused _ refl (λ e. cc))
-fits_fault configs h conn r (Refused (refusal.UnknownConn n)) more f = (f.attempt, f.refused _ refl (λ e. cc))
-fits_fault configs h conn r (Refused (refusal.TooManyConns n)) more f = (f.attempt, f.refused _ refl (λ e. cc))
-fits_fault configs h conn r (Refused (refusal.CheckOpen n)) more f = (f.attempt, f.refused _ refl (λ e. cc))
-fits_fault configs h conn r (Refused (refusal.UnknownCheck n)) more f = (f.attempt, f.refused _ refl (λ e. cc))
-fits_fault configs h conn r (Refused (refusal.NotDone n)) more f = (f.attempt, f.refused _ refl (λ e. cc))
-fits_fault configs h conn r (Refused (refusal.NoStartOpen e n)) more f = (f.attempt, f.refused _ refl (λ e. cc))
-fits_fault configs h conn r (Refused (refusal.UnknownProc n)) more f = (f.attempt, f.refused _ refl (λ e. cc))
-fits_fault configs h conn r (Refused (refusal.TooManyEpochs n)) more f = (f.attempt, f.refused _ refl (λ e. cc))
-fits_fault configs h conn r (Refused (refusal.Spent n)) more f = (f.attempt, f.refused _ refl (λ e. cc))
+fits_fault configs h conn r (Refused (refusal.ConnInUse n)) more f = (f.attempt, f.refused _ refl (λ e. cc), f.spent _ refl (λ e. cc))
+fits_fault configs h conn r (Refused (refusal.UnknownConn n)) more f = (f.attempt, f.refused _ refl (λ e. cc), f.spent _ refl (λ e. cc))
+fits_fault configs h conn r (Refused (refusal.TooManyConns n)) more f = (f.attempt, f.refused _ refl (λ e. cc), f.spent _ refl (λ e. cc))
+fits_fault configs h conn r (Refused (refusal.CheckOpen n)) more f = (f.attempt, f.refused _ refl (λ e. cc), f.spent _ refl (λ e. cc))
+fits_fault configs h conn r (Refused (refusal.UnknownCheck n)) more f = (f.attempt, f.refused _ refl (λ e. cc), f.spent _ refl (λ e. cc))
+fits_fault configs h conn r (Refused (refusal.NotDone n)) more f = (f.attempt, f.refused _ refl (λ e. cc), f.spent _ refl (λ e. cc))
+fits_fault configs h conn r (Refused (refusal.NoStartOpen e n)) more f = (f.attempt, f.refused _ refl (λ e. cc), f.spent _ refl (λ e. cc))
+fits_fault configs h conn r (Refused (refusal.UnknownProc n)) more f = (f.attempt, f.refused _ refl (λ e. cc), f.spent _ refl (λ e. cc))
+fits_fault configs h conn r (Refused (refusal.TooManyEpochs n)) more f = (f.attempt, f.refused _ refl (λ e. cc), f.spent _ refl (λ e. cc))
+fits_fault configs h conn r (Refused (refusal.Spent n)) more f = (f.attempt, f.refused _ refl (λ e. cc), f.spent _ refl (λ e. cc))
 fits_fault configs h conn r (Refused refusal.WantOfMemory) more f = f.attempt
 fits_fault configs h conn r JournalFault more f = f.attempt
 fits_fault configs h conn r WantOfMemory more f = f.attempt
@@ -95,9 +99,12 @@ fault_unasked conn r (Refused why) v w ask configs h st = record {
       let same : why ≡ other = cc in
       subst (λ y. (e : Event) × IsOfQuestion conn r e × RefusesLast configs h e y) same
       (asks_for conn r, inl refl, record { now = machine_now v; next_is = ask.makes.answers (λ memory. no (sym same ∙ memory)) configs h st });
+  spent = λ other e no there free.
+      let same : why ≡ other = cc in
+      subst IsForLastNumber same (ask_spent configs h (machine_now v) conn r why (ask.makes.answers (λ memory. no (sym same ∙ memory)) configs h st) there free);
 }
-fault_unasked conn r JournalFault v w ask configs h st = record { attempt = attempt_none conn r; refused = λ other e no. absurd (cc) }
-fault_unasked conn r WantOfMemory v w ask configs h st = record { attempt = attempt_none conn r; refused = λ other e no. absurd (cc) }
+fault_unasked conn r JournalFault v w ask configs h st = record { attempt = attempt_none conn r; refused = λ other e no. absurd (cc); spent = λ other e no there free. absurd (cc) }
+fault_unasked conn r WantOfMemory v w ask configs h st = record { attempt = attempt_none conn r; refused = λ other e no. absurd (cc); spent = λ other e no there free. absurd (cc) }
 
 judges_unasked : (conn : ℕ) (r : HttpRequest) (fault : HubFault) (v w : HubState) → Asks conn r (Err fault) v w → Judges conn r (decided_of fault) v w
 judges_unasked conn r fault v w ask = record {
@@ -114,6 +121,7 @@ judges_unasked conn r fault v w ask = record {
 record Unfinished (configs : List Configuration) (h : History) (n : ℕ) (fault : HubFault) (more : History) : Type 0 where
   pub on : list_all (goes_on n) more ≡ true
   pub refused : (why : Refusal) → fault ≡ Refused why → ¬ (why ≡ refusal.WantOfMemory) → (e : Event) × IsOfGoing n e × RefusesLast configs (more ++ h) e why
+  pub spent : (why : Refusal) → fault ≡ Refused why → ¬ (why ≡ refusal.WantOfMemory) → check_open h n ≡ true → IsForLastNumber why
 
 unfinished : (n : ℕ) (fault : HubFault) (v w : HubState) (done : Finishes n (Err fault) v w) (configs : List Configuration) (h : History) (st : StandsAt configs h v.machine) → Unfinished configs h n fault (done.after configs h st).more
 unfinished n (Refused why) v w done configs h st =
@@ -123,9 +131,12 @@ unfinished n (Refused why) v w done configs h st =
       refused = λ other e no.
           let same : why ≡ other = cc in
           subst (λ y. (e : Event) × IsOfGoing n e × RefusesLast configs (behind.more ++ h) e y) same (behind.fits.1 (λ memory. no (sym same ∙ memory)));
+      spent = λ other e no opened.
+          let same : why ≡ other = cc in
+          subst IsForLastNumber same (behind.fits.2 (λ memory. no (sym same ∙ memory)) opened);
     }
-unfinished n JournalFault v w done configs h st = record { on = (done.after configs h st).fits; refused = λ other e no. absurd (cc) }
-unfinished n WantOfMemory v w done configs h st = record { on = (done.after configs h st).fits; refused = λ other e no. absurd (cc) }
+unfinished n JournalFault v w done configs h st = record { on = (done.after configs h st).fits; refused = λ other e no. absurd (cc); spent = λ other e no opened. absurd (cc) }
+unfinished n WantOfMemory v w done configs h st = record { on = (done.after configs h st).fits; refused = λ other e no. absurd (cc); spent = λ other e no opened. absurd (cc) }
 
 judges_fault : (conn n : ℕ) (r : HttpRequest) (fault : HubFault) (v w x : HubState) → Asks conn r (Ok n) v w → Finishes n (Err fault) w x → Judges conn r (decided_of fault) v x
 judges_fault conn n r fault v w x ask done = record {
@@ -143,6 +154,7 @@ judges_fault conn n r fault v w x ask done = record {
           refused = λ why same no.
               let last = rest.refused why same no in
               (last.0, inr (n, last.1), subst (λ l. RefusesLast configs l last.0 why) (sym joined) last.2);
+          spent = λ why same no there free. rest.spent why same no (asked_open configs h (machine_now v) conn r n answer.0 answer.1 (answer.2.gives configs h st));
         });
         stands = subst (λ l. StandsAt configs l x.machine) (sym joined) behind.stands;
       };

@@ -2,5 +2,6 @@ mod HubLaws
 mod JudgeLaws
 mod OpenLaws
 mod SameLaws
+mod SpentLaws
 mod StandLaws
 mod TellLaws

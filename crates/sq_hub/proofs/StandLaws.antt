@@ -1,18 +1,13 @@
 -- What a front stands for after each of its calls.
-use Rattle.std.proofs.Common.{◌≡◌, ◌⊎◌, inl, inr, ℕ, List, [], ◌∷◌, ◌++◌, Bool, true, ◌==◌, ◌&&◌, Option, Some, None, Result, Ok, Err, IfSome, refl, sym, subst, ap, ◌∙◌, arith, append_assoc}
-use Rattle.std.proofs.lemmas.Option.{none-some, same_Some}
+use Rattle.std.proofs.Common.{◌≡◌, ℕ, List, [], ◌∷◌, ◌++◌, true, Option, Some, None, Result, Ok, Err, IfSome, refl, sym, subst, ap, ◌∙◌, arith, append_assoc}
 use Rattle.std.specs.List.{list_all}
 use Rattle.sq_base.specs.Addresses.{Address}
 use Rattle.sq_base.specs.Requests.{HttpRequest}
-use Rattle.sq_checks.specs.Records.{Judged}
-use Rattle.sq_pools.specs.declared.pools.ChooseFault.{ChooseFault}
 use Rattle.sq_rules.specs.Configurations.{Configuration}
 use Rattle.sq_rules.specs.Entries.{History}
-use Rattle.sq_rules.specs.declared.entries.Event.{Event}
 use Rattle.sq_rules.specs.declared.entries.Event.TheVariants as event
 use Rattle.sq_rules.specs.declared.entries.Told.{Told}
 use Rattle.sq_rules.specs.declared.entries.Told.TheVariants as told
-use Rattle.sq_rules.specs.declared.refusals.Refusal.TheVariants as refusal
 use Rattle.sq_session.specs.Fronts.{FrontTold, OfOpen, OfDecide, OfSit}
 use Rattle.sq_session.specs.declared.front.Decided.{Decided}
 use Rattle.sq_session.specs.declared.front.Decided.TheVariants as decided
@@ -21,12 +16,10 @@ use Rattle.sq_session.specs.declared.front.Opened.TheVariants as opened
 use Rattle.sq_session.specs.declared.front.SitFault.{SitFault}
 use Rattle.sq_state.specs.Promises.{entry_at}
 use Rattle.sq_state.specs.States.{IsSame, State}
-use Rattle.sq_hub.specs.Hubs.{opened_of}
-use Rattle.sq_hub.specs.Judging.{FitsDecided, IsAttempt, Judges, Opens, OpensBy}
-use Rattle.sq_hub.specs.Pieces.{ArePieces, FrontStands, IsFrontList, IsQuestion, Piece, answers_of, closes, entries_of, machine_told}
-use Rattle.sq_hub.specs.Tellings.{HubState, IsFine, Makes, MakesOn, StandsAt, Tells, machine_now}
+use Rattle.sq_hub.specs.Judging.{FitsDecided, Judges, Opens, OpensBy}
+use Rattle.sq_hub.specs.Pieces.{ArePieces, FrontStands, IsFrontList, IsQuestion, answers_of, closes, entries_of, machine_told}
+use Rattle.sq_hub.specs.Tellings.{HubState, IsFine, MakesOn, StandsAt, Tells, machine_now}
 use Rattle.sq_hub.specs.declared.hub.HubFault.{HubFault}
-use Rattle.sq_hub.specs.declared.hub.HubFault.TheVariants.{Refused, JournalFault, WantOfMemory}
 use Rattle.sq_hub.proofs.TellLaws.{stands_at_same}
 
 -- before the first call a front stands for no answers

@@ -1,11 +1,13 @@
 -- What the opening of a connection, a question about a request and a seat make of what a hub tells.
-use Rattle.std.specs.Prelude.{◌≡◌, ◌⊎◌, ℕ, ◌<◌, ◌==◌, List, [], ◌∷◌, ◌++◌, Bool, true, false, ◌||◌, suc, Some, None, Ok, Err, ⊤}
+use Rattle.std.specs.Prelude.{◌≡◌, ◌⊎◌, ℕ, ◌<◌, ◌==◌, List, [], ◌∷◌, ◌++◌, Bool, true, false, ◌||◌, suc, Some, None, is_some, Ok, Err, ⊤}
 use Rattle.std.specs.List.{list_all}
 use Rattle.std.specs.declared.option.Option.{Option}
 use Rattle.std.specs.declared.result.Result.{Result}
 use Rattle.sq_base.specs.Addresses.{Address}
 use Rattle.sq_base.specs.Requests.{HttpRequest}
+use Rattle.sq_rules.specs.Checks.{check_open, open_check}
 use Rattle.sq_rules.specs.Configurations.{Configuration}
+use Rattle.sq_rules.specs.Connections.{peer_at}
 use Rattle.sq_rules.specs.Entries.{History, Noted}
 use Rattle.sq_rules.specs.FullNext.{full_next}
 use Rattle.sq_rules.specs.Limits.{last_number}
@@ -62,6 +64,10 @@ pub record RefusesLast (configs : List Configuration) (h : History) (e : Event) 
   pub now : ℕ
   pub next_is : full_next configs (marked configs h) now e ≡ refuses why
 
+-- a number would be the last
+abbrev pub IsForLastNumber : Refusal → Type 0
+IsForLastNumber why = (n : ℕ) × (why ≡ refusal.Spent n)
+
 -- a step or the taking of this check
 abbrev pub IsOfGoing : ℕ → Event → Type 0
 IsOfGoing n e = (e ≡ event.Step n) ⊎ (e ≡ event.Take n)
@@ -73,10 +79,13 @@ pub record EndsSo (n : ℕ) (j : Judged) (entries : History) : Type 0 where
   pub cut : entries ≡ entry_at now (event.Take n) (told.Judged j.epoch j.outcome) ∷ steps
   pub on : list_all (goes_on n) steps ≡ true
 
--- the entries that a check added up to its record, or up to what kept it from one; a refusal is the machine's
+-- the entries that a check added up to its record, or up to what kept it from one; a refusal is the machine's, and of a check that was open it
+-- says that a number would be the last
 abbrev pub FitsResult : List Configuration → History → ℕ → Result Judged HubFault → History → Type 0
 FitsResult configs h n (Ok j) more = EndsSo n j more
-FitsResult configs h n (Err (Refused why)) more = (list_all (goes_on n) more ≡ true) × (¬ (why ≡ refusal.WantOfMemory) → (e : Event) × IsOfGoing n e × RefusesLast configs (more ++ h) e why)
+FitsResult configs h n (Err (Refused why)) more =
+    (list_all (goes_on n) more ≡ true) × (¬ (why ≡ refusal.WantOfMemory) → (e : Event) × IsOfGoing n e × RefusesLast configs (more ++ h) e why)
+    × (¬ (why ≡ refusal.WantOfMemory) → check_open h n ≡ true → IsForLastNumber why)
 FitsResult configs h n (Err JournalFault) more = list_all (goes_on n) more ≡ true
 FitsResult configs h n (Err WantOfMemory) more = list_all (goes_on n) more ≡ true
 
@@ -113,11 +122,14 @@ pub record IsAttempt (conn : ℕ) (r : HttpRequest) (entries : History) : Type 0
 abbrev pub IsOfQuestion : ℕ → HttpRequest → Event → Type 0
 IsOfQuestion conn r e = (e ≡ asks_for conn r) ⊎ ((n : ℕ) × IsOfGoing n e)
 
--- the entries that a question added; no other request is judged, and a refusal is the machine's
+-- the entries that a question added; no other request is judged, and a refusal is the machine's; on a connection that was open without a check it
+-- says that a number would be the last
 abbrev pub FitsDecided : List Configuration → History → ℕ → HttpRequest → Decided → History → Type 0
 FitsDecided configs h conn r (decided.Record j) more = IsDecision conn r j more
 FitsDecided configs h conn r (decided.Mismatch other) more = ⊥
-FitsDecided configs h conn r (decided.Refused why) more = IsAttempt conn r more × ((e : Event) × IsOfQuestion conn r e × RefusesLast configs (more ++ h) e why)
+FitsDecided configs h conn r (decided.Refused why) more =
+    IsAttempt conn r more × ((e : Event) × IsOfQuestion conn r e × RefusesLast configs (more ++ h) e why)
+    × (is_some (peer_at h conn) ≡ true → open_check h conn ≡ None → IsForLastNumber why)
 FitsDecided configs h conn r decided.JournalFault more = IsAttempt conn r more
 FitsDecided configs h conn r decided.WantOfMemory more = IsAttempt conn r more
 

@@ -148,7 +148,7 @@ impl<'a, R: Wait, H: Hub + Drop> Front for HubFront<'a, R, H> {
 
     fn decide(&mut self, alloc: Global, request: &Request) -> Decided
         // Where the hub tells, the record is of the check of this very request, and is taken last; no other request is
-        // judged; and a refusal is the machine's.
+        // judged; and a refusal is the machine's, on a connection that was open without a check for a last number alone.
         ensures judges { Tells (Judges self.old.conn request.now result) (H.told self.old.hub) (H.told self.new.hub) }
         ensures told { (list : List FrontTold) → FrontStands self.old.conn (machine_told (H.told self.old.hub)) list → FrontStands self.new.conn (machine_told (H.told self.new.hub)) (list ++ OfDecide result ∷ []) }
         ensures record { Decides request.now result }

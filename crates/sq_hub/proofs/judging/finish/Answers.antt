@@ -1,6 +1,6 @@
-use Rattle.std.proofs.Common.{◌≤◌, arith, ◌∙◌}
+use Rattle.std.proofs.Common.{arith, ◌∙◌}
 use Rattle.sq_hub.proofs.HubLaws.{refusal_later, refuses_later}
-use Rattle.sq_hub.proofs.TellLaws.{tells_step, tells_take, tells_unmade, tells_wait}
+use Rattle.sq_hub.proofs.TellLaws.{tells_done, tells_step, tells_take, tells_unmade, tells_wait}
 use Rattle.sq_hub.proofs.judging.finish.Goals as goal
 
 pub returns-in-Ok-Done-clause-refused : goal.returns-in-Ok-Done-clause-refused
@@ -15,7 +15,7 @@ returns-in-Err-clause-refused g c =
 
 pub returns-in-Ok-Done-clause-told : goal.returns-in-Ok-Done-clause-told
 returns-in-Ok-Done-clause-told g c =
-    tells_take _ c.take.result _ _ _ (tells_step _ c.in-Ok-Done.field-0 _ _ _ c.loop.invariant.goes c.in-Ok-Done.ensures.told) c.take.ensures.told
+    tells_take _ c.take.result _ _ _ (tells_done _ c.in-Ok-Done.field-0 _ _ _ c.in-Ok-Done.field-0-is c.loop.invariant.goes c.in-Ok-Done.ensures.told) c.take.ensures.told
 
 pub returns-in-Err-clause-told : goal.returns-in-Err-clause-told
 returns-in-Err-clause-told g c = tells_unmade _ c.in-Err.fault _ _ _ c.loop.invariant.goes c.in-Err.ensures.told

@@ -1,6 +1,3 @@
-use Rattle.std.proofs.Common.{◌≡◌, Option, Some, None, IfSome, List, []}
-use Rattle.sq_rules.specs.Configurations.{Configuration}
-use Rattle.sq_rules.specs.Entries.{History}
 use Rattle.sq_hub.proofs.StandLaws.{first_told}
 use Rattle.sq_hub.proofs.hub_front.HubFront.new.Goals as goal
 

@@ -1,5 +1,4 @@
 use Rattle.std.proofs.Common.{Ok, Err, refl}
-use Rattle.sq_pools.specs.declared.pools.ChooseFault.TheVariants as choose
 use Rattle.sq_session.specs.declared.front.SitFault.TheVariants as sit
 use Rattle.sq_hub.specs.Tellings.{Chooses}
 use Rattle.sq_hub.proofs.StandLaws.{machine_kept, stands_sit}
