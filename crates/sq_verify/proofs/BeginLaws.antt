@@ -2,7 +2,7 @@
 use Rattle.std.proofs.Common.{◌≡◌, ℕ, ◌+◌, List, [], ◌∷◌, length, Bool, true, false, ◌&&◌, nat_le, if◌then◌else◌, bytes_eq, codes, Option, Some, None, IfSome, Result, Ok, Err, refl, sym, ap, subst, ◌∙◌, arith}
 use Rattle.std.specs.Io.KnownBytes.{IsAtEnd, prepend_known}
 use Rattle.std.proofs.lemmas.Bool.{and_parts}
-use Rattle.sq_outside.specs.SourceLines.{Finds, Line, is_readable, lines}
+use Rattle.sq_outside.specs.SourceLines.{FindsWithin, Line, is_within, lines}
 use Rattle.sq_outside.specs.declared.lines.Found.TheVariants as found
 use Rattle.sq_rules.specs.declared.entries.Event.{Event}
 use Rattle.sq_rules.specs.declared.entries.Event.TheVariants.{Begin}
@@ -21,7 +21,7 @@ use Rattle.sq_verify.specs.declared.halts.Halt.{Halt}
 use Rattle.sq_verify.specs.declared.halts.Halt.TheVariants as halt
 use Rattle.sq_verify.specs.declared.versions.Version.{Version}
 use Rattle.sq_verify.specs.declared.versions.Version.TheVariants as version
-use Rattle.sq_verify.specs.JournalLines.{is_version_line, line_in, noted_in, text_in}
+use Rattle.sq_verify.specs.JournalLines.{is_version_line, line_in, line_limit, noted_in, text_in}
 use Rattle.sq_verify.specs.Judging.{Judged, begun_line, epochs_of, found_at, go_on, judged, judged_behind, judged_first, judged_lines, judged_one, judged_two, line_number, named_from, named_in, stated_first}
 use Rattle.sq_verify.specs.Promised.{AreAhead, BeginsLine, Comes, Compares, JudgesOver, ReachesEnd, Stands}
 use Rattle.sq_verify.proofs.FirstLaws.{epochs_good, stated_begins}
@@ -97,30 +97,30 @@ first_halted machine config v (Some bytes) line place stop b =
 -- reading the first entry's line
 
 -- there is none
-pub first_missing : (v : Version) (config : Configuration) (left after : Option (List ℕ)) (line : List ℕ) (place : ℕ) → Finds place left after line found.End
+pub first_missing : (v : Version) (config : Configuration) (left after : Option (List ℕ)) (line : List ℕ) (place : ℕ) → FindsWithin (line_limit v) place left after line found.End
     → IfSome left (λ bytes. Comes (judged_first v (epochs_of v config (lines bytes)) place (lines bytes)) (finding.Script (line_number v 0)))
 first_missing v config None after line place f = tt
 first_missing v config (Some bytes) after line place f =
     subst (λ (b : List ℕ). Comes (judged_first v (epochs_of v config (lines b)) place (lines b)) (finding.Script (line_number v 0))) (sym f.0) refl
 
 -- it cannot be read
-faulty_lines : (v : Version) (configs : List Configuration) (l : Line) (ls : List Line) (place : ℕ) → is_readable place l ≡ false → Comes (judged_first v configs place (l ∷ ls)) (finding.Script (line_number v 0))
+faulty_lines : (v : Version) (configs : List Configuration) (l : Line) (ls : List Line) (place : ℕ) → is_within (line_limit v) place l ≡ false → Comes (judged_first v configs place (l ∷ ls)) (finding.Script (line_number v 0))
 faulty_lines v configs l ls place faulty =
     ap (λ b. (go_on v [] l.bytes (if b then stated_first v l.bytes (noted_in v l.bytes) else Err halt.NoLine) (λ t. judged_lines v configs t (place + length l.bytes + 1) ls)).found) faulty
 
-pub first_faulty : (v : Version) (config : Configuration) (left after : Option (List ℕ)) (line : List ℕ) (place : ℕ) → Finds place left after line found.Faulty
+pub first_faulty : (v : Version) (config : Configuration) (left after : Option (List ℕ)) (line : List ℕ) (place : ℕ) → FindsWithin (line_limit v) place left after line found.Faulty
     → IfSome left (λ bytes. Comes (judged_first v (epochs_of v config (lines bytes)) place (lines bytes)) (finding.Script (line_number v 0)))
 first_faulty v config None after line place f = tt
 first_faulty v config (Some bytes) after line place f =
     subst (λ (ls : List Line). Comes (judged_first v (epochs_of v config ls) place ls) (finding.Script (line_number v 0))) (sym f.first) (faulty_lines v (epochs_of v config (f.line ∷ f.rest)) f.line f.rest place f.faulty)
 
 -- it can
-readable_line : (v : Version) (configs : List Configuration) (line : List ℕ) (ls : List Line) (place : ℕ) → is_readable place (record { bytes = line; ended = true }) ≡ true
+readable_line : (v : Version) (configs : List Configuration) (line : List ℕ) (ls : List Line) (place : ℕ) → is_within (line_limit v) place (record { bytes = line; ended = true }) ≡ true
     → judged_first v configs place (record { bytes = line; ended = true } ∷ ls) ≡ go_on v [] line (stated_first v line (noted_in v line)) (λ t. judged_lines v configs t (place + length line + 1) ls)
 readable_line v configs line ls place readable =
     ap (λ b. go_on v [] line (if b then stated_first v line (noted_in v line) else Err halt.NoLine) (λ t. judged_lines v configs t (place + length line + 1) ls)) readable
 
-pub first_whole : (v : Version) (config : Configuration) (left after : Option (List ℕ)) (line : List ℕ) (place moved : ℕ) (result : Finding) → Finds place left after line found.Whole → moved ≡ place + length line + 1
+pub first_whole : (v : Version) (config : Configuration) (left after : Option (List ℕ)) (line : List ℕ) (place moved : ℕ) (result : Finding) → FindsWithin (line_limit v) place left after line found.Whole → moved ≡ place + length line + 1
     → IfSome after (λ bytes. Comes (judged_behind v config line moved (lines bytes)) result)
     → IfSome left (λ bytes. Comes (judged_first v (epochs_of v config (lines bytes)) place (lines bytes)) result)
 first_whole v config None after line place moved result f at comes = tt
@@ -133,14 +133,14 @@ first_whole v config (Some bytes) after line place moved result f at comes =
 
 -- the version
 
-version_readable : (l : Line) → is_version_line l ≡ true → is_readable 0 l ≡ true
+version_readable : (l : Line) → is_version_line l ≡ true → is_within (line_limit version.One) 0 l ≡ true
 version_readable l e =
     let parts = and_parts l.ended (bytes_eq l.bytes (codes "journal 2")) e in
     ap (λ (b : Bool). b && (nat_le (length l.bytes) 4194304 && nat_le (0 + length l.bytes + 1) 1073741824)) parts.0
     ∙ ap (λ (t : List ℕ). true && (nat_le (length t) 4194304 && nat_le (0 + length t + 1) 1073741824)) (eq_of l.bytes (codes "journal 2") parts.1)
 
 -- a line that cannot be read tells no version
-no_version : (l : Line) (b : Bool) → is_version_line l ≡ b → is_readable 0 l ≡ false → b ≡ false
+no_version : (l : Line) (b : Bool) → is_version_line l ≡ b → is_within (line_limit version.One) 0 l ≡ false → b ≡ false
 no_version l true e faulty = absurd (true_false (sym (version_readable l e) ∙ faulty))
   where
     true_false : true ≡ false → ⊥
@@ -155,12 +155,12 @@ two_is : (config : Configuration) (l : Line) (ls : List Line) (result : Finding)
 two_is config l ls result e comes = subst (λ (b : Bool). Comes (if b then judged_two config l ls else judged_one config (l ∷ ls)) result) (sym e) comes
 
 -- a journal without a byte
-pub judged_missing : (config : Configuration) (left after : Option (List ℕ)) (line : List ℕ) → Finds 0 left after line found.End → IfSome left (λ bytes. Comes (judged config (lines bytes)) (finding.Script 1))
+pub judged_missing : (config : Configuration) (left after : Option (List ℕ)) (line : List ℕ) → FindsWithin (line_limit version.One) 0 left after line found.End → IfSome left (λ bytes. Comes (judged config (lines bytes)) (finding.Script 1))
 judged_missing config None after line f = tt
 judged_missing config (Some bytes) after line f = subst (λ (b : List ℕ). Comes (judged config (lines b)) (finding.Script 1)) (sym f.0) refl
 
 -- one whose first line cannot be read
-pub judged_faulty : (config : Configuration) (left after : Option (List ℕ)) (line : List ℕ) → Finds 0 left after line found.Faulty → IfSome left (λ bytes. Comes (judged config (lines bytes)) (finding.Script 1))
+pub judged_faulty : (config : Configuration) (left after : Option (List ℕ)) (line : List ℕ) → FindsWithin (line_limit version.One) 0 left after line found.Faulty → IfSome left (λ bytes. Comes (judged config (lines bytes)) (finding.Script 1))
 judged_faulty config None after line f = tt
 judged_faulty config (Some bytes) after line f =
     subst (λ (ls : List Line). Comes (judged config ls) (finding.Script 1)) (sym f.first)
@@ -168,7 +168,7 @@ judged_faulty config (Some bytes) after line f =
     (faulty_lines version.One (epochs_of version.One config (f.line ∷ f.rest)) f.line f.rest 0 f.faulty))
 
 -- one of version 1
-pub judged_first_one : (config : Configuration) (left after : Option (List ℕ)) (line : List ℕ) (moved : ℕ) (result : Finding) → bytes_eq line (codes "journal 2") ≡ false → Finds 0 left after line found.Whole
+pub judged_first_one : (config : Configuration) (left after : Option (List ℕ)) (line : List ℕ) (moved : ℕ) (result : Finding) → bytes_eq line (codes "journal 2") ≡ false → FindsWithin (line_limit version.One) 0 left after line found.Whole
     → moved ≡ 0 + length line + 1 → IfSome after (λ bytes. Comes (judged_behind version.One config line moved (lines bytes)) result) → IfSome left (λ bytes. Comes (judged config (lines bytes)) result)
 judged_first_one config None after line moved result e f at comes = tt
 judged_first_one config (Some bytes) after line moved result e f at comes =
@@ -178,7 +178,7 @@ judged_first_one config (Some bytes) after line moved result e f at comes =
     (first_whole version.One config (Some bytes) after line 0 moved result f at comes)))
 
 -- one of version 2
-pub judged_first_two : (config : Configuration) (left after : Option (List ℕ)) (line : List ℕ) (moved : ℕ) (result : Finding) → bytes_eq line (codes "journal 2") ≡ true → Finds 0 left after line found.Whole
+pub judged_first_two : (config : Configuration) (left after : Option (List ℕ)) (line : List ℕ) (moved : ℕ) (result : Finding) → bytes_eq line (codes "journal 2") ≡ true → FindsWithin (line_limit version.One) 0 left after line found.Whole
     → moved ≡ 0 + length line + 1 → IfSome after (λ bytes. Comes (judged_first version.Two (epochs_of version.Two config (lines bytes)) moved (lines bytes)) result) → IfSome left (λ bytes. Comes (judged config (lines bytes)) result)
 judged_first_two config None after line moved result e f at comes = tt
 judged_first_two config (Some bytes) after line moved result e f at comes =
@@ -191,13 +191,13 @@ judged_first_two config (Some bytes) after line moved result e f at comes =
 -- the end
 
 -- what is verified behind a line that was found is read to its end
-pub reaches_behind : (f : Finding) (left after last : Option (List ℕ)) (place : ℕ) (line : List ℕ) → Finds place left after line found.Whole → ReachesEnd f after last → ReachesEnd f left last
-reaches_behind (finding.Verified count) None after last place line f r = tt
-reaches_behind (finding.Verified count) (Some bytes) after last place line f r = subst (λ (o : Option (List ℕ)). IfSome o (λ bytes. IsAtEnd last)) f.left r
-reaches_behind (finding.Script n) left after last place line f r = tt
-reaches_behind (finding.Differs n machine journal) left after last place line f r = tt
-reaches_behind finding.ReadFault left after last place line f r = tt
-reaches_behind finding.WantOfMemory left after last place line f r = tt
+pub reaches_behind : (f : Finding) (left after last : Option (List ℕ)) (limit place : ℕ) (line : List ℕ) → FindsWithin limit place left after line found.Whole → ReachesEnd f after last → ReachesEnd f left last
+reaches_behind (finding.Verified count) None after last limit place line f r = tt
+reaches_behind (finding.Verified count) (Some bytes) after last limit place line f r = subst (λ (o : Option (List ℕ)). IfSome o (λ bytes. IsAtEnd last)) f.left r
+reaches_behind (finding.Script n) left after last limit place line f r = tt
+reaches_behind (finding.Differs n machine journal) left after last limit place line f r = tt
+reaches_behind finding.ReadFault left after last limit place line f r = tt
+reaches_behind finding.WantOfMemory left after last limit place line f r = tt
 
 held_at_end : (held : List ℕ) (left : Option (List ℕ)) → IsAtEnd (prepend_known held left) → IsAtEnd left
 held_at_end held None e = tt

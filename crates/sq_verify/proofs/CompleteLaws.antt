@@ -1,11 +1,8 @@
 -- A journal that tells a legal history is verified.
-use Rattle.std.proofs.Common.{◌≡◌, ℕ, ◌+◌, ◌≤◌, max, List, [], ◌∷◌, ◌++◌, append_assoc, append-nil, length, length-append, Bool, true, false, if◌then◌else◌, bytes_eq, codes, is_some, Option, Some, None, IfSome, Result, Ok, Err, refl, sym, ap, subst, ◌∙◌, arith}
-use Rattle.std.proofs.lemmas.Bool.{and_parts}
+use Rattle.std.proofs.Common.{◌≡◌, ℕ, ◌+◌, ◌≤◌, max, List, [], ◌∷◌, ◌++◌, append_assoc, append-nil, length, Bool, true, false, if◌then◌else◌, bytes_eq, codes, Option, Some, IfSome, Result, Ok, Err, refl, sym, ap, subst, ◌∙◌, arith}
 use Rattle.std.proofs.lemmas.Slice.Eq.{bytes_eq-Decides}
-use Rattle.sq_base.specs.Lines.{is_lf}
 use Rattle.sq_outside.specs.Holding.{NoEnd}
-use Rattle.sq_outside.specs.SourceLines.{Line, is_readable, lines, onto}
-use Rattle.sq_request.specs.Written.{made_request}
+use Rattle.sq_outside.specs.SourceLines.{Line, lines}
 use Rattle.sq_rules.specs.declared.entries.Event.{Event}
 use Rattle.sq_rules.specs.declared.entries.Event.TheVariants.{Ask, Begin, Reconfigure}
 use Rattle.sq_rules.specs.declared.entries.Told.{Told}
@@ -17,9 +14,8 @@ use Rattle.sq_rules.specs.FullNext.{FullLegal, full_next}
 use Rattle.sq_rules.specs.Machine.{Next, gives, is_begin}
 use Rattle.sq_rules.specs.Marking.{marked}
 use Rattle.sq_rules.specs.Readings.{latest}
-use Rattle.sq_journal.specs.Journals.{journal_text, numbered_lines, version_line}
+use Rattle.sq_journal.specs.Journals.{journal_text, numbered_lines}
 use Rattle.sq_state.specs.Promises.{entry_at}
-use Rattle.sq_replay.specs.ConfReading.{read_result}
 use Rattle.sq_replay.specs.RunText.{with_config}
 use Rattle.sq_verify.specs.declared.findings.Finding.{Finding}
 use Rattle.sq_verify.specs.declared.findings.Finding.TheVariants as finding
@@ -31,7 +27,9 @@ use Rattle.sq_verify.specs.Audits.{lines_in, text_of}
 use Rattle.sq_verify.specs.JournalLines.{is_version_line, line_in, noted_in}
 use Rattle.sq_verify.specs.Judging.{Judged, asked_line, begun_line, compared, epochs_of, event_line, first_line, go_on, if_read, judged, judged_first, judged_lines, judged_one, judged_two, later_line, matched, named_by, named_from, named_in, stated_first, stated_line}
 use Rattle.sq_verify.specs.Promised.{Comes, MayFollow}
-use Rattle.sq_verify.specs.Tellable.{AreTold, IsTellable, IsTold, Verifies, held_by, held_in, start_of}
+use Rattle.sq_verify.specs.Tellable.{IsTellable, Verifies, held_by, held_in}
+use Rattle.sq_verify.proofs.TextLaws.{more_is}
+use Rattle.sq_verify.proofs.ToldLaws.{AreTold, IsTold, place_next, start_of, told_of}
 
 -- the lines of a history's text
 
@@ -55,10 +53,6 @@ told_last v e (f ∷ h) t = t.1
 told_rest : (v : Version) (e : Noted) (h : History) → AreTold v (e ∷ h) → AreTold v h
 told_rest v e [] t = tt
 told_rest v e (f ∷ h) t = t.0
-
-more_is : (v : Version) (h : History) (e : Noted) → lines_in v (e ∷ h) ≡ lines_in v h ++ (line_in v h e ++ 10 ∷ [])
-more_is version.One h e = refl
-more_is version.Two h e = refl
 
 -- behind a history's text stand its lines before those of the rest
 lines_are : (v : Version) (h : History) (rest : List ℕ) → AreTold v h → lines (lines_in v h ++ rest) ≡ lines_at v h ++ lines rest
@@ -143,12 +137,6 @@ first_same v e t begins answer =
 
 -- all lines
 
-place_next : (v : Version) (h : History) (e : Noted) → start_of v + length (lines_in v h) + length (line_in v h e) + 1 ≡ start_of v + length (lines_in v (e ∷ h))
-place_next v h e =
-    let same : length (lines_in v (e ∷ h)) ≡ length (lines_in v h) + (length (line_in v h e) + 1) =
-    ap (λ (x : List ℕ). length x) (more_is v h e) ∙ length-append (lines_in v h) (line_in v h e ++ 10 ∷ []) ∙ ap (λ (n : ℕ). length (lines_in v h) + n) (length-append (line_in v h e) (10 ∷ [])) in
-    omega (arith, same)
-
 no_lines : (v : Version) → start_of v + length (lines_in v []) ≡ start_of v
 no_lines version.One = refl
 no_lines version.Two = refl
@@ -176,15 +164,15 @@ comes_to v configs (e ∷ f ∷ h) ls legal t =
 -- whole journals
 
 -- its lines, over its configurations
-all_verified : (config : Configuration) (v : Version) (h : History) → IsTellable config v h
+all_verified : (config : Configuration) (v : Version) (h : History) → FullLegal (config ∷ held_in h) h → AreTold v h
     → (judged_first v (epochs_of v config (lines (lines_in v h))) (start_of v) (lines (lines_in v h))).found ≡ finding.Verified (length h)
-all_verified config v h t =
-    let at : lines (lines_in v h) ≡ lines_at v h ++ [] = ap lines (sym (append-nil (lines_in v h))) ∙ lines_are v h [] t.told in
+all_verified config v h legal told =
+    let at : lines (lines_in v h) ≡ lines_at v h ++ [] = ap lines (sym (append-nil (lines_in v h))) ∙ lines_are v h [] told in
     let configs : epochs_of v config (lines (lines_in v h)) ≡ config ∷ held_in h =
-    ap (epochs_of v config) at ∙ ap (λ (xs : List Configuration). config ∷ xs) (named_are v (config ∷ held_in h) h [] t.legal t.told ∙ append-nil (held_in h)) in
+    ap (epochs_of v config) at ∙ ap (λ (xs : List Configuration). config ∷ xs) (named_are v (config ∷ held_in h) h [] legal told ∙ append-nil (held_in h)) in
     ap (λ (cs : List Configuration). (judged_first v cs (start_of v) (lines (lines_in v h))).found) configs
     ∙ ap (λ (ls : List Line). (judged_first v (config ∷ held_in h) (start_of v) ls).found) at
-    ∙ ap (λ (j : Judged). j.found) (comes_to v (config ∷ held_in h) h [] t.legal t.told)
+    ∙ ap (λ (j : Judged). j.found) (comes_to v (config ∷ held_in h) h [] legal told)
 
 -- the first line of version 1 tells no version
 first_is : (h : History) (configs : List Configuration) → FullLegal configs h → AreTold version.One h → (l : Line) × (ls : List Line) × (lines_at version.One h ≡ l ∷ ls) × (is_version_line l ≡ false)
@@ -208,13 +196,14 @@ text_is (e ∷ h) configs legal = refl
 -- a journal that tells a legal history is verified
 pub verified_text : (config : Configuration) (v : Version) (h : History) → IsTellable config v h → (judged config (lines (text_of v h))).found ≡ finding.Verified (length h)
 verified_text config version.One h t =
-    let first = first_is h (config ∷ held_in h) t.legal t.told in
-    let at : lines (lines_in version.One h) ≡ lines_at version.One h = ap lines (sym (append-nil (lines_in version.One h))) ∙ lines_are version.One h [] t.told ∙ append-nil (lines_at version.One h) in
-    ap (λ (j : Judged). j.found) (one_is config (lines (lines_in version.One h)) first.0 first.1 (at ∙ first.2) first.3) ∙ all_verified config version.One h t
+    let told = told_of version.One h t.noted t.may t.short t.fits in
+    let first = first_is h (config ∷ held_in h) t.legal told in
+    let at : lines (lines_in version.One h) ≡ lines_at version.One h = ap lines (sym (append-nil (lines_in version.One h))) ∙ lines_are version.One h [] told ∙ append-nil (lines_at version.One h) in
+    ap (λ (j : Judged). j.found) (one_is config (lines (lines_in version.One h)) first.0 first.1 (at ∙ first.2) first.3) ∙ all_verified config version.One h t.legal told
 verified_text config version.Two h t =
     ap (λ (bytes : List ℕ). (judged config (lines bytes)).found) (text_is h (config ∷ held_in h) t.legal)
     ∙ ap (λ (ls : List Line). (judged config ls).found) (lines_ended (codes "journal 2") (numbered_lines h) not_end)
-    ∙ all_verified config version.Two h t
+    ∙ all_verified config version.Two h t.legal (told_of version.Two h t.noted t.may t.short t.fits)
 
 -- so it is found, unless a fault comes before
 found_verifies : (j : Judged) (n : ℕ) (f : Finding) → j.found ≡ finding.Verified n → Comes j f → Verifies f n

@@ -1,6 +1,6 @@
 -- The line of a journal's first entry, and the configurations of its epochs.
 use Rattle.std.proofs.Common.{◌≡◌, ℕ, List, [], ◌∷◌, true, bytes_eq, Option, Some, None, Result, Ok, Err, refl, ap}
-use Rattle.sq_outside.specs.SourceLines.{Line, is_readable}
+use Rattle.sq_outside.specs.SourceLines.{Line, is_within}
 use Rattle.sq_rules.specs.declared.entries.Event.{Event}
 use Rattle.sq_rules.specs.declared.entries.Event.TheVariants.{Begin, Reconfigure}
 use Rattle.sq_rules.specs.declared.entries.Told.TheVariants as told
@@ -16,7 +16,7 @@ use Rattle.sq_replay.specs.Headline.{IsAccepted}
 use Rattle.sq_replay.specs.RunText.{with_config}
 use Rattle.sq_replay.proofs.ReadingLaws.{is_read}
 use Rattle.sq_verify.specs.declared.versions.Version.{Version}
-use Rattle.sq_verify.specs.JournalLines.{line_in, noted_in}
+use Rattle.sq_verify.specs.JournalLines.{line_in, line_limit, noted_in}
 use Rattle.sq_verify.specs.Judging.{begun_line, epochs_of, first_line, named_by, named_from, named_in, stated_first}
 use Rattle.sq_verify.proofs.LaterLaws.{compared_ok, readable_ok}
 
@@ -55,9 +55,9 @@ pub stated_begins : (v : Version) (line : List ℕ) (o : Option Noted) (t : Hist
 stated_begins v line None t is e = absurd (cc)
 stated_begins v line (Some s) t is e = begun_ok v line s s.event t refl is e
 
-pub first_ok : (v : Version) (place : ℕ) (l : Line) (t : History) → first_line v place l ≡ Ok t → (is_readable place l ≡ true) × IsFirst v l.bytes t
+pub first_ok : (v : Version) (place : ℕ) (l : Line) (t : History) → first_line v place l ≡ Ok t → (is_within (line_limit v) place l ≡ true) × IsFirst v l.bytes t
 first_ok v place l t e =
-    let r = readable_ok (is_readable place l) (stated_first v l.bytes (noted_in v l.bytes)) t e in
+    let r = readable_ok (is_within (line_limit v) place l) (stated_first v l.bytes (noted_in v l.bytes)) t e in
     (r.0, stated_begins v l.bytes (noted_in v l.bytes) t refl r.1)
 
 -- configurations

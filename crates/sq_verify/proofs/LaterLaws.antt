@@ -1,6 +1,6 @@
 -- A line behind the first entry whose entry is the machine's, and the configurations that are ahead of it.
 use Rattle.std.proofs.Common.{◌≡◌, ℕ, suc, max, List, [], ◌∷◌, ◌++◌, append_assoc, length, length-append, Bool, true, false, if◌then◌else◌, bytes_eq, is_some, slice_get, Option, Some, None, Result, Ok, Err, refl, sym, ap, ap₂, ◌∙◌, arith}
-use Rattle.sq_outside.specs.SourceLines.{Line, is_readable}
+use Rattle.sq_outside.specs.SourceLines.{Line, is_within}
 use Rattle.sq_request.specs.Written.{made_request}
 use Rattle.sq_rules.specs.declared.entries.Event.{Event}
 use Rattle.sq_rules.specs.declared.entries.Event.TheVariants.{Begin, Ask, Reconfigure}
@@ -20,7 +20,7 @@ use Rattle.sq_verify.specs.declared.halts.Halt.{Halt}
 use Rattle.sq_verify.specs.declared.halts.Halt.TheVariants as halt
 use Rattle.sq_verify.specs.declared.versions.Version.{Version}
 use Rattle.sq_verify.specs.Promised.{AreAhead, HasNext, IsNext, MayFollow}
-use Rattle.sq_verify.specs.JournalLines.{line_in, noted_in}
+use Rattle.sq_verify.specs.JournalLines.{line_in, line_limit, noted_in}
 use Rattle.sq_verify.specs.Judging.{asked_line, compared, event_line, if_read, if_request, later_line, matched, named_by, named_from, named_in, stated_line}
 
 -- a line that goes on
@@ -78,9 +78,9 @@ readable_ok false step t e = absurd (cc)
 
 -- so it is of a line that goes on, which can be read
 pub later_ok : (v : Version) (configs : List Configuration) (h : History) (place : ℕ) (l : Line) (t : History) → later_line v configs h place l ≡ Ok t
-    → (is_readable place l ≡ true) × IsLater v configs h l.bytes t
+    → (is_within (line_limit v) place l ≡ true) × IsLater v configs h l.bytes t
 later_ok v configs h place l t e =
-    let r = readable_ok (is_readable place l) (stated_line v configs h l.bytes (noted_in v l.bytes)) t e in
+    let r = readable_ok (is_within (line_limit v) place l) (stated_line v configs h l.bytes (noted_in v l.bytes)) t e in
     (r.0, stated_ok v configs h l.bytes (noted_in v l.bytes) t refl r.1)
 
 -- the same of what it states

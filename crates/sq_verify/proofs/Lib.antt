@@ -1,6 +1,7 @@
 pub mod AuditLaws
 mod BeginLaws
 pub mod CompleteLaws
+mod EndLaws
 mod FirstLaws
 mod LaterLaws
 mod LoopLaws
@@ -8,3 +9,4 @@ mod MigrateLaws
 mod PlayLaws
 mod StepLaws
 mod TextLaws
+mod ToldLaws

@@ -1,7 +1,7 @@
 -- A loop over the lines of a journal: what its next line, its end and a fault make of what the journal comes to.
 use Rattle.std.proofs.Common.{◌≡◌, ℕ, ◌+◌, List, ◌∷◌, length, true, if◌then◌else◌, Option, Some, None, IfSome, Ok, Err, Result, refl, sym, ap, subst, ◌∙◌, arith}
 use Rattle.std.specs.Io.KnownBytes.{IsAtEnd}
-use Rattle.sq_outside.specs.SourceLines.{Finds, IsLine, Line, lines}
+use Rattle.sq_outside.specs.SourceLines.{FindsWithin, IsLineWithin, Line, lines}
 use Rattle.sq_outside.specs.declared.lines.Found.TheVariants as found
 use Rattle.sq_rules.specs.Configurations.{Configuration}
 use Rattle.sq_rules.specs.Entries.{History}
@@ -12,7 +12,7 @@ use Rattle.sq_verify.specs.declared.halts.Halt.{Halt}
 use Rattle.sq_verify.specs.declared.halts.Halt.TheVariants as halt
 use Rattle.sq_verify.specs.declared.versions.Version.{Version}
 use Rattle.sq_verify.specs.Promised.{AreAhead, Comes, Goes, GoesOn, Going, IsKnown, IsNext, JudgeHasCauses, JudgesOver, ReachesEnd, Stands, StaysKnown}
-use Rattle.sq_verify.specs.JournalLines.{noted_in}
+use Rattle.sq_verify.specs.JournalLines.{line_limit, noted_in}
 use Rattle.sq_verify.specs.Judging.{Judged, found_at, go_on, judged_lines, line_number, stated_line}
 use Rattle.sq_verify.proofs.LaterLaws.{ahead_next, later_ahead, stated_later}
 
@@ -29,30 +29,30 @@ going_first w v None configs h count epoch place s = tt
 going_first w v (Some bytes) configs h count epoch place s = λ ahead. record { history = h; stands = s; bytes = bytes; left_is = refl; ahead = ahead; same = refl }
 
 -- the journal was read to its end
-ends_so : (w : Machine) (v : Version) (left after : Option (List ℕ)) (line : List ℕ) (configs : List Configuration) (whole : Judged) (count epoch place : ℕ) → Finds place left after line found.End
+ends_so : (w : Machine) (v : Version) (left after : Option (List ℕ)) (line : List ℕ) (configs : List Configuration) (whole : Judged) (count epoch place : ℕ) → FindsWithin (line_limit v) place left after line found.End
     → GoesOn w v left configs whole count epoch place → Comes whole (finding.Verified count)
 ends_so w v left after line configs whole count epoch place f g =
-    let none = (subst (λ (l : Option (List ℕ)). Finds place l after line found.End) g.left_is f).0 in
+    let none = (subst (λ (l : Option (List ℕ)). FindsWithin (line_limit v) place l after line found.End) g.left_is f).0 in
     sym (ap (λ (j : Judged). j.found) g.same) ∙ ap (λ (b : List ℕ). (judged_lines v configs g.history place (lines b)).found) none ∙ ap (λ (n : ℕ). finding.Verified n) (sym g.stands.count_is)
 
 pub going_end : (w : Machine) (v : Version) (first left after : Option (List ℕ)) (line : List ℕ) (configs : List Configuration) (h : History) (judged : List ℕ → Judged) (count epoch place : ℕ)
-    → Finds place left after line found.End → Going w v first left configs h judged count epoch place → JudgesOver first v configs h judged (finding.Verified count)
+    → FindsWithin (line_limit v) place left after line found.End → Going w v first left configs h judged count epoch place → JudgesOver first v configs h judged (finding.Verified count)
 going_end w v first left after line configs h judged count epoch place f going =
     told_map first v configs h (λ bytes. GoesOn w v left configs (judged bytes) count epoch place) (λ bytes. Comes (judged bytes) (finding.Verified count))
     (λ bytes g. ends_so w v left after line configs (judged bytes) count epoch place f g) going
 
 -- its next line cannot be read
-faulty_so : (w : Machine) (v : Version) (left after : Option (List ℕ)) (line : List ℕ) (configs : List Configuration) (whole : Judged) (count epoch place : ℕ) → Finds place left after line found.Faulty
+faulty_so : (w : Machine) (v : Version) (left after : Option (List ℕ)) (line : List ℕ) (configs : List Configuration) (whole : Judged) (count epoch place : ℕ) → FindsWithin (line_limit v) place left after line found.Faulty
     → GoesOn w v left configs whole count epoch place → Comes whole (finding.Script (line_number v count))
 faulty_so w v left after line configs whole count epoch place f g =
-    let x = subst (λ (l : Option (List ℕ)). Finds place l after line found.Faulty) g.left_is f in
+    let x = subst (λ (l : Option (List ℕ)). FindsWithin (line_limit v) place l after line found.Faulty) g.left_is f in
     let go : History → Judged = λ t. judged_lines v configs t (place + length x.line.bytes + 1) x.rest in
     sym (ap (λ (j : Judged). j.found) g.same) ∙ ap (λ (ls : List Line). (judged_lines v configs g.history place ls).found) x.first
     ∙ ap (λ b. (go_on v g.history x.line.bytes (if b then stated_line v configs g.history x.line.bytes (noted_in v x.line.bytes) else Err halt.NoLine) go).found) x.faulty
     ∙ ap (λ (n : ℕ). finding.Script (line_number v n)) (sym g.stands.count_is)
 
 pub going_faulty : (w : Machine) (v : Version) (first left after : Option (List ℕ)) (line : List ℕ) (configs : List Configuration) (h : History) (judged : List ℕ → Judged) (count epoch place : ℕ)
-    → Finds place left after line found.Faulty → Going w v first left configs h judged count epoch place → JudgesOver first v configs h judged (finding.Script (line_number v count))
+    → FindsWithin (line_limit v) place left after line found.Faulty → Going w v first left configs h judged count epoch place → JudgesOver first v configs h judged (finding.Script (line_number v count))
 going_faulty w v first left after line configs h judged count epoch place f going =
     told_map first v configs h (λ bytes. GoesOn w v left configs (judged bytes) count epoch place) (λ bytes. Comes (judged bytes) (finding.Script (line_number v count)))
     (λ bytes g. faulty_so w v left after line configs (judged bytes) count epoch place f g) going
@@ -65,7 +65,7 @@ going_stopped w v first left configs h judged count epoch place end any going =
 
 -- what judging a line that can be read comes to
 stepped : (w : Machine) (v : Version) (left after : Option (List ℕ)) (line : List ℕ) (configs : List Configuration) (whole : Judged) (count epoch place : ℕ) (g : GoesOn w v left configs whole count epoch place)
-    → (f : IsLine place g.bytes after line)
+    → (f : IsLineWithin (line_limit v) place g.bytes after line)
     → go_on v g.history line (stated_line v configs g.history line (noted_in v line)) (λ t. judged_lines v configs t (place + length line + 1) (lines f.rest)) ≡ whole
 stepped w v left after line configs whole count epoch place g f =
     let go : History → Judged = λ t. judged_lines v configs t (place + length line + 1) (lines f.rest) in
@@ -73,16 +73,16 @@ stepped w v left after line configs whole count epoch place g f =
     ∙ sym (ap (judged_lines v configs g.history place) f.first) ∙ g.same
 
 found_whole : (w : Machine) (v : Version) (left after : Option (List ℕ)) (line : List ℕ) (configs : List Configuration) (whole : Judged) (count epoch place : ℕ) (g : GoesOn w v left configs whole count epoch place)
-    → Finds place left after line found.Whole → IsLine place g.bytes after line
-found_whole w v left after line configs whole count epoch place g f = subst (λ (l : Option (List ℕ)). Finds place l after line found.Whole) g.left_is f
+    → FindsWithin (line_limit v) place left after line found.Whole → IsLineWithin (line_limit v) place g.bytes after line
+found_whole w v left after line configs whole count epoch place g f = subst (λ (l : Option (List ℕ)). FindsWithin (line_limit v) place l after line found.Whole) g.left_is f
 
 -- the lines that are ahead, the next one first
 ahead_line : (w : Machine) (v : Version) (left after : Option (List ℕ)) (line : List ℕ) (configs : List Configuration) (whole : Judged) (count epoch place : ℕ) (g : GoesOn w v left configs whole count epoch place)
-    → (f : IsLine place g.bytes after line) → AreAhead v configs g.history (record { bytes = line; ended = true } ∷ lines f.rest)
+    → (f : IsLineWithin (line_limit v) place g.bytes after line) → AreAhead v configs g.history (record { bytes = line; ended = true } ∷ lines f.rest)
 ahead_line w v left after line configs whole count epoch place g f = subst (AreAhead v configs g.history) f.first g.ahead
 
 -- so the configuration that it gives is that of the next epoch
-pub going_has_next : (w : Machine) (v : Version) (left after : Option (List ℕ)) (line : List ℕ) (configs : List Configuration) (whole : Judged) (count epoch place : ℕ) → Finds place left after line found.Whole
+pub going_has_next : (w : Machine) (v : Version) (left after : Option (List ℕ)) (line : List ℕ) (configs : List Configuration) (whole : Judged) (count epoch place : ℕ) → FindsWithin (line_limit v) place left after line found.Whole
     → (g : GoesOn w v left configs whole count epoch place) → IsNext configs g.history (noted_in v line)
 going_has_next w v left after line configs whole count epoch place found g =
     let f = found_whole w v left after line configs whole count epoch place g found in
@@ -99,7 +99,7 @@ stop_comes v h line count n configs w step halt.WantOfMemory go whole is e same 
 
 -- a line ends the journal, over each history that the machine stood for
 pub going_stop : (old w : Machine) (v : Version) (first left after : Option (List ℕ)) (line : List ℕ) (configs : List Configuration) (h : History) (judged : List ℕ → Judged) (count epoch place : ℕ) (stop : Halt)
-    → Finds place left after line found.Whole
+    → FindsWithin (line_limit v) place left after line found.Whole
     → ((cs : List Configuration) (g : History) → Stands old count epoch cs g → IsNext cs g (noted_in v line) → Goes w (count + 1) cs (stated_line v cs g line (noted_in v line)) (Err stop))
     → Going old v first left configs h judged count epoch place → JudgesOver first v configs h judged (found_at v count line stop)
 going_stop old w v first left after line configs h judged count epoch place stop f goes going =
@@ -115,7 +115,7 @@ going_stop old w v first left after line configs h judged count epoch place stop
 
 -- the state goes on behind a line
 goes_so : (old w : Machine) (v : Version) (left after : Option (List ℕ)) (line : List ℕ) (configs : List Configuration) (whole : Judged) (count epoch place next moved : ℕ) → moved ≡ place + length line + 1
-    → (g : GoesOn old v left configs whole count epoch place) → (f : IsLine place g.bytes after line)
+    → (g : GoesOn old v left configs whole count epoch place) → (f : IsLineWithin (line_limit v) place g.bytes after line)
     → (t : History) → stated_line v configs g.history line (noted_in v line) ≡ Ok t → Stands w (count + 1) next configs t → GoesOn w v after configs whole (count + 1) next moved
 goes_so old w v left after line configs whole count epoch place next moved at g f t step s =
     let l : Line = record { bytes = line; ended = true } in
@@ -132,7 +132,7 @@ goes_so old w v left after line configs whole count epoch place next moved at g 
 
 -- a line's entry is the machine's
 pub going_on : (old w : Machine) (v : Version) (first left after : Option (List ℕ)) (line : List ℕ) (configs : List Configuration) (h : History) (judged : List ℕ → Judged) (count epoch place next moved : ℕ)
-    → Finds place left after line found.Whole → moved ≡ place + length line + 1
+    → FindsWithin (line_limit v) place left after line found.Whole → moved ≡ place + length line + 1
     → ((cs : List Configuration) (g : History) → Stands old count epoch cs g → IsNext cs g (noted_in v line) → Goes w (count + 1) cs (stated_line v cs g line (noted_in v line)) (Ok next))
     → Going old v first left configs h judged count epoch place → Going w v first after configs h judged (count + 1) next moved
 going_on old w v first left after line configs h judged count epoch place next moved f at goes going =
@@ -150,23 +150,23 @@ pub known_first : (o : Option (List ℕ)) → StaysKnown o o
 known_first None = tt
 known_first (Some bytes) = (bytes, refl)
 
-known_line : (place : ℕ) (left after : Option (List ℕ)) (line : List ℕ) → Finds place left after line found.Whole → IsKnown left → IsKnown after
-known_line place left after line f k =
-    let i = subst (λ (l : Option (List ℕ)). Finds place l after line found.Whole) k.1 f in
+known_line : (limit place : ℕ) (left after : Option (List ℕ)) (line : List ℕ) → FindsWithin limit place left after line found.Whole → IsKnown left → IsKnown after
+known_line limit place left after line f k =
+    let i = subst (λ (l : Option (List ℕ)). FindsWithin limit place l after line found.Whole) k.1 f in
     (i.rest, i.left)
 
-pub known_end : (place : ℕ) (left after : Option (List ℕ)) (line : List ℕ) → Finds place left after line found.End → IsKnown left → IsAtEnd after
-known_end place left after line f k = (subst (λ (l : Option (List ℕ)). Finds place l after line found.End) k.1 f).1
+pub known_end : (limit place : ℕ) (left after : Option (List ℕ)) (line : List ℕ) → FindsWithin limit place left after line found.End → IsKnown left → IsAtEnd after
+known_end limit place left after line f k = (subst (λ (l : Option (List ℕ)). FindsWithin limit place l after line found.End) k.1 f).1
 
 -- behind a line that was found
-pub stays_known : (first left after : Option (List ℕ)) (place : ℕ) (line : List ℕ) → Finds place left after line found.Whole → StaysKnown first left → StaysKnown first after
-stays_known None left after place line f k = tt
-stays_known (Some bytes) left after place line f k = known_line place left after line f k
+pub stays_known : (first left after : Option (List ℕ)) (limit place : ℕ) (line : List ℕ) → FindsWithin limit place left after line found.Whole → StaysKnown first left → StaysKnown first after
+stays_known None left after limit place line f k = tt
+stays_known (Some bytes) left after limit place line f k = known_line limit place left after line f k
 
 -- and at the end nothing is left
-pub known_at_end : (first left after : Option (List ℕ)) (place : ℕ) (line : List ℕ) (count : ℕ) → Finds place left after line found.End → StaysKnown first left → ReachesEnd (finding.Verified count) first after
-known_at_end None left after place line count f k = tt
-known_at_end (Some bytes) left after place line count f k = known_end place left after line f k
+pub known_at_end : (first left after : Option (List ℕ)) (limit place : ℕ) (line : List ℕ) (count : ℕ) → FindsWithin limit place left after line found.End → StaysKnown first left → ReachesEnd (finding.Verified count) first after
+known_at_end None left after limit place line count f k = tt
+known_at_end (Some bytes) left after limit place line count f k = known_end limit place left after line f k
 
 -- a journal that a line ends
 

@@ -3,12 +3,12 @@ use Rattle.std.proofs.Common.{◌≡◌, ℕ, List, [], ◌∷◌, ◌++◌, app
 use Rattle.std.proofs.lemmas.Bool.{and_parts}
 use Rattle.std.proofs.lemmas.Slice.Eq.{bytes_eq-Decides}
 use Rattle.sq_base.specs.Lines.{is_lf}
-use Rattle.sq_outside.specs.SourceLines.{Line, is_readable, lines, onto, script_line_limit, total_limit}
+use Rattle.sq_outside.specs.SourceLines.{Line, is_within, lines, onto, total_limit}
 use Rattle.sq_rules.specs.Entries.{History, Noted}
 use Rattle.sq_verify.specs.declared.versions.Version.{Version}
 use Rattle.sq_verify.specs.declared.versions.Version.TheVariants as version
 use Rattle.sq_verify.specs.Audits.{behind_end, bytes_of, lines_in}
-use Rattle.sq_verify.specs.JournalLines.{line_in}
+use Rattle.sq_verify.specs.JournalLines.{line_in, line_limit}
 
 -- bytes that are tested equal are equal
 pub eq_of : (a b : List ℕ) → bytes_eq a b ≡ true → a ≡ b
@@ -30,18 +30,18 @@ lines_back [] = refl
 lines_back (b ∷ bs) = back_if b bs (is_lf b) refl (lines_back bs)
 
 -- the lines of a history with one entry more
-more_is : (v : Version) (h : History) (e : Noted) → lines_in v (e ∷ h) ≡ lines_in v h ++ (line_in v h e ++ 10 ∷ [])
+pub more_is : (v : Version) (h : History) (e : Noted) → lines_in v (e ∷ h) ≡ lines_in v h ++ (line_in v h e ++ 10 ∷ [])
 more_is version.One h e = refl
 more_is version.Two h e = refl
 
 -- a line that can be read is ended
-ended : (place : ℕ) (l : Line) → is_readable place l ≡ true → l.ended ≡ true
-ended place l r = (and_parts l.ended (nat_le (length l.bytes) script_line_limit && nat_le (place + length l.bytes + 1) total_limit) r).0
+ended : (limit place : ℕ) (l : Line) → is_within limit place l ≡ true → l.ended ≡ true
+ended limit place l r = (and_parts l.ended (nat_le (length l.bytes) limit && nat_le (place + length l.bytes + 1) total_limit) r).0
 
 -- the next line is that of the next entry
-pub lines_next : (v : Version) (h : History) (e : Noted) (l : Line) (ls : List Line) (place : ℕ) → is_readable place l ≡ true → line_in v h e ≡ l.bytes
+pub lines_next : (v : Version) (h : History) (e : Noted) (l : Line) (ls : List Line) (place : ℕ) → is_within (line_limit v) place l ≡ true → line_in v h e ≡ l.bytes
     → lines_in v (e ∷ h) ++ bytes_of ls ≡ lines_in v h ++ bytes_of (l ∷ ls)
 lines_next v h e l ls place r same =
     ap (λ (t : List ℕ). t ++ bytes_of ls) (more_is v h e) ∙ append_assoc (lines_in v h) (line_in v h e ++ 10 ∷ []) (bytes_of ls)
     ∙ ap (λ (t : List ℕ). lines_in v h ++ t) (append_assoc (line_in v h e) (10 ∷ []) (bytes_of ls)
-    ∙ ap (λ (t : List ℕ). t ++ 10 ∷ bytes_of ls) same ∙ ap (λ (b : Bool). l.bytes ++ behind_end b (bytes_of ls)) (sym (ended place l r)))
+    ∙ ap (λ (t : List ℕ). t ++ 10 ∷ bytes_of ls) same ∙ ap (λ (b : Bool). l.bytes ++ behind_end b (bytes_of ls)) (sym (ended (line_limit v) place l r)))

@@ -2,7 +2,7 @@
 -- verified where each is the machine's and there is one; else it ends at the first line that is not.
 use Rattle.std.specs.Prelude.{ℕ, ◌+◌, List, [], ◌∷◌, length, max, Bool, true, if◌then◌else◌, bytes_eq, is_some, Result, Ok, Err, Some, None}
 use Rattle.std.specs.declared.option.Option.{Option}
-use Rattle.sq_outside.specs.SourceLines.{Line, is_readable}
+use Rattle.sq_outside.specs.SourceLines.{Line, is_within}
 use Rattle.sq_request.specs.Written.{made_request}
 use Rattle.sq_rules.specs.declared.entries.Event.{Event}
 use Rattle.sq_rules.specs.declared.entries.Event.TheVariants.{Begin, Ask, Reconfigure}
@@ -23,7 +23,7 @@ use Rattle.sq_verify.specs.declared.halts.Halt.{Halt}
 use Rattle.sq_verify.specs.declared.halts.Halt.TheVariants as halt
 use Rattle.sq_verify.specs.declared.versions.Version.{Version}
 use Rattle.sq_verify.specs.declared.versions.Version.TheVariants as version
-use Rattle.sq_verify.specs.JournalLines.{is_version_line, line_in, noted_in}
+use Rattle.sq_verify.specs.JournalLines.{is_version_line, line_in, line_limit, noted_in}
 
 -- one line
 
@@ -63,7 +63,7 @@ stated_line v configs h line (Some e) = event_line v configs h line e.moment e.e
 
 -- a line behind the first entry, which begins behind `place` bytes
 abbrev pub later_line : Version → List Configuration → History → ℕ → Line → Result History Halt
-later_line v configs h place l = if is_readable place l then stated_line v configs h l.bytes (noted_in v l.bytes) else Err halt.NoLine
+later_line v configs h place l = if is_within (line_limit v) place l then stated_line v configs h l.bytes (noted_in v l.bytes) else Err halt.NoLine
 
 -- the first entry is `begin`
 abbrev pub begun_line : Version → List ℕ → ℕ → Event → Result History Halt
@@ -76,7 +76,7 @@ stated_first v line (Some e) = begun_line v line e.moment e.event
 
 -- the line of the first entry
 abbrev pub first_line : Version → ℕ → Line → Result History Halt
-first_line v place l = if is_readable place l then stated_first v l.bytes (noted_in v l.bytes) else Err halt.NoLine
+first_line v place l = if is_within (line_limit v) place l then stated_first v l.bytes (noted_in v l.bytes) else Err halt.NoLine
 
 -- all lines
 

@@ -18,10 +18,11 @@ use crate::halts::Halt;
 use crate::judging::{halted, judge_rest};
 use crate::players::Player;
 use crate::playing::configuration_facts;
+use crate::taking::journal_line;
 use crate::versions::{Version, is_version_line};
 use sq_base::{EpochNo, Moment, WantOfMemory};
 use sq_journal::EntryFault;
-use sq_outside::{Found, Held, Source, Unread, next_line};
+use sq_outside::{Found, Held, Source, Unread};
 use sq_rules::{Entry, Event, Offset, Told};
 use sq_urlmatch::Setup;
 use std::alloc::Global;
@@ -113,7 +114,7 @@ fn judge_second<M: Player, S: Source>(
 {
     let mut place = place;
     let mut line = Vec::new(alloc);
-    match next_line(held, journal, &mut place, &mut line) {
+    match journal_line(Version::Two, held, journal, &mut place, &mut line) {
         Ok(Found::Whole) => {}
         Ok(Found::End) => return Finding::Script(2),
         Ok(Found::Faulty) => return Finding::Script(2),
@@ -135,7 +136,7 @@ fn judge_all<M: Player, S: Source>(alloc: Global, setup: Setup, journal: &mut S)
     };
     let mut place = 0;
     let mut line = Vec::new(alloc);
-    match next_line(&mut held, journal, &mut place, &mut line) {
+    match journal_line(Version::One, &mut held, journal, &mut place, &mut line) {
         Ok(Found::Whole) => {}
         Ok(Found::End) => return Finding::Script(1),
         Ok(Found::Faulty) => return Finding::Script(1),

@@ -13,10 +13,11 @@ use crate::findings::Finding;
 use crate::halts::Halt;
 use crate::players::Player;
 use crate::playing::play;
+use crate::taking::journal_line;
 use crate::versions::Version;
 use sq_base::{EpochNo, Moment, Text};
 use sq_journal::EntryFault;
-use sq_outside::{Found, Held, Source, Unread, next_line};
+use sq_outside::{Found, Held, Source, Unread};
 use sq_replay::Stop;
 use sq_rules::{Entry, Event};
 use sq_state::later;
@@ -134,7 +135,7 @@ pub fn judge_rest<M: Player, S: Source>(
     let mut place = place;
     let mut line = Vec::new(alloc);
     'lines: loop {
-        match next_line(held, journal, &mut place, &mut line) {
+        match journal_line(version, held, journal, &mut place, &mut line) {
             Ok(Found::Whole) => {}
             Ok(Found::End) => return Finding::Verified(count),
             Ok(Found::Faulty) => return halted(version, count, line, Halt::NoLine),

@@ -15,6 +15,7 @@ mod machine_player;
 mod migrating;
 mod players;
 mod playing;
+mod taking;
 mod telling;
 mod versions;
 

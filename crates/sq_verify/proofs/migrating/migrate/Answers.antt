@@ -1,7 +1,7 @@
 use Rattle.std.proofs.Common.{arith, subst, refl, sym, ◌∙◌, List, ℕ, [], IfSome, Ok, Err}
 use Rattle.std.specs.Io.KnownBytes.{prepend_known}
 use Rattle.std.specs.declared.option.Option.{Option}
-use Rattle.sq_outside.specs.SourceLines.{Finds, Moves, lines}
+use Rattle.sq_outside.specs.SourceLines.{Finds, Moves, lines, script_line_limit}
 use Rattle.sq_replay.specs.Runs.{Wrote}
 use Rattle.sq_verify.specs.Migrating.{MigratesLine, ReadSoFar, read_journal}
 use Rattle.sq_verify.specs.Promised.{StaysKnown}
@@ -43,7 +43,7 @@ returns-in-Ok-End-clause-end g c =
     let after = prepend_known c.next_line.new.held (g.S.Source.left c.next_line.new.source) in
     let line = c.next_line.new.line.items in
     on_ok _ c.ended.result (told_map _ _ _ (λ bytes known. left_at_end c.next_line.new.held (g.S.Source.left c.next_line.new.source)
-    (known_end c.lines.place left after line (subst (Finds c.lines.place left after line) c.in-Ok-End.field-0-is c.in-Ok-End.ensures.found) known)) c.lines.invariant.known)
+    (known_end script_line_limit c.lines.place left after line (subst (Finds c.lines.place left after line) c.in-Ok-End.field-0-is c.in-Ok-End.ensures.found) known)) c.lines.invariant.known)
 
 pub returns-in-Ok-Faulty-clause-migrates : goal.returns-in-Ok-Faulty-clause-migrates
 returns-in-Ok-Faulty-clause-migrates g c =
@@ -91,5 +91,5 @@ lines-preserved g c =
       out_quiet = c.in-Ok-migrate_line.ensures.quiet (λ e. absurd (cc)) ∙ c.lines.invariant.out_quiet;
       going = told_based _ _ _ _ (λ bytes base at. going_on base left now after _ c.lines.page.items _ c.lines.count c.lines.epoch c.lines.place c.next_line.new.place _ (read_journal (lines bytes)) line
           (omega (arith, c.lines.invariant.count_fits, c.lines.invariant.place_fits)) finds moved.0 step at) c.lines.invariant.going;
-      known = stays_known (g.S.Source.left c.args.journal.now) left after c.lines.place line finds c.lines.invariant.known;
+      known = stays_known (g.S.Source.left c.args.journal.now) left after script_line_limit c.lines.place line finds c.lines.invariant.known;
     }

@@ -1,4 +1,4 @@
-use Rattle.std.proofs.Common.{◌≡◌, ◌∙◌, ◌++◌, ◌∷◌, [], ◌==◌, Err, ap, inr, subst}
+use Rattle.std.proofs.Common.{◌∙◌, ◌++◌, ◌∷◌, [], ◌==◌, Err, ap, inr, subst}
 use Rattle.sq_rules.specs.Entries.{Noted}
 use Rattle.sq_note.specs.Sinks.{epoch_behind}
 use Rattle.sq_replay.specs.declared.page.Untold.{Untold}
