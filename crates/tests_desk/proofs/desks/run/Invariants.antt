@@ -1,0 +1,5 @@
+use Rattle.tests_desk.proofs.desks.run.Given as goal
+
+-- the desk begins with the configuration that was just made
+abbrev pub ghosts-run_job : goal.ghosts-run_job
+ghosts-run_job a = record { first = a.setup }

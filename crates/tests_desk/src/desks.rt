@@ -1,0 +1,177 @@
+//! A desk that runs a job, and what comes of it.
+ghost use Rattle.std.specs.Prelude.{◌≡◌, []};
+ghost use Rattle.sq_note.specs.Memory.{mem_history};
+
+use crate::calls::{call, is_same, setup_of};
+use crate::jobs::{BEGIN, CONF, Job, lines_of};
+use sq_base::Moment;
+use sq_cache::HashSeed;
+use sq_calls::{DeskCalls, DeskFault};
+use sq_desk::{Desk, First};
+use sq_journal::{print_entry, read_entry, read_event};
+use sq_note::{Journal, MemJournal};
+use sq_rules::{Entry, Offset, Told};
+use sq_urlmatch::Setup;
+use std::alloc::Global;
+use std::marker::Brand;
+use std::test::Fail;
+
+/// For how many entries a journal has room.
+const ROOM: usize = 100;
+
+/// What came of a job. Each call has a mark: `.` where it was made and told what the line says, `B` of a bad or stray
+/// line, `-` where no act was due, `R` where the machine refused it, `J` where the note failed, `S` where the desk had
+/// stopped, `M` where memory was wanting, and `x` where something else came than the line says.
+#[derive(Drop)]
+pub struct Ran {
+    pub marks: String,
+    pub journal: MemJournal,
+    pub refusals: u64,
+}
+
+// The mark of a fault.
+fn fault_mark(fault: DeskFault) -> &'static str {
+    match fault {
+        DeskFault::Stopped => "S",
+        DeskFault::Engine(_) => "R",
+        DeskFault::JournalFault => "J",
+        DeskFault::WantOfMemory => "M",
+    }
+}
+
+// The mark of an answer, where this is wanted.
+fn told_mark(told: &Told, wanted: &Told) -> &'static str {
+    if !is_same(told, wanted) {
+        return "x";
+    }
+    match told {
+        Told::Bad | Told::Stray => "B",
+        _ => ".",
+    }
+}
+
+// The mark of a line whose call adds no entry.
+fn silent_mark<D: DeskCalls>(
+    alloc: Global,
+    desk: &mut D,
+    line: &str,
+) -> Result<&'static str, Fail> {
+    let (moment, event) = read_event(alloc, line.as_bytes())?;
+    match call(alloc, desk, event, moment)? {
+        Ok(None) => Ok("-"),
+        Ok(Some(_)) => Ok("x"),
+        Err(fault) => Ok(fault_mark(fault)),
+    }
+}
+
+// The mark of a line whose call adds an entry.
+fn entry_mark<D: DeskCalls>(alloc: Global, desk: &mut D, row: &str) -> Result<&'static str, Fail> {
+    let Entry {
+        moment,
+        event,
+        answer,
+    } = read_entry(alloc, row.as_bytes())?;
+    match call(alloc, desk, event, moment)? {
+        Ok(Some(told)) => Ok(told_mark(&told, &answer)),
+        Ok(None) => Ok("x"),
+        Err(fault) => Ok(fault_mark(fault)),
+    }
+}
+
+/// Whether the call of a line adds an entry, where nothing fails.
+pub fn is_noted(row: &str) -> bool {
+    !(row.ends_with(" => refused") || row.ends_with(" => none") || row.ends_with(" => wanting"))
+}
+
+// The mark of a line.
+fn mark<D: DeskCalls>(alloc: Global, desk: &mut D, row: &str) -> Result<&'static str, Fail> {
+    if is_noted(row) {
+        return entry_mark(alloc, desk, row);
+    }
+    let (line, _) = row.split_once(" => ").ok_or("no answer")?;
+    silent_mark(alloc, desk, line)
+}
+
+// Makes the calls of the lines. Where memory was wanting the call is made once more, but for a line that wants that.
+fn run_lines<D: DeskCalls>(alloc: Global, desk: &mut D, lines: &str) -> Result<String, Fail> {
+    let mut marks = String::new(alloc);
+    for row in lines.lines() {
+        let first = mark(alloc, desk, row)?;
+        marks.push_str(first)?;
+        if first == "M" && !row.ends_with(" => wanting") {
+            let again = mark(alloc, desk, row)?;
+            marks.push_str(again)?;
+        }
+    }
+    Ok(marks)
+}
+
+// A desk begins over the journal, and runs the job.
+fn run_job<F: First>(
+    alloc: Global,
+    setup: Setup,
+    journal: MemJournal,
+    job: Job,
+) -> Result<Ran, Fail>
+    requires first { F.first ≡ setup }
+    requires empty { mem_history journal ≡ [] }
+{
+    let seed = HashSeed::fixed();
+    let begun = Desk::<MemJournal, F>::new(alloc, setup, Offset(0), journal, Moment(0), seed);
+    match begun {
+        Ok(mut desk) => {
+            let marks = run_lines(alloc, &mut desk, lines_of(job))?;
+            let refusals = desk.refusals();
+            let journal = desk.finish();
+            Ok(Ran {
+                marks,
+                journal,
+                refusals,
+            })
+        }
+        Err((fault, journal)) => {
+            let mut marks = String::new(alloc);
+            marks.push_str(fault_mark(fault))?;
+            Ok(Ran {
+                marks,
+                journal,
+                refusals: 0,
+            })
+        }
+    }
+}
+
+/// What comes of a job over a journal of which these notes fail, and these reserves.
+pub fn run(alloc: Global, fails: Vec<u64>, wants: Vec<u64>, job: Job) -> Result<Ran, Fail> {
+    let setup = setup_of(alloc, CONF.as_bytes())?;
+    let journal = MemJournal::new(alloc, ROOM, fails, wants)?;
+    run_job::<Brand>(alloc, setup, journal, job)
+}
+
+// Whether the text of an entry is this.
+fn is_text(alloc: Global, entry: &Entry, text: &str) -> Result<bool, Fail> {
+    let printed = print_entry(alloc, entry)?;
+    Ok(printed.as_bytes() == text.as_bytes())
+}
+
+/// Whether these entries are the first of a job that is made whole.
+pub fn is_front(alloc: Global, entries: &[Entry], job: Job) -> Result<bool, Fail> {
+    let mut rest = entries.iter();
+    let Some(first) = rest.next() else {
+        return Ok(true);
+    };
+    if !is_text(alloc, first, BEGIN)? {
+        return Ok(false);
+    }
+    for row in lines_of(job).lines() {
+        if is_noted(row) {
+            let Some(entry) = rest.next() else {
+                return Ok(true);
+            };
+            if !is_text(alloc, entry, row)? {
+                return Ok(false);
+            }
+        }
+    }
+    Ok(rest.next().is_none())
+}

@@ -1,0 +1,14 @@
+//! Tests of the desk: one job that makes each of its calls, over journals in memory of which each call fails in turn.
+//!
+//! It has no public call. The answers expected come from the definitions of the machine's answers, of its next act and of
+//! the farms, followed by hand; which calls make places and which note entries, from what is promised of the desk.
+#![tactic(auto)]
+
+#[cfg(test)]
+mod calls;
+#[cfg(test)]
+mod desks;
+#[cfg(test)]
+mod faults;
+#[cfg(test)]
+mod jobs;
