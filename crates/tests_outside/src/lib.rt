@@ -1,7 +1,9 @@
 //! Tests of the outside in memory: a job over all objects of a net, in which each call of each object fails
-//! once, and the answers of single calls.
+//! once, and the answers of single calls; and of journals that are written.
 //!
-//! It has no public call. What is expected comes from what the forms in memory say of their calls.
+//! It has no public call. What is expected comes from what the forms in memory say of their calls. The lines of
+//! journals are written by hand from the form of a journal of version 2: the version line, and each entry's text
+//! behind its number and its epoch.
 #![tactic(auto)]
 
 #[cfg(test)]
@@ -10,3 +12,7 @@ mod faults;
 mod forms;
 #[cfg(test)]
 mod job;
+#[cfg(test)]
+mod lines;
+#[cfg(test)]
+mod notes;

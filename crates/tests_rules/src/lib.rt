@@ -1,12 +1,30 @@
-//! Tests of configurations that are made or built from parts, and of their patterns.
+//! Tests of configurations that are made or built from parts, and of their patterns; of the facts of a check, of what
+//! rules come to over answers of helpers, of keys and of the pool of a check; of open connections and open checks.
 //!
-//! It has no public call. The expected values come from Squid's configuration reference, directives
-//! `acl`, `http_access`, `external_acl_type` and `delay_pools`, and from the syntax of the crate regex.
+//! It has no public call. The expected values come from Squid's configuration reference, directives `acl`,
+//! `http_access`, `external_acl_type`, `delay_access` and `delay_pools`, from the syntax of the crate regex, and from
+//! counting by hand.
 #![tactic(auto)]
 
 #[cfg(test)]
+mod checks;
+#[cfg(test)]
+mod classes;
+#[cfg(test)]
 mod configs;
+#[cfg(test)]
+mod conns;
+#[cfg(test)]
+mod facts;
+#[cfg(test)]
+mod fixtures;
+#[cfg(test)]
+mod groups;
+#[cfg(test)]
+mod keys;
 #[cfg(test)]
 mod parts;
 #[cfg(test)]
 mod patterns;
+#[cfg(test)]
+mod pools;

@@ -1,1 +1,0 @@
--- The proofs of the fixtures need no lemma of their own.
