@@ -5,6 +5,7 @@ use sq_base::{ProcNo, Text};
 use sq_keeper::{Handed, KeeperEnd, MemDesk, read_lines};
 use sq_outside::MemSource;
 use std::alloc::Global;
+use std::sync::Wait;
 use std::test::Fail;
 
 /// A process that writes these bytes, of which a read gives at most `step`, and the listed reads fail;
@@ -157,33 +158,55 @@ fn shown(alloc: Global, handed: &[Handed]) -> Result<Text, Fail> {
     Ok(shown)
 }
 
+/// How a keeper ends that reads this source, and what the desk is handed.
+fn kept<R: Wait + Sync>(
+    rt: &R,
+    alloc: Global,
+    source: &mut MemSource,
+    desk: &mut MemDesk,
+) -> Result<(KeeperEnd, Text), Fail> {
+    let ended = read_lines(rt, alloc, source, ProcNo(7), desk);
+    let handed = desk.handed().ok_or("not all was kept")?;
+    let shown = shown(alloc, handed)?;
+    Ok((ended, shown))
+}
+
+fn kept_of<R: Wait + Sync>(rt: &R, alloc: Global, case: &Case) -> Result<(KeeperEnd, Text), Fail> {
+    let text = Vec::from_slice(alloc, case.written)?;
+    let fails = Vec::from_slice(alloc, case.fails)?;
+    let lacks = Vec::from_slice(alloc, case.lacks)?;
+    let mut source = MemSource::new(text, case.step, fails);
+    let mut desk = MemDesk::new(alloc, case.wants, lacks);
+    kept(rt, alloc, &mut source, &mut desk)
+}
+
 #[test]
 fn keepers_hand_on_lines_and_then_one_death(rt: HostRuntime) -> Result<(), Fail> {
-    let alloc = rt.alloc();
-    for &(case, (end, handed)) in &CASES {
-        let text = Vec::from_slice(alloc, case.written)?;
-        let fails = Vec::from_slice(alloc, case.fails)?;
-        let lacks = Vec::from_slice(alloc, case.lacks)?;
-        let mut source = MemSource::new(text, case.step, fails);
-        let mut desk = MemDesk::new(alloc, case.wants, lacks);
-        let ended = read_lines(&rt, alloc, &mut source, ProcNo(7), &mut desk);
-        assert!(rt; ended == end, "at {handed:?}");
-        let shown = shown(alloc, desk.handed().ok_or("not all was kept")?)?;
-        assert!(rt; shown.as_bytes() == handed, "at {handed:?}");
+    for (case, (end, handed)) in &CASES {
+        let (ended, shown) = kept_of(&rt, rt.alloc(), case)?;
+        assert!(rt;
+            ended == *end && shown.as_bytes() == *handed,
+            "at {handed:?}"
+        );
     }
     Ok(())
 }
 
-#[test]
-fn keepers_hand_on_65537_bytes_of_a_longer_line(rt: HostRuntime) -> Result<(), Fail> {
-    let alloc = rt.alloc();
-    let written = long_text(alloc, b"OK\nOK ", 65535, b"\n")?;
+fn kept_long<R: Wait + Sync>(
+    rt: &R,
+    alloc: Global,
+    written: Text,
+) -> Result<(KeeperEnd, Text), Fail> {
     let mut source = MemSource::new(written.into_vec(), 5000, Vec::new(alloc));
     let mut desk = MemDesk::new(alloc, 9, Vec::new(alloc));
-    let ended = read_lines(&rt, alloc, &mut source, ProcNo(7), &mut desk);
-    assert!(rt; ended == Ended);
-    let wanted = long_text(alloc, b"OK|OK ", 65534, b"|!died|")?;
-    let shown = shown(alloc, desk.handed().ok_or("not all was kept")?)?;
-    assert!(rt; shown == wanted);
+    kept(rt, alloc, &mut source, &mut desk)
+}
+
+#[test]
+fn keepers_hand_on_65537_bytes_of_a_longer_line(rt: HostRuntime) -> Result<(), Fail> {
+    let written = long_text(rt.alloc(), b"OK\nOK ", 65535, b"\n")?;
+    let (ended, shown) = kept_long(&rt, rt.alloc(), written)?;
+    let wanted = long_text(rt.alloc(), b"OK|OK ", 65534, b"|!died|")?;
+    assert!(rt; ended == Ended && shown == wanted);
     Ok(())
 }

@@ -3,7 +3,7 @@ ghost use Rattle.std.specs.Prelude.{◌≡◌, ◌+◌, ◌<◌, IfOk};
 
 use sq_base::{
     Addr, Answer, Answers, Cause, Copying, Field, Listed, Moment, Pair, Pairs, QuestionNo, Range,
-    Reply, Steps, Text, What, Word, number_of,
+    Reply, Steps, Text, WantOfMemory, What, Word, number_of,
 };
 use std::alloc::Global;
 use std::cmp::Ordering;
@@ -58,48 +58,87 @@ fn words_are_these_numbers_below_a_limit(rt: HostRuntime) {
     }
 }
 
+fn abc(alloc: Global) -> Result<Text, WantOfMemory> {
+    let mut text = Text::new(alloc);
+    text.push(b'a')?;
+    text.append(b"bc")?;
+    Ok(text)
+}
+
+fn is_abc(text: &Text) -> bool {
+    text.as_bytes() == b"abc".as_slice()
+        && text.as_slice() == b"abc".as_slice()
+        && text.len() == 3
+        && !text.is_empty()
+}
+
+fn is_compared(alloc: Global, text: &Text) -> Result<bool, WantOfMemory> {
+    let mut same = Text::from_slice(alloc, b"abc")?;
+    let is_equal = *text == same && text.partial_cmp(&same) == Some(Ordering::Equal);
+    same.push(b'd')?;
+    Ok(is_equal && *text != same && text.cmp(&same) == Ordering::Less)
+}
+
+/// Whether a map finds the text, and not another one.
+fn is_found(alloc: Global, text: Text, same: &Text, other: &Text) -> Result<bool, Fail> {
+    let mut places = HashMap::new(alloc);
+    places.insert(text, 7)?;
+    Ok(places.get(same) == Some(&7) && places.get(other) == None)
+}
+
+fn is_given_back(text: Text) -> bool {
+    let bytes = text.into_vec();
+    let is_same = bytes.as_slice() == b"abc".as_slice();
+    let back = Text::from_vec(bytes);
+    is_same && is_abc(&back)
+}
+
+fn are_compared(alloc: Global) -> Result<bool, Fail> {
+    let text = abc(alloc)?;
+    let is_compared = is_compared(alloc, &text)?;
+    Ok(is_compared && is_abc(&text))
+}
+
+fn are_found(alloc: Global) -> Result<bool, Fail> {
+    let text = abc(alloc)?;
+    let copy = text.copy(alloc)?;
+    let other = Text::from_slice(alloc, b"abcd")?;
+    is_found(alloc, text, &copy, &other)
+}
+
 #[test]
 fn texts_are_their_bytes(rt: HostRuntime) -> Result<(), Fail> {
     let alloc = rt.alloc();
-    let mut text = Text::new(alloc);
-    assert!(rt; text.is_empty());
-    text.push(b'a')?;
-    text.append(b"bc")?;
-    let mut same = Text::from_slice(alloc, b"abc")?;
-    assert!(rt; text.as_bytes() == b"abc".as_slice());
-    assert!(rt; text.as_slice() == b"abc".as_slice());
-    assert!(rt; text.len() == 3);
-    assert!(rt; text == same);
-    assert!(rt; text.partial_cmp(&same) == Some(Ordering::Equal));
-    same.push(b'd')?;
-    assert!(rt; text != same);
-    assert!(rt; text.cmp(&same) == Ordering::Less);
-    let copy = text.copy(alloc)?;
-    let mut places = HashMap::new(alloc);
-    places.insert(text, 7)?;
-    assert!(rt; places.get(&copy) == Some(&7));
-    assert!(rt; places.get(&same) == None);
-    let bytes = copy.into_vec();
-    assert!(rt; bytes.as_slice() == b"abc".as_slice());
-    let back = Text::from_vec(bytes);
-    assert!(rt; back.as_bytes() == b"abc".as_slice());
+    let are_compared = are_compared(alloc)?;
+    let are_found = are_found(alloc)?;
+    let are_given_back = is_given_back(abc(alloc)?);
+    assert!(rt; Text::new(alloc).is_empty());
+    assert!(rt; are_compared && are_found && are_given_back);
     Ok(())
+}
+
+fn three_and_one(alloc: Global) -> Result<Listed<u32>, WantOfMemory> {
+    let mut list = Listed::new(alloc);
+    list.push(3)?;
+    list.push(1)?;
+    Ok(list)
+}
+
+fn are_values(list: Listed<u32>, copy: &Listed<u32>) -> bool {
+    let is_same = list == *copy && list.len() == 2 && !list.is_empty();
+    let are_lent = list.as_slice() == [3, 1].as_slice();
+    let values = list.into_vec();
+    let are_given = values.as_slice() == [3, 1].as_slice();
+    is_same && are_lent && are_given && Listed::from_vec(values) == *copy
 }
 
 #[test]
 fn lists_are_their_values(rt: HostRuntime) -> Result<(), Fail> {
     let alloc = rt.alloc();
-    let mut list = Listed::<u32>::new(alloc);
-    assert!(rt; list.is_empty());
-    list.push(3)?;
-    list.push(1)?;
-    assert!(rt; list.as_slice() == [3, 1].as_slice());
-    assert!(rt; list.len() == 2);
+    let list = three_and_one(alloc)?;
     let copy = list.copy(alloc)?;
-    assert!(rt; copy == list);
-    let values = list.into_vec();
-    assert!(rt; values.as_slice() == [3, 1].as_slice());
-    assert!(rt; Listed::from_vec(values) == copy);
+    let are_values = are_values(list, &copy);
+    assert!(rt; are_values && Listed::<u32>::new(alloc).is_empty());
     Ok(())
 }
 
@@ -153,21 +192,54 @@ fn answer(alloc: Global, class: u32, what: What) -> Result<Answer, Fail>
     })
 }
 
+/// An answer of class 0 and behind it one of class 1.
+fn two_answers(alloc: Global, first: What, second: What) -> Result<Answers, Fail> {
+    let first = answer(alloc, 0, first)?;
+    let second = answer(alloc, 1, second)?;
+    let mut answers = Answers::new(alloc);
+    answers.push(first)?;
+    answers.push(second)?;
+    Ok(answers)
+}
+
+fn are_joe(pairs: &Pairs) -> bool {
+    match pairs.as_slice().first() {
+        None => false,
+        Some(pair) => {
+            pair.key.as_bytes() == b"user".as_slice() && pair.value.as_bytes() == b"joe".as_slice()
+        }
+    }
+}
+
+/// Whether the first answer is one about joe, or a fault.
+fn is_first(answer: &Answer) -> bool {
+    let is_so = match &answer.what {
+        What::Yes(pairs) => are_joe(pairs),
+        What::No(pairs) => are_joe(pairs),
+        What::Fault(cause) => *cause == Cause::Died,
+    };
+    is_so && answer.class == 0 && answer.question == Some(QuestionNo(5))
+}
+
+fn are_in_order(answers: &[Answer]) -> bool {
+    answers.len() == 2 && is_first(&answers[0]) && answers[1].class == 1
+}
+
+/// Whether an answer that says this, and one behind it, are kept and copied.
+fn are_kept(alloc: Global, first: What) -> Result<bool, Fail> {
+    let answers = two_answers(alloc, first, What::Fault(Cause::Bh))?;
+    let copy = answers.copy(alloc)?;
+    let are_in_order = are_in_order(answers.as_slice());
+    Ok(are_in_order && copy.as_slice() == answers.as_slice() && copy.len() == 2)
+}
+
 #[test]
 fn answers_are_kept_in_order_and_copied(rt: HostRuntime) -> Result<(), Fail> {
     let alloc = rt.alloc();
-    let yes = answer(alloc, 0, What::Yes(joe(alloc)?))?;
-    let no = answer(alloc, 1, What::No(joe(alloc)?))?;
-    let fault = answer(alloc, 2, What::Fault(Cause::Died))?;
-    let mut answers = Answers::new(alloc);
-    assert!(rt; answers.is_empty());
-    answers.push(yes.copy(alloc)?)?;
-    answers.push(no.copy(alloc)?)?;
-    answers.push(fault.copy(alloc)?)?;
-    assert!(rt; answers.len() == 3);
-    let copy = answers.copy(alloc)?;
-    assert!(rt; copy.as_slice() == [yes, no, fault].as_slice());
-    assert!(rt; answers.as_slice() == copy.as_slice());
+    let yes = are_kept(alloc, What::Yes(joe(alloc)?))?;
+    let no = are_kept(alloc, What::No(joe(alloc)?))?;
+    let fault = are_kept(alloc, What::Fault(Cause::Died))?;
+    assert!(rt; yes && no && fault && Answers::new(alloc).is_empty());
     Ok(())
 }
 
@@ -192,9 +264,6 @@ fn is_field_copied(alloc: Global) -> Result<bool, Fail> {
 #[test]
 fn copies_are_equal(rt: HostRuntime) -> Result<(), Fail> {
     let alloc = rt.alloc();
-    let is_reply_copied = is_reply_copied(alloc)?;
-    let is_field_copied = is_field_copied(alloc)?;
-    assert!(rt; is_reply_copied && is_field_copied);
     let address = Addr {
         v6: false,
         number: 7,
@@ -203,8 +272,12 @@ fn copies_are_equal(rt: HostRuntime) -> Result<(), Fail> {
         first: address,
         last: address,
     };
-    assert!(rt; address.copy(alloc)? == address);
-    assert!(rt; range.copy(alloc)? == range);
+    let is_reply_copied = is_reply_copied(alloc)?;
+    let is_field_copied = is_field_copied(alloc)?;
+    let address_copied = address.copy(alloc)?;
+    let range_copied = range.copy(alloc)?;
+    assert!(rt; is_reply_copied && is_field_copied);
+    assert!(rt; address_copied == address && range_copied == range);
     Ok(())
 }
 

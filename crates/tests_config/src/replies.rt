@@ -4,7 +4,7 @@ ghost use Rattle.sq_base.specs.Replies.{is_key_byte, is_key, have_keys};
 ghost use Rattle.std.specs.List.{list_all};
 
 use crate::fixtures::long_text;
-use sq_base::{Pair, Reply, Text, Word};
+use sq_base::{Pair, Reply, Text, WantOfMemory, Word};
 use sq_reply::{ReplyFault, print_question, print_reply, read_reply};
 use std::alloc::Global;
 use std::test::Fail;
@@ -272,11 +272,28 @@ fn reply_lines_have_at_most_65536_bytes(rt: HostRuntime) -> Result<(), Fail> {
     Ok(())
 }
 
+/// Whether a helper is asked this by this line.
+fn is_asked(
+    alloc: Global,
+    channel: Option<u32>,
+    key: &[u8],
+    line: &[u8],
+) -> Result<bool, WantOfMemory> {
+    let question = print_question(alloc, channel, key)?;
+    Ok(question.as_bytes() == line)
+}
+
 #[test]
 fn questions_are_a_channel_and_a_key(rt: HostRuntime) -> Result<(), Fail> {
-    let plain = print_question(rt.alloc(), None, b"10.0.0.1 -")?;
-    assert!(rt; plain.as_bytes() == b"10.0.0.1 -\n".as_slice());
-    let numbered = print_question(rt.alloc(), Some(4294967295), b"10.0.0.1 a%20b")?;
-    assert!(rt; numbered.as_bytes() == b"4294967295 10.0.0.1 a%20b\n".as_slice());
+    let alloc = rt.alloc();
+    let plain = is_asked(alloc, None, b"10.0.0.1 -", b"10.0.0.1 -\n")?;
+    let most = Some(4294967295);
+    let numbered = is_asked(
+        alloc,
+        most,
+        b"10.0.0.1 a%20b",
+        b"4294967295 10.0.0.1 a%20b\n",
+    )?;
+    assert!(rt; plain && numbered);
     Ok(())
 }

@@ -1,6 +1,6 @@
 //! Leaf acls whose values no line of squid.conf states. The lists that lines state are in `cases/sorted_lists.txt`.
 use sq_addr::{read_addr, read_range};
-use sq_base::{Fields, Range, Ranges, Text, Texts};
+use sq_base::{Fields, Range, Ranges, Text, Texts, WantOfMemory};
 use sq_index::{AddrSet, DomainSet};
 use sq_request::make_request;
 use sq_rules::{Hour, Hours, Numbers, Sight};
@@ -93,43 +93,60 @@ fn has(alloc: Global, values: &str, host: &str) -> Result<bool, Fail> {
 fn sorted_lists_hold_what_some_value_holds(rt: HostRuntime) -> Result<(), Fail> {
     for line in ADDRESSES.lines() {
         let (values, rest) = line.split_once('|').ok_or("no address")?;
-        let (address, held) = rest.split_once('|').ok_or("no answer")?;
-        assert!(rt;
-            holds(rt.alloc(), values, address)? == (held == "yes"),
-            "at {line}"
-        );
+        let (address, wanted) = rest.split_once('|').ok_or("no answer")?;
+        let held = holds(rt.alloc(), values, address)?;
+        assert!(rt; held == (wanted == "yes"), "at {line}");
     }
     for line in HOSTS.lines() {
         let (values, rest) = line.split_once('|').ok_or("no host")?;
-        let (host, held) = rest.split_once('|').ok_or("no answer")?;
-        assert!(rt;
-            has(rt.alloc(), values, host)? == (held == "yes"),
-            "at {line}"
-        );
+        let (host, wanted) = rest.split_once('|').ok_or("no answer")?;
+        let held = has(rt.alloc(), values, host)?;
+        assert!(rt; held == (wanted == "yes"), "at {line}");
     }
     Ok(())
 }
 
-#[test]
-fn lists_of_no_values_hold_of_nothing(rt: HostRuntime) -> Result<(), Fail> {
-    let alloc = rt.alloc();
-    let sight = Sight {
-        request: make_request(alloc, b"CONNECT", b"a:443", 1, Fields::new(alloc))?,
-        addr: read_addr(b"10.0.0.1")?,
+/// A request without a scheme.
+fn sight(alloc: Global) -> Result<Sight, Fail> {
+    let addr = read_addr(b"10.0.0.1")?;
+    let request = make_request(alloc, b"CONNECT", b"a:443", 1, Fields::new(alloc))?;
+    Ok(Sight {
+        request,
+        addr,
         port: 4000,
         minute: 4320,
         conns: 9,
-    };
-    assert!(rt; !maxconn_has(&Numbers::new(alloc), &sight));
-    let mut no_days = Hours::new(alloc);
-    no_days.push(Hour {
+    })
+}
+
+/// Whether the hours of no day hold.
+fn no_day_holds(alloc: Global, sight: &Sight) -> Result<bool, WantOfMemory> {
+    let mut hours = Hours::new(alloc);
+    hours.push(Hour {
         days: 0,
         first: 0,
         last: 1440,
     })?;
-    assert!(rt; !time_has(&no_days, &sight));
-    let mut empty = Texts::new(alloc);
-    empty.push(Text::new(alloc))?;
-    assert!(rt; !proto_has(&empty, &sight));
+    Ok(time_has(&hours, sight))
+}
+
+/// Whether the empty scheme holds.
+fn no_scheme_holds(alloc: Global, sight: &Sight) -> Result<bool, WantOfMemory> {
+    let mut schemes = Texts::new(alloc);
+    schemes.push(Text::new(alloc))?;
+    Ok(proto_has(&schemes, sight))
+}
+
+fn some_hold(alloc: Global, sight: &Sight) -> Result<bool, Fail> {
+    let time = no_day_holds(alloc, sight)?;
+    let proto = no_scheme_holds(alloc, sight)?;
+    Ok(time || proto || maxconn_has(&Numbers::new(alloc), sight))
+}
+
+#[test]
+fn lists_of_no_values_hold_of_nothing(rt: HostRuntime) -> Result<(), Fail> {
+    let sight = sight(rt.alloc())?;
+    let held = some_hold(rt.alloc(), &sight)?;
+    assert!(rt; !held);
     Ok(())
 }

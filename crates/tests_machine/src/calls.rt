@@ -1,13 +1,14 @@
 //! Public calls of the forms in memory and the adapters, once each.
 
 use crate::fixtures::file;
-use sq_base::Text;
+use sq_base::{Text, WantOfMemory};
 use sq_outside::{
     COUNT_LIMIT, Calls, Failed, Files, MemFiles, MemSink, MemSource, NoOpen, RealFiles, RealSink,
     RealSource, Sink, Source, read_file, read_whole, write_all, write_line,
 };
 use sq_proxy::Status;
 use sq_rules::Kind;
+use std::alloc::Global;
 use std::io::{self, ErrorKind, Read, Write};
 use std::test::Fail;
 
@@ -25,32 +26,58 @@ fn a_counter_fails_where_it_is_listed(rt: HostRuntime) -> Result<(), Fail> {
 }
 
 #[test]
-fn devices_in_memory_give_and_take_bytes(rt: HostRuntime) -> Result<(), Fail> {
-    let alloc = rt.alloc();
-    let mut source = MemSource::new(Vec::from_slice(alloc, b"hello")?, 3, Vec::new(alloc));
+fn a_source_in_memory_gives_its_bytes(rt: HostRuntime) -> Result<(), Fail> {
+    let text = Vec::from_slice(rt.alloc(), b"hello")?;
+    let mut source = MemSource::new(text, 3, Vec::new(rt.alloc()));
     let mut into = [0u8; 4];
-    assert!(rt; source.read(&mut into) == Ok(3));
-    assert!(rt; &into == b"hel\0");
-    let rest = read_whole(alloc, 2, &mut source)
+    let read = source.read(&mut into);
+    assert!(rt; read == Ok(3) && &into == b"hel\0");
+    let rest = read_whole(rt.alloc(), 2, &mut source)
         .ok()
         .flatten()
         .ok_or("the rest")?;
     assert!(rt; rest.as_bytes() == b"lo".as_slice());
+    Ok(())
+}
 
-    let mut sink = MemSink::new(alloc, 16, 3, Vec::new(alloc))?;
+#[test]
+fn a_sink_in_memory_takes_bytes(rt: HostRuntime) -> Result<(), Fail> {
+    let mut sink = MemSink::new(rt.alloc(), 16, 3, Vec::new(rt.alloc()))?;
     assert!(rt; sink.write(b"hello") == Ok(3));
     assert!(rt; write_all(&mut sink, b"p ") == Ok(()));
     assert!(rt; write_line(&mut sink, b"a ", b"friend") == Ok(()));
     assert!(rt; sink.bytes() == b"help a friend\n".as_slice());
+    Ok(())
+}
 
+// Files in memory with one of this name and text.
+fn files_of(alloc: Global, name: &str, text: &str) -> Result<MemFiles, WantOfMemory> {
+    let file = file(alloc, name, text, &[])?;
     let mut list = Vec::new(alloc);
-    list.push(file(alloc, "c", "text", &[])?)?;
-    let mut files = MemFiles::new(alloc, list, 3, 2, Vec::new(alloc))?;
-    let name = Text::from_slice(alloc, b"c")?;
-    let mut opened = files.open(alloc, &name).map_err(|_| "not opened")?;
-    assert!(rt; opened.read(&mut into) == Ok(3));
-    files.give_back(opened);
-    let text = read_file(alloc, 4, &name, &mut files)
+    list.push(file)?;
+    MemFiles::new(alloc, list, 3, 2, Vec::new(alloc))
+}
+
+// How many bytes the first read of the file of this name gives, where it is opened.
+fn first_read(alloc: Global, name: &Text, files: &mut MemFiles) -> Option<usize> {
+    let mut into = [0u8; 4];
+    match files.open(alloc, name) {
+        Err(_) => None,
+        Ok(mut opened) => {
+            let read = opened.read(&mut into);
+            files.give_back(opened);
+            read.ok()
+        }
+    }
+}
+
+#[test]
+fn files_in_memory_are_opened_by_their_names(rt: HostRuntime) -> Result<(), Fail> {
+    let name = Text::from_slice(rt.alloc(), b"c")?;
+    let mut files = files_of(rt.alloc(), "c", "text")?;
+    let read = first_read(rt.alloc(), &name, &mut files);
+    assert!(rt; read == Some(3));
+    let text = read_file(rt.alloc(), 4, &name, &mut files)
         .ok()
         .flatten()
         .ok_or("the text")?;
@@ -97,12 +124,11 @@ impl<T: Write> Write for Stutters<T> {
 
 #[test]
 fn adapters_reach_what_stands_behind_them(rt: HostRuntime) -> Result<(), Fail> {
-    let alloc = rt.alloc();
     let mut source = RealSource::new(Stutters {
         inner: b"hello".as_slice(),
         waits: false,
     });
-    let text = read_whole(alloc, 5, &mut source)
+    let text = read_whole(rt.alloc(), 5, &mut source)
         .ok()
         .flatten()
         .ok_or("the text")?;
@@ -115,20 +141,37 @@ fn adapters_reach_what_stands_behind_them(rt: HostRuntime) -> Result<(), Fail> {
     });
     assert!(rt; write_all(&mut sink, b"help me") == Ok(()));
     assert!(rt; &bytes == b"help me\0");
+    Ok(())
+}
 
+// Why a file is not read; none where it is.
+fn unread<F: Files>(
+    alloc: Global,
+    files: &mut F,
+    name: &[u8],
+) -> Result<Option<NoOpen>, WantOfMemory> {
+    let name = Text::from_slice(alloc, name)?;
+    match read_file(alloc, 5, &name, files) {
+        Ok(_) => Ok(None),
+        Err(fault) => Ok(Some(fault)),
+    }
+}
+
+#[test]
+fn files_of_the_system_are_opened_by_their_names(rt: HostRuntime) -> Result<(), Fail> {
+    let alloc = rt.alloc();
     let mut files = RealFiles::new(&rt);
+    let missing = unread(alloc, &mut files, b"/dev/null.none")?;
+    let folder = unread(alloc, &mut files, b"/")?;
+    let unreadable = unread(alloc, &mut files, b"/dev/\xff")?;
+    assert!(rt; missing == Some(NoOpen::Missing));
+    assert!(rt; folder == Some(NoOpen::Failed) && unreadable == Some(NoOpen::Failed));
     let empty = Text::from_slice(alloc, b"/dev/null")?;
     let text = read_file(alloc, 5, &empty, &mut files)
         .ok()
         .flatten()
         .ok_or("no byte")?;
     assert!(rt; text.is_empty());
-    let missing = Text::from_slice(alloc, b"/dev/null.none")?;
-    assert!(rt; read_file(alloc, 5, &missing, &mut files).err() == Some(NoOpen::Missing));
-    let folder = Text::from_slice(alloc, b"/")?;
-    assert!(rt; read_file(alloc, 5, &folder, &mut files).err() == Some(NoOpen::Failed));
-    let unreadable = Text::from_slice(alloc, b"/dev/\xff")?;
-    assert!(rt; read_file(alloc, 5, &unreadable, &mut files).err() == Some(NoOpen::Failed));
     Ok(())
 }
 

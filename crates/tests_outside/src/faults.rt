@@ -1,7 +1,8 @@
 //! A job over a net in memory, in which each call of each object fails once.
 use crate::job::End::{Done, Fault};
-use crate::job::{Part, Wires, job, net};
-use sq_outside::MemName;
+use crate::job::{Ended, Part, Wires, job, net};
+use sq_base::WantOfMemory;
+use sq_outside::Wire;
 use std::alloc::Global;
 use std::sync::atomic::AtomicBool;
 use std::test::Fail;
@@ -61,68 +62,55 @@ static CASES: [(Failing, Written, Counts); 19] = [
     ),
 ];
 
+/// Runs the job over these wires, where the call of this number of `part` is to fail.
+fn run(alloc: Global, part: Part, call: u64, wires: &Wires) -> Result<Ended, WantOfMemory> {
+    let names = Vec::new(alloc);
+    let word = AtomicBool::new(false);
+    let mut net = net(alloc, part, call, names.as_slice(), &word, wires)?;
+    Ok(job(alloc, &mut net))
+}
+
+fn has_text(alloc: Global, wire: &Wire, wanted: &[u8]) -> Result<bool, Fail> {
+    let text = wire.text(alloc)?;
+    Ok(text.as_bytes() == wanted)
+}
+
+fn have_texts(alloc: Global, wires: &Wires, written: Written) -> Result<bool, Fail> {
+    let (origin, client, child) = written;
+    let to_origin = has_text(alloc, &wires.origin, origin)?;
+    let to_client = has_text(alloc, &wires.client, client)?;
+    let to_child = has_text(alloc, &wires.child, child)?;
+    Ok(to_origin && to_client && to_child)
+}
+
+fn counts(ended: &Ended) -> Counts {
+    (ended.dialer, ended.net, ended.back)
+}
+
 #[test]
 fn jobs_end_by_the_call_that_fails(rt: HostRuntime) -> Result<(), Fail> {
-    let alloc = rt.alloc();
-    let names = Vec::new(alloc);
-    for &((part, _, call), (origin, client, child), (dialer, faults, back)) in &CASES {
-        let word = AtomicBool::new(false);
-        let wires = Wires::new(alloc)?;
-        let mut net = net(alloc, part, call, names.as_slice(), &word, &wires)?;
-        let ended = job(alloc, &mut net);
-        assert!(rt; ended.end == Fault(part), "at call {call} of {part:?}");
-        assert!(rt;
-            (ended.dialer, ended.net, ended.back) == (dialer, faults, back),
-            "at call {call} of {part:?}"
-        );
-        assert!(rt;
-            wires.origin.text(alloc)?.as_bytes() == origin,
-            "at call {call} of {part:?}"
-        );
-        assert!(rt;
-            wires.client.text(alloc)?.as_bytes() == client,
-            "at call {call} of {part:?}"
-        );
-        assert!(rt;
-            wires.child.text(alloc)?.as_bytes() == child,
-            "at call {call} of {part:?}"
-        );
+    for &((part, _, call), written, wanted) in &CASES {
+        let wires = Wires::new(rt.alloc())?;
+        let ended = run(rt.alloc(), part, call, &wires)?;
+        let have_texts = have_texts(rt.alloc(), &wires, written)?;
+        let is_ended = ended.end == Fault(part) && counts(&ended) == wanted;
+        assert!(rt; is_ended && have_texts, "at call {call} of {part:?}");
     }
     Ok(())
 }
 
+fn are_closed(wires: &Wires) -> bool {
+    wires.origin.is_closed() && wires.client.is_closed() && wires.child.is_closed()
+}
+
 #[test]
 fn jobs_end_well_where_no_call_is_left_to_fail(rt: HostRuntime) -> Result<(), Fail> {
-    let alloc = rt.alloc();
-    let names = Vec::new(alloc);
     for &((part, calls, _), _, _) in &CASES {
-        let word = AtomicBool::new(false);
-        let wires = Wires::new(alloc)?;
-        let mut net = net(
-            alloc,
-            part,
-            calls.saturating_add(1),
-            names.as_slice(),
-            &word,
-            &wires,
-        )?;
-        let ended = job(alloc, &mut net);
-        assert!(rt; ended.end == Done, "at {part:?}");
-        assert!(rt;
-            (ended.dialer, ended.net, ended.back) == (0, 0, 1),
-            "at {part:?}"
-        );
-        assert!(rt;
-            wires.origin.text(alloc)?.as_bytes() == b"ask a\n".as_slice(),
-            "at {part:?}"
-        );
-        assert!(rt;
-            wires.client.text(alloc)?.as_bytes() == b"hello".as_slice(),
-            "at {part:?}"
-        );
-        assert!(rt;
-            wires.origin.is_closed() && wires.client.is_closed() && wires.child.is_closed()
-        );
+        let wires = Wires::new(rt.alloc())?;
+        let ended = run(rt.alloc(), part, calls.saturating_add(1), &wires)?;
+        let have_texts = have_texts(rt.alloc(), &wires, (b"ask a\n", b"hello", b"q\n"))?;
+        let is_ended = ended.end == Done && counts(&ended) == (0, 0, 1);
+        assert!(rt; is_ended && have_texts && are_closed(&wires), "at {part:?}");
     }
     Ok(())
 }

@@ -1,6 +1,6 @@
 //! What single calls of the forms in memory answer.
-use crate::job::{Part, Wires, link, net, stops};
-use sq_base::{Addr, Addrs, Moment, Text};
+use crate::job::{Part, Wires, helper, link, net, stops};
+use sq_base::{Addr, Addrs, Moment, Text, WantOfMemory};
 use sq_outside::{
     Another, Clock, Dialer, LookFault, MemChild, MemClock, MemDialer, MemName, MemOrigin,
     MemResolver, MemSpawner, MemWait, Out, Resolver, Source, Spawner, Wire, write_all,
@@ -18,44 +18,70 @@ static DIALS: [(&[u8], u16, bool); 5] = [
     (b"a.example", 80, false),
 ];
 
-#[test]
-fn an_origin_is_reached_once_by_its_host_and_port(rt: HostRuntime) -> Result<(), Fail> {
-    let alloc = rt.alloc();
-    let wire = Wire::new(alloc, 64)?;
+/// A dialer with one origin.
+fn dialer<'a>(alloc: Global, wire: &'a Wire) -> Result<MemDialer<'a>, WantOfMemory> {
     let host = Text::from_slice(alloc, b"a.example")?;
-    let pair = link(alloc, b"hello", Vec::new(alloc), Vec::new(alloc), &wire)?;
+    let pair = link(alloc, b"hello", Vec::new(alloc), Vec::new(alloc), wire)?;
     let mut origins = Vec::new(alloc);
     origins.push(MemOrigin {
         host,
         port: 80,
         pair,
     })?;
-    let mut dialer = MemDialer::new(alloc, origins, Vec::new(alloc))?;
+    MemDialer::new(alloc, origins, Vec::new(alloc))
+}
+
+/// Whether the origin is reached by this host and port; the dial is given back.
+fn is_reached<'a>(
+    alloc: Global,
+    dialer: &mut MemDialer<'a>,
+    host: &[u8],
+    port: u16,
+) -> Result<bool, WantOfMemory> {
+    let host = Text::from_slice(alloc, host)?;
+    match dialer.dial(alloc, &host, port) {
+        Ok((from, to)) => {
+            dialer.give_back(from, to);
+            Ok(true)
+        }
+        Err(_) => Ok(false),
+    }
+}
+
+/// How many dials were given back, where each is one of the origin, with its bytes, to whom nothing was written.
+fn given_back(dialer: &MemDialer<'_>) -> Option<usize> {
+    for dial in dialer.back() {
+        let is_of_origin = dial.host.as_bytes() == b"a.example".as_slice() && dial.port == 80;
+        if !is_of_origin
+            || dial.bytes.as_bytes() != b"hello".as_slice()
+            || !dial.written.is_empty()
+        {
+            return None;
+        }
+    }
+    Some(dialer.back().len())
+}
+
+#[test]
+fn an_origin_is_reached_once_by_its_host_and_port(rt: HostRuntime) -> Result<(), Fail> {
+    let alloc = rt.alloc();
+    let wire = Wire::new(alloc, 64)?;
+    let mut dialer = dialer(alloc, &wire)?;
     let mut failed = 0u64;
     for &(host, port, reached) in &DIALS {
-        let host = Text::from_slice(alloc, host)?;
-        match dialer.dial(alloc, &host, port) {
-            Ok((from, to)) => {
-                assert!(rt; reached, "at {host:?} {port}");
-                dialer.give_back(from, to);
-            }
-            Err(_) => {
-                assert!(rt; !reached, "at {host:?} {port}");
-                failed = failed.saturating_add(1);
-            }
+        let is_reached = is_reached(alloc, &mut dialer, host, port)?;
+        if !reached {
+            failed = failed.saturating_add(1);
         }
-        assert!(rt; dialer.faults() == failed);
+        assert!(rt;
+            is_reached == reached && dialer.faults() == failed,
+            "at {host:?} {port}"
+        );
     }
-    for dial in dialer.back() {
-        assert!(rt; dial.host.as_bytes() == b"a.example".as_slice());
-        assert!(rt; dial.port == 80);
-        assert!(rt; dial.bytes.as_bytes() == b"hello".as_slice());
-        assert!(rt; dial.written.is_empty());
-    }
-    assert!(rt; dialer.back().len() == 1);
+    assert!(rt; given_back(&dialer) == Some(1));
     let mut other = dialer.another();
-    let host = Text::from_slice(alloc, b"a.example")?;
-    assert!(rt; other.dial(alloc, &host, 80).is_err());
+    let reaches = is_reached(alloc, &mut other, b"a.example", 80)?;
+    assert!(rt; !reaches);
     Ok(())
 }
 
@@ -141,39 +167,50 @@ static ASKS: [(&[u8], bool, &[u8]); 5] = [
     (b"", true, b""),
 ];
 
-#[test]
-fn a_process_answers_line_by_line_and_ends_when_it_is_closed(rt: HostRuntime) -> Result<(), Fail> {
-    let alloc = rt.alloc();
-    let wire = Wire::new(alloc, 64)?;
-    let mut words = Vec::new(alloc);
-    words.push(Text::from_slice(alloc, b"helper")?)?;
+/// A spawner with one child, which waits for what it is asked.
+fn spawner<'a>(alloc: Global, wire: &'a Wire) -> Result<MemSpawner<'a>, WantOfMemory> {
+    let words = helper(alloc)?;
     let said = b"OK\nERR\nOK\n";
-    let pair = link(alloc, said, Vec::new(alloc), Vec::new(alloc), &wire)?;
+    let pair = link(alloc, said, Vec::new(alloc), Vec::new(alloc), wire)?;
     let mut children = Vec::new(alloc);
     children.push(MemChild {
         words,
         pair,
-        waits: Some(MemWait {
-            wire: &wire,
-            turns: 10,
-        }),
+        waits: Some(MemWait { wire, turns: 10 }),
     })?;
-    let mut spawner = MemSpawner::new(alloc, children, Vec::new(alloc))?;
-    let other = Text::from_slice(alloc, b"other")?;
-    assert!(rt; spawner.start(alloc, &[other]).is_err());
-    let helper = Text::from_slice(alloc, b"helper")?;
-    let started = spawner.start(alloc, &[helper]);
-    let Ok((mut said, mut to)) = started else {
+    MemSpawner::new(alloc, children, Vec::new(alloc))
+}
+
+/// Whether a program of this word can be started.
+fn starts<'a>(
+    alloc: Global,
+    spawner: &mut MemSpawner<'a>,
+    word: &[u8],
+) -> Result<bool, WantOfMemory> {
+    let word = Text::from_slice(alloc, word)?;
+    Ok(spawner.start(alloc, &[word]).is_ok())
+}
+
+#[test]
+fn a_process_answers_line_by_line_and_ends_when_it_is_closed(rt: HostRuntime) -> Result<(), Fail> {
+    let alloc = rt.alloc();
+    let wire = Wire::new(alloc, 64)?;
+    let words = helper(alloc)?;
+    let mut spawner = spawner(alloc, &wire)?;
+    let starts_another = starts(alloc, &mut spawner, b"other")?;
+    assert!(rt; !starts_another);
+    let Ok((mut said, mut to)) = spawner.start(alloc, words.as_slice()) else {
         return Err("not started".into());
     };
     let mut chunk = [0u8; 9];
     for &(written, closed, wanted) in &ASKS {
-        assert!(rt; write_all(&mut to, written).is_ok());
+        let is_written = write_all(&mut to, written).is_ok();
         if closed {
             to.close();
         }
         let count = said.read(&mut chunk).or(Err("not read"))?;
-        assert!(rt; chunk.get(..count) == Some(wanted), "at {written:?}");
+        let is_read = chunk.get(..count) == Some(wanted);
+        assert!(rt; is_written && is_read, "at {written:?}");
     }
     Ok(())
 }

@@ -77,13 +77,139 @@ pub fn link<'a>(
     writes: Vec<u64>,
     wire: &'a Wire,
 ) -> Result<MemPair<'a>, WantOfMemory> {
+    let text = Text::from_slice(alloc, text)?;
     let shape = MemShape {
         step: 4,
         room: 64,
         reads,
         writes,
     };
-    MemPair::new(alloc, Text::from_slice(alloc, text)?, shape, Some(wire))
+    MemPair::new(alloc, text, shape, Some(wire))
+}
+
+/// A link of which this text comes. The call of this number of `part` is to fail, where that is one of its halves.
+fn failing<'a>(
+    alloc: Global,
+    text: &[u8],
+    part: Part,
+    call: u64,
+    reads: Part,
+    writes: Part,
+    wire: &'a Wire,
+) -> Result<MemPair<'a>, WantOfMemory> {
+    let reads = fails(alloc, part, call, reads)?;
+    let writes = fails(alloc, part, call, writes)?;
+    link(alloc, text, reads, writes, wire)
+}
+
+/// The one client.
+fn clients<'a>(
+    alloc: Global,
+    part: Part,
+    call: u64,
+    wire: &'a Wire,
+) -> Result<Vec<MemLink<'a>>, WantOfMemory> {
+    let pair = failing(
+        alloc,
+        b"ask a\n",
+        part,
+        call,
+        Part::ClientIn,
+        Part::ClientOut,
+        wire,
+    )?;
+    let mut links = Vec::new(alloc);
+    links.push(MemLink {
+        addr: Addr {
+            v6: false,
+            number: 0x0a00_0001,
+        },
+        port: 4000,
+        pair,
+    })?;
+    Ok(links)
+}
+
+/// The one origin.
+fn origins<'a>(
+    alloc: Global,
+    part: Part,
+    call: u64,
+    wire: &'a Wire,
+) -> Result<Vec<MemOrigin<'a>>, WantOfMemory> {
+    let host = Text::from_slice(alloc, b"a.example")?;
+    let pair = failing(
+        alloc,
+        b"hello",
+        part,
+        call,
+        Part::OriginIn,
+        Part::OriginOut,
+        wire,
+    )?;
+    let mut origins = Vec::new(alloc);
+    origins.push(MemOrigin {
+        host,
+        port: 80,
+        pair,
+    })?;
+    Ok(origins)
+}
+
+/// The one child.
+fn children<'a>(
+    alloc: Global,
+    part: Part,
+    call: u64,
+    wire: &'a Wire,
+) -> Result<Vec<MemChild<'a>>, WantOfMemory> {
+    let words = helper(alloc)?;
+    let pair = failing(
+        alloc,
+        b"OK\n",
+        part,
+        call,
+        Part::ChildOut,
+        Part::ChildIn,
+        wire,
+    )?;
+    let mut children = Vec::new(alloc);
+    children.push(MemChild {
+        words,
+        pair,
+        waits: None,
+    })?;
+    Ok(children)
+}
+
+/// The words of the child.
+pub fn helper(alloc: Global) -> Result<Vec<Text>, WantOfMemory> {
+    let word = Text::from_slice(alloc, b"helper")?;
+    let mut words = Vec::new(alloc);
+    words.push(word)?;
+    Ok(words)
+}
+
+fn dialer<'a>(
+    alloc: Global,
+    part: Part,
+    call: u64,
+    wire: &'a Wire,
+) -> Result<MemDialer<'a>, WantOfMemory> {
+    let dials = fails(alloc, part, call, Part::Dialer)?;
+    let origins = origins(alloc, part, call, wire)?;
+    MemDialer::new(alloc, origins, dials)
+}
+
+fn spawner<'a>(
+    alloc: Global,
+    part: Part,
+    call: u64,
+    wire: &'a Wire,
+) -> Result<MemSpawner<'a>, WantOfMemory> {
+    let starts = fails(alloc, part, call, Part::Spawner)?;
+    let children = children(alloc, part, call, wire)?;
+    MemSpawner::new(alloc, children, starts)
 }
 
 /// A net with one client, one origin and one child, in which the call of this number of `part` is to fail.
@@ -95,61 +221,16 @@ pub fn net<'a>(
     word: &'a AtomicBool,
     wires: &'a Wires,
 ) -> Result<MemNet<'a>, WantOfMemory> {
-    let mut links = Vec::new(alloc);
-    links.push(MemLink {
-        addr: Addr {
-            v6: false,
-            number: 0x0a00_0001,
-        },
-        port: 4000,
-        pair: link(
-            alloc,
-            b"ask a\n",
-            fails(alloc, part, call, Part::ClientIn)?,
-            fails(alloc, part, call, Part::ClientOut)?,
-            &wires.client,
-        )?,
-    })?;
-    let mut origins = Vec::new(alloc);
-    origins.push(MemOrigin {
-        host: Text::from_slice(alloc, b"a.example")?,
-        port: 80,
-        pair: link(
-            alloc,
-            b"hello",
-            fails(alloc, part, call, Part::OriginIn)?,
-            fails(alloc, part, call, Part::OriginOut)?,
-            &wires.origin,
-        )?,
-    })?;
-    let mut words = Vec::new(alloc);
-    words.push(Text::from_slice(alloc, b"helper")?)?;
-    let mut children = Vec::new(alloc);
-    children.push(MemChild {
-        words,
-        pair: link(
-            alloc,
-            b"OK\n",
-            fails(alloc, part, call, Part::ChildOut)?,
-            fails(alloc, part, call, Part::ChildIn)?,
-            &wires.child,
-        )?,
-        waits: None,
-    })?;
-    let dialer = MemDialer::new(alloc, origins, fails(alloc, part, call, Part::Dialer)?)?;
-    let spawner = MemSpawner::new(alloc, children, fails(alloc, part, call, Part::Spawner)?)?;
+    let opens = fails(alloc, part, call, Part::Net)?;
+    let links = fails(alloc, part, call, Part::Listener)?;
+    let looks = fails(alloc, part, call, Part::Resolver)?;
+    let clients = clients(alloc, part, call, &wires.client)?;
+    let dialer = dialer(alloc, part, call, &wires.origin)?;
+    let spawner = spawner(alloc, part, call, &wires.child)?;
     let clock = MemClock::new(alloc, Moment(7), Vec::new(alloc));
-    let resolver = MemResolver::new(alloc, names, fails(alloc, part, call, Part::Resolver)?);
-    let parts = MemParts::new(
-        links,
-        word,
-        fails(alloc, part, call, Part::Listener)?,
-        dialer,
-        spawner,
-        clock,
-        resolver,
-    );
-    Ok(MemNet::new(parts, fails(alloc, part, call, Part::Net)?))
+    let resolver = MemResolver::new(alloc, names, looks);
+    let parts = MemParts::new(clients, word, links, dialer, spawner, clock, resolver);
+    Ok(MemNet::new(parts, opens))
 }
 
 /// Sends the request to the origin and its reply to the client, and gives the dial back.

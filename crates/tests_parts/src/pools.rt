@@ -6,6 +6,7 @@ use sq_base::{Addr, EpochNo, Listed, Moment, Text};
 use sq_pools::{Pools, Seat};
 use sq_rules::{AclParts, Classes, Config, Limit, Limits, Parts, PoolPart, PoolParts, RuleParts};
 use std::alloc::Global;
+use std::process::Abort;
 use std::sync::Arc;
 use std::test::Fail;
 
@@ -548,28 +549,47 @@ fn run_call(
     })
 }
 
-#[test]
-fn seats_are_granted_what_their_buckets_hold(rt: HostRuntime) -> Result<(), Fail> {
-    let alloc = rt.alloc();
+/// Seat 1 of other pools.
+fn other_seat(alloc: Global) -> Result<Seat, Fail> {
     let plain = config(alloc, PLAIN)?;
     let mut others = Pools::new(alloc, EpochNo(1), &plain, Moment(0))?;
     let addr = Addr {
         v6: false,
         number: 1,
     };
-    let other = choose(alloc, &mut others, 1, PLAIN, 0, addr, Moment(0))?;
+    choose(alloc, &mut others, 1, PLAIN, 0, addr, Moment(0))
+}
+
+/// The pools of epoch 1, made at this moment with the configuration of a place.
+fn pools_of(alloc: Global, made: u64, place: usize) -> Result<Pools, Fail> {
+    let config = config(alloc, place)?;
+    Ok(Pools::new(alloc, EpochNo(1), &config, moment(made))?)
+}
+
+/// Makes the calls in turn, and ends the process where one comes to something else.
+fn check(
+    rt: &impl Abort,
+    alloc: Global,
+    pools: &mut Pools,
+    other: &Seat,
+    why: &str,
+    steps: &[Step],
+) -> Result<(), Fail> {
+    let mut seats = Vec::new(alloc);
+    for (now, call, came) in steps {
+        let found = run_call(alloc, pools, &mut seats, other, moment(*now), *call)?;
+        assert!(rt; found == *came, "{why}: {now} {call:?}");
+    }
+    Ok(())
+}
+
+#[test]
+fn seats_are_granted_what_their_buckets_hold(rt: HostRuntime) -> Result<(), Fail> {
+    let other = other_seat(rt.alloc())?;
     for (why, made, place, steps, granted) in &RUNS {
-        let config = config(alloc, *place)?;
-        let mut pools = Pools::new(alloc, EpochNo(1), &config, moment(*made))?;
-        let mut seats = Vec::new(alloc);
-        for (now, call, came) in *steps {
-            assert_eq!(rt;
-                run_call(alloc, &mut pools, &mut seats, &other, moment(*now), *call)?,
-                *came,
-                "{why}: {now} {call:?}"
-            );
-        }
-        assert_eq!(rt; pools.granted(), *granted, "{why}");
+        let mut pools = pools_of(rt.alloc(), *made, *place)?;
+        check(&rt, rt.alloc(), &mut pools, &other, why, steps)?;
+        assert!(rt; pools.granted() == *granted, "{why}");
     }
     Ok(())
 }

@@ -1,27 +1,34 @@
 //! The calls of a process.
 use crate::fixtures::process_asked;
 use sq_base::{QuestionNo, Word};
-use sq_channel::Got;
+use sq_channel::{Got, Process};
+use std::alloc::Global;
 use std::test::Fail;
+
+/// Whether an ERR on channel 0 answers question 1.
+fn is_answered(alloc: Global, process: &mut Process) -> Result<bool, Fail> {
+    match process.got(alloc, b"0 ERR")? {
+        Got::Reply(question, reply) => { Ok(question == QuestionNo(1) && reply.word == Word::No) }
+        _ => Ok(false),
+    }
+}
 
 #[test]
 fn a_question_is_on_the_least_free_channel(rt: HostRuntime) -> Result<(), Fail> {
     let alloc = rt.alloc();
     let mut process = process_asked(alloc, 2)?;
-    assert!(rt; process.free() == 1);
-    assert!(rt; process.open_count() == 1);
+    assert!(rt; process.free() == 1 && process.open_count() == 1);
     assert!(rt; process.slots() == [Some(QuestionNo(1)), None].as_slice());
-    assert!(rt; matches!(process.look(alloc, b"1 ERR")?, Got::Stray));
-    match process.got(alloc, b"0 ERR")? {
-        Got::Reply(question, reply) => {
-            assert!(rt; question == QuestionNo(1));
-            assert!(rt; reply.word == Word::No);
-        }
-        _ => assert!(rt; false, "no reply"),
-    }
-    assert!(rt; process.free() == 2);
-    assert!(rt; process.drain() == None);
-    let mut process = process_asked(alloc, 0)?;
+    let is_stray = matches!(process.look(alloc, b"1 ERR")?, Got::Stray);
+    let is_answered = is_answered(alloc, &mut process)?;
+    assert!(rt; is_stray && is_answered);
+    assert!(rt; process.free() == 2 && process.drain() == None);
+    Ok(())
+}
+
+#[test]
+fn a_process_without_channels_takes_one_question(rt: HostRuntime) -> Result<(), Fail> {
+    let mut process = process_asked(rt.alloc(), 0)?;
     assert!(rt; process.free() == 0);
     assert!(rt; process.drain() == Some(QuestionNo(1)));
     assert!(rt; process.drain() == None);

@@ -16,11 +16,10 @@ use std::test::Fail;
 /// for the arguments, of which there are none.
 static TEXT: &str = "external_acl_type v %SRC /bin/h\nacl e external v\nhttp_access allow e\n";
 
-/// The check of a request of 10.1.2.3 that begins on connection 7 in epoch 1.
-fn begun(alloc: Global) -> Result<OpenCheck, Fail> {
-    let mut setup = read_config(alloc, TEXT.as_bytes())?;
+/// What the check of a request of 10.1.2.3 sees.
+fn sight(alloc: Global) -> Result<Sight, Fail> {
     let request = make_request(alloc, b"GET", b"http://a.example/", 0, Fields::new(alloc))?;
-    let sight = Sight {
+    Ok(Sight {
         request,
         addr: Addr {
             v6: false,
@@ -29,7 +28,13 @@ fn begun(alloc: Global) -> Result<OpenCheck, Fail> {
         port: 4000,
         minute: 0,
         conns: 1,
-    };
+    })
+}
+
+/// The check of this request that begins on connection 7 in epoch 1.
+fn begun(alloc: Global) -> Result<OpenCheck, Fail> {
+    let sight = sight(alloc)?;
+    let mut setup = read_config(alloc, TEXT.as_bytes())?;
     let facts = read_facts(alloc, &mut setup, &sight)?;
     Ok(OpenCheck::new(alloc, ConnNo(7), EpochNo(1), setup.config, sight, facts))
 }
@@ -118,28 +123,53 @@ fn taken(checks: &mut OpenChecks) -> Result<Record, Fail> {
     Ok(check.into_record(CheckNo(3)))
 }
 
+/// Whether check 3 asks question 4 at a step, for its client.
+fn asks(alloc: Global, checks: &mut OpenChecks) -> Result<bool, Fail> {
+    let key = Text::from_slice(alloc, b"10.1.2.3 -")?;
+    let asked = step(alloc, checks, CheckNo(3), QuestionNo(4))?;
+    Ok(needs(checks, QuestionNo(4), &key) && asked == Some(key))
+}
+
+/// Serves check 3 with an OK to this question, and says which question it waits for then.
+fn served(alloc: Global, checks: &mut OpenChecks, question: QuestionNo, now: Moment) -> u64 {
+    checks.serve(CheckNo(3), question, What::Yes(Pairs::new(alloc)), now);
+    waits(checks)
+}
+
+/// Whether the record is that of check 3, which was allowed after two steps.
+fn is_of_check(record: &Record) -> bool {
+    record.check() == CheckNo(3)
+        && record.epoch() == EpochNo(1)
+        && record.outcome().allow
+        && record.answers().len() == 1
+        && record.steps() == 2
+        && record.looks() == 0
+        && record.pool().is_none()
+        && record.sight().request.minor == 0
+        && record.config().rules().len() == 1
+}
+
+/// Whether check 3 is done at its next step and taken, and its record is its own.
+fn is_done(alloc: Global, checks: &mut OpenChecks) -> Result<bool, Fail> {
+    let asks_none = step(alloc, checks, CheckNo(3), QuestionNo(6))?.is_none();
+    let record = taken(checks)?;
+    let is_allowed = comes_to_allowed(alloc, &record)?;
+    Ok(asks_none && is_allowed && is_of_check(&record))
+}
+
 #[test]
 fn a_check_waits_for_its_question_and_is_then_done(rt: HostRuntime) -> Result<(), Fail> {
     let alloc = rt.alloc();
-    let mut checks = OpenChecks::new(alloc);
     let check = begun(alloc)?;
-    assert!(rt; checks.begin(CheckNo(3), check).is_ok());
-    let asked = step(alloc, &mut checks, CheckNo(3), QuestionNo(4))?;
-    let key = Text::from_slice(alloc, b"10.1.2.3 -")?;
-    assert!(rt; needs(&checks, QuestionNo(4), &key) && asked == Some(key));
-    assert!(rt; waits(&checks) == 4);
-    let yes = What::Yes(Pairs::new(alloc));
-    checks.serve(CheckNo(3), QuestionNo(5), yes, Moment(100));
-    assert!(rt; waits(&checks) == 4, "another question");
-    let yes = What::Yes(Pairs::new(alloc));
-    checks.serve(CheckNo(3), QuestionNo(4), yes, Moment(200));
-    assert!(rt; waits(&checks) == 0, "its question");
-    assert!(rt; step(alloc, &mut checks, CheckNo(3), QuestionNo(6))?.is_none());
-    let record = taken(&mut checks)?;
-    assert!(rt; checks.len() == 0 && record.check() == CheckNo(3) && record.epoch() == EpochNo(1));
-    assert!(rt; record.outcome().allow && record.answers().len() == 1);
-    assert!(rt; comes_to_allowed(alloc, &record)?);
-    assert!(rt; record.steps() == 2 && record.looks() == 0 && record.pool().is_none());
-    assert!(rt; record.sight().request.minor == 0 && record.config().rules().len() == 1);
+    let mut checks = OpenChecks::new(alloc);
+    let is_begun = checks.begin(CheckNo(3), check).is_ok();
+    let asks = asks(alloc, &mut checks)?;
+    assert!(rt; is_begun && asks && waits(&checks) == 4);
+    let left = served(alloc, &mut checks, QuestionNo(5), Moment(100));
+    assert!(rt; left == 4, "another question");
+    let left = served(alloc, &mut checks, QuestionNo(4), Moment(200));
+    assert!(rt; left == 0, "its question");
+    let is_done = is_done(alloc, &mut checks)?;
+    assert!(rt; is_done && checks.len() == 0);
     Ok(())
 }
