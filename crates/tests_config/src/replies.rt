@@ -219,8 +219,15 @@ fn have_keys(pairs: &[Pair]) -> bool
     pairs.iter().all(|pair| is_pair(pair))
 }
 
+fn put_pair(shown: &mut Text, pair: &Pair) -> Result<(), WantOfMemory> {
+    shown.append(pair.key.as_bytes())?;
+    shown.push(b'=')?;
+    shown.append(pair.value.as_bytes())?;
+    shown.push(b'|')
+}
+
 /// A reply as the table writes it down.
-fn shown(alloc: Global, reply: &Reply) -> Result<Text, Fail> {
+fn shown(alloc: Global, reply: &Reply) -> Result<Text, WantOfMemory> {
     let word = match reply.word {
         Word::Yes => "Yes|",
         Word::No => "No|",
@@ -228,10 +235,7 @@ fn shown(alloc: Global, reply: &Reply) -> Result<Text, Fail> {
     };
     let mut shown = Text::from_slice(alloc, word.as_bytes())?;
     for pair in reply.pairs.as_slice() {
-        shown.append(pair.key.as_bytes())?;
-        shown.push(b'=')?;
-        shown.append(pair.value.as_bytes())?;
-        shown.push(b'|')?;
+        put_pair(&mut shown, pair)?;
     }
     Ok(shown)
 }

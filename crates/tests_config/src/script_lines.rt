@@ -139,6 +139,39 @@ static CASES: [(Case, &'static [u8]); 12] = [
     ),
 ];
 
+// Puts the next line behind what is shown, or how the reading ended, and says whether it goes on.
+fn put_next(
+    shown: &mut Text,
+    held: &mut Held,
+    source: &mut MemSource,
+    place: &mut u64,
+    line: &mut Vec<u8>,
+) -> Result<bool, WantOfMemory> {
+    if *place > 1_073_741_824 {
+        return Ok(false);
+    }
+    match next_line(held, source, place, line) {
+        Ok(Found::Whole) => {
+            shown.append(line.as_slice())?;
+            shown.append(b"|")?;
+            Ok(true)
+        }
+        Ok(Found::End) => {
+            shown.append(b"end")?;
+            Ok(false)
+        }
+        Ok(Found::Faulty) => {
+            shown.append(b"faulty")?;
+            Ok(false)
+        }
+        Err(Unread::Failed) => {
+            shown.append(b"failed")?;
+            Ok(false)
+        }
+        Err(Unread::WantOfMemory) => Err(WantOfMemory),
+    }
+}
+
 // The lines up to ten, and how the reading ended.
 fn shown(
     alloc: Global,
@@ -146,32 +179,13 @@ fn shown(
     room: usize,
     place: u64,
 ) -> Result<Text, WantOfMemory> {
-    let mut shown = Text::new(alloc);
     let mut held = Held::new(alloc, room)?;
+    let mut shown = Text::new(alloc);
     let mut line = Vec::new(alloc);
     let mut place = place;
     for _ in 0..10u64 {
-        if place > 1_073_741_824 {
+        if !put_next(&mut shown, &mut held, source, &mut place, &mut line)? {
             break;
-        }
-        match next_line(&mut held, source, &mut place, &mut line) {
-            Ok(Found::Whole) => {
-                shown.append(line.as_slice())?;
-                shown.append(b"|")?;
-            }
-            Ok(Found::End) => {
-                shown.append(b"end")?;
-                break;
-            }
-            Ok(Found::Faulty) => {
-                shown.append(b"faulty")?;
-                break;
-            }
-            Err(Unread::Failed) => {
-                shown.append(b"failed")?;
-                break;
-            }
-            Err(Unread::WantOfMemory) => return Err(WantOfMemory),
         }
     }
     Ok(shown)

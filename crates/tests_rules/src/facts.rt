@@ -2,7 +2,7 @@
 ghost use Rattle.std.specs.Prelude.{◌≡◌, ◌<◌};
 ghost use Rattle.sq_rules.specs.Facts.{facts_of};
 
-use sq_base::{Addr, Fields, Listed, Steps, Text};
+use sq_base::{Addr, Fields, Listed, Steps, Text, WantOfMemory};
 use sq_facts::read_facts;
 use sq_request::make_request;
 use sq_rules::{
@@ -56,27 +56,43 @@ static FACTS: [(&[u8], &[u8], u128, [bool; 8]); 6] = [
     ),
 ];
 
-/// The acls that are there from the start, a list of one pattern, and a group that always holds.
-fn acls(alloc: Global) -> Result<AclParts, Fail> {
-    let mut acls = predefined_acls(alloc)?;
+/// A list of one pattern.
+fn secrets(alloc: Global) -> Result<AclPart, WantOfMemory> {
+    let name = Text::from_slice(alloc, b"secrets")?;
+    let pattern = Text::from_slice(alloc, b"secret$")?;
     let mut finds = Finds::new(alloc);
     finds.push(Find {
-        pattern: Text::from_slice(alloc, b"secret$")?,
+        pattern,
         fold: false,
     })?;
-    acls.push(AclPart {
-        name: Text::from_slice(alloc, b"secrets")?,
+    Ok(AclPart {
+        name,
         body: BodyPart::Leaf(Leaf::UrlRegex(finds)),
-    })?;
+    })
+}
+
+/// A group that always holds.
+fn group(alloc: Global) -> Result<AclPart, WantOfMemory> {
+    let name = Text::from_slice(alloc, b"group")?;
+    let acl = Text::from_slice(alloc, b"all")?;
     let mut terms = TermParts::new(alloc);
     terms.push(TermPart {
-        acl: Text::from_slice(alloc, b"all")?,
+        acl,
         negated: false,
     })?;
-    acls.push(AclPart {
-        name: Text::from_slice(alloc, b"group")?,
+    Ok(AclPart {
+        name,
         body: BodyPart::AnyOf(terms),
-    })?;
+    })
+}
+
+/// The acls that are there from the start, and these two.
+fn acls(alloc: Global) -> Result<AclParts, WantOfMemory> {
+    let secrets = secrets(alloc)?;
+    let group = group(alloc)?;
+    let mut acls = predefined_acls(alloc)?;
+    acls.push(secrets)?;
+    acls.push(group)?;
     Ok(acls)
 }
 
