@@ -6,6 +6,7 @@ use sq_outside::{
     MemResolver, MemSpawner, MemWait, Out, Resolver, Source, Spawner, Wire, write_all,
 };
 use std::alloc::Global;
+use std::process::Abort;
 use std::sync::atomic::AtomicBool;
 use std::test::Fail;
 
@@ -126,33 +127,52 @@ static LOOKS: [(&[u8], Option<usize>); 4] = [
     (b"empty.example", Some(0)),
 ];
 
-#[test]
-fn names_are_looked_up_and_the_third_look_fails(rt: HostRuntime) -> Result<(), Fail> {
-    let alloc = rt.alloc();
+/// A host with these addresses.
+fn name(alloc: Global, host: &[u8], addrs: Addrs) -> Result<MemName, WantOfMemory> {
+    let host = Text::from_slice(alloc, host)?;
+    Ok(MemName { host, addrs })
+}
+
+/// A host with one address, and one with none.
+fn names(alloc: Global) -> Result<Vec<MemName>, WantOfMemory> {
     let mut addrs = Addrs::new(alloc);
     addrs.push(Addr {
         v6: false,
         number: 7,
     })?;
+    let one = name(alloc, b"a.example", addrs)?;
+    let none = name(alloc, b"empty.example", Addrs::new(alloc))?;
     let mut names = Vec::new(alloc);
-    names.push(MemName {
-        host: Text::from_slice(alloc, b"a.example")?,
-        addrs,
-    })?;
-    names.push(MemName {
-        host: Text::from_slice(alloc, b"empty.example")?,
-        addrs: Addrs::new(alloc),
-    })?;
+    names.push(one)?;
+    names.push(none)?;
+    Ok(names)
+}
+
+/// How many addresses are found, or None where the look-up fails.
+fn found(
+    rt: &impl Abort,
+    alloc: Global,
+    resolver: &mut MemResolver<'_>,
+    host: &[u8],
+) -> Result<Option<usize>, WantOfMemory> {
+    let host = Text::from_slice(alloc, host)?;
+    match resolver.look(alloc, &host) {
+        Ok(addrs) => Ok(Some(addrs.as_slice().len())),
+        Err(fault) => {
+            assert!(rt; fault == LookFault::Failed);
+            Ok(None)
+        }
+    }
+}
+
+#[test]
+fn names_are_looked_up_and_the_third_look_fails(rt: HostRuntime) -> Result<(), Fail> {
+    let alloc = rt.alloc();
     let fails = Vec::from_slice(alloc, &[3])?;
+    let names = names(alloc)?;
     let mut resolver = MemResolver::new(alloc, names.as_slice(), fails);
     for &(host, wanted) in &LOOKS {
-        let found = match resolver.look(alloc, &Text::from_slice(alloc, host)?) {
-            Ok(addrs) => Some(addrs.as_slice().len()),
-            Err(fault) => {
-                assert!(rt; fault == LookFault::Failed);
-                None
-            }
-        };
+        let found = found(&rt, alloc, &mut resolver, host)?;
         assert!(rt; found == wanted, "at {host:?}");
     }
     Ok(())

@@ -16,25 +16,37 @@ struct Row<'a> {
     wrong: &'a [&'a str],
 }
 
+// Whether the entry, where its numbers can be, is printed as the line.
+fn is_printed(alloc: Global, row: &Row<'_>) -> Result<bool, EntryFault> {
+    if row.number >= 1 << 63 || row.epoch >= 1 << 63 {
+        return Ok(true);
+    }
+    let entry = read_entry(alloc, row.entry.as_bytes())?;
+    let text = print_numbered(alloc, row.number, EpochNo(row.epoch), &entry)?;
+    Ok(text.as_bytes() == row.line.as_bytes())
+}
+
+// Whether the line reads back.
+fn is_read(alloc: Global, row: &Row<'_>) -> Result<bool, EntryFault> {
+    let (number, epoch, _) = read_numbered(alloc, row.line.as_bytes())?;
+    Ok(number == row.number && epoch.0 == row.epoch)
+}
+
+// Whether a line is none.
+fn is_refused(alloc: Global, line: &str) -> bool {
+    match read_numbered(alloc, line.as_bytes()) {
+        Err(EntryFault::BadEntry) => true,
+        _ => false,
+    }
+}
+
 // Ends the process unless the entry is printed as the line, the line reads back, and those close to it do not.
 fn check(rt: &impl Abort, alloc: Global, row: &Row<'_>) -> Result<(), EntryFault> {
-    let entry = read_entry(alloc, row.entry.as_bytes())?;
-    if row.number < 1 << 63 && row.epoch < 1 << 63 {
-        let text = print_numbered(alloc, row.number, EpochNo(row.epoch), &entry)?;
-        let same = text.as_bytes() == row.line.as_bytes();
-        assert!(rt; same, "{}", row.line);
-    }
-    let (number, epoch, _) = read_numbered(alloc, row.line.as_bytes())?;
-    assert!(rt;
-        number == row.number && epoch.0 == row.epoch,
-        "{}",
-        row.line
-    );
+    let is_printed = is_printed(alloc, row)?;
+    let is_read = is_read(alloc, row)?;
+    assert!(rt; is_printed && is_read, "{}", row.line);
     for line in row.wrong {
-        match read_numbered(alloc, line.as_bytes()) {
-            Err(EntryFault::BadEntry) => {}
-            _ => assert!(rt; false, "{}", line),
-        }
+        assert!(rt; is_refused(alloc, line), "{}", line);
     }
     Ok(())
 }
