@@ -5,7 +5,7 @@ use Rattle.sq_outside.specs.Output.{Grew, IsPrefix, IsProperPrefix, IsWritten}
 use Rattle.sq_outside.specs.Told.{Texts}
 use Rattle.sq_outside.proofs.Writing.{IsWritten_since}
 use Rattle.sq_proxy.specs.declared.ends.Status.{Status}
-use Rattle.sq_proxy.specs.declared.ends.Status.TheVariants.{Ok, Usage, Config, Script, ReadFault, WriteFault, Differs, Missing, WantOfMemory}
+use Rattle.sq_proxy.specs.declared.ends.Status.TheVariants.{Ok, Usage, Config, Script, ReadFault, WriteFault, Differs, JournalFault, Net, Missing, WantOfMemory}
 use Rattle.sq_proxy.specs.Commands.{Disk, Output}
 use Rattle.sq_replay.specs.Ends.{End, Done, Refused, Faulted, Fault, Reading, Writing, Lacking}
 use Rattle.sq_proxy.specs.Ends.{IsToldEnd, end_of, status_of, last_line}
@@ -44,6 +44,8 @@ done_is ReadFault e = absurd (cc)
 done_is WriteFault e = absurd (cc)
 done_is (Differs l m j) e = absurd (cc)
 done_is (Missing n) e = absurd (cc)
+done_is JournalFault e = absurd (cc)
+done_is Net e = absurd (cc)
 done_is WantOfMemory e = absurd (cc)
 
 -- the command's text, and then its last line

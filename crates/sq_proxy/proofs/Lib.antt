@@ -6,6 +6,7 @@ mod MissingLaws
 mod OpenedLaws
 mod RehearseLaws
 mod SettleLaws
+mod ServiceLaws
 mod ShelfLaws
 mod StageLaws
 mod VerifyLaws

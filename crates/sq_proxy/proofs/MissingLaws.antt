@@ -170,4 +170,6 @@ replay_missing texts a b before now conf script (ends.Script n) d told = tt
 replay_missing texts a b before now conf script ends.ReadFault d told = tt
 replay_missing texts a b before now conf script ends.WriteFault d told = tt
 replay_missing texts a b before now conf script (ends.Differs l m j) d told = tt
+replay_missing texts a b before now conf script ends.JournalFault d told = tt
+replay_missing texts a b before now conf script ends.Net d told = tt
 replay_missing texts a b before now conf script ends.WantOfMemory d told = tt

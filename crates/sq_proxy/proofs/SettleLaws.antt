@@ -113,6 +113,8 @@ fault_is (ends.Config l k) fault e = absurd (cc)
 fault_is (ends.Script n) fault e = absurd (cc)
 fault_is (ends.Missing n) fault e = absurd (cc)
 fault_is (ends.Differs l m j) fault e = absurd (cc)
+fault_is ends.JournalFault fault e = absurd (cc)
+fault_is ends.Net fault e = absurd (cc)
 
 failed_settled_as : (k : End) (end : Status) → end_of end ≡ k → IsSettled end (failed_as k)
 failed_settled_as Done end e = inr refl

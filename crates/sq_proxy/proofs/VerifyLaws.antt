@@ -191,6 +191,8 @@ verify_played texts same conf journal (ends.Script n) is e = tt
 verify_played texts same conf journal ends.ReadFault is e = tt
 verify_played texts same conf journal ends.WriteFault is e = tt
 verify_played texts same conf journal (ends.Differs l m j) is e = tt
+verify_played texts same conf journal ends.JournalFault is e = tt
+verify_played texts same conf journal ends.Net is e = tt
 verify_played texts same conf journal ends.WantOfMemory is e = tt
 
 -- a file that it misses is one that it names
@@ -204,6 +206,8 @@ verify_missing texts conf journal (ends.Script n) e = tt
 verify_missing texts conf journal ends.ReadFault e = tt
 verify_missing texts conf journal ends.WriteFault e = tt
 verify_missing texts conf journal (ends.Differs l m j) e = tt
+verify_missing texts conf journal ends.JournalFault e = tt
+verify_missing texts conf journal ends.Net e = tt
 verify_missing texts conf journal ends.WantOfMemory e = tt
 
 -- audits

@@ -14,7 +14,7 @@ use Rattle.sq_verify.specs.declared.findings.Finding.{Finding}
 use Rattle.sq_verify.specs.declared.findings.Finding.TheVariants as finding
 use Rattle.sq_verify.specs.Telling.{differs_text}
 use Rattle.sq_proxy.specs.declared.ends.Status.{Status}
-use Rattle.sq_proxy.specs.declared.ends.Status.TheVariants.{Ok, Usage, Config, Script, ReadFault, WriteFault, Differs, Missing, WantOfMemory}
+use Rattle.sq_proxy.specs.declared.ends.Status.TheVariants.{Ok, Usage, Config, Script, ReadFault, WriteFault, Differs, JournalFault, Net, Missing, WantOfMemory}
 
 abbrev pub usage_line : List ℕ
 usage_line = codes "usage: aclproxy parse CONF | replay CONF SCRIPT | verify CONF JOURNAL | migrate JOURNAL | rehearse N | serve CONF [--port P] [--workers W] [--utc-offset M]" ++ 10 ∷ []
@@ -31,6 +31,8 @@ last_line (Config line kind) = config_line line (kind_number kind)
 last_line (Script line) = codes "error script " ++ decimal line ++ 10 ∷ []
 last_line ReadFault = codes "error read" ++ 10 ∷ []
 last_line WriteFault = []
+last_line JournalFault = codes "error journal" ++ 10 ∷ []
+last_line Net = codes "error net" ++ 10 ∷ []
 last_line (Differs line machine journal) = differs_text line machine journal
 last_line (Missing name) = codes "error missing " ++ text_word name ++ 10 ∷ []
 last_line WantOfMemory = []
@@ -43,11 +45,13 @@ code_of (Config line kind) = 2
 code_of (Script line) = 3
 code_of ReadFault = 4
 code_of WriteFault = 5
+code_of JournalFault = 6
 code_of (Missing name) = 7
 code_of (Differs line machine journal) = 8
+code_of Net = 9
 code_of WantOfMemory = 10
 
--- what kind of end each status is
+-- what kind of end each status is; the two that a server alone has count as refusals, since they have a last line
 abbrev pub end_of : Status → End
 end_of Ok = Done
 end_of Usage = Refused
@@ -56,6 +60,8 @@ end_of (Script line) = Refused
 end_of ReadFault = Faulted Reading
 end_of WriteFault = Faulted Writing
 end_of (Differs line machine journal) = Refused
+end_of JournalFault = Refused
+end_of Net = Refused
 end_of (Missing name) = Refused
 end_of WantOfMemory = Faulted Lacking
 

@@ -4,3 +4,5 @@ pub mod Opened
 pub mod Outputs
 pub mod ParseText
 pub mod Pieces
+pub mod Service
+pub mod Serving

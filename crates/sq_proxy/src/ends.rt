@@ -30,6 +30,10 @@ pub enum Status {
         machine: Text,
         journal: Text,
     },
+    /// An entry of the journal of a server could not be noted.
+    JournalFault,
+    /// The net of a server could not be opened, or its listener failed.
+    Net,
     /// There is no file of this name.
     Missing(Text),
     /// There was no memory.
@@ -50,12 +54,14 @@ impl Status {
             Status::Script(_) => 3,
             Status::ReadFault => 4,
             Status::WriteFault => 5,
+            Status::JournalFault => 6,
             Status::Missing(_) => 7,
             Status::Differs {
                 line: _,
                 machine: _,
                 journal: _,
             } => 8,
+            Status::Net => 9,
             Status::WantOfMemory => 10,
         }
     }

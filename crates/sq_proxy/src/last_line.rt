@@ -146,6 +146,8 @@ fn write_last_line<O: Sink>(out: &mut O, status: &Status) -> Result<(), Failed>
         Status::Config { line, kind } => write_config_line(out, *line, kind.number()),
         Status::Script(line) => write_number_line(out, b"error script ", *line),
         Status::ReadFault => write_line(out, b"error read", b""),
+        Status::JournalFault => write_line(out, b"error journal", b""),
+        Status::Net => write_line(out, b"error net", b""),
         Status::Differs {
             line,
             machine,

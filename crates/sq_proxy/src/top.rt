@@ -1,4 +1,4 @@
-//! The top call.
+//! The commands over files alone.
 ghost use Rattle.std.specs.Prelude.{◌≡◌, ◌≤◌, ◌↔◌, ◌⊎◌, [], ℕ, List, Option, true, None, Some, IfSome};
 ghost use Rattle.sq_outside.specs.Causes.{Rose};
 ghost use Rattle.sq_outside.specs.Told.{IsNotTold};
@@ -166,8 +166,14 @@ fn run_words<F: Files, O: Sink>(alloc: Global, words: &[Text], files: &mut F, ou
 /// configuration and counts what it states, `replay CONF SCRIPT` runs the script over the configuration
 /// and writes a line for each event, `verify CONF JOURNAL` judges the journal over the configuration,
 /// `migrate JOURNAL` writes a journal of version 1 as one of version 2, and `rehearse N` runs a rehearsal of
-/// so many requests and writes what came of them. The words are those after the program's name.
-pub fn proxy<F: Files, O: Sink>(alloc: Global, words: &[Text], files: &mut F, out: &mut O) -> Status
+/// so many requests and writes what came of them. The words are those after the program's name; other words, those of a
+/// server too, are no command here.
+pub fn run_command<F: Files, O: Sink>(
+    alloc: Global,
+    words: &[Text],
+    files: &mut F,
+    out: &mut O,
+) -> Status
     // What it writes, where the files and the sink tell: the command's text, and the last line.
     ensures bytes { IfSome (F.texts files.old) (λ disk. Grew (O.contents out.old) (O.contents out.new)
         (IsOutput (output_of disk words.now) (O.faults out.old) (O.faults out.new) result)) }

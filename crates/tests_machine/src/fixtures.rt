@@ -2,7 +2,7 @@
 
 use sq_base::{Text, WantOfMemory};
 use sq_outside::{MemFile, MemFiles, MemSink};
-use sq_proxy::{Status, proxy};
+use sq_proxy::{Status, run_command};
 use std::alloc::Global;
 
 /// The bytes that a source gives and a sink takes in a call.
@@ -63,6 +63,6 @@ pub fn run(alloc: Global, job: &Job<'_>) -> Result<Ran, WantOfMemory> {
     let words = texts(alloc, job.words)?;
     let mut files = files(alloc, job)?;
     let mut out = MemSink::new(alloc, job.room, STEP, Vec::from_slice(alloc, job.writes)?)?;
-    let status = proxy(alloc, words.as_slice(), &mut files, &mut out);
+    let status = run_command(alloc, words.as_slice(), &mut files, &mut out);
     Ok(Ran { status, out })
 }

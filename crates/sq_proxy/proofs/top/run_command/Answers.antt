@@ -3,7 +3,7 @@ use Rattle.sq_proxy.proofs.DoneLaws.{runs_truly_told}
 use Rattle.sq_proxy.proofs.EndLaws.{joined_told}
 use Rattle.sq_proxy.proofs.OpenedLaws.{opened_told}
 use Rattle.sq_proxy.proofs.VerifyLaws.{audits_told}
-use Rattle.sq_proxy.proofs.top.proxy.Goals as goal
+use Rattle.sq_proxy.proofs.top.run_command.Goals as goal
 
 pub returns-clause-bytes : goal.returns-clause-bytes
 returns-clause-bytes g c =

@@ -1,0 +1,327 @@
+-- How a server ends, and what came of it.
+use Rattle.std.proofs.Common.{◌≡◌, ◌⊎◌, inl, inr, ℕ, ◌+◌, ◌<◌, ◌≤◌, List, [], Bool, true, false, Result, Ok, Err, Some, None, IfSome, refl, sym, ap, ◌∙◌, subst, arith}
+use Rattle.std.specs.Option.{ForSome}
+use Rattle.std.specs.declared.option.Option.{Option}
+use Rattle.std.specs.Io.KnownBytes.{Appends}
+use Rattle.sq_outside.specs.Causes.{Rose, TakesBack}
+use Rattle.sq_outside.specs.Told.{IsNotTold, Texts}
+use Rattle.sq_rules.specs.Configurations.{Configuration}
+use Rattle.sq_rules.specs.Entries.{History}
+use Rattle.sq_rules.specs.Readings.{current}
+use Rattle.sq_calls.specs.declared.faults.DeskFault.{DeskFault}
+use Rattle.sq_calls.specs.declared.faults.DeskFault.TheVariants as desk
+use Rattle.sq_desk.specs.Calling.{IsUnbegun}
+use Rattle.sq_desk.specs.Desks.{IsLegal}
+use Rattle.sq_control.specs.declared.panel.PanelEnd.{PanelEnd}
+use Rattle.sq_control.specs.declared.panel.PanelEnd.TheVariants as panel
+use Rattle.sq_panel.specs.Attending.{FilesSeen, Runs, Streams}
+use Rattle.sq_proxy.specs.Commands.{conf_stage}
+use Rattle.sq_proxy.specs.Ends.{Comes, IfMissing, IsFault, IsOpenEnd}
+use Rattle.sq_proxy.specs.Outputs.{IsSettled}
+use Rattle.sq_proxy.specs.Serving.{Server}
+use Rattle.sq_proxy.specs.declared.ends.Status.{Status}
+use Rattle.sq_proxy.specs.declared.ends.Status.TheVariants as ends
+use Rattle.sq_proxy.specs.Service.{EndsOver, EndsWell, IsLegalOrEmpty, IsServed, IsServerEnd, IsService, IsUnservedEnd, ended_status, port_of, stopped_line}
+
+pub stopped_is : (e : PanelEnd) (stopped failed : Bool) → ended_status e stopped failed ≡ ends.JournalFault → stopped ≡ true
+stopped_is panel.ReadFault stopped failed e = absurd (cc)
+stopped_is panel.WriteFault stopped failed e = absurd (cc)
+stopped_is panel.Ended true failed e = refl
+stopped_is panel.Ended false true e = absurd (cc)
+stopped_is panel.Ended false false e = absurd (cc)
+stopped_is panel.Faulted true failed e = refl
+stopped_is panel.Faulted false true e = absurd (cc)
+stopped_is panel.Faulted false false e = absurd (cc)
+
+pub failed_is : (e : PanelEnd) (stopped failed : Bool) → ended_status e stopped failed ≡ ends.Net → failed ≡ true
+failed_is panel.ReadFault stopped failed e = absurd (cc)
+failed_is panel.WriteFault stopped failed e = absurd (cc)
+failed_is panel.Ended true failed e = absurd (cc)
+failed_is panel.Ended false true e = refl
+failed_is panel.Ended false false e = absurd (cc)
+failed_is panel.Faulted true failed e = absurd (cc)
+failed_is panel.Faulted false true e = refl
+failed_is panel.Faulted false false e = absurd (cc)
+
+ended_ok : (e : PanelEnd) (stopped failed : Bool) → ended_status e stopped failed ≡ ends.Ok → e ≡ panel.Ended
+ended_ok panel.ReadFault stopped failed e = absurd (cc)
+ended_ok panel.WriteFault stopped failed e = absurd (cc)
+ended_ok panel.Ended stopped failed e = refl
+ended_ok panel.Faulted true failed e = absurd (cc)
+ended_ok panel.Faulted false true e = absurd (cc)
+ended_ok panel.Faulted false false e = absurd (cc)
+
+ended_read : (e : PanelEnd) (stopped failed : Bool) → ended_status e stopped failed ≡ ends.ReadFault → e ≡ panel.ReadFault
+ended_read panel.ReadFault stopped failed e = refl
+ended_read panel.WriteFault stopped failed e = absurd (cc)
+ended_read panel.Ended true failed e = absurd (cc)
+ended_read panel.Ended false true e = absurd (cc)
+ended_read panel.Ended false false e = absurd (cc)
+ended_read panel.Faulted true failed e = absurd (cc)
+ended_read panel.Faulted false true e = absurd (cc)
+ended_read panel.Faulted false false e = absurd (cc)
+
+ended_write : (e : PanelEnd) (stopped failed : Bool) → ended_status e stopped failed ≡ ends.WriteFault → e ≡ panel.WriteFault
+ended_write panel.ReadFault stopped failed e = absurd (cc)
+ended_write panel.WriteFault stopped failed e = refl
+ended_write panel.Ended true failed e = absurd (cc)
+ended_write panel.Ended false true e = absurd (cc)
+ended_write panel.Ended false false e = absurd (cc)
+ended_write panel.Faulted true failed e = absurd (cc)
+ended_write panel.Faulted false true e = absurd (cc)
+ended_write panel.Faulted false false e = absurd (cc)
+
+ended_server : (e : PanelEnd) (stopped failed : Bool) → IsServerEnd (ended_status e stopped failed)
+ended_server panel.ReadFault stopped failed = tt
+ended_server panel.WriteFault stopped failed = tt
+ended_server panel.Ended true failed = tt
+ended_server panel.Ended false true = tt
+ended_server panel.Ended false false = tt
+ended_server panel.Faulted true failed = tt
+ended_server panel.Faulted false true = tt
+ended_server panel.Faulted false false = tt
+
+unserved_server : (s : Status) → IsUnservedEnd s → IsServerEnd s
+unserved_server ends.JournalFault u = tt
+unserved_server ends.WantOfMemory u = tt
+unserved_server ends.Ok u = absurd u
+unserved_server ends.Usage u = absurd u
+unserved_server (ends.Config l k) u = absurd u
+unserved_server (ends.Script n) u = absurd u
+unserved_server ends.ReadFault u = absurd u
+unserved_server ends.WriteFault u = absurd u
+unserved_server (ends.Differs l m j) u = absurd u
+unserved_server ends.Net u = absurd u
+unserved_server (ends.Missing n) u = absurd u
+
+unserved_not : (s t : Status) → IsUnservedEnd s → s ≡ t → IsUnservedEnd t
+unserved_not s t u e = subst IsUnservedEnd e u
+
+-- a server of which no desk was made
+pub unserved : (texts : Texts) (name : List ℕ) (port : ℕ) (f : FilesSeen) (v : Streams) (jb jn ln : ℕ) (history : Option History) (status : Status) → IsUnservedEnd status
+    → IsLegalOrEmpty history → (status ≡ ends.JournalFault → Rose jb jn) → IsServed texts name port f f v v jb jn ln history status
+unserved texts name port f v jb jn ln history status u legal journal = record {
+  ok = λ e. absurd (unserved_not status ends.Ok u e);
+  legal = legal;
+  noted = λ e. absurd (unserved_not status ends.Ok u e);
+  read = λ e. absurd (unserved_not status ends.ReadFault u e);
+  write = λ e. absurd (unserved_not status ends.WriteFault u e);
+  journal = journal;
+  net = λ e. absurd (unserved_not status ends.Net u e);
+  end = unserved_server status u;
+  input_later = omega arith;
+  output_later = omega arith;
+}
+
+-- a server whose panel ran
+pub served : (texts : Texts) (name : List ℕ) (port : ℕ) (f g : FilesSeen) (v w : Streams) (jb jn ln : ℕ) (history : Option History) (end : PanelEnd) (stopped failed : Bool) (made : ℕ)
+    (status : Status) → status ≡ ended_status end stopped failed → Runs texts name port f g v w end made → ForSome history (λ h. made + 1 ≡ current h) → IfSome history IsLegal
+    → IsLegalOrEmpty history → (status ≡ ends.JournalFault → Rose jb jn) → (status ≡ ends.Net → 0 < ln) → IsServed texts name port f g v w jb jn ln history status
+served texts name port f g v w jb jn ln history end stopped failed made status is runs makes legal either journal net =
+    let causes = runs.4.causes in
+    record {
+      ok = λ e. (made, subst (λ (x : PanelEnd). Runs texts name port f g v w x made) (ended_ok end stopped failed (sym is ∙ e)) runs, makes);
+      legal = either;
+      noted = λ e. legal;
+      read = λ e. causes.read (ended_read end stopped failed (sym is ∙ e));
+      write = λ e. causes.write (ended_write end stopped failed (sym is ∙ e));
+      journal = journal;
+      net = net;
+      end = subst IsServerEnd (sym is) (ended_server end stopped failed);
+      input_later = causes.input_later;
+      output_later = causes.output_later;
+    }
+
+-- a server whose configuration could not be had
+
+open_server : (texts : Texts) (name : List ℕ) (s : Status) → IsOpenEnd texts name s → IsFault s → IsServerEnd s
+open_server texts name ends.ReadFault o f = tt
+open_server texts name ends.WantOfMemory o f = tt
+open_server texts name (ends.Config l k) o f = absurd f
+open_server texts name (ends.Missing n) o f = absurd f
+open_server texts name ends.Ok o f = absurd o
+open_server texts name ends.Usage o f = absurd o
+open_server texts name (ends.Script n) o f = absurd o
+open_server texts name ends.WriteFault o f = absurd o
+open_server texts name (ends.Differs l m j) o f = absurd o
+open_server texts name ends.JournalFault o f = absurd o
+open_server texts name ends.Net o f = absurd o
+
+open_missing : (texts : Texts) (name : List ℕ) (s : Status) → IsOpenEnd texts name s → IfMissing s (λ n. (n ≡ name) × IsNotTold texts n)
+open_missing texts name (ends.Missing other) (e, told) = (e, subst (IsNotTold texts) (sym e) told)
+open_missing texts name ends.ReadFault o = tt
+open_missing texts name ends.WantOfMemory o = tt
+open_missing texts name (ends.Config l k) o = tt
+open_missing texts name ends.Ok o = tt
+open_missing texts name ends.Usage o = tt
+open_missing texts name (ends.Script n) o = tt
+open_missing texts name ends.WriteFault o = tt
+open_missing texts name (ends.Differs l m j) o = tt
+open_missing texts name ends.JournalFault o = tt
+open_missing texts name ends.Net o = tt
+
+over_err : (texts : Texts) (name : List ℕ) (stage : Result Configuration Status) (s : Status) → IsOpenEnd texts name s → (stage ≡ Err s) ⊎ IsFault s → EndsOver stage s
+over_err texts name (Err e) s o (inl is) = inl (let same : e ≡ s = cc in sym same)
+over_err texts name (Ok config) s o (inl is) = absurd (cc)
+over_err texts name (Err e) s o (inr fault) = inr fault
+over_err texts name (Ok config) s o (inr fault) = open_server texts name s o fault
+
+over_all : (texts : Texts) (name : List ℕ) (s : Status) → IsOpenEnd texts name s → (told : Texts) → IfSome told (λ disk. Comes {A = Configuration} (Err s) (conf_stage name (disk name)))
+    → IfSome told (λ disk. EndsOver (conf_stage name (disk name)) s)
+over_all texts name s o None c = tt
+over_all texts name s o (Some disk) c = over_err texts name (conf_stage name (disk name)) s o c
+
+no_end : (texts : Texts) (name : List ℕ) (s t : Status) → IsOpenEnd texts name s → s ≡ t → IsOpenEnd texts name t
+no_end texts name s t o e = subst (IsOpenEnd texts name) e o
+
+empty_legal : (history : Option History) → IfSome history (λ h. h ≡ []) → IsLegalOrEmpty history
+empty_legal None e = tt
+empty_legal (Some h) e = inl e
+
+pub conf_failed : (s : Server) (texts : Texts) (f g : FilesSeen) (v : Streams) (jb nb : ℕ) (history : Option History) (status : Status) → IsOpenEnd texts s.conf status
+    → IfSome texts (λ disk. Comes {A = Configuration} (Err status) (conf_stage s.conf (disk s.conf))) → (status ≡ ends.ReadFault → Rose f.faults g.faults) → IfSome history (λ h. h ≡ [])
+    → IsService s texts f g v v jb jb nb nb history status
+conf_failed s texts f g v jb nb history status o comes read empty = record {
+  ok = λ e. absurd (no_end texts s.conf status ends.Ok o e);
+  legal = empty_legal history empty;
+  read = λ e. inl (read e);
+  write = λ e. absurd (no_end texts s.conf status ends.WriteFault o e);
+  journal = λ e. absurd (no_end texts s.conf status ends.JournalFault o e);
+  net = λ e. absurd (no_end texts s.conf status ends.Net o e);
+  conf = over_all texts s.conf status o texts comes;
+  missing = open_missing texts s.conf status o;
+  no_usage = λ e. no_end texts s.conf status ends.Usage o e;
+}
+
+-- a server over a configuration
+
+over_ok : (told : Texts) (name : List ℕ) (config : Configuration) (s : Status) → IsServerEnd s → IfSome told (λ disk. conf_stage name (disk name) ≡ Ok config)
+    → IfSome told (λ disk. EndsOver (conf_stage name (disk name)) s)
+over_ok None name config s e c = tt
+over_ok (Some disk) name config s e c = subst (λ (r : Result Configuration Status). EndsOver r s) (sym c) e
+
+server_missing : (s : Status) (P : List ℕ → Type 0) → IsServerEnd s → IfMissing s P
+server_missing (ends.Missing n) P e = absurd e
+server_missing ends.ReadFault P e = tt
+server_missing ends.WantOfMemory P e = tt
+server_missing (ends.Config l k) P e = tt
+server_missing ends.Ok P e = tt
+server_missing ends.Usage P e = tt
+server_missing (ends.Script n) P e = tt
+server_missing ends.WriteFault P e = tt
+server_missing (ends.Differs l m j) P e = tt
+server_missing ends.JournalFault P e = tt
+server_missing ends.Net P e = tt
+
+-- the net could not be opened
+pub net_failed : (s : Server) (texts : Texts) (f g : FilesSeen) (v : Streams) (jb nb nn : ℕ) (history : Option History) (config : Configuration)
+    → IfSome texts (λ disk. conf_stage s.conf (disk s.conf) ≡ Ok config) → Rose nb nn → IfSome history (λ h. h ≡ []) → IsService s texts f g v v jb jb nb nn history ends.Net
+net_failed s texts f g v jb nb nn history config comes rose empty = record {
+  ok = λ e. absurd (cc);
+  legal = empty_legal history empty;
+  read = λ e. absurd (cc);
+  write = λ e. absurd (cc);
+  journal = λ e. absurd (cc);
+  net = λ e. rose;
+  conf = over_ok texts s.conf config ends.Net tt comes;
+  missing = tt;
+  no_usage = λ e. absurd (cc);
+}
+
+settled_end : (s r : Status) → IsServerEnd s → IsSettled s r → IsServerEnd r
+settled_end s r e (inl same) = subst IsServerEnd (sym same) e
+settled_end s r e (inr write) = subst IsServerEnd (sym write) tt
+
+settled_is : (s r t : Status) → IsSettled s r → r ≡ t → (ends.WriteFault ≡ t → ⊥) → s ≡ t
+settled_is s r t (inl same) e other = sym same ∙ e
+settled_is s r t (inr write) e other = absurd (other (sym write ∙ e))
+
+port_found : (told : Texts) (s : Server) (port : ℕ) (config : Configuration) → port ≡ port_of s config → IfSome told (λ disk. conf_stage s.conf (disk s.conf) ≡ Ok config)
+    → IfSome told (λ disk. (c : Configuration) × (conf_stage s.conf (disk s.conf) ≡ Ok c) × (port ≡ port_of s c))
+port_found None s port config p c = tt
+port_found (Some disk) s port config p c = (config, c, p)
+
+pub served_service : (s : Server) (texts : Texts) (f begun g : FilesSeen) (v w x : Streams) (jb jn nb nm nn ln port : ℕ) (history : Option History) (config : Configuration) (status r : Status)
+    → port ≡ port_of s config → IfSome texts (λ disk. conf_stage s.conf (disk s.conf) ≡ Ok config)
+    → IsServed texts s.conf port begun g v w jb jn ln history status → nm ≡ nb → TakesBack nm nn ln
+    → (r ≡ ends.Ok → (status ≡ ends.Ok) × Appends w.contents x.contents stopped_line) → IsSettled status r
+    → (r ≡ ends.WriteFault → (status ≡ ends.WriteFault) ⊎ Rose w.output_faults x.output_faults)
+    → x.left ≡ w.left → x.input_faults ≡ w.input_faults → w.output_faults ≤ x.output_faults → IsService s texts f g v x jb jn nb nn history r
+served_service s texts f begun g v w x jb jn nb nm nn ln port history config status r is_port comes served same back told settled unwritten left input later = record {
+  ok = λ e.
+      let both = told e in
+      let ran = served.ok both.0 in
+      record {
+        port = port;
+        port_is = port_found texts s port config is_port comes;
+        begun = begun;
+        ran = w;
+        made = ran.0;
+        runs = ran.1;
+        left = left;
+        writes = both.1;
+        makes = ran.2;
+        legal = served.noted both.0;
+      };
+  legal = served.legal;
+  read = λ e. inr (subst (λ (n : ℕ). Rose v.input_faults n) (sym input) (served.read (settled_is status r ends.ReadFault settled e (λ n. cc))));
+  write = λ e. wrote (unwritten e);
+  journal = λ e. served.journal (settled_is status r ends.JournalFault settled e (λ n. cc));
+  net = λ e. subst (λ (n : ℕ). Rose n nn) same (back.rose (served.net (settled_is status r ends.Net settled e (λ n. cc))));
+  conf = over_ok texts s.conf config r (settled_end status r served.end settled) comes;
+  missing = server_missing r (λ n. (n ≡ s.conf) × IsNotTold texts n) (settled_end status r served.end settled);
+  no_usage = λ e. subst IsServerEnd e (settled_end status r served.end settled);
+}
+  where
+    wrote : (status ≡ ends.WriteFault) ⊎ Rose w.output_faults x.output_faults → Rose v.output_faults x.output_faults
+    wrote (inl e) = let up : Rose v.output_faults w.output_faults = served.write e in omega (arith, up, later)
+    wrote (inr up) = let first : v.output_faults ≤ w.output_faults = served.output_later in omega (arith, up, first)
+
+-- the last line was written
+pub finished : (s : Server) (texts : Texts) (f g : FilesSeen) (v w x : Streams) (jb jn nb nn : ℕ) (history : Option History) (status r : Status) → r ≡ status
+    → IsService s texts f g v w jb jn nb nn history status → (status ≡ ends.Ok → x ≡ w) → x.input_faults ≡ w.input_faults → w.output_faults ≤ x.output_faults
+    → IsService s texts f g v x jb jn nb nn history r
+finished s texts f g v w x jb jn nb nn history status r is h ok input later = subst (λ (t : Status). IsService s texts f g v x jb jn nb nn history t) (sym is) (record {
+  ok = λ e. subst (λ (y : Streams). EndsWell s texts f g v y history) (sym (ok e)) (h.ok e);
+  legal = h.legal;
+  read = λ e. reads (h.read e);
+  write = λ e. let up : Rose v.output_faults w.output_faults = h.write e in omega (arith, up, later);
+  journal = h.journal;
+  net = h.net;
+  conf = h.conf;
+  missing = h.missing;
+  no_usage = h.no_usage;
+})
+  where
+    reads : Rose f.faults g.faults ⊎ Rose v.input_faults w.input_faults → Rose f.faults g.faults ⊎ Rose v.input_faults x.input_faults
+    reads (inl up) = inl up
+    reads (inr up) = inr (subst (λ (n : ℕ). Rose v.input_faults n) (sym input) up)
+
+-- texts that stayed
+pub served_texts : (t u : Texts) (name : List ℕ) (port : ℕ) (f g : FilesSeen) (v w : Streams) (jb jn ln : ℕ) (history : Option History) (status : Status) → t ≡ u
+    → IsServed t name port f g v w jb jn ln history status → IsServed u name port f g v w jb jn ln history status
+served_texts t u name port f g v w jb jn ln history status e h = subst (λ (x : Texts). IsServed x name port f g v w jb jn ln history status) e h
+
+pub unserved_moved : (texts : Texts) (name : List ℕ) (port : ℕ) (f g : FilesSeen) (v w : Streams) (jb jn ln : ℕ) (history : Option History) (status : Status) → g ≡ f → w ≡ v → IsUnservedEnd status
+    → IsLegalOrEmpty history → (status ≡ ends.JournalFault → Rose jb jn) → IsServed texts name port f g v w jb jn ln history status
+unserved_moved texts name port f g v w jb jn ln history status e k u legal journal =
+    subst (λ (h : FilesSeen). IsServed texts name port f h v w jb jn ln history status) (sym e)
+    (subst (λ (x : Streams). IsServed texts name port f f v x jb jn ln history status) (sym k) (unserved texts name port f v jb jn ln history status u legal journal))
+
+-- the same of values that are these
+pub served_moved : (texts : Texts) (name : List ℕ) (port : ℕ) (f g g2 : FilesSeen) (v w w2 : Streams) (jb jn ln : ℕ) (history : Option History) (status : Status) → g2 ≡ g → w2 ≡ w
+    → IsServed texts name port f g v w jb jn ln history status → IsServed texts name port f g2 v w2 jb jn ln history status
+served_moved texts name port f g g2 v w w2 jb jn ln history status e k h =
+    subst (λ (x : FilesSeen). IsServed texts name port f x v w2 jb jn ln history status) (sym e)
+    (subst (λ (x : Streams). IsServed texts name port f g v x jb jn ln history status) (sym k) h)
+
+pub legal_ran : (history : Option History) → IfSome history IsLegal → IsLegalOrEmpty history
+legal_ran None legal = tt
+legal_ran (Some h) legal = inr legal
+
+pub legal_unran : (first history : Option History) → history ≡ first → IfSome first (λ h. h ≡ []) → IsLegalOrEmpty history
+legal_unran None history same empty = subst IsLegalOrEmpty (sym same) tt
+legal_unran (Some h) history same empty = subst IsLegalOrEmpty (sym same) (inl empty)
+
+pub begun_fault : (fault : DeskFault) (before now : ℕ) → fault ≡ desk.JournalFault → IsUnbegun fault before now → Rose before now
+begun_fault fault before now is unbegun = subst (λ f. IsUnbegun f before now) is unbegun

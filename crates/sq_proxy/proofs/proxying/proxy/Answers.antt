@@ -1,0 +1,8 @@
+use Rattle.sq_proxy.proofs.DoneLaws.{runs_truly_told}
+use Rattle.sq_proxy.proofs.proxying.proxy.Goals as goal
+
+pub returns-in-Some-clause-truly : goal.returns-in-Some-clause-truly
+returns-in-Some-clause-truly g c = runs_truly_told (g.F.Files.texts c.args.files.now) c.args.words.now
+
+pub returns-in-Some-clause-usage : goal.returns-in-Some-clause-usage
+returns-in-Some-clause-usage g c = (λ e. absurd (c.serve_service-status.ensures.no_usage e), λ p. absurd (let n = p.1 in cc))

@@ -1,0 +1,262 @@
+//! A server by its words.
+ghost use Rattle.std.specs.Prelude.{◌≡◌, ◌⊎◌, ◌≤◌, ◌<◌, ◌^◌, [], IfSome, unwrap_or};
+ghost use Rattle.std.specs.Io.KnownBytes.{Appends};
+ghost use Rattle.sq_outside.specs.Causes.{Rose};
+ghost use Rattle.sq_proxy.specs.declared.ends.Status.TheVariants as ends;
+ghost use Rattle.sq_proxy.specs.Outputs.{IsSettled};
+ghost use Rattle.sq_proxy.specs.Service.{IsServed, IsService, IsUnservedEnd, ended_status, stopped_line};
+ghost use Rattle.sq_proxy.specs.Serving.{shown_service};
+
+use crate::ends::Status;
+use crate::last_line::finish;
+use crate::options::{Options, Service};
+use crate::stages::open_conf;
+use sq_base::Text;
+use sq_cache::HashSeed;
+use sq_calls::DeskFault;
+use sq_control::PanelEnd;
+use sq_note::Journal;
+use sq_outside::{Failed, Files, Net, Parts, Sink, Source, write_line};
+use sq_panel::{ControlPanel, take_back};
+use sq_rules::{Config, Offset};
+use sq_server::{Served, Start, Unserved, serve};
+use std::alloc::Global;
+use std::sync::Wait;
+use std::thread::Threads;
+
+/// How many workers serve connections where no option says.
+const WORKERS: u32 = 8;
+
+/// How many workers there are at most.
+const WORKER_LIMIT: u32 = 64;
+
+// How a server ends whose panel ended so, by whether a note of its journal failed, and whether its listener did.
+fn ended_status(end: PanelEnd, stopped: bool, failed: bool) -> Status
+    ensures { result ≡ ended_status end stopped failed }
+{
+    match end {
+        PanelEnd::ReadFault => Status::ReadFault,
+        PanelEnd::WriteFault => Status::WriteFault,
+        PanelEnd::Ended if !stopped && !failed => Status::Ok,
+        PanelEnd::Faulted if !stopped && !failed => Status::WantOfMemory,
+        _ => {
+            if stopped {
+                Status::JournalFault
+            } else {
+                Status::Net
+            }
+        }
+    }
+}
+
+// How a server ends whose desk was not made.
+fn unserved_status(fault: DeskFault) -> Status
+    ensures end { IsUnservedEnd result }
+    ensures journal { result ≡ ends.JournalFault → fault ≡ DeskFault.JournalFault }
+{
+    match fault {
+        DeskFault::JournalFault => Status::JournalFault,
+        _ => Status::WantOfMemory,
+    }
+}
+
+/// Serves the links that come to the parts of a net which was opened at this port, until the input orders the end, or its
+/// end comes, or a fault. The journal and the listener are handed back.
+pub fn serve_at<
+    R: Threads + Wait + Sync,
+    F: Files,
+    O: Sink,
+    C: Source,
+    N: Net,
+    J: Journal + Send + Drop,
+>(
+    rt: &R,
+    alloc: Global,
+    start: Start,
+    port: u16,
+    conf: &Text,
+    workers: u32,
+    files: &mut F,
+    out: &mut O,
+    control: &mut C,
+    parts: Parts<N>,
+    journal: J,
+) -> (Status, J, N::L)
+    requires empty { IfSome (J.history journal) (λ h. h ≡ []) }
+    requires some { (0 < workers) × (workers ≤ 2 ^ 31) }
+    ensures served { IsServed (F.texts files.old) conf.now port
+        (record { opened = F.opened files.old; faults = F.faults files.old })
+        (record { opened = F.opened files.new; faults = F.faults files.new })
+        (record { left = C.left control.old; input_faults = C.faults control.old; contents = O.contents out.old; output_faults = O.faults out.old })
+        (record { left = C.left control.new; input_faults = C.faults control.new; contents = O.contents out.new; output_faults = O.faults out.new })
+        (J.faults journal) (J.faults result.1) (N.L.faults result.2) (J.history result.1) result.0 }
+    ensures texts { F.texts files.new ≡ F.texts files.old }
+{
+    let panel = ControlPanel {
+        alloc,
+        port,
+        conf,
+        files,
+        input: control,
+        out,
+    };
+    match serve(rt, alloc, start, parts, journal, workers, panel) {
+        Ok(served) => {
+            let Served {
+                listener,
+                journal,
+                panel,
+                end,
+                stopped,
+                failed,
+                ..
+            } = served;
+            let ControlPanel {
+                files, input, out, ..
+            } = panel;
+            take_back(files);
+            take_back(input);
+            take_back(out);
+            (ended_status(end, stopped, failed), journal, listener)
+        }
+        Err(unserved) => {
+            let Unserved {
+                fault,
+                listener,
+                journal,
+                panel,
+            } = unserved;
+            let ControlPanel {
+                files, input, out, ..
+            } = panel;
+            take_back(files);
+            take_back(input);
+            take_back(out);
+            (unserved_status(fault), journal, listener)
+        }
+    }
+}
+
+// The port at which a server of this configuration listens: the option's, or else the configuration's.
+fn port_of(options: &Options, config: &Config) -> u16
+    ensures { result ≡ unwrap_or options.now.port config.now.port }
+{
+    match options.port {
+        Some(port) => port,
+        None => config.port(),
+    }
+}
+
+// How many workers serve connections.
+fn workers_of(options: &Options) -> u32
+    ensures { (0 < result) × (result ≤ 2 ^ 31) }
+{
+    options.workers.unwrap_or(WORKERS).max(1).min(WORKER_LIMIT)
+}
+
+// Says of a server that ended well that it stopped.
+fn tell_stopped<O: Sink>(out: &mut O, status: Status) -> Status
+    ensures ok { result ≡ ends.Ok → (status ≡ ends.Ok) × Appends (O.contents out.old) (O.contents out.new) stopped_line }
+    ensures same { IsSettled status result }
+    ensures write { result ≡ ends.WriteFault → (status ≡ ends.WriteFault) ⊎ Rose (O.faults out.old) (O.faults out.new) }
+    ensures later { O.faults out.old ≤ O.faults out.new }
+{
+    match status {
+        Status::Ok => match write_line(out, b"stopped", b"") {
+            Ok(()) => Status::Ok,
+            Err(Failed) => Status::WriteFault,
+        },
+        other => other,
+    }
+}
+
+/// Serves by the configuration of a file and by options: it reads the file, opens the net, and serves until the input
+/// orders the end, or its end comes, or a fault. The journal is handed back.
+pub fn serve_conf<
+    R: Threads + Wait + Sync,
+    F: Files,
+    O: Sink,
+    C: Source,
+    N: Net,
+    J: Journal + Send + Drop,
+>(
+    rt: &R,
+    alloc: Global,
+    service: &Service<'_>,
+    seed: HashSeed,
+    files: &mut F,
+    out: &mut O,
+    control: &mut C,
+    net: &mut N,
+    journal: J,
+) -> (Status, J)
+    requires { IfSome (J.history journal) (λ h. h ≡ []) }
+    ensures { IsService (shown_service service.now) (F.texts files.old)
+        (record { opened = F.opened files.old; faults = F.faults files.old })
+        (record { opened = F.opened files.new; faults = F.faults files.new })
+        (record { left = C.left control.old; input_faults = C.faults control.old; contents = O.contents out.old; output_faults = O.faults out.old })
+        (record { left = C.left control.new; input_faults = C.faults control.new; contents = O.contents out.new; output_faults = O.faults out.new })
+        (J.faults journal) (J.faults result.1) (N.faults net.old) (N.faults net.new) (J.history result.1) result.0 }
+{
+    let setup = match open_conf(alloc, service.conf, files) {
+        Ok(setup) => setup,
+        Err(end) => return (end, journal),
+    };
+    let port = port_of(&service.options, setup.config());
+    let parts = match net.parts(alloc, port) {
+        Ok(parts) => parts,
+        Err(Failed) => return (Status::Net, journal),
+    };
+    let start = Start {
+        setup,
+        offset: service.options.offset.unwrap_or(Offset(0)),
+        seed,
+    };
+    let workers = workers_of(&service.options);
+    let (status, journal, listener) = serve_at(
+        rt,
+        alloc,
+        start,
+        port,
+        service.conf,
+        workers,
+        files,
+        out,
+        control,
+        parts,
+        journal,
+    );
+    net.give_back(listener);
+    (tell_stopped(out, status), journal)
+}
+
+/// The same, and then the last line.
+pub fn serve_service<
+    R: Threads + Wait + Sync,
+    F: Files,
+    O: Sink,
+    C: Source,
+    N: Net,
+    J: Journal + Send + Drop,
+>(
+    rt: &R,
+    alloc: Global,
+    service: &Service<'_>,
+    seed: HashSeed,
+    files: &mut F,
+    out: &mut O,
+    control: &mut C,
+    net: &mut N,
+    journal: J,
+) -> (Status, J)
+    requires { IfSome (J.history journal) (λ h. h ≡ []) }
+    ensures { IsService (shown_service service.now) (F.texts files.old)
+        (record { opened = F.opened files.old; faults = F.faults files.old })
+        (record { opened = F.opened files.new; faults = F.faults files.new })
+        (record { left = C.left control.old; input_faults = C.faults control.old; contents = O.contents out.old; output_faults = O.faults out.old })
+        (record { left = C.left control.new; input_faults = C.faults control.new; contents = O.contents out.new; output_faults = O.faults out.new })
+        (J.faults journal) (J.faults result.1) (N.faults net.old) (N.faults net.new) (J.history result.1) result.0 }
+{
+    let (status, journal) = serve_conf(rt, alloc, service, seed, files, out, control, net, journal);
+    (finish(out, status), journal)
+}
