@@ -60,15 +60,15 @@ impl<'a, R: Wait, D: DeskCalls, A: Ledger, M: Ledger, N: Ledger, G: Ledger> Besi
 }
 
 /// The control of a server: the port at which that listens, the file from which its configuration is read again, the files,
-/// the input and the output.
+/// the input and the output. Each has a lifetime of its own, so that who made it knows of each what came of it.
 #[derive(Drop)]
-pub struct ControlPanel<'a, F, S, O> {
+pub struct ControlPanel<'c, 'f, 's, 'o, F, S, O> {
     pub alloc: Global,
     pub port: u16,
-    pub conf: &'a Text,
-    pub files: &'a mut F,
-    pub input: &'a mut S,
-    pub out: &'a mut O,
+    pub conf: &'c Text,
+    pub files: &'f mut F,
+    pub input: &'s mut S,
+    pub out: &'o mut O,
 }
 
 /// Lets a reference go: what it points to stays.
@@ -76,7 +76,7 @@ pub fn take_back<T>(x: &mut T)
     ensures { x.new ≡ x.old }
 {}
 
-impl<'a, F: Files, S: Source, O: Sink> Panel for ControlPanel<'a, F, S, O> {
+impl<'c, 'f, 's, 'o, F: Files, S: Source, O: Sink> Panel for ControlPanel<'c, 'f, 's, 'o, F, S, O> {
     ghost use Rattle.sq_panel.specs.Attending.{Runs};
 
     ghost gives = { λ s t end n.

@@ -4,9 +4,11 @@ mod HalfwayLaws
 mod MigrateLaws
 mod MissingLaws
 mod OpenedLaws
+mod OptionLaws
 mod RehearseLaws
 mod SettleLaws
 mod ServiceLaws
 mod ShelfLaws
 mod StageLaws
+mod TrueLaws
 mod VerifyLaws

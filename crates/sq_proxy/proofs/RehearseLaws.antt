@@ -50,6 +50,8 @@ conf_no_write ends.ReadFault is e = absurd is
 conf_no_write ends.WriteFault is e = absurd is
 conf_no_write (ends.Differs l m j) is e = absurd is
 conf_no_write (ends.Missing name) is e = absurd is
+conf_no_write ends.JournalFault is e = absurd is
+conf_no_write ends.Net is e = absurd is
 
 pub unread_delivers : (a : Option (List ℕ)) (n count : ℕ) (end : Status) → IsConfEnd end → Comes {A = List ℕ} (Err end) (rehearsed_stage count) → Delivers a a n n (rehearse_output count) end
 unread_delivers a n count end is comes = nothing_delivers a n (rehearse_output count) end (conf_no_write end is) (staged_ends (rehearsed_stage count) _ end comes)
@@ -66,6 +68,8 @@ conf_rehearsed ends.ReadFault is = absurd is
 conf_rehearsed ends.WriteFault is = absurd is
 conf_rehearsed (ends.Differs l m j) is = absurd is
 conf_rehearsed (ends.Missing name) is = absurd is
+conf_rehearsed ends.JournalFault is = absurd is
+conf_rehearsed ends.Net is = absurd is
 
 -- nothing was written
 pub unread_causes : (files out : ℕ) (end : Status) → IsConfEnd end → HasCauses files files out out end
@@ -103,3 +107,5 @@ rehearse_missing P (ends.Script n) end = absurd end
 rehearse_missing P ends.ReadFault end = absurd end
 rehearse_missing P (ends.Differs l m j) end = absurd end
 rehearse_missing P (ends.Missing name) end = absurd end
+rehearse_missing P ends.JournalFault end = absurd end
+rehearse_missing P ends.Net end = absurd end

@@ -4,7 +4,7 @@ use Rattle.std.specs.Option.{ForSome}
 use Rattle.std.specs.declared.option.Option.{Option}
 use Rattle.std.specs.Io.KnownBytes.{Appends}
 use Rattle.sq_outside.specs.Causes.{Rose, TakesBack}
-use Rattle.sq_outside.specs.Told.{IsNotTold, Texts}
+use Rattle.sq_outside.specs.Told.{IsNotTold, Openings, Texts}
 use Rattle.sq_rules.specs.Configurations.{Configuration}
 use Rattle.sq_rules.specs.Entries.{History}
 use Rattle.sq_rules.specs.Readings.{current}
@@ -21,7 +21,8 @@ use Rattle.sq_proxy.specs.Outputs.{IsSettled}
 use Rattle.sq_proxy.specs.Serving.{Server}
 use Rattle.sq_proxy.specs.declared.ends.Status.{Status}
 use Rattle.sq_proxy.specs.declared.ends.Status.TheVariants as ends
-use Rattle.sq_proxy.specs.Service.{EndsOver, EndsWell, IsLegalOrEmpty, IsServed, IsServerEnd, IsService, IsUnservedEnd, ended_status, port_of, stopped_line}
+use Rattle.sq_proxy.specs.Service.{EndsOver, EndsWell, IsConf, IsServed, IsServerEnd, IsService, IsTrueFrom, IsTrueOrEmpty, IsTrueOver, IsUnservedEnd, ended_status, port_of, stopped_line}
+use Rattle.sq_proxy.proofs.TrueLaws.{journal_true, true_ran, true_unran}
 
 pub stopped_is : (e : PanelEnd) (stopped failed : Bool) → ended_status e stopped failed ≡ ends.JournalFault → stopped ≡ true
 stopped_is panel.ReadFault stopped failed e = absurd (cc)
@@ -98,11 +99,11 @@ unserved_not : (s t : Status) → IsUnservedEnd s → s ≡ t → IsUnservedEnd 
 unserved_not s t u e = subst IsUnservedEnd e u
 
 -- a server of which no desk was made
-pub unserved : (texts : Texts) (name : List ℕ) (port : ℕ) (f : FilesSeen) (v : Streams) (jb jn ln : ℕ) (history : Option History) (status : Status) → IsUnservedEnd status
-    → IsLegalOrEmpty history → (status ≡ ends.JournalFault → Rose jb jn) → IsServed texts name port f f v v jb jn ln history status
-unserved texts name port f v jb jn ln history status u legal journal = record {
+unserved : (first : Configuration) (texts : Texts) (name : List ℕ) (port : ℕ) (f : FilesSeen) (v : Streams) (jb jn ln : ℕ) (history : Option History) (status : Status) → IsUnservedEnd status
+    → IsTrueOrEmpty first history → (status ≡ ends.JournalFault → Rose jb jn) → IsServed first texts name port f f v v jb jn ln history status
+unserved first texts name port f v jb jn ln history status u is_true journal = record {
   ok = λ e. absurd (unserved_not status ends.Ok u e);
-  legal = legal;
+  is_true = is_true;
   noted = λ e. absurd (unserved_not status ends.Ok u e);
   read = λ e. absurd (unserved_not status ends.ReadFault u e);
   write = λ e. absurd (unserved_not status ends.WriteFault u e);
@@ -114,15 +115,15 @@ unserved texts name port f v jb jn ln history status u legal journal = record {
 }
 
 -- a server whose panel ran
-pub served : (texts : Texts) (name : List ℕ) (port : ℕ) (f g : FilesSeen) (v w : Streams) (jb jn ln : ℕ) (history : Option History) (end : PanelEnd) (stopped failed : Bool) (made : ℕ)
-    (status : Status) → status ≡ ended_status end stopped failed → Runs texts name port f g v w end made → ForSome history (λ h. made + 1 ≡ current h) → IfSome history IsLegal
-    → IsLegalOrEmpty history → (status ≡ ends.JournalFault → Rose jb jn) → (status ≡ ends.Net → 0 < ln) → IsServed texts name port f g v w jb jn ln history status
-served texts name port f g v w jb jn ln history end stopped failed made status is runs makes legal either journal net =
+pub served : (first : Configuration) (texts : Texts) (name : List ℕ) (port : ℕ) (f g : FilesSeen) (v w : Streams) (jb jn ln : ℕ) (history : Option History) (end : PanelEnd) (stopped failed : Bool) (made : ℕ)
+    (status : Status) → status ≡ ended_status end stopped failed → Runs texts name port f g v w end made → ForSome history (λ h. made + 1 ≡ current h) → IfSome history (IsLegal first)
+    → (status ≡ ends.JournalFault → Rose jb jn) → (status ≡ ends.Net → 0 < ln) → IsServed first texts name port f g v w jb jn ln history status
+served first texts name port f g v w jb jn ln history end stopped failed made status is runs makes legal journal net =
     let causes = runs.4.causes in
     record {
       ok = λ e. (made, subst (λ (x : PanelEnd). Runs texts name port f g v w x made) (ended_ok end stopped failed (sym is ∙ e)) runs, makes);
-      legal = either;
-      noted = λ e. legal;
+      is_true = true_ran first history legal;
+      noted = λ e. journal_true first history legal;
       read = λ e. causes.read (ended_read end stopped failed (sym is ∙ e));
       write = λ e. causes.write (ended_write end stopped failed (sym is ∙ e));
       journal = journal;
@@ -131,6 +132,14 @@ served texts name port f g v w jb jn ln history end stopped failed made status i
       input_later = causes.input_later;
       output_later = causes.output_later;
     }
+
+-- the same of a server whose panel is as it was
+pub unserved_moved : (first : Configuration) (texts : Texts) (name : List ℕ) (port : ℕ) (f g : FilesSeen) (v w : Streams) (jb jn ln : ℕ) (history before : Option History) (status : Status) → g ≡ f → w ≡ v
+    → IsUnservedEnd status → history ≡ before → IfSome before (λ h. h ≡ []) → (status ≡ ends.JournalFault → Rose jb jn) → IsServed first texts name port f g v w jb jn ln history status
+unserved_moved first texts name port f g v w jb jn ln history before status e k u same empty journal =
+    subst (λ (h : FilesSeen). IsServed first texts name port f h v w jb jn ln history status) (sym e)
+    (subst (λ (x : Streams). IsServed first texts name port f f v x jb jn ln history status) (sym k)
+    (unserved first texts name port f v jb jn ln history status u (true_unran first history (subst (λ (o : Option History). IfSome o (λ h. h ≡ [])) (sym same) empty)) journal))
 
 -- a server whose configuration could not be had
 
@@ -174,16 +183,22 @@ over_all texts name s o (Some disk) c = over_err texts name (conf_stage name (di
 no_end : (texts : Texts) (name : List ℕ) (s t : Status) → IsOpenEnd texts name s → s ≡ t → IsOpenEnd texts name t
 no_end texts name s t o e = subst (IsOpenEnd texts name) e o
 
-empty_legal : (history : Option History) → IfSome history (λ h. h ≡ []) → IsLegalOrEmpty history
-empty_legal None e = tt
-empty_legal (Some h) e = inl e
+empty_over : (texts : Texts) (name : List ℕ) (before : Openings) (history : Option History) → IfSome history (λ h. h ≡ []) → IfSome history (λ h. (h ≡ []) ⊎ IsTrueOver texts name before h)
+empty_over texts name before None e = tt
+empty_over texts name before (Some h) e = inl e
+
+true_over : (texts : Texts) (name : List ℕ) (before begun : Openings) (config : Configuration) (history : Option History) → IsConf texts name before begun config → IsTrueOrEmpty config history
+    → IfSome history (λ h. (h ≡ []) ⊎ IsTrueOver texts name before h)
+true_over texts name before begun config None conf is = tt
+true_over texts name before begun config (Some h) conf (inl empty) = inl empty
+true_over texts name before begun config (Some h) conf (inr is) = inr (record { config = config; begun = begun; conf = conf; is_true = is })
 
 pub conf_failed : (s : Server) (texts : Texts) (f g : FilesSeen) (v : Streams) (jb nb : ℕ) (history : Option History) (status : Status) → IsOpenEnd texts s.conf status
     → IfSome texts (λ disk. Comes {A = Configuration} (Err status) (conf_stage s.conf (disk s.conf))) → (status ≡ ends.ReadFault → Rose f.faults g.faults) → IfSome history (λ h. h ≡ [])
     → IsService s texts f g v v jb jb nb nb history status
 conf_failed s texts f g v jb nb history status o comes read empty = record {
   ok = λ e. absurd (no_end texts s.conf status ends.Ok o e);
-  legal = empty_legal history empty;
+  is_true = empty_over texts s.conf f.opened history empty;
   read = λ e. inl (read e);
   write = λ e. absurd (no_end texts s.conf status ends.WriteFault o e);
   journal = λ e. absurd (no_end texts s.conf status ends.JournalFault o e);
@@ -218,7 +233,7 @@ pub net_failed : (s : Server) (texts : Texts) (f g : FilesSeen) (v : Streams) (j
     → IfSome texts (λ disk. conf_stage s.conf (disk s.conf) ≡ Ok config) → Rose nb nn → IfSome history (λ h. h ≡ []) → IsService s texts f g v v jb jb nb nn history ends.Net
 net_failed s texts f g v jb nb nn history config comes rose empty = record {
   ok = λ e. absurd (cc);
-  legal = empty_legal history empty;
+  is_true = empty_over texts s.conf f.opened history empty;
   read = λ e. absurd (cc);
   write = λ e. absurd (cc);
   journal = λ e. absurd (cc);
@@ -236,39 +251,34 @@ settled_is : (s r t : Status) → IsSettled s r → r ≡ t → (ends.WriteFault
 settled_is s r t (inl same) e other = sym same ∙ e
 settled_is s r t (inr write) e other = absurd (other (sym write ∙ e))
 
-port_found : (told : Texts) (s : Server) (port : ℕ) (config : Configuration) → port ≡ port_of s config → IfSome told (λ disk. conf_stage s.conf (disk s.conf) ≡ Ok config)
-    → IfSome told (λ disk. (c : Configuration) × (conf_stage s.conf (disk s.conf) ≡ Ok c) × (port ≡ port_of s c))
-port_found None s port config p c = tt
-port_found (Some disk) s port config p c = (config, c, p)
-
 pub served_service : (s : Server) (texts : Texts) (f begun g : FilesSeen) (v w x : Streams) (jb jn nb nm nn ln port : ℕ) (history : Option History) (config : Configuration) (status r : Status)
-    → port ≡ port_of s config → IfSome texts (λ disk. conf_stage s.conf (disk s.conf) ≡ Ok config)
-    → IsServed texts s.conf port begun g v w jb jn ln history status → nm ≡ nb → TakesBack nm nn ln
+    → port ≡ port_of s config → IsConf texts s.conf f.opened begun.opened config
+    → IsServed config texts s.conf port begun g v w jb jn ln history status → nm ≡ nb → TakesBack nm nn ln
     → (r ≡ ends.Ok → (status ≡ ends.Ok) × Appends w.contents x.contents stopped_line) → IsSettled status r
     → (r ≡ ends.WriteFault → (status ≡ ends.WriteFault) ⊎ Rose w.output_faults x.output_faults)
     → x.left ≡ w.left → x.input_faults ≡ w.input_faults → w.output_faults ≤ x.output_faults → IsService s texts f g v x jb jn nb nn history r
-served_service s texts f begun g v w x jb jn nb nm nn ln port history config status r is_port comes served same back told settled unwritten left input later = record {
+served_service s texts f begun g v w x jb jn nb nm nn ln port history config status r is_port conf served same back told settled unwritten left input later = record {
   ok = λ e.
       let both = told e in
       let ran = served.ok both.0 in
       record {
-        port = port;
-        port_is = port_found texts s port config is_port comes;
+        config = config;
         begun = begun;
+        conf = conf;
         ran = w;
         made = ran.0;
-        runs = ran.1;
+        runs = subst (λ (p : ℕ). Runs texts s.conf p begun g v w panel.Ended ran.0) is_port ran.1;
         left = left;
         writes = both.1;
         makes = ran.2;
-        legal = served.noted both.0;
+        is_true = served.noted both.0;
       };
-  legal = served.legal;
+  is_true = true_over texts s.conf f.opened begun.opened config history conf served.is_true;
   read = λ e. inr (subst (λ (n : ℕ). Rose v.input_faults n) (sym input) (served.read (settled_is status r ends.ReadFault settled e (λ n. cc))));
   write = λ e. wrote (unwritten e);
   journal = λ e. served.journal (settled_is status r ends.JournalFault settled e (λ n. cc));
   net = λ e. subst (λ (n : ℕ). Rose n nn) same (back.rose (served.net (settled_is status r ends.Net settled e (λ n. cc))));
-  conf = over_ok texts s.conf config r (settled_end status r served.end settled) comes;
+  conf = over_ok texts s.conf config r (settled_end status r served.end settled) conf.told;
   missing = server_missing r (λ n. (n ≡ s.conf) × IsNotTold texts n) (settled_end status r served.end settled);
   no_usage = λ e. subst IsServerEnd e (settled_end status r served.end settled);
 }
@@ -283,7 +293,7 @@ pub finished : (s : Server) (texts : Texts) (f g : FilesSeen) (v w x : Streams) 
     → IsService s texts f g v x jb jn nb nn history r
 finished s texts f g v w x jb jn nb nn history status r is h ok input later = subst (λ (t : Status). IsService s texts f g v x jb jn nb nn history t) (sym is) (record {
   ok = λ e. subst (λ (y : Streams). EndsWell s texts f g v y history) (sym (ok e)) (h.ok e);
-  legal = h.legal;
+  is_true = h.is_true;
   read = λ e. reads (h.read e);
   write = λ e. let up : Rose v.output_faults w.output_faults = h.write e in omega (arith, up, later);
   journal = h.journal;
@@ -297,31 +307,10 @@ finished s texts f g v w x jb jn nb nn history status r is h ok input later = su
     reads (inl up) = inl up
     reads (inr up) = inr (subst (λ (n : ℕ). Rose v.input_faults n) (sym input) up)
 
--- texts that stayed
-pub served_texts : (t u : Texts) (name : List ℕ) (port : ℕ) (f g : FilesSeen) (v w : Streams) (jb jn ln : ℕ) (history : Option History) (status : Status) → t ≡ u
-    → IsServed t name port f g v w jb jn ln history status → IsServed u name port f g v w jb jn ln history status
-served_texts t u name port f g v w jb jn ln history status e h = subst (λ (x : Texts). IsServed x name port f g v w jb jn ln history status) e h
-
-pub unserved_moved : (texts : Texts) (name : List ℕ) (port : ℕ) (f g : FilesSeen) (v w : Streams) (jb jn ln : ℕ) (history : Option History) (status : Status) → g ≡ f → w ≡ v → IsUnservedEnd status
-    → IsLegalOrEmpty history → (status ≡ ends.JournalFault → Rose jb jn) → IsServed texts name port f g v w jb jn ln history status
-unserved_moved texts name port f g v w jb jn ln history status e k u legal journal =
-    subst (λ (h : FilesSeen). IsServed texts name port f h v w jb jn ln history status) (sym e)
-    (subst (λ (x : Streams). IsServed texts name port f f v x jb jn ln history status) (sym k) (unserved texts name port f v jb jn ln history status u legal journal))
-
--- the same of values that are these
-pub served_moved : (texts : Texts) (name : List ℕ) (port : ℕ) (f g g2 : FilesSeen) (v w w2 : Streams) (jb jn ln : ℕ) (history : Option History) (status : Status) → g2 ≡ g → w2 ≡ w
-    → IsServed texts name port f g v w jb jn ln history status → IsServed texts name port f g2 v w2 jb jn ln history status
-served_moved texts name port f g g2 v w w2 jb jn ln history status e k h =
-    subst (λ (x : FilesSeen). IsServed texts name port f x v w2 jb jn ln history status) (sym e)
-    (subst (λ (x : Streams). IsServed texts name port f g v x jb jn ln history status) (sym k) h)
-
-pub legal_ran : (history : Option History) → IfSome history IsLegal → IsLegalOrEmpty history
-legal_ran None legal = tt
-legal_ran (Some h) legal = inr legal
-
-pub legal_unran : (first history : Option History) → history ≡ first → IfSome first (λ h. h ≡ []) → IsLegalOrEmpty history
-legal_unran None history same empty = subst IsLegalOrEmpty (sym same) tt
-legal_unran (Some h) history same empty = subst IsLegalOrEmpty (sym same) (inl empty)
+-- the same of a server over texts that are these
+pub served_texts : (first : Configuration) (t u : Texts) (name : List ℕ) (port : ℕ) (f g : FilesSeen) (v w : Streams) (jb jn ln : ℕ) (history : Option History) (status : Status) → t ≡ u
+    → IsServed first t name port f g v w jb jn ln history status → IsServed first u name port f g v w jb jn ln history status
+served_texts first t u name port f g v w jb jn ln history status e h = subst (λ (x : Texts). IsServed first x name port f g v w jb jn ln history status) e h
 
 pub begun_fault : (fault : DeskFault) (before now : ℕ) → fault ≡ desk.JournalFault → IsUnbegun fault before now → Rose before now
 begun_fault fault before now is unbegun = subst (λ f. IsUnbegun f before now) is unbegun

@@ -1,25 +1,25 @@
 -- What comes of a server.
-use Rattle.std.specs.Prelude.{◌≡◌, ◌⊎◌, ℕ, ◌+◌, ◌<◌, ◌≤◌, List, [], ◌∷◌, ◌++◌, Bool, true, false, codes, unwrap_or, Some, None, IfSome}
+use Rattle.std.specs.Prelude.{◌≡◌, ◌⊎◌, ℕ, ◌+◌, ◌<◌, ◌≤◌, List, [], ◌∷◌, ◌++◌, Bool, true, false, codes, unwrap_or, IfSome}
 use Rattle.std.specs.Io.KnownBytes.{Appends}
 use Rattle.std.specs.Option.{ForSome}
 use Rattle.std.specs.declared.option.Option.{Option}
+use Rattle.std.specs.declared.result.Result.{Result}
+use Rattle.std.specs.declared.result.Result.TheVariants as result
 use Rattle.sq_outside.specs.Causes.{Rose}
-use Rattle.sq_outside.specs.Output.{Grew}
-use Rattle.sq_outside.specs.Told.{IsNotTold, Texts}
+use Rattle.sq_outside.specs.Told.{IsNotTold, Openings, Texts}
 use Rattle.sq_rules.specs.Configurations.{Configuration}
 use Rattle.sq_rules.specs.Entries.{History}
 use Rattle.sq_rules.specs.Readings.{current}
-use Rattle.sq_desk.specs.Desks.{IsLegal}
+use Rattle.sq_replay.specs.Headline.{IsTrue}
 use Rattle.sq_control.specs.declared.panel.PanelEnd.{PanelEnd}
 use Rattle.sq_control.specs.declared.panel.PanelEnd.TheVariants as panel
 use Rattle.sq_panel.specs.Attending.{FilesSeen, Runs, Streams}
 use Rattle.sq_proxy.specs.Commands.{conf_stage}
 use Rattle.sq_proxy.specs.Ends.{EndsBy, IfMissing}
+use Rattle.sq_proxy.specs.Opened.{Added, IsOnce, first_text}
 use Rattle.sq_proxy.specs.Serving.{Server}
 use Rattle.sq_proxy.specs.declared.ends.Status.{Status}
 use Rattle.sq_proxy.specs.declared.ends.Status.TheVariants as ends
-use Rattle.std.specs.declared.result.Result.{Result}
-use Rattle.std.specs.declared.result.Result.TheVariants as result
 
 -- how a server ends whose panel ended so, by whether a note of its journal failed, and whether its listener did: of several faults by the one
 -- with the least code
@@ -55,23 +55,27 @@ IsUnservedEnd ends.JournalFault = Unit {0}
 IsUnservedEnd ends.WantOfMemory = Unit {0}
 IsUnservedEnd status = ⊥
 
--- how the run of a panel came out: the server's desk was not made, and nothing was done; or it was, the journal, where it tells, is legal, and
--- has as many reconfigurations as the panel made
-abbrev pub CameOut : {K : Type 0} → (K → K → PanelEnd → ℕ → Type 0) → K → K → Option History → Status → Type 0
-CameOut gives old new history status =
-    ((new ≡ old) × IsUnservedEnd status)
-    ⊎ ((end : PanelEnd) × (stopped : Bool) × (failed : Bool) × (made : ℕ) × (status ≡ ended_status end stopped failed) × gives old new end made
-    × ForSome history (λ h. made + 1 ≡ current h) × IfSome history IsLegal)
+-- The configuration is that of the file of this name: where the files tell their texts, of the text that it has; where they tell their openings,
+-- of the text that its one opening gave.
+pub record IsConf (texts : Texts) (name : List ℕ) (before now : Openings) (config : Configuration) : Type 0 where
+  pub told : IfSome texts (λ disk. conf_stage name (disk name) ≡ result.Ok config)
+  pub opened : Added before now (λ more. IsOnce name more × (conf_stage name (first_text more) ≡ result.Ok config))
 
--- a journal is legal, or without an entry
-abbrev pub IsLegalOrEmpty : Option History → Type 0
-IsLegalOrEmpty history = IfSome history (λ h. (h ≡ []) ⊎ IsLegal h)
+-- The history is the machine's over this configuration and some others, which are those that the texts of its reconfigurations give; and all is so
+-- of it that is so of every run.
+pub record IsTrueFrom (first : Configuration) (h : History) : Type 0 where
+  pub more : List Configuration
+  pub is_true : IsTrue (first ∷ more) h
+
+-- a journal that tells is such a history, or without an entry
+abbrev pub IsTrueOrEmpty : Configuration → Option History → Type 0
+IsTrueOrEmpty first history = IfSome history (λ h. (h ≡ []) ⊎ IsTrueFrom first h)
 
 -- what came of a server at a port; the numbers are the journal's counts of faults, and the listener's
-pub record IsServed (texts : Texts) (name : List ℕ) (port : ℕ) (f g : FilesSeen) (v w : Streams) (journal_before journal_now listener_now : ℕ) (history : Option History) (status : Status) : Type 0 where
+pub record IsServed (first : Configuration) (texts : Texts) (name : List ℕ) (port : ℕ) (f g : FilesSeen) (v w : Streams) (journal_before journal_now listener_now : ℕ) (history : Option History) (status : Status) : Type 0 where
   pub ok : status ≡ ends.Ok → (made : ℕ) × Runs texts name port f g v w panel.Ended made × ForSome history (λ h. made + 1 ≡ current h)
-  pub legal : IsLegalOrEmpty history
-  pub noted : status ≡ ends.Ok → IfSome history IsLegal
+  pub is_true : IsTrueOrEmpty first history
+  pub noted : status ≡ ends.Ok → IfSome history (IsTrueFrom first)
   pub read : status ≡ ends.ReadFault → Rose v.input_faults w.input_faults
   pub write : status ≡ ends.WriteFault → Rose v.output_faults w.output_faults
   pub journal : status ≡ ends.JournalFault → Rose journal_before journal_now
@@ -80,28 +84,36 @@ pub record IsServed (texts : Texts) (name : List ℕ) (port : ℕ) (f g : FilesS
   pub input_later : v.input_faults ≤ w.input_faults
   pub output_later : v.output_faults ≤ w.output_faults
 
--- A server that ended well: at which port it listened; what its panel did; that it wrote so at the end.
+-- A server that ended well: the configuration of its file; at which port it listened; what its panel did; that it wrote so at the end; that its
+-- journal, where it tells, is true from that configuration on, with as many reconfigurations as were made.
 pub record EndsWell (s : Server) (texts : Texts) (f g : FilesSeen) (v w : Streams) (history : Option History) : Type 0 where
-  pub port : ℕ
-  pub port_is : IfSome texts (λ disk. (config : Configuration) × (conf_stage s.conf (disk s.conf) ≡ result.Ok config) × (port ≡ port_of s config))
+  pub config : Configuration
   pub begun : FilesSeen
+  pub conf : IsConf texts s.conf f.opened begun.opened config
   pub ran : Streams
   pub made : ℕ
-  pub runs : Runs texts s.conf port begun g v ran panel.Ended made
+  pub runs : Runs texts s.conf (port_of s config) begun g v ran panel.Ended made
   pub left : w.left ≡ ran.left
   pub writes : Appends ran.contents w.contents stopped_line
   pub makes : ForSome history (λ h. made + 1 ≡ current h)
-  pub legal : IfSome history IsLegal
+  pub is_true : IfSome history (IsTrueFrom config)
 
 -- how a server ends by what its configuration's file comes to
 abbrev pub EndsOver : Result Configuration Status → Status → Type 0
 EndsOver (result.Err end) status = EndsBy end status
 EndsOver (result.Ok config) status = IsServerEnd status
 
+-- the history is true from the configuration of the file on
+pub record IsTrueOver (texts : Texts) (name : List ℕ) (before : Openings) (h : History) : Type 0 where
+  pub config : Configuration
+  pub begun : Openings
+  pub conf : IsConf texts name before begun config
+  pub is_true : IsTrueFrom config h
+
 -- what came of a server by its words; the numbers are the journal's counts of faults, and the net's
 pub record IsService (s : Server) (texts : Texts) (f g : FilesSeen) (v w : Streams) (journal_before journal_now net_before net_now : ℕ) (history : Option History) (status : Status) : Type 0 where
   pub ok : status ≡ ends.Ok → EndsWell s texts f g v w history
-  pub legal : IsLegalOrEmpty history
+  pub is_true : IfSome history (λ h. (h ≡ []) ⊎ IsTrueOver texts s.conf f.opened h)
   pub read : status ≡ ends.ReadFault → Rose f.faults g.faults ⊎ Rose v.input_faults w.input_faults
   pub write : status ≡ ends.WriteFault → Rose v.output_faults w.output_faults
   pub journal : status ≡ ends.JournalFault → Rose journal_before journal_now

@@ -10,6 +10,7 @@
 
 mod command;
 mod ends;
+mod held;
 mod last_line;
 mod migrating;
 mod options;

@@ -4,22 +4,21 @@ ghost use Rattle.std.specs.Io.KnownBytes.{Appends};
 ghost use Rattle.sq_outside.specs.Causes.{Rose};
 ghost use Rattle.sq_proxy.specs.declared.ends.Status.TheVariants as ends;
 ghost use Rattle.sq_proxy.specs.Outputs.{IsSettled};
-ghost use Rattle.sq_proxy.specs.Service.{IsServed, IsService, IsUnservedEnd, ended_status, stopped_line};
+ghost use Rattle.sq_proxy.specs.Service.{IsServed, IsService, stopped_line};
 ghost use Rattle.sq_proxy.specs.Serving.{shown_service};
 
 use crate::ends::Status;
+use crate::held::{Back, run_panel};
 use crate::last_line::finish;
 use crate::options::{Options, Service};
 use crate::stages::open_conf;
 use sq_base::Text;
 use sq_cache::HashSeed;
-use sq_calls::DeskFault;
-use sq_control::PanelEnd;
 use sq_note::Journal;
 use sq_outside::{Failed, Files, Net, Parts, Sink, Source, write_line};
 use sq_panel::{ControlPanel, take_back};
 use sq_rules::{Config, Offset};
-use sq_server::{Served, Start, Unserved, serve};
+use sq_server::Start;
 use std::alloc::Global;
 use std::sync::Wait;
 use std::thread::Threads;
@@ -29,36 +28,6 @@ const WORKERS: u32 = 8;
 
 /// How many workers there are at most.
 const WORKER_LIMIT: u32 = 64;
-
-// How a server ends whose panel ended so, by whether a note of its journal failed, and whether its listener did.
-fn ended_status(end: PanelEnd, stopped: bool, failed: bool) -> Status
-    ensures { result ≡ ended_status end stopped failed }
-{
-    match end {
-        PanelEnd::ReadFault => Status::ReadFault,
-        PanelEnd::WriteFault => Status::WriteFault,
-        PanelEnd::Ended if !stopped && !failed => Status::Ok,
-        PanelEnd::Faulted if !stopped && !failed => Status::WantOfMemory,
-        _ => {
-            if stopped {
-                Status::JournalFault
-            } else {
-                Status::Net
-            }
-        }
-    }
-}
-
-// How a server ends whose desk was not made.
-fn unserved_status(fault: DeskFault) -> Status
-    ensures end { IsUnservedEnd result }
-    ensures journal { result ≡ ends.JournalFault → fault ≡ DeskFault.JournalFault }
-{
-    match fault {
-        DeskFault::JournalFault => Status::JournalFault,
-        _ => Status::WantOfMemory,
-    }
-}
 
 /// Serves the links that come to the parts of a net which was opened at this port, until the input orders the end, or its
 /// end comes, or a fault. The journal and the listener are handed back.
@@ -84,7 +53,7 @@ pub fn serve_at<
 ) -> (Status, J, N::L)
     requires empty { IfSome (J.history journal) (λ h. h ≡ []) }
     requires some { (0 < workers) × (workers ≤ 2 ^ 31) }
-    ensures served { IsServed (F.texts files.old) conf.now port
+    ensures served { IsServed start.setup (F.texts files.old) conf.now port
         (record { opened = F.opened files.old; faults = F.faults files.old })
         (record { opened = F.opened files.new; faults = F.faults files.new })
         (record { left = C.left control.old; input_faults = C.faults control.old; contents = O.contents out.old; output_faults = O.faults out.old })
@@ -100,41 +69,22 @@ pub fn serve_at<
         input: control,
         out,
     };
-    match serve(rt, alloc, start, parts, journal, workers, panel) {
-        Ok(served) => {
-            let Served {
-                listener,
-                journal,
-                panel,
-                end,
-                stopped,
-                failed,
-                ..
-            } = served;
-            let ControlPanel {
-                files, input, out, ..
-            } = panel;
-            take_back(files);
-            take_back(input);
-            take_back(out);
-            (ended_status(end, stopped, failed), journal, listener)
-        }
-        Err(unserved) => {
-            let Unserved {
-                fault,
-                listener,
-                journal,
-                panel,
-            } = unserved;
-            let ControlPanel {
-                files, input, out, ..
-            } = panel;
-            take_back(files);
-            take_back(input);
-            take_back(out);
-            (unserved_status(fault), journal, listener)
-        }
-    }
+    let Back {
+        listener,
+        journal,
+        panel,
+        status,
+    } = run_panel(rt, alloc, start, parts, journal, workers, panel);
+    let ControlPanel {
+        files,
+        input,
+        out,
+        ..
+    } = panel;
+    take_back(files);
+    take_back(input);
+    take_back(out);
+    (status, journal, listener)
 }
 
 // The port at which a server of this configuration listens: the option's, or else the configuration's.

@@ -1,3 +1,5 @@
+use Rattle.std.proofs.Common.{sym, ◌∙◌}
+use Rattle.std.proofs.lemmas.Option.{none-some}
 use Rattle.sq_proxy.proofs.DoneLaws.{runs_truly_told}
 use Rattle.sq_proxy.proofs.proxying.proxy.Goals as goal
 
@@ -5,4 +7,5 @@ pub returns-in-Some-clause-truly : goal.returns-in-Some-clause-truly
 returns-in-Some-clause-truly g c = runs_truly_told (g.F.Files.texts c.args.files.now) c.args.words.now
 
 pub returns-in-Some-clause-usage : goal.returns-in-Some-clause-usage
-returns-in-Some-clause-usage g c = (λ e. absurd (c.serve_service-status.ensures.no_usage e), λ p. absurd (let n = p.1 in cc))
+returns-in-Some-clause-usage g c =
+    (λ e. absurd (c.serve_service-status.ensures.no_usage e), λ p. absurd (none-some _ (sym p.1 ∙ c.in-Some.ensures)))

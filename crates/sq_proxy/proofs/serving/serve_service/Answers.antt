@@ -10,6 +10,6 @@ pub returns : goal.returns
 returns g c =
     finished (shown_service c.args.service.now) _ _ _ _ _ _ _ _ _ _ _ c.serve_conf-status.result.0 c.finish.result c.finish.ensures.same c.serve_conf-status.ensures
     (λ e. ap {B = Streams}
-        (λ o. record { left = g.C.Source.left c.serve_conf-status.new.control; input_faults = g.C.Source.faults c.serve_conf-status.new.control; contents = g.O.Sink.contents o; output_faults = g.O.Sink.faults o })
-        (c.finish.ensures.silent (ap (λ (s : Status). is_silent (end_of s)) e)))
+    (λ o. record { left = g.C.Source.left c.serve_conf-status.new.control; input_faults = g.C.Source.faults c.serve_conf-status.new.control; contents = g.O.Sink.contents o; output_faults = g.O.Sink.faults o })
+    (c.finish.ensures.silent (ap (λ (s : Status). is_silent (end_of s)) e)))
     refl c.finish.ensures.later

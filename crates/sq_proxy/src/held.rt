@@ -1,0 +1,124 @@
+//! The run of a server's control, and how the server ends.
+ghost use Rattle.std.specs.Prelude.{◌≡◌, ◌<◌, ◌≤◌, ◌^◌, [], IfSome};
+ghost use Rattle.sq_proxy.specs.declared.ends.Status.TheVariants as ends;
+ghost use Rattle.sq_proxy.specs.Service.{IsServed, IsUnservedEnd, ended_status};
+
+use crate::ends::Status;
+use sq_calls::DeskFault;
+use sq_control::PanelEnd;
+use sq_note::Journal;
+use sq_outside::{Files, Net, Parts, Sink, Source};
+use sq_panel::ControlPanel;
+use sq_server::{Served, Start, Unserved, serve};
+use std::alloc::Global;
+use std::sync::Wait;
+use std::thread::Threads;
+
+/// What a server hands back, however it ended.
+#[derive(Drop)]
+pub(crate) struct Back<'c, 'f, 's, 'o, L, J, F, S, O> {
+    pub listener: L,
+    pub journal: J,
+    pub panel: ControlPanel<'c, 'f, 's, 'o, F, S, O>,
+    pub status: Status,
+}
+
+// How a server ends whose panel ended so, by whether a note of its journal failed, and whether its listener did.
+fn ended_status(end: PanelEnd, stopped: bool, failed: bool) -> Status
+    ensures { result ≡ ended_status end stopped failed }
+{
+    match end {
+        PanelEnd::ReadFault => Status::ReadFault,
+        PanelEnd::WriteFault => Status::WriteFault,
+        PanelEnd::Ended if !stopped && !failed => Status::Ok,
+        PanelEnd::Faulted if !stopped && !failed => Status::WantOfMemory,
+        _ => {
+            if stopped {
+                Status::JournalFault
+            } else {
+                Status::Net
+            }
+        }
+    }
+}
+
+// How a server ends whose desk was not made.
+fn unserved_status(fault: DeskFault) -> Status
+    ensures end { IsUnservedEnd result }
+    ensures journal { result ≡ ends.JournalFault → fault ≡ DeskFault.JournalFault }
+{
+    match fault {
+        DeskFault::JournalFault => Status::JournalFault,
+        _ => Status::WantOfMemory,
+    }
+}
+
+/// Serves the links that come to the parts of a net which was opened, until the run of the panel has ended. The panel is
+/// handed back with the references that it had.
+pub(crate) fn run_panel<
+    'c,
+    'f,
+    's,
+    'o,
+    R: Threads + Wait + Sync,
+    F: Files,
+    S: Source,
+    O: Sink,
+    N: Net,
+    J: Journal + Send + Drop,
+>(
+    rt: &R,
+    alloc: Global,
+    start: Start,
+    parts: Parts<N>,
+    journal: J,
+    workers: u32,
+    panel: ControlPanel<'c, 'f, 's, 'o, F, S, O>,
+) -> Back<'c, 'f, 's, 'o, N::L, J, F, S, O>
+    requires empty { IfSome (J.history journal) (λ h. h ≡ []) }
+    requires some { (0 < workers) × (workers ≤ 2 ^ 31) }
+    ensures files { result.panel.files.ghost_name ≡ panel.entry.files.ghost_name }
+    ensures input { result.panel.input.ghost_name ≡ panel.entry.input.ghost_name }
+    ensures out { result.panel.out.ghost_name ≡ panel.entry.out.ghost_name }
+    ensures served { IsServed start.setup (F.texts panel.entry.files.now) panel.entry.conf.now panel.entry.port
+        (record { opened = F.opened panel.entry.files.now; faults = F.faults panel.entry.files.now })
+        (record { opened = F.opened result.panel.files.now; faults = F.faults result.panel.files.now })
+        (record { left = S.left panel.entry.input.now; input_faults = S.faults panel.entry.input.now; contents = O.contents panel.entry.out.now; output_faults = O.faults panel.entry.out.now })
+        (record { left = S.left result.panel.input.now; input_faults = S.faults result.panel.input.now; contents = O.contents result.panel.out.now; output_faults = O.faults result.panel.out.now })
+        (J.faults journal) (J.faults result.journal) (N.L.faults result.listener) (J.history result.journal) result.status }
+    ensures texts { F.texts result.panel.files.now ≡ F.texts panel.entry.files.now }
+{
+    match serve(rt, alloc, start, parts, journal, workers, panel) {
+        Ok(served) => {
+            let Served {
+                listener,
+                journal,
+                panel,
+                end,
+                stopped,
+                failed,
+                ..
+            } = served;
+            Back {
+                listener,
+                journal,
+                panel,
+                status: ended_status(end, stopped, failed),
+            }
+        }
+        Err(unserved) => {
+            let Unserved {
+                fault,
+                listener,
+                journal,
+                panel,
+            } = unserved;
+            Back {
+                listener,
+                journal,
+                panel,
+                status: unserved_status(fault),
+            }
+        }
+    }
+}
