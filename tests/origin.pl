@@ -6,7 +6,10 @@
 #     /big        16 bytes, 655,360 times over
 #     /chunked    hello, in chunks with an extension and a trailer
 #     /close      hello, up to the end of the connection
+#     /cut        hello, of ten bytes that are announced, and the end of the connection
 #     /echo       the data of the request's body
+#     /noise      a line that is none of HTTP, and the end of the connection
+#     /nothing    the end of the connection
 #     /raw        the request as it came, with a body in chunks, in one chunk
 #     any other   hello
 #
@@ -84,6 +87,14 @@ sub answer {
         put($link, sprintf("HTTP/1.1 201 Made it\r\nTransfer-Encoding: chunked\r\nX-Kept: a\r\nConnection: X-Hop\r\nX-Hop: b\r\n\r\n%X\r\n%s\r\n0\r\n\r\n", length $text, $text));
     } elsif ($path eq '/chunked') {
         put($link, "HTTP/1.1 200 OK\r\nTransfer-Encoding: chunked\r\n\r\n02;x=y\r\nhe\r\n3\r\nllo\r\n0\r\nT: 1\r\n\r\n");
+    } elsif ($path eq '/cut') {
+        put($link, "HTTP/1.1 200 OK\r\nContent-Length: 10\r\n\r\n$reply");
+        return;
+    } elsif ($path eq '/noise') {
+        put($link, "220 ready\r\n\r\n");
+        return;
+    } elsif ($path eq '/nothing') {
+        return;
     } elsif ($path eq '/close') {
         put($link, "HTTP/1.1 200 OK\r\n\r\n$reply");
         return;

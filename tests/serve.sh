@@ -65,7 +65,19 @@ until_it() {
 has_lines() { [ "$(grep -c '' "$1")" -ge "$2" ]; }
 has_text() { grep -qF -- "$2" "$1"; }
 has_begun() { has_lines said 1 || test -s status; }
-free_port() { perl -MIO::Socket::INET -e 'print IO::Socket::INET->new(Listen => 1, LocalAddr => "127.0.0.1")->sockport'; }
+is_gone() { ! kill -0 "$1"; }
+has_deaths() { [ "$(grep -c ' died ' journal)" -gt "$1" ]; }
+# A port at which nobody listens, outside of those that the system gives to clients.
+# shellcheck disable=SC2016
+free_port() {
+    perl -MIO::Socket::INET -e 'for (1 .. 100) { my $port = 20000 + int rand 10000;
+        IO::Socket::INET->new(Listen => 1, LocalAddr => "0.0.0.0", LocalPort => $port) and print($port), exit }'
+}
+# bounded COMMAND ..: runs it for a minute at the most.
+# shellcheck disable=SC2016
+bounded() { perl -e 'alarm 60; exec { $ARGV[0] } @ARGV; exit 127' "$@"; }
+# For how many hundredths of a second the server has run so far, its helpers not counted.
+ran() { cut -d ' ' -f 14,15 "/proc/$(cat server)/stat" | tr ' ' '+' | { read -r sum; echo $((sum)); }; }
 
 # start WORD ..: begins a server over these words. Its orders come from descriptor 3; what it writes goes to `said`, its journal
 # to `journal`, or where `journal_to` says, its process to `server`, and at the end its status to `status`.
@@ -128,6 +140,7 @@ while read -r host path rest; do
     case $host in
     127.0.0.1) echo OK ;;
     broken.example) echo BH ;;
+    liar.example) echo 'it is known' ;;
     *) echo ERR ;;
     esac
 done
@@ -237,6 +250,11 @@ ask 'a name that the helper allows'
 lines 'GET http://broken.example/asked/c HTTP/1.1' 'Host: a' '' >request
 own 403 Forbidden 'denied fault 2 known Bh' open >wanted
 ask 'a name at which the helper fails'
+lines 'GET http://liar.example/asked/c HTTP/1.1' 'Host: a' '' >request
+own 403 Forbidden 'denied fault 2 known BadReply' open >wanted
+ask 'a helper that writes what is no answer'
+until_it 100 is_gone "$(tail -n 1 pids)"
+same 'that helper is stopped, and nothing is left of it' "$?" 0
 get /lost >request
 own 403 Forbidden 'denied fault 4 found NoHelper' open >wanted
 ask 'a helper that is not there'
@@ -245,12 +263,22 @@ get /counted/2 >two
 { own 403 Forbidden 'denied rule 3' open && printf %s "$hello"; } >wanted
 perl "$here/client.pl" "$port" one two >got 3>&-
 same_file 'a helper with channels' got wanted
-judged=$((judged + 6))
+judged=$((judged + 7))
 
 lines "GET http://127.0.0.1:$nobody/ HTTP/1.1" 'Host: a' '' >request
 own 502 'Bad Gateway' 'bad gateway' >wanted
 ask 'an origin that is not there'
-judged=$((judged + 1))
+get /nothing >request
+ask 'an origin that says nothing'
+get /noise >request
+ask 'an origin that does not speak HTTP'
+get /cut >request
+{ lines 'HTTP/1.1 200 OK' 'Content-Length: 10' 'Via: 1.1 aclproxy' '' && printf hello; } >wanted
+ask 'an origin that breaks off in a body'
+lines "POST http://127.0.0.1:$http/echo HTTP/1.1" 'Host: a' 'Transfer-Encoding: chunked' '' 8000000000000000 '' >request
+: >wanted
+ask 'a client that sends no body after its head'
+judged=$((judged + 5))
 
 lines 'GET ftp://127.0.0.1/ HTTP/1.1' 'Host: a' '' >request
 own 501 'Not Implemented' 'not implemented' >wanted
@@ -286,6 +314,13 @@ get /asked/slow >slow
 perl "$here/client.pl" "$port" slow >answer 3>&- &
 client=$!
 until_it 200 has_text journal '127.0.0.1%20/asked/slow%20-'
+if [ -r "/proc/$(cat server)/stat" ]; then
+    before=$(ran)
+    sleep 1
+    same 'a server that waits does not run, in tenths of a second' "$((($(ran) - before) / 10))" 0
+else
+    echo 'serve, a server that waits does not run: left out, since there is no /proc'
+fi
 echo 'http_access deny all' >squid.conf
 echo reconfigure >&3
 until_it 200 has_lines said 2
@@ -316,8 +351,11 @@ reconfigured 3'
 # A helper is killed before it has a question, and then while one waits for it.
 get /asked/d >request
 ask 'the first configuration again'
+deaths=$(grep -c ' died ' journal)
 kill -9 "$(tail -n 1 pids)"
-until_it 200 has_text journal ' died '
+until_it 200 has_deaths "$deaths"
+until_it 100 is_gone "$(tail -n 1 pids)"
+same 'nothing is left of a helper that was killed' "$?" 0
 get /asked/e >request
 ask 'another helper in the place of one that was killed'
 rm go
@@ -336,7 +374,7 @@ ask 'another helper after that'
 judged=$((judged + 4))
 
 # Another server cannot have the port.
-"$program" serve first.conf --port "$port" </dev/null >said2 2>journal2
+bounded "$program" serve first.conf --port "$port" </dev/null >said2 2>journal2
 same 'a port that is taken' "$(echo "status $?" && cat said2 && wc -c <journal2)" 'status 9
 error net
 0'
@@ -366,7 +404,7 @@ wait "$client"
 exec 3>&-
 until_it 20 sh -c 'for helper in $(cat pids); do kill -0 "$helper" 2>/dev/null && exit 1; done; exit 0'
 same 'no helper is left' "$?" 0
-same 'its journal, verified' "$("$program" verify first.conf journal; echo "status $?")" "verified $(($(wc -l <journal) - 1))
+same 'its journal, verified' "$(bounded "$program" verify first.conf journal; echo "status $?")" "verified $(($(wc -l <journal) - 1))
 status 0"
 same 'the first lines of its journal' "$(head -n 2 journal | sed 's/ [0-9]* begin/ MOMENT begin/')" 'journal 2
 1 1 MOMENT begin -60 => epoch 1'
@@ -380,6 +418,86 @@ echo shutdown >&3
 ends 'an end by shutdown, within a second' "listening $port
 stopped" 0 10
 exec 3>&-
+
+# The journal, where moments and the ports of clients are left out.
+written() { sed 's/^\([0-9]* [0-9]*\) [0-9]* /\1 MOMENT /; s/ open 1 127.0.0.1 [0-9]* / open 1 127.0.0.1 PORT /' journal; }
+printf '%s\n' 'acl lan src 10.0.0.0/8' 'acl web port 80 443' 'http_access allow lan web' >small.conf
+start small.conf --port "$port"
+echo shutdown >&3
+ends 'no client, and shutdown' "listening $port
+stopped" 0 50
+exec 3>&-
+same 'no client, the journal' "$(written)" 'journal 2
+1 1 MOMENT begin 0 => epoch 1'
+echo 'http_access deny all' >small.conf
+start small.conf --port "$port"
+printf '%s\n' reconfigure shutdown >&3
+ends 'no client, reconfigure and shutdown' "listening $port
+reconfigured 2
+stopped" 0 50
+exec 3>&-
+same 'no client, reconfigure, the journal' "$(written)" 'journal 2
+1 1 MOMENT begin 0 => epoch 1
+2 2 MOMENT reconfigure http_access%20deny%20all%0A => epoch 2'
+start small.conf --port "$port"
+echo acl >small.conf
+printf '%s\n' reconfigure shutdown >&3
+ends 'no client, reconfigure by a faulty file' "listening $port
+kept old 1 3
+stopped" 0 50
+exec 3>&-
+same 'no client, a faulty file, the journal' "$(written)" 'journal 2
+1 1 MOMENT begin 0 => epoch 1'
+
+# Three clients come at once to one worker, and each is served.
+echo 'http_access deny all' >small.conf
+start small.conf --port "$port" --workers 1
+lines 'GET http://a.example/ HTTP/1.1' 'Host: a.example' '' >request
+own 403 Forbidden 'denied rule 1' open >wanted
+clients=
+for client in 1 2 3; do
+    perl "$here/client.pl" "$port" request >"got$client" 3>&- &
+    clients="$clients $!"
+done
+for client in $clients; do
+    wait "$client"
+done
+for client in 1 2 3; do
+    same_file "one worker, client $client" "got$client" wanted
+done
+echo shutdown >&3
+ends 'one worker, three clients' "listening $port
+stopped" 0 50
+exec 3>&-
+same 'one worker, the journal' "$(written)" 'journal 2
+1 1 MOMENT begin 0 => epoch 1
+2 1 MOMENT open 1 127.0.0.1 PORT => ok
+3 1 MOMENT ask 1 GET http://a.example/ Host:a.example => check 1
+4 1 MOMENT step 1 => done
+5 1 MOMENT take 1 => epoch 1 denied rule 1
+6 1 MOMENT close 1 => ok
+7 1 MOMENT open 1 127.0.0.1 PORT => ok
+8 1 MOMENT ask 1 GET http://a.example/ Host:a.example => check 2
+9 1 MOMENT step 2 => done
+10 1 MOMENT take 2 => epoch 1 denied rule 1
+11 1 MOMENT close 1 => ok
+12 1 MOMENT open 1 127.0.0.1 PORT => ok
+13 1 MOMENT ask 1 GET http://a.example/ Host:a.example => check 3
+14 1 MOMENT step 3 => done
+15 1 MOMENT take 3 => epoch 1 denied rule 1
+16 1 MOMENT close 1 => ok'
+
+# Streams that are closed from the start: no socket and no file takes their numbers.
+same 'no standard input' "$(bounded "$program" serve small.conf --port "$port" 2>journal <&-; echo "status $?")" "listening $port
+stopped
+status 0"
+same 'no standard input, the journal' "$(written)" 'journal 2
+1 1 MOMENT begin 0 => epoch 1'
+same 'no standard output' "$(bounded "$program" serve small.conf --port "$port" 2>journal </dev/null >&-; echo "status $?")" 'status 5'
+same 'no standard output, the journal' "$(written)" 'journal 2
+1 1 MOMENT begin 0 => epoch 1'
+same 'no standard error' "$(bounded "$program" serve small.conf --port "$port" </dev/null 2>&-; echo "status $?")" 'error journal
+status 6'
 
 # 40,960 bytes and a head, where none are there at first and 20,000 come in a second: that takes over two seconds.
 cat >port.conf <<END
@@ -402,7 +520,7 @@ ends 'an end of its orders; the port of the file' "listening $port
 stopped" 0 50
 
 # A journal that fails at once, and one that fails later.
-"$program" serve first.conf --port "$port" </dev/null >said2 2>/dev/full
+bounded "$program" serve first.conf --port "$port" </dev/null >said2 2>/dev/full
 same 'a journal that cannot be written' "$(echo "status $?" && cat said2)" 'status 6
 error journal'
 mkfifo cut
