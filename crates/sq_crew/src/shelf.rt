@@ -1,4 +1,5 @@
-//! The shelf: what the pump and the keepers share. Each call is one hold of its lock.
+//! The shelf: what the pump and the keepers share. Each call is one hold of its lock, in which it makes the one call of its
+//! name. Nothing is proved here of what lies under the lock.
 use crate::board::{Board, Task};
 use sq_base::ProcNo;
 use std::alloc::Global;

@@ -1,5 +1,6 @@
 //! Threads that sleep until the desk changed or a question may have been answered, and what the pump and the control
-//! tell them. Nothing is said of when one wakes.
+//! tell them. Each function takes the desk's lock for one call; nothing is proved here of what lies under it, and nothing
+//! is said of when a thread wakes.
 use crate::room::Room;
 use sq_calls::{DeskCalls, DeskFault};
 use std::sync::Wait;
