@@ -109,7 +109,7 @@ my $pools = "acl slowed src 127.0.0.2\ndelay_pools 2\ndelay_class 1 1\ndelay_par
 my @configurations = (
     $classes . $lists . $rules . "http_access allow all\n",
     $classes . $lists . $rules . "acl few maxconn 40\nhttp_access deny few\nhttp_access allow localhost\nhttp_access allow all\n" . $pools,
-    $classes . $lists . "http_access deny h1 known\nhttp_access deny h2 !even\nhttp_access allow all\n",
+    $classes . $lists . "http_access deny refused\nhttp_access deny h1 known\nhttp_access deny h2 !even\nhttp_access allow all\n",
     ($classes =~ s/ttl=1 negative_ttl=2/ttl=0/r) . $lists . $rules . "http_access allow all\n" . $pools,
     $classes . $lists . "http_access deny all\n",
     "acl refused url_regex /deny\nhttp_access deny refused\nhttp_access allow all\n",
@@ -247,12 +247,12 @@ my $heard = '';
 # The next line that the server writes, unless that takes too long or the server has ended.
 sub hear {
     my $limit = time + $PATIENCE;
-    until ($heard =~ s/\A(.*)\n//) {
+    while (1) {
+        return $1 if $heard =~ s/\A(.*)\n//;
         my $left = $limit - time;
         return undef if $left <= 0 || !IO::Select->new($said)->can_read($left);
         return undef unless sysread $said, $heard, 4096, length $heard;
     }
-    return $1;
 }
 my $first = hear() // 'nothing';
 die "chaos: the server says $first\n" unless $first eq "listening $port";
