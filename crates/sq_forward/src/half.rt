@@ -50,7 +50,12 @@ impl<S: Source> Half<S> {
         ensures source { self.new.source ≡ self.old.source }
     {
         let mut bytes = mem::replace(&mut self.ahead, Text::new(alloc)).into_vec();
-        bytes.drain(..n);
+        // Mostly all of them go, and then none is moved.
+        if n == bytes.len() {
+            bytes.clear();
+        } else {
+            bytes.drain(..n);
+        }
         self.ahead = Text::from_vec(bytes);
     }
 }
