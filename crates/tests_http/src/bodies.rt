@@ -1,9 +1,8 @@
-//! Bodies that are fed whole and in pieces of each size, to the same end.
-ghost use Rattle.std.specs.Prelude.{◌<◌};
-
+//! Bodies that are fed whole, and in pieces of every kind, to the same end.
+use crate::texts::text_of;
 use End::{Bad, Part, Whole};
 use sq_base::BodyPlan::{self, Chunked, Length, None, ToClose};
-use sq_base::Text;
+use sq_base::{Text, number_of};
 use sq_body::{BodyCursor, FeedFault};
 use std::alloc::Global;
 use std::test::Fail;
@@ -17,126 +16,205 @@ enum End {
     Bad,
 }
 
-/// A plan, whether the output is chunked, bytes, what goes out, and how far they lead.
-type Case = (BodyPlan, bool, &'static [u8], &'static [u8], End);
+/// `PLAN OUT BYTES => OUTPUT => END`: how the body ends (`chunked`, `close`, `none` or its length), whether it
+/// goes out in chunks, what comes, what goes out, and whether it is refused (`bad`), goes on (`more`), or is
+/// complete in front of the bytes behind `whole`.
+static BODIES: &str = "chunked chunked 5;x=y|hello|0|T: 1|| => 5|hello|0|| => whole
+chunked plain 5;x=y|hello|0|T: 1|| => hello => whole
+chunked chunked 0||GET / HTTP/1.1| => 0|| => whole GET / HTTP/1.1|
+chunked chunked 3|abc|0||POST / HTTP/1.1| => 3|abc|0|| => whole POST / HTTP/1.1|
+chunked chunked 1|a|2|bc|3|def|0|| => 1|a|2|bc|3|def|0|| => whole
+chunked plain 1|a|2|bc|3|def|0|| => abcdef => whole
+chunked plain 5|0|||0|| => 0|| => whole
+chunked plain c|2|hi|0|||0|| => 2|hi|0|| => whole
+chunked chunked 0A|0123456789|0|| => a|0123456789|0|| => whole
+chunked chunked 0b|hello world| => b|hello world| => more
+chunked chunked 00002|hi| => 2|hi| => more
+chunked chunked 2 _|hi| => 2|hi| => more
+chunked chunked 5 ;x| => 5| => more
+chunked chunked 000|| => 0|| => whole
+chunked chunked 0;last=1||X => 0|| => whole X
+chunked chunked 000000000000000a| => a| => more
+chunked chunked 0000000000000000a| =>  => bad
+chunked chunked 0000000000000000||X => 0|| => whole X
+chunked chunked 00000000000000000||X =>  => bad
+chunked chunked 7fffffffffffffff|ab => 7fffffffffffffff|ab => more
+chunked chunked 7FFFFFFFFFFFFFFF|ab => 7fffffffffffffff|ab => more
+chunked chunked 8000000000000000| =>  => bad
+chunked chunked ffffffffffffffff| =>  => bad
+chunked chunked fffffffffffffffff| =>  => bad
+chunked chunked 10000000000000002|hi| =>  => bad
+chunked chunked G| =>  => bad
+chunked chunked | =>  => bad
+chunked chunked ;x| =>  => bad
+chunked chunked +2| =>  => bad
+chunked chunked -2| =>  => bad
+chunked chunked  2| =>  => bad
+chunked chunked _2| =>  => bad
+chunked chunked 0x2| =>  => bad
+chunked chunked 2h| =>  => bad
+chunked chunked 2.0| =>  => bad
+chunked chunked 2,3| =>  => bad
+chunked chunked 1 2| =>  => bad
+chunked chunked 2~| =>  => bad
+chunked chunked '2'| =>  => bad
+chunked chunked 5;x=\"|hello => 5|hello => more
+chunked chunked 5;a=1;b=\"c;d\"|hello|0|| => 5|hello|0|| => whole
+chunked chunked 5;|hello| => 5|hello| => more
+chunked chunked 2!hi| =>  => bad
+chunked chunked 2;x!hi| =>  => bad
+chunked chunked 2;!xx|4c|0|| =>  => bad
+chunked chunked 2^hi| =>  => bad
+chunked chunked 2;x^y| =>  => bad
+chunked chunked 2;x^|hi| =>  => bad
+chunked chunked 2^|hi| =>  => bad
+chunked chunked 2|hi! => 2|hi => bad
+chunked chunked 2|hi^X => 2|hi => bad
+chunked plain 2|hiX| => hi => bad
+chunked chunked 2|hiXX2|yo| => 2|hi => bad
+chunked chunked 2|hi0|| => 2|hi => bad
+chunked chunked 2|hi|zz => 2|hi| => bad
+chunked chunked 2|hi||0|| => 2|hi| => bad
+chunked chunked 5|abc|0|| => 5|abc| => bad
+chunked plain 3|abcd|0|| => abc => bad
+chunked chunked 2|hi^ => 2|hi => more
+chunked chunked 2|hi|0| => 2|hi| => more
+chunked chunked 0|Content-Length: 50|Transfer-Encoding: gzip||X => 0|| => whole X
+chunked chunked 0|GET / HTTP/1.1|Host: h||X => 0|| => whole X
+chunked plain 0|A: 1| B: 2||X =>  => whole X
+chunked chunked 0|A: 1| =>  => more
+chunked chunked 0|T: 1!!|| => 0|| => whole
+chunked chunked 0|! =>  => more
+chunked chunked 0|^| =>  => more
+chunked chunked 0|^A||X => 0|| => whole X
+3 chunked abcGET => abc => whole GET
+3 plain a|b => a| => whole b
+5 plain abc => abc => more
+0 plain abc =>  => whole abc
+9223372036854775807 plain abc => abc => more
+none chunked GET =>  => whole GET
+close chunked 2|hi|0|| => 2|hi|0|| => more
+close plain  =>  => more
+chunked chunked  =>  => more
+chunked chunked 2;{4092 x}|hi => 2|hi => more
+chunked chunked 2;{4093 x}|hi =>  => bad
+chunked chunked 2;{4093 x} =>  => more
+chunked chunked 2;{4094 x} =>  => bad
+chunked chunked 2{4093 _}|hi => 2|hi => more
+chunked chunked 2{4094 _}|hi =>  => bad
+chunked chunked 2|hi|2;{4092 x}|yo => 2|hi|2|yo => more
+chunked chunked 0|{65532 x}||X => 0|| => whole X
+chunked chunked 0|{65533 x}||X =>  => bad
+chunked chunked 0|{65535 x} =>  => more
+chunked chunked 0|{65536 x} =>  => bad
+chunked chunked 0|{16383 x:|}|X => 0|| => whole X
+chunked chunked 0|{16384 x:|}|X =>  => bad
+chunked chunked 4000|{16384 x}|4001|{16385 y}|0||X => 4000|{16384 x}|4001|{16385 y}|0|| => whole X
+chunked plain 4000|{16384 x}|4001|{16385 y}|0||X => {16384 x}{16385 y} => whole X
+chunked chunked {3000 1|a|}0||X => {3000 1|a|}0|| => whole X
+chunked plain {3000 1|a|}0||X => {3000 a} => whole X
+40000 plain {40000 x}GET => {40000 x} => whole GET
+close chunked {40000 x} => {40000 x} => more
+";
 
-static CASES: [Case; 40] = [
-    // An extension and a trailer are dropped, and the next message is left.
-    (
-        Chunked,
-        true,
-        b"5;x=y\r\nhello\r\n0\r\nT: 1\r\n\r\n",
-        b"5\r\nhello\r\n0\r\n\r\n",
-        Whole(25),
-    ),
-    (
-        Chunked,
-        false,
-        b"5;x=y\r\nhello\r\n0\r\nT: 1\r\n\r\n",
-        b"hello",
-        Whole(25),
-    ),
-    (
-        Chunked,
-        true,
-        b"0\r\n\r\nGET / HTTP/1.1\r\n",
-        b"0\r\n\r\n",
-        Whole(5),
-    ),
-    // Data may look like a chunk line or like the end.
-    (
-        Chunked,
-        false,
-        b"5\r\n0\r\n\r\n\r\n0\r\n\r\n",
-        b"0\r\n\r\n",
-        Whole(15),
-    ),
-    // Sizes: letters of either case, leading zeros, blanks behind, up to 16 digits and 2^63 - 1.
-    (
-        Chunked,
-        true,
-        b"0A\r\n0123456789\r\n0\r\n\r\n",
-        b"a\r\n0123456789\r\n0\r\n\r\n",
-        Whole(21),
-    ),
-    (Chunked, true, b"00002\r\nhi\r\n", b"2\r\nhi\r\n", Part(11)),
-    (Chunked, true, b"2 \t\r\nhi\r\n", b"2\r\nhi\r\n", Part(9)),
-    (Chunked, true, b"5 ;x\r\n", b"5\r\n", Part(6)),
-    (Chunked, true, b"000000000000000a\r\n", b"a\r\n", Part(18)),
-    (Chunked, true, b"0000000000000000a\r\n", b"", Bad),
-    (
-        Chunked,
-        true,
-        b"7fffffffffffffff\r\nab",
-        b"7fffffffffffffff\r\nab",
-        Part(20),
-    ),
-    (Chunked, true, b"8000000000000000\r\n", b"", Bad),
-    (Chunked, true, b"fffffffffffffffff\r\n", b"", Bad),
-    // No size.
-    (Chunked, true, b"G\r\n", b"", Bad),
-    (Chunked, true, b"\r\n", b"", Bad),
-    (Chunked, true, b";x\r\n", b"", Bad),
-    (Chunked, true, b"+2\r\n", b"", Bad),
-    (Chunked, true, b"-2\r\n", b"", Bad),
-    (Chunked, true, b" 2\r\n", b"", Bad),
-    (Chunked, true, b"0x2\r\n", b"", Bad),
-    (Chunked, true, b"2,3\r\n", b"", Bad),
-    (Chunked, true, b"1 2\r\n", b"", Bad),
-    // Ends of lines: a quote does not hide one, and a bare LF or CR is none.
-    (Chunked, true, b"5;x=\"\r\nhello", b"5\r\nhello", Part(12)),
-    (Chunked, true, b"2\nhi\r\n", b"", Bad),
-    (Chunked, true, b"2;x\nhi\r\n", b"", Bad),
-    (Chunked, true, b"2\rhi\r\n", b"", Bad),
-    (Chunked, true, b"2;x\ry\r\n", b"", Bad),
-    // Behind the data: what comes before the refusal goes out.
-    (Chunked, true, b"2\r\nhi\n", b"2\r\nhi", Bad),
-    (Chunked, true, b"2\r\nhi\rX", b"2\r\nhi", Bad),
-    (Chunked, false, b"2\r\nhiX\r\n", b"hi", Bad),
-    (Chunked, true, b"2\r\nhi\r\nzz", b"2\r\nhi\r\n", Bad),
-    // Trailers: they name lengths in vain, and lines end with CRLF alone.
-    (
-        Chunked,
-        true,
-        b"0\r\nContent-Length: 50\r\nTransfer-Encoding: gzip\r\n\r\nX",
-        b"0\r\n\r\n",
-        Whole(50),
-    ),
-    (
-        Chunked,
-        true,
-        b"0\r\nT: 1\n\n\r\n\r\n",
-        b"0\r\n\r\n",
-        Whole(13),
-    ),
-    (Chunked, true, b"0\r\n\n", b"", Part(4)),
-    (Chunked, true, b"0\r\n\r\r\n", b"", Part(6)),
-    // Other plans.
-    (Length(3), true, b"abcGET", b"abc", Whole(3)),
-    (Length(5), false, b"abc", b"abc", Part(3)),
-    (Length(0), false, b"abc", b"", Whole(0)),
-    (None, true, b"GET", b"", Whole(0)),
-    (
-        ToClose,
-        true,
-        b"2\r\nhi\r\n0\r\n\r\n",
-        b"2\r\nhi\r\n0\r\n\r\n",
-        Part(12),
-    ),
-];
+/// The body of a row.
+#[derive(Drop)]
+struct Case {
+    plan: BodyPlan,
+    chunked: bool,
+    input: Text,
+    output: Text,
+    end: End,
+}
 
-/// Feeds the input in pieces of so many bytes, the last one maybe shorter.
+fn plan_of(word: &str) -> Option<BodyPlan> {
+    match word {
+        "chunked" => Some(Chunked),
+        "close" => Some(ToClose),
+        "none" => Some(None),
+        _ => match number_of(word.as_bytes(), 9_223_372_036_854_775_808) {
+            Some(length) => Some(Length(length)),
+            Option::None => Option::None,
+        },
+    }
+}
+
+/// The end that a row states of an input of so many bytes.
+fn end_of(alloc: Global, written: &str, len: usize) -> Result<End, Fail> {
+    match written {
+        "bad" => Ok(Bad),
+        "more" => Ok(Part(len)),
+        _ => {
+            let rest = written.strip_prefix("whole").ok_or("no end")?;
+            let rest = text_of(alloc, rest.trim_start())?;
+            Ok(Whole(len.saturating_sub(rest.len())))
+        }
+    }
+}
+
+fn case_of(alloc: Global, row: &str) -> Result<Case, Fail> {
+    let (plan, row) = row.split_once(' ').ok_or("no plan")?;
+    let (out, row) = row.split_once(' ').ok_or("no form")?;
+    let (input, row) = row.split_once(" => ").ok_or("no input")?;
+    let (output, end) = row.split_once(" => ").ok_or("no output")?;
+    let plan = plan_of(plan).ok_or("no plan")?;
+    let input = text_of(alloc, input)?;
+    let output = text_of(alloc, output)?;
+    let end = end_of(alloc, end, input.len())?;
+    Ok(Case {
+        plan,
+        chunked: out == "chunked",
+        input,
+        output,
+        end,
+    })
+}
+
+/// Into which pieces an input is cut: of so many bytes each; or by the numbers that follow from a seed, of less
+/// than 16 bytes or of less than 4,096, where a piece may be empty too.
+#[derive(Clone, Copy, Debug)]
+enum Cuts {
+    Each(usize),
+    Short(u64),
+    Long(u64),
+}
+
+/// The number behind this one in the sequence of Knuth's MMIX.
+fn number_after(number: u64) -> u64 {
+    number
+        .wrapping_mul(6_364_136_223_846_793_005)
+        .wrapping_add(1_442_695_040_888_963_407)
+}
+
+impl Cuts {
+    fn next_size(&mut self) -> usize {
+        match self {
+            Cuts::Each(size) => *size,
+            Cuts::Short(number) => {
+                *number = number_after(*number);
+                (*number >> 60) as usize
+            }
+            Cuts::Long(number) => {
+                *number = number_after(*number);
+                (*number >> 52) as usize
+            }
+        }
+    }
+}
+
+/// Feeds the input in these pieces, and one that is empty behind it.
 fn feed(
     alloc: Global,
     cursor: &mut BodyCursor,
     input: &[u8],
-    size: usize,
+    mut cuts: Cuts,
     out: &mut Text,
-) -> Result<End, FeedFault>
-    requires { 0 < size }
-{
+) -> Result<End, FeedFault> {
     let mut used: usize = 0;
-    for piece in input.chunks(size) {
+    let mut rest = input;
+    // A sequence without as many bytes in so many pieces would give no right end.
+    for _ in 0..input.len().saturating_mul(2).saturating_add(99) {
+        let (piece, behind) = rest.split_at(cuts.next_size().min(rest.len()));
         match cursor.feed(alloc, piece, out) {
             Ok(fed) => {
                 used = used.saturating_add(fed.used);
@@ -147,68 +225,42 @@ fn feed(
             Err(FeedFault::BadChunk) => return Ok(Bad),
             Err(FeedFault::WantOfMemory) => return Err(FeedFault::WantOfMemory),
         }
+        if rest.is_empty() {
+            break;
+        }
+        rest = behind;
     }
     Ok(Part(used))
 }
 
-/// Whether pieces of this size give what a case says.
-fn gives(alloc: Global, case: &Case, size: usize) -> Result<bool, Fail>
-    requires { 0 < size }
-{
-    let (plan, chunked, input, wanted, end) = case;
-    let mut cursor = BodyCursor::new(alloc, *plan, *chunked);
+/// Whether these pieces give what a case says.
+fn gives(alloc: Global, case: &Case, cuts: Cuts) -> Result<bool, Fail> {
+    let mut cursor = BodyCursor::new(alloc, case.plan, case.chunked);
     let mut out = Text::new(alloc);
-    let came = feed(alloc, &mut cursor, input, size, &mut out)?;
-    Ok(came == *end && out.as_bytes() == *wanted)
+    let came = feed(alloc, &mut cursor, case.input.as_bytes(), cuts, &mut out)?;
+    Ok(came == case.end && out == case.output)
 }
 
+/// Whole, in pieces of 1 to 64 bytes, and by the seeds from 1 to 20; a long one whole, byte by byte, and by the
+/// seeds 1 and 2.
 #[test]
-fn bodies_give_the_same_in_pieces_of_each_size(rt: HostRuntime) -> Result<(), Fail> {
-    for case in &CASES {
-        for size in 1..=64 {
-            assert!(rt;
-                gives(rt.alloc(), case, size)?,
-                "{case:?} in pieces of {size}"
-            );
-        }
-    }
-    Ok(())
-}
-
-/// Puts so many times the letter x between two texts.
-fn filled(alloc: Global, front: &[u8], count: u32, back: &[u8]) -> Result<Text, Fail> {
-    let mut text = Text::from_slice(alloc, front)?;
-    for _ in 0..count {
-        text.push(b'x')?;
-    }
-    text.append(back)?;
-    Ok(text)
-}
-
-/// What is before the x, how many there are, what is behind them, and what comes of it.
-type Long = (&'static [u8], u32, &'static [u8], End);
-
-/// A chunk line has at most 4,096 bytes, and trailers 65,536 with their empty line.
-static LONG: [Long; 6] = [
-    (b"2;", 4_092, b"\r\nhi", Part(4_098)),
-    (b"2;", 4_093, b"\r\nhi", Bad),
-    (b"2;", 4_094, b"", Bad),
-    (b"0\r\n", 65_532, b"\r\n\r\n", Whole(65_539)),
-    (b"0\r\n", 65_533, b"\r\n\r\n", Bad),
-    (b"0\r\n", 65_536, b"", Bad),
-];
-
-#[test]
-fn lines_and_trailers_have_their_limits(rt: HostRuntime) -> Result<(), Fail> {
+fn bodies_give_the_same_in_all_pieces(rt: HostRuntime) -> Result<(), Fail> {
     let alloc = rt.alloc();
-    for case in &LONG {
-        let (front, count, back, end) = case;
-        let input = filled(alloc, front, *count, back)?;
-        for size in [100, 4_096, 100_000] {
-            let mut cursor = BodyCursor::new(alloc, Chunked, true);
-            let mut out = Text::new(alloc);
-            let came = feed(alloc, &mut cursor, input.as_bytes(), size, &mut out)?;
-            assert!(rt; came == *end, "{front:?} {count} in pieces of {size}");
+    for row in BODIES.lines() {
+        let case = case_of(alloc, row)?;
+        let len = case.input.len();
+        let (sizes, seeds) = if len < 1000 { (64, 20) } else { (1, 2) };
+        let whole = Cuts::Each(len);
+        assert!(rt; gives(alloc, &case, whole)?, "{row} whole");
+        for size in 1..=sizes {
+            let each = Cuts::Each(size);
+            assert!(rt; gives(alloc, &case, each)?, "{row} {each:?}");
+        }
+        for seed in 1..=seeds {
+            let short = Cuts::Short(seed);
+            assert!(rt; gives(alloc, &case, short)?, "{row} {short:?}");
+            let long = Cuts::Long(seed);
+            assert!(rt; gives(alloc, &case, long)?, "{row} {long:?}");
         }
     }
     Ok(())

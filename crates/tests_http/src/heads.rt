@@ -1,11 +1,12 @@
 //! Heads as they go out, the plans of their bodies, and what is refused.
 
+use crate::texts::text_of;
 use BadBody::{BadCoding, BadLength, BothLengths};
 use BodyPlan::{Chunked, Length, None, ToClose};
 use sq_base::{Addr, BodyPlan, Request, Text, WantOfMemory};
 use sq_head::{
     BadBody, ReplyHeadFault, Shape, head_out, read_reply_head, reply_head_out, reply_plan,
-    request_plan,
+    request_plan, wants_close, wants_continue,
 };
 use sq_request::{BadRequest, head_end, read_request};
 use std::alloc::Global;
@@ -500,6 +501,51 @@ static NO_REPLIES: [&[u8]; 18] = [
     b"ICY 200 OK\r\n\r\n",
 ];
 
+/// `HEAD => OUT`: the head of a reply or of a request without a body, and what the client or the origin gets of it;
+/// `refused` where it has over 65,536 bytes (a reply's alone) or over 128 fields. Empty lines in front count.
+static LIMITS: &str =
+    "HTTP/1.1 200 OK|X: {65512 a}|| => HTTP/1.1 200 OK|X: {65512 a}|Via: 1.1 aclproxy||
+HTTP/1.1 200 OK|X: {65513 a}|| => refused
+HTTP/1.1 200 {65519 a}|| => HTTP/1.1 200 {65519 a}|Via: 1.1 aclproxy||
+HTTP/1.1 200 {65520 a}|| => refused
+HTTP/1.1 200 OK|{65514 a}:|| => HTTP/1.1 200 OK|{65514 a}: |Via: 1.1 aclproxy||
+HTTP/1.1 200 OK|{65515 a}:|| => refused
+{32758 |}!HTTP/1.1 200 OK|| => HTTP/1.1 200 OK|Via: 1.1 aclproxy||
+{32759 |}HTTP/1.1 200 OK|| => refused
+HTTP/1.1 200 OK|{127 X: 1|}| => HTTP/1.1 200 OK|{127 X: 1|}Via: 1.1 aclproxy||
+HTTP/1.1 200 OK|{128 X: 1|}| => HTTP/1.1 200 OK|{128 X: 1|}Via: 1.1 aclproxy||
+HTTP/1.1 200 OK|{129 X: 1|}| => refused
+HTTP/1.1 200 OK|{129 Connection: X|}| => refused
+HTTP/1.1 200 OK|{126 X: 1|}Y: 2|Connection: {16000 x,}|| => HTTP/1.1 200 OK|Y: 2|Via: 1.1 aclproxy||
+GET http://a/ HTTP/1.1|{127 X: 1|}| => GET / HTTP/1.1|Host: a|{127 X: 1|}Via: 1.1 aclproxy|X-Forwarded-For: 10.1.2.3|Connection: close||
+GET http://a/ HTTP/1.1|{128 X: 1|}| => GET / HTTP/1.1|Host: a|{128 X: 1|}Via: 1.1 aclproxy|X-Forwarded-For: 10.1.2.3|Connection: close||
+GET http://a/ HTTP/1.1|{129 X: 1|}| => refused
+GET http://a/ HTTP/1.1|{126 X: 1|}Y: 2|Connection: {16000 x,}|| => GET / HTTP/1.1|Host: a|Y: 2|Via: 1.1 aclproxy|X-Forwarded-For: 10.1.2.3|Connection: close||
+GET http://a/{40000 b} HTTP/1.1|| => GET /{40000 b} HTTP/1.1|Host: a|Via: 1.1 aclproxy|X-Forwarded-For: 10.1.2.3|Connection: close||
+";
+
+/// `HEAD => WISHES`: whether the connection closes behind the reply to a request or stays, and whether the client
+/// waits with its body.
+static WISHES: &str = "GET http://a/ HTTP/1.1|| => stays
+GET http://a/ HTTP/1.0|| => closes
+GET http://a/ HTTP/1.0|Connection: keep-alive|| => closes
+GET http://a/ HTTP/1.1|Connection: close|| => closes
+GET http://a/ HTTP/1.1|connection: Keep-Alive,_CLOSE ,|| => closes
+GET http://a/ HTTP/1.1|Connection: keep-alive|X: 1|Connection: close|| => closes
+GET http://a/ HTTP/1.1|Connection: closed, clos, x close|| => stays
+GET http://a/ HTTP/1.1|Connection: \"close\"|| => stays
+GET http://a/ HTTP/1.1|X-Connection: close|| => stays
+POST http://a/ HTTP/1.1|Expect: 100-continue|Content-Length: 1|| => stays, waits
+POST http://a/ HTTP/1.1|expect:_100-CONTINUE |Transfer-Encoding: chunked|Connection: close|| => closes, waits
+POST http://a/ HTTP/1.1|Expect: x|Expect: 100-continue|Content-Length: 1|| => stays, waits
+POST http://a/ HTTP/1.1|Expect: 100-continue|Content-Length: 0|| => stays
+POST http://a/ HTTP/1.1|Expect: 100-continue|| => stays
+POST http://a/ HTTP/1.1|Expect: 100-continue, x|Content-Length: 1|| => stays
+POST http://a/ HTTP/1.1|Expect: 100|Content-Length: 1|| => stays
+POST http://a/ HTTP/1.0|Expect: 100-continue|Content-Length: 1|| => closes
+CONNECT a:1 HTTP/1.1|Expect: 100-continue|Content-Length: 1|| => stays
+";
+
 /// 10.1.2.3.
 fn client() -> Addr {
     Addr {
@@ -616,6 +662,68 @@ fn replies_go_out(rt: HostRuntime) -> Result<(), Fail> {
             read_reply_head(alloc, head).err(),
             Some(ReplyHeadFault::BadHead),
             "{head:?}"
+        );
+    }
+    Ok(())
+}
+
+/// What goes out of the head of a reply, behind which the connection stays.
+fn reply_out(alloc: Global, head: &[u8]) -> Result<Option<Text>, Fail> {
+    let shape = Shape {
+        chunked: false,
+        closes: false,
+    };
+    match read_reply_head(alloc, head) {
+        Ok(reply) => Ok(Some(reply_head_out(alloc, &reply, shape)?)),
+        Err(ReplyHeadFault::BadHead) => Ok(Option::None),
+        Err(ReplyHeadFault::WantOfMemory) => Err(WantOfMemory)?,
+    }
+}
+
+/// What goes out of the head of a request without a body.
+fn request_out(alloc: Global, head: &[u8]) -> Result<Option<Text>, Fail> {
+    match request_of(alloc, head) {
+        Ok(request) => Ok(Some(head_out(alloc, &request, client(), None)?)),
+        Err(BadRequest::TooManyFields) => Ok(Option::None),
+        Err(other) => Err(other)?,
+    }
+}
+
+#[test]
+fn heads_have_their_limits(rt: HostRuntime) -> Result<(), Fail> {
+    let alloc = rt.alloc();
+    for row in LIMITS.lines() {
+        let (head, wanted) = row.split_once(" => ").ok_or("no head")?;
+        let head = text_of(alloc, head)?;
+        let wanted = match wanted {
+            "refused" => Option::None,
+            _ => Some(text_of(alloc, wanted)?),
+        };
+        let out = if head.as_bytes().starts_with(b"GET") {
+            request_out(alloc, head.as_bytes())?
+        } else {
+            reply_out(alloc, head.as_bytes())?
+        };
+        assert!(rt; out == wanted, "{row}");
+    }
+    Ok(())
+}
+
+#[test]
+fn requests_have_their_wishes(rt: HostRuntime) -> Result<(), Fail> {
+    let alloc = rt.alloc();
+    for row in WISHES.lines() {
+        let (head, wishes) = row.split_once(" => ").ok_or("no head")?;
+        let head = text_of(alloc, head)?;
+        let request = request_of(alloc, head.as_bytes())?;
+        let plan = request_plan(&request)?;
+        assert!(rt;
+            wants_close(&request) == wishes.starts_with("closes"),
+            "{row}"
+        );
+        assert!(rt;
+            wants_continue(&request, plan) == wishes.ends_with("waits"),
+            "{row}"
         );
     }
     Ok(())

@@ -10,3 +10,5 @@ mod bodies;
 mod heads;
 #[cfg(test)]
 mod own_replies;
+#[cfg(test)]
+mod texts;
