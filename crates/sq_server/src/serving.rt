@@ -91,7 +91,9 @@ fn serve_with<
         }
     };
     let Machine { desk, pools } = machine;
-    let (hall, bank, wholes) = open_books::<Desk<Watched<J, B>, F>, A, M, N, G>(desk, pools, blanks);
+    let (hall, bank, wholes) = open_books::<Desk<Watched<J, B>, F>, A, M, N, G>(
+        desk, pools, blanks,
+    );
     let Ran {
         desk,
         pools,
