@@ -25,23 +25,31 @@ fn pair<'a>(
     MemPair::new(alloc, Text::from_slice(alloc, bytes)?, shape, wire)
 }
 
+// 10.0.0.0 with another last byte.
+fn address(last: u8) -> Addr {
+    Addr {
+        v6: false,
+        number: 0x0a00_0000 + u128::from(last),
+    }
+}
+
 /// One client for each wire, from 10.0.0.1 on and port 4000.
 pub fn links<'a>(alloc: Global, wires: &'a [Wire]) -> Result<Vec<MemLink<'a>>, WantOfMemory> {
     let mut links = Vec::new(alloc);
-    let mut number = 0x0a00_0001;
+    let mut last: u8 = 1;
     for wire in wires {
         links.push(MemLink {
-            addr: Addr { v6: false, number },
+            addr: address(last),
             port: 4000,
             pair: pair(alloc, REQUEST, Some(wire))?,
         })?;
-        number = number.saturating_add(1);
+        last = last.saturating_add(1);
     }
     Ok(links)
 }
 
-/// A helper `/bin/h` that answers `OK` once a line was written to the wire, or ends after 100,000 turns of waiting.
-pub fn helper<'a>(alloc: Global, waits: &'a Wire) -> Result<MemChild<'a>, WantOfMemory> {
+// A helper `/bin/h` that answers `OK` once a line was written to the wire, or ends after 100,000 turns of waiting.
+fn helper<'a>(alloc: Global, waits: &'a Wire) -> Result<MemChild<'a>, WantOfMemory> {
     let mut words = Vec::new(alloc);
     words.push(Text::from_slice(alloc, b"/bin/h")?)?;
     Ok(MemChild {
@@ -52,6 +60,25 @@ pub fn helper<'a>(alloc: Global, waits: &'a Wire) -> Result<MemChild<'a>, WantOf
             turns: 100_000,
         }),
     })
+}
+
+/// The helper that waits for the wire at this place, if there is one.
+pub fn helpers<'a>(
+    alloc: Global,
+    wires: &'a [Wire],
+    waits: Option<usize>,
+) -> Result<Vec<MemChild<'a>>, WantOfMemory> {
+    let mut children = Vec::new(alloc);
+    match waits {
+        None => Ok(children),
+        Some(place) => match wires.get(place) {
+            None => Ok(children),
+            Some(wire) => {
+                children.push(helper(alloc, wire)?)?;
+                Ok(children)
+            }
+        },
+    }
 }
 
 /// A net with these links and helpers, and a clock that stands at 7.

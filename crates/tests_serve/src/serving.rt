@@ -1,14 +1,14 @@
 //! Servers over nets in memory.
 ghost use Rattle.std.specs.Prelude.{◌<◌, ◌≤◌};
 
-use crate::nets::{helper, links, net};
+use crate::nets::{helpers, links, net};
 use crate::panels::Until;
 use sq_base::WantOfMemory;
 use sq_cache::HashSeed;
 use sq_conf::read_config;
 use sq_journal::print_entry;
 use sq_note::MemJournal;
-use sq_outside::{MemChild, Net, Wire};
+use sq_outside::{Net, Wire};
 use sq_rules::Offset;
 use sq_server::{Served, Start, serve};
 use std::alloc::Global;
@@ -59,12 +59,7 @@ fn run<R: Threads + Wait + Sync>(
     let wires = wires(alloc, clients)?;
     let word = AtomicBool::new(false);
     let names = Vec::new(alloc);
-    let mut children: Vec<MemChild<'_>> = Vec::new(alloc);
-    if let Some(place) = waits
-        && let Some(wire) = wires.get(place)
-    {
-        children.push(helper(alloc, wire)?)?;
-    }
+    let children = helpers(alloc, wires.as_slice(), waits)?;
     let links = links(alloc, wires.as_slice())?;
     let mut net = net(alloc, links, children, names.as_slice(), &word)?;
     let Ok(parts) = net.parts(alloc, 3128) else {
