@@ -437,7 +437,8 @@ my @actions = (
         more();
     }],
     [4, 'noise', sub {
-        put($link, join('', map { chr int rand 256 } 1 .. 1 + int rand 400) . "\r\n\r\n");
+        # Not of empty lines alone, behind which the proxy waits for more.
+        put($link, join('', 'z', map { chr int rand 256 } 1 .. int rand 400) . "\r\n\r\n");
         my ($status) = reply('GET');
         odd("noise: $status") unless grep { $_ eq $status } '400', '431', 'part', 'none';
     }],
