@@ -1,11 +1,12 @@
 -- A control, order by order.
-use Rattle.std.proofs.Common.{◌≡◌, ℕ, ◌+◌, ◌≤◌, List, [], ◌∷◌, ◌++◌, length, true, Some, None, IfSome, ◌⊎◌, inl, inr, refl, sym, ap, ◌∙◌, subst, append_assoc, append-nil, arith}
+use Rattle.std.proofs.Common.{◌≡◌, ℕ, ◌+◌, ◌≤◌, List, [], ◌∷◌, ◌++◌, length, All, Some, None, IfSome, ◌⊎◌, inl, inr, refl, sym, ap, ◌∙◌, subst, append_assoc, append-nil, arith}
 use Rattle.std.proofs.KnownBytes.{Appends-trans}
+use Rattle.std.proofs.lemmas.List.Elements.{All-cons, All-nil}
 use Rattle.std.specs.Io.KnownBytes.{Appends}
 use Rattle.std.specs.declared.option.Option.{Option}
 use Rattle.sq_outside.specs.Causes.{Rose}
 use Rattle.sq_outside.specs.Output.{Grew, IsProperPrefix}
-use Rattle.sq_outside.specs.SourceLines.{lines}
+use Rattle.sq_outside.specs.SourceLines.{Line, lines}
 use Rattle.sq_outside.specs.Told.{Texts}
 use Rattle.sq_outside.proofs.Writing.{Grew_proper_after}
 use Rattle.sq_control.specs.declared.panel.PanelEnd.{PanelEnd}
@@ -13,22 +14,28 @@ use Rattle.sq_control.specs.declared.panel.PanelEnd.TheVariants as ends
 use Rattle.sq_reread.specs.Rereading.{CountsMade}
 use Rattle.sq_reread.specs.declared.control.Reread.{Reread}
 use Rattle.sq_reread.specs.declared.control.Reread.TheVariants as reread
-use Rattle.sq_panel.specs.Attending.{AreNumbered, AreReread, Attends, Counts, Follows, HasCauses, HasEpoch, IsReread, Seen, Streams, counts_made, made_in}
-use Rattle.sq_panel.specs.Orders.{IsNext, IsOrdered, counts_with, order_of, rereads_in}
+use Rattle.sq_panel.specs.Attending.{AreReread, Attends, Counts, HasCauses, HasEpoch, IsFollowed, IsReread, Seen, Streams, counts_made, made_in}
+use Rattle.sq_panel.specs.Orders.{IsNext, IsOrdered, counts_with, left_with, lines_left, rereads_in}
 use Rattle.sq_panel.specs.Telling.{control_text, listening_text, reread_text, rereads_text}
 use Rattle.sq_panel.specs.declared.orders.Order.{Order}
 use Rattle.sq_panel.specs.declared.orders.Order.TheVariants as order
+use Rattle.sq_panel.proofs.OrderLaws.{open_left, open_orders}
 
--- what is still ordered and what was done are all that was ordered
+-- what is still ordered and what was done are all that was ordered, and no `shutdown` came
 abbrev pub Remains : Option (List ℕ) → Option (List ℕ) → List Reread → Type 0
 Remains None now rereads = Unit {0}
 Remains (Some bytes) None rereads = ⊥
-Remains (Some bytes) (Some rest) rereads = rereads_in (lines bytes) ≡ length rereads + rereads_in (lines rest)
+Remains (Some bytes) (Some rest) rereads = (rereads_in (lines bytes) ≡ length rereads + rereads_in (lines rest)) × (lines_left (lines bytes) ≡ lines_left (lines rest))
+
+-- at none of them the desk had stopped
+abbrev pub AreNoted : List Reread → Type 0
+AreNoted rereads = All (λ r. r ≡ reread.Journal → ⊥) rereads
 
 -- so far
 pub record IsGoing (texts : Texts) (name : List ℕ) (port : ℕ) (before now : Seen) (v w : Streams) : Type 0 where
   pub rereads : List Reread
   pub are : AreReread texts name before rereads now
+  pub noted : AreNoted rereads
   pub remains : Remains v.left w.left rereads
   pub writes : Appends v.contents w.contents (control_text port rereads)
   pub input_same : w.input_faults ≡ v.input_faults
@@ -78,34 +85,56 @@ one_ordered bytes rest after o is left =
     let same : is.rest ≡ rest = cc (sym is.left ∙ left) in
     ap rereads_in is.first ∙ ap (λ (x : Order). counts_with x (rereads_in (lines is.rest))) (sym is.order_is) ∙ ap (λ l. counts_with o (rereads_in (lines l))) same
 
+one_left : (bytes rest : List ℕ) (after : Option (List ℕ)) (o : Order) → IsOrdered bytes after o → after ≡ Some rest
+    → lines_left (lines bytes) ≡ left_with o (lines rest) (lines_left (lines rest))
+one_left bytes rest after o is left =
+    let same : is.rest ≡ rest = cc (sym is.left ∙ left) in
+    ap lines_left is.first ∙ ap (λ (x : Order). left_with x (lines is.rest) (lines_left (lines is.rest))) (sym is.order_is)
+    ∙ ap (λ l. left_with o (lines l) (lines_left (lines l))) same
+
 ordered_left : (v mid now : Option (List ℕ)) (rereads more : List Reread) (o : Order)
-    → ((n : ℕ) → length rereads + counts_with o n ≡ length more + n) → Remains v mid rereads → IfSome mid (λ bytes. IsOrdered bytes now o) → Remains v now more
-ordered_left None mid now rereads more o f r i = tt
-ordered_left (Some bytes) None now rereads more o f r i = absurd r
-ordered_left (Some bytes) (Some rest) None rereads more o f r i = absurd (cc (i.left))
-ordered_left (Some bytes) (Some rest) (Some left) rereads more o f r i =
-    r ∙ ap (λ (n : ℕ). length rereads + n) (one_ordered rest left (Some left) o i refl) ∙ f (rereads_in (lines left))
+    → ((n : ℕ) → length rereads + counts_with o n ≡ length more + n) → ((behind later : List Line) → left_with o behind later ≡ later) → Remains v mid rereads
+    → IfSome mid (λ bytes. IsOrdered bytes now o) → Remains v now more
+ordered_left None mid now rereads more o f stays r i = tt
+ordered_left (Some bytes) None now rereads more o f stays r i = absurd r
+ordered_left (Some bytes) (Some rest) None rereads more o f stays r i = absurd (cc (i.left))
+ordered_left (Some bytes) (Some rest) (Some left) rereads more o f stays r i = (
+  r.0 ∙ ap (λ (n : ℕ). length rereads + n) (one_ordered rest left (Some left) o i refl) ∙ f (rereads_in (lines left)),
+  r.1 ∙ one_left rest left (Some left) o i refl ∙ stays (lines left) (lines_left (lines left)),
+)
 
 pub nothing_left : (v mid now : Option (List ℕ)) (rereads : List Reread) → Remains v mid rereads → IfSome mid (λ bytes. IsNext bytes now order.Nothing) → Remains v now rereads
-nothing_left v mid now rereads r i = ordered_left v mid now rereads rereads order.Nothing (λ n. refl) r i
+nothing_left v mid now rereads r i = ordered_left v mid now rereads rereads order.Nothing (λ n. refl) (λ behind later. refl) r i
 
 pub reread_left : (v mid now : Option (List ℕ)) (rereads : List Reread) (one : Reread) → Remains v mid rereads → IfSome mid (λ bytes. IsNext bytes now order.Reconfigure)
     → Remains v now (one ∷ rereads)
-reread_left v mid now rereads one r i = ordered_left v mid now rereads (one ∷ rereads) order.Reconfigure (λ n. omega arith) r i
+reread_left v mid now rereads one r i = ordered_left v mid now rereads (one ∷ rereads) order.Reconfigure (λ n. omega arith) (λ behind later. refl) r i
 
 -- `shutdown` came, or the end
-pub all_followed : (v mid now : Option (List ℕ)) (rereads : List Reread) (o : Order) → Remains v mid rereads → IfSome mid (λ bytes. IsNext bytes now o)
-    → (o ≡ order.Shutdown) ⊎ (o ≡ order.End) → Follows ends.Ended v rereads
-all_followed None mid now rereads o r i e = tt
-all_followed (Some bytes) None now rereads o r i e = absurd r
-all_followed (Some bytes) (Some rest) now rereads order.Shutdown r i e =
+pub all_followed : (v mid now : Option (List ℕ)) (rereads : List Reread) (o : Order) → AreNoted rereads → Remains v mid rereads → IfSome mid (λ bytes. IsNext bytes now o)
+    → (o ≡ order.Shutdown) ⊎ (o ≡ order.End) → IsFollowed v now rereads
+all_followed None mid now rereads o noted r i e = record { noted = noted; orders = tt; left = tt }
+all_followed (Some bytes) None now rereads o noted r i e = absurd r
+all_followed (Some bytes) (Some rest) now rereads order.Shutdown noted r i e =
     let none : rereads_in (lines rest) ≡ 0 = one_ordered rest i.rest now order.Shutdown i i.left in
-    omega (arith, r, none)
-all_followed (Some bytes) (Some rest) now rereads order.End r i e = omega (arith, r, i)
-all_followed (Some bytes) (Some rest) now rereads order.Nothing r i (inl e) = absurd (cc)
-all_followed (Some bytes) (Some rest) now rereads order.Nothing r i (inr e) = absurd (cc)
-all_followed (Some bytes) (Some rest) now rereads order.Reconfigure r i (inl e) = absurd (cc)
-all_followed (Some bytes) (Some rest) now rereads order.Reconfigure r i (inr e) = absurd (cc)
+    let whole = r.0 in
+    record {
+      noted = noted;
+      orders = omega (arith, whole, none);
+      left = (i.rest, i.left, sym (r.1 ∙ one_left rest i.rest now order.Shutdown i i.left));
+    }
+all_followed (Some bytes) (Some rest) now rereads order.End noted r i e =
+    let none : rereads_in (lines rest) ≡ 0 = open_orders rest i.0 in
+    let whole = r.0 in
+    record {
+      noted = noted;
+      orders = omega (arith, whole, none);
+      left = ([], i.1, sym (r.1 ∙ open_left rest i.0));
+    }
+all_followed (Some bytes) (Some rest) now rereads order.Nothing noted r i (inl e) = absurd (cc)
+all_followed (Some bytes) (Some rest) now rereads order.Nothing noted r i (inr e) = absurd (cc)
+all_followed (Some bytes) (Some rest) now rereads order.Reconfigure noted r i (inl e) = absurd (cc)
+all_followed (Some bytes) (Some rest) now rereads order.Reconfigure noted r i (inr e) = absurd (cc)
 
 -- what is written
 
@@ -119,7 +148,7 @@ first_text port = append-nil (listening_text port)
 
 remains_all : (left : Option (List ℕ)) → Remains left left []
 remains_all None = tt
-remains_all (Some bytes) = omega arith
+remains_all (Some bytes) = (omega arith, refl)
 
 -- the port was written
 pub going_begins : (texts : Texts) (name : List ℕ) (port : ℕ) (before : Seen) (v w : Streams) → w.left ≡ v.left → Appends v.contents w.contents (listening_text port)
@@ -127,6 +156,7 @@ pub going_begins : (texts : Texts) (name : List ℕ) (port : ℕ) (before : Seen
 going_begins texts name port before v w left wrote input output = record {
   rereads = [];
   are = refl;
+  noted = All-nil (λ (r : Reread). r ≡ reread.Journal → ⊥);
   remains = subst (λ (o : Option (List ℕ)). Remains v.left o []) (sym left) (remains_all v.left);
   writes = subst (Appends v.contents w.contents) (sym (first_text port)) wrote;
   input_same = input;
@@ -140,6 +170,7 @@ pub going_on : (texts : Texts) (name : List ℕ) (port : ℕ) (before now : Seen
 going_on texts name port before now v w x g next same input output = record {
   rereads = g.rereads;
   are = g.are;
+  noted = g.noted;
   remains = nothing_left v.left w.left x.left g.rereads g.remains next;
   writes = subst (λ (o : Option (List ℕ)). Appends v.contents o (control_text port g.rereads)) (sym same) g.writes;
   input_same = input ∙ g.input_same;
@@ -148,11 +179,12 @@ going_on texts name port before now v w x g next same input output = record {
 
 -- a reconfiguration was made, or not, and its line was written
 pub going_reread : (texts : Texts) (name : List ℕ) (port : ℕ) (before mid now : Seen) (v w x : Streams) (r : Reread) → IsGoing texts name port before mid v w
-    → IfSome w.left (λ bytes. IsNext bytes x.left order.Reconfigure) → IsReread texts name mid r now → Appends w.contents x.contents (reread_text r)
+    → IfSome w.left (λ bytes. IsNext bytes x.left order.Reconfigure) → IsReread texts name mid r now → (r ≡ reread.Journal → ⊥) → Appends w.contents x.contents (reread_text r)
     → x.input_faults ≡ w.input_faults → x.output_faults ≡ w.output_faults → IsGoing texts name port before now v x
-going_reread texts name port before mid now v w x r g next is wrote input output = record {
+going_reread texts name port before mid now v w x r g next is noted wrote input output = record {
   rereads = r ∷ g.rereads;
   are = (mid, g.are, is);
+  noted = All-cons (λ (k : Reread). k ≡ reread.Journal → ⊥) r g.rereads noted g.noted;
   remains = reread_left v.left w.left x.left g.rereads r g.remains next;
   writes = subst (Appends v.contents x.contents) (sym (text_more port r g.rereads)) (Appends-trans v.contents w.contents x.contents (control_text port g.rereads) (reread_text r) g.writes wrote);
   input_same = input ∙ g.input_same;
@@ -187,7 +219,7 @@ going_ends texts name port before now v w x o g next last same input output = re
   rereads = g.rereads;
   are = g.are;
   counts = all_counted texts name before now g.rereads g.are;
-  follows = all_followed v.left w.left x.left g.rereads o g.remains next last;
+  follows = all_followed v.left w.left x.left g.rereads o g.noted g.remains next last;
   writes = subst (λ (c : Option (List ℕ)). Appends v.contents c (control_text port g.rereads)) (sym same) g.writes;
   causes = causes_none v x ends.Ended (inl refl) (input ∙ g.input_same) (output ∙ g.output_same);
 }
@@ -201,6 +233,19 @@ going_fails texts name port before now v w x g same input output = record {
   counts = all_counted texts name before now g.rereads g.are;
   follows = tt;
   writes = subst (λ (c : Option (List ℕ)). Appends v.contents c (control_text port g.rereads)) (sym same) g.writes;
+  causes = causes_none v x ends.Faulted (inr refl) (input ∙ g.input_same) (output ∙ g.output_same);
+}
+
+-- a fault was learnt behind a reconfiguration, whose line was written
+pub going_over : (texts : Texts) (name : List ℕ) (port : ℕ) (before mid now : Seen) (v w x : Streams) (r : Reread) → IsGoing texts name port before mid v w
+    → IsReread texts name mid r now → Appends w.contents x.contents (reread_text r) → x.input_faults ≡ w.input_faults → x.output_faults ≡ w.output_faults
+    → Attends texts name port before now v x ends.Faulted
+going_over texts name port before mid now v w x r g is wrote input output = record {
+  rereads = r ∷ g.rereads;
+  are = (mid, g.are, is);
+  counts = all_counted texts name before now (r ∷ g.rereads) (mid, g.are, is);
+  follows = tt;
+  writes = subst (Appends v.contents x.contents) (sym (text_more port r g.rereads)) (Appends-trans v.contents w.contents x.contents (control_text port g.rereads) (reread_text r) g.writes wrote);
   causes = causes_none v x ends.Faulted (inr refl) (input ∙ g.input_same) (output ∙ g.output_same);
 }
 

@@ -1,5 +1,5 @@
 -- Lines that are read byte by byte, and what they order.
-use Rattle.std.proofs.Common.{◌≡◌, ℕ, suc, ◌+◌, ◌<◌, ◌≤◌, min, List, [], ◌∷◌, ◌++◌, Bool, true, false, if◌then◌else◌, length, take, Some, None, IfSome, bytes_eq, codes, ◌⊎◌, inl, inr, lit<, refl, sym, ap, ◌∙◌, subst, append_assoc, append-nil, eqb-true, arith}
+use Rattle.std.proofs.Common.{◌≡◌, ℕ, ◌<◌, ◌≤◌, min, List, [], ◌∷◌, ◌++◌, Bool, true, false, if◌then◌else◌, length, take, Some, None, IfSome, bytes_eq, codes, ◌⊎◌, inl, inr, lit<, refl, sym, ap, ◌∙◌, subst, append_assoc, append-nil, eqb-true, arith}
 use Rattle.std.specs.Io.KnownBytes.{Consumes, IsAtEnd}
 use Rattle.std.specs.declared.option.Option.{Option}
 use Rattle.std.proofs.KnownBytes.{Consumes-trans}
@@ -9,10 +9,10 @@ use Rattle.std.proofs.lemmas.Bool.Decides.{same_from_decides}
 use Rattle.std.proofs.lemmas.Slice.Eq.{bytes_eq-Decides}
 use Rattle.sq_base.specs.Lines.{is_lf}
 use Rattle.sq_outside.specs.Holding.{NoEnd}
-use Rattle.sq_outside.specs.SourceLines.{Line, lines, onto}
+use Rattle.sq_outside.specs.SourceLines.{lines, onto}
 use Rattle.sq_panel.specs.declared.orders.Order.{Order}
 use Rattle.sq_panel.specs.declared.orders.Order.TheVariants as order
-use Rattle.sq_panel.specs.Orders.{IsNext, IsOrdered, kept, order_of, rereads_in}
+use Rattle.sq_panel.specs.Orders.{IsNext, IsOrdered, kept, lines_left, order_of, rereads_in}
 
 -- a line that LF ends stands before the lines of the rest
 pub lines_ended : (l rest : List ℕ) → NoEnd l → lines (l ++ 10 ∷ rest) ≡ record { bytes = l; ended = true } ∷ lines rest
@@ -28,6 +28,11 @@ lines_open b (c ∷ l) h = rw (h.0) (ap (onto b) (lines_open c l h.1))
 pub open_orders : (l : List ℕ) → NoEnd l → rereads_in (lines l) ≡ 0
 open_orders [] h = refl
 open_orders (b ∷ l) h = ap rereads_in (lines_open b l h)
+
+-- and none is behind a `shutdown` of theirs
+pub open_left : (l : List ℕ) → NoEnd l → lines_left (lines l) ≡ []
+open_left [] h = refl
+open_left (b ∷ l) h = ap lines_left (lines_open b l h)
 
 no_end_more : (l : List ℕ) (b : ℕ) → NoEnd l → is_lf b ≡ false → NoEnd (l ++ b ∷ [])
 no_end_more [] b h e = (e, tt)
@@ -115,7 +120,7 @@ reading_stops before mid now front r read end = at before now (Consumes-trans be
     at (Some xs) None c e = absurd c
     at (Some xs) (Some ys) c e =
         let all : xs ≡ r.line = c ∙ ap (λ l. (r.line ++ []) ++ l) e ∙ append-nil (r.line ++ []) ∙ append-nil r.line in
-        ap (λ l. rereads_in (lines l)) all ∙ open_orders r.line r.unended
+        (subst NoEnd (sym all) r.unended, ap (λ (l : List ℕ). Some l) e)
 
 test_false : (b : Bool) → (b ≡ true → ⊥) → b ≡ false
 test_false true n = absurd (n refl)

@@ -1,17 +1,17 @@
 -- What a control does: the reconfigurations that it made or did not make, and what it wrote of them.
-use Rattle.std.specs.Prelude.{◌≡◌, ℕ, ◌+◌, ◌≤◌, List, [], ◌∷◌, length, true, Some, None, IfSome}
+use Rattle.std.specs.Prelude.{◌≡◌, ℕ, ◌+◌, ◌≤◌, List, [], ◌∷◌, length, All, true, Some, IfSome}
 use Rattle.std.specs.Io.KnownBytes.{Appends}
 use Rattle.std.specs.declared.option.Option.{Option}
 use Rattle.sq_outside.specs.Causes.{Rose}
 use Rattle.sq_outside.specs.Output.{Grew, IsProperPrefix}
-use Rattle.sq_outside.specs.SourceLines.{lines}
+use Rattle.sq_outside.specs.SourceLines.{Line, lines}
 use Rattle.sq_outside.specs.Told.{IsNotTold, Openings, Texts}
 use Rattle.sq_rules.specs.Entries.{History}
 use Rattle.sq_rules.specs.declared.kinds.ConfError.{ConfError}
 use Rattle.sq_reread.specs.Rereading.{Adds, CountsMade, IsRefused, is_refusal}
 use Rattle.sq_reread.specs.declared.control.Reread.{Reread}
 use Rattle.sq_reread.specs.declared.control.Reread.TheVariants as reread
-use Rattle.sq_panel.specs.Orders.{rereads_in}
+use Rattle.sq_panel.specs.Orders.{lines_left, rereads_in}
 use Rattle.sq_panel.specs.Telling.{control_text}
 use Rattle.sq_control.specs.declared.panel.PanelEnd.{PanelEnd}
 use Rattle.sq_control.specs.declared.panel.PanelEnd.TheVariants as ends
@@ -85,10 +85,21 @@ abbrev pub Writes : PanelEnd → Option (List ℕ) → Option (List ℕ) → Lis
 Writes ends.WriteFault old new text = Grew old new (λ part. IsProperPrefix part text)
 Writes e old new text = Appends old new text
 
--- at its end each order before the first `shutdown` was followed
-abbrev pub Follows : PanelEnd → Option (List ℕ) → List Reread → Type 0
-Follows ends.Ended left rereads = IfSome left (λ bytes. length rereads ≡ rereads_in (lines bytes))
-Follows e left rereads = Unit {0}
+-- these lines are left
+abbrev pub IsLeft : Option (List ℕ) → List Line → Type 0
+IsLeft now ls = (rest : List ℕ) × (now ≡ Some rest) × (lines rest ≡ ls)
+
+-- Each order before the first `shutdown` was followed, and at none of them the desk had stopped. What stands behind that `shutdown` is left, and
+-- where there is none nothing is; no two texts have the same lines.
+pub record IsFollowed (before now : Option (List ℕ)) (rereads : List Reread) : Type 0 where
+  pub noted : All (λ r. r ≡ reread.Journal → ⊥) rereads
+  pub orders : IfSome before (λ bytes. length rereads ≡ rereads_in (lines bytes))
+  pub left : IfSome before (λ bytes. IsLeft now (lines_left (lines bytes)))
+
+-- what is so at its end, where no fault ended it
+abbrev pub Follows : PanelEnd → Option (List ℕ) → Option (List ℕ) → List Reread → Type 0
+Follows ends.Ended before now rereads = IsFollowed before now rereads
+Follows e before now rereads = Unit {0}
 
 -- the counts of the streams never fall; a fault comes only where its count rose, and else that stayed
 pub record HasCauses (v w : Streams) (end : PanelEnd) : Type 0 where
@@ -105,7 +116,7 @@ pub record Attends (texts : Texts) (name : List ℕ) (port : ℕ) (before now : 
   pub rereads : List Reread
   pub are : AreReread texts name before rereads now
   pub counts : Counts before.desk.made now.desk.made rereads
-  pub follows : Follows end v.left rereads
+  pub follows : Follows end v.left w.left rereads
   pub writes : Writes end v.contents w.contents (control_text port rereads)
   pub causes : HasCauses v w end
 

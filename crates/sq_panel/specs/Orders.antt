@@ -2,6 +2,7 @@
 use Rattle.std.specs.Prelude.{◌≡◌, ℕ, ◌+◌, List, [], ◌∷◌, take, true, Some, None, bytes_eq, codes, if◌then◌else◌}
 use Rattle.std.specs.Io.KnownBytes.{Consumes, IsAtEnd}
 use Rattle.std.specs.declared.option.Option.{Option}
+use Rattle.sq_outside.specs.Holding.{NoEnd}
 use Rattle.sq_outside.specs.SourceLines.{Line, lines}
 use Rattle.sq_panel.specs.declared.orders.Order.{Order}
 use Rattle.sq_panel.specs.declared.orders.Order.TheVariants as order
@@ -26,6 +27,16 @@ abbrev pub rereads_in : List Line → ℕ
 rereads_in [] = 0
 rereads_in (l ∷ ls) = counts_with (line_order l) (rereads_in ls)
 
+-- the lines behind the first `shutdown`, by those behind this line and those behind the first `shutdown` of these
+abbrev pub left_with : Order → List Line → List Line → List Line
+left_with order.Shutdown behind later = behind
+left_with o behind later = later
+
+-- the lines behind the first `shutdown`; none where no line orders it
+abbrev pub lines_left : List Line → List Line
+lines_left [] = []
+lines_left (l ∷ ls) = left_with (line_order l) ls (lines_left ls)
+
 -- the first twelve bytes of a line, which suffice to know its order
 abbrev pub kept : List ℕ → List ℕ
 kept line = take 12 line
@@ -38,9 +49,9 @@ pub record IsOrdered (bytes : List ℕ) (after : Option (List ℕ)) (order : Ord
   pub left : after ≡ Some rest
   pub order_is : order ≡ order_of line
 
--- the next line orders this; or none is ended
+-- the next line orders this; or no line is ended, and nothing is left
 abbrev pub IsNext : List ℕ → Option (List ℕ) → Order → Type 0
-IsNext bytes after order.End = rereads_in (lines bytes) ≡ 0
+IsNext bytes after order.End = NoEnd bytes × (after ≡ Some [])
 IsNext bytes after o = IsOrdered bytes after o
 
 -- the next byte was taken, or none was left

@@ -1,5 +1,5 @@
 -- The lines that a control writes.
-use Rattle.std.specs.Prelude.{ℕ, ◌+◌, List, [], ◌∷◌, ◌++◌, codes, decimal}
+use Rattle.std.specs.Prelude.{ℕ, List, [], ◌∷◌, ◌++◌, codes, decimal}
 use Rattle.sq_rules.specs.Kinds.{kind_number}
 use Rattle.sq_reread.specs.declared.control.Reread.{Reread}
 use Rattle.sq_reread.specs.declared.control.Reread.TheVariants as reread

@@ -1,5 +1,5 @@
 //! A control that follows the orders of its input.
-ghost use Rattle.std.specs.Prelude.{◌≡◌, ◌⊎◌};
+ghost use Rattle.std.specs.Prelude.{◌≡◌, ◌⊎◌, true};
 ghost use Rattle.sq_panel.specs.Attending.{Attends};
 ghost use Rattle.sq_reread.specs.ControlViews.{desk_of};
 
@@ -41,6 +41,7 @@ fn must_end<B: Beside, W: Fn() -> bool>(beside: &mut B, failed: &W) -> bool
 // Whether the server has to end after a reconfiguration.
 fn is_over<B: Beside, W: Fn() -> bool>(reread: &Reread, beside: &mut B, failed: &W) -> bool
     requires { W.IsAlwaysCallable failed.now }
+    ensures { reread.now ≡ Reread.Journal → result ≡ true }
 {
     *reread == Reread::Journal || must_end(beside, failed)
 }

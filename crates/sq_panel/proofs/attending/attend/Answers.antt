@@ -1,7 +1,7 @@
-use Rattle.std.proofs.Common.{◌≡◌, inl, inr, refl, ◌∙◌}
+use Rattle.std.proofs.Common.{inl, inr, refl, sym, ◌∙◌}
 use Rattle.sq_reread.specs.ControlViews.{desk_of}
 use Rattle.sq_panel.specs.Attending.{IsReread, Seen}
-use Rattle.sq_panel.proofs.AttendLaws.{going_fails, going_on, going_reread, going_stops, going_unread, going_unwritten, same_texts, unwritten}
+use Rattle.sq_panel.proofs.AttendLaws.{going_fails, going_on, going_over, going_reread, going_stops, going_unread, going_unwritten, same_texts, unwritten}
 use Rattle.sq_panel.proofs.attending.attend.Goals as goal
 
 pub returns-in-Err-clause-attends : goal.returns-in-Err-clause-attends
@@ -31,13 +31,10 @@ returns-then-is_over-clause-attends g c =
     let is_now : Seen = record { files = record { opened = g.F.Files.opened c.reread-reread.new.files; faults = g.F.Files.faults c.reread-reread.new.files }; desk = record { told = g.K.DeskCalls.told (desk_of c.reread-reread.new.self); made = g.K.DeskCalls.made (desk_of c.reread-reread.new.self); refused = g.K.DeskCalls.refused (desk_of c.reread-reread.new.self) } } in
     let r = c.reread-reread.ensures in
     let one : IsReread (g.F.Files.texts c.orders.files) c.args.conf.now was c.reread-reread.result is_now = record { adds = r.adds; made = r.made; at = r.at; missing = r.missing; read = r.read; quiet = r.quiet; later = r.faults_later; refused = r.refused; refused_later = r.later } in
-    going_fails _ _ _ _ _ _ _ _
-    (going_reread _ _ _ _ was is_now _
+    going_over _ _ _ _ was is_now _
     (record { left = g.S.Source.left c.orders.input; input_faults = g.S.Source.faults c.orders.input; contents = g.O.Sink.contents c.orders.out; output_faults = g.O.Sink.faults c.orders.out })
-    (record { left = g.S.Source.left c.next_order.new.source; input_faults = g.S.Source.faults c.next_order.new.source; contents = g.O.Sink.contents c.write_reread.new.out; output_faults = g.O.Sink.faults c.write_reread.new.out })
-    c.reread-reread.result c.orders.invariant.going (rw c.in-Ok-Reconfigure.field-0-is at c.in-Ok-Reconfigure.ensures.next) (same_texts _ _ _ _ _ _ c.orders.invariant.texts one)
-    c.in-Ok-write_reread.ensures.ok c.in-Ok-Reconfigure.ensures.cause.quiet c.in-Ok-write_reread.ensures.cause.quiet)
-    refl refl refl
+    _ c.reread-reread.result c.orders.invariant.going (same_texts _ _ _ _ _ _ c.orders.invariant.texts one)
+    c.in-Ok-write_reread.ensures.ok c.in-Ok-Reconfigure.ensures.cause.quiet c.in-Ok-write_reread.ensures.cause.quiet
 
 pub orders-preserved : goal.orders-preserved
 orders-preserved g c =
@@ -50,7 +47,7 @@ orders-preserved g c =
           (record { left = g.S.Source.left c.orders.input; input_faults = g.S.Source.faults c.orders.input; contents = g.O.Sink.contents c.orders.out; output_faults = g.O.Sink.faults c.orders.out })
           (record { left = g.S.Source.left c.next_order.new.source; input_faults = g.S.Source.faults c.next_order.new.source; contents = g.O.Sink.contents c.write_reread.new.out; output_faults = g.O.Sink.faults c.write_reread.new.out })
           c.reread-reread.result c.orders.invariant.going (rw c.in-Ok-Reconfigure.field-0-is at c.in-Ok-Reconfigure.ensures.next) (same_texts _ _ _ _ _ _ c.orders.invariant.texts one)
-          c.in-Ok-write_reread.ensures.ok c.in-Ok-Reconfigure.ensures.cause.quiet c.in-Ok-write_reread.ensures.cause.quiet;
+          (λ e. absurd (cc (sym (c.is_over.ensures e) ∙ c.if-is_over.false))) c.in-Ok-write_reread.ensures.ok c.in-Ok-Reconfigure.ensures.cause.quiet c.in-Ok-write_reread.ensures.cause.quiet;
       texts = r.texts ∙ c.orders.invariant.texts;
     }
 
