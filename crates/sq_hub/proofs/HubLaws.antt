@@ -6,7 +6,7 @@ use Rattle.sq_rules.specs.declared.refusals.Refusal.TheVariants as refusal
 use Rattle.sq_session.specs.Fronts.{Decides, Asks, OpenRefuses, DecideRefuses}
 use Rattle.sq_session.specs.declared.front.Decided.{Decided}
 use Rattle.sq_session.specs.declared.front.Opened.{Opened}
-use Rattle.sq_hub.specs.Hubs.{IsRefusal, HubRefuses, opened_of, decided_of}
+use Rattle.sq_hub.specs.Hubs.{IsRefusal, HubRefuses, IsFailure, HubFails, OpenFails, DecideFails, opened_of, decided_of}
 use Rattle.sq_hub.specs.declared.hub.HubFault.{HubFault}
 use Rattle.sq_hub.specs.declared.hub.HubFault.TheVariants.{Refused, JournalFault, WantOfMemory}
 
@@ -39,6 +39,36 @@ decides_refuses a b (Refused (refusal.Spent n)) x = x
 decides_refuses a b (Refused refusal.WantOfMemory) x = tt
 decides_refuses a b JournalFault x = x
 decides_refuses a b WantOfMemory x = tt
+
+opens_fails : (a b : ℕ) (fault : HubFault) → IsFailure a b fault → OpenFails a b (opened_of fault)
+opens_fails a b (Refused (refusal.ConnInUse n)) x = tt
+opens_fails a b (Refused (refusal.UnknownConn n)) x = tt
+opens_fails a b (Refused (refusal.TooManyConns n)) x = tt
+opens_fails a b (Refused (refusal.CheckOpen n)) x = tt
+opens_fails a b (Refused (refusal.UnknownCheck n)) x = tt
+opens_fails a b (Refused (refusal.NotDone n)) x = tt
+opens_fails a b (Refused (refusal.NoStartOpen e n)) x = tt
+opens_fails a b (Refused (refusal.UnknownProc n)) x = tt
+opens_fails a b (Refused (refusal.TooManyEpochs n)) x = tt
+opens_fails a b (Refused (refusal.Spent n)) x = tt
+opens_fails a b (Refused refusal.WantOfMemory) x = tt
+opens_fails a b JournalFault x = x
+opens_fails a b WantOfMemory x = tt
+
+decides_fails : (a b : ℕ) (fault : HubFault) → IsFailure a b fault → DecideFails a b (decided_of fault)
+decides_fails a b (Refused (refusal.ConnInUse n)) x = tt
+decides_fails a b (Refused (refusal.UnknownConn n)) x = tt
+decides_fails a b (Refused (refusal.TooManyConns n)) x = tt
+decides_fails a b (Refused (refusal.CheckOpen n)) x = tt
+decides_fails a b (Refused (refusal.UnknownCheck n)) x = tt
+decides_fails a b (Refused (refusal.NotDone n)) x = tt
+decides_fails a b (Refused (refusal.NoStartOpen e n)) x = tt
+decides_fails a b (Refused (refusal.UnknownProc n)) x = tt
+decides_fails a b (Refused (refusal.TooManyEpochs n)) x = tt
+decides_fails a b (Refused (refusal.Spent n)) x = tt
+decides_fails a b (Refused refusal.WantOfMemory) x = tt
+decides_fails a b JournalFault x = x
+decides_fails a b WantOfMemory x = tt
 
 decides_any : (r : HttpRequest) (fault : HubFault) → Decides r (decided_of fault)
 decides_any r (Refused (refusal.ConnInUse n)) = tt
@@ -79,12 +109,27 @@ pub refuses_later : {T : Type 0} (a b c : ℕ) (r : Result T HubFault) → a ≤
 refuses_later a b c (Ok x) h y = tt
 refuses_later a b c (Err fault) h y = refusal_later a b c fault h y
 
+pub failure_later : (a b c : ℕ) (fault : HubFault) → a ≤ b → IsFailure b c fault → IsFailure a c fault
+failure_later a b c (Refused why) h x = tt
+failure_later a b c JournalFault h x = omega (arith, h, x)
+failure_later a b c WantOfMemory h x = tt
+
+pub fails_later : {T : Type 0} (a b c : ℕ) (r : Result T HubFault) → a ≤ b → HubFails b c r → HubFails a c r
+fails_later a b c (Ok x) h y = tt
+fails_later a b c (Err fault) h y = failure_later a b c fault h y
+
 -- by what the front answered
 pub opens_as : (a b : ℕ) (fault : HubFault) (o : Opened) → o ≡ opened_of fault → IsRefusal a b fault → OpenRefuses a b o
 opens_as a b fault o e x = subst (OpenRefuses a b) (sym e) (opens_refuses a b fault x)
 
 pub refuses_as : (a b c : ℕ) (fault : HubFault) (d : Decided) → d ≡ decided_of fault → a ≤ b → IsRefusal b c fault → DecideRefuses a c d
 refuses_as a b c fault d e h x = subst (DecideRefuses a c) (sym e) (decides_refuses a c fault (refusal_later a b c fault h x))
+
+pub opens_failed : (a b : ℕ) (fault : HubFault) (o : Opened) → o ≡ opened_of fault → IsFailure a b fault → OpenFails a b o
+opens_failed a b fault o e x = subst (OpenFails a b) (sym e) (opens_fails a b fault x)
+
+pub decides_failed : (a b c : ℕ) (fault : HubFault) (d : Decided) → d ≡ decided_of fault → a ≤ b → IsFailure b c fault → DecideFails a c d
+decides_failed a b c fault d e h x = subst (DecideFails a c) (sym e) (decides_fails a c fault (failure_later a b c fault h x))
 
 pub decides_as : (r : HttpRequest) (fault : HubFault) (d : Decided) → d ≡ decided_of fault → Decides r d
 decides_as r fault d e = subst (Decides r) (sym e) (decides_any r fault)

@@ -32,6 +32,21 @@ abbrev pub HubFails : {T : Type 0} → ℕ → ℕ → Result T HubFault → Typ
 HubFails before now (Ok x) = ⊤
 HubFails before now (Err fault) = IsFailure before now fault
 
+-- so too what a front answers of its hub's journal
+abbrev pub OpenFails : ℕ → ℕ → Opened → Type 0
+OpenFails before now opened.In = ⊤
+OpenFails before now opened.Full = ⊤
+OpenFails before now (opened.Refused why) = ⊤
+OpenFails before now opened.JournalFault = Rose before now
+OpenFails before now opened.WantOfMemory = ⊤
+
+abbrev pub DecideFails : ℕ → ℕ → Decided → Type 0
+DecideFails before now (decided.Record j) = ⊤
+DecideFails before now (decided.Mismatch other) = ⊤
+DecideFails before now (decided.Refused why) = ⊤
+DecideFails before now decided.JournalFault = Rose before now
+DecideFails before now decided.WantOfMemory = ⊤
+
 -- a question that was asked is counted, and no other
 abbrev pub asked_by : {T : Type 0} → ℕ → Result T HubFault → ℕ
 asked_by before (Ok x) = raised before

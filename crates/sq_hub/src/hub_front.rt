@@ -2,7 +2,7 @@
 ghost use Rattle.std.specs.Prelude.{◌≡◌, ◌≤◌, ◌-◌, ◌^◌, is_some, false};
 ghost use Rattle.sq_forward.specs.Meters.{granted_after};
 ghost use Rattle.std.specs.declared.option.Option.{Option};
-ghost use Rattle.sq_hub.specs.Hubs.{opened_of};
+ghost use Rattle.sq_hub.specs.Hubs.{opened_of, OpenFails, DecideFails};
 ghost use Rattle.sq_hub.specs.Judging.{GrantsOn};
 ghost use Rattle.sq_hub.specs.Tellings.{Tells};
 
@@ -136,6 +136,7 @@ impl<'a, R: Wait, H: Hub + Drop> Front for HubFront<'a, R, H> {
         ensures asked { H.asked self.new.hub ≡ H.asked self.old.hub }
         ensures refused_later { H.refused self.old.hub ≤ H.refused self.new.hub }
         ensures refused { OpenRefuses (H.refused self.old.hub) (H.refused self.new.hub) result }
+        ensures failed { OpenFails (H.faults self.old.hub) (H.faults self.new.hub) result }
         ensures seated { is_some self.new.seat ≡ is_some self.old.seat }
         ensures granted { H.granted self.new.hub ≡ H.granted self.old.hub }
         ensures dry { self.new.dry ≡ self.old.dry }
@@ -156,6 +157,7 @@ impl<'a, R: Wait, H: Hub + Drop> Front for HubFront<'a, R, H> {
         ensures asked { Asks (H.asked self.old.hub) (H.asked self.new.hub) result }
         ensures refused_later { H.refused self.old.hub ≤ H.refused self.new.hub }
         ensures refused { DecideRefuses (H.refused self.old.hub) (H.refused self.new.hub) result }
+        ensures failed { DecideFails (H.faults self.old.hub) (H.faults self.new.hub) result }
         ensures seated { is_some self.new.seat ≡ is_some self.old.seat }
         ensures granted { H.granted self.new.hub ≡ H.granted self.old.hub }
         ensures dry { self.new.dry ≡ self.old.dry }

@@ -3,7 +3,7 @@ ghost use Rattle.std.specs.Prelude.{◌≡◌, ℕ, ◌≤◌};
 ghost use Rattle.sq_outside.specs.Causes.{raised};
 ghost use Rattle.sq_session.specs.Fronts.{Decides, Asks, DecideRefuses};
 ghost use Rattle.sq_session.specs.declared.front.Decided.TheVariants as decided;
-ghost use Rattle.sq_hub.specs.Hubs.{HubRefuses, decided_of};
+ghost use Rattle.sq_hub.specs.Hubs.{HubRefuses, HubFails, DecideFails, decided_of};
 ghost use Rattle.sq_hub.specs.Judging.{Finishes, Judges};
 ghost use Rattle.sq_hub.specs.Tellings.{Tells};
 
@@ -29,6 +29,7 @@ pub(crate) fn judge<R: Wait, H: Hub>(
     ensures record { Decides request.now result }
     ensures asked { Asks (H.asked hub.old) (H.asked hub.new) result }
     ensures refused { DecideRefuses (H.refused hub.old) (H.refused hub.new) result }
+    ensures failed { DecideFails (H.faults hub.old) (H.faults hub.new) result }
     ensures asked_later { H.asked hub.old ≤ H.asked hub.new }
     ensures refused_later { H.refused hub.old ≤ H.refused hub.new }
     ensures granted { H.granted hub.new ≡ H.granted hub.old }
@@ -55,6 +56,7 @@ fn finish<R: Wait, H: Hub>(
 ) -> Result<Record, HubFault>
     ensures told { Tells (Finishes check result) (H.told hub.old) (H.told hub.new) }
     ensures refused { HubRefuses (H.refused hub.old) (H.refused hub.new) result }
+    ensures failed { HubFails (H.faults hub.old) (H.faults hub.new) result }
     ensures asked { H.asked hub.new ≡ H.asked hub.old }
     ensures refused_later { H.refused hub.old ≤ H.refused hub.new }
     ensures granted { H.granted hub.new ≡ H.granted hub.old }
@@ -88,6 +90,7 @@ fn compared(alloc: Global, judged: Record, request: &Request) -> Decided
     ensures record { Decides request.now result }
     ensures asked { (before : ℕ) → Asks before (raised before) result }
     ensures quiet { (before now : ℕ) → DecideRefuses before now result }
+    ensures unfailed { (before now : ℕ) → DecideFails before now result }
 {
     if same_request(&judged.sight().request, request) {
         return Decided::Record(judged);

@@ -9,5 +9,6 @@ invariant-loop g l = record {
   goes : Tells (GoesOn l.check) (g.H.Hub.told l.fn.hub) (g.H.Hub.told l.hub);
   asked : g.H.Hub.asked l.hub ≡ g.H.Hub.asked l.fn.hub;
   refused_later : g.H.Hub.refused l.fn.hub ≤ g.H.Hub.refused l.hub;
+  faults_later : g.H.Hub.faults l.fn.hub ≤ g.H.Hub.faults l.hub;
   granted : g.H.Hub.granted l.hub ≡ g.H.Hub.granted l.fn.hub;
 }

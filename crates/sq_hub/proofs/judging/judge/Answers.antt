@@ -23,3 +23,6 @@ returns-in-Err-finish-clause-told g c =
 
 pub returns-in-Ok-finish-clause-refused : goal.returns-in-Ok-finish-clause-refused
 returns-in-Ok-finish-clause-refused g c = c.compared.ensures.quiet _ _
+
+pub returns-in-Ok-finish-clause-failed : goal.returns-in-Ok-finish-clause-failed
+returns-in-Ok-finish-clause-failed g c = c.compared.ensures.unfailed _ _
