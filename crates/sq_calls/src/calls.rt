@@ -125,12 +125,13 @@ pub trait DeskCalls {
         ensures refused { CountsRefusal (refused self.old) (refused self.new) result }
         ensures made { made self.new ≡ made self.old };
 
-    /// The next act that is due, which counts as made with this call.
+    /// The next act that is due, which counts as made with this call. No program comes or goes with it.
     fn act(&mut self, alloc: Global, now: Moment) -> Result<Option<Act>, DeskFault>
         ensures told { MayAct (told self.old) (told self.new) result }
         ensures next { IsNextAct (told self.old) result }
         ensures refused { CountsRefusal (refused self.old) (refused self.new) result }
-        ensures made { made self.new ≡ made self.old };
+        ensures made { made self.new ≡ made self.old }
+        ensures programs { programs self.new ≡ programs self.old };
 
     /// Another configuration is current, which is the one that its source states: the number of its epoch, which where
     /// `made` is told is one above it.

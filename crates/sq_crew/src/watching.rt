@@ -1,5 +1,9 @@
 //! What a keeper hands its lines to.
-ghost use Rattle.std.specs.Prelude.{◌≡◌, ◌≤◌, None};
+ghost use Rattle.std.specs.Prelude.{◌≡◌, ◌≤◌, ◌∷◌, [], None};
+ghost use Rattle.sq_keeper.specs.Handing.{Adds, taken};
+ghost use Rattle.sq_keeper.specs.declared.desk.Handed.TheVariants as handed;
+ghost use Rattle.sq_outside.specs.Causes.{Rose};
+ghost use Rattle.sq_serve.specs.Handing.{HandsDeath, HandsLine};
 
 use crate::shelf::Shelf;
 use sq_base::ProcNo;
@@ -34,15 +38,28 @@ impl<'a, R: Wait, P: Drop, N: Ledger, K: DeskCalls, C: Clock> Watch<'a, R, P, N,
 
 impl<'a, R: Wait, P: Drop, N: Ledger, K: DeskCalls, C: Clock> LineDesk
     for Watch<'a, R, P, N, K, C> {
+    ghost use Rattle.sq_serve.specs.LineViews.{lines_desk};
+
     ghost refused = { λ s. ⟦<ServeLines<K, C> as LineDesk>⟧.refused s.lines };
 
     ghost handed = { λ s. ⟦<ServeLines<K, C> as LineDesk>⟧.handed s.lines };
 
-    fn line(&mut self, proc: ProcNo, bytes: &[u8]) -> LineEnd {
+    fn line(&mut self, proc: ProcNo, bytes: &[u8]) -> LineEnd
+        ensures handed { Adds (⟦<ServeLines<K, C> as LineDesk>⟧.handed self.old.lines) (⟦<ServeLines<K, C> as LineDesk>⟧.handed self.new.lines) (taken proc bytes.now result) }
+        ensures later { ⟦<ServeLines<K, C> as LineDesk>⟧.refused self.old.lines ≤ ⟦<ServeLines<K, C> as LineDesk>⟧.refused self.new.lines }
+        ensures refused { result ≡ LineEnd.End → Rose (⟦<ServeLines<K, C> as LineDesk>⟧.refused self.old.lines) (⟦<ServeLines<K, C> as LineDesk>⟧.refused self.new.lines) }
+        // The desk of its lines was handed this line, and its answer decides.
+        ensures hands { HandsLine (K.told (lines_desk self.old.lines)) (K.told (lines_desk self.new.lines)) (K.refused (lines_desk self.old.lines)) (K.refused (lines_desk self.new.lines)) proc bytes.now result }
+    {
         self.lines.line(proc, bytes)
     }
 
-    fn died(&mut self, proc: ProcNo) {
+    fn died(&mut self, proc: ProcNo)
+        ensures handed { Adds (⟦<ServeLines<K, C> as LineDesk>⟧.handed self.old.lines) (⟦<ServeLines<K, C> as LineDesk>⟧.handed self.new.lines) (handed.Died proc ∷ []) }
+        ensures later { ⟦<ServeLines<K, C> as LineDesk>⟧.refused self.old.lines ≤ ⟦<ServeLines<K, C> as LineDesk>⟧.refused self.new.lines }
+        // The desk of its lines was told of this death, and noted or refused it.
+        ensures hands { HandsDeath (K.told (lines_desk self.old.lines)) (K.told (lines_desk self.new.lines)) (K.refused (lines_desk self.old.lines)) (K.refused (lines_desk self.new.lines)) proc }
+    {
         self.shelf.end(self.rt, proc);
         self.lines.died(proc);
     }

@@ -1,5 +1,7 @@
 -- From what a call of a desk answers and leaves to what it tells those who make it.
-use Rattle.std.proofs.Common.{◌≡◌, ◌∙◌, ℕ, ◌+◌, ◌≤◌, List, max, min, Option, Some, None, IsSome, Result, Ok, Err, OnOk, refl, ap, arith}
+use Rattle.std.proofs.Common.{◌≡◌, ◌∙◌, ℕ, ◌+◌, ◌≤◌, List, max, min, Option, Some, None, IsSome, Result, Ok, Err, OnOk, refl, ap, arith, slice_get}
+use Rattle.std.proofs.Math.Path.{fun_ext}
+use Rattle.std.specs.Option.{option_and_then, option_map}
 use Rattle.sq_base.specs.Addresses.{Address}
 use Rattle.sq_base.specs.Requests.{HttpRequest}
 use Rattle.sq_outside.specs.Causes.{count_limit, raised}
@@ -23,8 +25,10 @@ use Rattle.sq_checks.specs.Records.{Judged}
 use Rattle.sq_state.specs.Answers.{ask_answer, asked_in, close_answer, died_answer, failed_answer, name_in, open_answer, started_answer, take_answer}
 use Rattle.sq_state.specs.Changes.{after_ask, after_close, after_failed_at, after_open, after_started_at, after_take}
 use Rattle.sq_state.specs.Promises.{entry_at}
+use Rattle.sq_state.specs.Acts.{Due, sends, starts, stops}
+use Rattle.sq_state.specs.Says.{class_in}
 use Rattle.sq_state.specs.States.{State}
-use Rattle.sq_engine.specs.Acting.{told_of_act}
+use Rattle.sq_engine.specs.Acting.{after_act, due_now, told_of_act}
 use Rattle.sq_engine.specs.EngineViews.{state_of}
 use Rattle.sq_engine.specs.Stepping.{after_step_now, epoch_of, step_now, stepped_told}
 use Rattle.sq_note.specs.Noting.{with_entry}
@@ -198,6 +202,26 @@ acts_made v w now (Err fault.Stopped) m = ap (λ z. Some z.made) m.notes
 acts_made v w now (Err (fault.Engine r)) m = absurd m
 acts_made v w now (Err fault.JournalFault) m = ap (λ z. Some z.made) m.notes
 acts_made v w now (Err fault.WantOfMemory) m = ap (λ z. Some z.made) m.notes
+
+-- an act leaves the configurations of epochs
+acted_config : (o : Option Due) (now : ℕ) (s : State) (e : ℕ) → (after_act o now s).config e ≡ s.config e
+acted_config None now s e = refl
+acted_config (Some (stops k)) now s e = refl
+acted_config (Some (sends p x)) now s e = refl
+acted_config (Some (starts p)) now s e = refl
+
+acts_config : (v w : DeskView) (now : ℕ) (r : Result (Option Act) DeskFault) → Acts now v r w → (e : ℕ) → (state_of w.engine).config e ≡ (state_of v.engine).config e
+acts_config v w now (Ok None) m e = ap (λ z. (state_of z).config e) m.engine
+acts_config v w now (Ok (Some a)) m e = m.same.configs_are e ∙ acted_config (due_now v.engine) now (state_of v.engine) e
+acts_config v w now (Err fault.Stopped) m e = ap (λ z. (state_of z).config e) m.engine
+acts_config v w now (Err (fault.Engine r)) m e = absurd m
+acts_config v w now (Err fault.JournalFault) m e = m.same.configs_are e ∙ acted_config (due_now v.engine) now (state_of v.engine) e
+acts_config v w now (Err fault.WantOfMemory) m e = m.same.configs_are e
+
+pub acts_programs : (v w : DeskView) (now : ℕ) (r : Result (Option Act) DeskFault) → Acts now v r w
+    → ◌≡◌ {A = ℕ → ℕ → Option (Option (List (List ℕ)))} (λ e c. Some (option_map (λ x. x.words) (class_in (state_of w.engine) e c))) (λ e c. Some (option_map (λ x. x.words) (class_in (state_of v.engine) e c)))
+acts_programs v w now r m =
+    ap {B = ℕ → ℕ → Option (Option (List (List ℕ)))} (λ (f : ℕ → Option Configuration). λ e c. Some (option_map (λ x. x.words) (option_and_then (λ config. slice_get config.classes c) (f e)))) (fun_ext (acts_config v w now r m))
 
 -- a call for a line
 pub reads_told : (v w : DeskView) (now k : ℕ) (line : List ℕ) (r : Result Got DeskFault) → Reads now k line v r w → Notes got_told (IsLine k line) v.notes.history w.notes.history r

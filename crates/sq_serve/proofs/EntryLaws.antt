@@ -10,135 +10,135 @@ use Rattle.sq_epochs.specs.declared.acts.Act.{Act}
 use Rattle.sq_epochs.specs.declared.acts.Act.TheVariants as act
 use Rattle.sq_rules.specs.Entries.{History}
 use Rattle.sq_serve.specs.Entries.{Follows, IsCaused, IsNew, NotesTurn}
-use Rattle.sq_serve.specs.Pumps.{PumpView}
+use Rattle.sq_serve.specs.Pumps.{Programs, PumpView}
 use Rattle.sq_serve.specs.Turning.{AddsEntryOf, BeginsTurn, IsActing, Performs, Reports, Resumes, SameButRefused, Turns, TurnsBy}
 use Rattle.sq_serve.specs.declared.turns.Left.{Left}
 use Rattle.sq_serve.specs.declared.turns.Left.TheVariants as left
 use Rattle.sq_serve.specs.declared.turns.Turn.{Turn}
 use Rattle.sq_serve.specs.declared.turns.Turn.TheVariants as turn
 
-reported : {P Q : Type 0} (l : Left P Q) (told : Option History) (refused : ℕ) (r : Turn) (w : PumpView P Q) → Reports l told refused r w → (w.told ≡ told) ⊎ AddsEntryOf l told w.told
+reported : {P Q D : Type 0} (l : Left P Q) (told : Option History) (refused : ℕ) (r : Turn) (w : PumpView P Q D) → Reports l told refused r w → (w.told ≡ told) ⊎ AddsEntryOf l told w.told
 reported l told refused (turn.Acted a) w p = ⊎_elim (λ adds. inr adds) (λ same. inl same.0) p.2
 reported l told refused turn.Ended w p = inl p.0
 reported l told refused turn.WantOfMemory w p = inl p.0
 reported l told refused turn.Idle w p = absurd p
 
-reported_left : {P Q : Type 0} (l : Left P Q) (told : Option History) (refused : ℕ) (r : Turn) (w : PumpView P Q) → Reports l told refused r w → (w.left ≡ None) ⊎ (w.left ≡ Some l)
+reported_left : {P Q D : Type 0} (l : Left P Q) (told : Option History) (refused : ℕ) (r : Turn) (w : PumpView P Q D) → Reports l told refused r w → (w.left ≡ None) ⊎ (w.left ≡ Some l)
 reported_left l told refused (turn.Acted a) w p = inl p.1
 reported_left l told refused turn.Ended w p = inl p.2
 reported_left l told refused turn.WantOfMemory w p = inr p.1
 reported_left l told refused turn.Idle w p = absurd p
 
-follow : {P Q : Type 0} (cs : Q → Option (List ℕ)) (fs : Q → ℕ) (cl : Q → Option Bool) (v w : PumpView P Q) (l : Left P Q) (mid : Option History) (refused : ℕ) (r : Turn)
-    → IsCaused cs fs cl v w l → Reports l mid refused r w → Follows cs fs cl v w mid
-follow cs fs cl v w l mid refused r caused p = ⊎_elim (λ same. inl same) (λ adds. inr (l, caused, adds)) (reported l mid refused r w p)
+follow : {P Q D : Type 0} (pg : Programs D) (cs : Q → Option (List ℕ)) (fs : Q → ℕ) (cl : Q → Option Bool) (v w : PumpView P Q D) (l : Left P Q) (mid : Option History) (refused : ℕ) (r : Turn)
+    → IsCaused pg cs fs cl v w l → Reports l mid refused r w → Follows pg cs fs cl v w mid
+follow pg cs fs cl v w l mid refused r caused p = ⊎_elim (λ same. inl same) (λ adds. inr (l, caused, adds)) (reported l mid refused r w p)
 
-none_left : {P Q : Type 0} (cs : Q → Option (List ℕ)) (fs : Q → ℕ) (cl : Q → Option Bool) (v w : PumpView P Q) → w.left ≡ None → IfSome w.left (IsCaused cs fs cl v w)
-none_left cs fs cl v w none = subst (λ o. IfSome o (IsCaused cs fs cl v w)) (sym none) tt
+none_left : {P Q D : Type 0} (pg : Programs D) (cs : Q → Option (List ℕ)) (fs : Q → ℕ) (cl : Q → Option Bool) (v w : PumpView P Q D) → w.left ≡ None → IfSome w.left (IsCaused pg cs fs cl v w)
+none_left pg cs fs cl v w none = subst (λ o. IfSome o (IsCaused pg cs fs cl v w)) (sym none) tt
 
-some_left : {P Q : Type 0} (cs : Q → Option (List ℕ)) (fs : Q → ℕ) (cl : Q → Option Bool) (v w : PumpView P Q) (l : Left P Q) → w.left ≡ Some l → IsCaused cs fs cl v w l
-    → IfSome w.left (IsCaused cs fs cl v w)
-some_left cs fs cl v w l some caused = subst (λ o. IfSome o (IsCaused cs fs cl v w)) (sym some) caused
+some_left : {P Q D : Type 0} (pg : Programs D) (cs : Q → Option (List ℕ)) (fs : Q → ℕ) (cl : Q → Option Bool) (v w : PumpView P Q D) (l : Left P Q) → w.left ≡ Some l → IsCaused pg cs fs cl v w l
+    → IfSome w.left (IsCaused pg cs fs cl v w)
+some_left pg cs fs cl v w l some caused = subst (λ o. IfSome o (IsCaused pg cs fs cl v w)) (sym some) caused
 
-leave : {P Q : Type 0} (cs : Q → Option (List ℕ)) (fs : Q → ℕ) (cl : Q → Option Bool) (v w : PumpView P Q) (l : Left P Q) (mid : Option History) (refused : ℕ) (r : Turn)
-    → IsCaused cs fs cl v w l → Reports l mid refused r w → IfSome w.left (IsCaused cs fs cl v w)
-leave cs fs cl v w l mid refused r caused p =
-    ⊎_elim (λ none. none_left cs fs cl v w none) (λ some. some_left cs fs cl v w l some caused) (reported_left l mid refused r w p)
+leave : {P Q D : Type 0} (pg : Programs D) (cs : Q → Option (List ℕ)) (fs : Q → ℕ) (cl : Q → Option Bool) (v w : PumpView P Q D) (l : Left P Q) (mid : Option History) (refused : ℕ) (r : Turn)
+    → IsCaused pg cs fs cl v w l → Reports l mid refused r w → IfSome w.left (IsCaused pg cs fs cl v w)
+leave pg cs fs cl v w l mid refused r caused p =
+    ⊎_elim (λ none. none_left pg cs fs cl v w none) (λ some. some_left pg cs fs cl v w l some caused) (reported_left l mid refused r w p)
 
 -- what an act that is performed notes behind its own entry, and what it leaves
-Did : {P Q : Type 0} (cs : Q → Option (List ℕ)) (fs : Q → ℕ) (cl : Q → Option Bool) (v w : PumpView P Q) (mid : Option History) → Type 0
-Did cs fs cl v w mid = Follows cs fs cl v w mid × IfSome w.left (IsCaused cs fs cl v w)
+Did : {P Q D : Type 0} (pg : Programs D) (cs : Q → Option (List ℕ)) (fs : Q → ℕ) (cl : Q → Option Bool) (v w : PumpView P Q D) (mid : Option History) → Type 0
+Did pg cs fs cl v w mid = Follows pg cs fs cl v w mid × IfSome w.left (IsCaused pg cs fs cl v w)
 
-did : {P Q : Type 0} (cs : Q → Option (List ℕ)) (fs : Q → ℕ) (cl : Q → Option Bool) (v w : PumpView P Q) (l : Left P Q) (mid : Option History) (refused : ℕ) (r : Turn)
-    → IsCaused cs fs cl v w l → Reports l mid refused r w → Did cs fs cl v w mid
+did : {P Q D : Type 0} (pg : Programs D) (cs : Q → Option (List ℕ)) (fs : Q → ℕ) (cl : Q → Option Bool) (v w : PumpView P Q D) (l : Left P Q) (mid : Option History) (refused : ℕ) (r : Turn)
+    → IsCaused pg cs fs cl v w l → Reports l mid refused r w → Did pg cs fs cl v w mid
 unfolding Did
-did cs fs cl v w l mid refused r caused p = (follow cs fs cl v w l mid refused r caused p, leave cs fs cl v w l mid refused r caused p)
+did pg cs fs cl v w l mid refused r caused p = (follow pg cs fs cl v w l mid refused r caused p, leave pg cs fs cl v w l mid refused r caused p)
 
-did_none : {P Q : Type 0} (cs : Q → Option (List ℕ)) (fs : Q → ℕ) (cl : Q → Option Bool) (v w : PumpView P Q) (mid : Option History) → w.told ≡ mid → w.left ≡ None → Did cs fs cl v w mid
+did_none : {P Q D : Type 0} (pg : Programs D) (cs : Q → Option (List ℕ)) (fs : Q → ℕ) (cl : Q → Option Bool) (v w : PumpView P Q D) (mid : Option History) → w.told ≡ mid → w.left ≡ None → Did pg cs fs cl v w mid
 unfolding Did
-did_none cs fs cl v w mid same none = (inl same, none_left cs fs cl v w none)
+did_none pg cs fs cl v w mid same none = (inl same, none_left pg cs fs cl v w none)
 
-performed : {P Q : Type 0} (out_faults : P → ℕ) (cs : Q → Option (List ℕ)) (fs : Q → ℕ) (cl : Q → Option Bool) (v w : PumpView P Q) (a : Act) (u : PumpView P Q) (r : Turn)
-    → u.faults ≡ v.faults → u.starts ≡ v.starts → u.pipes ≡ v.pipes → u.left ≡ None → (w.told ≡ u.told → IsCaused cs fs cl v w (left.Whole a))
-    → Performs out_faults cs fs cl a u r w → Did cs fs cl v w u.told
+performed : {P Q D : Type 0} (pg : Programs D) (out_faults : P → ℕ) (cs : Q → Option (List ℕ)) (fs : Q → ℕ) (cl : Q → Option Bool) (v w : PumpView P Q D) (a : Act) (u : PumpView P Q D) (r : Turn)
+    → u.faults ≡ v.faults → u.starts ≡ v.starts → u.pipes ≡ v.pipes → pg u.desk ≡ pg v.desk → u.left ≡ None → (w.told ≡ u.told → IsCaused pg cs fs cl v w (left.Whole a))
+    → Performs pg out_faults cs fs cl a u r w → Did pg cs fs cl v w u.told
 unfolding Did
-performed out_faults cs fs cl v w (act.Stop proc) u r f s p n whole h = did_none cs fs cl v w u.told h.1.told h.1.left
-performed out_faults cs fs cl v w (act.Send proc question channel text) u r f s p n whole h =
+performed pg out_faults cs fs cl v w (act.Stop proc) u r f s p g n whole h = did_none pg cs fs cl v w u.told h.1.told h.1.left
+performed pg out_faults cs fs cl v w (act.Send proc question channel text) u r f s p g n whole h =
     ⊎_elim
-    (λ same. did_none cs fs cl v w u.told same.1.told same.1.left)
+    (λ same. did_none pg cs fs cl v w u.told same.1.told same.1.left)
     (λ failed.
-    did cs fs cl v w (left.Died proc (act.Send proc question channel text)) u.told u.refused r
+    did pg cs fs cl v w (left.Died proc (act.Send proc question channel text)) u.told u.refused r
     (inr (question_text channel text, subst (λ ps. Changes proc (Fails cs fs cl (question_text channel text)) ps w.pipes) p failed.0))
     failed.3)
     h
-performed out_faults cs fs cl v w (act.Start epoch class) u r f s p n whole h =
+performed pg out_faults cs fs cl v w (act.Start epoch class) u r f s p g n whole h =
     ⊎_elim
-    (λ gone. did_none cs fs cl v w u.told (ap (λ x. x.told) gone.1) (ap (λ x. x.left) gone.1 ∙ n))
+    (λ gone. did_none pg cs fs cl v w u.told (ap (λ x. x.told) gone.1) (ap (λ x. x.left) gone.1 ∙ n))
     (λ rest.
     ⊎_elim
     (λ want.
     let same : w.told ≡ u.told = ap (λ x. x.told) want.1 in
-    (inl same, some_left cs fs cl v w (left.Whole (act.Start epoch class)) (ap (λ x. x.left) want.1) (whole same)))
+    (inl same, some_left pg cs fs cl v w (left.Whole (act.Start epoch class)) (ap (λ x. x.left) want.1) (whole same)))
     (λ more.
     ⊎_elim
-    (λ failed. did cs fs cl v w (left.Failed epoch class) u.told u.refused r (inr (subst (λ k. Rose k w.faults) f failed.1)) failed.3)
+    (λ failed. did pg cs fs cl v w (left.Failed epoch class) u.told u.refused r (inr (subst (λ k. Rose k w.faults) f failed.1)) failed.3)
     (λ made.
-    did cs fs cl v w (left.Started epoch class made.1 made.2) u.told u.refused r
-    (inr (made.0, subst (λ o. StartsMore o w.starts made.0) s made.3))
-    made.7)
+    did pg cs fs cl v w (left.Started epoch class made.1 made.2) u.told u.refused r
+    (inr (made.0, subst (λ q. IfSome (q epoch class) (λ told. Some made.0 ≡ told)) g made.3, subst (λ o. StartsMore o w.starts made.0) s made.4))
+    made.8)
     more)
     rest)
     h
 
-resumed : {P Q : Type 0} (out_faults : P → ℕ) (cs : Q → Option (List ℕ)) (fs : Q → ℕ) (cl : Q → Option Bool) (v w : PumpView P Q) (l : Left P Q) (r : Turn)
-    → v.left ≡ Some l → Resumes out_faults cs fs cl l (record v { left = None }) r w → Did cs fs cl v w v.told
-resumed out_faults cs fs cl v w (left.Whole a) r is h =
-    performed out_faults cs fs cl v w a (record v { left = None }) r refl refl refl refl (λ same. inl is) h
-resumed out_faults cs fs cl v w (left.Failed epoch class) r is h = did cs fs cl v w (left.Failed epoch class) v.told v.refused r (inl is) h.0
-resumed out_faults cs fs cl v w (left.Started epoch class from to) r is h = did cs fs cl v w (left.Started epoch class from to) v.told v.refused r (inl is) h.0
-resumed out_faults cs fs cl v w (left.Died proc a) r is h = did cs fs cl v w (left.Died proc a) v.told v.refused r (inl is) h.0
+resumed : {P Q D : Type 0} (pg : Programs D) (out_faults : P → ℕ) (cs : Q → Option (List ℕ)) (fs : Q → ℕ) (cl : Q → Option Bool) (v w : PumpView P Q D) (l : Left P Q) (r : Turn)
+    → v.left ≡ Some l → Resumes pg out_faults cs fs cl l (record v { left = None }) r w → Did pg cs fs cl v w v.told
+resumed pg out_faults cs fs cl v w (left.Whole a) r is h =
+    performed pg out_faults cs fs cl v w a (record v { left = None }) r refl refl refl refl refl (λ same. inl is) h
+resumed pg out_faults cs fs cl v w (left.Failed epoch class) r is h = did pg cs fs cl v w (left.Failed epoch class) v.told v.refused r (inl is) h.0
+resumed pg out_faults cs fs cl v w (left.Started epoch class from to) r is h = did pg cs fs cl v w (left.Started epoch class from to) v.told v.refused r (inl is) h.0
+resumed pg out_faults cs fs cl v w (left.Died proc a) r is h = did pg cs fs cl v w (left.Died proc a) v.told v.refused r (inl is) h.0
 
-same_told : {P Q : Type 0} (v w : PumpView P Q) → SameButRefused v w → w.told ≡ v.told
+same_told : {P Q D : Type 0} (v w : PumpView P Q D) → SameButRefused v w → w.told ≡ v.told
 same_told v w s = ap (λ x. x.told) s.0
 
-same_left : {P Q : Type 0} (v w : PumpView P Q) → SameButRefused v w → v.left ≡ None → w.left ≡ None
+same_left : {P Q D : Type 0} (v w : PumpView P Q D) → SameButRefused v w → v.left ≡ None → w.left ≡ None
 same_left v w s n = ap (λ x. x.left) s.0 ∙ n
 
 -- the act's entry, and what follows it
-acted : {P Q : Type 0} (out_faults : P → ℕ) (cs : Q → Option (List ℕ)) (fs : Q → ℕ) (cl : Q → Option Bool) (v w : PumpView P Q) (r : Turn)
-    → v.left ≡ None → (x : IsActing out_faults cs fs cl v r w) → Did cs fs cl v w x.mid.told
-acted out_faults cs fs cl v w r none x =
-    performed out_faults cs fs cl v w x.act x.mid r
-    (ap (λ y. y.faults) x.same) (ap (λ y. y.starts) x.same) (ap (λ y. y.pipes) x.same) (ap (λ y. y.left) x.same ∙ none)
+acted : {P Q D : Type 0} (pg : Programs D) (out_faults : P → ℕ) (cs : Q → Option (List ℕ)) (fs : Q → ℕ) (cl : Q → Option Bool) (v w : PumpView P Q D) (r : Turn)
+    → v.left ≡ None → (x : IsActing pg out_faults cs fs cl v r w) → Did pg cs fs cl v w x.mid.told
+acted pg out_faults cs fs cl v w r none x =
+    performed pg out_faults cs fs cl v w x.act x.mid r
+    (ap (λ y. y.faults) x.same) (ap (λ y. y.starts) x.same) (ap (λ y. y.pipes) x.same) x.programs_stay (ap (λ y. y.left) x.same ∙ none)
     (λ same. inr (none, subst (λ o. MayAct v.told o (Ok (Some x.act))) (sym same) x.noted))
     x.performs
 
-turned_by : {P Q : Type 0} (out_faults : P → ℕ) (cs : Q → Option (List ℕ)) (fs : Q → ℕ) (cl : Q → Option Bool) (o : Option (Left P Q)) (v w : PumpView P Q) (r : Turn)
-    → v.left ≡ o → TurnsBy out_faults cs fs cl o v r w → NotesTurn cs fs cl v w × IfSome w.left (IsCaused cs fs cl v w)
+turned_by : {P Q D : Type 0} (pg : Programs D) (out_faults : P → ℕ) (cs : Q → Option (List ℕ)) (fs : Q → ℕ) (cl : Q → Option Bool) (o : Option (Left P Q)) (v w : PumpView P Q D) (r : Turn)
+    → v.left ≡ o → TurnsBy pg out_faults cs fs cl o v r w → NotesTurn pg cs fs cl v w × IfSome w.left (IsCaused pg cs fs cl v w)
 unfolding Did
-turned_by out_faults cs fs cl None v w r is h =
+turned_by pg out_faults cs fs cl None v w r is h =
     ⊎_elim
-    (λ idle. (inl (inl (same_told v w idle.1)), none_left cs fs cl v w (same_left v w idle.1 is)))
+    (λ idle. (inl (inl (ap (λ x. x.told) idle.1)), none_left pg cs fs cl v w (ap (λ x. x.left) idle.1 ∙ is)))
     (λ rest.
     ⊎_elim
-    (λ want. (inl (inl (same_told v w want.1)), none_left cs fs cl v w (same_left v w want.1 is)))
+    (λ want. (inl (inl (same_told v w want.1)), none_left pg cs fs cl v w (same_left v w want.1 is)))
     (λ more.
     ⊎_elim
-    (λ ended. (inl (inl (same_told v w ended.1)), none_left cs fs cl v w (same_left v w ended.1 is)))
+    (λ ended. (inl (inl (same_told v w ended.1)), none_left pg cs fs cl v w (same_left v w ended.1 is)))
     (λ x.
-    let d = acted out_faults cs fs cl v w r is x in
+    let d = acted pg out_faults cs fs cl v w r is x in
     (inr (x.act, x.mid.told, is, x.noted, d.0), d.1))
     more)
     rest)
     h
-turned_by out_faults cs fs cl (Some l) v w r is h = let d = resumed out_faults cs fs cl v w l r is h in (inl d.0, d.1)
+turned_by pg out_faults cs fs cl (Some l) v w r is h = let d = resumed pg out_faults cs fs cl v w l r is h in (inl d.0, d.1)
 
 -- what a turn notes
-pub turned_notes : {P Q : Type 0} (out_faults : P → ℕ) (cs : Q → Option (List ℕ)) (fs : Q → ℕ) (cl : Q → Option Bool) (v w : PumpView P Q) (r : Turn)
-    → Turns out_faults cs fs cl v r w → NotesTurn cs fs cl v w
-turned_notes out_faults cs fs cl v w r h = (turned_by out_faults cs fs cl v.left v w r refl h).0
+pub turned_notes : {P Q D : Type 0} (pg : Programs D) (out_faults : P → ℕ) (cs : Q → Option (List ℕ)) (fs : Q → ℕ) (cl : Q → Option Bool) (v w : PumpView P Q D) (r : Turn)
+    → Turns pg out_faults cs fs cl v r w → NotesTurn pg cs fs cl v w
+turned_notes pg out_faults cs fs cl v w r h = (turned_by pg out_faults cs fs cl v.left v w r refl h).0
 
 -- what it leaves
-pub turned_left : {P Q : Type 0} (out_faults : P → ℕ) (cs : Q → Option (List ℕ)) (fs : Q → ℕ) (cl : Q → Option Bool) (v w : PumpView P Q) (r : Turn)
-    → Turns out_faults cs fs cl v r w → IfSome w.left (IsCaused cs fs cl v w)
-turned_left out_faults cs fs cl v w r h = (turned_by out_faults cs fs cl v.left v w r refl h).1
+pub turned_left : {P Q D : Type 0} (pg : Programs D) (out_faults : P → ℕ) (cs : Q → Option (List ℕ)) (fs : Q → ℕ) (cl : Q → Option Bool) (v w : PumpView P Q D) (r : Turn)
+    → Turns pg out_faults cs fs cl v r w → IfSome w.left (IsCaused pg cs fs cl v w)
+turned_left pg out_faults cs fs cl v w r h = (turned_by pg out_faults cs fs cl v.left v w r refl h).1

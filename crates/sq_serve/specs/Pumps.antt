@@ -7,11 +7,16 @@ use Rattle.sq_rules.specs.Entries.{History}
 use Rattle.sq_serve.specs.declared.turns.Left.{Left}
 use Rattle.sq_serve.specs.declared.turns.Reader.{Reader}
 
--- of the desk: the journal's entries, the newest first, where they are told, how often it refused, and the reconfigurations that it made,
+-- how a desk tells the words of the class at a place of an epoch: None where it tells none, Some None where there is no such class
+abbrev pub Programs : Type 0 → Type 0
+Programs D = D → ℕ → ℕ → Option (Option (List (List ℕ)))
+
+-- of the desk: itself, the journal's entries, the newest first, where they are told, how often it refused, and the reconfigurations that it made,
 -- where they are told; of the spawner: the words of the starts that were made, where they are told, and how often it failed; the halves of
 -- processes that are written to, those that are read and that no keeper has, for how many more of these there is room, and what an earlier
 -- turn left
-pub record PumpView (P Q : Type 0) : Type 0 where
+pub record PumpView (P Q D : Type 0) : Type 0 where
+  pub desk : D
   pub told : Option History
   pub refused : ℕ
   pub made : Option ℕ

@@ -27,9 +27,10 @@ impl<S: Spawner, K: DeskCalls> Model for ServePump<S, K> {
     ghost use Rattle.sq_pipes.specs.PipeViews.{pipes_of};
     ghost use Rattle.sq_serve.specs.Pumps.{PumpView};
 
-    ghost Value = { PumpView S.ChildOut S.ChildIn };
+    ghost Value = { PumpView S.ChildOut S.ChildIn K };
 
     ghost view = { λ p. record {
+      desk = p.desk;
       told = K.told p.desk;
       refused = K.refused p.desk;
       made = K.made p.desk;
@@ -45,6 +46,7 @@ impl<S: Spawner, K: DeskCalls> Model for ServePump<S, K> {
 impl<S: Spawner, K: DeskCalls> ServePump<S, K> {
     /// A pump over this spawner and this desk, which holds nothing.
     pub fn new(alloc: Global, spawner: S, desk: K) -> ServePump<S, K>
+        ensures desk { result.desk ≡ desk }
         ensures told { result.told ≡ K.told desk }
         ensures refused { result.refused ≡ K.refused desk }
         ensures made { result.made ≡ K.made desk }

@@ -16,7 +16,7 @@ where
     // Starts a process of a class. Halves that were closed are let go of.
     pub(crate) fn start(&mut self, epoch: EpochNo, class: u32, now: Moment) -> Turn
         requires { self.old.left ≡ None }
-        ensures starting { IsStarting S.ChildOut.faults S.ChildIn.contents S.ChildIn.faults S.ChildIn.closed epoch class self.old result self.new }
+        ensures starting { IsStarting K.programs S.ChildOut.faults S.ChildIn.contents S.ChildIn.faults S.ChildIn.closed epoch class self.old result self.new }
         ensures counts { Counts self.old self.new }
     {
         let words = match self.desk.words(self.alloc, epoch, class) {

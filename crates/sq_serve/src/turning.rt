@@ -53,7 +53,7 @@ where
     // Performs an act.
     fn perform(&mut self, act: Act, now: Moment) -> Turn
         requires { self.old.left ≡ None }
-        ensures performs { Performs S.ChildOut.faults S.ChildIn.contents S.ChildIn.faults S.ChildIn.closed act self.old result self.new }
+        ensures performs { Performs K.programs S.ChildOut.faults S.ChildIn.contents S.ChildIn.faults S.ChildIn.closed act self.old result self.new }
         ensures counts { Counts self.old self.new }
     {
         match act {
@@ -71,7 +71,7 @@ where
     // Takes up what an earlier turn left.
     fn resume(&mut self, left: Left<S::ChildOut, S::ChildIn>, now: Moment) -> Turn
         requires { self.old.left ≡ None }
-        ensures resumes { Resumes S.ChildOut.faults S.ChildIn.contents S.ChildIn.faults S.ChildIn.closed left self.old result self.new }
+        ensures resumes { Resumes K.programs S.ChildOut.faults S.ChildIn.contents S.ChildIn.faults S.ChildIn.closed left self.old result self.new }
         ensures counts { Counts self.old self.new }
     {
         match left {
@@ -90,7 +90,7 @@ where
     // Asks the desk for an act, and performs it.
     fn begin(&mut self, now: Moment) -> Turn
         requires { self.old.left ≡ None }
-        ensures begins { BeginsTurn S.ChildOut.faults S.ChildIn.contents S.ChildIn.faults S.ChildIn.closed self.old result self.new }
+        ensures begins { BeginsTurn K.programs S.ChildOut.faults S.ChildIn.contents S.ChildIn.faults S.ChildIn.closed self.old result self.new }
         ensures counts { Counts self.old self.new }
     {
         match self.desk.act(self.alloc, now) {
@@ -103,7 +103,7 @@ where
 
     // Goes on with what an earlier turn left, or begins.
     fn go_on(&mut self, now: Moment) -> Turn
-        ensures turns { Turns S.ChildOut.faults S.ChildIn.contents S.ChildIn.faults S.ChildIn.closed self.old result self.new }
+        ensures turns { Turns K.programs S.ChildOut.faults S.ChildIn.contents S.ChildIn.faults S.ChildIn.closed self.old result self.new }
         ensures counts { Counts self.old self.new }
     {
         match self.left.take() {
@@ -115,10 +115,10 @@ where
     /// Performs one act that is due, or goes on with what an earlier turn left.
     #[tactic(auto, using(crate::proofs::EntryLaws::turned_notes, crate::proofs::EntryLaws::turned_left))]
     pub fn turn(&mut self, now: Moment) -> Turn
-        ensures turns { Turns S.ChildOut.faults S.ChildIn.contents S.ChildIn.faults S.ChildIn.closed self.old result self.new }
+        ensures turns { Turns K.programs S.ChildOut.faults S.ChildIn.contents S.ChildIn.faults S.ChildIn.closed self.old result self.new }
         // Each entry that is noted behind an act, and what is left, has its cause in this turn or in an earlier one.
-        ensures notes { NotesTurn S.ChildIn.contents S.ChildIn.faults S.ChildIn.closed self.old self.new }
-        ensures left { IfSome self.new.left (IsCaused S.ChildIn.contents S.ChildIn.faults S.ChildIn.closed self.old self.new) }
+        ensures notes { NotesTurn K.programs S.ChildIn.contents S.ChildIn.faults S.ChildIn.closed self.old self.new }
+        ensures left { IfSome self.new.left (IsCaused K.programs S.ChildIn.contents S.ChildIn.faults S.ChildIn.closed self.old self.new) }
         ensures counts { Counts self.old self.new }
     {
         self.go_on(now)

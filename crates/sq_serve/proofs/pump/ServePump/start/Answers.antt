@@ -8,6 +8,7 @@ returns-in-Ok-clause-starting g c =
       c.in-Ok.from,
       c.in-Ok.to,
       search rules,
+      search rules,
       record { empty = c.in-Ok.ensures.empty; is_open = c.in-Ok.ensures.open; from_fresh = c.in-Ok.ensures.fresh.0; to_fresh = c.in-Ok.ensures.fresh.1 },
       search rules,
       search rules,
