@@ -12,7 +12,7 @@ use Rattle.sq_proxy.specs.Ends.{IsToldEnd, end_of, status_of, last_line}
 use Rattle.sq_proxy.specs.Outputs.{Delivers, DeliversAs, EndsWith, IsCutOff, IsOutput, IsOutputAs, Remains}
 use Rattle.sq_proxy.proofs.SettleLaws.{fault_is}
 
-empty_line : (line : List ℕ) → IsPrefix line [] → line ≡ []
+pub empty_line : (line : List ℕ) → IsPrefix line [] → line ≡ []
 empty_line [] p = refl
 empty_line (x ∷ line) (rest, e) = absurd (cc)
 

@@ -1,11 +1,12 @@
 -- What comes of a server.
-use Rattle.std.specs.Prelude.{◌≡◌, ◌⊎◌, ℕ, ◌+◌, ◌<◌, ◌≤◌, List, [], ◌∷◌, ◌++◌, Bool, true, false, codes, unwrap_or, IfSome}
+use Rattle.std.specs.Prelude.{◌≡◌, ◌⊎◌, ℕ, ◌+◌, ◌<◌, ◌≤◌, List, [], ◌∷◌, ◌++◌, Bool, true, false, codes, min, unwrap_or, IfSome}
 use Rattle.std.specs.Io.KnownBytes.{Appends}
 use Rattle.std.specs.Option.{ForSome}
 use Rattle.std.specs.declared.option.Option.{Option}
 use Rattle.std.specs.declared.result.Result.{Result}
 use Rattle.std.specs.declared.result.Result.TheVariants as result
-use Rattle.sq_outside.specs.Causes.{Rose}
+use Rattle.sq_outside.specs.Causes.{Rose, count_limit}
+use Rattle.sq_outside.specs.Output.{Grew, IsProperPrefix, IsWritten}
 use Rattle.sq_outside.specs.Told.{IsNotTold, Openings, Texts}
 use Rattle.sq_rules.specs.Configurations.{Configuration}
 use Rattle.sq_rules.specs.Entries.{History}
@@ -15,7 +16,7 @@ use Rattle.sq_control.specs.declared.panel.PanelEnd.{PanelEnd}
 use Rattle.sq_control.specs.declared.panel.PanelEnd.TheVariants as panel
 use Rattle.sq_panel.specs.Attending.{FilesSeen, Runs, Streams}
 use Rattle.sq_proxy.specs.Commands.{conf_stage}
-use Rattle.sq_proxy.specs.Ends.{EndsBy, IfMissing}
+use Rattle.sq_proxy.specs.Ends.{EndsBy, IfMissing, last_line}
 use Rattle.sq_proxy.specs.Opened.{Added, IsOnce, first_text}
 use Rattle.sq_proxy.specs.Serving.{Server}
 use Rattle.sq_proxy.specs.declared.ends.Status.{Status}
@@ -49,6 +50,12 @@ IsServerEnd ends.Net = Unit {0}
 IsServerEnd ends.WantOfMemory = Unit {0}
 IsServerEnd status = ⊥
 
+-- a server ends by these alone: by one of those, or since its configuration was refused, or is not there
+abbrev pub IsServiceEnd : Status → Type 0
+IsServiceEnd (ends.Config line kind) = Unit {0}
+IsServiceEnd (ends.Missing name) = Unit {0}
+IsServiceEnd status = IsServerEnd status
+
 -- a desk that was not made ends a server by these
 abbrev pub IsUnservedEnd : Status → Type 0
 IsUnservedEnd ends.JournalFault = Unit {0}
@@ -71,6 +78,19 @@ pub record IsTrueFrom (first : Configuration) (h : History) : Type 0 where
 abbrev pub IsTrueOrEmpty : Configuration → Option History → Type 0
 IsTrueOrEmpty first history = IfSome history (λ h. (h ≡ []) ⊎ IsTrueFrom first h)
 
+-- A panel ran: how it ended, by which the server ended so, and by whether a note of its journal failed, and whether its listener did.
+pub record HasRun (texts : Texts) (name : List ℕ) (port : ℕ) (f g : FilesSeen) (v w : Streams) (status : Status) : Type 0 where
+  pub end : PanelEnd
+  pub stopped : Bool
+  pub failed : Bool
+  pub made : ℕ
+  pub runs : Runs texts name port f g v w end made
+  pub ended : status ≡ ended_status end stopped failed
+
+-- the desk was not made, and files and streams are as they were; or a panel ran
+abbrev pub RunsOrNot : Texts → List ℕ → ℕ → FilesSeen → FilesSeen → Streams → Streams → Status → Type 0
+RunsOrNot texts name port f g v w status = ((g ≡ f) × (w ≡ v) × IsUnservedEnd status) ⊎ HasRun texts name port f g v w status
+
 -- what came of a server at a port; the numbers are the journal's counts of faults, and the listener's
 pub record IsServed (first : Configuration) (texts : Texts) (name : List ℕ) (port : ℕ) (f g : FilesSeen) (v w : Streams) (journal_before journal_now listener_now : ℕ) (history : Option History) (status : Status) : Type 0 where
   pub ok : status ≡ ends.Ok → (made : ℕ) × Runs texts name port f g v w panel.Ended made × ForSome history (λ h. made + 1 ≡ current h)
@@ -81,8 +101,11 @@ pub record IsServed (first : Configuration) (texts : Texts) (name : List ℕ) (p
   pub journal : status ≡ ends.JournalFault → Rose journal_before journal_now
   pub net : status ≡ ends.Net → 0 < listener_now
   pub end : IsServerEnd status
+  pub ran : RunsOrNot texts name port f g v w status
+  pub files_later : f.faults ≤ g.faults
   pub input_later : v.input_faults ≤ w.input_faults
   pub output_later : v.output_faults ≤ w.output_faults
+  pub journal_later : min journal_before count_limit ≤ journal_now
 
 -- A server that ended well: the configuration of its file; at which port it listened; what its panel did; that it wrote so at the end; that its
 -- journal, where it tells, is true from that configuration on, with as many reconfigurations as were made.
@@ -103,6 +126,37 @@ abbrev pub EndsOver : Result Configuration Status → Status → Type 0
 EndsOver (result.Err end) status = EndsBy end status
 EndsOver (result.Ok config) status = IsServerEnd status
 
+-- The panel of a server did not run: the file of the configuration was opened once at most, the server ended by what its text comes to, and nothing
+-- was written by then.
+pub record IsUnrun (s : Server) (f g : FilesSeen) (v w : Streams) (status : Status) : Type 0 where
+  pub opened : Added f.opened g.opened (λ more. IsOnce s.conf more × EndsOver (conf_stage s.conf (first_text more)) status)
+  pub same : w ≡ v
+  pub unwritten : status ≡ ends.WriteFault → ⊥
+
+-- a server whose panel ended so ended by that, and wrote nothing behind what the panel wrote; or it would have ended well, but of the line `stopped`
+-- it could write only a part
+abbrev pub EndsAfter : PanelEnd → Streams → Streams → Status → Type 0
+EndsAfter end ran w status =
+    ((w ≡ ran) × (stopped : Bool) × (failed : Bool) × (status ≡ ended_status end stopped failed))
+    ⊎ ((end ≡ panel.Ended) × (status ≡ ends.WriteFault) × Grew ran.contents w.contents (λ part. IsProperPrefix part stopped_line))
+
+-- The panel of a server ran: the configuration of its file; at which port it listened; what its panel did, and wrote; and how the server ended by that.
+pub record IsRun (s : Server) (texts : Texts) (f g : FilesSeen) (v w : Streams) (status : Status) : Type 0 where
+  pub config : Configuration
+  pub begun : FilesSeen
+  pub conf : IsConf texts s.conf f.opened begun.opened config
+  pub ran : Streams
+  pub end : PanelEnd
+  pub made : ℕ
+  pub runs : Runs texts s.conf (port_of s config) begun g v ran end made
+  pub after : EndsAfter end ran w status
+
+-- What a server wrote: nothing, where its panel did not run, or what that wrote; and then this line, or a part of it where a write failed.
+pub record EndsByLine (line : List ℕ) (s : Server) (texts : Texts) (f g : FilesSeen) (v w : Streams) (status : Status) : Type 0 where
+  pub told : Streams
+  pub came : IsUnrun s f g v told status ⊎ IsRun s texts f g v told status
+  pub writes : Grew told.contents w.contents (IsWritten told.output_faults w.output_faults line)
+
 -- the history is true from the configuration of the file on
 pub record IsTrueOver (texts : Texts) (name : List ℕ) (before : Openings) (h : History) : Type 0 where
   pub config : Configuration
@@ -110,9 +164,11 @@ pub record IsTrueOver (texts : Texts) (name : List ℕ) (before : Openings) (h :
   pub conf : IsConf texts name before begun config
   pub is_true : IsTrueFrom config h
 
--- what came of a server by its words; the numbers are the journal's counts of faults, and the net's
-pub record IsService (s : Server) (texts : Texts) (f g : FilesSeen) (v w : Streams) (journal_before journal_now net_before net_now : ℕ) (history : Option History) (status : Status) : Type 0 where
+-- what came of a server by its words, which wrote this line last where it did not end well; the numbers are the journal's counts of faults, and the
+-- net's
+pub record CameTo (line : List ℕ) (s : Server) (texts : Texts) (f g : FilesSeen) (v w : Streams) (journal_before journal_now net_before net_now : ℕ) (history : Option History) (status : Status) : Type 0 where
   pub ok : status ≡ ends.Ok → EndsWell s texts f g v w history
+  pub bytes : (status ≡ ends.Ok → ⊥) → EndsByLine line s texts f g v w status
   pub is_true : IfSome history (λ h. (h ≡ []) ⊎ IsTrueOver texts s.conf f.opened h)
   pub read : status ≡ ends.ReadFault → Rose f.faults g.faults ⊎ Rose v.input_faults w.input_faults
   pub write : status ≡ ends.WriteFault → Rose v.output_faults w.output_faults
@@ -120,4 +176,14 @@ pub record IsService (s : Server) (texts : Texts) (f g : FilesSeen) (v w : Strea
   pub net : status ≡ ends.Net → Rose net_before net_now
   pub conf : IfSome texts (λ disk. EndsOver (conf_stage s.conf (disk s.conf)) status)
   pub missing : IfMissing status (λ name. (name ≡ s.conf) × IsNotTold texts name)
-  pub no_usage : status ≡ ends.Usage → ⊥
+  pub end : IsServiceEnd status
+  pub files_later : f.faults ≤ g.faults
+  pub input_later : v.input_faults ≤ w.input_faults
+  pub output_later : v.output_faults ≤ w.output_faults
+  pub journal_later : min journal_before count_limit ≤ journal_now
+  pub net_later : net_before ≤ net_now
+
+-- the same of one that wrote the last line of its status
+abbrev pub IsService : Server → Texts → FilesSeen → FilesSeen → Streams → Streams → ℕ → ℕ → ℕ → ℕ → Option History → Status → Type 0
+IsService s texts f g v w journal_before journal_now net_before net_now history status =
+    CameTo (last_line status) s texts f g v w journal_before journal_now net_before net_now history status

@@ -17,7 +17,7 @@ above_zero n = if n == 0 then None else Some n
 abbrev pub positive_of : ℕ → List ℕ → Option ℕ
 positive_of limit word = option_and_then above_zero (number_of limit word)
 
--- so many workers there are at most
+-- one more than the workers that there are at most
 abbrev pub worker_limit : ℕ
 worker_limit = 65
 

@@ -6,17 +6,34 @@ ghost use Rattle.sq_proxy.specs.Serving.{options_from, positive_of, service_of, 
 
 use sq_base::{PORT_LIMIT, Text, number_of};
 use sq_rules::Offset;
+use std::marker::Model;
 
-/// So many workers there are at most, and one.
+/// One more than the workers that there are at most.
 const WORKER_LIMIT: u64 = 65;
+
+/// How many workers serve connections, from 1 to 64.
+#[derive(Clone, Copy, Debug, PartialEq, Eq)]
+pub struct Workers(pub u32);
+
+impl Model for Workers {
+    ghost use Rattle.std.specs.Prelude.{ℕ, ◌<◌, ◌≤◌};
+
+    ghost Value = { ℕ };
+
+    ghost view = { λ w. w.0 };
+
+    ghost invariant = { λ w. (0 < w.0) × (w.0 ≤ 64) };
+
+    ghost inverse = { λ n. record { 0 = n } };
+}
 
 /// What the options of `serve` state.
 #[derive(Clone, Copy, Debug, PartialEq, Eq)]
 pub struct Options {
     /// The port at which the server listens, above 0.
     pub port: Option<u16>,
-    /// How many workers serve connections, from 1 to 64.
-    pub workers: Option<u32>,
+    /// How many workers serve connections.
+    pub workers: Option<Workers>,
     /// By how many minutes local time is ahead of UTC.
     pub offset: Option<Offset>,
 }
@@ -82,7 +99,7 @@ fn with_option(word: &Text, value: &Text, options: Options) -> Option<Options>
         if options.workers.is_some() {
             return None;
         }
-        options.workers = Some(positive_of(value, WORKER_LIMIT)? as u32);
+        options.workers = Some(Workers(positive_of(value, WORKER_LIMIT)? as u32));
     } else if name == b"--utc-offset".as_slice() {
         if options.offset.is_some() {
             return None;

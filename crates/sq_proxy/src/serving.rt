@@ -2,9 +2,10 @@
 ghost use Rattle.std.specs.Prelude.{◌≡◌, ◌⊎◌, ◌≤◌, ◌<◌, ◌^◌, [], IfSome, unwrap_or};
 ghost use Rattle.std.specs.Io.KnownBytes.{Appends};
 ghost use Rattle.sq_outside.specs.Causes.{Rose};
+ghost use Rattle.sq_outside.specs.Output.{Grew, IsProperPrefix};
 ghost use Rattle.sq_proxy.specs.declared.ends.Status.TheVariants as ends;
 ghost use Rattle.sq_proxy.specs.Outputs.{IsSettled};
-ghost use Rattle.sq_proxy.specs.Service.{IsServed, IsService, stopped_line};
+ghost use Rattle.sq_proxy.specs.Service.{CameTo, IsServed, IsService, stopped_line};
 ghost use Rattle.sq_proxy.specs.Serving.{shown_service};
 
 use crate::ends::Status;
@@ -25,9 +26,6 @@ use std::thread::Threads;
 
 /// How many workers serve connections where no option says.
 const WORKERS: u32 = 8;
-
-/// How many workers there are at most.
-const WORKER_LIMIT: u32 = 64;
 
 /// Serves the links that come to the parts of a net which was opened at this port, until the input orders the end, or its
 /// end comes, or a fault. The journal and the listener are handed back.
@@ -97,16 +95,22 @@ fn port_of(options: &Options, config: &Config) -> u16
     }
 }
 
-// How many workers serve connections.
+// How many workers serve connections: what the option says, or else 8.
 fn workers_of(options: &Options) -> u32
-    ensures { (0 < result) × (result ≤ 2 ^ 31) }
+    ensures value { result ≡ unwrap_or options.now.workers 8 }
+    ensures bound { (0 < result) × (result ≤ 2 ^ 31) }
 {
-    options.workers.unwrap_or(WORKERS).max(1).min(WORKER_LIMIT)
+    match options.workers {
+        Some(workers) => workers.0,
+        None => WORKERS,
+    }
 }
 
 // Says of a server that ended well that it stopped.
 fn tell_stopped<O: Sink>(out: &mut O, status: Status) -> Status
     ensures ok { result ≡ ends.Ok → (status ≡ ends.Ok) × Appends (O.contents out.old) (O.contents out.new) stopped_line }
+    ensures kept { (status ≡ ends.Ok → ⊥) → (result ≡ status) × (out.new ≡ out.old) }
+    ensures short { status ≡ ends.Ok → result ≡ ends.WriteFault → Grew (O.contents out.old) (O.contents out.new) (λ part. IsProperPrefix part stopped_line) }
     ensures same { IsSettled status result }
     ensures write { result ≡ ends.WriteFault → (status ≡ ends.WriteFault) ⊎ Rose (O.faults out.old) (O.faults out.new) }
     ensures later { O.faults out.old ≤ O.faults out.new }
@@ -141,7 +145,7 @@ pub fn serve_conf<
     journal: J,
 ) -> (Status, J)
     requires { IfSome (J.history journal) (λ h. h ≡ []) }
-    ensures { IsService (shown_service service.now) (F.texts files.old)
+    ensures { CameTo [] (shown_service service.now) (F.texts files.old)
         (record { opened = F.opened files.old; faults = F.faults files.old })
         (record { opened = F.opened files.new; faults = F.faults files.new })
         (record { left = C.left control.old; input_faults = C.faults control.old; contents = O.contents out.old; output_faults = O.faults out.old })

@@ -1,6 +1,6 @@
 use Rattle.std.proofs.Common.{sym, ap, ◌∙◌}
 use Rattle.sq_panel.specs.Attending.{FilesSeen, Streams}
-use Rattle.sq_proxy.proofs.ServiceLaws.{begun_fault, failed_is, served, stopped_is, unserved_moved}
+use Rattle.sq_proxy.proofs.ServiceLaws.{begun_fault, failed_is, served, stopped_is, unbegun_later, unserved_moved}
 use Rattle.sq_proxy.proofs.held.run_panel.Goals as goal
 
 pub returns-in-Ok-clause-served : goal.returns-in-Ok-clause-served
@@ -11,6 +11,7 @@ returns-in-Ok-clause-served g c =
     served _ _ _ _ _ _ _ _ _ _ _ _ s.end s.stopped s.failed ran.0 _ is ran.1.4 ran.2 c.in-Ok.ensures.legal
     (λ e. c.in-Ok.ensures.stopped (stopped_is s.end s.stopped s.failed (sym is ∙ e)))
     (λ e. c.in-Ok.ensures.failed (failed_is s.end s.stopped s.failed (sym is ∙ e)))
+    c.in-Ok.ensures.later
 
 pub returns-in-Err-clause-served : goal.returns-in-Err-clause-served
 returns-in-Err-clause-served g c =
@@ -20,3 +21,4 @@ returns-in-Err-clause-served g c =
     (ap {B = Streams} (λ p. record { left = g.S.Source.left p.input.now; input_faults = g.S.Source.faults p.input.now; contents = g.O.Sink.contents p.out.now; output_faults = g.O.Sink.faults p.out.now }) same)
     c.unserved_status.ensures.end c.in-Err.ensures.unwritten c.requires.empty
     (λ e. begun_fault c.in-Err.unserved.fault _ _ (c.unserved_status.ensures.journal e) c.in-Err.ensures.unserved)
+    (unbegun_later c.in-Err.unserved.fault _ _ c.in-Err.ensures.unserved)

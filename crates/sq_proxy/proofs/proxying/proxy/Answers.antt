@@ -1,5 +1,6 @@
-use Rattle.std.proofs.Common.{sym, ◌∙◌}
+use Rattle.std.proofs.Common.{sym, ◌∙◌, subst}
 use Rattle.std.proofs.lemmas.Option.{none-some}
+use Rattle.sq_proxy.specs.Service.{IsServiceEnd}
 use Rattle.sq_proxy.proofs.DoneLaws.{runs_truly_told}
 use Rattle.sq_proxy.proofs.proxying.proxy.Goals as goal
 
@@ -8,4 +9,4 @@ returns-in-Some-clause-truly g c = runs_truly_told (g.F.Files.texts c.args.files
 
 pub returns-in-Some-clause-usage : goal.returns-in-Some-clause-usage
 returns-in-Some-clause-usage g c =
-    (λ e. absurd (c.serve_service-status.ensures.no_usage e), λ p. absurd (none-some _ (sym p.1 ∙ c.in-Some.ensures)))
+    (λ e. absurd (subst IsServiceEnd e c.serve_service-status.ensures.end), λ p. absurd (none-some _ (sym p.1 ∙ c.in-Some.ensures)))

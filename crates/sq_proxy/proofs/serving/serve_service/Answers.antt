@@ -12,4 +12,4 @@ returns g c =
     (λ e. ap {B = Streams}
     (λ o. record { left = g.C.Source.left c.serve_conf-status.new.control; input_faults = g.C.Source.faults c.serve_conf-status.new.control; contents = g.O.Sink.contents o; output_faults = g.O.Sink.faults o })
     (c.finish.ensures.silent (ap (λ (s : Status). is_silent (end_of s)) e)))
-    refl c.finish.ensures.later
+    c.finish.ensures.written refl c.finish.ensures.later
