@@ -1,12 +1,11 @@
 //! What is to be done next.
 ghost use Rattle.std.specs.Prelude.{◌≡◌, ◌+◌, max, IfOk};
 ghost use Rattle.sq_calls.specs.Telling.{IsNextAct};
-ghost use Rattle.sq_engine.specs.Acting.{IsActPromised, told_of_act};
+ghost use Rattle.sq_engine.specs.Acting.{IsActPromised};
 ghost use Rattle.sq_engine.specs.EngineViews.{state_of};
 ghost use Rattle.sq_desk.specs.Calling.{Acts, Leaves, desk_of, load_of, told_due};
 
 use crate::desks::{Desk, First};
-use crate::naming::name_of;
 use crate::notes::Notes;
 use sq_base::{Moment, WantOfMemory};
 use sq_calls::DeskFault;
@@ -17,36 +16,12 @@ use sq_rules::{Entry, Event, Told};
 use sq_state::later;
 use std::alloc::Global;
 
-// The answer that tells of an act.
-fn told_of(alloc: Global, engine: &Engine, act: Act) -> Result<Told, WantOfMemory>
-    ensures { IfOk result (λ t. t ≡ told_of_act (state_of engine.now) act) }
-{
-    match act {
-        Act::Stop(proc) => Ok(Told::Stop(proc)),
-        Act::Send {
-            proc,
-            question,
-            channel,
-            text,
-        } => Ok(Told::Send {
-            proc,
-            question,
-            channel,
-            key: text,
-        }),
-        Act::Start { epoch, class } => match name_of(alloc, engine, epoch, class) {
-            Ok(name) => Ok(Told::Start { epoch, class: name }),
-            Err(WantOfMemory) => Err(WantOfMemory),
-        },
-    }
-}
-
 // The answer that tells of the act that is due, if one is.
 fn told_next(alloc: Global, engine: &Engine) -> Result<Option<Told>, WantOfMemory>
     ensures { IfOk result (λ t. t ≡ told_due engine.now) }
 {
     match engine.due(alloc) {
-        Ok(Some(act)) => match told_of(alloc, engine, act) {
+        Ok(Some(act)) => match engine.act_told(alloc, act) {
             Ok(told) => Ok(Some(told)),
             Err(WantOfMemory) => Err(WantOfMemory),
         },

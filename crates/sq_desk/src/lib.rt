@@ -18,7 +18,6 @@ mod conns;
 mod desks;
 mod ends;
 mod lines;
-mod naming;
 mod notes;
 mod reading;
 mod reconfiguring;

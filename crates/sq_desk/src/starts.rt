@@ -8,7 +8,6 @@ ghost use Rattle.sq_engine.specs.EngineViews.{state_of};
 ghost use Rattle.sq_desk.specs.Calling.{Leaves, Makes, desk_of, load_of};
 
 use crate::desks::{Desk, First};
-use crate::naming::name_of;
 use crate::notes::Notes;
 use sq_base::{EpochNo, Moment, ProcNo, WantOfMemory};
 use sq_calls::DeskFault;
@@ -36,7 +35,7 @@ fn started<J: Journal>(
         Ok(()) => {}
         Err(fault) => return Err(fault),
     }
-    let name = match name_of(alloc, engine, epoch, class) {
+    let name = match engine.name_told(alloc, epoch, class) {
         Ok(name) => name,
         Err(WantOfMemory) => return Err(DeskFault::WantOfMemory),
     };
@@ -73,7 +72,7 @@ fn start_failed<J: Journal>(
         Ok(()) => {}
         Err(fault) => return Err(fault),
     }
-    let name = match name_of(alloc, engine, epoch, class) {
+    let name = match engine.name_told(alloc, epoch, class) {
         Ok(name) => name,
         Err(WantOfMemory) => return Err(DeskFault::WantOfMemory),
     };

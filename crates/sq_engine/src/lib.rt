@@ -19,5 +19,6 @@ mod readers;
 mod reconfiguring;
 mod starts;
 mod stepping;
+mod telling;
 
 pub use engines::Engine;

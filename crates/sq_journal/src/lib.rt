@@ -34,3 +34,4 @@ pub use escapes::ESCAPES;
 pub use faults::EntryFault;
 pub use numbered::{print_numbered, read_numbered, write_numbered};
 pub use ranges::holds_values;
+pub use values::minutes_of;

@@ -57,16 +57,16 @@ pub fn offset(words: &mut Words) -> Result<Offset, EntryFault>
 {
     match words.next() {
         None => Err(EntryFault::BadEntry),
-        Some(word) => match minutes(word) {
+        Some(word) => match minutes_of(word) {
             None => Err(EntryFault::BadEntry),
             Some(minutes) => Ok(Offset(minutes)),
         },
     }
 }
 
-// Minutes from -840 to 840.
+/// The minutes of an offset of local time, from -840 to 840, that a word states. It takes no memory.
 #[tactic(auto, unfolding(crate::specs::Reading::offset_from))]
-fn minutes(word: &[u8]) -> Option<i32>
+pub fn minutes_of(word: &[u8]) -> Option<i32>
     ensures read { result ≡ offset_from word.now }
     ensures bound { IfSome result (λ m. IsOffset m) }
 {

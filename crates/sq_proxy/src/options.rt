@@ -1,10 +1,10 @@
 //! The words of `serve`.
 ghost use Rattle.std.specs.Prelude.{◌≡◌, ◌<◌, ◌≤◌, IfSome, MatchOption, None, Some};
-ghost use Rattle.sq_journal.specs.Reading.{negative, offset_from};
-ghost use Rattle.sq_journal.specs.Values.{IsOffset};
+ghost use Rattle.sq_journal.specs.Reading.{offset_from};
 ghost use Rattle.sq_proxy.specs.Serving.{options_from, positive_of, service_of, shown_service, with_option};
 
 use sq_base::{PORT_LIMIT, Text, number_of};
+use sq_journal::minutes_of;
 use sq_rules::Offset;
 use std::marker::Model;
 
@@ -57,32 +57,6 @@ fn positive_of(word: &[u8], limit: u64) -> Option<u64>
     Some(number)
 }
 
-// Minutes from -840 to 840.
-#[tactic(auto, unfolding(sq_journal::specs::Reading::offset_from))]
-fn minutes(word: &[u8]) -> Option<i32>
-    ensures read { result ≡ offset_from word.now }
-    ensures bound { IfSome result (λ m. IsOffset m) }
-{
-    let (&first, rest) = word.split_first()?;
-    if first == b'-' {
-        return below_zero(number_of(rest, 841)?);
-    }
-    Some(number_of(word, 841)? as i32)
-}
-
-// So many minutes below zero, if there are any.
-fn below_zero(number: u64) -> Option<i32>
-    requires { number < 841 }
-    ensures read { result ≡ negative number }
-    ensures bound { IfSome result (λ m. IsOffset m) }
-{
-    if number == 0 {
-        None
-    } else {
-        Some(-(number as i32))
-    }
-}
-
 // What is stated with one option more.
 fn with_option(word: &Text, value: &Text, options: Options) -> Option<Options>
     ensures { result ≡ with_option word.now value.now options }
@@ -104,7 +78,7 @@ fn with_option(word: &Text, value: &Text, options: Options) -> Option<Options>
         if options.offset.is_some() {
             return None;
         }
-        options.offset = Some(Offset(minutes(value)?));
+        options.offset = Some(Offset(minutes_of(value)?));
     } else {
         return None;
     }

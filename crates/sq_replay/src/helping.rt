@@ -9,7 +9,7 @@ ghost use Rattle.sq_replay.specs.MachineViews.{machine_of};
 ghost use Rattle.sq_replay.specs.Making.{IsMaking};
 
 use crate::machines::Machine;
-use crate::names::{name_of, place_of};
+use crate::names::place_of;
 use crate::stops::{Stop, stop_by};
 use sq_base::{CheckNo, EpochNo, Moment, ProcNo, Text, WantOfMemory};
 use sq_engine::Engine;
@@ -30,7 +30,7 @@ fn stepped_of(
 {
     match stepped {
         Stepped::Took(class) => {
-            let name = name_of(alloc, engine, epoch, class)?;
+            let name = engine.name_told(alloc, epoch, class)?;
             Ok(Told::Took(name))
         }
         Stepped::Waits(question) => Ok(Told::Waits(question)),

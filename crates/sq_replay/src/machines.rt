@@ -5,7 +5,6 @@ ghost use Rattle.sq_rules.specs.Entries.{is_row};
 ghost use Rattle.sq_rules.specs.Machine.{config_of};
 ghost use Rattle.sq_rules.specs.declared.entries.Event.TheVariants as event;
 ghost use Rattle.sq_history.specs.Given.{EachOf};
-ghost use Rattle.sq_engine.specs.Acting.{told_of_act};
 ghost use Rattle.sq_engine.specs.EngineViews.{state_of};
 ghost use Rattle.sq_replay.specs.Dues.{dues_in};
 ghost use Rattle.sq_replay.specs.MachineViews.{machine_of};
@@ -13,14 +12,12 @@ ghost use Rattle.sq_replay.specs.Making.{IsActing, IsReconfiguring};
 ghost use Rattle.sq_replay.specs.RunText.{first_history};
 ghost use Rattle.sq_replay.specs.Runs.{Is};
 
-use crate::names::name_of;
 use crate::riders::Riders;
 use crate::seats::SeatedPools;
 use crate::stops::{Stop, stop_by};
 use sq_base::{EpochNo, Moment, WantOfMemory};
 use sq_cache::HashSeed;
 use sq_engine::Engine;
-use sq_epochs::Act;
 use sq_rules::{Offset, Told};
 use sq_state::later;
 use sq_urlmatch::Setup;
@@ -127,33 +124,8 @@ impl Machine {
         let Some(act) = self.engine.act(moment) else {
             return Ok(None);
         };
-        let told = told_of(alloc, &self.engine, act)?;
+        let told = self.engine.act_told(alloc, act)?;
         self.latest = moment;
         Ok(Some(told))
-    }
-}
-
-// An act, as it is told.
-fn told_of(alloc: Global, engine: &Engine, act: Act) -> Result<Told, WantOfMemory>
-    ensures told { IfOk result (λ told. told ≡ told_of_act (state_of engine.now) act) }
-    ensures row { IfOk result (λ told. is_row event.Act told ≡ true) }
-{
-    match act {
-        Act::Stop(proc) => Ok(Told::Stop(proc)),
-        Act::Send {
-            proc,
-            question,
-            channel,
-            text,
-        } => Ok(Told::Send {
-            proc,
-            question,
-            channel,
-            key: text,
-        }),
-        Act::Start { epoch, class } => {
-            let class = name_of(alloc, engine, epoch, class)?;
-            Ok(Told::Start { epoch, class })
-        }
     }
 }

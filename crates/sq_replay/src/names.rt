@@ -1,28 +1,11 @@
 //! Classes of live epochs, by place and by name.
-ghost use Rattle.std.specs.Prelude.{◌≡◌, ◌<◌, bytes_eq, length, position, IfNone, IfOk, IfSome};
-ghost use Rattle.sq_state.specs.Answers.{name_in};
+ghost use Rattle.std.specs.Prelude.{◌≡◌, ◌<◌, bytes_eq, length, position, IfNone, IfSome};
 ghost use Rattle.sq_engine.specs.EngineViews.{state_of};
 ghost use Rattle.sq_replay.specs.Naming.{IsNamed, IsNowhere};
 
-use sq_base::{Copying, EpochNo, Text, WantOfMemory};
+use sq_base::{EpochNo, Text};
 use sq_engine::Engine;
 use sq_rules::{Class, Config};
-use std::alloc::Global;
-
-// The name of the class at a place of a live epoch. It is empty where there is none.
-pub(crate) fn name_of(
-    alloc: Global,
-    engine: &Engine,
-    epoch: EpochNo,
-    class: u32,
-) -> Result<Text, WantOfMemory>
-    ensures { IfOk result (λ t. t ≡ name_in (state_of engine.now) (record { epoch = epoch; class = class })) }
-{
-    match engine.name(epoch, class) {
-        Some(name) => name.copy(alloc),
-        None => Ok(Text::new(alloc)),
-    }
-}
 
 // The place of the first class of this name.
 fn place_among(classes: &[Class], name: &Text) -> Option<usize>
