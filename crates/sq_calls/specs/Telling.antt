@@ -11,10 +11,9 @@ use Rattle.sq_rules.specs.declared.entries.Told.TheVariants as told
 use Rattle.sq_checks.specs.Records.{Judged}
 use Rattle.sq_rows.specs.declared.said.Stepped.{Stepped}
 use Rattle.sq_rows.specs.declared.said.Stepped.TheVariants as stepped
-use Rattle.sq_rules.specs.ConfText.{conf_gives}
 use Rattle.sq_rules.specs.Configurations.{Configuration}
 use Rattle.sq_rules.specs.Entries.{History, Noted}
-use Rattle.sq_rules.specs.FullNext.{FullLegal, full_next}
+use Rattle.sq_rules.specs.FullNext.{full_next}
 use Rattle.sq_rules.specs.Machine.{Next, gives, nothing}
 use Rattle.sq_rules.specs.Marking.{marked}
 use Rattle.sq_rules.specs.Readings.{latest}
@@ -24,6 +23,7 @@ use Rattle.sq_epochs.specs.declared.acts.Act.{Act}
 use Rattle.sq_epochs.specs.declared.acts.Act.TheVariants as act
 use Rattle.sq_calls.specs.declared.faults.DeskFault.{DeskFault}
 use Rattle.sq_calls.specs.declared.faults.DeskFault.TheVariants as fault
+use Rattle.sq_calls.specs.Legality.{Beginning, IsLegalFrom, IsNameOf, configs_over}
 
 -- an entry of a moment, an event and an answer
 abbrev pub entry_at : ℕ → Event → Told → Noted
@@ -63,7 +63,7 @@ CountsLine before now (Ok got.Stray) = (before ≤ now) × (now ≡ raised befor
 CountsLine before now (Err fault.WantOfMemory) = now ≡ before
 CountsLine before now (Err f) = (before ≤ now) × (now ≡ raised before)
 
--- the events of calls; the name is that of the class
+-- the events of calls
 abbrev pub IsOpening : ℕ → Address → ℕ → Event → Type 0
 IsOpening conn addr port e = e ≡ event.Open conn addr port
 
@@ -79,21 +79,18 @@ IsStep check e = e ≡ event.Step check
 abbrev pub IsTaking : ℕ → Event → Type 0
 IsTaking check e = e ≡ event.Take check
 
-abbrev pub IsStarted : ℕ → Event → Type 0
-IsStarted epoch e = (name : List ℕ) × (e ≡ event.Started epoch name)
+-- a start of the class at a place of an epoch; the name is the one that this class has over the journal before
+abbrev pub IsStarted : Option Beginning → Option History → ℕ → ℕ → Event → Type 0
+IsStarted first old epoch class e = (name : List ℕ) × IsNameOf first old epoch class name × (e ≡ event.Started epoch name)
 
-abbrev pub IsFailed : ℕ → Event → Type 0
-IsFailed epoch e = (name : List ℕ) × (e ≡ event.StartFail epoch name)
+abbrev pub IsFailed : Option Beginning → Option History → ℕ → ℕ → Event → Type 0
+IsFailed first old epoch class e = (name : List ℕ) × IsNameOf first old epoch class name × (e ≡ event.StartFail epoch name)
 
 abbrev pub IsDead : ℕ → Event → Type 0
 IsDead proc e = e ≡ event.Died proc
 
 abbrev pub IsLine : ℕ → List ℕ → Event → Type 0
 IsLine proc bytes e = e ≡ event.Line proc bytes
-
--- the configuration is the one that its source states
-abbrev pub IsStated : Configuration → Type 0
-IsStated c = conf_gives c.source c
 
 abbrev pub IsReread : Configuration → Event → Type 0
 IsReread setup e = e ≡ event.Reconfigure setup.source
@@ -120,20 +117,19 @@ IsEventOf (act.Stop proc) answer = answer ≡ told.Stop proc
 IsEventOf (act.Send proc question channel text) answer = answer ≡ told.Send proc question channel text
 IsEventOf (act.Start epoch class) answer = (name : List ℕ) × (answer ≡ told.Start epoch name)
 
--- over some configurations, over which the history is legal, this is what the machine answers next to the event
-pub record HasNext (h : History) (e : Event) (next : Next) : Type 0 where
-  pub configs : List Configuration
+-- over the configurations of the history, which is legal, this is what the machine answers next to the event
+pub record HasNext (first : Option Beginning) (h : History) (e : Event) (next : Next) : Type 0 where
+  pub over : IsLegalFrom first h
   pub moment : ℕ
-  pub legal : FullLegal configs h
   pub late : latest h ≤ moment
-  pub next_is : full_next configs (marked configs h) moment e ≡ next
+  pub next_is : full_next (configs_over over) (marked (configs_over over) h) moment e ≡ next
 
 -- where the journal is told, an act that was given is the machine's next, and none was given where the machine has none
-abbrev pub IsNextAct : Option History → Result (Option Act) DeskFault → Type 0
-IsNextAct None r = Unit {0}
-IsNextAct (Some h) (Ok (Some a)) = (answer : Told) × IsEventOf a answer × HasNext h event.Act (gives answer)
-IsNextAct (Some h) (Ok None) = HasNext h event.Act nothing
-IsNextAct (Some h) (Err f) = Unit {0}
+abbrev pub IsNextAct : Option Beginning → Option History → Result (Option Act) DeskFault → Type 0
+IsNextAct first None r = Unit {0}
+IsNextAct first (Some h) (Ok (Some a)) = (answer : Told) × IsEventOf a answer × HasNext first h event.Act (gives answer)
+IsNextAct first (Some h) (Ok None) = HasNext first h event.Act nothing
+IsNextAct first (Some h) (Err f) = Unit {0}
 
 -- an act was noted as it is told; where none is due, or the call was not made, nothing was
 abbrev pub MayAct : Option History → Option History → Result (Option Act) DeskFault → Type 0

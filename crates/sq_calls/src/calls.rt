@@ -8,7 +8,8 @@ ghost use Rattle.sq_rules.specs.Entries.{History};
 ghost use Rattle.sq_rules.specs.declared.entries.Told.TheVariants as answer;
 ghost use Rattle.sq_calls.specs.declared.faults.DeskFault.{DeskFault as Fault};
 ghost use Rattle.sq_calls.specs.declared.faults.DeskFault.TheVariants as fault;
-ghost use Rattle.sq_calls.specs.Telling.{Counts, CountsLine, CountsRefusal, IsAsking, IsClosing, IsDead, IsFailed, IsLine, IsNextAct, IsOpening, IsReread, IsStarted, IsStated, IsStep, IsStepTold, IsTakeTold, IsTaking, MayAct, Notes, NotesAs, got_told};
+ghost use Rattle.sq_calls.specs.Legality.{Beginning, IsStated};
+ghost use Rattle.sq_calls.specs.Telling.{Counts, CountsLine, CountsRefusal, IsAsking, IsClosing, IsDead, IsFailed, IsLine, IsNextAct, IsOpening, IsReread, IsStarted, IsStep, IsStepTold, IsTakeTold, IsTaking, MayAct, Notes, NotesAs, got_told};
 
 use crate::faults::DeskFault;
 use sq_base::{Addr, CheckNo, ConnNo, EpochNo, Moment, ProcNo, Request, Texts, WantOfMemory};
@@ -25,6 +26,9 @@ use std::sync::Arc;
 pub trait DeskCalls {
     /// The journal's entries, the newest first, where it tells them.
     ghost told: { Self → Option History };
+
+    /// With what each desk of this type began, where it tells that.
+    ghost first: { Option Beginning } = { None };
 
     /// How many calls were refused, or could not be noted, with the lines that were bad or stray. It never falls.
     ghost refused: { Self → ℕ };
@@ -82,7 +86,7 @@ pub trait DeskCalls {
         ensures refused { CountsRefusal (refused self.old) (refused self.new) result }
         ensures made { made self.new ≡ made self.old };
 
-    /// A process was started: its number.
+    /// A process of the class at a place of an epoch was started: its number.
     fn started(
         &mut self,
         alloc: Global,
@@ -90,11 +94,11 @@ pub trait DeskCalls {
         class: u32,
         now: Moment,
     ) -> Result<ProcNo, DeskFault>
-        ensures told { Notes answer.Proc (IsStarted epoch) (told self.old) (told self.new) result }
+        ensures told { Notes answer.Proc (IsStarted first (told self.old) epoch class) (told self.old) (told self.new) result }
         ensures refused { CountsRefusal (refused self.old) (refused self.new) result }
         ensures made { made self.new ≡ made self.old };
 
-    /// A start failed.
+    /// A start of the class at a place of an epoch failed.
     fn start_failed(
         &mut self,
         alloc: Global,
@@ -102,7 +106,7 @@ pub trait DeskCalls {
         class: u32,
         now: Moment,
     ) -> Result<(), DeskFault>
-        ensures told { Notes (λ _. answer.Fine) (IsFailed epoch) (told self.old) (told self.new) result }
+        ensures told { Notes (λ _. answer.Fine) (IsFailed first (told self.old) epoch class) (told self.old) (told self.new) result }
         ensures refused { CountsRefusal (refused self.old) (refused self.new) result }
         ensures made { made self.new ≡ made self.old };
 
@@ -128,7 +132,7 @@ pub trait DeskCalls {
     /// The next act that is due, which counts as made with this call. No program comes or goes with it.
     fn act(&mut self, alloc: Global, now: Moment) -> Result<Option<Act>, DeskFault>
         ensures told { MayAct (told self.old) (told self.new) result }
-        ensures next { IsNextAct (told self.old) result }
+        ensures next { IsNextAct first (told self.old) result }
         ensures refused { CountsRefusal (refused self.old) (refused self.new) result }
         ensures made { made self.new ≡ made self.old }
         ensures programs { programs self.new ≡ programs self.old };

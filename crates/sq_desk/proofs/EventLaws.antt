@@ -49,11 +49,11 @@ use Rattle.sq_engine.specs.Stepping.{after_step_held, after_step_now, epoch_of, 
 use Rattle.sq_engine.specs.EngineViews.{EngineView, state_of}
 use Rattle.sq_engine.proofs.PromiseLaws.{ask_promised, close_promised, died_promised, failed_promised, open_promised, started_promised, step_promised, take_promised}
 use Rattle.sq_note.specs.Noting.{with_entry}
-use Rattle.sq_calls.specs.Telling.{IsStated}
+use Rattle.sq_calls.specs.Legality.{Beginning, IsLegal, IsStated}
 use Rattle.sq_calls.specs.declared.faults.DeskFault.{DeskFault}
 use Rattle.sq_calls.specs.declared.faults.DeskFault.TheVariants as fault
 use Rattle.sq_desk.specs.Calling.{Acts, IsLinePromised, Leaves, CountsMade, Makes, Reads, Rereads, after_died, after_died_of, load_of}
-use Rattle.sq_desk.specs.Desks.{DeskView, HasPlaces, IsDesk, IsLegal, IsReplay}
+use Rattle.sq_desk.specs.Desks.{DeskView, HasPlaces, IsDesk, IsReplay}
 use Rattle.sq_desk.specs.Noting.{IsNoted, IsReady, Notebook}
 use Rattle.sq_desk.proofs.CallLaws.{same_engine, same_self}
 use Rattle.sq_desk.proofs.PlaceLaws.{homes_left, place_for_close, place_for_death, places_closed, places_died, places_listed, places_load, places_open, places_started}
@@ -68,7 +68,7 @@ spare_more n m h = omega (arith, h)
 spare_one : (n m : ℕ) → n + 1 ≤ suc m → n ≤ m
 spare_one n m h = omega (arith, h)
 
-pub open_desk : {first : Configuration} (v w : DeskView) (c : ℕ) (addr : Address) (port moment : ℕ) (r : Result (Unit {0}) DeskFault) → IsDesk first v
+pub open_desk : {first : Beginning} (v w : DeskView) (c : ℕ) (addr : Address) (port moment : ℕ) (r : Result (Unit {0}) DeskFault) → IsDesk first v
     → Makes {A = Unit {0}} (λ x. told.Fine) (open_answer (state_of v.engine) c) (max moment v.engine.latest) (Open c addr port) (after_open c (record { addr = addr; port = port }) (max moment v.engine.latest) (state_of v.engine)) v r w
     → Leaves (load_of v.engine + 2) v.notes r w.notes → IsDesk first w
 open_desk v w c addr port moment r d m le =
@@ -95,7 +95,7 @@ known_conn s c answer is = by (s.client c) is
     by None is = absurd (cc)
     by (Some p) is = refl
 
-pub close_desk : {first : Configuration} (v w : DeskView) (c moment : ℕ) (r : Result (Unit {0}) DeskFault) → IsDesk first v
+pub close_desk : {first : Beginning} (v w : DeskView) (c moment : ℕ) (r : Result (Unit {0}) DeskFault) → IsDesk first v
     → Makes {A = Unit {0}} (λ x. told.Fine) (close_answer (state_of v.engine) c) (max moment v.engine.latest) (Close c) (after_close c (max moment v.engine.latest) (state_of v.engine)) v r w
     → Leaves v.notes.spare v.notes r w.notes → IsDesk first w
 close_desk v w c moment r d m le =
@@ -107,7 +107,7 @@ close_desk v w c moment r d m le =
     (λ a is le places. places_closed v.notes.spare w.notes.spare s after (some_conns v.engine c (known_conn s c told.Fine is)) refl (λ k e. homes_left (without_conn c s.checks) s k e) le places)
     (λ a is. refl)
 
-pub ask_desk : {first : Configuration} (v w : DeskView) (c : ℕ) (method target : List ℕ) (fields : List Field) (moment : ℕ) (r : Result ℕ DeskFault) → IsDesk first v → is_some (target_of method target) ≡ true
+pub ask_desk : {first : Beginning} (v w : DeskView) (c : ℕ) (method target : List ℕ) (fields : List Field) (moment : ℕ) (r : Result ℕ DeskFault) → IsDesk first v → is_some (target_of method target) ≡ true
     → Makes told.Check (ask_answer (state_of v.engine) c) (max moment v.engine.latest) (Ask c method target fields)
     (after_ask (asked_in (state_of v.engine) (max moment v.engine.latest) c method target fields) (max moment v.engine.latest) (state_of v.engine)) v r w
     → Leaves (load_of v.engine + 1) v.notes r w.notes → IsDesk first w
@@ -120,7 +120,7 @@ ask_desk v w c method target fields moment r d formed m le =
     (λ a is le places. places_load w.notes.spare v.engine after (omega arith) (λ k e. e) (spare_one (load_of v.engine) w.notes.spare le))
     (λ a is. refl)
 
-pub started_desk : {first : Configuration} (v w : DeskView) (p : Place) (moment : ℕ) (r : Result ℕ DeskFault) → IsDesk first v
+pub started_desk : {first : Beginning} (v w : DeskView) (p : Place) (moment : ℕ) (r : Result ℕ DeskFault) → IsDesk first v
     → Makes told.Proc (started_answer (state_of v.engine) p) (max moment v.engine.latest) (Started p.epoch (name_in (state_of v.engine) p)) (after_started_at p (max moment v.engine.latest) (state_of v.engine)) v r w
     → Leaves (load_of v.engine + 2) v.notes r w.notes → IsDesk first w
 started_desk v w p moment r d m le =
@@ -132,7 +132,7 @@ started_desk v w p moment r d m le =
     (λ a is le places. places_started w.notes.spare v.engine after (suc s.procs) p refl (λ k. refl) (spare_more (load_of v.engine) w.notes.spare le))
     (λ a is. refl)
 
-pub failed_desk : {first : Configuration} (v w : DeskView) (p : Place) (moment : ℕ) (r : Result (Unit {0}) DeskFault) → IsDesk first v
+pub failed_desk : {first : Beginning} (v w : DeskView) (p : Place) (moment : ℕ) (r : Result (Unit {0}) DeskFault) → IsDesk first v
     → Makes {A = Unit {0}} (λ x. told.Fine) (failed_answer (state_of v.engine) p) (max moment v.engine.latest) (StartFail p.epoch (name_in (state_of v.engine) p)) (after_failed_at p (max moment v.engine.latest) (state_of v.engine)) v r w
     → Leaves (load_of v.engine + 1) v.notes r w.notes → IsDesk first w
 failed_desk v w p moment r d m le =
@@ -155,7 +155,7 @@ died_current : (s : State) (k now : ℕ) (o : Option Place) → (after_died_of k
 died_current s k now None = refl
 died_current s k now (Some p) = refl
 
-pub died_desk : {first : Configuration} (v w : DeskView) (k moment : ℕ) (r : Result (Unit {0}) DeskFault) → IsDesk first v
+pub died_desk : {first : Beginning} (v w : DeskView) (k moment : ℕ) (r : Result (Unit {0}) DeskFault) → IsDesk first v
     → Makes {A = Unit {0}} (λ x. told.Fine) (died_answer (state_of v.engine) k) (max moment v.engine.latest) (Died k) (after_died k (max moment v.engine.latest) (state_of v.engine)) v r w
     → Leaves v.notes.spare v.notes r w.notes → IsDesk first w
 died_desk v w k moment r d m le =
@@ -188,7 +188,7 @@ step_current : (s : State) (n now : ℕ) (o : Option Held) → (after_step_held 
 step_current s n now None = refl
 step_current s n now (Some h) = refl
 
-pub step_desk : {first : Configuration} (v w : DeskView) (n moment : ℕ) (r : Result Stepped DeskFault) → IsDesk first v
+pub step_desk : {first : Beginning} (v w : DeskView) (n moment : ℕ) (r : Result Stepped DeskFault) → IsDesk first v
     → Makes (stepped_told (state_of v.engine) (epoch_of (state_of v.engine) n)) (step_now (state_of v.engine) n (max moment v.engine.latest)) (max moment v.engine.latest) (Step n)
     (after_step_now (state_of v.engine) n (max moment v.engine.latest)) v r w
     → Leaves (load_of v.engine + 1) v.notes r w.notes → IsDesk first w
@@ -202,7 +202,7 @@ step_desk v w n moment r d m le =
     (λ k e. ap is_some (sym (step_homes s n now k (held_at n s.checks))) ∙ e) (spare_one (load_of v.engine) w.notes.spare le))
     (λ a is. step_current s n now (held_at n s.checks))
 
-pub take_desk : {first : Configuration} (v w : DeskView) (n moment : ℕ) (r : Result Judged DeskFault) → IsDesk first v
+pub take_desk : {first : Beginning} (v w : DeskView) (n moment : ℕ) (r : Result Judged DeskFault) → IsDesk first v
     → Makes {A = Judged} (λ j. told.Judged j.epoch j.outcome) (take_answer (state_of v.engine) n) (max moment v.engine.latest) (Take n) (after_take n (max moment v.engine.latest) (state_of v.engine)) v r w
     → Leaves (load_of v.engine + 1) v.notes r w.notes → IsDesk first w
 take_desk v w n moment r d m le =
@@ -232,7 +232,7 @@ act_current s now (Some (stops j)) = refl
 act_current s now (Some (sends p x)) = refl
 act_current s now (Some (starts p)) = refl
 
-pub act_desk : {first : Configuration} (v w : DeskView) (moment : ℕ) (r : Result (Option Act) DeskFault) → IsDesk first v → Acts (max moment v.engine.latest) v r w → Leaves (load_of v.engine + 1) v.notes r w.notes
+pub act_desk : {first : Beginning} (v w : DeskView) (moment : ℕ) (r : Result (Option Act) DeskFault) → IsDesk first v → Acts (max moment v.engine.latest) v r w → Leaves (load_of v.engine + 1) v.notes r w.notes
     → IfOk r (λ a. IsActPromised (state_of v.engine) (max moment v.engine.latest) a (state_of w.engine)) → IsDesk first w
 act_desk v w moment (Ok (Some a)) d m le promised =
     let s = state_of v.engine in
@@ -284,10 +284,10 @@ line_homes s t k now j got.Stray done e = ended (k == j) (ap is_some (sym (done.
     ended false e = e
 
 -- whatever the count of refusals is
-uncounted : {first : Configuration} (w : DeskView) (n : ℕ) → IsDesk first (record w { notes = record w.notes { refusals = n } }) → IsDesk first w
+uncounted : {first : Beginning} (w : DeskView) (n : ℕ) → IsDesk first (record w { notes = record w.notes { refusals = n } }) → IsDesk first w
 uncounted w n d = record { legal = d.legal; replay = d.replay; places = d.places; made = d.made }
 
-pub line_desk : {first : Configuration} (v w : DeskView) (k : ℕ) (line : List ℕ) (moment : ℕ) (r : Result Got DeskFault) → IsDesk first v → Reads (max moment v.engine.latest) k line v r w → Leaves (load_of v.engine + 1) v.notes r w.notes
+pub line_desk : {first : Beginning} (v w : DeskView) (k : ℕ) (line : List ℕ) (moment : ℕ) (r : Result Got DeskFault) → IsDesk first v → Reads (max moment v.engine.latest) k line v r w → Leaves (load_of v.engine + 1) v.notes r w.notes
     → IsLinePromised (state_of v.engine) (max moment v.engine.latest) k line r (state_of w.engine) → IsDesk first w
 line_desk v w k line moment (Ok g) d m le promised =
     let s = state_of v.engine in
@@ -348,11 +348,11 @@ rereads_leaves n v w made (Err (fault.Engine r)) le = le
 rereads_leaves n v w made (Err fault.JournalFault) le = le
 rereads_leaves n v w made (Err fault.WantOfMemory) le = le
 
-any_count : {first : Configuration} (w : DeskView) (n : ℕ) → IsKept first (record w { notes = record w.notes { made = n } }) → IsKept first w
+any_count : {first : Beginning} (w : DeskView) (n : ℕ) → IsKept first (record w { notes = record w.notes { made = n } }) → IsKept first w
 any_count w n k = record { legal = k.legal; replay = k.replay; places = k.places }
 
 -- a reconfiguration leaves the count right
-reread_count : {first : Configuration} (v w : DeskView) (config : Configuration) (now : ℕ) (r : Result ℕ DeskFault) → IsDesk first v → Rereads now config v r w → w.notes.stopped ≡ false → w.engine.epochs.current ≡ suc w.notes.made
+reread_count : {first : Beginning} (v w : DeskView) (config : Configuration) (now : ℕ) (r : Result ℕ DeskFault) → IsDesk first v → Rereads now config v r w → w.notes.stopped ≡ false → w.engine.epochs.current ≡ suc w.notes.made
 reread_count v w config now (Ok e) d m =
     λ f. m.same.current_is ∙ ap suc (sym (ap (λ z. z.made) m.notes ∙ less_one e (state_of v.engine).current (epoch_next (state_of v.engine) e m.next_is)))
 reread_count v w config now (Err fault.Stopped) d m = λ e. stopped_not v.notes.stopped w.notes.stopped m.was (ap (λ z. z.stopped) m.notes) e
@@ -361,7 +361,7 @@ reread_count v w config now (Err (fault.Engine r)) d m = λ e. still_made v w d 
 reread_count v w config now (Err fault.JournalFault) d m = λ e. stopped_not true w.notes.stopped refl (ap (λ z. z.stopped) m.notes) e
 reread_count v w config now (Err fault.WantOfMemory) d m = λ e. still_made v w d m.going m.same.current_is (ap (λ z. z.made) m.notes)
 
-pub reconfigured_desk : {first : Configuration} (v w : DeskView) (config : Configuration) (moment : ℕ) (r : Result ℕ DeskFault) → IsDesk first v → IsConfiguration config → IsStated config
+pub reconfigured_desk : {first : Beginning} (v w : DeskView) (config : Configuration) (moment : ℕ) (r : Result ℕ DeskFault) → IsDesk first v → IsConfiguration config → IsStated config
     → Rereads (max moment v.engine.latest) config v r w → Leaves (load_of v.engine + 1) v.notes r w.notes → IsDesk first w
 reconfigured_desk v w config moment r d good stated m le =
     let s = state_of v.engine in
@@ -376,7 +376,7 @@ reconfigured_desk v w config moment r d good stated m le =
     (reread_count v w config now r d m)
 
 -- a reconfiguration is one more, and its epoch is one above them
-pub reconfigured_made : {first : Configuration} (v w : DeskView) (config : Configuration) (now : ℕ) (r : Result ℕ DeskFault) → IsDesk first v → Rereads now config v r w → CountsMade v.notes.made r w.notes.made
+pub reconfigured_made : {first : Beginning} (v w : DeskView) (config : Configuration) (now : ℕ) (r : Result ℕ DeskFault) → IsDesk first v → Rereads now config v r w → CountsMade v.notes.made r w.notes.made
 reconfigured_made v w config now (Ok e) d m =
     let epoch : e ≡ suc (state_of v.engine).current = epoch_next (state_of v.engine) e m.next_is in
     let made : w.notes.made ≡ (state_of v.engine).current = ap (λ z. z.made) m.notes ∙ less_one e (state_of v.engine).current epoch in
@@ -392,11 +392,11 @@ reconfigured_made v w config now (Err fault.JournalFault) d m = ap (λ z. z.made
 reconfigured_made v w config now (Err fault.WantOfMemory) d m = ap (λ z. z.made) m.notes
 
 -- there is a place for the close of an open connection
-pub close_place : {first : Configuration} (v : DeskView) (c : ℕ) → IsDesk first v → v.notes.stopped ≡ false → is_some (client_in v.engine.conns c) ≡ true → 0 < v.notes.spare
+pub close_place : {first : Beginning} (v : DeskView) (c : ℕ) → IsDesk first v → v.notes.stopped ≡ false → is_some (client_in v.engine.conns c) ≡ true → 0 < v.notes.spare
 close_place v c d going here = place_for_close v.notes.spare (state_of v.engine) (some_conns v.engine c here) (d.places going)
 
 -- there is a place for the death of a living process
-pub death_place : {first : Configuration} (v : DeskView) (k : ℕ) → IsDesk first v → v.notes.stopped ≡ false → is_some (home_at v.engine.epochs k) ≡ true → 0 < v.notes.spare
+pub death_place : {first : Beginning} (v : DeskView) (k : ℕ) → IsDesk first v → v.notes.stopped ≡ false → is_some (home_at v.engine.epochs k) ≡ true → 0 < v.notes.spare
 death_place v k d going lives = place_for_death v.notes.spare k (state_of v.engine) lives (d.places going)
 
 outcome_default : (rules : List Rule) → is_outcome (default_of rules) ≡ true
@@ -438,25 +438,25 @@ told_outcome s n e o is = by (held_at n s.checks) is
 abbrev pub first_entry : ℕ → ℤ → Noted
 first_entry now offset = entry_at now (event.Begin offset) (told.Epoch 1)
 
-begun_told : (first : Configuration) (s : State) (now : ℕ) (offset : ℤ) (o p : Option History) → IfSome o (λ h. h ≡ []) → p ≡ with_entry (first_entry now offset) o → IsReplay first s (first_entry now offset ∷ [])
+begun_told : (first : Beginning) (s : State) (now : ℕ) (offset : ℤ) (o p : Option History) → IfSome o (λ h. h ≡ []) → p ≡ with_entry (first_entry now offset) o → IsReplay first s (first_entry now offset ∷ [])
     → IfSome p (IsReplay first s)
 begun_told first s now offset None p empty is r = subst (λ z. IfSome z (IsReplay first s)) (sym is) tt
 begun_told first s now offset (Some h) p empty is r = subst (λ z. IfSome z (IsReplay first s)) (sym (is ∙ ap (λ (g : History). Some (first_entry now offset ∷ g)) empty)) r
 
-legal_told : (first : Configuration) (s : State) (o : Option History) → IfSome o (IsReplay first s) → IfSome o (IsLegal first)
+legal_told : (first : Beginning) (s : State) (o : Option History) → IfSome o (IsReplay first s) → IfSome o (IsLegal first)
 legal_told first s None r = tt
 legal_told first s (Some h) r = legal_of s h r
 
 -- the machine began, and its first entry is in the journal
 pub begun_desk : (e : EngineView) (n0 n1 n2 : Notebook) (config : Configuration) (offset : ℤ) (now : ℕ) (o : Option History) → IsConfiguration config → IsBegun config offset now (state_of e)
     → IsSame (state_of e) (first_state config offset now) → IfSome o (λ h. h ≡ []) → n0.history ≡ o → n0.made ≡ 0 → IsReady 1 n0 (Ok tt) n1 → IsNoted (first_entry now offset) n1 (Ok tt) n2
-    → IsDesk config (record { engine = e; notes = n2 })
+    → IsDesk (record { config = config; offset = offset }) (record { engine = e; notes = n2 })
 begun_desk e n0 n1 n2 config offset now o good begun same empty h0 z0 (going, many, stay, is) (place, p) =
     let history : n2.history ≡ with_entry (first_entry now offset) o =
     ap (λ z. z.history) p ∙ ap (λ z. with_entry (first_entry now offset) z.history) is ∙ ap (λ z. with_entry (first_entry now offset) z) h0 in
-    let here = begun_told config (state_of e) now offset o n2.history empty history (replay_first (state_of e) config offset now good begun) in
+    let here = begun_told (record { config = config; offset = offset }) (state_of e) now offset o n2.history empty history (replay_first (state_of e) config offset now good begun) in
     record {
-      legal = legal_told config (state_of e) n2.history here;
+      legal = legal_told (record { config = config; offset = offset }) (state_of e) n2.history here;
       replay = λ f. here;
       places = λ f. places_listed n2.spare (state_of e) [] (λ k some. absurd (let gone : Option Place = None in let no : is_some gone ≡ true = ap is_some (sym (same.homes_are k)) ∙ some in cc))
           (let none : (state_of e).conns ≡ 0 = same.conns_are in omega (arith, none));

@@ -3,5 +3,6 @@ mod CallLaws
 mod PlaceLaws
 mod ReplayLaws
 mod EventLaws
+mod NameLaws
 mod TellingLaws
 mod DueLaws

@@ -32,6 +32,7 @@ use Rattle.sq_engine.specs.Acting.{after_act, due_now, told_of_act}
 use Rattle.sq_engine.specs.EngineViews.{state_of}
 use Rattle.sq_engine.specs.Stepping.{after_step_now, epoch_of, step_now, stepped_told}
 use Rattle.sq_note.specs.Noting.{with_entry}
+use Rattle.sq_calls.specs.Legality.{Beginning, IsNameOf}
 use Rattle.sq_calls.specs.Telling.{AddsOne, AddsSome, Counts, CountsLine, CountsRefusal, IsAsking, IsClosing, IsDead, IsEventOf, IsFailed, IsLine, IsOpening, IsReread, IsStarted, IsStep, IsStepTold, IsTakeTold, IsTaking, MayAct, Notes, NotesAs, got_told}
 use Rattle.sq_calls.specs.declared.faults.DeskFault.{DeskFault}
 use Rattle.sq_calls.specs.declared.faults.DeskFault.TheVariants as fault
@@ -59,7 +60,7 @@ counted_once : (a b : ℕ) → b ≡ raised a → (min a count_limit ≤ min b c
 counted_once a b e = (rises a b e, is_raised a b e)
 
 -- the entry of a call, whose event is as P says
-makes_told : {A : Type 0} (tell : A → Told) (next : Next) (now : ℕ) (event : Event) (after : State) (P : Event → Type 0) (v w : DeskView) (r : Result A DeskFault) → P event
+makes_told : {A : Type 0} (tell : A → Told) (next : Next) (now : ℕ) (event : Event) (after : State) (P : Event → Type 0) (v w : DeskView) (r : Result A DeskFault) → OnOk r (P event)
     → Makes tell next now event after v r w → Notes tell P v.notes.history w.notes.history r
 makes_told tell next now event after P v w (Ok a) p m = adds_one P (tell a) now event v.notes.history w.notes.history p (ap (λ z. z.history) m.notes)
 makes_told tell next now event after P v w (Err fault.Stopped) p m = ap (λ z. z.history) m.notes
@@ -115,13 +116,21 @@ pub record IsTelling {A : Type 0} (tell : A → Told) (P : Event → Type 0) (v 
   pub refused : CountsRefusal (min v.notes.refusals count_limit) (min w.notes.refusals count_limit) r
   pub made : Some w.notes.made ≡ Some v.notes.made
 
-telling : {A : Type 0} (tell : A → Told) (next : Next) (now : ℕ) (event : Event) (after : State) (P : Event → Type 0) (v w : DeskView) (r : Result A DeskFault) → P event
+telling_ok : {A : Type 0} (tell : A → Told) (next : Next) (now : ℕ) (event : Event) (after : State) (P : Event → Type 0) (v w : DeskView) (r : Result A DeskFault) → OnOk r (P event)
     → Makes tell next now event after v r w → IsTelling tell P v w r
-telling tell next now event after P v w r p m = record {
+telling_ok tell next now event after P v w r p m = record {
   told = makes_told tell next now event after P v w r p m;
   refused = makes_refused tell next now event after v w r m;
   made = makes_made tell next now event after v w r m;
 }
+
+on_ok : {A : Type 0} (P : Type 0) (r : Result A DeskFault) → P → OnOk r P
+on_ok P (Ok a) p = p
+on_ok P (Err f) p = tt
+
+telling : {A : Type 0} (tell : A → Told) (next : Next) (now : ℕ) (event : Event) (after : State) (P : Event → Type 0) (v w : DeskView) (r : Result A DeskFault) → P event
+    → Makes tell next now event after v r w → IsTelling tell P v w r
+telling tell next now event after P v w r p m = telling_ok tell next now event after P v w r (on_ok (P event) r p) m
 
 -- what a call tells whose answer is as R says
 pub record IsTellingAs {A : Type 0} (R : A → Told → Type 0) (P : Event → Type 0) (v w : DeskView) (r : Result A DeskFault) : Type 0 where
@@ -152,15 +161,32 @@ pub ask_telling : (v w : DeskView) (c : ℕ) (request : HttpRequest) (moment : �
     → IsTelling {A = ℕ} told.Check (IsAsking c request) v w r
 ask_telling v w c request moment r m = telling {A = ℕ} told.Check (ask_answer (state_of v.engine) c) (max moment v.engine.latest) (Ask c request.method request.target request.fields) (after_ask (asked_in (state_of v.engine) (max moment v.engine.latest) c request.method request.target request.fields) (max moment v.engine.latest) (state_of v.engine)) (IsAsking c request) v w r refl m
 
-pub started_telling : (v w : DeskView) (p : Place) (moment : ℕ) (r : Result (ℕ) DeskFault)
-    → Makes {A = ℕ} told.Proc (started_answer (state_of v.engine) p) (max moment v.engine.latest) (Started p.epoch (name_in (state_of v.engine) p)) (after_started_at p (max moment v.engine.latest) (state_of v.engine)) v r w
-    → IsTelling {A = ℕ} told.Proc (IsStarted p.epoch) v w r
-started_telling v w p moment r m = telling {A = ℕ} told.Proc (started_answer (state_of v.engine) p) (max moment v.engine.latest) (Started p.epoch (name_in (state_of v.engine) p)) (after_started_at p (max moment v.engine.latest) (state_of v.engine)) (IsStarted p.epoch) v w r (name_in (state_of v.engine) p, refl) m
+-- a start is of the class that was named
+started_is : (first : Option Beginning) (old : Option History) (p : Place) (name : List ℕ) (r : Result ℕ DeskFault) → OnOk r (IsNameOf first old p.epoch p.class name)
+    → OnOk r (IsStarted first old p.epoch p.class (Started p.epoch name))
+started_is first old p name (Ok a) named = (name, named, refl)
+started_is first old p name (Err f) named = tt
 
-pub failed_telling : (v w : DeskView) (p : Place) (moment : ℕ) (r : Result (Unit {0}) DeskFault)
+failed_is : (first : Option Beginning) (old : Option History) (p : Place) (name : List ℕ) (r : Result (Unit {0}) DeskFault) → OnOk r (IsNameOf first old p.epoch p.class name)
+    → OnOk r (IsFailed first old p.epoch p.class (StartFail p.epoch name))
+failed_is first old p name (Ok a) named = (name, named, refl)
+failed_is first old p name (Err f) named = tt
+
+pub started_telling : (first : Option Beginning) (v w : DeskView) (p : Place) (moment : ℕ) (r : Result (ℕ) DeskFault)
+    → Makes {A = ℕ} told.Proc (started_answer (state_of v.engine) p) (max moment v.engine.latest) (Started p.epoch (name_in (state_of v.engine) p)) (after_started_at p (max moment v.engine.latest) (state_of v.engine)) v r w
+    → OnOk r (IsNameOf first v.notes.history p.epoch p.class (name_in (state_of v.engine) p))
+    → IsTelling {A = ℕ} told.Proc (IsStarted first v.notes.history p.epoch p.class) v w r
+started_telling first v w p moment r m named =
+    telling_ok {A = ℕ} told.Proc (started_answer (state_of v.engine) p) (max moment v.engine.latest) (Started p.epoch (name_in (state_of v.engine) p)) (after_started_at p (max moment v.engine.latest) (state_of v.engine))
+    (IsStarted first v.notes.history p.epoch p.class) v w r (started_is first v.notes.history p (name_in (state_of v.engine) p) r named) m
+
+pub failed_telling : (first : Option Beginning) (v w : DeskView) (p : Place) (moment : ℕ) (r : Result (Unit {0}) DeskFault)
     → Makes {A = Unit {0}} (λ x. told.Fine) (failed_answer (state_of v.engine) p) (max moment v.engine.latest) (StartFail p.epoch (name_in (state_of v.engine) p)) (after_failed_at p (max moment v.engine.latest) (state_of v.engine)) v r w
-    → IsTelling {A = Unit {0}} (λ x. told.Fine) (IsFailed p.epoch) v w r
-failed_telling v w p moment r m = telling {A = Unit {0}} (λ x. told.Fine) (failed_answer (state_of v.engine) p) (max moment v.engine.latest) (StartFail p.epoch (name_in (state_of v.engine) p)) (after_failed_at p (max moment v.engine.latest) (state_of v.engine)) (IsFailed p.epoch) v w r (name_in (state_of v.engine) p, refl) m
+    → OnOk r (IsNameOf first v.notes.history p.epoch p.class (name_in (state_of v.engine) p))
+    → IsTelling {A = Unit {0}} (λ x. told.Fine) (IsFailed first v.notes.history p.epoch p.class) v w r
+failed_telling first v w p moment r m named =
+    telling_ok {A = Unit {0}} (λ x. told.Fine) (failed_answer (state_of v.engine) p) (max moment v.engine.latest) (StartFail p.epoch (name_in (state_of v.engine) p)) (after_failed_at p (max moment v.engine.latest) (state_of v.engine))
+    (IsFailed first v.notes.history p.epoch p.class) v w r (failed_is first v.notes.history p (name_in (state_of v.engine) p) r named) m
 
 pub died_telling : (v w : DeskView) (k moment : ℕ) (r : Result (Unit {0}) DeskFault)
     → Makes {A = Unit {0}} (λ x. told.Fine) (died_answer (state_of v.engine) k) (max moment v.engine.latest) (Died k) (after_died k (max moment v.engine.latest) (state_of v.engine)) v r w

@@ -1,5 +1,5 @@
 //! What is to be done next.
-ghost use Rattle.std.specs.Prelude.{◌≡◌, ◌+◌, max, IfOk};
+ghost use Rattle.std.specs.Prelude.{◌≡◌, ◌+◌, Some, max, IfOk};
 ghost use Rattle.sq_calls.specs.Telling.{IsNextAct};
 ghost use Rattle.sq_engine.specs.Acting.{IsActPromised};
 ghost use Rattle.sq_engine.specs.EngineViews.{state_of};
@@ -73,7 +73,7 @@ impl<J: Journal, F: First> Desk<J, F> {
         ensures acts { Acts (max now self.old.engine.latest) self.old result self.new }
         ensures promised { IfOk result (λ a. IsActPromised (state_of self.old.engine) (max now self.old.engine.latest) a (state_of self.new.engine)) }
         // Where the journal is told, what is given is the machine's next act.
-        ensures next { IsNextAct self.old.notes.history result }
+        ensures next { IsNextAct (Some F.first) self.old.notes.history result }
     {
         act(&mut self.engine, &mut self.notes, alloc, now)
     }

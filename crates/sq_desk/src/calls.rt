@@ -23,6 +23,8 @@ use std::sync::Arc;
 impl<J: Journal, F: First> DeskCalls for Desk<J, F> {
     ghost told = { λ d. d.notes.history };
 
+    ghost first = { Some F.first };
+
     ghost refused = { λ d. min d.notes.refusals count_limit };
 
     ghost made = { λ d. Some d.notes.made };

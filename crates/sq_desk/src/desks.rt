@@ -1,9 +1,9 @@
 //! `Desk`: the machine, and the journal of what it did.
 ghost use Rattle.std.specs.Prelude.{◌≡◌, ◌≤◌, suc, [], false, Some, IfOk, IfErr, IfSome};
+ghost use Rattle.sq_calls.specs.Legality.{Beginning, IsLegal};
 ghost use Rattle.sq_desk.specs.Calling.{HasBegun, IsUnbegun};
-ghost use Rattle.sq_desk.specs.Desks.{HasPlaces, IsLegal, IsReplay, no_configuration};
+ghost use Rattle.sq_desk.specs.Desks.{HasPlaces, IsReplay, no_beginning};
 ghost use Rattle.sq_engine.specs.EngineViews.{state_of};
-ghost use Rattle.sq_rules.specs.Configurations.{Configuration};
 
 use crate::notes::Notes;
 use crate::reconfiguring::good;
@@ -18,17 +18,17 @@ use sq_urlmatch::Setup;
 use std::alloc::Global;
 use std::marker::{Brand, Model, PhantomData};
 
-/// The configuration with which a desk begins.
+/// With what a desk begins: its configuration, and the offset of local time.
 pub trait First {
-    ghost first: { Configuration };
+    ghost first: { Beginning };
 }
 
 impl First for Brand {
-    ghost first = { no_configuration };
+    ghost first = { no_beginning };
 }
 
 /// The machine and its journal. A contract sees both, whether a note failed, how many calls were refused, and how many
-/// reconfigurations were noted. Its type says with which configuration it began.
+/// reconfigurations were noted. Its type says with what it began.
 #[derive(Drop)]
 pub struct Desk<J: Journal, F: First> {
     pub(crate) engine: Engine,
@@ -57,7 +57,7 @@ impl<J: Journal, F: First> Desk<J, F> {
         now: Moment,
         seed: HashSeed,
     ) -> Result<Desk<J, F>, (DeskFault, J)>
-        requires first { F.first ≡ setup }
+        requires first { F.first ≡ record { config = setup; offset = offset } }
         requires empty { IfSome (J.history journal) (λ h. h ≡ []) }
         ensures begun { IfOk result (λ d. HasBegun setup offset now (J.history journal) d) }
         ensures later { IfOk result (λ d. J.faults journal ≤ d.notes.faults) }

@@ -1,7 +1,7 @@
 //! Another configuration.
 ghost use Rattle.std.specs.Prelude.{◌≡◌, ◌+◌, max, IfOk};
 ghost use Rattle.sq_rules.specs.Configurations.{IsConfiguration};
-ghost use Rattle.sq_calls.specs.Telling.{IsStated};
+ghost use Rattle.sq_calls.specs.Legality.{IsStated};
 ghost use Rattle.sq_desk.specs.Calling.{CountsMade, Leaves, Rereads, desk_of, load_of};
 
 use crate::desks::{Desk, First};

@@ -1,10 +1,11 @@
 //! How starts of processes end.
-ghost use Rattle.std.specs.Prelude.{◌≡◌, ◌+◌, max};
+ghost use Rattle.std.specs.Prelude.{◌≡◌, ◌+◌, max, Some, OnOk};
 ghost use Rattle.sq_rules.specs.declared.entries.Event.TheVariants as event;
 ghost use Rattle.sq_rules.specs.declared.entries.Told.TheVariants as told;
 ghost use Rattle.sq_state.specs.Answers.{failed_answer, name_in, started_answer};
 ghost use Rattle.sq_state.specs.Changes.{after_failed_at, after_started_at};
 ghost use Rattle.sq_engine.specs.EngineViews.{state_of};
+ghost use Rattle.sq_calls.specs.Legality.{IsNameOf};
 ghost use Rattle.sq_desk.specs.Calling.{Leaves, Makes, desk_of, load_of};
 
 use crate::desks::{Desk, First};
@@ -98,8 +99,10 @@ impl<J: Journal, F: First> Desk<J, F> {
         class: u32,
         now: Moment,
     ) -> Result<ProcNo, DeskFault>
-        ensures { Makes told.Proc (started_answer (state_of self.old.engine) (record { epoch = epoch; class = class })) (max now self.old.engine.latest) (event.Started epoch (name_in (state_of self.old.engine) (record { epoch = epoch; class = class })))
+        ensures makes { Makes told.Proc (started_answer (state_of self.old.engine) (record { epoch = epoch; class = class })) (max now self.old.engine.latest) (event.Started epoch (name_in (state_of self.old.engine) (record { epoch = epoch; class = class })))
             (after_started_at (record { epoch = epoch; class = class }) (max now self.old.engine.latest) (state_of self.old.engine)) self.old result self.new }
+        // Where the journal is told, the name that is noted is that of the class in the configuration of its epoch.
+        ensures named { OnOk result (IsNameOf (Some F.first) self.old.notes.history epoch class (name_in (state_of self.old.engine) (record { epoch = epoch; class = class }))) }
     {
         started(&mut self.engine, &mut self.notes, alloc, epoch, class, now)
     }
@@ -112,8 +115,9 @@ impl<J: Journal, F: First> Desk<J, F> {
         class: u32,
         now: Moment,
     ) -> Result<(), DeskFault>
-        ensures { Makes (λ _. told.Fine) (failed_answer (state_of self.old.engine) (record { epoch = epoch; class = class })) (max now self.old.engine.latest) (event.StartFail epoch (name_in (state_of self.old.engine) (record { epoch = epoch; class = class })))
+        ensures makes { Makes (λ _. told.Fine) (failed_answer (state_of self.old.engine) (record { epoch = epoch; class = class })) (max now self.old.engine.latest) (event.StartFail epoch (name_in (state_of self.old.engine) (record { epoch = epoch; class = class })))
             (after_failed_at (record { epoch = epoch; class = class }) (max now self.old.engine.latest) (state_of self.old.engine)) self.old result self.new }
+        ensures named { OnOk result (IsNameOf (Some F.first) self.old.notes.history epoch class (name_in (state_of self.old.engine) (record { epoch = epoch; class = class }))) }
     {
         start_failed(&mut self.engine, &mut self.notes, alloc, epoch, class, now)
     }

@@ -6,7 +6,8 @@ use Rattle.sq_base.specs.Lines.{lexed}
 use Rattle.sq_outside.specs.Input.{IsWhole, ReadsFile, ReadsOpening}
 use Rattle.sq_outside.specs.Told.{AddsText, Openings, Texts}
 use Rattle.sq_rules.specs.Configurations.{Configuration}
-use Rattle.sq_calls.specs.Telling.{IsReread, IsStated, Notes}
+use Rattle.sq_calls.specs.Legality.{IsStated}
+use Rattle.sq_calls.specs.Telling.{IsReread, Notes}
 use Rattle.sq_calls.specs.declared.faults.DeskFault.{DeskFault}
 use Rattle.sq_calls.specs.declared.faults.DeskFault.TheVariants as desk
 use Rattle.sq_conf.specs.declared.faults.ConfFault.TheVariants as fault

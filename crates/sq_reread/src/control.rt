@@ -7,7 +7,8 @@ ghost use Rattle.sq_outside.specs.Told.{IsNotTold};
 ghost use Rattle.sq_rules.specs.ConfText.{conf_gives, conf_refuses};
 ghost use Rattle.sq_rules.specs.Limits.{text_limit};
 ghost use Rattle.sq_rules.specs.declared.kinds.Kind.{Kind};
-ghost use Rattle.sq_calls.specs.Telling.{CountsRefusal, IsStated};
+ghost use Rattle.sq_calls.specs.Legality.{IsStated};
+ghost use Rattle.sq_calls.specs.Telling.{CountsRefusal};
 ghost use Rattle.sq_reread.specs.Rereading.{Adds, Asks, CountsMade, IsRefused, answers, is_refusal};
 
 use sq_base::{EpochNo, Moment, Text};

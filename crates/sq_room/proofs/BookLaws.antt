@@ -6,6 +6,7 @@ use Rattle.std.proofs.lemmas.Bool.{false≢true}
 use Rattle.sq_outside.specs.Causes.{count_limit, raised}
 use Rattle.sq_base.specs.Addresses.{Address}
 use Rattle.sq_base.specs.Requests.{HttpRequest}
+use Rattle.sq_calls.specs.Legality.{Beginning}
 use Rattle.sq_calls.specs.Telling.{AddsOne, AddsSome, Counts, CountsLine, CountsRefusal, IsAsking, IsClosing, IsDead, IsEventOf, IsFailed, IsLine, IsOpening, IsReread, IsStarted, IsStep, IsStepTold, IsTakeTold, IsTaking, MayAct, Notes, NotesAs, entry_at, got_told}
 use Rattle.sq_calls.specs.declared.faults.DeskFault.{DeskFault}
 use Rattle.sq_calls.specs.declared.faults.DeskFault.TheVariants as fault
@@ -105,13 +106,13 @@ pub kept_died : (proc : ℕ) (old new : Option History) (r : Result (Unit {0}) D
     → AreCounted asks makes old → AreCounted asks makes new
 kept_died proc old new r asks makes = counted_notes _ (IsDead proc) old new r asks makes (λ e p. (ap is_ask p, ap begins_epoch p))
 
-pub kept_failed : (epoch : ℕ) (old new : Option History) (r : Result (Unit {0}) DeskFault) (asks makes : ℕ) → Notes (λ _. answer.Fine) (IsFailed epoch) old new r
+pub kept_failed : (first : Option Beginning) (epoch class : ℕ) (old new : Option History) (r : Result (Unit {0}) DeskFault) (asks makes : ℕ) → Notes (λ _. answer.Fine) (IsFailed first old epoch class) old new r
     → AreCounted asks makes old → AreCounted asks makes new
-kept_failed epoch old new r asks makes = counted_notes _ (IsFailed epoch) old new r asks makes (λ e p. (ap is_ask p.1, ap begins_epoch p.1))
+kept_failed first epoch class old new r asks makes = counted_notes _ (IsFailed first old epoch class) old new r asks makes (λ e p. (ap is_ask p.2, ap begins_epoch p.2))
 
-pub kept_started : (epoch : ℕ) (old new : Option History) (r : Result ℕ DeskFault) (asks makes : ℕ) → Notes answer.Proc (IsStarted epoch) old new r
+pub kept_started : (first : Option Beginning) (epoch class : ℕ) (old new : Option History) (r : Result ℕ DeskFault) (asks makes : ℕ) → Notes answer.Proc (IsStarted first old epoch class) old new r
     → AreCounted asks makes old → AreCounted asks makes new
-kept_started epoch old new r asks makes = counted_notes _ (IsStarted epoch) old new r asks makes (λ e p. (ap is_ask p.1, ap begins_epoch p.1))
+kept_started first epoch class old new r asks makes = counted_notes _ (IsStarted first old epoch class) old new r asks makes (λ e p. (ap is_ask p.2, ap begins_epoch p.2))
 
 pub kept_line : (proc : ℕ) (bytes : List ℕ) (old new : Option History) (r : Result Got DeskFault) (asks makes : ℕ) → Notes got_told (IsLine proc bytes) old new r
     → AreCounted asks makes old → AreCounted asks makes new

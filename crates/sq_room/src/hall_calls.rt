@@ -1,7 +1,8 @@
 //! The calls of the desk under its lock, each counted.
 ghost use Rattle.std.specs.Prelude.{◌≡◌, ◌+◌, ◌<◌, true, IfOk, IsErrOf};
 ghost use Rattle.sq_calls.specs.declared.faults.DeskFault.TheVariants as fault;
-ghost use Rattle.sq_calls.specs.Telling.{IsAsking, IsClosing, IsDead, IsFailed, IsLine, IsOpening, IsReread, IsStarted, IsStated, IsStep, IsStepTold, IsTakeTold, IsTaking, MayAct, Notes, NotesAs, got_told};
+ghost use Rattle.sq_calls.specs.Legality.{IsStated};
+ghost use Rattle.sq_calls.specs.Telling.{IsAsking, IsClosing, IsDead, IsFailed, IsLine, IsOpening, IsReread, IsStarted, IsStep, IsStepTold, IsTakeTold, IsTaking, MayAct, Notes, NotesAs, got_told};
 ghost use Rattle.sq_rules.specs.declared.entries.Told.TheVariants as answer;
 ghost use Rattle.sq_room.specs.Books.{SharesLine, SharesMade, SharesRefusal};
 
@@ -167,7 +168,7 @@ impl<D: DeskCalls, A: Ledger, M: Ledger, N: Ledger> Hall<D, A, M, N> {
         refused: &mut Share<N>,
     ) -> Result<ProcNo, DeskFault>
         requires { 0 < refused.old.parts }
-        ensures noted { Notes answer.Proc (IsStarted epoch) (D.told self.old.desk) (D.told self.new.desk) result }
+        ensures noted { Notes answer.Proc (IsStarted D.first (D.told self.old.desk) epoch class) (D.told self.old.desk) (D.told self.new.desk) result }
         ensures refused { SharesRefusal refused.old.amount refused.new.amount result }
         ensures parts { refused.new.parts ≡ refused.old.parts }
     {
@@ -194,7 +195,7 @@ impl<D: DeskCalls, A: Ledger, M: Ledger, N: Ledger> Hall<D, A, M, N> {
         refused: &mut Share<N>,
     ) -> Result<(), DeskFault>
         requires { 0 < refused.old.parts }
-        ensures noted { Notes (λ _. answer.Fine) (IsFailed epoch) (D.told self.old.desk) (D.told self.new.desk) result }
+        ensures noted { Notes (λ _. answer.Fine) (IsFailed D.first (D.told self.old.desk) epoch class) (D.told self.old.desk) (D.told self.new.desk) result }
         ensures refused { SharesRefusal refused.old.amount refused.new.amount result }
         ensures parts { refused.new.parts ≡ refused.old.parts }
     {

@@ -3,7 +3,7 @@
 //! what the shares tell.
 ghost use Rattle.std.specs.Prelude.{◌≡◌, ◌+◌, ◌<◌, true, IfOk, IsErrOf};
 ghost use Rattle.sq_calls.specs.declared.faults.DeskFault.TheVariants as fault;
-ghost use Rattle.sq_calls.specs.Telling.{IsStated};
+ghost use Rattle.sq_calls.specs.Legality.{IsStated};
 ghost use Rattle.sq_room.specs.Books.{SharesLine, SharesMade, SharesRefusal};
 
 use crate::room::Room;

@@ -3,7 +3,7 @@ ghost use Rattle.std.specs.Prelude.{◌≡◌, ◌+◌, ◌<◌, None, IfOk, min
 ghost use Rattle.sq_room.specs.Books.{SharesMade, SharesRefusal};
 ghost use Rattle.std.proofs.Common.{arith};
 ghost use Rattle.sq_outside.specs.Causes.{count_limit};
-ghost use Rattle.sq_calls.specs.Telling.{IsStated};
+ghost use Rattle.sq_calls.specs.Legality.{IsStated};
 
 use crate::holds;
 use crate::room::Room;

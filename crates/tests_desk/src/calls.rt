@@ -1,6 +1,6 @@
 //! The calls of a desk, by the events of a job's lines. The job's one class has the name `v`.
 ghost use Rattle.std.specs.Prelude.{IfOk};
-ghost use Rattle.sq_calls.specs.Telling.{IsStated};
+ghost use Rattle.sq_calls.specs.Legality.{IsStated};
 
 use sq_base::{CheckNo, EpochNo, Moment, ProcNo, Text};
 use sq_calls::{DeskCalls, DeskFault};

@@ -1,4 +1,4 @@
-use Rattle.std.proofs.Common.{subst}
+use Rattle.std.proofs.Common.{Some, subst}
 use Rattle.sq_calls.specs.Telling.{IsNextAct}
 use Rattle.sq_desk.specs.Desks.{DeskView}
 use Rattle.sq_desk.proofs.DueLaws.{act_next}
@@ -12,6 +12,6 @@ invariant_of-self g c =
 
 pub returns-clause-next : goal.returns-clause-next
 returns-clause-next g c =
-    subst (λ (d : DeskView). IsNextAct d.notes.history c.act.result) c.self.view_is
+    subst (λ (d : DeskView). IsNextAct (Some g.F.First.first) d.notes.history c.act.result) c.self.view_is
     (act_next (record { engine = c.self.inside.engine; notes = c.self.inside.notes }) (record { engine = c.act.new.engine; notes = c.act.new.notes })
     c.args.now c.act.result c.self.invariant c.act.ensures.acts c.act.ensures.promised)
