@@ -1,5 +1,5 @@
 -- How a server ends, and what came of it.
-use Rattle.std.proofs.Common.{◌≡◌, ◌⊎◌, inl, inr, ℕ, ◌+◌, ◌<◌, ◌≤◌, List, [], ◌∷◌, ◌++◌, Bool, true, false, min, Result, Ok, Err, Some, None, IfSome, refl, sym, ap, ◌∙◌, subst, arith}
+use Rattle.std.proofs.Common.{◌≡◌, ◌⊎◌, inl, inr, ℕ, ℤ, pos, ◌+◌, ◌<◌, ◌≤◌, List, [], ◌∷◌, ◌++◌, Bool, true, false, min, Result, Ok, Err, Some, None, IfSome, refl, sym, ap, ◌∙◌, subst, unwrap_or, arith}
 use Rattle.std.specs.Option.{ForSome}
 use Rattle.std.specs.declared.option.Option.{Option}
 use Rattle.std.specs.Io.KnownBytes.{Appends}
@@ -14,7 +14,7 @@ use Rattle.sq_rules.specs.Readings.{current}
 use Rattle.sq_calls.specs.declared.faults.DeskFault.{DeskFault}
 use Rattle.sq_calls.specs.declared.faults.DeskFault.TheVariants as desk
 use Rattle.sq_desk.specs.Calling.{IsUnbegun}
-use Rattle.sq_desk.specs.Desks.{IsLegal}
+use Rattle.sq_calls.specs.Legality.{Beginning, IsLegal}
 use Rattle.sq_control.specs.declared.panel.PanelEnd.{PanelEnd}
 use Rattle.sq_control.specs.declared.panel.PanelEnd.TheVariants as panel
 use Rattle.sq_reread.specs.declared.control.Reread.{Reread}
@@ -26,7 +26,7 @@ use Rattle.sq_proxy.specs.Outputs.{IsSettled}
 use Rattle.sq_proxy.specs.Serving.{Server}
 use Rattle.sq_proxy.specs.declared.ends.Status.{Status}
 use Rattle.sq_proxy.specs.declared.ends.Status.TheVariants as ends
-use Rattle.sq_proxy.specs.Service.{CameTo, EndsByLine, EndsOver, EndsWell, IsConf, IsServed, IsServerEnd, IsService, IsServiceEnd, IsTrueFrom, IsTrueOrEmpty, IsTrueOver, IsUnservedEnd, RunsOrNot, ended_status, port_of, stopped_line}
+use Rattle.sq_proxy.specs.Service.{CameTo, EndsByLine, EndsOver, EndsWell, IsConf, IsServed, IsServerEnd, IsService, IsServiceEnd, IsTrueFrom, IsTrueOrEmpty, IsTrueOver, IsUnservedEnd, RunsOrNot, beginning_of, ended_status, port_of, stopped_line}
 use Rattle.sq_proxy.proofs.EndLaws.{empty_line}
 use Rattle.sq_proxy.proofs.OpenedLaws.{Added_map}
 use Rattle.sq_proxy.proofs.TrueLaws.{journal_true, true_ran, true_unran}
@@ -106,7 +106,7 @@ unserved_not : (s t : Status) → IsUnservedEnd s → s ≡ t → IsUnservedEnd 
 unserved_not s t u e = subst IsUnservedEnd e u
 
 -- a server of which no desk was made
-unserved : (first : Configuration) (texts : Texts) (name : List ℕ) (port : ℕ) (f : FilesSeen) (v : Streams) (jb jn ln : ℕ) (history : Option History) (status : Status) → IsUnservedEnd status
+unserved : (first : Beginning) (texts : Texts) (name : List ℕ) (port : ℕ) (f : FilesSeen) (v : Streams) (jb jn ln : ℕ) (history : Option History) (status : Status) → IsUnservedEnd status
     → IsTrueOrEmpty first history → (status ≡ ends.JournalFault → Rose jb jn) → min jb count_limit ≤ jn → IsServed first texts name port f f v v jb jn ln history status
 unserved first texts name port f v jb jn ln history status u is_true journal later = record {
   ok = λ e. absurd (unserved_not status ends.Ok u e);
@@ -133,7 +133,7 @@ reread_later texts name v (r ∷ older) w (u, before, last) =
     omega (arith, first, next)
 
 -- a server whose panel ran
-pub served : (first : Configuration) (texts : Texts) (name : List ℕ) (port : ℕ) (f g : FilesSeen) (v w : Streams) (jb jn ln : ℕ) (history : Option History) (end : PanelEnd) (stopped failed : Bool) (made : ℕ)
+pub served : (first : Beginning) (texts : Texts) (name : List ℕ) (port : ℕ) (f g : FilesSeen) (v w : Streams) (jb jn ln : ℕ) (history : Option History) (end : PanelEnd) (stopped failed : Bool) (made : ℕ)
     (status : Status) → status ≡ ended_status end stopped failed → Runs texts name port f g v w end made → ForSome history (λ h. made + 1 ≡ current h) → IfSome history (IsLegal first)
     → (status ≡ ends.JournalFault → Rose jb jn) → (status ≡ ends.Net → 0 < ln) → jb ≤ jn → IsServed first texts name port f g v w jb jn ln history status
 served first texts name port f g v w jb jn ln history end stopped failed made status is runs makes legal journal net later =
@@ -155,7 +155,7 @@ served first texts name port f g v w jb jn ln history end stopped failed made st
     }
 
 -- the same of a server whose panel is as it was
-pub unserved_moved : (first : Configuration) (texts : Texts) (name : List ℕ) (port : ℕ) (f g : FilesSeen) (v w : Streams) (jb jn ln : ℕ) (history before : Option History) (status : Status) → g ≡ f → w ≡ v
+pub unserved_moved : (first : Beginning) (texts : Texts) (name : List ℕ) (port : ℕ) (f g : FilesSeen) (v w : Streams) (jb jn ln : ℕ) (history before : Option History) (status : Status) → g ≡ f → w ≡ v
     → IsUnservedEnd status → history ≡ before → IfSome before (λ h. h ≡ []) → (status ≡ ends.JournalFault → Rose jb jn) → min jb count_limit ≤ jn → IsServed first texts name port f g v w jb jn ln history status
 unserved_moved first texts name port f g v w jb jn ln history before status e k u same empty journal later =
     subst (λ (h : FilesSeen). IsServed first texts name port f h v w jb jn ln history status) (sym e)
@@ -204,15 +204,15 @@ over_all texts name s o (Some disk) c = over_err texts name (conf_stage name (di
 no_end : (texts : Texts) (name : List ℕ) (s t : Status) → IsOpenEnd texts name s → s ≡ t → IsOpenEnd texts name t
 no_end texts name s t o e = subst (IsOpenEnd texts name) e o
 
-empty_over : (texts : Texts) (name : List ℕ) (before : Openings) (history : Option History) → IfSome history (λ h. h ≡ []) → IfSome history (λ h. (h ≡ []) ⊎ IsTrueOver texts name before h)
-empty_over texts name before None e = tt
-empty_over texts name before (Some h) e = inl e
+empty_over : (s : Server) (texts : Texts) (before : Openings) (history : Option History) → IfSome history (λ h. h ≡ []) → IfSome history (λ h. (h ≡ []) ⊎ IsTrueOver s texts before h)
+empty_over s texts before None e = tt
+empty_over s texts before (Some h) e = inl e
 
-true_over : (texts : Texts) (name : List ℕ) (before begun : Openings) (config : Configuration) (history : Option History) → IsConf texts name before begun config → IsTrueOrEmpty config history
-    → IfSome history (λ h. (h ≡ []) ⊎ IsTrueOver texts name before h)
-true_over texts name before begun config None conf is = tt
-true_over texts name before begun config (Some h) conf (inl empty) = inl empty
-true_over texts name before begun config (Some h) conf (inr is) = inr (record { config = config; begun = begun; conf = conf; is_true = is })
+true_over : (s : Server) (texts : Texts) (before begun : Openings) (config : Configuration) (history : Option History) → IsConf texts s.conf before begun config → IsTrueOrEmpty (beginning_of s config) history
+    → IfSome history (λ h. (h ≡ []) ⊎ IsTrueOver s texts before h)
+true_over s texts before begun config None conf is = tt
+true_over s texts before begun config (Some h) conf (inl empty) = inl empty
+true_over s texts before begun config (Some h) conf (inr is) = inr (record { config = config; begun = begun; conf = conf; is_true = is })
 
 open_end : (texts : Texts) (name : List ℕ) (s : Status) → IsOpenEnd texts name s → IsServiceEnd s
 open_end texts name ends.ReadFault o = tt
@@ -264,7 +264,7 @@ conf_failed s texts f g v jb nb history status o comes read empty later opened =
       (λ more. IsOnce s.conf more × EndsOver (conf_stage s.conf (first_text more)) status)
       (λ more p. (p.0, over_err texts s.conf (conf_stage s.conf (first_text more)) status o p.1)) opened)
       refl (λ w. no_end texts s.conf status ends.WriteFault o w);
-  is_true = empty_over texts s.conf f.opened history empty;
+  is_true = empty_over s texts f.opened history empty;
   read = λ e. inl (read e);
   write = λ e. absurd (no_end texts s.conf status ends.WriteFault o e);
   journal = λ e. absurd (no_end texts s.conf status ends.JournalFault o e);
@@ -313,7 +313,7 @@ pub net_failed : (s : Server) (texts : Texts) (f g : FilesSeen) (v : Streams) (j
 net_failed s texts f g v jb nb nn history config comes rose net empty later opened = record {
   ok = λ e. absurd (cc);
   bytes = λ e. unrun s texts f g v v ends.Net (opened_over s.conf f.opened g.opened config ends.Net tt opened) refl (λ w. cc);
-  is_true = empty_over texts s.conf f.opened history empty;
+  is_true = empty_over s texts f.opened history empty;
   read = λ e. absurd (cc);
   write = λ e. absurd (cc);
   journal = λ e. absurd (cc);
@@ -402,7 +402,7 @@ run_told s texts f begun g v w x port config status r is_port conf end ran settl
 
 pub served_service : (s : Server) (texts : Texts) (f begun g : FilesSeen) (v w x : Streams) (jb jn nb nm nn ln port : ℕ) (history : Option History) (config : Configuration) (status r : Status)
     → port ≡ port_of s config → IsConf texts s.conf f.opened begun.opened config
-    → IsServed config texts s.conf port begun g v w jb jn ln history status → nm ≡ nb → TakesBack nm nn ln → f.faults ≤ begun.faults
+    → IsServed (beginning_of s config) texts s.conf port begun g v w jb jn ln history status → nm ≡ nb → TakesBack nm nn ln → f.faults ≤ begun.faults
     → (r ≡ ends.Ok → (status ≡ ends.Ok) × Appends w.contents x.contents stopped_line) → IsSettled status r
     → (r ≡ ends.WriteFault → (status ≡ ends.WriteFault) ⊎ Rose w.output_faults x.output_faults)
     → ((status ≡ ends.Ok → ⊥) → (r ≡ status) × (x ≡ w)) → (status ≡ ends.Ok → r ≡ ends.WriteFault → Grew w.contents x.contents (λ part. IsProperPrefix part stopped_line))
@@ -424,7 +424,7 @@ served_service s texts f begun g v w x jb jn nb nm nn ln port history config sta
         is_true = served.noted both.0;
       };
   bytes = run_told s texts f begun g v w x port config status r is_port conf served.end served.ran settled kept short;
-  is_true = true_over texts s.conf f.opened begun.opened config history conf served.is_true;
+  is_true = true_over s texts f.opened begun.opened config history conf served.is_true;
   read = λ e. inr (subst (λ (n : ℕ). Rose v.input_faults n) (sym input) (served.read (settled_is status r ends.ReadFault settled e (λ n. cc))));
   write = λ e. wrote (unwritten e);
   journal = λ e. served.journal (settled_is status r ends.JournalFault settled e (λ n. cc));
@@ -487,8 +487,15 @@ finished s texts f g v w x jb jn nb nn history status r is h ok grew input later
     reads (inl up) = inl up
     reads (inr up) = inr (subst (λ (n : ℕ). Rose v.input_faults n) (sym input) up)
 
+-- the same of a server at an offset that is the stated one
+pub served_from : (s : Server) (config : Configuration) (offset : ℤ) (texts : Texts) (name : List ℕ) (port : ℕ) (f g : FilesSeen) (v w : Streams) (jb jn ln : ℕ) (history : Option History) (status : Status)
+    → offset ≡ unwrap_or s.options.offset (pos 0) → IsServed (record { config = config; offset = offset }) texts name port f g v w jb jn ln history status
+    → IsServed (beginning_of s config) texts name port f g v w jb jn ln history status
+served_from s config offset texts name port f g v w jb jn ln history status e h =
+    subst (λ (z : ℤ). IsServed (record { config = config; offset = z }) texts name port f g v w jb jn ln history status) e h
+
 -- the same of a server over texts that are these
-pub served_texts : (first : Configuration) (t u : Texts) (name : List ℕ) (port : ℕ) (f g : FilesSeen) (v w : Streams) (jb jn ln : ℕ) (history : Option History) (status : Status) → t ≡ u
+pub served_texts : (first : Beginning) (t u : Texts) (name : List ℕ) (port : ℕ) (f g : FilesSeen) (v w : Streams) (jb jn ln : ℕ) (history : Option History) (status : Status) → t ≡ u
     → IsServed first t name port f g v w jb jn ln history status → IsServed first u name port f g v w jb jn ln history status
 served_texts first t u name port f g v w jb jn ln history status e h = subst (λ (x : Texts). IsServed first x name port f g v w jb jn ln history status) e h
 

@@ -12,8 +12,7 @@ use Rattle.sq_rules.specs.Machine.{config_of}
 use Rattle.sq_rules.specs.Readings.{current, epoch_after}
 use Rattle.sq_history.specs.Given.{EachOf}
 use Rattle.sq_state.specs.Sources.{AreSourced, IsSourced}
-use Rattle.sq_calls.specs.Telling.{IsStated}
-use Rattle.sq_desk.specs.Desks.{IsLegal}
+use Rattle.sq_calls.specs.Legality.{Beginning, IsLegal, IsStated}
 use Rattle.sq_replay.specs.Headline.{AreAccepted, IsAccepted}
 use Rattle.sq_replay.proofs.HeadlineLaws.{history_true}
 use Rattle.sq_proxy.specs.Service.{IsTrueFrom, IsTrueOrEmpty}
@@ -49,26 +48,27 @@ all_accepted : (first : Configuration) (given : List Configuration) (h : History
 all_accepted first given [] each s = tt
 all_accepted first given (e ∷ h) each s = (accepted first given h e.event each s.0, all_accepted first given h each s.1)
 
-pub legal_true : (first : Configuration) (h : History) → IsLegal first h → IsTrueFrom first h
+pub legal_true : (first : Beginning) (h : History) → IsLegal first h → IsTrueFrom first h
 legal_true first h l =
     let count = l.count in
     record {
       more = l.given;
-      is_true = history_true (first ∷ l.given) h l.good (record {
+      offset_is = l.offset_is;
+      is_true = history_true (first.config ∷ l.given) h l.good (record {
         legal = l.legal;
-        accepted = all_accepted first l.given h l.stated l.sourced;
+        accepted = all_accepted first.config l.given h l.stated l.sourced;
         reached = omega (arith, count);
       });
     }
 
-pub journal_true : (first : Configuration) (history : Option History) → IfSome history (IsLegal first) → IfSome history (IsTrueFrom first)
+pub journal_true : (first : Beginning) (history : Option History) → IfSome history (IsLegal first) → IfSome history (IsTrueFrom first)
 journal_true first None legal = tt
 journal_true first (Some h) legal = legal_true first h legal
 
-pub true_ran : (first : Configuration) (history : Option History) → IfSome history (IsLegal first) → IsTrueOrEmpty first history
+pub true_ran : (first : Beginning) (history : Option History) → IfSome history (IsLegal first) → IsTrueOrEmpty first history
 true_ran first None legal = tt
 true_ran first (Some h) legal = inr (legal_true first h legal)
 
-pub true_unran : (first : Configuration) (history : Option History) → IfSome history (λ h. h ≡ []) → IsTrueOrEmpty first history
+pub true_unran : (first : Beginning) (history : Option History) → IfSome history (λ h. h ≡ []) → IsTrueOrEmpty first history
 true_unran first None empty = tt
 true_unran first (Some h) empty = inl empty

@@ -1,5 +1,5 @@
 -- What comes of a server.
-use Rattle.std.specs.Prelude.{◌≡◌, ◌⊎◌, ℕ, ◌+◌, ◌<◌, ◌≤◌, List, [], ◌∷◌, ◌++◌, Bool, true, false, codes, min, unwrap_or, IfSome}
+use Rattle.std.specs.Prelude.{◌≡◌, ◌⊎◌, ℕ, pos, ◌+◌, ◌<◌, ◌≤◌, List, [], ◌∷◌, ◌++◌, Bool, true, false, codes, min, unwrap_or, IfSome}
 use Rattle.std.specs.Io.KnownBytes.{Appends}
 use Rattle.std.specs.Option.{ForSome}
 use Rattle.std.specs.declared.option.Option.{Option}
@@ -10,7 +10,8 @@ use Rattle.sq_outside.specs.Output.{Grew, IsProperPrefix, IsWritten}
 use Rattle.sq_outside.specs.Told.{IsNotTold, Openings, Texts}
 use Rattle.sq_rules.specs.Configurations.{Configuration}
 use Rattle.sq_rules.specs.Entries.{History}
-use Rattle.sq_rules.specs.Readings.{current}
+use Rattle.sq_rules.specs.Readings.{current, offset_of}
+use Rattle.sq_calls.specs.Legality.{Beginning}
 use Rattle.sq_replay.specs.Headline.{IsTrue}
 use Rattle.sq_control.specs.declared.panel.PanelEnd.{PanelEnd}
 use Rattle.sq_control.specs.declared.panel.PanelEnd.TheVariants as panel
@@ -35,6 +36,10 @@ ended_status panel.Faulted false false = ends.WantOfMemory
 -- the port at which a server of this configuration listens: the option's, or else the configuration's
 abbrev pub port_of : Server → Configuration → ℕ
 port_of s config = unwrap_or s.options.port config.port
+
+-- with what the machine of a server of this configuration begins: the offset of local time is the option's, or else 0
+abbrev pub beginning_of : Server → Configuration → Beginning
+beginning_of s config = record { config = config; offset = unwrap_or s.options.offset (pos 0) }
 
 -- the last line of a server that ended well
 abbrev pub stopped_line : List ℕ
@@ -68,14 +73,15 @@ pub record IsConf (texts : Texts) (name : List ℕ) (before now : Openings) (con
   pub told : IfSome texts (λ disk. conf_stage name (disk name) ≡ result.Ok config)
   pub opened : Added before now (λ more. IsOnce name more × (conf_stage name (first_text more) ≡ result.Ok config))
 
--- The history is the machine's over this configuration and some others, which are those that the texts of its reconfigurations give; and all is so
--- of it that is so of every run.
-pub record IsTrueFrom (first : Configuration) (h : History) : Type 0 where
+-- The history has the offset of this beginning, and is the machine's over the configuration of that and some others, which are those that the texts
+-- of its reconfigurations give; and all is so of it that is so of every run.
+pub record IsTrueFrom (first : Beginning) (h : History) : Type 0 where
   pub more : List Configuration
-  pub is_true : IsTrue (first ∷ more) h
+  pub offset_is : offset_of h ≡ first.offset
+  pub is_true : IsTrue (first.config ∷ more) h
 
 -- a journal that tells is such a history, or without an entry
-abbrev pub IsTrueOrEmpty : Configuration → Option History → Type 0
+abbrev pub IsTrueOrEmpty : Beginning → Option History → Type 0
 IsTrueOrEmpty first history = IfSome history (λ h. (h ≡ []) ⊎ IsTrueFrom first h)
 
 -- A panel ran: how it ended, by which the server ended so, and by whether a note of its journal failed, and whether its listener did.
@@ -92,7 +98,7 @@ abbrev pub RunsOrNot : Texts → List ℕ → ℕ → FilesSeen → FilesSeen �
 RunsOrNot texts name port f g v w status = ((g ≡ f) × (w ≡ v) × IsUnservedEnd status) ⊎ HasRun texts name port f g v w status
 
 -- what came of a server at a port; the numbers are the journal's counts of faults, and the listener's
-pub record IsServed (first : Configuration) (texts : Texts) (name : List ℕ) (port : ℕ) (f g : FilesSeen) (v w : Streams) (journal_before journal_now listener_now : ℕ) (history : Option History) (status : Status) : Type 0 where
+pub record IsServed (first : Beginning) (texts : Texts) (name : List ℕ) (port : ℕ) (f g : FilesSeen) (v w : Streams) (journal_before journal_now listener_now : ℕ) (history : Option History) (status : Status) : Type 0 where
   pub ok : status ≡ ends.Ok → (made : ℕ) × Runs texts name port f g v w panel.Ended made × ForSome history (λ h. made + 1 ≡ current h)
   pub is_true : IsTrueOrEmpty first history
   pub noted : status ≡ ends.Ok → IfSome history (IsTrueFrom first)
@@ -108,7 +114,7 @@ pub record IsServed (first : Configuration) (texts : Texts) (name : List ℕ) (p
   pub journal_later : min journal_before count_limit ≤ journal_now
 
 -- A server that ended well: the configuration of its file; at which port it listened; what its panel did; that it wrote so at the end; that its
--- journal, where it tells, is true from that configuration on, with as many reconfigurations as were made.
+-- journal, where it tells, is true from that configuration and the stated offset on, with as many reconfigurations as were made.
 pub record EndsWell (s : Server) (texts : Texts) (f g : FilesSeen) (v w : Streams) (history : Option History) : Type 0 where
   pub config : Configuration
   pub begun : FilesSeen
@@ -119,7 +125,7 @@ pub record EndsWell (s : Server) (texts : Texts) (f g : FilesSeen) (v w : Stream
   pub left : w.left ≡ ran.left
   pub writes : Appends ran.contents w.contents stopped_line
   pub makes : ForSome history (λ h. made + 1 ≡ current h)
-  pub is_true : IfSome history (IsTrueFrom config)
+  pub is_true : IfSome history (IsTrueFrom (beginning_of s config))
 
 -- how a server ends by what its configuration's file comes to
 abbrev pub EndsOver : Result Configuration Status → Status → Type 0
@@ -157,19 +163,19 @@ pub record EndsByLine (line : List ℕ) (s : Server) (texts : Texts) (f g : File
   pub came : IsUnrun s f g v told status ⊎ IsRun s texts f g v told status
   pub writes : Grew told.contents w.contents (IsWritten told.output_faults w.output_faults line)
 
--- the history is true from the configuration of the file on
-pub record IsTrueOver (texts : Texts) (name : List ℕ) (before : Openings) (h : History) : Type 0 where
+-- the history is true from the configuration of the file and the stated offset on
+pub record IsTrueOver (s : Server) (texts : Texts) (before : Openings) (h : History) : Type 0 where
   pub config : Configuration
   pub begun : Openings
-  pub conf : IsConf texts name before begun config
-  pub is_true : IsTrueFrom config h
+  pub conf : IsConf texts s.conf before begun config
+  pub is_true : IsTrueFrom (beginning_of s config) h
 
 -- what came of a server by its words, which wrote this line last where it did not end well; the numbers are the journal's counts of faults, and the
 -- net's
 pub record CameTo (line : List ℕ) (s : Server) (texts : Texts) (f g : FilesSeen) (v w : Streams) (journal_before journal_now net_before net_now : ℕ) (history : Option History) (status : Status) : Type 0 where
   pub ok : status ≡ ends.Ok → EndsWell s texts f g v w history
   pub bytes : (status ≡ ends.Ok → ⊥) → EndsByLine line s texts f g v w status
-  pub is_true : IfSome history (λ h. (h ≡ []) ⊎ IsTrueOver texts s.conf f.opened h)
+  pub is_true : IfSome history (λ h. (h ≡ []) ⊎ IsTrueOver s texts f.opened h)
   pub read : status ≡ ends.ReadFault → Rose f.faults g.faults ⊎ Rose v.input_faults w.input_faults
   pub write : status ≡ ends.WriteFault → Rose v.output_faults w.output_faults
   pub journal : status ≡ ends.JournalFault → Rose journal_before journal_now

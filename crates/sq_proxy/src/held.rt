@@ -80,7 +80,7 @@ pub(crate) fn run_panel<
     ensures files { result.panel.files.ghost_name ≡ panel.entry.files.ghost_name }
     ensures input { result.panel.input.ghost_name ≡ panel.entry.input.ghost_name }
     ensures out { result.panel.out.ghost_name ≡ panel.entry.out.ghost_name }
-    ensures served { IsServed start.setup (F.texts panel.entry.files.now) panel.entry.conf.now panel.entry.port
+    ensures served { IsServed (record { config = start.setup; offset = start.offset }) (F.texts panel.entry.files.now) panel.entry.conf.now panel.entry.port
         (record { opened = F.opened panel.entry.files.now; faults = F.faults panel.entry.files.now })
         (record { opened = F.opened result.panel.files.now; faults = F.faults result.panel.files.now })
         (record { left = S.left panel.entry.input.now; input_faults = S.faults panel.entry.input.now; contents = O.contents panel.entry.out.now; output_faults = O.faults panel.entry.out.now })

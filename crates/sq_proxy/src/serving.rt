@@ -1,5 +1,5 @@
 //! A server by its words.
-ghost use Rattle.std.specs.Prelude.{◌≡◌, ◌⊎◌, ◌≤◌, ◌<◌, ◌^◌, [], IfSome, unwrap_or};
+ghost use Rattle.std.specs.Prelude.{◌≡◌, ◌⊎◌, ◌≤◌, ◌<◌, ◌^◌, [], IfSome, pos, unwrap_or};
 ghost use Rattle.std.specs.Io.KnownBytes.{Appends};
 ghost use Rattle.sq_outside.specs.Causes.{Rose};
 ghost use Rattle.sq_outside.specs.Output.{Grew, IsProperPrefix};
@@ -51,7 +51,7 @@ pub fn serve_at<
 ) -> (Status, J, N::L)
     requires empty { IfSome (J.history journal) (λ h. h ≡ []) }
     requires some { (0 < workers) × (workers ≤ 2 ^ 31) }
-    ensures served { IsServed start.setup (F.texts files.old) conf.now port
+    ensures served { IsServed (record { config = start.setup; offset = start.offset }) (F.texts files.old) conf.now port
         (record { opened = F.opened files.old; faults = F.faults files.old })
         (record { opened = F.opened files.new; faults = F.faults files.new })
         (record { left = C.left control.old; input_faults = C.faults control.old; contents = O.contents out.old; output_faults = O.faults out.old })
@@ -92,6 +92,16 @@ fn port_of(options: &Options, config: &Config) -> u16
     match options.port {
         Some(port) => port,
         None => config.port(),
+    }
+}
+
+// By how many minutes local time is ahead of UTC: the option's, or else 0.
+fn offset_of(options: &Options) -> Offset
+    ensures { result ≡ unwrap_or options.now.offset (pos 0) }
+{
+    match options.offset {
+        Some(offset) => offset,
+        None => Offset(0),
     }
 }
 
@@ -163,7 +173,7 @@ pub fn serve_conf<
     };
     let start = Start {
         setup,
-        offset: service.options.offset.unwrap_or(Offset(0)),
+        offset: offset_of(&service.options),
         seed,
     };
     let workers = workers_of(&service.options);

@@ -17,7 +17,7 @@ use Rattle.sq_serve.specs.declared.turns.Left.TheVariants as left
 use Rattle.sq_serve.specs.declared.turns.Turn.{Turn}
 use Rattle.sq_serve.specs.declared.turns.Turn.TheVariants as turn
 
-reported : {P Q D : Type 0} (l : Left P Q) (told : Option History) (refused : ℕ) (r : Turn) (w : PumpView P Q D) → Reports l told refused r w → (w.told ≡ told) ⊎ AddsEntryOf l told w.told
+reported : {P Q D : Type 0} (l : Left P Q) (told : Option History) (refused : ℕ) (r : Turn) (w : PumpView P Q D) → Reports l told refused r w → (w.told ≡ told) ⊎ AddsEntryOf l w.first told w.told
 reported l told refused (turn.Acted a) w p = ⊎_elim (λ adds. inr adds) (λ same. inl same.0) p.2
 reported l told refused turn.Ended w p = inl p.0
 reported l told refused turn.WantOfMemory w p = inl p.0

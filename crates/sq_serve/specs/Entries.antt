@@ -25,7 +25,7 @@ IsCaused programs contents faults closed v w l = (v.left ≡ Some l) ⊎ IsNew p
 
 -- nothing was noted, or the entry of something that has its cause
 abbrev pub Follows : {P Q D : Type 0} → Programs D → (Q → Option (List ℕ)) → (Q → ℕ) → (Q → Option Bool) → PumpView P Q D → PumpView P Q D → Option History → Type 0
-Follows {P = P} {Q = Q} programs contents faults closed v w mid = (w.told ≡ mid) ⊎ ((l : Left P Q) × IsCaused programs contents faults closed v w l × AddsEntryOf l mid w.told)
+Follows {P = P} {Q = Q} programs contents faults closed v w mid = (w.told ≡ mid) ⊎ ((l : Left P Q) × IsCaused programs contents faults closed v w l × AddsEntryOf l w.first mid w.told)
 
 -- At most an act was noted, where nothing was left before; and then at most one entry more: of a start that the spawner made or failed, or of a
 -- process whose half failed, in this turn or in the earlier one that left it.

@@ -4,6 +4,7 @@ use Rattle.std.specs.declared.option.Option.{Option}
 use Rattle.sq_outside.specs.World.{Starts}
 use Rattle.sq_pipes.specs.declared.pipes.Pipe.{Pipe}
 use Rattle.sq_rules.specs.Entries.{History}
+use Rattle.sq_calls.specs.Legality.{Beginning}
 use Rattle.sq_serve.specs.declared.turns.Left.{Left}
 use Rattle.sq_serve.specs.declared.turns.Reader.{Reader}
 
@@ -11,12 +12,13 @@ use Rattle.sq_serve.specs.declared.turns.Reader.{Reader}
 abbrev pub Programs : Type 0 → Type 0
 Programs D = D → ℕ → ℕ → Option (Option (List (List ℕ)))
 
--- of the desk: itself, the journal's entries, the newest first, where they are told, how often it refused, and the reconfigurations that it made,
+-- of the desk: itself, with what it began, where that is told, the journal's entries, the newest first, where they are told, how often it refused, and the reconfigurations that it made,
 -- where they are told; of the spawner: the words of the starts that were made, where they are told, and how often it failed; the halves of
 -- processes that are written to, those that are read and that no keeper has, for how many more of these there is room, and what an earlier
 -- turn left
 pub record PumpView (P Q D : Type 0) : Type 0 where
   pub desk : D
+  pub first : Option Beginning
   pub told : Option History
   pub refused : ℕ
   pub made : Option ℕ

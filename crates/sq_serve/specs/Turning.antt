@@ -9,6 +9,7 @@ use Rattle.sq_pipes.specs.declared.pipes.Pipe.{Pipe}
 use Rattle.sq_pipes.specs.Pipes.{Asks, Fails, Shuts, Changes, open_ones, pipe_place}
 use Rattle.sq_epochs.specs.declared.acts.Act.{Act}
 use Rattle.sq_epochs.specs.declared.acts.Act.TheVariants as act
+use Rattle.sq_calls.specs.Legality.{Beginning}
 use Rattle.sq_calls.specs.Telling.{AddsOne, IsDead, IsFailed, IsNextAct, IsStarted, MayAct}
 use Rattle.sq_rules.specs.Entries.{History}
 use Rattle.sq_rules.specs.declared.entries.Told.TheVariants as answer
@@ -26,16 +27,16 @@ act_of (left.Started epoch class from to) = act.Start epoch class
 act_of (left.Died proc a) = a
 
 -- the entry that is still to be noted was noted
-abbrev pub AddsEntryOf : {P Q : Type 0} → Left P Q → Option History → Option History → Type 0
-AddsEntryOf (left.Whole a) old new = ⊥
-AddsEntryOf (left.Failed epoch class) old new = AddsOne (IsFailed epoch) answer.Fine old new
-AddsEntryOf (left.Started epoch class from to) old new = (proc : ℕ) × AddsOne (IsStarted epoch) (answer.Proc proc) old new
-AddsEntryOf (left.Died proc a) old new = AddsOne (IsDead proc) answer.Fine old new
+abbrev pub AddsEntryOf : {P Q : Type 0} → Left P Q → Option Beginning → Option History → Option History → Type 0
+AddsEntryOf (left.Whole a) first old new = ⊥
+AddsEntryOf (left.Failed epoch class) first old new = AddsOne (IsFailed first old epoch class) answer.Fine old new
+AddsEntryOf (left.Started epoch class from to) first old new = (proc : ℕ) × AddsOne (IsStarted first old epoch class) (answer.Proc proc) old new
+AddsEntryOf (left.Died proc a) first old new = AddsOne (IsDead proc) answer.Fine old new
 
 -- The entry was noted, or the desk refused it, and the act counts as done; or the desk has stopped; or there was no memory, nothing was
 -- noted, and the entry is left.
 abbrev pub Reports : {P Q D : Type 0} → Left P Q → Option History → ℕ → Turn → PumpView P Q D → Type 0
-Reports l told refused (turn.Acted a) w = (a ≡ act_of l) × (w.left ≡ None) × (AddsEntryOf l told w.told ⊎ ((w.told ≡ told) × Rose refused w.refused))
+Reports l told refused (turn.Acted a) w = (a ≡ act_of l) × (w.left ≡ None) × (AddsEntryOf l w.first told w.told ⊎ ((w.told ≡ told) × Rose refused w.refused))
 Reports l told refused turn.Ended w = (w.told ≡ told) × Rose refused w.refused × (w.left ≡ None)
 Reports l told refused turn.WantOfMemory w = (w.told ≡ told) × (w.left ≡ Some l)
 Reports l told refused turn.Idle w = ⊥
@@ -53,15 +54,16 @@ pub record SameHalves {P Q D : Type 0} (v w : PumpView P Q D) : Type 0 where
 abbrev pub AddsPipe : {P Q D : Type 0} → ℕ → Q → PumpView P Q D → PumpView P Q D → Type 0
 AddsPipe proc to v w = w.pipes ≡ v.pipes ++ record { proc = proc; to = to; closed = false } ∷ []
 
--- the desk's counts: that of refusals never falls, and no reconfiguration was made
+-- of the desk: with what it began, and its counts; that of refusals never falls, and no reconfiguration was made
 pub record Counts {P Q D : Type 0} (v w : PumpView P Q D) : Type 0 where
+  pub first : w.first ≡ v.first
   pub later : v.refused ≤ w.refused
   pub made : w.made ≡ v.made
 
 -- The process was noted as started, and both its halves were taken up with its number; or neither half was.
-abbrev pub IsAdmitted : {P Q D : Type 0} → ℕ → P → Q → PumpView P Q D → PumpView P Q D → Type 0
-IsAdmitted epoch from to v w =
-    ((proc : ℕ) × AddsOne (IsStarted epoch) (answer.Proc proc) v.told w.told × AddsPipe proc to v w × (w.readers ≡ v.readers ++ record { proc = proc; from = from } ∷ []))
+abbrev pub IsAdmitted : {P Q D : Type 0} → ℕ → ℕ → P → Q → PumpView P Q D → PumpView P Q D → Type 0
+IsAdmitted epoch class from to v w =
+    ((proc : ℕ) × AddsOne (IsStarted v.first v.told epoch class) (answer.Proc proc) v.told w.told × AddsPipe proc to v w × (w.readers ≡ v.readers ++ record { proc = proc; from = from } ∷ []))
     ⊎ SameHalves v w
 
 -- nothing but the halves that are written to changed
@@ -115,7 +117,7 @@ IsStarting {P = P} {Q = Q} programs out_faults contents faults closed epoch clas
     ⊎ ((result ≡ turn.WantOfMemory) × (w ≡ record v { left = Some (left.Whole (act.Start epoch class)) }))
     ⊎ ((w.starts ≡ v.starts) × Rose v.faults w.faults × SameHalves (swept v) w × Reports (left.Failed epoch class) v.told v.refused result w)
     ⊎ ((words : List (List ℕ)) × (from : P) × (to : Q) × IsProgram programs v epoch class (Some words) × StartsMore v.starts w.starts words × IsFresh out_faults contents faults closed from to
-    × (w.faults ≡ v.faults) × IsAdmitted epoch from to (swept v) w × Reports (left.Started epoch class from to) v.told v.refused result w)
+    × (w.faults ≡ v.faults) × IsAdmitted epoch class from to (swept v) w × Reports (left.Started epoch class from to) v.told v.refused result w)
 
 -- an act, from its beginning
 abbrev pub Performs : {P Q D : Type 0} → Programs D → (P → ℕ) → (Q → Option (List ℕ)) → (Q → ℕ) → (Q → Option Bool) → Act → PumpView P Q D → Turn → PumpView P Q D → Type 0
@@ -127,7 +129,7 @@ Performs programs out_faults contents faults closed (act.Start epoch class) v re
 abbrev pub Resumes : {P Q D : Type 0} → Programs D → (P → ℕ) → (Q → Option (List ℕ)) → (Q → ℕ) → (Q → Option Bool) → Left P Q → PumpView P Q D → Turn → PumpView P Q D → Type 0
 Resumes programs out_faults contents faults closed (left.Whole a) v result w = Performs programs out_faults contents faults closed a v result w
 Resumes programs out_faults contents faults closed (left.Failed epoch class) v result w = Reports (left.Failed epoch class) v.told v.refused result w × SameSpawner v w × SameHalves v w
-Resumes programs out_faults contents faults closed (left.Started epoch class from to) v result w = Reports (left.Started epoch class from to) v.told v.refused result w × SameSpawner v w × IsAdmitted epoch from to v w
+Resumes programs out_faults contents faults closed (left.Started epoch class from to) v result w = Reports (left.Started epoch class from to) v.told v.refused result w × SameSpawner v w × IsAdmitted epoch class from to v w
 Resumes programs out_faults contents faults closed (left.Died proc a) v result w = Reports (left.Died proc a) v.told v.refused result w × SameSpawner v w × SameHalves v w
 
 -- nothing but the desk changed, and of what it counts its refusals
@@ -139,7 +141,7 @@ pub record IsActing {P Q D : Type 0} (programs : Programs D) (out_faults : P →
   pub act : Act
   pub mid : PumpView P Q D
   pub noted : MayAct v.told mid.told (Ok (Some act))
-  pub next : IsNextAct v.told (Ok (Some act))
+  pub next : IsNextAct v.first v.told (Ok (Some act))
   pub same : mid ≡ record v { desk = mid.desk; told = mid.told; refused = mid.refused }
   pub programs_stay : programs mid.desk ≡ programs v.desk
   pub later : v.refused ≤ mid.refused
@@ -148,7 +150,7 @@ pub record IsActing {P Q D : Type 0} (programs : Programs D) (out_faults : P →
 -- Nothing is due, as the machine has it where the journal is told, and the desk refused nothing; or there was no memory, or the desk has stopped, and nothing was noted; or an act was noted, and is performed.
 abbrev pub BeginsTurn : {P Q D : Type 0} → Programs D → (P → ℕ) → (Q → Option (List ℕ)) → (Q → ℕ) → (Q → Option Bool) → PumpView P Q D → Turn → PumpView P Q D → Type 0
 BeginsTurn programs out_faults contents faults closed v result w =
-    ((result ≡ turn.Idle) × (w ≡ record v { desk = w.desk }) × IsNextAct v.told (Ok None))
+    ((result ≡ turn.Idle) × (w ≡ record v { desk = w.desk }) × IsNextAct v.first v.told (Ok None))
     ⊎ ((result ≡ turn.WantOfMemory) × SameButRefused v w)
     ⊎ ((result ≡ turn.Ended) × SameButRefused v w × Rose v.refused w.refused)
     ⊎ IsActing programs out_faults contents faults closed v result w

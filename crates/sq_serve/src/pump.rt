@@ -31,6 +31,7 @@ impl<S: Spawner, K: DeskCalls> Model for ServePump<S, K> {
 
     ghost view = { λ p. record {
       desk = p.desk;
+      first = K.first;
       told = K.told p.desk;
       refused = K.refused p.desk;
       made = K.made p.desk;
@@ -47,6 +48,7 @@ impl<S: Spawner, K: DeskCalls> ServePump<S, K> {
     /// A pump over this spawner and this desk, which holds nothing.
     pub fn new(alloc: Global, spawner: S, desk: K) -> ServePump<S, K>
         ensures desk { result.desk ≡ desk }
+        ensures first { result.first ≡ K.first }
         ensures told { result.told ≡ K.told desk }
         ensures refused { result.refused ≡ K.refused desk }
         ensures made { result.made ≡ K.made desk }

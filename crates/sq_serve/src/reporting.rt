@@ -57,7 +57,7 @@ impl<S: Spawner, K: DeskCalls> ServePump<S, K> {
     ) -> Turn
         requires { self.old.left ≡ None }
         ensures reports { Reports (Left.Started epoch class from to) self.old.told self.old.refused result self.new }
-        ensures admitted { IsAdmitted epoch from to self.old self.new }
+        ensures admitted { IsAdmitted epoch class from to self.old self.new }
         ensures spawner { SameSpawner self.old self.new }
         ensures counts { Counts self.old self.new }
     {

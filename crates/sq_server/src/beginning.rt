@@ -41,7 +41,7 @@ pub(crate) fn begin<J: Journal, B: Before, F: First>(
     journal: J,
     now: Moment,
 ) -> Result<Machine<J, B, F>, (DeskFault, J)>
-    requires first { F.first ≡ start.setup }
+    requires first { F.first ≡ record { config = start.setup; offset = start.offset } }
     requires before { B.faults ≡ J.faults journal }
     requires empty { IfSome (J.history journal) (λ h. h ≡ []) }
     ensures begun { IfOk result (λ m. HasCountedNone m.desk.notes.history (Some m.desk.notes.made) (min m.desk.notes.refusals count_limit) m.pools.granted) }

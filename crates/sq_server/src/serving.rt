@@ -5,7 +5,7 @@ ghost use Rattle.sq_outside.specs.Causes.{Rose, count_limit};
 ghost use Rattle.sq_room.specs.Books.{asks_in};
 ghost use Rattle.sq_rules.specs.Readings.{current};
 ghost use Rattle.sq_desk.specs.Calling.{IsUnbegun};
-ghost use Rattle.sq_desk.specs.Desks.{IsLegal};
+ghost use Rattle.sq_calls.specs.Legality.{IsLegal};
 
 use crate::beginning::{Blanks, Machine, begin, open_books};
 use crate::running::{REFUSALS, Ran, Tools, run};
@@ -60,14 +60,14 @@ fn serve_with<
     blanks: Blanks,
 ) -> Result<Served<L, J, K>, Unserved<L, J, K>>
     requires begun { B.faults ≡ J.faults journal }
-    requires first { F.first ≡ start.setup }
+    requires first { F.first ≡ record { config = start.setup; offset = start.offset } }
     requires empty { IfSome (J.history journal) (λ h. h ≡ []) }
     requires some { (0 < workers) × (workers ≤ 2 ^ 31) }
     requires asks { (blanks.asks.name ≡ A.name) × (blanks.asks.parts ≡ A.parts) × (A.parts ≡ workers + workers) }
     requires makes { (blanks.makes.name ≡ M.name) × (blanks.makes.parts ≡ M.parts) × (M.parts ≡ 1) }
     requires refusals { (blanks.refusals.name ≡ N.name) × (blanks.refusals.parts ≡ N.parts) × (N.parts ≡ REFUSALS) }
     requires grants { (blanks.grants.name ≡ G.name) × (blanks.grants.parts ≡ G.parts) × (G.parts ≡ workers + workers) }
-    ensures legal { IfOk result (λ s. IfSome (J.history s.journal) (IsLegal start.setup)) }
+    ensures legal { IfOk result (λ s. IfSome (J.history s.journal) (IsLegal (record { config = start.setup; offset = start.offset }))) }
     ensures asks { IfOk result (λ s. ForSome (J.history s.journal) (λ h. s.requests ≡ min (asks_in h) count_limit)) }
     ensures grants { IfOk result (λ s. s.granted ≡ min s.pools.granted count_limit) }
     ensures panel { IfOk result (λ s. (n : ℕ) × K.gives panel s.panel s.end n × ForSome (J.history s.journal) (λ h. n + 1 ≡ current h)) }
@@ -134,9 +134,9 @@ pub fn serve<R: Threads + Wait + Sync, N: Net, J: Journal + Send + Drop, K: Pane
 ) -> Result<Served<N::L, J, K>, Unserved<N::L, J, K>>
     requires empty { IfSome (J.history journal) (λ h. h ≡ []) }
     requires some { (0 < workers) × (workers ≤ 2 ^ 31) }
-    // A journal that tells is legal over the configuration of its beginning and those of its reconfigurations, each of which its source
-    // states.
-    ensures legal { IfOk result (λ s. IfSome (J.history s.journal) (IsLegal start.setup)) }
+    // A journal that tells has the offset of its beginning, and is legal over the configuration of that and those of its
+    // reconfigurations, each of which its source states.
+    ensures legal { IfOk result (λ s. IfSome (J.history s.journal) (IsLegal (record { config = start.setup; offset = start.offset }))) }
     // Its requests are the sum of those of all sessions, and what the pools granted is the sum of what sessions were.
     ensures asks { IfOk result (λ s. ForSome (J.history s.journal) (λ h. s.requests ≡ min (asks_in h) count_limit)) }
     ensures grants { IfOk result (λ s. s.granted ≡ min s.pools.granted count_limit) }

@@ -1,7 +1,7 @@
 use Rattle.std.proofs.Common.{refl, ap}
 use Rattle.sq_panel.specs.Attending.{Streams}
 use Rattle.sq_proxy.specs.Serving.{shown_service}
-use Rattle.sq_proxy.proofs.ServiceLaws.{conf_failed, net_failed, served_service, served_texts}
+use Rattle.sq_proxy.proofs.ServiceLaws.{conf_failed, net_failed, served_from, served_service, served_texts}
 use Rattle.sq_proxy.proofs.serving.serve_conf.Goals as goal
 
 pub returns-in-Err : goal.returns-in-Err
@@ -19,7 +19,8 @@ pub returns : goal.returns
 returns g c =
     served_service (shown_service c.args.service.now) _ _ _ _ _ _ _ _ _ _ _ _ _ c.port_of-port.result _ c.in-Ok.setup c.serve_at-status.result.0 c.tell_stopped.result
     (cc) (record { told = c.in-Ok.ensures.comes; opened = c.in-Ok.ensures.opened })
-    (served_texts _ _ _ _ _ _ _ _ _ _ _ _ _ _ c.in-Ok.ensures.texts c.serve_at-status.ensures.served)
+    (served_from (shown_service c.args.service.now) c.in-Ok.setup c.offset_of.result _ _ _ _ _ _ _ _ _ _ _ _ c.offset_of.ensures
+    (served_texts _ _ _ _ _ _ _ _ _ _ _ _ _ _ c.in-Ok.ensures.texts c.serve_at-status.ensures.served))
     c.in-Ok-parts.ensures.cause.quiet c.give_back.ensures.cause c.in-Ok.ensures.later c.tell_stopped.ensures.ok c.tell_stopped.ensures.same c.tell_stopped.ensures.write
     (λ other.
     let both = c.tell_stopped.ensures.kept other in (

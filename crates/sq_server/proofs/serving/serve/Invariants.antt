@@ -17,4 +17,4 @@ abbrev pub ghosts-serve_with-B-Before : goal.ghosts-serve_with-B-Before
 ghosts-serve_with-B-Before g a = record { faults = g.J.Journal.faults a.journal }
 
 abbrev pub ghosts-serve_with-F-First : goal.ghosts-serve_with-F-First
-ghosts-serve_with-F-First g a = record { first = a.start.setup }
+ghosts-serve_with-F-First g a = record { first = record { config = a.start.setup; offset = a.start.offset } }
