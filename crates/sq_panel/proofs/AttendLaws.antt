@@ -1,5 +1,5 @@
 -- A control, order by order.
-use Rattle.std.proofs.Common.{◌≡◌, ℕ, ◌+◌, ◌≤◌, List, [], ◌∷◌, ◌++◌, length, All, Some, None, IfSome, ◌⊎◌, inl, inr, refl, sym, ap, ◌∙◌, subst, append_assoc, append-nil, arith}
+use Rattle.std.proofs.Common.{◌≡◌, ℕ, ◌+◌, ◌≤◌, List, [], ◌∷◌, ◌++◌, length, true, false, All, Some, None, IfSome, Result, ◌⊎◌, inl, inr, refl, sym, ap, ◌∙◌, subst, append_assoc, append-nil, arith}
 use Rattle.std.proofs.KnownBytes.{Appends-trans}
 use Rattle.std.proofs.lemmas.List.Elements.{All-cons, All-nil}
 use Rattle.std.specs.Io.KnownBytes.{Appends}
@@ -7,14 +7,16 @@ use Rattle.std.specs.declared.option.Option.{Option}
 use Rattle.sq_outside.specs.Causes.{Rose}
 use Rattle.sq_outside.specs.Output.{Grew, IsProperPrefix}
 use Rattle.sq_outside.specs.SourceLines.{Line, lines}
-use Rattle.sq_outside.specs.Told.{Texts}
+use Rattle.sq_outside.specs.Told.{Openings, Texts}
 use Rattle.sq_outside.proofs.Writing.{Grew_proper_after}
+use Rattle.sq_rules.specs.Configurations.{Configuration}
+use Rattle.sq_calls.specs.declared.faults.DeskFault.{DeskFault}
 use Rattle.sq_control.specs.declared.panel.PanelEnd.{PanelEnd}
 use Rattle.sq_control.specs.declared.panel.PanelEnd.TheVariants as ends
-use Rattle.sq_reread.specs.Rereading.{CountsMade}
+use Rattle.sq_reread.specs.Rereading.{Asks, CountsMade, is_answer}
 use Rattle.sq_reread.specs.declared.control.Reread.{Reread}
 use Rattle.sq_reread.specs.declared.control.Reread.TheVariants as reread
-use Rattle.sq_panel.specs.Attending.{AreReread, Attends, Counts, HasCauses, HasEpoch, IsFollowed, IsReread, Seen, Streams, counts_made, made_in}
+use Rattle.sq_panel.specs.Attending.{AreReread, Attends, Counts, HasCauses, HasEpoch, IsAccepted, IsFollowed, IsReread, Seen, Streams, counts_made, made_in}
 use Rattle.sq_panel.specs.Orders.{IsNext, IsOrdered, counts_with, left_with, lines_left, rereads_in}
 use Rattle.sq_panel.specs.Telling.{control_text, listening_text, reread_text, rereads_text}
 use Rattle.sq_panel.specs.declared.orders.Order.{Order}
@@ -318,3 +320,9 @@ going_stops texts name port before now v w x o end g next last (inr e) same inpu
 -- texts that stayed
 pub same_texts : (t u : Texts) (name : List ℕ) (v : Seen) (r : Reread) (w : Seen) → t ≡ u → IsReread t name v r w → IsReread u name v r w
 same_texts t u name v r w e is = subst (λ (x : Texts). IsReread x name v r w) e is
+
+-- the desk answered, so the text was accepted
+pub asked_of : {K : Type 0} (texts : Texts) (before now : Openings) (name : List ℕ) (R : Configuration → Result ℕ DeskFault → Type 0) (old new : K) (r : Reread) → Asks texts before now name R old new r
+    → is_answer r ≡ true → IsAccepted texts before now name
+asked_of texts before now name R old new r (inl x) e = (x.0, x.2)
+asked_of texts before now name R old new r (inr x) e = absurd (let no : true ≡ false = sym e ∙ x.1 in cc)

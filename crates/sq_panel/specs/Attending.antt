@@ -6,9 +6,10 @@ use Rattle.sq_outside.specs.Causes.{Rose}
 use Rattle.sq_outside.specs.Output.{Grew, IsProperPrefix}
 use Rattle.sq_outside.specs.SourceLines.{Line, lines}
 use Rattle.sq_outside.specs.Told.{IsNotTold, Openings, Texts}
+use Rattle.sq_rules.specs.Configurations.{Configuration}
 use Rattle.sq_rules.specs.Entries.{History}
 use Rattle.sq_rules.specs.declared.kinds.ConfError.{ConfError}
-use Rattle.sq_reread.specs.Rereading.{Adds, CountsMade, IsRefused, is_refusal}
+use Rattle.sq_reread.specs.Rereading.{Adds, CountsMade, IsRefused, OfFile, States, is_answer, is_refusal}
 use Rattle.sq_reread.specs.declared.control.Reread.{Reread}
 use Rattle.sq_reread.specs.declared.control.Reread.TheVariants as reread
 use Rattle.sq_panel.specs.Orders.{lines_left, rereads_in}
@@ -31,10 +32,15 @@ pub record Seen : Type 0 where
   pub files : FilesSeen
   pub desk : DeskSeen
 
--- what became of one reconfiguration by the file of this name
+-- the text of the file states a configuration
+abbrev pub IsAccepted : Texts → Openings → Openings → List ℕ → Type 0
+IsAccepted texts before now name = (config : Configuration) × OfFile texts before now name (States config)
+
+-- what became of one reconfiguration by the file of this name; the desk answered only where the text was accepted
 pub record IsReread (texts : Texts) (name : List ℕ) (v : Seen) (r : Reread) (w : Seen) : Type 0 where
   pub adds : Adds texts v.files.opened w.files.opened name v.desk.told w.desk.told r
   pub made : CountsMade v.desk.made w.desk.made r
+  pub asked : is_answer r ≡ true → IsAccepted texts v.files.opened w.files.opened name
   pub at : (e : ConfError) → r ≡ reread.At e → IsRefused texts v.files.opened w.files.opened name e
   pub missing : r ≡ reread.Missing → IsNotTold texts name
   pub read : r ≡ reread.Read → Rose v.files.faults w.files.faults

@@ -1,7 +1,7 @@
 use Rattle.std.proofs.Common.{inl, inr, refl, sym, ◌∙◌}
 use Rattle.sq_reread.specs.ControlViews.{desk_of}
 use Rattle.sq_panel.specs.Attending.{IsReread, Seen}
-use Rattle.sq_panel.proofs.AttendLaws.{going_fails, going_on, going_over, going_reread, going_stops, going_unread, going_unwritten, same_texts, unwritten}
+use Rattle.sq_panel.proofs.AttendLaws.{asked_of, going_fails, going_on, going_over, going_reread, going_stops, going_unread, going_unwritten, same_texts, unwritten}
 use Rattle.sq_panel.proofs.attending.attend.Goals as goal
 
 pub returns-in-Err-clause-attends : goal.returns-in-Err-clause-attends
@@ -19,7 +19,7 @@ returns-in-Err-write_reread-clause-attends g c =
     let was : Seen = record { files = record { opened = g.F.Files.opened c.orders.files; faults = g.F.Files.faults c.orders.files }; desk = record { told = g.K.DeskCalls.told (desk_of c.orders.control); made = g.K.DeskCalls.made (desk_of c.orders.control); refused = g.K.DeskCalls.refused (desk_of c.orders.control) } } in
     let is_now : Seen = record { files = record { opened = g.F.Files.opened c.reread-reread.new.files; faults = g.F.Files.faults c.reread-reread.new.files }; desk = record { told = g.K.DeskCalls.told (desk_of c.reread-reread.new.self); made = g.K.DeskCalls.made (desk_of c.reread-reread.new.self); refused = g.K.DeskCalls.refused (desk_of c.reread-reread.new.self) } } in
     let r = c.reread-reread.ensures in
-    let one : IsReread (g.F.Files.texts c.orders.files) c.args.conf.now was c.reread-reread.result is_now = record { adds = r.adds; made = r.made; at = r.at; missing = r.missing; read = r.read; quiet = r.quiet; later = r.faults_later; refused = r.refused; refused_later = r.later } in
+    let one : IsReread (g.F.Files.texts c.orders.files) c.args.conf.now was c.reread-reread.result is_now = record { adds = r.adds; made = r.made; asked = asked_of _ _ _ _ _ _ _ _ r.asks; at = r.at; missing = r.missing; read = r.read; quiet = r.quiet; later = r.faults_later; refused = r.refused; refused_later = r.later } in
     going_unwritten _ _ _ _ was is_now _
     (record { left = g.S.Source.left c.orders.input; input_faults = g.S.Source.faults c.orders.input; contents = g.O.Sink.contents c.orders.out; output_faults = g.O.Sink.faults c.orders.out })
     _ c.reread-reread.result c.orders.invariant.going (same_texts _ _ _ _ _ _ c.orders.invariant.texts one) c.in-Err-write_reread.ensures.short
@@ -30,7 +30,7 @@ returns-then-is_over-clause-attends g c =
     let was : Seen = record { files = record { opened = g.F.Files.opened c.orders.files; faults = g.F.Files.faults c.orders.files }; desk = record { told = g.K.DeskCalls.told (desk_of c.orders.control); made = g.K.DeskCalls.made (desk_of c.orders.control); refused = g.K.DeskCalls.refused (desk_of c.orders.control) } } in
     let is_now : Seen = record { files = record { opened = g.F.Files.opened c.reread-reread.new.files; faults = g.F.Files.faults c.reread-reread.new.files }; desk = record { told = g.K.DeskCalls.told (desk_of c.reread-reread.new.self); made = g.K.DeskCalls.made (desk_of c.reread-reread.new.self); refused = g.K.DeskCalls.refused (desk_of c.reread-reread.new.self) } } in
     let r = c.reread-reread.ensures in
-    let one : IsReread (g.F.Files.texts c.orders.files) c.args.conf.now was c.reread-reread.result is_now = record { adds = r.adds; made = r.made; at = r.at; missing = r.missing; read = r.read; quiet = r.quiet; later = r.faults_later; refused = r.refused; refused_later = r.later } in
+    let one : IsReread (g.F.Files.texts c.orders.files) c.args.conf.now was c.reread-reread.result is_now = record { adds = r.adds; made = r.made; asked = asked_of _ _ _ _ _ _ _ _ r.asks; at = r.at; missing = r.missing; read = r.read; quiet = r.quiet; later = r.faults_later; refused = r.refused; refused_later = r.later } in
     going_over _ _ _ _ was is_now _
     (record { left = g.S.Source.left c.orders.input; input_faults = g.S.Source.faults c.orders.input; contents = g.O.Sink.contents c.orders.out; output_faults = g.O.Sink.faults c.orders.out })
     _ c.reread-reread.result c.orders.invariant.going (same_texts _ _ _ _ _ _ c.orders.invariant.texts one)
@@ -41,7 +41,7 @@ orders-preserved g c =
     let was : Seen = record { files = record { opened = g.F.Files.opened c.orders.files; faults = g.F.Files.faults c.orders.files }; desk = record { told = g.K.DeskCalls.told (desk_of c.orders.control); made = g.K.DeskCalls.made (desk_of c.orders.control); refused = g.K.DeskCalls.refused (desk_of c.orders.control) } } in
     let is_now : Seen = record { files = record { opened = g.F.Files.opened c.reread-reread.new.files; faults = g.F.Files.faults c.reread-reread.new.files }; desk = record { told = g.K.DeskCalls.told (desk_of c.reread-reread.new.self); made = g.K.DeskCalls.made (desk_of c.reread-reread.new.self); refused = g.K.DeskCalls.refused (desk_of c.reread-reread.new.self) } } in
     let r = c.reread-reread.ensures in
-    let one : IsReread (g.F.Files.texts c.orders.files) c.args.conf.now was c.reread-reread.result is_now = record { adds = r.adds; made = r.made; at = r.at; missing = r.missing; read = r.read; quiet = r.quiet; later = r.faults_later; refused = r.refused; refused_later = r.later } in
+    let one : IsReread (g.F.Files.texts c.orders.files) c.args.conf.now was c.reread-reread.result is_now = record { adds = r.adds; made = r.made; asked = asked_of _ _ _ _ _ _ _ _ r.asks; at = r.at; missing = r.missing; read = r.read; quiet = r.quiet; later = r.faults_later; refused = r.refused; refused_later = r.later } in
     record {
       going = going_reread _ _ _ _ was is_now _
           (record { left = g.S.Source.left c.orders.input; input_faults = g.S.Source.faults c.orders.input; contents = g.O.Sink.contents c.orders.out; output_faults = g.O.Sink.faults c.orders.out })
