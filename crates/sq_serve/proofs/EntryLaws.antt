@@ -9,9 +9,9 @@ use Rattle.sq_calls.specs.Telling.{MayAct}
 use Rattle.sq_epochs.specs.declared.acts.Act.{Act}
 use Rattle.sq_epochs.specs.declared.acts.Act.TheVariants as act
 use Rattle.sq_rules.specs.Entries.{History}
-use Rattle.sq_serve.specs.Entries.{Follows, IsCaused, IsNew, NotesTurn}
+use Rattle.sq_serve.specs.Entries.{Follows, IsCaused, NotesTurn}
 use Rattle.sq_serve.specs.Pumps.{Programs, PumpView}
-use Rattle.sq_serve.specs.Turning.{AddsEntryOf, BeginsTurn, IsActing, Performs, Reports, Resumes, SameButRefused, Turns, TurnsBy}
+use Rattle.sq_serve.specs.Turning.{AddsEntryOf, IsActing, Performs, Reports, Resumes, SameButRefused, Turns, TurnsBy}
 use Rattle.sq_serve.specs.declared.turns.Left.{Left}
 use Rattle.sq_serve.specs.declared.turns.Left.TheVariants as left
 use Rattle.sq_serve.specs.declared.turns.Turn.{Turn}

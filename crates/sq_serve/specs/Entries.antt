@@ -1,5 +1,5 @@
 -- What a turn adds to the journal, each entry with its cause.
-use Rattle.std.specs.Prelude.{◌≡◌, ◌⊎◌, ℕ, List, Bool, Some, None, IfSome, Ok}
+use Rattle.std.specs.Prelude.{◌≡◌, ◌⊎◌, ℕ, List, Bool, Some, None, Ok}
 use Rattle.std.specs.declared.option.Option.{Option}
 use Rattle.sq_outside.specs.Causes.{Rose}
 use Rattle.sq_outside.specs.World.{StartsMore}

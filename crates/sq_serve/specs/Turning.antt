@@ -1,10 +1,10 @@
 -- What a turn of a pump does.
-use Rattle.std.specs.Prelude.{◌≡◌, ◌⊎◌, ℕ, ◌≤◌, List, [], ◌∷◌, ◌++◌, Bool, false, Some, None, IfSome, Result, Ok, Err}
+use Rattle.std.specs.Prelude.{◌≡◌, ◌⊎◌, ℕ, ◌≤◌, List, [], ◌∷◌, ◌++◌, Bool, false, Some, None, IfSome, Ok}
 use Rattle.std.specs.declared.option.Option.{Option}
 use Rattle.sq_base.specs.Replies.{question_text}
 use Rattle.sq_outside.specs.Causes.{Rose}
 use Rattle.sq_outside.specs.Dials.{IsEmpty, IsOpen}
-use Rattle.sq_outside.specs.World.{Starts, StartsMore}
+use Rattle.sq_outside.specs.World.{StartsMore}
 use Rattle.sq_pipes.specs.declared.pipes.Pipe.{Pipe}
 use Rattle.sq_pipes.specs.Pipes.{Asks, Fails, Shuts, Changes, open_ones, pipe_place}
 use Rattle.sq_epochs.specs.declared.acts.Act.{Act}
@@ -70,6 +70,7 @@ IsAdmitted epoch class from to v w =
 pub record SameButPipes {P Q D : Type 0} (v w : PumpView P Q D) : Type 0 where
   pub spawner : SameSpawner v w
   pub readers : w.readers ≡ v.readers
+  pub first : w.first ≡ v.first
   pub told : w.told ≡ v.told
   pub refused : w.refused ≡ v.refused
   pub made : w.made ≡ v.made

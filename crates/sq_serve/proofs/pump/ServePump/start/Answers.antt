@@ -1,4 +1,4 @@
-use Rattle.std.proofs.Common.{inl, inr, rules, subst, sym, ◌∙◌}
+use Rattle.std.proofs.Common.{inr, rules}
 use Rattle.sq_serve.proofs.pump.ServePump.start.Goals as goal
 
 pub returns-in-Ok-clause-starting : goal.returns-in-Ok-clause-starting
