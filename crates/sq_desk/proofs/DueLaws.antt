@@ -1,15 +1,13 @@
 -- The act that a desk gives is the machine's next.
 use Rattle.std.proofs.Common.{◌≡◌, ℕ, ◌≤◌, max, Option, None, Some, IfOk, IfSome, Result, Ok, Err, arith}
-use Rattle.sq_rules.specs.declared.entries.Event.TheVariants as event
 use Rattle.sq_rules.specs.Entries.{History}
-use Rattle.sq_rules.specs.Machine.{gives, nothing}
 use Rattle.sq_rules.specs.Readings.{latest}
 use Rattle.sq_epochs.specs.declared.acts.Act.{Act}
 use Rattle.sq_state.specs.States.{State}
 use Rattle.sq_engine.specs.Acting.{IsActPromised, told_of_act}
 use Rattle.sq_engine.specs.EngineViews.{state_of}
 use Rattle.sq_calls.specs.Legality.{Beginning, configs_over}
-use Rattle.sq_calls.specs.Telling.{HasNext, IsNextAct}
+use Rattle.sq_calls.specs.Telling.{IsNextAct}
 use Rattle.sq_calls.specs.declared.faults.DeskFault.{DeskFault}
 use Rattle.sq_desk.specs.Calling.{Acts}
 use Rattle.sq_desk.specs.Desks.{DeskView, IsDesk, IsReplay}

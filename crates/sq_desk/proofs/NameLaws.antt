@@ -32,8 +32,8 @@ open_row configs m s p st t = by (s.row p.epoch p.class) refl t
     by (Some r) is t = (r, is_class_row configs m s p.epoch p.class r st is)
 
 -- a class of which a start is open has its name in the configuration of its epoch
-open_name : {first : Beginning} (s : State) (p : Place) (h : History) → IsReplay first s h → has_start_in s p ≡ true → HasName (Some first) h p.epoch p.class (name_in s p)
-open_name s p h r t =
+open_name : (first : Beginning) (s : State) (p : Place) (h : History) → IsReplay first s h → has_start_in s p ≡ true → HasName (Some first) h p.epoch p.class (name_in s p)
+open_name first s p h r t =
     let o = over_of s h r in
     let configs = configs_over o.over in
     let row = (open_row configs (marked configs h) s p o.stands.stands t).1 in
@@ -44,20 +44,20 @@ open_name s p h r t =
       name_is = name_is configs (marked configs h) s p row.class o.stands.stands row.lives row.class_is;
     }
 
-told_name : {first : Beginning} (s : State) (p : Place) (o : Option History) → IfSome o (IsReplay first s) → has_start_in s p ≡ true → IsNameOf (Some first) o p.epoch p.class (name_in s p)
-told_name s p None r t = tt
-told_name s p (Some h) r t = open_name s p h r t
+told_name : (first : Beginning) (s : State) (p : Place) (o : Option History) → IfSome o (IsReplay first s) → has_start_in s p ≡ true → IsNameOf (Some first) o p.epoch p.class (name_in s p)
+told_name first s p None r t = tt
+told_name first s p (Some h) r t = open_name first s p h r t
 
 pub started_name : {first : Beginning} (v w : DeskView) (p : Place) (moment : ℕ) (r : Result ℕ DeskFault) → IsDesk first v
     → Makes told.Proc (started_answer (state_of v.engine) p) (max moment v.engine.latest) (Started p.epoch (name_in (state_of v.engine) p)) (after_started_at p (max moment v.engine.latest) (state_of v.engine)) v r w
     → OnOk r (IsNameOf (Some first) v.notes.history p.epoch p.class (name_in (state_of v.engine) p))
-started_name v w p moment (Ok a) d m =
-    told_name (state_of v.engine) p v.notes.history (d.replay m.going) (not_refused (has_start_in (state_of v.engine) p) (refusal.NoStartOpen p.epoch p.class) _ (told.Proc a) m.next_is)
+started_name {first = first} v w p moment (Ok a) d m =
+    told_name first (state_of v.engine) p v.notes.history (d.replay m.going) (not_refused (has_start_in (state_of v.engine) p) (refusal.NoStartOpen p.epoch p.class) _ (told.Proc a) m.next_is)
 started_name v w p moment (Err f) d m = tt
 
 pub failed_name : {first : Beginning} (v w : DeskView) (p : Place) (moment : ℕ) (r : Result (Unit {0}) DeskFault) → IsDesk first v
     → Makes {A = Unit {0}} (λ x. told.Fine) (failed_answer (state_of v.engine) p) (max moment v.engine.latest) (StartFail p.epoch (name_in (state_of v.engine) p)) (after_failed_at p (max moment v.engine.latest) (state_of v.engine)) v r w
     → OnOk r (IsNameOf (Some first) v.notes.history p.epoch p.class (name_in (state_of v.engine) p))
-failed_name v w p moment (Ok a) d m =
-    told_name (state_of v.engine) p v.notes.history (d.replay m.going) (not_refused (has_start_in (state_of v.engine) p) (refusal.NoStartOpen p.epoch p.class) _ told.Fine m.next_is)
+failed_name {first = first} v w p moment (Ok a) d m =
+    told_name first (state_of v.engine) p v.notes.history (d.replay m.going) (not_refused (has_start_in (state_of v.engine) p) (refusal.NoStartOpen p.epoch p.class) _ told.Fine m.next_is)
 failed_name v w p moment (Err f) d m = tt

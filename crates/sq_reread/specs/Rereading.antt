@@ -1,5 +1,5 @@
 -- What becomes of a reconfiguration.
-use Rattle.std.specs.Prelude.{◌≡◌, ◌⊎◌, ℕ, ◌+◌, List, Bool, true, false, Some, None, IfSome, Result, Ok, Err}
+use Rattle.std.specs.Prelude.{◌≡◌, ◌⊎◌, ℕ, ◌+◌, List, Bool, true, false, Some, IfSome, Result, Ok, Err}
 use Rattle.std.specs.declared.option.Option.{Option}
 use Rattle.sq_outside.specs.Told.{Texts, Openings, AddsText}
 use Rattle.sq_calls.specs.declared.faults.DeskFault.{DeskFault}
