@@ -1,5 +1,5 @@
 //! A desk that runs a job, and what comes of it.
-ghost use Rattle.std.specs.Prelude.{◌≡◌, []};
+ghost use Rattle.std.specs.Prelude.{◌≡◌, [], pos};
 ghost use Rattle.sq_note.specs.Memory.{mem_history};
 
 use crate::calls::{call, is_same, setup_of};
@@ -113,7 +113,7 @@ fn run_job<F: First>(
     journal: MemJournal,
     job: Job,
 ) -> Result<Ran, Fail>
-    requires first { F.first ≡ setup }
+    requires first { F.first ≡ record { config = setup; offset = pos 0 } }
     requires empty { mem_history journal ≡ [] }
 {
     let seed = HashSeed::fixed();

@@ -1,5 +1,6 @@
+use Rattle.std.specs.Prelude.{pos}
 use Rattle.tests_desk.proofs.desks.run.Given as goal
 
 -- the desk begins with the configuration that was just made
 abbrev pub ghosts-run_job : goal.ghosts-run_job
-ghosts-run_job a = record { first = a.setup }
+ghosts-run_job a = record { first = record { config = a.setup; offset = pos 0 } }
