@@ -1,11 +1,16 @@
 //! Tests of the outside in memory: a job over all objects of a net, in which each call of each object fails
-//! once, and the answers of single calls; and of journals that are written.
+//! once, and the answers of single calls; of the adapters; of the lines of journals, and of journals that are written.
 //!
-//! It has no public call. What is expected comes from what the forms in memory say of their calls. The lines of
-//! journals are written by hand from the form of a journal of version 2: the version line, and each entry's text
+//! It has no public call. What is expected comes from what the forms in memory say of their calls. `calls` makes each
+//! public call of the forms in memory and the adapters once with ample memory. `entries` has the lines of entries. The
+//! lines of journals are written by hand from the form of a journal of version 2: the version line, and each entry's text
 //! behind its number and its epoch.
 #![tactic(auto)]
 
+#[cfg(test)]
+mod calls;
+#[cfg(test)]
+mod entries;
 #[cfg(test)]
 mod faults;
 #[cfg(test)]

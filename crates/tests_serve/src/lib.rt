@@ -1,12 +1,19 @@
-//! Tests of a server over a net in memory: links that are served one after the other and beside one another, with their
-//! journals.
+//! Tests of the top call: commands over devices that fail, the codes of statuses, and servers over nets in memory.
 //!
-//! It has no public call. What is expected comes from the machine's definitions and from those of replies.
+//! It has no public call. `faults` lets each call of a device fail in turn; what a command comes to where none fails is in
+//! `cases/`. `serving` has servers from their words to their journals. What is expected comes from the machine's definitions,
+//! from the forms of lines and replies, and from the order in which a server begins.
 #![tactic(auto)]
 
 #[cfg(test)]
+mod devices;
+#[cfg(test)]
+mod faults;
+#[cfg(test)]
+mod jobs;
+#[cfg(test)]
 mod nets;
 #[cfg(test)]
-mod panels;
+mod served;
 #[cfg(test)]
 mod serving;

@@ -1,99 +1,79 @@
 //! Servers over nets in memory.
-ghost use Rattle.std.specs.Prelude.{◌<◌, ◌≤◌};
-
-use crate::nets::{helpers, links, net};
-use crate::panels::Until;
-use sq_base::WantOfMemory;
-use sq_cache::HashSeed;
-use sq_conf::read_config;
-use sq_journal::print_entry;
-use sq_note::MemJournal;
-use sq_outside::{Net, Wire};
-use sq_rules::Offset;
-use sq_server::{Served, Start, serve};
+use crate::served::{Job, check, run};
 use std::alloc::Global;
-use std::sync::Wait;
-use std::sync::atomic::AtomicBool;
 use std::test::Fail;
-use std::thread::Threads;
 
-/// What a run came to: what each client got, one after the other, the journal, and the sum of the sessions' requests.
-#[derive(Drop)]
-struct Came {
-    clients: String,
-    journal: String,
-    requests: u64,
+/// What a client asks who wants a page, and ends.
+const REQUEST: &[u8] = b"GET http://a.example/ HTTP/1.1\r\nHost: a.example\r\n\r\n";
+
+/// A reply with two bytes.
+const REPLY: &[u8] = b"HTTP/1.1 200 OK\r\nContent-Length: 2\r\n\r\nhi";
+
+/// A server of one worker that denies all, to which nobody comes, and which gets no orders.
+fn job<'a>() -> Job<'a> {
+    Job {
+        workers: b"1",
+        conf: &[b"http_access deny all\n"],
+        orders: b"",
+        fails: &[],
+        clients: &[],
+        origin: (80, REPLY),
+    }
 }
 
-fn wires(alloc: Global, count: u32) -> Result<Vec<Wire>, WantOfMemory> {
-    let mut wires = Vec::new(alloc);
-    for _ in 0..count {
-        wires.push(Wire::new(alloc, 4096)?)?;
-    }
-    Ok(wires)
+#[test]
+fn a_server_is_ordered_to_end(rt: HostRuntime) -> Result<(), Fail> {
+    let alloc = rt.alloc();
+    let small = Job {
+        conf: &[b"acl a src 10.0.0.0/8\nhttp_access allow a\n"],
+        orders: b"shutdown\n",
+        ..job()
+    };
+    check(
+        &rt,
+        alloc,
+        &small,
+        0,
+        "listening 3128\nstopped\n",
+        "7 begin 0 => epoch 1\n",
+    )?;
+    // Its first note fails.
+    let unnoted = Job {
+        fails: &[1],
+        ..small
+    };
+    check(&rt, alloc, &unnoted, 6, "error journal\n", "")
 }
 
-// The lines of a journal.
-fn lines(alloc: Global, journal: &MemJournal) -> Result<String, Fail> {
-    let mut text = String::new(alloc);
-    for entry in journal.entries() {
-        let line = print_entry(alloc, entry)?;
-        text.push_str(str::from_utf8(line.as_bytes())?)?;
-        text.push('\n')?;
-    }
-    Ok(text)
-}
-
-// A server of this configuration, to which so many clients come, with a helper where it waits for the reply to the client
-// at a place.
-fn run<R: Threads + Wait + Sync>(
-    rt: &R,
-    alloc: Global,
-    conf: &[u8],
-    workers: u32,
-    clients: u32,
-    waits: Option<usize>,
-) -> Result<Came, Fail>
-    requires { (0 < workers) × (workers ≤ 64) }
-{
-    let wires = wires(alloc, clients)?;
-    let word = AtomicBool::new(false);
-    let names = Vec::new(alloc);
-    let children = helpers(alloc, wires.as_slice(), waits)?;
-    let links = links(alloc, wires.as_slice())?;
-    let mut net = net(alloc, links, children, names.as_slice(), &word)?;
-    let Ok(parts) = net.parts(alloc, 3128) else {
-        return Err(Fail::new("the net is not opened"));
+#[test]
+fn a_server_reads_its_configuration_again(rt: HostRuntime) -> Result<(), Fail> {
+    let alloc = rt.alloc();
+    let same = Job {
+        conf: &[b"http_access deny all\n", b"http_access deny all\n"],
+        orders: b"reconfigure\nshutdown\n",
+        ..job()
     };
-    let start = Start {
-        setup: read_config(alloc, conf)?,
-        offset: Offset(0),
-        seed: HashSeed::fixed(),
+    check(
+        &rt,
+        alloc,
+        &same,
+        0,
+        "listening 3128\nreconfigured 2\nstopped\n",
+        "7 begin 0 => epoch 1\n7 reconfigure http_access%20deny%20all%0A => epoch 2\n",
+    )?;
+    // The text is faulty by now.
+    let faulty = Job {
+        conf: &[b"http_access deny all\n", b"acl"],
+        ..same
     };
-    let journal = MemJournal::new(alloc, 100, Vec::new(alloc), Vec::new(alloc))?;
-    let panel = Until {
-        wires: wires.as_slice(),
-    };
-    let Ok(served) = serve(rt, alloc, start, parts, journal, workers, panel) else {
-        return Err(Fail::new("no desk is made"));
-    };
-    let Served {
-        listener,
-        journal,
-        requests,
-        ..
-    } = served;
-    net.give_back(listener);
-    let mut clients = String::new(alloc);
-    for wire in &wires {
-        let text = wire.text(alloc)?;
-        clients.push_str(str::from_utf8(text.as_bytes())?)?;
-    }
-    Ok(Came {
-        clients,
-        journal: lines(alloc, &journal)?,
-        requests,
-    })
+    check(
+        &rt,
+        alloc,
+        &faulty,
+        0,
+        "listening 3128\nkept old 1 3\nstopped\n",
+        "7 begin 0 => epoch 1\n",
+    )
 }
 
 /// Three replies of rule 1.
@@ -106,10 +86,19 @@ const JOURNAL: &str =
 
 #[test]
 fn one_worker_serves_each_link(rt: HostRuntime) -> Result<(), Fail> {
-    let came = run(&rt, rt.alloc(), b"http_access deny all\n", 1, 3, None)?;
-    assert!(rt; came.clients.as_str() == DENIED);
+    let three = Job {
+        clients: &[
+            (0x0a00_0001, REQUEST),
+            (0x0a00_0002, REQUEST),
+            (0x0a00_0003, REQUEST),
+        ],
+        ..job()
+    };
+    let came = run(&rt, rt.alloc(), &three)?;
+    assert!(rt; came.code == 0);
+    assert!(rt; came.out.as_str() == "listening 3128\nstopped\n");
     assert!(rt; came.journal.as_str() == JOURNAL);
-    assert!(rt; came.requests == 3);
+    assert!(rt; came.got.as_str() == DENIED);
     Ok(())
 }
 
@@ -123,8 +112,83 @@ const BOTH: &str =
 
 #[test]
 fn a_worker_serves_while_another_waits_for_a_helper(rt: HostRuntime) -> Result<(), Fail> {
-    let came = run(&rt, rt.alloc(), GATE, 2, 2, Some(1))?;
-    assert!(rt; came.clients.as_str() == BOTH);
-    assert!(rt; came.requests == 2);
+    let two = Job {
+        workers: b"2",
+        conf: &[GATE],
+        clients: &[(0x0a00_0001, REQUEST), (0x0a00_0002, REQUEST)],
+        ..job()
+    };
+    let came = run(&rt, rt.alloc(), &two)?;
+    assert!(rt; came.out.as_str() == "listening 3128\nstopped\n");
+    assert!(rt; came.got.as_str() == BOTH);
+    Ok(())
+}
+
+/// A request whose body's end is stated in two ways.
+const TWICE: &[u8] =
+    b"POST http://a.example/ HTTP/1.1\r\nHost: a.example\r\nTransfer-Encoding: chunked\r\nContent-Length: 3\r\n\r\n";
+
+// A request whose head has this many bytes.
+fn long_head(alloc: Global, bytes: usize) -> Result<Vec<u8>, Fail> {
+    let front = b"GET http://a.example/ HTTP/1.1\r\nHost: a.example\r\nX: ";
+    let end = b"\r\n\r\n";
+    let mut head = Vec::from_slice(alloc, front)?;
+    for _ in front.len().saturating_add(end.len())..bytes {
+        head.push(b'a')?;
+    }
+    head.extend_from_slice(end)?;
+    Ok(head)
+}
+
+/// The replies to these two, and to a request behind them, which the origin gets. That answers one dial: none was made for the
+/// others.
+const REFUSED: &str =
+    "HTTP/1.1 400 Bad Request\r\nContent-Type: text/plain\r\nContent-Length: 12\r\nConnection: close\r\n\r\nbad request\nHTTP/1.1 431 Request Header Fields Too Large\r\nContent-Type: text/plain\r\nContent-Length: 15\r\nConnection: close\r\n\r\nhead too large\nHTTP/1.1 200 OK\r\nContent-Length: 2\r\nVia: 1.1 aclproxy\r\n\r\nhiGET / HTTP/1.1\r\nHost: a.example\r\nVia: 1.1 aclproxy\r\nX-Forwarded-For: 10.0.0.3\r\nConnection: close\r\n\r\n";
+
+/// The first two are not asked about.
+const UNASKED: &str =
+    "7 begin 0 => epoch 1\n7 open 1 10.0.0.1 4000 => ok\n7 close 1 => ok\n7 open 1 10.0.0.2 4000 => ok\n7 close 1 => ok\n7 open 1 10.0.0.3 4000 => ok\n7 ask 1 GET http://a.example/ Host:a.example => check 1\n7 step 1 => done\n7 take 1 => epoch 1 allowed rule 1\n7 close 1 => ok\n";
+
+#[test]
+fn heads_that_are_none_are_refused(rt: HostRuntime) -> Result<(), Fail> {
+    let long = long_head(rt.alloc(), 65_537)?;
+    let three = Job {
+        conf: &[b"http_access allow all\n"],
+        clients: &[
+            (0x0a00_0001, TWICE),
+            (0x0a00_0002, long.as_slice()),
+            (0x0a00_0003, REQUEST),
+        ],
+        ..job()
+    };
+    let came = run(&rt, rt.alloc(), &three)?;
+    assert!(rt; came.got.as_str() == REFUSED);
+    assert!(rt; came.journal.as_str() == UNASKED);
+    Ok(())
+}
+
+/// Who comes from the inside may ask for these ports.
+const PORTS: &[u8] =
+    b"acl lan src 10.0.0.0/8\nacl web port 80 443 8080\nhttp_access allow lan web\n";
+
+/// A request with a field for this connection alone.
+const HOP: &[u8] =
+    b"GET http://a.example:8080/x?y HTTP/1.1\r\nHost: other\r\nConnection: X-Hop\r\nX-Hop: 1\r\nAccept: */*\r\n\r\n";
+
+/// What the client from the outside gets, the one from the inside, and the origin, which answers one dial.
+const PASSED: &str =
+    "HTTP/1.1 403 Forbidden\r\nContent-Type: text/plain\r\nContent-Length: 15\r\n\r\ndenied default\nHTTP/1.1 200 OK\r\nContent-Length: 2\r\nVia: 1.1 aclproxy\r\n\r\nhiGET /x?y HTTP/1.1\r\nHost: a.example:8080\r\nAccept: */*\r\nVia: 1.1 aclproxy\r\nX-Forwarded-For: 10.1.2.3\r\nConnection: close\r\n\r\n";
+
+#[test]
+fn an_origin_is_reached_by_whom_the_rules_allow(rt: HostRuntime) -> Result<(), Fail> {
+    let two = Job {
+        conf: &[PORTS],
+        clients: &[(0xc000_0201, HOP), (0x0a01_0203, HOP)],
+        origin: (8080, REPLY),
+        ..job()
+    };
+    let came = run(&rt, rt.alloc(), &two)?;
+    assert!(rt; came.code == 0);
+    assert!(rt; came.got.as_str() == PASSED);
     Ok(())
 }

@@ -1,8 +1,9 @@
-//! Devices that fail: each call of each of them in turn, and a sink that is full.
+//! Devices that fail: each call of each of them in turn, and a sink that is full; and the codes of statuses.
 
-use crate::fixtures::{Job, Ran, run};
-use sq_base::WantOfMemory;
+use crate::jobs::{Job, Ran, run};
+use sq_base::{Text, WantOfMemory};
 use sq_proxy::Status;
+use sq_rules::Kind;
 use std::alloc::Global;
 use std::process::Abort;
 use std::test::Fail;
@@ -217,6 +218,27 @@ fn what_fits_is_written_and_a_last_line_that_fails_leaves_the_status(
         }
         assert!(rt; ran.status.code() == cut.code, "{}", cut.out);
         assert!(rt; str::from_utf8(ran.out.bytes()) == Ok(cut.out));
+    }
+    Ok(())
+}
+
+#[test]
+fn each_status_has_its_code(rt: HostRuntime) -> Result<(), Fail> {
+    let name = Text::from_slice(rt.alloc(), b"c")?;
+    let kind = Kind::BadValue;
+    for (status, code) in [
+        (Status::Ok, 0),
+        (Status::Usage, 1),
+        (Status::Config { line: 1, kind }, 2),
+        (Status::Script(1), 3),
+        (Status::ReadFault, 4),
+        (Status::WriteFault, 5),
+        (Status::JournalFault, 6),
+        (Status::Missing(name), 7),
+        (Status::Net, 9),
+        (Status::WantOfMemory, 10),
+    ] {
+        assert!(rt; status.code() == code);
     }
     Ok(())
 }

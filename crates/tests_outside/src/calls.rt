@@ -1,13 +1,10 @@
 //! Public calls of the forms in memory and the adapters, once each.
 
-use crate::fixtures::file;
 use sq_base::{Text, WantOfMemory};
 use sq_outside::{
-    COUNT_LIMIT, Calls, Failed, Files, MemFiles, MemSink, MemSource, NoOpen, RealFiles, RealSink,
-    RealSource, Sink, Source, read_file, read_whole, write_all, write_line,
+    COUNT_LIMIT, Calls, Failed, Files, MemFile, MemFiles, MemSink, MemSource, NoOpen, RealFiles,
+    RealSink, RealSource, Sink, Source, read_file, read_whole, write_all, write_line,
 };
-use sq_proxy::Status;
-use sq_rules::Kind;
 use std::alloc::Global;
 use std::io::{self, ErrorKind, Read, Write};
 use std::test::Fail;
@@ -52,9 +49,12 @@ fn a_sink_in_memory_takes_bytes(rt: HostRuntime) -> Result<(), Fail> {
 
 // Files in memory with one of this name and text.
 fn files_of(alloc: Global, name: &str, text: &str) -> Result<MemFiles, WantOfMemory> {
-    let file = file(alloc, name, text, &[])?;
     let mut list = Vec::new(alloc);
-    list.push(file)?;
+    list.push(MemFile {
+        name: Text::from_slice(alloc, name.as_bytes())?,
+        text: Text::from_slice(alloc, text.as_bytes())?,
+        fails: Vec::new(alloc),
+    })?;
     MemFiles::new(alloc, list, 3, 2, Vec::new(alloc))
 }
 
@@ -172,24 +172,5 @@ fn files_of_the_system_are_opened_by_their_names(rt: HostRuntime) -> Result<(), 
         .flatten()
         .ok_or("no byte")?;
     assert!(rt; text.is_empty());
-    Ok(())
-}
-
-#[test]
-fn each_status_has_its_code(rt: HostRuntime) -> Result<(), Fail> {
-    let name = Text::from_slice(rt.alloc(), b"c")?;
-    let kind = Kind::BadValue;
-    for (status, code) in [
-        (Status::Ok, 0),
-        (Status::Usage, 1),
-        (Status::Config { line: 1, kind }, 2),
-        (Status::Script(1), 3),
-        (Status::ReadFault, 4),
-        (Status::WriteFault, 5),
-        (Status::Missing(name), 7),
-        (Status::WantOfMemory, 10),
-    ] {
-        assert!(rt; status.code() == code);
-    }
     Ok(())
 }

@@ -1,4 +1,4 @@
-//! Jobs of the top call over files and a sink in memory.
+//! Jobs of commands over files and a sink in memory.
 
 use sq_base::{Text, WantOfMemory};
 use sq_outside::{MemFile, MemFiles, MemSink};
@@ -41,8 +41,8 @@ fn texts(alloc: Global, words: &[&str]) -> Result<Vec<Text>, WantOfMemory> {
     Ok(texts)
 }
 
-/// A file of this name and text, of which the listed reads fail.
-pub fn file(alloc: Global, name: &str, text: &str, fails: &[u64]) -> Result<MemFile, WantOfMemory> {
+// A file of this name and text, of which the listed reads fail.
+fn file(alloc: Global, name: &str, text: &str, fails: &[u64]) -> Result<MemFile, WantOfMemory> {
     let name = Text::from_slice(alloc, name.as_bytes())?;
     let text = Text::from_slice(alloc, text.as_bytes())?;
     let fails = Vec::from_slice(alloc, fails)?;

@@ -1,0 +1,110 @@
+//! What a server reads: a file that has other texts later, and orders that wait for clients.
+ghost use Rattle.std.specs.Prelude.{None};
+ghost use Rattle.std.proofs.Common.{arith};
+
+use sq_base::Text;
+use sq_outside::{Failed, Files, NoOpen, Source, Wire};
+use std::alloc::Global;
+use std::thread;
+
+/// For how many turns orders wait.
+const TURNS: u32 = 100_000;
+
+/// The bytes that a source has left. It tells nothing, and never fails.
+#[derive(Drop)]
+pub struct Bytes<'a> {
+    left: &'a [u8],
+}
+
+impl<'a> Source for Bytes<'a> {
+    ghost left = { λ _. None };
+
+    ghost origin = { λ _. None };
+
+    ghost faults = { λ _. 0 };
+
+    ghost capped = { λ _. Prim.search arith };
+
+    fn read(&mut self, into: &mut [u8]) -> Result<usize, Failed> {
+        let count = self.left.len().min(into.len());
+        let (front, rest) = self.left.split_at(count);
+        into[..count].copy_from_slice(front);
+        self.left = rest;
+        Ok(count)
+    }
+}
+
+/// Files of which the one that is opened has the next of these texts, whatever its name.
+#[derive(Drop)]
+pub struct Versions<'a> {
+    texts: &'a [&'a [u8]],
+}
+
+impl<'a> Versions<'a> {
+    /// Files with these texts.
+    pub fn new(texts: &'a [&'a [u8]]) -> Versions<'a> {
+        Versions { texts }
+    }
+}
+
+impl<'a> Files for Versions<'a> {
+    type Src = Bytes<'a>;
+
+    ghost texts = { λ _. None };
+
+    ghost opened = { λ _. None };
+
+    ghost faults = { λ _. 0 };
+
+    ghost capped = { λ _. Prim.search arith };
+
+    fn open(&mut self, _alloc: Global, _name: &Text) -> Result<Bytes<'a>, NoOpen> {
+        let Some((text, later)) = self.texts.split_first() else {
+            return Err(NoOpen::Missing);
+        };
+        self.texts = later;
+        Ok(Bytes { left: text })
+    }
+
+    fn give_back(&mut self, _source: Bytes<'a>) {}
+}
+
+/// The orders of a server. They come once each of these wires was closed, or after as many turns as they wait.
+#[derive(Drop)]
+pub struct Orders<'a> {
+    wires: &'a [Wire],
+    text: Bytes<'a>,
+}
+
+impl<'a> Orders<'a> {
+    /// Orders that wait for these wires.
+    pub fn new(wires: &'a [Wire], text: &'a [u8]) -> Orders<'a> {
+        let text = Bytes { left: text };
+        Orders { wires, text }
+    }
+}
+
+// Returns once each of these wires was closed, or after as many turns as orders wait.
+fn wait_for(wires: &[Wire]) {
+    for _ in 0..TURNS {
+        if wires.iter().all(|wire| wire.is_closed()) {
+            return;
+        }
+        thread::yield_now();
+    }
+}
+
+impl<'a> Source for Orders<'a> {
+    ghost left = { λ _. None };
+
+    ghost origin = { λ _. None };
+
+    ghost faults = { λ _. 0 };
+
+    ghost capped = { λ _. Prim.search arith };
+
+    fn read(&mut self, into: &mut [u8]) -> Result<usize, Failed> {
+        wait_for(self.wires);
+        self.text.read(into)
+    }
+}
