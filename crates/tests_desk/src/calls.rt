@@ -1,12 +1,14 @@
-//! The calls of a desk, by the events of a job's lines. The job's one class has the name `v`.
+//! The calls of a desk, and of a hub, by the events of lines. The classes at the places 0 and 1 have the names `v` and `w`.
 ghost use Rattle.std.specs.Prelude.{IfOk};
 ghost use Rattle.sq_calls.specs.Legality.{IsStated};
 
-use sq_base::{CheckNo, EpochNo, Moment, ProcNo, Text};
+use sq_base::{CheckNo, ConnNo, EpochNo, Moment, ProcNo, Request, Text};
 use sq_calls::{DeskCalls, DeskFault};
 use sq_channel::Got;
+use sq_checks::Record;
 use sq_conf::read_config;
 use sq_epochs::Act;
+use sq_hub::{Hub, HubFault};
 use sq_request::make_request;
 use sq_rows::Stepped;
 use sq_rules::{Event, Outcome, Told, Why};
@@ -20,16 +22,20 @@ pub type Gave = Result<Option<Told>, DeskFault>;
 
 // The place of the class of this name; 9 where there is none.
 fn place_of(name: &Text) -> u32 {
-    if name.as_bytes() == b"v".as_slice() {
-        0
-    } else {
-        9
+    match name.as_bytes() {
+        [b'v'] => 0,
+        [b'w'] => 1,
+        _ => 9,
     }
 }
 
 // The name of the class at this place; `?` where there is none.
 fn name_at(alloc: Global, place: u32) -> Result<Text, Fail> {
-    let name: &[u8] = if place == 0 { b"v" } else { b"?" };
+    let name: &[u8] = match place {
+        0 => b"v",
+        1 => b"w",
+        _ => b"?",
+    };
     Ok(Text::from_slice(alloc, name)?)
 }
 
@@ -48,8 +54,8 @@ fn fine(gave: Result<(), DeskFault>) -> Gave {
     }
 }
 
-// A request arrives.
-fn ask<D: DeskCalls>(alloc: Global, desk: &mut D, event: Event, now: Moment) -> Result<Gave, Fail> {
+// The connection and the request of an event.
+fn asking(alloc: Global, event: Event) -> Result<(ConnNo, Request), Fail> {
     let Event::Ask {
         conn,
         method,
@@ -60,10 +66,21 @@ fn ask<D: DeskCalls>(alloc: Global, desk: &mut D, event: Event, now: Moment) -> 
         return Err(Fail::new("no request"));
     };
     let request = make_request(alloc, method.as_bytes(), target.as_bytes(), 1, fields)?;
-    match desk.ask(alloc, conn, request, now) {
-        Ok(check) => Ok(Ok(Some(Told::Check(check)))),
-        Err(fault) => Ok(Err(fault)),
+    Ok((conn, request))
+}
+
+// The number of the check that began.
+fn begun(gave: Result<CheckNo, DeskFault>) -> Gave {
+    match gave {
+        Ok(check) => Ok(Some(Told::Check(check))),
+        Err(fault) => Err(fault),
     }
+}
+
+// A request arrives.
+fn ask<D: DeskCalls>(alloc: Global, desk: &mut D, event: Event, now: Moment) -> Result<Gave, Fail> {
+    let (conn, request) = asking(alloc, event)?;
+    Ok(begun(desk.ask(alloc, conn, request, now)))
 }
 
 // The answer that tells of a step.
@@ -75,27 +92,17 @@ fn told_step(alloc: Global, stepped: &Stepped) -> Result<Told, Fail> {
     }
 }
 
-// A check goes on.
-fn step<D: DeskCalls>(
-    alloc: Global,
-    desk: &mut D,
-    check: CheckNo,
-    now: Moment,
-) -> Result<Gave, Fail> {
-    match desk.step(alloc, check, now) {
+// How a check goes on.
+fn stepped(alloc: Global, gave: Result<Stepped, DeskFault>) -> Result<Gave, Fail> {
+    match gave {
         Ok(stepped) => Ok(Ok(Some(told_step(alloc, &stepped)?))),
         Err(fault) => Ok(Err(fault)),
     }
 }
 
-// An outcome is taken.
-fn take<D: DeskCalls>(
-    alloc: Global,
-    desk: &mut D,
-    check: CheckNo,
-    now: Moment,
-) -> Result<Gave, Fail> {
-    match desk.take(alloc, check, now) {
+// The outcome of a check.
+fn taken(alloc: Global, gave: Result<Record, DeskFault>) -> Result<Gave, Fail> {
+    match gave {
         Ok(record) => {
             let outcome = copy_outcome(alloc, record.outcome())?;
             Ok(Ok(Some(Told::Judged {
@@ -202,8 +209,8 @@ pub fn call<D: DeskCalls>(
     match event {
         Event::Open { conn, addr, port } => Ok(fine(desk.open(conn, addr, port, now))),
         Event::Close { conn } => Ok(fine(desk.close(conn, now))),
-        Event::Step { check } => step(alloc, desk, check, now),
-        Event::Take { check } => take(alloc, desk, check, now),
+        Event::Step { check } => stepped(alloc, desk.step(alloc, check, now)),
+        Event::Take { check } => taken(alloc, desk.take(alloc, check, now)),
         Event::Started { epoch, class } => Ok(started(alloc, desk, epoch, &class, now)),
         Event::StartFail { epoch, class } => {
             let class = place_of(&class);
@@ -214,6 +221,30 @@ pub fn call<D: DeskCalls>(
         Event::Act => act(alloc, desk, now),
         Event::Reconfigure { text } => reconfigure(alloc, desk, &text, now),
         event => ask(alloc, desk, event, now),
+    }
+}
+
+// What a desk would give for what a hub gave.
+fn gave_by<T>(gave: Result<T, HubFault>) -> Result<T, DeskFault> {
+    match gave {
+        Ok(value) => Ok(value),
+        Err(HubFault::Refused(refusal)) => Err(DeskFault::Engine(refusal)),
+        Err(HubFault::JournalFault) => Err(DeskFault::JournalFault),
+        Err(HubFault::WantOfMemory) => Err(DeskFault::WantOfMemory),
+    }
+}
+
+/// Makes the call of an event that a connection makes, at the moment of the hub's clock.
+pub fn call_hub<H: Hub>(alloc: Global, hub: &mut H, event: Event) -> Result<Gave, Fail> {
+    match event {
+        Event::Open { conn, addr, port } => { Ok(fine(gave_by(hub.open(alloc, conn, addr, port)))) }
+        Event::Close { conn } => Ok(fine(gave_by(hub.close(conn)))),
+        Event::Step { check } => stepped(alloc, gave_by(hub.step(alloc, check))),
+        Event::Take { check } => taken(alloc, gave_by(hub.take(alloc, check))),
+        event => {
+            let (conn, request) = asking(alloc, event)?;
+            Ok(begun(gave_by(hub.ask(alloc, conn, request))))
+        }
     }
 }
 

@@ -1,13 +1,14 @@
 //! A desk that runs a job, and what comes of it.
-ghost use Rattle.std.specs.Prelude.{◌≡◌, [], pos};
+ghost use Rattle.std.specs.Prelude.{◌≡◌, pos, []};
 ghost use Rattle.sq_note.specs.Memory.{mem_history};
 
-use crate::calls::{call, is_same, setup_of};
+use crate::calls::{Gave, call, call_hub, is_same, setup_of};
 use crate::jobs::{BEGIN, CONF, Job, lines_of};
 use sq_base::Moment;
 use sq_cache::HashSeed;
 use sq_calls::{DeskCalls, DeskFault};
 use sq_desk::{Desk, First};
+use sq_hub::Hub;
 use sq_journal::{print_entry, read_entry, read_event};
 use sq_note::{Journal, MemJournal};
 use sq_rules::{Entry, Offset, Told};
@@ -64,6 +65,15 @@ fn silent_mark<D: DeskCalls>(
     }
 }
 
+/// The mark of what a call gave, where this is wanted.
+pub fn gave_mark(gave: &Gave, wanted: &Told) -> &'static str {
+    match gave {
+        Ok(Some(told)) => told_mark(told, wanted),
+        Ok(None) => "x",
+        Err(fault) => fault_mark(*fault),
+    }
+}
+
 // The mark of a line whose call adds an entry.
 fn entry_mark<D: DeskCalls>(alloc: Global, desk: &mut D, row: &str) -> Result<&'static str, Fail> {
     let Entry {
@@ -71,11 +81,15 @@ fn entry_mark<D: DeskCalls>(alloc: Global, desk: &mut D, row: &str) -> Result<&'
         event,
         answer,
     } = read_entry(alloc, row.as_bytes())?;
-    match call(alloc, desk, event, moment)? {
-        Ok(Some(told)) => Ok(told_mark(&told, &answer)),
-        Ok(None) => Ok("x"),
-        Err(fault) => Ok(fault_mark(fault)),
-    }
+    let gave = call(alloc, desk, event, moment)?;
+    Ok(gave_mark(&gave, &answer))
+}
+
+/// The mark of a line whose call a hub makes, at the moment of its clock.
+pub fn hub_mark<H: Hub>(alloc: Global, hub: &mut H, row: &str) -> Result<&'static str, Fail> {
+    let Entry { event, answer, .. } = read_entry(alloc, row.as_bytes())?;
+    let gave = call_hub(alloc, hub, event)?;
+    Ok(gave_mark(&gave, &answer))
 }
 
 /// Whether the call of a line adds an entry, where nothing fails.
@@ -83,8 +97,8 @@ pub fn is_noted(row: &str) -> bool {
     !(row.ends_with(" => refused") || row.ends_with(" => none") || row.ends_with(" => wanting"))
 }
 
-// The mark of a line.
-fn mark<D: DeskCalls>(alloc: Global, desk: &mut D, row: &str) -> Result<&'static str, Fail> {
+/// The mark of a line.
+pub fn mark<D: DeskCalls>(alloc: Global, desk: &mut D, row: &str) -> Result<&'static str, Fail> {
     if is_noted(row) {
         return entry_mark(alloc, desk, row);
     }

@@ -1,4 +1,5 @@
-//! Tests of the desk: one job that makes each of its calls, over journals in memory of which each call fails in turn.
+//! Tests of the desk: one job that makes each of its calls, over journals in memory of which each call fails in turn; and each
+//! call of a desk and of delay pools behind their locks, beside the same call of an equal desk or equal pools.
 //!
 //! It has no public call. The answers expected come from the definitions of the machine's answers, of its next act and of
 //! the farms, followed by hand; which calls make places and which note entries, from what is promised of the desk.
@@ -12,3 +13,9 @@ mod desks;
 mod faults;
 #[cfg(test)]
 mod jobs;
+#[cfg(test)]
+mod locked;
+#[cfg(test)]
+mod locks;
+#[cfg(test)]
+mod seats;

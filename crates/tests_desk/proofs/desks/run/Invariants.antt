@@ -1,5 +1,5 @@
-use Rattle.std.specs.Prelude.{pos}
 use Rattle.tests_desk.proofs.desks.run.Given as goal
+use Rattle.std.specs.Prelude.{pos}
 
 -- the desk begins with the configuration that was just made
 abbrev pub ghosts-run_job : goal.ghosts-run_job

@@ -1,0 +1,484 @@
+//! Each call of a desk, made once behind its lock and once of an equal desk.
+ghost use Rattle.std.specs.Prelude.{◌≡◌, ◌<◌, pos, true, IfOk};
+ghost use Rattle.std.specs.Option.{ForSome};
+ghost use Rattle.sq_calls.specs.Legality.{IsStated};
+ghost use Rattle.sq_room.specs.Books.{AreCounted};
+
+use crate::calls::setup_of;
+use crate::desks::{gave_mark, hub_mark, is_noted, mark};
+use crate::jobs::BEGIN;
+use crate::locks::{Blanks, CALLERS, Wholes, lock};
+use sq_bank::Bank;
+use sq_base::{EpochNo, Moment};
+use sq_cache::HashSeed;
+use sq_calls::{DeskCalls, DeskFault};
+use sq_desk::{Desk, First};
+use sq_hub::Hub;
+use sq_journal::{print_entry, read_entry};
+use sq_note::MemJournal;
+use sq_outside::MemClock;
+use sq_pools::Pools;
+use sq_room::{ControlDesk, LockDesk, Room};
+use sq_rules::{Entry, Event, Offset, Told};
+use sq_urlmatch::Setup;
+use sq_work::LockHub;
+use std::alloc::Global;
+use std::marker::Brand;
+use std::sync::ledger::{Ledger, Share};
+use std::sync::{Mutex, Wait};
+use std::test::Fail;
+
+/// Two classes with two processes each, of which `v` is asked at port 80 and `w` at port 81. At port 82 all is denied.
+static CONF: &str = "external_acl_type v children-max=2 %>rd /bin/h
+external_acl_type w children-max=2 %>rd /bin/g
+acl a external v
+acl b external w
+acl p port 81
+acl q port 82
+http_access deny q
+http_access allow !p a
+http_access allow b
+";
+
+/// What is done before another configuration is current: a check, a question and a process of each class. Each line has its
+/// caller: `d` the desk behind its lock, `h` a hub.
+static FIRST: &str = "d 5 open 1 10.0.0.1 4001 => ok
+d 5 open 2 10.0.0.2 4002 => ok
+h 5 ask 1 GET http://a.example/ => check 1
+d 5 step 1 => waits 1
+d 5 act => start 1 v
+d 5 started 1 v => proc 1
+d 5 act => send 1 1 - a.example%20-
+h 5 ask 2 GET http://b.example:81/ => check 2
+d 5 step 2 => waits 2
+d 5 act => start 1 w
+d 5 started 1 w => proc 2
+d 5 act => send 2 2 - b.example%20-
+";
+
+/// The other configuration listens at port 3129, and has the programs `/bin/h2` and `/bin/g2`.
+static AGAIN: &str =
+    "c 5 reconfigure http_port%203129%0Aexternal_acl_type%20v%20children-max=2%20%25%3Erd%20/bin/h2%0Aexternal_acl_type%20w%20children-max=2%20%25%3Erd%20/bin/g2%0Aacl%20a%20external%20v%0Aacl%20b%20external%20w%0Aacl%20p%20port%2081%0Aacl%20q%20port%2082%0Ahttp_access%20deny%20q%0Ahttp_access%20allow%20!p%20a%0Ahttp_access%20allow%20b%0A => epoch 2";
+
+/// What is done behind it: a check and a due start of each class, two checks that are done, and a question more, for which
+/// another process is to be started.
+static SECOND: &str = "d 5 open 3 10.0.0.3 4003 => ok
+h 5 ask 3 GET http://c.example/ => check 3
+d 5 step 3 => waits 3
+d 5 act => start 2 v
+d 5 open 4 10.0.0.4 4004 => ok
+h 5 ask 4 GET http://d.example:81/ => check 4
+d 5 step 4 => waits 4
+d 5 act => start 2 w
+d 5 open 5 10.0.0.5 4005 => ok
+h 5 ask 5 GET http://e.example:82/ => check 5
+d 5 step 5 => done
+d 5 open 6 10.0.0.6 4006 => ok
+h 5 ask 6 GET http://f.example:82/ => check 6
+d 5 step 6 => done
+d 5 open 7 10.0.0.7 4007 => ok
+h 5 ask 7 GET http://g.example/ => check 7
+d 5 step 7 => waits 5
+d 5 open 8 10.0.0.8 4008 => ok
+d 5 open 9 10.0.0.9 4009 => ok
+";
+
+/// The calls, each of which is made once in the state that is left then. Where it names one of what is there, there are two of
+/// that kind or more, and it is not the first. `c` is the control, and `r` reads: the words of a class, or a configuration's
+/// port. A desk behind its lock asks nothing and makes no reconfiguration: it wants memory.
+static CASES: &str = "d 9 open 10 10.0.0.10 4010 => ok
+d 9 close 9 => ok
+d 9 step 4 => waits 4
+d 9 take 6 => epoch 2 denied rule 1
+d 9 started 2 w => proc 3
+d 9 startfail 2 w => ok
+d 9 line 2 OK => reply 2 ok
+d 9 died 2 => ok
+d 9 act => start 2 v
+d 9 ask 9 GET http://h.example/ => wanting
+d 9 reconfigure http_access%20deny%20all%0A => wanting
+r words /bin/g2
+r port 3129
+c 9 reconfigure http_access%20deny%20all%0A => epoch 3
+h 8 open 10 10.0.0.10 4010 => ok
+h 8 close 9 => ok
+h 8 ask 9 GET http://h.example/ => check 8
+h 8 step 4 => waits 4
+h 8 take 6 => epoch 2 denied rule 1
+";
+
+/// For how many entries a journal has room.
+const ROOM: usize = 100;
+
+// The moments of a connection's clock: it asks seven times at 5, and then is called at 8.
+fn clock(alloc: Global) -> Result<MemClock, Fail> {
+    let mut rest = Vec::new(alloc);
+    for _ in 1..7 {
+        rest.push(Moment(5))?;
+    }
+    rest.push(Moment(8))?;
+    Ok(MemClock::new(alloc, Moment(5), rest))
+}
+
+// Whether these are the words of the class at place 1 of epoch 2.
+fn has_words<D: DeskCalls>(alloc: Global, desk: &D, word: &str) -> Result<bool, Fail> {
+    match desk.words(alloc, EpochNo(2), 1)? {
+        Some(words) => match words.as_slice() {
+            [only] => Ok(only.as_bytes() == word.as_bytes()),
+            _ => Ok(false),
+        },
+        None => Ok(false),
+    }
+}
+
+// Whether epoch 2 listens at this port.
+fn has_port<D: DeskCalls>(desk: &D, port: &str) -> bool {
+    match desk.config(EpochNo(2)) {
+        Some(config) => port.parse::<u16>() == Ok(config.port()),
+        None => false,
+    }
+}
+
+// The mark of a line that reads: `.` where that is read.
+fn read_mark<D: DeskCalls>(alloc: Global, desk: &D, line: &str) -> Result<&'static str, Fail> {
+    let is_read = match line.split_once(' ') {
+        Some(("words", word)) => has_words(alloc, desk, word)?,
+        Some(("port", port)) => has_port(desk, port),
+        _ => false,
+    };
+    Ok(if is_read { "." } else { "x" })
+}
+
+// The mark of a line whose call is made behind the lock.
+fn row_mark<D: DeskCalls, H: Hub>(
+    alloc: Global,
+    desk: &mut D,
+    hub: &mut H,
+    row: &str,
+) -> Result<&'static str, Fail> {
+    match row.split_at_checked(2) {
+        Some(("d ", line)) => mark(alloc, desk, line),
+        Some(("h ", line)) => hub_mark(alloc, hub, line),
+        Some(("r ", line)) => read_mark(alloc, desk, line),
+        _ => Ok("?"),
+    }
+}
+
+// Makes the calls of these lines, and puts down their marks, unless something failed before.
+fn run_rows<D: DeskCalls, H: Hub>(
+    done: Result<(), Fail>,
+    alloc: Global,
+    desk: &mut D,
+    hub: &mut H,
+    rows: &str,
+    marks: &mut String,
+) -> Result<(), Fail> {
+    done?;
+    for row in rows.lines() {
+        let mark = row_mark(alloc, desk, hub, row)?;
+        marks.push_str(mark)?;
+    }
+    Ok(())
+}
+
+// The moment, the configuration and the answer of a line, unless something failed before.
+fn reread_of(
+    done: Result<(), Fail>,
+    alloc: Global,
+    row: &str,
+) -> Result<(Moment, Setup, Told), Fail>
+    ensures { IfOk result (λ r. IsStated r.1) }
+{
+    done?;
+    let line = row.strip_prefix("c ").ok_or("no line of a control")?;
+    let Entry {
+        moment,
+        event,
+        answer,
+    } = read_entry(alloc, line.as_bytes())?;
+    let Event::Reconfigure { text } = event else {
+        return Err(Fail::new("no reconfiguration"));
+    };
+    let setup = setup_of(alloc, text.as_bytes())?;
+    Ok((moment, setup, answer))
+}
+
+// The mark of a reconfiguration.
+fn epoch_mark(gave: Result<EpochNo, DeskFault>, wanted: &Told) -> &'static str {
+    match gave {
+        Ok(epoch) => gave_mark(&Ok(Some(Told::Epoch(epoch))), wanted),
+        Err(fault) => gave_mark(&Err(fault), wanted),
+    }
+}
+
+// Puts down the mark of a reconfiguration.
+fn put(marks: &mut String, gave: Result<EpochNo, DeskFault>, wanted: &Told) -> Result<(), Fail> {
+    marks.push_str(epoch_mark(gave, wanted))?;
+    Ok(())
+}
+
+// Makes a reconfiguration behind the lock, as the control does, and puts down its mark, unless something failed before. The
+// share is given back.
+#[tactic(auto, using(crate::proofs::BeginLaws::whole_share))]
+fn reread<R: Wait, D: DeskCalls, A: Ledger, M: Ledger, N: Ledger>(
+    done: Result<(), Fail>,
+    rt: &R,
+    alloc: Global,
+    room: &Room<D, A, M, N>,
+    made: Share<M>,
+    refused: Share<N>,
+    row: &str,
+    marks: &mut String,
+) -> (Result<(), Fail>, Share<M>)
+    requires counting { D.is_counting ≡ true }
+    requires made { (made.parts ≡ M.parts) × (0 < made.parts) }
+    requires refused { 0 < refused.parts }
+    ensures { result.1.parts ≡ M.parts }
+{
+    let (now, setup, wanted) = match reread_of(done, alloc, row) {
+        Ok(reread) => reread,
+        Err(fault) => return (Err(fault), made),
+    };
+    let mut control = ControlDesk::new(LockDesk::new(rt, room, refused), made);
+    let gave = control.reconfigure(alloc, setup, now);
+    (put(marks, gave, &wanted), control.finish())
+}
+
+// Whether all went well, and the shares, which are whole again once all calls were made.
+struct Back<A: Ledger, M: Ledger> {
+    done: Result<(), Fail>,
+    asked: Share<A>,
+    made: Share<M>,
+}
+
+// Makes all calls and then the one of the case, and puts down their marks.
+fn run_case<R: Wait, D: DeskCalls, A: Ledger, M: Ledger, N: Ledger, G: Ledger>(
+    rt: &R,
+    alloc: Global,
+    room: &Room<D, A, M, N>,
+    bank: &Mutex<Bank<G>>,
+    clock: MemClock,
+    wholes: Wholes<A, M, N, G>,
+    case: &str,
+    marks: &mut String,
+) -> Back<A, M>
+    requires counting { D.is_counting ≡ true }
+    requires asked { (wholes.asked.parts ≡ 1) × (wholes.asked.amount ≡ 0) × (A.parts ≡ 1) }
+    requires made { (wholes.made.parts ≡ 1) × (M.parts ≡ 1) }
+    requires refused { wholes.refused.parts ≡ CALLERS }
+    requires granted { (wholes.granted.parts ≡ 1) × (wholes.granted.amount ≡ 0) }
+    ensures { (result.asked.parts ≡ A.parts) × (result.made.parts ≡ M.parts) }
+{
+    let Wholes {
+        asked,
+        made,
+        mut refused,
+        granted,
+    } = wholes;
+    let mut desk = LockDesk::new(rt, room, refused.split_off(1, 0));
+    let one = refused.split_off(1, 0);
+    let two = refused.split_off(1, 0);
+    let mut hub = LockHub::new(rt, room, bank, clock, asked, refused, granted);
+    let done = run_rows(Ok(()), alloc, &mut desk, &mut hub, FIRST, marks);
+    let (done, made) = reread(done, rt, alloc, room, made, one, AGAIN, marks);
+    let done = run_rows(done, alloc, &mut desk, &mut hub, SECOND, marks);
+    let (done, made) = if case.starts_with("c ") {
+        reread(done, rt, alloc, room, made, two, case, marks)
+    } else {
+        let done = run_rows(done, alloc, &mut desk, &mut hub, case, marks);
+        (done, made)
+    };
+    let asked = hub.finish().asked;
+    Back { done, asked, made }
+}
+
+// The desk, once all calls were made behind its lock and that was opened, and whether all went well.
+fn run_locked<R: Wait, D: DeskCalls, A: Ledger, M: Ledger, N: Ledger, G: Ledger>(
+    rt: &R,
+    alloc: Global,
+    desk: D,
+    pools: Pools,
+    clock: MemClock,
+    blanks: Blanks,
+    case: &str,
+    marks: &mut String,
+) -> (Result<(), Fail>, D)
+    requires counting { D.is_counting ≡ true }
+    requires asks { (blanks.asks.name ≡ A.name) × (blanks.asks.parts ≡ A.parts) × (A.parts ≡ 1) }
+    requires makes { (blanks.makes.name ≡ M.name) × (blanks.makes.parts ≡ M.parts) × (M.parts ≡ 1) }
+    requires refusals { (blanks.refusals.name ≡ N.name) × (blanks.refusals.parts ≡ N.parts) × (N.parts ≡ CALLERS) }
+    requires grants { (blanks.grants.name ≡ G.name) × (blanks.grants.parts ≡ G.parts) × (G.parts ≡ 1) }
+    requires entries { AreCounted 0 0 (D.told desk) }
+    requires made { ForSome (D.made desk) (λ m. m ≡ 0) }
+    requires refused { D.refused desk ≡ 0 }
+    requires granted { pools.granted ≡ 0 }
+{
+    let (room, bank, wholes) = lock::<D, A, M, N, G>(desk, pools, blanks);
+    let Back { done, asked, made } = run_case(rt, alloc, &room, &bank, clock, wholes, case, marks);
+    (done, room.into_hall().end(asked, made))
+}
+
+/// A desk of this configuration that has begun.
+#[tactic(auto, using(crate::proofs::BeginLaws::first_counted))]
+pub fn begin<F: First>(alloc: Global, setup: Setup) -> Result<Desk<MemJournal, F>, Fail>
+    requires { F.first ≡ record { config = setup; offset = pos 0 } }
+    ensures { IfOk result (λ d. AreCounted 0 0 d.notes.history × (d.notes.made ≡ 0) × (d.notes.refusals ≡ 0)) }
+{
+    let journal = MemJournal::new(alloc, ROOM, Vec::new(alloc), Vec::new(alloc))?;
+    let seed = HashSeed::fixed();
+    match Desk::<MemJournal, F>::new(alloc, setup, Offset(0), journal, Moment(0), seed) {
+        Ok(desk) => Ok(desk),
+        Err(_) => Err(Fail::new("no desk is made")),
+    }
+}
+
+// What is told of a run: the marks of its calls, and the lines of its journal.
+fn told(alloc: Global, marks: &str, journal: &MemJournal) -> Result<String, Fail> {
+    let mut text = String::new(alloc);
+    text.push_str(marks)?;
+    text.push('\n')?;
+    for entry in journal.entries() {
+        let line = print_entry(alloc, entry)?;
+        text.push_str(str::from_utf8(line.as_bytes())?)?;
+        text.push('\n')?;
+    }
+    Ok(text)
+}
+
+// The journal, once all calls were made behind the lock.
+fn run_behind<R: Wait, F: First, A: Ledger, M: Ledger, N: Ledger, G: Ledger>(
+    rt: &R,
+    alloc: Global,
+    setup: Setup,
+    blanks: Blanks,
+    case: &str,
+    marks: &mut String,
+) -> Result<MemJournal, Fail>
+    requires first { F.first ≡ record { config = setup; offset = pos 0 } }
+    requires asks { (blanks.asks.name ≡ A.name) × (blanks.asks.parts ≡ A.parts) × (A.parts ≡ 1) }
+    requires makes { (blanks.makes.name ≡ M.name) × (blanks.makes.parts ≡ M.parts) × (M.parts ≡ 1) }
+    requires refusals { (blanks.refusals.name ≡ N.name) × (blanks.refusals.parts ≡ N.parts) × (N.parts ≡ CALLERS) }
+    requires grants { (blanks.grants.name ≡ G.name) × (blanks.grants.parts ≡ G.parts) × (G.parts ≡ 1) }
+{
+    let clock = clock(alloc)?;
+    let pools = Pools::new(alloc, EpochNo(1), setup.config(), Moment(0))?;
+    let desk = begin::<F>(alloc, setup)?;
+    let (done, desk) = run_locked::<R, Desk<MemJournal, F>, A, M, N, G>(
+        rt, alloc, desk, pools, clock, blanks, case, marks,
+    );
+    let journal = desk.finish();
+    done?;
+    Ok(journal)
+}
+
+// What is told of the calls behind the lock.
+fn told_locked<R: Wait>(rt: &R, alloc: Global, case: &str) -> Result<String, Fail> {
+    let mut marks = String::new(alloc);
+    let setup = setup_of(alloc, CONF.as_bytes())?;
+    let journal = run_behind::<R, Brand, Brand, Brand, Brand, Brand>(
+        rt,
+        alloc,
+        setup,
+        Blanks::new(),
+        case,
+        &mut marks,
+    )?;
+    told(alloc, marks.as_str(), &journal)
+}
+
+// The mark of a line, whoever makes its call behind a lock.
+fn plain_mark<D: DeskCalls>(alloc: Global, desk: &mut D, row: &str) -> Result<&'static str, Fail> {
+    match row.split_at_checked(2) {
+        Some(("r ", line)) => read_mark(alloc, desk, line),
+        Some((_, line)) => mark(alloc, desk, line),
+        None => Ok("?"),
+    }
+}
+
+// Makes the calls of all lines and of the case, and puts down their marks.
+fn run_desk<D: DeskCalls>(
+    alloc: Global,
+    desk: &mut D,
+    case: &str,
+    marks: &mut String,
+) -> Result<(), Fail> {
+    for rows in [FIRST, AGAIN, SECOND, case] {
+        for row in rows.lines() {
+            let mark = plain_mark(alloc, desk, row)?;
+            marks.push_str(mark)?;
+        }
+    }
+    Ok(())
+}
+
+// The journal, once the same calls were made of the desk itself.
+fn run_plain<F: First>(
+    alloc: Global,
+    setup: Setup,
+    case: &str,
+    marks: &mut String,
+) -> Result<MemJournal, Fail>
+    requires { F.first ≡ record { config = setup; offset = pos 0 } }
+{
+    let mut desk = begin::<F>(alloc, setup)?;
+    let done = run_desk(alloc, &mut desk, case, marks);
+    let journal = desk.finish();
+    done?;
+    Ok(journal)
+}
+
+// What is told of the same calls of the desk itself.
+fn told_plain(alloc: Global, case: &str) -> Result<String, Fail> {
+    let mut marks = String::new(alloc);
+    let setup = setup_of(alloc, CONF.as_bytes())?;
+    let journal = run_plain::<Brand>(alloc, setup, case, &mut marks)?;
+    told(alloc, marks.as_str(), &journal)
+}
+
+// The mark that the call of a line has to have.
+fn wanted_mark(row: &str) -> char {
+    if row.ends_with(" => wanting") {
+        'M'
+    } else {
+        '.'
+    }
+}
+
+// Whether the call of a line adds an entry.
+fn adds(row: &str) -> bool {
+    is_noted(row) && !row.starts_with("r ")
+}
+
+// What has to be told: each call was made, and each that adds an entry has the line's.
+fn wanted(alloc: Global, case: &str) -> Result<String, Fail> {
+    let mut marks = String::new(alloc);
+    let mut lines = String::new(alloc);
+    lines.push_str(BEGIN)?;
+    for rows in [FIRST, AGAIN, SECOND, case] {
+        for row in rows.lines() {
+            marks.push(wanted_mark(row))?;
+            if let (true, Some((_, line))) = (adds(row), row.split_at_checked(2)) {
+                lines.push('\n')?;
+                lines.push_str(line)?;
+            }
+        }
+    }
+    marks.push('\n')?;
+    marks.push_str(lines.as_str())?;
+    marks.push('\n')?;
+    Ok(marks)
+}
+
+#[test]
+fn each_call_behind_the_lock_is_that_of_the_desk(rt: HostRuntime) -> Result<(), Fail> {
+    for case in CASES.lines() {
+        let wanted = wanted(rt.alloc(), case)?;
+        let locked = told_locked(&rt, rt.alloc(), case)?;
+        assert!(rt; locked.as_str() == wanted.as_str(), "{case}: {locked}");
+        if !case.ends_with(" => wanting") {
+            let plain = told_plain(rt.alloc(), case)?;
+            assert!(rt; plain.as_str() == wanted.as_str(), "{case}: {plain}");
+        }
+    }
+    Ok(())
+}

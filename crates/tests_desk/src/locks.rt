@@ -1,0 +1,115 @@
+//! A desk and delay pools behind their locks, with the shares of who calls them.
+ghost use Rattle.std.specs.Prelude.{◌≡◌, ◌^◌, min, true};
+ghost use Rattle.std.specs.Option.{ForSome};
+ghost use Rattle.sq_room.specs.Books.{AreCounted};
+
+use sq_bank::Bank;
+use sq_calls::DeskCalls;
+use sq_pools::Pools;
+use sq_room::{Hall, Room};
+use std::sync::Mutex;
+use std::sync::ledger::{Blank, Book, Ledger, Share};
+
+/// How many take a share of the refusals: who calls the desk, the control before and behind the last call, and a connection.
+pub const CALLERS: u64 = 4;
+
+/// A blank for each book.
+#[derive(Drop)]
+pub struct Blanks {
+    pub asks: Blank,
+    pub makes: Blank,
+    pub refusals: Blank,
+    pub grants: Blank,
+}
+
+impl Blanks {
+    /// Blanks for one connection and one control.
+    pub fn new() -> Blanks
+        ensures asks { result.asks.parts ≡ 1 }
+        ensures makes { result.makes.parts ≡ 1 }
+        ensures refusals { result.refusals.parts ≡ CALLERS }
+        ensures grants { result.grants.parts ≡ 1 }
+    {
+        Blanks {
+            asks: Blank::new(1),
+            makes: Blank::new(1),
+            refusals: Blank::new(CALLERS),
+            grants: Blank::new(1),
+        }
+    }
+}
+
+/// The whole share of each book.
+#[derive(Drop)]
+pub struct Wholes<A: Ledger, M: Ledger, N: Ledger, G: Ledger> {
+    pub asked: Share<A>,
+    pub made: Share<M>,
+    pub refused: Share<N>,
+    pub granted: Share<G>,
+}
+
+// Puts a desk that counted nothing yet behind its lock.
+#[tactic(auto, using(crate::proofs::BeginLaws::counted_none, crate::proofs::BeginLaws::made_none, crate::proofs::BeginLaws::refused_none))]
+fn room_of<D: DeskCalls, A: Ledger, M: Ledger, N: Ledger>(
+    desk: D,
+    asks: Book<A>,
+    makes: Book<M>,
+    refusals: Book<N>,
+) -> Room<D, A, M, N>
+    requires totals { (asks.total ≡ 0) × (makes.total ≡ 0) × (refusals.total ≡ 0) }
+    requires entries { AreCounted 0 0 (D.told desk) }
+    requires made { ForSome (D.made desk) (λ m. m ≡ 0) }
+    requires refused { D.refused desk ≡ 0 }
+{
+    Room::new(Hall::new(desk, asks, makes, refusals))
+}
+
+// Puts pools that granted nothing yet behind their lock.
+#[tactic(auto, using(crate::proofs::BeginLaws::granted_none))]
+fn bank_of<G: Ledger>(pools: Pools, grants: Book<G>) -> Mutex<Bank<G>>
+    requires { (grants.total ≡ 0) × (pools.granted ≡ 0) }
+{
+    Mutex::new(Bank::new(pools, grants))
+}
+
+/// Puts a desk and pools that counted nothing yet behind their locks.
+pub fn lock<D: DeskCalls, A: Ledger, M: Ledger, N: Ledger, G: Ledger>(
+    desk: D,
+    pools: Pools,
+    blanks: Blanks,
+) -> (Room<D, A, M, N>, Mutex<Bank<G>>, Wholes<A, M, N, G>)
+    requires asks { (blanks.asks.name ≡ A.name) × (blanks.asks.parts ≡ A.parts) }
+    requires makes { (blanks.makes.name ≡ M.name) × (blanks.makes.parts ≡ M.parts) }
+    requires refusals { (blanks.refusals.name ≡ N.name) × (blanks.refusals.parts ≡ N.parts) }
+    requires grants { (blanks.grants.name ≡ G.name) × (blanks.grants.parts ≡ G.parts) }
+    requires entries { AreCounted 0 0 (D.told desk) }
+    requires made { ForSome (D.made desk) (λ m. m ≡ 0) }
+    requires refused { D.refused desk ≡ 0 }
+    requires granted { pools.granted ≡ 0 }
+    ensures asked { (result.2.asked.parts ≡ A.parts) × (result.2.asked.amount ≡ 0) }
+    ensures made { (result.2.made.parts ≡ M.parts) × (result.2.made.amount ≡ 0) }
+    ensures refused { result.2.refused.parts ≡ N.parts }
+    ensures granted { (result.2.granted.parts ≡ G.parts) × (result.2.granted.amount ≡ 0) }
+{
+    let Blanks {
+        asks,
+        makes,
+        refusals,
+        grants,
+    } = blanks;
+    let (asks, asked) = asks.open::<A>();
+    let (makes, made) = makes.open::<M>();
+    let (refusals, refused) = refusals.open::<N>();
+    let (grants, granted) = grants.open::<G>();
+    let wholes = Wholes {
+        asked,
+        made,
+        refused,
+        granted,
+    };
+    (
+        room_of(desk, asks, makes, refusals),
+        bank_of(pools, grants),
+        wholes,
+    )
+}
