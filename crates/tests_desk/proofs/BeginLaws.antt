@@ -1,5 +1,5 @@
 -- What the books count when a desk has begun, and the share of a control.
-use Rattle.std.proofs.Common.{◌≡◌, ℕ, ◌+◌, ◌^◌, ◌==◌, if◌then◌else◌, min, Bool, true, false, Result, Ok, Err, List, [], ◌∷◌, Some, None, IfSome, refl, sym, ap, subst, ◌∙◌, arith}
+use Rattle.std.proofs.Common.{◌≡◌, ℕ, ◌+◌, ◌^◌, ◌==◌, if◌then◌else◌, min, Bool, true, false, Result, Ok, Err, [], ◌∷◌, Some, None, IfSome, refl, sym, subst, ◌∙◌, arith}
 use Rattle.std.proofs.lemmas.Bool.Decides.{nat_tests}
 use Rattle.std.specs.Prelude.{ℤ}
 use Rattle.std.specs.Option.{ForSome}

@@ -351,7 +351,7 @@ fn run_behind<R: Wait, F: First, A: Ledger, M: Ledger, N: Ledger, G: Ledger>(
     alloc: Global,
     setup: Setup,
     blanks: Blanks,
-    case: &str,
+    case: &String,
     marks: &mut String,
 ) -> Result<MemJournal, Fail>
     requires first { F.first ≡ record { config = setup; offset = pos 0 } }
@@ -364,7 +364,14 @@ fn run_behind<R: Wait, F: First, A: Ledger, M: Ledger, N: Ledger, G: Ledger>(
     let pools = Pools::new(alloc, EpochNo(1), setup.config(), Moment(0))?;
     let desk = begin::<F>(alloc, setup)?;
     let (done, desk) = run_locked::<R, Desk<MemJournal, F>, A, M, N, G>(
-        rt, alloc, desk, pools, clock, blanks, case, marks,
+        rt,
+        alloc,
+        desk,
+        pools,
+        clock,
+        blanks,
+        case.as_str(),
+        marks,
     );
     let journal = desk.finish();
     done?;
@@ -372,7 +379,7 @@ fn run_behind<R: Wait, F: First, A: Ledger, M: Ledger, N: Ledger, G: Ledger>(
 }
 
 // What is told of the calls behind the lock.
-fn told_locked<R: Wait>(rt: &R, alloc: Global, case: &str) -> Result<String, Fail> {
+fn told_locked<R: Wait>(rt: &R, alloc: Global, case: &String) -> Result<String, Fail> {
     let mut marks = String::new(alloc);
     let setup = setup_of(alloc, CONF.as_bytes())?;
     let journal = run_behind::<R, Brand, Brand, Brand, Brand, Brand>(
@@ -415,20 +422,20 @@ fn run_desk<D: DeskCalls>(
 fn run_plain<F: First>(
     alloc: Global,
     setup: Setup,
-    case: &str,
+    case: &String,
     marks: &mut String,
 ) -> Result<MemJournal, Fail>
     requires { F.first ≡ record { config = setup; offset = pos 0 } }
 {
     let mut desk = begin::<F>(alloc, setup)?;
-    let done = run_desk(alloc, &mut desk, case, marks);
+    let done = run_desk(alloc, &mut desk, case.as_str(), marks);
     let journal = desk.finish();
     done?;
     Ok(journal)
 }
 
 // What is told of the same calls of the desk itself.
-fn told_plain(alloc: Global, case: &str) -> Result<String, Fail> {
+fn told_plain(alloc: Global, case: &String) -> Result<String, Fail> {
     let mut marks = String::new(alloc);
     let setup = setup_of(alloc, CONF.as_bytes())?;
     let journal = run_plain::<Brand>(alloc, setup, case, &mut marks)?;
@@ -469,14 +476,22 @@ fn wanted(alloc: Global, case: &str) -> Result<String, Fail> {
     Ok(marks)
 }
 
+/// A text of its own. A function that picks its ghost members takes no `&str`.
+pub fn text_of(alloc: Global, line: &str) -> Result<String, Fail> {
+    let mut text = String::new(alloc);
+    text.push_str(line)?;
+    Ok(text)
+}
+
 #[test]
 fn each_call_behind_the_lock_is_that_of_the_desk(rt: HostRuntime) -> Result<(), Fail> {
     for case in CASES.lines() {
         let wanted = wanted(rt.alloc(), case)?;
-        let locked = told_locked(&rt, rt.alloc(), case)?;
+        let text = text_of(rt.alloc(), case)?;
+        let locked = told_locked(&rt, rt.alloc(), &text)?;
         assert!(rt; locked.as_str() == wanted.as_str(), "{case}: {locked}");
         if !case.ends_with(" => wanting") {
-            let plain = told_plain(rt.alloc(), case)?;
+            let plain = told_plain(rt.alloc(), &text)?;
             assert!(rt; plain.as_str() == wanted.as_str(), "{case}: {plain}");
         }
     }

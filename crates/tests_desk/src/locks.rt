@@ -1,5 +1,5 @@
 //! A desk and delay pools behind their locks, with the shares of who calls them.
-ghost use Rattle.std.specs.Prelude.{◌≡◌, ◌^◌, min, true};
+ghost use Rattle.std.specs.Prelude.{◌≡◌};
 ghost use Rattle.std.specs.Option.{ForSome};
 ghost use Rattle.sq_room.specs.Books.{AreCounted};
 

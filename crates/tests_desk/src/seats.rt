@@ -1,11 +1,11 @@
 //! Each call of delay pools, made once behind their lock and once of equal pools.
-ghost use Rattle.std.specs.Prelude.{◌≡◌, ◌<◌, pos, true};
+ghost use Rattle.std.specs.Prelude.{◌≡◌, pos, true};
 ghost use Rattle.std.specs.Option.{ForSome};
 ghost use Rattle.sq_pools.specs.Basins.{has_pool};
 ghost use Rattle.sq_room.specs.Books.{AreCounted};
 
 use crate::calls::setup_of;
-use crate::locked::begin;
+use crate::locked::{begin, text_of};
 use crate::locks::{Blanks, CALLERS, Wholes, lock};
 use sq_base::{Addr, EpochNo, Moment};
 use sq_calls::DeskCalls;
@@ -143,14 +143,14 @@ fn clock(alloc: Global) -> Result<MemClock, Fail> {
 fn seat<P: Giving>(
     alloc: Global,
     pools: &mut P,
-    epoch: u64,
+    epoch: EpochNo,
     config: &Arc<Config>,
     pool: u32,
 ) -> Result<Seat, Fail> {
     if !takes(config, pool, CLIENT) {
         return Err(Fail::new("no such pool"));
     }
-    match pools.give_seat(alloc, EpochNo(epoch), config, pool, CLIENT) {
+    match pools.give_seat(alloc, epoch, config, pool, CLIENT) {
         Ok(seat) => Ok(seat),
         Err(_) => Err(Fail::new("no seat is given")),
     }
@@ -163,10 +163,10 @@ fn run_case<P: Giving>(
     config: &Arc<Config>,
     case: &str,
 ) -> Result<Option<u64>, Fail> {
-    let _first = seat(alloc, pools, 1, config, 0)?;
-    let second = seat(alloc, pools, 2, config, 1)?;
+    let _first = seat(alloc, pools, EpochNo(1), config, 0)?;
+    let second = seat(alloc, pools, EpochNo(2), config, 1)?;
     match case {
-        "choose" => Ok(Some(seat(alloc, pools, 2, config, 1)?.number().0)),
+        "choose" => Ok(Some(seat(alloc, pools, EpochNo(2), config, 1)?.number().0)),
         "grant" => Ok(Some(pools.give_bytes(&second, 500))),
         _ => {
             pools.take_seat(second);
@@ -195,7 +195,7 @@ fn told(
     let mut others = timed_pools(alloc, config)?;
     let mut text = String::new(alloc);
     put(&mut text, answer)?;
-    for (epoch, pool) in [(1, 0), (2, 1), (2, 1)] {
+    for (epoch, pool) in [(EpochNo(1), 0), (EpochNo(2), 1), (EpochNo(2), 1)] {
         let seat = seat(alloc, &mut others, epoch, config, pool)?;
         text.push(' ')?;
         put(&mut text, pools.bucket(&seat, 0).map(|bucket| bucket.level))?;
@@ -259,7 +259,7 @@ fn run_behind<R: Wait, F: First, A: Ledger, M: Ledger, N: Ledger, G: Ledger>(
     config: &Arc<Config>,
     setup: Setup,
     blanks: Blanks,
-    case: &str,
+    case: &String,
 ) -> Result<String, Fail>
     requires first { F.first ≡ record { config = setup; offset = pos 0 } }
     requires asks { (blanks.asks.name ≡ A.name) × (blanks.asks.parts ≡ A.parts) × (A.parts ≡ 1) }
@@ -271,7 +271,14 @@ fn run_behind<R: Wait, F: First, A: Ledger, M: Ledger, N: Ledger, G: Ledger>(
     let pools = Pools::new(alloc, EpochNo(1), config, Moment(0))?;
     let desk = begin::<F>(alloc, setup)?;
     run_locked::<R, Desk<MemJournal, F>, A, M, N, G>(
-        rt, alloc, config, desk, pools, clock, blanks, case,
+        rt,
+        alloc,
+        config,
+        desk,
+        pools,
+        clock,
+        blanks,
+        case.as_str(),
     )
 }
 
@@ -280,7 +287,7 @@ fn told_locked<R: Wait>(
     rt: &R,
     alloc: Global,
     config: &Arc<Config>,
-    case: &str,
+    case: &String,
 ) -> Result<String, Fail> {
     let setup = setup_of(alloc, CONF.as_bytes())?;
     run_behind::<R, Brand, Brand, Brand, Brand, Brand>(
@@ -300,7 +307,8 @@ fn each_call_behind_the_lock_is_that_of_the_pools(rt: HostRuntime) -> Result<(),
         let (case, wanted) = row.split_once(" => ").ok_or("no answer")?;
         let plain = told_plain(rt.alloc(), setup.config(), case)?;
         assert!(rt; plain.as_str() == wanted, "{case}: {plain}");
-        let locked = told_locked(&rt, rt.alloc(), setup.config(), case)?;
+        let text = text_of(rt.alloc(), case)?;
+        let locked = told_locked(&rt, rt.alloc(), setup.config(), &text)?;
         assert!(rt; locked.as_str() == wanted, "{case}: {locked}");
     }
     Ok(())
