@@ -38,12 +38,13 @@ impl<'a> Source for Bytes<'a> {
 #[derive(Drop)]
 pub struct Versions<'a> {
     texts: &'a [&'a [u8]],
+    opened: usize,
 }
 
 impl<'a> Versions<'a> {
     /// Files with these texts.
     pub fn new(texts: &'a [&'a [u8]]) -> Versions<'a> {
-        Versions { texts }
+        Versions { texts, opened: 0 }
     }
 }
 
@@ -59,10 +60,10 @@ impl<'a> Files for Versions<'a> {
     ghost capped = { λ _. Prim.search arith };
 
     fn open(&mut self, _alloc: Global, _name: &Text) -> Result<Bytes<'a>, NoOpen> {
-        let Some((text, later)) = self.texts.split_first() else {
+        let Some(&text) = self.texts.get(self.opened) else {
             return Err(NoOpen::Missing);
         };
-        self.texts = later;
+        self.opened = self.opened.saturating_add(1);
         Ok(Bytes { left: text })
     }
 

@@ -8,7 +8,7 @@ use std::alloc::Global;
 use std::sync::atomic::AtomicBool;
 
 /// A client: its IPv4 address as a number, and what it sends. It comes from port 4000.
-pub type Client<'a> = (u128, &'a [u8]);
+pub type Client<'a> = (u32, &'a [u8]);
 
 /// An origin `a.example`: its port, and what it replies to one dial.
 pub type Origin<'a> = (u16, &'a [u8]);
@@ -28,6 +28,14 @@ fn pair<'a>(
     MemPair::new(alloc, Text::from_slice(alloc, bytes)?, shape, wire)
 }
 
+// The IPv4 address of this number.
+fn address(number: u32) -> Addr {
+    Addr {
+        v6: false,
+        number: u128::from(number),
+    }
+}
+
 /// The links of these clients, each with its wire.
 pub fn links<'a>(
     alloc: Global,
@@ -37,7 +45,7 @@ pub fn links<'a>(
     let mut links = Vec::new(alloc);
     for (&(number, bytes), wire) in clients.iter().zip(wires.iter()) {
         links.push(MemLink {
-            addr: Addr { v6: false, number },
+            addr: address(number),
             port: 4000,
             pair: pair(alloc, bytes, Some(wire))?,
         })?;

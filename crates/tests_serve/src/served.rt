@@ -5,7 +5,7 @@ use sq_base::{Text, WantOfMemory};
 use sq_cache::HashSeed;
 use sq_journal::print_entry;
 use sq_note::MemJournal;
-use sq_outside::{MemNet, MemSink, Wire};
+use sq_outside::{MemName, MemNet, MemSink, Wire};
 use sq_proxy::proxy;
 use std::alloc::Global;
 use std::process::Abort;
@@ -138,27 +138,38 @@ fn run_over<R: Threads + Wait + Sync>(
     }
 }
 
-// Runs a server whose clients have these wires.
-fn run_with<R: Threads + Wait + Sync>(
+// Runs a server whose clients and whose origin have these wires.
+fn run_with<'a, R: Threads + Wait + Sync>(
     rt: &R,
     alloc: Global,
     job: &Job<'_>,
-    wires: &[Wire],
+    wires: &'a [Wire],
+    origin: &'a Wire,
+    names: &'a [MemName],
+    word: &'a AtomicBool,
 ) -> Result<Came, Fail> {
-    let word = AtomicBool::new(false);
-    let names = Vec::new(alloc);
-    let origin = Wire::new(alloc, 4096)?;
     let links = links(alloc, job.clients, wires)?;
     let children = helpers(alloc, wires)?;
-    let origins = origins(alloc, job.origin, &origin)?;
-    let mut net = net(alloc, links, origins, children, names.as_slice(), &word)?;
-    run_over(rt, alloc, job, &mut net, wires, &origin)
+    let origins = origins(alloc, job.origin, origin)?;
+    let mut net = net(alloc, links, origins, children, names, word)?;
+    run_over(rt, alloc, job, &mut net, wires, origin)
 }
 
 /// Runs a server.
 pub fn run<R: Threads + Wait + Sync>(rt: &R, alloc: Global, job: &Job<'_>) -> Result<Came, Fail> {
     let wires = wires(alloc, job.clients)?;
-    run_with(rt, alloc, job, wires.as_slice())
+    let origin = Wire::new(alloc, 4096)?;
+    let names = Vec::new(alloc);
+    let word = AtomicBool::new(false);
+    run_with(
+        rt,
+        alloc,
+        job,
+        wires.as_slice(),
+        &origin,
+        names.as_slice(),
+        &word,
+    )
 }
 
 /// Ends the process unless a server without clients ends with this status, this output and this journal.
