@@ -19,7 +19,6 @@ use std::sync::Arc;
 pub(crate) const LAST_NUMBER: u64 = 0x7FFF_FFFF_FFFF_FFFF;
 
 /// The machine. A contract sees its parts, and by `state_of` the machine's state.
-#[derive(Drop)]
 pub struct Engine {
     pub(crate) conns: Conns,
     pub(crate) checks: OpenChecks,
@@ -31,6 +30,23 @@ pub struct Engine {
     pub(crate) offset: Offset,
     pub(crate) latest: Moment,
     pub(crate) seed: HashSeed,
+}
+
+// Written out, so that the drops of its parts are proved here alone, and not in each crate that lets a machine go.
+impl Drop for Engine {
+    fn drop(self) {
+        let Engine {
+            conns: _,
+            checks: _,
+            asks: _,
+            puts: _,
+            epochs: _,
+            setup: _,
+            offset: _,
+            latest: _,
+            seed: _,
+        } = self;
+    }
 }
 
 impl Model for Engine {

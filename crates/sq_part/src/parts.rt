@@ -20,11 +20,21 @@ use std::marker::Model;
 
 /// One helper class of one epoch. A contract sees its row, the question that each check waits for, and how many
 /// verdicts may be kept.
-#[derive(Drop)]
 pub struct Part {
     pub(crate) kept: Kept,
     pub(crate) lookups: Lookups,
     pub(crate) farm: Farm,
+}
+
+// Written out, so that the drops of its parts are proved here alone, and not in each crate that lets a class go.
+impl Drop for Part {
+    fn drop(self) {
+        let Part {
+            kept: _,
+            lookups: _,
+            farm: _,
+        } = self;
+    }
 }
 
 impl Model for Part {

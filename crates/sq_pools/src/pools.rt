@@ -49,7 +49,6 @@ const GRANTED_LIMIT: u128 = 170141183460469231731687303715884105728;
 
 /// The delay pools of all epochs: a generation of buckets for each epoch that is the newest or has a seat in
 /// use, and the seats.
-#[derive(Drop)]
 pub struct Pools {
     generations: Generations,
     seats: Seats,
@@ -57,6 +56,20 @@ pub struct Pools {
     newest: EpochNo,
     latest: Moment,
     granted: u128,
+}
+
+// Written out, so that the drops of its parts are proved here alone, and not in each crate that lets pools go.
+impl Drop for Pools {
+    fn drop(self) {
+        let Pools {
+            generations: _,
+            seats: _,
+            given: _,
+            newest: _,
+            latest: _,
+            granted: _,
+        } = self;
+    }
 }
 
 impl Model for Pools {

@@ -63,7 +63,7 @@ pub type Rules = Listed<Rule>;
 
 /// A configuration. Names are unique, each named place is there and each member of a group stands
 /// before it, groups nest 32 deep at the most, and rules of pools reach no external acl.
-#[derive(Drop, Debug)]
+#[derive(Debug)]
 pub struct Config {
     source: Text,
     classes: Classes,
@@ -73,6 +73,22 @@ pub struct Config {
     initial: u8,
     port: u16,
     notices: Notices,
+}
+
+// Written out, so that the drops of its parts are proved here alone, and not in each crate that lets a configuration go.
+impl Drop for Config {
+    fn drop(self) {
+        let Config {
+            source: _,
+            classes: _,
+            acls: _,
+            rules: _,
+            pools: _,
+            initial: _,
+            port: _,
+            notices: _,
+        } = self;
+    }
 }
 
 impl Model for Config {

@@ -39,11 +39,21 @@ impl From<WantOfMemory> for SetupFault {
 
 /// A configuration, which threads may share, its compiled patterns, which serve one match at a time, and
 /// its lists of addresses and domains, sorted. A contract sees the configuration.
-#[derive(Drop)]
 pub struct Setup {
     pub config: Arc<Config>,
     pub patterns: Patterns,
     sets: Vec<ValueSets>,
+}
+
+// Written out, so that the drops of its parts are proved here alone, and not in each crate that lets a setup go.
+impl Drop for Setup {
+    fn drop(self) {
+        let Setup {
+            config: _,
+            patterns: _,
+            sets: _,
+        } = self;
+    }
 }
 
 impl Model for Setup {

@@ -10,6 +10,7 @@ use sq_request::make_request;
 use sq_rows::{Said, Stepped};
 use sq_rules::{Sight, Value};
 use std::alloc::Global;
+use std::sync::Arc;
 use std::test::Fail;
 
 /// A helper is asked whether it knows the client's address, and a client that it knows is allowed. The key has `-`
@@ -36,7 +37,8 @@ fn begun(alloc: Global) -> Result<OpenCheck, Fail> {
     let sight = sight(alloc)?;
     let mut setup = read_config(alloc, TEXT.as_bytes())?;
     let facts = read_facts(alloc, &mut setup, &sight)?;
-    Ok(OpenCheck::new(alloc, ConnNo(7), EpochNo(1), setup.config, sight, facts))
+    let config = Arc::try_clone(setup.config())?;
+    Ok(OpenCheck::new(alloc, ConnNo(7), EpochNo(1), config, sight, facts))
 }
 
 /// Steps a check; where it asks, it is told to wait for this question. The key that it asks for, or none where

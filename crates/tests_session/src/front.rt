@@ -11,6 +11,7 @@ use sq_outside::COUNT_LIMIT;
 use sq_rules::{Refusal, Sight, Value};
 use sq_session::{Counts, Decided, Front, Opened, SitFault};
 use std::alloc::Global;
+use std::sync::Arc;
 
 /// The address of the client; requests to `denied.example` are denied by rule 1, those of others and to other ports
 /// by default, and what comes from `slow.example` is granted by a pool.
@@ -98,7 +99,10 @@ fn judge(alloc: Global, addr: Addr, request: &Request) -> Option<Record>
     let Ok(facts) = read_facts(alloc, &mut setup, &sight) else {
         return None;
     };
-    let check = OpenCheck::new(alloc, ConnNo(1), EpochNo(1), setup.config, sight, facts);
+    let Ok(config) = Arc::try_clone(setup.config()) else {
+        return None;
+    };
+    let check = OpenCheck::new(alloc, ConnNo(1), EpochNo(1), config, sight, facts);
     finished(alloc, check)
 }
 
