@@ -11,8 +11,8 @@ use Rattle.sq_outside.specs.Told.{Openings, Texts}
 use Rattle.sq_outside.proofs.Writing.{Grew_proper_after}
 use Rattle.sq_rules.specs.Configurations.{Configuration}
 use Rattle.sq_calls.specs.declared.faults.DeskFault.{DeskFault}
-use Rattle.sq_control.specs.declared.panel.PanelEnd.{PanelEnd}
-use Rattle.sq_control.specs.declared.panel.PanelEnd.TheVariants as ends
+use Rattle.sq_panel.specs.declared.panel.PanelEnd.{PanelEnd}
+use Rattle.sq_panel.specs.declared.panel.PanelEnd.TheVariants as ends
 use Rattle.sq_reread.specs.Rereading.{Asks, CountsMade, is_answer}
 use Rattle.sq_reread.specs.declared.control.Reread.{Reread}
 use Rattle.sq_reread.specs.declared.control.Reread.TheVariants as reread

@@ -14,8 +14,8 @@ use Rattle.sq_reread.specs.declared.control.Reread.{Reread}
 use Rattle.sq_reread.specs.declared.control.Reread.TheVariants as reread
 use Rattle.sq_panel.specs.Orders.{lines_left, rereads_in}
 use Rattle.sq_panel.specs.Telling.{control_text}
-use Rattle.sq_control.specs.declared.panel.PanelEnd.{PanelEnd}
-use Rattle.sq_control.specs.declared.panel.PanelEnd.TheVariants as ends
+use Rattle.sq_panel.specs.declared.panel.PanelEnd.{PanelEnd}
+use Rattle.sq_panel.specs.declared.panel.PanelEnd.TheVariants as ends
 
 -- what a reconfiguration changes of the files: the openings, where they are told, and the count of faults
 pub record FilesSeen : Type 0 where

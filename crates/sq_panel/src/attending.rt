@@ -4,10 +4,10 @@ ghost use Rattle.sq_panel.specs.Attending.{Attends};
 ghost use Rattle.sq_reread.specs.ControlViews.{desk_of};
 
 use crate::orders::{Order, next_order};
+use crate::panel::PanelEnd;
 use crate::telling::{write_listening, write_reread};
 use sq_base::{EpochNo, Moment, Text};
 use sq_calls::DeskCalls;
-use sq_control::PanelEnd;
 use sq_outside::{Clock, Failed, Files, Sink, Source};
 use sq_reread::{Control, Reread};
 use sq_rules::Config;

@@ -2,10 +2,10 @@
 ghost use Rattle.std.specs.Prelude.{◌≡◌, ℕ, ◌<◌, Some, true};
 
 use crate::attending::{Beside, attend};
+use crate::panel::{Panel, PanelEnd};
 use sq_bank::Bank;
 use sq_base::{EpochNo, Moment, Text};
 use sq_calls::DeskCalls;
-use sq_control::{Panel, PanelEnd};
 use sq_outside::{Clock, Files, Sink, Source};
 use sq_reread::Control;
 use sq_room::{ControlDesk, LockDesk, Room};

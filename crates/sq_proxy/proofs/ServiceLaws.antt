@@ -15,8 +15,8 @@ use Rattle.sq_calls.specs.declared.faults.DeskFault.{DeskFault}
 use Rattle.sq_calls.specs.declared.faults.DeskFault.TheVariants as desk
 use Rattle.sq_desk.specs.Calling.{IsUnbegun}
 use Rattle.sq_calls.specs.Legality.{Beginning, IsLegal}
-use Rattle.sq_control.specs.declared.panel.PanelEnd.{PanelEnd}
-use Rattle.sq_control.specs.declared.panel.PanelEnd.TheVariants as panel
+use Rattle.sq_panel.specs.declared.panel.PanelEnd.{PanelEnd}
+use Rattle.sq_panel.specs.declared.panel.PanelEnd.TheVariants as panel
 use Rattle.sq_reread.specs.declared.control.Reread.{Reread}
 use Rattle.sq_panel.specs.Attending.{AreReread, FilesSeen, Runs, Seen, Streams}
 use Rattle.sq_proxy.specs.Commands.{conf_stage}

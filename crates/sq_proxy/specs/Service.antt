@@ -13,8 +13,8 @@ use Rattle.sq_rules.specs.Entries.{History}
 use Rattle.sq_rules.specs.Readings.{current, offset_of}
 use Rattle.sq_calls.specs.Legality.{Beginning}
 use Rattle.sq_replay.specs.Headline.{IsTrue}
-use Rattle.sq_control.specs.declared.panel.PanelEnd.{PanelEnd}
-use Rattle.sq_control.specs.declared.panel.PanelEnd.TheVariants as panel
+use Rattle.sq_panel.specs.declared.panel.PanelEnd.{PanelEnd}
+use Rattle.sq_panel.specs.declared.panel.PanelEnd.TheVariants as panel
 use Rattle.sq_panel.specs.Attending.{FilesSeen, Runs, Streams}
 use Rattle.sq_proxy.specs.Commands.{conf_stage}
 use Rattle.sq_proxy.specs.Ends.{EndsBy, IfMissing, last_line}

@@ -5,10 +5,9 @@ ghost use Rattle.sq_proxy.specs.Service.{IsServed, IsUnservedEnd, ended_status};
 
 use crate::ends::Status;
 use sq_calls::DeskFault;
-use sq_control::PanelEnd;
 use sq_note::Journal;
 use sq_outside::{Files, Net, Parts, Sink, Source};
-use sq_panel::ControlPanel;
+use sq_panel::{ControlPanel, PanelEnd};
 use sq_server::{Served, Start, Unserved, serve};
 use std::alloc::Global;
 use std::sync::Wait;

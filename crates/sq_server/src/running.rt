@@ -7,9 +7,9 @@ ghost use Rattle.sq_rules.specs.Readings.{current};
 
 use sq_bank::Bank;
 use sq_calls::DeskCalls;
-use sq_control::{Panel, PanelEnd};
 use sq_crew::{Shelf, pump_all};
 use sq_outside::{Another, Clock, Dialer, Listener, Spawner, Stopper};
+use sq_panel::{Panel, PanelEnd};
 use sq_pools::Pools;
 use sq_room::{Door, Hall, Room, has_failed, set_done};
 use sq_work::{Sums, work_all};

@@ -1,7 +1,7 @@
 //! What a server begins with, and what it hands back.
 use sq_cache::HashSeed;
 use sq_calls::DeskFault;
-use sq_control::PanelEnd;
+use sq_panel::PanelEnd;
 use sq_pools::Pools;
 use sq_rules::Offset;
 use sq_urlmatch::Setup;

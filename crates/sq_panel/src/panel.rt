@@ -23,7 +23,7 @@ pub enum PanelEnd {
 
 /// What runs in the calling thread of a server until that is to end.
 pub trait Panel: Sized {
-    ghost use Rattle.sq_control.specs.declared.panel.PanelEnd.{PanelEnd};
+    ghost use Rattle.sq_panel.specs.declared.panel.PanelEnd.{PanelEnd};
 
     /// What it was, what it is then, why it ended, and how many reconfigurations it made.
     ghost gives: { Self → Self → PanelEnd → ℕ → Type 0 };
