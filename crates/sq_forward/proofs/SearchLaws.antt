@@ -1,21 +1,16 @@
 -- The end of a head, looked for byte by byte.
-use Rattle.std.proofs.Common.{◌≡◌, ℕ, suc, ◌+◌, ◌-◌, ◌<◌, ◌≤◌, List, [], ◌∷◌, ◌++◌, Bool, true, false, not, if◌then◌else◌, ◌&&◌, ◌||◌, ◌==◌, length, take, drop, get_or, Some, None, Option, option_map, refl, sym, ap, ◌∙◌, arith, nat_lt, append-nil, append_assoc, length-take, take-append-drop}
-use Rattle.std.proofs.lemmas.Bool.Decides.{nat_tests}
+use Rattle.std.proofs.Common.{◌≡◌, ℕ, suc, ◌+◌, ◌-◌, ◌<◌, ◌≤◌, List, [], ◌∷◌, ◌++◌, Bool, true, false, not, if◌then◌else◌, ◌&&◌, ◌||◌, ◌==◌, length, take, drop, get_or, Some, None, Option, option_map, refl, sym, ap, ◌∙◌, arith, append-nil, append_assoc, length-take, take-append-drop}
 use Rattle.std.proofs.lemmas.List.{take_more, drop_more}
 use Rattle.std.proofs.lemmas.List.Splits.{slice_split-cons_yes, slice_split-cons_no, length-slice_split}
-use Rattle.std.proofs.lemmas.List.Sums.{sum_by-cons}
-use Rattle.std.specs.List.{slice_split, onto_first, position, position_or_len}
+use Rattle.std.specs.List.{slice_split, onto_first}
 use Rattle.sq_base.specs.Bytes.{cr}
 use Rattle.sq_base.specs.Lines.{is_lf, ended_lines}
-use Rattle.sq_request.specs.Endings.{is_empty_line, bytes_of, empty_front, head_lines, head_end, IsWholeHead}
+use Rattle.sq_request.specs.Endings.{is_empty_line, head_end, IsWholeHead}
+use Rattle.sq_request.proofs.EndLaws.{ends_from, mapped_twice, but_last_cons, head_end_is}
 use Rattle.sq_request.proofs.MoreLaws.{head_end_within}
 use Rattle.sq_forward.specs.Searching.{is_filled, filled_by, line_by, begun_by, ends_by, end_behind, IsSought}
 use Rattle.sq_forward.specs.declared.searching.LinePart.{LinePart}
 use Rattle.sq_forward.specs.declared.searching.LinePart.TheVariants.{Nothing, Return, Bytes}
-
-mapped_twice : {A B C : Type 0} (f : B → C) (g : A → B) (h : A → C) (o : Option A) → ((x : A) → f (g x) ≡ h x) → option_map f (option_map g o) ≡ option_map h o
-mapped_twice f g h None same = refl
-mapped_twice f g h (Some x) same = ap (λ t. Some t) (same x)
 
 mapped_none : (o : Option ℕ) → option_map (λ n. 0 + n) o ≡ o
 mapped_none None = refl
@@ -28,14 +23,7 @@ ends_empty Return [] = true
 ends_empty Return (b ∷ bs) = false
 ends_empty Bytes l = false
 
--- the bytes up to the end of the first empty line, where a line with bytes has come or comes before it
-abbrev ends_from : Bool → List (List ℕ) → Option ℕ
-ends_from begun [] = None
-ends_from begun (l ∷ ls) =
-    if begun && is_empty_line l then Some (length l + 1)
-    else option_map (λ n. length l + 1 + n) (ends_from (begun || not (is_empty_line l)) ls)
-
--- the same, where something came of the first line before
+-- the bytes up to the end of the first empty line, where something came of the first line before
 abbrev ends_within : Bool → LinePart → List (List ℕ) → Option ℕ
 ends_within begun line [] = None
 ends_within begun line (l ∷ ls) =
@@ -67,12 +55,6 @@ empty_now Bytes = refl
 abbrev onto : ℕ → List (List ℕ) → List (List ℕ)
 onto b [] = []
 onto b (l ∷ ls) = (b ∷ l) ∷ ls
-
-but_last_cons : (l : List ℕ) (ls : List (List ℕ)) → 0 < length ls → take (length (l ∷ ls) - 1) (l ∷ ls) ≡ l ∷ take (length ls - 1) ls
-but_last_cons l [] h = absurd (omega arith)
-but_last_cons l (m ∷ ms) h =
-    let e : length (l ∷ m ∷ ms) - 1 ≡ suc (length (m ∷ ms) - 1) = omega arith in
-    rw e refl
 
 but_last_onto : (b : ℕ) (parts : List (List ℕ)) → take (length (onto_first b parts) - 1) (onto_first b parts) ≡ onto b (take (length parts - 1) parts)
 but_last_onto b [] = refl
@@ -128,79 +110,9 @@ end_by_lines : (begun : Bool) (line : LinePart) (bytes : List ℕ) → end_behin
 end_by_lines begun line [] = refl
 end_by_lines begun line (b ∷ bs) = end_by_byte begun line b bs (is_lf b) refl (λ g l. end_by_lines g l bs)
 
-test_suc : (n m : ℕ) → nat_lt (1 + n) (suc m) ≡ nat_lt n m
-test_suc n m = grind (arith, nat_tests)
-
-test_front : (m : ℕ) → nat_lt 0 (suc m) ≡ true
-test_front m = grind (arith, nat_tests)
-
-placed : (b : Bool) (n m : ℕ) → (if nat_lt (if not b then 1 + n else 0) (suc m) then Some (if not b then 1 + n else 0) else None)
-    ≡ (if b then Some 0 else option_map (λ k. 1 + k) (if nat_lt n m then Some n else None))
-placed true n m = rw (test_front m) refl
-placed false n m = rw (test_suc n m) (elim (nat_lt n m) as (λ t. (if t then Some (1 + n) else None) ≡ option_map (λ k. 1 + k) (if t then Some n else None)) [ true ↦ refl | false ↦ refl ])
-
--- the first place in a list, by its first element
-position_cons : {A : Type 0} (p : A → Bool) (x : A) (xs : List A) → position p (x ∷ xs) ≡ (if p x then Some 0 else option_map (λ n. 1 + n) (position p xs))
-position_cons p x xs = placed (p x) (position_or_len p xs) (length xs)
-
-one_line_more : (n : ℕ) (l : List ℕ) (ls : List (List ℕ)) → length l + 1 + bytes_of (take n ls) ≡ bytes_of (take (1 + n) (l ∷ ls))
-one_line_more n l ls = let e : 1 + n ≡ suc n = omega arith in rw e (sym (sum_by-cons (λ line. length line + 1) l (take n ls)))
-
--- the same of the lines of a head, if there is one
-one_line_more_in : (l : List ℕ) (ls : List (List ℕ)) (o : Option ℕ)
-    → option_map (λ n. length l + 1 + n) (option_map (λ n. bytes_of (take n ls)) o) ≡ option_map (λ n. bytes_of (take n (l ∷ ls))) (option_map (λ n. 1 + n) o)
-one_line_more_in l ls None = refl
-one_line_more_in l ls (Some n) = ap (λ t. Some t) (one_line_more n l ls)
-
-begun_step : (b : Bool) (l : List ℕ) (ls : List (List ℕ)) (o : Option ℕ)
-    → (if b then Some (length l + 1) else option_map (λ n. length l + 1 + n) (option_map (λ n. bytes_of (take (n + 1) ls)) o))
-    ≡ option_map (λ n. bytes_of (take (n + 1) (l ∷ ls))) (if b then Some 0 else option_map (λ n. 1 + n) o)
-begun_step true l ls o = let e : length l + 1 ≡ 0 + (length l + 1) = omega arith in ap (λ t. Some t) e
-begun_step false l ls None = refl
-begun_step false l ls (Some n) = let e : 1 + (n + 1) ≡ 1 + n + 1 = omega arith in ap (λ t. Some t) (one_line_more (n + 1) l ls ∙ ap (λ m. bytes_of (take m (l ∷ ls))) e)
-
-begun_ends : (ls : List (List ℕ)) → ends_from true ls ≡ option_map (λ n. bytes_of (take (n + 1) ls)) (position is_empty_line ls)
-begun_ends [] = refl
-begun_ends (l ∷ ls) =
-    rw (position_cons is_empty_line l ls, begun_ends ls) (begun_step (is_empty_line l) l ls (position is_empty_line ls))
-
--- the lines of a head by the number of empty ones at the front
-lines_by : ℕ → List (List ℕ) → Option ℕ
-lines_by k ls = option_map (λ n. k + n + 1) (position is_empty_line (drop k ls))
-
-empty_first : (l : List ℕ) (ls : List (List ℕ)) → is_empty_line l ≡ true → head_lines (l ∷ ls) ≡ option_map (λ n. 1 + n) (head_lines ls)
-unfolding lines_by
-empty_first l ls e =
-    let front : empty_front (l ∷ ls) ≡ suc (empty_front ls) = rw e (omega arith) in
-    ap (λ k. lines_by k (l ∷ ls)) front
-    ∙ sym (mapped_twice (λ n. 1 + n) (λ n. empty_front ls + n + 1) (λ n. suc (empty_front ls) + n + 1) (position is_empty_line (drop (empty_front ls) ls)) (λ n. omega arith))
-
-full_first : (l : List ℕ) (ls : List (List ℕ)) → is_empty_line l ≡ false → head_lines (l ∷ ls) ≡ option_map (λ n. 1 + n) (option_map (λ n. n + 1) (position is_empty_line ls))
-unfolding lines_by
-full_first l ls e =
-    let front : empty_front (l ∷ ls) ≡ 0 = rw e refl in
-    ap (λ k. lines_by k (l ∷ ls)) front ∙ ap (option_map (λ n. 0 + n + 1)) (position_cons is_empty_line l ls ∙ rw e refl)
-    ∙ mapped_twice (λ n. 0 + n + 1) (λ n. 1 + n) (λ n. 1 + (n + 1)) (position is_empty_line ls) (λ n. omega arith)
-    ∙ sym (mapped_twice (λ n. 1 + n) (λ n. n + 1) (λ n. 1 + (n + 1)) (position is_empty_line ls) (λ n. refl))
-
-first_step : (b : Bool) (l : List ℕ) (ls : List (List ℕ)) → is_empty_line l ≡ b → ends_from false ls ≡ option_map (λ n. bytes_of (take n ls)) (head_lines ls)
-    → ends_from false (l ∷ ls) ≡ option_map (λ n. bytes_of (take n (l ∷ ls))) (head_lines (l ∷ ls))
-first_step true l ls e h =
-    let start : ends_from false (l ∷ ls) ≡ option_map (λ n. length l + 1 + n) (ends_from false ls) = rw e refl in
-    start ∙ ap (option_map (λ n. length l + 1 + n)) h ∙ one_line_more_in l ls (head_lines ls) ∙ ap (option_map (λ n. bytes_of (take n (l ∷ ls)))) (sym (empty_first l ls e))
-first_step false l ls e h =
-    let start : ends_from false (l ∷ ls) ≡ option_map (λ n. length l + 1 + n) (ends_from true ls) = rw e refl in
-    start ∙ ap (option_map (λ n. length l + 1 + n)) (begun_ends ls ∙ sym (mapped_twice (λ n. bytes_of (take n ls)) (λ n. n + 1) (λ n. bytes_of (take (n + 1) ls)) (position is_empty_line ls) (λ n. refl)))
-    ∙ one_line_more_in l ls (option_map (λ n. n + 1) (position is_empty_line ls)) ∙ ap (option_map (λ n. bytes_of (take n (l ∷ ls)))) (sym (full_first l ls e))
-
-all_ends : (ls : List (List ℕ)) → ends_from false ls ≡ option_map (λ n. bytes_of (take n ls)) (head_lines ls)
-all_ends [] = refl
-all_ends (l ∷ ls) = first_step (is_empty_line l) l ls refl (all_ends ls)
-
 -- the end of a head, byte by byte
 head_end_behind : (bytes : List ℕ) → head_end bytes ≡ end_behind false Nothing bytes
-unfolding head_end
-head_end_behind bytes = sym (end_by_lines false Nothing bytes ∙ fresh_line false (ended_lines bytes) ∙ all_ends (ended_lines bytes))
+head_end_behind bytes = sym (end_by_lines false Nothing bytes ∙ fresh_line false (ended_lines bytes) ∙ head_end_is bytes)
 
 -- before the first byte
 pub sought_first : IsSought [] false Nothing

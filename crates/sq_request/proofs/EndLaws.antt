@@ -16,7 +16,7 @@ ends_from begun (l ∷ ls) =
     if begun && is_empty_line l then Some (length l + 1)
     else option_map (λ n. length l + 1 + n) (ends_from (begun || not (is_empty_line l)) ls)
 
-mapped_twice : {A B C : Type 0} (f : B → C) (g : A → B) (h : A → C) (o : Option A) → ((x : A) → f (g x) ≡ h x) → option_map f (option_map g o) ≡ option_map h o
+pub mapped_twice : {A B C : Type 0} (f : B → C) (g : A → B) (h : A → C) (o : Option A) → ((x : A) → f (g x) ≡ h x) → option_map f (option_map g o) ≡ option_map h o
 mapped_twice f g h None same = refl
 mapped_twice f g h (Some x) same = ap (λ t. Some t) (same x)
 
@@ -102,7 +102,7 @@ pub head_end_is : (bytes : List ℕ) → ends_from false (ended_lines bytes) ≡
 unfolding head_end
 head_end_is bytes = all_ends (ended_lines bytes)
 
-but_last_cons : (l : List ℕ) (ls : List (List ℕ)) → 0 < length ls → take (length (l ∷ ls) - 1) (l ∷ ls) ≡ l ∷ take (length ls - 1) ls
+pub but_last_cons : (l : List ℕ) (ls : List (List ℕ)) → 0 < length ls → take (length (l ∷ ls) - 1) (l ∷ ls) ≡ l ∷ take (length ls - 1) ls
 but_last_cons l [] h = absurd (omega arith)
 but_last_cons l (m ∷ ms) h =
     let e : length (l ∷ m ∷ ms) - 1 ≡ suc (length (m ∷ ms) - 1) = omega arith in

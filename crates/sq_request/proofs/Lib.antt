@@ -1,4 +1,4 @@
-mod EndLaws
+pub mod EndLaws
 mod FieldLaws
 mod HeadLaws
 mod MadeLaws
