@@ -1,5 +1,6 @@
 pub mod BodyLaws
 mod GrowthLaws
 mod LineLaws
+mod PassLaws
 pub mod PieceLaws
 mod TakeLaws

@@ -1,7 +1,7 @@
 -- What a cursor does with a piece of a body.
-use Rattle.std.specs.Prelude.{◌≡◌, ℕ, ◌<◌, ◌≤◌, List, [], ◌++◌, length, drop, Bool, true, false, ◌&&◌, nat_lt}
+use Rattle.std.specs.Prelude.{◌≡◌, ℕ, ◌<◌, ◌≤◌, List, [], ◌++◌, length, take, drop, Bool, true, false, ◌&&◌, nat_lt, nat_le}
 use Rattle.sq_body.specs.declared.place.Place.{Place}
-use Rattle.sq_body.specs.declared.place.Place.TheVariants.{Line, Refused}
+use Rattle.sq_body.specs.declared.place.Place.TheVariants.{Plain, Open, Line, Data, Refused}
 use Rattle.sq_base.specs.declared.plans.BodyPlan.{BodyPlan}
 use Rattle.sq_body.specs.Bodies.{line_limit, after, walk, body_of, is_whole_body, is_refused}
 use Rattle.sq_body.specs.ChunkLines.{LineSoFar, Whole, Never, chunk_line_of}
@@ -21,6 +21,13 @@ abbrev pub is_sound : Place → Bool
 is_sound (Line text) = is_sound_line text
 is_sound p = true
 
+-- so many bytes from here are data, as far as they are of the body
+abbrev pub is_data : Place → ℕ → Bool
+is_data (Plain left) n = true
+is_data Open n = true
+is_data (Data left) n = nat_le n left
+is_data p n = false
+
 -- the first n bytes were taken: the rest leads from there to the end of the whole
 pub record TakesFront (chunked : Bool) (p : Place) (rest : List ℕ) (q : Place) (n : ℕ) (before now : List ℕ) : Type 0 where
   pub grown : List ℕ
@@ -38,6 +45,11 @@ pub record Feeds (chunked : Bool) (p : Place) (input : List ℕ) (q : Place) (us
   pub walks : walk chunked p input ≡ record { place = q; out = grown; rest = drop used input }
   pub done : ended ≡ is_whole_body q
   pub going : is_refused q ≡ false
+
+-- the first n bytes of the input were taken, and go out as they are
+pub record Passes (p : Place) (input : List ℕ) (q : Place) (n : ℕ) : Type 0 where
+  pub fed : (chunked : Bool) → Feeds chunked p input q n (is_whole_body q) [] (take n input)
+  pub sound : is_sound q ≡ true
 
 -- the input is refused, and what stands before that was written
 pub record Spoils (chunked : Bool) (p : Place) (input : List ℕ) (q : Place) (before now : List ℕ) : Type 0 where

@@ -1,7 +1,7 @@
 //! `BodyCursor`: the body of a message, in pieces.
-ghost use Rattle.std.specs.Prelude.{◌≡◌, ◌+◌, ◌≤◌, ℕ, List, length, true, IfOk, OnErr, IsErrOf};
+ghost use Rattle.std.specs.Prelude.{◌≡◌, ◌+◌, ◌≤◌, ℕ, List, [], length, take, false, true, is_some, IfOk, OnErr, IsErrOf, IfSome};
 ghost use Rattle.sq_body.specs.Bodies.{start, is_whole_body, is_refused, kept_bytes, line_limit};
-ghost use Rattle.sq_body.specs.Feeding.{is_sound, WroteOfBody, Feeds, Spoils, Follows, Joins, JoinsBad};
+ghost use Rattle.sq_body.specs.Feeding.{is_sound, WroteOfBody, Feeds, Spoils, Follows, Joins, JoinsBad, Passes, is_data};
 ghost use Rattle.sq_base.specs.declared.plans.BodyPlan.{BodyPlan};
 
 use crate::faults::FeedFault;
@@ -61,6 +61,28 @@ fn is_refused(place: &Place) -> bool
     }
 }
 
+// Where data at the front of the input leads, and how many bytes of it there are; none where more than data may stand there.
+fn data_at(place: &Place, input: &[u8]) -> Option<(Place, usize)>
+    ensures data { is_some result ≡ is_data place.now (length input.now) }
+    ensures passes { IfSome result (λ r. Passes place.now input.now r.0 r.1) }
+{
+    match place {
+        Place::Plain(left) => {
+            let used = (input.len() as u64).min(*left) as usize;
+            Some((Place::Plain(*left - used as u64), used))
+        }
+        Place::Open => Some((Place::Open, input.len())),
+        Place::Data(left) => {
+            if input.len() as u64 <= *left {
+                Some((Place::Data(*left - input.len() as u64), input.len()))
+            } else {
+                None
+            }
+        }
+        _ => None,
+    }
+}
+
 impl BodyCursor {
     /// The body of this plan from its beginning, which goes out in chunks or as its data alone. It takes no
     /// memory.
@@ -77,6 +99,24 @@ impl BodyCursor {
         BodyCursor {
             place,
             chunked: chunked_out,
+        }
+    }
+
+    /// Takes the data at the front of the input, and says how many bytes it is, where the input has nothing else of this
+    /// body: no line of a chunk and no trailer. It goes out as it stands there. Else it takes nothing. It copies no byte.
+    pub fn take_data(&mut self, input: &[u8]) -> Option<Fed>
+        ensures chunked { self.new.chunked ≡ self.old.chunked }
+        ensures data { is_some result ≡ is_data self.old.place (length input.now) }
+        ensures fed { IfSome result (λ f. Feeds self.old.chunked self.old.place input.now self.new.place f.used f.done [] (take f.used input.now)) }
+        ensures none { is_some result ≡ false → self.new ≡ self.old }
+    {
+        match data_at(&self.place, input) {
+            Some((place, used)) => {
+                let done = is_complete(&place);
+                self.place = place;
+                Some(Fed { used, done })
+            }
+            None => None,
         }
     }
 

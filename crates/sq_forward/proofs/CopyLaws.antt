@@ -1,5 +1,5 @@
 -- A body that is copied in pieces: what each piece comes to, and all of them.
-use Rattle.std.proofs.Common.{◌≡◌, ℕ, ◌≤◌, Bool, true, false, List, [], ◌++◌, drop, Option, Some, None, IfSome, refl, sym, ap, subst, ◌∙◌, append_assoc, append-nil}
+use Rattle.std.proofs.Common.{◌≡◌, ℕ, ◌≤◌, Bool, true, false, List, [], ◌++◌, take, drop, Option, Some, None, IfSome, refl, sym, ap, subst, ◌∙◌, append_assoc, append-nil}
 use Rattle.std.specs.Io.KnownBytes.{Keeps, IsAtEnd, prepend_known}
 use Rattle.sq_base.specs.declared.plans.BodyPlan.{BodyPlan}
 use Rattle.sq_body.specs.declared.place.Place.{Place}
@@ -10,22 +10,17 @@ use Rattle.sq_body.proofs.BodyLaws.{after_after, walk_none, walk_refused}
 use Rattle.sq_body.proofs.PieceLaws.{walk_whole, walk_part, walk_no_rest, walk_grows}
 use Rattle.sq_outside.specs.Causes.{count_limit}
 use Rattle.sq_forward.specs.Meters.{PaysAll, PaysPart, piece_limit}
-use Rattle.sq_forward.specs.Copying.{CopiesBody, Copies, CopiesPiece}
+use Rattle.sq_forward.specs.Copying.{CopiesBody, Copies, CopiesPiece, PieceFed, PieceUnfed}
 use Rattle.sq_forward.specs.declared.copying.Copied.{Copied}
 use Rattle.sq_forward.specs.declared.copying.Copied.TheVariants.{Whole, Cut, Bad, NoSource, NoSink, Starved, WantOfMemory}
 use Rattle.sq_forward.proofs.PayLaws.{pays_none, pays_after, pays_part_after, pays_part_more, pays_whole}
 
 -- the bytes ahead were fed, and what they give was written
-pub record PieceFed (seated c : Bool) (p q : Place) (ahead : List ℕ) (used : ℕ) (ended : Bool) (before now : Option (List ℕ)) (g h : ℕ) : Type 0 where
-  pub piece : List ℕ
-  pub feeds : Feeds c p ahead q used ended [] piece
-  pub pays : PaysAll seated piece before now g h
-
-pub piece_fed : {seated c : Bool} {p q : Place} {a ahead was x piece : List ℕ} {used : ℕ} {done t : Bool} {b d : Option (List ℕ)} {g h : ℕ}
-    → a ≡ ahead → was ≡ [] → x ≡ piece → done ≡ t → Feeds c p a q used done was piece → PaysAll seated x b d g h → PieceFed seated c p q ahead used t b d g h
-piece_fed {seated} {c} {p} {q} {a} {ahead} {was} {x} {piece} {used} {done} {t} {b} {d} {g} {h} e f i j feeds pays = record {
+pub piece_fed : {seated c : Bool} {p q : Place} {ahead was x piece : List ℕ} {used : ℕ} {done : Bool} {b d : Option (List ℕ)} {g h : ℕ}
+    → was ≡ [] → x ≡ piece → Feeds c p ahead q used done was piece → PaysAll seated x b d g h → PieceFed seated c p q ahead used done b d g h
+piece_fed {seated} {c} {p} {q} {ahead} {was} {x} {piece} {used} {done} {b} {d} {g} {h} f i feeds pays = record {
   piece = piece;
-  feeds = subst (λ o. Feeds c p ahead q used t o piece) f (subst (λ u. Feeds c p ahead q used u was piece) j (subst (λ l. Feeds c p l q used done was piece) e feeds));
+  feeds = subst (λ o. Feeds c p ahead q used done o piece) f feeds;
   pays = subst (λ l. PaysAll seated l b d g h) i pays;
 }
 
@@ -44,13 +39,13 @@ pub record PiecePart (seated c : Bool) (p : Place) (ahead : List ℕ) (before no
   pub wrote : WroteOfBody c p ahead was piece
   pub pays : PaysPart seated piece before now g h spare
 
-pub piece_part : {seated c : Bool} {p : Place} {a ahead was x piece : List ℕ} {b d : Option (List ℕ)} {g h spare : ℕ}
-    → a ≡ ahead → was ≡ [] → x ≡ piece → WroteOfBody c p a was piece → PaysPart seated x b d g h spare → PiecePart seated c p ahead b d g h spare
-piece_part {seated} {c} {p} {a} {ahead} {was} {x} {piece} {b} {d} {g} {h} {spare} e f i wrote pays = record {
+pub piece_part : {seated c : Bool} {p : Place} {ahead was x piece : List ℕ} {b d : Option (List ℕ)} {g h spare : ℕ}
+    → was ≡ [] → x ≡ piece → WroteOfBody c p ahead was piece → PaysPart seated x b d g h spare → PiecePart seated c p ahead b d g h spare
+piece_part {seated} {was} {piece} {b} {d} {g} {h} {spare} f i wrote pays = record {
   was = was;
   piece = piece;
   none = f;
-  wrote = subst (λ l. WroteOfBody c p l was piece) e wrote;
+  wrote = wrote;
   pays = subst (λ l. PaysPart seated l b d g h spare) i pays;
 }
 
@@ -60,22 +55,49 @@ part_out {seated} {c} {p} {ahead} {b} {d} {g} {h} {spare} src x =
     subst (λ t. PaysPart seated t b d g h spare) (sym front.1) (pays_part_more front.0 x.pays)
 
 -- the sink failed in a piece
-pub piece_no_sink : {seated c : Bool} {p : Place} {b d : Option (List ℕ)} {g h : ℕ} (q : Place) (ahead : List ℕ) (src left : Option (List ℕ))
-    → PiecePart seated c p ahead b d g h piece_limit → CopiesPiece seated c p q (prepend_known ahead src) left b d g h (Some NoSink)
-piece_no_sink q ahead None left x = record { piece = tt }
-piece_no_sink q ahead (Some s) left x = record { piece = part_out s x }
+pub unfed_no_sink : {seated c : Bool} {p : Place} {ahead : List ℕ} {b d : Option (List ℕ)} {g h : ℕ} → PiecePart seated c p ahead b d g h piece_limit → PieceUnfed seated c p ahead b d g h NoSink
+unfed_no_sink x = record { ends = λ more left. part_out more x }
 
 -- nothing was granted
-pub piece_starved : {seated c : Bool} {p : Place} {b d : Option (List ℕ)} {g h : ℕ} (q : Place) (ahead : List ℕ) (src left : Option (List ℕ))
-    → PiecePart seated c p ahead b d g h 0 → CopiesPiece seated c p q (prepend_known ahead src) left b d g h (Some Starved)
-piece_starved q ahead None left x = record { piece = tt }
-piece_starved q ahead (Some s) left x = record { piece = part_out s x }
+pub unfed_starved : {seated c : Bool} {p : Place} {ahead : List ℕ} {b d : Option (List ℕ)} {g h : ℕ} → PiecePart seated c p ahead b d g h 0 → PieceUnfed seated c p ahead b d g h Starved
+unfed_starved x = record { ends = λ more left. part_out more x }
 
 -- there was no memory for all that the bytes give
-pub piece_no_memory : {seated c : Bool} {p : Place} {b d : Option (List ℕ)} {g h : ℕ} (q : Place) (ahead : List ℕ) (src left : Option (List ℕ))
-    → PiecePart seated c p ahead b d g h 0 → CopiesPiece seated c p q (prepend_known ahead src) left b d g h (Some WantOfMemory)
-piece_no_memory q ahead None left x = record { piece = tt }
-piece_no_memory q ahead (Some s) left x = record { piece = part_out s x }
+pub unfed_no_memory : {seated c : Bool} {p : Place} {ahead : List ℕ} {b d : Option (List ℕ)} {g h : ℕ} → PiecePart seated c p ahead b d g h 0 → PieceUnfed seated c p ahead b d g h WantOfMemory
+unfed_no_memory x = record { ends = λ more left. part_out more x }
+
+-- the bytes are refused
+pub unfed_bad : {seated c : Bool} {p q : Place} {ahead was t piece : List ℕ} {b d : Option (List ℕ)} {g h : ℕ}
+    → was ≡ [] → t ≡ piece → Spoils c p ahead q was piece → PaysAll seated t b d g h → PieceUnfed seated c p ahead b d g h Bad
+unfed_bad {seated} {c} {p} {q} {ahead} {was} {t} {piece} {b} {d} {g} {h} f i x y = record {
+  ends = λ s left.
+      let whole : walk c p (ahead ++ s) ≡ after x.grown (halted place.Refused []) =
+      walk_part c p place.Refused ahead s x.grown [] x.walks refl ∙ ap (after x.grown) (walk_refused c s) in
+      let is : t ≡ x.grown ++ [] = i ∙ x.wrote ∙ ap (λ o. o ++ x.grown) f ∙ sym (append-nil x.grown) in
+      (ap (λ w. is_refused (Walk.place w)) whole, subst (λ l. PaysAll seated l b d g h) (is ∙ ap Walk.out (sym whole)) y);
+}
+
+-- the copying ended in a piece
+pub piece_unfed : {seated c : Bool} {p : Place} {b d : Option (List ℕ)} {g h : ℕ} (q : Place) (ahead : List ℕ) (src left : Option (List ℕ)) (copied : Copied)
+    → PieceUnfed seated c p ahead b d g h copied → CopiesPiece seated c p q (prepend_known ahead src) left b d g h (Some copied)
+piece_unfed q ahead None left copied x = record { piece = tt }
+piece_unfed q ahead (Some s) left copied x = record { piece = x.ends s left }
+
+-- data was written as it is
+pub data_fed : {seated c : Bool} {p q : Place} {ahead bytes : List ℕ} {used : ℕ} {done : Bool} {b d : Option (List ℕ)} {g h : ℕ}
+    → Feeds c p ahead q used done [] (take used ahead) → bytes ≡ take used ahead → PaysAll seated bytes b d g h → PieceFed seated c p q ahead used done b d g h
+data_fed {seated} {ahead} {used} {b} {d} {g} {h} feeds e pays = record { piece = take used ahead; feeds = feeds; pays = subst (λ l. PaysAll seated l b d g h) e pays }
+
+-- a part of it
+pub data_part : {seated c : Bool} {p q : Place} {ahead bytes : List ℕ} {used : ℕ} {done : Bool} {b d : Option (List ℕ)} {g h spare : ℕ}
+    → Feeds c p ahead q used done [] (take used ahead) → bytes ≡ take used ahead → PaysPart seated bytes b d g h spare → PiecePart seated c p ahead b d g h spare
+data_part {seated} {ahead} {used} {b} {d} {g} {h} {spare} feeds e pays = record {
+  was = [];
+  piece = take used ahead;
+  none = refl;
+  wrote = record { grown = feeds.grown; more = []; wrote = feeds.wrote; gives = ap Walk.out feeds.walks ∙ sym (append-nil feeds.grown) };
+  pays = subst (λ l. PaysPart seated l b d g h spare) e pays;
+}
 
 -- the body is complete
 pub piece_whole : {seated c : Bool} {p q : Place} {used : ℕ} {b d : Option (List ℕ)} {g h : ℕ} (ahead : List ℕ) (src left : Option (List ℕ))
@@ -91,17 +113,6 @@ piece_whole {seated} {c} {p} {q} {used} {b} {d} {g} {h} ahead (Some s) left e x 
         subst (λ t. PaysAll seated t b d g h) (f.wrote ∙ ap Walk.out (sym whole)) x.pays,
       );
     }
-
--- the bytes are refused
-pub piece_bad : {seated c : Bool} {p q : Place} {a was t piece : List ℕ} {b d : Option (List ℕ)} {g h : ℕ} (ahead : List ℕ) (src left : Option (List ℕ))
-    → a ≡ ahead → was ≡ [] → t ≡ piece → Spoils c p a q was piece → PaysAll seated t b d g h → CopiesPiece seated c p q (prepend_known ahead src) left b d g h (Some Bad)
-piece_bad ahead None left e f i x y = record { piece = tt }
-piece_bad {seated} {c} {p} {q} {a} {was} {t} {piece} {b} {d} {g} {h} ahead (Some s) left e f i x y =
-    let walks = ap (walk c p) (sym e) ∙ x.walks in
-    let whole : walk c p (ahead ++ s) ≡ after x.grown (halted place.Refused []) =
-    walk_part c p place.Refused ahead s x.grown [] walks refl ∙ ap (after x.grown) (walk_refused c s) in
-    let is : t ≡ x.grown ++ [] = i ∙ x.wrote ∙ ap (λ o. o ++ x.grown) f ∙ sym (append-nil x.grown) in
-    record { piece = (ap (λ w. is_refused (Walk.place w)) whole, subst (λ l. PaysAll seated l b d g h) (is ∙ ap Walk.out (sym whole)) y) }
 
 -- where a body goes on, all of the bytes ahead were used
 pub all_used : {seated c : Bool} {p q : Place} {used : ℕ} {b d : Option (List ℕ)} {g h : ℕ} (ahead : List ℕ) → PieceFed seated c p q ahead used false b d g h → drop used ahead ≡ []
@@ -243,3 +254,13 @@ piece_as {seated} {now_seated} {c} {now_c} {p} {q} {left} {next} {b} {d} {h} {k}
 pub passed : {S : Type 0} (left : S → Option (List ℕ)) (ahead : List ℕ) (used : ℕ) {now : List ℕ} {a b : S} → now ≡ drop used ahead → a ≡ b
     → prepend_known now (left a) ≡ prepend_known (drop used ahead) (left b)
 passed left ahead used {now} {a} {b} e f = ap (λ l. prepend_known l (left a)) e ∙ ap (λ s. prepend_known (drop used ahead) (left s)) f
+
+-- a piece behind which the body is so
+pub fed_so : {seated c : Bool} {p q : Place} {ahead : List ℕ} {used : ℕ} {done : Bool} {b d : Option (List ℕ)} {g h : ℕ} (t : Bool) → done ≡ t → PieceFed seated c p q ahead used done b d g h → PieceFed seated c p q ahead used t b d g h
+fed_so {seated} {c} {p} {q} {ahead} {used} {b} {d} {g} {h} t e x = subst (λ o. PieceFed seated c p q ahead used o b d g h) e x
+
+pub fed_at : {seated c : Bool} {p q : Place} {a ahead : List ℕ} {used : ℕ} {done : Bool} {b d : Option (List ℕ)} {g h : ℕ} → a ≡ ahead → PieceFed seated c p q a used done b d g h → PieceFed seated c p q ahead used done b d g h
+fed_at {seated} {c} {p} {q} {used} {done} {b} {d} {g} {h} e x = subst (λ l. PieceFed seated c p q l used done b d g h) e x
+
+pub unfed_at : {seated c : Bool} {p : Place} {a ahead : List ℕ} {b d : Option (List ℕ)} {g h : ℕ} {copied : Copied} → a ≡ ahead → PieceUnfed seated c p a b d g h copied → PieceUnfed seated c p ahead b d g h copied
+unfed_at {seated} {c} {p} {b} {d} {g} {h} {copied} e x = subst (λ l. PieceUnfed seated c p l b d g h copied) e x

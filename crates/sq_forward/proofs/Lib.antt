@@ -1,3 +1,4 @@
+mod AheadLaws
 mod CopyLaws
 mod ExchangeLaws
 mod FindLaws

@@ -1,10 +1,11 @@
 -- A body that is copied from a source to a sink as its bytes are granted.
-use Rattle.std.specs.Prelude.{◌≡◌, ℕ, List, Bool, true, false, Some, None, IfSome, ⊤}
+use Rattle.std.specs.Prelude.{◌≡◌, ℕ, List, [], ◌++◌, Bool, true, false, Some, None, IfSome, ⊤}
 use Rattle.std.specs.declared.option.Option.{Option}
 use Rattle.std.specs.Io.KnownBytes.{IsAtEnd}
 use Rattle.sq_base.specs.declared.plans.BodyPlan.{BodyPlan}
 use Rattle.sq_body.specs.declared.place.Place.{Place}
 use Rattle.sq_body.specs.Bodies.{Walk, after, walk, body_of, is_whole_body, is_refused}
+use Rattle.sq_body.specs.Feeding.{Feeds}
 use Rattle.sq_forward.specs.Meters.{PaysAll, PaysPart, piece_limit, dry_limit}
 use Rattle.sq_forward.specs.declared.copying.Copied.{Copied}
 use Rattle.sq_forward.specs.declared.copying.Copied.TheVariants.{Whole, Cut, Bad, NoSource, NoSink, Starved, WantOfMemory}
@@ -24,6 +25,16 @@ CopiesBody seated body left before now g h WantOfMemory = PaysPart seated body.o
 -- the same of the body at the front of what is to come, where that is told
 pub record Copies (seated : Bool) (plan : BodyPlan) (chunked : Bool) (first left before now : Option (List ℕ)) (g h : ℕ) (copied : Copied) : Type 0 where
   pub body : IfSome first (λ bytes. CopiesBody seated (body_of plan chunked bytes) left before now g h copied)
+
+-- the bytes ahead were taken, up to the end of the body, and what they give was written
+pub record PieceFed (seated c : Bool) (p q : Place) (ahead : List ℕ) (used : ℕ) (ended : Bool) (before now : Option (List ℕ)) (g h : ℕ) : Type 0 where
+  pub piece : List ℕ
+  pub feeds : Feeds c p ahead q used ended [] piece
+  pub pays : PaysAll seated piece before now g h
+
+-- the copying ended in them, whatever follows them
+pub record PieceUnfed (seated c : Bool) (p : Place) (ahead : List ℕ) (before now : Option (List ℕ)) (g h : ℕ) (copied : Copied) : Type 0 where
+  pub ends : (more : List ℕ) (left : Option (List ℕ)) → CopiesBody seated (walk c p (ahead ++ more)) left before now g h copied
 
 -- a piece of the bytes to come was taken, which lead from here to there, and what they give was written
 pub record PieceGoes (seated chunked : Bool) (p q : Place) (bytes : List ℕ) (left before now : Option (List ℕ)) (g h : ℕ) : Type 0 where

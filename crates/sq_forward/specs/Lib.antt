@@ -1,3 +1,4 @@
+pub mod Buffers
 pub mod Copying
 pub mod Exchanges
 pub mod Halves

@@ -1,15 +1,16 @@
 //! Bodies that are copied as their bytes are granted.
-ghost use Rattle.std.specs.Prelude.{◌≡◌, ◌≤◌, length, max, IfSome};
-ghost use Rattle.sq_forward.specs.Copying.{Copies, CopiesPiece, CopyHasCause, dry_after_copy, dry_after_piece};
+ghost use Rattle.std.specs.Prelude.{◌≡◌, ◌≤◌, ℕ, [], length, max, IfSome, IfOk, IfErr, OnOk};
+ghost use Rattle.sq_forward.specs.Copying.{Copies, CopiesPiece, PieceFed, PieceUnfed, CopyHasCause, dry_after_copy, dry_after_piece};
 ghost use Rattle.sq_forward.specs.Halves.{to_come, read_limit};
 
 use crate::half::Half;
 use crate::meter::Meter;
 use crate::paying::{Unpaid, pay};
 use sq_base::{BodyPlan, Text};
-use sq_body::{BodyCursor, FeedFault};
+use sq_body::{BodyCursor, Fed, FeedFault};
 use sq_outside::{Sink, Source, Unread};
 use std::alloc::Global;
+use std::mem;
 use std::sync::Wait;
 
 /// How the copying of a body ended.
@@ -55,8 +56,9 @@ pub(crate) fn copy_body<R: Wait, S: Source, O: Sink, M: Meter>(
     ensures few { length from.new.ahead ≤ max (length from.old.ahead) read_limit }
 {
     let mut cursor = BodyCursor::new(alloc, plan, chunked_out);
+    let mut framed = Text::new(alloc);
     for _ in rt.forever() {
-        match copy_piece(alloc, &mut cursor, from, to, meter) {
+        match copy_piece(alloc, &mut cursor, from, to, meter, &mut framed) {
             None => {}
             Some(copied) => return copied,
         }
@@ -71,6 +73,7 @@ fn copy_piece<S: Source, O: Sink, M: Meter>(
     from: &mut Half<S>,
     to: &mut O,
     meter: &mut M,
+    framed: &mut Text,
 ) -> Option<Copied>
     requires dry { M.dry meter.old ≡ 0 }
     ensures copies { CopiesPiece (M.seated meter.old) cursor.old.chunked cursor.old.place cursor.new.place (to_come S.left from.old) (to_come S.left from.new)
@@ -85,27 +88,99 @@ fn copy_piece<S: Source, O: Sink, M: Meter>(
     ensures origin { S.origin from.new.source ≡ S.origin from.old.source }
     ensures few { length from.new.ahead ≤ max (length from.old.ahead) read_limit }
 {
-    let mut piece = Text::new(alloc);
-    let fed = cursor.feed(alloc, from.ahead.as_bytes(), &mut piece);
-    match pay(meter, to, piece.as_bytes()) {
-        Ok(()) => {}
-        Err(Unpaid::Failed) => return Some(Copied::NoSink),
-        Err(Unpaid::Starved) => return Some(Copied::Starved),
-    }
-    match fed {
+    match write_ahead(alloc, cursor, from.ahead.as_bytes(), to, meter, framed) {
         Ok(fed) => {
-            from.pass(alloc, fed.used);
+            from.drop_front(fed.used);
             if fed.done {
                 return Some(Copied::Whole);
             }
         }
-        Err(FeedFault::BadChunk) => return Some(Copied::Bad),
-        Err(FeedFault::WantOfMemory) => return Some(Copied::WantOfMemory),
+        Err(copied) => return Some(copied),
     }
-    match from.fill(alloc) {
+    match from.fill() {
         Ok(true) => None,
         Ok(false) => Some(Copied::Cut),
         Err(Unread::Failed) => Some(Copied::NoSource),
         Err(Unread::WantOfMemory) => Some(Copied::WantOfMemory),
     }
+}
+
+// Writes what these bytes give: data from where it stands, and what has lines of chunks in it by way of `framed`.
+fn write_ahead<O: Sink, M: Meter>(
+    alloc: Global,
+    cursor: &mut BodyCursor,
+    ahead: &[u8],
+    to: &mut O,
+    meter: &mut M,
+    framed: &mut Text,
+) -> Result<Fed, Copied>
+    requires dry { M.dry meter.old ≡ 0 }
+    ensures fed { IfOk result (λ f. PieceFed (M.seated meter.old) cursor.old.chunked cursor.old.place cursor.new.place ahead.now f.used f.done
+        (O.contents to.old) (O.contents to.new) (M.granted meter.old) (M.granted meter.new)) }
+    ensures unfed { IfErr result (PieceUnfed (M.seated meter.old) cursor.old.chunked cursor.old.place ahead.now
+        (O.contents to.old) (O.contents to.new) (M.granted meter.old) (M.granted meter.new)) }
+    ensures cause { IfErr result (λ copied. (a b : ℕ) → CopyHasCause a b (O.faults to.old) (O.faults to.new) copied) }
+    ensures chunked { cursor.new.chunked ≡ cursor.old.chunked }
+    ensures dry_ok { OnOk result (M.dry meter.new ≡ 0) }
+    ensures dry_err { IfErr result (λ copied. M.dry meter.new ≡ dry_after_copy copied) }
+    ensures seated { M.seated meter.new ≡ M.seated meter.old }
+    ensures besides { M.besides meter.new ≡ M.besides meter.old }
+    ensures later { O.faults to.old ≤ O.faults to.new }
+{
+    match cursor.take_data(ahead) {
+        Some(fed) => {
+            let (front, _) = ahead.split_at(fed.used);
+            match pay(meter, to, front) {
+                Ok(()) => Ok(fed),
+                Err(Unpaid::Failed) => Err(Copied::NoSink),
+                Err(Unpaid::Starved) => Err(Copied::Starved),
+            }
+        }
+        None => write_framed(alloc, cursor, ahead, to, meter, framed),
+    }
+}
+
+// Writes what these bytes give by way of `framed`, whose room is used again.
+fn write_framed<O: Sink, M: Meter>(
+    alloc: Global,
+    cursor: &mut BodyCursor,
+    ahead: &[u8],
+    to: &mut O,
+    meter: &mut M,
+    framed: &mut Text,
+) -> Result<Fed, Copied>
+    requires dry { M.dry meter.old ≡ 0 }
+    ensures fed { IfOk result (λ f. PieceFed (M.seated meter.old) cursor.old.chunked cursor.old.place cursor.new.place ahead.now f.used f.done
+        (O.contents to.old) (O.contents to.new) (M.granted meter.old) (M.granted meter.new)) }
+    ensures unfed { IfErr result (PieceUnfed (M.seated meter.old) cursor.old.chunked cursor.old.place ahead.now
+        (O.contents to.old) (O.contents to.new) (M.granted meter.old) (M.granted meter.new)) }
+    ensures cause { IfErr result (λ copied. (a b : ℕ) → CopyHasCause a b (O.faults to.old) (O.faults to.new) copied) }
+    ensures chunked { cursor.new.chunked ≡ cursor.old.chunked }
+    ensures dry_ok { OnOk result (M.dry meter.new ≡ 0) }
+    ensures dry_err { IfErr result (λ copied. M.dry meter.new ≡ dry_after_copy copied) }
+    ensures seated { M.seated meter.new ≡ M.seated meter.old }
+    ensures besides { M.besides meter.new ≡ M.besides meter.old }
+    ensures later { O.faults to.old ≤ O.faults to.new }
+{
+    clear(alloc, framed);
+    let fed = cursor.feed(alloc, ahead, framed);
+    match pay(meter, to, framed.as_bytes()) {
+        Ok(()) => {}
+        Err(Unpaid::Failed) => return Err(Copied::NoSink),
+        Err(Unpaid::Starved) => return Err(Copied::Starved),
+    }
+    match fed {
+        Ok(fed) => Ok(fed),
+        Err(FeedFault::BadChunk) => Err(Copied::Bad),
+        Err(FeedFault::WantOfMemory) => Err(Copied::WantOfMemory),
+    }
+}
+
+// Takes all bytes out of a text, and keeps its room.
+fn clear(alloc: Global, text: &mut Text)
+    ensures { text.new ≡ [] }
+{
+    let mut bytes = mem::replace(text, Text::new(alloc)).into_vec();
+    bytes.clear();
+    *text = Text::from_vec(bytes);
 }

@@ -9,7 +9,6 @@ ghost use Rattle.sq_forward.specs.Heads.{FindsHead};
 use crate::half::Half;
 use crate::searching::HeadSearch;
 use sq_outside::{Source, Unread};
-use std::alloc::Global;
 use std::sync::Wait;
 
 // A head has so many bytes at most.
@@ -30,11 +29,10 @@ pub enum HeadFound {
     WantOfMemory,
 }
 
-/// Reads until a head stands ahead, or can't. Nothing is dropped, but what there was no memory for. Each byte
-/// is looked at once.
-pub fn find_head<R: Wait, S: Source>(rt: &R, alloc: Global, from: &mut Half<S>) -> HeadFound
+/// Reads until a head stands ahead, or can't. Nothing is dropped. Each byte is looked at once.
+pub fn find_head<R: Wait, S: Source>(rt: &R, from: &mut Half<S>) -> HeadFound
     ensures found { FindsHead from.new.ahead (to_come S.left from.new) result }
-    ensures kept { (result ≡ HeadFound.WantOfMemory → ⊥) → Keeps (to_come S.left from.old) (to_come S.left from.new) }
+    ensures kept { Keeps (to_come S.left from.old) (to_come S.left from.new) }
     ensures cause { result ≡ HeadFound.Failed → Rose (S.faults from.old.source) (S.faults from.new.source) }
     ensures later { S.faults from.old.source ≤ S.faults from.new.source }
     ensures origin { S.origin from.new.source ≡ S.origin from.old.source }
@@ -54,7 +52,7 @@ pub fn find_head<R: Wait, S: Source>(rt: &R, alloc: Global, from: &mut Half<S>) 
         if from.ahead.len() >= MOST_BYTES {
             return HeadFound::TooLarge;
         }
-        match from.fill(alloc) {
+        match from.fill() {
             Ok(true) => {}
             Ok(false) => return HeadFound::Ended,
             Err(Unread::Failed) => return HeadFound::Failed,

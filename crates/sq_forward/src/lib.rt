@@ -1,7 +1,7 @@
 //! What goes through the proxy to an origin and back: exchanges of one request and its reply, and tunnels,
 //! whose bytes go both ways at once.
 //!
-//! `Half` is a source with the bytes that were read ahead of it, and `Meter` grants the bytes that go to a
+//! `Half` is a source with the bytes that were read `Ahead` of it, and `Meter` grants the bytes that go to a
 //! client; `MemMeter` is one in memory. `find_head` reads until a head stands ahead. `exchange` sends a
 //! request and brings its reply, `tunnel` copies both ways to their ends. Where links tell what they hold,
 //! what was written is what the definition gives of what was to come, or a front of it before a fault; what
@@ -9,6 +9,7 @@
 //! link counted one.
 #![tactic(auto)]
 
+mod ahead;
 mod copying;
 mod exchanging;
 mod free;
@@ -23,6 +24,7 @@ mod searching;
 mod tunnels;
 mod ways;
 
+pub use ahead::Ahead;
 pub use exchanging::{Exchanged, exchange};
 pub use half::Half;
 pub use heads::{HeadFound, find_head};

@@ -1,5 +1,5 @@
 //! Bytes that are granted before they are written.
-ghost use Rattle.std.specs.Prelude.{◌≡◌, ◌≤◌, OnOk, OnErr, IsErrOf};
+ghost use Rattle.std.specs.Prelude.{◌≡◌, ◌≤◌, OnOk, IsErrOf};
 ghost use Rattle.sq_forward.specs.Meters.{piece_limit, dry_limit, PaysAll, PaysPart};
 ghost use Rattle.sq_outside.specs.Causes.{Rose};
 

@@ -49,7 +49,7 @@ fn take_head<R: Wait, P: Source>(
     ensures dialled { P.origin origin.new.source ≡ P.origin origin.old.source }
     ensures few { length origin.new.ahead ≤ max (length origin.old.ahead) (most_bytes + read_limit) }
 {
-    let len = match find_head(rt, alloc, origin) {
+    let len = match find_head(rt, origin) {
         HeadFound::Whole(len) => len,
         HeadFound::TooLarge => return Err(NoHead::Missing),
         HeadFound::Ended => return Err(NoHead::Missing),
@@ -62,7 +62,7 @@ fn take_head<R: Wait, P: Source>(
         Err(ReplyHeadFault::BadHead) => return Err(NoHead::Missing),
         Err(ReplyHeadFault::WantOfMemory) => return Err(NoHead::WantOfMemory),
     };
-    origin.pass(alloc, len);
+    origin.drop_front(len);
     Ok(head)
 }
 

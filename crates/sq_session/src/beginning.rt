@@ -40,7 +40,7 @@ pub(crate) fn next_request<R: Wait, S: Source>(rt: &R, alloc: Global, client: &m
     ensures dialled { S.origin client.new.source ≡ S.origin client.old.source }
     ensures few { length client.new.ahead ≤ max (length client.old.ahead) (most_bytes + read_limit) }
 {
-    let len = match find_head(rt, alloc, client) {
+    let len = match find_head(rt, client) {
         HeadFound::Whole(len) => len,
         HeadFound::TooLarge => return Begun::TooLarge,
         HeadFound::Ended => return ended(client.ahead.as_bytes()),
@@ -55,7 +55,7 @@ pub(crate) fn next_request<R: Wait, S: Source>(rt: &R, alloc: Global, client: &m
         Err(BadRequest::BadTarget) => return Begun::Bad,
         Err(BadRequest::WantOfMemory) => return Begun::WantOfMemory,
     };
-    client.pass(alloc, len);
+    client.drop_front(len);
     Begun::Asks(request)
 }
 

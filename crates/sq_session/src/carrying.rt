@@ -11,9 +11,9 @@ use crate::ends::Carried;
 use crate::forwarding::forward;
 use crate::front::{Front, SitFault};
 use crate::telling::{is_head, is_served, say};
-use sq_base::{Addr, BodyPlan, Request, Text};
+use sq_base::{Addr, BodyPlan, Request};
 use sq_checks::Record;
-use sq_forward::{Half, Meter};
+use sq_forward::{Ahead, Half, Meter};
 use sq_head::Own;
 use sq_outside::{Dialer, Out, Source};
 use std::alloc::Global;
@@ -97,7 +97,7 @@ fn reach<R: Threads + Wait + Sync, I: Source + Send, O: Out, M: Meter, D: Dialer
     };
     let mut origin = Half {
         source: from,
-        ahead: Text::new(alloc),
+        ahead: Ahead::new(alloc),
     };
     let carried = forward(
         rt,

@@ -5,9 +5,9 @@ ghost use Rattle.sq_outside.specs.Causes.{count_limit};
 use crate::lock_hub::{LockHub, Shares};
 use crate::sums::{Sums, add};
 use sq_bank::Bank;
-use sq_base::{Addr, ConnNo, Text};
+use sq_base::{Addr, ConnNo};
 use sq_calls::DeskCalls;
-use sq_forward::Half;
+use sq_forward::{Ahead, Half};
 use sq_hub::HubFront;
 use sq_outside::{Clock, Dialer, Out, Source};
 use sq_room::Room;
@@ -118,7 +118,7 @@ fn serve_link<
     let mut front = HubFront::new(rt, hub, conn);
     let mut client = Half {
         source: from,
-        ahead: Text::new(alloc),
+        ahead: Ahead::new(alloc),
     };
     let end = session(
         rt,

@@ -2,7 +2,7 @@
 ghost use Rattle.std.specs.Prelude.{◌≡◌};
 
 use sq_base::{Addr, Field, Fields, Request, Text};
-use sq_forward::{Half, MemMeter};
+use sq_forward::{Ahead, Half, MemMeter};
 use sq_outside::{MemSink, MemSource};
 use sq_request::make_request;
 use std::alloc::Global;
@@ -26,7 +26,7 @@ pub fn half(
     let fails = Vec::from_slice(alloc, fails).expect(rt, "memory");
     Half {
         source: MemSource::new(bytes, step, fails),
-        ahead: Text::new(alloc),
+        ahead: Ahead::new(alloc),
     }
 }
 

@@ -25,7 +25,7 @@ type Row = (
 const UP: &str = "cdefgh";
 
 /// What was read ahead of it.
-const AHEAD: &[u8] = b"ab";
+const AHEAD: &str = "ab";
 
 /// What the origin sends; it is read by 4, 4 and 2 bytes.
 const DOWN: &str = "0123456789";
@@ -89,8 +89,9 @@ static ROWS: [Row; 29] = [
 fn check<R: Threads + Wait + Sync + Abort>(rt: &R, alloc: Global, number: usize, row: &Row) {
     let ((client_reads, client_writes, origin_reads, origin_writes), grants, wanted, down, up) =
         row;
-    let mut client = half(rt, alloc, UP, 3, client_reads);
-    client.ahead.append(AHEAD).expect(rt, "memory");
+    let mut client = half(rt, alloc, AHEAD, 3, &[]);
+    assert!(rt; client.fill() == Ok(true));
+    client.source = half(rt, alloc, UP, 3, client_reads).source;
     let mut origin = half(rt, alloc, DOWN, 4, origin_reads);
     let client_wire = Wire::new(alloc, 64).expect(rt, "memory");
     let origin_wire = Wire::new(alloc, 64).expect(rt, "memory");

@@ -2,7 +2,7 @@
 use crate::failing::Failing;
 use sq_base::{Addr, ConnNo, Copying, Moment, Text};
 use sq_conf::read_config;
-use sq_forward::Half;
+use sq_forward::{Ahead, Half};
 use sq_hub::HubFront;
 use sq_mem_hub::MemHub;
 use sq_outside::{MemDialer, MemOrigin, MemOut, MemPair, MemShape, MemSink, MemSource, Wire};
@@ -101,7 +101,7 @@ pub fn run<R: Threads + Wait + Sync + Abort>(
     let sent = input.copy(alloc).expect(rt, "memory").into_vec();
     let mut from = Half {
         source: MemSource::new(sent, ROOM, Vec::new(alloc)),
-        ahead: Text::new(alloc),
+        ahead: Ahead::new(alloc),
     };
     let mut dialer = dialer(rt, alloc);
     let hub = Failing::new(machine(rt, alloc), call);

@@ -5,7 +5,7 @@ use crate::cases::{Case, Side};
 use crate::front::{MemFront, Other, Told};
 use Place::{ClientRead, ClientWrite, Dial, Front, OriginRead, OriginWrite};
 use sq_base::{Copying, Text};
-use sq_forward::Half;
+use sq_forward::{Ahead, Half};
 use sq_outside::{MemDialer, MemOrigin, MemOut, MemPair, MemShape, MemSink, MemSource, Wire};
 use sq_session::{SessionEnd, session};
 use std::alloc::Global;
@@ -139,7 +139,7 @@ pub fn run<R: Threads + Wait + Sync + Abort>(
     let input = copy(rt, alloc, &case.input).into_vec();
     let mut client = Half {
         source: MemSource::new(input, step, fails(rt, alloc, fault, ClientRead)),
-        ahead: Text::new(alloc),
+        ahead: Ahead::new(alloc),
     };
     let writes = fails(rt, alloc, fault, ClientWrite);
     let sink = MemSink::new(alloc, room_for(&case.text), step, writes).expect(rt, "memory");

@@ -1,0 +1,140 @@
+//! `Ahead`: bytes that were read ahead of their use.
+ghost use Rattle.std.specs.Prelude.{◌≡◌, ◌+◌, ◌≤◌, ◌<◌, [], length, take, drop, IfOk, OnOk, OnErr};
+ghost use Rattle.std.specs.Io.KnownBytes.{Consumes, IsAtEnd, Keeps, prepend_known};
+ghost use Rattle.sq_outside.specs.Causes.{HasCause};
+ghost use Rattle.sq_outside.specs.Input.{ReadHasCause};
+ghost use Rattle.sq_outside.specs.Output.{IsPrefix};
+ghost use Rattle.sq_forward.specs.Buffers.{most_room, read_limit, Filled};
+
+use sq_base::WantOfMemory;
+use sq_outside::{Failed, Source, Unread};
+use std::alloc::Global;
+use std::marker::Model;
+
+// At most this many bytes are read at a time.
+const READ: usize = 16_384;
+
+// Less room than this is too little for a read.
+const LEAST_ROOM: usize = 8_192;
+
+/// Bytes that were read ahead of their use, with room behind them for the next read. They stand where they were
+/// read, and are moved only where 16,384 would stand before them. A contract sees their list. Their buffer has at most
+/// 40,958 bytes more than they are, besides what the vector has in reserve.
+#[derive(Drop)]
+pub struct Ahead {
+    // They stand from `start` to `end`.
+    bytes: Vec<u8>,
+    start: usize,
+    end: usize,
+}
+
+impl Model for Ahead {
+    ghost use Rattle.std.specs.Prelude.{List, ℕ, ◌-◌, take, drop};
+    ghost use Rattle.sq_forward.specs.Buffers.{IsBuffer};
+
+    ghost Value = { List ℕ };
+
+    ghost view = { λ a. take (a.end - a.start) (drop a.start a.bytes.items) };
+
+    ghost invariant = { λ a. IsBuffer a.bytes.items a.start a.end };
+}
+
+// Room for a read behind the first `end` bytes.
+fn make_room(bytes: &mut Vec<u8>, end: usize) -> Result<(), WantOfMemory>
+    requires within { end ≤ length bytes.old.items }
+    requires few { length bytes.old.items < end + most_room }
+    ensures room { OnOk result (end < length bytes.new.items) }
+    ensures few { length bytes.new.items < end + most_room }
+    ensures within { end ≤ length bytes.new.items }
+    ensures front { take end bytes.new.items ≡ take end bytes.old.items }
+{
+    if bytes.len() - end < LEAST_ROOM {
+        bytes.extend_from_slice(&[0u8; READ])?;
+    }
+    Ok(())
+}
+
+// Reads some bytes to the place behind the first `end`.
+fn read_at<S: Source>(source: &mut S, bytes: &mut Vec<u8>, end: usize) -> Result<usize, Failed>
+    requires room { end < length bytes.old.items }
+    ensures len { length bytes.new.items ≡ length bytes.old.items }
+    ensures front { take end bytes.new.items ≡ take end bytes.old.items }
+    ensures within { IfOk result (λ n. (end + n ≤ length bytes.new.items) × (n ≤ read_limit)) }
+    ensures taken { IfOk result (λ n. Consumes (S.left source.old) (S.left source.new) (take n (drop end bytes.new.items))) }
+    ensures over { IfOk result (λ n. n ≡ 0 → IsAtEnd (S.left source.new)) }
+    ensures err { OnErr result (Keeps (S.left source.old) (S.left source.new)) }
+    ensures origin { S.origin source.new ≡ S.origin source.old }
+    ensures cause { HasCause (S.faults source.old) (S.faults source.new) result }
+{
+    let most = (bytes.len() - end).min(READ);
+    source.read(&mut bytes[end..end + most])
+}
+
+impl Ahead {
+    /// No bytes. It takes no memory.
+    pub fn new(alloc: Global) -> Ahead
+        ensures { result ≡ [] }
+    {
+        Ahead {
+            bytes: Vec::new(alloc),
+            start: 0,
+            end: 0,
+        }
+    }
+
+    /// The bytes, lent.
+    pub fn as_bytes(&self) -> &[u8]
+        ensures value { result.now ≡ self.now }
+    {
+        &self.bytes.as_slice()[self.start..self.end]
+    }
+
+    /// How many bytes there are.
+    pub fn len(&self) -> usize
+        ensures { result ≡ length self.now }
+    {
+        self.end - self.start
+    }
+
+    /// Reads some bytes of a source behind these. The answer is whether there were any. None is read where there is
+    /// no memory for it.
+    pub(crate) fn read<S: Source>(&mut self, source: &mut S) -> Result<bool, Unread>
+        ensures kept { Keeps (prepend_known self.old (S.left source.old)) (prepend_known self.new (S.left source.new)) }
+        ensures filled { IfOk result (Filled self.old self.new (S.left source.new)) }
+        ensures front { IsPrefix self.old self.new }
+        ensures few { length self.new ≤ length self.old + read_limit }
+        ensures origin { S.origin source.new ≡ S.origin source.old }
+        ensures cause { ReadHasCause (S.faults source.old) (S.faults source.new) result }
+    {
+        match make_room(&mut self.bytes, self.end) {
+            Ok(()) => {}
+            Err(WantOfMemory) => return Err(Unread::WantOfMemory),
+        }
+        match read_at(source, &mut self.bytes, self.end) {
+            Ok(0) => Ok(false),
+            Ok(count) => {
+                self.end += count;
+                Ok(true)
+            }
+            Err(Failed) => Err(Unread::Failed),
+        }
+    }
+
+    /// Drops the first n of the bytes. It takes no memory.
+    pub(crate) fn drop_front(&mut self, n: usize)
+        requires { n ≤ length self.old }
+        ensures { self.new ≡ drop n self.old }
+    {
+        self.start += n;
+        if self.start == self.end {
+            // Mostly all of them go, and none is moved.
+            self.bytes.truncate(READ);
+            self.start = 0;
+            self.end = 0;
+        } else if self.start >= READ {
+            self.bytes.drain(..self.start);
+            self.end -= self.start;
+            self.start = 0;
+        }
+    }
+}
