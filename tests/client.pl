@@ -1,7 +1,7 @@
 # A client on the loopback for tests/serve.sh: perl client.pl PORT FILE ..
 #
 # It sends the files one after the other over one connection to this port, each after the first once the reply to the one before is
-# whole, which has to have a length. After the last it ends its side. It writes to standard output all that came, up to the end. In the
+# whole, which has a length, or no body. After the last it ends its side. It writes to standard output all that came, up to the end. In the
 # place of a file, @FILE waits until there is such a file. After 60 seconds it ends, whatever has come.
 use strict;
 use warnings;

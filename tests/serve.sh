@@ -194,8 +194,10 @@ judged=$((judged + 1))
 ask 'POST of 10 MiB'
 judged=$((judged + 1))
 
+# The body is sent once 100 Continue has come.
 lines "POST http://127.0.0.1:$http/raw HTTP/1.1" 'Host: a' 'X-Kept: a b' 'Expect: 100-Continue' 'Connection: X-Hop' 'X-Hop: 1' \
-    'Transfer-Encoding: chunked' '' '3;x=y' 'abc' '0A' '0123456789' '0' 'Trailer: 1' '' >request
+    'Transfer-Encoding: chunked' '' >one
+lines '3;x=y' 'abc' '0A' '0123456789' '0' 'Trailer: 1' '' >two
 lines "POST /raw HTTP/1.1" "Host: 127.0.0.1:$http" 'X-Kept: a b' 'Transfer-Encoding: chunked' 'Via: 1.1 aclproxy' \
     'X-Forwarded-For: 127.0.0.1' 'Connection: close' '' '3' 'abc' 'a' '0123456789' '0' '' >sent
 {
@@ -205,7 +207,8 @@ lines "POST /raw HTTP/1.1" "Host: 127.0.0.1:$http" 'X-Kept: a b' 'Transfer-Encod
     cat sent
     lines '' 0 ''
 } >wanted
-ask 'chunks both ways, and which fields pass'
+perl "$here/client.pl" "$port" one two >got 3>&-
+same_file 'chunks both ways, and which fields pass' got wanted
 judged=$((judged + 1))
 
 get /chunked >request

@@ -1,3 +1,4 @@
+pub mod CompleteLaws
 mod HubLaws
 mod JudgeLaws
 mod OpenLaws

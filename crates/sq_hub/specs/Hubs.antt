@@ -4,6 +4,8 @@ use Rattle.std.specs.declared.option.Option.{Option}
 use Rattle.std.specs.declared.result.Result.{Result}
 use Rattle.sq_outside.specs.Causes.{Rose, count_limit, raised}
 use Rattle.sq_rules.specs.declared.refusals.Refusal.TheVariants as refusal
+use Rattle.sq_session.specs.declared.front.CloseFault.{CloseFault}
+use Rattle.sq_session.specs.declared.front.CloseFault.TheVariants as close
 use Rattle.sq_session.specs.declared.front.Decided.{Decided}
 use Rattle.sq_session.specs.declared.front.Decided.TheVariants as decided
 use Rattle.sq_session.specs.declared.front.Opened.{Opened}
@@ -39,6 +41,12 @@ OpenFails before now opened.Full = ⊤
 OpenFails before now (opened.Refused why) = ⊤
 OpenFails before now opened.JournalFault = Rose before now
 OpenFails before now opened.WantOfMemory = ⊤
+
+abbrev pub CloseFails : ℕ → ℕ → Result (Unit {0}) CloseFault → Type 0
+CloseFails before now (Ok u) = ⊤
+CloseFails before now (Err (close.Refused why)) = ⊤
+CloseFails before now (Err close.JournalFault) = Rose before now
+CloseFails before now (Err close.WantOfMemory) = ⊤
 
 abbrev pub DecideFails : ℕ → ℕ → Decided → Type 0
 DecideFails before now (decided.Record j) = ⊤
@@ -78,6 +86,21 @@ opened_of (Refused (refusal.Spent n)) = opened.Refused (refusal.Spent n)
 opened_of (Refused refusal.WantOfMemory) = opened.WantOfMemory
 opened_of JournalFault = opened.JournalFault
 opened_of WantOfMemory = opened.WantOfMemory
+
+abbrev pub unclosed_of : HubFault → CloseFault
+unclosed_of (Refused (refusal.ConnInUse n)) = close.Refused (refusal.ConnInUse n)
+unclosed_of (Refused (refusal.UnknownConn n)) = close.Refused (refusal.UnknownConn n)
+unclosed_of (Refused (refusal.TooManyConns n)) = close.Refused (refusal.TooManyConns n)
+unclosed_of (Refused (refusal.CheckOpen n)) = close.Refused (refusal.CheckOpen n)
+unclosed_of (Refused (refusal.UnknownCheck n)) = close.Refused (refusal.UnknownCheck n)
+unclosed_of (Refused (refusal.NotDone n)) = close.Refused (refusal.NotDone n)
+unclosed_of (Refused (refusal.NoStartOpen e n)) = close.Refused (refusal.NoStartOpen e n)
+unclosed_of (Refused (refusal.UnknownProc n)) = close.Refused (refusal.UnknownProc n)
+unclosed_of (Refused (refusal.TooManyEpochs n)) = close.Refused (refusal.TooManyEpochs n)
+unclosed_of (Refused (refusal.Spent n)) = close.Refused (refusal.Spent n)
+unclosed_of (Refused refusal.WantOfMemory) = close.WantOfMemory
+unclosed_of JournalFault = close.JournalFault
+unclosed_of WantOfMemory = close.WantOfMemory
 
 abbrev pub decided_of : HubFault → Decided
 decided_of (Refused (refusal.ConnInUse n)) = decided.Refused (refusal.ConnInUse n)

@@ -1,4 +1,4 @@
--- What the opening of a connection, a question about a request and a seat make of what a hub tells.
+-- What the opening of a connection, its close, a question about a request and a seat make of what a hub tells.
 use Rattle.std.specs.Prelude.{◌≡◌, ◌⊎◌, ℕ, ◌<◌, ◌==◌, List, [], ◌∷◌, ◌++◌, Bool, true, false, ◌||◌, suc, Some, None, is_some, Ok, Err, ⊤}
 use Rattle.std.specs.List.{list_all}
 use Rattle.std.specs.declared.option.Option.{Option}
@@ -20,6 +20,8 @@ use Rattle.sq_rules.specs.declared.refusals.Refusal.{Refusal}
 use Rattle.sq_rules.specs.declared.refusals.Refusal.TheVariants as refusal
 use Rattle.sq_checks.specs.Records.{Judged}
 use Rattle.sq_pools.specs.Basins.{IsChosen}
+use Rattle.sq_session.specs.declared.front.CloseFault.{CloseFault}
+use Rattle.sq_session.specs.declared.front.CloseFault.TheVariants as close
 use Rattle.sq_session.specs.declared.front.Decided.{Decided}
 use Rattle.sq_session.specs.declared.front.Decided.TheVariants as decided
 use Rattle.sq_session.specs.declared.front.Opened.{Opened}
@@ -42,6 +44,17 @@ OpensBy e opened.WantOfMemory v new = IsSame new v.machine
 
 pub record Opens (conn : ℕ) (a : Address) (port : ℕ) (o : Opened) (v w : HubState) : Type 0 where
   pub opens : OpensBy (event.Open conn a port) o v w.machine
+  pub pools : w.pools ≡ v.pools
+
+-- the connection closed, or did not, as the machine answers
+abbrev pub ClosesBy : Event → Result (Unit {0}) CloseFault → HubState → State → Type 0
+ClosesBy e (Ok u) v new = IsNext v.machine (machine_now v) e told.Fine new
+ClosesBy e (Err (close.Refused why)) v new = IsRefused v.machine (machine_now v) e why × IsSame new v.machine
+ClosesBy e (Err close.JournalFault) v new = IsSame new v.machine
+ClosesBy e (Err close.WantOfMemory) v new = IsSame new v.machine
+
+pub record Closes (conn : ℕ) (result : Result (Unit {0}) CloseFault) (v w : HubState) : Type 0 where
+  pub closes : ClosesBy (event.Close conn) result v w.machine
   pub pools : w.pools ≡ v.pools
 
 -- while a check goes on come its steps, and events that no connection makes

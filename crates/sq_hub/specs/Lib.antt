@@ -1,3 +1,4 @@
+pub mod Completeness
 pub mod Hubs
 pub mod Tellings
 pub mod Judging

@@ -1,16 +1,18 @@
 -- What a front over a hub that tells stands for: its answers are those of pieces of the machine's history.
-use Rattle.std.specs.Prelude.{◌≡◌, ℕ, ◌==◌, List, [], ◌∷◌, ◌++◌, Bool, true, false, Some, None, ⊤}
+use Rattle.std.specs.Prelude.{◌≡◌, ℕ, List, [], ◌∷◌, ◌++◌, Bool, true, false, Ok, Err, Some, None, ⊤}
 use Rattle.std.specs.List.{list_all}
 use Rattle.std.specs.Option.{option_map}
 use Rattle.std.specs.declared.option.Option.{Option}
+use Rattle.std.specs.declared.result.Result.{Result}
 use Rattle.sq_base.specs.Addresses.{Address}
 use Rattle.sq_rules.specs.Configurations.{Configuration}
-use Rattle.sq_rules.specs.Entries.{History, Noted}
-use Rattle.sq_rules.specs.declared.entries.Event.{Event}
+use Rattle.sq_rules.specs.Entries.{History}
 use Rattle.sq_rules.specs.declared.entries.Event.TheVariants as event
 use Rattle.sq_rules.specs.declared.entries.Told.TheVariants as told
 use Rattle.sq_base.specs.Requests.{HttpRequest}
-use Rattle.sq_session.specs.Fronts.{FrontTold, OfOpen, OfDecide, OfSit}
+use Rattle.sq_session.specs.Fronts.{FrontTold, OfOpen, OfDecide, OfSit, OfClose}
+use Rattle.sq_session.specs.declared.front.CloseFault.{CloseFault}
+use Rattle.sq_session.specs.declared.front.CloseFault.TheVariants as close
 use Rattle.sq_session.specs.declared.front.Decided.{Decided}
 use Rattle.sq_session.specs.declared.front.Decided.TheVariants as decided
 use Rattle.sq_session.specs.declared.front.Opened.{Opened}
@@ -20,52 +22,48 @@ use Rattle.sq_state.specs.States.{State}
 use Rattle.sq_hub.specs.Judging.{IsAttempt, IsDecision}
 use Rattle.sq_hub.specs.Tellings.{HubState, StandsAt}
 
--- an answer of a front, or none, and the entries that its calls added
+-- an answer of a front, and the entries that its call added
 pub record Piece : Type 0 where
-  pub answers : List FrontTold
+  pub answer : FrontTold
   pub entries : History
 
--- the connection closes
-abbrev pub is_closing : ℕ → Event → Bool
-is_closing conn (event.Close c) = c == conn
-is_closing conn e = false
+-- the connection opened for a client of this address and port, or nothing came of it
+abbrev pub IsOpening : ℕ → Address → ℕ → Opened → History → Type 0
+IsOpening conn a port opened.In entries = (now : ℕ) × (entries ≡ entry_at now (event.Open conn a port) told.Fine ∷ [])
+IsOpening conn a port opened.Full entries = entries ≡ []
+IsOpening conn a port (opened.Refused why) entries = entries ≡ []
+IsOpening conn a port opened.JournalFault entries = entries ≡ []
+IsOpening conn a port opened.WantOfMemory entries = entries ≡ []
 
-abbrev pub closes : ℕ → Noted → Bool
-closes conn e = is_closing conn e.event
+-- this request was asked about on the connection: with a record it is that of this check, and without one the check may have gone on
+abbrev pub IsQuestion : ℕ → HttpRequest → Decided → History → Type 0
+IsQuestion conn r (decided.Record j) entries = IsDecision conn r j entries
+IsQuestion conn r (decided.Mismatch other) entries = ⊥
+IsQuestion conn r (decided.Refused why) entries = IsAttempt conn r entries
+IsQuestion conn r decided.JournalFault entries = IsAttempt conn r entries
+IsQuestion conn r decided.WantOfMemory entries = IsAttempt conn r entries
 
--- the connection opened, or nothing came of it
-abbrev pub IsOpening : ℕ → Opened → History → Type 0
-IsOpening conn opened.In entries = (now : ℕ) × (a : Address) × (port : ℕ) × (entries ≡ entry_at now (event.Open conn a port) told.Fine ∷ [])
-IsOpening conn opened.Full entries = entries ≡ []
-IsOpening conn (opened.Refused why) entries = entries ≡ []
-IsOpening conn opened.JournalFault entries = entries ≡ []
-IsOpening conn opened.WantOfMemory entries = entries ≡ []
+-- the connection closed, or nothing came of it
+abbrev pub IsClosing : ℕ → Result (Unit {0}) CloseFault → History → Type 0
+IsClosing conn (Ok u) entries = (now : ℕ) × (entries ≡ entry_at now (event.Close conn) told.Fine ∷ [])
+IsClosing conn (Err fault) entries = entries ≡ []
 
--- a request was asked about on the connection: with a record it is that of this check, and without one the check may have gone on
-abbrev pub IsQuestion : ℕ → Decided → History → Type 0
-IsQuestion conn (decided.Record j) entries = IsDecision conn j.sight.request j entries
-IsQuestion conn (decided.Mismatch other) entries = ⊥
-IsQuestion conn (decided.Refused why) entries = (r : HttpRequest) × IsAttempt conn r entries
-IsQuestion conn decided.JournalFault entries = (r : HttpRequest) × IsAttempt conn r entries
-IsQuestion conn decided.WantOfMemory entries = (r : HttpRequest) × IsAttempt conn r entries
-
--- the entries are those of the answer; without an answer the connection closes
-abbrev pub FitsPiece : ℕ → List FrontTold → History → Type 0
-FitsPiece conn [] entries = list_all (closes conn) entries ≡ true
-FitsPiece conn (OfOpen o ∷ []) entries = IsOpening conn o entries
-FitsPiece conn (OfDecide d ∷ []) entries = IsQuestion conn d entries
-FitsPiece conn (OfSit s ∷ []) entries = entries ≡ []
-FitsPiece conn (x ∷ y ∷ more) entries = ⊥
+-- the entries are those of the answer
+abbrev pub FitsPiece : ℕ → FrontTold → History → Type 0
+FitsPiece conn (OfOpen a port o) entries = IsOpening conn a port o entries
+FitsPiece conn (OfDecide r d) entries = IsQuestion conn r d entries
+FitsPiece conn (OfSit j s) entries = entries ≡ []
+FitsPiece conn (OfClose c) entries = IsClosing conn c entries
 
 -- the newest piece first
 abbrev pub ArePieces : ℕ → List Piece → Type 0
 ArePieces conn [] = ⊤
-ArePieces conn (p ∷ ps) = FitsPiece conn p.answers p.entries × ArePieces conn ps
+ArePieces conn (p ∷ ps) = FitsPiece conn p.answer p.entries × ArePieces conn ps
 
 -- the answers, the oldest first
 abbrev pub answers_of : List Piece → List FrontTold
 answers_of [] = []
-answers_of (p ∷ ps) = answers_of ps ++ p.answers
+answers_of (p ∷ ps) = answers_of ps ++ p.answer ∷ []
 
 -- the entries, the newest first
 abbrev pub entries_of : List Piece → History
@@ -84,7 +82,29 @@ pub record IsFrontList (conn : ℕ) (s : State) (list : List FrontTold) : Type 0
 abbrev pub machine_told : Option HubState → Option State
 machine_told told = option_map (λ v. v.machine) told
 
--- a front over a hub that tells nothing stands for no list
-abbrev pub FrontStands : ℕ → Option State → List FrontTold → Type 0
-FrontStands conn None list = ⊥
-FrontStands conn (Some s) list = IsFrontList conn s list
+-- the answer is no refusal, tells of no journal that could not be written, and of no other request that was judged; of seats nothing is said
+abbrev pub is_unrefused : FrontTold → Bool
+is_unrefused (OfOpen a port opened.In) = true
+is_unrefused (OfOpen a port opened.Full) = false
+is_unrefused (OfOpen a port (opened.Refused why)) = false
+is_unrefused (OfOpen a port opened.JournalFault) = false
+is_unrefused (OfOpen a port opened.WantOfMemory) = true
+is_unrefused (OfDecide r (decided.Record j)) = true
+is_unrefused (OfDecide r (decided.Mismatch other)) = false
+is_unrefused (OfDecide r (decided.Refused why)) = false
+is_unrefused (OfDecide r decided.JournalFault) = false
+is_unrefused (OfDecide r decided.WantOfMemory) = true
+is_unrefused (OfSit j s) = true
+is_unrefused (OfClose (Ok u)) = true
+is_unrefused (OfClose (Err (close.Refused why))) = false
+is_unrefused (OfClose (Err close.JournalFault)) = false
+is_unrefused (OfClose (Err close.WantOfMemory)) = true
+
+-- they are so where no refusal was ever counted
+abbrev pub AreUnrefused : ℕ → List FrontTold → Type 0
+AreUnrefused refused list = refused ≡ 0 → list_all is_unrefused list ≡ true
+
+-- what a front stands for, by the machine where its hub tells that, and by the count of refusals; else it stands for no list
+abbrev pub FrontStands : ℕ → Option State → ℕ → List FrontTold → Type 0
+FrontStands conn None refused list = ⊥
+FrontStands conn (Some s) refused list = IsFrontList conn s list × AreUnrefused refused list

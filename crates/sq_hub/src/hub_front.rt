@@ -2,7 +2,7 @@
 ghost use Rattle.std.specs.Prelude.{◌≡◌, ◌≤◌, ◌-◌, ◌^◌, is_some, false};
 ghost use Rattle.sq_forward.specs.Meters.{granted_after};
 ghost use Rattle.std.specs.declared.option.Option.{Option};
-ghost use Rattle.sq_hub.specs.Hubs.{opened_of, OpenFails, DecideFails};
+ghost use Rattle.sq_hub.specs.Hubs.{opened_of, unclosed_of, OpenFails, CloseFails, DecideFails};
 ghost use Rattle.sq_hub.specs.Judging.{GrantsOn};
 ghost use Rattle.sq_hub.specs.Tellings.{Tells};
 
@@ -14,7 +14,7 @@ use sq_forward::Meter;
 use sq_outside::COUNT_LIMIT;
 use sq_pools::{ChooseFault, Seat};
 use sq_rules::Refusal;
-use sq_session::{Counts, Decided, Front, Opened, SitFault};
+use sq_session::{CloseFault, Counts, Decided, Front, Opened, SitFault};
 use std::alloc::Global;
 use std::sync::Wait;
 
@@ -44,7 +44,7 @@ impl<'a, R: Wait, H: Hub + Drop> HubFront<'a, R, H> {
         ensures seat { is_some result.seat ≡ false }
         ensures dry { result.dry ≡ 0 }
         // Where the hub tells a state that stands for a history, the front stands for no answers so far.
-        ensures stands { IfSome (H.told hub) (λ v. (configs : List Configuration) (h : History) → StandsAt configs h v.machine → FrontStands conn (machine_told (H.told hub)) []) }
+        ensures stands { IfSome (H.told hub) (λ v. (configs : List Configuration) (h : History) → StandsAt configs h v.machine → FrontStands conn (machine_told (H.told hub)) (H.refused hub) []) }
     {
         HubFront {
             rt,
@@ -118,12 +118,12 @@ impl<'a, R: Wait, H: Hub + Drop> Meter for HubFront<'a, R, H> {
 impl<'a, R: Wait, H: Hub + Drop> Front for HubFront<'a, R, H> {
     ghost use Rattle.std.proofs.Common.{ap, subst};
     ghost use Rattle.std.specs.Prelude.{List, ◌∷◌, ◌++◌, [], OnOk, OnErr};
-    ghost use Rattle.sq_session.specs.Fronts.{FrontTold, OfOpen, OfDecide, OfSit, Decides, Asks, OpenRefuses, DecideRefuses, names_pool};
+    ghost use Rattle.sq_session.specs.Fronts.{FrontTold, OfOpen, OfDecide, OfSit, OfClose, Decides, Asks, OpenRefuses, DecideRefuses, CloseRefuses, names_pool};
     ghost use Rattle.sq_hub.specs.Hubs.{Counted};
-    ghost use Rattle.sq_hub.specs.Judging.{Judges, Opens, Rises, Sits};
+    ghost use Rattle.sq_hub.specs.Judging.{Closes, Judges, Opens, Rises, Sits};
     ghost use Rattle.sq_hub.specs.Pieces.{FrontStands, machine_told};
 
-    ghost stands = { λ f list. FrontStands f.conn (machine_told (H.told f.hub)) list };
+    ghost stands = { λ f list. FrontStands f.conn (machine_told (H.told f.hub)) (H.refused f.hub) list };
 
     ghost asked = { λ f. H.asked f.hub };
 
@@ -132,7 +132,7 @@ impl<'a, R: Wait, H: Hub + Drop> Front for HubFront<'a, R, H> {
     fn open(&mut self, alloc: Global, addr: Addr, port: u16) -> Opened
         // It opens, or is full or refused, as the machine answers.
         ensures opens { Tells (Opens self.old.conn addr port result) (H.told self.old.hub) (H.told self.new.hub) }
-        ensures told { (list : List FrontTold) → FrontStands self.old.conn (machine_told (H.told self.old.hub)) list → FrontStands self.new.conn (machine_told (H.told self.new.hub)) (list ++ OfOpen result ∷ []) }
+        ensures told { (list : List FrontTold) → FrontStands self.old.conn (machine_told (H.told self.old.hub)) (H.refused self.old.hub) list → FrontStands self.new.conn (machine_told (H.told self.new.hub)) (H.refused self.new.hub) (list ++ OfOpen addr port result ∷ []) }
         ensures asked { H.asked self.new.hub ≡ H.asked self.old.hub }
         ensures refused_later { H.refused self.old.hub ≤ H.refused self.new.hub }
         ensures refused { OpenRefuses (H.refused self.old.hub) (H.refused self.new.hub) result }
@@ -151,7 +151,7 @@ impl<'a, R: Wait, H: Hub + Drop> Front for HubFront<'a, R, H> {
         // Where the hub tells, the record is of the check of this very request, and is taken last; no other request is
         // judged; and a refusal is the machine's, on a connection that was open without a check for a last number alone.
         ensures judges { Tells (Judges self.old.conn request.now result) (H.told self.old.hub) (H.told self.new.hub) }
-        ensures told { (list : List FrontTold) → FrontStands self.old.conn (machine_told (H.told self.old.hub)) list → FrontStands self.new.conn (machine_told (H.told self.new.hub)) (list ++ OfDecide result ∷ []) }
+        ensures told { (list : List FrontTold) → FrontStands self.old.conn (machine_told (H.told self.old.hub)) (H.refused self.old.hub) list → FrontStands self.new.conn (machine_told (H.told self.new.hub)) (H.refused self.new.hub) (list ++ OfDecide request.now result ∷ []) }
         ensures record { Decides request.now result }
         ensures asked_later { H.asked self.old.hub ≤ H.asked self.new.hub }
         ensures asked { Asks (H.asked self.old.hub) (H.asked self.new.hub) result }
@@ -169,7 +169,7 @@ impl<'a, R: Wait, H: Hub + Drop> Front for HubFront<'a, R, H> {
         requires unseated { is_some self.old.seat ≡ false }
         // It is the hub's choice of the record's pool, if that has one.
         ensures sits { Tells (Sits judged.now result self.old.seat self.new.seat) (H.told self.old.hub) (H.told self.new.hub) }
-        ensures told { (list : List FrontTold) → FrontStands self.old.conn (machine_told (H.told self.old.hub)) list → FrontStands self.new.conn (machine_told (H.told self.new.hub)) (list ++ OfSit result ∷ []) }
+        ensures told { (list : List FrontTold) → FrontStands self.old.conn (machine_told (H.told self.old.hub)) (H.refused self.old.hub) list → FrontStands self.new.conn (machine_told (H.told self.new.hub)) (H.refused self.new.hub) (list ++ OfSit judged.now result ∷ []) }
         ensures seated { OnOk result (is_some self.new.seat ≡ names_pool judged.now) }
         ensures refused_seat { OnErr result (is_some self.new.seat ≡ false) }
         ensures asked { H.asked self.new.hub ≡ H.asked self.old.hub }
@@ -199,7 +199,7 @@ impl<'a, R: Wait, H: Hub + Drop> Front for HubFront<'a, R, H> {
     fn rise(&mut self)
         // It gives back the seat that it holds.
         ensures rises { Tells (Rises self.old.seat) (H.told self.old.hub) (H.told self.new.hub) }
-        ensures told { (list : List FrontTold) → FrontStands self.old.conn (machine_told (H.told self.old.hub)) list → FrontStands self.new.conn (machine_told (H.told self.new.hub)) list }
+        ensures told { (list : List FrontTold) → FrontStands self.old.conn (machine_told (H.told self.old.hub)) (H.refused self.old.hub) list → FrontStands self.new.conn (machine_told (H.told self.new.hub)) (H.refused self.new.hub) list }
         ensures seated { is_some self.new.seat ≡ false }
         ensures asked { H.asked self.new.hub ≡ H.asked self.old.hub }
         ensures refused_later { H.refused self.old.hub ≤ H.refused self.new.hub }
@@ -212,8 +212,22 @@ impl<'a, R: Wait, H: Hub + Drop> Front for HubFront<'a, R, H> {
         }
     }
 
-    fn close(&mut self) {
-        let _closed = self.hub.close(self.conn);
+    fn close(&mut self) -> Result<(), CloseFault>
+        // It closes, or is refused, as the machine answers.
+        ensures closes { Tells (Closes self.old.conn result) (H.told self.old.hub) (H.told self.new.hub) }
+        ensures told { (list : List FrontTold) → FrontStands self.old.conn (machine_told (H.told self.old.hub)) (H.refused self.old.hub) list → FrontStands self.new.conn (machine_told (H.told self.new.hub)) (H.refused self.new.hub) (list ++ OfClose result ∷ []) }
+        ensures asked { H.asked self.new.hub ≡ H.asked self.old.hub }
+        ensures refused_later { H.refused self.old.hub ≤ H.refused self.new.hub }
+        ensures refused { CloseRefuses (H.refused self.old.hub) (H.refused self.new.hub) result }
+        ensures failed { CloseFails (H.faults self.old.hub) (H.faults self.new.hub) result }
+        ensures seated { is_some self.new.seat ≡ is_some self.old.seat }
+        ensures granted { H.granted self.new.hub ≡ H.granted self.old.hub }
+        ensures dry { self.new.dry ≡ self.old.dry }
+    {
+        match self.hub.close(self.conn) {
+            Ok(()) => Ok(()),
+            Err(fault) => Err(unclosed_of(fault)),
+        }
     }
 
     fn counted(&self) -> Counts {
@@ -226,7 +240,7 @@ impl<'a, R: Wait, H: Hub + Drop> Front for HubFront<'a, R, H> {
 
     ghost refused_besides = { λ a b e. ap Counted.refused e };
 
-    ghost stands_besides = { λ a b e list s. subst (λ k. FrontStands k.conn k.machine list) e s };
+    ghost stands_besides = { λ a b e list s. subst (λ k. FrontStands k.conn k.machine k.refused list) e s };
 }
 
 // What the opening of a connection comes to that the hub did not open.
@@ -239,6 +253,18 @@ fn opened_of(fault: HubFault) -> Opened
         HubFault::Refused(why) => Opened::Refused(why),
         HubFault::JournalFault => Opened::JournalFault,
         HubFault::WantOfMemory => Opened::WantOfMemory,
+    }
+}
+
+// Why a connection was not closed that the hub did not close.
+fn unclosed_of(fault: HubFault) -> CloseFault
+    ensures { result ≡ unclosed_of fault }
+{
+    match fault {
+        HubFault::Refused(Refusal::WantOfMemory) => CloseFault::WantOfMemory,
+        HubFault::Refused(why) => CloseFault::Refused(why),
+        HubFault::JournalFault => CloseFault::JournalFault,
+        HubFault::WantOfMemory => CloseFault::WantOfMemory,
     }
 }
 

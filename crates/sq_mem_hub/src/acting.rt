@@ -1,7 +1,6 @@
 //! What comes to the machine while a check waits.
 ghost use Rattle.sq_hub.specs.Tellings.{Waited};
 ghost use Rattle.sq_mem_hub.specs.MemHubs.{hub_state};
-ghost use Rattle.std.specs.Prelude.{ℕ};
 ghost use Rattle.sq_pools.specs.Basins.{Basin};
 
 use sq_base::{EpochNo, Moment, ProcNo, Text};

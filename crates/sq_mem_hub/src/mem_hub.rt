@@ -78,7 +78,6 @@ fn answer<T>(refused: &mut u64, made: Result<T, Refusal>) -> Result<T, HubFault>
 impl<'a, R: Wait> MemHub<'a, R> {
     ghost use Rattle.std.specs.Prelude.{IfOk, List, [], pos};
     ghost use Rattle.sq_rules.specs.Configurations.{Configuration, IsConfiguration};
-    ghost use Rattle.sq_rules.specs.Entries.{History};
     ghost use Rattle.sq_rules.specs.Machine.{config_of};
     ghost use Rattle.sq_history.specs.Given.{EachOf};
     ghost use Rattle.sq_state.specs.Promises.{entry_at};

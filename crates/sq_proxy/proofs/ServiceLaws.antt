@@ -26,7 +26,7 @@ use Rattle.sq_proxy.specs.Outputs.{IsSettled}
 use Rattle.sq_proxy.specs.Serving.{Server}
 use Rattle.sq_proxy.specs.declared.ends.Status.{Status}
 use Rattle.sq_proxy.specs.declared.ends.Status.TheVariants as ends
-use Rattle.sq_proxy.specs.Service.{CameTo, EndsByLine, EndsOver, EndsWell, IsConf, IsServed, IsServerEnd, IsService, IsServiceEnd, IsTrueFrom, IsTrueOrEmpty, IsTrueOver, IsUnservedEnd, RunsOrNot, beginning_of, ended_status, port_of, stopped_line}
+use Rattle.sq_proxy.specs.Service.{CameTo, EndsByLine, EndsOver, EndsWell, IsConf, IsServed, IsServerEnd, IsService, IsServiceEnd, IsTrueOrEmpty, IsTrueOver, IsUnservedEnd, RunsOrNot, beginning_of, ended_status, port_of, stopped_line}
 use Rattle.sq_proxy.proofs.EndLaws.{empty_line}
 use Rattle.sq_proxy.proofs.OpenedLaws.{Added_map}
 use Rattle.sq_proxy.proofs.TrueLaws.{journal_true, true_ran, true_unran}

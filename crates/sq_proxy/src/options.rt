@@ -1,6 +1,5 @@
 //! The words of `serve`.
 ghost use Rattle.std.specs.Prelude.{◌≡◌, ◌<◌, ◌≤◌, IfSome, MatchOption, None, Some};
-ghost use Rattle.sq_journal.specs.Reading.{offset_from};
 ghost use Rattle.sq_proxy.specs.Serving.{options_from, positive_of, service_of, shown_service, with_option};
 
 use sq_base::{PORT_LIMIT, Text, number_of};

@@ -1,5 +1,5 @@
 //! The rehearsal, and the line that sums it up.
-ghost use Rattle.std.specs.Prelude.{◌≡◌, ℕ, IfErr};
+ghost use Rattle.std.specs.Prelude.{ℕ, IfErr};
 ghost use Rattle.sq_proxy.specs.Commands.{rehearse_output, rehearsed_stage};
 ghost use Rattle.sq_proxy.specs.Ends.{Comes, HasCauses, IsConfEnd, IsRehearsedEnd};
 ghost use Rattle.sq_proxy.specs.Outputs.{Delivers};

@@ -1,5 +1,5 @@
 //! The commands over files alone.
-ghost use Rattle.std.specs.Prelude.{◌≡◌, ◌≤◌, ◌↔◌, ◌⊎◌, [], ℕ, List, Option, true, None, Some, IfSome};
+ghost use Rattle.std.specs.Prelude.{◌≡◌, ◌≤◌, ◌↔◌, ◌⊎◌, ℕ, List, Option, true, None, Some, IfSome};
 ghost use Rattle.sq_outside.specs.Causes.{Rose};
 ghost use Rattle.sq_outside.specs.Told.{IsNotTold};
 ghost use Rattle.sq_outside.specs.Output.{Grew};
@@ -7,7 +7,6 @@ ghost use Rattle.sq_outside.specs.SourceLines.{lines};
 ghost use Rattle.sq_proxy.specs.declared.ends.Status.TheVariants as ends;
 ghost use Rattle.sq_proxy.specs.Commands.{command_of, output_of, parse_output, ran_output, replay_output, script_stage, shelf_of, staged, AuditsFiles, IsNamed, Parse, Replay, RunsTruly};
 ghost use Rattle.sq_proxy.specs.Ends.{EndsBy, EndsWithoutFault, HasCauses, IfMissing, IsPlayedEnd, IsReplayEnd, IsToldEnd, end_of, run_status};
-ghost use Rattle.sq_rules.specs.Configurations.{IsConfiguration};
 ghost use Rattle.sq_replay.specs.RunText.{Ran, run_script};
 ghost use Rattle.sq_replay.specs.Runs.{Reaches};
 ghost use Rattle.sq_proxy.specs.Opened.{Added, IsOpened, PlayOpened, opened_output};

@@ -40,7 +40,7 @@ passed left ahead now source source_now len e f s is = ap (λ o. prepend_known n
 
 -- an input that ends before a head does
 ended_begins : (bytes : List ℕ) (b : Begun) (t : Bool) → is_blank bytes ≡ t → b ≡ ended_as t → head_end bytes ≡ None → length bytes < most_bytes → Begins bytes b []
-ended_begins bytes b true e i none few = subst (λ x. Begins bytes x []) (sym i) e
+ended_begins bytes b true e i none few = subst (λ x. Begins bytes x []) (sym i) (e, few)
 ended_begins bytes b false e i none few = subst (λ x. Begins bytes x []) (sym i) (record { endless = none; short = few; begun = e })
 
 ended_leaves : (b : Begun) (t : Bool) (left : Option (List ℕ)) → b ≡ ended_as t → LeavesRest b left []

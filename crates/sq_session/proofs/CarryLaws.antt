@@ -13,7 +13,7 @@ use Rattle.sq_head.specs.declared.own.Own.{Own}
 use Rattle.sq_head.specs.declared.own.Own.TheVariants.{BadRequest, NotImplemented}
 use Rattle.sq_session.specs.Begins.{fits_hosts}
 use Rattle.sq_session.specs.Carrying.{sat}
-use Rattle.sq_session.specs.Fronts.{FrontTold, OfDecide, OfSit, Decides, names_pool}
+use Rattle.sq_session.specs.Fronts.{FrontTold, OfDecide, OfSit, Decides, SitsFor, SitsBehind, names_pool}
 use Rattle.sq_session.specs.Sessions.{JudgesOf, held_seat}
 use Rattle.sq_session.specs.Steps.{Goes, EndHasCause}
 use Rattle.sq_session.specs.Telling.{IsTold}
@@ -39,20 +39,22 @@ carries_unserved {first = Some rest} {d = Some now} {stood} r addr p j e w few =
   known = record {
     answers = [];
     told = told_none stood;
+    sits = tt;
     goes = own_goes (carried r addr p rest []) (error_text NotImplemented (is_head r)) [] [] Closes (Some now) now (rw e refl) w few refl (λ s. absurd cc);
   };
 }
 
 -- a seat that was refused
 pub carries_unseated : {first : Option (List ℕ)} {d : Option Dialled} {stood stands : List FrontTold → Type 0} {left a b : Option (List ℕ)} {failed : Type 0} {g h : ℕ} {ended : Carried} (r : HttpRequest) (addr : Address) (p : BodyPlan) (j : Judged) (answers : List FrontTold) (own : Own)
-    → is_served r ≡ true → ((rest : List ℕ) → seated r addr p rest answers NoOrigin ≡ own_turn (error_text own (is_head r)) [] [] Closes) → ((list : List FrontTold) → stood list → stands (list ++ answers))
+    → is_served r ≡ true → ((rest : List ℕ) → seated r addr p rest answers NoOrigin ≡ own_turn (error_text own (is_head r)) [] [] Closes) → SitsFor j answers → ((list : List FrontTold) → stood list → stands (list ++ answers))
     → IsTold (error_text own (is_head r)) Closes a b ended → g ≤ count_limit → h ≡ g → CarriesTold r addr p j first d d stood stands left a b failed g h ended
-carries_unseated {first = None} r addr p j answers own e turn told w few same = record { known = tt }
-carries_unseated {first = Some rest} {d = None} r addr p j answers own e turn told w few same = record { known = tt }
-carries_unseated {first = Some rest} {d = Some now} {left} {a} {b} {failed} {g} {h} {ended} r addr p j answers own e turn told w few same = record {
+carries_unseated {first = None} r addr p j answers own e turn sits told w few same = record { known = tt }
+carries_unseated {first = Some rest} {d = None} r addr p j answers own e turn sits told w few same = record { known = tt }
+carries_unseated {first = Some rest} {d = Some now} {left} {a} {b} {failed} {g} {h} {ended} r addr p j answers own e turn sits told w few same = record {
   known = record {
     answers = answers;
     told = told;
+    sits = sits;
     goes = subst (λ n. Goes (is_connect r) (carried r addr p rest answers) [] (names_pool j && sat answers) left a b (Some now) now failed g n ended) (sym same)
         (own_goes (carried r addr p rest answers) (error_text own (is_head r)) [] [] Closes (Some now) now (rw e (turn rest)) w few refl (λ s. absurd cc));
   };
@@ -60,19 +62,20 @@ carries_unseated {first = Some rest} {d = Some now} {left} {a} {b} {failed} {g} 
 
 -- a seat, if there is a pool, and the way to the origin
 pub carries_seated : {first : Option (List ℕ)} {before d : Option Dialled} {stood stands : List FrontTold → Type 0} {left a b : Option (List ℕ)} {failed : Type 0} {g h k n : ℕ} {seat : Bool} {ended : Carried} (r : HttpRequest) (addr : Address) (p : BodyPlan) (j : Judged) (u : Unit {0})
-    → is_served r ≡ true → seat ≡ names_pool j → g ≡ k → h ≡ n → ((list : List FrontTold) → stood list → stands (list ++ OfSit (Ok u) ∷ []))
+    → is_served r ≡ true → seat ≡ names_pool j → g ≡ k → h ≡ n → ((list : List FrontTold) → stood list → stands (list ++ OfSit j (Ok u) ∷ []))
     → ReachesTold r addr p first before d seat left a b failed g h ended → CarriesTold r addr p j first before d stood stands left a b failed k n ended
 carries_seated {first = None} r addr p j u e held same last told x = record { known = tt }
 carries_seated {first = Some rest} {d = None} r addr p j u e held same last told x = record { known = tt }
 carries_seated {first = Some rest} {before} {d = Some now} {left} {a} {b} {failed} {g} {h} {k} {n} {seat} {ended} r addr p j u e held same last told x = record {
   known = record {
-    answers = OfSit (Ok u) ∷ [];
+    answers = OfSit j (Ok u) ∷ [];
     told = told;
+    sits = refl;
     goes =
-        subst (λ m. Goes (is_connect r) (carried r addr p rest (OfSit (Ok u) ∷ [])) [] (names_pool j && true) left a b before now failed k m ended) last
-        (subst (λ m. Goes (is_connect r) (carried r addr p rest (OfSit (Ok u) ∷ [])) [] (names_pool j && true) left a b before now failed m h ended) same
-        (subst (λ s. Goes (is_connect r) (carried r addr p rest (OfSit (Ok u) ∷ [])) [] s left a b before now failed g h ended) (held ∙ and_true (names_pool j))
-        (goes_as (dialled r addr p rest []) (carried r addr p rest (OfSit (Ok u) ∷ [])) (λ reply. rw e refl) (x.known []))));
+        subst (λ m. Goes (is_connect r) (carried r addr p rest (OfSit j (Ok u) ∷ [])) [] (names_pool j && true) left a b before now failed k m ended) last
+        (subst (λ m. Goes (is_connect r) (carried r addr p rest (OfSit j (Ok u) ∷ [])) [] (names_pool j && true) left a b before now failed m h ended) same
+        (subst (λ s. Goes (is_connect r) (carried r addr p rest (OfSit j (Ok u) ∷ [])) [] s left a b before now failed g h ended) (held ∙ and_true (names_pool j))
+        (goes_as (dialled r addr p rest []) (carried r addr p rest (OfSit j (Ok u) ∷ [])) (λ reply. rw e refl) (x.known []))));
   };
 }
 
@@ -87,6 +90,7 @@ obeys_allowed {first = Some rest} {d = Some now} r addr p j e x =
       known = record {
         answers = y.answers;
         told = y.told;
+        sits = y.sits;
         goes = goes_as (carried r addr p rest y.answers) (recorded r addr p rest j y.answers) (λ reply. rw e refl) y.goes;
       };
     }
@@ -100,6 +104,7 @@ obeys_denied {left = Some rest} {d = Some now} {stood} r addr p j closes e same 
   known = record {
     answers = [];
     told = told_none stood;
+    sits = tt;
     goes = own_goes (recorded r addr p rest j []) (denial j.outcome (is_head r) closes) rest [] (stays_unless closes) (Some now) now (rw (e, same) refl) w few refl (λ s. refl);
   };
 }
@@ -133,27 +138,35 @@ pub answers_body : {first : Option (List ℕ)} {d : Option Dialled} {stood : Lis
     → fits_hosts r ≡ true → request_plan r ≡ Err bad → own ≡ body_own bad → IsTold (error_text own (is_head r)) Closes a b ended → g ≤ count_limit → AnswersTold r addr first d d stood stood left a b failed g g ended
 answers_body {stood} r addr bad own e f same w few = answers_own r addr [] own (λ rest. rw (e, f, same) refl) tt (told_none stood) w few refl
 
+-- no seat was asked for
+none_behind : (said : Decided) → SitsBehind said []
+none_behind (decided.Record j) = tt
+none_behind (decided.Mismatch other) = tt
+none_behind (decided.Refused why) = tt
+none_behind decided.JournalFault = tt
+none_behind decided.WantOfMemory = tt
+
 -- an answer of the front without a record
 pub answers_unjudged : {first : Option (List ℕ)} {d : Option Dialled} {stood stands : List FrontTold → Type 0} {left a b : Option (List ℕ)} {failed : Type 0} {g h : ℕ} {ended : Carried} (r : HttpRequest) (addr : Address) (p : BodyPlan) (said : Decided) (own : Own)
-    → fits_hosts r ≡ true → request_plan r ≡ Ok p → ((rest : List ℕ) → judged r addr p rest (OfDecide said ∷ []) NoOrigin ≡ own_turn (error_text own (is_head r)) [] [] Closes) → Decides r said
-    → ((list : List FrontTold) → stood list → stands (list ++ OfDecide said ∷ [])) → IsTold (error_text own (is_head r)) Closes a b ended → g ≤ count_limit → h ≡ g → AnswersTold r addr first d d stood stands left a b failed g h ended
+    → fits_hosts r ≡ true → request_plan r ≡ Ok p → ((rest : List ℕ) → judged r addr p rest (OfDecide r said ∷ []) NoOrigin ≡ own_turn (error_text own (is_head r)) [] [] Closes) → Decides r said
+    → ((list : List FrontTold) → stood list → stands (list ++ OfDecide r said ∷ [])) → IsTold (error_text own (is_head r)) Closes a b ended → g ≤ count_limit → h ≡ g → AnswersTold r addr first d d stood stands left a b failed g h ended
 answers_unjudged r addr p said own e f turn judges told w few same =
-    answers_own r addr (OfDecide said ∷ []) own (λ rest. sym (asked_judged r addr p rest (OfDecide said ∷ []) NoOrigin e f) ∙ turn rest) judges told w few same
+    answers_own r addr (OfDecide r said ∷ []) own (λ rest. sym (asked_judged r addr p rest (OfDecide r said ∷ []) NoOrigin e f) ∙ turn rest) (refl, judges, none_behind said) told w few same
 
 -- a record, and what follows it
 pub answers_judged : {first : Option (List ℕ)} {before d : Option Dialled} {stood mid stands : List FrontTold → Type 0} {left a b : Option (List ℕ)} {failed : Type 0} {g h k : ℕ} {ended : Carried} (r : HttpRequest) (addr : Address) (p : BodyPlan) (j : Judged)
-    → fits_hosts r ≡ true → request_plan r ≡ Ok p → g ≡ k → j.sight.request ≡ r → ((list : List FrontTold) → stood list → mid (list ++ OfDecide (decided.Record j) ∷ []))
+    → fits_hosts r ≡ true → request_plan r ≡ Ok p → g ≡ k → j.sight.request ≡ r → ((list : List FrontTold) → stood list → mid (list ++ OfDecide r (decided.Record j) ∷ []))
     → ObeysTold r addr p j first before d mid stands left a b failed g h ended → AnswersTold r addr first before d stood stands left a b failed k h ended
 answers_judged {first = None} r addr p j e f same judges told x = record { known = tt }
 answers_judged {first = Some rest} {d = None} r addr p j e f same judges told x = record { known = tt }
 answers_judged {first = Some rest} {before} {d = Some now} {stands} {left} {a} {b} {failed} {g} {h} {k} {ended} r addr p j e f same judges told x =
     let y = x.known in
-    let all = OfDecide (decided.Record j) ∷ y.answers in
+    let all = OfDecide r (decided.Record j) ∷ y.answers in
     record {
       known = record {
         answers = all;
-        told = λ list s. subst stands (append_assoc list (OfDecide (decided.Record j) ∷ []) y.answers) (y.told (list ++ OfDecide (decided.Record j) ∷ []) (told list s));
-        judges = judges;
+        told = λ list s. subst stands (append_assoc list (OfDecide r (decided.Record j) ∷ []) y.answers) (y.told (list ++ OfDecide r (decided.Record j) ∷ []) (told list s));
+        judges = (refl, judges, y.sits);
         goes = subst (λ m. Goes (is_connect r) (asked r addr rest all) [] (names_pool j && sat y.answers) left a b before now failed m h ended) same
             (goes_as (recorded r addr p rest j y.answers) (asked r addr rest all) (λ reply. asked_judged r addr p rest all reply e f) y.goes);
       };

@@ -25,6 +25,7 @@ use Rattle.sq_session.specs.Turns.{is_head, is_connect, gateway_part, carried_of
 use Rattle.sq_session.specs.declared.ends.Carried.{Carried}
 use Rattle.sq_session.specs.declared.ends.Carried.TheVariants.{Stays, Closes, Over}
 use Rattle.sq_session.specs.declared.ends.End.TheVariants.{Finished, Cut, ClientFault, OriginCut, OriginFault, Starved, WantOfMemory}
+use Rattle.sq_session.proofs.GoesLaws.{told_here}
 
 -- all of the bytes are a front of them, too
 writes_all : (whole : Bool) (bytes : List ℕ) → WritesAs whole bytes bytes
@@ -129,15 +130,15 @@ gateway_told mid r bytes x unasked broke given (Over Starved) client w granted g
 
 -- an exchange that ended as the origin's bytes say
 trades_exact : {seated : Bool} {left a b c d : Option (List ℕ)} {g h : ℕ} {failed : Type 0} (r : HttpRequest) (addr : Address) (p : BodyPlan) (rest bytes : List ℕ) (e : Exchanged)
-    → (x : Exchanges r addr p rest bytes seated left a b c d g h failed e) → gateway_part e (is_head r) ≡ [] → (carried_of e ≡ Stays → e ≡ exchanged.Kept) → (is_by_origin (carried_of e) ≡ true → x.seen ≡ bytes)
+    → (x : Exchanges r addr p rest bytes seated left a b c d g h failed e) → gateway_part e (is_head r) ≡ [] → (carried_of e ≡ Stays → e ≡ exchanged.Kept) → (is_by_origin (carried_of e) ≡ true → x.seen ≡ bytes) → (carried_of e ≡ Over OriginFault → ⊥)
     → Exact (exchange r addr p rest x.reading) seated left a b c d g h e → Trades r addr p rest bytes seated left a b c d failed g h (carried_of e)
-trades_exact {seated} {left} {a} {b} {c} {d} {g} {h} {failed} r addr p rest bytes e x none kept whole exact =
+trades_exact {seated} {left} {a} {b} {c} {d} {g} {h} {failed} r addr p rest bytes e x none kept whole other exact =
     let y = exchange r addr p rest x.reading in
     record {
       seen = x.seen;
       reading = x.reading;
       broke = false;
-      fits = record { front = x.front; reads = x.reads; whole = λ i _. whole i; none = λ i. absurd cc };
+      fits = record { front = x.front; reads = x.reads; whole = λ i _. whole i; none = λ i. absurd cc; headed = λ i. absurd (other i) };
       broken = λ i. absurd cc;
       goes = λ unasked. subst (λ z. ForwardsAs (exchanged_turn r bytes false z y unasked) unasked false seated left a b c d g h (carried_of e)) exact.ends
           (forwards_exact r bytes y unasked e (carried_of e) refl none exact.client exact.granted exact.origin (λ s. exact.rest (kept s)));
@@ -145,15 +146,15 @@ trades_exact {seated} {left} {a} {b} {c} {d} {g} {h} {failed} r addr p rest byte
 
 -- an exchange that a fault ended
 trades_part : {seated : Bool} {left a b c d : Option (List ℕ)} {g h : ℕ} {failed : Type 0} (r : HttpRequest) (addr : Address) (p : BodyPlan) (rest bytes : List ℕ) (e : Exchanged) (spare : ℕ)
-    → (x : Exchanges r addr p rest bytes seated left a b c d g h failed e) → is_exact (carried_of e) ≡ false → is_by_origin (carried_of e) ≡ false → spare ≤ spare_of (carried_of e)
+    → (x : Exchanges r addr p rest bytes seated left a b c d g h failed e) → is_exact (carried_of e) ≡ false → is_by_origin (carried_of e) ≡ false → spare ≤ spare_of (carried_of e) → (carried_of e ≡ Over OriginFault → x.reading.final ≡ None → ⊥)
     → Fronts (exchange r addr p rest x.reading) seated a b c d g h spare → Trades r addr p rest bytes seated left a b c d failed g h (carried_of e)
-trades_part {seated} {left} {a} {b} {c} {d} {g} {h} {failed} r addr p rest bytes e spare x fault other few f =
+trades_part {seated} {left} {a} {b} {c} {d} {g} {h} {failed} r addr p rest bytes e spare x fault other few headed f =
     let y = exchange r addr p rest x.reading in
     record {
       seen = x.seen;
       reading = x.reading;
       broke = false;
-      fits = record { front = x.front; reads = x.reads; whole = λ i _. absurd (let j : false ≡ true = sym other ∙ i in cc); none = λ i. absurd cc };
+      fits = record { front = x.front; reads = x.reads; whole = λ i _. absurd (let j : false ≡ true = sym other ∙ i in cc); none = λ i. absurd cc; headed = headed };
       broken = λ i. absurd cc;
       goes = λ unasked. forwards_part r bytes y unasked y.end (carried_of e) fault few f;
     }
@@ -161,15 +162,15 @@ trades_part {seated} {left} {a} {b} {c} {d} {g} {h} {failed} r addr p rest bytes
 -- an exchange with a reply, or none that the client hears of
 pub traded : {seated : Bool} {left a b c d : Option (List ℕ)} {g h : ℕ} {failed : Type 0} (r : HttpRequest) (addr : Address) (p : BodyPlan) (rest bytes : List ℕ) (e : Exchanged)
     → (e ≡ exchanged.NoReply → ⊥) → Exchanges r addr p rest bytes seated left a b c d g h failed e → Trades r addr p rest bytes seated left a b c d failed g h (carried_of e)
-traded r addr p rest bytes exchanged.Kept n x = trades_exact r addr p rest bytes exchanged.Kept x refl (λ _. refl) (λ _. x.ends.0) x.ends.1
-traded r addr p rest bytes exchanged.Closed n x = trades_exact r addr p rest bytes exchanged.Closed x refl (λ s. absurd cc) (λ _. x.ends.0) x.ends.1
-traded r addr p rest bytes exchanged.OriginCut n x = trades_exact r addr p rest bytes exchanged.OriginCut x refl (λ s. absurd cc) (λ _. x.ends.0) x.ends.1
-traded r addr p rest bytes exchanged.Cut n x = trades_exact r addr p rest bytes exchanged.Cut x refl (λ s. absurd cc) (λ s. absurd cc) x.ends
-traded r addr p rest bytes exchanged.BadBody n x = trades_exact r addr p rest bytes exchanged.BadBody x refl (λ s. absurd cc) (λ s. absurd cc) x.ends
-traded r addr p rest bytes exchanged.ClientFault n x = trades_part r addr p rest bytes exchanged.ClientFault piece_limit x refl refl (omega arith) x.ends
-traded r addr p rest bytes exchanged.OriginFault n x = trades_part r addr p rest bytes exchanged.OriginFault 0 x refl refl (omega arith) x.ends.fronts
-traded r addr p rest bytes exchanged.Starved n x = trades_part r addr p rest bytes exchanged.Starved 0 x refl refl (omega arith) x.ends
-traded r addr p rest bytes exchanged.WantOfMemory n x = trades_part r addr p rest bytes exchanged.WantOfMemory 0 x refl refl (omega arith) x.ends
+traded r addr p rest bytes exchanged.Kept n x = trades_exact r addr p rest bytes exchanged.Kept x refl (λ _. refl) (λ _. x.ends.0) (λ s. cc) x.ends.1
+traded r addr p rest bytes exchanged.Closed n x = trades_exact r addr p rest bytes exchanged.Closed x refl (λ s. absurd cc) (λ _. x.ends.0) (λ s. cc) x.ends.1
+traded r addr p rest bytes exchanged.OriginCut n x = trades_exact r addr p rest bytes exchanged.OriginCut x refl (λ s. absurd cc) (λ _. x.ends.0) (λ s. cc) x.ends.1
+traded r addr p rest bytes exchanged.Cut n x = trades_exact r addr p rest bytes exchanged.Cut x refl (λ s. absurd cc) (λ s. absurd cc) (λ s. cc) x.ends
+traded r addr p rest bytes exchanged.BadBody n x = trades_exact r addr p rest bytes exchanged.BadBody x refl (λ s. absurd cc) (λ s. absurd cc) (λ s. cc) x.ends
+traded r addr p rest bytes exchanged.ClientFault n x = trades_part r addr p rest bytes exchanged.ClientFault piece_limit x refl refl (omega arith) (λ s. absurd cc) x.ends
+traded r addr p rest bytes exchanged.OriginFault n x = trades_part r addr p rest bytes exchanged.OriginFault 0 x refl refl (omega arith) (λ _ n. let q = sym x.ends.final ∙ n in cc) x.ends.fronts
+traded r addr p rest bytes exchanged.Starved n x = trades_part r addr p rest bytes exchanged.Starved 0 x refl refl (omega arith) (λ s. absurd cc) x.ends
+traded r addr p rest bytes exchanged.WantOfMemory n x = trades_part r addr p rest bytes exchanged.WantOfMemory 0 x refl refl (omega arith) (λ s. absurd cc) x.ends
 traded r addr p rest bytes exchanged.NoReply n x = absurd (n refl)
 
 -- an exchange without a reply, and what the client heard of it
@@ -183,7 +184,7 @@ untraded {seated} {left} {a} {b} {c} {d} {g} {h} {failed} mid r addr p rest byte
       seen = x.seen;
       reading = x.reading;
       broke = false;
-      fits = record { front = x.front; reads = x.reads; whole = λ _ _. whole; none = λ i. absurd cc };
+      fits = record { front = x.front; reads = x.reads; whole = λ _ _. whole; none = λ i. absurd cc; headed = λ i. absurd (told_here w i) };
       broken = λ i. absurd cc;
       goes = λ unasked. subst (λ z. ForwardsAs (exchanged_turn r bytes false z (exchange r addr p rest x.reading) unasked) unasked false seated left a b c d g h ended) exact.ends
           (gateway_told mid r bytes (exchange r addr p rest x.reading) unasked false (exchange r addr p rest x.reading).origin ended exact.client w.is exact.granted exact.origin refl (IsPrefix_refl (exchange r addr p rest x.reading).origin));
@@ -192,7 +193,7 @@ untraded {seated} {left} {a} {b} {c} {d} {g} {h} {failed} mid r addr p rest byte
       seen = x.seen;
       reading = x.reading;
       broke = true;
-      fits = record { front = x.front; reads = x.reads; whole = λ _ i. absurd cc; none = λ _. unreached.headless };
+      fits = record { front = x.front; reads = x.reads; whole = λ _ i. absurd cc; none = λ _. unreached.headless; headed = λ i. absurd (told_here w i) };
       broken = λ _. fault;
       goes = λ unasked. gateway_told mid r bytes (exchange r addr p rest x.reading) unasked true unreached.origin.0 ended unreached.client w.is unreached.granted unreached.origin.1 unreached.origin.2 unreached.origin.2;
     }
@@ -278,7 +279,7 @@ forwards_connect {seated} {left} {a} {b} {c} {d} {g} {h} {failed} r addr p rest 
   seen = [];
   reading = record { interim = []; final = None; rest = [] };
   broke = false;
-  fits = λ i. absurd (let j : true ≡ false = sym e ∙ i in cc);
+  fits = (λ i. absurd (let j : true ≡ false = sym e ∙ i in cc), λ _. refl);
   broken = λ i. absurd cc;
   goes = λ unasked. subst (λ t. ForwardsAs t unasked false seated left a b c d g h ended) (rw e refl) (x unasked);
 }
@@ -289,7 +290,7 @@ forwards_trade {seated} {left} {a} {b} {c} {d} {g} {h} {failed} r addr p rest by
   seen = x.seen;
   reading = x.reading;
   broke = x.broke;
-  fits = λ _. x.fits;
+  fits = (λ _. x.fits, λ i. absurd (let j : false ≡ true = sym e ∙ i in cc));
   broken = x.broken;
   goes = λ unasked. subst (λ t. ForwardsAs t unasked x.broke seated left a b c d g h ended) (rw e refl) (x.goes unasked);
 }

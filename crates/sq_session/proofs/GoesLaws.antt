@@ -46,15 +46,30 @@ own_turn words rest unasked then = own_turn_of false words rest unasked then
 no_dials : (before : Option Dialled) (now : Dialled) → before ≡ Some now → DialsOn before now None
 no_dials before now e = record { old = now; told = e; made = omega arith; back = sym (append-nil now.back) }
 
+here_by : (words : List ℕ) (then : Carried) (a b : Option (List ℕ)) (ended : Carried) → Tells words then a b ended → ended ≡ Over OriginFault → ⊥
+here_by words then a b Stays w = λ e. cc
+here_by words then a b Closes w = λ e. cc
+here_by words then a b (Over Finished) w = λ e. cc
+here_by words then a b (Over Cut) w = λ e. cc
+here_by words then a b (Over ClientFault) w = λ e. cc
+here_by words then a b (Over OriginCut) w = λ e. cc
+here_by words then a b (Over OriginFault) w = absurd w
+here_by words then a b (Over Starved) w = λ e. cc
+here_by words then a b (Over WantOfMemory) w = λ e. cc
+
+-- what the client hears of the proxy itself ends by no origin's link
+pub told_here : {words : List ℕ} {then : Carried} {a b : Option (List ℕ)} {ended : Carried} → IsTold words then a b ended → ended ≡ Over OriginFault → ⊥
+told_here {words} {then} {a} {b} {ended} w = here_by words then a b ended w.is
+
 -- so much of its text was written
 own_part : {tunnel seated : Bool} {left a b : Option (List ℕ)} {failed : Type 0} {g : ℕ} (faulted : Bool) (fault : faulted ≡ true → failed) (t : Reply → Turn) (words rest : List ℕ) (unasked : List FrontTold) (then : Carried) (before : Option Dialled) (now : Dialled) (ended : Carried) (written : List ℕ)
     → t NoOrigin ≡ own_turn_of faulted words rest unasked then → (is_exact ended ≡ true → (then ≡ ended) × (written ≡ words)) → IsPrefix written words → Appends a b written
-    → g ≤ count_limit → before ≡ Some now → (ended ≡ Stays → left ≡ Some rest) → Goes tunnel t unasked seated left a b before now failed g g ended
-own_part {tunnel} {seated} {left} {a} {b} {failed} {g} faulted fault t words rest unasked then before now ended written e exact front wrote few same stays = record {
+    → g ≤ count_limit → before ≡ Some now → (ended ≡ Stays → left ≡ Some rest) → (ended ≡ Over OriginFault → ⊥) → Goes tunnel t unasked seated left a b before now failed g g ended
+own_part {tunnel} {seated} {left} {a} {b} {failed} {g} faulted fault t words rest unasked then before now ended written e exact front wrote few same stays here = record {
   reply = NoOrigin;
   written = written;
   dial = None;
-  fits = tt;
+  fits = here;
   broken = λ f. fault (sym (ap Turn.faulted e) ∙ f);
   gives = subst (λ y. Gives y false written None ended) (sym e) (record { exact = exact; front = front; dial = refl });
   wrote = wrote;
@@ -73,13 +88,13 @@ told_goes : {tunnel seated : Bool} {left a b : Option (List ℕ)} {failed : Type
     → t NoOrigin ≡ own_turn_of faulted words rest unasked then → Tells words then a b ended → g ≤ count_limit → before ≡ Some now → (then ≡ Stays → left ≡ Some rest)
     → Goes tunnel t unasked seated left a b before now failed g g ended
 told_goes faulted fault t words rest unasked then before now Stays e w few same stays =
-    own_part faulted fault t words rest unasked then before now Stays words e (λ _. (w.0, refl)) (IsPrefix_refl words) w.1 few same (λ _. stays w.0)
+    own_part faulted fault t words rest unasked then before now Stays words e (λ _. (w.0, refl)) (IsPrefix_refl words) w.1 few same (λ _. stays w.0) (λ s. cc)
 told_goes faulted fault t words rest unasked then before now Closes e w few same stays =
-    own_part faulted fault t words rest unasked then before now Closes words e (λ _. (w.0, refl)) (IsPrefix_refl words) w.1 few same (λ s. absurd cc)
+    own_part faulted fault t words rest unasked then before now Closes words e (λ _. (w.0, refl)) (IsPrefix_refl words) w.1 few same (λ s. absurd cc) (λ s. cc)
 told_goes faulted fault t words rest unasked then before now (Over ClientFault) e w few same stays =
-    own_part faulted fault t words rest unasked then before now (Over ClientFault) w.0 e (λ s. absurd cc) w.2 w.1 few same (λ s. absurd cc)
+    own_part faulted fault t words rest unasked then before now (Over ClientFault) w.0 e (λ s. absurd cc) w.2 w.1 few same (λ s. absurd cc) (λ s. cc)
 told_goes faulted fault t words rest unasked then before now (Over WantOfMemory) e w few same stays =
-    own_part faulted fault t words rest unasked then before now (Over WantOfMemory) w.0 e (λ s. absurd cc) w.2 w.1 few same (λ s. absurd cc)
+    own_part faulted fault t words rest unasked then before now (Over WantOfMemory) w.0 e (λ s. absurd cc) w.2 w.1 few same (λ s. absurd cc) (λ s. cc)
 told_goes faulted fault t words rest unasked then before now (Over Finished) e w few same stays = absurd w
 told_goes faulted fault t words rest unasked then before now (Over Cut) e w few same stays = absurd w
 told_goes faulted fault t words rest unasked then before now (Over OriginCut) e w few same stays = absurd w
@@ -104,9 +119,9 @@ was_told (Some now) = record { told = (now, refl) }
 
 -- no text, and no link was touched
 pub silent_goes : {tunnel seated : Bool} {left a : Option (List ℕ)} {failed : Type 0} {g : ℕ} (t : Reply → Turn) (unasked : List FrontTold) (before : Option Dialled) (now : Dialled) (ended : Carried)
-    → t NoOrigin ≡ own_turn [] [] unasked ended → Appends a a [] → (ended ≡ Stays → ⊥) → g ≤ count_limit → before ≡ Some now → Goes tunnel t unasked seated left a a before now failed g g ended
-silent_goes t unasked before now ended e wrote goes few same =
-    own_part false (λ f. absurd cc) t [] [] unasked ended before now ended [] e (λ _. (refl, refl)) (IsPrefix_refl []) wrote few same (λ s. absurd (goes s))
+    → t NoOrigin ≡ own_turn [] [] unasked ended → Appends a a [] → (ended ≡ Stays → ⊥) → (ended ≡ Over OriginFault → ⊥) → g ≤ count_limit → before ≡ Some now → Goes tunnel t unasked seated left a a before now failed g g ended
+silent_goes t unasked before now ended e wrote goes here few same =
+    own_part false (λ f. absurd cc) t [] [] unasked ended before now ended [] e (λ _. (refl, refl)) (IsPrefix_refl []) wrote few same (λ s. absurd (goes s)) here
 
 -- a cause, by what it leads to
 pub cause_map : {A B C D : Type 0} (ended : Carried) → (A → C) → (B → D) → EndHasCause A B ended → EndHasCause C D ended

@@ -1,11 +1,11 @@
 -- A session of its opening and its turns.
-use Rattle.std.proofs.Common.{◌≡◌, ◌⊎◌, inl, inr, ℕ, ◌≤◌, List, [], ◌∷◌, ◌++◌, true, Option, Some, None, refl, sym, ap, subst, ◌∙◌, arith, append_assoc, append-nil}
+use Rattle.std.proofs.Common.{◌≡◌, ◌⊎◌, inl, inr, ℕ, ◌≤◌, List, [], ◌∷◌, ◌++◌, true, Option, Some, None, Result, refl, sym, ap, subst, ◌∙◌, arith, append_assoc, append-nil}
 use Rattle.sq_base.specs.Addresses.{Address}
 use Rattle.sq_outside.specs.Causes.{count_limit, Rose}
 use Rattle.sq_outside.specs.Dials.{Dialled}
 use Rattle.sq_forward.specs.Meters.{granted_after}
-use Rattle.sq_session.specs.Fronts.{FrontTold, OfOpen}
-use Rattle.sq_session.specs.Sessions.{answers_of, client_of, granted_of, ServesOpened, TellsWhole, TellsAs, SessionHasCause, dry_after_session}
+use Rattle.sq_session.specs.Fronts.{FrontTold, OfOpen, OfClose}
+use Rattle.sq_session.specs.Sessions.{answers_of, client_of, granted_of, ServesOpened, ClosesOpened, TellsWhole, TellsAs, SessionHasCause, dry_after_session}
 use Rattle.sq_session.specs.Steps.{EndHasCause, dry_after}
 use Rattle.sq_session.specs.Told.{ServesTold, SessionTold}
 use Rattle.sq_session.specs.Telling.{IsTold}
@@ -13,6 +13,7 @@ use Rattle.sq_session.specs.declared.ends.Carried.{Carried}
 use Rattle.sq_session.specs.declared.ends.Carried.TheVariants.{Stays, Closes, Over}
 use Rattle.sq_session.specs.declared.ends.End.{End}
 use Rattle.sq_session.specs.declared.ends.End.TheVariants.{Finished, Cut, ClientFault, OriginCut, OriginFault, Starved, WantOfMemory}
+use Rattle.sq_session.specs.declared.front.CloseFault.{CloseFault}
 use Rattle.sq_session.specs.declared.front.Opened.{Opened}
 use Rattle.sq_session.specs.declared.front.Opened.TheVariants as opened
 use Rattle.sq_session.proofs.CarryLaws.{rose_later}
@@ -39,20 +40,24 @@ over_dry Starved = refl
 over_dry WantOfMemory = refl
 
 -- a connection that was opened
-pub session_in : {addr : Address} {first : Option (List ℕ)} {before now : Option Dialled} {stood mid stands last : List FrontTold → Type 0} {a b : Option (List ℕ)} {failed : Type 0} {g h k n : ℕ} {end : End}
-    → ((list : List FrontTold) → stood list → mid (list ++ OfOpen opened.In ∷ [])) → ((list : List FrontTold) → stands list → last list) → g ≡ k → n ≡ h
-    → ServesTold addr first before now mid stands a b failed g h end → SessionTold addr first before now stood last a b failed k n end
-session_in {first = None} told closed same after x = record { known = tt }
-session_in {first = Some input} {now = None} told closed same after x = record { known = tt }
-session_in {first = Some input} {now = Some o} {stands} told closed same after x =
+pub session_in : {addr : Address} {port : ℕ} {first : Option (List ℕ)} {before now : Option Dialled} {stood mid stands last : List FrontTold → Type 0} {a b : Option (List ℕ)} {failed : Type 0} {g h k n : ℕ} {end : End}
+    → (c : Result (Unit {0}) CloseFault) → ((list : List FrontTold) → stood list → mid (list ++ OfOpen addr port opened.In ∷ [])) → ((list : List FrontTold) → stands list → last (list ++ OfClose c ∷ [])) → g ≡ k → n ≡ h
+    → ServesTold addr first before now mid stands a b failed g h end → SessionTold addr port first before now stood last a b failed k n end
+session_in {first = None} c told closed same after x = record { known = tt }
+session_in {first = Some input} {now = None} c told closed same after x = record { known = tt }
+session_in {addr} {port} {first = Some input} {now = Some o} {stands} {last} c told closed same after x =
     let y = x.known in
+    let opening = OfOpen addr port opened.In in
+    let turns = answers_of y.steps in
     record {
       known = record {
         opening = opened.In;
         steps = y.steps;
         written = client_of y.steps;
+        closing = OfClose c ∷ [];
         serves = (y.turns, refl);
-        told = λ list s. closed (list ++ OfOpen opened.In ∷ answers_of y.steps) (subst stands (append_assoc list (OfOpen opened.In ∷ []) (answers_of y.steps)) (y.told (list ++ OfOpen opened.In ∷ []) (told list s)));
+        closes = (c, refl);
+        told = λ list s. subst last (append_assoc list (opening ∷ turns) (OfClose c ∷ [])) (closed (list ++ opening ∷ turns) (subst stands (append_assoc list (opening ∷ []) turns) (y.told (list ++ opening ∷ []) (told list s))));
         wrote = y.wrote;
         dials = y.dials;
         broken = y.broken;
@@ -61,17 +66,19 @@ session_in {first = Some input} {now = Some o} {stands} told closed same after x
     }
 
 -- one that was not
-pub session_not : {addr : Address} {first : Option (List ℕ)} {d : Option Dialled} {stood stands : List FrontTold → Type 0} {a b : Option (List ℕ)} {failed : Type 0} {g h : ℕ} {end : End} (opening : Opened) (words : List ℕ)
-    → ((input written : List ℕ) → TellsAs words written end → ServesOpened addr input opening [] written end) → ((list : List FrontTold) → stood list → stands (list ++ OfOpen opening ∷ [])) → TellsWhole words a b end → g ≤ count_limit → h ≡ g
-    → SessionTold addr first d d stood stands a b failed g h end
-session_not {first = None} opening words serves told w few same = record { known = tt }
-session_not {first = Some input} {d = None} opening words serves told w few same = record { known = tt }
-session_not {first = Some input} {d = Some o} {g} opening words serves told w few same = record {
+pub session_not : {addr : Address} {port : ℕ} {first : Option (List ℕ)} {d : Option Dialled} {stood stands : List FrontTold → Type 0} {a b : Option (List ℕ)} {failed : Type 0} {g h : ℕ} {end : End} (opening : Opened) (words : List ℕ)
+    → ((input written : List ℕ) → TellsAs words written end → ServesOpened addr input opening [] written end) → ClosesOpened opening [] → ((list : List FrontTold) → stood list → stands (list ++ OfOpen addr port opening ∷ [])) → TellsWhole words a b end → g ≤ count_limit → h ≡ g
+    → SessionTold addr port first d d stood stands a b failed g h end
+session_not {first = None} opening words serves closes told w few same = record { known = tt }
+session_not {first = Some input} {d = None} opening words serves closes told w few same = record { known = tt }
+session_not {first = Some input} {d = Some o} {g} opening words serves closes told w few same = record {
   known = record {
     opening = opening;
     steps = [];
     written = w.written;
+    closing = [];
     serves = serves input w.written w.tells;
+    closes = closes;
     told = told;
     wrote = w.wrote;
     dials = record { old = o; told = refl; made = omega arith; back = sym (append-nil o.back) };
@@ -121,6 +128,6 @@ session_said A B C Starved x = tt
 session_said A B C WantOfMemory x = tt
 
 -- the client's sink was closed behind it
-pub session_closed : {addr : Address} {first : Option (List ℕ)} {before now : Option Dialled} {stood stands : List FrontTold → Type 0} {a b c : Option (List ℕ)} {failed : Type 0} {g h : ℕ} {end : End}
-    → c ≡ b → SessionTold addr first before now stood stands a b failed g h end → SessionTold addr first before now stood stands a c failed g h end
-session_closed {addr} {first} {before} {now} {stood} {stands} {a} {b} {c} {failed} {g} {h} {end} e x = subst (λ z. SessionTold addr first before now stood stands a z failed g h end) (sym e) x
+pub session_closed : {addr : Address} {port : ℕ} {first : Option (List ℕ)} {before now : Option Dialled} {stood stands : List FrontTold → Type 0} {a b c : Option (List ℕ)} {failed : Type 0} {g h : ℕ} {end : End}
+    → c ≡ b → SessionTold addr port first before now stood stands a b failed g h end → SessionTold addr port first before now stood stands a c failed g h end
+session_closed {addr} {port} {first} {before} {now} {stood} {stands} {a} {b} {c} {failed} {g} {h} {end} e x = subst (λ z. SessionTold addr port first before now stood stands a z failed g h end) (sym e) x

@@ -18,7 +18,8 @@ use Rattle.sq_session.specs.Telling.{IsTold}
 use Rattle.sq_session.specs.Told.{BeginsTold, AnswersTold, TurnTold}
 use Rattle.sq_session.specs.Turns.{NoOrigin}
 use Rattle.sq_session.specs.declared.beginning.Begun.TheVariants as begun
-use Rattle.sq_session.specs.declared.ends.Carried.TheVariants.{Stays, Closes}
+use Rattle.sq_session.specs.declared.ends.Carried.TheVariants.{Stays, Closes, Over}
+use Rattle.sq_session.specs.declared.ends.End.TheVariants.{OriginFault}
 use Rattle.sq_session.proofs.GoesLaws.{granted_none, own_goes, own_turn, silent_goes}
 
 -- what was granted in a turn
@@ -84,10 +85,10 @@ takes_own {first = Some input} {d = Some o} {stood} addr begun words e few x w =
 
 -- the connection has nothing to answer
 pub takes_none : {first : Option (List ℕ)} {d : Option Dialled} {stood : List FrontTold → Type 0} {left mid a : Option (List ℕ)} {failed : Type 0} {g : ℕ} (addr : Address) (begun : Begun) (ended : Carried)
-    → ((rest : List ℕ) → turn addr begun rest [] NoOrigin ≡ own_turn [] [] [] ended) → (ended ≡ Stays → ⊥) → g ≤ count_limit → BeginsTold first mid begun → TurnTold addr first d d stood stood left a a failed g g ended
-takes_none {first = None} addr begun ended e goes few x = record { known = tt }
-takes_none {first = Some input} {d = None} addr begun ended e goes few x = record { known = tt }
-takes_none {first = Some input} {d = Some o} {stood} {a} addr begun ended e goes few x = record {
+    → ((rest : List ℕ) → turn addr begun rest [] NoOrigin ≡ own_turn [] [] [] ended) → (ended ≡ Stays → ⊥) → (ended ≡ Over OriginFault → ⊥) → g ≤ count_limit → BeginsTold first mid begun → TurnTold addr first d d stood stood left a a failed g g ended
+takes_none {first = None} addr begun ended e goes here few x = record { known = tt }
+takes_none {first = Some input} {d = None} addr begun ended e goes here few x = record { known = tt }
+takes_none {first = Some input} {d = Some o} {stood} {a} addr begun ended e goes here few x = record {
   known = takes_turn addr input begun x.known.rest [] x.known.begins (told_none stood) few (judges_none begun)
-      (silent_goes (turn addr begun x.known.rest []) [] (Some o) o ended (e x.known.rest) (Appends-nil a) goes few refl);
+      (silent_goes (turn addr begun x.known.rest []) [] (Some o) o ended (e x.known.rest) (Appends-nil a) goes here few refl);
 }

@@ -54,11 +54,11 @@ pub record CutComes (input : List ℕ) : Type 0 where
   pub short : length input < most_bytes
   pub begun : is_blank input ≡ false
 
--- what the input begins with: a request and what follows its head; nothing but empty lines; a head that the
--- end cuts off; one that is too large, or refused. That its link failed or that there was no memory says nothing of it
+-- what the input begins with: a request and what follows its head; nothing but empty lines, of fewer bytes than
+-- a head may have; a head that the end cuts off; one that is too large, or refused. That its link failed or that there was no memory says nothing of it
 abbrev pub Begins : List ℕ → Begun → List ℕ → Type 0
 Begins input (Asks r) rest = RequestComes input r rest
-Begins input Nothing rest = is_blank input ≡ true
+Begins input Nothing rest = (is_blank input ≡ true) × (length input < most_bytes)
 Begins input Cut rest = CutComes input
 Begins input TooLarge rest = IsTooLarge input ⊎ TooManyCome input
 Begins input Bad rest = BadComes input

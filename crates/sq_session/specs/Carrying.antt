@@ -6,7 +6,7 @@ use Rattle.sq_base.specs.Requests.{HttpRequest}
 use Rattle.sq_base.specs.declared.plans.BodyPlan.{BodyPlan}
 use Rattle.sq_checks.specs.Records.{Judged}
 use Rattle.sq_outside.specs.Dials.{Dialled}
-use Rattle.sq_session.specs.Fronts.{FrontTold, OfOpen, OfDecide, OfSit, names_pool}
+use Rattle.sq_session.specs.Fronts.{FrontTold, OfOpen, OfDecide, OfSit, OfClose, SitsFor, names_pool}
 use Rattle.sq_session.specs.Steps.{Goes}
 use Rattle.sq_session.specs.Turns.{is_connect, carried, recorded}
 use Rattle.sq_session.specs.declared.ends.Carried.{Carried}
@@ -19,10 +19,11 @@ pub record IsSameMessage (sent judged : HttpRequest) : Type 0 where
 
 -- a seat was given, if there was a pool
 abbrev pub sat : List FrontTold → Bool
-sat (OfSit (Ok u) ∷ more) = true
-sat (OfSit (Err e) ∷ more) = false
-sat (OfDecide d ∷ more) = false
-sat (OfOpen o ∷ more) = false
+sat (OfSit k (Ok u) ∷ more) = true
+sat (OfSit k (Err e) ∷ more) = false
+sat (OfDecide r d ∷ more) = false
+sat (OfOpen a port o ∷ more) = false
+sat (OfClose c ∷ more) = false
 sat [] = false
 
 -- the part of a turn from the scheme on, with the answers that the front gave in it
@@ -30,6 +31,7 @@ pub record Carries (r : HttpRequest) (addr : Address) (p : BodyPlan) (rest : Lis
     (dialled_before : Option Dialled) (dialled_now : Dialled) (failed : Type 0) (g h : ℕ) (ended : Carried) : Type 0 where
   pub answers : List FrontTold
   pub told : (list : List FrontTold) → stood list → stands (list ++ answers)
+  pub sits : SitsFor j answers
   pub goes : Goes (is_connect r) (carried r addr p rest answers) [] (names_pool j && sat answers) left a b dialled_before dialled_now failed g h ended
 
 -- the part of a turn from the record on
@@ -37,4 +39,5 @@ pub record Obeys (r : HttpRequest) (addr : Address) (p : BodyPlan) (rest : List 
     (dialled_before : Option Dialled) (dialled_now : Dialled) (failed : Type 0) (g h : ℕ) (ended : Carried) : Type 0 where
   pub answers : List FrontTold
   pub told : (list : List FrontTold) → stood list → stands (list ++ answers)
+  pub sits : SitsFor j answers
   pub goes : Goes (is_connect r) (recorded r addr p rest j answers) [] (names_pool j && sat answers) left a b dialled_before dialled_now failed g h ended

@@ -50,7 +50,7 @@ pub record Forwards (r : HttpRequest) (addr : Address) (p : BodyPlan) (rest byte
   pub seen : List ℕ
   pub reading : Reading
   pub broke : Bool
-  pub fits : is_connect r ≡ false → IsReply bytes seen reading broke ended
+  pub fits : (is_connect r ≡ false → IsReply bytes seen reading broke ended) × (is_connect r ≡ true → broke ≡ false)
   pub broken : broke ≡ true → failed
   pub goes : (unasked : List FrontTold) → ForwardsAs (forwarded r addr p rest bytes reading broke unasked) unasked broke seated left a b c d g h ended
 

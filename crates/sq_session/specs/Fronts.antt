@@ -1,20 +1,24 @@
 -- What a front's answers say: the engine and the pools as one connection sees them.
-use Rattle.std.specs.Prelude.{◌≡◌, ◌⊎◌, ℕ, Bool, is_some, ⊤}
+use Rattle.std.specs.Prelude.{◌≡◌, ◌⊎◌, ℕ, List, [], ◌∷◌, Bool, Ok, Err, is_some, ⊤}
 use Rattle.std.specs.declared.result.Result.{Result}
+use Rattle.sq_base.specs.Addresses.{Address}
 use Rattle.sq_base.specs.Requests.{HttpRequest}
 use Rattle.sq_checks.specs.Records.{Judged}
 use Rattle.sq_outside.specs.Causes.{Rose, raised}
 use Rattle.sq_session.specs.declared.front.Opened.{Opened}
 use Rattle.sq_session.specs.declared.front.Opened.TheVariants as opened
 use Rattle.sq_session.specs.declared.front.SitFault.{SitFault}
+use Rattle.sq_session.specs.declared.front.CloseFault.{CloseFault}
+use Rattle.sq_session.specs.declared.front.CloseFault.TheVariants as close
 use Rattle.sq_session.specs.declared.front.Decided.{Decided}
 use Rattle.sq_session.specs.declared.front.Decided.TheVariants.{Record, Mismatch, Refused, JournalFault, WantOfMemory}
 
--- an answer that a front gave
+-- an answer that a front gave: to the opening for this address and port, to a question about this request, to a call for a seat with this record, to the close
 pub data FrontTold : Type 0 where
-  OfOpen : Opened → FrontTold
-  OfDecide : Decided → FrontTold
-  OfSit : Result (Unit {0}) SitFault → FrontTold
+  OfOpen : Address → ℕ → Opened → FrontTold
+  OfDecide : HttpRequest → Decided → FrontTold
+  OfSit : Judged → Result (Unit {0}) SitFault → FrontTold
+  OfClose : Result (Unit {0}) CloseFault → FrontTold
 
 -- a record has the request that was asked about; another that was judged is told
 abbrev pub Decides : HttpRequest → Decided → Type 0
@@ -23,6 +27,22 @@ Decides r (Mismatch other) = other ≡ r → ⊥
 Decides r (Refused why) = ⊤
 Decides r JournalFault = ⊤
 Decides r WantOfMemory = ⊤
+
+-- where the next answer is to a call for a seat, that is with this record
+abbrev pub SitsFor : Judged → List FrontTold → Type 0
+SitsFor j [] = ⊤
+SitsFor j (OfSit k s ∷ more) = k ≡ j
+SitsFor j (OfDecide r d ∷ more) = ⊤
+SitsFor j (OfOpen a port o ∷ more) = ⊤
+SitsFor j (OfClose c ∷ more) = ⊤
+
+-- the same behind an answer that is a record
+abbrev pub SitsBehind : Decided → List FrontTold → Type 0
+SitsBehind (Record j) more = SitsFor j more
+SitsBehind (Mismatch other) more = ⊤
+SitsBehind (Refused why) more = ⊤
+SitsBehind JournalFault more = ⊤
+SitsBehind WantOfMemory more = ⊤
 
 -- a question more, or none where there is no record
 abbrev pub Asks : ℕ → ℕ → Decided → Type 0
@@ -46,6 +66,12 @@ DecideRefuses before now (Mismatch other) = ⊤
 DecideRefuses before now (Refused why) = Rose before now
 DecideRefuses before now JournalFault = Rose before now
 DecideRefuses before now WantOfMemory = ⊤
+
+abbrev pub CloseRefuses : ℕ → ℕ → Result (Unit {0}) CloseFault → Type 0
+CloseRefuses before now (Ok u) = ⊤
+CloseRefuses before now (Err (close.Refused why)) = Rose before now
+CloseRefuses before now (Err close.JournalFault) = Rose before now
+CloseRefuses before now (Err close.WantOfMemory) = ⊤
 
 -- the record names a pool
 abbrev pub names_pool : Judged → Bool

@@ -1,6 +1,7 @@
 -- A session over links, a front and a dialer that tell what they hold.
 use Rattle.std.specs.Prelude.{◌≡◌, ◌⊎◌, ℕ, ◌+◌, ◌≤◌, List, [], ◌∷◌, ◌++◌, length, sum_by, flat_map, Bool, true, false, ◌&&◌, Some, option_to_list, ⊤}
 use Rattle.std.specs.declared.option.Option.{Option}
+use Rattle.std.specs.declared.result.Result.{Result}
 use Rattle.std.specs.Io.KnownBytes.{Appends}
 use Rattle.sq_base.specs.Addresses.{Address}
 use Rattle.sq_base.specs.Requests.{HttpRequest}
@@ -11,7 +12,7 @@ use Rattle.sq_head.specs.declared.own.Own.TheVariants.{Inner, Stopped, NoMemory,
 use Rattle.sq_forward.specs.Meters.{granted_after, dry_limit}
 use Rattle.sq_session.specs.Begins.{Begins}
 use Rattle.sq_session.specs.Carrying.{sat}
-use Rattle.sq_session.specs.Fronts.{FrontTold, OfOpen, OfDecide, OfSit, Decides, names_pool}
+use Rattle.sq_session.specs.Fronts.{FrontTold, OfOpen, OfDecide, OfSit, OfClose, Decides, SitsBehind, names_pool}
 use Rattle.sq_session.specs.Steps.{spare_of, FitsReply, Gives, DialsOn, Goes}
 use Rattle.sq_session.specs.Turns.{Turn, from_origin, Reply, is_broken, is_connect, asked, turn}
 use Rattle.sq_session.specs.declared.beginning.Begun.{Begun}
@@ -20,26 +21,29 @@ use Rattle.sq_session.specs.declared.ends.Carried.{Carried}
 use Rattle.sq_session.specs.declared.ends.Carried.TheVariants.{Stays, Closes, Over}
 use Rattle.sq_session.specs.declared.ends.End.{End}
 use Rattle.sq_session.specs.declared.ends.End.TheVariants.{Finished, Cut, ClientFault, OriginCut, OriginFault, Starved, WantOfMemory}
+use Rattle.sq_session.specs.declared.front.CloseFault.{CloseFault}
 use Rattle.sq_session.specs.declared.front.Decided.TheVariants as decided
 use Rattle.sq_session.specs.declared.front.Opened.{Opened}
 use Rattle.sq_session.specs.declared.front.Opened.TheVariants as opened
 
 -- whether a seat was held in a turn with these answers of the front
 abbrev pub held_seat : List FrontTold → Bool
-held_seat (OfDecide (decided.Record j) ∷ more) = names_pool j && sat more
-held_seat (OfDecide (decided.Mismatch other) ∷ more) = false
-held_seat (OfDecide (decided.Refused why) ∷ more) = false
-held_seat (OfDecide decided.JournalFault ∷ more) = false
-held_seat (OfDecide decided.WantOfMemory ∷ more) = false
-held_seat (OfSit s ∷ more) = false
-held_seat (OfOpen o ∷ more) = false
+held_seat (OfDecide q (decided.Record j) ∷ more) = names_pool j && sat more
+held_seat (OfDecide q (decided.Mismatch other) ∷ more) = false
+held_seat (OfDecide q (decided.Refused why) ∷ more) = false
+held_seat (OfDecide q decided.JournalFault ∷ more) = false
+held_seat (OfDecide q decided.WantOfMemory ∷ more) = false
+held_seat (OfSit k s ∷ more) = false
+held_seat (OfOpen a port o ∷ more) = false
+held_seat (OfClose c ∷ more) = false
 held_seat [] = false
 
--- what the front said of it is of this request
+-- the front was asked about this request, what it said is of it, and a seat is one for its record
 abbrev pub JudgesOf : HttpRequest → List FrontTold → Type 0
-JudgesOf r (OfDecide d ∷ more) = Decides r d
-JudgesOf r (OfSit s ∷ more) = ⊤
-JudgesOf r (OfOpen o ∷ more) = ⊤
+JudgesOf r (OfDecide q d ∷ more) = (q ≡ r) × Decides r d × SitsBehind d more
+JudgesOf r (OfSit k s ∷ more) = ⊤
+JudgesOf r (OfOpen a port o ∷ more) = ⊤
+JudgesOf r (OfClose c ∷ more) = ⊤
 JudgesOf r [] = ⊤
 
 -- the part of a turn from the request on, with the answers that the front gave in it
@@ -75,7 +79,7 @@ asks_tunnel begun.Bad = false
 asks_tunnel begun.Failed = false
 asks_tunnel begun.WantOfMemory = false
 
--- what the front said is of the request that came
+-- the same of the request that came
 abbrev pub JudgesBegun : Begun → List FrontTold → Type 0
 JudgesBegun (begun.Asks r) answers = JudgesOf r answers
 JudgesBegun begun.Nothing answers = ⊤
@@ -175,7 +179,7 @@ pub record TellsWhole (text : List ℕ) (a b : Option (List ℕ)) (end : End) : 
   pub wrote : Appends a b written
   pub tells : TellsAs text written end
 
--- a connection that was opened has its turns; any other has one reply, and none
+-- a connection that was opened has its turns, and any other none and one reply
 abbrev pub ServesOpened : Address → List ℕ → Opened → List Step → List ℕ → End → Type 0
 ServesOpened addr input opened.In steps written end = Turns addr input steps end × (written ≡ client_of steps)
 ServesOpened addr input opened.Full steps written end = (steps ≡ []) × TellsAs (error_text TooManyConns false) written end
@@ -183,14 +187,24 @@ ServesOpened addr input (opened.Refused why) steps written end = (steps ≡ []) 
 ServesOpened addr input opened.JournalFault steps written end = (steps ≡ []) × TellsAs (error_text Stopped false) written end
 ServesOpened addr input opened.WantOfMemory steps written end = (steps ≡ []) × TellsAs (error_text NoMemory false) written end
 
--- a session: its opening, and its turns
-pub record IsSession (addr : Address) (input : List ℕ) (stood stands : List FrontTold → Type 0) (a b : Option (List ℕ))
+-- a connection that was opened is closed at the end, once, and any other is not
+abbrev pub ClosesOpened : Opened → List FrontTold → Type 0
+ClosesOpened opened.In closing = (c : Result (Unit {0}) CloseFault) × (closing ≡ OfClose c ∷ [])
+ClosesOpened opened.Full closing = closing ≡ []
+ClosesOpened (opened.Refused why) closing = closing ≡ []
+ClosesOpened opened.JournalFault closing = closing ≡ []
+ClosesOpened opened.WantOfMemory closing = closing ≡ []
+
+-- a session: its opening for the client's address and port, its turns, and its close
+pub record IsSession (addr : Address) (port : ℕ) (input : List ℕ) (stood stands : List FrontTold → Type 0) (a b : Option (List ℕ))
     (dialled_before : Option Dialled) (dialled_now : Dialled) (failed : Type 0) (g h : ℕ) (end : End) : Type 0 where
   pub opening : Opened
   pub steps : List Step
   pub written : List ℕ
+  pub closing : List FrontTold
   pub serves : ServesOpened addr input opening steps written end
-  pub told : (list : List FrontTold) → stood list → stands (list ++ OfOpen opening ∷ answers_of steps)
+  pub closes : ClosesOpened opening closing
+  pub told : (list : List FrontTold) → stood list → stands (list ++ OfOpen addr port opening ∷ (answers_of steps ++ closing))
   pub wrote : Appends a b written
   pub dials : DialsAll dialled_before dialled_now (dials_of steps)
   pub broken : HasFaulted addr steps → failed

@@ -60,18 +60,19 @@ dry_after (Over OriginFault) = 0
 dry_after (Over Starved) = dry_limit
 dry_after (Over WantOfMemory) = 0
 
--- the bytes that were looked at begin the origin's and read so; a reply that ended by them is of all of them; and
--- where the link failed before it, there is none
+-- the bytes that were looked at begin the origin's and read so; a reply that ended by them is of all of them; where
+-- the link failed before it, there is none, and where it failed behind its head, there is that
 pub record IsReply (bytes seen : List ℕ) (reading : Reading) (broke : Bool) (ended : Carried) : Type 0 where
   pub front : IsPrefix seen bytes
   pub reads : IsReading seen reading
   pub whole : is_by_origin ended ≡ true → broke ≡ false → seen ≡ bytes
   pub none : broke ≡ true → reading.final ≡ None
+  pub headed : ended ≡ Over OriginFault → reading.final ≡ None → ⊥
 
--- an origin's part; a tunnel reads no heads
+-- an origin's part; a tunnel reads no heads, and so none that its link failed before; where there is no origin its link ends nothing
 abbrev pub FitsReply : Bool → Reply → Carried → Type 0
-FitsReply tunnel NoOrigin ended = ⊤
-FitsReply tunnel (Came bytes seen reading broke) ended = tunnel ≡ false → IsReply bytes seen reading broke ended
+FitsReply tunnel NoOrigin ended = ended ≡ Over OriginFault → ⊥
+FitsReply tunnel (Came bytes seen reading broke) ended = (tunnel ≡ false → IsReply bytes seen reading broke ended) × (tunnel ≡ true → broke ≡ false)
 
 -- all of the bytes, or a front of them
 abbrev pub WritesAs : Bool → List ℕ → List ℕ → Type 0

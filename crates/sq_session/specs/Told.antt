@@ -58,5 +58,5 @@ pub record ServesTold (addr : Address) (first : Option (List ℕ)) (before now :
   pub known : IfSome first (λ input. IfSome now (λ o. Serves addr input stood stands a b before o failed g h end))
 
 -- a session
-pub record SessionTold (addr : Address) (first : Option (List ℕ)) (before now : Option Dialled) (stood stands : List FrontTold → Type 0) (a b : Option (List ℕ)) (failed : Type 0) (g h : ℕ) (end : End) : Type 0 where
-  pub known : IfSome first (λ input. IfSome now (λ o. IsSession addr input stood stands a b before o failed g h end))
+pub record SessionTold (addr : Address) (port : ℕ) (first : Option (List ℕ)) (before now : Option Dialled) (stood stands : List FrontTold → Type 0) (a b : Option (List ℕ)) (failed : Type 0) (g h : ℕ) (end : End) : Type 0 where
+  pub known : IfSome first (λ input. IfSome now (λ o. IsSession addr port input stood stands a b before o failed g h end))

@@ -21,7 +21,7 @@ use Rattle.sq_forward.specs.Replies.{Reading}
 use Rattle.sq_forward.specs.declared.exchanging.Exchanged.{Exchanged}
 use Rattle.sq_forward.specs.declared.exchanging.Exchanged.TheVariants as exchanged
 use Rattle.sq_session.specs.Begins.{fits_hosts}
-use Rattle.sq_session.specs.Fronts.{FrontTold, OfOpen, OfDecide, OfSit}
+use Rattle.sq_session.specs.Fronts.{FrontTold, OfOpen, OfDecide, OfSit, OfClose}
 use Rattle.sq_session.specs.declared.beginning.Begun.{Begun}
 use Rattle.sq_session.specs.declared.beginning.Begun.TheVariants as begun
 use Rattle.sq_session.specs.declared.ends.Carried.{Carried}
@@ -150,11 +150,12 @@ dialled r addr p rest unasked (Came bytes seen reading broke) = forwarded r addr
 
 -- from the seat on
 abbrev pub seated : HttpRequest → Address → BodyPlan → List ℕ → List FrontTold → Reply → Turn
-seated r addr p rest (OfSit (Ok u) ∷ more) reply = dialled r addr p rest more reply
-seated r addr p rest (OfSit (Err sit.Spent) ∷ more) reply = says Inner (is_head r) more
-seated r addr p rest (OfSit (Err sit.WantOfMemory) ∷ more) reply = says NoMemory (is_head r) more
-seated r addr p rest (OfDecide d ∷ more) reply = silent (Over end.WantOfMemory) (OfDecide d ∷ more)
-seated r addr p rest (OfOpen o ∷ more) reply = silent (Over end.WantOfMemory) (OfOpen o ∷ more)
+seated r addr p rest (OfSit k (Ok u) ∷ more) reply = dialled r addr p rest more reply
+seated r addr p rest (OfSit k (Err sit.Spent) ∷ more) reply = says Inner (is_head r) more
+seated r addr p rest (OfSit k (Err sit.WantOfMemory) ∷ more) reply = says NoMemory (is_head r) more
+seated r addr p rest (OfDecide q d ∷ more) reply = silent (Over end.WantOfMemory) (OfDecide q d ∷ more)
+seated r addr p rest (OfOpen a port o ∷ more) reply = silent (Over end.WantOfMemory) (OfOpen a port o ∷ more)
+seated r addr p rest (OfClose c ∷ more) reply = silent (Over end.WantOfMemory) (OfClose c ∷ more)
 seated r addr p rest [] reply = silent (Over end.WantOfMemory) []
 
 -- from the scheme on: an allowed request, which goes on as this one
@@ -186,13 +187,14 @@ recorded r addr p rest j answers reply = if j.outcome.allow then carried r addr 
 
 -- from the verdict on
 abbrev pub judged : HttpRequest → Address → BodyPlan → List ℕ → List FrontTold → Reply → Turn
-judged r addr p rest (OfDecide (decided.Record j) ∷ more) reply = recorded r addr p rest j more reply
-judged r addr p rest (OfDecide (decided.Mismatch other) ∷ more) reply = says Inner (is_head r) more
-judged r addr p rest (OfDecide (decided.Refused why) ∷ more) reply = says Inner (is_head r) more
-judged r addr p rest (OfDecide decided.JournalFault ∷ more) reply = says Stopped (is_head r) more
-judged r addr p rest (OfDecide decided.WantOfMemory ∷ more) reply = says NoMemory (is_head r) more
-judged r addr p rest (OfSit s ∷ more) reply = silent (Over end.WantOfMemory) (OfSit s ∷ more)
-judged r addr p rest (OfOpen o ∷ more) reply = silent (Over end.WantOfMemory) (OfOpen o ∷ more)
+judged r addr p rest (OfDecide q (decided.Record j) ∷ more) reply = recorded r addr p rest j more reply
+judged r addr p rest (OfDecide q (decided.Mismatch other) ∷ more) reply = says Inner (is_head r) more
+judged r addr p rest (OfDecide q (decided.Refused why) ∷ more) reply = says Inner (is_head r) more
+judged r addr p rest (OfDecide q decided.JournalFault ∷ more) reply = says Stopped (is_head r) more
+judged r addr p rest (OfDecide q decided.WantOfMemory ∷ more) reply = says NoMemory (is_head r) more
+judged r addr p rest (OfSit k s ∷ more) reply = silent (Over end.WantOfMemory) (OfSit k s ∷ more)
+judged r addr p rest (OfOpen a port o ∷ more) reply = silent (Over end.WantOfMemory) (OfOpen a port o ∷ more)
+judged r addr p rest (OfClose c ∷ more) reply = silent (Over end.WantOfMemory) (OfClose c ∷ more)
 judged r addr p rest [] reply = silent (Over end.WantOfMemory) []
 
 -- the reply to a body that is refused

@@ -1,7 +1,7 @@
 //! `Front`: the engine and the pools as one connection sees them.
 ghost use Rattle.std.specs.Prelude.{◌≡◌, ℕ, ◌≤◌, ◌∷◌, ◌++◌, [], List, false, OnOk, OnErr};
 ghost use Rattle.sq_outside.specs.Causes.{count_limit};
-ghost use Rattle.sq_session.specs.Fronts.{FrontTold, OfOpen, OfDecide, OfSit, Decides, Asks, OpenRefuses, DecideRefuses, names_pool};
+ghost use Rattle.sq_session.specs.Fronts.{FrontTold, OfOpen, OfDecide, OfSit, OfClose, Decides, Asks, OpenRefuses, DecideRefuses, CloseRefuses, names_pool};
 
 use sq_base::{Addr, Request};
 use sq_checks::Record;
@@ -48,6 +48,17 @@ pub enum SitFault {
     WantOfMemory,
 }
 
+/// Why a connection was not closed.
+#[derive(Clone, Copy, Debug, PartialEq, Eq)]
+pub enum CloseFault {
+    /// It is refused.
+    Refused(Refusal),
+    /// The journal could not be written.
+    JournalFault,
+    /// There was no memory.
+    WantOfMemory,
+}
+
 /// How many questions were asked, and how many bytes were granted on seats. Each stays at 2^63 - 1 once it
 /// is there.
 #[derive(Clone, Copy, Debug, PartialEq, Eq)]
@@ -69,7 +80,7 @@ pub trait Front: Meter {
 
     /// Opens the connection of a client.
     fn open(&mut self, alloc: Global, addr: Addr, port: u16) -> Opened
-        ensures told { (list : List FrontTold) → stands self.old list → stands self.new (list ++ OfOpen result ∷ []) }
+        ensures told { (list : List FrontTold) → stands self.old list → stands self.new (list ++ OfOpen addr port result ∷ []) }
         ensures asked { asked self.new ≡ asked self.old }
         ensures refused_later { refused self.old ≤ refused self.new }
         ensures refused { OpenRefuses (refused self.old) (refused self.new) result }
@@ -79,7 +90,7 @@ pub trait Front: Meter {
 
     /// Asks about a request, and waits until its check is over.
     fn decide(&mut self, alloc: Global, request: &Request) -> Decided
-        ensures told { (list : List FrontTold) → stands self.old list → stands self.new (list ++ OfDecide result ∷ []) }
+        ensures told { (list : List FrontTold) → stands self.old list → stands self.new (list ++ OfDecide request.now result ∷ []) }
         ensures record { Decides request.now result }
         ensures asked_later { asked self.old ≤ asked self.new }
         ensures asked { Asks (asked self.old) (asked self.new) result }
@@ -92,7 +103,7 @@ pub trait Front: Meter {
     /// Takes a seat in the pool of a record, if it has one.
     fn sit(&mut self, alloc: Global, judged: &Record) -> Result<(), SitFault>
         requires unseated { Self.Meter.seated self.old ≡ false }
-        ensures told { (list : List FrontTold) → stands self.old list → stands self.new (list ++ OfSit result ∷ []) }
+        ensures told { (list : List FrontTold) → stands self.old list → stands self.new (list ++ OfSit judged.now result ∷ []) }
         ensures seated { OnOk result (Self.Meter.seated self.new ≡ names_pool judged.now) }
         ensures refused_seat { OnErr result (Self.Meter.seated self.new ≡ false) }
         ensures asked { asked self.new ≡ asked self.old }
@@ -110,10 +121,11 @@ pub trait Front: Meter {
         ensures dry { Self.Meter.dry self.new ≡ Self.Meter.dry self.old };
 
     /// Closes the connection.
-    fn close(&mut self)
-        ensures told { (list : List FrontTold) → stands self.old list → stands self.new list }
+    fn close(&mut self) -> Result<(), CloseFault>
+        ensures told { (list : List FrontTold) → stands self.old list → stands self.new (list ++ OfClose result ∷ []) }
         ensures asked { asked self.new ≡ asked self.old }
         ensures refused_later { refused self.old ≤ refused self.new }
+        ensures refused { CloseRefuses (refused self.old) (refused self.new) result }
         ensures seated { Self.Meter.seated self.new ≡ Self.Meter.seated self.old }
         ensures granted { Self.Meter.granted self.new ≡ Self.Meter.granted self.old }
         ensures dry { Self.Meter.dry self.new ≡ Self.Meter.dry self.old };

@@ -20,5 +20,5 @@ mod turning;
 pub use beginning::Begun;
 pub use carrying::carry;
 pub use ends::{Carried, End};
-pub use front::{Counts, Decided, Front, Opened, SitFault};
+pub use front::{CloseFault, Counts, Decided, Front, Opened, SitFault};
 pub use sessions::{SessionEnd, session};

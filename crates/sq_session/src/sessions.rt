@@ -44,8 +44,9 @@ pub fn session<R: Threads + Wait + Sync, I: Source + Send, O: Out, F: Front, D: 
 ) -> SessionEnd
     requires dry { F.Meter.dry front.old ≡ 0 }
     requires unseated { F.Meter.seated front.old ≡ false }
+    // The front is opened for this address and port, asked about each request that came, and closed where it was opened.
     // What was written is what the turns of the input give, with the front's answers and the origins' bytes.
-    ensures told { SessionTold addr (to_come I.left client.old) (D.dialled dialer.old) (D.dialled dialer.new) (F.stands front.old) (F.stands front.new)
+    ensures told { SessionTold addr port (to_come I.left client.old) (D.dialled dialer.old) (D.dialled dialer.new) (F.stands front.old) (F.stands front.new)
         (O.Sink.contents to.old) (O.Sink.contents to.new) (Rose (D.faults dialer.old) (D.faults dialer.new))
         (F.Meter.granted front.old) (F.Meter.granted front.new) result.why }
     ensures requests { result.requests ≡ F.asked front.new - F.asked front.old }
@@ -84,7 +85,7 @@ fn open<R: Threads + Wait + Sync, I: Source + Send, O: Out, F: Front, D: Dialer>
 ) -> End
     requires dry { F.Meter.dry front.old ≡ 0 }
     requires unseated { F.Meter.seated front.old ≡ false }
-    ensures told { SessionTold addr (to_come I.left client.old) (D.dialled dialer.old) (D.dialled dialer.new) (F.stands front.old) (F.stands front.new)
+    ensures told { SessionTold addr port (to_come I.left client.old) (D.dialled dialer.old) (D.dialled dialer.new) (F.stands front.old) (F.stands front.new)
         (O.Sink.contents to.old) (O.Sink.contents to.new) (Rose (D.faults dialer.old) (D.faults dialer.new))
         (F.Meter.granted front.old) (F.Meter.granted front.new) result }
     ensures cause { SessionHasCause (Rose (I.faults client.old.source) (I.faults client.new.source) ⊎ Rose (O.Sink.faults to.old) (O.Sink.faults to.new))
@@ -99,7 +100,7 @@ fn open<R: Threads + Wait + Sync, I: Source + Send, O: Out, F: Front, D: Dialer>
     match front.open(alloc, addr, port) {
         Opened::In => {
             let why = serve(rt, alloc, client, to, addr, front, dialer);
-            front.close();
+            let _closed = front.close();
             why
         }
         Opened::Full => refuse(alloc, to, Own::TooManyConns),

@@ -1,7 +1,6 @@
 //! `LockHub`: the engine and the pools behind their locks, as one connection sees them.
-ghost use Rattle.std.specs.Prelude.{◌≡◌, ◌≤◌, ◌<◌, ◌+◌, ◌-◌, ◌^◌, min, None};
+ghost use Rattle.std.specs.Prelude.{◌≡◌, ◌≤◌, ◌<◌, ◌+◌, ◌-◌, min, None};
 ghost use Rattle.sq_outside.specs.Causes.{count_limit, raised};
-ghost use Rattle.sq_room.specs.Books.{SharesMade};
 ghost use Rattle.sq_work.specs.HubFaults.{hub_fault, hub_gave};
 
 use sq_bank::Bank;

@@ -1,5 +1,5 @@
 //! Workers, one after another in halves.
-ghost use Rattle.std.specs.Prelude.{◌≡◌, ◌+◌, ◌<◌, ◌≤◌, ◌^◌};
+ghost use Rattle.std.specs.Prelude.{◌≡◌, ◌+◌, ◌<◌, ◌^◌};
 ghost use Rattle.std.specs.Thread.{IsSend, IsSync};
 
 use crate::attending::attend;

@@ -9,7 +9,7 @@ use sq_facts::read_facts;
 use sq_forward::Meter;
 use sq_outside::COUNT_LIMIT;
 use sq_rules::{Refusal, Sight, Value};
-use sq_session::{Counts, Decided, Front, Opened, SitFault};
+use sq_session::{CloseFault, Counts, Decided, Front, Opened, SitFault};
 use std::alloc::Global;
 use std::sync::Arc;
 
@@ -280,7 +280,9 @@ impl Front for MemFront {
         self.seated = false;
     }
 
-    fn close(&mut self) {}
+    fn close(&mut self) -> Result<(), CloseFault> {
+        Ok(())
+    }
 
     fn counted(&self) -> Counts {
         Counts {

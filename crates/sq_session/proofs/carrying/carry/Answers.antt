@@ -20,8 +20,8 @@ returns-then-not-is_served-clause-dialled g c = was_told _
 
 pub returns-in-Err-Spent-clause-told : goal.returns-in-Err-Spent-clause-told
 returns-in-Err-Spent-clause-told g c =
-    carries_unseated c.args.sent.now c.args.addr c.args.plan c.args.judged.now (OfSit (Err sit.Spent) ∷ []) Inner (sym c.is_served.ensures ∙ c.if-not-is_served.false) (λ rest. refl)
-    (subst (λ e. (list : List FrontTold) → g.F.Front.stands c.args.front.now list → g.F.Front.stands c.sit.new.self (list ++ OfSit (Err e) ∷ [])) c.in-Err-Spent.field-0-is c.in-Err-Spent.ensures.told)
+    carries_unseated c.args.sent.now c.args.addr c.args.plan c.args.judged.now (OfSit c.args.judged.now (Err sit.Spent) ∷ []) Inner (sym c.is_served.ensures ∙ c.if-not-is_served.false) (λ rest. refl) refl
+    (subst (λ e. (list : List FrontTold) → g.F.Front.stands c.args.front.now list → g.F.Front.stands c.sit.new.self (list ++ OfSit c.args.judged.now (Err e) ∷ [])) c.in-Err-Spent.field-0-is c.in-Err-Spent.ensures.told)
     (tells_as Inner c.is_head-in-Err-Spent.result _ c.is_head-in-Err-Spent.ensures c.say-in-Err-Spent.ensures.tells) (g.met.F.Meter.capped c.args.front.now) c.in-Err-Spent.ensures.granted
 
 pub returns-in-Err-Spent-clause-cause : goal.returns-in-Err-Spent-clause-cause
@@ -32,8 +32,8 @@ returns-in-Err-Spent-clause-dialled g c = was_told _
 
 pub returns-in-Err-WantOfMemory-clause-told : goal.returns-in-Err-WantOfMemory-clause-told
 returns-in-Err-WantOfMemory-clause-told g c =
-    carries_unseated c.args.sent.now c.args.addr c.args.plan c.args.judged.now (OfSit (Err sit.WantOfMemory) ∷ []) NoMemory (sym c.is_served.ensures ∙ c.if-not-is_served.false) (λ rest. refl)
-    (subst (λ e. (list : List FrontTold) → g.F.Front.stands c.args.front.now list → g.F.Front.stands c.sit.new.self (list ++ OfSit (Err e) ∷ [])) c.in-Err-WantOfMemory.field-0-is c.in-Err-WantOfMemory.ensures.told)
+    carries_unseated c.args.sent.now c.args.addr c.args.plan c.args.judged.now (OfSit c.args.judged.now (Err sit.WantOfMemory) ∷ []) NoMemory (sym c.is_served.ensures ∙ c.if-not-is_served.false) (λ rest. refl) refl
+    (subst (λ e. (list : List FrontTold) → g.F.Front.stands c.args.front.now list → g.F.Front.stands c.sit.new.self (list ++ OfSit c.args.judged.now (Err e) ∷ [])) c.in-Err-WantOfMemory.field-0-is c.in-Err-WantOfMemory.ensures.told)
     (tells_as NoMemory c.is_head-in-Err-WantOfMemory.result _ c.is_head-in-Err-WantOfMemory.ensures c.say-in-Err-WantOfMemory.ensures.tells) (g.met.F.Meter.capped c.args.front.now) c.in-Err-WantOfMemory.ensures.granted
 
 pub returns-in-Err-WantOfMemory-clause-cause : goal.returns-in-Err-WantOfMemory-clause-cause

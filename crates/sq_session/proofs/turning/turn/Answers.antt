@@ -14,13 +14,13 @@ pub returns-in-Asks-clause-cause : goal.returns-in-Asks-clause-cause
 returns-in-Asks-clause-cause g c = cause_later _ _ _ _ _ c.answer.result c.in-Asks.ensures.later c.answer.ensures.cause
 
 pub returns-in-Nothing-clause-told : goal.returns-in-Nothing-clause-told
-returns-in-Nothing-clause-told g c = takes_none c.args.addr begun.Nothing Closes (λ rest. refl) (λ e. cc) (g.met.F.Meter.capped c.args.front.now) c.in-Nothing.ensures.begins
+returns-in-Nothing-clause-told g c = takes_none c.args.addr begun.Nothing Closes (λ rest. refl) (λ e. cc) (λ e. cc) (g.met.F.Meter.capped c.args.front.now) c.in-Nothing.ensures.begins
 
 pub returns-in-Nothing-clause-dialled : goal.returns-in-Nothing-clause-dialled
 returns-in-Nothing-clause-dialled g c = was_told _
 
 pub returns-in-Cut-clause-told : goal.returns-in-Cut-clause-told
-returns-in-Cut-clause-told g c = takes_none c.args.addr begun.Cut (Over end.Cut) (λ rest. refl) (λ e. cc) (g.met.F.Meter.capped c.args.front.now) c.in-Cut.ensures.begins
+returns-in-Cut-clause-told g c = takes_none c.args.addr begun.Cut (Over end.Cut) (λ rest. refl) (λ e. cc) (λ e. cc) (g.met.F.Meter.capped c.args.front.now) c.in-Cut.ensures.begins
 
 pub returns-in-Cut-clause-dialled : goal.returns-in-Cut-clause-dialled
 returns-in-Cut-clause-dialled g c = was_told _
@@ -46,7 +46,7 @@ pub returns-in-Bad-clause-dialled : goal.returns-in-Bad-clause-dialled
 returns-in-Bad-clause-dialled g c = was_told _
 
 pub returns-in-Failed-clause-told : goal.returns-in-Failed-clause-told
-returns-in-Failed-clause-told g c = takes_none c.args.addr begun.Failed (Over end.ClientFault) (λ rest. refl) (λ e. cc) (g.met.F.Meter.capped c.args.front.now) c.in-Failed.ensures.begins
+returns-in-Failed-clause-told g c = takes_none c.args.addr begun.Failed (Over end.ClientFault) (λ rest. refl) (λ e. cc) (λ e. cc) (g.met.F.Meter.capped c.args.front.now) c.in-Failed.ensures.begins
 
 pub returns-in-Failed-clause-cause : goal.returns-in-Failed-clause-cause
 returns-in-Failed-clause-cause g c = inl (c.in-Failed.ensures.cause refl)
