@@ -1,0 +1,5 @@
+import sys
+
+from aclproxyctl.cli import main
+
+sys.exit(main())

@@ -1,0 +1,40 @@
+"""What systemd is told of a service, over the socket that NOTIFY_SOCKET names."""
+
+import os
+import socket
+import time
+
+
+class Notifier:
+    """Tells systemd; nothing where it does not listen. A message that does not arrive stops nobody."""
+
+    def __init__(self) -> None:
+        # Helpers are not to speak for the service.
+        name = os.environ.pop("NOTIFY_SOCKET", "")
+        self.address = "\0" + name[1:] if name.startswith("@") else name
+        self.watched = os.environ.pop("WATCHDOG_USEC", "") != ""
+
+    def tell(self, *lines: str) -> None:
+        if not self.address:
+            return
+        try:
+            with socket.socket(socket.AF_UNIX, socket.SOCK_DGRAM | socket.SOCK_CLOEXEC) as to:
+                to.sendto("\n".join(lines).encode(), self.address)
+        except OSError:
+            pass
+
+    def ready(self, status: str) -> None:
+        self.tell("READY=1", f"STATUS={status}", f"MAINPID={os.getpid()}")
+
+    def status(self, status: str) -> None:
+        self.tell(f"STATUS={status}")
+
+    def reloading(self) -> None:
+        self.tell("RELOADING=1", f"MONOTONIC_USEC={time.clock_gettime_ns(time.CLOCK_MONOTONIC) // 1000}", "STATUS=reading the configuration again")
+
+    def stopping(self) -> None:
+        self.tell("STOPPING=1", "STATUS=ending; open connections go on to their end")
+
+    def alive(self) -> None:
+        if self.watched:
+            self.tell("WATCHDOG=1")

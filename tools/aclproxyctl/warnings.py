@@ -1,0 +1,144 @@
+"""Rules that can be passed in a way that surprises."""
+
+import re
+import time
+from dataclasses import dataclass
+from typing import Iterator, Optional
+
+from aclproxyctl.confs import PREDEFINED, Conf, Line
+
+GROUPS = (b"any-of", b"all-of")
+
+
+@dataclass(frozen=True)
+class Warned:
+    """A line, and what is to be known of it."""
+
+    line: Line
+    text: str
+
+
+class Lists:
+    """Which lists a file states, with their types and lines."""
+
+    def __init__(self, conf: Conf) -> None:
+        self.types: dict[bytes, bytes] = dict(PREDEFINED)
+        self.lines: dict[bytes, list[Line]] = {}
+        for line in conf.lines:
+            if line.words[:1] == [b"acl"] and len(line.words) > 2:
+                self.types.setdefault(line.words[1], line.words[2])
+                self.lines.setdefault(line.words[1], []).append(line)
+
+    def reached(self, terms: list[bytes]) -> dict[bytes, bool]:
+        """The lists of values that these terms reach, each with whether it is reached without `!` in some place."""
+        found: dict[bytes, bool] = {}
+        seen: set[tuple[bytes, bool]] = set()
+        work = [(term, True) for term in terms]
+        while work:
+            term, plain = work.pop()
+            name = term.lstrip(b"!")
+            plain = plain != term.startswith(b"!")
+            if (name, plain) in seen or name not in self.types:
+                continue
+            seen.add((name, plain))
+            if self.types[name] in GROUPS:
+                for line in self.lines.get(name, []):
+                    work.extend((member, plain) for member in line.words[3:])
+            else:
+                found[name] = found.get(name, False) or plain
+        return found
+
+
+def zone_offset() -> int:
+    """By how many minutes the machine's local time is ahead of UTC now."""
+    return time.localtime().tm_gmtoff // 60
+
+
+def case_is_on(line: Line) -> bool:
+    """Whether some pattern of the line has letters and regards their case."""
+    fold = False
+    for word in line.words[3:]:
+        if word in (b"-i", b"+i"):
+            fold = word == b"-i"
+        elif not fold and b"(?i)" not in word and any(97 <= byte <= 122 for byte in word.split(b"://")[-1]):
+            return True
+    return False
+
+
+def has_bare_dot(line: Line) -> bool:
+    """Whether some pattern of the line has a `.` that stands for a character and not for every byte."""
+    for word in line.words[3:]:
+        bare = re.sub(rb"\[\^?\]?[^\]]*\]", b"", re.sub(rb"\\.", b"", word))
+        if b"." in bare and not bare.startswith((b"(?s-u)", b"(?-us)", b'"')):
+            return True
+    return False
+
+
+def of_lines(conf: Conf, lists: Lists) -> Iterator[Warned]:
+    for line in conf.lines:
+        if line.words[:1] == [b"acl"] and line.words[2:3] == [b"url_regex"]:
+            for word in line.words[3:]:
+                if word.startswith(b'"'):
+                    name = word.decode("utf-8", "replace")
+                    yield Warned(line, f"{name} is a pattern here, and not the name of a file: write the patterns of that file")
+
+
+def of_rules(conf: Conf, lists: Lists, looked_up: bool) -> Iterator[Warned]:
+    told: set[str] = set()
+    for line in conf.rules:
+        if len(line.words) < 3 or line.words[1] not in (b"allow", b"deny"):
+            continue
+        reached = lists.reached(line.words[2:])
+        # What a denial needs to hold, and what an allowance needs not to: there a list that does not hold lets a request pass.
+        keeps_out = {name for name, plain in reached.items() if plain == (line.words[1] == b"deny")}
+        by_type: dict[bytes, list[bytes]] = {}
+        for name in sorted(keeps_out):
+            by_type.setdefault(lists.types[name], []).append(name)
+        names = ", ".join(name.decode("utf-8", "replace") for name in by_type.get(b"dst", []))
+        if names and not looked_up:
+            yield Warned(
+                line,
+                f"{names} of type dst holds of hosts that are written as addresses: who writes a name, as `localhost` or one of their "
+                "own that stands for such an address, passes. Put `dst_lookup on` first in the file, where the program knows it",
+            )
+        for kind, seen in ((b"dstdomain", "the name that the client gives for the tunnel is seen: what is asked for inside is not"),
+                           (b"url_regex", "host and port are seen, as `host:443`: a pattern over a path or `https://` never holds")):
+            if kind in by_type and kind.decode() not in told:
+                told.add(kind.decode())
+                listed = ", ".join(name.decode("utf-8", "replace") for name in by_type[kind])
+                if listed == "manager":
+                    told.discard(kind.decode())
+                    continue
+                also = " A host that is written as an address has no name that could match." if kind == b"dstdomain" else ""
+                yield Warned(line, f"{listed} of type {kind.decode()} keeps requests out; of https only {seen}.{also}")
+        for name in by_type.get(b"url_regex", []):
+            for where in lists.lines.get(name, []):
+                if has_bare_dot(where) and f"dot {where.number}" not in told:
+                    told.add(f"dot {where.number}")
+                    yield Warned(where, "`.` stands for a character, and neither for a line feed nor for a byte outside of UTF-8: who asks with "
+                                 "%0A or %FF in that place passes. Begin the pattern with (?s-u), and `.` stands for each byte")
+                if case_is_on(where) and f"case {where.number}" not in told:
+                    told.add(f"case {where.number}")
+                    yield Warned(where, "the target is looked at as it was sent, and a host may be sent in capitals: put -i in front, "
+                                 "since a rule keeps requests out by this list")
+
+
+def of_times(lists: Lists, offset: Optional[int]) -> Iterator[Warned]:
+    here = zone_offset()
+    if offset is not None or here == 0:
+        return
+    for name, lines in lists.lines.items():
+        if lists.types[name] == b"time":
+            yield Warned(
+                lines[0],
+                f"hours and days are those of UTC unless `serve` is told otherwise, and this machine is {here:+d} minutes from it: start it "
+                f"with --utc-offset {here}, or by `aclproxyctl run --offset-from-zone`",
+            )
+            return
+
+
+def of_conf(conf: Conf, offset: Optional[int], looked_up: bool) -> list[Warned]:
+    """All warnings of a file, in the order of its lines."""
+    lists = Lists(conf)
+    found = [*of_lines(conf, lists), *of_rules(conf, lists, looked_up), *of_times(lists, offset)]
+    return sorted(found, key=lambda warned: warned.line.number)

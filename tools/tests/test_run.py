@@ -1,0 +1,376 @@
+"""run: a service under systemd's socket, with its orders, its runs and its ends; and what log, verify and status say of them."""
+
+import contextlib
+import http.client
+import http.server
+import os
+import random
+import re
+import signal
+import socket
+import subprocess
+import sys
+import threading
+import time
+from pathlib import Path
+from typing import Callable, Iterator, Optional
+
+from aclproxyctl.notify import Notifier
+from tests.common import LAUNCHER, PROGRAM, InFolder, ctl, needs_program
+
+CONF = [
+    "# Which paths are denied, and by which rule.",
+    "acl games dstdomain .games.example",
+    "acl odd url_regex /odd/",
+    "acl posts method POST",
+    "acl even url_regex /even/",
+    "http_access deny games",
+    "http_access deny odd !even",
+    "http_access allow posts",
+    "http_access allow localhost even",
+    "http_access deny all",
+]
+TIME = 20.0
+
+
+def free_port() -> int:
+    """A port at which nobody listens, outside of those that the system gives to clients."""
+    while True:
+        port = random.randrange(20000, 30000)
+        with socket.socket() as listener, contextlib.suppress(OSError):
+            listener.bind(("0.0.0.0", port))
+            return port
+
+
+def has_ended(process: int) -> bool:
+    """Whether a process is gone, or waits for nothing but its parent's look at its status."""
+    try:
+        return ") Z " in Path(f"/proc/{process}/stat").read_text()
+    except FileNotFoundError:
+        return True
+
+
+def wait_for(condition: Callable[[], bool]) -> None:
+    deadline = time.monotonic() + TIME
+    while not condition():
+        if time.monotonic() > deadline:
+            raise AssertionError("it has not come about")
+        time.sleep(0.02)
+
+
+class Origin(http.server.BaseHTTPRequestHandler):
+    """An origin that says hello to everything."""
+
+    protocol_version = "HTTP/1.1"
+
+    def do_GET(self) -> None:
+        self.send_response(200)
+        self.send_header("Content-Length", "5")
+        self.end_headers()
+        self.wfile.write(b"hello")
+
+    do_POST = do_GET
+
+    def log_message(self, format: str, *args: object) -> None:
+        pass
+
+
+@contextlib.contextmanager
+def origin() -> Iterator[int]:
+    with http.server.ThreadingHTTPServer(("127.0.0.1", 0), Origin) as server:
+        server.daemon_threads = True
+        thread = threading.Thread(target=server.serve_forever, kwargs={"poll_interval": 0.05})
+        thread.start()
+        try:
+            yield int(server.server_address[1])
+        finally:
+            server.shutdown()
+            thread.join()
+
+
+class Service:
+    """The tool's `run` under a socket as systemd's."""
+
+    def __init__(self, folder: Path, conf: str, *options: str, abstract: bool = False, port: Optional[int] = None) -> None:
+        self.port = port or free_port()
+        self.journal = folder / "journal"
+        self.socket = socket.socket(socket.AF_UNIX, socket.SOCK_DGRAM)
+        name = f"@aclproxyctl-test-{os.getpid()}-{self.port}" if abstract else str(folder / "notify")
+        if not abstract and os.path.exists(name):
+            os.unlink(name)
+        self.socket.bind("\0" + name[1:] if abstract else name)
+        self.socket.settimeout(TIME)
+        self.errors = open(folder / "errors", "wb")
+        self.folder = folder
+        self.process = subprocess.Popen(
+            [sys.executable, str(LAUNCHER), "run", conf, "--port", str(self.port), "--journal", str(self.journal), *options],
+            stdin=subprocess.DEVNULL, stdout=subprocess.DEVNULL, stderr=self.errors,
+            env={**os.environ, "NOTIFY_SOCKET": name, "TZ": "UTC"},
+        )
+
+    def __enter__(self) -> "Service":
+        return self
+
+    def __exit__(self, *fault: object) -> None:
+        if self.process.poll() is None:
+            self.process.kill()
+            self.process.wait()
+        self.errors.close()
+        self.socket.close()
+
+    def told(self, key: str) -> dict[str, str]:
+        """The next message to systemd that has this key."""
+        while True:
+            try:
+                lines = self.socket.recv(4096).decode().split("\n")
+            except TimeoutError:
+                raise AssertionError(f"no message with {key}; status {self.process.poll()}; said {self.said()}") from None
+            message = dict(line.split("=", 1) for line in lines)
+            if key in message:
+                return message
+
+    def ended(self) -> int:
+        return self.process.wait(TIME)
+
+    def said(self) -> str:
+        return (self.folder / "errors").read_text()
+
+    def runs(self) -> list[Path]:
+        return sorted(self.journal.iterdir())
+
+    def child(self, name: str) -> int:
+        """The process of this name that the service started."""
+        listed = Path(f"/proc/{self.process.pid}/task/{self.process.pid}/children").read_text().split()
+        for number in listed:
+            if Path(f"/proc/{number}/comm").read_text().strip() == name:
+                return int(number)
+        raise AssertionError(f"no child {name} among {listed}")
+
+    def get(self, target: str, method: str = "GET") -> tuple[int, bytes]:
+        connection = http.client.HTTPConnection("127.0.0.1", self.port, timeout=TIME)
+        connection.request(method, target)
+        reply = connection.getresponse()
+        body = reply.read()
+        connection.close()
+        return reply.status, body
+
+
+@needs_program
+class Run(InFolder):
+    def test_reload_and_stop(self) -> None:
+        conf = self.file("conf", ["http_access deny all"])
+        with Service(self.folder, conf, abstract=True) as service:
+            ready = service.told("READY")
+            self.assertEqual((ready["READY"], ready["STATUS"]), ("1", f"listening at port {service.port}"))
+            self.assertEqual(service.get("http://a.example/"), (403, b"denied rule 1\n"))
+
+            self.file("conf", ["acl a dstdomain a.example", "http_access allow !a", "http_access deny a"])
+            before = time.clock_gettime_ns(time.CLOCK_MONOTONIC) // 1000
+            service.process.send_signal(signal.SIGHUP)
+            reloading = service.told("RELOADING")
+            self.assertEqual(reloading["RELOADING"], "1")
+            self.assertLessEqual(before, int(reloading["MONOTONIC_USEC"]))
+            self.assertEqual(service.told("READY")["STATUS"], "configuration 2 of this run")
+            self.assertEqual(service.get("http://a.example/"), (403, b"denied rule 2\n"))
+
+            self.file("conf", ["http_access allow all", "acl a src x"])
+            service.process.send_signal(signal.SIGHUP)
+            service.told("RELOADING")
+            self.assertEqual(service.told("READY")["STATUS"], "the configuration stays as it was")
+            self.assertEqual(service.get("http://a.example/"), (403, b"denied rule 2\n"))
+            self.assertIn(f"{conf}:2: `x` is no address: names of hosts are not looked up here: acl a src x\n", service.said())
+
+            os.unlink(conf)
+            service.process.send_signal(signal.SIGHUP)
+            service.told("RELOADING")
+            service.told("READY")
+            self.assertIn("there is no such file\n", service.said())
+
+            service.process.send_signal(signal.SIGTERM)
+            self.assertEqual(service.told("STOPPING")["STOPPING"], "1")
+            self.assertEqual(service.ended(), 0)
+            self.assertIn("the server has ended with status 0: it was ordered to end\n", service.said())
+
+            (run,) = service.runs()
+            for path, mode in ((service.journal, 0o700), (run, 0o700), *((file, 0o600) for file in run.iterdir())):
+                self.assertEqual(oct(path.stat().st_mode & 0o777), oct(mode), str(path))
+            self.assertEqual((run / "squid.conf").read_text(), "http_access deny all\n")
+        verified = ctl("verify", str(service.journal))
+        self.assertEqual((verified.status, verified.err), (0, ""))
+        # The begin, five entries for each of three requests with a connection of their own, and one reconfiguration.
+        self.assertIn("verified: each of its 17 entries is the machine's", verified.out)
+        rules = [line.split(" text/plain ")[1] for line in ctl("log", "--rule", str(service.journal)).out.splitlines()]
+        self.assertEqual(rules, ["rule 1: http_access deny all", "rule 2: http_access deny a", "rule 2: http_access deny a"])
+        state = ctl("status", str(service.journal)).out
+        self.assertRegex(state, r"(?m)^requests: +3: 0 allowed, 3 denied, of these 0 by a fault of a helper$")
+        self.assertRegex(state, r"(?m)^configuration: +number 2, since ")
+        self.assertRegex(state, r"(?m)^connections: +0 open$")
+
+    def test_a_thousand_requests(self) -> None:
+        """Their log has the verdicts that replay gives to them, over pieces and runs."""
+        conf = self.file("conf", CONF)
+        asked: list[tuple[str, str]] = []
+        with origin() as port, Service(self.folder, conf, "--piece-lines", "700", "--run-bytes", "120000", "--grace", "15") as service:
+            service.told("READY")
+            kinds = ("games", "odd", "even", "post", "none")
+            for number in range(1000):
+                kind = kinds[number * number % 5 if number % 3 else number % 5]
+                host = "www.games.example" if kind == "games" else f"127.0.0.1:{port}"
+                method = "POST" if kind == "post" else "GET"
+                asked.append((method, f"http://{host}/{kind}/{number}%20x"))
+                for attempt in range(200):
+                    # Between two runs nobody listens.
+                    try:
+                        status, body = service.get(asked[-1][1], method)
+                        break
+                    except OSError:
+                        time.sleep(0.05)
+                self.assertIn(status, (200, 403))
+                self.assertTrue(status == 403 or body == b"hello")
+            service.process.send_signal(signal.SIGTERM)
+            self.assertEqual(service.ended(), 0)
+            runs = service.runs()
+        self.assertGreater(len(runs), 1, "no new run has begun")
+        self.assertGreater(sum(len(list(run.glob("journal.*"))) for run in runs), len(runs), "no second piece was begun")
+        script = []
+        for number, (method, target) in enumerate(asked, 1):
+            escaped = target.replace("%", "%25")
+            script += [f"0 open {number} 127.0.0.1 1", f"0 ask {number} {method} {escaped}", f"0 step {number}", f"0 take {number}"]
+        replayed = subprocess.run([PROGRAM, "replay", conf, self.file("script", script)], capture_output=True, text=True, timeout=60)
+        self.assertEqual(replayed.returncode, 0)
+        wanted = [line.split(" => epoch 1 ")[1] for line in replayed.stdout.splitlines() if " take " in line]
+        self.assertEqual(len(wanted), 1000)
+        self.assertEqual({word: sum(text.startswith(word) for text in wanted) > 100 for word in ("allowed", "denied")}, {"allowed": True, "denied": True})
+        logged = ctl("log", "--rule", str(service.journal))
+        self.assertEqual((logged.status, logged.err), (0, ""))
+        got = []
+        for line, (method, target) in zip(logged.out.splitlines(), asked):
+            fields = line.split()
+            self.assertEqual((fields[2], fields[5], fields[6]), ("127.0.0.1", method, target))
+            verdict = {"TCP_DENIED/403": "denied", "TCP_MISS/-": "allowed"}[fields[3]]
+            rule = re.search(r" rule ([0-9]+): ", line)
+            assert rule is not None
+            got.append(f"{verdict} rule {rule.group(1)}")
+        self.assertEqual(len(logged.out.splitlines()), 1000)
+        self.assertEqual(got, wanted)
+        self.assertEqual(len(ctl("log", "--denied", str(service.journal)).out.splitlines()), sum(text.startswith("denied") for text in wanted))
+        verified = ctl("verify", str(service.journal))
+        self.assertEqual((verified.status, verified.out.count("verified: each of its")), (0, len(runs)))
+
+    def hold(self, service: Service) -> socket.socket:
+        """A connection that stays open."""
+        held = socket.create_connection(("127.0.0.1", service.port), TIME)
+        held.sendall(b"GET http://a.example/ HTTP/1.1\r\nHost: a.example\r\n\r\n")
+        self.assertIn(b"denied rule 1\n", held.recv(4096))
+        return held
+
+    def test_second_signal(self) -> None:
+        conf = self.file("conf", ["http_access deny all"])
+        with Service(self.folder, conf, "--grace", "1000") as service:
+            service.told("READY")
+            with self.hold(service):
+                service.process.send_signal(signal.SIGINT)
+                service.told("STOPPING")
+                time.sleep(0.3)
+                self.assertIsNone(service.process.poll())
+                service.process.send_signal(signal.SIGINT)
+                self.assertEqual(service.ended(), 128 + signal.SIGTERM)
+        self.assertEqual(ctl("verify", str(service.journal)).status, 0)
+
+    def test_grace(self) -> None:
+        conf = self.file("conf", ["http_access deny all"])
+        with Service(self.folder, conf, "--grace", "1") as service:
+            service.told("READY")
+            with self.hold(service):
+                service.process.send_signal(signal.SIGTERM)
+                self.assertEqual(service.ended(), 128 + signal.SIGTERM)
+        self.assertIn("connections are still open after 1 seconds", service.said())
+
+    def test_new_run_over_a_held_connection(self) -> None:
+        """It is cut after the grace, and the new run serves by the rules that were current."""
+        conf = self.file("conf", ["http_access deny all"])
+        with Service(self.folder, conf, "--grace", "1", "--run-bytes", "1500") as service:
+            service.told("READY")
+            self.file("conf", ["acl a src all", "http_access deny a"])
+            service.process.send_signal(signal.SIGHUP)
+            service.told("RELOADING")
+            service.told("READY")
+            # What is in the file at the start of the new run was not asked for, and would not be accepted.
+            self.file("conf", ["nothing"])
+            with self.hold(service) as held:
+                for _ in range(5):
+                    held.sendall(b"GET http://a.example/ HTTP/1.1\r\nHost: a.example\r\nX: " + b"x" * 200 + b"\r\n\r\n")
+                    self.assertIn(b"denied rule 1\n", held.recv(4096))
+                self.assertEqual(service.told("READY")["STATUS"], f"listening at port {service.port}")
+            service.process.send_signal(signal.SIGTERM)
+            self.assertEqual(service.ended(), 0)
+            first, second, *_ = service.runs()
+        self.assertIn("connections are still open after 1 seconds", service.said())
+        self.assertEqual((second / "squid.conf").read_text(), "acl a src all\nhttp_access deny a\n")
+        self.assertEqual(ctl("verify", str(service.journal)).status, 0)
+
+    def test_new_run_while_nobody_is_connected(self) -> None:
+        """From half of the size on it begins as soon as nobody is connected, and cuts nothing."""
+        conf = self.file("conf", ["http_access deny all"])
+        with Service(self.folder, conf, "--grace", "1000", "--run-bytes", "1500") as service:
+            service.told("READY")
+            with self.hold(service) as held:
+                for _ in range(2):
+                    held.sendall(b"GET http://a.example/ HTTP/1.1\r\nHost: a.example\r\nX: " + b"x" * 200 + b"\r\n\r\n")
+                    self.assertIn(b"denied rule 1\n", held.recv(4096))
+                # More than a second, in which the size is looked at.
+                time.sleep(1.5)
+                self.assertEqual(len(service.runs()), 1)
+            self.assertEqual(service.told("READY")["STATUS"], f"listening at port {service.port}")
+            self.assertRegex(service.said(), "the journal has [0-9,]+ bytes, and nobody is connected: a new run begins")
+            service.process.send_signal(signal.SIGTERM)
+            self.assertEqual(service.ended(), 0)
+            self.assertEqual(len(service.runs()), 2)
+
+    def test_supervisor_that_is_killed(self) -> None:
+        """The server reads the end of its orders and ends, and nothing of its journal is lost."""
+        conf = self.file("conf", ["http_access deny all"])
+        with Service(self.folder, conf) as service:
+            service.told("READY")
+            self.assertEqual(service.get("http://a.example/")[0], 403)
+            children = [service.child("split"), service.child(Path(PROGRAM).name[:15])]
+            service.process.kill()
+            service.process.wait()
+            wait_for(lambda: all(has_ended(child) for child in children))
+        verified = ctl("verify", str(service.journal))
+        self.assertIn("verified: each of its 6 entries is the machine's", verified.out)
+
+    def test_journal_that_fails(self) -> None:
+        conf = self.file("conf", ["http_access deny all"])
+        with Service(self.folder, conf) as service:
+            service.told("READY")
+            split = service.child("split")
+            os.kill(split, signal.SIGKILL)
+            wait_for(lambda: has_ended(split))
+            self.assertEqual(service.get("http://a.example/"), (500, b"journal stopped\n"))
+            self.assertEqual(service.ended(), 6)
+        self.assertIn("the server has ended with status 6: the journal could not be written\n", service.said())
+
+    def test_starts_that_fail(self) -> None:
+        with Service(self.folder, self.file("conf", ["acl web port 80x"])) as service:
+            self.assertEqual(service.ended(), 2)
+            # A start that came to nothing leaves nothing.
+            self.assertEqual(service.runs(), [])
+            self.assertIn("the server has ended with status 2: " + str(self.folder / "conf") + ":1: `80x` is no port: acl web port 80x\n", service.said())
+        with socket.socket() as taken:
+            taken.bind(("0.0.0.0", 0))
+            taken.listen()
+            with Service(self.folder, self.file("conf", ["http_access deny all"]), port=int(taken.getsockname()[1])) as service:
+                self.assertEqual(service.ended(), 9)
+                self.assertIn("status 9: the port is taken or may not be opened", service.said())
+        with Service(self.folder, str(self.folder / "none")) as service:
+            self.assertEqual(service.ended(), 66)
+            self.assertIn("none: there is no such file\n", service.said())
+        with Service(self.folder, self.file("conf", ["http_access deny all"]), "--journal", str(self.folder / "conf")) as service:
+            self.assertNotEqual(service.ended(), 0)
+            self.assertNotIn("Traceback", service.said())
+
+    def test_helpers_do_not_speak_for_the_service(self) -> None:
+        os.environ["NOTIFY_SOCKET"] = "@x"
+        self.assertEqual(Notifier().address, "\0x")
+        self.assertNotIn("NOTIFY_SOCKET", os.environ)
