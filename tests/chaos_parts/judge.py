@@ -1,0 +1,266 @@
+"""Compares what clients and origins got with what the journal says of each request, and the bytes of pools with their buckets."""
+
+import hashlib
+import json
+from collections import Counter, defaultdict
+from dataclasses import dataclass
+from functools import lru_cache
+from typing import Any
+
+from .model import Configuration, read_target
+from .oracle import Oracle, Verdict
+from .replies import CONTINUE, Sent, denial, head_at_origin, own, plan_of, reply
+
+
+@lru_cache(maxsize=64)
+def digest_of(bytes_: bytes) -> str:
+    return hashlib.blake2b(bytes_, digest_size=16).hexdigest()
+
+
+@dataclass
+class Wanted:
+    """What a client has to get: these bytes, then the end of the connection or not; and whether they are an origin's reply."""
+
+    bytes_: bytes
+    closes: bool
+    from_origin: bool
+    is_loose: bool = False
+
+
+class Judge:
+    def __init__(self, oracle: Oracle, nobody: int, started: float) -> None:
+        self.oracle = oracle
+        self.nobody = nobody
+        self.started = started  # by the clock, before the server was
+        self.wrong: list[tuple[str, str]] = []  # what is wrong, and the request's identity
+        self.counts: Counter[str] = Counter()
+        self.sent: dict[str, tuple[Sent, str]] = {}
+        self.left: set[str] = set()  # requests that an origin left before it had written its reply, since that took too long
+        self.from_origin: set[str] = set()
+        self.of_bucket: defaultdict[tuple[int, tuple[int, int, int]], list[Sent]] = defaultdict(list)
+        self.limits: dict[tuple[int, tuple[int, int, int]], tuple[int, int]] = {}
+        self.fullest = 0.0
+
+    def odd(self, what: str, identity: str) -> None:
+        self.wrong.append((what, identity))
+
+    def wanted(self, sent: Sent, verdict: Verdict) -> Wanted:
+        if not verdict.outcome.startswith("allowed"):
+            bytes_, closes = denial(sent, verdict.outcome)
+            return Wanted(bytes_, closes, False)
+        target = read_target(sent.method, sent.target)
+        if sent.method != "CONNECT" and target.scheme != "http":
+            return Wanted(own("501 Not Implemented", "not implemented", False, sent.method), True, False)
+        if target.port == self.nobody:
+            return Wanted(own("502 Bad Gateway", "bad gateway", False, sent.method), True, False)
+        if sent.method == "CONNECT":
+            return Wanted(b"HTTP/1.1 200 Connection established\r\n\r\n", True, False)
+        if not sent.whole:
+            return Wanted(b"", True, False)
+        plan = plan_of(target.path, sent.data())
+        bytes_, closes = reply(sent, plan)
+        is_loose = plan.is_loose or sent.number in self.left
+        return Wanted(bytes_, closes, plan.works or sent.method == "HEAD" and plan.of_head is not None, is_loose)
+
+    def connection(self, record: dict[str, Any]) -> None:
+        address, port = record["address"], record["port"]
+        requests = [Sent(**one) for one in record["requests"]]
+        last = requests[-1].number if requests else ""
+        for what in record["wrong"]:
+            self.odd(f"{record['what']}: {what}", last)
+        if record["rest"]:
+            self.odd(f"{record['what']}: behind the last reply came {record['rest']!r}", last)
+        missed = ""
+        place = 0
+        for sent in requests:
+            if sent.body is not None:
+                sent.body = (sent.body[0], sent.body[1])
+            self.sent[sent.number] = (sent, address)
+            verdict = self.oracle.verdicts.get(sent.number)
+            is_asked = verdict is not None or sent.number in self.oracle.unfinished
+            if is_asked and missed:
+                self.odd(f"it was asked, and {missed} before it on its connection was not", sent.number)
+            if not is_asked:
+                missed = sent.number
+            if verdict is not None:
+                if (verdict.address, verdict.port) != (address, port):
+                    self.odd(f"it was sent from {address} {port}", sent.number)
+                if verdict.check < place:
+                    self.odd("it was asked before a request that was sent earlier", sent.number)
+                place = verdict.check
+            self.request(record["what"], sent, verdict, address)
+
+    def request(self, what: str, sent: Sent, verdict: Verdict | None, address: str) -> None:
+        name = f"{what}, {sent.method} {sent.target}"
+        if sent.end == "slow":
+            self.odd(f"{name}: it took too long; what came is {sent.front!r}", sent.number)
+            return
+        if verdict is None:
+            if sent.got or sent.end == "whole":
+                self.odd(f"{name}: no verdict is noted, and the client got {sent.front!r}", sent.number)
+            elif sent.end == "cut" and not sent.followed and what not in ("at_once", "and_away"):
+                self.odd(f"{name}: no verdict is noted, and the connection was closed", sent.number)
+            return
+        self.times(name, sent, verdict)
+        if not sent.end:
+            return
+        wanted = self.wanted(sent, verdict)
+        if wanted.is_loose:
+            failed = (CONTINUE if wanted.bytes_.startswith(CONTINUE) else b"") + own("502 Bad Gateway", "bad gateway", False, sent.method)
+            if sent.digest == digest_of(failed):
+                wanted = Wanted(failed, True, False)
+        whole = len(wanted.bytes_)
+        if sent.got > whole or sent.digest != (digest_of(wanted.bytes_) if sent.got == whole else digest_of(wanted.bytes_[: sent.got])):
+            self.odd(
+                f"{name}: the journal says {verdict.outcome}; the client got {sent.got} bytes, {sent.front!r}, and not {whole}, {wanted.bytes_[:600]!r}",
+                sent.number,
+            )
+            return
+        # A server that closes with bytes of the client's unread resets the connection, and what it wrote may be lost on the way.
+        may_be_cut = wanted.is_loose or wanted.closes and (sent.body is not None or sent.followed) or sent.end == "left"
+        if sent.got < whole and not may_be_cut:
+            self.odd(f"{name}: of {whole} bytes came {sent.got}, {sent.front!r} ({sent.end})", sent.number)
+            return
+        if sent.end == "cut" and not wanted.closes and not wanted.is_loose:
+            self.odd(f"{name}: the connection was closed behind {sent.front!r}", sent.number)
+            return
+        self.counts[f"compared {sent.front[9:12] or 'no reply'}"] += 1
+        if wanted.from_origin:
+            self.from_origin.add(sent.number)
+            if verdict.pool is not None and not sent.expects:
+                config = self.oracle.configs[verdict.epoch]
+                for bucket, restore, most in config.buckets(verdict.pool, address):
+                    self.of_bucket[verdict.epoch, bucket].append(sent)
+                    self.limits[verdict.epoch, bucket] = (restore, most)
+
+    def times(self, name: str, sent: Sent, verdict: Verdict) -> None:
+        if verdict.asked < sent.began * 1000 - 2 or sent.ended and verdict.taken > sent.ended * 1000 + 2:
+            self.odd(f"{name}: its moments are not those of the client, {sent.began} to {sent.ended}", sent.number)
+        first, last = self.oracle.epochs_between(sent.began, sent.ended or verdict.asked / 1000 + 0.002)
+        if not first <= verdict.epoch <= last:
+            self.odd(f"{name}: it was judged by epoch {verdict.epoch}, and the current ones were {first} to {last}", sent.number)
+
+    def look_who_left(self, log: str) -> None:
+        """To be called before the replies are looked at."""
+        with open(log) as file:
+            self.left = {identity_of(head) for line in file if (head := json.loads(line).get("left"))}
+        self.counts["left by an origin that took too long"] += len(self.left)
+
+    def origins(self, log: str) -> None:
+        seen: set[str] = set()
+        with open(log) as file:
+            for line in file:
+                record = json.loads(line)
+                if "left" in record:
+                    continue
+                head = record["head"]
+                identity = identity_of(head)
+                known = self.sent.get(identity)
+                verdict = self.oracle.verdicts.get(identity)
+                self.counts["requests at origins"] += 1
+                if not head.endswith("\r\n\r\n"):
+                    self.odd(f"a part of a head reached an origin: {head!r}", identity)
+                elif known is None or verdict is None or not verdict.outcome.startswith("allowed"):
+                    self.odd(f"a request reached an origin, and nothing allowed it: {head!r}", identity)
+                elif identity in seen:
+                    self.odd(f"a request reached origins twice: {head!r}", identity)
+                else:
+                    sent, address = known
+                    wanted = head_at_origin(sent, address).decode("latin-1")
+                    if head != wanted:
+                        self.odd(f"an origin got the head {head!r}, and not {wanted!r}", identity)
+                    if record["whole"] and sent.body is not None and sent.whole:
+                        if record["size"] != sent.body[1] or record["digest"] != digest_of(sent.data()):
+                            self.odd(f"an origin got another body, of {record['size']} bytes", identity)
+                    elif record["whole"] and record["size"]:
+                        self.odd(f"an origin got a body of {record['size']} bytes", identity)
+                seen.add(identity)
+        for identity in self.from_origin - seen:
+            self.odd("a reply of an origin's came, and no origin had the request", identity)
+
+    def pools(self) -> None:
+        """What came of a bucket up to a moment is no more than it held at first, and what was restored since.
+
+        What came had been granted before. A second is counted where it may have been.
+        """
+        for (epoch, name), all_ in self.of_bucket.items():
+            restore, most = self.limits[epoch, name]
+            config: Configuration = self.oracle.configs[epoch]
+            opening = most * config.initial // 100
+            # The clock is read before the file is, and the entry may have a later moment, that of another thread's entry.
+            began = 1000 * (self.oracle.orders[epoch - 2].ordered if epoch > 1 else self.started)
+            replaced = self.oracle.changed.get(epoch + 1)
+            # Behind a reconfiguration a bucket whose last seat was left is made anew. Its first byte shows when a seat was there.
+            late = sum(replaced is not None and bool(one.events) and one.events[0][0] * 1000 + 1 >= replaced for one in all_)
+            steps: list[tuple[float, int, Sent]] = []
+            for one in all_:
+                before = 0
+                for at, total in one.events:
+                    steps.append((at * 1000, total - before, one))
+                    before = total
+            steps.sort(key=lambda step: step[0])
+            self.counts["buckets"] += 1
+            total = 0
+            for at, count, one in steps:
+                total += count
+                marks = max(0, int(at + 1 - began) // 1000)
+                bound = opening * (1 + late) + restore * (marks + late)
+                self.fullest = max(self.fullest, total / bound if bound else float(total > 0))
+                if total > bound:
+                    self.odd(f"bucket {name} of epoch {epoch} gave {total} bytes by {at:.0f}: at most {opening} and {marks} times {restore}", one.number)
+                    break
+            if not late:
+                self.quiet(epoch, name, all_, steps, restore, most)
+
+    def quiet(self, epoch: int, name: tuple[int, int, int], all_: list[Sent], steps: list[tuple[float, int, Sent]], restore: int, most: int) -> None:
+        """From a moment on at which nothing was on its way, no more comes than a full bucket and what was restored since."""
+        for first in all_:
+            start = first.began * 1000
+            if any(one is not first and one.began * 1000 <= start <= one.ended * 1000 for one in all_):
+                continue
+            total = 0
+            for at, count, one in steps:
+                if at < start:
+                    continue
+                total += count
+                seconds = int(at + 1 - start) // 1000 + 1
+                self.fullest = max(self.fullest, total / (most + restore * seconds) if most else 0.0)
+                if total > most + restore * seconds:
+                    self.odd(f"bucket {name} of epoch {epoch} gave {total} bytes from {start:.0f} to {at:.0f}: at most {most} and {seconds} times {restore}", one.number)
+                    return
+            self.counts["quiet moments"] += 1
+
+    def connections(self, opened: Counter[tuple[str, int]], began: Counter[tuple[str, int]]) -> None:
+        for (address, port), count in opened.items():
+            if count > began[address, port]:
+                self.odd(f"a connection from {address} {port} was opened {count} times, and there were {began[address, port]}", "")
+
+
+def identity_of(head: str) -> str:
+    at = head.find("\r\nX-Id: ")
+    return head[at + 8 :].split("\r\n")[0] if at >= 0 else ""
+
+
+def lines_of(journal: str, identity: str) -> list[str]:
+    """What a journal has of a request."""
+    out: list[str] = []
+    check = ""
+    questions: set[str] = set()
+    with open(journal) as file:
+        for line in file:
+            words = line.rstrip("\n").split(" ")
+            if len(words) < 6:
+                continue
+            kind = words[3]
+            if kind == "ask" and f"X-Id:{identity}" in words:
+                check = words[-1]
+            elif kind in ("step", "take") and words[4] == check:
+                if words[-2] == "waits":
+                    questions.add(words[-1])
+            elif not (kind == "act" and words[5] == "send" and words[7] in questions or kind == "line" and words[-3] == "reply" and words[-2] in questions):
+                continue
+            if check:
+                out.append(line.rstrip("\n")[:1000])
+                if kind == "take" and words[4] == check:
+                    break
+    return out[:60]
