@@ -529,7 +529,7 @@ error journal'
 mkfifo cut
 head -c 400 cut >/dev/null &
 children="$children $!"
-journal_to=cut
+journal_to='cut'
 start first.conf --port "$port"
 until_it 100 sh -c 'perl "$0/client.pl" "$1" request >got; grep -q "^HTTP/1.1 500 " got' "$here" "$port" 3>&-
 own 500 'Internal Server Error' 'journal stopped' >wanted

@@ -2,7 +2,7 @@
 ghost use Rattle.std.specs.Prelude.{◌≡◌, ◌+◌, ◌<◌, ◌≤◌, ◌^◌, ◌==◌, ◌||◌, cond, is_some, max, min, nat_lt, suc, false, true, IfOk, OnOk, OnErr, IfErr};
 ghost use Rattle.sq_pools.specs.Basins.{grant_in, has_pool, is_dry, made_in, seat_in, HasLeft, IsChosen, IsGranted, IsRenewed};
 ghost use Rattle.sq_pools.specs.declared.pools.ChooseFault.TheVariants as fault;
-ghost use Rattle.sq_rules.specs.Limits.{last_number};
+ghost use Rattle.sq_machine.specs.Limits.{last_number};
 
 use sq_base::{Addr, EpochNo, Moment, WantOfMemory};
 use sq_pools::{ChooseFault, Pools, Seat};

@@ -2,6 +2,7 @@ pub mod Addresses
 pub mod Bytes
 pub mod Decimals
 pub mod Distinct
+pub mod Domains
 pub mod Escapes
 pub mod Lines
 pub mod NameTables

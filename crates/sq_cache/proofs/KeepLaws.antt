@@ -6,9 +6,9 @@ use Rattle.std.specs.Option.{option_map_or}
 use Rattle.std.specs.Cmp.Lexicographic.{pointwise, same_text}
 use Rattle.lru.specs.LruCache.{LruCache, put_entries, IsValid}
 use Rattle.sq_rules.specs.Classes.{Class}
-use Rattle.sq_rules.specs.Freshness.{ttl_of}
-use Rattle.sq_rules.specs.KeptLists.{KeptList, same_key, kept_without, keep}
-use Rattle.sq_rules.specs.declared.kept.KeptVerdict.{KeptVerdict}
+use Rattle.sq_machine.specs.Freshness.{ttl_of}
+use Rattle.sq_machine.specs.KeptLists.{KeptList, same_key, kept_without, keep}
+use Rattle.sq_machine.specs.declared.kept.KeptVerdict.{KeptVerdict}
 
 -- what a look-up finds has the key, and one fewer is left without it
 found : (key : List ℕ) (kept : KeptList) (e : List ℕ × KeptVerdict) → lookup_entry (same_key key) kept ≡ Some e →

@@ -4,9 +4,9 @@ use Rattle.std.specs.Option.{option_map}
 use Rattle.std.specs.declared.option.Option.{Option}
 use Rattle.lru.specs.LruCache.{LruCache}
 use Rattle.sq_rules.specs.Classes.{Class}
-use Rattle.sq_rules.specs.Freshness.{is_due}
-use Rattle.sq_rules.specs.KeptLists.{KeptList, fresh_for}
-use Rattle.sq_rules.specs.declared.kept.KeptVerdict.{KeptVerdict}
+use Rattle.sq_machine.specs.Freshness.{is_due}
+use Rattle.sq_machine.specs.KeptLists.{KeptList, fresh_for}
+use Rattle.sq_machine.specs.declared.kept.KeptVerdict.{KeptVerdict}
 use Rattle.sq_cache.specs.declared.kept.Taken.{Taken}
 
 -- the verdicts, the newest use first, and how many there may be

@@ -1,9 +1,10 @@
 //! Whether a kept verdict is fresh, and whether its refresh is due.
 ghost use Rattle.std.specs.Prelude.{◌≡◌, ◌≤◌, ◌<◌, nat_lt};
-ghost use Rattle.sq_rules.specs.Freshness.{ttl_of, age, is_fresh, is_due, due_age};
+ghost use Rattle.sq_machine.specs.Freshness.{ttl_of, age, is_fresh, is_due, due_age};
 
 use sq_base::{Moment, What};
-use sq_rules::{Class, KeptVerdict};
+use sq_machine::KeptVerdict;
+use sq_rules::Class;
 
 // The seconds for which an answer is fresh.
 pub(crate) fn ttl_of(class: &Class, what: &What) -> u32

@@ -1,13 +1,14 @@
 //! The verdicts of one class.
 ghost use Rattle.std.specs.Prelude.{◌≡◌, [], false, true, is_some, IfOk, IsOk, OnOk, OnErr, IsTrue};
-ghost use Rattle.sq_rules.specs.KeptLists.{verdict_of, to_front, used, keep, is_fault};
+ghost use Rattle.sq_machine.specs.KeptLists.{verdict_of, to_front, used, keep, is_fault};
 ghost use Rattle.sq_cache.specs.Keeping.{taken_as, taken_for};
 
 use crate::freshness::{is_due, is_fresh, ttl_of};
 use crate::seed::HashSeed;
 use lru::LruCache;
 use sq_base::{Copying, Moment, QuestionNo, Text, WantOfMemory, What};
-use sq_rules::{Class, KeptVerdict};
+use sq_machine::KeptVerdict;
+use sq_rules::Class;
 use std::alloc::Global;
 use std::marker::Model;
 use std::mem;

@@ -1,6 +1,6 @@
 -- Why a call of a desk was not made.
-use Rattle.sq_rules.specs.declared.refusals.Refusal.{Refusal}
-use Rattle.sq_rules.specs.declared.refusals.Refusal.TheVariants as refusal
+use Rattle.sq_machine.specs.declared.refusals.Refusal.{Refusal}
+use Rattle.sq_machine.specs.declared.refusals.Refusal.TheVariants as refusal
 use Rattle.sq_calls.specs.declared.faults.DeskFault.{DeskFault}
 use Rattle.sq_calls.specs.declared.faults.DeskFault.TheVariants as fault
 

@@ -4,10 +4,10 @@ use Rattle.std.specs.declared.option.Option.{Option}
 use Rattle.sq_rules.specs.Classes.{Class}
 use Rattle.sq_rules.specs.ConfText.{conf_gives}
 use Rattle.sq_rules.specs.Configurations.{Configuration, IsConfiguration}
-use Rattle.sq_rules.specs.Entries.{History}
-use Rattle.sq_rules.specs.Epochs.{class_at}
-use Rattle.sq_rules.specs.FullNext.{FullLegal}
-use Rattle.sq_rules.specs.Readings.{current, offset_of}
+use Rattle.sq_machine.specs.Entries.{History}
+use Rattle.sq_machine.specs.Epochs.{class_at}
+use Rattle.sq_machine.specs.Machine.{Legal}
+use Rattle.sq_machine.specs.Readings.{current, offset_of}
 use Rattle.sq_history.specs.Given.{EachOf}
 use Rattle.sq_state.specs.Sources.{AreSourced}
 
@@ -28,7 +28,7 @@ pub record IsLegal (first : Beginning) (h : History) : Type 0 where
   pub stated : EachOf IsStated given
   pub count : suc (length given) ≡ current h
   pub offset_is : offset_of h ≡ first.offset
-  pub legal : FullLegal (first.config ∷ given) h
+  pub legal : Legal (first.config ∷ given) h
   pub sourced : AreSourced (first.config ∷ given) h
 
 -- the history is legal from a beginning on, which is this one where one is told

@@ -4,19 +4,19 @@ use Rattle.std.specs.declared.option.Option.{Option}
 use Rattle.sq_outside.specs.Causes.{raised}
 use Rattle.sq_base.specs.Addresses.{Address}
 use Rattle.sq_base.specs.Requests.{HttpRequest}
-use Rattle.sq_rules.specs.declared.entries.Event.{Event}
-use Rattle.sq_rules.specs.declared.entries.Event.TheVariants as event
-use Rattle.sq_rules.specs.declared.entries.Told.{Told}
-use Rattle.sq_rules.specs.declared.entries.Told.TheVariants as told
+use Rattle.sq_machine.specs.declared.entries.Event.{Event}
+use Rattle.sq_machine.specs.declared.entries.Event.TheVariants as event
+use Rattle.sq_machine.specs.declared.entries.Told.{Told}
+use Rattle.sq_machine.specs.declared.entries.Told.TheVariants as told
 use Rattle.sq_checks.specs.Records.{Judged}
 use Rattle.sq_rows.specs.declared.said.Stepped.{Stepped}
 use Rattle.sq_rows.specs.declared.said.Stepped.TheVariants as stepped
 use Rattle.sq_rules.specs.Configurations.{Configuration}
-use Rattle.sq_rules.specs.Entries.{History, Noted}
-use Rattle.sq_rules.specs.FullNext.{full_next}
-use Rattle.sq_rules.specs.Machine.{Next, gives, nothing}
-use Rattle.sq_rules.specs.Marking.{marked}
-use Rattle.sq_rules.specs.Readings.{latest}
+use Rattle.sq_machine.specs.Entries.{History, Noted, entry_at}
+use Rattle.sq_machine.specs.Machine.{next}
+use Rattle.sq_machine.specs.Next.{Next, gives, nothing}
+use Rattle.sq_machine.specs.Marking.{marked}
+use Rattle.sq_machine.specs.Readings.{latest}
 use Rattle.sq_channel.specs.declared.replies.Got.{Got}
 use Rattle.sq_channel.specs.declared.replies.Got.TheVariants as got
 use Rattle.sq_epochs.specs.declared.acts.Act.{Act}
@@ -24,10 +24,6 @@ use Rattle.sq_epochs.specs.declared.acts.Act.TheVariants as act
 use Rattle.sq_calls.specs.declared.faults.DeskFault.{DeskFault}
 use Rattle.sq_calls.specs.declared.faults.DeskFault.TheVariants as fault
 use Rattle.sq_calls.specs.Legality.{Beginning, IsLegalFrom, IsNameOf, configs_over}
-
--- an entry of a moment, an event and an answer
-abbrev pub entry_at : ℕ → Event → Told → Noted
-entry_at moment event answer = record { moment = moment; event = event; answer = answer }
 
 -- where the journal is told, one entry was added, with this answer, and P holds of its event
 abbrev pub AddsOne : (Event → Type 0) → Told → Option History → Option History → Type 0
@@ -118,11 +114,11 @@ IsEventOf (act.Send proc question channel text) answer = answer ≡ told.Send pr
 IsEventOf (act.Start epoch class) answer = (name : List ℕ) × (answer ≡ told.Start epoch name)
 
 -- over the configurations of the history, which is legal, this is what the machine answers next to the event
-pub record HasNext (first : Option Beginning) (h : History) (e : Event) (next : Next) : Type 0 where
+pub record HasNext (first : Option Beginning) (h : History) (e : Event) (answer : Next) : Type 0 where
   pub over : IsLegalFrom first h
   pub moment : ℕ
   pub late : latest h ≤ moment
-  pub next_is : full_next (configs_over over) (marked (configs_over over) h) moment e ≡ next
+  pub next_is : next (configs_over over) (marked (configs_over over) h) moment e ≡ answer
 
 -- where the journal is told, an act that was given is the machine's next, and none was given where the machine has none
 abbrev pub IsNextAct : Option Beginning → Option History → Result (Option Act) DeskFault → Type 0

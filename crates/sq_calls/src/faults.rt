@@ -2,7 +2,7 @@
 ghost use Rattle.std.specs.Prelude.{◌≡◌};
 ghost use Rattle.sq_calls.specs.Faults.{fault_of};
 
-use sq_rules::Refusal;
+use sq_machine::Refusal;
 use thiserror::Error;
 
 /// Why a call of a desk was not made, or not noted.

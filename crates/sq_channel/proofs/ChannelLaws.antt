@@ -4,8 +4,8 @@ use Rattle.std.specs.declared.option.Option.{Option}
 use Rattle.std.specs.Option.{option_map}
 use Rattle.std.specs.List.{insert}
 use Rattle.std.proofs.lemmas.Bool.{lt-ltb}
-use Rattle.sq_rules.specs.Channels.{asked, free_count, is_open, least_free, settled, slot_at, times_open}
-use Rattle.sq_rules.specs.Rising.{AreAbove, Rises, place_among, times_of}
+use Rattle.sq_machine.specs.Channels.{asked, free_count, is_open, least_free, settled, slot_at, times_open}
+use Rattle.sq_machine.specs.Rising.{AreAbove, Rises, place_among, times_of}
 use Rattle.sq_channel.specs.Indexes.{channel_with, free_channels}
 use Rattle.sq_channel.proofs.RisingLaws.{if_false, if_true, insert_front, place_above}
 use Rattle.sq_channel.proofs.SlotLaws.{settled_none}

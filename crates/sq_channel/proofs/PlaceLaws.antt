@@ -3,7 +3,7 @@ use Rattle.std.proofs.Common.{◌≡◌, ℕ, suc, ◌≤◌, ◌<◌, List, [],
 use Rattle.std.specs.declared.option.Option.{Option}
 use Rattle.std.specs.List.{insert, remove}
 use Rattle.std.proofs.lemmas.Bool.{le-ltb, lt-ltb, ltb-true}
-use Rattle.sq_rules.specs.Rising.{AreAbove, Rises, place_among, times_of}
+use Rattle.sq_machine.specs.Rising.{AreAbove, Rises, place_among, times_of}
 use Rattle.sq_channel.specs.Indexes.{channel_in, place_question}
 use Rattle.sq_channel.specs.declared.questions.Place.{Place}
 use Rattle.sq_channel.proofs.RisingLaws.{if_false, if_true}

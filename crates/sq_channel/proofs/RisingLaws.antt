@@ -5,7 +5,7 @@ use Rattle.std.specs.declared.result.Result.{Result}
 use Rattle.std.proofs.lemmas.Bool.{lt-ltb, le-ltb, ltb-true, ltb-false}
 use Rattle.std.specs.List.Sorted.{IsPartitionPoint, IsPartitionedBy}
 use Rattle.std.specs.List.{insert}
-use Rattle.sq_rules.specs.Rising.{AreAbove, Rises, place_among, times_of}
+use Rattle.sq_machine.specs.Rising.{AreAbove, Rises, place_among, times_of}
 
 -- the branch of a condition that holds
 pub if_true : {A : Type 0} (b : Bool) (x y : A) → b ≡ true → (if b then x else y) ≡ x

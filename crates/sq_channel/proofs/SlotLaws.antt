@@ -3,7 +3,7 @@ use Rattle.std.proofs.Common.{◌≡◌, ℕ, zero, suc, ◌+◌, ◌≤◌, ◌
 use Rattle.std.proofs.lemmas.List.{length-replicate}
 use Rattle.std.specs.declared.option.Option.{Option}
 use Rattle.std.specs.Option.{option_to_list}
-use Rattle.sq_rules.specs.Channels.{Channels, IsProcess, asked, drained, first_open, free_count, is_open, least_free, opened, settled, times_open, slot_at, slot_of}
+use Rattle.sq_machine.specs.Channels.{Channels, IsProcess, asked, drained, first_open, free_count, is_open, least_free, opened, settled, times_open, slot_at, slot_of}
 
 -- the free channels and the open questions are all channels
 pub all_slots : (slots : List (Option ℕ)) → free_count slots + length (opened slots) ≡ length slots

@@ -5,7 +5,7 @@ use Rattle.sq_base.specs.declared.helpers.Reply.{Reply}
 use Rattle.sq_base.specs.Replies.{Answer, reply_of}
 use Rattle.sq_channel.specs.declared.replies.Got.{Got}
 use Rattle.sq_channel.specs.declared.replies.Got.TheVariants as got
-use Rattle.sq_rules.specs.Channels.{Channels, is_open, settled, slot_of}
+use Rattle.sq_machine.specs.Channels.{Channels, is_open, settled, slot_of}
 
 abbrev pub got_at : Option ℕ → Reply → Got
 got_at None reply = got.Stray

@@ -2,7 +2,7 @@
 use Rattle.std.specs.Prelude.{◌≡◌, ℕ, suc, ◌≤◌, List, [], ◌∷◌, length, ◌==◌, if◌then◌else◌, Some, None}
 use Rattle.std.specs.declared.option.Option.{Option}
 use Rattle.std.specs.Option.{option_map}
-use Rattle.sq_rules.specs.Channels.{opened}
+use Rattle.sq_machine.specs.Channels.{opened}
 use Rattle.sq_channel.specs.declared.questions.Place.{Place}
 
 -- channels in order, and for how many there is room

@@ -2,7 +2,7 @@
 ghost use Rattle.std.specs.Prelude.{◌≡◌, ◌<◌, ◌≤◌, ◌∷◌, [], length, replicate, None, IfOk, slice_index_or};
 ghost use Rattle.std.specs.List.{insert};
 ghost use Rattle.sq_channel.specs.Indexes.{free_channels};
-ghost use Rattle.sq_rules.specs.Rising.{Rises, place_among, times_of};
+ghost use Rattle.sq_machine.specs.Rising.{Rises, place_among, times_of};
 
 use sq_base::WantOfMemory;
 use std::alloc::Global;
@@ -18,7 +18,7 @@ pub struct FreeChannels {
 impl Model for FreeChannels {
     ghost use Rattle.std.specs.VecDeque.{deque_capacity};
     ghost use Rattle.sq_channel.specs.Indexes.{Numbers};
-    ghost use Rattle.sq_rules.specs.Rising.{Rises};
+    ghost use Rattle.sq_machine.specs.Rising.{Rises};
 
     ghost Value = { Numbers };
 

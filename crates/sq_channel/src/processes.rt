@@ -1,7 +1,7 @@
 //! `Process`: which question is open on which channel of a helper process.
 ghost use Rattle.std.specs.Prelude.{◌≡◌, ◌<◌, ◌≤◌, ◌+◌, ℕ, true, false, length, max, replicate, nat_lt, None, IfOk, OnErr, ◌++◌};
 ghost use Rattle.std.specs.Option.{option_to_list};
-ghost use Rattle.sq_rules.specs.Channels.{asked, channel_name, drained, first_open, free_count, is_open, least_free, opened, settled, slot_at, slot_of, times_open};
+ghost use Rattle.sq_machine.specs.Channels.{asked, channel_name, drained, first_open, free_count, is_open, least_free, opened, settled, slot_at, slot_of, times_open};
 ghost use Rattle.sq_channel.specs.Gots.{got_at, got_in, names_open, settled_by};
 
 use crate::channels::FreeChannels;
@@ -26,7 +26,7 @@ pub struct Process {
 
 impl Model for Process {
     ghost use Rattle.sq_channel.specs.Indexes.{AreFree, ArePlaces};
-    ghost use Rattle.sq_rules.specs.Channels.{Channels, IsProcess};
+    ghost use Rattle.sq_machine.specs.Channels.{Channels, IsProcess};
 
     ghost Value = { Channels };
 

@@ -1,7 +1,7 @@
 //! `OpenQuestions`: on which channel each open question of a process is.
 ghost use Rattle.std.specs.Prelude.{◌≡◌, ◌<◌, ◌≤◌, ◌+◌, [], ℕ, length, map, Some, None, true, is_some, ◌==◌, if◌then◌else◌, IfOk};
 ghost use Rattle.sq_channel.specs.Indexes.{channel_in, place_question};
-ghost use Rattle.sq_rules.specs.Rising.{Rises, place_among};
+ghost use Rattle.sq_machine.specs.Rising.{Rises, place_among};
 
 use sq_base::{QuestionNo, WantOfMemory};
 use std::alloc::Global;
@@ -25,7 +25,7 @@ impl Model for OpenQuestions {
     ghost use Rattle.std.specs.Prelude.{map};
     ghost use Rattle.std.specs.VecDeque.{deque_capacity};
     ghost use Rattle.sq_channel.specs.Indexes.{Places, place_question};
-    ghost use Rattle.sq_rules.specs.Rising.{Rises};
+    ghost use Rattle.sq_machine.specs.Rising.{Rises};
 
     ghost Value = { Places };
 

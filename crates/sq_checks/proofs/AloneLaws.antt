@@ -4,8 +4,8 @@ use Rattle.std.proofs.lemmas.Bool.Decides.{nat_tests}
 use Rattle.std.specs.Option.{option_map, option_and_then}
 use Rattle.sq_base.proofs.CommonLaws.{eq_turned}
 use Rattle.sq_base.specs.declared.helpers.Answer.{Answer}
-use Rattle.sq_rules.specs.Rising.{AreAbove, Rises}
-use Rattle.sq_rules.specs.StepRule.{StepSays}
+use Rattle.sq_machine.specs.Rising.{AreAbove, Rises}
+use Rattle.sq_machine.specs.StepRule.{StepSays}
 use Rattle.sq_rows.specs.CheckRows.{Ends, Held, after_ends, after_step, held_on, served, served_by, stepped, without_check, without_conn}
 use Rattle.sq_checks.specs.OpenChecks.{AreAlone}
 use Rattle.sq_checks.proofs.EpochLaws.{none_at}

@@ -8,7 +8,7 @@ use Rattle.sq_rules.proofs.SightLaws.{over_unversioned}
 use Rattle.sq_rules.specs.Configurations.{Configuration}
 use Rattle.sq_rules.specs.Sights.{unversioned_sight}
 use Rattle.sq_rules.specs.Verdicts.{verdict_over}
-use Rattle.sq_rules.specs.StepRule.{says_done}
+use Rattle.sq_machine.specs.StepRule.{says_done}
 use Rattle.sq_rules.specs.declared.outcomes.Outcome.{Outcome}
 use Rattle.sq_rules.specs.declared.sights.Sight.{Sight}
 use Rattle.sq_rows.specs.CheckRows.{one_end, served, stepped}

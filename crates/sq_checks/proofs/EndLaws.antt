@@ -6,7 +6,7 @@ use Rattle.std.specs.Option.{option_and_then}
 use Rattle.sq_base.proofs.CommonLaws.{eq_turned}
 use Rattle.sq_base.specs.declared.helpers.What.{What}
 use Rattle.sq_lookup.specs.Waits.{has_check}
-use Rattle.sq_rules.specs.Events.{is_number}
+use Rattle.sq_machine.specs.Events.{is_number}
 use Rattle.sq_checks.specs.OpenChecks.{AllAre, CheckParts, all_ended, change_at, ended_by, wait_at}
 use Rattle.sq_checks.specs.Stages.{ended_stage, question_in}
 use Rattle.sq_checks.specs.Tables.{value_at}

@@ -3,8 +3,8 @@ use Rattle.std.proofs.Common.{◌≡◌, ◌∙◌, ◌==◌, ◌<◌, ℕ, suc,
 use Rattle.std.proofs.lemmas.Bool.Decides.{nat_tests}
 use Rattle.std.specs.Option.{option_and_then}
 use Rattle.sq_base.specs.declared.helpers.Answer.{Answer}
-use Rattle.sq_rules.specs.Rising.{AreAbove, Rises}
-use Rattle.sq_rules.specs.StepRule.{StepSays}
+use Rattle.sq_machine.specs.Rising.{AreAbove, Rises}
+use Rattle.sq_machine.specs.StepRule.{StepSays}
 use Rattle.sq_rows.specs.CheckRows.{Ends, Held, after_ends, after_step, held_at, served, served_by, stepped, without_check}
 use Rattle.sq_checks.specs.OpenChecks.{of_epoch}
 use Rattle.sq_checks.proofs.MapLaws.{number_is}

@@ -10,7 +10,7 @@ use Rattle.sq_base.specs.declared.helpers.What.TheVariants as what
 use Rattle.sq_rules.specs.Configurations.{Configuration}
 use Rattle.sq_rules.specs.Keys.{key_text}
 use Rattle.sq_rules.specs.Leaves.{holds}
-use Rattle.sq_rules.specs.StepRule.{class_of_acl, class_of_body}
+use Rattle.sq_machine.specs.StepRule.{class_of_acl, class_of_body}
 use Rattle.sq_rules.specs.Values.{acl_value, answer_for, answer_value, body_value, both, either, member_value, rule_value, taken_at, taken_of_acl, taken_of_body, term_value, turned, value_if}
 use Rattle.sq_rules.specs.Verdicts.{decided, default_of, rules_from, verdict_over}
 use Rattle.sq_rules.specs.declared.configs.Acl.{Acl}

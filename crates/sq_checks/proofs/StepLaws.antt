@@ -4,19 +4,19 @@ use Rattle.sq_base.specs.declared.helpers.Cause.TheVariants as cause
 use Rattle.sq_rules.proofs.SightLaws.{taken_unversioned}
 use Rattle.sq_rules.specs.Classes.{Class}
 use Rattle.sq_rules.specs.Configurations.{Configuration}
-use Rattle.sq_rules.specs.KeptLists.{KeptList, fresh_for}
-use Rattle.sq_rules.specs.Limits.{key_limit}
-use Rattle.sq_rules.specs.Marks.{Put}
+use Rattle.sq_machine.specs.KeptLists.{KeptList, fresh_for}
+use Rattle.sq_machine.specs.Limits.{key_limit}
+use Rattle.sq_machine.specs.Marks.{Put}
 use Rattle.sq_rules.specs.Sights.{unversioned_sight}
-use Rattle.sq_rules.specs.StepRule.{StepSays, says_asked, says_fault, says_fresh, says_need}
+use Rattle.sq_machine.specs.StepRule.{StepSays, says_asked, says_fault, says_fresh, says_need}
 use Rattle.sq_rules.specs.Verdicts.{pool_from, pool_of}
-use Rattle.sq_rules.specs.declared.entries.Told.{Told}
-use Rattle.sq_rules.specs.declared.entries.Told.TheVariants as told
-use Rattle.sq_rules.specs.declared.kept.KeptVerdict.{KeptVerdict}
+use Rattle.sq_machine.specs.declared.entries.Told.{Told}
+use Rattle.sq_machine.specs.declared.entries.Told.TheVariants as told
+use Rattle.sq_machine.specs.declared.kept.KeptVerdict.{KeptVerdict}
 use Rattle.sq_rules.specs.declared.sights.Sight.{Sight}
 use Rattle.sq_rows.specs.CheckRows.{Held, after_step, is_told_done, stepped}
 use Rattle.sq_rows.specs.StepRows.{said_of, stepped_of, told_of}
-use Rattle.sq_rules.specs.AnswerReadings.{waits_told}
+use Rattle.sq_machine.specs.AnswerReadings.{waits_told}
 use Rattle.sq_checks.specs.OpenChecks.{IsNoted, says_of}
 
 if_noted : (b : Bool) (p : Put) (c : ℕ) (x y : StepSays) → IsNoted p.class p.key (said_of c x) → IsNoted p.class p.key (said_of c y)

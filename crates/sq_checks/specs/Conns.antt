@@ -3,7 +3,7 @@ use Rattle.std.specs.Prelude.{ℕ, List, ◌-◌, if◌then◌else◌, Some, Non
 use Rattle.std.specs.Option.{option_and_then, option_map}
 use Rattle.std.specs.declared.option.Option.{Option}
 use Rattle.sq_base.specs.Addresses.{Address}
-use Rattle.sq_rules.specs.Connections.{is_address}
+use Rattle.sq_machine.specs.Connections.{is_address}
 use Rattle.sq_rules.specs.declared.sights.Peer.{Peer}
 use Rattle.sq_checks.specs.Counts.{Tallies}
 use Rattle.sq_checks.specs.Tables.{value_at}

@@ -7,9 +7,9 @@ use Rattle.sq_base.specs.declared.helpers.Answer.{Answer}
 use Rattle.sq_base.specs.declared.helpers.What.{What}
 use Rattle.sq_rules.specs.Configurations.{Configuration}
 use Rattle.sq_rules.specs.Facts.{facts_of}
-use Rattle.sq_rules.specs.Limits.{last_number}
+use Rattle.sq_machine.specs.Limits.{last_number}
 use Rattle.sq_rules.specs.Sights.{unversioned_sight}
-use Rattle.sq_rules.specs.StepRule.{StepSays}
+use Rattle.sq_machine.specs.StepRule.{StepSays}
 use Rattle.sq_rules.specs.Verdicts.{pool_of, verdict_over}
 use Rattle.sq_rules.specs.declared.outcomes.Outcome.{Outcome}
 use Rattle.sq_rules.specs.declared.sights.Sight.{Sight}

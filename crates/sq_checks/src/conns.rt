@@ -1,20 +1,18 @@
 //! The open connections.
 ghost use Rattle.std.specs.Prelude.{◌≡◌, ◌==◌, ◌-◌, [], ℕ, true, suc, nat_le, length, is_some, if◌then◌else◌, Some, None, OnOk, OnErr};
 ghost use Rattle.sq_base.specs.Addresses.{Address};
-ghost use Rattle.sq_rules.specs.Connections.{is_address};
-ghost use Rattle.sq_rules.specs.Limits.{conn_limit};
+ghost use Rattle.sq_machine.specs.Connections.{is_address};
+ghost use Rattle.sq_machine.specs.Limits.{conn_limit};
 ghost use Rattle.sq_checks.specs.Conns.{check_in, client_in, lowered};
 ghost use Rattle.sq_checks.specs.Counts.{tally};
 
 use crate::counts::Counts;
 use crate::tables::Table;
 use sq_base::{Addr, CheckNo, ConnNo, WantOfMemory};
+use sq_machine::CONN_LIMIT;
 use sq_rules::Peer;
 use std::alloc::Global;
 use std::marker::Model;
-
-/// Connections that may be open at a time.
-const CONN_LIMIT: usize = 65_536;
 
 /// An open connection: its client, and its open check, if it has one.
 #[derive(Clone, Copy)]
@@ -78,7 +76,7 @@ impl Conns {
     pub fn is_full(&self) -> bool
         ensures { result ≡ nat_le conn_limit (length self.now.links) }
     {
-        self.links.len() >= CONN_LIMIT
+        self.links.len() >= CONN_LIMIT as usize
     }
 
     /// The client of a connection, where it is open.

@@ -1,8 +1,8 @@
 //! How many connections of each address are open.
-ghost use Rattle.std.specs.Prelude.{◌≡◌, ◌-◌, suc, if◌then◌else◌, OnOk, OnErr};
+ghost use Rattle.std.specs.Prelude.{◌≡◌, ◌-◌, suc, if◌then◌else◌, OnOk, OnErr, unwrap_or};
 ghost use Rattle.sq_base.specs.Addresses.{Address};
-ghost use Rattle.sq_rules.specs.Connections.{is_address};
-ghost use Rattle.sq_checks.specs.Counts.{or_zero, tally, Lowers, Raises};
+ghost use Rattle.sq_machine.specs.Connections.{is_address};
+ghost use Rattle.sq_checks.specs.Counts.{tally, Lowers, Raises};
 ghost use Rattle.sq_checks.specs.Tables.{value_at};
 
 use crate::tables::Table;
@@ -27,7 +27,7 @@ impl Model for Counts {
 
 // The count that a table has for a number.
 fn count_in(table: &Table<u32>, number: u128) -> u32
-    ensures { result ≡ or_zero (value_at table.now number) }
+    ensures { result ≡ unwrap_or (value_at table.now number) 0 }
 {
     match table.get(number) {
         None => 0,

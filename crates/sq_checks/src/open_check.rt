@@ -4,8 +4,8 @@ ghost use Rattle.std.specs.Arc.{arc_value};
 ghost use Rattle.std.specs.Option.{option_copied};
 ghost use Rattle.sq_base.specs.Distinct.{has_answer};
 ghost use Rattle.sq_rules.specs.Facts.{facts_of};
-ghost use Rattle.sq_rules.specs.Limits.{last_number};
-ghost use Rattle.sq_rules.specs.StepRule.{class_of_acl};
+ghost use Rattle.sq_machine.specs.Limits.{last_number};
+ghost use Rattle.sq_machine.specs.StepRule.{class_of_acl};
 ghost use Rattle.sq_rules.specs.Verdicts.{verdict_over};
 ghost use Rattle.sq_rules.specs.declared.values.Value.TheVariants as value;
 ghost use Rattle.sq_checks.specs.OpenChecks.{IsNoted, begun_parts, comes_to, ended_by, finished, is_need, noted, settled, step_more};
@@ -16,15 +16,13 @@ use crate::records::Record;
 use crate::stages::{Need, Stage, came, decided, ended, need_of, noted, question};
 use sq_base::{Answers, CheckNo, ConnNo, EpochNo, Moment, QuestionNo, Text, WantOfMemory, What};
 use sq_eval::{evaluate, pool_of};
+use sq_machine::LAST_NUMBER;
 use sq_rows::Said;
 use sq_rules::{Body, Config, Facts, Outcome, Sight, Value};
 use std::alloc::Global;
 use std::marker::Model;
 use std::mem;
 use std::sync::Arc;
-
-/// The number at which a count of steps stays.
-const LAST_NUMBER: u64 = 0x7FFF_FFFF_FFFF_FFFF;
 
 /// A check from its request to its outcome. Its own number is its place among the open checks.
 #[derive(Drop)]

@@ -1,7 +1,7 @@
 -- The act that a desk gives is the machine's next.
 use Rattle.std.proofs.Common.{◌≡◌, ℕ, ◌≤◌, max, Option, None, Some, IfOk, IfSome, Result, Ok, Err, arith}
-use Rattle.sq_rules.specs.Entries.{History}
-use Rattle.sq_rules.specs.Readings.{latest}
+use Rattle.sq_machine.specs.Entries.{History}
+use Rattle.sq_machine.specs.Readings.{latest}
 use Rattle.sq_epochs.specs.declared.acts.Act.{Act}
 use Rattle.sq_state.specs.States.{State}
 use Rattle.sq_engine.specs.Acting.{IsActPromised, told_of_act}

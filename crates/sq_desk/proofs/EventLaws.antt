@@ -5,25 +5,25 @@ use Rattle.sq_base.specs.Addresses.{Address}
 use Rattle.sq_base.specs.Targets.{target_of}
 use Rattle.sq_base.specs.declared.helpers.Cause.TheVariants as cause
 use Rattle.sq_base.specs.declared.requests.Field.{Field}
-use Rattle.sq_rules.specs.declared.entries.Event.TheVariants.{Ask, Close, Died, Line, Open, Reconfigure, StartFail, Started, Step, Take}
-use Rattle.sq_rules.specs.declared.entries.Event.TheVariants as event
-use Rattle.sq_rules.specs.declared.entries.Told.{Told}
-use Rattle.sq_rules.specs.declared.entries.Told.TheVariants as told
+use Rattle.sq_machine.specs.declared.entries.Event.TheVariants.{Ask, Close, Died, Line, Open, Reconfigure, StartFail, Started, Step, Take}
+use Rattle.sq_machine.specs.declared.entries.Event.TheVariants as event
+use Rattle.sq_machine.specs.declared.entries.Told.{Told}
+use Rattle.sq_machine.specs.declared.entries.Told.TheVariants as told
 use Rattle.sq_rules.specs.declared.configs.Acl.{Acl}
 use Rattle.sq_rules.specs.declared.configs.Rule.{Rule}
 use Rattle.sq_rules.specs.declared.outcomes.Outcome.{Outcome}
 use Rattle.sq_rules.specs.declared.outcomes.Why.TheVariants as why
-use Rattle.sq_rules.specs.declared.refusals.Refusal.TheVariants as refusal
+use Rattle.sq_machine.specs.declared.refusals.Refusal.TheVariants as refusal
 use Rattle.sq_rules.specs.declared.sights.Peer.{Peer}
 use Rattle.sq_rules.specs.declared.values.TermValue.{TermValue}
 use Rattle.sq_rules.specs.declared.values.TermValue.TheVariants as term
 use Rattle.sq_rules.specs.declared.values.Value.{Value}
 use Rattle.sq_rules.specs.declared.values.Value.TheVariants as value
 use Rattle.sq_rules.specs.Configurations.{Configuration, IsConfiguration}
-use Rattle.sq_rules.specs.DueActs.{Place}
-use Rattle.sq_rules.specs.Limits.{epoch_limit, last_number}
-use Rattle.sq_rules.specs.Entries.{History, Noted, is_outcome}
-use Rattle.sq_rules.specs.Machine.{gives, nothing, refuse_if}
+use Rattle.sq_machine.specs.DueActs.{Place}
+use Rattle.sq_machine.specs.Limits.{epoch_limit, last_number}
+use Rattle.sq_machine.specs.Entries.{History, Noted, is_outcome, entry_at}
+use Rattle.sq_machine.specs.Next.{gives, nothing, refuse_if}
 use Rattle.sq_rules.specs.Values.{rule_value, taken_at}
 use Rattle.sq_rules.specs.Verdicts.{decided, default_of, outcome_so_far, rules_from, verdict_over}
 use Rattle.sq_channel.specs.declared.replies.Got.{Got}
@@ -38,7 +38,7 @@ use Rattle.sq_epochs.specs.declared.acts.Act.{Act}
 use Rattle.sq_state.specs.Acts.{Due, sends, starts, stops}
 use Rattle.sq_state.specs.Answers.{ask_answer, asked_in, busy_in, close_answer, died_answer, failed_answer, name_in, open_answer, reconfigure_answer, started_answer, take_answer, take_of_held}
 use Rattle.sq_state.specs.Changes.{after_ask, after_close, after_end_at, after_failed_at, after_open, after_reconfigured, after_started_at, after_take, at, first_state, with_epoch}
-use Rattle.sq_state.specs.Promises.{IsAnswered, entry_at}
+use Rattle.sq_state.specs.Promises.{IsAnswered}
 use Rattle.sq_state.specs.Says.{outcome_in}
 use Rattle.sq_state.specs.States.{IsSame, State}
 use Rattle.sq_state.proofs.ActPromises.{reconfigure_answered}

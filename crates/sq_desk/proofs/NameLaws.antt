@@ -1,14 +1,14 @@
 -- The names of classes that a desk notes.
 use Rattle.std.proofs.Common.{◌≡◌, ◌==◌, ℕ, List, true, false, not, max, Option, None, Some, Result, Ok, Err, IfSome, OnOk, refl}
 use Rattle.std.specs.Option.{option_map_or}
-use Rattle.sq_rules.specs.declared.entries.Event.TheVariants.{StartFail, Started}
-use Rattle.sq_rules.specs.declared.entries.Told.TheVariants as told
-use Rattle.sq_rules.specs.declared.refusals.Refusal.TheVariants as refusal
+use Rattle.sq_machine.specs.declared.entries.Event.TheVariants.{StartFail, Started}
+use Rattle.sq_machine.specs.declared.entries.Told.TheVariants as told
+use Rattle.sq_machine.specs.declared.refusals.Refusal.TheVariants as refusal
 use Rattle.sq_rules.specs.Configurations.{Configuration}
-use Rattle.sq_rules.specs.DueActs.{Place}
-use Rattle.sq_rules.specs.Entries.{History}
-use Rattle.sq_rules.specs.Marking.{marked}
-use Rattle.sq_rules.specs.Marks.{Past}
+use Rattle.sq_machine.specs.DueActs.{Place}
+use Rattle.sq_machine.specs.Entries.{History}
+use Rattle.sq_machine.specs.Marking.{marked}
+use Rattle.sq_machine.specs.Marks.{Past}
 use Rattle.sq_rows.specs.ClassRows.{ClassRow}
 use Rattle.sq_state.specs.Answers.{failed_answer, has_start_in, name_in, started_answer}
 use Rattle.sq_state.specs.Changes.{after_failed_at, after_started_at}

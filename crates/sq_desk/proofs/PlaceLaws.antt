@@ -6,7 +6,7 @@ use Rattle.std.proofs.lemmas.Bool.{eqb-true}
 use Rattle.std.proofs.lemmas.Cmp.{nat_eq_equiv}
 use Rattle.std.proofs.lemmas.Map.Keys.{IsDistinct-cons, IsDistinct-from_apart}
 use Rattle.std.proofs.lemmas.Map.Made.{length-le_from_is_member}
-use Rattle.sq_rules.specs.DueActs.{Place}
+use Rattle.sq_machine.specs.DueActs.{Place}
 use Rattle.sq_rows.specs.CheckRows.{Held}
 use Rattle.sq_epochs.specs.HomeStates.{Home, home_in, home_number}
 use Rattle.sq_state.specs.Changes.{if_live, with_checks}

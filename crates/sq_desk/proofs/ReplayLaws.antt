@@ -1,24 +1,25 @@
 -- A desk whose machine stands for its journal does so after a call, too.
 use Rattle.std.proofs.Common.{◌≡◌, ◌∙◌, ℕ, ℤ, suc, ◌≤◌, List, [], ◌∷◌, ◌++◌, length, Bool, true, false, Option, None, Some, IfSome, Result, Ok, Err, if◌then◌else◌, slice_get, refl, ap, sym, subst, arith, append_assoc}
 use Rattle.std.proofs.lemmas.List.{append-nil, length-append}
-use Rattle.sq_rules.specs.declared.entries.Event.{Event}
-use Rattle.sq_rules.specs.declared.entries.Event.TheVariants.{Reconfigure}
-use Rattle.sq_rules.specs.declared.entries.Event.TheVariants as event
-use Rattle.sq_rules.specs.declared.entries.Told.{Told}
-use Rattle.sq_rules.specs.declared.entries.Told.TheVariants as told
-use Rattle.sq_rules.specs.declared.refusals.Refusal.TheVariants as refusal
+use Rattle.sq_machine.specs.declared.entries.Event.{Event}
+use Rattle.sq_machine.specs.declared.entries.Event.TheVariants.{Reconfigure}
+use Rattle.sq_machine.specs.declared.entries.Event.TheVariants as event
+use Rattle.sq_machine.specs.declared.entries.Told.{Told}
+use Rattle.sq_machine.specs.declared.entries.Told.TheVariants as told
+use Rattle.sq_machine.specs.declared.refusals.Refusal.TheVariants as refusal
 use Rattle.sq_rules.specs.Configurations.{Configuration, IsConfiguration}
-use Rattle.sq_rules.specs.Entries.{History, Noted}
-use Rattle.sq_rules.specs.Events.{begins_epoch, begun_offset}
-use Rattle.sq_rules.specs.FullNext.{FullLegal}
-use Rattle.sq_rules.specs.Machine.{Next, config_of, gives, is_begin}
-use Rattle.sq_rules.specs.Marking.{marked}
-use Rattle.sq_rules.specs.Marks.{entries}
-use Rattle.sq_rules.specs.Readings.{current, epoch_after, latest, offset_after, offset_of}
-use Rattle.sq_rules.proofs.ReadingLaws.{offset_of_more}
+use Rattle.sq_machine.specs.Entries.{History, Noted, entry_at}
+use Rattle.sq_machine.specs.Events.{begins_epoch, begun_offset, is_begin}
+use Rattle.sq_machine.specs.Machine.{Legal}
+use Rattle.sq_machine.specs.Epochs.{config_of}
+use Rattle.sq_machine.specs.Next.{Next, gives}
+use Rattle.sq_machine.specs.Marking.{marked}
+use Rattle.sq_machine.specs.Marks.{entries}
+use Rattle.sq_machine.specs.Readings.{current, epoch_after, latest, offset_after, offset_of}
+use Rattle.sq_machine.proofs.ReadingLaws.{offset_of_more}
 use Rattle.sq_history.specs.Given.{EachOf}
 use Rattle.sq_history.proofs.LegalLaws.{marked_entries}
-use Rattle.sq_state.specs.Promises.{IsAnswered, StandsFor, entry_at}
+use Rattle.sq_state.specs.Promises.{IsAnswered, StandsFor}
 use Rattle.sq_state.specs.States.{IsSame, State, is_of_pools, machine_moment}
 use Rattle.sq_state.proofs.Lawful.{stands_same}
 use Rattle.sq_engine.specs.EngineViews.{state_of}
@@ -90,7 +91,7 @@ says_none (event.Grant seat wanted) other = refl
 says_none (event.Leave seat) other = refl
 
 -- a legal history has the offset of the one before
-entered_offset : (configs : List Configuration) (h : History) (now : ℕ) (event : Event) (answer : Told) → FullLegal configs h → FullLegal configs (entry_at now event answer ∷ h)
+entered_offset : (configs : List Configuration) (h : History) (now : ℕ) (event : Event) (answer : Told) → Legal configs h → Legal configs (entry_at now event answer ∷ h)
     → offset_of (entry_at now event answer ∷ h) ≡ offset_of h
 entered_offset configs [] now event answer before after = absurd before
 entered_offset configs (e ∷ h) now event answer before after = offset_of_more (entry_at now event answer) (e ∷ h) ∙ ap (λ (o : Option ℤ). offset_after o (offset_of (e ∷ h))) (says_none event after.1)

@@ -5,16 +5,16 @@ use Rattle.std.specs.Option.{option_and_then, option_map}
 use Rattle.sq_base.specs.Addresses.{Address}
 use Rattle.sq_base.specs.Requests.{HttpRequest}
 use Rattle.sq_outside.specs.Causes.{count_limit, raised}
-use Rattle.sq_rules.specs.declared.entries.Event.{Event}
-use Rattle.sq_rules.specs.declared.entries.Event.TheVariants.{Ask, Close, Died, Open, StartFail, Started, Step, Take}
-use Rattle.sq_rules.specs.declared.entries.Event.TheVariants as event
-use Rattle.sq_rules.specs.declared.entries.Told.{Told}
-use Rattle.sq_rules.specs.declared.entries.Told.TheVariants as told
-use Rattle.sq_rules.specs.declared.refusals.Refusal.TheVariants as refusal
+use Rattle.sq_machine.specs.declared.entries.Event.{Event}
+use Rattle.sq_machine.specs.declared.entries.Event.TheVariants.{Ask, Close, Died, Open, StartFail, Started, Step, Take}
+use Rattle.sq_machine.specs.declared.entries.Event.TheVariants as event
+use Rattle.sq_machine.specs.declared.entries.Told.{Told}
+use Rattle.sq_machine.specs.declared.entries.Told.TheVariants as told
+use Rattle.sq_machine.specs.declared.refusals.Refusal.TheVariants as refusal
 use Rattle.sq_rules.specs.Configurations.{Configuration}
-use Rattle.sq_rules.specs.DueActs.{Place}
-use Rattle.sq_rules.specs.Entries.{History}
-use Rattle.sq_rules.specs.Machine.{Next}
+use Rattle.sq_machine.specs.DueActs.{Place}
+use Rattle.sq_machine.specs.Entries.{History, entry_at}
+use Rattle.sq_machine.specs.Next.{Next}
 use Rattle.sq_channel.specs.declared.replies.Got.{Got}
 use Rattle.sq_channel.specs.declared.replies.Got.TheVariants as got
 use Rattle.sq_rows.specs.declared.said.Stepped.{Stepped}
@@ -24,7 +24,6 @@ use Rattle.sq_epochs.specs.declared.acts.Act.TheVariants as act
 use Rattle.sq_checks.specs.Records.{Judged}
 use Rattle.sq_state.specs.Answers.{ask_answer, asked_in, close_answer, died_answer, failed_answer, name_in, open_answer, started_answer, take_answer}
 use Rattle.sq_state.specs.Changes.{after_ask, after_close, after_failed_at, after_open, after_started_at, after_take}
-use Rattle.sq_state.specs.Promises.{entry_at}
 use Rattle.sq_state.specs.Acts.{Due, sends, starts, stops}
 use Rattle.sq_state.specs.Says.{class_in}
 use Rattle.sq_state.specs.States.{State}

@@ -3,8 +3,8 @@ use Rattle.std.specs.Prelude.{◌≡◌, ℕ, suc, pos, ◌+◌, ◌≤◌, List
 use Rattle.std.specs.List.{IsDistinct}
 use Rattle.std.specs.Set.{is_member}
 use Rattle.sq_rules.specs.Configurations.{Configuration, IsConfiguration}
-use Rattle.sq_rules.specs.Entries.{History}
-use Rattle.sq_rules.specs.Readings.{current, latest, offset_of}
+use Rattle.sq_machine.specs.Entries.{History}
+use Rattle.sq_machine.specs.Readings.{current, latest, offset_of}
 use Rattle.sq_history.specs.Given.{EachOf}
 use Rattle.sq_state.specs.Promises.{StandsFor}
 use Rattle.sq_state.specs.States.{State}

@@ -11,9 +11,8 @@ use sq_base::{Moment, WantOfMemory};
 use sq_calls::DeskFault;
 use sq_engine::Engine;
 use sq_epochs::Act;
+use sq_machine::{Entry, Event, Told, later};
 use sq_note::Journal;
-use sq_rules::{Entry, Event, Told};
-use sq_state::later;
 use std::alloc::Global;
 
 // The answer that tells of the act that is due, if one is.

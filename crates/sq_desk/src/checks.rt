@@ -3,8 +3,8 @@ ghost use Rattle.std.specs.Prelude.{◌≡◌, ◌+◌, max, true, is_some, IfOk
 ghost use Rattle.sq_base.specs.Requests.{have_plain_names};
 ghost use Rattle.sq_base.specs.Targets.{target_of};
 ghost use Rattle.sq_rules.specs.Sights.{asked_request, unversioned};
-ghost use Rattle.sq_rules.specs.declared.entries.Event.TheVariants as event;
-ghost use Rattle.sq_rules.specs.declared.entries.Told.TheVariants as told;
+ghost use Rattle.sq_machine.specs.declared.entries.Event.TheVariants as event;
+ghost use Rattle.sq_machine.specs.declared.entries.Told.TheVariants as told;
 ghost use Rattle.sq_state.specs.Answers.{ask_answer, asked_in};
 ghost use Rattle.sq_state.specs.Changes.{after_ask};
 ghost use Rattle.sq_engine.specs.EngineViews.{state_of};
@@ -15,9 +15,8 @@ use crate::notes::Notes;
 use sq_base::{CheckNo, ConnNo, Copying, Moment, Request, WantOfMemory};
 use sq_calls::DeskFault;
 use sq_engine::Engine;
+use sq_machine::{Entry, Event, Told, later};
 use sq_note::Journal;
-use sq_rules::{Entry, Event, Told};
-use sq_state::later;
 use std::alloc::Global;
 
 // What holds of every request.

@@ -3,7 +3,7 @@ ghost use Rattle.std.specs.Prelude.{◌≡◌, ◌+◌, max, IfOk};
 ghost use Rattle.sq_engine.specs.EngineViews.{state_of};
 ghost use Rattle.sq_engine.specs.Lines.{got_told};
 ghost use Rattle.sq_engine.specs.Promised.{IsPromised};
-ghost use Rattle.sq_rules.specs.declared.entries.Event.TheVariants as event;
+ghost use Rattle.sq_machine.specs.declared.entries.Event.TheVariants as event;
 ghost use Rattle.sq_desk.specs.Calling.{IsLinePromised, Leaves, Reads, desk_of, load_of};
 
 use crate::desks::{Desk, First};
@@ -12,9 +12,8 @@ use sq_base::{Moment, ProcNo, Text, WantOfMemory};
 use sq_calls::DeskFault;
 use sq_channel::Got;
 use sq_engine::Engine;
+use sq_machine::{Entry, Event, Told, later};
 use sq_note::Journal;
-use sq_rules::{Entry, Event, Told};
-use sq_state::later;
 use std::alloc::Global;
 
 // The answer that tells what a line comes to.

@@ -7,9 +7,9 @@ ghost use Rattle.sq_desk.specs.Noting.{IsNoted, IsReady, after_refusal, counted}
 
 use sq_base::{EpochNo, WantOfMemory};
 use sq_calls::DeskFault;
+use sq_machine::{Entry, Refusal};
 use sq_note::Journal;
 use sq_outside::{COUNT_LIMIT, Failed};
-use sq_rules::{Entry, Refusal};
 use std::marker::Model;
 
 /// For how many entries places may be made, but for a few more.

@@ -9,9 +9,8 @@ use crate::notes::Notes;
 use sq_base::{Copying, EpochNo, Moment, Text, WantOfMemory};
 use sq_calls::DeskFault;
 use sq_engine::Engine;
+use sq_machine::{Entry, Event, Told, later};
 use sq_note::Journal;
-use sq_rules::{Entry, Event, Told};
-use sq_state::later;
 use sq_urlmatch::Setup;
 use std::alloc::Global;
 

@@ -1,7 +1,7 @@
 //! How starts of processes end.
 ghost use Rattle.std.specs.Prelude.{◌≡◌, ◌+◌, max, Some, OnOk};
-ghost use Rattle.sq_rules.specs.declared.entries.Event.TheVariants as event;
-ghost use Rattle.sq_rules.specs.declared.entries.Told.TheVariants as told;
+ghost use Rattle.sq_machine.specs.declared.entries.Event.TheVariants as event;
+ghost use Rattle.sq_machine.specs.declared.entries.Told.TheVariants as told;
 ghost use Rattle.sq_state.specs.Answers.{failed_answer, name_in, started_answer};
 ghost use Rattle.sq_state.specs.Changes.{after_failed_at, after_started_at};
 ghost use Rattle.sq_engine.specs.EngineViews.{state_of};
@@ -13,9 +13,8 @@ use crate::notes::Notes;
 use sq_base::{EpochNo, Moment, ProcNo, WantOfMemory};
 use sq_calls::DeskFault;
 use sq_engine::Engine;
+use sq_machine::{Entry, Event, Told, later};
 use sq_note::Journal;
-use sq_rules::{Entry, Event, Told};
-use sq_state::later;
 use std::alloc::Global;
 
 // A process was started, and a place is made for its death.

@@ -1,7 +1,7 @@
 //! Checks go on.
 ghost use Rattle.std.specs.Prelude.{◌≡◌, ◌+◌, ◌≤◌, [], max, vec_len, vec_capacity, IfOk};
 ghost use Rattle.std.specs.Option.{option_map_or};
-ghost use Rattle.sq_rules.specs.declared.entries.Event.TheVariants as event;
+ghost use Rattle.sq_machine.specs.declared.entries.Event.TheVariants as event;
 ghost use Rattle.sq_state.specs.Answers.{name_in};
 ghost use Rattle.sq_engine.specs.EngineViews.{state_of};
 ghost use Rattle.sq_engine.specs.Stepping.{after_step_now, epoch_of, step_now, stepped_told};
@@ -12,10 +12,9 @@ use crate::notes::Notes;
 use sq_base::{CheckNo, EpochNo, Moment, Text, WantOfMemory};
 use sq_calls::DeskFault;
 use sq_engine::Engine;
+use sq_machine::{Entry, Event, Told, later};
 use sq_note::Journal;
 use sq_rows::Stepped;
-use sq_rules::{Entry, Event, Told};
-use sq_state::later;
 use std::alloc::Global;
 
 /// The bytes that the name of a class has at most.

@@ -3,8 +3,8 @@ ghost use Rattle.std.specs.Prelude.{◌≡◌, ◌+◌, ℕ, max, Some, IfOk};
 ghost use Rattle.sq_checks.specs.OpenChecks.{CheckParts};
 ghost use Rattle.sq_checks.specs.Records.{judged_of};
 ghost use Rattle.sq_checks.specs.Tables.{value_at};
-ghost use Rattle.sq_rules.specs.declared.entries.Event.TheVariants as event;
-ghost use Rattle.sq_rules.specs.declared.entries.Told.TheVariants as told;
+ghost use Rattle.sq_machine.specs.declared.entries.Event.TheVariants as event;
+ghost use Rattle.sq_machine.specs.declared.entries.Told.TheVariants as told;
 ghost use Rattle.sq_state.specs.Answers.{take_answer};
 ghost use Rattle.sq_state.specs.Changes.{after_take};
 ghost use Rattle.sq_engine.specs.EngineViews.{state_of};
@@ -16,9 +16,9 @@ use sq_base::{CheckNo, Moment, WantOfMemory};
 use sq_calls::DeskFault;
 use sq_checks::Record;
 use sq_engine::Engine;
+use sq_machine::{Entry, Event, Told, later};
 use sq_note::Journal;
-use sq_rules::{Entry, Event, Told};
-use sq_state::{copy_outcome, later};
+use sq_state::copy_outcome;
 use std::alloc::Global;
 
 // The outcome of a check is taken, and the check is over.

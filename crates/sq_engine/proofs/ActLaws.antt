@@ -4,12 +4,12 @@ use Rattle.std.proofs.lemmas.Option.{same_Some}
 use Rattle.std.specs.List.{flat_map, slice_get}
 use Rattle.std.specs.Prelude.{slice_set}
 use Rattle.std.specs.Option.{option_and_then, option_map, option_map_or, option_or}
-use Rattle.sq_rules.specs.declared.entries.Event.TheVariants as event
-use Rattle.sq_rules.specs.DueActs.{Place, first_made, first_of}
-use Rattle.sq_rules.specs.Farms.{Sending, Stock, Waiting, after_send, after_send_by, after_start, send_of, start_due}
-use Rattle.sq_rules.specs.Living.{some_free}
-use Rattle.sq_rules.specs.Numbered.{below, picks}
-use Rattle.sq_rules.specs.OpenLookups.{question_of}
+use Rattle.sq_machine.specs.declared.entries.Event.TheVariants as event
+use Rattle.sq_machine.specs.DueActs.{Place, first_made, first_of}
+use Rattle.sq_machine.specs.Farms.{Sending, Stock, Waiting, after_send, after_send_by, after_start, send_of, start_due}
+use Rattle.sq_machine.specs.Living.{some_free}
+use Rattle.sq_machine.specs.Numbered.{below, picks}
+use Rattle.sq_machine.specs.OpenLookups.{question_of}
 use Rattle.sq_rows.specs.ClassRows.{ClassRow, after_sending, after_starting}
 use Rattle.sq_history.proofs.RowLaws.{picks_same}
 use Rattle.sq_part.specs.Parts.{PartState}

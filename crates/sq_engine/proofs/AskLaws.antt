@@ -6,14 +6,14 @@ use Rattle.std.specs.Option.{option_map}
 use Rattle.sq_base.specs.Addresses.{Address}
 use Rattle.sq_base.specs.Requests.{HttpRequest}
 use Rattle.sq_base.specs.declared.requests.Field.{Field}
-use Rattle.sq_rules.specs.declared.entries.Told.TheVariants as told
-use Rattle.sq_rules.specs.declared.refusals.Refusal.TheVariants as refusal
+use Rattle.sq_machine.specs.declared.entries.Told.TheVariants as told
+use Rattle.sq_machine.specs.declared.refusals.Refusal.TheVariants as refusal
 use Rattle.sq_rules.specs.declared.sights.Peer.{Peer}
 use Rattle.sq_rules.specs.declared.sights.Sight.{Sight}
-use Rattle.sq_rules.specs.Checks.{peer_or_nobody}
-use Rattle.sq_rules.specs.Limits.{last_number}
-use Rattle.sq_rules.specs.Machine.{gives, refuse_if, refuse_open, refuses}
-use Rattle.sq_rules.specs.Rising.{AreAbove, Rises}
+use Rattle.sq_machine.specs.Checks.{peer_or_nobody}
+use Rattle.sq_machine.specs.Limits.{last_number}
+use Rattle.sq_machine.specs.Next.{gives, refuse_if, refuse_open, refuses}
+use Rattle.sq_machine.specs.Rising.{AreAbove, Rises}
 use Rattle.sq_rules.specs.Sights.{asked_request, minute_of_week, unversioned, unversioned_sight}
 use Rattle.sq_rows.specs.CheckRows.{Held, begun, held_on}
 use Rattle.sq_checks.proofs.AloneLaws.{alone_more, held_on_kept, held_on_more}

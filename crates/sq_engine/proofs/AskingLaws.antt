@@ -2,8 +2,8 @@
 use Rattle.std.proofs.Common.{◌≡◌, ◌∙◌, ◌==◌, ℕ, zero, suc, List, [], ◌∷◌, Bool, true, false, if◌then◌else◌, length, Option, None, Some, IfSome, is_some, refl, ap, sym, subst, arith}
 use Rattle.std.specs.List.{slice_get}
 use Rattle.sq_rules.specs.Classes.{Class}
-use Rattle.sq_rules.specs.Farms.{full}
-use Rattle.sq_rules.specs.OpenLookups.{pending_in, question_of}
+use Rattle.sq_machine.specs.Farms.{full}
+use Rattle.sq_machine.specs.OpenLookups.{pending_in, question_of}
 use Rattle.sq_rows.specs.declared.said.Said.{Said}
 use Rattle.sq_part.specs.Parts.{PartState}
 use Rattle.sq_checks.proofs.StepLaws.{need_noted}

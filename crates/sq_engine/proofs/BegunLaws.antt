@@ -7,7 +7,7 @@ use Rattle.sq_base.specs.declared.helpers.What.{What}
 use Rattle.sq_base.specs.declared.helpers.What.TheVariants as what
 use Rattle.sq_base.specs.Requests.{HttpRequest}
 use Rattle.sq_rules.specs.Configurations.{Configuration}
-use Rattle.sq_rules.specs.Losses.{Loss}
+use Rattle.sq_machine.specs.Losses.{Loss}
 use Rattle.sq_rules.specs.declared.sights.Sight.{Sight}
 use Rattle.sq_checks.specs.OpenChecks.{CheckParts, all_before, all_ended, begun_parts, change_at, ended_by, rows_of, settled, settled_by, without_entry}
 use Rattle.sq_checks.specs.Stages.{came_in}

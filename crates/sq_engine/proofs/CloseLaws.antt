@@ -3,12 +3,12 @@ use Rattle.std.proofs.Common.{◌≡◌, ◌∙◌, ◌==◌, ◌-◌, ◌||◌,
 use Rattle.std.proofs.lemmas.Option.{none-some}
 use Rattle.std.specs.Option.{option_map}
 use Rattle.sq_base.specs.Addresses.{Address}
-use Rattle.sq_rules.specs.declared.entries.Told.TheVariants as told
-use Rattle.sq_rules.specs.declared.refusals.Refusal.TheVariants as refusal
+use Rattle.sq_machine.specs.declared.entries.Told.TheVariants as told
+use Rattle.sq_machine.specs.declared.refusals.Refusal.TheVariants as refusal
 use Rattle.sq_rules.specs.declared.sights.Peer.{Peer}
-use Rattle.sq_rules.specs.Connections.{is_address}
-use Rattle.sq_rules.specs.DueActs.{Place}
-use Rattle.sq_rules.specs.Machine.{gives, refuses}
+use Rattle.sq_machine.specs.Connections.{is_address}
+use Rattle.sq_machine.specs.DueActs.{Place}
+use Rattle.sq_machine.specs.Next.{gives, refuses}
 use Rattle.sq_rows.specs.CheckRows.{Held, held_on, without_conn}
 use Rattle.sq_checks.proofs.AloneLaws.{conn_absent}
 use Rattle.sq_checks.specs.Conns.{OpenConns, check_in, client_in, lowered}

@@ -3,7 +3,7 @@ use Rattle.std.proofs.Common.{◌≡◌, ◌∙◌, ◌==◌, ◌-◌, ◌&&◌,
 use Rattle.std.proofs.lemmas.Option.{none-some, same_Some}
 use Rattle.std.specs.List.{list_any}
 use Rattle.std.specs.Option.{option_map, option_map_or}
-use Rattle.sq_rules.specs.Rising.{Rises}
+use Rattle.sq_machine.specs.Rising.{Rises}
 use Rattle.sq_rows.specs.CheckRows.{Held, held_at, without_check}
 use Rattle.sq_checks.proofs.EpochLaws.{of_epoch_more, of_epoch_without}
 use Rattle.sq_checks.specs.OpenChecks.{of_epoch}

@@ -2,7 +2,7 @@
 use Rattle.std.proofs.Common.{◌≡◌, ◌∙◌, ◌==◌, ◌&&◌, ◌||◌, inl, ℕ, suc, List, [], ◌∷◌, Bool, true, false, not, if◌then◌else◌, nat_lt, filter, Option, None, Some, is_some, refl, ap, sym, subst}
 use Rattle.std.proofs.lemmas.Option.{none-some, same_Some}
 use Rattle.std.specs.Option.{option_map}
-use Rattle.sq_rules.specs.OpenLookups.{LookupRow, all_below, is_open_lookup, key_of, question_of}
+use Rattle.sq_machine.specs.OpenLookups.{LookupRow, all_below, is_open_lookup, key_of, question_of}
 use Rattle.sq_rows.specs.CheckRows.{Ends, after_ends, served}
 use Rattle.sq_rows.specs.ClassRows.{ClassRow}
 use Rattle.sq_part.specs.Parts.{PartState}

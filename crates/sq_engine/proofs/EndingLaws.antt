@@ -4,8 +4,8 @@ use Rattle.std.proofs.lemmas.Option.{same_Some}
 use Rattle.std.specs.List.{list_any}
 use Rattle.sq_base.specs.declared.helpers.Cause.{Cause}
 use Rattle.sq_base.specs.declared.helpers.What.TheVariants as what
-use Rattle.sq_rules.specs.DueActs.{Place}
-use Rattle.sq_rules.specs.Rising.{Rises}
+use Rattle.sq_machine.specs.DueActs.{Place}
+use Rattle.sq_machine.specs.Rising.{Rises}
 use Rattle.sq_rows.specs.CheckRows.{after_ends}
 use Rattle.sq_rows.specs.ClassRows.{after_death}
 use Rattle.sq_part.specs.Parts.{PartState}

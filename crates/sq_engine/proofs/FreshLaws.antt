@@ -6,8 +6,8 @@ use Rattle.std.specs.Option.{option_and_then, option_map}
 use Rattle.sq_base.specs.Addresses.{Address}
 use Rattle.sq_rules.specs.Classes.{Class}
 use Rattle.sq_rules.specs.Configurations.{Configuration}
-use Rattle.sq_rules.specs.Limits.{last_number}
-use Rattle.sq_rules.specs.OpenLookups.{all_below, is_open_lookup, question_of}
+use Rattle.sq_machine.specs.Limits.{last_number}
+use Rattle.sq_machine.specs.OpenLookups.{all_below, is_open_lookup, question_of}
 use Rattle.sq_rows.specs.CheckRows.{held_on}
 use Rattle.sq_rows.specs.ClassRows.{new_row}
 use Rattle.sq_part.specs.Parts.{PartState}

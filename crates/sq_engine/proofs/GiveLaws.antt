@@ -5,8 +5,8 @@ use Rattle.std.specs.Map.Iter.{deref}
 use Rattle.std.specs.Option.{option_and_then}
 use Rattle.sq_base.specs.declared.helpers.What.{What}
 use Rattle.sq_lookup.specs.Waits.{has_check}
-use Rattle.sq_rules.specs.Events.{is_number}
-use Rattle.sq_rules.specs.Rising.{Rises}
+use Rattle.sq_machine.specs.Events.{is_number}
+use Rattle.sq_machine.specs.Rising.{Rises}
 use Rattle.sq_checks.specs.OpenChecks.{CheckParts, all_ended, change_at, change_entry, ended_by, rows_of, wait_at}
 use Rattle.sq_checks.specs.Stages.{ended_stage, question_in}
 use Rattle.sq_checks.specs.declared.stages.Stage.{Stage}

@@ -7,9 +7,9 @@ use Rattle.std.specs.Option.{option_and_then, option_map, option_map_or}
 use Rattle.sq_base.specs.declared.helpers.Cause.{Cause}
 use Rattle.sq_base.specs.declared.helpers.What.{What}
 use Rattle.sq_base.specs.declared.helpers.What.TheVariants as what
-use Rattle.sq_rules.specs.Events.{is_number}
-use Rattle.sq_rules.specs.Losses.{Loss}
-use Rattle.sq_rules.specs.OpenLookups.{LookupRow, is_open_lookup, key_of, question_of}
+use Rattle.sq_machine.specs.Events.{is_number}
+use Rattle.sq_machine.specs.Losses.{Loss}
+use Rattle.sq_machine.specs.OpenLookups.{LookupRow, is_open_lookup, key_of, question_of}
 use Rattle.sq_rows.specs.ClassRows.{ClassRow}
 use Rattle.sq_lookup.specs.Waits.{has_check}
 use Rattle.sq_part.specs.Losing.{IsHandedOut, handed_out, lost_cause}

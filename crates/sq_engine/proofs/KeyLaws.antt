@@ -6,17 +6,17 @@ use Rattle.std.specs.Cmp.Lexicographic.{same_text}
 use Rattle.std.specs.Option.{option_map}
 use Rattle.sq_base.specs.declared.helpers.Answer.{Answer}
 use Rattle.sq_base.specs.declared.helpers.Cause.TheVariants as cause
-use Rattle.sq_rules.specs.AnswerReadings.{waits_told}
+use Rattle.sq_machine.specs.AnswerReadings.{waits_told}
 use Rattle.sq_rules.specs.Classes.{Class}
-use Rattle.sq_rules.specs.Farms.{full}
-use Rattle.sq_rules.specs.KeptLists.{KeptList, fresh_for, same_key}
-use Rattle.sq_rules.specs.Limits.{key_limit}
-use Rattle.sq_rules.specs.Marks.{Put}
-use Rattle.sq_rules.specs.OpenLookups.{LookupRow, all_below, is_open_lookup, key_of, pending_in}
-use Rattle.sq_rules.specs.StepRule.{StepSays, says_asked, says_fault, says_fresh, says_need}
-use Rattle.sq_rules.specs.declared.entries.Told.{Told}
-use Rattle.sq_rules.specs.declared.entries.Told.TheVariants as told
-use Rattle.sq_rules.specs.declared.kept.KeptVerdict.{KeptVerdict}
+use Rattle.sq_machine.specs.Farms.{full}
+use Rattle.sq_machine.specs.KeptLists.{KeptList, fresh_for, same_key}
+use Rattle.sq_machine.specs.Limits.{key_limit}
+use Rattle.sq_machine.specs.Marks.{Put}
+use Rattle.sq_machine.specs.OpenLookups.{LookupRow, all_below, is_open_lookup, key_of, pending_in}
+use Rattle.sq_machine.specs.StepRule.{StepSays, says_asked, says_fault, says_fresh, says_need}
+use Rattle.sq_machine.specs.declared.entries.Told.{Told}
+use Rattle.sq_machine.specs.declared.entries.Told.TheVariants as told
+use Rattle.sq_machine.specs.declared.kept.KeptVerdict.{KeptVerdict}
 use Rattle.sq_rows.specs.ClassRows.{ClassRow, with_took}
 use Rattle.sq_rows.specs.StepRows.{after_says, question_told, says_of_row, stepped_of, with_put}
 use Rattle.sq_rows.specs.declared.said.Said.{Said}

@@ -1,7 +1,7 @@
 -- Live epochs from whose lists a check was taken away.
 use Rattle.std.proofs.Common.{◌≡◌, ◌∙◌, ◌==◌, ◌&&◌, ◌⊎◌, inl, inr, ℕ, List, Bool, true, false, if◌then◌else◌, Option, None, Some, is_some, refl, ap, sym, subst, arith}
 use Rattle.std.specs.Option.{option_map}
-use Rattle.sq_rules.specs.OpenLookups.{question_of}
+use Rattle.sq_machine.specs.OpenLookups.{question_of}
 use Rattle.sq_rows.specs.CheckRows.{Held}
 use Rattle.sq_part.specs.Parts.{PartState}
 use Rattle.sq_checks.specs.OpenChecks.{CheckParts}

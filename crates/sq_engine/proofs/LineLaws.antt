@@ -9,12 +9,12 @@ use Rattle.sq_channel.specs.Gots.{got_at, got_by, got_in}
 use Rattle.sq_channel.specs.declared.replies.Got.{Got}
 use Rattle.sq_channel.specs.declared.replies.Got.TheVariants as got
 use Rattle.sq_farm.specs.Replies.{got_of}
-use Rattle.sq_rules.specs.Channels.{Channels, is_open, slot_of}
-use Rattle.sq_rules.specs.DueActs.{Place}
-use Rattle.sq_rules.specs.Living.{find_proc, lives, slots_by, slots_in}
-use Rattle.sq_rules.specs.Machine.{gives, refuses}
-use Rattle.sq_rules.specs.Transcripts.{LineIs, OnFree, Outside, ReplyTo, line_at, line_by, line_is, line_told}
-use Rattle.sq_rules.specs.declared.refusals.Refusal.TheVariants as refusal
+use Rattle.sq_machine.specs.Channels.{Channels, is_open, slot_of}
+use Rattle.sq_machine.specs.DueActs.{Place}
+use Rattle.sq_machine.specs.Living.{find_proc, lives, slots_by, slots_in}
+use Rattle.sq_machine.specs.Next.{gives, refuses}
+use Rattle.sq_machine.specs.Transcripts.{LineIs, OnFree, Outside, ReplyTo, line_at, line_by, line_is, line_told}
+use Rattle.sq_machine.specs.declared.refusals.Refusal.TheVariants as refusal
 use Rattle.sq_part.specs.Parts.{PartState}
 use Rattle.sq_epochs.specs.EpochProcs.{AreHomed, is_place, lives_in}
 use Rattle.sq_epochs.specs.EpochStates.{home_at, part_at}

@@ -3,14 +3,14 @@ use Rattle.std.proofs.Common.{◌≡◌, ◌∙◌, ◌==◌, ◌&&◌, ◌||◌
 use Rattle.std.proofs.lemmas.Bool.Decides.{nat_tests}
 use Rattle.std.proofs.lemmas.Option.{none-some, same_Some}
 use Rattle.sq_base.specs.declared.helpers.Cause.TheVariants as cause
-use Rattle.sq_rules.specs.AnswerReadings.{waits_told}
+use Rattle.sq_machine.specs.AnswerReadings.{waits_told}
 use Rattle.sq_rules.specs.Classes.{Class}
-use Rattle.sq_rules.specs.KeptLists.{KeptList, fresh_for, same_key}
-use Rattle.sq_rules.specs.Limits.{key_limit}
-use Rattle.sq_rules.specs.Marks.{Put}
-use Rattle.sq_rules.specs.OpenLookups.{LookupRow, all_below, is_open_lookup, pending_in}
-use Rattle.sq_rules.specs.StepRule.{StepSays, says_asked, says_fault, says_fresh, says_need}
-use Rattle.sq_rules.specs.declared.kept.KeptVerdict.{KeptVerdict}
+use Rattle.sq_machine.specs.KeptLists.{KeptList, fresh_for, same_key}
+use Rattle.sq_machine.specs.Limits.{key_limit}
+use Rattle.sq_machine.specs.Marks.{Put}
+use Rattle.sq_machine.specs.OpenLookups.{LookupRow, all_below, is_open_lookup, pending_in}
+use Rattle.sq_machine.specs.StepRule.{StepSays, says_asked, says_fault, says_fresh, says_need}
+use Rattle.sq_machine.specs.declared.kept.KeptVerdict.{KeptVerdict}
 use Rattle.sq_rows.specs.ClassRows.{ClassRow}
 use Rattle.sq_rows.specs.StepRows.{after_says, with_put}
 use Rattle.sq_engine.proofs.TableLaws.{number_self}

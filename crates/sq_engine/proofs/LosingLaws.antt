@@ -5,12 +5,12 @@ use Rattle.std.specs.Option.{option_map}
 use Rattle.sq_base.specs.declared.helpers.Cause.{Cause}
 use Rattle.sq_base.specs.declared.helpers.Cause.TheVariants as cause
 use Rattle.sq_base.specs.declared.helpers.What.TheVariants as what
-use Rattle.sq_rules.specs.Channels.{is_open}
-use Rattle.sq_rules.specs.Farms.{is_last_start}
-use Rattle.sq_rules.specs.Living.{slots_in}
-use Rattle.sq_rules.specs.Losses.{Loss}
-use Rattle.sq_rules.specs.OpenLookups.{LookupRow, is_open_lookup, key_of, question_of, waits_in}
-use Rattle.sq_rules.specs.Rising.{Rises}
+use Rattle.sq_machine.specs.Channels.{is_open}
+use Rattle.sq_machine.specs.Farms.{is_last_start}
+use Rattle.sq_machine.specs.Living.{slots_in}
+use Rattle.sq_machine.specs.Losses.{Loss}
+use Rattle.sq_machine.specs.OpenLookups.{LookupRow, is_open_lookup, key_of, question_of, waits_in}
+use Rattle.sq_machine.specs.Rising.{Rises}
 use Rattle.sq_rows.specs.CheckRows.{after_ends}
 use Rattle.sq_rows.specs.ClassRows.{ClassRow, after_death, after_failed, is_waiting}
 use Rattle.sq_part.specs.Losing.{handed_out, lost_cause}

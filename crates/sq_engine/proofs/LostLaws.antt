@@ -5,10 +5,10 @@ use Rattle.std.specs.Option.{option_and_then, option_map}
 use Rattle.sq_base.specs.declared.helpers.Answer.{Answer}
 use Rattle.sq_base.specs.declared.helpers.Cause.{Cause}
 use Rattle.sq_base.specs.declared.helpers.What.TheVariants as what
-use Rattle.sq_rules.specs.Losses.{Loss}
-use Rattle.sq_rules.specs.Events.{is_number}
-use Rattle.sq_rules.specs.OpenLookups.{LookupRow, is_open_lookup, key_of}
-use Rattle.sq_rules.specs.Rising.{AreAbove, Rises}
+use Rattle.sq_machine.specs.Losses.{Loss}
+use Rattle.sq_machine.specs.Events.{is_number}
+use Rattle.sq_machine.specs.OpenLookups.{LookupRow, is_open_lookup, key_of}
+use Rattle.sq_machine.specs.Rising.{AreAbove, Rises}
 use Rattle.sq_part.specs.Parts.{PartState}
 use Rattle.sq_rows.specs.CheckRows.{Ends, Held, after_ends, no_end, one_end, served, served_by}
 use Rattle.sq_part.specs.Losing.{lost_cause}

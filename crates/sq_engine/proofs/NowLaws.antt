@@ -3,17 +3,17 @@ use Rattle.std.proofs.Common.{◌≡◌, ◌∙◌, ℕ, List, [], ◌∷◌, tr
 use Rattle.std.proofs.lemmas.Option.{none-some, same_Some}
 use Rattle.std.specs.List.{slice_get}
 use Rattle.std.specs.Option.{option_and_then, option_map, option_map_or}
-use Rattle.sq_rules.specs.declared.entries.Told.{Told}
+use Rattle.sq_machine.specs.declared.entries.Told.{Told}
 use Rattle.sq_rules.specs.declared.outcomes.Outcome.{Outcome}
 use Rattle.sq_rules.specs.declared.outcomes.Why.TheVariants as why
-use Rattle.sq_rules.specs.declared.refusals.Refusal.{Refusal}
-use Rattle.sq_rules.specs.declared.refusals.Refusal.TheVariants as refusal
+use Rattle.sq_machine.specs.declared.refusals.Refusal.{Refusal}
+use Rattle.sq_machine.specs.declared.refusals.Refusal.TheVariants as refusal
 use Rattle.sq_rules.specs.declared.values.Value.TheVariants as value
-use Rattle.sq_rules.specs.Checks.{Asked}
+use Rattle.sq_machine.specs.Checks.{Asked}
 use Rattle.sq_rules.specs.Configurations.{Configuration, IsConfiguration}
-use Rattle.sq_rules.specs.Machine.{Next, refuses}
-use Rattle.sq_rules.specs.FullNext.{step_next}
-use Rattle.sq_rules.specs.StepRule.{class_of_acl, says_done}
+use Rattle.sq_machine.specs.Next.{Next, refuses}
+use Rattle.sq_machine.specs.Machine.{step_next}
+use Rattle.sq_machine.specs.StepRule.{class_of_acl, says_done}
 use Rattle.sq_rules.specs.Verdicts.{verdict_over}
 use Rattle.sq_rows.specs.CheckRows.{held_at}
 use Rattle.sq_history.proofs.ConfigurationLaws.{NeedsClass, needs_class}

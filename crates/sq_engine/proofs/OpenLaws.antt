@@ -1,12 +1,12 @@
 -- A connection that opens: what is answered, and what is left.
 use Rattle.std.proofs.Common.{◌≡◌, ◌∙◌, ◌==◌, ℕ, suc, true, false, if◌then◌else◌, nat_le, length, Some, is_some, refl}
 use Rattle.sq_base.specs.Addresses.{Address}
-use Rattle.sq_rules.specs.declared.entries.Told.TheVariants as told
-use Rattle.sq_rules.specs.declared.refusals.Refusal.TheVariants as refusal
+use Rattle.sq_machine.specs.declared.entries.Told.TheVariants as told
+use Rattle.sq_machine.specs.declared.refusals.Refusal.TheVariants as refusal
 use Rattle.sq_rules.specs.declared.sights.Peer.{Peer}
-use Rattle.sq_rules.specs.Connections.{is_address}
-use Rattle.sq_rules.specs.Limits.{conn_limit}
-use Rattle.sq_rules.specs.Machine.{gives, refuses}
+use Rattle.sq_machine.specs.Connections.{is_address}
+use Rattle.sq_machine.specs.Limits.{conn_limit}
+use Rattle.sq_machine.specs.Next.{gives, refuses}
 use Rattle.sq_checks.specs.Conns.{OpenConns, check_in, client_in}
 use Rattle.sq_checks.specs.Counts.{tally}
 use Rattle.sq_state.specs.Answers.{open_answer}

@@ -6,9 +6,9 @@ use Rattle.std.specs.Option.{option_map}
 use Rattle.sq_base.specs.Addresses.{Address}
 use Rattle.sq_rules.specs.declared.sights.Peer.{Peer}
 use Rattle.sq_rules.specs.Configurations.{Configuration}
-use Rattle.sq_rules.specs.DueActs.{Place}
-use Rattle.sq_rules.specs.OpenLookups.{all_below, is_open_lookup, key_of, question_of}
-use Rattle.sq_rules.specs.Rising.{Rises}
+use Rattle.sq_machine.specs.DueActs.{Place}
+use Rattle.sq_machine.specs.OpenLookups.{all_below, is_open_lookup, key_of, question_of}
+use Rattle.sq_machine.specs.Rising.{Rises}
 use Rattle.sq_rows.specs.CheckRows.{Held, held_at, held_on, without_check, without_conn}
 use Rattle.sq_rows.specs.ClassRows.{ClassRow}
 use Rattle.sq_part.specs.Parts.{PartState}

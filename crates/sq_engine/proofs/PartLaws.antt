@@ -1,8 +1,8 @@
 -- What holds of the parts of an engine of which one was changed.
 use Rattle.std.proofs.Common.{◌≡◌, ◌∙◌, ◌==◌, ◌&&◌, ◌⊎◌, inl, inr, ◌<◌, ℕ, suc, [], Bool, true, false, Option, Some, is_some, refl, ap, sym}
 use Rattle.std.proofs.lemmas.Option.{same_Some}
-use Rattle.sq_rules.specs.Limits.{last_number}
-use Rattle.sq_rules.specs.OpenLookups.{all_below, is_open_lookup, question_of}
+use Rattle.sq_machine.specs.Limits.{last_number}
+use Rattle.sq_machine.specs.OpenLookups.{all_below, is_open_lookup, question_of}
 use Rattle.sq_checks.specs.OpenChecks.{CheckParts}
 use Rattle.sq_checks.specs.Stages.{need_in}
 use Rattle.sq_checks.specs.declared.stages.Need.{Need}

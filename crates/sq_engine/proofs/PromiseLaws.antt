@@ -4,24 +4,24 @@ use Rattle.sq_base.specs.Addresses.{Address}
 use Rattle.sq_base.specs.Targets.{target_of}
 use Rattle.sq_base.specs.declared.helpers.Cause.TheVariants as cause
 use Rattle.sq_base.specs.declared.requests.Field.{Field}
-use Rattle.sq_rules.specs.declared.entries.Event.{Event}
-use Rattle.sq_rules.specs.declared.entries.Event.TheVariants.{Ask, Close, Died, Line, Open, StartFail, Started, Step, Take}
-use Rattle.sq_rules.specs.declared.entries.Told.{Told}
-use Rattle.sq_rules.specs.declared.entries.Told.TheVariants as told
-use Rattle.sq_rules.specs.declared.refusals.Refusal.{Refusal}
-use Rattle.sq_rules.specs.declared.refusals.Refusal.TheVariants as refusal
-use Rattle.sq_rules.specs.Channels.{Channels}
+use Rattle.sq_machine.specs.declared.entries.Event.{Event}
+use Rattle.sq_machine.specs.declared.entries.Event.TheVariants.{Ask, Close, Died, Line, Open, StartFail, Started, Step, Take}
+use Rattle.sq_machine.specs.declared.entries.Told.{Told}
+use Rattle.sq_machine.specs.declared.entries.Told.TheVariants as told
+use Rattle.sq_machine.specs.declared.refusals.Refusal.{Refusal}
+use Rattle.sq_machine.specs.declared.refusals.Refusal.TheVariants as refusal
+use Rattle.sq_machine.specs.Channels.{Channels}
 use Rattle.sq_rules.specs.Classes.{Class}
 use Rattle.sq_rules.specs.Configurations.{Configuration}
-use Rattle.sq_rules.specs.DueActs.{Place}
-use Rattle.sq_rules.specs.Entries.{History}
-use Rattle.sq_rules.specs.Epochs.{class_at}
-use Rattle.sq_rules.specs.FullNext.{full_next, step_next}
-use Rattle.sq_rules.specs.Machine.{Next, gives, refuses}
-use Rattle.sq_rules.specs.Marking.{marked}
-use Rattle.sq_rules.specs.Readings.{latest}
-use Rattle.sq_rules.specs.StepRule.{StepSays}
-use Rattle.sq_rules.specs.Transcripts.{line_is}
+use Rattle.sq_machine.specs.DueActs.{Place}
+use Rattle.sq_machine.specs.Entries.{History}
+use Rattle.sq_machine.specs.Epochs.{class_at}
+use Rattle.sq_machine.specs.Machine.{next, step_next}
+use Rattle.sq_machine.specs.Next.{Next, gives, refuses}
+use Rattle.sq_machine.specs.Marking.{marked}
+use Rattle.sq_machine.specs.Readings.{latest}
+use Rattle.sq_machine.specs.StepRule.{StepSays}
+use Rattle.sq_machine.specs.Transcripts.{line_is}
 use Rattle.sq_channel.specs.declared.replies.Got.{Got}
 use Rattle.sq_channel.specs.declared.replies.Got.TheVariants as got
 use Rattle.sq_rows.specs.CheckRows.{Held, held_at}
@@ -44,23 +44,23 @@ use Rattle.sq_engine.specs.Tellings.{IsTold}
 use Rattle.sq_engine.proofs.LineLaws.{as_line, line_as_line}
 
 -- where the machine answers so by the state, and such an answer leaves what stands for the history with it
-pub by_laws : {A : Type 0} (tell : A → Told) (s new after : State) (next : Next) (now : ℕ) (event : Event) (r : Result A Refusal) → IsTold tell next r → OnOk r (IsSame new after)
-    → ((configs : List Configuration) (h : History) → StandsFor configs h s → latest h ≤ now → full_next configs (marked configs h) now event ≡ next)
-    → ((answer : Told) → next ≡ gives answer → (configs : List Configuration) (h : History) → StandsFor configs h s → latest h ≤ now → IsAnswered configs h now event answer after)
+pub by_laws : {A : Type 0} (tell : A → Told) (s new after : State) (said : Next) (now : ℕ) (event : Event) (r : Result A Refusal) → IsTold tell said r → OnOk r (IsSame new after)
+    → ((configs : List Configuration) (h : History) → StandsFor configs h s → latest h ≤ now → next configs (marked configs h) now event ≡ said)
+    → ((answer : Told) → said ≡ gives answer → (configs : List Configuration) (h : History) → StandsFor configs h s → latest h ≤ now → IsAnswered configs h now event answer after)
     → IsPromised tell s now event r new
-by_laws tell s new after next now event (Ok a) t ok law answered = λ configs h st late. answered_same configs h after new now event (tell a) ok (answered (tell a) t configs h st late)
-by_laws tell s new after next now event (Err refusal.WantOfMemory) t ok law answered = tt
-by_laws tell s new after next now event (Err r) t ok law answered = λ configs h st late. law configs h st late ∙ t
+by_laws tell s new after said now event (Ok a) t ok law answered = λ configs h st late. answered_same configs h after new now event (tell a) ok (answered (tell a) t configs h st late)
+by_laws tell s new after said now event (Err refusal.WantOfMemory) t ok law answered = tt
+by_laws tell s new after said now event (Err r) t ok law answered = λ configs h st late. law configs h st late ∙ t
 
 -- the same of an event that names a class
-pub by_laws_at : {A : Type 0} (tell : A → Told) (s new after : State) (next : Next) (now : ℕ) (event : ℕ → List ℕ → Event) (p : Place) (r : Result A Refusal) → IsTold tell next r → OnOk r (IsSame new after)
+pub by_laws_at : {A : Type 0} (tell : A → Told) (s new after : State) (said : Next) (now : ℕ) (event : ℕ → List ℕ → Event) (p : Place) (r : Result A Refusal) → IsTold tell said r → OnOk r (IsSame new after)
     → ((configs : List Configuration) (h : History) (class : Class) → StandsFor configs h s → latest h ≤ now → class_at configs p.epoch p.class ≡ Some class
-    → full_next configs (marked configs h) now (event p.epoch class.name) ≡ next)
-    → ((answer : Told) → next ≡ gives answer → (configs : List Configuration) (h : History) → StandsFor configs h s → latest h ≤ now → IsAnswered configs h now (event p.epoch (name_in s p)) answer after)
+    → next configs (marked configs h) now (event p.epoch class.name) ≡ said)
+    → ((answer : Told) → said ≡ gives answer → (configs : List Configuration) (h : History) → StandsFor configs h s → latest h ≤ now → IsAnswered configs h now (event p.epoch (name_in s p)) answer after)
     → IsPromisedAt tell s now event p r new
-by_laws_at tell s new after next now event p (Ok a) t ok law answered = λ configs h st late. answered_same configs h after new now (event p.epoch (name_in s p)) (tell a) ok (answered (tell a) t configs h st late)
-by_laws_at tell s new after next now event p (Err refusal.WantOfMemory) t ok law answered = tt
-by_laws_at tell s new after next now event p (Err r) t ok law answered = λ configs h class st late at. law configs h class st late at ∙ t
+by_laws_at tell s new after said now event p (Ok a) t ok law answered = λ configs h st late. answered_same configs h after new now (event p.epoch (name_in s p)) (tell a) ok (answered (tell a) t configs h st late)
+by_laws_at tell s new after said now event p (Err refusal.WantOfMemory) t ok law answered = tt
+by_laws_at tell s new after said now event p (Err r) t ok law answered = λ configs h class st late at. law configs h class st late at ∙ t
 
 pub open_promised : {A : Type 0} (s new : State) (now c : ℕ) (addr : Address) (port : ℕ) (r : Result A Refusal) → IsTold (λ x. told.Fine) (open_answer s c) r
     → OnOk r (IsSame new (after_open c (record { addr = addr; port = port }) now s)) → IsPromised (λ x. told.Fine) s now (Open c addr port) r new

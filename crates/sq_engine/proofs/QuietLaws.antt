@@ -1,7 +1,7 @@
 -- An engine is one still after a class was changed whose questions and checks are as they were.
 use Rattle.std.proofs.Common.{◌≡◌, ◌∙◌, ◌==◌, ◌&&◌, inl, ℕ, suc, Bool, true, false, if◌then◌else◌, Some, refl, ap, sym}
 use Rattle.std.specs.Option.{option_map}
-use Rattle.sq_rules.specs.OpenLookups.{all_below, is_open_lookup, question_of}
+use Rattle.sq_machine.specs.OpenLookups.{all_below, is_open_lookup, question_of}
 use Rattle.sq_rows.specs.ClassRows.{ClassRow}
 use Rattle.sq_part.specs.Parts.{PartState}
 use Rattle.sq_checks.specs.OpenChecks.{rows_of}

@@ -4,19 +4,19 @@ use Rattle.std.proofs.lemmas.Bool.Decides.{nat_tests}
 use Rattle.std.proofs.lemmas.Option.{none-some, same_Some}
 use Rattle.std.specs.List.{list_any}
 use Rattle.std.specs.Option.{option_and_then, option_map, option_map_or}
-use Rattle.sq_rules.specs.declared.entries.Event.TheVariants.{Reconfigure}
-use Rattle.sq_rules.specs.declared.entries.Told.{Told}
-use Rattle.sq_rules.specs.declared.entries.Told.TheVariants as told
-use Rattle.sq_rules.specs.declared.refusals.Refusal.{Refusal}
-use Rattle.sq_rules.specs.declared.refusals.Refusal.TheVariants as refusal
+use Rattle.sq_machine.specs.declared.entries.Event.TheVariants.{Reconfigure}
+use Rattle.sq_machine.specs.declared.entries.Told.{Told}
+use Rattle.sq_machine.specs.declared.entries.Told.TheVariants as told
+use Rattle.sq_machine.specs.declared.refusals.Refusal.{Refusal}
+use Rattle.sq_machine.specs.declared.refusals.Refusal.TheVariants as refusal
 use Rattle.sq_rules.specs.Classes.{Class}
 use Rattle.sq_rules.specs.Configurations.{Configuration}
-use Rattle.sq_rules.specs.KeptLists.{KeptList}
-use Rattle.sq_rules.specs.Limits.{epoch_limit, last_number}
-use Rattle.sq_rules.specs.Machine.{gives, refuses}
-use Rattle.sq_rules.specs.Numbered.{picks}
-use Rattle.sq_rules.specs.OpenLookups.{all_below, is_open_lookup, key_of, question_of}
-use Rattle.sq_rules.specs.Rising.{Rises}
+use Rattle.sq_machine.specs.KeptLists.{KeptList}
+use Rattle.sq_machine.specs.Limits.{epoch_limit, last_number}
+use Rattle.sq_machine.specs.Next.{gives, refuses}
+use Rattle.sq_machine.specs.Numbered.{picks}
+use Rattle.sq_machine.specs.OpenLookups.{all_below, is_open_lookup, key_of, question_of}
+use Rattle.sq_machine.specs.Rising.{Rises}
 use Rattle.sq_rows.specs.CheckRows.{Held}
 use Rattle.sq_rows.specs.ClassRows.{ClassRow, new_row}
 use Rattle.sq_part.specs.Parts.{PartState}

@@ -5,9 +5,9 @@ use Rattle.sq_base.specs.declared.helpers.Reply.{Reply}
 use Rattle.sq_base.specs.declared.helpers.What.{What}
 use Rattle.sq_lookup.specs.Index.{IsListed}
 use Rattle.sq_rules.specs.Classes.{Class}
-use Rattle.sq_rules.specs.OpenLookups.{key_of}
-use Rattle.sq_rules.specs.Questions.{what_of}
-use Rattle.sq_rules.specs.Rising.{Rises}
+use Rattle.sq_machine.specs.OpenLookups.{key_of}
+use Rattle.sq_machine.specs.Questions.{what_of}
+use Rattle.sq_machine.specs.Rising.{Rises}
 use Rattle.sq_part.specs.Parts.{PartState}
 use Rattle.sq_checks.specs.OpenChecks.{CheckParts, all_ended, rows_of}
 use Rattle.sq_epochs.specs.EpochChanges.{HasReplied}

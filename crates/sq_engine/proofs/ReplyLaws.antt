@@ -4,9 +4,9 @@ use Rattle.std.proofs.lemmas.Option.{none-some, same_Some}
 use Rattle.sq_base.specs.declared.helpers.Answer.{Answer}
 use Rattle.sq_base.specs.declared.helpers.What.{What}
 use Rattle.sq_rules.specs.Classes.{Class}
-use Rattle.sq_rules.specs.Events.{is_number}
-use Rattle.sq_rules.specs.OpenLookups.{LookupRow, is_open_lookup, key_of, question_of}
-use Rattle.sq_rules.specs.Rising.{AreAbove, Rises}
+use Rattle.sq_machine.specs.Events.{is_number}
+use Rattle.sq_machine.specs.OpenLookups.{LookupRow, is_open_lookup, key_of, question_of}
+use Rattle.sq_machine.specs.Rising.{AreAbove, Rises}
 use Rattle.sq_rows.specs.CheckRows.{after_ends, one_end}
 use Rattle.sq_rows.specs.ClassRows.{ClassRow, after_reply}
 use Rattle.sq_part.specs.Parts.{PartState}

@@ -5,18 +5,18 @@ use Rattle.std.specs.List.{slice_get}
 use Rattle.std.specs.Option.{option_and_then, option_map, option_map_or}
 use Rattle.sq_base.specs.declared.helpers.Cause.TheVariants as cause
 use Rattle.sq_rules.specs.Classes.{Class}
-use Rattle.sq_rules.specs.Farms.{full}
-use Rattle.sq_rules.specs.FullNext.{step_next}
-use Rattle.sq_rules.specs.KeptLists.{KeptList, fresh_for}
-use Rattle.sq_rules.specs.Limits.{key_limit, last_number}
-use Rattle.sq_rules.specs.Machine.{gives, refuses}
-use Rattle.sq_rules.specs.Marks.{Put}
-use Rattle.sq_rules.specs.OpenLookups.{pending_in}
-use Rattle.sq_rules.specs.StepRule.{StepSays, says_asked, says_fault, says_fresh, says_need}
-use Rattle.sq_rules.specs.declared.entries.Told.{Told}
-use Rattle.sq_rules.specs.declared.entries.Told.TheVariants as told
-use Rattle.sq_rules.specs.declared.kept.KeptVerdict.{KeptVerdict}
-use Rattle.sq_rules.specs.declared.refusals.Refusal.TheVariants as refusal
+use Rattle.sq_machine.specs.Farms.{full}
+use Rattle.sq_machine.specs.Machine.{step_next}
+use Rattle.sq_machine.specs.KeptLists.{KeptList, fresh_for}
+use Rattle.sq_machine.specs.Limits.{key_limit, last_number}
+use Rattle.sq_machine.specs.Next.{gives, refuses}
+use Rattle.sq_machine.specs.Marks.{Put}
+use Rattle.sq_machine.specs.OpenLookups.{pending_in}
+use Rattle.sq_machine.specs.StepRule.{StepSays, says_asked, says_fault, says_fresh, says_need}
+use Rattle.sq_machine.specs.declared.entries.Told.{Told}
+use Rattle.sq_machine.specs.declared.entries.Told.TheVariants as told
+use Rattle.sq_machine.specs.declared.kept.KeptVerdict.{KeptVerdict}
+use Rattle.sq_machine.specs.declared.refusals.Refusal.TheVariants as refusal
 use Rattle.sq_rows.specs.CheckRows.{after_step}
 use Rattle.sq_rows.specs.StepRows.{says_of_row, stepped_of, told_of}
 use Rattle.sq_rows.specs.declared.said.Said.{Said}

@@ -3,12 +3,12 @@ use Rattle.std.proofs.Common.{◌≡◌, ◌∙◌, ◌==◌, ◌&&◌, ◌⊎�
 use Rattle.std.proofs.lemmas.Option.{none-some, same_Some}
 use Rattle.std.specs.Option.{option_map}
 use Rattle.sq_base.specs.declared.helpers.Answer.{Answer}
-use Rattle.sq_rules.specs.AnswerReadings.{waits_told}
+use Rattle.sq_machine.specs.AnswerReadings.{waits_told}
 use Rattle.sq_rules.specs.Classes.{Class}
-use Rattle.sq_rules.specs.Farms.{full}
-use Rattle.sq_rules.specs.Limits.{last_number}
-use Rattle.sq_rules.specs.OpenLookups.{all_below, is_open_lookup, pending_in, question_of}
-use Rattle.sq_rules.specs.StepRule.{StepSays}
+use Rattle.sq_machine.specs.Farms.{full}
+use Rattle.sq_machine.specs.Limits.{last_number}
+use Rattle.sq_machine.specs.OpenLookups.{all_below, is_open_lookup, pending_in, question_of}
+use Rattle.sq_machine.specs.StepRule.{StepSays}
 use Rattle.sq_rows.specs.CheckRows.{after_step}
 use Rattle.sq_rows.specs.ClassRows.{with_took}
 use Rattle.sq_rows.specs.StepRows.{after_says, question_told, says_of_row}

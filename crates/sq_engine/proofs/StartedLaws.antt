@@ -2,12 +2,12 @@
 use Rattle.std.proofs.Common.{◌≡◌, ◌∙◌, ◌==◌, ◌<◌, ◌≤◌, ℕ, suc, List, Bool, true, false, if◌then◌else◌, nat_le, Option, None, Some, is_some, refl, ap, arith}
 use Rattle.std.proofs.lemmas.Bool.Decides.{nat_tests}
 use Rattle.std.specs.Option.{option_or}
-use Rattle.sq_rules.specs.declared.entries.Told.TheVariants as told
-use Rattle.sq_rules.specs.declared.refusals.Refusal.TheVariants as refusal
-use Rattle.sq_rules.specs.DueActs.{Place}
-use Rattle.sq_rules.specs.Limits.{last_number}
-use Rattle.sq_rules.specs.Machine.{gives, refuses}
-use Rattle.sq_rules.specs.OpenLookups.{question_of}
+use Rattle.sq_machine.specs.declared.entries.Told.TheVariants as told
+use Rattle.sq_machine.specs.declared.refusals.Refusal.TheVariants as refusal
+use Rattle.sq_machine.specs.DueActs.{Place}
+use Rattle.sq_machine.specs.Limits.{last_number}
+use Rattle.sq_machine.specs.Next.{gives, refuses}
+use Rattle.sq_machine.specs.OpenLookups.{question_of}
 use Rattle.sq_rows.specs.ClassRows.{after_started}
 use Rattle.sq_part.specs.Parts.{PartState}
 use Rattle.sq_epochs.specs.EpochProcs.{HasStarted, IsStarted, has_start}

@@ -5,15 +5,15 @@ use Rattle.std.specs.Option.{option_map}
 use Rattle.sq_base.specs.declared.helpers.Answer.{Answer}
 use Rattle.sq_base.specs.declared.helpers.Cause.{Cause}
 use Rattle.sq_base.specs.declared.helpers.Cause.TheVariants as cause
-use Rattle.sq_rules.specs.declared.entries.Told.{Told}
-use Rattle.sq_rules.specs.declared.kept.KeptVerdict.{KeptVerdict}
+use Rattle.sq_machine.specs.declared.entries.Told.{Told}
+use Rattle.sq_machine.specs.declared.kept.KeptVerdict.{KeptVerdict}
 use Rattle.sq_rules.specs.Classes.{Class}
-use Rattle.sq_rules.specs.Freshness.{is_due}
-use Rattle.sq_rules.specs.KeptLists.{KeptList, fresh_for}
-use Rattle.sq_rules.specs.KeptReadings.{after_took}
-use Rattle.sq_rules.specs.Limits.{key_limit}
-use Rattle.sq_rules.specs.Marks.{Put}
-use Rattle.sq_rules.specs.StepRule.{StepSays, refresh, says_asked, says_fault, says_fresh, says_kept, says_need}
+use Rattle.sq_machine.specs.Freshness.{is_due}
+use Rattle.sq_machine.specs.KeptLists.{KeptList, fresh_for}
+use Rattle.sq_machine.specs.KeptReadings.{after_took}
+use Rattle.sq_machine.specs.Limits.{key_limit}
+use Rattle.sq_machine.specs.Marks.{Put}
+use Rattle.sq_machine.specs.StepRule.{StepSays, refresh, says_asked, says_fault, says_fresh, says_kept, says_need}
 use Rattle.sq_rows.specs.CheckRows.{after_step}
 use Rattle.sq_rows.specs.ClassRows.{ClassRow, with_took}
 use Rattle.sq_rows.specs.StepRows.{after_says, with_put}

@@ -4,11 +4,11 @@ use Rattle.std.proofs.lemmas.List.{append-nil}
 use Rattle.std.proofs.lemmas.Option.{none-some}
 use Rattle.std.specs.Option.{option_and_then, option_map, option_to_list}
 use Rattle.sq_rules.proofs.SightLaws.{over_unversioned}
-use Rattle.sq_rules.specs.declared.entries.Told.TheVariants as told
+use Rattle.sq_machine.specs.declared.entries.Told.TheVariants as told
 use Rattle.sq_rules.specs.declared.outcomes.Outcome.{Outcome}
-use Rattle.sq_rules.specs.declared.refusals.Refusal.TheVariants as refusal
+use Rattle.sq_machine.specs.declared.refusals.Refusal.TheVariants as refusal
 use Rattle.sq_rules.specs.declared.values.Value.TheVariants as value
-use Rattle.sq_rules.specs.Machine.{gives, refuses}
+use Rattle.sq_machine.specs.Next.{gives, refuses}
 use Rattle.sq_rules.specs.Sights.{unversioned_sight}
 use Rattle.sq_rules.specs.Verdicts.{outcome_so_far, verdict_over}
 use Rattle.sq_checks.specs.Conns.{OpenConns, check_in, client_in}

@@ -2,15 +2,15 @@
 use Rattle.std.specs.Prelude.{◌≡◌, ℕ, ◌≤◌, List, None, Some}
 use Rattle.std.specs.Option.{option_map}
 use Rattle.std.specs.declared.option.Option.{Option}
-use Rattle.sq_rules.specs.declared.entries.Event.TheVariants as event
-use Rattle.sq_rules.specs.declared.entries.Told.{Told}
-use Rattle.sq_rules.specs.declared.entries.Told.TheVariants as told
+use Rattle.sq_machine.specs.declared.entries.Event.TheVariants as event
+use Rattle.sq_machine.specs.declared.entries.Told.{Told}
+use Rattle.sq_machine.specs.declared.entries.Told.TheVariants as told
 use Rattle.sq_rules.specs.Configurations.{Configuration}
-use Rattle.sq_rules.specs.Entries.{History}
-use Rattle.sq_rules.specs.FullNext.{full_next}
-use Rattle.sq_rules.specs.Machine.{nothing}
-use Rattle.sq_rules.specs.Marking.{marked}
-use Rattle.sq_rules.specs.Readings.{latest}
+use Rattle.sq_machine.specs.Entries.{History}
+use Rattle.sq_machine.specs.Machine.{next}
+use Rattle.sq_machine.specs.Next.{nothing}
+use Rattle.sq_machine.specs.Marking.{marked}
+use Rattle.sq_machine.specs.Readings.{latest}
 use Rattle.sq_epochs.specs.DueStates as dues
 use Rattle.sq_epochs.specs.declared.acts.Act.{Act}
 use Rattle.sq_epochs.specs.declared.acts.Act.TheVariants as act
@@ -53,6 +53,6 @@ told_of_act s (act.Start e c) = told.Start e (name_in s (record { epoch = e; cla
 -- what is promised of an act: for every legal history that the state stood for, it is the machine's next answer, and the state that is
 -- left stands for the history with it; where there is no act, the machine has none
 abbrev pub IsActPromised : State → ℕ → Option Act → State → Type 0
-IsActPromised s now None new = (configs : List Configuration) (h : History) → StandsFor configs h s → latest h ≤ now → full_next configs (marked configs h) now event.Act ≡ nothing
+IsActPromised s now None new = (configs : List Configuration) (h : History) → StandsFor configs h s → latest h ≤ now → next configs (marked configs h) now event.Act ≡ nothing
 IsActPromised s now (Some a) new =
     (configs : List Configuration) (h : History) → StandsFor configs h s → latest h ≤ now → IsAnswered configs h now event.Act (told_of_act s a) new

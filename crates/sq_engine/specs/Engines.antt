@@ -2,8 +2,8 @@
 use Rattle.std.specs.Prelude.{◌≡◌, ℕ, suc, ◌<◌, List, [], ◌∷◌, length, true, false, ◌==◌, if◌then◌else◌, Some, None, is_some}
 use Rattle.std.specs.Option.{option_map}
 use Rattle.std.specs.declared.option.Option.{Option}
-use Rattle.sq_rules.specs.Limits.{last_number}
-use Rattle.sq_rules.specs.OpenLookups.{LookupRow, all_below, is_open_lookup, key_of, question_of}
+use Rattle.sq_machine.specs.Limits.{last_number}
+use Rattle.sq_machine.specs.OpenLookups.{LookupRow, all_below, is_open_lookup, key_of, question_of}
 use Rattle.sq_rows.specs.CheckRows.{Held, held_on}
 use Rattle.sq_part.specs.Parts.{PartState}
 use Rattle.sq_checks.specs.Conns.{check_in}

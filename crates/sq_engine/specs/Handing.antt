@@ -2,9 +2,9 @@
 use Rattle.std.specs.Prelude.{◌≡◌, ℕ, List, [], ◌∷◌, true, if◌then◌else◌, is_some, None, Some}
 use Rattle.std.specs.declared.option.Option.{Option}
 use Rattle.sq_base.specs.declared.helpers.What.TheVariants as what
-use Rattle.sq_rules.specs.Events.{is_number}
-use Rattle.sq_rules.specs.Losses.{Loss}
-use Rattle.sq_rules.specs.OpenLookups.{is_open_lookup, question_of, waits_in}
+use Rattle.sq_machine.specs.Events.{is_number}
+use Rattle.sq_machine.specs.Losses.{Loss}
+use Rattle.sq_machine.specs.OpenLookups.{is_open_lookup, question_of, waits_in}
 use Rattle.sq_part.specs.Losing.{handed_out, lost_cause}
 use Rattle.sq_part.specs.Parts.{PartState}
 use Rattle.sq_checks.specs.OpenChecks.{CheckParts, all_ended, wait_at}

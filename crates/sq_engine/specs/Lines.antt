@@ -4,13 +4,13 @@ use Rattle.sq_base.specs.declared.helpers.Cause.{Cause}
 use Rattle.sq_base.specs.declared.helpers.Cause.TheVariants as cause
 use Rattle.sq_base.specs.declared.helpers.Reply.{Reply}
 use Rattle.sq_base.specs.declared.helpers.What.{What}
-use Rattle.sq_rules.specs.declared.entries.Told.{Told}
-use Rattle.sq_rules.specs.declared.entries.Told.TheVariants as told
-use Rattle.sq_rules.specs.Channels.{Channels}
+use Rattle.sq_machine.specs.declared.entries.Told.{Told}
+use Rattle.sq_machine.specs.declared.entries.Told.TheVariants as told
+use Rattle.sq_machine.specs.Channels.{Channels}
 use Rattle.sq_rules.specs.Classes.{Class}
-use Rattle.sq_rules.specs.DueActs.{Place}
-use Rattle.sq_rules.specs.OpenLookups.{key_of}
-use Rattle.sq_rules.specs.Questions.{what_of}
+use Rattle.sq_machine.specs.DueActs.{Place}
+use Rattle.sq_machine.specs.OpenLookups.{key_of}
+use Rattle.sq_machine.specs.Questions.{what_of}
 use Rattle.sq_channel.specs.Gots.{got_in}
 use Rattle.sq_channel.specs.declared.replies.Got.{Got}
 use Rattle.sq_channel.specs.declared.replies.Got.TheVariants as got

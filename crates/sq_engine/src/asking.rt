@@ -3,8 +3,8 @@ ghost use Rattle.std.specs.Prelude.{◌≡◌, ℕ, List, max, suc, true, is_som
 ghost use Rattle.sq_base.specs.Targets.{target_of};
 ghost use Rattle.sq_base.specs.declared.requests.Field.{Field};
 ghost use Rattle.sq_rules.specs.Sights.{asked_request, unversioned};
-ghost use Rattle.sq_rules.specs.declared.entries.Event.TheVariants as event;
-ghost use Rattle.sq_rules.specs.declared.entries.Told.TheVariants as told;
+ghost use Rattle.sq_machine.specs.declared.entries.Event.TheVariants as event;
+ghost use Rattle.sq_machine.specs.declared.entries.Told.TheVariants as told;
 ghost use Rattle.sq_checks.specs.OpenChecks.{begun_parts};
 ghost use Rattle.sq_state.specs.Answers.{ask_answer, asked_in};
 ghost use Rattle.sq_state.specs.Changes.{after_ask};
@@ -14,12 +14,13 @@ ghost use Rattle.sq_engine.specs.EngineViews.{state_of};
 ghost use Rattle.sq_engine.specs.Promised.{IsPromised};
 ghost use Rattle.sq_engine.specs.Tellings.{IsTold};
 
-use crate::engines::{Engine, LAST_NUMBER};
+use crate::engines::Engine;
 use sq_base::{CheckNo, ConnNo, EpochNo, Moment, Request, WantOfMemory};
 use sq_checks::OpenCheck;
 use sq_facts::read_facts;
-use sq_rules::{Refusal, Sight};
-use sq_state::{later, minute_of_week};
+use sq_machine::{LAST_NUMBER, Refusal, later};
+use sq_rules::Sight;
+use sq_state::minute_of_week;
 use sq_urlmatch::Setup;
 use std::alloc::Global;
 use std::sync::Arc;

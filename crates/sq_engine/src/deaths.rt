@@ -1,9 +1,9 @@
 //! Processes end.
 ghost use Rattle.std.specs.Prelude.{◌≡◌, max, true, false, is_some, Some, OnOk, OnErr};
 ghost use Rattle.sq_base.specs.declared.helpers.Cause.TheVariants as cause;
-ghost use Rattle.sq_rules.specs.DueActs.{Place};
-ghost use Rattle.sq_rules.specs.declared.entries.Event.TheVariants as event;
-ghost use Rattle.sq_rules.specs.declared.entries.Told.TheVariants as told;
+ghost use Rattle.sq_machine.specs.DueActs.{Place};
+ghost use Rattle.sq_machine.specs.declared.entries.Event.TheVariants as event;
+ghost use Rattle.sq_machine.specs.declared.entries.Told.TheVariants as told;
 ghost use Rattle.sq_epochs.specs.EpochStates.{home_at};
 ghost use Rattle.sq_state.specs.Answers.{died_answer};
 ghost use Rattle.sq_state.specs.Changes.{after_end_at};
@@ -16,8 +16,7 @@ ghost use Rattle.sq_engine.specs.Tellings.{IsAlwaysTold};
 use crate::engines::Engine;
 use crate::handing::hand_out;
 use sq_base::{Cause, EpochNo, Moment, ProcNo};
-use sq_rules::Refusal;
-use sq_state::later;
+use sq_machine::{Refusal, later};
 
 impl Engine {
     // A living process of this class ends, by this cause; where it ends by a line, its stop is due. It takes no memory.

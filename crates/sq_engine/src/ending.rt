@@ -1,7 +1,7 @@
 //! The outcome of a check is taken, and a connection closes.
 ghost use Rattle.std.specs.Prelude.{◌≡◌, ◌==◌, if◌then◌else◌, ℕ, max, true, is_some, Some, None, IfOk, OnOk, OnErr};
-ghost use Rattle.sq_rules.specs.declared.entries.Event.TheVariants as event;
-ghost use Rattle.sq_rules.specs.declared.entries.Told.TheVariants as told;
+ghost use Rattle.sq_machine.specs.declared.entries.Event.TheVariants as event;
+ghost use Rattle.sq_machine.specs.declared.entries.Told.TheVariants as told;
 ghost use Rattle.sq_rows.specs.CheckRows.{without_conn};
 ghost use Rattle.sq_checks.specs.Conns.{check_in};
 ghost use Rattle.sq_checks.specs.OpenChecks.{CheckParts, rows_of};
@@ -23,8 +23,7 @@ use crate::engines::Engine;
 use sq_base::{CheckNo, ConnNo, Moment};
 use sq_checks::{OpenCheck, Record};
 use sq_epochs::Epochs;
-use sq_rules::Refusal;
-use sq_state::later;
+use sq_machine::{Refusal, later};
 
 // Takes a check away from the list in which it waits, if it waits.
 fn leave(epochs: &mut Epochs, taken: &OpenCheck, check: CheckNo)

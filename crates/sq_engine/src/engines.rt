@@ -9,14 +9,11 @@ use sq_base::{Moment, WantOfMemory};
 use sq_cache::HashSeed;
 use sq_checks::{Conns, OpenChecks};
 use sq_epochs::Epochs;
-use sq_rules::Offset;
+use sq_machine::Offset;
 use sq_urlmatch::Setup;
 use std::alloc::Global;
 use std::marker::Model;
 use std::sync::Arc;
-
-/// The number that is never given.
-pub(crate) const LAST_NUMBER: u64 = 0x7FFF_FFFF_FFFF_FFFF;
 
 /// The machine. A contract sees its parts, and by `state_of` the machine's state.
 pub struct Engine {

@@ -1,6 +1,6 @@
 //! Lost questions are handed out.
 ghost use Rattle.std.specs.Prelude.{◌≡◌, true, map, is_some, Some};
-ghost use Rattle.sq_rules.specs.Rising.{Rises};
+ghost use Rattle.sq_machine.specs.Rising.{Rises};
 ghost use Rattle.sq_part.specs.Parts.{PartState};
 ghost use Rattle.sq_checks.specs.OpenChecks.{rows_of};
 ghost use Rattle.sq_epochs.specs.EpochStates.{IsChanged, part_at};

@@ -1,9 +1,9 @@
 //! Lines of processes.
 ghost use Rattle.std.specs.Prelude.{◌≡◌, max, map, true, is_some, Some, IfOk, OnOk, OnErr};
 ghost use Rattle.sq_part.specs.Parts.{PartState};
-ghost use Rattle.sq_rules.specs.Channels.{is_open};
-ghost use Rattle.sq_rules.specs.Living.{slots_in};
-ghost use Rattle.sq_rules.specs.declared.entries.Event.TheVariants as event;
+ghost use Rattle.sq_machine.specs.Channels.{is_open};
+ghost use Rattle.sq_machine.specs.Living.{slots_in};
+ghost use Rattle.sq_machine.specs.declared.entries.Event.TheVariants as event;
 ghost use Rattle.sq_epochs.specs.EpochStates.{home_at, part_at};
 ghost use Rattle.sq_state.specs.Answers.{line_answer};
 ghost use Rattle.sq_state.specs.States.{IsSame};
@@ -21,8 +21,7 @@ use sq_checks::OpenChecks;
 use sq_farm::Got;
 use sq_history::what_of;
 use sq_lookup::Checks;
-use sq_rules::Refusal;
-use sq_state::later;
+use sq_machine::{Refusal, later};
 use std::alloc::Global;
 
 // A check's copy of what the question ended with that it waits for.

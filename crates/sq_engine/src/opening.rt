@@ -1,7 +1,7 @@
 //! A connection opens.
 ghost use Rattle.std.specs.Prelude.{◌≡◌, max, OnOk, OnErr};
-ghost use Rattle.sq_rules.specs.declared.entries.Event.TheVariants as event;
-ghost use Rattle.sq_rules.specs.declared.entries.Told.TheVariants as told;
+ghost use Rattle.sq_machine.specs.declared.entries.Event.TheVariants as event;
+ghost use Rattle.sq_machine.specs.declared.entries.Told.TheVariants as told;
 ghost use Rattle.sq_state.specs.Answers.{open_answer};
 ghost use Rattle.sq_state.specs.Changes.{after_open};
 ghost use Rattle.sq_state.specs.States.{IsSame};
@@ -11,11 +11,7 @@ ghost use Rattle.sq_engine.specs.Tellings.{IsTold};
 
 use crate::engines::Engine;
 use sq_base::{Addr, ConnNo, Moment, WantOfMemory};
-use sq_rules::Refusal;
-use sq_state::later;
-
-/// Connections that may be open at a time.
-const CONN_LIMIT: u32 = 65_536;
+use sq_machine::{CONN_LIMIT, Refusal, later};
 
 impl Engine {
     /// A client's connection opens.

@@ -2,7 +2,7 @@
 ghost use Rattle.std.specs.Prelude.{◌≡◌, ◌+◌, length};
 ghost use Rattle.std.specs.Arc.{arc_value};
 ghost use Rattle.std.specs.Option.{option_map};
-ghost use Rattle.sq_rules.specs.declared.entries.Told.TheVariants as told;
+ghost use Rattle.sq_machine.specs.declared.entries.Told.TheVariants as told;
 ghost use Rattle.sq_state.specs.Answers.{take_answer};
 ghost use Rattle.sq_state.specs.Says.{class_in};
 ghost use Rattle.sq_engine.specs.EngineViews.{state_of};
@@ -11,7 +11,8 @@ ghost use Rattle.sq_engine.specs.Tellings.{IsAlwaysTold};
 
 use crate::engines::Engine;
 use sq_base::{CheckNo, EpochNo, Moment, Text, Texts};
-use sq_rules::{Class, Config, Outcome, Refusal};
+use sq_machine::Refusal;
+use sq_rules::{Class, Config, Outcome};
 use std::sync::Arc;
 
 impl Engine {

@@ -1,6 +1,6 @@
 //! Another configuration.
 ghost use Rattle.std.specs.Prelude.{◌≡◌, max, OnOk, OnErr};
-ghost use Rattle.sq_rules.specs.declared.entries.Told.TheVariants as told;
+ghost use Rattle.sq_machine.specs.declared.entries.Told.TheVariants as told;
 ghost use Rattle.sq_state.specs.Answers.{reconfigure_answer};
 ghost use Rattle.sq_state.specs.Changes.{after_reconfigured};
 ghost use Rattle.sq_state.specs.States.{IsSame};
@@ -8,16 +8,12 @@ ghost use Rattle.sq_engine.specs.EngineViews.{state_of};
 ghost use Rattle.sq_engine.specs.Promised.{IsPromisedNext};
 ghost use Rattle.sq_engine.specs.Tellings.{IsTold};
 
-use crate::engines::{Engine, LAST_NUMBER};
+use crate::engines::Engine;
 use sq_base::{EpochNo, Moment, WantOfMemory};
-use sq_rules::Refusal;
-use sq_state::later;
+use sq_machine::{EPOCH_LIMIT, LAST_NUMBER, Refusal, later};
 use sq_urlmatch::Setup;
 use std::alloc::Global;
 use std::sync::Arc;
-
-/// Epochs that may have an open check at a time.
-const EPOCH_LIMIT: u32 = 16;
 
 impl Engine {
     /// Another configuration is current, in an epoch of its own: its number. All memory is taken first.

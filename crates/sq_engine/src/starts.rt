@@ -1,7 +1,7 @@
 //! How starts of processes end.
 ghost use Rattle.std.specs.Prelude.{◌≡◌, max, true, OnOk, OnErr};
-ghost use Rattle.sq_rules.specs.declared.entries.Event.TheVariants as event;
-ghost use Rattle.sq_rules.specs.declared.entries.Told.TheVariants as told;
+ghost use Rattle.sq_machine.specs.declared.entries.Event.TheVariants as event;
+ghost use Rattle.sq_machine.specs.declared.entries.Told.TheVariants as told;
 ghost use Rattle.sq_epochs.specs.EpochChanges.{HasFailed};
 ghost use Rattle.sq_epochs.specs.EpochProcs.{has_start};
 ghost use Rattle.sq_epochs.specs.EpochStates.{IsChanged};
@@ -17,8 +17,7 @@ use crate::engines::Engine;
 use crate::handing::hand_out;
 use sq_base::{EpochNo, Moment, ProcNo};
 use sq_epochs::{Epochs, StartedFault};
-use sq_rules::Refusal;
-use sq_state::later;
+use sq_machine::{Refusal, later};
 use std::alloc::Global;
 
 // A start of this class, of which one is open, failed.

@@ -1,9 +1,9 @@
 //! A check goes on.
 ghost use Rattle.std.specs.Prelude.{◌≡◌, ◌<◌, ◌^◌, suc, if◌then◌else◌, ℕ, max, true, false, is_some, slice_get, IfSome, OnOk, OnErr, Some, None};
 ghost use Rattle.sq_base.specs.Distinct.{has_answer};
-ghost use Rattle.sq_rules.specs.FullNext.{step_next};
-ghost use Rattle.sq_rules.specs.declared.entries.Event.TheVariants as event;
-ghost use Rattle.sq_rules.specs.StepRule.{class_of_acl, says_done};
+ghost use Rattle.sq_machine.specs.Machine.{step_next};
+ghost use Rattle.sq_machine.specs.declared.entries.Event.TheVariants as event;
+ghost use Rattle.sq_machine.specs.StepRule.{class_of_acl, says_done};
 ghost use Rattle.sq_rules.specs.declared.values.Value.TheVariants as value;
 ghost use Rattle.sq_rows.specs.CheckRows.{after_step};
 ghost use Rattle.sq_checks.specs.OpenChecks.{change_at, comes_to, rows_of, settled};
@@ -22,10 +22,10 @@ ghost use Rattle.sq_engine.specs.Tellings.{IsTold};
 use crate::engines::Engine;
 use sq_base::{CheckNo, Copying, EpochNo, Moment, QuestionNo, Text, WantOfMemory};
 use sq_checks::class_of;
+use sq_machine::{Refusal, later};
 use sq_part::ResolveFault;
 use sq_rows::{Said, Stepped};
-use sq_rules::{Config, Outcome, Refusal, Value};
-use sq_state::later;
+use sq_rules::{Config, Outcome, Value};
 use std::alloc::Global;
 
 // The class that an acl asks whose answer is needed.

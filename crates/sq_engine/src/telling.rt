@@ -1,7 +1,7 @@
 //! What is told of the machine in the entries of a journal, copied.
 ghost use Rattle.std.specs.Prelude.{◌≡◌, true, IfOk};
-ghost use Rattle.sq_rules.specs.Entries.{is_row};
-ghost use Rattle.sq_rules.specs.declared.entries.Event.TheVariants as event;
+ghost use Rattle.sq_machine.specs.Entries.{is_row};
+ghost use Rattle.sq_machine.specs.declared.entries.Event.TheVariants as event;
 ghost use Rattle.sq_state.specs.Answers.{name_in};
 ghost use Rattle.sq_engine.specs.Acting.{told_of_act};
 ghost use Rattle.sq_engine.specs.EngineViews.{state_of};
@@ -9,7 +9,7 @@ ghost use Rattle.sq_engine.specs.EngineViews.{state_of};
 use crate::engines::Engine;
 use sq_base::{Copying, EpochNo, Text, WantOfMemory};
 use sq_epochs::Act;
-use sq_rules::Told;
+use sq_machine::Told;
 use std::alloc::Global;
 
 impl Engine {

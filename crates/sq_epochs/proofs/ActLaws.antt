@@ -5,7 +5,7 @@ use Rattle.std.specs.declared.option.Option.{Option}
 use Rattle.std.specs.declared.result.Result.{Result}
 use Rattle.std.specs.List.{slice_get}
 use Rattle.sq_channel.proofs.RisingLaws.{if_true}
-use Rattle.sq_rules.specs.Farms.{Sending, send_of}
+use Rattle.sq_machine.specs.Farms.{Sending, send_of}
 use Rattle.sq_part.specs.Parts.{PartState}
 use Rattle.sq_epochs.specs.DueStates.{act_in, after_due, first_place, owes_send, owes_start, send_by, sends, start_by, starts, stops}
 use Rattle.sq_epochs.specs.EpochStates.{EpochState, EpochsState}

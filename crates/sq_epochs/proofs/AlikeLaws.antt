@@ -8,7 +8,7 @@ use Rattle.std.specs.Str.{bytes_eq}
 use Rattle.std.proofs.lemmas.Slice.Eq.{bytes_eq-Decides}
 use Rattle.sq_base.proofs.CommonLaws.{eq_turned}
 use Rattle.sq_rules.specs.Classes.{Class}
-use Rattle.sq_rules.specs.KeptLists.{is_alike, same_processes, same_times, same_token}
+use Rattle.sq_rules.specs.AlikeClasses.{is_alike, same_processes, same_times, same_token}
 use Rattle.sq_rules.specs.declared.classes.Token.{Token}
 use Rattle.sq_rules.specs.declared.classes.Token.TheVariants as token
 

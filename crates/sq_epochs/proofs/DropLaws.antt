@@ -4,7 +4,7 @@ use Rattle.std.specs.declared.option.Option.{Option}
 use Rattle.std.specs.List.{list_all, remove}
 use Rattle.std.proofs.lemmas.Bool.{lt-ltb, le-ltb}
 use Rattle.sq_channel.proofs.RisingLaws.{if_false, if_true}
-use Rattle.sq_rules.specs.Rising.{AreAbove, AreBelow, Rises, place_among}
+use Rattle.sq_machine.specs.Rising.{AreAbove, AreBelow, Rises, place_among}
 use Rattle.sq_epochs.specs.EpochStates.{EpochState, EpochsState, epoch_in, epoch_number}
 use Rattle.sq_epochs.specs.LiveEpochs.{AreEpochs, checks_at, ends_with_check, is_used, without_epoch}
 use Rattle.sq_epochs.proofs.LiveLaws.{above_found, equal}

@@ -5,10 +5,10 @@ use Rattle.std.specs.Option.{option_and_then, option_map, option_or}
 use Rattle.std.specs.declared.option.Option.{Option}
 use Rattle.std.proofs.lemmas.Option.{same_Some}
 use Rattle.sq_channel.proofs.RisingLaws.{if_false, if_true}
-use Rattle.sq_rules.specs.DueActs.{Place, first_made, first_of}
-use Rattle.sq_rules.specs.Farms.{Sending, send_of, start_due}
-use Rattle.sq_rules.specs.Numbered.{below}
-use Rattle.sq_rules.specs.Rising.{AreAbove, Rises}
+use Rattle.sq_machine.specs.DueActs.{Place, first_made, first_of}
+use Rattle.sq_machine.specs.Farms.{Sending, send_of, start_due}
+use Rattle.sq_machine.specs.Numbered.{below}
+use Rattle.sq_machine.specs.Rising.{AreAbove, Rises}
 use Rattle.sq_part.specs.Parts.{PartState}
 use Rattle.sq_epochs.specs.DueStates.{DueAt, act_at, act_in, after_act_in, after_due, change_at, change_class, first_place, has_act, live_places, owes_send, owes_start, places_in, send_by, sends, sent_part, start_by, started_part, starts, stops}
 use Rattle.sq_epochs.specs.EpochStates.{EpochState, EpochsState, change_epoch, epoch_in, epoch_number, part_at, part_of}

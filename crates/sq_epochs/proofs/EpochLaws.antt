@@ -4,7 +4,7 @@ use Rattle.std.specs.declared.option.Option.{Option}
 use Rattle.std.specs.List.{slice_get}
 use Rattle.std.proofs.lemmas.Bool.{lt-ltb, le-ltb}
 use Rattle.sq_channel.proofs.RisingLaws.{if_false, if_true}
-use Rattle.sq_rules.specs.Rising.{AreAbove, Rises, place_among}
+use Rattle.sq_machine.specs.Rising.{AreAbove, Rises, place_among}
 use Rattle.sq_part.specs.Parts.{PartState}
 use Rattle.sq_epochs.specs.EpochStates.{EpochState, EpochsState, IsChanged, IsEpochChanged, change_epoch, epoch_at, epoch_in, epoch_number, part_at, part_of, with_part}
 

@@ -5,8 +5,8 @@ use Rattle.std.specs.List.{slice_get}
 use Rattle.std.specs.Option.{option_map}
 use Rattle.std.proofs.lemmas.Bool.{ltb-true, ltb-false}
 use Rattle.sq_channel.proofs.RisingLaws.{if_false, if_true}
-use Rattle.sq_rules.specs.DueActs.{Place}
-use Rattle.sq_rules.specs.Rising.{AreAbove, Rises, place_among}
+use Rattle.sq_machine.specs.DueActs.{Place}
+use Rattle.sq_machine.specs.Rising.{AreAbove, Rises, place_among}
 use Rattle.sq_epochs.specs.EpochStates.{EpochState, epoch_in, epoch_number}
 use Rattle.sq_epochs.specs.HomeStates.{Home, home_in, home_number}
 

@@ -5,8 +5,8 @@ use Rattle.std.specs.Option.{option_or}
 use Rattle.std.specs.declared.option.Option.{Option}
 use Rattle.std.proofs.lemmas.Bool.{lt-ltb, le-ltb}
 use Rattle.sq_channel.proofs.RisingLaws.{if_false, if_true, rises_insert}
-use Rattle.sq_rules.specs.DueActs.{Place}
-use Rattle.sq_rules.specs.Rising.{AreAbove, AreBelow, Rises, place_among, times_of}
+use Rattle.sq_machine.specs.DueActs.{Place}
+use Rattle.sq_machine.specs.Rising.{AreAbove, AreBelow, Rises, place_among, times_of}
 use Rattle.sq_epochs.specs.HomeStates.{AreHomes, Home, home_in, home_number, is_among, is_of_epoch, other_homes, procs_of, with_number, with_numbers, without_home}
 
 equal : (a b : ℕ) → (a == b) ≡ true → a ≡ b

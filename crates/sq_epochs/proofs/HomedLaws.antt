@@ -8,11 +8,11 @@ use Rattle.sq_base.specs.declared.helpers.Cause.{Cause}
 use Rattle.sq_channel.proofs.RisingLaws.{if_false, if_true}
 use Rattle.sq_rules.specs.Classes.{Class}
 use Rattle.sq_rules.specs.Configurations.{Configuration}
-use Rattle.sq_rules.specs.DueActs.{Place}
-use Rattle.sq_rules.specs.Farms.{fresh}
-use Rattle.sq_rules.specs.KeptLists.{KeptList}
-use Rattle.sq_rules.specs.Living.{lives}
-use Rattle.sq_rules.specs.Rising.{Rises}
+use Rattle.sq_machine.specs.DueActs.{Place}
+use Rattle.sq_machine.specs.Farms.{fresh}
+use Rattle.sq_machine.specs.KeptLists.{KeptList}
+use Rattle.sq_machine.specs.Living.{lives}
+use Rattle.sq_machine.specs.Rising.{Rises}
 use Rattle.sq_part.specs.Parts.{PartState}
 use Rattle.sq_epochs.specs.EpochProcs.{AreHomed, AreWhole, IsEnded, IsStarted, SameLiving, has_start, is_place, is_starting, lives_in}
 use Rattle.sq_epochs.specs.EpochStates.{EpochState, EpochsState, epoch_at, epoch_in, epoch_number, home_at, new_epoch, new_part, part_at, part_of}

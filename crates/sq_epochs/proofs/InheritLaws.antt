@@ -10,7 +10,8 @@ use Rattle.std.proofs.lemmas.Option.{slice_get-get_or, slice_get_read}
 use Rattle.sq_base.proofs.CommonLaws.{bytes_turned}
 use Rattle.sq_rules.specs.Classes.{Class}
 use Rattle.sq_rules.specs.Configurations.{have_distinct_names, have_own_names, is_named}
-use Rattle.sq_rules.specs.KeptLists.{KeptList, is_alike}
+use Rattle.sq_rules.specs.AlikeClasses.{is_alike}
+use Rattle.sq_machine.specs.KeptLists.{KeptList}
 use Rattle.sq_part.specs.Parts.{PartState}
 use Rattle.sq_epochs.specs.EpochStates.{EpochState, class_cache, new_part, part_limit}
 use Rattle.sq_epochs.specs.Reconfigured.{alike_in, begun_part, emptied, kept_alike, kept_in, left_epoch, left_part, left_parts}

@@ -5,7 +5,7 @@ use Rattle.std.specs.List.{list_all}
 use Rattle.std.specs.Option.{option_map_or}
 use Rattle.std.proofs.Math.Seq.{map-set_same}
 use Rattle.std.proofs.lemmas.List.Folds.{list_all-map, list_all_at}
-use Rattle.sq_rules.specs.Rising.{AreAbove, AreBelow, Rises, place_among}
+use Rattle.sq_machine.specs.Rising.{AreAbove, AreBelow, Rises, place_among}
 use Rattle.sq_epochs.specs.EpochStates.{EpochState, EpochsState, change_epoch, epoch_at, epoch_in, epoch_number}
 use Rattle.sq_epochs.specs.LiveEpochs.{AreEpochs, check_less, check_more, checks_at, is_used}
 use Rattle.sq_epochs.proofs.EpochLaws.{IsPlaced, placed}

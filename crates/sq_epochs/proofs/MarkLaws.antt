@@ -10,8 +10,8 @@ use Rattle.std.proofs.Math.Seq.{map-set_same}
 use Rattle.sq_places.specs.Sets.{IsLeast, IsSetOf, is_in}
 use Rattle.sq_places.proofs.SetLaws.{set_marked, set_same}
 use Rattle.sq_rules.specs.Classes.{Class}
-use Rattle.sq_rules.specs.Farms.{send_of, start_due}
-use Rattle.sq_rules.specs.KeptLists.{KeptList}
+use Rattle.sq_machine.specs.Farms.{send_of, start_due}
+use Rattle.sq_machine.specs.KeptLists.{KeptList}
 use Rattle.sq_rules.specs.Limits.{class_limit}
 use Rattle.sq_part.specs.Parts.{PartState}
 use Rattle.sq_epochs.specs.DueSets.{DueState, IsDueOf, IsEpoch, IsMarked}

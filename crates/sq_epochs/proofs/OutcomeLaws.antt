@@ -9,9 +9,9 @@ use Rattle.std.proofs.lemmas.Option.{same_Some, slice_get-map}
 use Rattle.sq_base.specs.declared.helpers.What.{What}
 use Rattle.sq_lookup.specs.Waits.{has_check}
 use Rattle.sq_rules.specs.Classes.{Class}
-use Rattle.sq_rules.specs.OpenLookups.{question_of, waits_in}
+use Rattle.sq_machine.specs.OpenLookups.{question_of, waits_in}
 use Rattle.sq_rows.specs.ClassRows.{after_reply}
-use Rattle.sq_rules.specs.Farms.{failed}
+use Rattle.sq_machine.specs.Farms.{failed}
 use Rattle.sq_part.specs.Losing.{IsHandedOut}
 use Rattle.sq_part.specs.declared.lost.Lost.{Lost}
 use Rattle.sq_channel.specs.declared.replies.Got.{Got}

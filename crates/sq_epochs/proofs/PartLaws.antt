@@ -5,7 +5,7 @@ use Rattle.std.specs.List.{slice_get}
 use Rattle.std.proofs.lemmas.Option.{same_Some, slice_get_read, slice_get_within}
 use Rattle.std.proofs.Math.Seq.{map-set_same}
 use Rattle.sq_rules.specs.Classes.{Class}
-use Rattle.sq_rules.specs.Rising.{place_among}
+use Rattle.sq_machine.specs.Rising.{place_among}
 use Rattle.sq_rows.specs.StepRows.{says_of_row}
 use Rattle.sq_rows.specs.declared.said.Said.{Said}
 use Rattle.sq_part.specs.Parts.{IsAsBefore, PartState}

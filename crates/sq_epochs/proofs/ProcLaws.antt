@@ -7,13 +7,13 @@ use Rattle.std.specs.declared.result.Result.{Result}
 use Rattle.std.specs.List.{slice_get}
 use Rattle.sq_base.specs.declared.helpers.What.{What}
 use Rattle.sq_channel.proofs.RisingLaws.{if_false, if_true}
-use Rattle.sq_rules.specs.Channels.{settled}
+use Rattle.sq_machine.specs.Channels.{settled}
 use Rattle.sq_rules.specs.Classes.{Class}
-use Rattle.sq_rules.specs.DueActs.{Place}
-use Rattle.sq_rules.specs.Farms.{Stock, Waiting, after_send, after_send_by, after_start, emptied, failed, fresh, is_last_start, start_due}
-use Rattle.sq_rules.specs.Living.{Living, asked_row, find_proc, has_free, lives, sent, settled_in, some_free, with_proc, without}
-use Rattle.sq_rules.specs.Marks.{Put}
-use Rattle.sq_rules.specs.StepRule.{StepSays}
+use Rattle.sq_machine.specs.DueActs.{Place}
+use Rattle.sq_machine.specs.Farms.{Stock, Waiting, after_send, after_send_by, after_start, emptied, failed, fresh, is_last_start, start_due}
+use Rattle.sq_machine.specs.Living.{Living, asked_row, find_proc, has_free, lives, sent, settled_in, some_free, with_proc, without}
+use Rattle.sq_machine.specs.Marks.{Put}
+use Rattle.sq_machine.specs.StepRule.{StepSays}
 use Rattle.sq_rows.specs.ClassRows.{ClassRow, after_reply, with_took}
 use Rattle.sq_rows.specs.StepRows.{after_says, says_of_row, with_put}
 use Rattle.sq_rows.specs.declared.said.Said.{Said}

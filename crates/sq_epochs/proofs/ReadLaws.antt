@@ -4,7 +4,7 @@ use Rattle.std.specs.List.{slice_get}
 use Rattle.std.specs.Option.{option_map, option_or}
 use Rattle.std.specs.declared.option.Option.{Option}
 use Rattle.sq_channel.proofs.RisingLaws.{if_false}
-use Rattle.sq_rules.specs.DueActs.{Place}
+use Rattle.sq_machine.specs.DueActs.{Place}
 use Rattle.sq_rows.specs.ClassRows.{ClassRow}
 use Rattle.sq_part.specs.Parts.{PartState}
 use Rattle.sq_epochs.specs.DueStates.{change_at, change_class, change_part}

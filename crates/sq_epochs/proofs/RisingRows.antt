@@ -1,6 +1,6 @@
 -- Laws of rows by numbers that rise: some of them, and one more at the end.
 use Rattle.std.proofs.Common.{◌≡◌, ℕ, ◌<◌, List, [], ◌∷◌, ◌++◌, map, filter, Bool, true, false, cond, refl, ap}
-use Rattle.sq_rules.specs.Rising.{AreAbove, AreBelow, Rises}
+use Rattle.sq_machine.specs.Rising.{AreAbove, AreBelow, Rises}
 
 pub above_filter : {X : Type 0} (key : X → ℕ) (p : X → Bool) (k : ℕ) (xs : List X) → AreAbove k (map key xs) → AreAbove k (map key (filter p xs))
 above_filter key p k [] a = tt

@@ -3,9 +3,9 @@ use Rattle.std.specs.Prelude.{ℕ, zero, suc, List, [], ◌∷◌, Bool, not, �
 use Rattle.std.specs.List.{flat_map}
 use Rattle.std.specs.Option.{option_and_then, option_map, option_or}
 use Rattle.std.specs.declared.option.Option.{Option}
-use Rattle.sq_rules.specs.DueActs.{Place, first_made, first_of}
-use Rattle.sq_rules.specs.Farms.{Sending, send_of, start_due}
-use Rattle.sq_rules.specs.Numbered.{below}
+use Rattle.sq_machine.specs.DueActs.{Place, first_made, first_of}
+use Rattle.sq_machine.specs.Farms.{Sending, send_of, start_due}
+use Rattle.sq_machine.specs.Numbered.{below}
 use Rattle.sq_rows.specs.ClassRows.{after_sending, after_starting}
 use Rattle.sq_part.specs.Parts.{PartState}
 use Rattle.sq_epochs.specs.declared.acts.Act.{Act}

@@ -2,13 +2,12 @@
 use Rattle.std.specs.Prelude.{◌≡◌, ℕ, ◌==◌, ◌&&◌, if◌then◌else◌, None, Some, List, []}
 use Rattle.sq_base.specs.declared.helpers.Cause.TheVariants as cause
 use Rattle.sq_rules.specs.Classes.{Class}
-use Rattle.sq_rules.specs.OpenLookups.{question_of}
+use Rattle.sq_machine.specs.OpenLookups.{question_of, waits_in}
 use Rattle.sq_rows.specs.StepRows.{says_of_row}
 use Rattle.sq_rows.specs.declared.said.Said.{Said}
 use Rattle.sq_base.specs.declared.helpers.What.{What}
 use Rattle.sq_lookup.specs.Waits.{has_check}
-use Rattle.sq_rules.specs.Farms.{failed, is_last_start}
-use Rattle.sq_rules.specs.OpenLookups.{waits_in}
+use Rattle.sq_machine.specs.Farms.{failed, is_last_start}
 use Rattle.sq_rows.specs.ClassRows.{after_failed, after_reply, is_waiting}
 use Rattle.sq_part.specs.Losing.{IsHandedOut, handed_out, lost_cause}
 use Rattle.sq_part.specs.declared.lost.Lost.{Lost}

@@ -3,10 +3,10 @@ use Rattle.std.specs.Prelude.{◌≡◌, ℕ, suc, [], ◌∷◌, ◌++◌, Bool
 use Rattle.std.specs.Option.{option_map_or}
 use Rattle.std.specs.declared.option.Option.{Option}
 use Rattle.sq_base.specs.declared.helpers.Cause.{Cause}
-use Rattle.sq_rules.specs.Channels.{is_open}
-use Rattle.sq_rules.specs.DueActs.{Place}
-use Rattle.sq_rules.specs.Farms.{ended}
-use Rattle.sq_rules.specs.Living.{lives, slots_in}
+use Rattle.sq_machine.specs.Channels.{is_open}
+use Rattle.sq_machine.specs.DueActs.{Place}
+use Rattle.sq_machine.specs.Farms.{ended}
+use Rattle.sq_machine.specs.Living.{lives, slots_in}
 use Rattle.sq_rows.specs.ClassRows.{after_death, after_started}
 use Rattle.sq_part.specs.Losing.{handed_out, lost_cause}
 use Rattle.sq_part.specs.Parts.{PartState}

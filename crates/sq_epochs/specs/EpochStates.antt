@@ -4,7 +4,7 @@ use Rattle.std.specs.Option.{option_map}
 use Rattle.std.specs.declared.option.Option.{Option}
 use Rattle.sq_rules.specs.Classes.{Class}
 use Rattle.sq_rules.specs.Configurations.{Configuration}
-use Rattle.sq_rules.specs.DueActs.{Place}
+use Rattle.sq_machine.specs.DueActs.{Place}
 use Rattle.sq_rows.specs.ClassRows.{ClassRow, new_row}
 use Rattle.sq_part.specs.Parts.{PartState}
 use Rattle.sq_epochs.specs.HomeStates.{Home, home_in}

@@ -1,8 +1,8 @@
 -- Of which epoch and class each living process is, and for which processes a stop is due.
 use Rattle.std.specs.Prelude.{◌≡◌, ℕ, suc, List, [], ◌∷◌, map, filter, Bool, false, not, ◌||◌, if◌then◌else◌, nat_lt, ◌==◌, Some, None, is_some, true}
 use Rattle.std.specs.declared.option.Option.{Option}
-use Rattle.sq_rules.specs.DueActs.{Place}
-use Rattle.sq_rules.specs.Rising.{AreAbove, AreBelow, Rises, times_of}
+use Rattle.sq_machine.specs.DueActs.{Place}
+use Rattle.sq_machine.specs.Rising.{AreAbove, AreBelow, Rises, times_of}
 
 -- a living process, and the epoch and the class of which it is
 pub record Home : Type 0 where

@@ -2,8 +2,8 @@
 use Rattle.std.specs.Prelude.{◌≡◌, ℕ, suc, ◌-◌, List, map, length, filter, not, Bool, true, ◌&&◌, ◌||◌, ◌==◌, nat_lt, if◌then◌else◌, is_some}
 use Rattle.std.specs.List.{list_all}
 use Rattle.std.specs.Option.{option_map_or}
-use Rattle.sq_rules.specs.Numbered.{picks}
-use Rattle.sq_rules.specs.Rising.{AreAbove, AreBelow, Rises}
+use Rattle.sq_machine.specs.Numbered.{picks}
+use Rattle.sq_machine.specs.Rising.{AreAbove, AreBelow, Rises}
 use Rattle.sq_epochs.specs.EpochStates.{EpochState, EpochsState, change_epoch, epoch_at, epoch_number}
 use Rattle.sq_epochs.specs.HomeStates.{other_homes, procs_of, with_numbers}
 

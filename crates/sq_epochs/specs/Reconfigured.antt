@@ -4,7 +4,8 @@ use Rattle.std.specs.Option.{option_map_or}
 use Rattle.std.specs.declared.option.Option.{Option}
 use Rattle.sq_rules.specs.Classes.{Class}
 use Rattle.sq_rules.specs.Configurations.{Configuration}
-use Rattle.sq_rules.specs.KeptLists.{KeptList, is_alike}
+use Rattle.sq_rules.specs.AlikeClasses.{is_alike}
+use Rattle.sq_machine.specs.KeptLists.{KeptList}
 use Rattle.sq_rows.specs.ClassRows.{new_row}
 use Rattle.sq_part.specs.Parts.{PartState}
 use Rattle.sq_epochs.specs.EpochStates.{EpochState, EpochsState, change_epoch, epoch_in}

@@ -5,14 +5,14 @@ ghost use Rattle.std.specs.Option.{option_map};
 ghost use Rattle.sq_part.specs.Parts.{IsAsBefore, PartState};
 ghost use Rattle.sq_part.specs.Steps.{IsSpent};
 ghost use Rattle.sq_rules.specs.Classes.{Class};
-ghost use Rattle.sq_rules.specs.OpenLookups.{all_below, question_of};
-ghost use Rattle.sq_rules.specs.Rising.{Rises, place_among};
+ghost use Rattle.sq_machine.specs.OpenLookups.{all_below, question_of};
+ghost use Rattle.sq_machine.specs.Rising.{Rises, place_among};
 ghost use Rattle.sq_rows.specs.StepRows.{says_of_row};
 ghost use Rattle.sq_epochs.specs.EpochStates.{EpochState, IsChanged, class_at, epoch_at, epoch_number, home_at, new_epoch, part_at};
 ghost use Rattle.sq_epochs.specs.EpochChanges.{HasFailed, HasLeft, HasNoLoss, HasNoStart, HasReplied, IsHandedOn, IsResolved};
-ghost use Rattle.sq_rules.specs.Channels.{is_open};
+ghost use Rattle.sq_machine.specs.Channels.{is_open};
 ghost use Rattle.sq_farm.specs.Replies.{got_of};
-ghost use Rattle.sq_rules.specs.Living.{lives, slots_in};
+ghost use Rattle.sq_machine.specs.Living.{lives, slots_in};
 
 use crate::epoch::Epoch;
 use crate::homes::{Home, Homes};

@@ -2,17 +2,15 @@
 ghost use Rattle.std.specs.Prelude.{◌≡◌, ◌≤◌, ◌<◌, ◌+◌, ◌++◌, ◌∷◌, ◌==◌, [], ℕ, suc, true, None, drop, length, map, nat_lt, if◌then◌else◌, is_some, Some, IfSome, OnOk, ◌^◌};
 ghost use Rattle.std.specs.Option.{option_map};
 ghost use Rattle.sq_epochs.specs.HomeStates.{AreHomes, home_in, home_number, is_of_epoch, other_homes, procs_of, with_number, with_numbers, without_home};
-ghost use Rattle.sq_rules.specs.DueActs.{first_of};
-ghost use Rattle.sq_rules.specs.Limits.{last_number};
-ghost use Rattle.sq_rules.specs.Rising.{Rises, place_among, times_of};
+ghost use Rattle.sq_machine.specs.DueActs.{first_of};
+ghost use Rattle.sq_machine.specs.Limits.{last_number};
+ghost use Rattle.sq_machine.specs.Rising.{Rises, place_among, times_of};
 
 use crate::stops::Stops;
 use sq_base::{EpochNo, ProcNo, WantOfMemory};
+use sq_machine::LAST_NUMBER;
 use std::alloc::Global;
 use std::marker::Model;
-
-// The number that is never given.
-const LAST_NUMBER: u64 = 0x7FFF_FFFF_FFFF_FFFF;
 
 /// Of which epoch and class a living process is.
 #[derive(Drop)]

@@ -2,7 +2,7 @@
 ghost use Rattle.std.specs.Prelude.{◌≡◌, ◌<◌, ◌^◌, ◌∷◌, [], suc, true, is_some, filter, length, map, IfOk, OnOk, OnErr};
 ghost use Rattle.std.specs.Arc.{arc_value};
 ghost use Rattle.std.specs.Vec.{vec_capacity, vec_len};
-ghost use Rattle.sq_rules.specs.Rising.{Rises};
+ghost use Rattle.sq_machine.specs.Rising.{Rises};
 ghost use Rattle.sq_epochs.specs.EpochProcs.{AreWhole};
 ghost use Rattle.sq_epochs.specs.EpochStates.{epoch_at, epoch_in, epoch_number, new_epoch};
 ghost use Rattle.sq_epochs.specs.HomeStates.{other_homes, procs_of, with_numbers};

@@ -1,10 +1,10 @@
 //! Who waits for a question, and how the starts and the lives of processes end.
 ghost use Rattle.std.specs.Prelude.{◌≡◌, ◌↔◌, ◌≤◌, ◌<◌, ℕ, suc, true, false, Some, is_some, length, slice_get, IfOk, IfSome, OnOk, OnErr, IsErrOf};
 ghost use Rattle.sq_lookup.specs.Index.{IsListed};
-ghost use Rattle.sq_rules.specs.Channels.{is_open};
-ghost use Rattle.sq_rules.specs.Limits.{last_number};
-ghost use Rattle.sq_rules.specs.Living.{lives, slots_in};
-ghost use Rattle.sq_rules.specs.OpenLookups.{is_open_lookup};
+ghost use Rattle.sq_machine.specs.Channels.{is_open};
+ghost use Rattle.sq_machine.specs.Limits.{last_number};
+ghost use Rattle.sq_machine.specs.Living.{lives, slots_in};
+ghost use Rattle.sq_machine.specs.OpenLookups.{is_open_lookup};
 ghost use Rattle.sq_part.specs.Parts.{PartState};
 ghost use Rattle.sq_epochs.specs.EpochProcs.{HasEnded, HasStarted, IsEnded, IsStarted, has_start, is_starting};
 ghost use Rattle.sq_epochs.specs.EpochStates.{IsEpochChanged, home_at, part_at};

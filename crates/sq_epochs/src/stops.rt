@@ -1,8 +1,8 @@
 //! `Stops`: the processes for which a stop is due.
 ghost use Rattle.std.specs.Prelude.{◌≡◌, ◌<◌, ◌≤◌, ◌+◌, [], length, drop, OnOk};
 ghost use Rattle.sq_epochs.specs.HomeStates.{with_number};
-ghost use Rattle.sq_rules.specs.Rising.{Rises, place_among, times_of};
-ghost use Rattle.sq_rules.specs.DueActs.{first_of};
+ghost use Rattle.sq_machine.specs.Rising.{Rises, place_among, times_of};
+ghost use Rattle.sq_machine.specs.DueActs.{first_of};
 
 use sq_base::{ProcNo, WantOfMemory};
 use std::alloc::Global;
@@ -18,7 +18,7 @@ pub struct Stops {
 impl Model for Stops {
     ghost use Rattle.std.specs.VecDeque.{deque_capacity};
     ghost use Rattle.sq_epochs.specs.HomeStates.{StopsState};
-    ghost use Rattle.sq_rules.specs.Rising.{Rises};
+    ghost use Rattle.sq_machine.specs.Rising.{Rises};
 
     ghost Value = { StopsState };
 

@@ -5,8 +5,8 @@ use Rattle.std.proofs.lemmas.Option.{get_or_from_slice_get, slice_get-map, slice
 use Rattle.std.specs.List.{list_any, slice_get}
 use Rattle.std.specs.Str.{str_to_ascii_lowercase}
 use Rattle.percent_encoding.specs.Percent.{percent_decode}
+use Rattle.sq_base.specs.Domains.{in_domain}
 use Rattle.sq_index.specs.Members as index
-use Rattle.sq_rules.specs.Leaves as rules
 use Rattle.sq_rules.specs.Facts.{acl_fact, body_fact, facts_of}
 use Rattle.sq_rules.specs.Patterns.{some_found}
 use Rattle.sq_rules.specs.declared.configs.Acl.{Acl}
@@ -56,11 +56,7 @@ pub ok_then : {A E : Type 0} {P Q : A → Type 0} (r : Result A E) → IfOk r P 
 ok_then (Ok a) p f = f a p
 ok_then (Err e) p f = tt
 
-one_domain : (name host : List ℕ) → index.in_domain host name ≡ rules.in_domain host name
-one_domain [] host = refl
-one_domain (b ∷ bs) host = refl
-
 -- a sorted list of domains holds what the list holds
-pub same_domains : (names : List (List ℕ)) (host : List ℕ) → index.in_some_domain names host ≡ list_any (λ n. rules.in_domain host (str_to_ascii_lowercase n)) names
+pub same_domains : (names : List (List ℕ)) (host : List ℕ) → index.in_some_domain names host ≡ list_any (λ n. in_domain host (str_to_ascii_lowercase n)) names
 same_domains [] host = refl
-same_domains (n ∷ names) host = rw (one_domain (str_to_ascii_lowercase n) host, same_domains names host) refl
+same_domains (n ∷ names) host = rw (same_domains names host) refl

@@ -4,12 +4,11 @@ use Rattle.std.specs.declared.option.Option.{Option}
 use Rattle.std.proofs.lemmas.Bool.{cases_Bool, lt-ltb, le-ltb, ltb-true}
 use Rattle.std.proofs.lemmas.List.{get_or_at, set_at}
 use Rattle.std.specs.List.{insert, remove}
-use Rattle.sq_rules.specs.Channels.{Channels, asked, channel_name, free_count, is_open, least_free, settled, times_open}
+use Rattle.sq_machine.specs.Channels.{Channels, asked, channel_name, free_count, is_open, least_free, settled, times_open}
 use Rattle.sq_channel.proofs.SlotLaws.{free_settled, some_open}
 use Rattle.sq_channel.proofs.RisingLaws.{if_false, if_true, place_above}
-use Rattle.sq_rules.specs.Living.{asked_row, find_proc, free_numbers, has_free, lives, living_number, sent, settled_in, slots_by, slots_in, some_free, target, times_in, with_proc, without}
-use Rattle.sq_rules.specs.Rising.{Rises, place_among}
-use Rattle.sq_rules.specs.Living.{Living}
+use Rattle.sq_machine.specs.Living.{asked_row, find_proc, free_numbers, has_free, lives, living_number, sent, settled_in, slots_by, slots_in, some_free, target, times_in, with_proc, without, Living}
+use Rattle.sq_machine.specs.Rising.{Rises, place_among}
 use Rattle.sq_farm.proofs.LivingLaws.{First, Higher, Lower, around, find_lower, first, free_above, free_append, gap, place_around, place_free, place_row, rises_same, rises_with, rises_without, same, sent_first, settled_higher, settled_lower, target_first, times_around, with_higher, with_lower, without_higher, without_lower}
 
 -- what a send needs and leaves; x is the process at the place of the first with a free channel, n

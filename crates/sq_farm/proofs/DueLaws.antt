@@ -4,17 +4,14 @@ use Rattle.std.specs.declared.option.Option.{Option}
 use Rattle.std.proofs.lemmas.Bool.{cases_Bool, le-ltb, lt-ltb, ltb-true}
 use Rattle.sq_base.specs.declared.helpers.Cause.{Cause}
 use Rattle.std.proofs.lemmas.Bool.Decides.{nat_tests}
-use Rattle.sq_rules.specs.Channels.{channel_name, first_open, least_free, opened}
+use Rattle.sq_machine.specs.Channels.{channel_name, first_open, least_free, opened}
 use Rattle.sq_channel.proofs.SlotLaws.{all_slots}
-use Rattle.sq_rules.specs.Farms.{Waiting}
-use Rattle.sq_rules.specs.Losses.{Loss}
-use Rattle.sq_rules.specs.Living.{Living}
+use Rattle.sq_machine.specs.Farms.{Waiting, Sending, AreOfClass, after_act, after_send, after_send_by, after_start, send_by, send_of, start_due, IsStock, Stock, free_in, full, open_in, places, put_in, times_waiting}
+use Rattle.sq_machine.specs.Losses.{Loss, lose, times_lost}
+use Rattle.sq_machine.specs.Living.{Living, has_free, some_free, target, times_in}
 use Rattle.sq_farm.specs.Acts.{act_by, act_of, told_send, told_start}
 use Rattle.sq_farm.specs.declared.acts.FarmAct.{FarmAct}
-use Rattle.sq_rules.specs.Farms.{Sending, AreOfClass, after_act, after_send, after_send_by, after_start, send_by, send_of, start_due, IsStock, Stock, free_in, full, open_in, places, put_in, times_waiting}
-use Rattle.sq_rules.specs.Living.{has_free, some_free, target, times_in}
-use Rattle.sq_rules.specs.Losses.{lose, times_lost}
-use Rattle.sq_rules.specs.Rising.{times_of}
+use Rattle.sq_machine.specs.Rising.{times_of}
 use Rattle.sq_farm.proofs.LostLaws.{times_lose}
 use Rattle.sq_channel.proofs.RisingLaws.{if_false, if_true}
 

@@ -4,15 +4,12 @@ use Rattle.std.specs.declared.option.Option.{Option}
 use Rattle.std.proofs.lemmas.Bool.{cases_Bool, ltb-true}
 use Rattle.sq_base.specs.declared.helpers.Cause.{Cause}
 use Rattle.sq_base.specs.declared.helpers.Cause.TheVariants as cause
-use Rattle.sq_rules.specs.Channels.{asked, free_count, opened, times_open}
+use Rattle.sq_machine.specs.Channels.{asked, free_count, opened, times_open}
 use Rattle.sq_channel.proofs.SlotLaws.{all_slots, free_asked, length_asked, times_asked}
-use Rattle.sq_rules.specs.Farms.{Waiting}
-use Rattle.sq_rules.specs.Losses.{Loss}
-use Rattle.sq_rules.specs.Living.{Living}
-use Rattle.sq_rules.specs.Farms.{AreOfClass, emptied, IsStock, Stock, ended, open_in, times_waiting, waiting_number}
-use Rattle.sq_rules.specs.Living.{asked_row, find_proc, has_free, lives, living_number, sent, slots_by, slots_in, some_free, times_in, without}
-use Rattle.sq_rules.specs.Losses.{lose, lose_all, times_lost}
-use Rattle.sq_rules.specs.Rising.{Rises, times_of}
+use Rattle.sq_machine.specs.Farms.{Waiting, AreOfClass, emptied, IsStock, Stock, ended, open_in, times_waiting, waiting_number}
+use Rattle.sq_machine.specs.Losses.{Loss, lose, lose_all, times_lost}
+use Rattle.sq_machine.specs.Living.{Living, asked_row, find_proc, has_free, lives, living_number, sent, slots_by, slots_in, some_free, times_in, without}
+use Rattle.sq_machine.specs.Rising.{Rises, times_of}
 use Rattle.sq_farm.proofs.LivingLaws.{around, rises_without, times_around}
 use Rattle.sq_farm.proofs.CallLaws.{find_around, times_join, without_around}
 use Rattle.sq_farm.proofs.LostLaws.{length_lose, times_lose}

@@ -2,11 +2,10 @@
 use Rattle.std.proofs.Common.{◌≡◌, ℕ, suc, ◌+◌, ◌≤◌, ◌<◌, List, [], ◌∷◌, ◌++◌, map, length, Bool, true, false, not, if◌then◌else◌, nat_lt, ◌==◌, refl, sym, arith, ap, ◌∙◌, ⊎_elim, Some, None, is_some, get_or, subst, slice_get}
 use Rattle.std.specs.declared.option.Option.{Option}
 use Rattle.std.proofs.lemmas.Bool.{cases_Bool, lt-ltb, le-ltb, ltb-true, ltb-false}
-use Rattle.sq_rules.specs.Channels.{channel_name, least_free, settled, times_open}
+use Rattle.sq_machine.specs.Channels.{channel_name, least_free, settled, times_open}
 use Rattle.sq_channel.proofs.RisingLaws.{above_more, if_false, if_true}
-use Rattle.sq_rules.specs.Living.{asked_row, find_proc, free_numbers, has_free, lives, living_number, sent, settled_in, some_free, target, times_in, with_proc, without}
-use Rattle.sq_rules.specs.Rising.{AreAbove, Rises, place_among}
-use Rattle.sq_rules.specs.Living.{Living}
+use Rattle.sq_machine.specs.Living.{asked_row, find_proc, free_numbers, has_free, lives, living_number, sent, settled_in, some_free, target, times_in, with_proc, without, Living}
+use Rattle.sq_machine.specs.Rising.{AreAbove, Rises, place_among}
 
 -- each process has a number below k
 abbrev pub Lower : ℕ → List Living → Type 0

@@ -4,9 +4,8 @@ use Rattle.std.proofs.lemmas.Bool.{cases_Bool, ltb-true, ltb-false}
 use Rattle.std.specs.List.{insert}
 use Rattle.sq_base.specs.declared.helpers.Cause.{Cause}
 use Rattle.sq_channel.proofs.RisingLaws.{above_more, if_false, if_true}
-use Rattle.sq_rules.specs.Losses.{Loss}
-use Rattle.sq_rules.specs.Losses.{lose, loss_number, times_lost}
-use Rattle.sq_rules.specs.Rising.{AreAbove, Rises, place_among}
+use Rattle.sq_machine.specs.Losses.{Loss, lose, loss_number, times_lost}
+use Rattle.sq_machine.specs.Rising.{AreAbove, Rises, place_among}
 
 -- what is put to the place that was found is put to its place
 pub insert_lose : (q : ℕ) (c : Cause) (ls : List Loss) → insert ls (place_among q (map loss_number ls)) (record { question = q; cause = c }) ≡ lose q c ls

@@ -6,13 +6,11 @@ use Rattle.std.specs.declared.option.Option.{Option}
 use Rattle.std.proofs.lemmas.Bool.{cases_Bool}
 use Rattle.sq_base.specs.declared.helpers.Cause.{Cause}
 use Rattle.sq_base.specs.declared.helpers.Cause.TheVariants as cause
-use Rattle.sq_rules.specs.Channels.{opened}
-use Rattle.sq_rules.specs.Farms.{Waiting}
-use Rattle.sq_rules.specs.Losses.{Loss}
-use Rattle.sq_rules.specs.Farms.{after_act, after_send, after_send_by, after_start, emptied, send_of, start_due, Stock, ended, places, put_in, times_waiting, waiting_number}
-use Rattle.sq_rules.specs.Living.{lives, living_number, sent, slots_in, some_free, times_in}
-use Rattle.sq_rules.specs.Losses.{lose_all, times_lost}
-use Rattle.sq_rules.specs.Rising.{Rises, times_of}
+use Rattle.sq_machine.specs.Channels.{opened}
+use Rattle.sq_machine.specs.Farms.{Waiting, after_act, after_send, after_send_by, after_start, emptied, send_of, start_due, Stock, ended, places, put_in, times_waiting, waiting_number}
+use Rattle.sq_machine.specs.Losses.{Loss, lose_all, times_lost}
+use Rattle.sq_machine.specs.Living.{lives, living_number, sent, slots_in, some_free, times_in}
+use Rattle.sq_machine.specs.Rising.{Rises, times_of}
 use Rattle.sq_channel.proofs.RisingLaws.{if_false, if_true}
 use Rattle.sq_farm.proofs.FarmLaws.{times_lose_all, times_opened_law, times_queue, times_sent, times_without}
 use Rattle.sq_farm.proofs.DueLaws.{not_lost, once_lose, times_push}

@@ -2,10 +2,9 @@
 use Rattle.std.proofs.Common.{◌≡◌, ℕ, zero, suc, ◌<◌, ◌≤◌, List, length, [], ◌∷◌, Bool, true, false, not, ◌&&◌, ◌||◌, ◌==◌, if◌then◌else◌, refl, sym, arith, ap, ◌∙◌, ⊎_elim, Some, None}
 use Rattle.std.specs.declared.option.Option.{Option}
 use Rattle.std.proofs.lemmas.Bool.{cases_Bool}
-use Rattle.sq_rules.specs.Channels.{asked, free_count, freed, is_open, least_free, opened, settled, slot_at, times_open}
+use Rattle.sq_machine.specs.Channels.{asked, free_count, freed, is_open, least_free, opened, settled, slot_at, times_open}
 use Rattle.sq_channel.proofs.SlotLaws.{all_slots, free_asked, free_settled, length_asked, length_settled, open_once}
-use Rattle.sq_rules.specs.Living.{Living}
-use Rattle.sq_rules.specs.Living.{find_proc, settled_in, slots_by, slots_in}
+use Rattle.sq_machine.specs.Living.{Living, find_proc, settled_in, slots_by, slots_in}
 use Rattle.sq_channel.proofs.RisingLaws.{if_false, if_true}
 
 -- by channel: a send, and a reply

@@ -2,12 +2,11 @@
 use Rattle.std.proofs.Common.{◌≡◌, ℕ, suc, ◌+◌, ◌≤◌, ◌<◌, max, List, [], ◌∷◌, ◌++◌, map, length, Bool, true, false, if◌then◌else◌, nat_lt, ◌==◌, refl, sym, arith, ap, ◌∙◌, Some, None, subst}
 use Rattle.std.proofs.lemmas.List.{length-replicate}
 use Rattle.std.specs.declared.option.Option.{Option}
-use Rattle.sq_rules.specs.Channels.{is_open, opened, settled, times_open}
+use Rattle.sq_machine.specs.Channels.{is_open, opened, settled, times_open}
 use Rattle.sq_channel.proofs.SlotLaws.{all_slots, free_settled, new_times, some_open, length_settled, times_settled, opened_new}
-use Rattle.sq_rules.specs.Living.{Living}
-use Rattle.sq_rules.specs.Farms.{fresh, started_in, AreOfClass, IsStock, Stock, open_in, places}
-use Rattle.sq_rules.specs.Living.{with_proc, find_proc, lives, living_number, settled_in, slots_by, slots_in, times_in}
-use Rattle.sq_rules.specs.Rising.{Rises}
+use Rattle.sq_machine.specs.Living.{Living, with_proc, find_proc, lives, living_number, settled_in, slots_by, slots_in, times_in}
+use Rattle.sq_machine.specs.Farms.{fresh, started_in, AreOfClass, IsStock, Stock, open_in, places}
+use Rattle.sq_machine.specs.Rising.{Rises}
 use Rattle.sq_farm.proofs.LivingLaws.{gap, rises_with, with_higher, with_lower, around, times_around}
 use Rattle.sq_farm.proofs.CallLaws.{lives_slots, settled_around, find_around}
 use Rattle.sq_channel.proofs.RisingLaws.{if_false}

@@ -3,10 +3,10 @@ use Rattle.std.proofs.Common.{◌≡◌, ℕ, ◌<◌, ◌≤◌, List, [], ◌�
 use Rattle.std.specs.declared.option.Option.{Option}
 use Rattle.std.proofs.lemmas.Bool.{lt-ltb, ltb-true}
 use Rattle.sq_base.specs.declared.helpers.Cause.{Cause}
-use Rattle.sq_rules.specs.Channels.{asked, channel_name, least_free}
-use Rattle.sq_rules.specs.Living.{Living, asked_row, find_proc, has_free, is_target, lives, living_number, sent, slots_by, slots_in, target, with_proc, without}
-use Rattle.sq_rules.specs.Losses.{AreOfCause, Loss, lose, lose_all}
-use Rattle.sq_rules.specs.Rising.{AreAbove, AreBelow, Rises}
+use Rattle.sq_machine.specs.Channels.{asked, channel_name, least_free}
+use Rattle.sq_machine.specs.Living.{Living, asked_row, find_proc, has_free, is_target, lives, living_number, sent, slots_by, slots_in, target, with_proc, without}
+use Rattle.sq_machine.specs.Losses.{AreOfCause, Loss, lose, lose_all}
+use Rattle.sq_machine.specs.Rising.{AreAbove, AreBelow, Rises}
 use Rattle.sq_channel.proofs.RisingLaws.{if_true}
 
 -- the first process, and those behind it

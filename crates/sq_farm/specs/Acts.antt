@@ -3,7 +3,7 @@ use Rattle.std.specs.Prelude.{Bool, true, false, Some, None}
 use Rattle.std.specs.declared.option.Option.{Option}
 use Rattle.sq_farm.specs.declared.acts.FarmAct.{FarmAct}
 use Rattle.sq_farm.specs.declared.acts.FarmAct.TheVariants as act
-use Rattle.sq_rules.specs.Farms.{Sending, Stock, send_of, start_due}
+use Rattle.sq_machine.specs.Farms.{Sending, Stock, send_of, start_due}
 
 -- a send as an act
 abbrev pub told_send : Option Sending → Option FarmAct

@@ -6,8 +6,8 @@ use Rattle.sq_base.specs.declared.helpers.Cause.TheVariants as cause
 use Rattle.sq_channel.specs.Gots.{got_in}
 use Rattle.sq_channel.specs.declared.replies.Got.{Got}
 use Rattle.sq_channel.specs.declared.replies.Got.TheVariants as got
-use Rattle.sq_rules.specs.Farms.{Stock, ended}
-use Rattle.sq_rules.specs.Living.{find_proc, settled_in}
+use Rattle.sq_machine.specs.Farms.{Stock, ended}
+use Rattle.sq_machine.specs.Living.{find_proc, settled_in}
 
 -- what a line of process k answers
 abbrev pub got_of : ℕ → Stock → List ℕ → Option Got

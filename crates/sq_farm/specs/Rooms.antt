@@ -1,6 +1,6 @@
 -- Lost questions with their room.
 use Rattle.std.specs.Prelude.{ℕ, List}
-use Rattle.sq_rules.specs.Losses.{Loss}
+use Rattle.sq_machine.specs.Losses.{Loss}
 
 -- the lost questions, and for how many there is room
 pub record LostOnes : Type 0 where

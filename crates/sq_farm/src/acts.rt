@@ -10,7 +10,7 @@ pub struct Waiting {
 }
 
 impl Model for Waiting {
-    ghost use Rattle.sq_rules.specs.Farms.{Waiting};
+    ghost use Rattle.sq_machine.specs.Farms.{Waiting};
 
     ghost Value = { Waiting };
 

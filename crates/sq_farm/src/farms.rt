@@ -2,15 +2,14 @@
 ghost use Rattle.std.specs.Prelude.{◌≡◌, ◌<◌, ◌≤◌, ◌+◌, ◌-◌, ◌*◌, ◌↔◌, ◌∷◌, ◌==◌, [], ℕ, List, not, ◌&&◌, ◌||◌, length, map, max, true, false, if◌then◌else◌, is_some, Some, None, IfOk, IfErr, IfSome, OnOk, OnErr, IsErrOf};
 ghost use Rattle.std.specs.Option.{option_map, option_to_list};
 ghost use Rattle.std.specs.declared.option.Option.{Option};
-ghost use Rattle.sq_rules.specs.Living.{Living};
-ghost use Rattle.sq_rules.specs.Channels.{is_open, opened};
+ghost use Rattle.sq_machine.specs.Living.{Living, find_proc, lives, settled_in, slots_in, with_proc};
+ghost use Rattle.sq_machine.specs.Channels.{is_open, opened};
 ghost use Rattle.sq_channel.specs.Gots.{names_open};
 ghost use Rattle.sq_farm.specs.Acts.{act_of, told_send, told_start};
 ghost use Rattle.sq_farm.specs.Replies.{after_got, got_of, is_reply_to};
-ghost use Rattle.sq_rules.specs.Farms.{after_act, after_send, after_start, emptied, ended, failed, full, is_last_start, places, put_in, started_in, send_of, start_due, stock_of, waiting_number};
-ghost use Rattle.sq_rules.specs.Living.{find_proc, lives, settled_in, slots_in, with_proc};
-ghost use Rattle.sq_rules.specs.Rising.{times_of};
-ghost use Rattle.sq_rules.specs.Losses.{first_lost, later_lost, lose_all, times_lost};
+ghost use Rattle.sq_machine.specs.Farms.{after_act, after_send, after_start, emptied, ended, failed, full, is_last_start, places, put_in, started_in, send_of, start_due, stock_of, waiting_number};
+ghost use Rattle.sq_machine.specs.Rising.{times_of};
+ghost use Rattle.sq_machine.specs.Losses.{first_lost, later_lost, lose_all, times_lost};
 
 use crate::acts::{FarmAct, Waiting};
 use crate::faults::{FarmFault, PutFault, StartFault};
@@ -42,7 +41,7 @@ pub struct Farm {
 
 impl Model for Farm {
     ghost use Rattle.std.specs.Prelude.{◌≡◌, ◌≤◌, ◌+◌, length};
-    ghost use Rattle.sq_rules.specs.Farms.{IsStock, Stock, open_in};
+    ghost use Rattle.sq_machine.specs.Farms.{IsStock, Stock, open_in};
 
     ghost Value = { Stock };
 

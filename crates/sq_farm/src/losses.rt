@@ -1,7 +1,7 @@
 //! `Losses`: the questions that an end or a failed start gave a fault, until they are handed out.
 ghost use Rattle.std.specs.Prelude.{◌≡◌, ◌<◌, ◌≤◌, ◌+◌, ◌∷◌, [], length, map, IfOk, OnOk, OnErr};
-ghost use Rattle.sq_rules.specs.Losses.{first_lost, later_lost, lose, loss_number, times_lost};
-ghost use Rattle.sq_rules.specs.Rising.{Rises, place_among};
+ghost use Rattle.sq_machine.specs.Losses.{first_lost, later_lost, lose, loss_number, times_lost};
+ghost use Rattle.sq_machine.specs.Rising.{Rises, place_among};
 
 use sq_base::{Cause, QuestionNo, WantOfMemory};
 use std::alloc::Global;
@@ -16,7 +16,7 @@ pub struct Loss {
 }
 
 impl Model for Loss {
-    ghost use Rattle.sq_rules.specs.Losses.{Loss};
+    ghost use Rattle.sq_machine.specs.Losses.{Loss};
 
     ghost Value = { Loss };
 
@@ -30,11 +30,11 @@ pub struct Losses {
 }
 
 impl Model for Losses {
+    ghost use Rattle.sq_machine.specs.Losses.{loss_number};
     ghost use Rattle.std.specs.Prelude.{map};
     ghost use Rattle.std.specs.VecDeque.{deque_capacity};
     ghost use Rattle.sq_farm.specs.Rooms.{LostOnes};
-    ghost use Rattle.sq_rules.specs.Losses.{loss_number};
-    ghost use Rattle.sq_rules.specs.Rising.{Rises};
+    ghost use Rattle.sq_machine.specs.Rising.{Rises};
 
     ghost Value = { LostOnes };
 

@@ -1,9 +1,9 @@
 //! `Procs`: the living processes of a class, by number, and which of them have a free channel.
 ghost use Rattle.std.specs.Prelude.{◌≡◌, ◌<◌, ◌≤◌, ◌+◌, ◌∷◌, [], length, map, true, false, is_some, Some, None, IfOk, IfSome, OnOk, OnErr};
 ghost use Rattle.std.specs.Option.{option_map};
-ghost use Rattle.sq_rules.specs.Channels.{is_open};
-ghost use Rattle.sq_rules.specs.Living.{find_proc, free_numbers, has_free, is_none_living, lives, living_number, sent, settled_in, slots_in, some_free, target, times_in, with_proc, without};
-ghost use Rattle.sq_rules.specs.Rising.{Rises, place_among};
+ghost use Rattle.sq_machine.specs.Channels.{is_open};
+ghost use Rattle.sq_machine.specs.Living.{find_proc, free_numbers, has_free, is_none_living, lives, living_number, sent, settled_in, slots_in, some_free, target, times_in, with_proc, without};
+ghost use Rattle.sq_machine.specs.Rising.{Rises, place_among};
 
 use sq_base::{ProcNo, QuestionNo, WantOfMemory};
 use sq_channel::Process;
@@ -18,7 +18,7 @@ pub struct Living {
 }
 
 impl Model for Living {
-    ghost use Rattle.sq_rules.specs.Living.{Living};
+    ghost use Rattle.sq_machine.specs.Living.{Living};
 
     ghost Value = { Living };
 
@@ -34,11 +34,10 @@ pub struct Procs {
 }
 
 impl Model for Procs {
+    ghost use Rattle.sq_machine.specs.Living.{Living, free_numbers, living_number};
     ghost use Rattle.std.specs.Prelude.{◌≡◌, ◌≤◌, List, length, map};
     ghost use Rattle.std.specs.Vec.{vec_capacity};
-    ghost use Rattle.sq_rules.specs.Living.{Living};
-    ghost use Rattle.sq_rules.specs.Living.{free_numbers, living_number};
-    ghost use Rattle.sq_rules.specs.Rising.{Rises};
+    ghost use Rattle.sq_machine.specs.Rising.{Rises};
 
     ghost Value = { List Living };
 

@@ -4,10 +4,10 @@
 ghost use Rattle.std.specs.Prelude.{◌≡◌, ◌<◌, ◌≤◌, ◌+◌, ◌∷◌, ◌++◌, ◌==◌, [], ℕ, suc, List, not, ◌&&◌, ◌||◌, filter, length, map, true, if◌then◌else◌, Some};
 ghost use Rattle.std.specs.declared.option.Option.{Option};
 ghost use Rattle.sq_base.specs.declared.helpers.Cause.{Cause};
-ghost use Rattle.sq_rules.specs.Channels.{asked, free_count, freed, is_open, least_free, opened, settled, slot_at, times_open};
-ghost use Rattle.sq_rules.specs.Living.{Living, is_target, lives, living_number, sent, settled_in, slots_in, target, with_proc, without};
-ghost use Rattle.sq_rules.specs.Losses.{AreOfCause, Loss, lose_all, times_lost};
-ghost use Rattle.sq_rules.specs.Rising.{AreBelow, Rises, times_of};
+ghost use Rattle.sq_machine.specs.Channels.{asked, free_count, freed, is_open, least_free, opened, settled, slot_at, times_open};
+ghost use Rattle.sq_machine.specs.Living.{Living, is_target, lives, living_number, sent, settled_in, slots_in, target, with_proc, without};
+ghost use Rattle.sq_machine.specs.Losses.{AreOfCause, Loss, lose_all, times_lost};
+ghost use Rattle.sq_machine.specs.Rising.{AreBelow, Rises, times_of};
 
 /// What a question and a reply do to the channels of a process.
 pub fn channel_readings()

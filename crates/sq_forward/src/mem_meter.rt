@@ -2,7 +2,7 @@
 ghost use Rattle.std.specs.Prelude.{◌≤◌, ◌-◌, ◌^◌};
 
 use crate::meter::Meter;
-use sq_outside::COUNT_LIMIT;
+use sq_outside::{raised, raised_by};
 
 /// A meter that has so many bytes to grant where it holds a seat, and then grants none. Without a seat it
 /// grants all that is wanted.
@@ -40,7 +40,7 @@ impl Meter for MemMeter {
         };
         if self.seated {
             self.room -= given;
-            self.granted = self.granted.saturating_add(given).min(COUNT_LIMIT);
+            self.granted = raised_by(self.granted, given);
         }
         self.short = wanted > 0 && given == 0;
         if given > 0 {
@@ -51,7 +51,7 @@ impl Meter for MemMeter {
 
     fn pause(&mut self) {
         if self.short {
-            self.dry = (self.dry + 1).min(COUNT_LIMIT);
+            self.dry = raised(self.dry);
         }
         self.short = false;
     }

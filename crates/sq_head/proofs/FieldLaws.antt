@@ -1,32 +1,11 @@
 -- Fields, one at a time.
-use Rattle.std.proofs.Common.{◌≡◌, ℕ, ◌+◌, ◌≤◌, List, [], ◌∷◌, ◌++◌, Bool, true, false, length, take, drop, map, append_assoc, refl, sym, ap, ◌∙◌, arith, length-take, codes}
+use Rattle.std.proofs.Common.{◌≡◌, ℕ, ◌+◌, ◌≤◌, List, [], ◌∷◌, ◌++◌, Bool, true, false, length, take, drop, map, append_assoc, ap, arith, length-take, codes}
 use Rattle.std.proofs.lemmas.List.{length-map}
 use Rattle.std.specs.List.{filter, flat_map}
 use Rattle.std.specs.Str.{str_eq_ignore_ascii_case}
-use Rattle.httparse.specs.Grammar as grammar
-use Rattle.httparse.specs.Spans.{name_and_value}
 use Rattle.sq_base.specs.declared.requests.Field.{Field}
-use Rattle.sq_request.specs.Heads.{field_of, field_line}
-use Rattle.sq_request.specs.Spans.{field_pair}
+use Rattle.sq_request.specs.Heads.{field_line}
 use Rattle.sq_head.specs.FieldNames.{elements, connection_options}
-
--- fields are told by their names and values
-of_pair : List ℕ × List ℕ → Field
-of_pair p = record { name = p.0; value = p.1 }
-
-map_back : {A B C : Type 0} (f : A → B) (g : B → C) (h : A → C) (xs : List A) → ((x : A) → g (f x) ≡ h x) → map g (map f xs) ≡ map h xs
-map_back f g h [] same = refl
-map_back f g h (x ∷ xs) same = rw (same x, map_back f g h xs same) refl
-
-map_same : {A : Type 0} (xs : List A) → map (λ x. x) xs ≡ xs
-map_same [] = refl
-map_same (x ∷ xs) = ap (λ t. x ∷ t) (map_same xs)
-
--- fields with the same names and values are the same
-pub fields_from_pairs : (fs : List Field) (fields : List grammar.Field) → map field_pair fs ≡ map name_and_value fields → fs ≡ map field_of fields
-unfolding of_pair
-fields_from_pairs fs fields e =
-    sym (map_same fs) ∙ sym (map_back field_pair of_pair (λ f. f) fs (λ f. refl)) ∙ ap (map of_pair) e ∙ map_back name_and_value of_pair field_of fields (λ f. refl)
 
 -- there are as many fields as spans were written
 pub count_of : {A B C : Type 0} (f : A → C) (g : B → C) (n m : ℕ) (xs : List A) (ys : List B) → map f (take n xs) ≡ map g ys → length xs ≤ m → length ys ≤ m

@@ -6,8 +6,9 @@ use Rattle.httparse.specs.Spans.{header_bytes, span_bytes}
 use Rattle.httparse.specs.declared.spans.HeaderSpan.{HeaderSpan}
 use Rattle.httparse.specs.declared.spans.ResponseSpans.{ResponseSpans}
 use Rattle.sq_base.specs.declared.requests.Field.{Field}
+use Rattle.sq_request.proofs.PairLaws.{fields_from_pairs}
 use Rattle.sq_request.specs.Spans.{field_pair}
-use Rattle.sq_head.proofs.FieldLaws.{fields_from_pairs, count_of}
+use Rattle.sq_head.proofs.FieldLaws.{count_of}
 use Rattle.sq_head.specs.ReplyHeads.{IsReplyHead, HasReply, reply_of, most_bytes}
 use Rattle.sq_head.specs.Spans.{CoversHead, HasMoreThan}
 use Rattle.sq_head.specs.declared.replies.ReplyHead.{ReplyHead}

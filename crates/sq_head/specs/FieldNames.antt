@@ -1,6 +1,6 @@
 -- Header fields by their names, and which of them a proxy passes on: RFC 9110 sections 5.1 (names have no
 -- case), 5.6.1 (lists) and 7.6.1 (fields of one connection).
-use Rattle.std.specs.Prelude.{ℕ, List, [], ◌∷◌, map, Bool, not, ◌&&◌, ◌||◌, ◌==◌, if◌then◌else◌, codes}
+use Rattle.std.specs.Prelude.{ℕ, List, [], ◌∷◌, map, Bool, true, not, ◌&&◌, ◌||◌, ◌==◌, if◌then◌else◌, codes}
 use Rattle.std.specs.List.{filter, flat_map, list_any}
 use Rattle.std.specs.Str.{str_eq_ignore_ascii_case}
 use Rattle.httparse.specs.Ascii.{comma}
@@ -54,10 +54,29 @@ is_listed options name = is_one_of options name && not (str_eq_ignore_ascii_case
 abbrev pub is_kept : Way → List (List ℕ) → Field → Bool
 is_kept way options f = not (is_one_of (dropped way) f.name || is_listed options f.name)
 
--- the fields that are passed on, in their order
-abbrev pub kept_fields : Way → List Field → List Field
-kept_fields way fields = filter (is_kept way (connection_options fields)) fields
+-- the test of names that each name passes
+abbrev pub each_name : List ℕ → Bool
+each_name name = true
+
+-- the fields whose lines stay, whatever a test of names says
+abbrev pub always_there : List (List ℕ)
+always_there = codes "host" ∷ codes "content-length" ∷ codes "transfer-encoding" ∷ codes "connection" ∷ []
+
+-- a line of this name goes out where names are tested so
+abbrev pub goes_out : (List ℕ → Bool) → List ℕ → Bool
+goes_out test name = test name || is_one_of always_there name
+
+-- the line, if one of this name goes out
+abbrev pub line_of : (List ℕ → Bool) → List ℕ → List ℕ → List ℕ
+line_of test name line = if goes_out test name then line else []
+
+abbrev pub is_sent : (List ℕ → Bool) → Way → List (List ℕ) → Field → Bool
+is_sent test way options f = goes_out test f.name && is_kept way options f
+
+-- the fields that are passed on where names are tested so, in their order
+abbrev pub kept_fields : (List ℕ → Bool) → Way → List Field → List Field
+kept_fields test way fields = filter (is_sent test way (connection_options fields)) fields
 
 -- their lines
-abbrev pub kept_lines : Way → List Field → List ℕ
-kept_lines way fields = flat_map field_line (kept_fields way fields)
+abbrev pub kept_lines : (List ℕ → Bool) → Way → List Field → List ℕ
+kept_lines test way fields = flat_map field_line (kept_fields test way fields)

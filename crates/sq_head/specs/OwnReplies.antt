@@ -1,4 +1,4 @@
--- The replies of the proxy's own: RFC 9112 sections 2.1 and 4, RFC 9110 section 15.
+-- The replies of the proxy's own: RFC 9112 sections 2.1 and 4, RFC 9110 sections 10.2.2 (Location) and 15.
 use Rattle.std.specs.Prelude.{ℕ, ◌+◌, List, [], ◌∷◌, ◌++◌, length, Bool, true, if◌then◌else◌, codes, decimal}
 use Rattle.std.specs.List.{flat_map}
 use Rattle.sq_base.specs.Bytes.{lf, space}
@@ -7,6 +7,7 @@ use Rattle.sq_rules.specs.declared.outcomes.Outcome.{Outcome}
 use Rattle.sq_head.specs.declared.own.Own.{Own}
 use Rattle.sq_head.specs.declared.own.Own.TheVariants.{BadRequest, HeadTooLarge, Inner, Stopped, NoMemory, NotImplemented, BadGateway, TooManyConns}
 use Rattle.sq_head.specs.RequestHeads.{crlf, closing_line}
+use Rattle.sq_head.specs.Statuses.{status_words}
 
 -- the code and phrase of a reply
 abbrev pub own_status : Own → List ℕ
@@ -42,6 +43,11 @@ own_reply status words no_body closes =
 -- such a reply closes the connection
 unfoldable pub error_text : Own → Bool → List ℕ
 error_text own no_body = own_reply (own_status own) (own_words own) no_body true
+
+-- the reply that sends a client elsewhere, behind which the connection closes
+unfoldable pub redirect_text : ℕ → List ℕ → List ℕ
+redirect_text status url =
+    codes "HTTP/1.1 " ++ status_words status ++ crlf ++ codes "Location: " ++ url ++ crlf ++ codes "Content-Length: 0" ++ crlf ++ closing_line true ++ crlf
 
 -- `denied rule 1`, `denied default` and the like
 abbrev pub outcome_text : Outcome → List ℕ

@@ -1,6 +1,6 @@
 -- Heads of replies, as they come from the origin and as they go to the client: RFC 9112 section 4, in the
 -- grammar of `httparse`.
-use Rattle.std.specs.Prelude.{◌≡◌, ℕ, ◌≤◌, List, [], ◌∷◌, ◌++◌, length, map, if◌then◌else◌, nat_lt, codes, decimal, ⊤}
+use Rattle.std.specs.Prelude.{◌≡◌, ℕ, ◌≤◌, List, [], ◌∷◌, ◌++◌, length, map, Bool, if◌then◌else◌, nat_lt, codes, decimal, ⊤}
 use Rattle.httparse.specs.Grammar.{ResponseHead, ReadsResponse, status_code, reason_phrase}
 use Rattle.sq_base.specs.Bytes.{space}
 use Rattle.sq_request.specs.Heads.{most_fields, field_of}
@@ -9,7 +9,7 @@ use Rattle.sq_head.specs.declared.faults.ReplyHeadFault.TheVariants.{BadHead, Wa
 use Rattle.sq_head.specs.declared.names.Way.TheVariants as way
 use Rattle.sq_head.specs.declared.replies.ReplyHead.{ReplyHead}
 use Rattle.sq_head.specs.declared.replies.Shape.{Shape}
-use Rattle.sq_head.specs.FieldNames.{kept_lines}
+use Rattle.sq_head.specs.FieldNames.{each_name, kept_lines, line_of}
 use Rattle.sq_head.specs.RequestHeads.{crlf, coding_line, via_line, closing_line}
 
 -- a head has so many bytes at most
@@ -46,7 +46,11 @@ status_text status = leading_zeros status ++ decimal status
 abbrev pub status_line : ReplyHead → List ℕ
 status_line h = codes "HTTP/1.1 " ++ status_text h.status ++ space ∷ h.reason ++ crlf
 
+-- the head that the client gets, where names of fields are tested so
+unfoldable pub reply_head_out_where : (List ℕ → Bool) → ReplyHead → Shape → List ℕ
+reply_head_out_where test h s =
+    status_line h ++ kept_lines test way.ToClient h.fields ++ coding_line s.chunked ++ line_of test (codes "Via") (via_line h.minor) ++ closing_line s.closes ++ crlf
+
 -- the head that the client gets
 unfoldable pub reply_head_out : ReplyHead → Shape → List ℕ
-reply_head_out h s =
-    status_line h ++ kept_lines way.ToClient h.fields ++ coding_line s.chunked ++ via_line h.minor ++ closing_line s.closes ++ crlf
+reply_head_out h s = reply_head_out_where each_name h s

@@ -8,7 +8,7 @@ use Rattle.sq_base.specs.Requests.{HttpRequest}
 use Rattle.sq_base.specs.Targets.{in_authority}
 use Rattle.sq_base.specs.declared.plans.BodyPlan.{BodyPlan}
 use Rattle.sq_base.specs.declared.plans.BodyPlan.TheVariants as plan
-use Rattle.sq_head.specs.FieldNames.{kept_lines}
+use Rattle.sq_head.specs.FieldNames.{each_name, kept_lines, line_of}
 use Rattle.sq_head.specs.declared.names.Way.TheVariants as way
 
 -- the end of a line
@@ -57,10 +57,16 @@ is_chunked (plan.Length n) = false
 is_chunked plan.Chunked = true
 is_chunked plan.ToClose = false
 
--- the lines of the proxy, and the empty line
-unfoldable pub proxy_lines : ℕ → Address → Bool → List ℕ
-proxy_lines minor addr chunked = coding_line chunked ++ via_line minor ++ forwarded_line addr ++ closing_line true ++ crlf
+-- the lines of the proxy, where names are tested so, and the empty line
+unfoldable pub proxy_lines : (List ℕ → Bool) → ℕ → Address → Bool → List ℕ
+proxy_lines test minor addr chunked =
+    coding_line chunked ++ line_of test (codes "Via") (via_line minor) ++ line_of test (codes "X-Forwarded-For") (forwarded_line addr) ++ closing_line true ++ crlf
+
+-- the head that the origin gets, where names of fields are tested so
+unfoldable pub head_out_where : (List ℕ → Bool) → HttpRequest → Address → BodyPlan → List ℕ
+head_out_where test r addr p =
+    request_line r ++ host_line r ++ kept_lines test way.ToOrigin r.fields ++ proxy_lines test r.minor addr (is_chunked p)
 
 -- the head that the origin gets
 unfoldable pub head_out : HttpRequest → Address → BodyPlan → List ℕ
-head_out r addr p = request_line r ++ host_line r ++ kept_lines way.ToOrigin r.fields ++ proxy_lines r.minor addr (is_chunked p)
+head_out r addr p = head_out_where each_name r addr p

@@ -2,42 +2,54 @@
 ghost use Rattle.std.specs.Prelude.{◌≡◌, ◌++◌, map, OnOk};
 ghost use Rattle.std.specs.List.{filter, flat_map};
 ghost use Rattle.sq_request.specs.Heads.{field_line};
-ghost use Rattle.sq_head.specs.FieldNames.{is_kept, is_listed, kept_lines};
+ghost use Rattle.sq_head.specs.FieldNames.{is_kept, is_listed, is_sent, kept_lines};
 
 use crate::elements::connection_options;
+use crate::name_test::{NameTest, goes_out};
 use crate::names::{Way, is_alike, is_dropped, is_one_of};
 use sq_base::{Field, Text, WantOfMemory};
 use std::alloc::Global;
 
-/// Puts the lines of the fields that are passed on that way. Each of them, at most 128 in a head, is
-/// compared with each option that Connection lists.
-pub(crate) fn put_kept_fields(
+/// Puts the lines of the fields that are passed on that way, where names are tested. Each of them, at most
+/// 128 in a head, is compared with each option that Connection lists.
+pub(crate) fn put_kept_fields<T: NameTest>(
     alloc: Global,
     to: &mut Text,
+    test: &T,
     way: Way,
     fields: &[Field],
 ) -> Result<(), WantOfMemory>
-    ensures { OnOk result (to.new ≡ to.old ++ kept_lines way fields.now) }
+    requires { T.IsReady test.now }
+    ensures { OnOk result (to.new ≡ to.old ++ kept_lines (T.passes test.now) way fields.now) }
 {
     let options = connection_options(alloc, fields)?;
-    put_unlisted(to, way, fields, options.as_slice())
+    put_unlisted(to, test, way, fields, options.as_slice())
 }
 
 // Puts the lines of the fields that are passed on where Connection lists these.
-fn put_unlisted(
+fn put_unlisted<T: NameTest>(
     to: &mut Text,
+    test: &T,
     way: Way,
     fields: &[Field],
     options: &[&[u8]],
 ) -> Result<(), WantOfMemory>
-    ensures { OnOk result (to.new ≡ to.old ++ flat_map field_line (filter (is_kept way (map (λ o. o.now) options.now)) fields.now)) }
+    requires { T.IsReady test.now }
+    ensures { OnOk result (to.new ≡ to.old ++ flat_map field_line (filter (is_sent (T.passes test.now) way (map (λ o. o.now) options.now)) fields.now)) }
 {
     for field in fields {
-        if is_kept(way, options, field) {
+        if is_sent(test, way, options, field) {
             put_field(to, field)?;
         }
     }
     Ok(())
+}
+
+fn is_sent<T: NameTest>(test: &T, way: Way, options: &[&[u8]], field: &Field) -> bool
+    requires { T.IsReady test.now }
+    ensures { result ≡ is_sent (T.passes test.now) way (map (λ o. o.now) options.now) field.now }
+{
+    is_kept(way, options, field) && goes_out(test, field.name.as_bytes())
 }
 
 fn is_kept(way: Way, options: &[&[u8]], field: &Field) -> bool

@@ -1,7 +1,9 @@
 //! The lines that a proxy writes into each head: RFC 9110 sections 7.6.1 and 7.6.3.
-ghost use Rattle.std.specs.Prelude.{◌≡◌, ◌++◌, decimal, OnOk};
+ghost use Rattle.std.specs.Prelude.{◌≡◌, ◌++◌, codes, decimal, OnOk};
+ghost use Rattle.sq_head.specs.FieldNames.{line_of};
 ghost use Rattle.sq_head.specs.RequestHeads.{coding_line, via_line, closing_line};
 
+use crate::name_test::{NameTest, goes_out};
 use itoa::Buffer;
 use sq_base::{Text, WantOfMemory};
 
@@ -23,8 +25,23 @@ pub(crate) fn put_coding(to: &mut Text, chunked: bool) -> Result<(), WantOfMemor
     }
 }
 
-/// Puts the version that was received, and by whom.
-pub(crate) fn put_via(to: &mut Text, minor: u8) -> Result<(), WantOfMemory>
+/// Puts the version that was received, and by whom, where such a line goes out.
+pub(crate) fn put_tested_via<T: NameTest>(
+    to: &mut Text,
+    test: &T,
+    minor: u8,
+) -> Result<(), WantOfMemory>
+    requires { T.IsReady test.now }
+    ensures { OnOk result (to.new ≡ to.old ++ line_of (T.passes test.now) (codes "Via") (via_line minor)) }
+{
+    if goes_out(test, b"Via") {
+        put_via(to, minor)
+    } else {
+        Ok(())
+    }
+}
+
+fn put_via(to: &mut Text, minor: u8) -> Result<(), WantOfMemory>
     ensures { OnOk result (to.new ≡ to.old ++ via_line minor) }
 {
     to.append(b"Via: 1.")?;

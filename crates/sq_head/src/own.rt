@@ -1,6 +1,7 @@
 //! The replies of the proxy's own.
 ghost use Rattle.std.specs.Prelude.{◌≡◌, ◌++◌, false, IfOk, OnOk};
-ghost use Rattle.sq_head.specs.OwnReplies.{own_words, own_body, own_reply, error_text, denial};
+ghost use Rattle.http.specs.StatusCode.{IsStatusCode};
+ghost use Rattle.sq_head.specs.OwnReplies.{own_words, own_body, own_reply, error_text, denial, redirect_text};
 ghost use Rattle.sq_head.specs.Statuses.{status_words, own_code};
 
 use crate::lines::{put_closing, put_number};
@@ -58,6 +59,25 @@ pub fn error_text(alloc: Global, own: Own, no_body: bool) -> Result<Text, WantOf
     ensures text { IfOk result (λ t. t ≡ error_text own no_body) }
 {
     own_reply(alloc, status_of(own), words_of(own), no_body, true)
+}
+
+/// The reply that sends a client to this URL, behind which the connection closes. It has no body.
+#[tactic(auto, unfolding(crate::specs::OwnReplies::redirect_text))]
+pub fn redirect_text(alloc: Global, status: u16, url: &[u8]) -> Result<Text, WantOfMemory>
+    requires { IsStatusCode status }
+    ensures text { IfOk result (λ t. t ≡ redirect_text status url.now) }
+{
+    let Ok(status) = StatusCode::from_u16(status) else {
+        unreachable!()
+    };
+    let mut text = Text::from_slice(alloc, b"HTTP/1.1 ")?;
+    put_status(&mut text, status)?;
+    text.append(b"\r\nLocation: ")?;
+    text.append(url)?;
+    text.append(b"\r\nContent-Length: 0\r\n")?;
+    put_closing(&mut text, true)?;
+    text.append(b"\r\n")?;
+    Ok(text)
 }
 
 fn status_of(own: Own) -> StatusCode

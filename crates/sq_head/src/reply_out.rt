@@ -1,9 +1,10 @@
 //! The head of a reply as the client gets it.
 ghost use Rattle.std.specs.Prelude.{◌≡◌, ◌++◌, IfOk, OnOk};
-ghost use Rattle.sq_head.specs.ReplyHeads.{reply_head_out, status_line, status_text, leading_zeros};
+ghost use Rattle.sq_head.specs.ReplyHeads.{reply_head_out, reply_head_out_where, status_line, status_text, leading_zeros};
 
 use crate::kept::put_kept_fields;
-use crate::lines::{put_closing, put_coding, put_number, put_via};
+use crate::lines::{put_closing, put_coding, put_number, put_tested_via};
+use crate::name_test::{EachName, NameTest};
 use crate::names::Way;
 use crate::replies::{ReplyHead, Shape};
 use sq_base::{Text, WantOfMemory};
@@ -14,11 +15,32 @@ use std::alloc::Global;
 pub fn reply_head_out(alloc: Global, head: &ReplyHead, shape: Shape) -> Result<Text, WantOfMemory>
     ensures text { IfOk result (λ t. t ≡ reply_head_out head.now shape) }
 {
+    reply_head_out_where(alloc, head, shape, &EachName)
+}
+
+/// The head of a reply as the client gets it, without the lines of fields whose names do not pass the test,
+/// that of the proxy included: the lines Host, Content-Length, Transfer-Encoding and Connection always stay.
+#[tactic(auto, unfolding(crate::specs::ReplyHeads::reply_head_out_where))]
+pub fn reply_head_out_where<T: NameTest>(
+    alloc: Global,
+    head: &ReplyHead,
+    shape: Shape,
+    test: &T,
+) -> Result<Text, WantOfMemory>
+    requires { T.IsReady test.now }
+    ensures text { IfOk result (λ t. t ≡ reply_head_out_where (T.passes test.now) head.now shape) }
+{
     let mut text = Text::new(alloc);
     put_status_line(&mut text, head)?;
-    put_kept_fields(alloc, &mut text, Way::ToClient, head.fields.as_slice())?;
+    put_kept_fields(
+        alloc,
+        &mut text,
+        test,
+        Way::ToClient,
+        head.fields.as_slice(),
+    )?;
     put_coding(&mut text, shape.chunked)?;
-    put_via(&mut text, head.minor)?;
+    put_tested_via(&mut text, test, head.minor)?;
     put_closing(&mut text, shape.closes)?;
     text.append(b"\r\n")?;
     Ok(text)

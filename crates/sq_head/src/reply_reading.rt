@@ -5,9 +5,10 @@ ghost use Rattle.sq_head.specs.declared.replies.ReplyHead.{ReplyHead};
 
 use crate::faults::ReplyHeadFault;
 use crate::replies::ReplyHead;
-use crate::spanning::{copy_fields, parse_whole};
+use crate::spanning::parse_whole;
 use httparse::spans::EMPTY_HEADER_SPAN;
 use sq_base::Text;
+use sq_request::copy_fields;
 use std::alloc::Global;
 
 /// A head has so many bytes at most.

@@ -1,12 +1,14 @@
 //! The head of a request as the origin gets it.
-ghost use Rattle.std.specs.Prelude.{◌≡◌, ◌++◌, ◌≤◌, drop, length, IfOk, OnOk};
+ghost use Rattle.std.specs.Prelude.{◌≡◌, ◌++◌, ◌≤◌, codes, drop, length, IfOk, OnOk};
 ghost use Rattle.std.specs.List.{after_first, position_or_len, take_while, prefix_len};
 ghost use Rattle.sq_base.specs.Addresses.{is_colon};
 ghost use Rattle.sq_base.specs.Targets.{in_authority};
-ghost use Rattle.sq_head.specs.RequestHeads.{head_out, proxy_lines, request_line, host_line, forwarded_line, authority_of, origin_form, no_path, is_chunked};
+ghost use Rattle.sq_head.specs.FieldNames.{line_of};
+ghost use Rattle.sq_head.specs.RequestHeads.{head_out, head_out_where, proxy_lines, request_line, host_line, forwarded_line, authority_of, origin_form, no_path, is_chunked};
 
 use crate::kept::put_kept_fields;
-use crate::lines::{put_closing, put_coding, put_via};
+use crate::lines::{put_closing, put_coding, put_tested_via};
+use crate::name_test::{EachName, NameTest, goes_out};
 use crate::names::Way;
 use sq_addr::print_addr;
 use sq_base::{Addr, BodyPlan, Request, Text, WantOfMemory};
@@ -23,28 +25,60 @@ pub fn head_out(
 ) -> Result<Text, WantOfMemory>
     ensures text { IfOk result (λ t. t ≡ head_out request.now addr plan) }
 {
+    head_out_where(alloc, request, addr, plan, &EachName)
+}
+
+/// The head of a request as the origin gets it, without the lines of fields whose names do not pass the
+/// test, those of the proxy included: the lines Host, Content-Length, Transfer-Encoding and Connection
+/// always stay.
+#[tactic(auto, unfolding(crate::specs::RequestHeads::head_out_where))]
+pub fn head_out_where<T: NameTest>(
+    alloc: Global,
+    request: &Request,
+    addr: Addr,
+    plan: BodyPlan,
+    test: &T,
+) -> Result<Text, WantOfMemory>
+    requires { T.IsReady test.now }
+    ensures text { IfOk result (λ t. t ≡ head_out_where (T.passes test.now) request.now addr plan) }
+{
     let mut head = Text::new(alloc);
     put_request_line(&mut head, request)?;
     put_host(&mut head, request)?;
-    put_kept_fields(alloc, &mut head, Way::ToOrigin, request.fields.as_slice())?;
-    put_proxy_lines(alloc, &mut head, request.minor, addr, is_chunked(plan))?;
+    put_kept_fields(
+        alloc,
+        &mut head,
+        test,
+        Way::ToOrigin,
+        request.fields.as_slice(),
+    )?;
+    put_proxy_lines(
+        alloc,
+        &mut head,
+        test,
+        request.minor,
+        addr,
+        is_chunked(plan),
+    )?;
     Ok(head)
 }
 
 // Puts the lines of the proxy, and the empty line.
 #[tactic(auto, unfolding(crate::specs::RequestHeads::proxy_lines))]
-fn put_proxy_lines(
+fn put_proxy_lines<T: NameTest>(
     alloc: Global,
     to: &mut Text,
+    test: &T,
     minor: u8,
     addr: Addr,
     chunked: bool,
 ) -> Result<(), WantOfMemory>
-    ensures { OnOk result (to.new ≡ to.old ++ proxy_lines minor addr chunked) }
+    requires { T.IsReady test.now }
+    ensures { OnOk result (to.new ≡ to.old ++ proxy_lines (T.passes test.now) minor addr chunked) }
 {
     put_coding(to, chunked)?;
-    put_via(to, minor)?;
-    put_forwarded(alloc, to, addr)?;
+    put_tested_via(to, test, minor)?;
+    put_tested_forwarded(alloc, to, test, addr)?;
     put_closing(to, true)?;
     to.append(b"\r\n")
 }
@@ -145,7 +179,23 @@ fn authority_len(bytes: &[u8]) -> usize
         .count()
 }
 
-// Puts the line of the client's address.
+// Puts the line of the client's address, where such a line goes out.
+fn put_tested_forwarded<T: NameTest>(
+    alloc: Global,
+    to: &mut Text,
+    test: &T,
+    addr: Addr,
+) -> Result<(), WantOfMemory>
+    requires { T.IsReady test.now }
+    ensures { OnOk result (to.new ≡ to.old ++ line_of (T.passes test.now) (codes "X-Forwarded-For") (forwarded_line addr)) }
+{
+    if goes_out(test, b"X-Forwarded-For") {
+        put_forwarded(alloc, to, addr)
+    } else {
+        Ok(())
+    }
+}
+
 fn put_forwarded(alloc: Global, to: &mut Text, addr: Addr) -> Result<(), WantOfMemory>
     ensures { OnOk result (to.new ≡ to.old ++ forwarded_line addr) }
 {

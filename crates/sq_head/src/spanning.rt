@@ -1,13 +1,9 @@
 //! Heads of replies parsed as spans.
-ghost use Rattle.std.specs.Prelude.{◌≡◌, length, map, All, IfOk, IfSome, IfNone};
-ghost use Rattle.httparse.specs.Spans.{header_bytes, IsHeaderWithin};
-ghost use Rattle.sq_request.specs.Spans.{field_pair};
+ghost use Rattle.std.specs.Prelude.{length, IfSome, IfNone};
 ghost use Rattle.sq_head.specs.Spans.{FitsIn, CoversHead, HasMoreThan};
 
 use httparse::Status;
 use httparse::spans::{HeaderSpan, ResponseSpans, parse_response};
-use sq_base::{Field, Fields, Text, WantOfMemory};
-use std::alloc::Global;
 
 /// Where the parts of a head are, if the bytes are one, and nothing more, whose fields the room holds.
 pub(crate) fn parse_whole(head: &[u8], room: &mut [HeaderSpan]) -> Option<ResponseSpans>
@@ -26,22 +22,4 @@ pub(crate) fn parse_whole(head: &[u8], room: &mut [HeaderSpan]) -> Option<Respon
         Ok(Status::Partial) => None,
         Err(_) => None,
     }
-}
-
-/// The fields that the spans cover.
-pub(crate) fn copy_fields(
-    alloc: Global,
-    head: &[u8],
-    spans: &[HeaderSpan],
-) -> Result<Fields, WantOfMemory>
-    requires { All (IsHeaderWithin (length head.now)) spans.now }
-    ensures { IfOk result (λ fs. map field_pair fs ≡ map (header_bytes head.now) spans.now) }
-{
-    let mut fields = Fields::new(alloc);
-    for span in spans {
-        let name = Text::from_slice(alloc, span.name.of(head))?;
-        let value = Text::from_slice(alloc, span.value.of(head))?;
-        fields.push(Field { name, value })?;
-    }
-    Ok(fields)
 }

@@ -9,22 +9,22 @@ use Rattle.sq_base.specs.declared.helpers.Cause.TheVariants as cause
 use Rattle.sq_base.specs.declared.helpers.What.{What}
 use Rattle.sq_base.specs.declared.helpers.What.TheVariants as what
 use Rattle.sq_base.specs.declared.helpers.Word.{Word}
-use Rattle.sq_rules.specs.declared.entries.Event.{Event}
-use Rattle.sq_rules.specs.declared.entries.Event.TheVariants.{Step, Started, StartFail, Line, Died, Act, Reconfigure}
-use Rattle.sq_rules.specs.declared.entries.Told.{Told}
-use Rattle.sq_rules.specs.declared.entries.Told.TheVariants as told
-use Rattle.sq_rules.specs.Channels.{asked, channel_name, free_count, is_open, least_free, settled}
+use Rattle.sq_machine.specs.declared.entries.Event.{Event}
+use Rattle.sq_machine.specs.declared.entries.Event.TheVariants.{Step, Started, StartFail, Line, Died, Act, Reconfigure}
+use Rattle.sq_machine.specs.declared.entries.Told.{Told}
+use Rattle.sq_machine.specs.declared.entries.Told.TheVariants as told
+use Rattle.sq_machine.specs.Channels.{asked, channel_name, free_count, is_open, least_free, settled}
 use Rattle.sq_rules.specs.Classes.{Class}
 use Rattle.sq_rules.specs.Configurations.{Configuration}
-use Rattle.sq_rules.specs.Epochs.{name_of_class}
-use Rattle.sq_rules.specs.Events.{is_number}
-use Rattle.sq_rules.specs.FarmReadings.{living_of}
-use Rattle.sq_rules.specs.Living.{Living, has_free}
-use Rattle.sq_rules.specs.Marks.{Marked, Past, entries}
-use Rattle.sq_rules.specs.Processes.{ended_by, home_of, if_here, is_at_home, proc_count, proc_end, runs_at}
-use Rattle.sq_rules.specs.Questions.{has_ended, leaves_none, put_count, put_of, question_end, said_by, sent_to}
-use Rattle.sq_rules.specs.StepRule.{StepSays}
-use Rattle.sq_rules.specs.Transcripts.{channels_of}
+use Rattle.sq_machine.specs.Epochs.{name_of_class}
+use Rattle.sq_machine.specs.Events.{is_number}
+use Rattle.sq_machine.specs.FarmReadings.{living_of}
+use Rattle.sq_machine.specs.Living.{Living, has_free}
+use Rattle.sq_machine.specs.Marks.{Marked, Past, entries}
+use Rattle.sq_machine.specs.Processes.{ended_by, home_of, if_here, is_at_home, proc_count, proc_end, runs_at}
+use Rattle.sq_machine.specs.Questions.{has_ended, leaves_none, put_count, put_of, question_end, said_by, sent_to}
+use Rattle.sq_machine.specs.StepRule.{StepSays}
+use Rattle.sq_machine.specs.Transcripts.{channels_of}
 use Rattle.sq_rows.specs.Agreement.{SlotsAgree}
 use Rattle.sq_history.specs.ClassChanges.{touches_classes}
 use Rattle.sq_history.specs.MarkedEntries.{noted_at, stepped_at}

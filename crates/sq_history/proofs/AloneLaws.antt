@@ -4,20 +4,20 @@ use Rattle.std.specs.Option.{option_map, unwrap_or}
 use Rattle.std.proofs.lemmas.Bool.Decides.{nat_tests}
 use Rattle.std.proofs.lemmas.Option.{none-some, same_Some}
 use Rattle.sq_base.specs.declared.requests.Field.{Field}
-use Rattle.sq_rules.specs.declared.entries.Event.{Event}
-use Rattle.sq_rules.specs.declared.entries.Event.TheVariants.{Begin, Ask}
-use Rattle.sq_rules.specs.declared.entries.Told.{Told}
-use Rattle.sq_rules.specs.declared.refusals.Refusal.{Refusal}
-use Rattle.sq_rules.specs.Checks.{Asked, ask_count, ask_of, check_open, conn_in, conn_of, ends_check, is_open_of, numbered, open_among, open_check}
+use Rattle.sq_machine.specs.declared.entries.Event.{Event}
+use Rattle.sq_machine.specs.declared.entries.Event.TheVariants.{Begin, Ask}
+use Rattle.sq_machine.specs.declared.entries.Told.{Told}
+use Rattle.sq_machine.specs.declared.refusals.Refusal.{Refusal}
+use Rattle.sq_machine.specs.Checks.{Asked, ask_count, ask_of, check_open, conn_in, conn_of, ends_check, is_open_of, numbered, open_among, open_check}
 use Rattle.sq_rules.specs.Configurations.{Configuration}
-use Rattle.sq_rules.specs.Entries.{History, Noted}
-use Rattle.sq_rules.specs.Events.{Asking, asking, is_number}
-use Rattle.sq_rules.specs.FullNext.{FullLegal, full_next_at}
-use Rattle.sq_rules.specs.Machine.{Next, gives, is_begin, next_at, refuse_if, refuse_open}
-use Rattle.sq_rules.specs.Marking.{marked}
-use Rattle.sq_rules.specs.Marks.{Past, entries}
-use Rattle.sq_rules.proofs.CheckLaws.{IsAsked, ask_of_begun, ask_of_kept, check_open_kept, open_asked, open_born}
-use Rattle.sq_rules.proofs.OpenCheckLaws.{IsOpenOf, open_check_found}
+use Rattle.sq_machine.specs.Entries.{History, Noted}
+use Rattle.sq_machine.specs.Events.{Asking, asking, is_number, is_begin}
+use Rattle.sq_machine.specs.Machine.{Legal, next_at}
+use Rattle.sq_machine.specs.Next.{Next, gives, refuse_if, refuse_open}
+use Rattle.sq_machine.specs.Marking.{marked}
+use Rattle.sq_machine.specs.Marks.{Past, entries}
+use Rattle.sq_machine.proofs.CheckLaws.{IsAsked, ask_of_begun, ask_of_kept, check_open_kept, open_asked, open_born}
+use Rattle.sq_machine.proofs.OpenCheckLaws.{IsOpenOf, open_check_found}
 use Rattle.sq_rows.specs.CheckRows.{Held, held_checks, held_of, held_on, unasked}
 use Rattle.sq_history.specs.Carried.{NamesOnce}
 use Rattle.sq_history.proofs.CheckLaws.{unopened}
@@ -95,9 +95,9 @@ asked_alone h now c method target fields answer free a = record { alone = λ d n
     by d n k false true p q o r = absurd (clash d k n q p r o)
     by d n k false false p q o r = a.alone d n k (was_open e h d n (old n p) o) (was_open e h d k (old k q) r)
 
-alone_next : (configs : List Configuration) (m : Past) (now : ℕ) (event : Event) (answer : Told) → full_next_at configs m now event ≡ gives answer → IsAlone (entries m)
+alone_next : (configs : List Configuration) (m : Past) (now : ℕ) (event : Event) (answer : Told) → next_at configs m now event ≡ gives answer → IsAlone (entries m)
     → IsAlone (record { moment = now; event = event; answer = answer } ∷ entries m)
-unfolding full_next_at next_at
+unfolding next_at
 alone_next configs m now (Ask c method target fields) answer is a = asked_alone (entries m) now c method target fields answer (free_by _ (open_check (entries m) c) _ _ answer is) a
 alone_next configs m now event answer is a = quiet_alone (record { moment = now; event = event; answer = answer }) (entries m) refl a
 
@@ -108,7 +108,7 @@ first_alone now (Begin offset) answer b =
 first_alone now event answer b = absurd (cc)
 
 -- so it is in every legal history
-pub legal_alone : (configs : List Configuration) (h : History) → NamesOnce configs → FullLegal configs h → IsAlone (entries (marked configs h))
+pub legal_alone : (configs : List Configuration) (h : History) → NamesOnce configs → Legal configs h → IsAlone (entries (marked configs h))
 legal_alone configs h once legal =
     (legal_induction configs (λ m. IsAlone (entries m)) once (λ x b. first_alone x.moment x.event x.answer b)
     (λ m now event answer is c a. alone_next configs m now event answer is a) h legal).1

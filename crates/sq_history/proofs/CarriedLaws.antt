@@ -8,24 +8,24 @@ use Rattle.sq_base.specs.declared.helpers.Answer.{Answer}
 use Rattle.sq_base.specs.declared.helpers.Cause.TheVariants as cause
 use Rattle.sq_base.specs.declared.helpers.What.{What}
 use Rattle.sq_base.specs.declared.helpers.Word.{Word}
-use Rattle.sq_rules.specs.declared.entries.Event.{Event}
-use Rattle.sq_rules.specs.declared.entries.Event.TheVariants.{Step, Started, StartFail, Line, Died, Act, Reconfigure}
-use Rattle.sq_rules.specs.declared.entries.Told.{Told}
-use Rattle.sq_rules.specs.declared.entries.Told.TheVariants as told
-use Rattle.sq_rules.specs.AnswerReadings.{last_wait, steps, waits_told}
-use Rattle.sq_rules.specs.Channels.{channel_name, least_free}
-use Rattle.sq_rules.specs.Checks.{numbered}
+use Rattle.sq_machine.specs.declared.entries.Event.{Event}
+use Rattle.sq_machine.specs.declared.entries.Event.TheVariants.{Step, Started, StartFail, Line, Died, Act, Reconfigure}
+use Rattle.sq_machine.specs.declared.entries.Told.{Told}
+use Rattle.sq_machine.specs.declared.entries.Told.TheVariants as told
+use Rattle.sq_machine.specs.AnswerReadings.{last_wait, steps, waits_told}
+use Rattle.sq_machine.specs.Channels.{channel_name, least_free}
+use Rattle.sq_machine.specs.Checks.{numbered}
 use Rattle.sq_rules.specs.Classes.{Class}
 use Rattle.sq_rules.specs.Configurations.{Configuration}
-use Rattle.sq_rules.specs.Entries.{Noted}
-use Rattle.sq_rules.specs.Epochs.{class_at, name_of_class}
-use Rattle.sq_rules.specs.FarmReadings.{is_held, is_put_for, living_of}
-use Rattle.sq_rules.specs.Events.{is_number}
-use Rattle.sq_rules.specs.Marks.{Past, Put, entries}
-use Rattle.sq_rules.specs.Processes.{Home, home_of, if_here, ended_by, is_at_home, proc_count, proc_end, runs_at, settled_starts, start_count}
-use Rattle.sq_rules.specs.Questions.{has_ended, put_count, put_of, said_by, sent_to}
-use Rattle.sq_rules.specs.Readings.{current}
-use Rattle.sq_rules.specs.StepRule.{StepSays}
+use Rattle.sq_machine.specs.Entries.{Noted}
+use Rattle.sq_machine.specs.Epochs.{class_at, name_of_class}
+use Rattle.sq_machine.specs.FarmReadings.{is_held, is_put_for, living_of}
+use Rattle.sq_machine.specs.Events.{is_number}
+use Rattle.sq_machine.specs.Marks.{Past, Put, entries}
+use Rattle.sq_machine.specs.Processes.{Home, home_of, if_here, ended_by, is_at_home, proc_count, proc_end, runs_at, settled_starts, start_count}
+use Rattle.sq_machine.specs.Questions.{has_ended, put_count, put_of, said_by, sent_to}
+use Rattle.sq_machine.specs.Readings.{current}
+use Rattle.sq_machine.specs.StepRule.{StepSays}
 use Rattle.sq_history.specs.Carried.{Carried, HasClass, HoldsOnce, IsUnused}
 use Rattle.sq_history.specs.ClassChanges.{is_farm_act, touches_classes}
 use Rattle.sq_history.specs.MarkedEntries.{noted_at, stepped_at}

@@ -7,21 +7,21 @@ use Rattle.sq_base.proofs.CommonLaws.{eq_turned}
 use Rattle.sq_base.specs.declared.helpers.Answer.{Answer}
 use Rattle.sq_base.specs.declared.helpers.What.{What}
 use Rattle.sq_base.specs.declared.requests.Field.{Field}
-use Rattle.sq_rules.specs.declared.entries.Event.{Event}
-use Rattle.sq_rules.specs.declared.entries.Event.TheVariants.{Step, Take, Close, Ask}
-use Rattle.sq_rules.specs.declared.entries.Told.{Told}
-use Rattle.sq_rules.specs.declared.entries.Told.TheVariants as told
-use Rattle.sq_rules.specs.AnswerReadings.{answer_at, answer_by, answers, ended_answer, last_wait, steps, waits_for, waits_told}
-use Rattle.sq_rules.specs.Checks.{Asked, ask_count, ask_of, asked_by, check_open, closes, conn_of, is_done, more_if, numbered}
+use Rattle.sq_machine.specs.declared.entries.Event.{Event}
+use Rattle.sq_machine.specs.declared.entries.Event.TheVariants.{Step, Take, Close, Ask}
+use Rattle.sq_machine.specs.declared.entries.Told.{Told}
+use Rattle.sq_machine.specs.declared.entries.Told.TheVariants as told
+use Rattle.sq_machine.specs.AnswerReadings.{answer_at, answer_by, answers, ended_answer, last_wait, steps, waits_for, waits_told}
+use Rattle.sq_machine.specs.Checks.{Asked, ask_count, ask_of, asked_by, check_open, closes, conn_of, is_done, more_if, numbered}
 use Rattle.sq_rules.specs.Configurations.{Configuration}
-use Rattle.sq_rules.specs.Events.{Asking, asking, done_check, is_number, told_done}
-use Rattle.sq_rules.specs.Limits.{last_number}
-use Rattle.sq_rules.specs.Marks.{Marked, Past, Put, entries}
-use Rattle.sq_rules.specs.Numbered.{rows}
-use Rattle.sq_rules.specs.Questions.{QuestionEnd, end_at, first_end, put_of, question_end, unended}
-use Rattle.sq_rules.specs.StepRule.{StepSays}
-use Rattle.sq_rules.proofs.CheckLaws.{IsAsked, ask_count_more, ask_of_begun, ask_of_kept, check_open_begun, check_open_kept, check_open_unborn, is_done_more, none_numbered, open_asked, open_born}
-use Rattle.sq_rules.proofs.OpenCheckLaws.{is_itself}
+use Rattle.sq_machine.specs.Events.{Asking, asking, done_check, is_number, told_done}
+use Rattle.sq_machine.specs.Limits.{last_number}
+use Rattle.sq_machine.specs.Marks.{Marked, Past, Put, entries}
+use Rattle.sq_machine.specs.Numbered.{rows}
+use Rattle.sq_machine.specs.Questions.{QuestionEnd, end_at, first_end, put_of, question_end, unended}
+use Rattle.sq_machine.specs.StepRule.{StepSays}
+use Rattle.sq_machine.proofs.CheckLaws.{IsAsked, ask_count_more, ask_of_begun, ask_of_kept, check_open_begun, check_open_kept, check_open_unborn, is_done_more, none_numbered, open_asked, open_born}
+use Rattle.sq_machine.proofs.OpenCheckLaws.{is_itself}
 use Rattle.sq_rows.specs.CheckRows.{Ends, Held, after_ends, after_step, begun, ends_at, held_at, held_checks, held_of, is_told_done, served, served_by, step_count, stepped, unasked, without_check, without_conn}
 use Rattle.sq_history.specs.MarkedEntries.{LeavesChecks, noted_at, stepped_at, stepped_check}
 use Rattle.sq_history.proofs.NumberLaws.{answers_above, done_above, last_wait_above, step_count_above}

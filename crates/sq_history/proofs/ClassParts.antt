@@ -10,13 +10,13 @@ use Rattle.std.proofs.lemmas.Slice.Eq.{bytes_eq-Decides}
 use Rattle.sq_base.proofs.CommonLaws.{bytes_turned, eq_turned}
 use Rattle.sq_rules.specs.Classes.{Class}
 use Rattle.sq_rules.specs.Configurations.{Configuration}
-use Rattle.sq_rules.specs.Entries.{History}
-use Rattle.sq_rules.specs.Epochs.{class_at, name_of_class}
-use Rattle.sq_rules.specs.FarmReadings.{is_put_for, living_of}
-use Rattle.sq_rules.specs.Living.{Living, is_none_living, living_number, with_proc}
-use Rattle.sq_rules.specs.Marks.{Put}
-use Rattle.sq_rules.specs.Numbered.{below, picks, rows}
-use Rattle.sq_rules.specs.Rising.{AreBelow}
+use Rattle.sq_machine.specs.Entries.{History}
+use Rattle.sq_machine.specs.Epochs.{class_at, name_of_class}
+use Rattle.sq_machine.specs.FarmReadings.{is_put_for, living_of}
+use Rattle.sq_machine.specs.Living.{Living, is_none_living, living_number, with_proc}
+use Rattle.sq_machine.specs.Marks.{Put}
+use Rattle.sq_machine.specs.Numbered.{below, picks, rows}
+use Rattle.sq_machine.specs.Rising.{AreBelow}
 use Rattle.sq_rows.specs.ClassRows.{ClassRow}
 
 -- two rows of a class are one, part by part

@@ -6,35 +6,35 @@ use Rattle.std.proofs.lemmas.Bool.Decides.{nat_tests}
 use Rattle.sq_base.specs.Distinct.{are_distinct, has_answer}
 use Rattle.sq_base.specs.declared.helpers.Answer.{Answer}
 use Rattle.sq_base.specs.declared.helpers.Cause.TheVariants as cause
-use Rattle.sq_rules.specs.declared.entries.Event.{Event}
-use Rattle.sq_rules.specs.declared.entries.Event.TheVariants.{Begin, Step}
-use Rattle.sq_rules.specs.declared.entries.Told.{Told}
-use Rattle.sq_rules.specs.declared.entries.Told.TheVariants as told
-use Rattle.sq_rules.specs.declared.kept.KeptVerdict.{KeptVerdict}
+use Rattle.sq_machine.specs.declared.entries.Event.{Event}
+use Rattle.sq_machine.specs.declared.entries.Event.TheVariants.{Begin, Step}
+use Rattle.sq_machine.specs.declared.entries.Told.{Told}
+use Rattle.sq_machine.specs.declared.entries.Told.TheVariants as told
+use Rattle.sq_machine.specs.declared.kept.KeptVerdict.{KeptVerdict}
 use Rattle.sq_rules.specs.declared.outcomes.Outcome.{Outcome}
-use Rattle.sq_rules.specs.declared.refusals.Refusal.{Refusal}
+use Rattle.sq_machine.specs.declared.refusals.Refusal.{Refusal}
 use Rattle.sq_rules.specs.declared.sights.Sight.{Sight}
 use Rattle.sq_rules.specs.declared.values.Value.TheVariants as value
-use Rattle.sq_rules.specs.AnswerReadings.{answer_at, answers, ended_answer, steps, waits_for, waits_told}
-use Rattle.sq_rules.specs.Checks.{Asked, ask_count, ask_of, check_open}
+use Rattle.sq_machine.specs.AnswerReadings.{answer_at, answers, ended_answer, steps, waits_for, waits_told}
+use Rattle.sq_machine.specs.Checks.{Asked, ask_count, ask_of, check_open}
 use Rattle.sq_rules.specs.Classes.{Class}
 use Rattle.sq_rules.specs.Configurations.{Configuration}
-use Rattle.sq_rules.specs.Entries.{History}
-use Rattle.sq_rules.specs.Events.{is_number}
-use Rattle.sq_rules.specs.FarmReadings.{farm_with}
-use Rattle.sq_rules.specs.Farms.{full}
-use Rattle.sq_rules.specs.FullNext.{FullLegal, full_next_at}
-use Rattle.sq_rules.specs.KeptLists.{KeptList, fresh_for}
-use Rattle.sq_rules.specs.KeptReadings.{kept}
+use Rattle.sq_machine.specs.Entries.{History}
+use Rattle.sq_machine.specs.Events.{is_number, is_begin}
+use Rattle.sq_machine.specs.FarmReadings.{farm_with}
+use Rattle.sq_machine.specs.Farms.{full}
+use Rattle.sq_machine.specs.Machine.{Legal, next_at}
+use Rattle.sq_machine.specs.KeptLists.{KeptList, fresh_for}
+use Rattle.sq_machine.specs.KeptReadings.{kept}
 use Rattle.sq_rules.specs.Keys.{key_text}
-use Rattle.sq_rules.specs.Limits.{key_limit}
-use Rattle.sq_rules.specs.Machine.{Next, gives, is_begin, refuse_if}
-use Rattle.sq_rules.specs.Marking.{mark, marked}
-use Rattle.sq_rules.specs.Marks.{Marked, Past, Put, entries}
-use Rattle.sq_rules.specs.Questions.{pending, put_count}
-use Rattle.sq_rules.specs.StepRule.{StepSays, class_of_acl, says_asked, says_asked_of, says_done, says_fault, says_fresh, says_need, says_value, step_says, value_over}
+use Rattle.sq_machine.specs.Limits.{key_limit}
+use Rattle.sq_machine.specs.Next.{Next, gives, refuse_if}
+use Rattle.sq_machine.specs.Marking.{mark, marked}
+use Rattle.sq_machine.specs.Marks.{Marked, Past, Put, entries}
+use Rattle.sq_machine.specs.Questions.{pending, put_count}
+use Rattle.sq_machine.specs.StepRule.{StepSays, class_of_acl, says_asked, says_asked_of, says_done, says_fault, says_fresh, says_need, says_value, step_says, value_over}
 use Rattle.sq_rules.specs.Walks.{walk_over}
-use Rattle.sq_rules.proofs.CheckLaws.{open_born}
+use Rattle.sq_machine.proofs.CheckLaws.{open_born}
 use Rattle.sq_history.specs.Carried.{NamesOnce}
 use Rattle.sq_history.specs.Walked.{FewTaken, asks, external_count, is_took, times_took}
 use Rattle.sq_history.specs.Waits.{IsNeeded, WaitsSo}
@@ -52,8 +52,8 @@ given_open true r n answer e = refl
 given_open false r n answer e = absurd (cc)
 
 -- a step that is answered is of an open check, so of one that has begun
-step_here : (configs : List Configuration) (m : Past) (now n : ℕ) (answer : Told) → full_next_at configs m now (Step n) ≡ gives answer → steps m n (Step n) ≡ true
-unfolding full_next_at
+step_here : (configs : List Configuration) (m : Past) (now n : ℕ) (answer : Told) → next_at configs m now (Step n) ≡ gives answer → steps m n (Step n) ≡ true
+unfolding next_at
 step_here configs m now n answer e =
     ap₂ (λ (a b : Bool). a && b) (itself n) (up n (ask_count (entries m)) (open_born (entries m) n (given_open (check_open (entries m) n) _ _ answer e)))
   where
@@ -61,7 +61,7 @@ step_here configs m now n answer e =
     up a b l = grind (arith, nat_tests)
 
 -- a step that tells a check to wait tells it so for a key that it needs, and has no answer of
-pub waits_so : (configs : List Configuration) (m : Past) (now n : ℕ) (answer : Told) (q : ℕ) → full_next_at configs m now (Step n) ≡ gives answer → answer ≡ told.Waits q
+pub waits_so : (configs : List Configuration) (m : Past) (now n : ℕ) (answer : Told) (q : ℕ) → next_at configs m now (Step n) ≡ gives answer → answer ≡ told.Waits q
     → WaitsSo configs (mark configs m (record { moment = now; event = Step n; answer = answer }) ∷ m) n q
 waits_so configs m now n answer q is tells =
     let d = told_needs configs m now n answer q is (step_here configs m now n answer is) (ap waits_told tells) in
@@ -71,11 +71,11 @@ waits_so configs m now n answer q is tells =
       unanswered = needed_unanswered configs (mark configs m (record { moment = now; event = Step n; answer = answer }) ∷ m) n d.needed;
     }
 
-pub waits_at : (configs : List Configuration) (m : Past) (now : ℕ) (event : Event) (answer : Told) (n q : ℕ) → full_next_at configs m now event ≡ gives answer → event ≡ Step n → answer ≡ told.Waits q
+pub waits_at : (configs : List Configuration) (m : Past) (now : ℕ) (event : Event) (answer : Told) (n q : ℕ) → next_at configs m now event ≡ gives answer → event ≡ Step n → answer ≡ told.Waits q
     → WaitsSo configs (mark configs m (record { moment = now; event = event; answer = answer }) ∷ m) n q
 waits_at configs m now event answer n q is at tells =
     subst (λ (v : Event). WaitsSo configs (mark configs m (record { moment = now; event = v; answer = answer }) ∷ m) n q) (sym at)
-    (waits_so configs m now n answer q (ap (full_next_at configs m now) (sym at) ∙ is) tells)
+    (waits_so configs m now n answer q (ap (next_at configs m now) (sym at) ∙ is) tells)
 
 has_more : (xs ys : List Answer) (class : ℕ) (key : List ℕ) → has_answer xs class key ≡ true → has_answer (xs ++ ys) class key ≡ true
 has_more [] ys class key e = absurd (let no : false ≡ true = e in cc)
@@ -108,10 +108,10 @@ verdict_done : (configs : List Configuration) (m : Past) (n now : ℕ) (a : Aske
 verdict_done configs m n now a o ask is = ap (says_asked_of configs m now (answers configs m n)) ask ∙ ap (says_value configs m a.epoch now) is
 
 -- so it is answered
-pub done_at : (configs : List Configuration) (m : Past) (now : ℕ) (event : Event) (answer : Told) (n : ℕ) (a : Asked) (o : Outcome) → full_next_at configs m now event ≡ gives answer → event ≡ Step n
+pub done_at : (configs : List Configuration) (m : Past) (now : ℕ) (event : Event) (answer : Told) (n : ℕ) (a : Asked) (o : Outcome) → next_at configs m now event ≡ gives answer → event ≡ Step n
     → ask_of (entries m) n ≡ Some a → value_over configs a (answers configs m n) ≡ value.Verdict o → answer ≡ told.Done
 done_at configs m now event answer n a o is at ask v =
-    sym (next_steps configs m now n answer (ap (full_next_at configs m now) (sym at) ∙ is)) ∙ ap (λ (s : StepSays). s.answer) (verdict_done configs m n now a o ask v)
+    sym (next_steps configs m now n answer (ap (next_at configs m now) (sym at) ∙ is)) ∙ ap (λ (s : StepSays). s.answer) (verdict_done configs m n now a o ask v)
 
 -- how many answers are taken
 
@@ -221,7 +221,7 @@ says_took configs m n now = by (step_is configs m n now)
     by (inr r) =
         ap (λ (s : StepSays). is_took s.answer) r.is ∙ need_said configs m n now r.needed ∙ sym (ap (λ (s : StepSays). is_some s.took) r.is)
 
-told_took : (configs : List Configuration) (m : Past) (now : ℕ) (event : Event) (answer : Told) (n : ℕ) → full_next_at configs m now event ≡ gives answer → steps m n event ≡ true
+told_took : (configs : List Configuration) (m : Past) (now : ℕ) (event : Event) (answer : Told) (n : ℕ) → next_at configs m now event ≡ gives answer → steps m n event ≡ true
     → is_took answer ≡ is_some (mark configs m (record { moment = now; event = event; answer = answer })).took
 told_took configs m now (Step k) answer n is here = ap is_took (sym (next_steps configs m now k answer is)) ∙ says_took configs m k now
 told_took configs m now event answer n is here = absurd (let no : false ≡ true = here in cc)
@@ -230,7 +230,7 @@ told_took configs m now event answer n is here = absurd (let no : false ≡ true
 record TookFew (configs : List Configuration) (m : Past) : Type 0 where
   few : (n : ℕ) → times_took m n ≤ length (answers configs m n)
 
-took_next : (configs : List Configuration) (m : Past) (now : ℕ) (event : Event) (answer : Told) → full_next_at configs m now event ≡ gives answer → TookFew configs m
+took_next : (configs : List Configuration) (m : Past) (now : ℕ) (event : Event) (answer : Told) → next_at configs m now event ≡ gives answer → TookFew configs m
     → TookFew configs (mark configs m (record { moment = now; event = event; answer = answer }) ∷ m)
 took_next configs m now event answer is t = record { few = λ n. by n (steps m n event) refl }
   where
@@ -256,7 +256,7 @@ took_first configs now (Begin offset) answer b = record { few = λ n. omega arit
 took_first configs now event answer b = absurd (cc)
 
 -- in every legal history the answers that steps of a check took are at most the acls of its walk that ask a class
-pub few_taken : (configs : List Configuration) (h : History) → NamesOnce configs → FullLegal configs h → FewTaken configs (marked configs h)
+pub few_taken : (configs : List Configuration) (h : History) → NamesOnce configs → Legal configs h → FewTaken configs (marked configs h)
 few_taken configs h once legal = λ n a config ask at.
     let took = (legal_induction configs (TookFew configs) once (λ x b. took_first configs x.moment x.event x.answer b) (λ m now event answer is c p. took_next configs m now event answer is p) h legal).1.few n in
     let few = few_asked config a.sight (walk_over (answers configs (marked configs h) n) config a.sight) (answers configs (marked configs h) n) (answers_distinct configs h n once legal)

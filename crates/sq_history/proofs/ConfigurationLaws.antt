@@ -11,27 +11,26 @@ use Rattle.sq_base.specs.declared.helpers.Cause.TheVariants as cause
 use Rattle.sq_rules.specs.declared.configs.Acl.{Acl}
 use Rattle.sq_rules.specs.declared.configs.Body.{Body}
 use Rattle.sq_rules.specs.declared.configs.Body.TheVariants as body
-use Rattle.sq_rules.specs.declared.entries.Told.{Told}
-use Rattle.sq_rules.specs.declared.entries.Told.TheVariants as told
-use Rattle.sq_rules.specs.declared.kept.KeptVerdict.{KeptVerdict}
+use Rattle.sq_machine.specs.declared.entries.Told.{Told}
+use Rattle.sq_machine.specs.declared.entries.Told.TheVariants as told
+use Rattle.sq_machine.specs.declared.kept.KeptVerdict.{KeptVerdict}
 use Rattle.sq_rules.specs.declared.outcomes.Outcome.{Outcome}
 use Rattle.sq_rules.specs.declared.outcomes.Why.TheVariants as why
 use Rattle.sq_rules.specs.declared.values.Value.{Value}
 use Rattle.sq_rules.specs.declared.values.Value.TheVariants as value
-use Rattle.sq_rules.specs.AnswerReadings.{answers}
-use Rattle.sq_rules.specs.Checks.{Asked, ask_of}
+use Rattle.sq_machine.specs.AnswerReadings.{answers}
+use Rattle.sq_machine.specs.Checks.{Asked, ask_of}
 use Rattle.sq_rules.specs.Classes.{Class}
 use Rattle.sq_rules.specs.Configurations.{Configuration, IsConfiguration, are_known_bodies, have_own_names, is_known_body, is_named}
-use Rattle.sq_rules.specs.Epochs.{class_at}
-use Rattle.sq_rules.specs.FarmReadings.{farm_with}
-use Rattle.sq_rules.specs.Farms.{full}
-use Rattle.sq_rules.specs.KeptLists.{KeptList, fresh_for}
-use Rattle.sq_rules.specs.KeptReadings.{kept}
-use Rattle.sq_rules.specs.Limits.{key_limit}
-use Rattle.sq_rules.specs.Machine.{config_of}
-use Rattle.sq_rules.specs.Marks.{Past, Put, entries}
-use Rattle.sq_rules.specs.Questions.{pending, put_count}
-use Rattle.sq_rules.specs.StepRule.{class_of_acl, class_of_body, says_asked, says_asked_of, says_at_place, says_fault, says_fresh, says_need, says_of_class, says_value, step_says, value_over}
+use Rattle.sq_machine.specs.Epochs.{class_at, config_of}
+use Rattle.sq_machine.specs.FarmReadings.{farm_with}
+use Rattle.sq_machine.specs.Farms.{full}
+use Rattle.sq_machine.specs.KeptLists.{KeptList, fresh_for}
+use Rattle.sq_machine.specs.KeptReadings.{kept}
+use Rattle.sq_machine.specs.Limits.{key_limit}
+use Rattle.sq_machine.specs.Marks.{Past, Put, entries}
+use Rattle.sq_machine.specs.Questions.{pending, put_count}
+use Rattle.sq_machine.specs.StepRule.{class_of_acl, class_of_body, says_asked, says_asked_of, says_at_place, says_fault, says_fresh, says_need, says_of_class, says_value, step_says, value_over}
 use Rattle.sq_rules.specs.Verdicts.{verdict_over}
 use Rattle.sq_history.specs.Carried.{NamesOnce}
 use Rattle.sq_history.specs.Given.{EachOf}

@@ -7,21 +7,21 @@ use Rattle.sq_base.specs.declared.helpers.Cause.{Cause}
 use Rattle.sq_base.specs.declared.helpers.Cause.TheVariants as cause
 use Rattle.sq_base.specs.declared.helpers.What.{What}
 use Rattle.sq_base.specs.declared.helpers.What.TheVariants as what
-use Rattle.sq_rules.specs.declared.entries.Event.{Event}
-use Rattle.sq_rules.specs.declared.entries.Event.TheVariants.{Line, Died}
-use Rattle.sq_rules.specs.declared.entries.Told.{Told}
-use Rattle.sq_rules.specs.declared.entries.Told.TheVariants as told
-use Rattle.sq_rules.specs.Channels.{is_open}
+use Rattle.sq_machine.specs.declared.entries.Event.{Event}
+use Rattle.sq_machine.specs.declared.entries.Event.TheVariants.{Line, Died}
+use Rattle.sq_machine.specs.declared.entries.Told.{Told}
+use Rattle.sq_machine.specs.declared.entries.Told.TheVariants as told
+use Rattle.sq_machine.specs.Channels.{is_open}
 use Rattle.sq_rules.specs.Classes.{Class}
 use Rattle.sq_rules.specs.Configurations.{Configuration}
-use Rattle.sq_rules.specs.Events.{is_number}
-use Rattle.sq_rules.specs.FarmReadings.{farm_with, is_held, is_put_for, is_queued, living_of, waiting_of}
-use Rattle.sq_rules.specs.Living.{Living, slots_in, without}
-use Rattle.sq_rules.specs.Marks.{Past, entries}
-use Rattle.sq_rules.specs.Numbered.{rows}
-use Rattle.sq_rules.specs.OpenLookups.{LookupRow}
-use Rattle.sq_rules.specs.Processes.{cause_here, ended_by, home_of, if_here, is_at_home, is_running, proc_count, proc_end, runs_at}
-use Rattle.sq_rules.specs.Questions.{end_at, first_end, has_ended, put_count, put_of, question_end, sends, sent_to}
+use Rattle.sq_machine.specs.Events.{is_number}
+use Rattle.sq_machine.specs.FarmReadings.{farm_with, is_held, is_put_for, is_queued, living_of, waiting_of}
+use Rattle.sq_machine.specs.Living.{Living, slots_in, without}
+use Rattle.sq_machine.specs.Marks.{Past, entries}
+use Rattle.sq_machine.specs.Numbered.{rows}
+use Rattle.sq_machine.specs.OpenLookups.{LookupRow}
+use Rattle.sq_machine.specs.Processes.{cause_here, ended_by, home_of, if_here, is_at_home, is_running, proc_count, proc_end, runs_at}
+use Rattle.sq_machine.specs.Questions.{end_at, first_end, has_ended, put_count, put_of, question_end, sends, sent_to}
 use Rattle.sq_rows.specs.Agreement.{SlotsAgree}
 use Rattle.sq_rows.specs.ClassRows.{after_death, class_row, is_asked, lookup_of, lookups}
 use Rattle.sq_history.specs.MarkedEntries.{noted_at}

@@ -8,26 +8,28 @@ use Rattle.sq_base.specs.declared.helpers.Answer.{Answer}
 use Rattle.sq_base.specs.declared.helpers.Cause.TheVariants as cause
 use Rattle.sq_base.specs.declared.helpers.What.{What}
 use Rattle.sq_base.specs.declared.helpers.What.TheVariants as what
-use Rattle.sq_rules.specs.declared.entries.Event.{Event}
-use Rattle.sq_rules.specs.declared.entries.Event.TheVariants.{Begin, Step}
-use Rattle.sq_rules.specs.declared.entries.Told.{Told}
-use Rattle.sq_rules.specs.declared.kept.KeptVerdict.{KeptVerdict}
-use Rattle.sq_rules.specs.AnswerReadings.{answer_at, answer_by, answers, ended_answer, steps, waits_for}
-use Rattle.sq_rules.specs.Checks.{ask_count}
+use Rattle.sq_machine.specs.declared.entries.Event.{Event}
+use Rattle.sq_machine.specs.declared.entries.Event.TheVariants.{Begin, Step}
+use Rattle.sq_machine.specs.declared.entries.Told.{Told}
+use Rattle.sq_machine.specs.declared.kept.KeptVerdict.{KeptVerdict}
+use Rattle.sq_machine.specs.AnswerReadings.{answer_at, answer_by, answers, ended_answer, steps, waits_for}
+use Rattle.sq_machine.specs.Checks.{ask_count}
 use Rattle.sq_rules.specs.Classes.{Class}
 use Rattle.sq_rules.specs.Configurations.{Configuration}
-use Rattle.sq_rules.specs.Entries.{History}
-use Rattle.sq_rules.specs.FarmReadings.{farm_with}
-use Rattle.sq_rules.specs.Farms.{full}
-use Rattle.sq_rules.specs.FullNext.{FullLegal, full_next_at}
-use Rattle.sq_rules.specs.KeptLists.{KeptList, fresh_for}
-use Rattle.sq_rules.specs.KeptReadings.{kept}
-use Rattle.sq_rules.specs.Limits.{key_limit}
-use Rattle.sq_rules.specs.Machine.{config_of, gives, is_begin}
-use Rattle.sq_rules.specs.Marking.{mark, marked}
-use Rattle.sq_rules.specs.Marks.{Marked, Past, Put, entries}
-use Rattle.sq_rules.specs.Questions.{end_at, pending, put_count, put_is, put_of}
-use Rattle.sq_rules.specs.StepRule.{StepSays, class_of_acl, says_asked, says_fault, says_fresh, says_need, step_says}
+use Rattle.sq_machine.specs.Entries.{History}
+use Rattle.sq_machine.specs.FarmReadings.{farm_with}
+use Rattle.sq_machine.specs.Farms.{full}
+use Rattle.sq_machine.specs.Machine.{Legal, next_at}
+use Rattle.sq_machine.specs.KeptLists.{KeptList, fresh_for}
+use Rattle.sq_machine.specs.KeptReadings.{kept}
+use Rattle.sq_machine.specs.Limits.{key_limit}
+use Rattle.sq_machine.specs.Epochs.{config_of}
+use Rattle.sq_machine.specs.Events.{is_begin}
+use Rattle.sq_machine.specs.Next.{gives}
+use Rattle.sq_machine.specs.Marking.{mark, marked}
+use Rattle.sq_machine.specs.Marks.{Marked, Past, Put, entries}
+use Rattle.sq_machine.specs.Questions.{end_at, pending, put_count, put_is, put_of}
+use Rattle.sq_machine.specs.StepRule.{StepSays, class_of_acl, says_asked, says_fault, says_fresh, says_need, step_says}
 use Rattle.sq_rules.specs.Values.{answer_for}
 use Rattle.sq_history.specs.Carried.{Carried, NamesOnce}
 use Rattle.sq_history.specs.Waits.{IsNeeded, NeedsPut}
@@ -187,7 +189,7 @@ distinct_more configs m n (Some a) d g =
     let t = g.gets a refl in
     distinct_last (answers configs m n) a d (ap₂ (has_answer (answers configs m n)) t.class_is t.key_is ∙ needed_unanswered configs m n t.needed)
 
-distinct_next : (configs : List Configuration) (m : Past) (now : ℕ) (event : Event) (answer : Told) → NamesOnce configs → full_next_at configs m now event ≡ gives answer → Carried configs m
+distinct_next : (configs : List Configuration) (m : Past) (now : ℕ) (event : Event) (answer : Told) → NamesOnce configs → next_at configs m now event ≡ gives answer → Carried configs m
     → AnswersDistinct configs m → AnswersDistinct configs (mark configs m (record { moment = now; event = event; answer = answer }) ∷ m)
 distinct_next configs m now event answer once is c d = record {
   waits = needs_next configs m now event answer once is c d.waits;
@@ -199,7 +201,7 @@ distinct_first configs now (Begin offset) answer b = record { waits = needs_firs
 distinct_first configs now event answer b = absurd (cc)
 
 -- so it is in every legal history
-pub answers_distinct : (configs : List Configuration) (h : History) (n : ℕ) → NamesOnce configs → FullLegal configs h → are_distinct (answers configs (marked configs h) n) ≡ true
+pub answers_distinct : (configs : List Configuration) (h : History) (n : ℕ) → NamesOnce configs → Legal configs h → are_distinct (answers configs (marked configs h) n) ≡ true
 answers_distinct configs h n once legal =
     (legal_induction configs (AnswersDistinct configs) once (λ x b. distinct_first configs x.moment x.event x.answer b)
     (λ m now event answer is c d. distinct_next configs m now event answer once is c d) h legal).1.distinct n

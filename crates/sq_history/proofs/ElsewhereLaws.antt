@@ -6,13 +6,12 @@ use Rattle.std.proofs.lemmas.Bool.{and_parts, lt-ltb}
 use Rattle.std.proofs.lemmas.Option.{none-some, same_Some}
 use Rattle.sq_rules.specs.Classes.{Class}
 use Rattle.sq_rules.specs.Configurations.{Configuration}
-use Rattle.sq_rules.specs.Epochs.{class_at, place_of_class}
-use Rattle.sq_rules.specs.Events.{is_number}
-use Rattle.sq_rules.specs.FarmReadings.{is_put_for}
-use Rattle.sq_rules.specs.Machine.{config_of}
-use Rattle.sq_rules.specs.Marks.{Past, Put, entries}
-use Rattle.sq_rules.specs.Processes.{Home, home_of, is_at_home}
-use Rattle.sq_rules.specs.Questions.{put_of, sent_to}
+use Rattle.sq_machine.specs.Epochs.{class_at, place_of_class, config_of}
+use Rattle.sq_machine.specs.Events.{is_number}
+use Rattle.sq_machine.specs.FarmReadings.{is_put_for}
+use Rattle.sq_machine.specs.Marks.{Past, Put, entries}
+use Rattle.sq_machine.specs.Processes.{Home, home_of, is_at_home}
+use Rattle.sq_machine.specs.Questions.{put_of, sent_to}
 use Rattle.sq_history.specs.Carried.{Carried, NamesOnce}
 use Rattle.sq_history.proofs.ClassParts.{bytes_itself, bytes_same, equal, put_for}
 use Rattle.sq_history.proofs.DeathLaws.{SentNone}

@@ -8,16 +8,16 @@ use Rattle.sq_base.specs.declared.helpers.Cause.{Cause}
 use Rattle.sq_base.specs.declared.helpers.What.{What}
 use Rattle.sq_base.specs.declared.helpers.What.TheVariants as what
 use Rattle.sq_base.specs.declared.helpers.Word.{Word}
-use Rattle.sq_rules.specs.declared.entries.Event.{Event}
-use Rattle.sq_rules.specs.declared.entries.Event.TheVariants.{Line}
-use Rattle.sq_rules.specs.declared.entries.Told.{Told}
-use Rattle.sq_rules.specs.declared.entries.Told.TheVariants as told
-use Rattle.sq_rules.specs.AnswerReadings.{answer_by}
+use Rattle.sq_machine.specs.declared.entries.Event.{Event}
+use Rattle.sq_machine.specs.declared.entries.Event.TheVariants.{Line}
+use Rattle.sq_machine.specs.declared.entries.Told.{Told}
+use Rattle.sq_machine.specs.declared.entries.Told.TheVariants as told
+use Rattle.sq_machine.specs.AnswerReadings.{answer_by}
 use Rattle.sq_rules.specs.Configurations.{Configuration}
-use Rattle.sq_rules.specs.Events.{is_number}
-use Rattle.sq_rules.specs.Marks.{Past, Put}
-use Rattle.sq_rules.specs.Processes.{if_here}
-use Rattle.sq_rules.specs.Questions.{put_count, put_of, said_by, sent_to}
+use Rattle.sq_machine.specs.Events.{is_number}
+use Rattle.sq_machine.specs.Marks.{Past, Put}
+use Rattle.sq_machine.specs.Processes.{if_here}
+use Rattle.sq_machine.specs.Questions.{put_count, put_of, said_by, sent_to}
 use Rattle.sq_rows.specs.CheckRows.{Ends, Held, after_ends, ends_at, one_end, served_by}
 use Rattle.sq_history.specs.MarkedEntries.{noted_at}
 use Rattle.sq_history.proofs.ClassParts.{equal}

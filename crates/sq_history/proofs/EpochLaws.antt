@@ -4,18 +4,18 @@ use Rattle.std.specs.List.{list_any}
 use Rattle.std.specs.Option.{option_map_or, unwrap_or}
 use Rattle.std.proofs.lemmas.Bool.Decides.{nat_tests}
 use Rattle.std.proofs.lemmas.List.Folds.{list_any-append}
-use Rattle.sq_rules.specs.declared.entries.Event.TheVariants.{Ask, Close, Reconfigure, Take}
-use Rattle.sq_rules.specs.declared.entries.Told.{Told}
+use Rattle.sq_machine.specs.declared.entries.Event.TheVariants.{Ask, Close, Reconfigure, Take}
+use Rattle.sq_machine.specs.declared.entries.Told.{Told}
 use Rattle.sq_base.specs.declared.requests.Field.{Field}
-use Rattle.sq_rules.specs.Checks.{Asked, ask_count, ask_of, check_open}
+use Rattle.sq_machine.specs.Checks.{Asked, ask_count, ask_of, check_open}
 use Rattle.sq_rules.specs.Configurations.{Configuration}
-use Rattle.sq_rules.specs.Entries.{History}
-use Rattle.sq_rules.specs.Epochs.{busy_epochs, has_open_check, is_check_of, is_live, live_epochs}
-use Rattle.sq_rules.specs.Events.{begins_epoch}
-use Rattle.sq_rules.specs.Marks.{Marked, Past, entries}
-use Rattle.sq_rules.specs.Numbered.{picks}
-use Rattle.sq_rules.specs.Readings.{current, epoch_after}
-use Rattle.sq_rules.proofs.CheckLaws.{IsAsked, open_asked}
+use Rattle.sq_machine.specs.Entries.{History}
+use Rattle.sq_machine.specs.Epochs.{busy_epochs, has_open_check, is_check_of, is_live, live_epochs}
+use Rattle.sq_machine.specs.Events.{begins_epoch}
+use Rattle.sq_machine.specs.Marks.{Marked, Past, entries}
+use Rattle.sq_machine.specs.Numbered.{picks}
+use Rattle.sq_machine.specs.Readings.{current, epoch_after}
+use Rattle.sq_machine.proofs.CheckLaws.{IsAsked, open_asked}
 use Rattle.sq_rows.specs.CheckRows.{Held, held_checks, held_of, unasked}
 use Rattle.sq_history.specs.MarkedEntries.{noted_at}
 use Rattle.sq_history.proofs.CheckLaws.{held_asked, held_closed, held_taken}

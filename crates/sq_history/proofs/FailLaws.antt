@@ -5,18 +5,18 @@ use Rattle.std.proofs.lemmas.Bool.Decides.{nat_tests}
 use Rattle.sq_base.specs.declared.helpers.Cause.TheVariants as cause
 use Rattle.sq_base.specs.declared.helpers.What.{What}
 use Rattle.sq_base.specs.declared.helpers.What.TheVariants as what
-use Rattle.sq_rules.specs.declared.entries.Event.TheVariants.{StartFail}
-use Rattle.sq_rules.specs.declared.entries.Told.{Told}
+use Rattle.sq_machine.specs.declared.entries.Event.TheVariants.{StartFail}
+use Rattle.sq_machine.specs.declared.entries.Told.{Told}
 use Rattle.sq_rules.specs.Classes.{Class}
 use Rattle.sq_rules.specs.Configurations.{Configuration}
-use Rattle.sq_rules.specs.Epochs.{class_at, name_of_class}
-use Rattle.sq_rules.specs.OpenLookups.{LookupRow}
-use Rattle.sq_rules.specs.FarmReadings.{farm_with, is_held, is_put_for, is_queued, living_of, waiting_of}
-use Rattle.sq_rules.specs.Farms.{Stock, Waiting, emptied, is_last_start}
-use Rattle.sq_rules.specs.Marks.{Marked, Past, entries}
-use Rattle.sq_rules.specs.Numbered.{rows}
-use Rattle.sq_rules.specs.Processes.{if_here, proc_count, runs_at, settled_starts, start_count, starting}
-use Rattle.sq_rules.specs.Questions.{QuestionEnd, first_end, has_ended, leaves_none, put_count, put_of, question_end, sent_to}
+use Rattle.sq_machine.specs.Epochs.{class_at, name_of_class}
+use Rattle.sq_machine.specs.OpenLookups.{LookupRow}
+use Rattle.sq_machine.specs.FarmReadings.{farm_with, is_held, is_put_for, is_queued, living_of, waiting_of}
+use Rattle.sq_machine.specs.Farms.{Stock, Waiting, emptied, is_last_start}
+use Rattle.sq_machine.specs.Marks.{Marked, Past, entries}
+use Rattle.sq_machine.specs.Numbered.{rows}
+use Rattle.sq_machine.specs.Processes.{if_here, proc_count, runs_at, settled_starts, start_count, starting}
+use Rattle.sq_machine.specs.Questions.{QuestionEnd, first_end, has_ended, leaves_none, put_count, put_of, question_end, sent_to}
 use Rattle.sq_rows.specs.ClassRows.{after_failed, class_row, handed, is_asked, is_waiting, lookup_of, lookups}
 use Rattle.sq_history.specs.MarkedEntries.{noted_at}
 use Rattle.sq_history.proofs.ClassParts.{bytes_itself, itself, none_living, put_named}

@@ -3,31 +3,32 @@ use Rattle.std.proofs.Common.{Bool, List, None, Option, Some, ℕ, [], ap, arith
 use Rattle.std.specs.Option.{option_and_then, option_map, option_or}
 use Rattle.std.proofs.lemmas.Bool.{lt-ltb}
 use Rattle.std.proofs.lemmas.Option.{none-some, same_Some}
-use Rattle.sq_rules.specs.declared.entries.Event.{Event}
-use Rattle.sq_rules.specs.declared.entries.Event.TheVariants.{Begin, Close, Seat, Step, Take}
-use Rattle.sq_rules.specs.declared.entries.Told.{Told}
-use Rattle.sq_rules.specs.declared.entries.Told.TheVariants as told
+use Rattle.sq_machine.specs.declared.entries.Event.{Event}
+use Rattle.sq_machine.specs.declared.entries.Event.TheVariants.{Begin, Close, Seat, Step, Take}
+use Rattle.sq_machine.specs.declared.entries.Told.{Told}
+use Rattle.sq_machine.specs.declared.entries.Told.TheVariants as told
 use Rattle.sq_rules.specs.declared.outcomes.Outcome.{Outcome}
-use Rattle.sq_rules.specs.declared.refusals.Refusal.{Refusal}
-use Rattle.sq_rules.specs.declared.refusals.Refusal.TheVariants as refusal
+use Rattle.sq_machine.specs.declared.refusals.Refusal.{Refusal}
+use Rattle.sq_machine.specs.declared.refusals.Refusal.TheVariants as refusal
 use Rattle.sq_rules.specs.declared.values.Value.TheVariants as value
-use Rattle.sq_rules.specs.AnswerReadings.{answers}
-use Rattle.sq_rules.specs.Checks.{Asked, ask_count, ask_of, asked_by, check_open, conn_of, is_done, numbered}
+use Rattle.sq_machine.specs.AnswerReadings.{answers}
+use Rattle.sq_machine.specs.Checks.{Asked, ask_count, ask_of, asked_by, check_open, conn_of, is_done, numbered, epoch_of}
 use Rattle.sq_rules.specs.Configurations.{Configuration, IsConfiguration}
-use Rattle.sq_rules.specs.Entries.{History, Noted}
-use Rattle.sq_rules.specs.Events.{Asking, Judgement, asking, begins_epoch, is_number, judgement}
-use Rattle.sq_rules.specs.FullNext.{FullLegal, full_next, full_next_at, outcome_over, seat_for, seat_next}
-use Rattle.sq_rules.specs.Limits.{last_number}
-use Rattle.sq_rules.specs.Machine.{config_of, epoch_of, gives, is_begin, refuse_if}
-use Rattle.sq_rules.specs.Marking.{mark, marked, says_at}
-use Rattle.sq_rules.specs.Marks.{Past, entries}
-use Rattle.sq_rules.specs.PoolReadings.{Taking, allowed_of, if_allowed, seat_count, taken_after, taken_of, taking}
-use Rattle.sq_rules.specs.Questions.{sent_to}
-use Rattle.sq_rules.specs.Readings.{counted_moment, current, epoch_after}
-use Rattle.sq_rules.specs.StepRule.{value_over}
+use Rattle.sq_machine.specs.Entries.{History, Noted}
+use Rattle.sq_machine.specs.Events.{Asking, Judgement, asking, begins_epoch, is_number, judgement, is_begin}
+use Rattle.sq_machine.specs.Machine.{Legal, next, next_at, outcome_over, seat_for, seat_next}
+use Rattle.sq_machine.specs.Limits.{last_number}
+use Rattle.sq_machine.specs.Epochs.{config_of}
+use Rattle.sq_machine.specs.Next.{gives, refuse_if}
+use Rattle.sq_machine.specs.Marking.{mark, marked, says_at}
+use Rattle.sq_machine.specs.Marks.{Past, entries}
+use Rattle.sq_machine.specs.PoolReadings.{Taking, allowed_of, if_allowed, seat_count, taken_after, taken_of, taking}
+use Rattle.sq_machine.specs.Questions.{sent_to}
+use Rattle.sq_machine.specs.Readings.{counted_moment, current, epoch_after}
+use Rattle.sq_machine.specs.StepRule.{value_over}
 use Rattle.sq_rules.specs.Verdicts.{outcome_so_far, pool_of}
-use Rattle.sq_rules.proofs.CheckLaws.{IsAsked, open_asked}
-use Rattle.sq_rules.proofs.EventLaws.{begin_judges, judged_event}
+use Rattle.sq_machine.proofs.CheckLaws.{IsAsked, open_asked}
+use Rattle.sq_machine.proofs.EventLaws.{begin_judges, judged_event}
 use Rattle.sq_history.specs.Carried.{NamesOnce}
 use Rattle.sq_history.specs.Faithful.{FaultsSo, IsFaithful, IsJudgedSo, IsSeatedSo, JudgedSo, OpenOnce, SeatedSo, SentSo, StepsSo, seating_of, sending_of}
 use Rattle.sq_history.specs.Given.{EachOf, times_sent}
@@ -91,8 +92,8 @@ told_taken true true r s e epoch v o is = (refl, refl, cc, cc)
 told_taken true false r s e epoch v o is = absurd (cc)
 told_taken false d r s e epoch v o is = absurd (cc)
 
-is_taken : (configs : List Configuration) (m : Past) (now n epoch : ℕ) (o : Outcome) → full_next configs m now (Take n) ≡ gives (told.Judged epoch o) → IsTaken configs m n epoch o
-unfolding full_next full_next_at
+is_taken : (configs : List Configuration) (m : Past) (now n epoch : ℕ) (o : Outcome) → next configs m now (Take n) ≡ gives (told.Judged epoch o) → IsTaken configs m n epoch o
+unfolding next next_at
 is_taken configs m now n epoch o is =
     let t = told_taken (check_open (entries m) n) (is_done (entries m) n) _ _ (epoch_of (ask_of (entries m) n)) epoch (outcome_over configs m n (ask_of (entries m) n)) o is in
     record { opened = t.0; done = t.1; epoch_is = t.2; outcome_is = t.3 }
@@ -102,8 +103,8 @@ asked_some None a = let is = a.is in absurd (cc)
 asked_some (Some x) a = (x, refl)
 
 -- an outcome that is taken behind a legal history
-judged_so : (configs : List Configuration) (h : History) (now n epoch : ℕ) (o : Outcome) → EachOf IsConfiguration configs → current h ≤ length configs → FullLegal configs h
-    → full_next configs (marked configs h) now (Take n) ≡ gives (told.Judged epoch o) → IsJudgedSo configs (marked configs h) (record { check = n; epoch = epoch; outcome = o })
+judged_so : (configs : List Configuration) (h : History) (now n epoch : ℕ) (o : Outcome) → EachOf IsConfiguration configs → current h ≤ length configs → Legal configs h
+    → next configs (marked configs h) now (Take n) ≡ gives (told.Judged epoch o) → IsJudgedSo configs (marked configs h) (record { check = n; epoch = epoch; outcome = o })
 judged_so configs h now n epoch o each few legal is = record {
   asked = a;
   config = at.0;
@@ -147,17 +148,17 @@ judged_so configs h now n epoch o each few legal is = record {
     outcome = t.outcome_is ∙ ap (outcome_over configs m n) ask ∙ ap outcome_so_far v.1
 
 judged_at : (configs : List Configuration) (h : History) (now : ℕ) (event : Event) (answer : Told) (j : Option Judgement) → judgement event answer ≡ j → EachOf IsConfiguration configs
-    → current h ≤ length configs → FullLegal configs h → full_next configs (marked configs h) now event ≡ gives answer → JudgedSo configs (marked configs h) j
+    → current h ≤ length configs → Legal configs h → next configs (marked configs h) now event ≡ gives answer → JudgedSo configs (marked configs h) j
 judged_at configs h now event answer None same each few legal is = tt
 judged_at configs h now event answer (Some j) same each few legal is =
     let k = judged_event event answer j same in
-    judged_so configs h now j.check j.epoch j.outcome each few legal (ap (full_next configs (marked configs h) now) (sym k.event_is) ∙ is ∙ ap gives k.told_is)
+    judged_so configs h now j.check j.epoch j.outcome each few legal (ap (next configs (marked configs h) now) (sym k.event_is) ∙ is ∙ ap gives k.told_is)
 
 open_at : (configs : List Configuration) (h : History) → OpenOnce configs (marked configs h)
 open_at configs h = λ e c key q r a b live alive.
     one_question configs h e c key q r (put_within (marked configs h) e c key q a) (put_within (marked configs h) e c key r b) a b live alive
 
-sent_at_most : (configs : List Configuration) (h : History) → NamesOnce configs → FullLegal configs h → (q : ℕ) → times_sent (marked configs h) q ≤ 1
+sent_at_most : (configs : List Configuration) (h : History) → NamesOnce configs → Legal configs h → (q : ℕ) → times_sent (marked configs h) q ≤ 1
 sent_at_most configs h once legal q = subst (λ (n : ℕ). n ≤ 1) (sym ((sent_once configs h once legal).once q)) (by (is_some (sent_to (marked configs h) q)))
   where
     by : (b : Bool) → (if b then 1 else 0) ≤ 1
@@ -241,9 +242,9 @@ seated_by configs h c answer (Some a) few at e =
           ∙ ap (option_and_then (λ (config : Configuration). pool_of config a.sight)) there.1;
     }
 
-seated_at : (configs : List Configuration) (h : History) (now : ℕ) (event : Event) (answer : Told) → current h ≤ length configs → full_next configs (marked configs h) now event ≡ gives answer
+seated_at : (configs : List Configuration) (h : History) (now : ℕ) (event : Event) (answer : Told) → current h ≤ length configs → next configs (marked configs h) now event ≡ gives answer
     → SeatedSo configs (marked configs h) (seating_of event answer)
-unfolding full_next full_next_at seat_pool
+unfolding next next_at seat_pool
 seated_at configs h now (Seat c) (told.Seat n pool) few e = seated_by configs h c (told.Seat n pool) (allowed_of (entries (marked configs h)) c) few refl e
 seated_at configs h now (Seat c) told.NoSeat few e = seated_by configs h c told.NoSeat (allowed_of (entries (marked configs h)) c) few refl e
 seated_at configs h now (Seat c) answer few e = tt
@@ -260,15 +261,15 @@ faults_so configs m e = record {
 }
 
 -- at a moment that is none of the past
-next_at : (configs : List Configuration) (x f : Noted) (h : History) → f.moment ≤ x.moment → full_next configs (marked configs (f ∷ h)) x.moment x.event ≡ gives x.answer
-    → full_next_at configs (marked configs (f ∷ h)) x.moment x.event ≡ gives x.answer
-unfolding full_next
-next_at configs x f h late is = sym (ap (λ (now : ℕ). full_next_at configs (marked configs (f ∷ h)) now x.event) (counted x.moment f.moment late)) ∙ is
+answered_at : (configs : List Configuration) (x f : Noted) (h : History) → f.moment ≤ x.moment → next configs (marked configs (f ∷ h)) x.moment x.event ≡ gives x.answer
+    → next_at configs (marked configs (f ∷ h)) x.moment x.event ≡ gives x.answer
+unfolding next
+answered_at configs x f h late is = sym (ap (λ (now : ℕ). next_at configs (marked configs (f ∷ h)) now x.event) (counted x.moment f.moment late)) ∙ is
   where
     counted : (a b : ℕ) → b ≤ a → max a b ≡ a
     counted a b l = omega arith
 
-stepped_at : (configs : List Configuration) (m : Past) (x : Noted) → full_next_at configs m x.moment x.event ≡ gives x.answer → StepsSo configs m (mark configs m x)
+stepped_at : (configs : List Configuration) (m : Past) (x : Noted) → next_at configs m x.moment x.event ≡ gives x.answer → StepsSo configs m (mark configs m x)
 stepped_at configs m x is = record {
   waits = λ n q at tells. waits_at configs m x.moment x.event x.answer n q is at tells;
   done = λ n a o at ask v. done_at configs m x.moment x.event x.answer n a o is at ask v;
@@ -287,8 +288,8 @@ first_sends : (configs : List Configuration) (event : Event) (answer : Told) →
 first_sends configs (Begin offset) answer b = tt
 first_sends configs event answer b = absurd (cc)
 
-sent_at : (configs : List Configuration) (m : Past) (now : ℕ) (event : Event) (answer : Told) → full_next configs m now event ≡ gives answer → SentSo configs m (sending_of event answer)
-unfolding full_next
+sent_at : (configs : List Configuration) (m : Past) (now : ℕ) (event : Event) (answer : Told) → next configs m now event ≡ gives answer → SentSo configs m (sending_of event answer)
+unfolding next
 sent_at configs m now event answer e = sent_so configs m (counted_moment (entries m) now) event answer e
 
 fewer : (x : Noted) (h : History) (n : ℕ) → current (x ∷ h) ≤ n → current h ≤ n
@@ -299,7 +300,7 @@ fewer x h n l = by (begins_epoch x.event) (current h) n l
     by false k n l = l
 
 -- every legal history is faithful, where each configuration is one and each epoch that began has its own
-pub legal_faithful : (configs : List Configuration) (h : History) → EachOf IsConfiguration configs → current h ≤ length configs → FullLegal configs h → IsFaithful configs (marked configs h)
+pub legal_faithful : (configs : List Configuration) (h : History) → EachOf IsConfiguration configs → current h ≤ length configs → Legal configs h → IsFaithful configs (marked configs h)
 legal_faithful configs [] each few legal = tt
 legal_faithful configs (x ∷ []) each few legal = (
   record {
@@ -320,7 +321,7 @@ legal_faithful configs (x ∷ f ∷ h) each few legal = (
     judged = judged_at configs (f ∷ h) x.moment x.event x.answer (judgement x.event x.answer) refl each (fewer x (f ∷ h) (length configs) few) legal.0 legal.4;
     seated = seated_at configs (f ∷ h) x.moment x.event x.answer (fewer x (f ∷ h) (length configs) few) legal.4;
     faults = faults_so configs (marked configs (f ∷ h)) x;
-    stepped = stepped_at configs (marked configs (f ∷ h)) x (next_at configs x f h legal.3 legal.4);
+    stepped = stepped_at configs (marked configs (f ∷ h)) x (answered_at configs x f h legal.3 legal.4);
     few = few_taken configs (x ∷ f ∷ h) (names_once configs each) legal;
     put = put_so configs (marked configs (f ∷ h)) x.moment x.event (says_at configs (marked configs (f ∷ h)) x.moment x.event).put refl;
     sent = sent_at configs (marked configs (f ∷ h)) x.moment x.event x.answer legal.4;

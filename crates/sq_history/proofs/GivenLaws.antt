@@ -5,27 +5,28 @@ use Rattle.std.specs.Option.{option_map_or}
 use Rattle.std.proofs.lemmas.Option.{none-some, same_Some}
 use Rattle.sq_base.specs.declared.helpers.Answer.{Answer}
 use Rattle.sq_base.specs.declared.helpers.What.{What}
-use Rattle.sq_rules.specs.declared.entries.Event.{Event}
-use Rattle.sq_rules.specs.declared.entries.Event.TheVariants.{Begin, Step, Line, Reconfigure}
-use Rattle.sq_rules.specs.declared.entries.Told.{Told}
-use Rattle.sq_rules.specs.declared.entries.Told.TheVariants as told
-use Rattle.sq_rules.specs.declared.kept.KeptVerdict.{KeptVerdict}
-use Rattle.sq_rules.specs.Checks.{ask_of}
+use Rattle.sq_machine.specs.declared.entries.Event.{Event}
+use Rattle.sq_machine.specs.declared.entries.Event.TheVariants.{Begin, Step, Line, Reconfigure}
+use Rattle.sq_machine.specs.declared.entries.Told.{Told}
+use Rattle.sq_machine.specs.declared.entries.Told.TheVariants as told
+use Rattle.sq_machine.specs.declared.kept.KeptVerdict.{KeptVerdict}
+use Rattle.sq_machine.specs.Checks.{ask_of}
 use Rattle.sq_rules.specs.Classes.{Class}
 use Rattle.sq_rules.specs.Configurations.{Configuration}
-use Rattle.sq_rules.specs.Entries.{History}
-use Rattle.sq_rules.specs.Epochs.{class_at}
-use Rattle.sq_rules.specs.Freshness.{is_fresh, ttl_of}
-use Rattle.sq_rules.specs.FullNext.{FullLegal, full_next_at, told_of_line}
-use Rattle.sq_rules.specs.KeptLists.{KeptList, if_fresh, is_fault, keep, kept_without, same_key, to_front, verdict_of}
-use Rattle.sq_rules.specs.KeptReadings.{after_took, alike_place, keep_reply, keep_what, kept, key_here}
-use Rattle.sq_rules.specs.Machine.{gives, is_begin}
-use Rattle.sq_rules.specs.Marking.{mark, marked}
-use Rattle.sq_rules.specs.Marks.{Marked, Past, Put, entries}
-use Rattle.sq_rules.specs.Processes.{is_running}
-use Rattle.sq_rules.specs.Questions.{put_is, put_of, said_by}
-use Rattle.sq_rules.specs.Readings.{current}
-use Rattle.sq_rules.specs.StepRule.{StepSays, step_says}
+use Rattle.sq_machine.specs.Entries.{History}
+use Rattle.sq_machine.specs.Epochs.{class_at}
+use Rattle.sq_machine.specs.Freshness.{is_fresh, ttl_of}
+use Rattle.sq_machine.specs.Machine.{Legal, next_at, told_of_line}
+use Rattle.sq_machine.specs.KeptLists.{KeptList, if_fresh, is_fault, keep, kept_without, same_key, to_front, verdict_of}
+use Rattle.sq_machine.specs.KeptReadings.{after_took, alike_place, keep_reply, keep_what, kept, key_here}
+use Rattle.sq_machine.specs.Events.{is_begin}
+use Rattle.sq_machine.specs.Next.{gives}
+use Rattle.sq_machine.specs.Marking.{mark, marked}
+use Rattle.sq_machine.specs.Marks.{Marked, Past, Put, entries}
+use Rattle.sq_machine.specs.Processes.{is_running}
+use Rattle.sq_machine.specs.Questions.{put_is, put_of, said_by}
+use Rattle.sq_machine.specs.Readings.{current}
+use Rattle.sq_machine.specs.StepRule.{StepSays, step_says}
 use Rattle.sq_history.specs.Carried.{Carried, NamesOnce}
 use Rattle.sq_history.specs.Given.{EachOf, Given, TakesFault, TakesFresh, gift_of}
 use Rattle.sq_history.specs.Waits.{IsNeeded}
@@ -141,7 +142,7 @@ key_put_is e c (Some p) z is = by ((p.epoch == e) && (p.class == c)) refl is
     by true t is = ap₂ (λ (a b : Bool). a && b) t (ap (bytes_eq p.key) (sym (same_Some _ _ is)) ∙ bytes_itself p.key)
     by false t is = absurd (none-some z is)
 
-line_given : (configs : List Configuration) (m : Past) (now k : ℕ) (bytes : List ℕ) (answer : Told) → NamesOnce configs → full_next_at configs m now (Line k bytes) ≡ gives answer → Carried configs m
+line_given : (configs : List Configuration) (m : Past) (now k : ℕ) (bytes : List ℕ) (answer : Told) → NamesOnce configs → next_at configs m now (Line k bytes) ≡ gives answer → Carried configs m
     → AllKeptGiven configs m → AllKeptGiven configs (mark configs m (record { moment = now; event = Line k bytes; answer = answer }) ∷ m)
 line_given configs m now k bytes (told.Reply q w) once is c g = record {
   kept_given = λ e d.
@@ -187,7 +188,7 @@ moved_given configs m now text answer g = record { kept_given = λ e d. by e d (
     by e d false other = left e d ((e == cur) && is_some (alike_place configs (suc cur) (class_at configs e d)))
 
 -- an entry whose answer is the next keeps it so
-pub given_next : (configs : List Configuration) (m : Past) (now : ℕ) (event : Event) (answer : Told) → NamesOnce configs → full_next_at configs m now event ≡ gives answer → Carried configs m
+pub given_next : (configs : List Configuration) (m : Past) (now : ℕ) (event : Event) (answer : Told) → NamesOnce configs → next_at configs m now event ≡ gives answer → Carried configs m
     → AllKeptGiven configs m → AllKeptGiven configs (mark configs m (record { moment = now; event = event; answer = answer }) ∷ m)
 given_next configs m now (Step n) answer once is c g = record {
   kept_given = λ e d.
@@ -206,7 +207,7 @@ given_first configs now (Begin offset) answer b = record { kept_given = λ e d. 
 given_first configs now event answer b = absurd (cc)
 
 -- every verdict that a legal history keeps was given
-pub kept_is_given : (configs : List Configuration) (h : History) → NamesOnce configs → FullLegal configs h → AllKeptGiven configs (marked configs h)
+pub kept_is_given : (configs : List Configuration) (h : History) → NamesOnce configs → Legal configs h → AllKeptGiven configs (marked configs h)
 kept_is_given configs h once legal =
     (legal_induction configs (AllKeptGiven configs) once (λ x b. given_first configs x.moment x.event x.answer b)
     (λ m now event answer is c g. given_next configs m now event answer once is c g) h legal).1

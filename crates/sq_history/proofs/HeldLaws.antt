@@ -1,13 +1,13 @@
 -- What a step and a take say of an open check, by its row.
 use Rattle.std.proofs.Common.{◌≡◌, ℕ, List, true, Option, Some, None, refl, ap}
 use Rattle.std.specs.Option.{unwrap_or}
-use Rattle.sq_rules.specs.Checks.{Asked, ask_of, check_open}
+use Rattle.sq_machine.specs.Checks.{Asked, ask_of, check_open}
 use Rattle.sq_rules.specs.Configurations.{Configuration}
-use Rattle.sq_rules.specs.FullNext.{outcome_over}
-use Rattle.sq_rules.specs.Marks.{Past, entries}
-use Rattle.sq_rules.specs.StepRule.{says_asked_of, says_value, step_says, value_over}
+use Rattle.sq_machine.specs.Machine.{outcome_over}
+use Rattle.sq_machine.specs.Marks.{Past, entries}
+use Rattle.sq_machine.specs.StepRule.{says_asked_of, says_value, step_says, value_over}
 use Rattle.sq_rules.specs.Verdicts.{outcome_so_far}
-use Rattle.sq_rules.proofs.CheckLaws.{IsAsked, open_asked}
+use Rattle.sq_machine.proofs.CheckLaws.{IsAsked, open_asked}
 use Rattle.sq_rows.specs.CheckRows.{held_of, unasked}
 
 -- an open check as it began

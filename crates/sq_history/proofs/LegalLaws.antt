@@ -11,39 +11,38 @@ use Rattle.sq_base.specs.declared.helpers.Answer.{Answer}
 use Rattle.sq_base.specs.declared.helpers.Reply.{Reply}
 use Rattle.sq_base.specs.declared.helpers.What.{What}
 use Rattle.sq_base.specs.declared.helpers.Word.{Word}
-use Rattle.sq_rules.specs.declared.entries.Event.{Event}
-use Rattle.sq_rules.specs.declared.entries.Event.TheVariants.{Begin, Step, Started, StartFail, Line, Died, Act, Reconfigure}
-use Rattle.sq_rules.specs.declared.entries.Told.{Told}
-use Rattle.sq_rules.specs.declared.entries.Told.TheVariants as told
-use Rattle.sq_rules.specs.declared.refusals.Refusal.{Refusal}
-use Rattle.sq_rules.specs.declared.refusals.Refusal.TheVariants as refusal
+use Rattle.sq_machine.specs.declared.entries.Event.{Event}
+use Rattle.sq_machine.specs.declared.entries.Event.TheVariants.{Begin, Step, Started, StartFail, Line, Died, Act, Reconfigure}
+use Rattle.sq_machine.specs.declared.entries.Told.{Told}
+use Rattle.sq_machine.specs.declared.entries.Told.TheVariants as told
+use Rattle.sq_machine.specs.declared.refusals.Refusal.{Refusal}
+use Rattle.sq_machine.specs.declared.refusals.Refusal.TheVariants as refusal
 use Rattle.sq_rules.specs.declared.values.Value.{Value}
 use Rattle.sq_rules.specs.declared.values.Value.TheVariants as value
-use Rattle.sq_rules.specs.AnswerReadings.{answers}
-use Rattle.sq_rules.specs.Channels.{channel_name, is_open, least_free}
-use Rattle.sq_rules.specs.Checks.{Asked, ask_count, ask_of, asked_by, check_open, numbered}
+use Rattle.sq_machine.specs.AnswerReadings.{answers}
+use Rattle.sq_machine.specs.Channels.{channel_name, is_open, least_free}
+use Rattle.sq_machine.specs.Checks.{Asked, ask_count, ask_of, asked_by, check_open, numbered}
 use Rattle.sq_rules.specs.Classes.{Class}
 use Rattle.sq_rules.specs.Configurations.{Configuration}
-use Rattle.sq_rules.specs.DueActs.{Place, first_made, first_of, live_places, next_act, places_of, send_at, sending_told, start_at}
-use Rattle.sq_rules.specs.Entries.{History, Noted}
-use Rattle.sq_rules.specs.Epochs.{channels_named, class_at, class_named, has_open_check, is_check_of, is_live, live_epochs, name_of_class, place_of_class}
-use Rattle.sq_rules.specs.Events.{Asking, asking, begins_epoch, is_number}
-use Rattle.sq_rules.specs.FarmReadings.{farm_of, farm_with, is_put_for, is_queued, living_of, waiting_of}
-use Rattle.sq_rules.specs.Farms.{Sending, Stock, Waiting, send_by, send_of, start_due}
-use Rattle.sq_rules.specs.Farms.{full}
-use Rattle.sq_rules.specs.FullNext.{FullLegal, act_next, full_next, full_next_at, has_start, told_of_line, with_place}
-use Rattle.sq_rules.specs.KeptReadings.{kept}
-use Rattle.sq_rules.specs.Limits.{last_number}
-use Rattle.sq_rules.specs.Living.{Living, has_free, target}
-use Rattle.sq_rules.specs.Machine.{Next, config_of, gives, is_begin, refuse_if}
-use Rattle.sq_rules.specs.Marking.{mark, marked}
-use Rattle.sq_rules.specs.Marks.{Past, Put, entries}
-use Rattle.sq_rules.specs.Numbered.{below, picks}
-use Rattle.sq_rules.specs.Processes.{Home, home_of, is_at_home, is_running, lives_on, proc_count, proc_end, stop_due, runs_at, settled_starts, start_count, starting}
-use Rattle.sq_rules.specs.Questions.{has_ended, pending, put_count, put_of, said_by, sent_to, what_of}
-use Rattle.sq_rules.specs.Readings.{current, epoch_after}
-use Rattle.sq_rules.specs.StepRule.{class_of_acl, says_asked_of, says_at_place, says_of_class, says_value, step_says, value_over}
-use Rattle.sq_rules.specs.Transcripts.{LineIs, OnFree, Outside, ReplyTo, channels_of, line_is, line_told}
+use Rattle.sq_machine.specs.DueActs.{Place, first_made, first_of, live_places, next_act, places_of, send_at, sending_told, start_at}
+use Rattle.sq_machine.specs.Entries.{History, Noted}
+use Rattle.sq_machine.specs.Epochs.{channels_named, class_at, class_named, has_open_check, is_check_of, is_live, live_epochs, name_of_class, place_of_class, config_of}
+use Rattle.sq_machine.specs.Events.{Asking, asking, begins_epoch, is_number, is_begin}
+use Rattle.sq_machine.specs.FarmReadings.{farm_of, farm_with, is_put_for, is_queued, living_of, waiting_of}
+use Rattle.sq_machine.specs.Farms.{Sending, Stock, Waiting, send_by, send_of, start_due, full}
+use Rattle.sq_machine.specs.Machine.{Legal, act_next, next, next_at, has_start, told_of_line, with_place}
+use Rattle.sq_machine.specs.KeptReadings.{kept}
+use Rattle.sq_machine.specs.Limits.{last_number}
+use Rattle.sq_machine.specs.Living.{Living, has_free, target}
+use Rattle.sq_machine.specs.Next.{Next, gives, refuse_if}
+use Rattle.sq_machine.specs.Marking.{mark, marked}
+use Rattle.sq_machine.specs.Marks.{Past, Put, entries}
+use Rattle.sq_machine.specs.Numbered.{below, picks}
+use Rattle.sq_machine.specs.Processes.{Home, home_of, is_at_home, is_running, lives_on, proc_count, proc_end, stop_due, runs_at, settled_starts, start_count, starting}
+use Rattle.sq_machine.specs.Questions.{has_ended, pending, put_count, put_of, said_by, sent_to, what_of}
+use Rattle.sq_machine.specs.Readings.{current, epoch_after}
+use Rattle.sq_machine.specs.StepRule.{class_of_acl, says_asked_of, says_at_place, says_of_class, says_value, step_says, value_over}
+use Rattle.sq_machine.specs.Transcripts.{LineIs, OnFree, Outside, ReplyTo, channels_of, line_is, line_told}
 use Rattle.sq_history.specs.Carried.{Carried, HasClass, NamesOnce}
 use Rattle.sq_history.specs.MarkedEntries.{noted_at}
 use Rattle.sq_history.proofs.AgreeLaws.{IsSent}
@@ -709,9 +708,9 @@ carried_line configs m now k bytes once running c = by (line_is (channels_of (ch
     by OnFree is = subst (λ (l : LineIs). Carried configs (noted_at now (Line k bytes) (line_told l) ∷ m)) (sym is) (carried_stray configs m now k bytes c)
 
 -- an entry whose answer is the next
-pub carried_next : (configs : List Configuration) (m : Past) (now : ℕ) (event : Event) (answer : Told) → NamesOnce configs → full_next_at configs m now event ≡ gives answer → Carried configs m
+pub carried_next : (configs : List Configuration) (m : Past) (now : ℕ) (event : Event) (answer : Told) → NamesOnce configs → next_at configs m now event ≡ gives answer → Carried configs m
     → Carried configs (mark configs m (record { moment = now; event = event; answer = answer }) ∷ m)
-unfolding full_next_at
+unfolding next_at
 carried_next configs m now (Step n) answer once e c =
     let a = refused_not (not (check_open (entries m) n)) _ _ answer e in
     let b = refused_not (is_some (step_says configs m n now).put && nat_le last_number (suc (put_count m))) _ _ answer a.1 in
@@ -753,17 +752,17 @@ carried_next configs m now (Reconfigure text) answer once e c = carried_reconfig
 carried_next configs m now event answer once e c = carried_untouched configs m now event answer refl c
 
 -- what is answered to a line: its process runs, and what the line says is told
-pub next_line : (configs : List Configuration) (m : Past) (now k : ℕ) (bytes : List ℕ) (answer : Told) → full_next_at configs m now (Line k bytes) ≡ gives answer
+pub next_line : (configs : List Configuration) (m : Past) (now k : ℕ) (bytes : List ℕ) (answer : Told) → next_at configs m now (Line k bytes) ≡ gives answer
     → (is_running (entries m) k ≡ true) × (told_of_line configs (entries m) k bytes ≡ answer)
-unfolding full_next_at
+unfolding next_at
 next_line configs m now k bytes answer e =
     let a = refused_not (not (lives_on (entries m) k)) _ _ answer e in
     let l = unnot (lives_on (entries m) k) a.0 in
     ((and_parts (is_running (entries m) k) (option_map_or (λ p. is_live (entries m) p.epoch) (home_of (entries m) k) false) l).0, given_is _ answer a.1)
 
 -- what is answered to an act is the next act
-pub next_acts : (configs : List Configuration) (m : Past) (now : ℕ) (answer : Told) → full_next_at configs m now Act ≡ gives answer → next_act configs m ≡ Some answer
-unfolding full_next_at
+pub next_acts : (configs : List Configuration) (m : Past) (now : ℕ) (answer : Told) → next_at configs m now Act ≡ gives answer → next_act configs m ≡ Some answer
+unfolding next_at
 next_acts configs m now answer e = by (next_act configs m) e
   where
     by : (o : Option Told) → act_next o ≡ gives answer → o ≡ Some answer
@@ -771,8 +770,8 @@ next_acts configs m now answer e = by (next_act configs m) e
     by (Some t) e = ap (λ (z : Told). Some z) (given_is t answer e)
 
 -- what is answered to a step is what the rule says
-pub next_steps : (configs : List Configuration) (m : Past) (now n : ℕ) (answer : Told) → full_next_at configs m now (Step n) ≡ gives answer → (step_says configs m n now).answer ≡ answer
-unfolding full_next_at
+pub next_steps : (configs : List Configuration) (m : Past) (now n : ℕ) (answer : Told) → next_at configs m now (Step n) ≡ gives answer → (step_says configs m n now).answer ≡ answer
+unfolding next_at
 next_steps configs m now n answer e =
     let a = refused_not (not (check_open (entries m) n)) _ _ answer e in
     let b = refused_not (is_some (step_says configs m n now).put && nat_le last_number (suc (put_count m))) _ _ answer a.1 in
@@ -785,15 +784,15 @@ begins configs now event answer b = absurd (cc)
 -- an induction over legal histories: what is so at first, and stays with each entry whose answer is the next, is so of each
 pub legal_induction : (configs : List Configuration) (P : Past → Type 0) → NamesOnce configs
     → ((x : Noted) → is_begin x.event ≡ true → P (mark configs [] x ∷ []))
-    → ((m : Past) (now : ℕ) (event : Event) (answer : Told) → full_next_at configs m now event ≡ gives answer → Carried configs m → P m
+    → ((m : Past) (now : ℕ) (event : Event) (answer : Told) → next_at configs m now event ≡ gives answer → Carried configs m → P m
     → P (mark configs m (record { moment = now; event = event; answer = answer }) ∷ m))
-    → (h : History) → FullLegal configs h → Carried configs (marked configs h) × P (marked configs h)
-unfolding full_next
+    → (h : History) → Legal configs h → Carried configs (marked configs h) × P (marked configs h)
+unfolding next
 legal_induction configs P once first next [] legal = absurd legal
 legal_induction configs P once first next (x ∷ []) legal = (begins configs x.moment x.event x.answer legal.0, first x legal.0)
 legal_induction configs P once first next (x ∷ f ∷ h) legal =
     let before = legal_induction configs P once first next (f ∷ h) legal.0 in
-    let is = sym (ap (λ (now : ℕ). full_next_at configs (marked configs (f ∷ h)) now x.event) (counted x.moment f.moment legal.3)) ∙ legal.4 in (
+    let is = sym (ap (λ (now : ℕ). next_at configs (marked configs (f ∷ h)) now x.event) (counted x.moment f.moment legal.3)) ∙ legal.4 in (
       carried_next configs (marked configs (f ∷ h)) x.moment x.event x.answer once is before.0,
       next (marked configs (f ∷ h)) x.moment x.event x.answer is before.0 before.1,
     )
@@ -802,5 +801,5 @@ legal_induction configs P once first next (x ∷ f ∷ h) legal =
     counted a b l = omega arith
 
 -- every legal history does, where no two classes of a configuration have one name
-pub legal_carried : (configs : List Configuration) (h : History) → NamesOnce configs → FullLegal configs h → Carried configs (marked configs h)
+pub legal_carried : (configs : List Configuration) (h : History) → NamesOnce configs → Legal configs h → Carried configs (marked configs h)
 legal_carried configs h once legal = (legal_induction configs (λ m. Unit {0}) once (λ x b. tt) (λ m now event answer e c p. tt) h legal).0

@@ -9,15 +9,15 @@ use Rattle.sq_base.specs.Bytes.{space}
 use Rattle.sq_base.specs.Decimals.{number_of}
 use Rattle.sq_base.specs.Replies.{Answer, after_channel, channel_limit, is_word_byte, on_channel, reply_limit, reply_line_in, reply_of, result_in, without_last_cr}
 use Rattle.sq_base.specs.declared.helpers.Reply.{Reply}
-use Rattle.sq_rules.specs.Channels.{Channels, channel_name, freed, slot_at, slot_of}
-use Rattle.sq_rules.specs.Checks.{numbered}
-use Rattle.sq_rules.specs.Entries.{History}
-use Rattle.sq_rules.specs.Events.{is_number}
-use Rattle.sq_rules.specs.FarmReadings.{living_of}
-use Rattle.sq_rules.specs.Living.{Living, find_proc, slots_by, slots_in, without}
-use Rattle.sq_rules.specs.Numbered.{below, rows}
-use Rattle.sq_rules.specs.Processes.{Home, home_of, proc_count, proc_end, runs_at, started_by}
-use Rattle.sq_rules.specs.Transcripts.{LineIs, OnFree, Outside, ReplyTo, after_use, channels_of, clears, holder, keeps, line_at, line_by, line_is, same_channel, stands_on}
+use Rattle.sq_machine.specs.Channels.{Channels, channel_name, freed, slot_at, slot_of}
+use Rattle.sq_machine.specs.Checks.{numbered}
+use Rattle.sq_machine.specs.Entries.{History}
+use Rattle.sq_machine.specs.Events.{is_number}
+use Rattle.sq_machine.specs.FarmReadings.{living_of}
+use Rattle.sq_machine.specs.Living.{Living, find_proc, slots_by, slots_in, without}
+use Rattle.sq_machine.specs.Numbered.{below, rows}
+use Rattle.sq_machine.specs.Processes.{Home, home_of, proc_count, proc_end, runs_at, started_by}
+use Rattle.sq_machine.specs.Transcripts.{LineIs, OnFree, Outside, ReplyTo, after_use, channels_of, clears, holder, keeps, line_at, line_by, line_is, same_channel, stands_on}
 use Rattle.sq_history.specs.Carried.{HoldsOnce}
 use Rattle.sq_history.proofs.ClassParts.{equal, itself}
 use Rattle.sq_history.proofs.RowLaws.{picked_given, row_found}

@@ -8,23 +8,22 @@ use Rattle.std.proofs.lemmas.Option.{none-some}
 use Rattle.sq_base.specs.declared.helpers.Cause.{Cause}
 use Rattle.sq_base.specs.declared.helpers.Cause.TheVariants as cause
 use Rattle.sq_base.specs.declared.helpers.What.TheVariants as what
-use Rattle.sq_rules.specs.declared.entries.Event.{Event}
-use Rattle.sq_rules.specs.declared.entries.Event.TheVariants.{Step, Line, Died, StartFail, Act}
-use Rattle.sq_rules.specs.declared.entries.Told.{Told}
-use Rattle.sq_rules.specs.declared.entries.Told.TheVariants as told
-use Rattle.sq_rules.specs.AnswerReadings.{answers, ended_answer, last_wait, steps, waits_told}
-use Rattle.sq_rules.specs.Checks.{ask_count, check_open, more_if, numbered}
+use Rattle.sq_machine.specs.declared.entries.Event.{Event}
+use Rattle.sq_machine.specs.declared.entries.Event.TheVariants.{Step, Line, Died, StartFail, Act}
+use Rattle.sq_machine.specs.declared.entries.Told.{Told}
+use Rattle.sq_machine.specs.declared.entries.Told.TheVariants as told
+use Rattle.sq_machine.specs.AnswerReadings.{answers, ended_answer, last_wait, steps, waits_told}
+use Rattle.sq_machine.specs.Checks.{ask_count, check_open, more_if, numbered, is_done}
 use Rattle.sq_rules.specs.Configurations.{Configuration}
-use Rattle.sq_rules.specs.Entries.{History}
-use Rattle.sq_rules.specs.Epochs.{name_of_class}
-use Rattle.sq_rules.specs.Events.{Asking, asking, is_number}
-use Rattle.sq_rules.specs.Marks.{Past, Put, entries}
-use Rattle.sq_rules.specs.Processes.{cause_here, ended_by, home_of, if_here, line_end, proc_count, proc_end, started_by}
-use Rattle.sq_rules.specs.Questions.{end_at, end_told, first_end, leaves_none, put_count, put_of, question_end, said_by, send_told, sends, sent_to, unended}
+use Rattle.sq_machine.specs.Entries.{History}
+use Rattle.sq_machine.specs.Epochs.{name_of_class}
+use Rattle.sq_machine.specs.Events.{Asking, asking, is_number}
+use Rattle.sq_machine.specs.Marks.{Past, Put, entries}
+use Rattle.sq_machine.specs.Processes.{cause_here, ended_by, home_of, if_here, line_end, proc_count, proc_end, started_by}
+use Rattle.sq_machine.specs.Questions.{end_at, end_told, first_end, leaves_none, put_count, put_of, question_end, said_by, send_told, sends, sent_to, unended}
 use Rattle.sq_base.specs.Replies.{reply_of}
-use Rattle.sq_rules.specs.Transcripts.{Use, after_use, holder, keeps, same_channel, stands_on, use_of, use_told}
-use Rattle.sq_rules.proofs.CheckLaws.{check_open_unborn, is_done_unborn}
-use Rattle.sq_rules.specs.Checks.{is_done}
+use Rattle.sq_machine.specs.Transcripts.{Use, after_use, holder, keeps, same_channel, stands_on, use_of, use_told}
+use Rattle.sq_machine.proofs.CheckLaws.{check_open_unborn, is_done_unborn}
 use Rattle.sq_rows.specs.CheckRows.{step_count}
 
 above : (q n : ℕ) → n < q → nat_le q n ≡ false

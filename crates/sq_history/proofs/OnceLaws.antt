@@ -4,15 +4,15 @@ use Rattle.std.specs.Option.{option_map}
 use Rattle.std.proofs.lemmas.Bool.{lt-ltb}
 use Rattle.std.proofs.lemmas.Option.{none-some, same_Some, slice_get-map}
 use Rattle.sq_base.specs.Replies.{reply_of}
-use Rattle.sq_rules.specs.declared.entries.Event.TheVariants.{Line, Act}
-use Rattle.sq_rules.specs.declared.entries.Told.{Told}
-use Rattle.sq_rules.specs.declared.entries.Told.TheVariants as told
-use Rattle.sq_rules.specs.Channels.{channel_name, is_open}
-use Rattle.sq_rules.specs.Events.{is_number}
-use Rattle.sq_rules.specs.Marks.{Past, entries}
-use Rattle.sq_rules.specs.Numbered.{below}
-use Rattle.sq_rules.specs.Processes.{proc_count}
-use Rattle.sq_rules.specs.Transcripts.{after_use, channels_of, clears, holder, keeps, puts, same_channel, stands_on}
+use Rattle.sq_machine.specs.declared.entries.Event.TheVariants.{Line, Act}
+use Rattle.sq_machine.specs.declared.entries.Told.{Told}
+use Rattle.sq_machine.specs.declared.entries.Told.TheVariants as told
+use Rattle.sq_machine.specs.Channels.{channel_name, is_open}
+use Rattle.sq_machine.specs.Events.{is_number}
+use Rattle.sq_machine.specs.Marks.{Past, entries}
+use Rattle.sq_machine.specs.Numbered.{below}
+use Rattle.sq_machine.specs.Processes.{proc_count}
+use Rattle.sq_machine.specs.Transcripts.{after_use, channels_of, clears, holder, keeps, puts, same_channel, stands_on}
 use Rattle.sq_history.specs.Carried.{HoldsOnce}
 use Rattle.sq_history.specs.MarkedEntries.{noted_at}
 use Rattle.sq_history.proofs.ClassParts.{equal, itself}

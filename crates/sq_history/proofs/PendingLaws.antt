@@ -8,29 +8,28 @@ use Rattle.sq_base.proofs.CommonLaws.{bytes_turned}
 use Rattle.sq_base.specs.declared.helpers.Answer.{Answer}
 use Rattle.sq_base.specs.declared.helpers.Cause.TheVariants as cause
 use Rattle.sq_base.specs.declared.helpers.What.{What}
-use Rattle.sq_rules.specs.declared.entries.Event.{Event}
-use Rattle.sq_rules.specs.declared.entries.Event.TheVariants.{Step}
-use Rattle.sq_rules.specs.declared.kept.KeptVerdict.{KeptVerdict}
+use Rattle.sq_machine.specs.declared.entries.Event.{Event}
+use Rattle.sq_machine.specs.declared.entries.Event.TheVariants.{Step}
+use Rattle.sq_machine.specs.declared.kept.KeptVerdict.{KeptVerdict}
 use Rattle.sq_rules.specs.declared.values.Value.{Value}
 use Rattle.sq_rules.specs.declared.values.Value.TheVariants as value
-use Rattle.sq_rules.specs.AnswerReadings.{answers, waits_told}
-use Rattle.sq_rules.specs.Checks.{Asked, ask_of}
+use Rattle.sq_machine.specs.AnswerReadings.{answers, waits_told}
+use Rattle.sq_machine.specs.Checks.{Asked, ask_of}
 use Rattle.sq_rules.specs.Classes.{Class}
 use Rattle.sq_rules.specs.Configurations.{Configuration}
-use Rattle.sq_rules.specs.Entries.{History, Noted}
-use Rattle.sq_rules.specs.Epochs.{class_at}
-use Rattle.sq_rules.specs.FarmReadings.{farm_with, is_put_for}
-use Rattle.sq_rules.specs.Farms.{full}
-use Rattle.sq_rules.specs.Freshness.{is_due}
-use Rattle.sq_rules.specs.KeptLists.{KeptList, fresh_for, same_key}
-use Rattle.sq_rules.specs.KeptReadings.{kept}
-use Rattle.sq_rules.specs.Limits.{key_limit}
-use Rattle.sq_rules.specs.Machine.{config_of}
-use Rattle.sq_rules.specs.Marking.{marked, says_at}
-use Rattle.sq_rules.specs.Marks.{Marked, Past, Put, entries}
-use Rattle.sq_rules.specs.OpenLookups.{LookupRow, pending_in}
-use Rattle.sq_rules.specs.Questions.{QuestionEnd, end_at, first_end, has_ended, last_put, pending, put_count, put_is, put_of, question_end, unended}
-use Rattle.sq_rules.specs.StepRule.{StepSays, class_of_acl, refresh, says_asked, says_asked_of, says_at_place, says_done, says_fault, says_fresh, says_kept, says_need, says_of_class, says_value, step_says, value_over}
+use Rattle.sq_machine.specs.Entries.{History, Noted}
+use Rattle.sq_machine.specs.Epochs.{class_at, config_of}
+use Rattle.sq_machine.specs.FarmReadings.{farm_with, is_put_for}
+use Rattle.sq_machine.specs.Farms.{full}
+use Rattle.sq_machine.specs.Freshness.{is_due}
+use Rattle.sq_machine.specs.KeptLists.{KeptList, fresh_for, same_key}
+use Rattle.sq_machine.specs.KeptReadings.{kept}
+use Rattle.sq_machine.specs.Limits.{key_limit}
+use Rattle.sq_machine.specs.Marking.{marked, says_at}
+use Rattle.sq_machine.specs.Marks.{Marked, Past, Put, entries}
+use Rattle.sq_machine.specs.OpenLookups.{LookupRow, pending_in}
+use Rattle.sq_machine.specs.Questions.{QuestionEnd, end_at, first_end, has_ended, last_put, pending, put_count, put_is, put_of, question_end, unended}
+use Rattle.sq_machine.specs.StepRule.{StepSays, class_of_acl, refresh, says_asked, says_asked_of, says_at_place, says_done, says_fault, says_fresh, says_kept, says_need, says_of_class, says_value, step_says, value_over}
 use Rattle.sq_rows.specs.ClassRows.{class_row, is_asked, lookup_of, lookups}
 use Rattle.sq_rows.specs.StepRows.{says_of_row}
 use Rattle.sq_history.proofs.ClassParts.{bytes_same, equal, itself}

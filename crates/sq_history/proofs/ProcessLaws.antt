@@ -5,14 +5,14 @@ use Rattle.std.proofs.lemmas.Bool.{and_right, le-leb}
 use Rattle.sq_base.proofs.CommonLaws.{eq_turned}
 use Rattle.sq_base.specs.declared.helpers.Cause.{Cause}
 use Rattle.sq_base.specs.declared.helpers.Cause.TheVariants as cause
-use Rattle.sq_rules.specs.declared.entries.Event.TheVariants.{Started, Line, Died, Act}
-use Rattle.sq_rules.specs.declared.entries.Told.{Told}
-use Rattle.sq_rules.specs.declared.entries.Told.TheVariants as told
-use Rattle.sq_rules.specs.Entries.{History}
-use Rattle.sq_rules.specs.Epochs.{is_live}
-use Rattle.sq_rules.specs.Marks.{Past, entries}
-use Rattle.sq_rules.specs.Processes.{Home, cause_here, home_of, if_here, is_line_end, is_stopped, line_end, lives_on, proc_count, proc_end, stop_due}
-use Rattle.sq_rules.specs.Numbered.{picks}
+use Rattle.sq_machine.specs.declared.entries.Event.TheVariants.{Started, Line, Died, Act}
+use Rattle.sq_machine.specs.declared.entries.Told.{Told}
+use Rattle.sq_machine.specs.declared.entries.Told.TheVariants as told
+use Rattle.sq_machine.specs.Entries.{History}
+use Rattle.sq_machine.specs.Epochs.{is_live}
+use Rattle.sq_machine.specs.Marks.{Past, entries}
+use Rattle.sq_machine.specs.Processes.{Home, cause_here, home_of, if_here, is_line_end, is_stopped, line_end, lives_on, proc_count, proc_end, stop_due}
+use Rattle.sq_machine.specs.Numbered.{picks}
 use Rattle.sq_history.specs.MarkedEntries.{noted_at}
 use Rattle.sq_history.proofs.ClassParts.{and_true, equal, itself, not_next}
 use Rattle.sq_history.proofs.NumberLaws.{proc_end_above}

@@ -4,27 +4,28 @@ use Rattle.std.specs.Option.{option_map_or, option_or}
 use Rattle.std.proofs.lemmas.Bool.{le-leb}
 use Rattle.std.proofs.lemmas.Option.{none-some, same_Some}
 use Rattle.sq_base.specs.declared.helpers.Cause.TheVariants as cause
-use Rattle.sq_rules.specs.declared.entries.Event.{Event}
-use Rattle.sq_rules.specs.declared.entries.Event.TheVariants.{Act, Begin, Step}
-use Rattle.sq_rules.specs.declared.entries.Told.{Told}
-use Rattle.sq_rules.specs.declared.entries.Told.TheVariants as told
-use Rattle.sq_rules.specs.declared.kept.KeptVerdict.{KeptVerdict}
+use Rattle.sq_machine.specs.declared.entries.Event.{Event}
+use Rattle.sq_machine.specs.declared.entries.Event.TheVariants.{Act, Begin, Step}
+use Rattle.sq_machine.specs.declared.entries.Told.{Told}
+use Rattle.sq_machine.specs.declared.entries.Told.TheVariants as told
+use Rattle.sq_machine.specs.declared.kept.KeptVerdict.{KeptVerdict}
 use Rattle.sq_rules.specs.Classes.{Class}
 use Rattle.sq_rules.specs.Configurations.{Configuration}
-use Rattle.sq_rules.specs.Entries.{History}
-use Rattle.sq_rules.specs.FarmReadings.{farm_with, is_put_for}
-use Rattle.sq_rules.specs.Farms.{full}
-use Rattle.sq_rules.specs.Freshness.{is_due}
-use Rattle.sq_rules.specs.FullNext.{FullLegal, full_next_at}
-use Rattle.sq_rules.specs.KeptLists.{KeptList, fresh_for}
-use Rattle.sq_rules.specs.KeptReadings.{kept}
-use Rattle.sq_rules.specs.Limits.{key_limit}
-use Rattle.sq_rules.specs.Machine.{gives, is_begin}
-use Rattle.sq_rules.specs.Marking.{mark, marked, says_at}
-use Rattle.sq_rules.specs.Marks.{Marked, Past, Put}
-use Rattle.sq_rules.specs.Processes.{if_here}
-use Rattle.sq_rules.specs.Questions.{has_ended, pending, put_count, put_is, put_of, sends, sent_to}
-use Rattle.sq_rules.specs.StepRule.{StepSays, refresh, says_asked, says_fault, says_fresh, says_kept, says_need, step_says}
+use Rattle.sq_machine.specs.Entries.{History}
+use Rattle.sq_machine.specs.FarmReadings.{farm_with, is_put_for}
+use Rattle.sq_machine.specs.Farms.{full}
+use Rattle.sq_machine.specs.Freshness.{is_due}
+use Rattle.sq_machine.specs.Machine.{Legal, next_at}
+use Rattle.sq_machine.specs.KeptLists.{KeptList, fresh_for}
+use Rattle.sq_machine.specs.KeptReadings.{kept}
+use Rattle.sq_machine.specs.Limits.{key_limit}
+use Rattle.sq_machine.specs.Events.{is_begin}
+use Rattle.sq_machine.specs.Next.{gives}
+use Rattle.sq_machine.specs.Marking.{mark, marked, says_at}
+use Rattle.sq_machine.specs.Marks.{Marked, Past, Put}
+use Rattle.sq_machine.specs.Processes.{if_here}
+use Rattle.sq_machine.specs.Questions.{has_ended, pending, put_count, put_is, put_of, sends, sent_to}
+use Rattle.sq_machine.specs.StepRule.{StepSays, refresh, says_asked, says_fault, says_fresh, says_kept, says_need, step_says}
 use Rattle.sq_history.specs.Carried.{Carried, NamesOnce}
 use Rattle.sq_history.specs.Faithful.{IsPutSo, IsSentSo, PutSo, SentSo, sending_of}
 use Rattle.sq_history.specs.Given.{sends_question, times_sent}
@@ -63,7 +64,7 @@ sent_more configs m now p r channel key q true same d s =
     ∙ sym (ap (λ (b : Bool). if is_some (option_or (if_here b (Some p)) (sent_to m q)) then 1 else 0) (le-leb q (put_count m) (subst (λ (i : ℕ). i ≤ put_count m) (sym (equal q r same)) d.given)))
 sent_more configs m now p r channel key q false other d s = s.once q
 
-once_next : (configs : List Configuration) (m : Past) (now : ℕ) (event : Event) (answer : Told) → full_next_at configs m now event ≡ gives answer → Carried configs m → SentOnce m
+once_next : (configs : List Configuration) (m : Past) (now : ℕ) (event : Event) (answer : Told) → next_at configs m now event ≡ gives answer → Carried configs m → SentOnce m
     → SentOnce (mark configs m (record { moment = now; event = event; answer = answer }) ∷ m)
 once_next configs m now Act (told.Send p r channel key) e c s =
     record { once = λ q. sent_more configs m now p r channel key q (q == r) refl (next_send configs m p r channel key (next_acts configs m now (told.Send p r channel key) e)) s }
@@ -75,12 +76,12 @@ once_first configs now (Begin offset) answer b = record { once = λ q. refl }
 once_first configs now event answer b = absurd (cc)
 
 -- each question of a legal history is sent once at most
-pub sent_once : (configs : List Configuration) (h : History) → NamesOnce configs → FullLegal configs h → SentOnce (marked configs h)
+pub sent_once : (configs : List Configuration) (h : History) → NamesOnce configs → Legal configs h → SentOnce (marked configs h)
 sent_once configs h once legal =
     (legal_induction configs SentOnce once (λ x b. once_first configs x.moment x.event x.answer b) (λ m now event answer e c s. once_next configs m now event answer e c s) h legal).1
 
 -- and what is sent was put, was sent nowhere and has not ended
-pub send_put : (configs : List Configuration) (m : Past) (now p q : ℕ) (channel : Option ℕ) (key : List ℕ) → full_next_at configs m now Act ≡ gives (told.Send p q channel key)
+pub send_put : (configs : List Configuration) (m : Past) (now p q : ℕ) (channel : Option ℕ) (key : List ℕ) → next_at configs m now Act ≡ gives (told.Send p q channel key)
     → IsDueSend configs m p q channel key
 send_put configs m now p q channel key e = next_send configs m p q channel key (next_acts configs m now (told.Send p q channel key) e)
 
@@ -175,7 +176,7 @@ put_with_key : (e c : ℕ) (key : List ℕ) (o : Option Put) → is_put_for e c 
 put_with_key e c key None t same = absurd (cc)
 put_with_key e c key (Some p) t same = ap₂ (λ (a b : Bool). a && b) t (ap (bytes_eq p.key) (sym same) ∙ bytes_itself p.key)
 
-send_so : (configs : List Configuration) (m : Past) (now p q : ℕ) (channel : Option ℕ) (key : List ℕ) → full_next_at configs m now Act ≡ gives (told.Send p q channel key)
+send_so : (configs : List Configuration) (m : Past) (now p q : ℕ) (channel : Option ℕ) (key : List ℕ) → next_at configs m now Act ≡ gives (told.Send p q channel key)
     → IsSentSo configs m (record { proc = p; question = q; channel = channel; text = key })
 send_so configs m now p q channel key e =
     let d = send_put configs m now p q channel key e in
@@ -193,7 +194,7 @@ send_so configs m now p q channel key e =
     }
 
 -- each send is of a question that was put for the process's class, with the key that is sent
-pub sent_so : (configs : List Configuration) (m : Past) (now : ℕ) (event : Event) (answer : Told) → full_next_at configs m now event ≡ gives answer → SentSo configs m (sending_of event answer)
+pub sent_so : (configs : List Configuration) (m : Past) (now : ℕ) (event : Event) (answer : Told) → next_at configs m now event ≡ gives answer → SentSo configs m (sending_of event answer)
 sent_so configs m now Act (told.Send p q channel key) e = send_so configs m now p q channel key e
 sent_so configs m now Act answer e = tt
 sent_so configs m now event answer e = tt

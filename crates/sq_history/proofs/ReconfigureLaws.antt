@@ -3,17 +3,17 @@ use Rattle.std.proofs.Common.{◌≡◌, ℕ, suc, ◌-◌, min, List, [], ◌�
 use Rattle.std.specs.Option.{option_map_or}
 use Rattle.std.proofs.lemmas.Bool.{and_left}
 use Rattle.std.proofs.lemmas.Bool.Decides.{nat_tests}
-use Rattle.sq_rules.specs.declared.entries.Event.TheVariants.{Reconfigure}
-use Rattle.sq_rules.specs.declared.entries.Told.{Told}
+use Rattle.sq_machine.specs.declared.entries.Event.TheVariants.{Reconfigure}
+use Rattle.sq_machine.specs.declared.entries.Told.{Told}
 use Rattle.sq_rules.specs.Classes.{Class}
 use Rattle.sq_rules.specs.Configurations.{Configuration}
-use Rattle.sq_rules.specs.Epochs.{class_at}
-use Rattle.sq_rules.specs.FarmReadings.{farm_with, is_put_for, is_queued, living_of, waiting_of}
-use Rattle.sq_rules.specs.KeptReadings.{alike_place, kept}
-use Rattle.sq_rules.specs.Marks.{Past, entries}
-use Rattle.sq_rules.specs.Processes.{is_at_home, is_running, proc_count, runs_at, settled_starts}
-use Rattle.sq_rules.specs.Questions.{has_ended, put_count, put_of, sent_to}
-use Rattle.sq_rules.specs.Readings.{current}
+use Rattle.sq_machine.specs.Epochs.{class_at}
+use Rattle.sq_machine.specs.FarmReadings.{farm_with, is_put_for, is_queued, living_of, waiting_of}
+use Rattle.sq_machine.specs.KeptReadings.{alike_place, kept}
+use Rattle.sq_machine.specs.Marks.{Past, entries}
+use Rattle.sq_machine.specs.Processes.{is_at_home, is_running, proc_count, runs_at, settled_starts}
+use Rattle.sq_machine.specs.Questions.{has_ended, put_count, put_of, sent_to}
+use Rattle.sq_machine.specs.Readings.{current}
 use Rattle.sq_rows.specs.ClassRows.{ClassRow, class_row, is_asked, lookup_of, new_row}
 use Rattle.sq_history.specs.Carried.{IsUnused}
 use Rattle.sq_history.specs.MarkedEntries.{noted_at}

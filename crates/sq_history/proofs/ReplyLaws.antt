@@ -5,24 +5,24 @@ use Rattle.sq_base.proofs.CommonLaws.{eq_turned}
 use Rattle.sq_base.specs.Replies.{reply_of}
 use Rattle.sq_base.specs.declared.helpers.What.{What}
 use Rattle.sq_base.specs.declared.helpers.Word.{Word}
-use Rattle.sq_rules.specs.declared.entries.Event.TheVariants.{Line}
-use Rattle.sq_rules.specs.declared.entries.Told.{Told}
-use Rattle.sq_rules.specs.declared.entries.Told.TheVariants as told
-use Rattle.sq_rules.specs.Channels.{channel_name, freed, settled}
+use Rattle.sq_machine.specs.declared.entries.Event.TheVariants.{Line}
+use Rattle.sq_machine.specs.declared.entries.Told.{Told}
+use Rattle.sq_machine.specs.declared.entries.Told.TheVariants as told
+use Rattle.sq_machine.specs.Channels.{channel_name, freed, settled}
 use Rattle.sq_rules.specs.Classes.{Class}
 use Rattle.sq_rules.specs.Configurations.{Configuration}
-use Rattle.sq_rules.specs.Epochs.{class_at}
-use Rattle.sq_rules.specs.Events.{is_number}
-use Rattle.sq_rules.specs.FarmReadings.{farm_with, is_held, is_put_for, is_queued, living_of, waiting_of}
-use Rattle.sq_rules.specs.KeptLists.{KeptList}
-use Rattle.sq_rules.specs.KeptReadings.{keep_reply, kept, key_here}
-use Rattle.sq_rules.specs.Living.{settled_row}
-use Rattle.sq_rules.specs.Marks.{Marked, Past, Put, entries}
-use Rattle.sq_rules.specs.Numbered.{below}
-use Rattle.sq_rules.specs.OpenLookups.{LookupRow}
-use Rattle.sq_rules.specs.Processes.{if_here, is_at_home, is_running, proc_count, runs_at}
-use Rattle.sq_rules.specs.Questions.{first_end, has_ended, put_count, put_of, question_end, said_by, sent_to}
-use Rattle.sq_rules.specs.Transcripts.{after_use, clears, holder, keeps, stands_on}
+use Rattle.sq_machine.specs.Epochs.{class_at}
+use Rattle.sq_machine.specs.Events.{is_number}
+use Rattle.sq_machine.specs.FarmReadings.{farm_with, is_held, is_put_for, is_queued, living_of, waiting_of}
+use Rattle.sq_machine.specs.KeptLists.{KeptList}
+use Rattle.sq_machine.specs.KeptReadings.{keep_reply, kept, key_here}
+use Rattle.sq_machine.specs.Living.{settled_row}
+use Rattle.sq_machine.specs.Marks.{Marked, Past, Put, entries}
+use Rattle.sq_machine.specs.Numbered.{below}
+use Rattle.sq_machine.specs.OpenLookups.{LookupRow}
+use Rattle.sq_machine.specs.Processes.{if_here, is_at_home, is_running, proc_count, runs_at}
+use Rattle.sq_machine.specs.Questions.{first_end, has_ended, put_count, put_of, question_end, said_by, sent_to}
+use Rattle.sq_machine.specs.Transcripts.{after_use, clears, holder, keeps, stands_on}
 use Rattle.sq_rows.specs.ClassRows.{after_reply, class_row, is_asked, lookup_of}
 use Rattle.sq_history.specs.MarkedEntries.{noted_at}
 use Rattle.sq_history.proofs.ClassParts.{and_true, equal}

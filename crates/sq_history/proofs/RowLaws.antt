@@ -7,7 +7,7 @@ use Rattle.std.proofs.lemmas.Bool.Decides.{nat_tests}
 use Rattle.std.proofs.lemmas.List.{map-append}
 use Rattle.std.proofs.lemmas.List.Elements.{filter-append}
 use Rattle.std.proofs.lemmas.List.Folds.{find-append}
-use Rattle.sq_rules.specs.Numbered.{picks, rows}
+use Rattle.sq_machine.specs.Numbered.{picks, rows}
 
 -- tests that agree on the numbers up to n pick the same of them
 pub picks_same : (p p' : ℕ → Bool) (n : ℕ) → ((k : ℕ) → 1 ≤ k → k ≤ n → p' k ≡ p k) → picks p' n ≡ picks p n

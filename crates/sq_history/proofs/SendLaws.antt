@@ -6,20 +6,20 @@ use Rattle.std.proofs.lemmas.Bool.Decides.{nat_tests}
 use Rattle.std.proofs.lemmas.List.{length-map, same_lists}
 use Rattle.std.proofs.lemmas.Option.{get_or_from_slice_get, none-some, same_Some, slice_get-map}
 use Rattle.sq_base.proofs.CommonLaws.{eq_turned}
-use Rattle.sq_rules.specs.declared.entries.Event.TheVariants.{Act}
-use Rattle.sq_rules.specs.declared.entries.Told.TheVariants as told
-use Rattle.sq_rules.specs.Channels.{asked, channel_name, free_count, least_free}
+use Rattle.sq_machine.specs.declared.entries.Event.TheVariants.{Act}
+use Rattle.sq_machine.specs.declared.entries.Told.TheVariants as told
+use Rattle.sq_machine.specs.Channels.{asked, channel_name, free_count, least_free}
 use Rattle.sq_rules.specs.Classes.{Class}
 use Rattle.sq_rules.specs.Configurations.{Configuration}
-use Rattle.sq_rules.specs.FarmReadings.{farm_with, is_put_for, is_queued, living_of, waiting_of}
-use Rattle.sq_rules.specs.Farms.{Sending, Stock, Waiting, after_send_by, send_by, send_of, waiting_number}
-use Rattle.sq_rules.specs.Living.{Living, asked_row, has_free, sent, some_free, target}
-use Rattle.sq_rules.specs.Marks.{Marked, Past, entries}
-use Rattle.sq_rules.specs.Numbered.{below, picks, rows}
-use Rattle.sq_rules.specs.Processes.{if_here, is_at_home, proc_count, runs_at}
-use Rattle.sq_rules.specs.Questions.{has_ended, put_count, put_of, sent_to}
-use Rattle.sq_rules.specs.Rising.{AreAbove, AreBelow, Rises}
-use Rattle.sq_rules.specs.Transcripts.{after_use, holder, keeps, puts, same_channel}
+use Rattle.sq_machine.specs.FarmReadings.{farm_with, is_put_for, is_queued, living_of, waiting_of}
+use Rattle.sq_machine.specs.Farms.{Sending, Stock, Waiting, after_send_by, send_by, send_of, waiting_number}
+use Rattle.sq_machine.specs.Living.{Living, asked_row, has_free, sent, some_free, target}
+use Rattle.sq_machine.specs.Marks.{Marked, Past, entries}
+use Rattle.sq_machine.specs.Numbered.{below, picks, rows}
+use Rattle.sq_machine.specs.Processes.{if_here, is_at_home, proc_count, runs_at}
+use Rattle.sq_machine.specs.Questions.{has_ended, put_count, put_of, sent_to}
+use Rattle.sq_machine.specs.Rising.{AreAbove, AreBelow, Rises}
+use Rattle.sq_machine.specs.Transcripts.{after_use, holder, keeps, puts, same_channel}
 use Rattle.sq_rows.specs.ClassRows.{after_sending, class_row}
 use Rattle.sq_history.specs.MarkedEntries.{noted_at}
 use Rattle.sq_history.proofs.ClassParts.{and_true, below_picks, equal, itself}

@@ -7,22 +7,22 @@ use Rattle.sq_base.specs.declared.helpers.Cause.{Cause}
 use Rattle.sq_base.specs.declared.helpers.Cause.TheVariants as cause
 use Rattle.sq_base.specs.declared.helpers.What.{What}
 use Rattle.sq_base.specs.declared.helpers.What.TheVariants as what
-use Rattle.sq_rules.specs.declared.entries.Event.{Event}
-use Rattle.sq_rules.specs.declared.entries.Event.TheVariants.{Begin, Step, Line, Died, StartFail}
-use Rattle.sq_rules.specs.declared.entries.Told.{Told}
-use Rattle.sq_rules.specs.declared.entries.Told.TheVariants as told
-use Rattle.sq_rules.specs.AnswerReadings.{answer_at, answer_by, answers, ended_answer, steps, waits_for}
-use Rattle.sq_rules.specs.Checks.{ask_count}
+use Rattle.sq_machine.specs.declared.entries.Event.{Event}
+use Rattle.sq_machine.specs.declared.entries.Event.TheVariants.{Begin, Step, Line, Died, StartFail}
+use Rattle.sq_machine.specs.declared.entries.Told.{Told}
+use Rattle.sq_machine.specs.declared.entries.Told.TheVariants as told
+use Rattle.sq_machine.specs.AnswerReadings.{answer_at, answer_by, answers, ended_answer, steps, waits_for}
+use Rattle.sq_machine.specs.Checks.{ask_count}
 use Rattle.sq_rules.specs.Configurations.{Configuration}
-use Rattle.sq_rules.specs.Entries.{History}
-use Rattle.sq_rules.specs.Events.{is_number}
-use Rattle.sq_rules.specs.FullNext.{FullLegal, full_next_at}
-use Rattle.sq_rules.specs.KeptLists.{is_fault}
-use Rattle.sq_rules.specs.Machine.{gives, is_begin}
-use Rattle.sq_rules.specs.Marking.{mark, marked}
-use Rattle.sq_rules.specs.Marks.{Marked, Past, Put, entries}
-use Rattle.sq_rules.specs.Processes.{if_here}
-use Rattle.sq_rules.specs.Questions.{end_at, put_count, put_is, put_of, said_by, sent_to}
+use Rattle.sq_machine.specs.Entries.{History}
+use Rattle.sq_machine.specs.Events.{is_number, is_begin}
+use Rattle.sq_machine.specs.Machine.{Legal, next_at}
+use Rattle.sq_machine.specs.KeptLists.{is_fault}
+use Rattle.sq_machine.specs.Next.{gives}
+use Rattle.sq_machine.specs.Marking.{mark, marked}
+use Rattle.sq_machine.specs.Marks.{Marked, Past, Put, entries}
+use Rattle.sq_machine.specs.Processes.{if_here}
+use Rattle.sq_machine.specs.Questions.{end_at, put_count, put_is, put_of, said_by, sent_to}
 use Rattle.sq_history.specs.Carried.{Carried, NamesOnce}
 use Rattle.sq_history.specs.Given.{EachOf, Gives, IsSound, TakesEnd, TakesFault, TakesFresh}
 use Rattle.sq_history.specs.Waits.{NeedsPut}
@@ -49,7 +49,7 @@ reply_here false b o w e = absurd (none-some w e)
 
 -- what ends a question is a fault, or is given there
 ended_source : (configs : List Configuration) (m : Past) (now : ℕ) (event : Event) (answer : Told) (q : ℕ) (w : What) (e c : ℕ) (key : List ℕ) → NamesOnce configs
-    → full_next_at configs m now event ≡ gives answer → Carried configs m → put_is e c key (put_of m q) ≡ true → end_at configs m q event answer ≡ Some w
+    → next_at configs m now event ≡ gives answer → Carried configs m → put_is e c key (put_of m q) ≡ true → end_at configs m q event answer ≡ Some w
     → (is_fault w ≡ true) ⊎ Gives configs m (mark configs m (record { moment = now; event = event; answer = answer })) e c (record { key = key; what = w; question = q; date = now })
 ended_source configs m now (Line k bytes) (told.Reply r v) q w e c key once is carried put ends =
     let h = reply_here (q == r) (nat_le q (put_count m)) (said_by configs m k bytes) w ends in
@@ -75,7 +75,7 @@ ended_source configs m now (StartFail f name) answer q w e c key once is carried
 ended_source configs m now event answer q w e c key once is carried put ends = absurd (none-some w ends)
 
 -- what a check that waits is given
-ended_sound : (configs : List Configuration) (m : Past) (now : ℕ) (event : Event) (answer : Told) (n : ℕ) → NamesOnce configs → full_next_at configs m now event ≡ gives answer
+ended_sound : (configs : List Configuration) (m : Past) (now : ℕ) (event : Event) (answer : Told) (n : ℕ) → NamesOnce configs → next_at configs m now event ≡ gives answer
     → Carried configs m → WaitsNeeded configs m → (o : Option ℕ) → waits_for configs m n ≡ o
     → EachOf (IsSound configs (mark configs m (record { moment = now; event = event; answer = answer }) ∷ m) n) (option_to_list (ended_answer configs m o now event answer))
 ended_sound configs m now event answer n once is c w None waits = tt
@@ -126,7 +126,7 @@ taken_sound configs m now (Step k) answer n here g (Some a) is = (inl (by (step_
     by (inr t) = inr (inl (subst (λ (i : ℕ). TakesFault configs m x i a) (sym same) t))
 taken_sound configs m now event answer n here g (Some a) is = absurd (let no : false ≡ true = here in cc)
 
-new_sound : (configs : List Configuration) (m : Past) (now : ℕ) (event : Event) (answer : Told) (n : ℕ) → NamesOnce configs → full_next_at configs m now event ≡ gives answer
+new_sound : (configs : List Configuration) (m : Past) (now : ℕ) (event : Event) (answer : Told) (n : ℕ) → NamesOnce configs → next_at configs m now event ≡ gives answer
     → Carried configs m → SoundPast configs m
     → EachOf (IsSound configs (mark configs m (record { moment = now; event = event; answer = answer }) ∷ m) n)
     (option_to_list (answer_at configs m n (mark configs m (record { moment = now; event = event; answer = answer }))))
@@ -140,7 +140,7 @@ new_sound configs m now event answer n once is c s = by (steps m n event) refl
     by true here = taken_sound configs m now event answer n here s.kept_given x.took refl
     by false other = ended_sound configs m now event answer n once is c s.waits (waits_for configs m n) refl
 
-sound_next : (configs : List Configuration) (m : Past) (now : ℕ) (event : Event) (answer : Told) → NamesOnce configs → full_next_at configs m now event ≡ gives answer → Carried configs m
+sound_next : (configs : List Configuration) (m : Past) (now : ℕ) (event : Event) (answer : Told) → NamesOnce configs → next_at configs m now event ≡ gives answer → Carried configs m
     → SoundPast configs m → SoundPast configs (mark configs m (record { moment = now; event = event; answer = answer }) ∷ m)
 sound_next configs m now event answer once is c s =
     let x = mark configs m (record { moment = now; event = event; answer = answer }) in
@@ -160,7 +160,7 @@ sound_first configs now (Begin offset) answer b = record {
 sound_first configs now event answer b = absurd (cc)
 
 -- each answer of each check of a legal history is sound
-pub answers_sound : (configs : List Configuration) (h : History) → NamesOnce configs → FullLegal configs h → SoundPast configs (marked configs h)
+pub answers_sound : (configs : List Configuration) (h : History) → NamesOnce configs → Legal configs h → SoundPast configs (marked configs h)
 answers_sound configs h once legal =
     (legal_induction configs (SoundPast configs) once (λ x b. sound_first configs x.moment x.event x.answer b)
     (λ m now event answer is c s. sound_next configs m now event answer once is c s) h legal).1

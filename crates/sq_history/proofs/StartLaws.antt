@@ -2,19 +2,19 @@
 use Rattle.std.proofs.Common.{◌≡◌, ℕ, suc, ◌≤◌, ◌-◌, min, List, [], ◌∷◌, ◌++◌, Bool, true, false, not, ◌&&◌, ◌==◌, nat_lt, max, bytes_eq, if◌then◌else◌, Option, Some, None, is_some, refl, sym, ap, ap₂, ◌∙◌, arith}
 use Rattle.std.specs.Option.{option_map_or, option_or}
 use Rattle.sq_base.specs.declared.helpers.Cause.{Cause}
-use Rattle.sq_rules.specs.declared.entries.Event.TheVariants.{Started, Act}
-use Rattle.sq_rules.specs.declared.entries.Told.{Told}
-use Rattle.sq_rules.specs.declared.entries.Told.TheVariants as told
-use Rattle.sq_rules.specs.Channels.{channel_name}
+use Rattle.sq_machine.specs.declared.entries.Event.TheVariants.{Started, Act}
+use Rattle.sq_machine.specs.declared.entries.Told.{Told}
+use Rattle.sq_machine.specs.declared.entries.Told.TheVariants as told
+use Rattle.sq_machine.specs.Channels.{channel_name}
 use Rattle.sq_rules.specs.Classes.{Class}
 use Rattle.sq_rules.specs.Configurations.{Configuration}
-use Rattle.sq_rules.specs.Entries.{History}
-use Rattle.sq_rules.specs.FarmReadings.{farm_with, living_of}
-use Rattle.sq_rules.specs.Farms.{fresh, start_due}
-use Rattle.sq_rules.specs.Living.{Living}
-use Rattle.sq_rules.specs.Marks.{Marked, Past, entries}
-use Rattle.sq_rules.specs.Processes.{Home, home_of, proc_count, proc_end, runs_at, settled_starts, start_count}
-use Rattle.sq_rules.specs.Transcripts.{holder}
+use Rattle.sq_machine.specs.Entries.{History}
+use Rattle.sq_machine.specs.FarmReadings.{farm_with, living_of}
+use Rattle.sq_machine.specs.Farms.{fresh, start_due}
+use Rattle.sq_machine.specs.Living.{Living}
+use Rattle.sq_machine.specs.Marks.{Marked, Past, entries}
+use Rattle.sq_machine.specs.Processes.{Home, home_of, proc_count, proc_end, runs_at, settled_starts, start_count}
+use Rattle.sq_machine.specs.Transcripts.{holder}
 use Rattle.sq_rows.specs.ClassRows.{ClassRow, after_started, after_starting, class_row}
 use Rattle.sq_history.specs.MarkedEntries.{noted_at}
 use Rattle.sq_history.proofs.ClassParts.{and_true, bytes_itself, itself, none_slots, not_next, with_last}

@@ -7,27 +7,27 @@ use Rattle.std.proofs.lemmas.Bool.Decides.{nat_tests}
 use Rattle.std.proofs.lemmas.Option.{none-some, same_Some}
 use Rattle.sq_base.specs.declared.helpers.Answer.{Answer}
 use Rattle.sq_base.specs.declared.helpers.What.{What}
-use Rattle.sq_rules.specs.declared.entries.Event.{Event}
-use Rattle.sq_rules.specs.declared.entries.Event.TheVariants.{Step, Line, Reconfigure}
-use Rattle.sq_rules.specs.declared.entries.Told.{Told}
-use Rattle.sq_rules.specs.declared.entries.Told.TheVariants as told
-use Rattle.sq_rules.specs.declared.kept.KeptVerdict.{KeptVerdict}
-use Rattle.sq_rules.specs.Checks.{ask_of}
+use Rattle.sq_machine.specs.declared.entries.Event.{Event}
+use Rattle.sq_machine.specs.declared.entries.Event.TheVariants.{Step, Line, Reconfigure}
+use Rattle.sq_machine.specs.declared.entries.Told.{Told}
+use Rattle.sq_machine.specs.declared.entries.Told.TheVariants as told
+use Rattle.sq_machine.specs.declared.kept.KeptVerdict.{KeptVerdict}
+use Rattle.sq_machine.specs.Checks.{ask_of}
 use Rattle.sq_rules.specs.Classes.{Class}
 use Rattle.sq_rules.specs.Configurations.{Configuration}
-use Rattle.sq_rules.specs.Entries.{Noted}
-use Rattle.sq_rules.specs.Epochs.{class_at}
-use Rattle.sq_rules.specs.Freshness.{ttl_of}
-use Rattle.sq_rules.specs.FullNext.{full_next_at}
-use Rattle.sq_rules.specs.KeptLists.{KeptList, is_fault, keep, kept_without, same_key, to_front, verdict_of}
-use Rattle.sq_rules.specs.KeptReadings.{after_took, alike_place, keep_reply, keep_what, kept, key_here}
-use Rattle.sq_rules.specs.Machine.{gives}
-use Rattle.sq_rules.specs.Marking.{mark}
-use Rattle.sq_rules.specs.Marks.{Marked, Past, Put, entries}
-use Rattle.sq_rules.specs.Processes.{if_here}
-use Rattle.sq_rules.specs.Questions.{QuestionEnd, end_at, first_end, has_ended, put_count, put_is, put_of, question_end, said_by}
-use Rattle.sq_rules.specs.Readings.{current}
-use Rattle.sq_rules.specs.StepRule.{step_says}
+use Rattle.sq_machine.specs.Entries.{Noted}
+use Rattle.sq_machine.specs.Epochs.{class_at}
+use Rattle.sq_machine.specs.Freshness.{ttl_of}
+use Rattle.sq_machine.specs.Machine.{next_at}
+use Rattle.sq_machine.specs.KeptLists.{KeptList, is_fault, keep, kept_without, same_key, to_front, verdict_of}
+use Rattle.sq_machine.specs.KeptReadings.{after_took, alike_place, keep_reply, keep_what, kept, key_here}
+use Rattle.sq_machine.specs.Next.{gives}
+use Rattle.sq_machine.specs.Marking.{mark}
+use Rattle.sq_machine.specs.Marks.{Marked, Past, Put, entries}
+use Rattle.sq_machine.specs.Processes.{if_here}
+use Rattle.sq_machine.specs.Questions.{QuestionEnd, end_at, first_end, has_ended, put_count, put_is, put_of, question_end, said_by}
+use Rattle.sq_machine.specs.Readings.{current}
+use Rattle.sq_machine.specs.StepRule.{step_says}
 use Rattle.sq_history.specs.Carried.{Carried, NamesOnce}
 use Rattle.sq_history.proofs.ClassParts.{bytes_same, equal, itself, not_next}
 use Rattle.sq_history.proofs.GivenLaws.{key_put_is}
@@ -194,7 +194,7 @@ line_stays configs m k bytes r e c key q w one put live none says alive z here =
 
 -- so it is after each entry whose answer is the next, and that does not end the question
 pub kept_stays : (configs : List Configuration) (m : Past) (now : ℕ) (event : Event) (answer : Told) (e c : ℕ) (key : List ℕ) (q : ℕ) → NamesOnce configs
-    → full_next_at configs m now event ≡ gives answer → Carried configs m → OneOpen configs m → put_is e c key (put_of m q) ≡ true
+    → next_at configs m now event ≡ gives answer → Carried configs m → OneOpen configs m → put_is e c key (put_of m q) ≡ true
     → has_ended configs (mark configs m (record { moment = now; event = event; answer = answer }) ∷ m) q ≡ false
     → KeyStays key (kept configs m e c) (kept configs (mark configs m (record { moment = now; event = event; answer = answer }) ∷ m) e c)
 kept_stays configs m now (Step n) answer e c key q once is carried one put live =

@@ -2,23 +2,23 @@
 use Rattle.std.proofs.Common.{◌≡◌, ℕ, suc, ◌≤◌, List, [], ◌∷◌, ◌++◌, Bool, true, false, not, ◌&&◌, ◌||◌, ◌==◌, if◌then◌else◌, Option, Some, None, is_some, refl, ap, ap₂, ◌∙◌, arith}
 use Rattle.std.specs.Option.{option_map_or, option_or}
 use Rattle.sq_base.specs.declared.helpers.Answer.{Answer}
-use Rattle.sq_rules.specs.declared.entries.Event.{Event}
-use Rattle.sq_rules.specs.declared.entries.Event.TheVariants.{Step, Started, StartFail, Line, Died, Act, Reconfigure}
-use Rattle.sq_rules.specs.declared.entries.Told.{Told}
-use Rattle.sq_rules.specs.declared.entries.Told.TheVariants as told
-use Rattle.sq_rules.specs.Checks.{ask_of}
+use Rattle.sq_machine.specs.declared.entries.Event.{Event}
+use Rattle.sq_machine.specs.declared.entries.Event.TheVariants.{Step, Started, StartFail, Line, Died, Act, Reconfigure}
+use Rattle.sq_machine.specs.declared.entries.Told.{Told}
+use Rattle.sq_machine.specs.declared.entries.Told.TheVariants as told
+use Rattle.sq_machine.specs.Checks.{ask_of}
 use Rattle.sq_rules.specs.Classes.{Class}
 use Rattle.sq_rules.specs.Configurations.{Configuration}
-use Rattle.sq_rules.specs.Entries.{Noted}
-use Rattle.sq_rules.specs.FarmReadings.{farm_with, is_held, is_put_for, is_queued, waiting_of}
-use Rattle.sq_rules.specs.Farms.{Waiting}
-use Rattle.sq_rules.specs.KeptLists.{KeptList, is_fault, to_front}
-use Rattle.sq_rules.specs.KeptReadings.{after_took, kept}
-use Rattle.sq_rules.specs.Marks.{Marked, Past, Put, entries}
-use Rattle.sq_rules.specs.Numbered.{rows}
-use Rattle.sq_rules.specs.OpenLookups.{LookupRow}
-use Rattle.sq_rules.specs.Questions.{QuestionEnd, has_ended, put_count, put_of, sent_to}
-use Rattle.sq_rules.specs.StepRule.{StepSays}
+use Rattle.sq_machine.specs.Entries.{Noted}
+use Rattle.sq_machine.specs.FarmReadings.{farm_with, is_held, is_put_for, is_queued, waiting_of}
+use Rattle.sq_machine.specs.Farms.{Waiting}
+use Rattle.sq_machine.specs.KeptLists.{KeptList, is_fault, to_front}
+use Rattle.sq_machine.specs.KeptReadings.{after_took, kept}
+use Rattle.sq_machine.specs.Marks.{Marked, Past, Put, entries}
+use Rattle.sq_machine.specs.Numbered.{rows}
+use Rattle.sq_machine.specs.OpenLookups.{LookupRow}
+use Rattle.sq_machine.specs.Questions.{QuestionEnd, has_ended, put_count, put_of, sent_to}
+use Rattle.sq_machine.specs.StepRule.{StepSays}
 use Rattle.sq_rows.specs.ClassRows.{ClassRow, class_row, is_asked, key_put, lookup_of, lookups, with_question}
 use Rattle.sq_rows.specs.StepRows.{after_says}
 use Rattle.sq_history.specs.ClassChanges.{after_said, is_farm_act, touches_classes}

@@ -6,23 +6,23 @@ use Rattle.std.proofs.lemmas.Bool.{and_left, and_parts, and_right}
 use Rattle.std.proofs.lemmas.Bool.Decides.{nat_tests}
 use Rattle.std.proofs.lemmas.List.Folds.{list_any-append}
 use Rattle.sq_base.specs.declared.helpers.Cause.{Cause}
-use Rattle.sq_rules.specs.declared.entries.Event.{Event}
-use Rattle.sq_rules.specs.declared.entries.Event.TheVariants.{Begin, Started, Act}
-use Rattle.sq_rules.specs.declared.entries.Told.{Told}
-use Rattle.sq_rules.specs.declared.entries.Told.TheVariants as told
-use Rattle.sq_rules.specs.Checks.{Asked, ask_count, ask_of, check_open, conn_of, ends_check, numbered}
+use Rattle.sq_machine.specs.declared.entries.Event.{Event}
+use Rattle.sq_machine.specs.declared.entries.Event.TheVariants.{Begin, Started, Act}
+use Rattle.sq_machine.specs.declared.entries.Told.{Told}
+use Rattle.sq_machine.specs.declared.entries.Told.TheVariants as told
+use Rattle.sq_machine.specs.Checks.{Asked, ask_count, ask_of, check_open, conn_of, ends_check, numbered}
 use Rattle.sq_rules.specs.Configurations.{Configuration}
-use Rattle.sq_rules.specs.Entries.{History, Noted}
-use Rattle.sq_rules.specs.Epochs.{has_open_check, is_check_of, is_live}
-use Rattle.sq_rules.specs.Events.{Asking, asking, begins_epoch}
-use Rattle.sq_rules.specs.FullNext.{FullLegal, full_next_at}
-use Rattle.sq_rules.specs.Machine.{gives, is_begin}
-use Rattle.sq_rules.specs.Marking.{marked}
-use Rattle.sq_rules.specs.Marks.{Past, entries}
-use Rattle.sq_rules.specs.Numbered.{picks}
-use Rattle.sq_rules.specs.Processes.{Home, ended_by, home_of, is_at_home, is_stopped, lives_on, proc_count, proc_end, started_by, stop_due, stops}
-use Rattle.sq_rules.specs.Readings.{current, epoch_after}
-use Rattle.sq_rules.proofs.CheckLaws.{ask_of_begun, ask_of_kept, check_open_kept, open_born}
+use Rattle.sq_machine.specs.Entries.{History, Noted}
+use Rattle.sq_machine.specs.Epochs.{has_open_check, is_check_of, is_live}
+use Rattle.sq_machine.specs.Events.{Asking, asking, begins_epoch, is_begin}
+use Rattle.sq_machine.specs.Machine.{Legal, next_at}
+use Rattle.sq_machine.specs.Next.{gives}
+use Rattle.sq_machine.specs.Marking.{marked}
+use Rattle.sq_machine.specs.Marks.{Past, entries}
+use Rattle.sq_machine.specs.Numbered.{picks}
+use Rattle.sq_machine.specs.Processes.{Home, ended_by, home_of, is_at_home, is_stopped, lives_on, proc_count, proc_end, started_by, stop_due, stops}
+use Rattle.sq_machine.specs.Readings.{current, epoch_after}
+use Rattle.sq_machine.proofs.CheckLaws.{ask_of_begun, ask_of_kept, check_open_kept, open_born}
 use Rattle.sq_history.specs.Carried.{Carried, NamesOnce}
 use Rattle.sq_history.proofs.ClassParts.{bytes_itself, equal, itself}
 use Rattle.sq_history.proofs.NumberLaws.{above_before, open_positive}
@@ -191,7 +191,7 @@ started_next configs m now f name answer c n = record { goes_on = λ k t. by k (
     by k true same t = stays k ∙ stopped_above (entries m) k (subst (λ (i : ℕ). proc_count (entries m) < i) (sym (equal k (suc (proc_count (entries m))) same)) (omega arith))
     by k false other t = stays k ∙ n.goes_on k (lived configs m x k (home_of (entries m) k) c refl t)
 
-stops_next : (configs : List Configuration) (m : Past) (now : ℕ) (event : Event) (answer : Told) → full_next_at configs m now event ≡ gives answer → Carried configs m → NotStopped (entries m)
+stops_next : (configs : List Configuration) (m : Past) (now : ℕ) (event : Event) (answer : Told) → next_at configs m now event ≡ gives answer → Carried configs m → NotStopped (entries m)
     → NotStopped (record { moment = now; event = event; answer = answer } ∷ entries m)
 stops_next configs m now (Started f name) answer is c n = started_next configs m now f name answer c n
 stops_next configs m now Act (told.Stop p) is c n = stopped_next configs m now p c (next_stop configs m p (next_acts configs m now (told.Stop p) is)) n
@@ -203,7 +203,7 @@ first_stops now (Begin offset) answer b = record { goes_on = λ k t. absurd (cc)
 first_stops now event answer b = absurd (cc)
 
 -- so it is in every legal history: the stop of a process is due as soon as it ends by a line or its epoch ends
-pub legal_stops : (configs : List Configuration) (h : History) → NamesOnce configs → FullLegal configs h → NotStopped (entries (marked configs h))
+pub legal_stops : (configs : List Configuration) (h : History) → NamesOnce configs → Legal configs h → NotStopped (entries (marked configs h))
 legal_stops configs h once legal =
     (legal_induction configs (λ m. NotStopped (entries m)) once (λ x b. first_stops x.moment x.event x.answer b)
     (λ m now event answer is c n. stops_next configs m now event answer is c n) h legal).1

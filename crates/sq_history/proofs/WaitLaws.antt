@@ -7,31 +7,31 @@ use Rattle.std.proofs.lemmas.Option.{none-some, same_Some}
 use Rattle.sq_base.specs.declared.helpers.Answer.{Answer}
 use Rattle.sq_base.specs.declared.helpers.Cause.TheVariants as cause
 use Rattle.sq_base.specs.declared.helpers.What.{What}
-use Rattle.sq_rules.specs.declared.entries.Event.{Event}
-use Rattle.sq_rules.specs.declared.entries.Event.TheVariants.{Begin, Step}
-use Rattle.sq_rules.specs.declared.entries.Told.{Told}
-use Rattle.sq_rules.specs.declared.entries.Told.TheVariants as told
-use Rattle.sq_rules.specs.declared.kept.KeptVerdict.{KeptVerdict}
-use Rattle.sq_rules.specs.AnswerReadings.{answer_by, answers, ended_answer, last_wait, steps, waits_for, waits_told}
-use Rattle.sq_rules.specs.Checks.{ask_count, ask_of, numbered}
+use Rattle.sq_machine.specs.declared.entries.Event.{Event}
+use Rattle.sq_machine.specs.declared.entries.Event.TheVariants.{Begin, Step}
+use Rattle.sq_machine.specs.declared.entries.Told.{Told}
+use Rattle.sq_machine.specs.declared.entries.Told.TheVariants as told
+use Rattle.sq_machine.specs.declared.kept.KeptVerdict.{KeptVerdict}
+use Rattle.sq_machine.specs.AnswerReadings.{answer_by, answers, ended_answer, last_wait, steps, waits_for, waits_told}
+use Rattle.sq_machine.specs.Checks.{ask_count, ask_of, numbered}
 use Rattle.sq_rules.specs.Classes.{Class}
 use Rattle.sq_rules.specs.Configurations.{Configuration}
-use Rattle.sq_rules.specs.Entries.{History}
-use Rattle.sq_rules.specs.Events.{Asking, asking}
-use Rattle.sq_rules.specs.FarmReadings.{farm_with}
-use Rattle.sq_rules.specs.Farms.{full}
-use Rattle.sq_rules.specs.Freshness.{is_fresh, ttl_of}
-use Rattle.sq_rules.specs.FullNext.{FullLegal, full_next_at}
-use Rattle.sq_rules.specs.KeptLists.{fresh_for, if_fresh, verdict_of}
-use Rattle.sq_rules.specs.KeptReadings.{after_took, kept}
-use Rattle.sq_rules.specs.Limits.{key_limit}
-use Rattle.sq_rules.specs.Machine.{gives, is_begin}
-use Rattle.sq_rules.specs.Marking.{mark, marked, says_at}
-use Rattle.sq_rules.specs.Marks.{Marked, Past, Put, entries}
-use Rattle.sq_rules.specs.Questions.{end_at, has_ended, last_put, pending, put_count, put_is, put_of, unended}
-use Rattle.sq_rules.specs.Readings.{latest}
-use Rattle.sq_rules.specs.StepRule.{StepSays, says_asked, says_fault, says_fresh, step_says, value_over}
-use Rattle.sq_rules.proofs.CheckLaws.{ask_of_kept}
+use Rattle.sq_machine.specs.Entries.{History}
+use Rattle.sq_machine.specs.Events.{Asking, asking, is_begin}
+use Rattle.sq_machine.specs.FarmReadings.{farm_with}
+use Rattle.sq_machine.specs.Farms.{full}
+use Rattle.sq_machine.specs.Freshness.{is_fresh, ttl_of}
+use Rattle.sq_machine.specs.Machine.{Legal, next_at}
+use Rattle.sq_machine.specs.KeptLists.{fresh_for, if_fresh, verdict_of}
+use Rattle.sq_machine.specs.KeptReadings.{after_took, kept}
+use Rattle.sq_machine.specs.Limits.{key_limit}
+use Rattle.sq_machine.specs.Next.{gives}
+use Rattle.sq_machine.specs.Marking.{mark, marked, says_at}
+use Rattle.sq_machine.specs.Marks.{Marked, Past, Put, entries}
+use Rattle.sq_machine.specs.Questions.{end_at, has_ended, last_put, pending, put_count, put_is, put_of, unended}
+use Rattle.sq_machine.specs.Readings.{latest}
+use Rattle.sq_machine.specs.StepRule.{StepSays, says_asked, says_fault, says_fresh, step_says, value_over}
+use Rattle.sq_machine.proofs.CheckLaws.{ask_of_kept}
 use Rattle.sq_history.specs.Carried.{Carried, NamesOnce}
 use Rattle.sq_history.specs.Waits.{IsNeeded, NeedsPut, NoneLater}
 use Rattle.sq_history.proofs.CheckLaws.{answer_by_none}
@@ -146,7 +146,7 @@ none_fresh class now None e = refl
 none_fresh class now (Some v) e = ap (λ (b : Bool). if b then Some v else None) (e v refl)
 
 -- the check that was stepped
-pub told_needs : (configs : List Configuration) (m : Past) (now n : ℕ) (answer : Told) (q : ℕ) → full_next_at configs m now (Step n) ≡ gives answer → steps m n (Step n) ≡ true
+pub told_needs : (configs : List Configuration) (m : Past) (now n : ℕ) (answer : Told) (q : ℕ) → next_at configs m now (Step n) ≡ gives answer → steps m n (Step n) ≡ true
     → waits_told answer ≡ Some q → NeedsPut configs (mark configs m (record { moment = now; event = Step n; answer = answer }) ∷ m) n q
 unfolding needed_more finds
 told_needs configs m now n answer q is here w = record {
@@ -185,16 +185,16 @@ told_needs configs m now n answer q is here w = record {
         (ap (λ (j : ℕ). j == suc (put_count m)) p.1 ∙ itself (suc (put_count m)))
         ∙ ap₂ (λ (a b : Bool). a && b) (ap₂ (λ (a b : Bool). a && b) (itself f.needed.asked.epoch) (itself f.needed.place)) (bytes_itself f.needed.key)
 
-stepped_needs : (configs : List Configuration) (m : Past) (now : ℕ) (event : Event) (answer : Told) (n q : ℕ) → full_next_at configs m now event ≡ gives answer → steps m n event ≡ true
+stepped_needs : (configs : List Configuration) (m : Past) (now : ℕ) (event : Event) (answer : Told) (n q : ℕ) → next_at configs m now event ≡ gives answer → steps m n event ≡ true
     → waits_told answer ≡ Some q → NeedsPut configs (mark configs m (record { moment = now; event = event; answer = answer }) ∷ m) n q
 stepped_needs configs m now (Step k) answer n q is here w =
     let same = equal n k (and_parts (n == k) (nat_le n (ask_count (entries m))) here).0 in
     subst (λ (i : ℕ). NeedsPut configs (mark configs m (record { moment = now; event = Step i; answer = answer }) ∷ m) n q) same
-    (told_needs configs m now n answer q (ap (λ (i : ℕ). full_next_at configs m now (Step i)) same ∙ is) (ap (λ (i : ℕ). steps m n (Step i)) same ∙ here) w)
+    (told_needs configs m now n answer q (ap (λ (i : ℕ). next_at configs m now (Step i)) same ∙ is) (ap (λ (i : ℕ). steps m n (Step i)) same ∙ here) w)
 stepped_needs configs m now event answer n q is here w = absurd (let no : false ≡ true = here in cc)
 
 -- a check that waited before
-kept_needs : (configs : List Configuration) (m : Past) (now : ℕ) (event : Event) (answer : Told) (n q : ℕ) → NamesOnce configs → full_next_at configs m now event ≡ gives answer → Carried configs m
+kept_needs : (configs : List Configuration) (m : Past) (now : ℕ) (event : Event) (answer : Told) (n q : ℕ) → NamesOnce configs → next_at configs m now event ≡ gives answer → Carried configs m
     → WaitsNeeded configs m → steps m n event ≡ false → last_wait m n ≡ Some q
     → has_ended configs (mark configs m (record { moment = now; event = event; answer = answer }) ∷ m) q ≡ false
     → NeedsPut configs (mark configs m (record { moment = now; event = event; answer = answer }) ∷ m) n q
@@ -234,7 +234,7 @@ kept_needs configs m now event answer n q once is c w other last live = record {
         ∙ ap (λ (o : Option Answer). answers configs m n ++ option_to_list o) (answer_by_none now q (put_of m q)) ∙ append-nil (answers configs m n)
 
 -- an entry whose answer is the next keeps it so
-pub needs_next : (configs : List Configuration) (m : Past) (now : ℕ) (event : Event) (answer : Told) → NamesOnce configs → full_next_at configs m now event ≡ gives answer → Carried configs m
+pub needs_next : (configs : List Configuration) (m : Past) (now : ℕ) (event : Event) (answer : Told) → NamesOnce configs → next_at configs m now event ≡ gives answer → Carried configs m
     → WaitsNeeded configs m → WaitsNeeded configs (mark configs m (record { moment = now; event = event; answer = answer }) ∷ m)
 needs_next configs m now event answer once is c w = record {
   one = one_more configs m (record { moment = now; event = event; answer = answer }) (says_at configs m now event).put (says_at configs m now event).took (mark_new configs m now event) w.one;
@@ -257,7 +257,7 @@ needs_first configs now (Begin offset) answer b = record {
 needs_first configs now event answer b = absurd (cc)
 
 -- in a legal history each check that waits needs the key of the question that it waits for, of which no verdict is kept that will be fresh
-pub waits_needed : (configs : List Configuration) (h : History) → NamesOnce configs → FullLegal configs h → WaitsNeeded configs (marked configs h)
+pub waits_needed : (configs : List Configuration) (h : History) → NamesOnce configs → Legal configs h → WaitsNeeded configs (marked configs h)
 waits_needed configs h once legal =
     (legal_induction configs (WaitsNeeded configs) once (λ x b. needs_first configs x.moment x.event x.answer b)
     (λ m now event answer is c w. needs_next configs m now event answer once is c w) h legal).1
@@ -291,7 +291,7 @@ waiting_by configs m n q now w nl waits =
     pends : pending configs m e d.place d.key ≡ Some q
     pends = ap (unended configs m) (w.one.last_open e d.place d.key q (put_within m e d.place d.key q s.put_is_it) s.put_is_it live) ∙ ap (λ (b : Bool). if b then None else Some q) live
 
-none_later : (configs : List Configuration) (h : History) (now : ℕ) → FullLegal configs h → latest h ≤ now → NoneLater (marked configs h) now
+none_later : (configs : List Configuration) (h : History) (now : ℕ) → Legal configs h → latest h ≤ now → NoneLater (marked configs h) now
 none_later configs [] now legal l = absurd legal
 none_later configs (x ∷ []) now legal l = (l, tt)
 none_later configs (x ∷ f ∷ h) now legal l = (l, none_later configs (f ∷ h) now legal.0 (through f.moment x.moment now legal.3 l))
@@ -300,6 +300,6 @@ none_later configs (x ∷ f ∷ h) now legal l = (l, none_later configs (f ∷ h
     through a b c l h = omega arith
 
 -- in a legal history, a step of a check that waits, at a moment that is none of the past, says to wait for the same question, puts nothing and takes nothing
-pub waiting_says : (configs : List Configuration) (h : History) (n q now : ℕ) → NamesOnce configs → FullLegal configs h → latest h ≤ now → waits_for configs (marked configs h) n ≡ Some q
+pub waiting_says : (configs : List Configuration) (h : History) (n q now : ℕ) → NamesOnce configs → Legal configs h → latest h ≤ now → waits_for configs (marked configs h) n ≡ Some q
     → step_says configs (marked configs h) n now ≡ record { answer = told.Waits q; put = None; took = None }
 waiting_says configs h n q now once legal l waits = waiting_by configs (marked configs h) n q now (waits_needed configs h once legal) (none_later configs h now legal l) waits

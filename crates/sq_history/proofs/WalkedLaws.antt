@@ -12,32 +12,33 @@ use Rattle.sq_base.specs.declared.helpers.What.TheVariants as what
 use Rattle.sq_rules.specs.declared.configs.Acl.{Acl}
 use Rattle.sq_rules.specs.declared.configs.Body.{Body}
 use Rattle.sq_rules.specs.declared.configs.Body.TheVariants as body
-use Rattle.sq_rules.specs.declared.entries.Event.{Event}
-use Rattle.sq_rules.specs.declared.entries.Event.TheVariants.{Ask, Begin, Step}
-use Rattle.sq_rules.specs.declared.entries.Told.{Told}
-use Rattle.sq_rules.specs.declared.entries.Told.TheVariants as told
+use Rattle.sq_machine.specs.declared.entries.Event.{Event}
+use Rattle.sq_machine.specs.declared.entries.Event.TheVariants.{Ask, Begin, Step}
+use Rattle.sq_machine.specs.declared.entries.Told.{Told}
+use Rattle.sq_machine.specs.declared.entries.Told.TheVariants as told
 use Rattle.sq_rules.specs.declared.outcomes.Outcome.{Outcome}
 use Rattle.sq_rules.specs.declared.outcomes.Why.TheVariants as why
 use Rattle.sq_rules.specs.declared.sights.Sight.{Sight}
 use Rattle.sq_rules.specs.declared.values.TermValue.{TermValue}
 use Rattle.sq_rules.specs.declared.values.TermValue.TheVariants.{Need}
 use Rattle.sq_rules.specs.declared.values.Value.TheVariants as value
-use Rattle.sq_rules.specs.AnswerReadings.{answer_at, answers, ended_answer}
-use Rattle.sq_rules.specs.Checks.{Asked, ask_count, ask_of, is_done, numbered}
+use Rattle.sq_machine.specs.AnswerReadings.{answer_at, answers, ended_answer}
+use Rattle.sq_machine.specs.Checks.{Asked, ask_count, ask_of, is_done, numbered}
 use Rattle.sq_rules.specs.Configurations.{Configuration, IsConfiguration}
-use Rattle.sq_rules.specs.Entries.{History}
-use Rattle.sq_rules.specs.Events.{Asking, asking, done_check, is_number}
-use Rattle.sq_rules.specs.FullNext.{FullLegal, full_next_at}
+use Rattle.sq_machine.specs.Entries.{History}
+use Rattle.sq_machine.specs.Events.{Asking, asking, done_check, is_number, is_begin}
+use Rattle.sq_machine.specs.Machine.{Legal, next_at}
 use Rattle.sq_rules.specs.Keys.{key_text}
 use Rattle.sq_rules.specs.Leaves.{holds}
-use Rattle.sq_rules.specs.Machine.{config_of, gives, is_begin}
-use Rattle.sq_rules.specs.Marking.{mark, marked}
-use Rattle.sq_rules.specs.Marks.{Marked, Past, entries}
-use Rattle.sq_rules.specs.Questions.{unended}
-use Rattle.sq_rules.specs.StepRule.{class_of_acl, class_of_body, step_says, value_over}
+use Rattle.sq_machine.specs.Epochs.{config_of}
+use Rattle.sq_machine.specs.Next.{gives}
+use Rattle.sq_machine.specs.Marking.{mark, marked}
+use Rattle.sq_machine.specs.Marks.{Marked, Past, entries}
+use Rattle.sq_machine.specs.Questions.{unended}
+use Rattle.sq_machine.specs.StepRule.{class_of_acl, class_of_body, step_says, value_over}
 use Rattle.sq_rules.specs.Values.{answer_for, answer_value, taken_at, taken_of_acl, taken_of_body, value_if}
 use Rattle.sq_rules.specs.Verdicts.{verdict_over}
-use Rattle.sq_rules.proofs.CheckLaws.{ask_of_kept, is_done_more}
+use Rattle.sq_machine.proofs.CheckLaws.{ask_of_kept, is_done_more}
 use Rattle.sq_history.specs.Carried.{Carried, NamesOnce}
 use Rattle.sq_history.specs.Given.{EachOf}
 use Rattle.sq_history.specs.Waits.{IsNeeded}
@@ -184,7 +185,7 @@ begun_none configs m now (Ask c method target fields) answer n b new =
     (answers_above configs m n above) (last_wait_above m n above)
 begun_none configs m now event answer n b new = absurd (none-some b new)
 
-asked_next : (configs : List Configuration) (m : Past) (now : ℕ) (event : Event) (answer : Told) → NamesOnce configs → full_next_at configs m now event ≡ gives answer → Carried configs m
+asked_next : (configs : List Configuration) (m : Past) (now : ℕ) (event : Event) (answer : Told) → NamesOnce configs → next_at configs m now event ≡ gives answer → Carried configs m
     → AnswersAsked configs m → AnswersAsked configs (mark configs m (record { moment = now; event = event; answer = answer }) ∷ m)
 asked_next configs m now event answer once is c p = record {
   waits = needs_next configs m now event answer once is c p.waits;
@@ -208,7 +209,7 @@ asked_first configs now (Begin offset) answer b =
 asked_first configs now event answer b = absurd (cc)
 
 -- so it is in every legal history
-pub answers_asked : (configs : List Configuration) (h : History) → NamesOnce configs → FullLegal configs h → AnswersAsked configs (marked configs h)
+pub answers_asked : (configs : List Configuration) (h : History) → NamesOnce configs → Legal configs h → AnswersAsked configs (marked configs h)
 answers_asked configs h once legal =
     (legal_induction configs (AnswersAsked configs) once (λ x b. asked_first configs x.moment x.event x.answer b)
     (λ m now event answer is c p. asked_next configs m now event answer once is c p) h legal).1
@@ -227,7 +228,7 @@ asked_walked configs m n a config o p ask at is = λ class key.
     (walk_has config a.sight (answers configs m n) o class key (sym (value_is configs a (answers configs m n) config at) ∙ is))
 
 -- so it is in every legal history
-pub answers_walked : (configs : List Configuration) (h : History) (n : ℕ) (a : Asked) (config : Configuration) (o : Outcome) → NamesOnce configs → FullLegal configs h
+pub answers_walked : (configs : List Configuration) (h : History) (n : ℕ) (a : Asked) (config : Configuration) (o : Outcome) → NamesOnce configs → Legal configs h
     → ask_of (entries (marked configs h)) n ≡ Some a → config_of configs a.epoch ≡ Some config → value_over configs a (answers configs (marked configs h) n) ≡ value.Verdict o
     → AreWalked (answers configs (marked configs h) n) config a.sight
 answers_walked configs h n a config o once legal ask at is = asked_walked configs (marked configs h) n a config o (answers_asked configs h once legal) ask at is
@@ -252,7 +253,7 @@ verdict_stays configs m n a o None g ask is = ap (value_over configs a) (append-
 verdict_stays configs m n a o (Some z) g ask is = absurd (undecided configs m n a o (g.gets z refl).needed ask is)
 
 -- the check whose step was answered that it is done, or one that was done before
-done_here : (configs : List Configuration) (m : Past) (now : ℕ) (event : Event) (answer : Told) (n : ℕ) (a : Asked) → EachOf IsConfiguration configs → full_next_at configs m now event ≡ gives answer
+done_here : (configs : List Configuration) (m : Past) (now : ℕ) (event : Event) (answer : Told) (n : ℕ) (a : Asked) → EachOf IsConfiguration configs → next_at configs m now event ≡ gives answer
     → ask_of (entries m) n ≡ Some a → is_number n (done_check event answer) ≡ true → (o : Outcome) × (value_over configs a (answers configs m n) ≡ value.Verdict o)
 done_here configs m now (Step k) told.Done n a each is ask e =
     let same : n ≡ k = equal n k e in
@@ -260,7 +261,7 @@ done_here configs m now (Step k) told.Done n a each is ask e =
 done_here configs m now (Step k) answer n a each is ask e = absurd (let no : false ≡ true = e in cc)
 done_here configs m now event answer n a each is ask e = absurd (let no : false ≡ true = e in cc)
 
-decided_next : (configs : List Configuration) (m : Past) (now : ℕ) (event : Event) (answer : Told) → EachOf IsConfiguration configs → NamesOnce configs → full_next_at configs m now event ≡ gives answer
+decided_next : (configs : List Configuration) (m : Past) (now : ℕ) (event : Event) (answer : Told) → EachOf IsConfiguration configs → NamesOnce configs → next_at configs m now event ≡ gives answer
     → Carried configs m → DoneDecided configs m → DoneDecided configs (mark configs m (record { moment = now; event = event; answer = answer }) ∷ m)
 decided_next configs m now event answer each once is c p = record {
   waits = needs_next configs m now event answer once is c p.waits;
@@ -307,13 +308,13 @@ decided_first configs now (Begin offset) answer b = record {
 decided_first configs now event answer b = absurd (cc)
 
 -- in a legal history, where each configuration is one, a check that is done comes to a verdict
-pub done_verdict : (configs : List Configuration) (h : History) → EachOf IsConfiguration configs → FullLegal configs h → DoneDecided configs (marked configs h)
+pub done_verdict : (configs : List Configuration) (h : History) → EachOf IsConfiguration configs → Legal configs h → DoneDecided configs (marked configs h)
 done_verdict configs h each legal =
     (legal_induction configs (DoneDecided configs) (names_once configs each) (λ x b. decided_first configs x.moment x.event x.answer b)
     (λ m now event answer is c p. decided_next configs m now event answer each (names_once configs each) is c p) h legal).1
 
 -- of a check that is done, the classes and keys of the answers are exactly those that the walk asks for
-pub done_walked : (configs : List Configuration) (h : History) (n : ℕ) (a : Asked) (config : Configuration) → EachOf IsConfiguration configs → FullLegal configs h
+pub done_walked : (configs : List Configuration) (h : History) (n : ℕ) (a : Asked) (config : Configuration) → EachOf IsConfiguration configs → Legal configs h
     → is_done (entries (marked configs h)) n ≡ true → ask_of (entries (marked configs h)) n ≡ Some a → config_of configs a.epoch ≡ Some config
     → AreWalked (answers configs (marked configs h) n) config a.sight
 done_walked configs h n a config each legal done ask at =

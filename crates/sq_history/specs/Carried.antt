@@ -1,17 +1,17 @@
 -- What legal histories carry along, and the laws of readings ask for.
 use Rattle.std.specs.Prelude.{◌≡◌, ℕ, ◌≤◌, ◌<◌, max, List, true, false, nat_lt, bytes_eq, is_some, Some}
-use Rattle.sq_rules.specs.AnswerReadings.{last_wait}
-use Rattle.sq_rules.specs.Channels.{channel_name}
+use Rattle.sq_machine.specs.AnswerReadings.{last_wait}
+use Rattle.sq_machine.specs.Channels.{channel_name}
 use Rattle.sq_rules.specs.Classes.{Class}
 use Rattle.sq_rules.specs.Configurations.{Configuration}
-use Rattle.sq_rules.specs.Entries.{History}
-use Rattle.sq_rules.specs.Epochs.{class_at, name_of_class}
-use Rattle.sq_rules.specs.FarmReadings.{is_held, is_put_for}
-use Rattle.sq_rules.specs.Marks.{Past, entries}
-use Rattle.sq_rules.specs.Processes.{Home, home_of, is_at_home, proc_count, runs_at, settled_starts, start_count}
-use Rattle.sq_rules.specs.Questions.{put_of, sent_to}
-use Rattle.sq_rules.specs.Readings.{current}
-use Rattle.sq_rules.specs.Transcripts.{holder}
+use Rattle.sq_machine.specs.Entries.{History}
+use Rattle.sq_machine.specs.Epochs.{class_at, name_of_class}
+use Rattle.sq_machine.specs.FarmReadings.{is_held, is_put_for}
+use Rattle.sq_machine.specs.Marks.{Past, entries}
+use Rattle.sq_machine.specs.Processes.{Home, home_of, is_at_home, proc_count, runs_at, settled_starts, start_count}
+use Rattle.sq_machine.specs.Questions.{put_of, sent_to}
+use Rattle.sq_machine.specs.Readings.{current}
+use Rattle.sq_machine.specs.Transcripts.{holder}
 use Rattle.sq_rows.specs.Agreement.{SlotsAgree}
 
 -- nothing was done in the epoch: no question was put, no process and no start is of it, and no start failed

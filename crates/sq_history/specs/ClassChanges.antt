@@ -1,14 +1,14 @@
 -- What a step does to each class, and which events leave every class as it is.
 use Rattle.std.specs.Prelude.{ℕ, suc, Bool, true, false, if◌then◌else◌}
 use Rattle.std.specs.declared.option.Option.{Option}
-use Rattle.sq_rules.specs.declared.entries.Event.{Event}
-use Rattle.sq_rules.specs.declared.entries.Event.TheVariants.{Step, Started, StartFail, Line, Died, Act, Reconfigure}
-use Rattle.sq_rules.specs.declared.entries.Told.{Told}
-use Rattle.sq_rules.specs.declared.entries.Told.TheVariants as told
-use Rattle.sq_rules.specs.FarmReadings.{is_put_for}
-use Rattle.sq_rules.specs.KeptReadings.{after_took}
-use Rattle.sq_rules.specs.Marks.{Put}
-use Rattle.sq_rules.specs.StepRule.{StepSays}
+use Rattle.sq_machine.specs.declared.entries.Event.{Event}
+use Rattle.sq_machine.specs.declared.entries.Event.TheVariants.{Step, Started, StartFail, Line, Died, Act, Reconfigure}
+use Rattle.sq_machine.specs.declared.entries.Told.{Told}
+use Rattle.sq_machine.specs.declared.entries.Told.TheVariants as told
+use Rattle.sq_machine.specs.FarmReadings.{is_put_for}
+use Rattle.sq_machine.specs.KeptReadings.{after_took}
+use Rattle.sq_machine.specs.Marks.{Put}
+use Rattle.sq_machine.specs.StepRule.{StepSays}
 use Rattle.sq_rows.specs.ClassRows.{ClassRow, key_put, with_question}
 
 -- the class at place c of epoch e with a question that is put for it, and as it is where the question is put for another

@@ -3,33 +3,32 @@ use Rattle.std.specs.Prelude.{◌≡◌, ◌⊎◌, ℕ, ◌≤◌, List, [], �
 use Rattle.std.specs.declared.option.Option.{Option}
 use Rattle.sq_base.specs.Distinct.{are_distinct}
 use Rattle.sq_base.specs.declared.helpers.Cause.TheVariants as cause
-use Rattle.sq_rules.specs.declared.entries.Event.{Event}
-use Rattle.sq_rules.specs.declared.entries.Event.TheVariants.{Act, Seat, Step}
-use Rattle.sq_rules.specs.declared.entries.Told.{Told}
-use Rattle.sq_rules.specs.declared.entries.Told.TheVariants as told
-use Rattle.sq_rules.specs.declared.kept.KeptVerdict.{KeptVerdict}
+use Rattle.sq_machine.specs.declared.entries.Event.{Event}
+use Rattle.sq_machine.specs.declared.entries.Event.TheVariants.{Act, Seat, Step}
+use Rattle.sq_machine.specs.declared.entries.Told.{Told}
+use Rattle.sq_machine.specs.declared.entries.Told.TheVariants as told
+use Rattle.sq_machine.specs.declared.kept.KeptVerdict.{KeptVerdict}
 use Rattle.sq_rules.specs.declared.outcomes.Outcome.{Outcome}
 use Rattle.sq_rules.specs.declared.values.Value.TheVariants as value
-use Rattle.sq_rules.specs.AnswerReadings.{answers}
-use Rattle.sq_rules.specs.Channels.{channel_name, least_free}
-use Rattle.sq_rules.specs.Checks.{Asked, ask_of}
+use Rattle.sq_machine.specs.AnswerReadings.{answers}
+use Rattle.sq_machine.specs.Channels.{channel_name, least_free}
+use Rattle.sq_machine.specs.Checks.{Asked, ask_of}
 use Rattle.sq_rules.specs.Classes.{Class}
 use Rattle.sq_rules.specs.Configurations.{Configuration}
-use Rattle.sq_rules.specs.Epochs.{class_at}
-use Rattle.sq_rules.specs.Events.{Judgement, judgement}
-use Rattle.sq_rules.specs.FarmReadings.{farm_with, living_of}
-use Rattle.sq_rules.specs.Farms.{Sending, full}
-use Rattle.sq_rules.specs.Freshness.{is_due}
-use Rattle.sq_rules.specs.KeptLists.{fresh_for}
-use Rattle.sq_rules.specs.KeptReadings.{kept}
-use Rattle.sq_rules.specs.Limits.{key_limit}
-use Rattle.sq_rules.specs.Living.{has_free}
-use Rattle.sq_rules.specs.Machine.{config_of}
-use Rattle.sq_rules.specs.Marks.{Marked, Past, Put, entries}
-use Rattle.sq_rules.specs.PoolReadings.{allowed_of}
-use Rattle.sq_rules.specs.Processes.{runs_at}
-use Rattle.sq_rules.specs.Questions.{has_ended, pending, put_is, put_of, sent_to}
-use Rattle.sq_rules.specs.StepRule.{value_over}
+use Rattle.sq_machine.specs.Epochs.{class_at, config_of}
+use Rattle.sq_machine.specs.Events.{Judgement, judgement}
+use Rattle.sq_machine.specs.FarmReadings.{farm_with, living_of}
+use Rattle.sq_machine.specs.Farms.{Sending, full}
+use Rattle.sq_machine.specs.Freshness.{is_due}
+use Rattle.sq_machine.specs.KeptLists.{fresh_for}
+use Rattle.sq_machine.specs.KeptReadings.{kept}
+use Rattle.sq_machine.specs.Limits.{key_limit}
+use Rattle.sq_machine.specs.Living.{has_free}
+use Rattle.sq_machine.specs.Marks.{Marked, Past, Put, entries}
+use Rattle.sq_machine.specs.PoolReadings.{allowed_of}
+use Rattle.sq_machine.specs.Processes.{runs_at}
+use Rattle.sq_machine.specs.Questions.{has_ended, pending, put_is, put_of, sent_to}
+use Rattle.sq_machine.specs.StepRule.{value_over}
 use Rattle.sq_rules.specs.Verdicts.{pool_of, verdict_over}
 use Rattle.sq_history.specs.Given.{EachOf, FindsNoRoom, IsSound, IsTooLong, fault_for, times_sent}
 use Rattle.sq_history.specs.Waits.{IsNeeded, WaitsSo}

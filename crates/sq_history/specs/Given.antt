@@ -6,24 +6,24 @@ use Rattle.sq_base.specs.declared.helpers.Cause.TheVariants as cause
 use Rattle.sq_base.specs.declared.helpers.What.{What}
 use Rattle.sq_base.specs.declared.helpers.What.TheVariants as what
 use Rattle.sq_base.specs.declared.helpers.Word.{Word}
-use Rattle.sq_rules.specs.declared.entries.Event.{Event}
-use Rattle.sq_rules.specs.declared.entries.Event.TheVariants.{Act, Line, Step}
-use Rattle.sq_rules.specs.declared.entries.Told.{Told}
-use Rattle.sq_rules.specs.declared.entries.Told.TheVariants as told
-use Rattle.sq_rules.specs.declared.kept.KeptVerdict.{KeptVerdict}
-use Rattle.sq_rules.specs.AnswerReadings.{waits_for}
+use Rattle.sq_machine.specs.declared.entries.Event.{Event}
+use Rattle.sq_machine.specs.declared.entries.Event.TheVariants.{Act, Line, Step}
+use Rattle.sq_machine.specs.declared.entries.Told.{Told}
+use Rattle.sq_machine.specs.declared.entries.Told.TheVariants as told
+use Rattle.sq_machine.specs.declared.kept.KeptVerdict.{KeptVerdict}
+use Rattle.sq_machine.specs.AnswerReadings.{waits_for}
 use Rattle.sq_rules.specs.Configurations.{Configuration}
-use Rattle.sq_rules.specs.Epochs.{class_at}
-use Rattle.sq_rules.specs.Events.{begins_epoch}
-use Rattle.sq_rules.specs.FarmReadings.{farm_with}
-use Rattle.sq_rules.specs.Farms.{full}
-use Rattle.sq_rules.specs.Freshness.{is_fresh}
-use Rattle.sq_rules.specs.KeptLists.{fresh_for, is_fault, verdict_of}
-use Rattle.sq_rules.specs.KeptReadings.{alike_place, kept}
-use Rattle.sq_rules.specs.Limits.{key_limit}
-use Rattle.sq_rules.specs.Marks.{Marked, Past, entries}
-use Rattle.sq_rules.specs.Questions.{end_at, pending, put_is, put_of, said_by, sent_to}
-use Rattle.sq_rules.specs.Readings.{current}
+use Rattle.sq_machine.specs.Epochs.{class_at}
+use Rattle.sq_machine.specs.Events.{begins_epoch}
+use Rattle.sq_machine.specs.FarmReadings.{farm_with}
+use Rattle.sq_machine.specs.Farms.{full}
+use Rattle.sq_machine.specs.Freshness.{is_fresh}
+use Rattle.sq_machine.specs.KeptLists.{fresh_for, is_fault, verdict_of}
+use Rattle.sq_machine.specs.KeptReadings.{alike_place, kept}
+use Rattle.sq_machine.specs.Limits.{key_limit}
+use Rattle.sq_machine.specs.Marks.{Marked, Past, entries}
+use Rattle.sq_machine.specs.Questions.{end_at, pending, put_is, put_of, said_by, sent_to}
+use Rattle.sq_machine.specs.Readings.{current}
 use Rattle.sq_history.specs.Waits.{IsNeeded}
 
 -- something holds of each

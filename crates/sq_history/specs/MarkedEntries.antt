@@ -1,12 +1,12 @@
 -- Entries with their marks: a step as it says, and every other event, which puts nothing and takes nothing.
 use Rattle.std.specs.Prelude.{◌≡◌, ℕ, None, Some}
 use Rattle.std.specs.declared.option.Option.{Option}
-use Rattle.sq_rules.specs.declared.entries.Event.{Event}
-use Rattle.sq_rules.specs.declared.entries.Event.TheVariants.{Step}
-use Rattle.sq_rules.specs.declared.entries.Told.{Told}
-use Rattle.sq_rules.specs.Events.{asking, closed_conn, taken_check}
-use Rattle.sq_rules.specs.Marks.{Marked}
-use Rattle.sq_rules.specs.StepRule.{StepSays}
+use Rattle.sq_machine.specs.declared.entries.Event.{Event}
+use Rattle.sq_machine.specs.declared.entries.Event.TheVariants.{Step}
+use Rattle.sq_machine.specs.declared.entries.Told.{Told}
+use Rattle.sq_machine.specs.Events.{asking, closed_conn, taken_check}
+use Rattle.sq_machine.specs.Marks.{Marked}
+use Rattle.sq_machine.specs.StepRule.{StepSays}
 
 -- a step of check n at a moment, which says so
 abbrev pub stepped_at : ℕ → ℕ → StepSays → Marked

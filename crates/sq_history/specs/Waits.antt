@@ -2,21 +2,20 @@
 use Rattle.std.specs.Prelude.{◌≡◌, ℕ, ◌≤◌, List, [], ◌∷◌, true, false, length, nat_lt, Some}
 use Rattle.std.specs.Option.{option_and_then}
 use Rattle.sq_base.specs.Distinct.{has_answer}
-use Rattle.sq_rules.specs.declared.kept.KeptVerdict.{KeptVerdict}
+use Rattle.sq_machine.specs.declared.kept.KeptVerdict.{KeptVerdict}
 use Rattle.sq_rules.specs.declared.values.Value.TheVariants as value
-use Rattle.sq_rules.specs.AnswerReadings.{answers}
-use Rattle.sq_rules.specs.Checks.{Asked, ask_of}
+use Rattle.sq_machine.specs.AnswerReadings.{answers}
+use Rattle.sq_machine.specs.Checks.{Asked, ask_of}
 use Rattle.sq_rules.specs.Classes.{Class}
 use Rattle.sq_rules.specs.Configurations.{Configuration}
-use Rattle.sq_rules.specs.Epochs.{class_at}
-use Rattle.sq_rules.specs.Freshness.{is_fresh}
-use Rattle.sq_rules.specs.KeptLists.{verdict_of}
-use Rattle.sq_rules.specs.KeptReadings.{kept}
-use Rattle.sq_rules.specs.Limits.{key_limit}
-use Rattle.sq_rules.specs.Machine.{config_of}
-use Rattle.sq_rules.specs.Marks.{Past, entries}
-use Rattle.sq_rules.specs.Questions.{put_is, put_of}
-use Rattle.sq_rules.specs.StepRule.{class_of_acl, value_over}
+use Rattle.sq_machine.specs.Epochs.{class_at, config_of}
+use Rattle.sq_machine.specs.Freshness.{is_fresh}
+use Rattle.sq_machine.specs.KeptLists.{verdict_of}
+use Rattle.sq_machine.specs.KeptReadings.{kept}
+use Rattle.sq_machine.specs.Limits.{key_limit}
+use Rattle.sq_machine.specs.Marks.{Past, entries}
+use Rattle.sq_machine.specs.Questions.{put_is, put_of}
+use Rattle.sq_machine.specs.StepRule.{class_of_acl, value_over}
 
 -- no entry is of a later moment
 abbrev pub NoneLater : Past → ℕ → Type 0

@@ -1,6 +1,6 @@
 //! What a reply ends its question with.
 ghost use Rattle.std.specs.Prelude.{◌≡◌, IfOk};
-ghost use Rattle.sq_rules.specs.Questions.{what_of};
+ghost use Rattle.sq_machine.specs.Questions.{what_of};
 
 use sq_base::{Cause, Copying, Reply, WantOfMemory, What, Word};
 use std::alloc::Global;

@@ -4,17 +4,16 @@ use Rattle.std.specs.List.{list_all}
 use Rattle.std.proofs.lemmas.Option.{same_Some}
 use Rattle.sq_base.specs.Requests.{HttpRequest}
 use Rattle.sq_checks.specs.Records.{Judged}
-use Rattle.sq_rules.specs.Checks.{check_open, open_check}
+use Rattle.sq_machine.specs.Checks.{check_open, open_check}
 use Rattle.sq_rules.specs.Configurations.{Configuration}
-use Rattle.sq_rules.specs.Connections.{peer_at}
-use Rattle.sq_rules.specs.Entries.{History}
-use Rattle.sq_rules.specs.declared.entries.Event.{Event}
-use Rattle.sq_rules.specs.declared.entries.Told.TheVariants as told
-use Rattle.sq_rules.specs.declared.refusals.Refusal.{Refusal}
-use Rattle.sq_rules.specs.declared.refusals.Refusal.TheVariants as refusal
+use Rattle.sq_machine.specs.Connections.{peer_at}
+use Rattle.sq_machine.specs.Entries.{History, entry_at}
+use Rattle.sq_machine.specs.declared.entries.Event.{Event}
+use Rattle.sq_machine.specs.declared.entries.Told.TheVariants as told
+use Rattle.sq_machine.specs.declared.refusals.Refusal.{Refusal}
+use Rattle.sq_machine.specs.declared.refusals.Refusal.TheVariants as refusal
 use Rattle.sq_session.specs.declared.front.Decided.{Decided}
 use Rattle.sq_session.specs.declared.front.Decided.TheVariants as decided
-use Rattle.sq_state.specs.Promises.{entry_at}
 use Rattle.sq_hub.specs.Hubs.{decided_of}
 use Rattle.sq_hub.proofs.SpentLaws.{ask_spent, asked_open}
 use Rattle.sq_hub.specs.Judging.{EndsSo, Finishes, FitsDecided, IsAttempt, IsOfGoing, IsOfQuestion, IsOwn, IsForLastNumber, Judges, RefusesLast, goes_on}

@@ -4,28 +4,27 @@ use Rattle.std.proofs.lemmas.Bool.Decides.{nat_tests}
 use Rattle.std.specs.List.{list_all}
 use Rattle.sq_base.specs.Requests.{HttpRequest}
 use Rattle.sq_history.proofs.LegalLaws.{marked_entries}
-use Rattle.sq_rules.proofs.CheckLaws.{check_open_begun, check_open_kept, is_done_more, none_numbered, open_born}
-use Rattle.sq_rules.specs.Checks.{ask_count, check_open, closes, conn_of, is_done, open_check}
+use Rattle.sq_machine.proofs.CheckLaws.{check_open_begun, check_open_kept, is_done_more, none_numbered, open_born}
+use Rattle.sq_machine.specs.Checks.{ask_count, check_open, closes, conn_of, is_done, open_check}
 use Rattle.sq_rules.specs.Configurations.{Configuration}
-use Rattle.sq_rules.specs.Connections.{peer_at}
-use Rattle.sq_rules.specs.Entries.{History, Noted}
-use Rattle.sq_rules.specs.Events.{Asking, asking, closed_conn, is_number, taken_check}
-use Rattle.sq_rules.specs.FullNext.{full_next, full_next_at, step_next}
-use Rattle.sq_rules.specs.Limits.{last_number}
-use Rattle.sq_rules.specs.Machine.{Next, gives, refuses, next_at, refuse_if, refuse_open}
-use Rattle.sq_rules.specs.Marking.{marked}
-use Rattle.sq_rules.specs.Marks.{entries}
-use Rattle.sq_rules.specs.Questions.{put_count}
-use Rattle.sq_rules.specs.Readings.{counted_moment}
-use Rattle.sq_rules.specs.StepRule.{StepSays, step_says}
-use Rattle.sq_rules.specs.declared.entries.Event.{Event}
-use Rattle.sq_rules.specs.declared.entries.Event.TheVariants as event
-use Rattle.sq_rules.specs.declared.entries.Told.{Told}
-use Rattle.sq_rules.specs.declared.entries.Told.TheVariants as told
-use Rattle.sq_rules.specs.declared.refusals.Refusal.{Refusal}
-use Rattle.sq_rules.specs.declared.refusals.Refusal.TheVariants as refusal
+use Rattle.sq_machine.specs.Connections.{peer_at}
+use Rattle.sq_machine.specs.Entries.{History, Noted, entry_at}
+use Rattle.sq_machine.specs.Events.{Asking, asking, closed_conn, is_number, taken_check}
+use Rattle.sq_machine.specs.Machine.{next, next_at, step_next}
+use Rattle.sq_machine.specs.Limits.{last_number}
+use Rattle.sq_machine.specs.Next.{Next, gives, refuses, refuse_if, refuse_open}
+use Rattle.sq_machine.specs.Marking.{marked}
+use Rattle.sq_machine.specs.Marks.{entries}
+use Rattle.sq_machine.specs.Questions.{put_count}
+use Rattle.sq_machine.specs.Readings.{counted_moment}
+use Rattle.sq_machine.specs.StepRule.{StepSays, step_says}
+use Rattle.sq_machine.specs.declared.entries.Event.{Event}
+use Rattle.sq_machine.specs.declared.entries.Event.TheVariants as event
+use Rattle.sq_machine.specs.declared.entries.Told.{Told}
+use Rattle.sq_machine.specs.declared.entries.Told.TheVariants as told
+use Rattle.sq_machine.specs.declared.refusals.Refusal.{Refusal}
+use Rattle.sq_machine.specs.declared.refusals.Refusal.TheVariants as refusal
 use Rattle.sq_rules.specs.declared.sights.Peer.{Peer}
-use Rattle.sq_state.specs.Promises.{entry_at}
 use Rattle.sq_hub.specs.Judging.{IsForLastNumber, goes_on, is_step_of}
 use Rattle.sq_hub.specs.Tellings.{asks_for, comes_outside}
 
@@ -63,12 +62,12 @@ says_number c None o count n e = absurd (cc)
 says_number c (Some p) None count n e = number_given (nat_le last_number (suc count)) (suc count) n e
 says_number c (Some p) (Some k) count n e = absurd (cc)
 
-ask_next : (configs : List Configuration) (h : History) (now conn : ℕ) (r : HttpRequest) → full_next configs (marked configs h) now (asks_for conn r) ≡ asked_after h conn
-unfolding full_next full_next_at next_at
+ask_next : (configs : List Configuration) (h : History) (now conn : ℕ) (r : HttpRequest) → next configs (marked configs h) now (asks_for conn r) ≡ asked_after h conn
+unfolding next next_at
 ask_next configs h now conn r = ap (λ (l : History). asked_after l conn) (marked_entries configs h)
 
 -- the question itself
-pub ask_spent : (configs : List Configuration) (h : History) (now conn : ℕ) (r : HttpRequest) (why : Refusal) → full_next configs (marked configs h) now (asks_for conn r) ≡ refuses why
+pub ask_spent : (configs : List Configuration) (h : History) (now conn : ℕ) (r : HttpRequest) (why : Refusal) → next configs (marked configs h) now (asks_for conn r) ≡ refuses why
     → is_some (peer_at h conn) ≡ true → open_check h conn ≡ None → IsForLastNumber why
 ask_spent configs h now conn r why e there free = says_spent conn (peer_at h conn) (open_check h conn) (ask_count h) why there free (sym (ask_next configs h now conn r) ∙ e)
 
@@ -77,7 +76,7 @@ same_number n k e = grind (arith, nat_tests)
 
 -- the check that it began is open
 pub asked_open : (configs : List Configuration) (h : History) (now conn : ℕ) (r : HttpRequest) (n : ℕ) (answer : Told) → answer ≡ told.Check n
-    → full_next configs (marked configs h) now (asks_for conn r) ≡ gives answer → check_open (entry_at now (asks_for conn r) answer ∷ h) n ≡ true
+    → next configs (marked configs h) now (asks_for conn r) ≡ gives answer → check_open (entry_at now (asks_for conn r) answer ∷ h) n ≡ true
 asked_open configs h now conn r n answer is e =
     let number : n ≡ suc (ask_count h) = says_number conn (peer_at h conn) (open_check h conn) (ask_count h) n (sym (ask_next configs h now conn r) ∙ e ∙ ap gives is) in
     let a : Asking = record { conn = conn; method = r.method; target = r.target; fields = r.fields } in
@@ -125,8 +124,8 @@ step_says_spent true n count s why opened e = number_refused (is_some s.put && n
 step_says_spent false n count s why opened e = absurd (cc)
 
 -- a step of an open check
-pub step_spent : (configs : List Configuration) (h : History) (now n : ℕ) (why : Refusal) → full_next configs (marked configs h) now (event.Step n) ≡ refuses why → check_open h n ≡ true → IsForLastNumber why
-unfolding full_next full_next_at
+pub step_spent : (configs : List Configuration) (h : History) (now n : ℕ) (why : Refusal) → next configs (marked configs h) now (event.Step n) ≡ refuses why → check_open h n ≡ true → IsForLastNumber why
+unfolding next next_at
 step_spent configs h now n why e opened =
     step_says_spent (check_open (entries (marked configs h)) n) n (put_count (marked configs h)) (step_says configs (marked configs h) n (counted_moment (entries (marked configs h)) now)) why (ap (λ (l : History). check_open l n) (marked_entries configs h) ∙ opened) e
 
@@ -137,9 +136,9 @@ take_says true false n answer why opened done e = absurd (cc)
 take_says false d n answer why opened done e = absurd (cc)
 
 -- the taking of an open check that is done
-pub take_spent : (configs : List Configuration) (h : History) (now n : ℕ) (why : Refusal) → full_next configs (marked configs h) now (event.Take n) ≡ refuses why
+pub take_spent : (configs : List Configuration) (h : History) (now n : ℕ) (why : Refusal) → next configs (marked configs h) now (event.Take n) ≡ refuses why
     → check_open h n ≡ true → is_done h n ≡ true → IsForLastNumber why
-unfolding full_next full_next_at
+unfolding next next_at
 take_spent configs h now n why e opened done =
     take_says (check_open (entries (marked configs h)) n) (is_done (entries (marked configs h)) n) n _ why
     (ap (λ (l : History). check_open l n) (marked_entries configs h) ∙ opened) (ap (λ (l : History). is_done l n) (marked_entries configs h) ∙ done) e

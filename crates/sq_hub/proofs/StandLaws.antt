@@ -5,12 +5,12 @@ use Rattle.sq_base.specs.Addresses.{Address}
 use Rattle.sq_base.specs.Requests.{HttpRequest}
 use Rattle.sq_checks.specs.Records.{Judged}
 use Rattle.sq_rules.specs.Configurations.{Configuration}
-use Rattle.sq_rules.specs.Entries.{History}
-use Rattle.sq_rules.specs.declared.entries.Event.{Event}
-use Rattle.sq_rules.specs.declared.entries.Event.TheVariants as event
-use Rattle.sq_rules.specs.declared.entries.Told.TheVariants as told
+use Rattle.sq_machine.specs.Entries.{History, entry_at}
+use Rattle.sq_machine.specs.declared.entries.Event.{Event}
+use Rattle.sq_machine.specs.declared.entries.Event.TheVariants as event
+use Rattle.sq_machine.specs.declared.entries.Told.TheVariants as told
 use Rattle.sq_outside.specs.Causes.{Rose}
-use Rattle.sq_rules.specs.declared.refusals.Refusal.TheVariants as refusal
+use Rattle.sq_machine.specs.declared.refusals.Refusal.TheVariants as refusal
 use Rattle.sq_session.specs.Fronts.{FrontTold, OfOpen, OfDecide, OfSit, OfClose, OpenRefuses, DecideRefuses, CloseRefuses}
 use Rattle.sq_session.specs.declared.front.CloseFault.{CloseFault}
 use Rattle.sq_session.specs.declared.front.CloseFault.TheVariants as close
@@ -19,7 +19,6 @@ use Rattle.sq_session.specs.declared.front.Decided.TheVariants as decided
 use Rattle.sq_session.specs.declared.front.Opened.{Opened}
 use Rattle.sq_session.specs.declared.front.Opened.TheVariants as opened
 use Rattle.sq_session.specs.declared.front.SitFault.{SitFault}
-use Rattle.sq_state.specs.Promises.{entry_at}
 use Rattle.sq_state.specs.States.{IsSame, State}
 use Rattle.sq_hub.specs.Judging.{Closes, ClosesBy, FitsDecided, IsOwn, Judges, Opens, OpensBy}
 use Rattle.sq_hub.specs.Hubs.{IsRefusal, opened_of, unclosed_of}

@@ -5,19 +5,18 @@ use Rattle.std.proofs.lemmas.List.Folds.{list_all-append}
 use Rattle.sq_checks.specs.Records.{Judged}
 use Rattle.sq_rows.specs.declared.said.Stepped.{Stepped}
 use Rattle.sq_rows.specs.declared.said.Stepped.TheVariants as stepped
-use Rattle.sq_rules.specs.Checks.{check_open, is_done}
+use Rattle.sq_machine.specs.Checks.{check_open, is_done}
 use Rattle.sq_rules.specs.Configurations.{Configuration}
-use Rattle.sq_rules.specs.Entries.{History, Noted}
-use Rattle.sq_rules.specs.FullNext.{full_next}
-use Rattle.sq_rules.specs.Machine.{refuses}
-use Rattle.sq_rules.specs.Marking.{marked}
-use Rattle.sq_rules.specs.declared.entries.Event.{Event}
-use Rattle.sq_rules.specs.declared.entries.Event.TheVariants as event
-use Rattle.sq_rules.specs.declared.entries.Told.{Told}
-use Rattle.sq_rules.specs.declared.entries.Told.TheVariants as told
-use Rattle.sq_rules.specs.declared.refusals.Refusal.{Refusal}
+use Rattle.sq_machine.specs.Entries.{History, Noted, entry_at}
+use Rattle.sq_machine.specs.Machine.{next}
+use Rattle.sq_machine.specs.Next.{refuses}
+use Rattle.sq_machine.specs.Marking.{marked}
+use Rattle.sq_machine.specs.declared.entries.Event.{Event}
+use Rattle.sq_machine.specs.declared.entries.Event.TheVariants as event
+use Rattle.sq_machine.specs.declared.entries.Told.{Told}
+use Rattle.sq_machine.specs.declared.entries.Told.TheVariants as told
+use Rattle.sq_machine.specs.declared.refusals.Refusal.{Refusal}
 use Rattle.sq_state.proofs.Lawful.{stands_same}
-use Rattle.sq_state.specs.Promises.{entry_at}
 use Rattle.sq_state.specs.States.{IsSame, State}
 use Rattle.sq_hub.proofs.SpentLaws.{done_now, first_of, second_of, stays_open, step_spent, take_spent}
 use Rattle.sq_hub.specs.Judging.{Finishes, GoesOn, IsForLastNumber, goes_on}
@@ -143,7 +142,7 @@ goes_taken n j v w x go take = record {
 abbrev LastRefused : (n : ℕ) (e : Event) (v w : HubState) → GoesOn n v w → Type 0
 LastRefused n e v w go =
     (configs : List Configuration) (h : History) (st : StandsAt configs h v.machine) (why : Refusal)
-    → full_next configs (marked configs ((go.adds configs h st).0 ++ h)) (machine_now w) e ≡ refuses why → check_open h n ≡ true → IsForLastNumber why
+    → next configs (marked configs ((go.adds configs h st).0 ++ h)) (machine_now w) e ≡ refuses why → check_open h n ≡ true → IsForLastNumber why
 
 -- a call for the check is not made
 goes_fault : {A : Type 0} (R : A → Told → Type 0) (n : ℕ) (e : Event) (fault : HubFault) (v w x : HubState) → (e ≡ event.Step n) ⊎ (e ≡ event.Take n) → (go : GoesOn n v w) → Makes R e (Err fault) w x → LastRefused n e v w go → Finishes n (Err fault) v x

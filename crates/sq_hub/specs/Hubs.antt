@@ -3,7 +3,7 @@ use Rattle.std.specs.Prelude.{ℕ, ◌+◌, min, Ok, Err, ⊤}
 use Rattle.std.specs.declared.option.Option.{Option}
 use Rattle.std.specs.declared.result.Result.{Result}
 use Rattle.sq_outside.specs.Causes.{Rose, count_limit, raised}
-use Rattle.sq_rules.specs.declared.refusals.Refusal.TheVariants as refusal
+use Rattle.sq_machine.specs.declared.refusals.Refusal.TheVariants as refusal
 use Rattle.sq_session.specs.declared.front.CloseFault.{CloseFault}
 use Rattle.sq_session.specs.declared.front.CloseFault.TheVariants as close
 use Rattle.sq_session.specs.declared.front.Decided.{Decided}

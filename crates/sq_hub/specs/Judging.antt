@@ -5,19 +5,19 @@ use Rattle.std.specs.declared.option.Option.{Option}
 use Rattle.std.specs.declared.result.Result.{Result}
 use Rattle.sq_base.specs.Addresses.{Address}
 use Rattle.sq_base.specs.Requests.{HttpRequest}
-use Rattle.sq_rules.specs.Checks.{check_open, open_check}
+use Rattle.sq_machine.specs.Checks.{check_open, open_check}
 use Rattle.sq_rules.specs.Configurations.{Configuration}
-use Rattle.sq_rules.specs.Connections.{peer_at}
-use Rattle.sq_rules.specs.Entries.{History, Noted}
-use Rattle.sq_rules.specs.FullNext.{full_next}
-use Rattle.sq_rules.specs.Limits.{last_number}
-use Rattle.sq_rules.specs.Machine.{refuses}
-use Rattle.sq_rules.specs.Marking.{marked}
-use Rattle.sq_rules.specs.declared.entries.Event.{Event}
-use Rattle.sq_rules.specs.declared.entries.Event.TheVariants as event
-use Rattle.sq_rules.specs.declared.entries.Told.TheVariants as told
-use Rattle.sq_rules.specs.declared.refusals.Refusal.{Refusal}
-use Rattle.sq_rules.specs.declared.refusals.Refusal.TheVariants as refusal
+use Rattle.sq_machine.specs.Connections.{peer_at}
+use Rattle.sq_machine.specs.Entries.{History, Noted, entry_at}
+use Rattle.sq_machine.specs.Machine.{next}
+use Rattle.sq_machine.specs.Limits.{last_number}
+use Rattle.sq_machine.specs.Next.{refuses}
+use Rattle.sq_machine.specs.Marking.{marked}
+use Rattle.sq_machine.specs.declared.entries.Event.{Event}
+use Rattle.sq_machine.specs.declared.entries.Event.TheVariants as event
+use Rattle.sq_machine.specs.declared.entries.Told.TheVariants as told
+use Rattle.sq_machine.specs.declared.refusals.Refusal.{Refusal}
+use Rattle.sq_machine.specs.declared.refusals.Refusal.TheVariants as refusal
 use Rattle.sq_checks.specs.Records.{Judged}
 use Rattle.sq_pools.specs.Basins.{IsChosen}
 use Rattle.sq_session.specs.declared.front.CloseFault.{CloseFault}
@@ -28,7 +28,6 @@ use Rattle.sq_session.specs.declared.front.Opened.{Opened}
 use Rattle.sq_session.specs.declared.front.Opened.TheVariants as opened
 use Rattle.sq_session.specs.declared.front.SitFault.{SitFault}
 use Rattle.sq_session.specs.declared.front.SitFault.TheVariants as sit
-use Rattle.sq_state.specs.Promises.{entry_at}
 use Rattle.sq_state.specs.States.{IsSame, State}
 use Rattle.sq_hub.specs.Tellings.{AreKept, Grants, HubState, IsNext, IsOfCheck, IsRefused, Leaves, LeavesMachine, StandsAt, asks_for, is_outside, machine_now, pools_now}
 use Rattle.sq_hub.specs.declared.hub.HubFault.{HubFault}
@@ -75,7 +74,7 @@ pub record GoesOn (n : ℕ) (v w : HubState) : Type 0 where
 -- the machine refuses the event so behind this history
 pub record RefusesLast (configs : List Configuration) (h : History) (e : Event) (why : Refusal) : Type 0 where
   pub now : ℕ
-  pub next_is : full_next configs (marked configs h) now e ≡ refuses why
+  pub next_is : next configs (marked configs h) now e ≡ refuses why
 
 -- a number would be the last
 abbrev pub IsForLastNumber : Refusal → Type 0

@@ -6,9 +6,9 @@ use Rattle.std.specs.declared.option.Option.{Option}
 use Rattle.std.specs.declared.result.Result.{Result}
 use Rattle.sq_base.specs.Addresses.{Address}
 use Rattle.sq_rules.specs.Configurations.{Configuration}
-use Rattle.sq_rules.specs.Entries.{History}
-use Rattle.sq_rules.specs.declared.entries.Event.TheVariants as event
-use Rattle.sq_rules.specs.declared.entries.Told.TheVariants as told
+use Rattle.sq_machine.specs.Entries.{History, entry_at}
+use Rattle.sq_machine.specs.declared.entries.Event.TheVariants as event
+use Rattle.sq_machine.specs.declared.entries.Told.TheVariants as told
 use Rattle.sq_base.specs.Requests.{HttpRequest}
 use Rattle.sq_session.specs.Fronts.{FrontTold, OfOpen, OfDecide, OfSit, OfClose}
 use Rattle.sq_session.specs.declared.front.CloseFault.{CloseFault}
@@ -17,7 +17,6 @@ use Rattle.sq_session.specs.declared.front.Decided.{Decided}
 use Rattle.sq_session.specs.declared.front.Decided.TheVariants as decided
 use Rattle.sq_session.specs.declared.front.Opened.{Opened}
 use Rattle.sq_session.specs.declared.front.Opened.TheVariants as opened
-use Rattle.sq_state.specs.Promises.{entry_at}
 use Rattle.sq_state.specs.States.{State}
 use Rattle.sq_hub.specs.Judging.{IsAttempt, IsDecision}
 use Rattle.sq_hub.specs.Tellings.{HubState, StandsAt}

@@ -6,18 +6,18 @@ use Rattle.std.specs.declared.result.Result.{Result}
 use Rattle.sq_base.specs.Addresses.{Address}
 use Rattle.sq_base.specs.Requests.{HttpRequest}
 use Rattle.sq_rules.specs.Configurations.{Configuration}
-use Rattle.sq_rules.specs.Entries.{History, Noted}
-use Rattle.sq_rules.specs.FullNext.{full_next}
-use Rattle.sq_rules.specs.Limits.{last_number}
-use Rattle.sq_rules.specs.Machine.{gives, refuses}
-use Rattle.sq_rules.specs.Marking.{marked}
-use Rattle.sq_rules.specs.Readings.{latest}
-use Rattle.sq_rules.specs.declared.entries.Event.{Event}
-use Rattle.sq_rules.specs.declared.entries.Event.TheVariants as event
-use Rattle.sq_rules.specs.declared.entries.Told.{Told}
-use Rattle.sq_rules.specs.declared.entries.Told.TheVariants as told
-use Rattle.sq_rules.specs.declared.refusals.Refusal.{Refusal}
-use Rattle.sq_rules.specs.declared.refusals.Refusal.TheVariants as refusal
+use Rattle.sq_machine.specs.Entries.{History, Noted, entry_at}
+use Rattle.sq_machine.specs.Machine.{next}
+use Rattle.sq_machine.specs.Limits.{last_number}
+use Rattle.sq_machine.specs.Next.{gives, refuses}
+use Rattle.sq_machine.specs.Marking.{marked}
+use Rattle.sq_machine.specs.Readings.{latest}
+use Rattle.sq_machine.specs.declared.entries.Event.{Event}
+use Rattle.sq_machine.specs.declared.entries.Event.TheVariants as event
+use Rattle.sq_machine.specs.declared.entries.Told.{Told}
+use Rattle.sq_machine.specs.declared.entries.Told.TheVariants as told
+use Rattle.sq_machine.specs.declared.refusals.Refusal.{Refusal}
+use Rattle.sq_machine.specs.declared.refusals.Refusal.TheVariants as refusal
 use Rattle.sq_rules.specs.declared.sights.Sight.{Sight}
 use Rattle.sq_rows.specs.declared.said.Stepped.{Stepped}
 use Rattle.sq_rows.specs.declared.said.Stepped.TheVariants as stepped
@@ -25,7 +25,7 @@ use Rattle.sq_checks.specs.Records.{Judged}
 use Rattle.sq_pools.specs.Basins.{Basin, HasLeft, IsChosen, IsGranted, grant_in, seat_in}
 use Rattle.sq_pools.specs.declared.pools.ChooseFault.{ChooseFault}
 use Rattle.sq_pools.specs.declared.pools.ChooseFault.TheVariants as choose
-use Rattle.sq_state.specs.Promises.{StandsFor, entry_at}
+use Rattle.sq_state.specs.Promises.{StandsFor}
 use Rattle.sq_state.specs.States.{IsSame, State}
 use Rattle.sq_hub.specs.declared.hub.HubFault.{HubFault}
 use Rattle.sq_hub.specs.declared.hub.HubFault.TheVariants.{Refused, JournalFault, WantOfMemory}
@@ -64,12 +64,12 @@ pub record StandsAt (configs : List Configuration) (h : History) (s : State) : T
 
 -- after each history that the state stood for the machine answers so, and the state that is left stands for the history with this entry
 pub record IsNext (s : State) (now : ℕ) (e : Event) (answer : Told) (new : State) : Type 0 where
-  pub gives : (configs : List Configuration) (h : History) → StandsAt configs h s → full_next configs (marked configs h) now e ≡ gives answer
+  pub gives : (configs : List Configuration) (h : History) → StandsAt configs h s → next configs (marked configs h) now e ≡ gives answer
   pub stands : (configs : List Configuration) (h : History) → StandsAt configs h s → StandsAt configs (entry_at now e answer ∷ h) new
 
 -- after each history that the state stands for the machine refuses so
 abbrev pub IsRefused : State → ℕ → Event → Refusal → Type 0
-IsRefused s now e why = (configs : List Configuration) (h : History) → StandsAt configs h s → full_next configs (marked configs h) now e ≡ refuses why
+IsRefused s now e why = (configs : List Configuration) (h : History) → StandsAt configs h s → next configs (marked configs h) now e ≡ refuses why
 
 -- a call answers the event as the machine does, in words of which R holds; where memory is wanting or the journal fails nothing is said
 abbrev pub Answers : {A : Type 0} → (A → Told → Type 0) → State → ℕ → Event → Result A HubFault → State → Type 0

@@ -3,15 +3,16 @@ ghost use Rattle.std.specs.Prelude.{◌≡◌, ℕ, ◌≤◌, true};
 ghost use Rattle.sq_outside.specs.Causes.{count_limit};
 ghost use Rattle.sq_pools.specs.Basins.{has_pool};
 ghost use Rattle.std.specs.declared.option.Option.{Option};
-ghost use Rattle.sq_rules.specs.declared.entries.Event.TheVariants as event;
+ghost use Rattle.sq_machine.specs.declared.entries.Event.TheVariants as event;
 ghost use Rattle.sq_hub.specs.Hubs.{HubRefuses, HubFails, asked_by, granted_by};
 ghost use Rattle.sq_hub.specs.Tellings.{HubState, Tells, MakesOn, Asks, Takes, Waited, Paused, Chooses, Grants, Leaves, IsFine, IsStep};
 
 use sq_base::{Addr, CheckNo, ConnNo, EpochNo, Request};
 use sq_checks::Record;
+use sq_machine::Refusal;
 use sq_pools::{ChooseFault, Seat};
 use sq_rows::Stepped;
-use sq_rules::{Config, Refusal};
+use sq_rules::Config;
 use sq_session::Counts;
 use std::alloc::Global;
 use std::sync::Arc;

@@ -11,9 +11,9 @@ use crate::judging::judge;
 use sq_base::{Addr, ConnNo, Request};
 use sq_checks::Record;
 use sq_forward::Meter;
+use sq_machine::Refusal;
 use sq_outside::COUNT_LIMIT;
 use sq_pools::{ChooseFault, Seat};
-use sq_rules::Refusal;
 use sq_session::{CloseFault, Counts, Decided, Front, Opened, SitFault};
 use std::alloc::Global;
 use std::sync::Wait;
@@ -33,7 +33,7 @@ pub struct HubFront<'a, R: Wait, H: Hub + Drop> {
 impl<'a, R: Wait, H: Hub + Drop> HubFront<'a, R, H> {
     ghost use Rattle.std.specs.Prelude.{List, [], IfSome};
     ghost use Rattle.sq_rules.specs.Configurations.{Configuration};
-    ghost use Rattle.sq_rules.specs.Entries.{History};
+    ghost use Rattle.sq_machine.specs.Entries.{History};
     ghost use Rattle.sq_hub.specs.Pieces.{FrontStands, machine_told};
     ghost use Rattle.sq_hub.specs.Tellings.{StandsAt};
 

@@ -1,21 +1,16 @@
 -- What lists of ranges and of domains hold, as they were written (configuration reference, `acl`, types
 -- src, dst and dstdomain).
-use Rattle.std.specs.Prelude.{ℕ, List, [], ◌∷◌, Bool, if◌then◌else◌, ◌||◌, ◌==◌, nat_eq, bytes_eq}
-use Rattle.std.specs.List.{list_any, ends_with}
+use Rattle.std.specs.Prelude.{ℕ, List, Bool}
+use Rattle.std.specs.List.{list_any}
 use Rattle.std.specs.Str.{str_to_ascii_lowercase}
 use Rattle.sq_base.specs.Addresses.{Address}
-use Rattle.sq_base.specs.Bytes.{dot}
+use Rattle.sq_base.specs.Domains.{in_domain}
 use Rattle.sq_base.specs.Ranges.{in_range}
 use Rattle.sq_base.specs.declared.addresses.Range.{Range}
 
 -- some range holds the address
 abbrev pub in_some_range : List Range → Address → Bool
 in_some_range ranges a = list_any (λ r. in_range r a) ranges
-
--- the host is the domain; one that begins with `.` stands for itself without it, and for all names below
-abbrev pub in_domain : List ℕ → List ℕ → Bool
-in_domain host [] = bytes_eq [] host
-in_domain host (b ∷ bs) = if b == dot then bytes_eq bs host || ends_with nat_eq host (b ∷ bs) else bytes_eq (b ∷ bs) host
 
 -- some domain holds the host; domains count in lower case, as hosts of requests are
 abbrev pub in_some_domain : List (List ℕ) → List ℕ → Bool

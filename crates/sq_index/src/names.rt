@@ -4,7 +4,7 @@ ghost use Rattle.std.specs.Char.{to_ascii_lowercase};
 ghost use Rattle.std.specs.List.{ends_with, slice_get};
 ghost use Rattle.std.specs.Str.{str_to_ascii_lowercase};
 ghost use Rattle.sq_base.specs.Bytes.{dot};
-ghost use Rattle.sq_index.specs.Members.{in_domain};
+ghost use Rattle.sq_base.specs.Domains.{in_domain};
 ghost use Rattle.sq_index.specs.Names.{is_at, is_front, is_up_to, path, shades};
 
 use sq_base::{Text, WantOfMemory};

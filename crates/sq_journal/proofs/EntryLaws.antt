@@ -3,8 +3,8 @@ use Rattle.std.proofs.Common.{◌≡◌, ℕ, List, [], ◌∷◌, ◌++◌, Som
 use Rattle.std.proofs.lemmas.Option.{same_Some, none-some}
 use Rattle.sq_base.proofs.CommonLaws.{if_some, then_some}
 use Rattle.sq_base.specs.NameTables.{beside}
-use Rattle.sq_rules.specs.declared.entries.Event.{Event}
-use Rattle.sq_rules.specs.Entries.{Noted, is_row}
+use Rattle.sq_machine.specs.declared.entries.Event.{Event}
+use Rattle.sq_machine.specs.Entries.{Noted, is_row}
 use Rattle.sq_journal.specs.declared.faults.EntryFault.{EntryFault}
 use Rattle.sq_journal.specs.declared.faults.EntryFault.TheVariants.{BadEntry, WantOfMemory}
 use Rattle.sq_journal.specs.EntryText.{event_words, told_words, entry_words, entry_text, dated_words, dated_text}

@@ -5,8 +5,8 @@ use Rattle.sq_base.specs.Addresses.{IsAddress, address_text}
 use Rattle.sq_base.specs.Decimals.{number_of, number_limit}
 use Rattle.sq_base.specs.Escapes.{text_of, text_word}
 use Rattle.sq_base.specs.Requests.{have_plain_names}
-use Rattle.sq_rules.specs.declared.entries.Event.{Event}
-use Rattle.sq_rules.specs.declared.entries.Event.TheVariants.{Begin, Open, Close, Ask, Step, Take, Started, StartFail, Line, Died, Act, Reconfigure, Seat, Grant, Leave}
+use Rattle.sq_machine.specs.declared.entries.Event.{Event}
+use Rattle.sq_machine.specs.declared.entries.Event.TheVariants.{Begin, Open, Close, Ask, Step, Take, Started, StartFail, Line, Died, Act, Reconfigure, Seat, Grant, Leave}
 use Rattle.sq_journal.specs.declared.names.EventName.TheVariants as name
 use Rattle.sq_journal.specs.EntryText.{event_words, field_word}
 use Rattle.sq_journal.specs.Names.{event_names}

@@ -3,7 +3,7 @@ use Rattle.std.proofs.Common.{◌≡◌, ℕ, List, [], ◌∷◌, ◌++◌, Som
 use Rattle.std.proofs.lemmas.Option.{same_Some, none-some}
 use Rattle.sq_base.proofs.CommonLaws.{then_some, map_some}
 use Rattle.sq_base.specs.Texts.{AreBytes}
-use Rattle.sq_rules.specs.Entries.{Noted}
+use Rattle.sq_machine.specs.Entries.{Noted}
 use Rattle.sq_rules.specs.Steps.{Words}
 use Rattle.sq_journal.specs.declared.faults.EntryFault.{EntryFault}
 use Rattle.sq_journal.specs.declared.faults.EntryFault.TheVariants.{BadEntry, WantOfMemory}

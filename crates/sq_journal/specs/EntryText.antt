@@ -9,11 +9,11 @@ use Rattle.sq_base.specs.Escapes.{text_word}
 use Rattle.sq_base.specs.declared.helpers.Word.{Word}
 use Rattle.sq_base.specs.declared.helpers.Word.TheVariants as reply
 use Rattle.sq_base.specs.declared.requests.Field.{Field}
-use Rattle.sq_rules.specs.declared.entries.Event.{Event}
-use Rattle.sq_rules.specs.declared.entries.Event.TheVariants.{Begin, Open, Close, Ask, Step, Take, Started, StartFail, Line, Died, Act, Reconfigure, Seat, Grant, Leave}
-use Rattle.sq_rules.specs.declared.entries.Told.{Told}
-use Rattle.sq_rules.specs.declared.entries.Told.TheVariants as told
-use Rattle.sq_rules.specs.Entries.{Noted, History}
+use Rattle.sq_machine.specs.declared.entries.Event.{Event}
+use Rattle.sq_machine.specs.declared.entries.Event.TheVariants.{Begin, Open, Close, Ask, Step, Take, Started, StartFail, Line, Died, Act, Reconfigure, Seat, Grant, Leave}
+use Rattle.sq_machine.specs.declared.entries.Told.{Told}
+use Rattle.sq_machine.specs.declared.entries.Told.TheVariants as told
+use Rattle.sq_machine.specs.Entries.{Noted, History}
 use Rattle.sq_rules.specs.OutcomeText.{outcome_words}
 use Rattle.sq_journal.specs.Lines.{line_of}
 use Rattle.sq_rules.specs.Steps.{Words}
@@ -78,14 +78,6 @@ dated_words moment event = decimal moment ∷ event_words event
 -- the words of an entry
 abbrev pub entry_words : Noted → Words
 entry_words e = decimal e.moment ∷ event_words e.event ++ codes "=>" ∷ told_words e.answer
-
--- the text of an event
-abbrev pub event_text : Event → List ℕ
-event_text event = line_of (event_words event)
-
--- the text of an answer
-abbrev pub told_text : Told → List ℕ
-told_text answer = line_of (told_words answer)
 
 -- the text of a script's line: a moment and an event
 abbrev pub dated_text : ℕ → Event → List ℕ

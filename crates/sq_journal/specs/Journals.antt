@@ -2,8 +2,8 @@
 -- `journal 2`, and each entry's text stands after its number and its epoch.
 use Rattle.std.specs.Prelude.{ℕ, ◌+◌, ◌-◌, ◌^◌, min, List, [], ◌∷◌, ◌++◌, length, codes, decimal}
 use Rattle.sq_base.specs.Bytes.{lf}
-use Rattle.sq_rules.specs.Entries.{Noted, History}
-use Rattle.sq_rules.specs.Readings.{current}
+use Rattle.sq_machine.specs.Entries.{Noted, History}
+use Rattle.sq_machine.specs.Readings.{current}
 use Rattle.sq_rules.specs.Steps.{Words}
 use Rattle.sq_journal.specs.EntryText.{entry_words}
 use Rattle.sq_journal.specs.Lines.{line_of}

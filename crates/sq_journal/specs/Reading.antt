@@ -7,8 +7,8 @@ use Rattle.sq_base.specs.Decimals.{number_of, number_limit, port_limit}
 use Rattle.sq_base.specs.Escapes.{text_of}
 use Rattle.sq_base.specs.NameTables.{beside}
 use Rattle.sq_base.specs.declared.requests.Field.{Field}
-use Rattle.sq_rules.specs.declared.entries.Event.{Event}
-use Rattle.sq_rules.specs.declared.entries.Event.TheVariants.{Begin, Open, Close, Ask, Step, Take, Started, StartFail, Line, Died, Act, Reconfigure, Seat, Grant, Leave}
+use Rattle.sq_machine.specs.declared.entries.Event.{Event}
+use Rattle.sq_machine.specs.declared.entries.Event.TheVariants.{Begin, Open, Close, Ask, Step, Take, Started, StartFail, Line, Died, Act, Reconfigure, Seat, Grant, Leave}
 use Rattle.sq_rules.specs.Steps.{Words}
 use Rattle.sq_journal.specs.declared.faults.EntryFault.{EntryFault}
 use Rattle.sq_journal.specs.declared.faults.EntryFault.TheVariants.{BadEntry, WantOfMemory}

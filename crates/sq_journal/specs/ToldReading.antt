@@ -4,13 +4,13 @@ use Rattle.std.specs.declared.option.Option.{Option}
 use Rattle.sq_base.specs.Decimals.{number_of}
 use Rattle.sq_base.specs.NameTables.{beside}
 use Rattle.sq_base.specs.Replies.{channel_limit}
-use Rattle.sq_rules.specs.declared.entries.Event.{Event}
-use Rattle.sq_rules.specs.declared.entries.Told.{Told}
-use Rattle.sq_rules.specs.declared.entries.Told.TheVariants as told
+use Rattle.sq_machine.specs.declared.entries.Event.{Event}
+use Rattle.sq_machine.specs.declared.entries.Told.{Told}
+use Rattle.sq_machine.specs.declared.entries.Told.TheVariants as told
 use Rattle.sq_rules.specs.declared.outcomes.Outcome.{Outcome}
 use Rattle.sq_rules.specs.declared.outcomes.Why.{Why}
 use Rattle.sq_rules.specs.declared.outcomes.Why.TheVariants as why
-use Rattle.sq_rules.specs.Entries.{Noted, is_row}
+use Rattle.sq_machine.specs.Entries.{Noted, is_row}
 use Rattle.sq_rules.specs.Steps.{Words}
 use Rattle.sq_journal.specs.declared.names.ToldName.{ToldName}
 use Rattle.sq_journal.specs.declared.names.ToldName.TheVariants as name

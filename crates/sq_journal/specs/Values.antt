@@ -7,13 +7,13 @@ use Rattle.sq_base.specs.Decimals.{number_limit, port_limit}
 use Rattle.sq_base.specs.Replies.{channel_limit}
 use Rattle.sq_base.specs.Texts.{AreBytes}
 use Rattle.sq_base.specs.declared.requests.Field.{Field}
-use Rattle.sq_rules.specs.declared.entries.Event.{Event}
-use Rattle.sq_rules.specs.declared.entries.Event.TheVariants.{Begin, Open, Close, Ask, Step, Take, Started, StartFail, Line, Died, Act, Reconfigure, Seat, Grant, Leave}
-use Rattle.sq_rules.specs.declared.entries.Told.{Told}
-use Rattle.sq_rules.specs.declared.entries.Told.TheVariants as told
+use Rattle.sq_machine.specs.declared.entries.Event.{Event}
+use Rattle.sq_machine.specs.declared.entries.Event.TheVariants.{Begin, Open, Close, Ask, Step, Take, Started, StartFail, Line, Died, Act, Reconfigure, Seat, Grant, Leave}
+use Rattle.sq_machine.specs.declared.entries.Told.{Told}
+use Rattle.sq_machine.specs.declared.entries.Told.TheVariants as told
 use Rattle.sq_rules.specs.declared.outcomes.Why.{Why}
 use Rattle.sq_rules.specs.declared.outcomes.Why.TheVariants as why
-use Rattle.sq_rules.specs.Entries.{Noted, IsEntry, is_event, is_amount}
+use Rattle.sq_machine.specs.Entries.{Noted, IsEntry, is_event, is_amount}
 
 -- a number of a connection, a check and the like, a moment, or an amount
 abbrev pub IsNumber : ℕ → Type 0

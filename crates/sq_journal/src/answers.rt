@@ -10,7 +10,7 @@ use crate::outcomes::outcome;
 use crate::values::{number, text};
 use crate::words::Words;
 use sq_base::{CheckNo, EpochNo, ProcNo, QuestionNo, SeatNo, number_of};
-use sq_rules::Told;
+use sq_machine::Told;
 use std::alloc::Global;
 
 /// An answer, by its name.

@@ -1,7 +1,7 @@
 //! Entries printed and read.
 ghost use Rattle.std.specs.Prelude.{◌≡◌, ◌∷◌, ◌++◌, [], ℕ, IfOk, codes};
-ghost use Rattle.sq_rules.specs.Entries.{Noted};
-ghost use Rattle.sq_rules.specs.declared.entries.Event.{Event};
+ghost use Rattle.sq_machine.specs.Entries.{Noted};
+ghost use Rattle.sq_machine.specs.declared.entries.Event.{Event};
 ghost use Rattle.sq_journal.specs.EntryText.{entry_text, dated_text, event_words, told_words};
 ghost use Rattle.sq_journal.specs.Lines.{after_spaces, spaced_words};
 ghost use Rattle.sq_journal.specs.Putting.{Puts};
@@ -20,8 +20,8 @@ use crate::told_printing::put_told;
 use crate::values::number;
 use crate::words::Words;
 use sq_base::{Moment, Text, WantOfMemory};
+use sq_machine::{Entry, Event, Told};
 use sq_outside::{Failed, Sink};
-use sq_rules::{Entry, Event, Told};
 use std::alloc::Global;
 
 /// Writes the text of an entry, its line without LF, piece by piece and without memory. After a fault a front

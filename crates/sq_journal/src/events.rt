@@ -8,7 +8,7 @@ use crate::names::{EventName, event_name};
 use crate::values::{address, below, number, offset, read_field, text};
 use crate::words::Words;
 use sq_base::{CheckNo, ConnNo, EpochNo, Fields, Listed, ProcNo, SeatNo};
-use sq_rules::Event;
+use sq_machine::Event;
 use std::alloc::Global;
 
 /// An event, by its name.

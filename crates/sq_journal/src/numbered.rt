@@ -1,6 +1,6 @@
 //! Entries with their numbers and epochs, as the lines of a journal of version 2 have them.
 ghost use Rattle.std.specs.Prelude.{◌≡◌, ℕ, IfOk};
-ghost use Rattle.sq_rules.specs.Entries.{Noted};
+ghost use Rattle.sq_machine.specs.Entries.{Noted};
 ghost use Rattle.sq_journal.specs.Journals.{numbered_text};
 ghost use Rattle.sq_journal.specs.Lines.{spaced_words};
 ghost use Rattle.sq_journal.specs.Putting.{Puts};
@@ -14,8 +14,8 @@ use crate::putting::{Printed, put, put_decimal, put_epoch};
 use crate::values::number;
 use crate::words::Words;
 use sq_base::{EpochNo, Text, WantOfMemory};
+use sq_machine::Entry;
 use sq_outside::{Failed, Sink};
-use sq_rules::Entry;
 use std::alloc::Global;
 
 /// Writes the text of an entry after its number and its epoch, without LF, piece by piece and without memory.

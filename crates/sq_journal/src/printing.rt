@@ -7,15 +7,15 @@ ghost use Rattle.sq_journal.specs.EntryText.{event_words, field_word};
 ghost use Rattle.sq_journal.specs.Lines.{after_spaces};
 ghost use Rattle.sq_journal.specs.Printing.{piece_text};
 ghost use Rattle.sq_journal.specs.Putting.{Puts};
-ghost use Rattle.sq_rules.specs.declared.entries.Event.TheVariants as event;
+ghost use Rattle.sq_machine.specs.declared.entries.Event.TheVariants as event;
 
 use crate::addresses::put_address;
 use crate::escapes::{put_escaped, put_text};
 use crate::putting::{put, put_decimal};
 use itoa::Buffer;
 use sq_base::{Addr, ConnNo, Field, SeatNo, Text};
+use sq_machine::Event;
 use sq_outside::{Failed, Sink};
-use sq_rules::Event;
 
 /// A word of a line, and what it says.
 #[derive(Clone, Copy)]

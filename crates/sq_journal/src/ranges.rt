@@ -1,11 +1,12 @@
 //! That every entry is made of values of its types: numbers below their limits, and bytes.
 ghost use Rattle.std.specs.Prelude.{◌≡◌, true};
-ghost use Rattle.sq_rules.specs.Entries.{is_event};
+ghost use Rattle.sq_machine.specs.Entries.{is_event};
 ghost use Rattle.sq_base.specs.Texts.{AreBytes};
 ghost use Rattle.sq_journal.specs.Values.{AreFields, HoldsValues, IsTold, IsWhy, IsNoted, IsChannel, has_amount};
 
 use sq_base::{Field, Text};
-use sq_rules::{Entry, Event, Told, Why};
+use sq_machine::{Entry, Event, Told};
+use sq_rules::Why;
 
 /// Every entry is one of those of which `read_entry` speaks. This is a law: it changes nothing.
 pub fn holds_values(entry: &Entry)

@@ -1,8 +1,9 @@
 //! Whether an answer is one that its event may have.
 ghost use Rattle.std.specs.Prelude.{◌≡◌};
-ghost use Rattle.sq_rules.specs.Entries.{is_row, is_outcome, must_deny};
+ghost use Rattle.sq_machine.specs.Entries.{is_row, is_outcome, must_deny};
 
-use sq_rules::{Event, Outcome, Told, Why};
+use sq_machine::{Event, Told};
+use sq_rules::{Outcome, Why};
 
 /// Whether the event may have this answer.
 pub fn is_row(event: &Event, answer: &Told) -> bool

@@ -5,12 +5,13 @@ ghost use Rattle.sq_rules.specs.OutcomeText.{cause_word, action_word};
 ghost use Rattle.sq_journal.specs.EntryText.{told_words, result_word};
 ghost use Rattle.sq_journal.specs.Lines.{after_spaces};
 ghost use Rattle.sq_journal.specs.Putting.{Puts};
-ghost use Rattle.sq_rules.specs.declared.entries.Told.TheVariants as told;
+ghost use Rattle.sq_machine.specs.declared.entries.Told.TheVariants as told;
 
 use crate::printing::{Piece, put_name, put_number, put_pair, put_pieces};
 use sq_base::{Cause, EpochNo, ProcNo, QuestionNo, SeatNo, Text, Word};
+use sq_machine::Told;
 use sq_outside::{Failed, Sink};
-use sq_rules::{Outcome, Told, Why};
+use sq_rules::{Outcome, Why};
 
 /// Puts the words of an answer.
 pub fn put_told<O: Sink>(to: &mut O, answer: &Told) -> Result<(), Failed>

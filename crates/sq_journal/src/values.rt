@@ -10,7 +10,7 @@ use crate::faults::EntryFault;
 use crate::words::Words;
 use sq_addr::{print_addr, read_addr};
 use sq_base::{Addr, Field, Text, number_of};
-use sq_rules::Offset;
+use sq_machine::Offset;
 use std::alloc::Global;
 
 /// Numbers of connections and the like, moments and amounts are below this.

@@ -1,8 +1,8 @@
 -- The tables of open lookups agree after each change.
 use Rattle.std.proofs.Common.{◌≡◌, ◌∙◌, ◌==◌, ◌&&◌, ◌||◌, not, cond, Bool, true, false, ℕ, List, [], ◌∷◌, Option, None, Some, is_some, refl, ap, sym}
-use Rattle.sq_rules.specs.KeptLists.{same_key}
-use Rattle.sq_rules.specs.Events.{is_number}
-use Rattle.sq_rules.specs.OpenLookups.{WaitingChecks, pending_in, is_open_lookup, key_of, with_lookup, question_of, waits_in}
+use Rattle.sq_machine.specs.KeptLists.{same_key}
+use Rattle.sq_machine.specs.Events.{is_number}
+use Rattle.sq_machine.specs.OpenLookups.{WaitingChecks, pending_in, is_open_lookup, key_of, with_lookup, question_of, waits_in}
 use Rattle.sq_lookup.specs.Index.{IsIndexed, question_at, row_at, rows_of, listed_by, listed_in, without_row}
 use Rattle.sq_lookup.specs.Waits.{has_check, is_free}
 use Rattle.sq_lookup.specs.declared.rows.Row.{Row}

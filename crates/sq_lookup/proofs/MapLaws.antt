@@ -6,7 +6,7 @@ use Rattle.std.specs.Ordering.{nat_cmp, is_eq}
 use Rattle.std.specs.declared.cmp.Ordering.TheVariants.{Less, Equal, Greater}
 use Rattle.std.specs.Cmp.Lexicographic.{slice_cmp, same_text}
 use Rattle.std.proofs.lemmas.Map.Text.{is_eq-slice_cmp}
-use Rattle.sq_rules.specs.KeptLists.{same_key}
+use Rattle.sq_machine.specs.KeptLists.{same_key}
 use Rattle.sq_lookup.proofs.CheckLaws.{same_number, other_number}
 
 -- for equal numbers

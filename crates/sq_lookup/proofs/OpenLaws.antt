@@ -1,8 +1,8 @@
 -- Lists of open lookups: how a new one and an ended one change what is pending for a key.
 use Rattle.std.proofs.Common.{◌≡◌, ◌∙◌, ◌==◌, ◌&&◌, ◌||◌, ◌++◌, cond, Bool, true, false, ℕ, List, [], ◌∷◌, Option, None, Some, is_none, is_some, find, nat_lt, refl, ap, arith}
 use Rattle.std.specs.Option.{option_map}
-use Rattle.sq_rules.specs.KeptLists.{same_key}
-use Rattle.sq_rules.specs.OpenLookups.{LookupRow, pending_in, keys_once, is_open_lookup, key_of, with_lookup, all_below}
+use Rattle.sq_machine.specs.KeptLists.{same_key}
+use Rattle.sq_machine.specs.OpenLookups.{LookupRow, pending_in, keys_once, is_open_lookup, key_of, with_lookup, all_below}
 use Rattle.sq_lookup.specs.Index.{without_row}
 use Rattle.sq_lookup.proofs.MapLaws.{self_number, key_is, same_again, turned}
 

@@ -7,7 +7,7 @@ use Rattle.std.specs.declared.cmp.Ordering.TheVariants.{Less, Equal, Greater}
 use Rattle.std.specs.List.{IsDistinct, AllByRecursion}
 use Rattle.std.specs.List.Sorted.{IsStrictlySortedBy}
 use Rattle.std.proofs.lemmas.Map.Keys.{IsDistinct-from_sorted}
-use Rattle.sq_rules.specs.OpenLookups.{LookupRow, with_lookup}
+use Rattle.sq_machine.specs.OpenLookups.{LookupRow, with_lookup}
 use Rattle.sq_lookup.specs.Index.{row_at, rows_of, listed_by, listed_in, without_row}
 use Rattle.sq_lookup.specs.Waits.{has_check}
 use Rattle.sq_lookup.specs.declared.rows.Row.{Row}

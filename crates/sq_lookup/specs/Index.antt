@@ -2,8 +2,8 @@
 use Rattle.std.specs.Prelude.{◌≡◌, ℕ, List, [], ◌∷◌, Bool, true, false, ◌==◌, map, cond, None, Some}
 use Rattle.std.specs.declared.option.Option.{Option}
 use Rattle.std.specs.Map.{lookup, remove_entry}
-use Rattle.sq_rules.specs.KeptLists.{same_key}
-use Rattle.sq_rules.specs.OpenLookups.{LookupRow, WaitingChecks, key_of, pending_in, keys_once, waits_in}
+use Rattle.sq_machine.specs.KeptLists.{same_key}
+use Rattle.sq_machine.specs.OpenLookups.{LookupRow, WaitingChecks, key_of, pending_in, keys_once, waits_in}
 use Rattle.sq_lookup.specs.Waits.{has_check}
 use Rattle.sq_lookup.specs.declared.rows.Row.{Row}
 

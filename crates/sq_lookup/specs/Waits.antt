@@ -3,7 +3,7 @@ use Rattle.std.specs.Prelude.{ℕ, List, Bool, true, ◌==◌, None, Some, is_no
 use Rattle.std.specs.declared.option.Option.{Option}
 use Rattle.std.specs.List.{list_any}
 use Rattle.std.specs.Map.{remove_entry}
-use Rattle.sq_rules.specs.OpenLookups.{WaitingChecks, question_of}
+use Rattle.sq_machine.specs.OpenLookups.{WaitingChecks, question_of}
 
 -- a check is among these
 abbrev pub has_check : ℕ → List ℕ → Bool

@@ -1,6 +1,6 @@
 //! The open question of each key.
 ghost use Rattle.std.specs.Prelude.{◌≡◌, [], ℕ, List, Some, None, if◌then◌else◌, OnOk, OnErr};
-ghost use Rattle.sq_rules.specs.KeptLists.{same_key};
+ghost use Rattle.sq_machine.specs.KeptLists.{same_key};
 ghost use Rattle.sq_lookup.specs.Index.{question_at, without_key};
 
 use sq_base::{QuestionNo, Text, WantOfMemory};

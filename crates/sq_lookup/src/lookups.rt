@@ -1,7 +1,7 @@
 //! The open lookups of one class.
 ghost use Rattle.std.specs.Prelude.{◌≡◌, ◌==◌, ◌++◌, ◌∷◌, [], ℕ, not, true, false, is_some, filter, if◌then◌else◌, Some, None, OnOk, OnErr, IfOk, IfSome};
-ghost use Rattle.sq_rules.specs.Events.{is_number};
-ghost use Rattle.sq_rules.specs.OpenLookups.{pending_in, keys_once, is_open_lookup, with_lookup, all_below, question_of, waits_in};
+ghost use Rattle.sq_machine.specs.Events.{is_number};
+ghost use Rattle.sq_machine.specs.OpenLookups.{pending_in, keys_once, is_open_lookup, with_lookup, all_below, question_of, waits_in};
 ghost use Rattle.sq_lookup.specs.Index.{IsListed};
 ghost use Rattle.sq_lookup.specs.Waits.{has_check, is_free};
 

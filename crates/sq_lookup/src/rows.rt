@@ -1,7 +1,7 @@
 //! The open lookups by question.
 ghost use Rattle.std.specs.Prelude.{◌≡◌, ◌==◌, ◌&&◌, ◌||◌, not, true, [], ℕ, Some, None, filter, is_some, if◌then◌else◌, OnOk, OnErr, IfErr, IfNone};
 ghost use Rattle.std.specs.Option.{option_copied};
-ghost use Rattle.sq_rules.specs.OpenLookups.{with_lookup};
+ghost use Rattle.sq_machine.specs.OpenLookups.{with_lookup};
 ghost use Rattle.sq_lookup.specs.Index.{row_at, rows_of, listed_in, without_row};
 ghost use Rattle.sq_lookup.specs.Waits.{has_check};
 

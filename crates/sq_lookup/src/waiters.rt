@@ -1,8 +1,8 @@
 //! The question that each check waits for.
 ghost use Rattle.std.specs.Prelude.{◌≡◌, ◌==◌, [], ℕ, true, Some, None, if◌then◌else◌, OnOk, OnErr};
-ghost use Rattle.sq_rules.specs.OpenLookups.{question_of};
+ghost use Rattle.sq_machine.specs.OpenLookups.{question_of};
 ghost use Rattle.sq_lookup.specs.Waits.{has_check, is_free, without_waiting, without_some};
-ghost use Rattle.sq_rules.specs.Events.{is_number};
+ghost use Rattle.sq_machine.specs.Events.{is_number};
 
 use crate::checks::Checks;
 use sq_base::{CheckNo, QuestionNo, WantOfMemory};
@@ -17,7 +17,7 @@ pub(crate) struct Waiters {
 }
 
 impl Model for Waiters {
-    ghost use Rattle.sq_rules.specs.OpenLookups.{WaitingChecks};
+    ghost use Rattle.sq_machine.specs.OpenLookups.{WaitingChecks};
 
     ghost Value = { WaitingChecks };
 

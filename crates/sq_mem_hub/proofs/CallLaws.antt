@@ -6,25 +6,25 @@ use Rattle.sq_rows.specs.CheckRows.{Held, held_at}
 use Rattle.sq_rows.specs.declared.said.Stepped.{Stepped}
 use Rattle.sq_rows.specs.declared.said.Stepped.TheVariants as stepped
 use Rattle.sq_rules.specs.Configurations.{Configuration}
-use Rattle.sq_rules.specs.Entries.{History}
-use Rattle.sq_rules.specs.FullNext.{full_next}
-use Rattle.sq_rules.specs.Machine.{gives, refuses}
-use Rattle.sq_rules.specs.Marking.{marked}
-use Rattle.sq_rules.specs.Marks.{entries}
-use Rattle.sq_rules.specs.Readings.{latest}
+use Rattle.sq_machine.specs.Entries.{History, entry_at}
+use Rattle.sq_machine.specs.Machine.{next}
+use Rattle.sq_machine.specs.Next.{gives, refuses}
+use Rattle.sq_machine.specs.Marking.{marked}
+use Rattle.sq_machine.specs.Marks.{entries}
+use Rattle.sq_machine.specs.Readings.{latest}
 use Rattle.sq_rules.specs.Verdicts.{pool_of}
-use Rattle.sq_rules.specs.declared.entries.Event.{Event}
-use Rattle.sq_rules.specs.declared.entries.Event.TheVariants as event
-use Rattle.sq_rules.specs.declared.entries.Told.{Told}
-use Rattle.sq_rules.specs.declared.entries.Told.TheVariants as told
-use Rattle.sq_rules.specs.declared.refusals.Refusal.{Refusal}
-use Rattle.sq_rules.specs.declared.refusals.Refusal.TheVariants as refusal
+use Rattle.sq_machine.specs.declared.entries.Event.{Event}
+use Rattle.sq_machine.specs.declared.entries.Event.TheVariants as event
+use Rattle.sq_machine.specs.declared.entries.Told.{Told}
+use Rattle.sq_machine.specs.declared.entries.Told.TheVariants as told
+use Rattle.sq_machine.specs.declared.refusals.Refusal.{Refusal}
+use Rattle.sq_machine.specs.declared.refusals.Refusal.TheVariants as refusal
 use Rattle.sq_checks.specs.OpenChecks.{CheckParts, row, rows_of}
 use Rattle.sq_checks.specs.Records.{Judged, judged_of}
 use Rattle.sq_checks.specs.Tables.{value_at}
 use Rattle.sq_pools.specs.Basins.{Basin}
 use Rattle.sq_state.specs.Answers.{take_answer, take_of_held}
-use Rattle.sq_state.specs.Promises.{IsAnswered, StandsFor, entry_at}
+use Rattle.sq_state.specs.Promises.{IsAnswered, StandsFor}
 use Rattle.sq_state.specs.States.{IsSame, State, is_of_pools, machine_moment}
 use Rattle.sq_engine.proofs.TableLaws.{row_at_number}
 use Rattle.sq_engine.specs.Begun as engine
@@ -82,7 +82,7 @@ next_by s t moment e answer other promised = record {
 
 -- of a call that is refused
 refused_by : (s : State) (moment : ℕ) (e : Event) (why : Refusal)
-    → ((configs : List Configuration) (h : History) → StandsFor configs h s → latest h ≤ max moment s.latest → full_next configs (marked configs h) (max moment s.latest) e ≡ refuses why)
+    → ((configs : List Configuration) (h : History) → StandsFor configs h s → latest h ≤ max moment s.latest → next configs (marked configs h) (max moment s.latest) e ≡ refuses why)
     → IsRefused s (max moment s.latest) e why
 refused_by s moment e why promised = λ configs h st. promised configs h st.stands (omega (arith, st.newest))
 

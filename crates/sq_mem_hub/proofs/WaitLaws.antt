@@ -3,20 +3,20 @@ use Rattle.std.proofs.Common.{◌≡◌, ℕ, ◌≤◌, List, [], ◌∷◌, �
 use Rattle.std.specs.List.{list_all}
 use Rattle.std.proofs.lemmas.List.Folds.{list_all-append}
 use Rattle.sq_rules.specs.Configurations.{Configuration}
-use Rattle.sq_rules.specs.DueActs.{Place}
-use Rattle.sq_rules.specs.Entries.{History}
-use Rattle.sq_rules.specs.Marking.{marked}
-use Rattle.sq_rules.specs.Readings.{latest}
-use Rattle.sq_rules.specs.declared.entries.Event.{Event}
-use Rattle.sq_rules.specs.declared.entries.Event.TheVariants as event
-use Rattle.sq_rules.specs.declared.entries.Told.{Told}
-use Rattle.sq_rules.specs.declared.refusals.Refusal.{Refusal}
+use Rattle.sq_machine.specs.DueActs.{Place}
+use Rattle.sq_machine.specs.Entries.{History, entry_at}
+use Rattle.sq_machine.specs.Marking.{marked}
+use Rattle.sq_machine.specs.Readings.{latest}
+use Rattle.sq_machine.specs.declared.entries.Event.{Event}
+use Rattle.sq_machine.specs.declared.entries.Event.TheVariants as event
+use Rattle.sq_machine.specs.declared.entries.Told.{Told}
+use Rattle.sq_machine.specs.declared.refusals.Refusal.{Refusal}
 use Rattle.sq_checks.specs.OpenChecks.{CheckParts}
 use Rattle.sq_epochs.specs.declared.acts.Act.{Act}
 use Rattle.sq_pools.specs.Basins.{Basin}
 use Rattle.sq_state.proofs.Lawful.{stands_same}
 use Rattle.sq_state.specs.Answers.{name_in}
-use Rattle.sq_state.specs.Promises.{IsAnswered, StandsFor, entry_at}
+use Rattle.sq_state.specs.Promises.{IsAnswered, StandsFor}
 use Rattle.sq_state.specs.States.{IsSame, State, is_of_pools}
 use Rattle.sq_engine.specs.Acting.{IsActPromised, told_of_act}
 use Rattle.sq_engine.specs.Begun as engine

@@ -12,10 +12,11 @@ use sq_cache::HashSeed;
 use sq_checks::Record;
 use sq_engine::Engine;
 use sq_hub::{Hub, HubFault};
-use sq_outside::COUNT_LIMIT;
+use sq_machine::{Offset, Refusal};
+use sq_outside::{raised, raised_by};
 use sq_pools::{ChooseFault, Pools, Seat};
 use sq_rows::Stepped;
-use sq_rules::{Config, Offset, Refusal};
+use sq_rules::Config;
 use sq_session::Counts;
 use sq_urlmatch::Setup;
 use std::alloc::Global;
@@ -38,14 +39,6 @@ pub struct MemHub<'a, R: Wait> {
     ghost asked_capped: { asked ≤ 2 ^ 63 - 1 },
     ghost refused_capped: { refused ≤ 2 ^ 63 - 1 },
     ghost granted_capped: { granted ≤ 2 ^ 63 - 1 },
-}
-
-// The count after one more.
-fn raised(count: u64) -> u64
-    requires { count ≤ 2 ^ 63 - 1 }
-    ensures { result ≡ raised count }
-{
-    (count + 1).min(COUNT_LIMIT)
 }
 
 // What holds of every request.
@@ -78,12 +71,12 @@ fn answer<T>(refused: &mut u64, made: Result<T, Refusal>) -> Result<T, HubFault>
 impl<'a, R: Wait> MemHub<'a, R> {
     ghost use Rattle.std.specs.Prelude.{IfOk, List, [], pos};
     ghost use Rattle.sq_rules.specs.Configurations.{Configuration, IsConfiguration};
-    ghost use Rattle.sq_rules.specs.Machine.{config_of};
+    ghost use Rattle.sq_machine.specs.Epochs.{config_of};
     ghost use Rattle.sq_history.specs.Given.{EachOf};
-    ghost use Rattle.sq_state.specs.Promises.{entry_at};
+    ghost use Rattle.sq_machine.specs.Entries.{entry_at};
     ghost use Rattle.sq_engine.specs.EngineViews.{state_of};
-    ghost use Rattle.sq_rules.specs.declared.entries.Event.TheVariants as event;
-    ghost use Rattle.sq_rules.specs.declared.entries.Told.TheVariants as told;
+    ghost use Rattle.sq_machine.specs.declared.entries.Event.TheVariants as event;
+    ghost use Rattle.sq_machine.specs.declared.entries.Told.TheVariants as told;
     ghost use Rattle.sq_hub.specs.Tellings.{StandsAt};
 
     /// A machine that begins with this configuration at this moment, with its pools. The helper processes write these
@@ -182,7 +175,7 @@ impl<'a, R: Wait> Hub for MemHub<'a, R> {
 
     fn grant(&mut self, seat: &Seat, wanted: u64) -> u64 {
         let given = self.pools.grant(seat, wanted, self.moment);
-        self.granted = self.granted.saturating_add(given).min(COUNT_LIMIT);
+        self.granted = raised_by(self.granted, given);
         given
     }
 

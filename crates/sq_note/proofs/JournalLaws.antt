@@ -5,9 +5,9 @@ use Rattle.std.specs.Io.KnownBytes.{Appends}
 use Rattle.std.proofs.KnownBytes.{Appends-trans}
 use Rattle.sq_outside.specs.Output.{Grew, IsPrefix, IsProperPrefix}
 use Rattle.sq_outside.proofs.Writing.{IsProperPrefix_after, IsPrefix_refl, IsPrefix_more}
-use Rattle.sq_rules.specs.Entries.{Noted, History}
-use Rattle.sq_rules.specs.Events.{begins_epoch}
-use Rattle.sq_rules.specs.Readings.{current, epoch_after}
+use Rattle.sq_machine.specs.Entries.{Noted, History}
+use Rattle.sq_machine.specs.Events.{begins_epoch}
+use Rattle.sq_machine.specs.Readings.{current, epoch_after}
 use Rattle.sq_journal.specs.Journals.{version_line, numbered_lines, numbered_line, next_number, greatest_number, number_at, epoch_at, journal_text}
 use Rattle.sq_note.specs.Sinks.{epoch_behind, line_after, HasWritten, IsCutIn, has_stopped}
 use Rattle.sq_note.specs.declared.sink_journal.SinkJournal.{SinkJournal}

@@ -1,7 +1,7 @@
 -- What a journal in memory tells, its room, and the calls of it that are to fail.
 use Rattle.std.specs.Prelude.{ℕ, ◌-◌, List, reverse, Bool, ◌||◌, nat_lt, vec_len}
 use Rattle.sq_outside.specs.Calls.{next_call, is_listed}
-use Rattle.sq_rules.specs.Entries.{Noted, History}
+use Rattle.sq_machine.specs.Entries.{Noted, History}
 use Rattle.sq_note.specs.declared.mem_journal.MemJournal.{MemJournal}
 
 -- the entries, the oldest first

@@ -2,7 +2,7 @@
 use Rattle.std.specs.Prelude.{◌∷◌}
 use Rattle.std.specs.Option.{option_map}
 use Rattle.std.specs.declared.option.Option.{Option}
-use Rattle.sq_rules.specs.Entries.{Noted, History}
+use Rattle.sq_machine.specs.Entries.{Noted, History}
 
 -- with this entry as the newest, where entries are told
 abbrev pub with_entry : Noted → Option History → Option History

@@ -3,9 +3,9 @@ use Rattle.std.specs.Prelude.{◌≡◌, ℕ, List, ◌∷◌, ◌++◌, Bool, f
 use Rattle.std.specs.declared.option.Option.{Option}
 use Rattle.std.specs.Io.KnownBytes.{Appends}
 use Rattle.sq_outside.specs.Output.{IsProperPrefix}
-use Rattle.sq_rules.specs.declared.entries.Event.{Event}
-use Rattle.sq_rules.specs.Entries.{Noted, History}
-use Rattle.sq_rules.specs.Events.{begins_epoch}
+use Rattle.sq_machine.specs.declared.entries.Event.{Event}
+use Rattle.sq_machine.specs.Entries.{Noted, History}
+use Rattle.sq_machine.specs.Events.{begins_epoch}
 use Rattle.sq_journal.specs.Journals.{version_line, numbered_line, next_number, number_at, epoch_at, journal_text}
 use Rattle.sq_note.specs.declared.sink_journal.SinkJournal.{SinkJournal}
 

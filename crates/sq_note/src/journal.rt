@@ -2,12 +2,12 @@
 ghost use Rattle.std.specs.Prelude.{◌≡◌, ◌+◌, ℕ, ◌<◌, ◌≤◌, OnOk, OnErr};
 ghost use Rattle.std.specs.declared.option.Option.{Option};
 ghost use Rattle.sq_outside.specs.Causes.{HasCause, count_limit};
-ghost use Rattle.sq_rules.specs.Entries.{History};
+ghost use Rattle.sq_machine.specs.Entries.{History};
 ghost use Rattle.sq_note.specs.Noting.{with_entry};
 
 use sq_base::WantOfMemory;
+use sq_machine::Entry;
 use sq_outside::Failed;
-use sq_rules::Entry;
 
 /// A journal to which entries are noted, each in a place that was made before.
 pub trait Journal {

@@ -6,8 +6,8 @@ ghost use Rattle.sq_note.specs.Sinks.{epoch_behind, line_after};
 
 use sq_base::EpochNo;
 use sq_journal::write_numbered;
+use sq_machine::{Entry, Event};
 use sq_outside::{COUNT_LIMIT, Failed, Sink, write_all};
-use sq_rules::{Entry, Event};
 
 // Writes the line of a numbered entry.
 fn write_entry_line<O: Sink>(

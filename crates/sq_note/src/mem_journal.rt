@@ -6,8 +6,8 @@ ghost use Rattle.sq_note.specs.Noting.{with_entry};
 
 use crate::journal::Journal;
 use sq_base::WantOfMemory;
+use sq_machine::Entry;
 use sq_outside::{Calls, Failed};
-use sq_rules::Entry;
 use std::alloc::Global;
 
 /// A journal with room for a stated number of entries, of which listed calls are to fail.

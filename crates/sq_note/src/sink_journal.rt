@@ -2,14 +2,14 @@
 ghost use Rattle.std.specs.Prelude.{◌≡◌, ◌+◌, ◌-◌, ◌^◌, ◌∷◌, [], ◌<◌, ◌≤◌, ℕ, List, Option, true, false, None, OnOk, OnErr};
 ghost use Rattle.sq_outside.specs.Causes.{HasCause, raised};
 ghost use Rattle.sq_outside.specs.Output.{Grew};
-ghost use Rattle.sq_rules.specs.Entries.{History};
+ghost use Rattle.sq_machine.specs.Entries.{History};
 ghost use Rattle.sq_note.specs.Noting.{with_entry};
 
 use crate::journal::Journal;
 use crate::lines::{next_epoch, next_number, write_next};
 use sq_base::{EpochNo, WantOfMemory};
+use sq_machine::Entry;
 use sq_outside::{COUNT_LIMIT, Failed, Sink};
-use sq_rules::Entry;
 
 /// A journal that writes version 2 to a sink: the version line with the first entry, and of each entry its line. It
 /// takes no memory. After a fault it writes nothing more, and each note fails.

@@ -1,4 +1,3 @@
-pub mod Adapters
 pub mod Calls
 pub mod Causes
 pub mod Dials
@@ -12,7 +11,6 @@ pub mod MemoryServer
 pub mod MemoryWorld
 pub mod Output
 pub mod SourceLines
-pub mod System
 pub mod Taking
 pub mod Told
 pub mod World

@@ -4,16 +4,14 @@
 //! left, those that were written, the text of each name and the openings. `Out`, `Dialer` and `Listener`
 //! are links, `Spawner` starts helper processes, `Clock` and `Resolver` tell moments and addresses, and a
 //! `Net` opens them all at a port. A call answers a fault only where the object's count rose. Each has a
-//! form in memory, which tells all and fails where a list says so; the adapters over the system tell what
-//! std's objects tell (the system's tell nothing), and are the trusted edge.
+//! form in memory, which tells all and fails where a list says so; the adapters over the system are a crate
+//! of their own, `sq_system`.
 //! `read_whole`, `read_file`, `write_all` and `write_line` read and write whole texts. `next_line` reads a
 //! script line by line: each line of the source that can be read, in order, and then its end or a line that
 //! no LF ends or that is over a limit; `next_line_within` does so with another limit for the line.
 #![tactic(auto)]
 
-mod again;
 mod calls;
-mod children;
 mod held;
 mod input;
 mod lines;
@@ -30,18 +28,11 @@ mod mem_source;
 mod mem_spawner;
 mod net;
 mod output;
-mod real_clock;
-mod real_net;
-mod system;
-mod tcp;
-mod tcp_client;
-mod tcp_server;
 mod traits;
 mod wire;
 mod world;
 
-pub use calls::{COUNT_LIMIT, Calls};
-pub use children::{RealChildIn, RealSpawner};
+pub use calls::{COUNT_LIMIT, Calls, raised, raised_by};
 pub use held::Held;
 pub use input::{Unread, read_file, read_whole};
 pub use lines::{Found, LINE_LIMIT, TOTAL_LIMIT, next_line, next_line_within};
@@ -58,12 +49,6 @@ pub use mem_source::MemSource;
 pub use mem_spawner::{MemChild, MemSpawner};
 pub use net::{Net, Parts, Stopper};
 pub use output::{write_all, write_line};
-pub use real_clock::RealClock;
-pub use real_net::RealNet;
-pub use system::{RealFiles, RealSink, RealSource};
-pub use tcp::{RealIn, RealOut};
-pub use tcp_client::{RealDialer, RealResolver};
-pub use tcp_server::{RealListener, RealStopper};
 pub use traits::{Failed, Files, NoOpen, Sink, Source};
 pub use wire::Wire;
 pub use world::{Another, Clock, LookFault, Resolver, Spawner};

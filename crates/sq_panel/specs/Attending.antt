@@ -7,7 +7,7 @@ use Rattle.sq_outside.specs.Output.{Grew, IsProperPrefix}
 use Rattle.sq_outside.specs.SourceLines.{Line, lines}
 use Rattle.sq_outside.specs.Told.{IsNotTold, Openings, Texts}
 use Rattle.sq_rules.specs.Configurations.{Configuration}
-use Rattle.sq_rules.specs.Entries.{History}
+use Rattle.sq_machine.specs.Entries.{History}
 use Rattle.sq_rules.specs.declared.kinds.ConfError.{ConfError}
 use Rattle.sq_reread.specs.Rereading.{Adds, CountsMade, IsRefused, OfFile, States, is_answer, is_refusal}
 use Rattle.sq_reread.specs.declared.control.Reread.{Reread}

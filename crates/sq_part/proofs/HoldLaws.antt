@@ -5,11 +5,11 @@ use Rattle.std.proofs.lemmas.Bool.Decides.{nat_tests}
 use Rattle.sq_channel.proofs.RisingLaws.{if_false, if_true}
 use Rattle.sq_channel.proofs.SlotLaws.{some_open, times_settled}
 use Rattle.sq_lookup.specs.Waits.{is_free}
-use Rattle.sq_rules.specs.Channels.{is_open, settled, times_open}
-use Rattle.sq_rules.specs.Events.{is_number}
-use Rattle.sq_rules.specs.Farms.{Stock, places}
-use Rattle.sq_rules.specs.Living.{Living, find_proc, settled_in, slots_by, slots_in, times_in}
-use Rattle.sq_rules.specs.OpenLookups.{LookupRow, WaitingChecks, all_below, is_open_lookup, question_of, waits_in}
+use Rattle.sq_machine.specs.Channels.{is_open, settled, times_open}
+use Rattle.sq_machine.specs.Events.{is_number}
+use Rattle.sq_machine.specs.Farms.{Stock, places}
+use Rattle.sq_machine.specs.Living.{Living, find_proc, settled_in, slots_by, slots_in, times_in}
+use Rattle.sq_machine.specs.OpenLookups.{LookupRow, WaitingChecks, all_below, is_open_lookup, question_of, waits_in}
 use Rattle.sq_part.specs.Parts.{HoldsOpen}
 
 -- for a number: it is itself

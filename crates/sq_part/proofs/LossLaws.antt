@@ -5,11 +5,11 @@ use Rattle.std.proofs.lemmas.Bool.Decides.{nat_tests}
 use Rattle.sq_channel.proofs.RisingLaws.{if_true}
 use Rattle.sq_base.specs.declared.helpers.Cause.{Cause}
 use Rattle.sq_base.specs.declared.helpers.Cause.TheVariants as cause
-use Rattle.sq_rules.specs.Channels.{is_open, opened}
-use Rattle.sq_rules.specs.Farms.{Stock, Waiting, emptied, ended, failed, is_last_start, waiting_number}
-use Rattle.sq_rules.specs.Living.{slots_in}
-use Rattle.sq_rules.specs.Losses.{Loss, first_lost, later_lost, lose, lose_all, times_lost}
-use Rattle.sq_rules.specs.OpenLookups.{LookupRow}
+use Rattle.sq_machine.specs.Channels.{is_open, opened}
+use Rattle.sq_machine.specs.Farms.{Stock, Waiting, emptied, ended, failed, is_last_start, waiting_number}
+use Rattle.sq_machine.specs.Living.{slots_in}
+use Rattle.sq_machine.specs.Losses.{Loss, first_lost, later_lost, lose, lose_all, times_lost}
+use Rattle.sq_machine.specs.OpenLookups.{LookupRow}
 use Rattle.sq_rows.specs.ClassRows.{ClassRow, after_death, after_failed, handed, is_waiting}
 use Rattle.sq_part.specs.Losing.{handed_out, lost_cause}
 use Rattle.sq_part.proofs.HoldLaws.{itself}

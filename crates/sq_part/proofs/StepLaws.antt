@@ -6,13 +6,13 @@ use Rattle.sq_base.specs.declared.helpers.Cause.TheVariants as cause
 use Rattle.sq_cache.specs.Keeping.{taken_as, taken_for}
 use Rattle.sq_cache.specs.declared.kept.Taken.{Taken}
 use Rattle.sq_rules.specs.Classes.{Class}
-use Rattle.sq_rules.specs.Farms.{full}
-use Rattle.sq_rules.specs.KeptLists.{fresh_for, to_front}
-use Rattle.sq_rules.specs.Limits.{key_limit}
-use Rattle.sq_rules.specs.Marks.{Put}
-use Rattle.sq_rules.specs.OpenLookups.{WaitingChecks, pending_in, question_of}
-use Rattle.sq_rules.specs.StepRule.{StepSays, refresh, says_asked, says_fault, says_fresh, says_kept, says_need}
-use Rattle.sq_rules.specs.declared.kept.KeptVerdict.{KeptVerdict}
+use Rattle.sq_machine.specs.Farms.{full}
+use Rattle.sq_machine.specs.KeptLists.{fresh_for, to_front}
+use Rattle.sq_machine.specs.Limits.{key_limit}
+use Rattle.sq_machine.specs.Marks.{Put}
+use Rattle.sq_machine.specs.OpenLookups.{WaitingChecks, pending_in, question_of}
+use Rattle.sq_machine.specs.StepRule.{StepSays, refresh, says_asked, says_fault, says_fresh, says_kept, says_need}
+use Rattle.sq_machine.specs.declared.kept.KeptVerdict.{KeptVerdict}
 use Rattle.sq_rows.specs.ClassRows.{ClassRow}
 use Rattle.sq_rows.specs.StepRows.{said_of, says_of_row}
 use Rattle.sq_rows.specs.declared.said.Said.{Said}

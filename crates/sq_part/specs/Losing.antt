@@ -3,8 +3,8 @@ use Rattle.std.specs.Prelude.{◌≡◌, ℕ, List, [], ◌∷◌, ◌==◌, not
 use Rattle.std.specs.declared.option.Option.{Option}
 use Rattle.sq_base.specs.declared.helpers.Cause.{Cause}
 use Rattle.sq_lookup.specs.Index.{IsListed}
-use Rattle.sq_rules.specs.Losses.{Loss, later_lost}
-use Rattle.sq_rules.specs.OpenLookups.{question_of, waits_in}
+use Rattle.sq_machine.specs.Losses.{Loss, later_lost}
+use Rattle.sq_machine.specs.OpenLookups.{question_of, waits_in}
 use Rattle.sq_rows.specs.ClassRows.{ClassRow, handed}
 use Rattle.sq_part.specs.Parts.{PartState}
 use Rattle.sq_part.specs.declared.lost.Lost.{Lost}

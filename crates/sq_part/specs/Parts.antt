@@ -1,7 +1,7 @@
 -- One class of an epoch as its part holds it.
 use Rattle.std.specs.Prelude.{◌≡◌, ℕ, List, if◌then◌else◌}
-use Rattle.sq_rules.specs.Farms.{Stock, places}
-use Rattle.sq_rules.specs.OpenLookups.{LookupRow, WaitingChecks, is_open_lookup, question_of}
+use Rattle.sq_machine.specs.Farms.{Stock, places}
+use Rattle.sq_machine.specs.OpenLookups.{LookupRow, WaitingChecks, is_open_lookup, question_of}
 use Rattle.sq_rows.specs.ClassRows.{ClassRow}
 
 -- the class's row, the checks with the question that each waits for, and how many verdicts may be kept

@@ -3,7 +3,7 @@ use Rattle.std.specs.Prelude.{Some, None}
 use Rattle.std.specs.declared.option.Option.{Option}
 use Rattle.sq_farm.specs.declared.acts.FarmAct.{FarmAct}
 use Rattle.sq_farm.specs.declared.acts.FarmAct.TheVariants as act
-use Rattle.sq_rules.specs.Farms.{Sending}
+use Rattle.sq_machine.specs.Farms.{Sending}
 
 -- the send that an act is
 abbrev pub sending_of : Option FarmAct → Option Sending

@@ -1,13 +1,13 @@
 -- What a step of a check does to the part of the class that it asks.
 use Rattle.std.specs.Prelude.{◌≡◌, ℕ, suc, ◌<◌, ◌≤◌, List, Bool, true, not, ◌&&◌, ◌==◌, if◌then◌else◌, is_none, is_some}
 use Rattle.sq_cache.specs.declared.kept.Taken.{Taken}
-use Rattle.sq_rules.specs.AnswerReadings.{waits_told}
-use Rattle.sq_rules.specs.Farms.{full}
-use Rattle.sq_rules.specs.Limits.{last_number}
-use Rattle.sq_rules.specs.Marks.{Put}
-use Rattle.sq_rules.specs.OpenLookups.{pending_in, question_of}
-use Rattle.sq_rules.specs.StepRule.{StepSays, refresh, says_asked, says_kept}
-use Rattle.sq_rules.specs.declared.kept.KeptVerdict.{KeptVerdict}
+use Rattle.sq_machine.specs.AnswerReadings.{waits_told}
+use Rattle.sq_machine.specs.Farms.{full}
+use Rattle.sq_machine.specs.Limits.{last_number}
+use Rattle.sq_machine.specs.Marks.{Put}
+use Rattle.sq_machine.specs.OpenLookups.{pending_in, question_of}
+use Rattle.sq_machine.specs.StepRule.{StepSays, refresh, says_asked, says_kept}
+use Rattle.sq_machine.specs.declared.kept.KeptVerdict.{KeptVerdict}
 use Rattle.sq_rows.specs.ClassRows.{ClassRow}
 use Rattle.sq_rows.specs.StepRows.{after_says, said_of}
 use Rattle.sq_rows.specs.declared.said.Said.{Said}

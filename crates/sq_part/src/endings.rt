@@ -1,12 +1,12 @@
 //! The ends of questions: by a reply, with a process, or where no process comes.
 ghost use Rattle.std.specs.Prelude.{◌≡◌, ◌↔◌, [], ℕ, true, false, is_some, Some, None, if◌then◌else◌, IfOk, IfNone, IfSome, OnOk, OnErr, IsErrOf, ◌&&◌};
 ghost use Rattle.sq_lookup.specs.Waits.{has_check};
-ghost use Rattle.sq_rules.specs.Channels.{is_open};
-ghost use Rattle.sq_rules.specs.Farms.{ended, failed, is_last_start};
-ghost use Rattle.sq_rules.specs.KeptLists.{is_fault};
-ghost use Rattle.sq_rules.specs.KeptReadings.{keep_what};
-ghost use Rattle.sq_rules.specs.Living.{lives, slots_in};
-ghost use Rattle.sq_rules.specs.OpenLookups.{question_of, waits_in};
+ghost use Rattle.sq_machine.specs.Channels.{is_open};
+ghost use Rattle.sq_machine.specs.Farms.{ended, failed, is_last_start};
+ghost use Rattle.sq_machine.specs.KeptLists.{is_fault};
+ghost use Rattle.sq_machine.specs.KeptReadings.{keep_what};
+ghost use Rattle.sq_machine.specs.Living.{lives, slots_in};
+ghost use Rattle.sq_machine.specs.OpenLookups.{question_of, waits_in};
 ghost use Rattle.sq_rows.specs.ClassRows.{after_death, after_failed, after_reply, is_waiting};
 ghost use Rattle.sq_part.specs.Losing.{IsHandedOut, handed_out, lost_cause};
 

@@ -3,10 +3,10 @@ ghost use Rattle.std.specs.Prelude.{◌≡◌, ◌↔◌, [], ℕ, length, is_so
 ghost use Rattle.sq_channel.specs.Gots.{names_open};
 ghost use Rattle.sq_farm.specs.Replies.{got_of};
 ghost use Rattle.sq_lookup.specs.Index.{IsListed};
-ghost use Rattle.sq_rules.specs.Channels.{is_open};
-ghost use Rattle.sq_rules.specs.Farms.{send_of, start_due};
-ghost use Rattle.sq_rules.specs.Living.{lives, slots_in};
-ghost use Rattle.sq_rules.specs.OpenLookups.{is_open_lookup, question_of};
+ghost use Rattle.sq_machine.specs.Channels.{is_open};
+ghost use Rattle.sq_machine.specs.Farms.{send_of, start_due};
+ghost use Rattle.sq_machine.specs.Living.{lives, slots_in};
+ghost use Rattle.sq_machine.specs.OpenLookups.{is_open_lookup, question_of};
 ghost use Rattle.sq_rows.specs.ClassRows.{after_sending, after_started, after_starting, new_row};
 
 use crate::sends::{Sending, as_sending};

@@ -1,12 +1,12 @@
 //! The rule of a step on the class that it asks.
 ghost use Rattle.std.specs.Prelude.{◌≡◌, ◌≤◌, ◌<◌, ◌^◌, ◌&&◌, ◌==◌, ℕ, List, suc, true, false, not, Some, None, if◌then◌else◌, IfOk, OnOk, OnErr, IsErrOf};
 ghost use Rattle.sq_lookup.specs.Waits.{is_free};
-ghost use Rattle.sq_rules.specs.Events.{is_number};
-ghost use Rattle.sq_rules.specs.Farms.{full};
-ghost use Rattle.sq_rules.specs.KeptLists.{is_fault};
-ghost use Rattle.sq_rules.specs.Limits.{last_number};
-ghost use Rattle.sq_rules.specs.OpenLookups.{all_below, pending_in, question_of};
-ghost use Rattle.sq_rules.specs.StepRule.{says_fault};
+ghost use Rattle.sq_machine.specs.Events.{is_number};
+ghost use Rattle.sq_machine.specs.Farms.{full};
+ghost use Rattle.sq_machine.specs.KeptLists.{is_fault};
+ghost use Rattle.sq_machine.specs.Limits.{last_number};
+ghost use Rattle.sq_machine.specs.OpenLookups.{all_below, pending_in, question_of};
+ghost use Rattle.sq_machine.specs.StepRule.{says_fault};
 ghost use Rattle.sq_rows.specs.ClassRows.{with_question};
 ghost use Rattle.sq_rows.specs.StepRows.{said_of, says_of_row};
 ghost use Rattle.sq_part.specs.Parts.{IsAsBefore};
@@ -16,15 +16,13 @@ use crate::faults::ResolveFault;
 use crate::parts::Part;
 use sq_base::{Answer, Cause, CheckNo, Copying, Moment, QuestionNo, Text, WantOfMemory, What};
 use sq_cache::Taken;
+use sq_machine::LAST_NUMBER;
 use sq_rows::{Said, Stepped};
 use sq_rules::Class;
 use std::alloc::Global;
 
 // Bytes of a key.
 const KEY_LIMIT: usize = 8192;
-
-// The number that is never given.
-const LAST_NUMBER: u64 = 0x7FFF_FFFF_FFFF_FFFF;
 
 // A fault is taken, for which no question stands.
 fn fault(

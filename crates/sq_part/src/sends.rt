@@ -16,7 +16,7 @@ pub struct Sending {
 }
 
 impl Model for Sending {
-    ghost use Rattle.sq_rules.specs.Farms.{Sending};
+    ghost use Rattle.sq_machine.specs.Farms.{Sending};
 
     ghost Value = { Sending };
 

@@ -3,11 +3,11 @@ use Rattle.std.proofs.Common.{◌≡◌, ◌∙◌, ◌==◌, ◌&&◌, ◌||◌
 use Rattle.std.specs.Option.{option_map_or}
 use Rattle.std.proofs.lemmas.Bool.Decides.{nat_tests}
 use Rattle.sq_rules.specs.Configurations.{Configuration}
-use Rattle.sq_rules.specs.PoolReadings.{Spot, has_spot, is_aggregate, is_spot, spots_from, spots_of}
+use Rattle.sq_machine.specs.PoolReadings.{Spot, has_spot, is_aggregate, is_spot, spots_from, spots_of}
 use Rattle.sq_rules.specs.Rates.{Limit}
 use Rattle.sq_rules.specs.declared.pools.Pool.{Pool}
 use Rattle.sq_pools.specs.Grants.{filled_if, is_aggregate_of, opened_in}
-use Rattle.sq_rules.specs.BucketLevels.{Filled}
+use Rattle.sq_machine.specs.BucketLevels.{Filled}
 use Rattle.sq_pools.proofs.BucketLaws.{opened_more}
 use Rattle.sq_pools.proofs.SpotLaws.{both_first, spot_same, spots_past}
 

@@ -2,11 +2,11 @@
 use Rattle.std.proofs.Common.{◌≡◌, ◌∙◌, ◌==◌, ◌&&◌, ◌||◌, ◌≤◌, ◌<◌, ◌-◌, ◌⊎◌, inl, inr, not, cond, Bool, true, false, ℕ, List, [], ◌∷◌, Option, None, Some, is_some, is_none, refl, ap, sym, arith, max, suc}
 use Rattle.std.specs.Option.{option_map, option_map_or}
 use Rattle.std.proofs.lemmas.Bool.Decides.{nat_tests}
-use Rattle.sq_rules.specs.BucketLevels.{Filled}
-use Rattle.sq_rules.specs.Limits.{last_number}
+use Rattle.sq_machine.specs.BucketLevels.{Filled}
+use Rattle.sq_machine.specs.Limits.{last_number}
 use Rattle.sq_base.specs.Addresses.{Address}
 use Rattle.sq_rules.specs.Configurations.{Configuration}
-use Rattle.sq_rules.specs.PoolReadings.{Sat, Spot, has_spot, is_aggregate, is_spot, kept_if, made_if, second_of, spots_in}
+use Rattle.sq_machine.specs.PoolReadings.{Sat, Spot, has_spot, is_aggregate, is_spot, kept_if, made_if, second_of, spots_in}
 use Rattle.sq_pools.specs.Basins.{Basin, HasLeft, IsBasin, IsChosen, IsRenewed, bucket_in, granted_limit, made_in, sat_in, seat_in, second_in, stays}
 use Rattle.sq_pools.specs.Generations.{buckets_at, filled_at, generation_at, held_at, is_left, made_at, second_at}
 use Rattle.sq_pools.specs.Grants.{are_own, are_there, bucket_at, filled_if, granted_if, opened_in}

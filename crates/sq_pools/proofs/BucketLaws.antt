@@ -2,8 +2,8 @@
 use Rattle.std.proofs.Common.{◌≡◌, ◌∙◌, ◌||◌, ◌≤◌, ◌+◌, ◌<◌, cond, Bool, true, false, ℕ, List, [], ◌∷◌, Option, None, Some, is_some, length, drop, take, get_or, min, refl, ap, sym, arith, suc, zero, add-one, drop-cons}
 use Rattle.std.specs.Option.{option_map}
 use Rattle.std.proofs.Math.Seq.{take-suc}
-use Rattle.sq_rules.specs.BucketLevels.{Filled}
-use Rattle.sq_rules.specs.PoolReadings.{Spot, has_spot, is_spot}
+use Rattle.sq_machine.specs.BucketLevels.{Filled}
+use Rattle.sq_machine.specs.PoolReadings.{Spot, has_spot, is_spot}
 use Rattle.sq_pools.specs.Grants.{are_own, are_there, bucket_at, filled_if, granted_if, grants, least_at, level_in, level_or_none, opened_in}
 use Rattle.sq_pools.proofs.MapLaws.{spot_key}
 use Rattle.sq_pools.proofs.SpotLaws.{both_first, both_second, has_more, own_at, spot_same}

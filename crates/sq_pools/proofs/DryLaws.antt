@@ -3,8 +3,8 @@ use Rattle.std.proofs.Common.{◌≡◌, ◌∙◌, ◌==◌, ◌||◌, ◌<◌,
 use Rattle.std.specs.List.{list_any}
 use Rattle.std.specs.Option.{option_map, option_map_or}
 use Rattle.std.specs.declared.option.Option.{Option}
-use Rattle.sq_rules.specs.BucketLevels.{Filled, filled_to}
-use Rattle.sq_rules.specs.PoolReadings.{Sat, Spot}
+use Rattle.sq_machine.specs.BucketLevels.{Filled, filled_to}
+use Rattle.sq_machine.specs.PoolReadings.{Sat, Spot}
 use Rattle.sq_pools.specs.Basins.{IsBasin, is_dry, tally_then}
 use Rattle.sq_pools.specs.Generations.{buckets_at, second_at}
 use Rattle.sq_pools.specs.Grants.{are_there, bucket_at, least_at, level_or_none}

@@ -1,7 +1,7 @@
 -- What a bucket can grant between two moments.
 use Rattle.std.proofs.Common.{◌≡◌, ℕ, ◌+◌, ◌*◌, ◌≤◌, suc, zero, arith, refl, ap, ◌∙◌, sym, mul-add}
 use Rattle.sq_rules.specs.Rates.{Limit}
-use Rattle.sq_rules.specs.BucketLevels.{Tally, seconds, drawn}
+use Rattle.sq_machine.specs.BucketLevels.{Tally, seconds, drawn}
 use Rattle.sq_pools.specs.Flows.{Flows}
 
 pub flows_none : (r : Limit) (a : Tally) → Flows r 0 a a

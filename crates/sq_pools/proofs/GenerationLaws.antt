@@ -1,8 +1,8 @@
 -- Generations after one of them changed.
 use Rattle.std.proofs.Common.{◌≡◌, ◌∙◌, ◌==◌, ◌&&◌, ◌||◌, not, cond, Bool, true, false, ℕ, List, [], Option, None, Some, is_none, refl, ap, sym, arith, suc}
 use Rattle.std.specs.Option.{option_map, option_map_or}
-use Rattle.sq_rules.specs.BucketLevels.{Filled}
-use Rattle.sq_rules.specs.PoolReadings.{Spot, has_spot, kept_if, made_if, second_of}
+use Rattle.sq_machine.specs.BucketLevels.{Filled}
+use Rattle.sq_machine.specs.PoolReadings.{Spot, has_spot, kept_if, made_if, second_of}
 use Rattle.sq_pools.specs.Generations.{filled_at, generation_at, held_at, is_left, made_at, second_at}
 use Rattle.sq_pools.specs.Grants.{bucket_at, filled_if, granted_if, opened_in}
 use Rattle.sq_pools.specs.declared.generations.Generation.{Generation}

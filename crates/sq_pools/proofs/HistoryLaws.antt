@@ -4,16 +4,16 @@ use Rattle.std.proofs.lemmas.Bool.Decides.{nat_tests}
 use Rattle.std.specs.Option.{option_map}
 use Rattle.std.specs.declared.option.Option.{Option}
 use Rattle.sq_rules.specs.Configurations.{Configuration}
-use Rattle.sq_rules.specs.Entries.{History, Noted}
-use Rattle.sq_rules.specs.Machine.{config_of}
+use Rattle.sq_machine.specs.Entries.{History, Noted}
+use Rattle.sq_machine.specs.Epochs.{config_of}
 use Rattle.sq_rules.specs.Rates.{Limit}
-use Rattle.sq_rules.specs.Readings.{latest}
-use Rattle.sq_rules.specs.declared.entries.Event.{Event}
-use Rattle.sq_rules.specs.declared.entries.Event.TheVariants.{Grant}
-use Rattle.sq_rules.specs.declared.entries.Told.{Told}
-use Rattle.sq_rules.specs.declared.entries.Told.TheVariants as told
-use Rattle.sq_rules.specs.BucketLevels.{IsBalanced, Tally, seconds, drawn, opened_at}
-use Rattle.sq_rules.specs.PoolReadings.{Spot, Sat, grant_of, has_spot, in_use, is_grant, is_spot, kept_if, least_level, level_of, made_if, made_of, makes, is_needed, names_spot, opened_if, opens, seat_of, seconds_between, takes_at, tally_of, until, initial_in}
+use Rattle.sq_machine.specs.Readings.{latest}
+use Rattle.sq_machine.specs.declared.entries.Event.{Event}
+use Rattle.sq_machine.specs.declared.entries.Event.TheVariants.{Grant}
+use Rattle.sq_machine.specs.declared.entries.Told.{Told}
+use Rattle.sq_machine.specs.declared.entries.Told.TheVariants as told
+use Rattle.sq_machine.specs.BucketLevels.{IsBalanced, Tally, seconds, drawn, opened_at}
+use Rattle.sq_machine.specs.PoolReadings.{Spot, Sat, grant_of, has_spot, in_use, is_grant, is_spot, kept_if, least_level, level_of, made_if, made_of, makes, is_needed, names_spot, opened_if, opens, seat_of, seconds_between, takes_at, tally_of, until, initial_in}
 use Rattle.sq_pools.proofs.SpotLaws.{spot_same}
 use Rattle.sq_pools.specs.Flows.{AreGrants, Flows, GrantsWithin, Lives}
 use Rattle.sq_pools.proofs.FlowLaws.{flows_balanced, flows_bound, flows_drawn, flows_none, flows_on, flows_seconds}

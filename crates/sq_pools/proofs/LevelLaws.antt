@@ -1,7 +1,7 @@
 -- Many seconds at once, and that a bucket's books balance.
 use Rattle.std.proofs.Common.{◌≡◌, ℕ, ◌+◌, ◌-◌, ◌*◌, ◌≤◌, ◌<◌, ◌^◌, min, suc, zero, arith, refl, ap, ◌∙◌, sym, mul-add}
 use Rattle.sq_rules.specs.Rates.{Limit}
-use Rattle.sq_rules.specs.BucketLevels.{Tally, seconds, Filled, IsFilled}
+use Rattle.sq_machine.specs.BucketLevels.{Tally, seconds, Filled, IsFilled}
 
 -- the same bucket after so many seconds, reckoned at once
 abbrev pub at_once : Limit → ℕ → Tally → Tally

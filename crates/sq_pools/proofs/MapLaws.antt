@@ -6,7 +6,7 @@ use Rattle.std.specs.Ordering.{nat_cmp, is_eq}
 use Rattle.std.specs.declared.cmp.Ordering.{Ordering}
 use Rattle.std.specs.declared.cmp.Ordering.TheVariants.{Less, Equal, Greater}
 use Rattle.std.proofs.lemmas.Bool.Decides.{nat_tests}
-use Rattle.sq_rules.specs.PoolReadings.{Spot, is_spot}
+use Rattle.sq_machine.specs.PoolReadings.{Spot, is_spot}
 use Rattle.sq_pools.specs.contracts.spots.SpotOrd as ord
 
 -- the order of keys tells them apart as the test does

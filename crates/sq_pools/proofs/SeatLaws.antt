@@ -1,7 +1,7 @@
 -- How many seats of an epoch are in use.
 use Rattle.std.proofs.Common.{◌≡◌, ◌∙◌, ◌==◌, ◌≤◌, ◌<◌, cond, Bool, true, false, ℕ, List, None, Some, refl, ap, sym, arith, suc, zero}
 use Rattle.std.proofs.lemmas.Bool.Decides.{nat_tests}
-use Rattle.sq_rules.specs.PoolReadings.{Sat, count_if, is_of_epoch}
+use Rattle.sq_machine.specs.PoolReadings.{Sat, count_if, is_of_epoch}
 use Rattle.sq_pools.specs.Seats.{seat_at, seats_of}
 use Rattle.sq_pools.proofs.MapLaws.{number_key}
 

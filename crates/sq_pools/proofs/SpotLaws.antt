@@ -2,7 +2,7 @@
 use Rattle.std.proofs.Common.{◌≡◌, ◌∙◌, ◌&&◌, ◌||◌, ◌≤◌, ◌<◌, not, Bool, true, false, ℕ, List, [], ◌∷◌, ◌++◌, Option, None, Some, length, take, get_or, refl, ap, sym, arith, suc, zero}
 use Rattle.std.proofs.lemmas.Bool.Decides.{nat_tests}
 use Rattle.std.proofs.lemmas.List.Folds.{list_any-append}
-use Rattle.sq_rules.specs.PoolReadings.{Spot, has_spot, host_of, is_spot, spots_from}
+use Rattle.sq_machine.specs.PoolReadings.{Spot, has_spot, host_of, is_spot, spots_from}
 use Rattle.sq_rules.specs.Rates.{Limit}
 use Rattle.sq_pools.specs.Grants.{are_own}
 use Rattle.sq_pools.proofs.MapLaws.{spot_key}

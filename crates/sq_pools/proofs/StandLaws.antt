@@ -2,19 +2,19 @@
 use Rattle.std.proofs.Common.{◌≡◌, ◌∙◌, ◌==◌, ◌&&◌, ◌||◌, ◌≤◌, ◌<◌, ◌+◌, ◌-◌, not, cond, if◌then◌else◌, Bool, true, false, ℕ, List, [], ◌∷◌, Option, None, Some, is_some, is_none, refl, ap, sym, arith, min, max, suc, zero, zero-add, ℤ}
 use Rattle.std.specs.Option.{option_map, option_map_or, option_or}
 use Rattle.std.proofs.lemmas.Bool.Decides.{nat_tests}
-use Rattle.sq_rules.specs.BucketLevels.{Filled, Tally, a_second, drawn, filled_to, opened_at, seconds}
-use Rattle.sq_rules.specs.Checks.{Asked, ask_count, ask_of, asked_by, conn_of, numbered}
+use Rattle.sq_machine.specs.BucketLevels.{Filled, Tally, a_second, drawn, filled_to, opened_at, seconds}
+use Rattle.sq_machine.specs.Checks.{Asked, ask_count, ask_of, asked_by, conn_of, numbered}
 use Rattle.sq_rules.specs.Configurations.{Configuration}
-use Rattle.sq_rules.specs.Entries.{History, Noted}
-use Rattle.sq_rules.specs.Events.{Asking, asking, begins_epoch, is_number}
-use Rattle.sq_rules.specs.Machine.{config_of}
-use Rattle.sq_rules.specs.PoolReadings.{Sat, Spot, Taking, allowed_of, count_if, grant_of, least_level, level_of, if_allowed, sat_of, spots_in, taken_after, taken_of, taking, granted_by, granted_of, has_spot, in_use, in_use_after, initial_in, is_aggregate, is_needed, is_of_epoch, kept_if, made_if, made_of, makes, names_spot, opened_if, sat_at, seat_count, seat_of, second_of, seconds_between, some_in_use, takes_at, tally_of, until}
+use Rattle.sq_machine.specs.Entries.{History, Noted}
+use Rattle.sq_machine.specs.Events.{Asking, asking, begins_epoch, is_number}
+use Rattle.sq_machine.specs.Epochs.{config_of}
+use Rattle.sq_machine.specs.PoolReadings.{Sat, Spot, Taking, allowed_of, count_if, grant_of, least_level, level_of, if_allowed, sat_of, spots_in, taken_after, taken_of, taking, granted_by, granted_of, has_spot, in_use, in_use_after, initial_in, is_aggregate, is_needed, is_of_epoch, kept_if, made_if, made_of, makes, names_spot, opened_if, sat_at, seat_count, seat_of, second_of, seconds_between, some_in_use, takes_at, tally_of, until}
 use Rattle.sq_rules.specs.Rates.{Limit}
-use Rattle.sq_rules.specs.Readings.{current, epoch_after, latest}
-use Rattle.sq_rules.specs.declared.entries.Event.{Event}
-use Rattle.sq_rules.specs.declared.entries.Event.TheVariants.{Begin, Open, Close, Ask, Step, Take, Started, StartFail, Line, Died, Act, Reconfigure, Seat, Grant, Leave}
-use Rattle.sq_rules.specs.declared.entries.Told.{Told}
-use Rattle.sq_rules.specs.declared.entries.Told.TheVariants as told
+use Rattle.sq_machine.specs.Readings.{current, epoch_after, latest}
+use Rattle.sq_machine.specs.declared.entries.Event.{Event}
+use Rattle.sq_machine.specs.declared.entries.Event.TheVariants.{Begin, Open, Close, Ask, Step, Take, Started, StartFail, Line, Died, Act, Reconfigure, Seat, Grant, Leave}
+use Rattle.sq_machine.specs.declared.entries.Told.{Told}
+use Rattle.sq_machine.specs.declared.entries.Told.TheVariants as told
 use Rattle.sq_pools.specs.Basins.{Basin, HasBegun, HasLeft, IsBasin, IsChosen, IsGranted, IsRenewed, bucket_in, grant_in, granted_limit, made_in, sat_in, seat_in, second_in, stays, tally_then}
 use Rattle.sq_pools.specs.Generations.{buckets_at}
 use Rattle.sq_pools.specs.Grants.{filled_if, granted_if, least_at, level_or_none, opened_in}

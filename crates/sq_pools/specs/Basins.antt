@@ -5,10 +5,10 @@ use Rattle.std.specs.List.{list_any}
 use Rattle.std.specs.Option.{option_map, option_map_or}
 use Rattle.std.specs.declared.option.Option.{Option}
 use Rattle.sq_base.specs.Addresses.{Address}
-use Rattle.sq_rules.specs.BucketLevels.{Filled, Tally, filled_to}
+use Rattle.sq_machine.specs.BucketLevels.{Filled, Tally, filled_to}
 use Rattle.sq_rules.specs.Configurations.{Configuration}
-use Rattle.sq_rules.specs.Limits.{last_number}
-use Rattle.sq_rules.specs.PoolReadings.{Sat, Spot, has_spot, is_aggregate, kept_if, made_if, names_spot, spots_in}
+use Rattle.sq_machine.specs.Limits.{last_number}
+use Rattle.sq_machine.specs.PoolReadings.{Sat, Spot, has_spot, is_aggregate, kept_if, made_if, names_spot, spots_in}
 use Rattle.sq_rules.specs.Verdicts.{is_passed_over}
 use Rattle.sq_pools.specs.Generations.{buckets_at, filled_at, held_at, made_at, second_at}
 use Rattle.sq_pools.specs.Grants.{are_own, filled_if, granted_if, least_at, opened_in}

@@ -1,11 +1,11 @@
 -- A bucket at two moments of its life.
 use Rattle.std.specs.Prelude.{◌≡◌, ℕ, ◌+◌, ◌*◌, ◌≤◌, List, [], ◌∷◌, ◌++◌, is_some, true, Some, ⊤}
 use Rattle.sq_rules.specs.Configurations.{Configuration}
-use Rattle.sq_rules.specs.Entries.{History, Noted}
+use Rattle.sq_machine.specs.Entries.{History, Noted}
 use Rattle.sq_rules.specs.Rates.{Limit}
-use Rattle.sq_rules.specs.Readings.{latest}
-use Rattle.sq_rules.specs.BucketLevels.{Tally}
-use Rattle.sq_rules.specs.PoolReadings.{Spot, is_grant, made_of, seconds_between, tally_of}
+use Rattle.sq_machine.specs.Readings.{latest}
+use Rattle.sq_machine.specs.BucketLevels.{Tally}
+use Rattle.sq_machine.specs.PoolReadings.{Spot, is_grant, made_of, seconds_between, tally_of}
 
 -- so many seconds lie between the one and the other: what it holds, granted and lost has grown by what they restored
 pub record Flows (r : Limit) (n : ℕ) (a b : Tally) : Type 0 where

@@ -3,8 +3,8 @@ use Rattle.std.specs.Prelude.{ℕ, List, [], Bool, not, ◌||◌, ◌==◌}
 use Rattle.std.specs.Map.{lookup}
 use Rattle.std.specs.Option.{option_map, option_map_or}
 use Rattle.std.specs.declared.option.Option.{Option}
-use Rattle.sq_rules.specs.BucketLevels.{Filled}
-use Rattle.sq_rules.specs.PoolReadings.{Spot, second_of}
+use Rattle.sq_machine.specs.BucketLevels.{Filled}
+use Rattle.sq_machine.specs.PoolReadings.{Spot, second_of}
 use Rattle.sq_pools.specs.Grants.{bucket_at}
 use Rattle.sq_pools.specs.declared.generations.Generation.{Generation}
 

@@ -5,8 +5,8 @@ use Rattle.std.specs.List.{list_all}
 use Rattle.std.specs.Map.{lookup, remove_entry}
 use Rattle.std.specs.Option.{option_map_or}
 use Rattle.std.specs.declared.option.Option.{Option}
-use Rattle.sq_rules.specs.BucketLevels.{Filled, drawn_from, filled_to, opened_at}
-use Rattle.sq_rules.specs.PoolReadings.{Spot, has_spot, is_spot, spots_of}
+use Rattle.sq_machine.specs.BucketLevels.{Filled, drawn_from, filled_to, opened_at}
+use Rattle.sq_machine.specs.PoolReadings.{Spot, has_spot, is_spot, spots_of}
 use Rattle.sq_rules.specs.declared.pools.Pool.{Pool}
 
 -- the level of a bucket in this second

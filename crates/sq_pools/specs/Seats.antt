@@ -2,7 +2,7 @@
 use Rattle.std.specs.Prelude.{ℕ, List, ◌==◌, zero, suc}
 use Rattle.std.specs.Map.{lookup, remove_entry}
 use Rattle.std.specs.declared.option.Option.{Option}
-use Rattle.sq_rules.specs.PoolReadings.{Sat, count_if, is_of_epoch}
+use Rattle.sq_machine.specs.PoolReadings.{Sat, count_if, is_of_epoch}
 
 -- the seat of a number
 abbrev pub seat_at : List (ℕ × Sat) → ℕ → Option Sat

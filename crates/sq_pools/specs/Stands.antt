@@ -1,13 +1,13 @@
 -- Pools that stand for a history: each part of them is its reading.
 use Rattle.std.specs.Prelude.{◌≡◌, ℕ, ◌≤◌, List, Bool, true, false, min}
 use Rattle.sq_rules.specs.Configurations.{Configuration}
-use Rattle.sq_rules.specs.Entries.{History, Noted}
-use Rattle.sq_rules.specs.PoolReadings.{Spot, granted_of, in_use, kept_if, made_of, seat_count, seat_of, tally_of}
-use Rattle.sq_rules.specs.Readings.{current, latest}
-use Rattle.sq_rules.specs.declared.entries.Event.{Event}
-use Rattle.sq_rules.specs.declared.entries.Event.TheVariants.{Begin, Reconfigure, Seat, Grant, Leave}
-use Rattle.sq_rules.specs.declared.entries.Told.{Told}
-use Rattle.sq_rules.specs.declared.entries.Told.TheVariants as told
+use Rattle.sq_machine.specs.Entries.{History, Noted}
+use Rattle.sq_machine.specs.PoolReadings.{Spot, granted_of, in_use, kept_if, made_of, seat_count, seat_of, tally_of}
+use Rattle.sq_machine.specs.Readings.{current, latest}
+use Rattle.sq_machine.specs.declared.entries.Event.{Event}
+use Rattle.sq_machine.specs.declared.entries.Event.TheVariants.{Begin, Reconfigure, Seat, Grant, Leave}
+use Rattle.sq_machine.specs.declared.entries.Told.{Told}
+use Rattle.sq_machine.specs.declared.entries.Told.TheVariants as told
 use Rattle.sq_pools.specs.Basins.{Basin, granted_limit, made_in, seat_in, tally_then}
 
 -- the pools stand for a history, whose moments may be later than theirs

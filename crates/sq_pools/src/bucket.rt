@@ -1,6 +1,6 @@
 //! One bucket of a delay pool.
 ghost use Rattle.std.specs.Prelude.{◌≡◌, ◌+◌, ◌*◌, ◌<◌, ◌≤◌, ◌^◌};
-ghost use Rattle.sq_rules.specs.BucketLevels.{drawn_from, filled_to, opened_at, seconds};
+ghost use Rattle.sq_machine.specs.BucketLevels.{drawn_from, filled_to, opened_at, seconds};
 ghost use Rattle.sq_rules.specs.Limits.{initial_limit};
 ghost use Rattle.sq_pools.specs.Grants.{grants, level_in};
 
@@ -19,7 +19,7 @@ pub struct Bucket {
 }
 
 impl Model for Bucket {
-    ghost use Rattle.sq_rules.specs.BucketLevels.{Tally, IsBalanced};
+    ghost use Rattle.sq_machine.specs.BucketLevels.{Tally, IsBalanced};
 
     ghost Value = { Tally };
 
@@ -58,7 +58,7 @@ pub(crate) struct Filling {
 }
 
 impl Model for Filling {
-    ghost use Rattle.sq_rules.specs.BucketLevels.{Filled, IsFilled};
+    ghost use Rattle.sq_machine.specs.BucketLevels.{Filled, IsFilled};
 
     ghost Value = { Filled };
 

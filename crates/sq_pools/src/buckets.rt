@@ -2,7 +2,7 @@
 ghost use Rattle.std.specs.Prelude.{◌≡◌, ◌<◌, ◌≤◌, ◌^◌, [], if◌then◌else◌, Some, None, is_some, true, OnOk, OnErr};
 ghost use Rattle.std.specs.Option.{option_map};
 ghost use Rattle.sq_rules.specs.Limits.{initial_limit};
-ghost use Rattle.sq_rules.specs.PoolReadings as readings;
+ghost use Rattle.sq_machine.specs.PoolReadings as readings;
 ghost use Rattle.sq_pools.specs.Grants.{are_own, are_there, bucket_at, filled_if, granted_if, least_at, level_or_none, opened_in, without_bucket};
 
 use crate::bucket::Filling;
@@ -20,8 +20,8 @@ pub(crate) struct Buckets {
 
 impl Model for Buckets {
     ghost use Rattle.std.specs.Prelude.{List};
-    ghost use Rattle.sq_rules.specs.BucketLevels.{Filled};
-    ghost use Rattle.sq_rules.specs.PoolReadings as named;
+    ghost use Rattle.sq_machine.specs.BucketLevels.{Filled};
+    ghost use Rattle.sq_machine.specs.PoolReadings as named;
 
     ghost Value = { List (named.Spot × Filled) };
 

@@ -1,10 +1,10 @@
 //! Generations of buckets, one for an epoch.
 ghost use Rattle.std.specs.Prelude.{◌≡◌, ◌≤◌, ◌<◌, ◌^◌, ◌-◌, ◌==◌, ◌&&◌, ◌||◌, ◌∷◌, [], ℕ, suc, if◌then◌else◌, Some, None, true, is_none, is_some, nat_lt, length, slice_get, OnOk, OnErr, IfOk};
 ghost use Rattle.std.specs.Option.{option_map};
-ghost use Rattle.sq_rules.specs.BucketLevels.{filled_to};
+ghost use Rattle.sq_machine.specs.BucketLevels.{filled_to};
 ghost use Rattle.sq_rules.specs.Limits.{initial_limit};
-ghost use Rattle.sq_rules.specs.PoolReadings as readings;
-ghost use Rattle.sq_rules.specs.PoolReadings.{has_spot, is_aggregate, kept_if, made_if, second_of};
+ghost use Rattle.sq_machine.specs.PoolReadings as readings;
+ghost use Rattle.sq_machine.specs.PoolReadings.{has_spot, is_aggregate, kept_if, made_if, second_of};
 ghost use Rattle.sq_pools.specs.Generations.{buckets_at, filled_at, generation_at, held_at, is_left, made_at, second_at};
 ghost use Rattle.sq_pools.specs.Grants.{are_own, are_there, bucket_at, filled_if, granted_if, is_aggregate_of, least_at, opened_in};
 

@@ -1,9 +1,9 @@
 //! The delay pools of all epochs.
 ghost use Rattle.std.specs.Prelude.{◌≡◌, ◌<◌, ◌≤◌, ◌^◌, ◌==◌, ◌&&◌, ◌||◌, ℕ, cond, if◌then◌else◌, max, suc, true, false, Some, None, is_none, is_some, nat_lt, length, slice_get, IfSome, IfOk, IfErr, OnOk, OnErr};
 ghost use Rattle.std.specs.Option.{option_copied};
-ghost use Rattle.sq_rules.specs.Limits.{last_number};
-ghost use Rattle.sq_rules.specs.PoolReadings as readings;
-ghost use Rattle.sq_rules.specs.PoolReadings.{has_spot, is_aggregate, made_if};
+ghost use Rattle.sq_machine.specs.Limits.{last_number};
+ghost use Rattle.sq_machine.specs.PoolReadings as readings;
+ghost use Rattle.sq_machine.specs.PoolReadings.{has_spot, is_aggregate, made_if};
 ghost use Rattle.sq_pools.specs.Generations.{filled_at, held_at, made_at, second_at};
 ghost use Rattle.sq_pools.specs.Grants.{filled_if, opened_in};
 ghost use Rattle.sq_pools.specs.Seats.{seat_at};
@@ -14,6 +14,7 @@ use crate::generations::Generations;
 use crate::seats::{Seat, Seated, Seats};
 use crate::spots::spots_of;
 use sq_base::{Addr, EpochNo, Moment, SeatNo, WantOfMemory};
+use sq_machine::{LAST_NUMBER, later};
 use sq_rules::{Config, Pool};
 use std::alloc::Global;
 use std::fmt;
@@ -40,9 +41,6 @@ impl From<WantOfMemory> for ChooseFault {
         ChooseFault::WantOfMemory
     }
 }
-
-// The number that is never given.
-const LAST_NUMBER: u64 = 9223372036854775807;
 
 // More is not counted.
 const GRANTED_LIMIT: u128 = 170141183460469231731687303715884105728;
@@ -80,13 +78,6 @@ impl Model for Pools {
     ghost view = { λ p. record { generations = p.generations; seats = p.seats; given = p.given; newest = p.newest; latest = p.latest; granted = p.granted } };
 
     ghost invariant = { λ p. IsBasin (record { generations = p.generations; seats = p.seats; given = p.given; newest = p.newest; latest = p.latest; granted = p.granted }) };
-}
-
-// The later of two moments.
-fn later(one: Moment, other: Moment) -> Moment
-    ensures { result ≡ max one other }
-{
-    if one.0 < other.0 { other } else { one }
 }
 
 // The later of two epochs.

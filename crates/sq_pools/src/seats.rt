@@ -47,7 +47,7 @@ pub(crate) struct Seated {
 }
 
 impl Model for Seated {
-    ghost use Rattle.sq_rules.specs.PoolReadings.{Sat};
+    ghost use Rattle.sq_machine.specs.PoolReadings.{Sat};
 
     ghost Value = { Sat };
 
@@ -61,8 +61,8 @@ pub(crate) struct Seats {
 }
 
 impl Model for Seats {
+    ghost use Rattle.sq_machine.specs.PoolReadings.{Sat};
     ghost use Rattle.std.specs.Prelude.{List, ℕ};
-    ghost use Rattle.sq_rules.specs.PoolReadings.{Sat};
 
     ghost Value = { List (ℕ × Sat) };
 

@@ -1,6 +1,6 @@
 //! The names of buckets, and which of them a client has.
 ghost use Rattle.std.specs.Prelude.{◌≡◌, ◌≤◌, length, IfOk};
-ghost use Rattle.sq_rules.specs.PoolReadings as readings;
+ghost use Rattle.sq_machine.specs.PoolReadings as readings;
 
 use sq_base::{Addr, Listed, WantOfMemory};
 use sq_rules::{Limit, Pool};
@@ -18,7 +18,7 @@ pub(crate) struct Spot {
 }
 
 impl Model for Spot {
-    ghost use Rattle.sq_rules.specs.PoolReadings as readings;
+    ghost use Rattle.sq_machine.specs.PoolReadings as readings;
     ghost use Rattle.sq_rules.specs.Rates.{IsLimit};
 
     ghost Value = { readings.Spot };

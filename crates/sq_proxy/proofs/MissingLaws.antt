@@ -4,15 +4,15 @@ use Rattle.std.specs.declared.option.Option.{Option}
 use Rattle.sq_outside.specs.SourceLines.{Line, is_readable, lines}
 use Rattle.sq_outside.specs.Told.{IsNotTold, Texts}
 use Rattle.sq_request.specs.Written.{made_request}
-use Rattle.sq_rules.specs.declared.entries.Event.{Event}
-use Rattle.sq_rules.specs.declared.entries.Event.TheVariants.{Begin, Open, Close, Ask, Step, Take, Started, StartFail, Line as HelperLine, Died, Act, Reconfigure, Seat, Grant, Leave}
+use Rattle.sq_machine.specs.declared.entries.Event.{Event}
+use Rattle.sq_machine.specs.declared.entries.Event.TheVariants.{Begin, Open, Close, Ask, Step, Take, Started, StartFail, Line as HelperLine, Died, Act, Reconfigure, Seat, Grant, Leave}
 use Rattle.sq_rules.specs.declared.kinds.ConfError.{ConfError}
 use Rattle.sq_rules.specs.Configurations.{Configuration}
-use Rattle.sq_rules.specs.Entries.{History}
-use Rattle.sq_rules.specs.FullNext.{full_next}
-use Rattle.sq_rules.specs.Machine.{Next, gives, nothing, refuses}
-use Rattle.sq_rules.specs.Marking.{marked}
-use Rattle.sq_rules.specs.Readings.{current, latest}
+use Rattle.sq_machine.specs.Entries.{History}
+use Rattle.sq_machine.specs.Machine.{next}
+use Rattle.sq_machine.specs.Next.{Next, gives, nothing, refuses}
+use Rattle.sq_machine.specs.Marking.{marked}
+use Rattle.sq_machine.specs.Readings.{current, latest}
 use Rattle.sq_replay.specs.declared.ends.RunEnd.{RunEnd}
 use Rattle.sq_replay.specs.declared.ends.RunEnd.TheVariants as ended
 use Rattle.sq_replay.specs.ConfReading.{read_result}
@@ -37,7 +37,6 @@ misses_map P Q f (ended.Missing name) m = f name m
 misses_map P Q f ended.Ok m = tt
 misses_map P Q f (ended.Script n) m = tt
 misses_map P Q f (ended.Config e) m = tt
-misses_map P Q f (ended.Differs n) m = tt
 misses_map P Q f ended.ReadFault m = tt
 misses_map P Q f ended.WriteFault m = tt
 misses_map P Q f ended.WantOfMemory m = tt
@@ -48,7 +47,7 @@ answered_misses P configs h number moment event (refuses r) = tt
 answered_misses P configs h number moment event nothing = tt
 
 asked_misses : (P : List ℕ → Type 0) (configs : List Configuration) (h : History) (number now : ℕ) (event : Event) → StepMisses P (asked_next configs h number now event)
-asked_misses P configs h number now event = answered_misses P configs h number (max now (latest h)) event (full_next configs (marked configs h) (max now (latest h)) event)
+asked_misses P configs h number now event = answered_misses P configs h number (max now (latest h)) event (next configs (marked configs h) (max now (latest h)) event)
 
 if_misses : (P : List ℕ → Type 0) (b : Bool) (step : Result History RunEnd) (number : ℕ) → StepMisses P step → StepMisses P (if b then step else Err (ended.Script number))
 if_misses P true step number s = s
@@ -129,7 +128,6 @@ status_misses P (ended.Missing n) name e m = let same : name ≡ n = cc in subst
 status_misses P ended.Ok name e m = absurd (cc)
 status_misses P (ended.Script n) name e m = absurd (cc)
 status_misses P (ended.Config x) name e m = absurd (cc)
-status_misses P (ended.Differs n) name e m = absurd (cc)
 status_misses P ended.ReadFault name e m = absurd (cc)
 status_misses P ended.WriteFault name e m = absurd (cc)
 status_misses P ended.WantOfMemory name e m = absurd (cc)

@@ -9,8 +9,8 @@ use Rattle.sq_outside.specs.Output.{Grew, IsProperPrefix, IsWritten}
 use Rattle.sq_outside.proofs.Writing.{IsPrefix_nil}
 use Rattle.sq_outside.specs.Told.{IsNotTold, Openings, Texts}
 use Rattle.sq_rules.specs.Configurations.{Configuration}
-use Rattle.sq_rules.specs.Entries.{History}
-use Rattle.sq_rules.specs.Readings.{current}
+use Rattle.sq_machine.specs.Entries.{History}
+use Rattle.sq_machine.specs.Readings.{current}
 use Rattle.sq_calls.specs.declared.faults.DeskFault.{DeskFault}
 use Rattle.sq_calls.specs.declared.faults.DeskFault.TheVariants as desk
 use Rattle.sq_desk.specs.Calling.{IsUnbegun}

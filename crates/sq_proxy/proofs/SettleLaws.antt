@@ -55,7 +55,6 @@ kind_same ended.Ok = refl
 kind_same (ended.Script n) = refl
 kind_same (ended.Config e) = refl
 kind_same (ended.Missing n) = refl
-kind_same (ended.Differs n) = refl
 kind_same ended.ReadFault = refl
 kind_same ended.WriteFault = refl
 kind_same ended.WantOfMemory = refl
@@ -188,7 +187,6 @@ ended_read ended.Ok e = absurd (cc)
 ended_read (ended.Script n) e = absurd (cc)
 ended_read (ended.Config x) e = absurd (cc)
 ended_read (ended.Missing n) e = absurd (cc)
-ended_read (ended.Differs n) e = absurd (cc)
 ended_read ended.WriteFault e = absurd (cc)
 ended_read ended.WantOfMemory e = absurd (cc)
 
@@ -198,7 +196,6 @@ ended_write ended.Ok e = absurd (cc)
 ended_write (ended.Script n) e = absurd (cc)
 ended_write (ended.Config x) e = absurd (cc)
 ended_write (ended.Missing n) e = absurd (cc)
-ended_write (ended.Differs n) e = absurd (cc)
 ended_write ended.ReadFault e = absurd (cc)
 ended_write ended.WantOfMemory e = absurd (cc)
 

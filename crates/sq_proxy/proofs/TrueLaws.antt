@@ -2,14 +2,14 @@
 use Rattle.std.proofs.Common.{◌≡◌, ◌⊎◌, inl, inr, ℕ, zero, suc, ◌≤◌, List, [], ◌∷◌, length, Bool, true, false, slice_get, Some, None, IfSome, refl, subst, arith}
 use Rattle.std.proofs.lemmas.Option.{none-some, same_Some}
 use Rattle.std.specs.declared.option.Option.{Option}
-use Rattle.sq_rules.specs.declared.entries.Event.{Event}
-use Rattle.sq_rules.specs.declared.entries.Event.TheVariants.{Reconfigure}
+use Rattle.sq_machine.specs.declared.entries.Event.{Event}
+use Rattle.sq_machine.specs.declared.entries.Event.TheVariants.{Reconfigure}
 use Rattle.sq_rules.specs.Configurations.{Configuration}
 use Rattle.sq_rules.specs.ConfText.{conf_gives}
-use Rattle.sq_rules.specs.Entries.{History}
-use Rattle.sq_rules.specs.Events.{begins_epoch}
-use Rattle.sq_rules.specs.Machine.{config_of}
-use Rattle.sq_rules.specs.Readings.{current, epoch_after}
+use Rattle.sq_machine.specs.Entries.{History}
+use Rattle.sq_machine.specs.Events.{begins_epoch}
+use Rattle.sq_machine.specs.Epochs.{config_of}
+use Rattle.sq_machine.specs.Readings.{current, epoch_after}
 use Rattle.sq_history.specs.Given.{EachOf}
 use Rattle.sq_state.specs.Sources.{AreSourced, IsSourced}
 use Rattle.sq_calls.specs.Legality.{Beginning, IsLegal, IsStated}

@@ -4,7 +4,7 @@ use Rattle.std.specs.declared.option.Option.{Option}
 use Rattle.sq_base.specs.Decimals.{number_of}
 use Rattle.sq_outside.specs.SourceLines.{Line, lines}
 use Rattle.sq_outside.specs.Told.{Texts}
-use Rattle.sq_rules.specs.declared.entries.Event.TheVariants.{Reconfigure}
+use Rattle.sq_machine.specs.declared.entries.Event.TheVariants.{Reconfigure}
 use Rattle.sq_rules.specs.Configurations.{Configuration}
 use Rattle.sq_rules.specs.ConfText.{conf_result}
 use Rattle.sq_rules.specs.declared.kinds.ConfError.{ConfError}

@@ -71,7 +71,6 @@ run_status ended.Ok = Ok
 run_status (ended.Script line) = Script line
 run_status (ended.Config e) = Config e.line e.kind
 run_status (ended.Missing name) = Missing name
-run_status (ended.Differs line) = Script line
 run_status ended.ReadFault = ReadFault
 run_status ended.WriteFault = WriteFault
 run_status ended.WantOfMemory = WantOfMemory

@@ -9,8 +9,8 @@ use Rattle.sq_outside.specs.Causes.{Rose, count_limit}
 use Rattle.sq_outside.specs.Output.{Grew, IsProperPrefix, IsWritten}
 use Rattle.sq_outside.specs.Told.{IsNotTold, Openings, Texts}
 use Rattle.sq_rules.specs.Configurations.{Configuration}
-use Rattle.sq_rules.specs.Entries.{History}
-use Rattle.sq_rules.specs.Readings.{current, offset_of}
+use Rattle.sq_machine.specs.Entries.{History}
+use Rattle.sq_machine.specs.Readings.{current, offset_of}
 use Rattle.sq_calls.specs.Legality.{Beginning}
 use Rattle.sq_replay.specs.Headline.{IsTrue}
 use Rattle.sq_panel.specs.declared.panel.PanelEnd.{PanelEnd}

@@ -79,7 +79,6 @@ pub fn status_of(end: RunEnd) -> Status
             kind: fault.kind,
         },
         RunEnd::Missing(name) => Status::Missing(name),
-        RunEnd::Differs(line) => Status::Script(line),
         RunEnd::ReadFault => Status::ReadFault,
         RunEnd::WriteFault => Status::WriteFault,
         RunEnd::WantOfMemory => Status::WantOfMemory,

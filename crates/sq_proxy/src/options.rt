@@ -4,7 +4,7 @@ ghost use Rattle.sq_proxy.specs.Serving.{options_from, positive_of, service_of, 
 
 use sq_base::{PORT_LIMIT, Text, number_of};
 use sq_journal::minutes_of;
-use sq_rules::Offset;
+use sq_machine::Offset;
 use std::marker::Model;
 
 /// One more than the workers that there are at most.

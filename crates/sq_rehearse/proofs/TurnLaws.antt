@@ -1,17 +1,16 @@
 -- From what the machine makes of an event to a turn of the driver.
 use Rattle.std.proofs.Common.{◌≡◌, inl, inr, ℕ, suc, zero, max, List, ◌∷◌, Bool, true, false, if◌then◌else◌, Option, Some, None, IfSome, is_some, slice_get, Result, Ok, Err, OnOk, refl, sym, ap, subst, ◌∙◌}
 use Rattle.sq_request.specs.Written.{made_request}
-use Rattle.sq_rules.specs.declared.entries.Event.{Event}
-use Rattle.sq_rules.specs.declared.entries.Event.TheVariants.{Act, Ask, Begin}
-use Rattle.sq_rules.specs.declared.entries.Told.{Told}
+use Rattle.sq_machine.specs.declared.entries.Event.{Event}
+use Rattle.sq_machine.specs.declared.entries.Event.TheVariants.{Act, Ask, Begin}
+use Rattle.sq_machine.specs.declared.entries.Told.{Told}
 use Rattle.sq_rules.specs.Configurations.{Configuration}
-use Rattle.sq_rules.specs.Entries.{History, is_event}
-use Rattle.sq_rules.specs.Events.{begins_epoch}
-use Rattle.sq_rules.specs.FullNext.{full_next}
-use Rattle.sq_rules.specs.Machine.{Next, gives, is_begin, nothing, refuses}
-use Rattle.sq_rules.specs.Marking.{marked}
-use Rattle.sq_rules.specs.Readings.{latest}
-use Rattle.sq_state.specs.Promises.{entry_at}
+use Rattle.sq_machine.specs.Entries.{History, is_event, entry_at}
+use Rattle.sq_machine.specs.Events.{begins_epoch, is_begin}
+use Rattle.sq_machine.specs.Machine.{next}
+use Rattle.sq_machine.specs.Next.{Next, gives, nothing, refuses}
+use Rattle.sq_machine.specs.Marking.{marked}
+use Rattle.sq_machine.specs.Readings.{latest}
 use Rattle.sq_replay.specs.Making.{IsRefusal, MayStand, is_refused}
 use Rattle.sq_replay.specs.Runs.{Is, IsMade, Machine}
 use Rattle.sq_rehearse.specs.declared.drivers.Driver.{Driver}
@@ -59,11 +58,11 @@ wanted_plain d event other wanted = subst (λ o. IfSome o IsPlain) wanted (stage
 -- answers
 
 answer_given : (configs : List Configuration) (h : History) (now : ℕ) (event : Event) (told : Told) → MayStand event
-    → full_next configs (marked configs h) (max now (latest h)) event ≡ gives told → answer_to configs h now event ≡ gives told
+    → next configs (marked configs h) (max now (latest h)) event ≡ gives told → answer_to configs h now event ≡ gives told
 answer_given configs h now (Begin offset) told may e = absurd may
 answer_given configs h now Act told may e = absurd may
 answer_given configs h now (Ask conn method target fields) told may e =
-    ap (λ (b : Bool). if b then full_next configs (marked configs h) (max now (latest h)) (Ask conn method target fields) else nothing) may ∙ e
+    ap (λ (b : Bool). if b then next configs (marked configs h) (max now (latest h)) (Ask conn method target fields) else nothing) may ∙ e
 answer_given configs h now event told may e = e
 
 guarded : (b : Bool) (n : Next) → is_refused n ≡ true → is_refused (if b then n else nothing) ≡ true
@@ -74,9 +73,9 @@ answer_refused : (configs : List Configuration) (h : History) (now : ℕ) (event
     → is_refused (answer_to configs h now event) ≡ true
 answer_refused configs h now Act other r = absurd (cc)
 answer_refused configs h now (Ask conn method target fields) other (inl none) =
-    ap (λ o. is_refused (if is_some o then full_next configs (marked configs h) (max now (latest h)) (Ask conn method target fields) else nothing)) none
+    ap (λ o. is_refused (if is_some o then next configs (marked configs h) (max now (latest h)) (Ask conn method target fields) else nothing)) none
 answer_refused configs h now (Ask conn method target fields) other (inr r) =
-    guarded (is_some (made_request method target 1 fields)) (full_next configs (marked configs h) (max now (latest h)) (Ask conn method target fields)) r
+    guarded (is_some (made_request method target 1 fields)) (next configs (marked configs h) (max now (latest h)) (Ask conn method target fields)) r
 answer_refused configs h now event other r = r
 
 made_refused : (go : Driver → History → History) (d : Driver) (h : History) (event : Event) (n : Next) → is_refused n ≡ true → made_on go d h event n ≡ h
@@ -93,25 +92,25 @@ on_ok (Err e) P Q f p = tt
 
 -- a turn of a driver that makes acts
 turn_acts : (configs : List Configuration) (k : ℕ) (d : Driver) (h : History) → is_acting d.stage ≡ true
-    → drive configs (suc k) d h ≡ acted_on (drive configs k) d h (full_next configs (marked configs h) (max (moment_of d) (latest h)) Act)
+    → drive configs (suc k) d h ≡ acted_on (drive configs k) d h (next configs (marked configs h) (max (moment_of d) (latest h)) Act)
 turn_acts configs k d h acting =
-    ap (λ (b : Bool). if b then acted_on (drive configs k) d h (full_next configs (marked configs h) (max (moment_of d) (latest h)) Act) else turned (drive configs k) configs d h (event_of d)) acting
+    ap (λ (b : Bool). if b then acted_on (drive configs k) d h (next configs (marked configs h) (max (moment_of d) (latest h)) Act) else turned (drive configs k) configs d h (event_of d)) acting
 
 -- and of any other
 turn_makes : (configs : List Configuration) (k : ℕ) (d : Driver) (h : History) → is_acting d.stage ≡ false → drive configs (suc k) d h ≡ turned (drive configs k) configs d h (event_of d)
 turn_makes configs k d h acting =
-    ap (λ (b : Bool). if b then acted_on (drive configs k) d h (full_next configs (marked configs h) (max (moment_of d) (latest h)) Act) else turned (drive configs k) configs d h (event_of d)) acting
+    ap (λ (b : Bool). if b then acted_on (drive configs k) d h (next configs (marked configs h) (max (moment_of d) (latest h)) Act) else turned (drive configs k) configs d h (event_of d)) acting
 
 -- no act is due
 pub act_none : (v w : Machine) (configs : List Configuration) (h : History) (d e : Driver) (s : Summary) → is_acting d.stage ≡ true → w ≡ v → e ≡ acted d
-    → full_next configs (marked configs h) (max (moment_of d) v.latest) Act ≡ nothing → Is v configs h → s ≡ counted h → TurnsTo configs h d w s e
-act_none v w configs h d e s acting same goes next is counts = record {
+    → next configs (marked configs h) (max (moment_of d) v.latest) Act ≡ nothing → Is v configs h → s ≡ counted h → TurnsTo configs h d w s e
+act_none v w configs h d e s acting same goes said is counts = record {
   history = h;
   is = subst (λ (x : Machine). Is x configs h) (sym same) is;
   counts = counts;
   same = λ k.
-      let none : full_next configs (marked configs h) (max (moment_of d) (latest h)) Act ≡ nothing =
-      subst (λ (n : ℕ). full_next configs (marked configs h) (max (moment_of d) n) Act ≡ nothing) is.latest_is next in
+      let none : next configs (marked configs h) (max (moment_of d) (latest h)) Act ≡ nothing =
+      subst (λ (n : ℕ). next configs (marked configs h) (max (moment_of d) n) Act ≡ nothing) is.latest_is said in
       turn_acts configs k d h acting ∙ ap (acted_on (drive configs k) d h) none ∙ ap (λ (x : Driver). drive configs k x h) (sym goes);
 }
 
@@ -123,9 +122,9 @@ act_done v w configs h d e s t told acting goes more made is counts = record {
   is = subst (λ (n : ℕ). Is w configs (entry_at (max (moment_of d) n) Act told ∷ h)) is.latest_is made.is;
   counts = more ∙ ap (count_told told) counts;
   same = λ k.
-      let next : full_next configs (marked configs h) (max (moment_of d) (latest h)) Act ≡ gives told =
-      subst (λ (n : ℕ). full_next configs (marked configs h) (max (moment_of d) n) Act ≡ gives told) is.latest_is made.next_is in
-      turn_acts configs k d h acting ∙ ap (acted_on (drive configs k) d h) next
+      let said : next configs (marked configs h) (max (moment_of d) (latest h)) Act ≡ gives told =
+      subst (λ (n : ℕ). next configs (marked configs h) (max (moment_of d) n) Act ≡ gives told) is.latest_is made.next_is in
+      turn_acts configs k d h acting ∙ ap (acted_on (drive configs k) d h) said
       ∙ ap (λ (x : Driver). drive configs k x (entry_at (max (moment_of d) (latest h)) Act told ∷ h)) (sym goes);
 }
 
@@ -137,10 +136,10 @@ event_done v w configs h d e s t event told acting wanted goes more may made is 
   is = subst (λ (n : ℕ). Is w configs (entry_at (max (moment_of d) n) event told ∷ h)) is.latest_is made.is;
   counts = more ∙ ap (count_told told) counts;
   same = λ k.
-      let next : full_next configs (marked configs h) (max (moment_of d) (latest h)) event ≡ gives told =
-      subst (λ (n : ℕ). full_next configs (marked configs h) (max (moment_of d) n) event ≡ gives told) is.latest_is made.next_is in
+      let said : next configs (marked configs h) (max (moment_of d) (latest h)) event ≡ gives told =
+      subst (λ (n : ℕ). next configs (marked configs h) (max (moment_of d) n) event ≡ gives told) is.latest_is made.next_is in
       turn_makes configs k d h acting ∙ ap (turned (drive configs k) configs d h) wanted
-      ∙ ap (made_on (drive configs k) d h event) (answer_given configs h (moment_of d) event told may next)
+      ∙ ap (made_on (drive configs k) d h event) (answer_given configs h (moment_of d) event told may said)
       ∙ ap (λ (x : Driver). drive configs k x (entry_at (max (moment_of d) (latest h)) event told ∷ h)) (sym goes);
 }
 

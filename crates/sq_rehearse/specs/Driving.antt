@@ -1,10 +1,10 @@
 -- The driver of a rehearsal: the event that it wants, and what the machine's answer makes of it.
 use Rattle.std.specs.Prelude.{ℕ, ◌+◌, ◌*◌, List, [], ◌∷◌, ◌++◌, drop, slice_get, Bool, true, false, Some, None, codes}
 use Rattle.std.specs.declared.option.Option.{Option}
-use Rattle.sq_rules.specs.declared.entries.Event.{Event}
-use Rattle.sq_rules.specs.declared.entries.Event.TheVariants as event
-use Rattle.sq_rules.specs.declared.entries.Told.{Told}
-use Rattle.sq_rules.specs.declared.entries.Told.TheVariants as told
+use Rattle.sq_machine.specs.declared.entries.Event.{Event}
+use Rattle.sq_machine.specs.declared.entries.Event.TheVariants as event
+use Rattle.sq_machine.specs.declared.entries.Told.{Told}
+use Rattle.sq_machine.specs.declared.entries.Told.TheVariants as told
 use Rattle.sq_rehearse.specs.declared.drivers.Driver.{Driver}
 use Rattle.sq_rehearse.specs.declared.stages.Said.{Said}
 use Rattle.sq_rehearse.specs.declared.stages.Said.TheVariants as said

@@ -2,16 +2,15 @@
 use Rattle.std.specs.Prelude.{ℕ, ◌+◌, ◌*◌, pos, zero, suc, max, List, [], ◌∷◌, ◌++◌, Bool, true, false, if◌then◌else◌, is_some, Some, None, codes}
 use Rattle.std.specs.declared.option.Option.{Option}
 use Rattle.sq_request.specs.Written.{made_request}
-use Rattle.sq_rules.specs.declared.entries.Event.{Event}
-use Rattle.sq_rules.specs.declared.entries.Event.TheVariants.{Act, Ask}
+use Rattle.sq_machine.specs.declared.entries.Event.{Event}
+use Rattle.sq_machine.specs.declared.entries.Event.TheVariants.{Act, Ask}
 use Rattle.sq_rules.specs.Configurations.{Configuration}
-use Rattle.sq_rules.specs.Entries.{History}
-use Rattle.sq_rules.specs.FullNext.{full_next}
-use Rattle.sq_rules.specs.Machine.{Next, gives, nothing}
-use Rattle.sq_rules.specs.Marking.{marked}
-use Rattle.sq_rules.specs.Readings.{latest}
+use Rattle.sq_machine.specs.Entries.{History, entry_at}
+use Rattle.sq_machine.specs.Machine.{next}
+use Rattle.sq_machine.specs.Next.{Next, gives, nothing}
+use Rattle.sq_machine.specs.Marking.{marked}
+use Rattle.sq_machine.specs.Readings.{latest}
 use Rattle.sq_replay.specs.RunText.{first_history}
-use Rattle.sq_state.specs.Promises.{entry_at}
 use Rattle.sq_rehearse.specs.declared.drivers.Driver.{Driver}
 use Rattle.sq_rehearse.specs.declared.summaries.Summary.{Summary}
 use Rattle.sq_rehearse.specs.Driving.{answered, event_of, first_driver, is_acting, moment_of}
@@ -34,8 +33,8 @@ configuration_text =
 -- the machine's next answer to an event, at the greatest moment so far; requests have version 1.1
 abbrev pub answer_to : List Configuration → History → ℕ → Event → Next
 answer_to configs h now (Ask conn method target fields) =
-    if is_some (made_request method target 1 fields) then full_next configs (marked configs h) (max now (latest h)) (Ask conn method target fields) else nothing
-answer_to configs h now event = full_next configs (marked configs h) (max now (latest h)) event
+    if is_some (made_request method target 1 fields) then next configs (marked configs h) (max now (latest h)) (Ask conn method target fields) else nothing
+answer_to configs h now event = next configs (marked configs h) (max now (latest h)) event
 
 -- the history goes on with an event's entry, and the driver by the answer; an event that is refused ends the rehearsal
 abbrev pub made_on : (Driver → History → History) → Driver → History → Event → Next → History
@@ -56,7 +55,7 @@ turned go configs d h (Some event) = made_on go d h event (answer_to configs h (
 abbrev pub drive : List Configuration → ℕ → Driver → History → History
 drive configs zero d h = h
 drive configs (suc k) d h =
-    if is_acting d.stage then acted_on (drive configs k) d h (full_next configs (marked configs h) (max (moment_of d) (latest h)) Act)
+    if is_acting d.stage then acted_on (drive configs k) d h (next configs (marked configs h) (max (moment_of d) (latest h)) Act)
     else turned (drive configs k) configs d h (event_of d)
 
 -- so many turns a rehearsal has at most: more than twice as many as its requests take

@@ -2,6 +2,7 @@
 use Rattle.std.specs.Prelude.{ℕ, ◌+◌, ◌*◌, ◌/◌, ◌%◌, List, [], ◌∷◌, ◌++◌, Bool, true, false, ◌==◌, if◌then◌else◌, Some, None, codes, decimal}
 use Rattle.std.specs.declared.option.Option.{Option}
 use Rattle.sq_base.specs.Addresses.{Address}
+use Rattle.sq_base.specs.Replies.{channel_text}
 
 -- the number after this one
 abbrev pub number_after : ℕ → ℕ
@@ -31,11 +32,6 @@ is_even_before even (b ∷ bs) = if b == 46 then even else is_even_before (b % 2
 -- whether the number of the host that a key names is even
 abbrev pub is_even_key : List ℕ → Bool
 is_even_key key = is_even_before true key
-
--- what stands before the word of a reply: its channel, where the class has channels (helper protocol, concurrency)
-abbrev pub channel_text : Option ℕ → List ℕ
-channel_text None = []
-channel_text (Some n) = decimal n ++ codes " "
 
 -- the line of a reply: `OK` or `ERR`
 abbrev pub reply_line : Option ℕ → Bool → List ℕ

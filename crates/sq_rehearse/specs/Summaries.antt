@@ -1,11 +1,11 @@
 -- What a rehearsal came to, as a reading of its history.
 use Rattle.std.specs.Prelude.{ℕ, ◌+◌, suc, List, [], ◌∷◌, ◌++◌, Bool, true, false, codes, decimal}
-use Rattle.sq_rules.specs.declared.entries.Told.{Told}
-use Rattle.sq_rules.specs.declared.entries.Told.TheVariants as told
+use Rattle.sq_machine.specs.declared.entries.Told.{Told}
+use Rattle.sq_machine.specs.declared.entries.Told.TheVariants as told
 use Rattle.sq_rules.specs.declared.outcomes.Outcome.{Outcome}
 use Rattle.sq_rules.specs.declared.outcomes.Why.{Why}
 use Rattle.sq_rules.specs.declared.outcomes.Why.TheVariants as why
-use Rattle.sq_rules.specs.Entries.{History}
+use Rattle.sq_machine.specs.Entries.{History}
 use Rattle.sq_rehearse.specs.declared.summaries.Summary.{Summary}
 
 abbrev pub no_count : Summary

@@ -1,7 +1,7 @@
 -- What a turn of the code comes to, over every history that the machine stands for.
 use Rattle.std.specs.Prelude.{◌≡◌, ℕ, suc, List, Bool, true, false}
 use Rattle.sq_rules.specs.Configurations.{Configuration}
-use Rattle.sq_rules.specs.Entries.{History}
+use Rattle.sq_machine.specs.Entries.{History}
 use Rattle.sq_replay.specs.Runs.{Is, Machine}
 use Rattle.sq_rehearse.specs.declared.drivers.Driver.{Driver}
 use Rattle.sq_rehearse.specs.declared.summaries.Summary.{Summary}

@@ -6,7 +6,7 @@ use crate::drivers::Driver;
 use crate::requests::is_even_key;
 use crate::stages::{Pending, Said, Sent, Stage};
 use sq_base::{ConnNo, WantOfMemory};
-use sq_rules::Told;
+use sq_machine::Told;
 
 impl Driver {
     // A request was asked.

@@ -7,7 +7,7 @@ use crate::queues::Queue;
 use crate::requests::{client_of, number_after, reply_line, target_text};
 use crate::stages::{Pending, Said, Sent, Stage};
 use sq_base::{CheckNo, ConnNo, Copying, Fields, Moment, Text, WantOfMemory};
-use sq_rules::Event;
+use sq_machine::Event;
 use std::alloc::Global;
 
 /// From which port clients come.

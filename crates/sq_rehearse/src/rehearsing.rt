@@ -1,7 +1,7 @@
 //! The run of a rehearsal.
 ghost use Rattle.std.specs.Prelude.{◌≡◌, ◌+◌, ◌<◌, ◌≤◌, ◌^◌, ℕ, List, Some, suc, false, true, IfOk, OnOk};
 ghost use Rattle.sq_rules.specs.Configurations.{Configuration, IsConfiguration};
-ghost use Rattle.sq_rules.specs.Entries.{History};
+ghost use Rattle.sq_machine.specs.Entries.{History};
 ghost use Rattle.sq_replay.specs.MachineViews.{machine_of};
 ghost use Rattle.sq_replay.specs.Runs.{Is};
 ghost use Rattle.sq_rehearse.specs.Driving.{event_of, is_acting};
@@ -12,8 +12,8 @@ ghost use Rattle.sq_rehearse.specs.Turns.{Turned, TurnsTo};
 use crate::drivers::Driver;
 use crate::summaries::Summary;
 use sq_base::{Moment, WantOfMemory};
+use sq_machine::{Event, Offset};
 use sq_replay::{Machine, Stop};
-use sq_rules::{Event, Offset};
 use sq_urlmatch::Setup;
 use std::alloc::Global;
 

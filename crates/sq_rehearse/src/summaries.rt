@@ -4,7 +4,8 @@ ghost use Rattle.sq_rehearse.specs.Summaries.{count_outcome, count_told, no_coun
 
 use itoa::Buffer;
 use sq_base::{Text, WantOfMemory};
-use sq_rules::{Outcome, Told, Why};
+use sq_machine::Told;
+use sq_rules::{Outcome, Why};
 use std::alloc::Global;
 
 /// How many checks began, how many outcomes allowed, denied without a fault, and denied by one, and how many questions were sent.

@@ -2,25 +2,25 @@
 use Rattle.std.proofs.Common.{◌≡◌, ℕ, zero, suc, ◌+◌, ◌<◌, ◌≤◌, List, [], ◌∷◌, ◌++◌, length, map, Option, Some, None, refl, sym, ap, ap₂, subst, ◌∙◌, arith}
 use Rattle.std.specs.List.{flat_map}
 use Rattle.std.specs.Option.{option_map_or}
-use Rattle.sq_rules.specs.declared.entries.Event.TheVariants.{Act}
-use Rattle.sq_rules.specs.declared.entries.Told.{Told}
-use Rattle.sq_rules.specs.declared.refusals.Refusal.{Refusal}
+use Rattle.sq_machine.specs.declared.entries.Event.TheVariants.{Act}
+use Rattle.sq_machine.specs.declared.entries.Told.{Told}
+use Rattle.sq_machine.specs.declared.refusals.Refusal.{Refusal}
 use Rattle.sq_rules.specs.Configurations.{Configuration, IsConfiguration}
-use Rattle.sq_rules.specs.DueActs.{Place}
-use Rattle.sq_rules.specs.Entries.{History}
-use Rattle.sq_rules.specs.FullNext.{FullLegal, full_next}
-use Rattle.sq_rules.specs.Machine.{Next, gives, nothing, refuses}
-use Rattle.sq_rules.specs.Marking.{marked}
-use Rattle.sq_rules.specs.Marks.{Past, entries}
-use Rattle.sq_rules.specs.Numbered.{below, picks}
-use Rattle.sq_rules.specs.Processes.{proc_count, stop_due}
-use Rattle.sq_rules.specs.Readings.{latest}
+use Rattle.sq_machine.specs.DueActs.{Place}
+use Rattle.sq_machine.specs.Entries.{History, entry_at}
+use Rattle.sq_machine.specs.Machine.{Legal, next}
+use Rattle.sq_machine.specs.Next.{Next, gives, nothing, refuses}
+use Rattle.sq_machine.specs.Marking.{marked}
+use Rattle.sq_machine.specs.Marks.{Past, entries}
+use Rattle.sq_machine.specs.Numbered.{below, picks}
+use Rattle.sq_machine.specs.Processes.{proc_count, stop_due}
+use Rattle.sq_machine.specs.Readings.{latest}
 use Rattle.sq_rows.specs.CheckRows.{Held}
 use Rattle.sq_history.specs.Given.{EachOf}
 use Rattle.sq_history.proofs.RowLaws.{picks_same}
 use Rattle.sq_state.specs.Acts.{Due, due_in, live_places_in, places_in, sends, starts, stops}
 use Rattle.sq_state.specs.Answers.{act_of, due_told}
-use Rattle.sq_state.specs.Promises.{IsAnswered, StandsFor, entry_at}
+use Rattle.sq_state.specs.Promises.{IsAnswered, StandsFor}
 use Rattle.sq_state.specs.States.{IsSame, Stands, State, lives_with}
 use Rattle.sq_state.proofs.ActNext.{act_next_is}
 use Rattle.sq_state.proofs.ActPromises.{send_answered, start_answered, stop_answered}
@@ -103,12 +103,12 @@ due_stands configs h s now (starts p) law st is = start_stands configs (marked c
 
 -- what is answered to an act after a history
 due_told_is : (configs : List Configuration) (h : History)
-    → full_next configs (marked configs h) (latest h) Act ≡ act_of (state_at configs (marked configs h)) (due_in (state_at configs (marked configs h)))
+    → next configs (marked configs h) (latest h) Act ≡ act_of (state_at configs (marked configs h)) (due_in (state_at configs (marked configs h)))
 due_told_is configs h =
     next_now configs h (latest h) Act (omega arith) ∙ act_next_is configs (marked configs h) (state_at configs (marked configs h)) (latest h) (state_stands configs (marked configs h))
 
 -- an act is never refused
-act_unrefused : (configs : List Configuration) (h : History) (r : Refusal) → full_next configs (marked configs h) (latest h) Act ≡ refuses r → ⊥
+act_unrefused : (configs : List Configuration) (h : History) (r : Refusal) → next configs (marked configs h) (latest h) Act ≡ refuses r → ⊥
 act_unrefused configs h r is = by (due_in s) (sym (due_told_is configs h) ∙ is)
   where
     s : State
@@ -119,9 +119,9 @@ act_unrefused configs h r is = by (due_in s) (sym (due_told_is configs h) ∙ is
     by (Some d) e = cc
 
 -- each act lowers what is due
-pub act_lowers : (configs : List Configuration) (h : History) (answer : Told) → EachOf IsConfiguration configs → FullLegal configs h
-    → full_next configs (marked configs h) (latest h) Act ≡ gives answer → dues configs (entry_at (latest h) Act answer ∷ h) < dues configs h
-act_lowers configs h answer good legal next = by (due_in s) refl told
+pub act_lowers : (configs : List Configuration) (h : History) (answer : Told) → EachOf IsConfiguration configs → Legal configs h
+    → next configs (marked configs h) (latest h) Act ≡ gives answer → dues configs (entry_at (latest h) Act answer ∷ h) < dues configs h
+act_lowers configs h answer good legal said = by (due_in s) refl told
   where
     s : State
     s = state_at configs (marked configs h)
@@ -130,7 +130,7 @@ act_lowers configs h answer good legal next = by (due_in s) refl told
     st = state_stands configs (marked configs h)
 
     told : act_of s (due_in s) ≡ gives answer
-    told = sym (due_told_is configs h) ∙ next
+    told = sym (due_told_is configs h) ∙ said
 
     by : (o : Option Due) → due_in s ≡ o → act_of s o ≡ gives answer → dues configs (entry_at (latest h) Act answer ∷ h) < dues configs h
     by None is e = absurd (cc)
@@ -142,43 +142,43 @@ act_lowers configs h answer good legal next = by (due_in s) refl told
         (after_lowers s d (latest h) is))
 
 -- a legal history stays so with an act
-pub act_legal : (configs : List Configuration) (h : History) (answer : Told) → full_next configs (marked configs h) (latest h) Act ≡ gives answer → FullLegal configs h
-    → FullLegal configs (entry_at (latest h) Act answer ∷ h)
-act_legal configs h answer next legal = legal_more configs h (latest h) Act answer legal refl refl (omega arith) next
+pub act_legal : (configs : List Configuration) (h : History) (answer : Told) → next configs (marked configs h) (latest h) Act ≡ gives answer → Legal configs h
+    → Legal configs (entry_at (latest h) Act answer ∷ h)
+act_legal configs h answer said legal = legal_more configs h (latest h) Act answer legal refl refl (omega arith) said
 
 -- what stays with each act stays with all
 pub acts_keep : (configs : List Configuration) (P : History → Type 0)
-    → ((h : History) (answer : Told) → full_next configs (marked configs h) (latest h) Act ≡ gives answer → P h → P (entry_at (latest h) Act answer ∷ h))
+    → ((h : History) (answer : Told) → next configs (marked configs h) (latest h) Act ≡ gives answer → P h → P (entry_at (latest h) Act answer ∷ h))
     → (k : ℕ) (h : History) → P h → P (acts_upto configs k h)
 acts_keep configs P step zero h p = p
-acts_keep configs P step (suc k) h p = by (full_next configs (marked configs h) (latest h) Act) refl (λ t q. acts_keep configs P step k t q)
+acts_keep configs P step (suc k) h p = by (next configs (marked configs h) (latest h) Act) refl (λ t q. acts_keep configs P step k t q)
   where
-    by : (n : Next) → full_next configs (marked configs h) (latest h) Act ≡ n → ((t : History) → P t → P (acts_upto configs k t)) → P (acted (acts_upto configs k) h n)
+    by : (n : Next) → next configs (marked configs h) (latest h) Act ≡ n → ((t : History) → P t → P (acts_upto configs k t)) → P (acted (acts_upto configs k) h n)
     by (gives answer) is more = more (entry_at (latest h) Act answer ∷ h) (step h answer is p)
     by (refuses r) is more = p
     by nothing is more = p
 
 -- how many acts there may be does not matter where they are enough
-pub acts_enough : (configs : List Configuration) (j k : ℕ) (h : History) → EachOf IsConfiguration configs → FullLegal configs h → dues configs h ≤ j → dues configs h ≤ k
+pub acts_enough : (configs : List Configuration) (j k : ℕ) (h : History) → EachOf IsConfiguration configs → Legal configs h → dues configs h ≤ j → dues configs h ≤ k
     → acts_upto configs j h ≡ acts_upto configs k h
 acts_enough configs zero zero h good legal a b = refl
-acts_enough configs zero (suc k) h good legal a b = by (full_next configs (marked configs h) (latest h) Act) refl
+acts_enough configs zero (suc k) h good legal a b = by (next configs (marked configs h) (latest h) Act) refl
   where
-    by : (n : Next) → full_next configs (marked configs h) (latest h) Act ≡ n → h ≡ acted (acts_upto configs k) h n
+    by : (n : Next) → next configs (marked configs h) (latest h) Act ≡ n → h ≡ acted (acts_upto configs k) h n
     by (gives answer) is = absurd (let l = act_lowers configs h answer good legal is in omega arith)
     by (refuses r) is = refl
     by nothing is = refl
-acts_enough configs (suc j) zero h good legal a b = by (full_next configs (marked configs h) (latest h) Act) refl
+acts_enough configs (suc j) zero h good legal a b = by (next configs (marked configs h) (latest h) Act) refl
   where
-    by : (n : Next) → full_next configs (marked configs h) (latest h) Act ≡ n → acted (acts_upto configs j) h n ≡ h
+    by : (n : Next) → next configs (marked configs h) (latest h) Act ≡ n → acted (acts_upto configs j) h n ≡ h
     by (gives answer) is = absurd (let l = act_lowers configs h answer good legal is in omega arith)
     by (refuses r) is = refl
     by nothing is = refl
 acts_enough configs (suc j) (suc k) h good legal a b =
-    by (full_next configs (marked configs h) (latest h) Act) refl (λ t legal a b. acts_enough configs j k t good legal a b)
+    by (next configs (marked configs h) (latest h) Act) refl (λ t legal a b. acts_enough configs j k t good legal a b)
   where
-    by : (n : Next) → full_next configs (marked configs h) (latest h) Act ≡ n
-        → ((t : History) → FullLegal configs t → dues configs t ≤ j → dues configs t ≤ k → acts_upto configs j t ≡ acts_upto configs k t)
+    by : (n : Next) → next configs (marked configs h) (latest h) Act ≡ n
+        → ((t : History) → Legal configs t → dues configs t ≤ j → dues configs t ≤ k → acts_upto configs j t ≡ acts_upto configs k t)
         → acted (acts_upto configs j) h n ≡ acted (acts_upto configs k) h n
     by (gives answer) is more =
         let l = act_lowers configs h answer good legal is in more (entry_at (latest h) Act answer ∷ h) (act_legal configs h answer is legal) (omega arith) (omega arith)
@@ -186,16 +186,16 @@ acts_enough configs (suc j) (suc k) h good legal a b =
     by nothing is more = refl
 
 -- after enough acts none is due
-upto_none : (configs : List Configuration) (k : ℕ) (h : History) → EachOf IsConfiguration configs → FullLegal configs h → dues configs h ≤ k → NoneDue configs (acts_upto configs k h)
-upto_none configs zero h good legal l = by (full_next configs (marked configs h) (latest h) Act) refl
+upto_none : (configs : List Configuration) (k : ℕ) (h : History) → EachOf IsConfiguration configs → Legal configs h → dues configs h ≤ k → NoneDue configs (acts_upto configs k h)
+upto_none configs zero h good legal l = by (next configs (marked configs h) (latest h) Act) refl
   where
-    by : (n : Next) → full_next configs (marked configs h) (latest h) Act ≡ n → NoneDue configs h
+    by : (n : Next) → next configs (marked configs h) (latest h) Act ≡ n → NoneDue configs h
     by (gives answer) is = absurd (let lower = act_lowers configs h answer good legal is in omega arith)
     by (refuses r) is = absurd (act_unrefused configs h r is)
     by nothing is = is
-upto_none configs (suc k) h good legal l = by (full_next configs (marked configs h) (latest h) Act) refl (λ t legal l. upto_none configs k t good legal l)
+upto_none configs (suc k) h good legal l = by (next configs (marked configs h) (latest h) Act) refl (λ t legal l. upto_none configs k t good legal l)
   where
-    by : (n : Next) → full_next configs (marked configs h) (latest h) Act ≡ n → ((t : History) → FullLegal configs t → dues configs t ≤ k → NoneDue configs (acts_upto configs k t))
+    by : (n : Next) → next configs (marked configs h) (latest h) Act ≡ n → ((t : History) → Legal configs t → dues configs t ≤ k → NoneDue configs (acts_upto configs k t))
         → NoneDue configs (acted (acts_upto configs k) h n)
     by (gives answer) is more =
         let lower = act_lowers configs h answer good legal is in more (entry_at (latest h) Act answer ∷ h) (act_legal configs h answer is legal) (omega arith)
@@ -203,11 +203,11 @@ upto_none configs (suc k) h good legal l = by (full_next configs (marked configs
     by nothing is more = is
 
 -- so none is due after the acts
-pub acts_done : (configs : List Configuration) (h : History) → EachOf IsConfiguration configs → FullLegal configs h → NoneDue configs (acts configs h)
+pub acts_done : (configs : List Configuration) (h : History) → EachOf IsConfiguration configs → Legal configs h → NoneDue configs (acts configs h)
 acts_done configs h good legal = upto_none configs (dues configs h) h good legal (omega arith)
 
 -- where none is due, the history stays
-pub acts_none : (configs : List Configuration) (h : History) → full_next configs (marked configs h) (latest h) Act ≡ nothing → acts configs h ≡ h
+pub acts_none : (configs : List Configuration) (h : History) → next configs (marked configs h) (latest h) Act ≡ nothing → acts configs h ≡ h
 acts_none configs h is = by (dues configs h)
   where
     by : (k : ℕ) → acts_upto configs k h ≡ h
@@ -215,8 +215,8 @@ acts_none configs h is = by (dues configs h)
     by (suc k) = ap (acted (acts_upto configs k) h) is
 
 -- where one is due, the history goes on with it
-pub acts_some : (configs : List Configuration) (h : History) (answer : Told) → EachOf IsConfiguration configs → FullLegal configs h
-    → full_next configs (marked configs h) (latest h) Act ≡ gives answer → acts configs h ≡ acts configs (entry_at (latest h) Act answer ∷ h)
+pub acts_some : (configs : List Configuration) (h : History) (answer : Told) → EachOf IsConfiguration configs → Legal configs h
+    → next configs (marked configs h) (latest h) Act ≡ gives answer → acts configs h ≡ acts configs (entry_at (latest h) Act answer ∷ h)
 acts_some configs h answer good legal is = by (dues configs h) (omega arith) (act_lowers configs h answer good legal is)
   where
     t : History

@@ -2,10 +2,10 @@
 use Rattle.std.proofs.Common.{◌≡◌, ℕ, ◌<◌, max, true, Option, Some, None, Ok, refl, sym, subst}
 use Rattle.std.proofs.lemmas.Option.{none-some}
 use Rattle.std.specs.Option.{option_map}
-use Rattle.sq_rules.specs.declared.entries.Event.TheVariants as event
-use Rattle.sq_rules.specs.FullNext.{full_next}
-use Rattle.sq_rules.specs.Machine.{nothing}
-use Rattle.sq_rules.specs.Marking.{marked}
+use Rattle.sq_machine.specs.declared.entries.Event.TheVariants as event
+use Rattle.sq_machine.specs.Machine.{next}
+use Rattle.sq_machine.specs.Next.{nothing}
+use Rattle.sq_machine.specs.Marking.{marked}
 use Rattle.sq_epochs.specs.declared.acts.Act.{Act}
 use Rattle.sq_pools.specs.Basins.{IsBasin}
 use Rattle.sq_pools.specs.Stands.{is_elsewhere}
@@ -32,7 +32,7 @@ act_making v t now a basin promised =
 -- where the engine has none, the machine has none
 pub act_none : (v w : Machine) (t : State) (now : ℕ) → IsActPromised v.state (max (max now v.latest) v.state.latest) None t → IsActing v w (max now v.latest) (Ok None)
 act_none v w t now promised configs h is =
-    subst (λ (n : ℕ). full_next configs (marked configs h) n event.Act ≡ nothing) (engine_moment v configs h now is) (promised configs h is.engine (late_by v configs h now is))
+    subst (λ (n : ℕ). next configs (marked configs h) n event.Act ≡ nothing) (engine_moment v configs h now is) (promised configs h is.engine (late_by v configs h now is))
 
 -- the same at a moment that is the greatest
 pub act_at_moment : (v : Machine) (t : State) (now u : ℕ) (a : Act) → u ≡ max now v.latest → IsBasin v.pools → IsActPromised v.state (max u v.state.latest) (Some a) t

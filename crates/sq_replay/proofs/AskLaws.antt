@@ -7,12 +7,11 @@ use Rattle.sq_base.specs.Targets.{Target, target_of}
 use Rattle.sq_base.specs.declared.requests.Field.{Field}
 use Rattle.sq_request.specs.Heads.{at_target, most_fields, request_with}
 use Rattle.sq_request.specs.Written.{is_written, made_request}
-use Rattle.sq_rules.specs.declared.entries.Event.TheVariants.{Begin}
+use Rattle.sq_machine.specs.declared.entries.Event.TheVariants.{Begin}
 use Rattle.sq_rules.specs.Configurations.{Configuration}
-use Rattle.sq_rules.specs.Entries.{History}
-use Rattle.sq_rules.specs.FullNext.{full_next, full_next_at}
-use Rattle.sq_rules.specs.Machine.{next_at}
-use Rattle.sq_rules.specs.Marking.{marked}
+use Rattle.sq_machine.specs.Entries.{History}
+use Rattle.sq_machine.specs.Machine.{next, next_at}
+use Rattle.sq_machine.specs.Marking.{marked}
 use Rattle.sq_rules.specs.Sights.{asked_request}
 use Rattle.sq_rules.specs.Sights as sights
 use Rattle.sq_replay.specs.Making.{is_refused}
@@ -40,6 +39,6 @@ made_of method target fields r e =
     if_made method target fields (is_written method target 1 fields && nat_le (length fields) most_fields) r e
 
 -- the machine begins once
-pub begin_refused : (configs : List Configuration) (h : History) (moment : ℕ) (offset : ℤ) → is_refused (full_next configs (marked configs h) moment (Begin offset)) ≡ true
-unfolding full_next full_next_at next_at
+pub begin_refused : (configs : List Configuration) (h : History) (moment : ℕ) (offset : ℤ) → is_refused (next configs (marked configs h) moment (Begin offset)) ≡ true
+unfolding next next_at
 begin_refused configs h moment offset = refl

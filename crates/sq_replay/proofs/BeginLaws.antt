@@ -7,12 +7,12 @@ use Rattle.sq_outside.specs.SourceLines.{Finds, IsLine, Line, lines}
 use Rattle.sq_outside.specs.Told.{Openings, Texts}
 use Rattle.sq_outside.specs.declared.lines.Found.TheVariants as found
 use Rattle.sq_outside.proofs.Writing.{IsPrefix_nil}
-use Rattle.sq_rules.specs.declared.entries.Event.{Event}
-use Rattle.sq_rules.specs.declared.entries.Event.TheVariants.{Begin, Open, Close, Ask, Step, Take, Started, StartFail, Line as HelperLine, Died, Act, Reconfigure, Seat, Grant, Leave}
+use Rattle.sq_machine.specs.declared.entries.Event.{Event}
+use Rattle.sq_machine.specs.declared.entries.Event.TheVariants.{Begin, Open, Close, Ask, Step, Take, Started, StartFail, Line as HelperLine, Died, Act, Reconfigure, Seat, Grant, Leave}
 use Rattle.sq_rules.specs.Configurations.{Configuration, IsConfiguration}
-use Rattle.sq_rules.specs.Entries.{History}
-use Rattle.sq_rules.specs.Machine.{config_of}
-use Rattle.sq_rules.specs.Readings.{current}
+use Rattle.sq_machine.specs.Entries.{History}
+use Rattle.sq_machine.specs.Epochs.{config_of}
+use Rattle.sq_machine.specs.Readings.{current}
 use Rattle.sq_history.specs.Given.{EachOf}
 use Rattle.sq_journal.specs.EntryText.{written}
 use Rattle.sq_replay.specs.declared.beginning.First.{First}

@@ -3,15 +3,15 @@ use Rattle.std.proofs.Common.{ℕ, ◌+◌, List, [], ◌∷◌, length, Bool, t
 use Rattle.std.specs.declared.option.Option.{Option}
 use Rattle.sq_outside.specs.SourceLines.{Line, is_readable}
 use Rattle.sq_request.specs.Written.{made_request}
-use Rattle.sq_rules.specs.declared.entries.Event.{Event}
-use Rattle.sq_rules.specs.declared.entries.Event.TheVariants.{Begin, Ask, Act, Reconfigure}
+use Rattle.sq_machine.specs.declared.entries.Event.{Event}
+use Rattle.sq_machine.specs.declared.entries.Event.TheVariants.{Begin, Ask, Act, Reconfigure}
 use Rattle.sq_rules.specs.declared.kinds.ConfError.{ConfError}
 use Rattle.sq_rules.specs.Configurations.{Configuration}
-use Rattle.sq_rules.specs.Entries.{History}
-use Rattle.sq_rules.specs.FullNext.{full_next}
-use Rattle.sq_rules.specs.Machine.{Next, gives, nothing, refuses}
-use Rattle.sq_rules.specs.Marking.{marked}
-use Rattle.sq_rules.specs.Readings.{current, latest}
+use Rattle.sq_machine.specs.Entries.{History}
+use Rattle.sq_machine.specs.Machine.{next}
+use Rattle.sq_machine.specs.Next.{Next, gives, nothing, refuses}
+use Rattle.sq_machine.specs.Marking.{marked}
+use Rattle.sq_machine.specs.Readings.{current, latest}
 use Rattle.sq_replay.specs.declared.ends.RunEnd.{RunEnd}
 use Rattle.sq_replay.specs.declared.ends.RunEnd.TheVariants as ends
 use Rattle.sq_replay.specs.ConfReading.{read_result}
@@ -29,7 +29,7 @@ answered_ends configs h number moment event (refuses r) = tt
 answered_ends configs h number moment event nothing = tt
 
 asked_ends : (configs : List Configuration) (h : History) (number now : ℕ) (event : Event) → StepEnds (asked_next configs h number now event)
-asked_ends configs h number now event = answered_ends configs h number (max now (latest h)) event (full_next configs (marked configs h) (max now (latest h)) event)
+asked_ends configs h number now event = answered_ends configs h number (max now (latest h)) event (next configs (marked configs h) (max now (latest h)) event)
 
 if_ends : (b : Bool) (step : Result History RunEnd) (number : ℕ) → StepEnds step → StepEnds (if b then step else Err (ends.Script number))
 if_ends true step number s = s

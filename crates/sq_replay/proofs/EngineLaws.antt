@@ -1,27 +1,28 @@
 -- From what is promised of the engine's calls to what the machine makes of the event.
 use Rattle.std.proofs.Common.{◌≡◌, ℕ, ℤ, suc, ◌≤◌, max, List, ◌∷◌, Bool, true, false, ◌||◌, if◌then◌else◌, nat_lt, nat_le, cond, ◌==◌, Option, Some, None, Ok, Err, is_some, refl, sym, ap, subst, ◌∙◌, arith}
 use Rattle.std.proofs.lemmas.Bool.Decides.{nat_tests}
-use Rattle.sq_rules.specs.declared.entries.Event.{Event}
-use Rattle.sq_rules.specs.declared.entries.Event.TheVariants.{Close, Reconfigure}
-use Rattle.sq_rules.specs.declared.entries.Told.{Told}
-use Rattle.sq_rules.specs.declared.entries.Told.TheVariants as told
-use Rattle.sq_rules.specs.declared.refusals.Refusal.{Refusal}
-use Rattle.sq_rules.specs.declared.refusals.Refusal.TheVariants as refusal
+use Rattle.sq_machine.specs.declared.entries.Event.{Event}
+use Rattle.sq_machine.specs.declared.entries.Event.TheVariants.{Close, Reconfigure}
+use Rattle.sq_machine.specs.declared.entries.Told.{Told}
+use Rattle.sq_machine.specs.declared.entries.Told.TheVariants as told
+use Rattle.sq_machine.specs.declared.refusals.Refusal.{Refusal}
+use Rattle.sq_machine.specs.declared.refusals.Refusal.TheVariants as refusal
 use Rattle.sq_rules.specs.Configurations.{Configuration, IsConfiguration}
-use Rattle.sq_rules.specs.Entries.{History}
-use Rattle.sq_rules.specs.FullNext.{full_next}
-use Rattle.sq_rules.specs.Limits.{epoch_limit, last_number}
-use Rattle.sq_rules.specs.Machine.{config_of, gives, refuse_if, refuses}
-use Rattle.sq_rules.specs.Marking.{marked}
-use Rattle.sq_rules.specs.PoolReadings.{allowed_of}
-use Rattle.sq_rules.specs.Readings.{current, latest}
+use Rattle.sq_machine.specs.Entries.{History, entry_at}
+use Rattle.sq_machine.specs.Machine.{next}
+use Rattle.sq_machine.specs.Limits.{epoch_limit, last_number}
+use Rattle.sq_machine.specs.Epochs.{config_of}
+use Rattle.sq_machine.specs.Next.{gives, refuse_if, refuses}
+use Rattle.sq_machine.specs.Marking.{marked}
+use Rattle.sq_machine.specs.PoolReadings.{allowed_of}
+use Rattle.sq_machine.specs.Readings.{current, latest}
 use Rattle.sq_history.specs.Given.{EachOf}
 use Rattle.sq_history.proofs.LegalLaws.{marked_entries}
 use Rattle.sq_pools.specs.Basins.{Basin, HasBegun, IsBasin, IsRenewed, made_in}
 use Rattle.sq_pools.specs.Stands.{is_elsewhere}
 use Rattle.sq_pools.proofs.StandLaws.{moment_is, new_stands, none_ahead}
 use Rattle.sq_state.specs.Answers.{busy_in, reconfigure_answer}
-use Rattle.sq_state.specs.Promises.{IsAnswered, StandsFor, entry_at}
+use Rattle.sq_state.specs.Promises.{IsAnswered, StandsFor}
 use Rattle.sq_state.specs.States.{State, machine_moment}
 use Rattle.sq_state.proofs.PromiseLaws.{machine_first}
 use Rattle.sq_engine.specs.Promised.{IsBegun, IsPromised, IsPromisedNext}
@@ -94,14 +95,14 @@ closed_making v t riders now d answer basin other promised gone = (
 
 -- what the engine was promised to refuse is refused
 pub refused_now : (v : Machine) (now : ℕ) (event : Event) (r : Refusal)
-    → ((configs : List Configuration) (h : History) → StandsFor configs h v.state → latest h ≤ max (max now v.latest) v.state.latest → full_next configs (marked configs h) (max (max now v.latest) v.state.latest) event ≡ refuses r)
-    → (configs : List Configuration) (h : History) → Is v configs h → is_refused (full_next configs (marked configs h) (max now v.latest) event) ≡ true
+    → ((configs : List Configuration) (h : History) → StandsFor configs h v.state → latest h ≤ max (max now v.latest) v.state.latest → next configs (marked configs h) (max (max now v.latest) v.state.latest) event ≡ refuses r)
+    → (configs : List Configuration) (h : History) → Is v configs h → is_refused (next configs (marked configs h) (max now v.latest) event) ≡ true
 refused_now v now event r promised configs h is =
-    subst (λ (n : ℕ). is_refused (full_next configs (marked configs h) n event) ≡ true) (engine_moment v configs h now is) (ap is_refused (promised configs h is.engine (late_by v configs h now is)))
+    subst (λ (n : ℕ). is_refused (next configs (marked configs h) n event) ≡ true) (engine_moment v configs h now is) (ap is_refused (promised configs h is.engine (late_by v configs h now is)))
 
 -- an event is refused that the machine refuses
 abbrev pub IsPlain : Event → Type 0
-IsPlain event = (configs : List Configuration) (h : History) (moment : ℕ) → is_refused (full_next configs (marked configs h) moment event) ≡ true → IsRefusal configs h moment event
+IsPlain event = (configs : List Configuration) (h : History) (moment : ℕ) → is_refused (next configs (marked configs h) moment event) ≡ true → IsRefusal configs h moment event
 
 -- the engine refuses, or wants memory
 pub engine_stops : {A : Type 0} (tell : A → Told) (v w : Machine) (t : State) (now : ℕ) (event : Event) (r : Refusal) → IsPlain event

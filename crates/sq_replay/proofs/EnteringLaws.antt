@@ -5,21 +5,21 @@ use Rattle.sq_outside.specs.Output.{IsPrefix}
 use Rattle.sq_outside.specs.Told.{Openings, Texts}
 use Rattle.sq_outside.specs.Input.{IsWhole, ReadsFile, ReadsOpening}
 use Rattle.sq_request.specs.Written.{made_request}
-use Rattle.sq_rules.specs.declared.entries.Event.{Event}
-use Rattle.sq_rules.specs.declared.entries.Event.TheVariants.{Begin, Open, Close, Ask, Step, Take, Started, StartFail, Line as HelperLine, Died, Act, Reconfigure, Seat, Grant, Leave}
-use Rattle.sq_rules.specs.declared.entries.Told.{Told}
+use Rattle.sq_machine.specs.declared.entries.Event.{Event}
+use Rattle.sq_machine.specs.declared.entries.Event.TheVariants.{Begin, Open, Close, Ask, Step, Take, Started, StartFail, Line as HelperLine, Died, Act, Reconfigure, Seat, Grant, Leave}
+use Rattle.sq_machine.specs.declared.entries.Told.{Told}
 use Rattle.sq_rules.specs.declared.kinds.ConfError.{ConfError}
 use Rattle.sq_rules.specs.declared.kinds.Kind.TheVariants as kind
 use Rattle.sq_rules.specs.Configurations.{Configuration}
-use Rattle.sq_rules.specs.Entries.{History}
-use Rattle.sq_rules.specs.Events.{begins_epoch}
-use Rattle.sq_rules.specs.FullNext.{full_next}
+use Rattle.sq_machine.specs.Entries.{History, entry_at}
+use Rattle.sq_machine.specs.Events.{begins_epoch}
+use Rattle.sq_machine.specs.Machine.{next}
 use Rattle.sq_rules.specs.Limits.{text_limit}
-use Rattle.sq_rules.specs.Machine.{config_of, gives, nothing}
-use Rattle.sq_rules.specs.Marking.{marked}
-use Rattle.sq_rules.specs.Readings.{current, latest}
+use Rattle.sq_machine.specs.Epochs.{config_of}
+use Rattle.sq_machine.specs.Next.{gives, nothing}
+use Rattle.sq_machine.specs.Marking.{marked}
+use Rattle.sq_machine.specs.Readings.{current, latest}
 use Rattle.sq_journal.specs.EntryText.{entry_line, written}
-use Rattle.sq_state.specs.Promises.{entry_at}
 use Rattle.sq_replay.specs.declared.ends.RunEnd.{RunEnd}
 use Rattle.sq_replay.specs.declared.ends.RunEnd.TheVariants as ends
 use Rattle.sq_replay.specs.declared.page.Untold.{Untold}
@@ -39,10 +39,10 @@ use Rattle.sq_replay.proofs.ReadingLaws.{gives_source, is_read, read_long}
 
 -- none is due any more
 pub reached_none : (v : Machine) (base contents : Option (List ℕ)) (page : List ℕ) (configs : List Configuration) (h : History)
-    → ((g : History) → Is v configs g → full_next configs (marked configs g) v.latest Act ≡ nothing) → Reached v base contents page configs h → At v base contents page configs (acts configs h)
+    → ((g : History) → Is v configs g → next configs (marked configs g) v.latest Act ≡ nothing) → Reached v base contents page configs h → At v base contents page configs (acts configs h)
 reached_none v base contents page configs h none r =
-    let is : full_next configs (marked configs r.history) (latest r.history) Act ≡ nothing =
-    subst (λ (n : ℕ). full_next configs (marked configs r.history) n Act ≡ nothing) r.at.is.latest_is (none r.history r.at.is) in
+    let is : next configs (marked configs r.history) (latest r.history) Act ≡ nothing =
+    subst (λ (n : ℕ). next configs (marked configs r.history) n Act ≡ nothing) r.at.is.latest_is (none r.history r.at.is) in
     subst (At v base contents page configs) (sym (acts_none configs r.history is) ∙ r.same) r.at
 
 -- memory ran out before the next
@@ -59,9 +59,9 @@ reached_made : (v w : Machine) (base before : Option (List ℕ)) (old_page : Lis
 reached_made v w base before old_page configs h answer made r =
     let m = made r.history r.at.is in
     let is = r.at.is.latest_is in
-    let next : full_next configs (marked configs r.history) (latest r.history) Act ≡ gives answer = subst (λ (n : ℕ). full_next configs (marked configs r.history) n Act ≡ gives answer) is m.next_is in
+    let said : next configs (marked configs r.history) (latest r.history) Act ≡ gives answer = subst (λ (n : ℕ). next configs (marked configs r.history) n Act ≡ gives answer) is m.next_is in
     let more : acts configs r.history ≡ acts configs (entry_at v.latest Act answer ∷ r.history) =
-    acts_some configs r.history answer r.at.is.engine.good r.at.is.engine.legal next ∙ ap (λ (n : ℕ). acts configs (entry_at n Act answer ∷ r.history)) (sym is) in
+    acts_some configs r.history answer r.at.is.engine.good r.at.is.engine.legal said ∙ ap (λ (n : ℕ). acts configs (entry_at n Act answer ∷ r.history)) (sym is) in
     sym more ∙ r.same
 
 -- its line could not be written
@@ -189,11 +189,11 @@ named_step v w files configs h number now name text config answer is there read 
 
 -- it is refused
 pub named_refused : (v : Machine) (files : Shelf) (configs : List Configuration) (h : History) (number now : ℕ) (name text : List ℕ) (config : Configuration) → Is v configs h
-    → files (current h) name ≡ Some text → read_result text ≡ Ok config → is_refused (full_next configs (marked configs h) (max now v.latest) (Reconfigure config.source)) ≡ true
+    → files (current h) name ≡ Some text → read_result text ≡ Ok config → is_refused (next configs (marked configs h) (max now v.latest) (Reconfigure config.source)) ≡ true
     → event_step files configs h number now (Reconfigure name) ≡ Err (ends.Script number)
 named_refused v files configs h number now name text config is there read r =
-    let refused : is_refused (full_next configs (marked configs h) (max now v.latest) (Reconfigure text)) ≡ true =
-    subst (λ (t : List ℕ). is_refused (full_next configs (marked configs h) (max now v.latest) (Reconfigure t)) ≡ true) (named_source_is text config read) r in
+    let refused : is_refused (next configs (marked configs h) (max now v.latest) (Reconfigure text)) ≡ true =
+    subst (λ (t : List ℕ). is_refused (next configs (marked configs h) (max now v.latest) (Reconfigure t)) ≡ true) (named_source_is text config read) r in
     named_asks configs h number now name text config (files (current h) name) there read ∙ refused_asks v configs h number now (Reconfigure text) is refused
 
 -- none was had of the file
@@ -207,7 +207,6 @@ named_stops v files base contents page configs h number now name ends.ReadFault 
 named_stops v files base contents page configs h number now name ends.WantOfMemory at r = event_front files base contents page configs h number now (Reconfigure name) at.wrote
 named_stops v files base contents page configs h number now name ends.Ok at r = absurd r
 named_stops v files base contents page configs h number now name (ends.Script n) at r = absurd r
-named_stops v files base contents page configs h number now name (ends.Differs n) at r = absurd r
 named_stops v files base contents page configs h number now name ends.WriteFault at r = absurd r
 
 -- a file was read whole
@@ -224,7 +223,6 @@ judged_end name text o ends.WantOfMemory there is j = tt
 judged_end name text o ends.Ok there is j = absurd is
 judged_end name text o (ends.Script n) there is j = absurd is
 judged_end name text o (ends.Missing n) there is j = absurd is
-judged_end name text o (ends.Differs n) there is j = absurd is
 judged_end name text o ends.ReadFault there is j = absurd is
 judged_end name text o ends.WriteFault there is j = absurd is
 

@@ -3,13 +3,12 @@ use Rattle.std.proofs.Common.{◌≡◌, ℕ, List, ◌∷◌, Ok, Err, Result, 
 use Rattle.sq_outside.specs.Output.{IsPrefix}
 use Rattle.sq_outside.specs.SourceLines.{Line}
 use Rattle.sq_outside.proofs.Writing.{IsPrefix_front, IsPrefix_refl, IsPrefix_trans}
-use Rattle.sq_rules.specs.declared.entries.Event.{Event}
-use Rattle.sq_rules.specs.declared.entries.Event.TheVariants.{Act}
+use Rattle.sq_machine.specs.declared.entries.Event.{Event}
+use Rattle.sq_machine.specs.declared.entries.Event.TheVariants.{Act}
 use Rattle.sq_rules.specs.Configurations.{Configuration}
-use Rattle.sq_rules.specs.Entries.{History, Noted}
-use Rattle.sq_rules.specs.Readings.{current, latest}
+use Rattle.sq_machine.specs.Entries.{History, Noted, entry_at}
+use Rattle.sq_machine.specs.Readings.{current, latest}
 use Rattle.sq_journal.specs.EntryText.{entry_line, written}
-use Rattle.sq_state.specs.Promises.{entry_at}
 use Rattle.sq_replay.specs.declared.ends.RunEnd.{RunEnd}
 use Rattle.sq_replay.specs.Dues.{dues}
 use Rattle.sq_replay.specs.RunText.{Ran, Shelf, acts, event_step, run_from, run_lines, run_on, begun_history}

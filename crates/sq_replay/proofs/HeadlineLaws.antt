@@ -1,17 +1,18 @@
 -- What is so of every legal history, and so of the history of every run.
 use Rattle.std.proofs.Common.{◌≡◌, inl, inr, ℕ, ◌≤◌, List, [], ◌∷◌, ◌++◌, Bool, true, false, if◌then◌else◌, refl, sym, ap, subst, ◌∙◌, arith}
 use Rattle.sq_outside.specs.SourceLines.{Line}
-use Rattle.sq_rules.specs.declared.entries.Event.{Event}
-use Rattle.sq_rules.specs.declared.entries.Event.TheVariants.{Grant}
-use Rattle.sq_rules.specs.declared.entries.Told.{Told}
-use Rattle.sq_rules.specs.declared.entries.Told.TheVariants as told
+use Rattle.sq_machine.specs.declared.entries.Event.{Event}
+use Rattle.sq_machine.specs.declared.entries.Event.TheVariants.{Grant}
+use Rattle.sq_machine.specs.declared.entries.Told.{Told}
+use Rattle.sq_machine.specs.declared.entries.Told.TheVariants as told
 use Rattle.sq_rules.specs.Configurations.{Configuration, IsConfiguration}
-use Rattle.sq_rules.specs.Entries.{History, Noted}
-use Rattle.sq_rules.specs.FullNext.{FullLegal, full_next, full_next_at}
-use Rattle.sq_rules.specs.Machine.{gives, is_begin, nothing}
-use Rattle.sq_rules.specs.Marking.{marked}
-use Rattle.sq_rules.specs.PoolReadings.{grant_of, in_use, is_grant, seat_of}
-use Rattle.sq_rules.specs.Readings.{latest}
+use Rattle.sq_machine.specs.Entries.{History, Noted}
+use Rattle.sq_machine.specs.Machine.{Legal, next, next_at}
+use Rattle.sq_machine.specs.Events.{is_begin}
+use Rattle.sq_machine.specs.Next.{gives, nothing}
+use Rattle.sq_machine.specs.Marking.{marked}
+use Rattle.sq_machine.specs.PoolReadings.{grant_of, in_use, is_grant, seat_of}
+use Rattle.sq_machine.specs.Readings.{latest}
 use Rattle.sq_history.specs.Given.{EachOf}
 use Rattle.sq_history.proofs.FaithfulLaws.{legal_faithful}
 use Rattle.sq_history.proofs.LegalLaws.{marked_entries}
@@ -36,22 +37,22 @@ granted_by_seat : (configs : List Configuration) (x : Noted) (h : History) (n wa
 granted_by_seat configs x h n wanted amount true least used e same = let is : least ≡ amount = cc in (used, sym is ∙ same)
 granted_by_seat configs x h n wanted amount false least used e same = absurd (cc)
 
-grant_told : (configs : List Configuration) (x : Noted) (h : History) (n wanted : ℕ) (answer : Told) → latest h ≤ x.moment → full_next configs (marked configs h) x.moment (Grant n wanted) ≡ gives answer
+grant_told : (configs : List Configuration) (x : Noted) (h : History) (n wanted : ℕ) (answer : Told) → latest h ≤ x.moment → next configs (marked configs h) x.moment (Grant n wanted) ≡ gives answer
     → is_grant configs x h (Grant n wanted) answer
-unfolding full_next_at
-grant_told configs x h n wanted (told.Granted amount) late next =
+unfolding next_at
+grant_told configs x h n wanted (told.Granted amount) late said =
     granted_by_seat configs x h n wanted amount (in_use configs h n) (grant_of configs h x.moment wanted (seat_of configs h n)) refl
     (sym (ap (λ (g : History). if in_use configs g n then gives (told.Granted (grant_of configs g x.moment wanted (seat_of configs g n))) else nothing) (marked_entries configs h))
-    ∙ sym (next_now configs h x.moment (Grant n wanted) late) ∙ next) refl
-grant_told configs x h n wanted answer late next = tt
+    ∙ sym (next_now configs h x.moment (Grant n wanted) late) ∙ said) refl
+grant_told configs x h n wanted answer late said = tt
 
-next_grants : (configs : List Configuration) (x : Noted) (h : History) (event : Event) (answer : Told) → latest h ≤ x.moment → full_next configs (marked configs h) x.moment event ≡ gives answer
+next_grants : (configs : List Configuration) (x : Noted) (h : History) (event : Event) (answer : Told) → latest h ≤ x.moment → next configs (marked configs h) x.moment event ≡ gives answer
     → is_grant configs x h event answer
-next_grants configs x h (Grant n wanted) answer late next = grant_told configs x h n wanted answer late next
-next_grants configs x h event answer late next = tt
+next_grants configs x h (Grant n wanted) answer late said = grant_told configs x h n wanted answer late said
+next_grants configs x h event answer late said = tt
 
 -- so moments never fall, and each grant is what its seat has
-pub legal_grants : (configs : List Configuration) (h : History) → FullLegal configs h → AreGrants configs h
+pub legal_grants : (configs : List Configuration) (h : History) → Legal configs h → AreGrants configs h
 legal_grants configs [] legal = absurd legal
 legal_grants configs (e ∷ []) legal = (tt, omega arith, begin_grants configs e [] e.event e.answer legal.0)
 legal_grants configs (e ∷ f ∷ h) legal =
@@ -62,16 +63,16 @@ grants_before : (configs : List Configuration) (after : List Noted) (before : Hi
 grants_before configs [] before g = g
 grants_before configs (x ∷ after) before g = grants_before configs after before g.0
 
-place_grants : (configs : List Configuration) (h : History) (after : List Noted) (before : History) → FullLegal configs h → after ++ before ≡ h → AreGrants configs before
+place_grants : (configs : List Configuration) (h : History) (after : List Noted) (before : History) → Legal configs h → after ++ before ≡ h → AreGrants configs before
 place_grants configs h after before legal same = grants_before configs after before (subst (AreGrants configs) (sym same) (legal_grants configs h legal))
 
 -- in every legal history no bucket grants more than its level and what was restored, between any two places
-pub within_levels : (configs : List Configuration) (h : History) → FullLegal configs h → AreWithinLevels configs h
+pub within_levels : (configs : List Configuration) (h : History) → Legal configs h → AreWithinLevels configs h
 within_levels configs h legal = λ after later before e s same lives.
     grants_within_levels configs later before e s (place_grants configs h after (later ++ before) legal same) lives
 
 -- and at each place the books of each bucket balance
-pub balanced : (configs : List Configuration) (h : History) → FullLegal configs h → AreBalanced configs h
+pub balanced : (configs : List Configuration) (h : History) → Legal configs h → AreBalanced configs h
 balanced configs h legal = λ after before e s b same is. books_balance configs before e s b (place_grants configs h after before legal same) is
 
 -- the headline holds of a legal history whose configurations are those of its texts

@@ -6,7 +6,7 @@ use Rattle.std.specs.BTreeMap.{is_at}
 use Rattle.std.specs.Map.{lookup}
 use Rattle.std.specs.Option.{option_map}
 use Rattle.std.specs.Ordering.{is_eq, nat_cmp}
-use Rattle.sq_rules.specs.PoolReadings.{Sat}
+use Rattle.sq_machine.specs.PoolReadings.{Sat}
 use Rattle.sq_pools.specs.Basins.{Basin, seat_in}
 use Rattle.sq_replay.specs.Riding.{AreHeld, held_seat}
 

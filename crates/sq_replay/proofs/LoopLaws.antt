@@ -6,11 +6,11 @@ use Rattle.sq_outside.specs.SourceLines.{Finds, IsLine, Line, lines}
 use Rattle.sq_outside.specs.Told.{Openings, Texts}
 use Rattle.sq_outside.specs.declared.lines.Found.TheVariants as found
 use Rattle.sq_outside.proofs.Writing.{Grew_map, IsPrefix_refl, IsPrefix_trans}
-use Rattle.sq_rules.specs.declared.entries.Event.{Event}
-use Rattle.sq_rules.specs.declared.entries.Event.TheVariants.{Reconfigure}
+use Rattle.sq_machine.specs.declared.entries.Event.{Event}
+use Rattle.sq_machine.specs.declared.entries.Event.TheVariants.{Reconfigure}
 use Rattle.sq_rules.specs.Configurations.{Configuration}
-use Rattle.sq_rules.specs.Entries.{History}
-use Rattle.sq_rules.specs.Readings.{current}
+use Rattle.sq_machine.specs.Entries.{History}
+use Rattle.sq_machine.specs.Readings.{current}
 use Rattle.sq_journal.specs.EntryText.{entry_text, written}
 use Rattle.sq_replay.specs.declared.ends.RunEnd.{RunEnd}
 use Rattle.sq_replay.specs.declared.ends.RunEnd.TheVariants as ends

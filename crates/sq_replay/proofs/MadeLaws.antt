@@ -3,16 +3,15 @@ use Rattle.std.proofs.Common.{◌≡◌, ℕ, List, ◌∷◌, Bool, true, false
 use Rattle.std.specs.declared.result.Result.{Result}
 use Rattle.sq_base.specs.declared.requests.Field.{Field}
 use Rattle.sq_request.specs.Written.{made_request}
-use Rattle.sq_rules.specs.declared.entries.Event.{Event}
-use Rattle.sq_rules.specs.declared.entries.Event.TheVariants.{Act, Ask, Begin, Reconfigure}
-use Rattle.sq_rules.specs.declared.entries.Told.{Told}
+use Rattle.sq_machine.specs.declared.entries.Event.{Event}
+use Rattle.sq_machine.specs.declared.entries.Event.TheVariants.{Act, Ask, Begin, Reconfigure}
+use Rattle.sq_machine.specs.declared.entries.Told.{Told}
 use Rattle.sq_rules.specs.Configurations.{Configuration}
-use Rattle.sq_rules.specs.Entries.{History}
-use Rattle.sq_rules.specs.Events.{begins_epoch}
-use Rattle.sq_rules.specs.FullNext.{full_next}
-use Rattle.sq_rules.specs.Machine.{nothing}
-use Rattle.sq_rules.specs.Marking.{marked}
-use Rattle.sq_state.specs.Promises.{entry_at}
+use Rattle.sq_machine.specs.Entries.{History, entry_at}
+use Rattle.sq_machine.specs.Events.{begins_epoch}
+use Rattle.sq_machine.specs.Machine.{next}
+use Rattle.sq_machine.specs.Next.{nothing}
+use Rattle.sq_machine.specs.Marking.{marked}
 use Rattle.sq_replay.specs.declared.ends.RunEnd.{RunEnd}
 use Rattle.sq_replay.specs.declared.ends.RunEnd.TheVariants as ends
 use Rattle.sq_replay.specs.declared.stops.Stop.TheVariants as stop
@@ -61,8 +60,8 @@ refused_steps v w files configs h number now event plain is making = by event pl
 
 -- where no act is due any more, all were made
 pub reached_done : (v : Machine) (base contents : Option (List ℕ)) (page : List ℕ) (configs : List Configuration) (h : History)
-    → ((g : History) → Is v configs g → full_next configs (marked configs g) v.latest Act ≡ nothing) → Reached v base contents page configs h → At v base contents page configs (acts configs h)
+    → ((g : History) → Is v configs g → next configs (marked configs g) v.latest Act ≡ nothing) → Reached v base contents page configs h → At v base contents page configs (acts configs h)
 reached_done v base contents page configs h none r =
     let last : acts configs r.history ≡ r.history =
-    acts_none configs r.history (subst (λ (n : ℕ). full_next configs (marked configs r.history) n Act ≡ nothing) r.at.is.latest_is (none r.history r.at.is)) in
+    acts_none configs r.history (subst (λ (n : ℕ). next configs (marked configs r.history) n Act ≡ nothing) r.at.is.latest_is (none r.history r.at.is)) in
     subst (At v base contents page configs) (sym last ∙ r.same) r.at

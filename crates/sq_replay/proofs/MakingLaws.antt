@@ -3,22 +3,23 @@ use Rattle.std.proofs.Common.{◌≡◌, ℕ, ℤ, suc, ◌≤◌, ◌<◌, max,
 use Rattle.std.specs.Option.{option_map, option_or}
 use Rattle.std.proofs.lemmas.Bool.Decides.{nat_tests}
 use Rattle.std.proofs.lemmas.Option.{none-some, same_Some}
-use Rattle.sq_rules.specs.declared.entries.Event.{Event}
-use Rattle.sq_rules.specs.declared.entries.Event.TheVariants.{Act, Close, Grant, Leave, Reconfigure, Seat, Take}
-use Rattle.sq_rules.specs.declared.entries.Told.{Told}
-use Rattle.sq_rules.specs.declared.entries.Told.TheVariants as told
+use Rattle.sq_machine.specs.declared.entries.Event.{Event}
+use Rattle.sq_machine.specs.declared.entries.Event.TheVariants.{Act, Close, Grant, Leave, Reconfigure, Seat, Take}
+use Rattle.sq_machine.specs.declared.entries.Told.{Told}
+use Rattle.sq_machine.specs.declared.entries.Told.TheVariants as told
 use Rattle.sq_rules.specs.declared.outcomes.Outcome.{Outcome}
-use Rattle.sq_rules.specs.declared.refusals.Refusal.TheVariants as refusal
-use Rattle.sq_rules.specs.Checks.{Asked, ask_of, numbered}
+use Rattle.sq_machine.specs.declared.refusals.Refusal.TheVariants as refusal
+use Rattle.sq_machine.specs.Checks.{Asked, ask_of, numbered}
 use Rattle.sq_rules.specs.Configurations.{Configuration, IsConfiguration}
-use Rattle.sq_rules.specs.Entries.{History}
-use Rattle.sq_rules.specs.Events.{is_number}
-use Rattle.sq_rules.specs.FullNext.{full_next, full_next_at, seat_for, seat_next}
-use Rattle.sq_rules.specs.Limits.{last_number}
-use Rattle.sq_rules.specs.Machine.{Next, config_of, gives, nothing, refuse_if, refuses}
-use Rattle.sq_rules.specs.Marking.{marked}
-use Rattle.sq_rules.specs.PoolReadings.{Sat, allowed_of, grant_of, if_allowed, in_use, in_use_after, kept_if, sat_at, seat_count, seat_of, taken_of, taking}
-use Rattle.sq_rules.specs.Readings.{current, latest}
+use Rattle.sq_machine.specs.Entries.{History, entry_at}
+use Rattle.sq_machine.specs.Events.{is_number}
+use Rattle.sq_machine.specs.Machine.{next, next_at, seat_for, seat_next}
+use Rattle.sq_machine.specs.Limits.{last_number}
+use Rattle.sq_machine.specs.Epochs.{config_of}
+use Rattle.sq_machine.specs.Next.{Next, gives, nothing, refuse_if, refuses}
+use Rattle.sq_machine.specs.Marking.{marked}
+use Rattle.sq_machine.specs.PoolReadings.{Sat, allowed_of, grant_of, if_allowed, in_use, in_use_after, kept_if, sat_at, seat_count, seat_of, taken_of, taking}
+use Rattle.sq_machine.specs.Readings.{current, latest}
 use Rattle.sq_rules.specs.Verdicts.{pool_of}
 use Rattle.sq_history.specs.Given.{EachOf}
 use Rattle.sq_history.proofs.LegalLaws.{marked_entries}
@@ -28,7 +29,7 @@ use Rattle.sq_pools.specs.Stands.{is_elsewhere}
 use Rattle.sq_pools.proofs.StandLaws.{choose_stands, elsewhere_stands, grant_is, grant_stands, leave_stands, new_stands, renew_stands}
 use Rattle.sq_state.specs.Acts.{Due, due_in}
 use Rattle.sq_state.specs.Answers.{due_told}
-use Rattle.sq_state.specs.Promises.{IsAnswered, entry_at}
+use Rattle.sq_state.specs.Promises.{IsAnswered}
 use Rattle.sq_state.specs.Changes.{first_state}
 use Rattle.sq_state.specs.States.{IsSame, State}
 use Rattle.sq_state.proofs.ActPromises.{none_due}
@@ -55,9 +56,9 @@ pub reached_next : (v w : Machine) (base before contents : Option (List ℕ)) (o
 reached_next v w base before contents old_page page configs h answer made wrote r =
     let m = made r.history r.at.is in
     let is = r.at.is.latest_is in
-    let next : full_next configs (marked configs r.history) (latest r.history) Act ≡ gives answer = subst (λ (n : ℕ). full_next configs (marked configs r.history) n Act ≡ gives answer) is m.next_is in
+    let said : next configs (marked configs r.history) (latest r.history) Act ≡ gives answer = subst (λ (n : ℕ). next configs (marked configs r.history) n Act ≡ gives answer) is m.next_is in
     let more : acts configs r.history ≡ acts configs (entry_at v.latest Act answer ∷ r.history) =
-    acts_some configs r.history answer r.at.is.engine.good r.at.is.engine.legal next ∙ ap (λ (n : ℕ). acts configs (entry_at n Act answer ∷ r.history)) (sym is) in
+    acts_some configs r.history answer r.at.is.engine.good r.at.is.engine.legal said ∙ ap (λ (n : ℕ). acts configs (entry_at n Act answer ∷ r.history)) (sym is) in
     record { history = entry_at v.latest Act answer ∷ r.history; same = sym more ∙ r.same; at = record { is = m.is; wrote = wrote (written r.history) r.at.wrote } }
 
 -- none is due any more
@@ -73,7 +74,7 @@ reached_last v base contents page configs h none r =
 pub made_asks : (v w : Machine) (configs : List Configuration) (h : History) (number now : ℕ) (event : Event) (answer : Told) → Is v configs h → IsMade w configs h (max now v.latest) event answer
     → asked_next configs h number now event ≡ Ok (acts configs (entry_at (max now v.latest) event answer ∷ h))
 made_asks v w configs h number now event answer is m =
-    ap (λ (n : ℕ). answered configs h number (max now n) event (full_next configs (marked configs h) (max now n) event)) (sym is.latest_is)
+    ap (λ (n : ℕ). answered configs h number (max now n) event (next configs (marked configs h) (max now n) event)) (sym is.latest_is)
     ∙ ap (answered configs h number (max now v.latest) event) m.next_is
 
 refused_ends : (configs : List Configuration) (h : History) (number moment : ℕ) (event : Event) (n : Next) → is_refused n ≡ true → answered configs h number moment event n ≡ Err (ends.Script number)
@@ -83,10 +84,10 @@ refused_ends configs h number moment event nothing e = refl
 
 -- a refusal ends the run at the line
 pub refused_asks : (v : Machine) (configs : List Configuration) (h : History) (number now : ℕ) (event : Event) → Is v configs h
-    → is_refused (full_next configs (marked configs h) (max now v.latest) event) ≡ true → asked_next configs h number now event ≡ Err (ends.Script number)
+    → is_refused (next configs (marked configs h) (max now v.latest) event) ≡ true → asked_next configs h number now event ≡ Err (ends.Script number)
 refused_asks v configs h number now event is e =
-    ap (λ (n : ℕ). answered configs h number (max now n) event (full_next configs (marked configs h) (max now n) event)) (sym is.latest_is)
-    ∙ refused_ends configs h number (max now v.latest) event (full_next configs (marked configs h) (max now v.latest) event) e
+    ap (λ (n : ℕ). answered configs h number (max now n) event (next configs (marked configs h) (max now n) event)) (sym is.latest_is)
+    ∙ refused_ends configs h number (max now v.latest) event (next configs (marked configs h) (max now v.latest) event) e
 
 -- events of which the pools are not told
 
@@ -212,8 +213,8 @@ ridden configs h c (Some a) None r is e ride = absurd ride
 ridden configs h c (Some a) (Some z) r is e ride = record { asked = a; allowed = is; rides = subst (IsRider configs a) (same_Some _ _ e) ride }
 
 -- what is answered to a seat of a record
-seat_asks : (configs : List Configuration) (h : History) (moment c : ℕ) (r : Rider) → IsRidden configs h c r → full_next_at configs (marked configs h) moment (Seat c) ≡ seat_next (seat_count configs h) r.pool
-unfolding full_next_at
+seat_asks : (configs : List Configuration) (h : History) (moment c : ℕ) (r : Rider) → IsRidden configs h c r → next_at configs (marked configs h) moment (Seat c) ≡ seat_next (seat_count configs h) r.pool
+unfolding next_at
 seat_asks configs h moment c r x =
     ap (λ (g : History). seat_for configs (seat_count configs g) (allowed_of g c)) (marked_entries configs h)
     ∙ ap (seat_for configs (seat_count configs h)) x.allowed
@@ -226,8 +227,8 @@ pub unseated_made : (v : Machine) (configs : List Configuration) (h : History) (
 unseated_made v configs h moment c r is basin late rides none =
     let late : latest h ≤ moment = subst (λ (n : ℕ). n ≤ moment) is.latest_is late in
     let x = ridden configs h c (allowed_of h c) (v.riders c) r refl rides (is.riders_are c) in
-    let next : full_next_at configs (marked configs h) moment (Seat c) ≡ gives told.NoSeat = seat_asks configs h moment c r x ∙ ap (seat_next (seat_count configs h)) none in
-    let a = seat_answered configs h v.state moment c told.NoSeat is.engine late next in
+    let said : next_at configs (marked configs h) moment (Seat c) ≡ gives told.NoSeat = seat_asks configs h moment c r x ∙ ap (seat_next (seat_count configs h)) none in
+    let a = seat_answered configs h v.state moment c told.NoSeat is.engine late said in
     record {
       next_is = a.next_is;
       is = record {
@@ -248,11 +249,11 @@ pub seated_made : (v : Machine) (configs : List Configuration) (h : History) (mo
 seated_made v configs h moment c pool r q is basin late rides has few chosen =
     let late : latest h ≤ moment = subst (λ (n : ℕ). n ≤ moment) is.latest_is late in
     let x = ridden configs h c (allowed_of h c) (v.riders c) r refl rides (is.riders_are c) in
-    let next : full_next_at configs (marked configs h) moment (Seat c) ≡ gives (told.Seat (suc v.pools.given) pool) =
+    let said : next_at configs (marked configs h) moment (Seat c) ≡ gives (told.Seat (suc v.pools.given) pool) =
     seat_asks configs h moment c r x ∙ ap (seat_next (seat_count configs h)) has
     ∙ ap (λ (n : ℕ). refuse_if (nat_le last_number (suc n)) (refusal.Spent (suc n)) (gives (told.Seat (suc n) pool))) (sym is.pools.given_is)
     ∙ ap (λ (b : Bool). refuse_if b (refusal.Spent (suc v.pools.given)) (gives (told.Seat (suc v.pools.given) pool))) (not_last v.pools.given few) in
-    let a = seat_answered configs h v.state moment c (told.Seat (suc v.pools.given) pool) is.engine late next in
+    let a = seat_answered configs h v.state moment c (told.Seat (suc v.pools.given) pool) is.engine late said in
     let own : IsChosen v.pools q x.asked.epoch r.config pool x.asked.sight.addr moment =
     subst (λ (e : ℕ). IsChosen v.pools q e r.config pool x.asked.sight.addr moment) x.rides.epoch_is
     (subst (λ addr. IsChosen v.pools q r.epoch r.config pool addr moment) x.rides.addr_is chosen) in
@@ -271,7 +272,7 @@ is_last n e = grind (arith, nat_tests)
 
 -- where no number is left, none is seated
 pub seat_spent : (v : Machine) (configs : List Configuration) (h : History) (moment c pool : ℕ) (r : Rider) → Is v configs h → v.latest ≤ moment → v.riders c ≡ Some r → r.pool ≡ Some pool
-    → suc v.pools.given ≡ last_number → is_refused (full_next configs (marked configs h) moment (Seat c)) ≡ true
+    → suc v.pools.given ≡ last_number → is_refused (next configs (marked configs h) moment (Seat c)) ≡ true
 seat_spent v configs h moment c pool r is late rides has spent =
     let late : latest h ≤ moment = subst (λ (n : ℕ). n ≤ moment) is.latest_is late in
     let x = ridden configs h c (allowed_of h c) (v.riders c) r refl rides (is.riders_are c) in
@@ -281,8 +282,8 @@ seat_spent v configs h moment c pool r is late rides has spent =
 
 -- a connection without such a record has no seat to give
 pub unridden : (v : Machine) (configs : List Configuration) (h : History) (moment c : ℕ) → Is v configs h → v.latest ≤ moment → v.riders c ≡ None
-    → full_next configs (marked configs h) moment (Seat c) ≡ nothing
-unfolding full_next_at
+    → next configs (marked configs h) moment (Seat c) ≡ nothing
+unfolding next_at
 unridden v configs h moment c is late none =
     next_now configs h moment (Seat c) (subst (λ (n : ℕ). n ≤ moment) is.latest_is late)
     ∙ ap (λ (g : History). seat_for configs (seat_count configs g) (allowed_of g c)) (marked_entries configs h)
@@ -342,15 +343,15 @@ unused v configs h n is none = by (in_use configs h n) refl (sym (is.pools.seats
 pub granted_made : (v : Machine) (configs : List Configuration) (h : History) (moment n wanted amount : ℕ) (s : Sat) (q : Basin) → Is v configs h → IsBasin v.pools → v.latest ≤ moment
     → seat_in v.pools n ≡ Some s → amount ≡ grant_in v.pools moment wanted (seat_in v.pools n) → IsGranted v.pools q moment amount (seat_in v.pools n)
     → IsMade (record v { pools = q; latest = moment }) configs h moment (Grant n wanted) (told.Granted amount)
-unfolding full_next_at
+unfolding next_at
 granted_made v configs h moment n wanted amount s q is basin late there amount_is granted =
     let late : latest h ≤ moment = subst (λ (k : ℕ). k ≤ moment) is.latest_is late in
     let now = used v configs h n s is there in
-    let next : full_next_at configs (marked configs h) moment (Grant n wanted) ≡ gives (told.Granted amount) =
+    let said : next_at configs (marked configs h) moment (Grant n wanted) ≡ gives (told.Granted amount) =
     ap (λ (g : History). if in_use configs g n then gives (told.Granted (grant_of configs g moment wanted (seat_of configs g n))) else nothing) (marked_entries configs h)
     ∙ ap (λ (b : Bool). if b then gives (told.Granted (grant_of configs h moment wanted (seat_of configs h n))) else nothing) now
     ∙ ap (λ (k : ℕ). gives (told.Granted k)) (sym (grant_is v.pools configs h moment n wanted basin is.pools late now) ∙ sym amount_is) in
-    let a = grant_answered configs h v.state moment n wanted (told.Granted amount) is.engine late next in
+    let a = grant_answered configs h v.state moment n wanted (told.Granted amount) is.engine late said in
     record {
       next_is = a.next_is;
       is = record {
@@ -364,13 +365,13 @@ granted_made v configs h moment n wanted amount s q is basin late there amount_i
 -- a seat is left
 pub left_made : (v : Machine) (configs : List Configuration) (h : History) (moment n : ℕ) (s : Sat) (q : Basin) → Is v configs h → IsBasin v.pools → v.latest ≤ moment
     → seat_in v.pools n ≡ Some s → HasLeft v.pools q n → IsMade (record v { pools = q; latest = moment }) configs h moment (Leave n) told.Fine
-unfolding full_next_at
+unfolding next_at
 left_made v configs h moment n s q is basin late there gone =
     let late : latest h ≤ moment = subst (λ (k : ℕ). k ≤ moment) is.latest_is late in
-    let next : full_next_at configs (marked configs h) moment (Leave n) ≡ gives told.Fine =
+    let said : next_at configs (marked configs h) moment (Leave n) ≡ gives told.Fine =
     ap (λ (g : History). if in_use configs g n then gives told.Fine else nothing) (marked_entries configs h)
     ∙ ap (λ (b : Bool). if b then gives told.Fine else nothing) (used v configs h n s is there) in
-    let a = leave_answered configs h v.state moment n told.Fine is.engine late next in
+    let a = leave_answered configs h v.state moment n told.Fine is.engine late said in
     record {
       next_is = a.next_is;
       is = record {
@@ -383,16 +384,16 @@ left_made v configs h moment n s q is basin late there gone =
 
 -- a seat that is not in use is granted nothing, and not left
 pub grant_unused : (v : Machine) (configs : List Configuration) (h : History) (moment n wanted : ℕ) → Is v configs h → v.latest ≤ moment → seat_in v.pools n ≡ None
-    → full_next configs (marked configs h) moment (Grant n wanted) ≡ nothing
-unfolding full_next_at
+    → next configs (marked configs h) moment (Grant n wanted) ≡ nothing
+unfolding next_at
 grant_unused v configs h moment n wanted is late none =
     next_now configs h moment (Grant n wanted) (subst (λ (k : ℕ). k ≤ moment) is.latest_is late)
     ∙ ap (λ (g : History). if in_use configs g n then gives (told.Granted (grant_of configs g moment wanted (seat_of configs g n))) else nothing) (marked_entries configs h)
     ∙ ap (λ (b : Bool). if b then gives (told.Granted (grant_of configs h moment wanted (seat_of configs h n))) else nothing) (unused v configs h n is none)
 
 pub leave_unused : (v : Machine) (configs : List Configuration) (h : History) (moment n : ℕ) → Is v configs h → v.latest ≤ moment → seat_in v.pools n ≡ None
-    → full_next configs (marked configs h) moment (Leave n) ≡ nothing
-unfolding full_next_at
+    → next configs (marked configs h) moment (Leave n) ≡ nothing
+unfolding next_at
 leave_unused v configs h moment n is late none =
     next_now configs h moment (Leave n) (subst (λ (k : ℕ). k ≤ moment) is.latest_is late)
     ∙ ap (λ (g : History). if in_use configs g n then gives told.Fine else nothing) (marked_entries configs h)

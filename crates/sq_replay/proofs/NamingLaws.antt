@@ -4,19 +4,19 @@ use Rattle.std.proofs.lemmas.List.Quantifiers.{position-Some}
 use Rattle.std.proofs.lemmas.Option.{none-some, slice_get-get_or}
 use Rattle.std.proofs.lemmas.Slice.Eq.{bytes_eq-Decides}
 use Rattle.std.specs.Option.{option_map_or}
-use Rattle.sq_rules.specs.declared.entries.Event.{Event}
-use Rattle.sq_rules.specs.declared.entries.Event.TheVariants.{StartFail, Started}
-use Rattle.sq_rules.specs.declared.entries.Told.{Told}
-use Rattle.sq_rules.specs.declared.entries.Told.TheVariants as told
-use Rattle.sq_rules.specs.declared.refusals.Refusal.{Refusal}
-use Rattle.sq_rules.specs.declared.refusals.Refusal.TheVariants as refusal
+use Rattle.sq_machine.specs.declared.entries.Event.{Event}
+use Rattle.sq_machine.specs.declared.entries.Event.TheVariants.{StartFail, Started}
+use Rattle.sq_machine.specs.declared.entries.Told.{Told}
+use Rattle.sq_machine.specs.declared.entries.Told.TheVariants as told
+use Rattle.sq_machine.specs.declared.refusals.Refusal.{Refusal}
+use Rattle.sq_machine.specs.declared.refusals.Refusal.TheVariants as refusal
 use Rattle.sq_rules.specs.Classes.{Class}
 use Rattle.sq_rules.specs.Configurations.{Configuration}
-use Rattle.sq_rules.specs.Entries.{History}
-use Rattle.sq_rules.specs.FullNext.{full_next}
-use Rattle.sq_rules.specs.Machine.{refuses}
-use Rattle.sq_rules.specs.Marking.{marked}
-use Rattle.sq_rules.specs.Readings.{latest}
+use Rattle.sq_machine.specs.Entries.{History}
+use Rattle.sq_machine.specs.Machine.{next}
+use Rattle.sq_machine.specs.Next.{refuses}
+use Rattle.sq_machine.specs.Marking.{marked}
+use Rattle.sq_machine.specs.Readings.{latest}
 use Rattle.sq_rows.specs.CheckRows.{Held, held_at}
 use Rattle.sq_rows.specs.declared.said.Stepped.{Stepped}
 use Rattle.sq_rows.specs.declared.said.Stepped.TheVariants as stepped
@@ -91,7 +91,7 @@ pub named_stops : {A : Type 0} (tell : A → Told) (v w : Machine) (t : State) (
 named_stops tell v w t now event e c name refusal.WantOfMemory plain named p = tt
 named_stops tell v w t now event e c name r plain named p = λ configs h is.
     plain configs h (max now v.latest) (refused_now v now (event e name) r
-    (λ configs h st late. subst (λ (z : List ℕ). full_next configs (marked configs h) (max (max now v.latest) v.state.latest) (event e z) ≡ refuses r) named.name_is
+    (λ configs h st late. subst (λ (z : List ℕ). next configs (marked configs h) (max (max now v.latest) v.state.latest) (event e z) ≡ refuses r) named.name_is
     (p configs h named.class st late (class_there configs (marked configs h) v.state e c named.class st.stands named.class_is)))
     configs h is)
 

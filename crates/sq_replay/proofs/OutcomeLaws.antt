@@ -10,7 +10,7 @@ use Rattle.sq_rules.specs.declared.values.TermValue.TheVariants as term
 use Rattle.sq_rules.specs.declared.values.Value.{Value}
 use Rattle.sq_rules.specs.declared.values.Value.TheVariants as value
 use Rattle.sq_rules.specs.Configurations.{Configuration}
-use Rattle.sq_rules.specs.Entries.{is_outcome}
+use Rattle.sq_machine.specs.Entries.{is_outcome}
 use Rattle.sq_rules.specs.Values.{rule_value, taken_at}
 use Rattle.sq_rules.specs.Verdicts.{decided, default_of, rules_from, verdict_over}
 

@@ -3,16 +3,16 @@ use Rattle.std.proofs.Common.{◌≡◌, ℕ, ◌≤◌, max, List, [], ◌∷�
 use Rattle.std.proofs.lemmas.Option.{none-some, same_Some}
 use Rattle.std.specs.Option.{option_map}
 use Rattle.sq_base.proofs.CommonLaws.{map_some}
-use Rattle.sq_rules.specs.declared.entries.Event.TheVariants.{Take}
-use Rattle.sq_rules.specs.declared.entries.Told.TheVariants as told
-use Rattle.sq_rules.specs.declared.refusals.Refusal.TheVariants as refusal
+use Rattle.sq_machine.specs.declared.entries.Event.TheVariants.{Take}
+use Rattle.sq_machine.specs.declared.entries.Told.TheVariants as told
+use Rattle.sq_machine.specs.declared.refusals.Refusal.TheVariants as refusal
 use Rattle.sq_rules.specs.declared.sights.Sight.{Sight}
 use Rattle.sq_rules.specs.Configurations.{Configuration}
-use Rattle.sq_rules.specs.Entries.{History}
-use Rattle.sq_rules.specs.Machine.{refuses}
-use Rattle.sq_rules.specs.Marking.{marked}
-use Rattle.sq_rules.specs.PoolReadings.{allowed_of}
-use Rattle.sq_rules.specs.Readings.{latest}
+use Rattle.sq_machine.specs.Entries.{History, entry_at}
+use Rattle.sq_machine.specs.Next.{refuses}
+use Rattle.sq_machine.specs.Marking.{marked}
+use Rattle.sq_machine.specs.PoolReadings.{allowed_of}
+use Rattle.sq_machine.specs.Readings.{latest}
 use Rattle.sq_rules.specs.Sights.{unversioned_sight}
 use Rattle.sq_rules.specs.Verdicts.{pool_from, pool_of}
 use Rattle.sq_rules.proofs.SightLaws.{taken_unversioned}
@@ -22,7 +22,7 @@ use Rattle.sq_checks.specs.Records.{Judged, judged_of}
 use Rattle.sq_checks.specs.Tables.{value_at}
 use Rattle.sq_pools.specs.Basins.{IsBasin}
 use Rattle.sq_state.specs.Answers.{take_of_held}
-use Rattle.sq_state.specs.Promises.{IsAnswered, StandsFor, entry_at}
+use Rattle.sq_state.specs.Promises.{IsAnswered, StandsFor}
 use Rattle.sq_state.specs.States.{State}
 use Rattle.sq_engine.specs.EngineViews.{EngineView, state_of}
 use Rattle.sq_engine.specs.Engines.{IsEngine}

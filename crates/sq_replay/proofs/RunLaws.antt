@@ -7,17 +7,17 @@ use Rattle.sq_base.specs.declared.requests.Field.{Field}
 use Rattle.sq_outside.specs.SourceLines.{Line, is_readable}
 use Rattle.sq_request.specs.Heads.{at_target, most_fields, request_with}
 use Rattle.sq_request.specs.Written.{is_written, made_request}
-use Rattle.sq_rules.specs.declared.entries.Event.{Event}
-use Rattle.sq_rules.specs.declared.entries.Event.TheVariants.{Begin, Open, Close, Ask, Step, Take, Started, StartFail, Line as HelperLine, Died, Act, Reconfigure, Seat, Grant, Leave}
-use Rattle.sq_rules.specs.declared.entries.Told.{Told}
+use Rattle.sq_machine.specs.declared.entries.Event.{Event}
+use Rattle.sq_machine.specs.declared.entries.Event.TheVariants.{Begin, Open, Close, Ask, Step, Take, Started, StartFail, Line as HelperLine, Died, Act, Reconfigure, Seat, Grant, Leave}
+use Rattle.sq_machine.specs.declared.entries.Told.{Told}
 use Rattle.sq_rules.specs.declared.kinds.ConfError.{ConfError}
 use Rattle.sq_rules.specs.Configurations.{Configuration}
-use Rattle.sq_rules.specs.Entries.{History}
-use Rattle.sq_rules.specs.FullNext.{FullLegal, full_next}
-use Rattle.sq_rules.specs.Machine.{Next, gives, has_target, is_begin, nothing, refuses}
-use Rattle.sq_rules.specs.Marking.{marked}
-use Rattle.sq_rules.specs.Readings.{current, latest}
-use Rattle.sq_state.specs.Promises.{entry_at}
+use Rattle.sq_machine.specs.Entries.{History, entry_at}
+use Rattle.sq_machine.specs.Machine.{Legal, next}
+use Rattle.sq_machine.specs.Events.{has_target, is_begin}
+use Rattle.sq_machine.specs.Next.{Next, gives, nothing, refuses}
+use Rattle.sq_machine.specs.Marking.{marked}
+use Rattle.sq_machine.specs.Readings.{current, latest}
 use Rattle.sq_state.proofs.PromiseLaws.{legal_more}
 use Rattle.sq_replay.specs.declared.ends.RunEnd.{RunEnd}
 use Rattle.sq_replay.specs.declared.ends.RunEnd.TheVariants as ends
@@ -43,7 +43,7 @@ given_ok configs h number moment event nothing t e = absurd (cc)
 asked_step : (files : Shelf) (configs : List Configuration) (h : History) (e number now : ℕ) (event entered : Event) (t : History) → IsEntered files e event entered → is_begin entered ≡ false
     → has_target entered ≡ true → asked_next configs h number now entered ≡ Ok t → IsStep files configs h e event t
 asked_step files configs h e number now event entered t is b f ok =
-    let g = given_ok configs h number (max now (latest h)) entered (full_next configs (marked configs h) (max now (latest h)) entered) t ok in
+    let g = given_ok configs h number (max now (latest h)) entered (next configs (marked configs h) (max now (latest h)) entered) t ok in
     record {
       entered = entered;
       moment = max now (latest h);
@@ -203,15 +203,15 @@ run_keeps files configs P Q is stays (l ∷ ls) so =
 -- legality
 
 -- the acts that are due keep a legal history so
-pub acts_legal : (configs : List Configuration) (h : History) → FullLegal configs h → FullLegal configs (acts configs h)
-acts_legal configs h legal = acts_keep configs (FullLegal configs) (act_legal configs) (dues configs h) h legal
+pub acts_legal : (configs : List Configuration) (h : History) → Legal configs h → Legal configs (acts configs h)
+acts_legal configs h legal = acts_keep configs (Legal configs) (act_legal configs) (dues configs h) h legal
 
 -- so does a step
-pub step_legal : (files : Shelf) (configs : List Configuration) (h : History) (e : ℕ) (event : Event) (t : History) → IsStep files configs h e event t → FullLegal configs h → FullLegal configs t
+pub step_legal : (files : Shelf) (configs : List Configuration) (h : History) (e : ℕ) (event : Event) (t : History) → IsStep files configs h e event t → Legal configs h → Legal configs t
 step_legal files configs h e event t s legal =
-    subst (FullLegal configs) s.history_is
+    subst (Legal configs) s.history_is
     (acts_legal configs (entry_at s.moment s.entered s.answer ∷ h) (legal_more configs h s.moment s.entered s.answer legal s.begins_none s.formed s.late s.next_is))
 
 -- the history of `begin`, with the acts that are due then
-pub begun_legal : (configs : List Configuration) (now : ℕ) (offset : ℤ) → FullLegal configs (begun_history configs now offset)
+pub begun_legal : (configs : List Configuration) (now : ℕ) (offset : ℤ) → Legal configs (begun_history configs now offset)
 begun_legal configs now offset = acts_legal configs (first_history now offset) (refl, refl)

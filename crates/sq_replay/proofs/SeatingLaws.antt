@@ -1,9 +1,9 @@
 -- Seats of a script: what the pools do is what the machine makes of the event.
 use Rattle.std.proofs.Common.{◌≡◌, ℕ, suc, ◌<◌, max, true, false, Option, Some, None, Ok, Err, is_some, refl, sym, ap, subst, arith}
-use Rattle.sq_rules.specs.declared.entries.Event.TheVariants.{Grant, Leave, Seat}
-use Rattle.sq_rules.specs.declared.entries.Told.TheVariants as told
-use Rattle.sq_rules.specs.Limits.{last_number}
-use Rattle.sq_rules.specs.PoolReadings.{Sat}
+use Rattle.sq_machine.specs.declared.entries.Event.TheVariants.{Grant, Leave, Seat}
+use Rattle.sq_machine.specs.declared.entries.Told.TheVariants as told
+use Rattle.sq_machine.specs.Limits.{last_number}
+use Rattle.sq_machine.specs.PoolReadings.{Sat}
 use Rattle.sq_pools.specs.Basins.{Basin, HasLeft, IsBasin, IsChosen, IsGranted, grant_in, seat_in}
 use Rattle.sq_replay.specs.declared.stops.Stop.TheVariants as stop
 use Rattle.sq_replay.specs.Making.{IsMaking, is_refused}

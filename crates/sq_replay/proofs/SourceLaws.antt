@@ -2,15 +2,14 @@
 use Rattle.std.proofs.Common.{◌≡◌, ◌⊎◌, inl, inr, ℕ, ℤ, suc, ◌+◌, ◌≤◌, List, [], ◌∷◌, ◌++◌, append_assoc, length, length-append, Bool, true, false, if◌then◌else◌, Some, slice_get, refl, sym, ap, ap₂, subst, ◌∙◌, arith, Ok}
 use Rattle.std.specs.declared.option.Option.{Option}
 use Rattle.sq_outside.specs.SourceLines.{Line}
-use Rattle.sq_rules.specs.declared.entries.Event.{Event}
-use Rattle.sq_rules.specs.declared.entries.Event.TheVariants.{Begin, Open, Close, Ask, Step, Take, Started, StartFail, Line as HelperLine, Died, Act, Reconfigure, Seat, Grant, Leave}
+use Rattle.sq_machine.specs.declared.entries.Event.{Event}
+use Rattle.sq_machine.specs.declared.entries.Event.TheVariants.{Begin, Open, Close, Ask, Step, Take, Started, StartFail, Line as HelperLine, Died, Act, Reconfigure, Seat, Grant, Leave}
 use Rattle.sq_rules.specs.Configurations.{Configuration}
-use Rattle.sq_rules.specs.Entries.{History}
-use Rattle.sq_rules.specs.Events.{begins_epoch}
-use Rattle.sq_rules.specs.FullNext.{FullLegal}
-use Rattle.sq_rules.specs.Machine.{config_of}
-use Rattle.sq_rules.specs.Readings.{current, epoch_after}
-use Rattle.sq_state.specs.Promises.{entry_at}
+use Rattle.sq_machine.specs.Entries.{History, entry_at}
+use Rattle.sq_machine.specs.Events.{begins_epoch}
+use Rattle.sq_machine.specs.Machine.{Legal}
+use Rattle.sq_machine.specs.Epochs.{config_of}
+use Rattle.sq_machine.specs.Readings.{current, epoch_after}
 use Rattle.sq_state.specs.Sources.{AreSourced, IsSourced}
 use Rattle.sq_replay.specs.ConfReading.{read_result}
 use Rattle.sq_replay.specs.Dues.{dues}
@@ -58,13 +57,13 @@ text_named files e name text more n = ap (λ (o : Option (List ℕ)). with_text 
 
 -- what is so of a run under way
 pub record IsUnderWay (files : Shelf) (configs : List Configuration) (ls : List Line) (h : History) : Type 0 where
-  pub legal : FullLegal configs h
+  pub legal : Legal configs h
   pub accepted : AreAccepted configs h
   pub ahead : IsAhead files configs h ls
 
 -- the same, without the lines that are to come
 pub record IsSourcedRun (configs : List Configuration) (h : History) : Type 0 where
-  pub legal : FullLegal configs h
+  pub legal : Legal configs h
   pub accepted : AreAccepted configs h
   pub reached : current h ≤ length configs
 

@@ -1,19 +1,19 @@
 -- Outcomes that are taken and connections that close: what they make of the machine that a script runs.
 use Rattle.std.proofs.Common.{◌≡◌, ℕ, ◌≤◌, List, true, ◌==◌, if◌then◌else◌, Option, Some, None, refl, sym, ap, subst, ◌∙◌}
 use Rattle.std.specs.Option.{unwrap_or}
-use Rattle.sq_rules.specs.declared.entries.Event.TheVariants.{Close, Take}
-use Rattle.sq_rules.specs.declared.entries.Told.{Told}
-use Rattle.sq_rules.specs.declared.entries.Told.TheVariants as told
+use Rattle.sq_machine.specs.declared.entries.Event.TheVariants.{Close, Take}
+use Rattle.sq_machine.specs.declared.entries.Told.{Told}
+use Rattle.sq_machine.specs.declared.entries.Told.TheVariants as told
 use Rattle.sq_rules.specs.declared.outcomes.Outcome.{Outcome}
-use Rattle.sq_rules.specs.Checks.{Asked, ask_of}
+use Rattle.sq_machine.specs.Checks.{Asked, ask_of}
 use Rattle.sq_rules.specs.Configurations.{Configuration}
-use Rattle.sq_rules.specs.Entries.{History}
-use Rattle.sq_rules.specs.Machine.{gives}
-use Rattle.sq_rules.specs.Marking.{marked}
-use Rattle.sq_rules.specs.Marks.{entries}
-use Rattle.sq_rules.specs.Readings.{latest}
+use Rattle.sq_machine.specs.Entries.{History}
+use Rattle.sq_machine.specs.Next.{gives}
+use Rattle.sq_machine.specs.Marking.{marked}
+use Rattle.sq_machine.specs.Marks.{entries}
+use Rattle.sq_machine.specs.Readings.{latest}
 use Rattle.sq_rules.specs.Verdicts.{pool_of}
-use Rattle.sq_rules.proofs.CheckLaws.{open_asked}
+use Rattle.sq_machine.proofs.CheckLaws.{open_asked}
 use Rattle.sq_rows.specs.CheckRows.{Held, held_at, unasked}
 use Rattle.sq_history.proofs.LegalLaws.{marked_entries}
 use Rattle.sq_pools.specs.Basins.{IsBasin}

@@ -2,22 +2,22 @@
 -- that `children-max` leaves.
 use Rattle.std.specs.Prelude.{◌≡◌, ℕ, ◌+◌, ◌-◌, List, [], ◌∷◌, length, if◌then◌else◌, Some, None}
 use Rattle.std.specs.declared.option.Option.{Option}
-use Rattle.sq_rules.specs.declared.entries.Event.TheVariants.{Act}
-use Rattle.sq_rules.specs.Checks.{ask_count}
+use Rattle.sq_machine.specs.declared.entries.Event.TheVariants.{Act}
+use Rattle.sq_machine.specs.Checks.{ask_count}
 use Rattle.sq_rules.specs.Configurations.{Configuration}
-use Rattle.sq_rules.specs.Connections.{conns_of, open_count, peer_at}
-use Rattle.sq_rules.specs.DueActs.{Place}
-use Rattle.sq_rules.specs.Entries.{History}
-use Rattle.sq_rules.specs.Epochs.{is_live}
-use Rattle.sq_rules.specs.Farms.{Stock}
-use Rattle.sq_rules.specs.FullNext.{full_next}
-use Rattle.sq_rules.specs.Machine.{config_of, nothing}
-use Rattle.sq_rules.specs.Marking.{marked}
-use Rattle.sq_rules.specs.Marks.{Past, entries}
-use Rattle.sq_rules.specs.Numbered.{picks}
-use Rattle.sq_rules.specs.Processes.{lives_on, proc_count, stop_due}
-use Rattle.sq_rules.specs.Questions.{put_count}
-use Rattle.sq_rules.specs.Readings.{current, latest, offset_of}
+use Rattle.sq_machine.specs.Connections.{conns_of, open_count, peer_at}
+use Rattle.sq_machine.specs.DueActs.{Place}
+use Rattle.sq_machine.specs.Entries.{History}
+use Rattle.sq_machine.specs.Epochs.{is_live, config_of}
+use Rattle.sq_machine.specs.Farms.{Stock}
+use Rattle.sq_machine.specs.Machine.{next}
+use Rattle.sq_machine.specs.Next.{nothing}
+use Rattle.sq_machine.specs.Marking.{marked}
+use Rattle.sq_machine.specs.Marks.{Past, entries}
+use Rattle.sq_machine.specs.Numbered.{picks}
+use Rattle.sq_machine.specs.Processes.{lives_on, proc_count, stop_due}
+use Rattle.sq_machine.specs.Questions.{put_count}
+use Rattle.sq_machine.specs.Readings.{current, latest, offset_of}
 use Rattle.sq_rows.specs.CheckRows.{held_checks}
 use Rattle.sq_rows.specs.ClassRows.{ClassRow, class_part}
 use Rattle.sq_state.specs.Acts.{Due, live_places_in, sends, starts, stops}
@@ -76,4 +76,4 @@ after_due (starts p) now s = after_start_at p now s
 
 -- no act is due after a history
 abbrev pub NoneDue : List Configuration → History → Type 0
-NoneDue configs h = full_next configs (marked configs h) (latest h) Act ≡ nothing
+NoneDue configs h = next configs (marked configs h) (latest h) Act ≡ nothing

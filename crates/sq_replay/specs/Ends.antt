@@ -1,24 +1,6 @@
--- The last line of a run.
-use Rattle.std.specs.Prelude.{ℕ, List, [], ◌∷◌, ◌++◌, codes, decimal}
-use Rattle.sq_base.specs.Escapes.{text_word}
-use Rattle.sq_rules.specs.Kinds.{kind_number}
+-- How a run ends.
 use Rattle.sq_replay.specs.declared.ends.RunEnd.{RunEnd}
-use Rattle.sq_replay.specs.declared.ends.RunEnd.TheVariants.{Ok, Script, Config, Missing, Differs, ReadFault, WriteFault, WantOfMemory}
-
--- the line of a configuration's fault
-abbrev pub config_line : ℕ → ℕ → List ℕ
-config_line line kind = codes "error config " ++ decimal line ++ (32 ∷ (decimal kind ++ 10 ∷ []))
-
--- the last line of a run of a script that ends so; such a run ends by no difference
-abbrev pub last_line : RunEnd → List ℕ
-last_line Ok = []
-last_line (Script line) = codes "error script " ++ decimal line ++ 10 ∷ []
-last_line (Config e) = config_line e.line (kind_number e.kind)
-last_line (Missing name) = codes "error missing " ++ text_word name ++ 10 ∷ []
-last_line (Differs line) = []
-last_line ReadFault = codes "error read" ++ 10 ∷ []
-last_line WriteFault = []
-last_line WantOfMemory = []
+use Rattle.sq_replay.specs.declared.ends.RunEnd.TheVariants.{Ok, Script, Config, Missing, ReadFault, WriteFault, WantOfMemory}
 
 -- what ended a run from without: a read or a write that failed, or want of memory
 pub data Fault : Type 0 where
@@ -38,7 +20,6 @@ end_of Ok = Done
 end_of (Script line) = Refused
 end_of (Config e) = Refused
 end_of (Missing name) = Refused
-end_of (Differs line) = Refused
 end_of ReadFault = Faulted Reading
 end_of WriteFault = Faulted Writing
 end_of WantOfMemory = Faulted Lacking

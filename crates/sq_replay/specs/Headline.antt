@@ -1,17 +1,17 @@
 -- What is so of the history of a run: of every list of requests, steps, lines of helpers, deaths, reconfigurations, moments and grants.
 use Rattle.std.specs.Prelude.{◌≡◌, ◌⊎◌, ℕ, suc, List, [], ◌∷◌, ◌++◌, length, Some}
 use Rattle.sq_outside.specs.SourceLines.{Line}
-use Rattle.sq_rules.specs.declared.entries.Event.{Event}
-use Rattle.sq_rules.specs.declared.entries.Event.TheVariants.{Reconfigure}
+use Rattle.sq_machine.specs.declared.entries.Event.{Event}
+use Rattle.sq_machine.specs.declared.entries.Event.TheVariants.{Reconfigure}
 use Rattle.sq_rules.specs.Configurations.{Configuration}
 use Rattle.sq_rules.specs.ConfText.{conf_gives}
-use Rattle.sq_rules.specs.Entries.{History, Noted}
-use Rattle.sq_rules.specs.FullNext.{FullLegal}
-use Rattle.sq_rules.specs.BucketLevels.{IsBalanced, Tally}
-use Rattle.sq_rules.specs.Machine.{config_of}
-use Rattle.sq_rules.specs.Marking.{marked}
-use Rattle.sq_rules.specs.PoolReadings.{Spot, tally_of}
-use Rattle.sq_rules.specs.Readings.{current}
+use Rattle.sq_machine.specs.Entries.{History, Noted}
+use Rattle.sq_machine.specs.Machine.{Legal}
+use Rattle.sq_machine.specs.BucketLevels.{IsBalanced, Tally}
+use Rattle.sq_machine.specs.Epochs.{config_of}
+use Rattle.sq_machine.specs.Marking.{marked}
+use Rattle.sq_machine.specs.PoolReadings.{Spot, tally_of}
+use Rattle.sq_machine.specs.Readings.{current}
 use Rattle.sq_history.specs.Faithful.{IsFaithful}
 use Rattle.sq_pools.specs.Flows.{GrantsWithin, Lives}
 use Rattle.sq_state.specs.Sources.{AreSourced}
@@ -39,7 +39,7 @@ AreBalanced configs h = (after : List Noted) (before : History) (e : ℕ) (s : S
 -- what is so of the history of every run
 pub record IsTrue (configs : List Configuration) (h : History) : Type 0 where
   -- each answer is the machine's next
-  pub legal : FullLegal configs h
+  pub legal : Legal configs h
   -- each reconfiguration holds the source of the configuration of its epoch
   pub sourced : AreSourced configs h
   -- which is the one that this text gives

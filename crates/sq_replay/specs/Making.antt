@@ -3,17 +3,18 @@ use Rattle.std.specs.Prelude.{◌≡◌, ◌⊎◌, ℕ, suc, max, List, Bool, t
 use Rattle.std.specs.declared.option.Option.{Option}
 use Rattle.sq_base.specs.declared.memory.WantOfMemory.{WantOfMemory}
 use Rattle.sq_request.specs.Written.{made_request}
-use Rattle.sq_rules.specs.declared.entries.Event.{Event}
-use Rattle.sq_rules.specs.declared.entries.Event.TheVariants.{Act, Ask, Begin, Reconfigure}
-use Rattle.sq_rules.specs.declared.entries.Told.{Told}
-use Rattle.sq_rules.specs.declared.refusals.Refusal.{Refusal}
-use Rattle.sq_rules.specs.declared.refusals.Refusal.TheVariants as refusal
+use Rattle.sq_machine.specs.declared.entries.Event.{Event}
+use Rattle.sq_machine.specs.declared.entries.Event.TheVariants.{Act, Ask, Begin, Reconfigure}
+use Rattle.sq_machine.specs.declared.entries.Told.{Told}
+use Rattle.sq_machine.specs.declared.refusals.Refusal.{Refusal}
+use Rattle.sq_machine.specs.declared.refusals.Refusal.TheVariants as refusal
 use Rattle.sq_rules.specs.Configurations.{Configuration}
-use Rattle.sq_rules.specs.Entries.{History}
-use Rattle.sq_rules.specs.FullNext.{full_next}
-use Rattle.sq_rules.specs.Machine.{Next, config_of, gives, nothing, refuses}
-use Rattle.sq_rules.specs.Marking.{marked}
-use Rattle.sq_rules.specs.Readings.{current}
+use Rattle.sq_machine.specs.Entries.{History}
+use Rattle.sq_machine.specs.Machine.{next}
+use Rattle.sq_machine.specs.Epochs.{config_of}
+use Rattle.sq_machine.specs.Next.{Next, gives, nothing, refuses}
+use Rattle.sq_machine.specs.Marking.{marked}
+use Rattle.sq_machine.specs.Readings.{current}
 use Rattle.sq_replay.specs.declared.stops.Stop.{Stop}
 use Rattle.sq_replay.specs.declared.stops.Stop.TheVariants as stop
 use Rattle.sq_replay.specs.Runs.{Is, IsMade, Machine}
@@ -35,8 +36,8 @@ MayStand event = Unit {0}
 abbrev pub IsRefusal : List Configuration → History → ℕ → Event → Type 0
 IsRefusal configs h moment Act = Unit {0}
 IsRefusal configs h moment (Ask conn method target fields) =
-    (made_request method target 1 fields ≡ None) ⊎ (is_refused (full_next configs (marked configs h) moment (Ask conn method target fields)) ≡ true)
-IsRefusal configs h moment event = is_refused (full_next configs (marked configs h) moment event) ≡ true
+    (made_request method target 1 fields ≡ None) ⊎ (is_refused (next configs (marked configs h) moment (Ask conn method target fields)) ≡ true)
+IsRefusal configs h moment event = is_refused (next configs (marked configs h) moment event) ≡ true
 
 -- the event is made at the greatest moment so far, or it is refused; where memory is wanting, nothing is said
 abbrev pub IsMaking : Machine → Machine → ℕ → Event → Result Told Stop → Type 0
@@ -49,13 +50,13 @@ abbrev pub IsReconfiguring : Machine → Machine → ℕ → Configuration → R
 IsReconfiguring old new now config (Ok told) =
     (configs : List Configuration) (h : History) → Is old configs h → config_of configs (suc (current h)) ≡ Some config → IsMade new configs h (max now old.latest) (Reconfigure config.source) told
 IsReconfiguring old new now config (Err stop.Refused) =
-    (configs : List Configuration) (h : History) → Is old configs h → is_refused (full_next configs (marked configs h) (max now old.latest) (Reconfigure config.source)) ≡ true
+    (configs : List Configuration) (h : History) → Is old configs h → is_refused (next configs (marked configs h) (max now old.latest) (Reconfigure config.source)) ≡ true
 IsReconfiguring old new now config (Err stop.WantOfMemory) = Unit {0}
 
 -- the act that is due at this moment is made; or none is due
 abbrev pub IsActing : Machine → Machine → ℕ → Result (Option Told) WantOfMemory → Type 0
 IsActing old new moment (Ok (Some told)) = (configs : List Configuration) (h : History) → Is old configs h → IsMade new configs h moment Act told
-IsActing old new moment (Ok None) = (configs : List Configuration) (h : History) → Is old configs h → full_next configs (marked configs h) moment Act ≡ nothing
+IsActing old new moment (Ok None) = (configs : List Configuration) (h : History) → Is old configs h → next configs (marked configs h) moment Act ≡ nothing
 IsActing old new moment (Err e) = Unit {0}
 
 -- how a refusal of the engine stops the event

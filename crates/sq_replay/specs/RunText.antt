@@ -4,25 +4,23 @@ use Rattle.std.specs.declared.option.Option.{Option}
 use Rattle.sq_base.specs.declared.requests.Field.{Field}
 use Rattle.sq_outside.specs.SourceLines.{Line, is_readable}
 use Rattle.sq_request.specs.Written.{made_request}
-use Rattle.sq_rules.specs.declared.entries.Event.{Event}
-use Rattle.sq_rules.specs.declared.entries.Event.TheVariants.{Begin, Ask, Act, Reconfigure}
-use Rattle.sq_rules.specs.declared.entries.Told.TheVariants as told
+use Rattle.sq_machine.specs.declared.entries.Event.{Event}
+use Rattle.sq_machine.specs.declared.entries.Event.TheVariants.{Begin, Ask, Act, Reconfigure}
+use Rattle.sq_machine.specs.declared.entries.Told.TheVariants as told
 use Rattle.sq_rules.specs.declared.kinds.ConfError.{ConfError}
 use Rattle.sq_rules.specs.Configurations.{Configuration}
-use Rattle.sq_rules.specs.Entries.{History}
-use Rattle.sq_rules.specs.FullNext.{full_next}
-use Rattle.sq_rules.specs.Machine.{Next, gives}
-use Rattle.sq_rules.specs.Marking.{marked}
-use Rattle.sq_rules.specs.Readings.{current, latest}
+use Rattle.sq_machine.specs.Entries.{History, entry_at}
+use Rattle.sq_machine.specs.Machine.{next}
+use Rattle.sq_machine.specs.Next.{Next, gives}
+use Rattle.sq_machine.specs.Marking.{marked}
+use Rattle.sq_machine.specs.Readings.{current, latest}
 use Rattle.sq_journal.specs.EntryText.{written}
 use Rattle.sq_journal.specs.Lines.{spaced_words}
 use Rattle.sq_journal.specs.Reading.{dated_of}
-use Rattle.sq_state.specs.Promises.{entry_at}
 use Rattle.sq_replay.specs.declared.ends.RunEnd.{RunEnd}
 use Rattle.sq_replay.specs.declared.ends.RunEnd.TheVariants as ends
 use Rattle.sq_replay.specs.ConfReading.{read_result}
 use Rattle.sq_replay.specs.Dues.{dues}
-use Rattle.sq_replay.specs.Ends.{last_line}
 
 -- a history, the newest entry first, and how the run ends
 pub record Ran : Type 0 where
@@ -49,7 +47,7 @@ acted go h n = h
 -- the history with the acts that are due, up to so many
 abbrev pub acts_upto : List Configuration → ℕ → History → History
 acts_upto configs zero h = h
-acts_upto configs (suc k) h = acted (acts_upto configs k) h (full_next configs (marked configs h) (latest h) Act)
+acts_upto configs (suc k) h = acted (acts_upto configs k) h (next configs (marked configs h) (latest h) Act)
 
 -- the history with the acts that are due, up to none
 abbrev pub acts : List Configuration → History → History
@@ -63,7 +61,7 @@ answered configs h number moment event n = Err (ends.Script number)
 -- the event of line `number`, at the greatest moment so far
 abbrev pub asked_next : List Configuration → History → ℕ → ℕ → Event → Result History RunEnd
 asked_next configs h number now event =
-    answered configs h number (max now (latest h)) event (full_next configs (marked configs h) (max now (latest h)) event)
+    answered configs h number (max now (latest h)) event (next configs (marked configs h) (max now (latest h)) event)
 
 -- requests of a script have version 1.1
 abbrev pub is_request : List ℕ → List ℕ → List Field → Result History RunEnd → ℕ → Result History RunEnd
@@ -166,7 +164,3 @@ configs_of files config ls = config ∷ named_from files ls 1
 -- the run of a script's lines
 abbrev pub run_script : Shelf → Configuration → List Line → Ran
 run_script files config ls = run_over files (configs_of files config ls) ls
-
--- the text of a run: the lines of its history, and the last line of its end
-abbrev pub run_text : Ran → List ℕ
-run_text ran = written ran.history ++ last_line ran.end

@@ -7,23 +7,24 @@ use Rattle.sq_outside.specs.Causes.{Rose}
 use Rattle.sq_outside.specs.Output.{Grew, IsPrefix, IsProperPrefix}
 use Rattle.sq_outside.specs.SourceLines.{Line, lines}
 use Rattle.sq_outside.specs.Told.{Opening, Openings, Texts}
-use Rattle.sq_rules.specs.declared.entries.Event.{Event}
-use Rattle.sq_rules.specs.declared.entries.Event.TheVariants.{Reconfigure}
-use Rattle.sq_rules.specs.declared.entries.Told.{Told}
-use Rattle.sq_rules.specs.Checks.{Asked}
+use Rattle.sq_machine.specs.declared.entries.Event.{Event}
+use Rattle.sq_machine.specs.declared.entries.Event.TheVariants.{Reconfigure}
+use Rattle.sq_machine.specs.declared.entries.Told.{Told}
+use Rattle.sq_machine.specs.Checks.{Asked}
 use Rattle.sq_rules.specs.Configurations.{Configuration}
-use Rattle.sq_rules.specs.Entries.{History}
-use Rattle.sq_rules.specs.Events.{begins_epoch}
-use Rattle.sq_rules.specs.FullNext.{full_next}
-use Rattle.sq_rules.specs.Machine.{config_of, gives}
-use Rattle.sq_rules.specs.Marking.{marked}
-use Rattle.sq_rules.specs.PoolReadings.{allowed_of}
-use Rattle.sq_rules.specs.Readings.{current, latest}
+use Rattle.sq_machine.specs.Entries.{History, entry_at}
+use Rattle.sq_machine.specs.Events.{begins_epoch}
+use Rattle.sq_machine.specs.Machine.{next}
+use Rattle.sq_machine.specs.Epochs.{config_of}
+use Rattle.sq_machine.specs.Next.{gives}
+use Rattle.sq_machine.specs.Marking.{marked}
+use Rattle.sq_machine.specs.PoolReadings.{allowed_of}
+use Rattle.sq_machine.specs.Readings.{current, latest}
 use Rattle.sq_rules.specs.Verdicts.{pool_of}
 use Rattle.sq_journal.specs.EntryText.{written}
 use Rattle.sq_pools.specs.Basins.{Basin}
 use Rattle.sq_pools.specs.Stands.{PoolsStand}
-use Rattle.sq_state.specs.Promises.{StandsFor, entry_at}
+use Rattle.sq_state.specs.Promises.{StandsFor}
 use Rattle.sq_state.specs.States.{State}
 use Rattle.sq_replay.specs.declared.ends.RunEnd.{RunEnd}
 use Rattle.sq_replay.specs.declared.ends.RunEnd.TheVariants as ends
@@ -112,7 +113,7 @@ pub record At (v : Machine) (base contents : Option (List ℕ)) (page : List ℕ
 
 -- after this history the machine answers so to an event at this moment, and then stands for the history with the entry
 pub record IsMade (v : Machine) (configs : List Configuration) (h : History) (moment : ℕ) (event : Event) (answer : Told) : Type 0 where
-  pub next_is : full_next configs (marked configs h) moment event ≡ gives answer
+  pub next_is : next configs (marked configs h) moment event ≡ gives answer
   pub is : Is v configs (entry_at moment event answer ∷ h)
 
 -- the acts
@@ -293,11 +294,9 @@ pub record RunHasCauses (script_before script_now files_before files_now out_bef
 
 -- a run of a script ends by these alone
 abbrev pub IsRunEnd : RunEnd → Type 0
-IsRunEnd (ends.Differs line) = ⊥
 IsRunEnd end = Unit {0}
 
 -- a step ends a run by these alone
 abbrev pub IsStepEnd : RunEnd → Type 0
 IsStepEnd ends.Ok = ⊥
-IsStepEnd (ends.Differs line) = ⊥
 IsStepEnd end = Unit {0}

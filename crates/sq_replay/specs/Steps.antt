@@ -1,16 +1,15 @@
 -- What a line of a script does to the history.
 use Rattle.std.specs.Prelude.{◌≡◌, ℕ, ◌≤◌, List, ◌∷◌, true, false, Some, Ok}
-use Rattle.sq_rules.specs.declared.entries.Event.{Event}
-use Rattle.sq_rules.specs.declared.entries.Event.TheVariants.{Reconfigure}
-use Rattle.sq_rules.specs.declared.entries.Told.{Told}
+use Rattle.sq_machine.specs.declared.entries.Event.{Event}
+use Rattle.sq_machine.specs.declared.entries.Event.TheVariants.{Reconfigure}
+use Rattle.sq_machine.specs.declared.entries.Told.{Told}
 use Rattle.sq_rules.specs.Configurations.{Configuration}
-use Rattle.sq_rules.specs.Entries.{History}
-use Rattle.sq_rules.specs.Events.{begins_epoch}
-use Rattle.sq_rules.specs.FullNext.{full_next}
-use Rattle.sq_rules.specs.Machine.{gives, has_target, is_begin}
-use Rattle.sq_rules.specs.Marking.{marked}
-use Rattle.sq_rules.specs.Readings.{latest}
-use Rattle.sq_state.specs.Promises.{entry_at}
+use Rattle.sq_machine.specs.Entries.{History, entry_at}
+use Rattle.sq_machine.specs.Events.{begins_epoch, has_target, is_begin}
+use Rattle.sq_machine.specs.Machine.{next}
+use Rattle.sq_machine.specs.Next.{gives}
+use Rattle.sq_machine.specs.Marking.{marked}
+use Rattle.sq_machine.specs.Readings.{latest}
 use Rattle.sq_replay.specs.ConfReading.{read_result}
 use Rattle.sq_replay.specs.RunText.{Shelf, acts}
 
@@ -34,5 +33,5 @@ pub record IsStep (files : Shelf) (configs : List Configuration) (h : History) (
   pub begins_none : is_begin entered ≡ false
   pub formed : has_target entered ≡ true
   pub late : latest h ≤ moment
-  pub next_is : full_next configs (marked configs h) moment entered ≡ gives answer
+  pub next_is : next configs (marked configs h) moment entered ≡ gives answer
   pub history_is : acts configs (entry_at moment entered answer ∷ h) ≡ t

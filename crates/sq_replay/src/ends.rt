@@ -13,8 +13,6 @@ pub enum RunEnd {
     Config(ConfError),
     /// The script names a file that is not there.
     Missing(Text),
-    /// This line of a journal, from 1, is not the machine's.
-    Differs(u64),
     /// The script or a file that it names could not be read.
     ReadFault,
     /// The output could not be written.

@@ -2,9 +2,8 @@
 ghost use Rattle.std.specs.Prelude.{◌≡◌, ◌++◌, ◌∷◌, ◌≤◌, ℕ, List, Option, true, IfOk, IsErrOf, OnOk};
 ghost use Rattle.sq_outside.specs.Causes.{Rose};
 ghost use Rattle.sq_rules.specs.Configurations.{Configuration};
-ghost use Rattle.sq_rules.specs.Entries.{History, is_event, is_row};
+ghost use Rattle.sq_machine.specs.Entries.{History, is_event, is_row, entry_at};
 ghost use Rattle.sq_journal.specs.EntryText.{entry_line, entry_text, written};
-ghost use Rattle.sq_state.specs.Promises.{entry_at};
 ghost use Rattle.sq_replay.specs.Entering.{Arrives};
 ghost use Rattle.sq_replay.specs.MachineViews.{machine_of};
 ghost use Rattle.sq_replay.specs.RunText.{acts};
@@ -14,8 +13,8 @@ use crate::machines::Machine;
 use crate::page::{Untold, put_line};
 use sq_base::{Moment, Text, WantOfMemory};
 use sq_journal::print_entry;
+use sq_machine::{Entry, Event, Told};
 use sq_outside::Sink;
-use sq_rules::{Entry, Event, Told};
 use std::alloc::Global;
 
 // The text of an entry.

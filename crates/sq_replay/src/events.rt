@@ -1,17 +1,17 @@
 //! The events of a script's lines, made by the machine.
 ghost use Rattle.std.specs.Prelude.{◌≡◌, true, false, max, IfOk, OnOk};
-ghost use Rattle.sq_rules.specs.Entries.{is_event, is_row};
-ghost use Rattle.sq_rules.specs.Events.{begins_epoch};
-ghost use Rattle.sq_rules.specs.declared.entries.Event.TheVariants as event;
+ghost use Rattle.sq_machine.specs.Entries.{is_event, is_row};
+ghost use Rattle.sq_machine.specs.Events.{begins_epoch};
+ghost use Rattle.sq_machine.specs.declared.entries.Event.TheVariants as event;
 ghost use Rattle.sq_replay.specs.MachineViews.{machine_of};
 ghost use Rattle.sq_replay.specs.Making.{IsMaking};
 
 use crate::machines::Machine;
 use crate::stops::{Stop, stop_by};
 use sq_base::{Addr, CheckNo, ConnNo, Copying, Fields, Moment, ProcNo, Text, WantOfMemory};
+use sq_machine::{Event, Told, later};
 use sq_request::{BadRequest, make_request};
-use sq_rules::{Event, Told};
-use sq_state::{copy_outcome, later};
+use sq_state::copy_outcome;
 use std::alloc::Global;
 
 impl Machine {

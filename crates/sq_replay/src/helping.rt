@@ -1,7 +1,7 @@
 //! Checks that go on, and helper processes that start and write.
 ghost use Rattle.std.specs.Prelude.{◌≡◌, true, max, IfOk, OnOk};
-ghost use Rattle.sq_rules.specs.Entries.{is_row};
-ghost use Rattle.sq_rules.specs.declared.entries.Event.TheVariants as event;
+ghost use Rattle.sq_machine.specs.Entries.{is_row};
+ghost use Rattle.sq_machine.specs.declared.entries.Event.TheVariants as event;
 ghost use Rattle.sq_engine.specs.EngineViews.{state_of};
 ghost use Rattle.sq_engine.specs.Lines.{got_told};
 ghost use Rattle.sq_engine.specs.Stepping.{stepped_told};
@@ -14,9 +14,8 @@ use crate::stops::{Stop, stop_by};
 use sq_base::{CheckNo, EpochNo, Moment, ProcNo, Text, WantOfMemory};
 use sq_engine::Engine;
 use sq_farm::Got;
+use sq_machine::{Told, later};
 use sq_rows::Stepped;
-use sq_rules::Told;
-use sq_state::later;
 use std::alloc::Global;
 
 // What a step of a check of this epoch said, as it is told.

@@ -5,10 +5,10 @@ ghost use Rattle.sq_outside.specs.Causes.{Rose};
 ghost use Rattle.sq_outside.specs.SourceLines.{lines, total_limit};
 ghost use Rattle.sq_outside.specs.Told.{IsNotTold};
 ghost use Rattle.sq_rules.specs.Configurations.{Configuration};
-ghost use Rattle.sq_rules.specs.Entries.{History, is_event};
-ghost use Rattle.sq_rules.specs.Events.{begins_epoch};
-ghost use Rattle.sq_rules.specs.Readings.{current};
-ghost use Rattle.sq_rules.specs.declared.entries.Event.TheVariants as event;
+ghost use Rattle.sq_machine.specs.Entries.{History, is_event};
+ghost use Rattle.sq_machine.specs.Events.{begins_epoch};
+ghost use Rattle.sq_machine.specs.Readings.{current};
+ghost use Rattle.sq_machine.specs.declared.entries.Event.TheVariants as event;
 ghost use Rattle.sq_replay.specs.Entering.{IfMissed, IsPlainEnd, StepHasCauses, named_of};
 ghost use Rattle.sq_replay.specs.MachineViews.{machine_of};
 ghost use Rattle.sq_replay.specs.RunText.{Shelf, event_step, run_lines, stated};
@@ -23,8 +23,8 @@ use crate::page::Untold;
 use crate::stops::Stop;
 use sq_base::{Moment, Text};
 use sq_journal::{EntryFault, read_event};
+use sq_machine::Event;
 use sq_outside::{Files, Found, Held, Sink, Source, Unread, next_line};
-use sq_rules::Event;
 use std::alloc::Global;
 
 // The name of a reconfiguration's file, and any other event as it is.

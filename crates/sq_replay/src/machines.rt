@@ -1,9 +1,9 @@
 //! The machine that a script runs: the engine with its delay pools.
 ghost use Rattle.std.specs.Prelude.{◌≡◌, ◌<◌, ℕ, List, true, max, IfNone, IfOk, IfSome, OnOk, Some};
 ghost use Rattle.sq_rules.specs.Configurations.{Configuration, IsConfiguration};
-ghost use Rattle.sq_rules.specs.Entries.{is_row};
-ghost use Rattle.sq_rules.specs.Machine.{config_of};
-ghost use Rattle.sq_rules.specs.declared.entries.Event.TheVariants as event;
+ghost use Rattle.sq_machine.specs.Entries.{is_row};
+ghost use Rattle.sq_machine.specs.Epochs.{config_of};
+ghost use Rattle.sq_machine.specs.declared.entries.Event.TheVariants as event;
 ghost use Rattle.sq_history.specs.Given.{EachOf};
 ghost use Rattle.sq_engine.specs.EngineViews.{state_of};
 ghost use Rattle.sq_replay.specs.Dues.{dues_in};
@@ -18,8 +18,7 @@ use crate::stops::{Stop, stop_by};
 use sq_base::{EpochNo, Moment, WantOfMemory};
 use sq_cache::HashSeed;
 use sq_engine::Engine;
-use sq_rules::{Offset, Told};
-use sq_state::later;
+use sq_machine::{Offset, Told, later};
 use sq_urlmatch::Setup;
 use std::alloc::Global;
 use std::marker::Model;

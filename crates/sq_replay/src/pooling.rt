@@ -1,16 +1,15 @@
 //! Seats in delay pools, and what they are granted.
 ghost use Rattle.std.specs.Prelude.{◌≡◌, true, max, IfOk, OnOk};
-ghost use Rattle.sq_rules.specs.Entries.{is_amount, is_row};
-ghost use Rattle.sq_rules.specs.declared.entries.Event.TheVariants as event;
+ghost use Rattle.sq_machine.specs.Entries.{is_amount, is_row};
+ghost use Rattle.sq_machine.specs.declared.entries.Event.TheVariants as event;
 ghost use Rattle.sq_replay.specs.MachineViews.{machine_of};
 ghost use Rattle.sq_replay.specs.Making.{IsMaking};
 
 use crate::machines::Machine;
 use crate::stops::Stop;
 use sq_base::{ConnNo, Moment, SeatNo};
+use sq_machine::{Told, later};
 use sq_pools::ChooseFault;
-use sq_rules::Told;
-use sq_state::later;
 use std::alloc::Global;
 
 impl Machine {

@@ -1,6 +1,6 @@
 //! Delay pools whose seats are held by number.
 ghost use Rattle.std.specs.Prelude.{◌≡◌, ◌<◌, ◌≤◌, ◌||◌, cond, max, suc, true, is_some, is_none, nat_lt, None, IfOk, IfErr, IfNone, IfSome, OnOk, OnErr};
-ghost use Rattle.sq_rules.specs.Limits.{last_number};
+ghost use Rattle.sq_machine.specs.Limits.{last_number};
 ghost use Rattle.sq_pools.specs.Basins.{HasBegun, HasLeft, IsBasin, IsChosen, IsGranted, IsRenewed, grant_in, has_pool, made_in, seat_in};
 
 use sq_base::{Addr, EpochNo, Moment, SeatNo, WantOfMemory};

@@ -2,7 +2,7 @@
 ghost use Rattle.std.specs.Prelude.{◌≡◌};
 ghost use Rattle.sq_replay.specs.Making.{stop_for};
 
-use sq_rules::Refusal;
+use sq_machine::Refusal;
 
 /// Why an event was not made.
 #[derive(Clone, Copy, PartialEq, Eq, Debug)]

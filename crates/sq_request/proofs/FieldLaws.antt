@@ -1,5 +1,5 @@
 -- The fields of a head: how many there are, and their names.
-use Rattle.std.proofs.Common.{◌≡◌, ℕ, suc, ◌+◌, ◌≤◌, List, [], ◌∷◌, ◌++◌, true, not, ◌==◌, IsTrue, if◌then◌else◌, All, length, take, map, subst, ne_eqb, inl, inr, refl, sym, ap, ◌∙◌, arith, length-take}
+use Rattle.std.proofs.Common.{◌≡◌, ℕ, suc, ◌+◌, ◌≤◌, List, [], ◌∷◌, ◌++◌, true, not, ◌==◌, IsTrue, if◌then◌else◌, All, length, take, map, subst, ne_eqb, inl, inr, refl, ap, arith, length-take}
 use Rattle.std.proofs.lemmas.Bool.{cases_eq}
 use Rattle.std.proofs.lemmas.List.{length-map}
 use Rattle.std.proofs.lemmas.List.Sums.{sum_by-append}
@@ -7,12 +7,9 @@ use Rattle.std.specs.List.{count_by, flat_map}
 use Rattle.httparse.specs.Ascii.{space, colon}
 use Rattle.httparse.specs.Grammar.{LineEnd, crlf, lf, print_end, print_blank, print_version, print_field, print_section, print_request, RequestHead, is_token_byte, AllPass, IsField, IsToken}
 use Rattle.httparse.specs.Grammar as grammar
-use Rattle.httparse.specs.Spans.{name_and_value}
 use Rattle.sq_base.specs.Lines.{is_lf}
 use Rattle.sq_base.specs.Requests.{has_no_colon, have_plain_names}
-use Rattle.sq_base.specs.declared.requests.Field.{Field}
 use Rattle.sq_request.specs.Heads.{IsHead, field_of}
-use Rattle.sq_request.specs.Spans.{field_pair}
 
 count_append : (xs ys : List ℕ) → count_by is_lf (xs ++ ys) ≡ count_by is_lf xs + count_by is_lf ys
 count_append xs ys = sum_by-append (λ b. if is_lf b then 1 else 0) xs ys
@@ -62,25 +59,3 @@ no_colon (b ∷ bs) h = rw (token_no_colon b (h 0 0 (omega arith))) (no_colon bs
 pub plain_names : (fields : List grammar.Field) → All IsField fields → have_plain_names (map field_of fields) ≡ true
 plain_names [] h = refl
 plain_names (f ∷ fs) h = rw (no_colon f.name (h 0 f (omega arith)).name.1) (plain_names fs (λ k d below. h (suc k) d (omega arith)))
-
--- fields are told by their names and values
-of_pair : List ℕ × List ℕ → Field
-of_pair p = record { name = p.0; value = p.1 }
-
-map_back : {A B C : Type 0} (f : A → B) (g : B → C) (h : A → C) (xs : List A) → ((x : A) → g (f x) ≡ h x) → map g (map f xs) ≡ map h xs
-map_back f g h [] same = refl
-map_back f g h (x ∷ xs) same = rw (same x, map_back f g h xs same) refl
-
-map_same : {A : Type 0} (xs : List A) → map (λ x. x) xs ≡ xs
-map_same [] = refl
-map_same (x ∷ xs) = ap (λ t. x ∷ t) (map_same xs)
-
--- fields with the same names and values are the same
-pub fields_from_pairs : (fs : List Field) (fields : List grammar.Field) → map field_pair fs ≡ map name_and_value fields → fs ≡ map field_of fields
-unfolding of_pair
-fields_from_pairs fs fields e =
-    sym (map_same fs) ∙ sym (map_back field_pair of_pair (λ f. f) fs (λ f. refl)) ∙ ap (map of_pair) e ∙ map_back name_and_value of_pair field_of fields (λ f. refl)
-
--- and the other way round
-pub pairs_from_fields : (fs : List Field) (fields : List grammar.Field) → map field_of fields ≡ fs → map name_and_value fields ≡ map field_pair fs
-pairs_from_fields fs fields e = sym (map_back field_of field_pair name_and_value fields (λ f. refl)) ∙ ap (map field_pair) e

@@ -8,7 +8,8 @@ use Rattle.httparse.specs.declared.spans.RequestSpans.{RequestSpans}
 use Rattle.sq_base.specs.Lines.{is_lf}
 use Rattle.sq_base.specs.Requests.{HttpRequest, have_plain_names}
 use Rattle.sq_base.specs.declared.requests.Field.{Field}
-use Rattle.sq_request.proofs.FieldLaws.{fields_counted, count_of, plain_names, fields_from_pairs}
+use Rattle.sq_request.proofs.FieldLaws.{fields_counted, count_of, plain_names}
+use Rattle.sq_request.proofs.PairLaws.{fields_from_pairs}
 use Rattle.sq_request.specs.declared.faults.BadRequest.{BadRequest}
 use Rattle.sq_request.specs.declared.faults.BadRequest.TheVariants.{BadHead, TooManyFields, BadTarget, WantOfMemory}
 use Rattle.sq_request.specs.Heads.{IsHead, fields_of, request_with, request_of, HasRequest}

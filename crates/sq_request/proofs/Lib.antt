@@ -4,6 +4,7 @@ mod HeadLaws
 mod MadeLaws
 pub mod MoreLaws
 mod OneLaws
+pub mod PairLaws
 mod PortLaws
 mod TargetLaws
 mod TrimLaws

@@ -9,7 +9,8 @@ use Rattle.httparse.specs.declared.spans.RequestSpans.{RequestSpans}
 use Rattle.httparse.proofs.GrammarLemmas.{request_unique}
 use Rattle.sq_base.specs.Requests.{have_plain_names}
 use Rattle.sq_base.specs.declared.requests.Field.{Field}
-use Rattle.sq_request.proofs.FieldLaws.{plain_names, fields_from_pairs, pairs_from_fields}
+use Rattle.sq_request.proofs.FieldLaws.{plain_names}
+use Rattle.sq_request.proofs.PairLaws.{fields_from_pairs, pairs_from_fields}
 use Rattle.sq_request.specs.Heads.{IsHead, head_text, IsWrittenHead}
 use Rattle.sq_request.specs.Spans.{field_pair, CoversHead, CoversLine}
 

@@ -33,6 +33,10 @@ at_target method target minor fields t =
 abbrev pub request_with : List ℕ → List ℕ → ℕ → List Field → Option HttpRequest
 request_with method target minor fields = option_map (at_target method target minor fields) (target_of method target)
 
+-- the request with another target, and all else kept
+abbrev pub retargeted : HttpRequest → List ℕ → Option HttpRequest
+retargeted r target = request_with r.method target r.minor r.fields
+
 -- the request of a head of the grammar
 abbrev pub request_of : RequestHead → Option HttpRequest
 request_of h = request_with h.method h.target h.minor (fields_of h)

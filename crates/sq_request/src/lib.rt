@@ -6,7 +6,7 @@
 //! has to read as these very parts. Both refuse for the head first, then for more than 128 fields, then
 //! for the target, each exactly where it is so: a head is one request, or is refused in one way. The
 //! parts of the target are those of the definitions in `sq_base`, and each request carries that fact with
-//! it.
+//! it. `retarget` gives a request another target and keeps all else.
 #![tactic(auto)]
 
 mod building;
@@ -16,6 +16,7 @@ mod hosts;
 mod making;
 mod ports;
 mod reading;
+mod retargeting;
 mod spanning;
 mod targets;
 
@@ -23,3 +24,5 @@ pub use ending::head_end;
 pub use faults::BadRequest;
 pub use making::make_request;
 pub use reading::read_request;
+pub use retargeting::retarget;
+pub use spanning::copy_fields;

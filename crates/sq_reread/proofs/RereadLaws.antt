@@ -11,10 +11,10 @@ use Rattle.sq_calls.specs.Telling.{IsReread, Notes}
 use Rattle.sq_calls.specs.declared.faults.DeskFault.{DeskFault}
 use Rattle.sq_calls.specs.declared.faults.DeskFault.TheVariants as desk
 use Rattle.sq_conf.specs.declared.faults.ConfFault.TheVariants as fault
-use Rattle.sq_rules.specs.Entries.{History}
-use Rattle.sq_rules.specs.declared.entries.Told.TheVariants as answer
+use Rattle.sq_machine.specs.Entries.{History}
+use Rattle.sq_machine.specs.declared.entries.Told.TheVariants as answer
 use Rattle.sq_rules.specs.declared.kinds.Kind.{Kind}
-use Rattle.sq_rules.specs.declared.refusals.Refusal.TheVariants as refusal
+use Rattle.sq_machine.specs.declared.refusals.Refusal.TheVariants as refusal
 use Rattle.sq_rules.specs.ConfText.{and_then, conf_gives, conf_refuses, conf_result, end_read, error_at, lines_read, text_read}
 use Rattle.sq_rules.specs.Drafts.{Drafts, are_complete, begun, finished}
 use Rattle.sq_rules.specs.Limits.{text_limit}

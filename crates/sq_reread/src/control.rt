@@ -14,8 +14,9 @@ ghost use Rattle.sq_reread.specs.Rereading.{Adds, Asks, CountsMade, IsRefused, a
 use sq_base::{EpochNo, Moment, Text};
 use sq_calls::{DeskCalls, DeskFault};
 use sq_conf::{ConfFault, read_config};
+use sq_machine::Refusal;
 use sq_outside::{Files, NoOpen, read_file};
-use sq_rules::{ConfError, Kind, Refusal, TEXT_LIMIT};
+use sq_rules::{ConfError, Kind, TEXT_LIMIT};
 use sq_urlmatch::Setup;
 use std::alloc::Global;
 

@@ -7,22 +7,22 @@ use Rattle.sq_outside.specs.Causes.{count_limit, raised}
 use Rattle.sq_base.specs.Addresses.{Address}
 use Rattle.sq_base.specs.Requests.{HttpRequest}
 use Rattle.sq_calls.specs.Legality.{Beginning}
-use Rattle.sq_calls.specs.Telling.{AddsOne, AddsSome, Counts, CountsLine, CountsRefusal, IsAsking, IsClosing, IsDead, IsEventOf, IsFailed, IsLine, IsOpening, IsReread, IsStarted, IsStep, IsStepTold, IsTakeTold, IsTaking, MayAct, Notes, NotesAs, entry_at, got_told}
+use Rattle.sq_calls.specs.Telling.{AddsOne, AddsSome, Counts, CountsLine, CountsRefusal, IsAsking, IsClosing, IsDead, IsEventOf, IsFailed, IsLine, IsOpening, IsReread, IsStarted, IsStep, IsStepTold, IsTakeTold, IsTaking, MayAct, Notes, NotesAs, got_told}
 use Rattle.sq_calls.specs.declared.faults.DeskFault.{DeskFault}
 use Rattle.sq_calls.specs.declared.faults.DeskFault.TheVariants as fault
 use Rattle.sq_channel.specs.declared.replies.Got.{Got}
 use Rattle.sq_channel.specs.declared.replies.Got.TheVariants as got
 use Rattle.sq_checks.specs.Records.{Judged}
 use Rattle.sq_rows.specs.declared.said.Stepped.{Stepped}
-use Rattle.sq_rules.specs.declared.entries.Told.TheVariants as answer
+use Rattle.sq_machine.specs.declared.entries.Told.TheVariants as answer
 use Rattle.sq_rules.specs.Configurations.{Configuration}
 use Rattle.sq_epochs.specs.declared.acts.Act.{Act}
-use Rattle.sq_rules.specs.declared.entries.Event.{Event}
-use Rattle.sq_rules.specs.declared.entries.Event.TheVariants as event
-use Rattle.sq_rules.specs.declared.entries.Told.{Told}
-use Rattle.sq_rules.specs.Entries.{History}
-use Rattle.sq_rules.specs.Events.{begins_epoch}
-use Rattle.sq_rules.specs.Readings.{current, epoch_after}
+use Rattle.sq_machine.specs.declared.entries.Event.{Event}
+use Rattle.sq_machine.specs.declared.entries.Event.TheVariants as event
+use Rattle.sq_machine.specs.declared.entries.Told.{Told}
+use Rattle.sq_machine.specs.Entries.{History, entry_at}
+use Rattle.sq_machine.specs.Events.{begins_epoch}
+use Rattle.sq_machine.specs.Readings.{current, epoch_after}
 use Rattle.sq_room.specs.Books.{AreCounted, SharesLine, SharesMade, SharesRefusal, asks_in, counted, is_ask}
 
 -- an event that is a request exactly where `a`, and begins an epoch exactly where `b`

@@ -9,8 +9,8 @@ use Rattle.sq_calls.specs.declared.faults.DeskFault.TheVariants as fault
 use Rattle.sq_channel.specs.declared.replies.Got.{Got}
 use Rattle.sq_channel.specs.declared.replies.Got.TheVariants as got
 use Rattle.sq_epochs.specs.declared.acts.Act.{Act}
-use Rattle.sq_rules.specs.declared.entries.Event.{Event}
-use Rattle.sq_rules.specs.declared.entries.Told.{Told}
+use Rattle.sq_machine.specs.declared.entries.Event.{Event}
+use Rattle.sq_machine.specs.declared.entries.Told.{Told}
 use Rattle.sq_room.specs.Books.{SharesLine, SharesMade, SharesRefusal}
 
 pub untold : {A : Type 0} (told : A → Told) (P : Event → Type 0) (r : Result A DeskFault) → Notes told P None None r

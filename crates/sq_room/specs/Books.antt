@@ -6,10 +6,10 @@ use Rattle.sq_calls.specs.declared.faults.DeskFault.{DeskFault}
 use Rattle.sq_calls.specs.declared.faults.DeskFault.TheVariants as fault
 use Rattle.sq_channel.specs.declared.replies.Got.{Got}
 use Rattle.sq_channel.specs.declared.replies.Got.TheVariants as got
-use Rattle.sq_rules.specs.declared.entries.Event.{Event}
-use Rattle.sq_rules.specs.declared.entries.Event.TheVariants.{Ask}
-use Rattle.sq_rules.specs.Entries.{History}
-use Rattle.sq_rules.specs.Readings.{current}
+use Rattle.sq_machine.specs.declared.entries.Event.{Event}
+use Rattle.sq_machine.specs.declared.entries.Event.TheVariants.{Ask}
+use Rattle.sq_machine.specs.Entries.{History}
+use Rattle.sq_machine.specs.Readings.{current}
 
 -- one more where it counts
 abbrev pub counted : Bool → ℕ → ℕ

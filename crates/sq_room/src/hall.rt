@@ -3,7 +3,7 @@ ghost use Rattle.std.specs.Prelude.{◌≡◌, ◌+◌, ◌<◌, min, true, IfOk
 ghost use Rattle.std.specs.Option.{ForSome};
 ghost use Rattle.sq_outside.specs.Causes.{count_limit};
 ghost use Rattle.sq_room.specs.Books.{AreCounted, asks_in};
-ghost use Rattle.sq_rules.specs.Readings.{current};
+ghost use Rattle.sq_machine.specs.Readings.{current};
 
 use sq_base::{EpochNo, Texts, WantOfMemory};
 use sq_calls::DeskCalls;

@@ -3,16 +3,16 @@ use Rattle.std.specs.Prelude.{ℕ, suc, min, List, [], ◌∷◌, ◌++◌, Bool
 use Rattle.std.specs.Option.{option_and_then, option_to_list, unwrap_or}
 use Rattle.std.specs.declared.option.Option.{Option}
 use Rattle.sq_base.specs.declared.helpers.Answer.{Answer}
-use Rattle.sq_rules.specs.AnswerReadings.{answer_by, answers, steps, waits_for, waits_told}
-use Rattle.sq_rules.specs.Checks.{Asked, ask_count, ask_of, check_open, is_done, nobody, sight_of}
+use Rattle.sq_machine.specs.AnswerReadings.{answer_by, answers, steps, waits_for, waits_told}
+use Rattle.sq_machine.specs.Checks.{Asked, ask_count, ask_of, check_open, is_done, nobody, sight_of}
 use Rattle.sq_rules.specs.Configurations.{Configuration}
-use Rattle.sq_rules.specs.Limits.{last_number}
-use Rattle.sq_rules.specs.Marks.{Marked, Past, entries}
-use Rattle.sq_rules.specs.Numbered.{rows}
-use Rattle.sq_rules.specs.Questions.{end_at, put_of}
-use Rattle.sq_rules.specs.StepRule.{StepSays}
-use Rattle.sq_rules.specs.declared.entries.Told.{Told}
-use Rattle.sq_rules.specs.declared.entries.Told.TheVariants as told
+use Rattle.sq_machine.specs.Limits.{last_number}
+use Rattle.sq_machine.specs.Marks.{Marked, Past, entries}
+use Rattle.sq_machine.specs.Numbered.{rows}
+use Rattle.sq_machine.specs.Questions.{end_at, put_of}
+use Rattle.sq_machine.specs.StepRule.{StepSays}
+use Rattle.sq_machine.specs.declared.entries.Told.{Told}
+use Rattle.sq_machine.specs.declared.entries.Told.TheVariants as told
 
 -- an open check: its number, what it is of, the question that it waits for, the answers that it took, the oldest first,
 -- whether a step of it was answered that it is done, and how often it was stepped, up to the last number

@@ -6,19 +6,19 @@ use Rattle.std.specs.declared.option.Option.{Option}
 use Rattle.sq_base.specs.declared.helpers.Answer.{Answer}
 use Rattle.sq_base.specs.declared.helpers.Cause.{Cause}
 use Rattle.sq_base.specs.declared.helpers.What.{What}
-use Rattle.sq_rules.specs.Channels.{is_open}
+use Rattle.sq_machine.specs.Channels.{is_open}
 use Rattle.sq_rules.specs.Classes.{Class}
 use Rattle.sq_rules.specs.Configurations.{Configuration}
-use Rattle.sq_rules.specs.Epochs.{class_at}
-use Rattle.sq_rules.specs.FarmReadings.{farm_with, is_put_for}
-use Rattle.sq_rules.specs.Farms.{Stock, Waiting, after_send, after_start, ended, failed, is_last_start, put_in, started_in, stock_of}
-use Rattle.sq_rules.specs.KeptLists.{KeptList}
-use Rattle.sq_rules.specs.KeptReadings.{after_took, keep_what, kept}
-use Rattle.sq_rules.specs.Living.{settled_in, slots_in}
-use Rattle.sq_rules.specs.Marks.{Past, Put}
-use Rattle.sq_rules.specs.Numbered.{rows}
-use Rattle.sq_rules.specs.OpenLookups.{LookupRow}
-use Rattle.sq_rules.specs.Questions.{has_ended, put_count, put_of}
+use Rattle.sq_machine.specs.Epochs.{class_at}
+use Rattle.sq_machine.specs.FarmReadings.{farm_with, is_put_for}
+use Rattle.sq_machine.specs.Farms.{Stock, Waiting, after_send, after_start, ended, failed, is_last_start, put_in, started_in, stock_of}
+use Rattle.sq_machine.specs.KeptLists.{KeptList}
+use Rattle.sq_machine.specs.KeptReadings.{after_took, keep_what, kept}
+use Rattle.sq_machine.specs.Living.{settled_in, slots_in}
+use Rattle.sq_machine.specs.Marks.{Past, Put}
+use Rattle.sq_machine.specs.Numbered.{rows}
+use Rattle.sq_machine.specs.OpenLookups.{LookupRow}
+use Rattle.sq_machine.specs.Questions.{has_ended, put_count, put_of}
 
 -- a class: the verdicts that it keeps, the newest use first; its questions that have not ended, with their keys, in order; and its farm
 pub record ClassRow : Type 0 where

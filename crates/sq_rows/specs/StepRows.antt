@@ -2,12 +2,12 @@
 use Rattle.std.specs.Prelude.{ℕ, suc, List, Some, None, is_some}
 use Rattle.std.specs.declared.option.Option.{Option}
 use Rattle.sq_rules.specs.Classes.{Class}
-use Rattle.sq_rules.specs.Farms.{full}
-use Rattle.sq_rules.specs.Marks.{Put}
-use Rattle.sq_rules.specs.OpenLookups.{pending_in}
-use Rattle.sq_rules.specs.StepRule.{StepSays, says_need}
-use Rattle.sq_rules.specs.declared.entries.Told.{Told}
-use Rattle.sq_rules.specs.declared.entries.Told.TheVariants as told
+use Rattle.sq_machine.specs.Farms.{full}
+use Rattle.sq_machine.specs.Marks.{Put}
+use Rattle.sq_machine.specs.OpenLookups.{pending_in}
+use Rattle.sq_machine.specs.StepRule.{StepSays, says_need}
+use Rattle.sq_machine.specs.declared.entries.Told.{Told}
+use Rattle.sq_machine.specs.declared.entries.Told.TheVariants as told
 use Rattle.sq_rows.specs.ClassRows.{ClassRow, with_question, with_took}
 use Rattle.sq_rows.specs.declared.said.Said.{Said}
 use Rattle.sq_rows.specs.declared.said.Stepped.{Stepped}

@@ -1,11 +1,11 @@
 -- Where a leaf acl holds: some value of its list meets its type's row (configuration reference, `acl`).
-use Rattle.std.specs.Prelude.{ℕ, List, [], ◌∷◌, Bool, false, if◌then◌else◌, ◌&&◌, ◌||◌, ◌==◌, nat_lt, nat_le, nat_eq, Some, None, bytes_eq}
-use Rattle.std.specs.List.{list_any, ends_with}
+use Rattle.std.specs.Prelude.{ℕ, List, [], ◌∷◌, Bool, false, ◌&&◌, nat_lt, nat_le, Some, None, bytes_eq}
+use Rattle.std.specs.List.{list_any}
 use Rattle.std.specs.Str.{str_to_ascii_lowercase, str_eq_ignore_ascii_case}
 use Rattle.std.specs.declared.option.Option.{Option}
 use Rattle.percent_encoding.specs.Percent.{percent_decode}
 use Rattle.sq_base.specs.Addresses.{Address}
-use Rattle.sq_base.specs.Bytes.{dot}
+use Rattle.sq_base.specs.Domains.{in_domain}
 use Rattle.sq_base.specs.Ranges.{in_range}
 use Rattle.sq_base.specs.declared.addresses.Range.{Range}
 use Rattle.sq_rules.specs.Patterns.{some_found}
@@ -18,11 +18,6 @@ use Rattle.sq_rules.specs.declared.sights.Sight.{Sight}
 abbrev pub in_ranges : List Range → Option Address → Bool
 in_ranges ranges None = false
 in_ranges ranges (Some a) = list_any (λ r. in_range r a) ranges
-
--- the host is the domain; one that begins with `.` stands for itself without it, and for all names below
-abbrev pub in_domain : List ℕ → List ℕ → Bool
-in_domain host [] = bytes_eq [] host
-in_domain host (b ∷ bs) = if b == dot then bytes_eq bs host || ends_with nat_eq host (b ∷ bs) else bytes_eq (b ∷ bs) host
 
 -- there is a scheme, and it is one of these without case
 abbrev pub has_scheme : List (List ℕ) → List ℕ → Bool

@@ -1,13 +1,5 @@
--- Limits of a machine and of a configuration.
-use Rattle.std.specs.Prelude.{ℕ, ◌-◌, ◌^◌}
-
--- the number that is never given: those below it are
-abbrev pub last_number : ℕ
-last_number = 2 ^ 63 - 1
-
--- connections that may be open at a time
-abbrev pub conn_limit : ℕ
-conn_limit = 65536
+-- Limits of a configuration.
+use Rattle.std.specs.Prelude.{ℕ}
 
 -- bytes of a configuration's text
 abbrev pub text_limit : ℕ
@@ -72,11 +64,3 @@ queue_limit = 1000000
 -- numbers of `maxconn` are below this
 abbrev pub maxconn_limit : ℕ
 maxconn_limit = 2147483648
-
--- bytes of the key of a question
-abbrev pub key_limit : ℕ
-key_limit = 8192
-
--- epochs that may have an open check
-abbrev pub epoch_limit : ℕ
-epoch_limit = 16

@@ -1,7 +1,7 @@
 //! Classes of helpers, as `external_acl_type` states them.
 ghost use Rattle.std.specs.Prelude.{◌≡◌};
 ghost use Rattle.std.specs.Cmp.Lexicographic.{pointwise};
-ghost use Rattle.sq_rules.specs.KeptLists.{is_alike, same_times, same_processes, same_token};
+ghost use Rattle.sq_rules.specs.AlikeClasses.{is_alike, same_times, same_processes, same_token};
 
 use sq_base::{Listed, Text, Texts};
 use std::marker::Model;

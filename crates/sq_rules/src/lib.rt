@@ -1,12 +1,11 @@
-//! The configuration as a value, the machine's events, and the definitions that all contracts cite.
+//! The configuration as a value, and the definitions of what its rules come to.
 //!
 //! `Config` holds what a configuration file says, with the invariant that every name is unique, every
 //! named place exists and is earlier, groups nest 32 deep at the most, and rules of delay pools ask no
-//! helper. `Entry` is one line of a journal: a moment, an event and its answer. `Facts` are the truth
-//! values of the leaf acls that a check looks at. The definitions of `specs/` say when a leaf acl holds
-//! (`Leaves`), which facts a check has (`Facts`), what a helper is asked (`Keys`), what terms and rules come
-//! to over its answers (`Values`, `Verdicts`) and by which acls (`Walks`), what a history of
-//! entries says of connections and checks (`Readings`), and what the machine answers next (`Machine`).
+//! helper. `Facts` are the truth values of the leaf acls that a check looks at. The definitions of `specs/`
+//! say which configuration a text states (`ConfText`), when a leaf acl holds (`Leaves`), which facts a check
+//! has (`Facts`), what a helper is asked (`Keys`), what terms and rules come to over its answers (`Values`,
+//! `Verdicts`) and by which acls (`Walks`).
 #![tactic(auto)]
 
 mod acl_changes;
@@ -17,11 +16,9 @@ mod class_table;
 mod classes;
 mod configs;
 mod directives;
-mod entries;
 mod facts;
 mod fast_lists;
 mod formats;
-mod kept;
 mod kinds;
 mod leaves;
 mod limits;
@@ -35,7 +32,6 @@ mod pools;
 mod predefined;
 mod reaching;
 mod rechecks;
-mod refusals;
 mod sights;
 mod values;
 
@@ -45,10 +41,8 @@ pub use class_table::ClassTable;
 pub use classes::{Class, Classes, Token, Tokens};
 pub use configs::{Acl, Acls, Body, Config, Lines, Rule, Rules, Term, Terms};
 pub use directives::{ClassOption, Directive};
-pub use entries::{Entry, Event, Offset, Told};
 pub use facts::Facts;
 pub use formats::with_arguments;
-pub use kept::KeptVerdict;
 pub use kinds::{ConfError, Kind};
 pub use leaves::{Find, Finds, Hour, Hours, Leaf, Numbers, PortRange, PortRanges};
 pub use limits::{
@@ -66,6 +60,5 @@ pub use parts::{
 pub use pools::{Limit, Limits, Pool, Pools};
 pub use predefined::predefined_acls;
 pub use reaching::asks_nobody;
-pub use refusals::Refusal;
 pub use sights::{Peer, Sight};
 pub use values::{TermValue, Value};

@@ -6,7 +6,7 @@ use Rattle.sq_outside.specs.World.{StartsMore}
 use Rattle.sq_pipes.specs.Pipes.{Changes, Fails}
 use Rattle.sq_calls.specs.Telling.{MayAct}
 use Rattle.sq_epochs.specs.declared.acts.Act.{Act}
-use Rattle.sq_rules.specs.Entries.{History}
+use Rattle.sq_machine.specs.Entries.{History}
 use Rattle.sq_serve.specs.Pumps.{Programs, PumpView}
 use Rattle.sq_serve.specs.Turning.{AddsEntryOf, IsProgram}
 use Rattle.sq_serve.specs.declared.turns.Left.{Left}

@@ -8,8 +8,8 @@ use Rattle.sq_calls.specs.declared.faults.DeskFault.TheVariants as fault
 use Rattle.sq_calls.specs.Telling.{CountsLine, CountsRefusal, IsDead, IsLine, Notes, got_told}
 use Rattle.sq_keeper.specs.declared.desk.LineEnd.{LineEnd}
 use Rattle.sq_keeper.specs.declared.desk.LineEnd.TheVariants as end
-use Rattle.sq_rules.specs.Entries.{History}
-use Rattle.sq_rules.specs.declared.entries.Told.TheVariants as told
+use Rattle.sq_machine.specs.Entries.{History}
+use Rattle.sq_machine.specs.declared.entries.Told.TheVariants as told
 
 -- no more lines are wanted exactly after a line that was bad or stray, a refusal, and a note that failed or would have come after one
 abbrev pub line_end : Result Got DeskFault → LineEnd

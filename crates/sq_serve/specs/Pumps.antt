@@ -3,7 +3,7 @@ use Rattle.std.specs.Prelude.{ℕ, List}
 use Rattle.std.specs.declared.option.Option.{Option}
 use Rattle.sq_outside.specs.World.{Starts}
 use Rattle.sq_pipes.specs.declared.pipes.Pipe.{Pipe}
-use Rattle.sq_rules.specs.Entries.{History}
+use Rattle.sq_machine.specs.Entries.{History}
 use Rattle.sq_calls.specs.Legality.{Beginning}
 use Rattle.sq_serve.specs.declared.turns.Left.{Left}
 use Rattle.sq_serve.specs.declared.turns.Reader.{Reader}

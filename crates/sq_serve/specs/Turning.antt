@@ -11,8 +11,8 @@ use Rattle.sq_epochs.specs.declared.acts.Act.{Act}
 use Rattle.sq_epochs.specs.declared.acts.Act.TheVariants as act
 use Rattle.sq_calls.specs.Legality.{Beginning}
 use Rattle.sq_calls.specs.Telling.{AddsOne, IsDead, IsFailed, IsNextAct, IsStarted, MayAct}
-use Rattle.sq_rules.specs.Entries.{History}
-use Rattle.sq_rules.specs.declared.entries.Told.TheVariants as answer
+use Rattle.sq_machine.specs.Entries.{History}
+use Rattle.sq_machine.specs.declared.entries.Told.TheVariants as answer
 use Rattle.sq_serve.specs.Pumps.{Programs, PumpView}
 use Rattle.sq_serve.specs.declared.turns.Left.{Left}
 use Rattle.sq_serve.specs.declared.turns.Left.TheVariants as left

@@ -3,7 +3,7 @@ use Rattle.std.proofs.Common.{◌≡◌, ℕ, ◌^◌, min, ap, ◌∙◌, arith
 use Rattle.std.specs.Option.{ForSome}
 use Rattle.std.specs.declared.option.Option.{Option}
 use Rattle.sq_outside.specs.Causes.{count_limit}
-use Rattle.sq_rules.specs.Entries.{History}
+use Rattle.sq_machine.specs.Entries.{History}
 use Rattle.sq_room.specs.Books.{asks_in}
 
 pub asks_summed : (told : Option History) (amount requests : ℕ) → ForSome told (λ h. amount ≡ asks_in h) → requests ≡ min amount count_limit

@@ -3,7 +3,7 @@ ghost use Rattle.std.specs.Prelude.{◌≡◌, ◌+◌, ◌<◌, ◌≤◌, ◌^
 ghost use Rattle.std.specs.Option.{ForSome};
 ghost use Rattle.sq_outside.specs.Causes.{count_limit};
 ghost use Rattle.sq_room.specs.Books.{asks_in};
-ghost use Rattle.sq_rules.specs.Readings.{current};
+ghost use Rattle.sq_machine.specs.Readings.{current};
 
 use sq_bank::Bank;
 use sq_calls::DeskCalls;

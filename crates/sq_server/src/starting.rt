@@ -1,9 +1,9 @@
 //! What a server begins with, and what it hands back.
 use sq_cache::HashSeed;
 use sq_calls::DeskFault;
+use sq_machine::Offset;
 use sq_panel::PanelEnd;
 use sq_pools::Pools;
-use sq_rules::Offset;
 use sq_urlmatch::Setup;
 
 /// What the machine begins with.

@@ -3,9 +3,9 @@ ghost use Rattle.std.specs.Prelude.{◌≡◌, ◌≤◌, ℕ, true};
 ghost use Rattle.sq_outside.specs.Causes.{Rose};
 
 use sq_base::WantOfMemory;
+use sq_machine::Entry;
 use sq_note::Journal;
 use sq_outside::Failed;
-use sq_rules::Entry;
 use std::marker::{Brand, PhantomData};
 
 /// The count of faults with which a journal began.

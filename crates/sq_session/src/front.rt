@@ -6,7 +6,7 @@ ghost use Rattle.sq_session.specs.Fronts.{FrontTold, OfOpen, OfDecide, OfSit, Of
 use sq_base::{Addr, Request};
 use sq_checks::Record;
 use sq_forward::Meter;
-use sq_rules::Refusal;
+use sq_machine::Refusal;
 use std::alloc::Global;
 
 /// What the opening of a connection comes to.

@@ -5,21 +5,20 @@ use Rattle.std.specs.Option.{option_map, option_map_or, option_or}
 use Rattle.std.proofs.lemmas.Grind.{flat_map-append}
 use Rattle.std.proofs.lemmas.Option.{none-some}
 use Rattle.sq_base.proofs.CommonLaws.{map_some, then_some}
-use Rattle.sq_rules.specs.declared.entries.Event.TheVariants.{Act}
-use Rattle.sq_rules.specs.declared.entries.Told.{Told}
-use Rattle.sq_rules.specs.declared.entries.Told.TheVariants as told
+use Rattle.sq_machine.specs.declared.entries.Event.TheVariants.{Act}
+use Rattle.sq_machine.specs.declared.entries.Told.{Told}
+use Rattle.sq_machine.specs.declared.entries.Told.TheVariants as told
 use Rattle.sq_rules.specs.Classes.{Class}
 use Rattle.sq_rules.specs.Configurations.{Configuration}
-use Rattle.sq_rules.specs.DueActs.{Place, first_made, first_of, live_places, next_act, places_of, send_at, sending_told, start_at, stop_of}
-use Rattle.sq_rules.specs.Epochs.{class_at, is_live, name_of_class}
-use Rattle.sq_rules.specs.FarmReadings.{farm_with}
-use Rattle.sq_rules.specs.Farms.{Sending, send_of, start_due}
-use Rattle.sq_rules.specs.FullNext.{act_next, full_next_at}
-use Rattle.sq_rules.specs.Machine.{config_of}
-use Rattle.sq_rules.specs.Marks.{Past, entries}
-use Rattle.sq_rules.specs.Numbered.{below, picks}
-use Rattle.sq_rules.specs.Processes.{proc_count, stop_due}
-use Rattle.sq_rules.specs.Readings.{current}
+use Rattle.sq_machine.specs.DueActs.{Place, first_made, first_of, live_places, next_act, places_of, send_at, sending_told, start_at, stop_of}
+use Rattle.sq_machine.specs.Epochs.{class_at, is_live, name_of_class, config_of}
+use Rattle.sq_machine.specs.FarmReadings.{farm_with}
+use Rattle.sq_machine.specs.Farms.{Sending, send_of, start_due}
+use Rattle.sq_machine.specs.Machine.{act_next, next_at}
+use Rattle.sq_machine.specs.Marks.{Past, entries}
+use Rattle.sq_machine.specs.Numbered.{below, picks}
+use Rattle.sq_machine.specs.Processes.{proc_count, stop_due}
+use Rattle.sq_machine.specs.Readings.{current}
 use Rattle.sq_rows.specs.ClassRows.{ClassRow, class_row}
 use Rattle.sq_history.specs.Given.{EachOf}
 use Rattle.sq_history.proofs.RowLaws.{picks_same}
@@ -150,8 +149,8 @@ due_is_next configs m s st =
         ∙ made_told (InLive m) (due_told s) f g (live_places configs (entries m)) e (each_place configs m (current (entries m)))
 
 -- what is answered to an act
-pub act_next_is : (configs : List Configuration) (m : Past) (s : State) (now : ℕ) → Stands configs m s → full_next_at configs m now Act ≡ act_answer s
-unfolding full_next_at
+pub act_next_is : (configs : List Configuration) (m : Past) (s : State) (now : ℕ) → Stands configs m s → next_at configs m now Act ≡ act_answer s
+unfolding next_at
 act_next_is configs m s now st = ap act_next (sym (due_is_next configs m s st)) ∙ by (due_in s)
   where
     by : (o : Option Due) → act_next (option_map (due_told s) o) ≡ act_of s o

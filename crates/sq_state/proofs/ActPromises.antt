@@ -1,19 +1,20 @@
 -- What is promised of acts, of starts that are settled and of reconfigurations.
 use Rattle.std.proofs.Common.{◌≡◌, ℕ, suc, ◌≤◌, List, true, false, not, ◌==◌, Option, Some, None, refl, sym, ap, subst, ◌∙◌}
 use Rattle.std.specs.Option.{option_map_or}
-use Rattle.sq_rules.specs.declared.entries.Event.TheVariants.{Act, Reconfigure, StartFail, Started}
-use Rattle.sq_rules.specs.declared.entries.Told.{Told}
-use Rattle.sq_rules.specs.declared.entries.Told.TheVariants as told
-use Rattle.sq_rules.specs.declared.refusals.Refusal.TheVariants as refusal
+use Rattle.sq_machine.specs.declared.entries.Event.TheVariants.{Act, Reconfigure, StartFail, Started}
+use Rattle.sq_machine.specs.declared.entries.Told.{Told}
+use Rattle.sq_machine.specs.declared.entries.Told.TheVariants as told
+use Rattle.sq_machine.specs.declared.refusals.Refusal.TheVariants as refusal
 use Rattle.sq_rules.specs.Configurations.{Configuration}
-use Rattle.sq_rules.specs.DueActs.{Place, sending_told}
-use Rattle.sq_rules.specs.Entries.{History}
-use Rattle.sq_rules.specs.Farms.{Sending}
-use Rattle.sq_rules.specs.FullNext.{full_next}
-use Rattle.sq_rules.specs.Machine.{config_of, gives, nothing}
-use Rattle.sq_rules.specs.Marking.{marked}
-use Rattle.sq_rules.specs.Marks.{Past, entries}
-use Rattle.sq_rules.specs.Readings.{current, latest}
+use Rattle.sq_machine.specs.DueActs.{Place, sending_told}
+use Rattle.sq_machine.specs.Entries.{History}
+use Rattle.sq_machine.specs.Farms.{Sending}
+use Rattle.sq_machine.specs.Machine.{next}
+use Rattle.sq_machine.specs.Epochs.{config_of}
+use Rattle.sq_machine.specs.Next.{gives, nothing}
+use Rattle.sq_machine.specs.Marking.{marked}
+use Rattle.sq_machine.specs.Marks.{Past, entries}
+use Rattle.sq_machine.specs.Readings.{current, latest}
 use Rattle.sq_rows.specs.ClassRows.{ClassRow}
 use Rattle.sq_history.proofs.LegalLaws.{marked_entries}
 use Rattle.sq_state.specs.Acts.{due_in, sends, starts, stops}
@@ -50,7 +51,7 @@ start_answered configs h s now p st late is =
 
 -- nothing is due
 pub none_due : (configs : List Configuration) (h : History) (s : State) (now : ℕ) → StandsFor configs h s → latest h ≤ now → due_in s ≡ None
-    → full_next configs (marked configs h) now Act ≡ nothing
+    → next configs (marked configs h) now Act ≡ nothing
 none_due configs h s now st late is = next_now configs h now Act late ∙ act_next_is configs (marked configs h) s now st.stands ∙ ap (act_of s) is
 
 -- the row of a class of which a start is open

@@ -5,22 +5,21 @@ use Rattle.std.proofs.lemmas.Bool.{and_parts}
 use Rattle.std.proofs.lemmas.Bool.Decides.{nat_tests}
 use Rattle.std.proofs.lemmas.Option.{none-some, same_Some}
 use Rattle.sq_base.proofs.CommonLaws.{map_some}
-use Rattle.sq_rules.specs.declared.entries.Event.TheVariants.{Act}
-use Rattle.sq_rules.specs.declared.entries.Told.{Told}
-use Rattle.sq_rules.specs.declared.entries.Told.TheVariants as told
-use Rattle.sq_rules.specs.Channels.{channel_name, least_free}
+use Rattle.sq_machine.specs.declared.entries.Event.TheVariants.{Act}
+use Rattle.sq_machine.specs.declared.entries.Told.{Told}
+use Rattle.sq_machine.specs.declared.entries.Told.TheVariants as told
+use Rattle.sq_machine.specs.Channels.{channel_name, least_free}
 use Rattle.sq_rules.specs.Classes.{Class}
 use Rattle.sq_rules.specs.Configurations.{Configuration}
-use Rattle.sq_rules.specs.DueActs.{Place, sending_told}
-use Rattle.sq_rules.specs.Entries.{History}
-use Rattle.sq_rules.specs.Epochs.{class_at, is_live}
-use Rattle.sq_rules.specs.FarmReadings.{farm_with, is_put_for, is_queued, living_of, waiting_of}
-use Rattle.sq_rules.specs.Farms.{Sending, Stock, Waiting, send_of, start_due}
-use Rattle.sq_rules.specs.Living.{Living, has_free, target}
-use Rattle.sq_rules.specs.Machine.{config_of}
-use Rattle.sq_rules.specs.Marks.{Past, entries}
-use Rattle.sq_rules.specs.Processes.{Home, home_of, is_at_home, is_running, is_stopped, proc_count, proc_end, runs_at, stop_due, stop_told}
-use Rattle.sq_rules.specs.Questions.{has_ended, put_count, put_of, sent_to}
+use Rattle.sq_machine.specs.DueActs.{Place, sending_told}
+use Rattle.sq_machine.specs.Entries.{History}
+use Rattle.sq_machine.specs.Epochs.{class_at, is_live, config_of}
+use Rattle.sq_machine.specs.FarmReadings.{farm_with, is_put_for, is_queued, living_of, waiting_of}
+use Rattle.sq_machine.specs.Farms.{Sending, Stock, Waiting, send_of, start_due}
+use Rattle.sq_machine.specs.Living.{Living, has_free, target}
+use Rattle.sq_machine.specs.Marks.{Past, entries}
+use Rattle.sq_machine.specs.Processes.{Home, home_of, is_at_home, is_running, is_stopped, proc_count, proc_end, runs_at, stop_due, stop_told}
+use Rattle.sq_machine.specs.Questions.{has_ended, put_count, put_of, sent_to}
 use Rattle.sq_rows.specs.CheckRows.{held_checks}
 use Rattle.sq_rows.specs.ClassRows.{ClassRow, after_sending, after_starting, class_part, class_row}
 use Rattle.sq_history.specs.MarkedEntries.{noted_at}

@@ -3,31 +3,31 @@ use Rattle.std.proofs.Common.{◌≡◌, ℕ, ℤ, suc, ◌-◌, List, [], ◌�
 use Rattle.std.specs.Option.{option_map}
 use Rattle.sq_base.specs.Addresses.{Address}
 use Rattle.sq_base.specs.declared.requests.Field.{Field}
-use Rattle.sq_rules.specs.declared.entries.Event.{Event}
-use Rattle.sq_rules.specs.declared.entries.Event.TheVariants.{Ask, Close, Open, Take}
-use Rattle.sq_rules.specs.declared.entries.Told.{Told}
-use Rattle.sq_rules.specs.declared.entries.Told.TheVariants as told
+use Rattle.sq_machine.specs.declared.entries.Event.{Event}
+use Rattle.sq_machine.specs.declared.entries.Event.TheVariants.{Ask, Close, Open, Take}
+use Rattle.sq_machine.specs.declared.entries.Told.{Told}
+use Rattle.sq_machine.specs.declared.entries.Told.TheVariants as told
 use Rattle.sq_rules.specs.declared.outcomes.Outcome.{Outcome}
-use Rattle.sq_rules.specs.declared.refusals.Refusal.{Refusal}
-use Rattle.sq_rules.specs.declared.refusals.Refusal.TheVariants as refusal
+use Rattle.sq_machine.specs.declared.refusals.Refusal.{Refusal}
+use Rattle.sq_machine.specs.declared.refusals.Refusal.TheVariants as refusal
 use Rattle.sq_rules.specs.declared.sights.Peer.{Peer}
-use Rattle.sq_rules.specs.Checks.{Asked, ask_count, ask_of, asked_by, check_open, is_done, more_if, open_check, peer_or_nobody}
+use Rattle.sq_machine.specs.Checks.{Asked, ask_count, ask_of, asked_by, check_open, is_done, more_if, open_check, peer_or_nobody, epoch_of}
 use Rattle.sq_rules.specs.Configurations.{Configuration}
-use Rattle.sq_rules.specs.Connections.{conns_of, is_address, open_count, peer_at}
-use Rattle.sq_rules.specs.DueActs.{Place}
-use Rattle.sq_rules.specs.Entries.{Noted}
-use Rattle.sq_rules.specs.Epochs.{is_live}
-use Rattle.sq_rules.specs.Events.{Asking, asking, begins_epoch, begun_offset}
-use Rattle.sq_rules.specs.FullNext.{full_next_at, outcome_over}
-use Rattle.sq_rules.specs.Limits.{conn_limit, last_number}
-use Rattle.sq_rules.specs.Machine.{Next, config_of, epoch_of, gives, next_at, refuse_if, refuse_open}
-use Rattle.sq_rules.specs.Marks.{Past, entries}
-use Rattle.sq_rules.specs.Readings.{current, epoch_after, offset_after, offset_of}
+use Rattle.sq_machine.specs.Connections.{conns_of, is_address, open_count, peer_at}
+use Rattle.sq_machine.specs.DueActs.{Place}
+use Rattle.sq_machine.specs.Entries.{Noted}
+use Rattle.sq_machine.specs.Epochs.{is_live, config_of}
+use Rattle.sq_machine.specs.Events.{Asking, asking, begins_epoch, begun_offset}
+use Rattle.sq_machine.specs.Machine.{next_at, outcome_over}
+use Rattle.sq_machine.specs.Limits.{conn_limit, last_number}
+use Rattle.sq_machine.specs.Next.{Next, gives, refuse_if, refuse_open}
+use Rattle.sq_machine.specs.Marks.{Past, entries}
+use Rattle.sq_machine.specs.Readings.{current, epoch_after, offset_after, offset_of}
 use Rattle.sq_rules.specs.Sights.{asked_request, minute_of_week}
 use Rattle.sq_rules.specs.Verdicts.{outcome_so_far}
-use Rattle.sq_rules.proofs.CheckLaws.{ask_count_more}
-use Rattle.sq_rules.proofs.ConnectionLaws.{conns_of_closed, conns_of_opened, conns_of_quiet, open_count_closed, open_count_opened, open_count_quiet, peer_at_more}
-use Rattle.sq_rules.proofs.ReadingLaws.{offset_of_more}
+use Rattle.sq_machine.proofs.CheckLaws.{ask_count_more}
+use Rattle.sq_machine.proofs.ConnectionLaws.{conns_of_closed, conns_of_opened, conns_of_quiet, open_count_closed, open_count_opened, open_count_quiet, peer_at_more}
+use Rattle.sq_machine.proofs.ReadingLaws.{offset_of_more}
 use Rattle.sq_rows.specs.CheckRows.{Held, begun, held_checks, held_of, held_on}
 use Rattle.sq_rows.specs.ClassRows.{class_part}
 use Rattle.sq_history.specs.ClassChanges.{touches_classes}
@@ -45,15 +45,15 @@ use Rattle.sq_state.proofs.EndStands.{NoProcs, NoneBack, homes_end, homes_stay, 
 
 -- what is answered to an `open`
 pub open_next : (configs : List Configuration) (m : Past) (s : State) (now c : ℕ) (addr : Address) (port : ℕ) → Stands configs m s
-    → full_next_at configs m now (Open c addr port) ≡ open_answer s c
-unfolding full_next_at next_at
+    → next_at configs m now (Open c addr port) ≡ open_answer s c
+unfolding next_at
 open_next configs m s now c addr port st =
     ap₂ (λ (o : Option Peer) (n : ℕ). refuse_if (is_some o) (refusal.ConnInUse c) (refuse_if (nat_le conn_limit n) (refusal.TooManyConns conn_limit) (gives told.Fine)))
     (sym (st.clients_are c)) (sym st.conns_are)
 
 -- what is answered to a `close`
-pub close_next : (configs : List Configuration) (m : Past) (s : State) (now c : ℕ) → Stands configs m s → full_next_at configs m now (Close c) ≡ close_answer s c
-unfolding full_next_at next_at
+pub close_next : (configs : List Configuration) (m : Past) (s : State) (now c : ℕ) → Stands configs m s → next_at configs m now (Close c) ≡ close_answer s c
+unfolding next_at
 close_next configs m s now c st = ap (λ (o : Option Peer). refuse_if (is_none o) (refusal.UnknownConn c) (gives told.Fine)) (sym (st.clients_are c))
 
 -- the open check of a connection, by the state
@@ -68,8 +68,8 @@ check_is configs m s c alone st =
 
 -- what is answered to an `ask`
 pub ask_next : (configs : List Configuration) (m : Past) (s : State) (now c : ℕ) (method target : List ℕ) (fields : List Field) → IsAlone (entries m) → Stands configs m s
-    → full_next_at configs m now (Ask c method target fields) ≡ ask_answer s c
-unfolding full_next_at next_at
+    → next_at configs m now (Ask c method target fields) ≡ ask_answer s c
+unfolding next_at
 ask_next configs m s now c method target fields alone st =
     ap₂ (λ (o : Option Peer) (n : ℕ). refuse_if (is_none o) (refusal.UnknownConn c) (refuse_open (open_check (entries m) c)
     (refuse_if (nat_le last_number (suc n)) (refusal.Spent (suc n)) (gives (told.Check (suc n))))))
@@ -79,8 +79,8 @@ ask_next configs m s now c method target fields alone st =
     (sym (check_is configs m s c alone st))
 
 -- what is answered to a `take`
-pub take_next : (configs : List Configuration) (m : Past) (s : State) (now n : ℕ) → Stands configs m s → full_next_at configs m now (Take n) ≡ take_answer s n
-unfolding full_next_at
+pub take_next : (configs : List Configuration) (m : Past) (s : State) (now n : ℕ) → Stands configs m s → next_at configs m now (Take n) ≡ take_answer s n
+unfolding next_at
 take_next configs m s now n st = by (check_open (entries m) n) refl ∙ ap (take_of_held s n) (sym (held_is configs m s n st))
   where
     by : (b : Bool) → check_open (entries m) n ≡ b
@@ -97,9 +97,9 @@ free_of None r rest t e = refl
 free_of (Some p) r rest t e = absurd (cc)
 
 -- a connection that is opened was not open
-free_conn : (configs : List Configuration) (m : Past) (now c : ℕ) (addr : Address) (port : ℕ) (answer : Told) → full_next_at configs m now (Open c addr port) ≡ gives answer
+free_conn : (configs : List Configuration) (m : Past) (now c : ℕ) (addr : Address) (port : ℕ) (answer : Told) → next_at configs m now (Open c addr port) ≡ gives answer
     → peer_at (entries m) c ≡ None
-unfolding full_next_at next_at
+unfolding next_at
 free_conn configs m now c addr port answer e = free_of (peer_at (entries m) c) _ _ answer e
 
 -- a connection that is there
@@ -112,13 +112,13 @@ there_of None r rest t e = absurd (cc)
 there_of (Some p) r rest t e = record { peer = p; is = refl }
 
 -- a connection that is closed was open
-open_conn : (configs : List Configuration) (m : Past) (now c : ℕ) (answer : Told) → full_next_at configs m now (Close c) ≡ gives answer → IsThere (peer_at (entries m) c)
-unfolding full_next_at next_at
+open_conn : (configs : List Configuration) (m : Past) (now c : ℕ) (answer : Told) → next_at configs m now (Close c) ≡ gives answer → IsThere (peer_at (entries m) c)
+unfolding next_at
 open_conn configs m now c answer e = there_of (peer_at (entries m) c) _ _ answer e
 
 -- a connection of this client opened
 pub open_stands : (configs : List Configuration) (m : Past) (s : State) (now c : ℕ) (addr : Address) (port : ℕ) (answer : Told) → Stands configs m s
-    → full_next_at configs m now (Open c addr port) ≡ gives answer
+    → next_at configs m now (Open c addr port) ≡ gives answer
     → Stands configs (noted_at now (Open c addr port) answer ∷ m) (after_open c (record { addr = addr; port = port }) now s)
 open_stands configs m s now c addr port answer st next = record {
   clients_are = λ d. ap (λ (o : Option Peer). if c == d then Some p else o) (st.clients_are d) ∙ sym (peer_at_more e (entries m) d);
@@ -230,7 +230,7 @@ shut_stands configs m s now event answer keep client conns from law st shut cs =
 
 -- a connection closed, with its check
 pub close_stands : (configs : List Configuration) (m : Past) (s : State) (now c : ℕ) (answer : Told) → Lawful configs m → Stands configs m s
-    → full_next_at configs m now (Close c) ≡ gives answer → Stands configs (noted_at now (Close c) answer ∷ m) (after_close c now s)
+    → next_at configs m now (Close c) ≡ gives answer → Stands configs (noted_at now (Close c) answer ∷ m) (after_close c now s)
 close_stands configs m s now c answer law st next =
     shut_stands configs m s now (Close c) answer (λ (h : Held). not (c == h.asked.conn)) (λ d. if c == d then None else s.client d) (s.conns - 1)
     (λ a. if is_of_client (s.client c) (λ p. is_address a p.addr) then s.from a - 1 else s.from a) law st

@@ -6,26 +6,25 @@ use Rattle.std.proofs.lemmas.Option.{same_Some}
 use Rattle.sq_base.specs.declared.helpers.Cause.{Cause}
 use Rattle.sq_base.specs.declared.helpers.Cause.TheVariants as cause
 use Rattle.sq_base.specs.declared.helpers.What.TheVariants as what
-use Rattle.sq_rules.specs.declared.entries.Event.{Event}
-use Rattle.sq_rules.specs.declared.entries.Event.TheVariants.{Died, Line}
-use Rattle.sq_rules.specs.declared.entries.Told.{Told}
-use Rattle.sq_rules.specs.declared.entries.Told.TheVariants as told
-use Rattle.sq_rules.specs.AnswerReadings.{answer_by}
-use Rattle.sq_rules.specs.Channels.{is_open}
+use Rattle.sq_machine.specs.declared.entries.Event.{Event}
+use Rattle.sq_machine.specs.declared.entries.Event.TheVariants.{Died, Line}
+use Rattle.sq_machine.specs.declared.entries.Told.{Told}
+use Rattle.sq_machine.specs.declared.entries.Told.TheVariants as told
+use Rattle.sq_machine.specs.AnswerReadings.{answer_by}
+use Rattle.sq_machine.specs.Channels.{is_open}
 use Rattle.sq_rules.specs.Classes.{Class}
 use Rattle.sq_rules.specs.Configurations.{Configuration}
-use Rattle.sq_rules.specs.DueActs.{Place}
-use Rattle.sq_rules.specs.Entries.{History}
-use Rattle.sq_rules.specs.Epochs.{is_live}
-use Rattle.sq_rules.specs.Events.{begins_epoch, is_number}
-use Rattle.sq_rules.specs.FarmReadings.{is_put_for}
-use Rattle.sq_rules.specs.Living.{slots_in}
-use Rattle.sq_rules.specs.Machine.{config_of}
-use Rattle.sq_rules.specs.Marks.{Marked, Past, Put, entries}
-use Rattle.sq_rules.specs.OpenLookups.{LookupRow, key_of}
-use Rattle.sq_rules.specs.Processes.{Home, home_of, is_at_home, is_line_end, is_stopped, line_end, lives_on, proc_count, proc_end, stop_due}
-use Rattle.sq_rules.specs.Questions.{has_ended, put_count, put_of, sent_to}
-use Rattle.sq_rules.specs.Readings.{current, epoch_after}
+use Rattle.sq_machine.specs.DueActs.{Place}
+use Rattle.sq_machine.specs.Entries.{History}
+use Rattle.sq_machine.specs.Epochs.{is_live, config_of}
+use Rattle.sq_machine.specs.Events.{begins_epoch, is_number}
+use Rattle.sq_machine.specs.FarmReadings.{is_put_for}
+use Rattle.sq_machine.specs.Living.{slots_in}
+use Rattle.sq_machine.specs.Marks.{Marked, Past, Put, entries}
+use Rattle.sq_machine.specs.OpenLookups.{LookupRow, key_of}
+use Rattle.sq_machine.specs.Processes.{Home, home_of, is_at_home, is_line_end, is_stopped, line_end, lives_on, proc_count, proc_end, stop_due}
+use Rattle.sq_machine.specs.Questions.{has_ended, put_count, put_of, sent_to}
+use Rattle.sq_machine.specs.Readings.{current, epoch_after}
 use Rattle.sq_rows.specs.CheckRows.{Ends, after_ends, ends_at, held_checks, served}
 use Rattle.sq_rows.specs.ClassRows.{ClassRow, after_death, class_row, is_asked, lookup_of, lookups}
 use Rattle.sq_history.specs.MarkedEntries.{LeavesChecks, noted_at}

@@ -3,17 +3,17 @@ use Rattle.std.proofs.Common.{◌≡◌, ℕ, suc, List, ◌∷◌, Bool, true, 
 use Rattle.std.specs.Option.{option_and_then, option_map, option_or}
 use Rattle.std.proofs.lemmas.Bool.{and_right}
 use Rattle.sq_base.specs.declared.helpers.Cause.{Cause}
-use Rattle.sq_rules.specs.declared.entries.Event.{Event}
-use Rattle.sq_rules.specs.declared.entries.Told.{Told}
-use Rattle.sq_rules.specs.Checks.{numbered}
+use Rattle.sq_machine.specs.declared.entries.Event.{Event}
+use Rattle.sq_machine.specs.declared.entries.Told.{Told}
+use Rattle.sq_machine.specs.Checks.{numbered}
 use Rattle.sq_rules.specs.Classes.{Class}
 use Rattle.sq_rules.specs.Configurations.{Configuration}
-use Rattle.sq_rules.specs.DueActs.{Place}
-use Rattle.sq_rules.specs.Entries.{History}
-use Rattle.sq_rules.specs.Epochs.{class_at, is_live, place_of_class}
-use Rattle.sq_rules.specs.Marks.{Past, entries}
-use Rattle.sq_rules.specs.Processes.{Home, ended_by, home_of, is_line_end, is_stopped, lives_on, proc_count, proc_end, started_by, stop_due, stops}
-use Rattle.sq_rules.specs.Readings.{current}
+use Rattle.sq_machine.specs.DueActs.{Place}
+use Rattle.sq_machine.specs.Entries.{History}
+use Rattle.sq_machine.specs.Epochs.{class_at, is_live, place_of_class}
+use Rattle.sq_machine.specs.Marks.{Past, entries}
+use Rattle.sq_machine.specs.Processes.{Home, ended_by, home_of, is_line_end, is_stopped, lives_on, proc_count, proc_end, started_by, stop_due, stops}
+use Rattle.sq_machine.specs.Readings.{current}
 use Rattle.sq_rows.specs.CheckRows.{Held, held_checks}
 use Rattle.sq_rows.specs.ClassRows.{ClassRow, class_part, class_row}
 use Rattle.sq_history.specs.Carried.{Carried, HasClass, NamesOnce}

@@ -8,20 +8,20 @@ use Rattle.sq_base.specs.declared.helpers.Answer.{Answer}
 use Rattle.sq_base.specs.declared.helpers.Cause.TheVariants as cause
 use Rattle.sq_base.specs.declared.helpers.What.{What}
 use Rattle.sq_base.specs.declared.helpers.What.TheVariants as what
-use Rattle.sq_rules.specs.declared.entries.Event.TheVariants.{StartFail}
-use Rattle.sq_rules.specs.declared.entries.Told.{Told}
-use Rattle.sq_rules.specs.AnswerReadings.{answer_by, last_wait}
-use Rattle.sq_rules.specs.Checks.{ask_count, check_open, numbered}
+use Rattle.sq_machine.specs.declared.entries.Event.TheVariants.{StartFail}
+use Rattle.sq_machine.specs.declared.entries.Told.{Told}
+use Rattle.sq_machine.specs.AnswerReadings.{answer_by, last_wait}
+use Rattle.sq_machine.specs.Checks.{ask_count, check_open, numbered}
 use Rattle.sq_rules.specs.Classes.{Class}
 use Rattle.sq_rules.specs.Configurations.{Configuration}
-use Rattle.sq_rules.specs.Epochs.{class_at, name_of_class}
-use Rattle.sq_rules.specs.FarmReadings.{farm_with, is_put_for, is_queued, waiting_of}
-use Rattle.sq_rules.specs.Farms.{Waiting, is_last_start}
-use Rattle.sq_rules.specs.Marks.{Past, Put, entries}
-use Rattle.sq_rules.specs.Numbered.{picks}
-use Rattle.sq_rules.specs.OpenLookups.{LookupRow, key_of}
-use Rattle.sq_rules.specs.Processes.{if_here, starting}
-use Rattle.sq_rules.specs.Questions.{has_ended, leaves_none, put_count, put_of, sent_to, unended}
+use Rattle.sq_machine.specs.Epochs.{class_at, name_of_class}
+use Rattle.sq_machine.specs.FarmReadings.{farm_with, is_put_for, is_queued, waiting_of}
+use Rattle.sq_machine.specs.Farms.{Waiting, is_last_start}
+use Rattle.sq_machine.specs.Marks.{Past, Put, entries}
+use Rattle.sq_machine.specs.Numbered.{picks}
+use Rattle.sq_machine.specs.OpenLookups.{LookupRow, key_of}
+use Rattle.sq_machine.specs.Processes.{if_here, starting}
+use Rattle.sq_machine.specs.Questions.{has_ended, leaves_none, put_count, put_of, sent_to, unended}
 use Rattle.sq_rows.specs.CheckRows.{Ends, Held, after_ends, ends_at, held_checks, held_of, served, served_by}
 use Rattle.sq_rows.specs.ClassRows.{class_row, is_asked, is_waiting, lookup_of, lookups}
 use Rattle.sq_history.specs.Carried.{NamesOnce}

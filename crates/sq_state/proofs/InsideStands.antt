@@ -2,22 +2,21 @@
 use Rattle.std.proofs.Common.{◌≡◌, ℕ, ℤ, List, ◌∷◌, Bool, true, false, ◌&&◌, ◌==◌, bytes_eq, if◌then◌else◌, Option, Some, None, refl, sym, ap, ap₂, subst, ◌∙◌}
 use Rattle.std.specs.Option.{option_map}
 use Rattle.std.proofs.lemmas.Bool.{and_parts}
-use Rattle.sq_rules.specs.declared.entries.Event.{Event}
-use Rattle.sq_rules.specs.declared.entries.Told.{Told}
-use Rattle.sq_rules.specs.Checks.{ask_count, more_if}
+use Rattle.sq_machine.specs.declared.entries.Event.{Event}
+use Rattle.sq_machine.specs.declared.entries.Told.{Told}
+use Rattle.sq_machine.specs.Checks.{ask_count, more_if}
 use Rattle.sq_rules.specs.Classes.{Class}
 use Rattle.sq_rules.specs.Configurations.{Configuration}
-use Rattle.sq_rules.specs.Connections.{peer_after, peer_at}
-use Rattle.sq_rules.specs.DueActs.{Place}
-use Rattle.sq_rules.specs.Epochs.{class_at, is_live}
-use Rattle.sq_rules.specs.Events.{Asking, ConnNews, asking, begun_offset, conn_news}
-use Rattle.sq_rules.specs.Machine.{config_of}
-use Rattle.sq_rules.specs.Marks.{Marked, Past, entries}
-use Rattle.sq_rules.specs.Processes.{lives_on, proc_count, stop_due}
-use Rattle.sq_rules.specs.Readings.{current, offset_after, offset_of}
-use Rattle.sq_rules.proofs.CheckLaws.{ask_count_more}
-use Rattle.sq_rules.proofs.ConnectionLaws.{conns_of_quiet, open_count_quiet, peer_at_more}
-use Rattle.sq_rules.proofs.ReadingLaws.{offset_of_more}
+use Rattle.sq_machine.specs.Connections.{peer_after, peer_at}
+use Rattle.sq_machine.specs.DueActs.{Place}
+use Rattle.sq_machine.specs.Epochs.{class_at, is_live, config_of}
+use Rattle.sq_machine.specs.Events.{Asking, ConnNews, asking, begun_offset, conn_news}
+use Rattle.sq_machine.specs.Marks.{Marked, Past, entries}
+use Rattle.sq_machine.specs.Processes.{lives_on, proc_count, stop_due}
+use Rattle.sq_machine.specs.Readings.{current, offset_after, offset_of}
+use Rattle.sq_machine.proofs.CheckLaws.{ask_count_more}
+use Rattle.sq_machine.proofs.ConnectionLaws.{conns_of_quiet, open_count_quiet, peer_at_more}
+use Rattle.sq_machine.proofs.ReadingLaws.{offset_of_more}
 use Rattle.sq_rows.specs.CheckRows.{held_checks}
 use Rattle.sq_rows.specs.ClassRows.{ClassRow, class_part, class_row}
 use Rattle.sq_history.specs.Carried.{NamesOnce}

@@ -4,16 +4,15 @@ use Rattle.std.specs.List.{find, list_any}
 use Rattle.std.specs.Option.{option_and_then, option_map_or}
 use Rattle.sq_rules.specs.declared.outcomes.Why.TheVariants as why
 use Rattle.sq_rules.specs.declared.values.Value.TheVariants as value
-use Rattle.sq_rules.specs.Checks.{check_open}
+use Rattle.sq_machine.specs.Checks.{check_open}
 use Rattle.sq_rules.specs.Configurations.{Configuration, IsConfiguration}
-use Rattle.sq_rules.specs.Entries.{History}
-use Rattle.sq_rules.specs.Epochs.{class_at, is_live}
-use Rattle.sq_rules.specs.FullNext.{FullLegal}
-use Rattle.sq_rules.specs.Machine.{config_of}
-use Rattle.sq_rules.specs.Marking.{marked}
-use Rattle.sq_rules.specs.Marks.{Past, entries}
-use Rattle.sq_rules.specs.Readings.{current}
-use Rattle.sq_rules.specs.StepRule.{value_over}
+use Rattle.sq_machine.specs.Entries.{History}
+use Rattle.sq_machine.specs.Epochs.{class_at, is_live, config_of}
+use Rattle.sq_machine.specs.Machine.{Legal}
+use Rattle.sq_machine.specs.Marking.{marked}
+use Rattle.sq_machine.specs.Marks.{Past, entries}
+use Rattle.sq_machine.specs.Readings.{current}
+use Rattle.sq_machine.specs.StepRule.{value_over}
 use Rattle.sq_rules.specs.Verdicts.{verdict_over}
 use Rattle.sq_rows.specs.CheckRows.{Held, held_at, held_checks, held_of}
 use Rattle.sq_rows.specs.ClassRows.{class_part}
@@ -44,7 +43,7 @@ pub record Lawful (configs : List Configuration) (m : Past) : Type 0 where
   pub puts : PutsStand configs m
 
 -- so it is, where each configuration is one
-pub lawful : (configs : List Configuration) (h : History) → EachOf IsConfiguration configs → FullLegal configs h → Lawful configs (marked configs h)
+pub lawful : (configs : List Configuration) (h : History) → EachOf IsConfiguration configs → Legal configs h → Lawful configs (marked configs h)
 lawful configs h good legal =
     let once : NamesOnce configs = names_once configs good in
     record {

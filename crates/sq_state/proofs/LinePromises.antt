@@ -2,21 +2,21 @@
 use Rattle.std.proofs.Common.{◌≡◌, ℕ, ◌≤◌, List, true, false, Option, Some, is_none, refl, ap, ◌∙◌}
 use Rattle.sq_base.specs.declared.helpers.Cause.TheVariants as cause
 use Rattle.sq_base.specs.declared.helpers.Reply.{Reply}
-use Rattle.sq_rules.specs.declared.entries.Event.TheVariants.{Died, Line}
-use Rattle.sq_rules.specs.declared.entries.Told.TheVariants as told
-use Rattle.sq_rules.specs.declared.refusals.Refusal.TheVariants as refusal
-use Rattle.sq_rules.specs.Channels.{Channels}
+use Rattle.sq_machine.specs.declared.entries.Event.TheVariants.{Died, Line}
+use Rattle.sq_machine.specs.declared.entries.Told.TheVariants as told
+use Rattle.sq_machine.specs.declared.refusals.Refusal.TheVariants as refusal
+use Rattle.sq_machine.specs.Channels.{Channels}
 use Rattle.sq_rules.specs.Classes.{Class}
 use Rattle.sq_rules.specs.Configurations.{Configuration}
-use Rattle.sq_rules.specs.DueActs.{Place}
-use Rattle.sq_rules.specs.Entries.{History}
-use Rattle.sq_rules.specs.FullNext.{full_next, full_next_at}
-use Rattle.sq_rules.specs.Machine.{gives, refuse_if}
-use Rattle.sq_rules.specs.Marking.{marked}
-use Rattle.sq_rules.specs.OpenLookups.{key_of}
-use Rattle.sq_rules.specs.Questions.{what_of}
-use Rattle.sq_rules.specs.Readings.{latest}
-use Rattle.sq_rules.specs.Transcripts.{LineIs, OnFree, Outside, ReplyTo, line_is, line_told}
+use Rattle.sq_machine.specs.DueActs.{Place}
+use Rattle.sq_machine.specs.Entries.{History}
+use Rattle.sq_machine.specs.Machine.{next, next_at}
+use Rattle.sq_machine.specs.Next.{gives, refuse_if}
+use Rattle.sq_machine.specs.Marking.{marked}
+use Rattle.sq_machine.specs.OpenLookups.{key_of}
+use Rattle.sq_machine.specs.Questions.{what_of}
+use Rattle.sq_machine.specs.Readings.{latest}
+use Rattle.sq_machine.specs.Transcripts.{LineIs, OnFree, Outside, ReplyTo, line_is, line_told}
 use Rattle.sq_rows.specs.ClassRows.{ClassRow}
 use Rattle.sq_state.specs.Answers.{channels_in, died_answer, line_answer, line_of}
 use Rattle.sq_state.specs.Changes.{after_end_at, after_reply_at}
@@ -30,16 +30,16 @@ use Rattle.sq_state.proofs.ReplyStands.{reply_stands}
 
 -- what is answered to a line
 pub line_told_to : (configs : List Configuration) (h : History) (s : State) (now k : ℕ) (bytes : List ℕ) → StandsFor configs h s → latest h ≤ now
-    → full_next configs (marked configs h) now (Line k bytes) ≡ line_answer s k bytes
+    → next configs (marked configs h) now (Line k bytes) ≡ line_answer s k bytes
 line_told_to configs h s now k bytes st late = next_now configs h now (Line k bytes) late ∙ line_next configs (marked configs h) s now k bytes (law_of configs h s st) st.stands
 
 -- what is answered to a death
-pub died_told : (configs : List Configuration) (h : History) (s : State) (now k : ℕ) → StandsFor configs h s → latest h ≤ now → full_next configs (marked configs h) now (Died k) ≡ died_answer s k
+pub died_told : (configs : List Configuration) (h : History) (s : State) (now k : ℕ) → StandsFor configs h s → latest h ≤ now → next configs (marked configs h) now (Died k) ≡ died_answer s k
 died_told configs h s now k st late = next_now configs h now (Died k) late ∙ died_next configs (marked configs h) s now k (law_of configs h s st) st.stands
 
 -- a line of a process is answered by what it is on its channels
 line_by_channels : (configs : List Configuration) (h : History) (s : State) (now k : ℕ) (bytes : List ℕ) (channels : Channels) (is : LineIs) → StandsFor configs h s → channels_in s k ≡ Some channels
-    → line_is channels bytes ≡ is → full_next_at configs (marked configs h) now (Line k bytes) ≡ gives (line_told is)
+    → line_is channels bytes ≡ is → next_at configs (marked configs h) now (Line k bytes) ≡ gives (line_told is)
 line_by_channels configs h s now k bytes channels is st at line =
     line_next configs (marked configs h) s now k bytes (law_of configs h s st) st.stands ∙ ap (line_of k bytes) at ∙ ap (λ (l : LineIs). gives (line_told l)) line
 

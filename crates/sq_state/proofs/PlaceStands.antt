@@ -3,23 +3,23 @@ use Rattle.std.proofs.Common.{◌≡◌, ℕ, List, [], ◌∷◌, find, cond, B
 use Rattle.std.specs.Option.{option_map, option_map_or}
 use Rattle.std.proofs.lemmas.Bool.{and_parts}
 use Rattle.std.proofs.lemmas.Option.{none-some, same_Some}
-use Rattle.sq_rules.specs.declared.entries.Event.TheVariants.{Died, Line}
-use Rattle.sq_rules.specs.declared.entries.Told.{Told}
-use Rattle.sq_rules.specs.declared.entries.Told.TheVariants as told
-use Rattle.sq_rules.specs.declared.refusals.Refusal.TheVariants as refusal
+use Rattle.sq_machine.specs.declared.entries.Event.TheVariants.{Died, Line}
+use Rattle.sq_machine.specs.declared.entries.Told.{Told}
+use Rattle.sq_machine.specs.declared.entries.Told.TheVariants as told
+use Rattle.sq_machine.specs.declared.refusals.Refusal.TheVariants as refusal
 use Rattle.sq_rules.specs.Classes.{Class}
 use Rattle.sq_rules.specs.Configurations.{Configuration}
-use Rattle.sq_rules.specs.DueActs.{Place}
-use Rattle.sq_rules.specs.Entries.{History}
-use Rattle.sq_rules.specs.Epochs.{class_at, is_live, place_of_class}
-use Rattle.sq_rules.specs.FarmReadings.{living_of}
-use Rattle.sq_rules.specs.FullNext.{full_next_at, told_of_line}
-use Rattle.sq_rules.specs.Living.{Living, find_proc}
-use Rattle.sq_rules.specs.Machine.{gives, refuse_if}
-use Rattle.sq_rules.specs.Marks.{Past, entries}
-use Rattle.sq_rules.specs.Numbered.{rows}
-use Rattle.sq_rules.specs.Processes.{Home, home_of, is_at_home, is_running, lives_on, proc_count, runs_at}
-use Rattle.sq_rules.specs.Transcripts.{channels_of, line_is, line_told}
+use Rattle.sq_machine.specs.DueActs.{Place}
+use Rattle.sq_machine.specs.Entries.{History}
+use Rattle.sq_machine.specs.Epochs.{class_at, is_live, place_of_class}
+use Rattle.sq_machine.specs.FarmReadings.{living_of}
+use Rattle.sq_machine.specs.Machine.{next_at, told_of_line}
+use Rattle.sq_machine.specs.Living.{Living, find_proc}
+use Rattle.sq_machine.specs.Next.{gives, refuse_if}
+use Rattle.sq_machine.specs.Marks.{Past, entries}
+use Rattle.sq_machine.specs.Numbered.{rows}
+use Rattle.sq_machine.specs.Processes.{Home, home_of, is_at_home, is_running, lives_on, proc_count, runs_at}
+use Rattle.sq_machine.specs.Transcripts.{channels_of, line_is, line_told}
 use Rattle.sq_rows.specs.ClassRows.{ClassRow, class_row}
 use Rattle.sq_history.proofs.ClassParts.{bytes_itself, bytes_same, itself}
 use Rattle.sq_history.proofs.ElsewhereLaws.{place_named}
@@ -128,8 +128,8 @@ told_there configs m k bytes p law l =
 
 -- what is answered to a line
 pub line_next : (configs : List Configuration) (m : Past) (s : State) (now k : ℕ) (bytes : List ℕ) → Lawful configs m → Stands configs m s
-    → full_next_at configs m now (Line k bytes) ≡ line_answer s k bytes
-unfolding full_next_at
+    → next_at configs m now (Line k bytes) ≡ line_answer s k bytes
+unfolding next_at
 line_next configs m s now k bytes law st = by (lives_on (entries m) k) refl (st.homes_are k)
   where
     by : (b : Bool) → lives_on (entries m) k ≡ b → s.home k ≡ (if b then place_of configs (entries m) k else None)
@@ -141,6 +141,6 @@ line_next configs m s now k bytes law st = by (lives_on (entries m) k) refl (st.
         sym (ap (λ (o : Option Place). line_of k bytes (option_and_then (λ (p : Place). option_and_then (λ (r : ClassRow). find_proc k r.stock.procs) (s.row p.epoch p.class)) o)) home)
 
 -- what is answered to a death
-pub died_next : (configs : List Configuration) (m : Past) (s : State) (now k : ℕ) → Lawful configs m → Stands configs m s → full_next_at configs m now (Died k) ≡ died_answer s k
-unfolding full_next_at
+pub died_next : (configs : List Configuration) (m : Past) (s : State) (now k : ℕ) → Lawful configs m → Stands configs m s → next_at configs m now (Died k) ≡ died_answer s k
+unfolding next_at
 died_next configs m s now k law st = ap (λ (b : Bool). refuse_if b (refusal.UnknownProc k) (gives told.Fine)) (sym (home_is_none configs m s k law st))

@@ -3,22 +3,24 @@ use Rattle.std.proofs.Common.{◌≡◌, ℕ, ℤ, ◌≤◌, max, List, [], ◌
 use Rattle.sq_base.specs.Addresses.{Address}
 use Rattle.sq_base.specs.Targets.{target_of}
 use Rattle.sq_base.specs.declared.requests.Field.{Field}
-use Rattle.sq_rules.specs.declared.entries.Event.{Event}
-use Rattle.sq_rules.specs.declared.entries.Event.TheVariants.{Ask, Begin, Close, Grant, Leave, Open, Seat, Take}
-use Rattle.sq_rules.specs.declared.entries.Told.{Told}
-use Rattle.sq_rules.specs.declared.entries.Told.TheVariants as told
+use Rattle.sq_machine.specs.declared.entries.Event.{Event}
+use Rattle.sq_machine.specs.declared.entries.Event.TheVariants.{Ask, Begin, Close, Grant, Leave, Open, Seat, Take}
+use Rattle.sq_machine.specs.declared.entries.Told.{Told}
+use Rattle.sq_machine.specs.declared.entries.Told.TheVariants as told
 use Rattle.sq_rules.specs.Configurations.{Configuration, IsConfiguration}
-use Rattle.sq_rules.specs.Entries.{History}
-use Rattle.sq_rules.specs.FullNext.{FullLegal, full_next, full_next_at}
-use Rattle.sq_rules.specs.Machine.{config_of, gives, has_target, is_begin}
-use Rattle.sq_rules.specs.Marking.{marked}
-use Rattle.sq_rules.specs.Marks.{entries}
-use Rattle.sq_rules.specs.Readings.{counted_moment, latest}
+use Rattle.sq_machine.specs.Entries.{History, entry_at}
+use Rattle.sq_machine.specs.Machine.{Legal, next, next_at}
+use Rattle.sq_machine.specs.Epochs.{config_of}
+use Rattle.sq_machine.specs.Events.{has_target, is_begin}
+use Rattle.sq_machine.specs.Next.{gives}
+use Rattle.sq_machine.specs.Marking.{marked}
+use Rattle.sq_machine.specs.Marks.{entries}
+use Rattle.sq_machine.specs.Readings.{counted_moment, latest}
 use Rattle.sq_history.specs.Given.{EachOf}
 use Rattle.sq_history.proofs.LegalLaws.{marked_entries}
 use Rattle.sq_state.specs.Answers.{ask_answer, asked_in, close_answer, open_answer, take_answer}
 use Rattle.sq_state.specs.Changes.{after_ask, after_close, after_open, after_take, first_state}
-use Rattle.sq_state.specs.Promises.{IsAnswered, StandsFor, entry_at}
+use Rattle.sq_state.specs.Promises.{IsAnswered, StandsFor}
 use Rattle.sq_state.specs.Sources.{IsSourced}
 use Rattle.sq_state.specs.States.{IsSame, Stands, State, is_of_pools, machine_moment}
 use Rattle.sq_state.proofs.ConnStands.{ask_next, ask_stands, close_next, close_stands, open_next, open_stands, take_next, take_stands}
@@ -30,7 +32,7 @@ pub law_of : (configs : List Configuration) (h : History) (s : State) → Stands
 law_of configs h s st = lawful configs h st.good st.legal
 
 -- no entry of the machine is later than the newest
-pub machine_first : (configs : List Configuration) (h : History) → FullLegal configs h → machine_moment h ≤ latest h
+pub machine_first : (configs : List Configuration) (h : History) → Legal configs h → machine_moment h ≤ latest h
 machine_first configs [] legal = absurd legal
 machine_first configs (e ∷ []) legal = by (is_of_pools e.event)
   where
@@ -56,10 +58,10 @@ moment_is configs h s moment st late =
 
 -- so the next answer at a moment is that at the moment that counts
 pub next_moment : (configs : List Configuration) (h : History) (s : State) (moment : ℕ) (event : Event) → StandsFor configs h s → latest h ≤ max moment s.latest
-    → full_next configs (marked configs h) moment event ≡ full_next configs (marked configs h) (max moment s.latest) event
-unfolding full_next
+    → next configs (marked configs h) moment event ≡ next configs (marked configs h) (max moment s.latest) event
+unfolding next
 next_moment configs h s moment event st late =
-    ap (λ (n : ℕ). full_next_at configs (marked configs h) n event) (counts moment late ∙ sym (counts (max moment s.latest) (omega arith) ∙ same))
+    ap (λ (n : ℕ). next_at configs (marked configs h) n event) (counts moment late ∙ sym (counts (max moment s.latest) (omega arith) ∙ same))
   where
     counts : (k : ℕ) → latest h ≤ max k s.latest → counted_moment (entries (marked configs h)) k ≡ max k s.latest
     counts k l = ap (λ (g : History). counted_moment g k) (marked_entries configs h) ∙ moment_is configs h s k st l
@@ -69,21 +71,21 @@ next_moment configs h s moment event st late =
 
 -- at a moment that is none of the past
 pub next_now : (configs : List Configuration) (h : History) (now : ℕ) (event : Event) → latest h ≤ now
-    → full_next configs (marked configs h) now event ≡ full_next_at configs (marked configs h) now event
-unfolding full_next
+    → next configs (marked configs h) now event ≡ next_at configs (marked configs h) now event
+unfolding next
 next_now configs h now event late =
     let same : max now (latest h) ≡ now = omega arith in
-    ap (λ (n : ℕ). full_next_at configs (marked configs h) n event) (ap (λ (g : History). counted_moment g now) (marked_entries configs h) ∙ same)
+    ap (λ (n : ℕ). next_at configs (marked configs h) n event) (ap (λ (g : History). counted_moment g now) (marked_entries configs h) ∙ same)
 
 -- a legal history stays so with the next answer
-pub legal_more : (configs : List Configuration) (h : History) (now : ℕ) (event : Event) (answer : Told) → FullLegal configs h → is_begin event ≡ false → has_target event ≡ true
-    → latest h ≤ now → full_next configs (marked configs h) now event ≡ gives answer → FullLegal configs (entry_at now event answer ∷ h)
+pub legal_more : (configs : List Configuration) (h : History) (now : ℕ) (event : Event) (answer : Told) → Legal configs h → is_begin event ≡ false → has_target event ≡ true
+    → latest h ≤ now → next configs (marked configs h) now event ≡ gives answer → Legal configs (entry_at now event answer ∷ h)
 legal_more configs [] now event answer legal b t late next = absurd legal
 legal_more configs (f ∷ h) now event answer legal b t late next = (legal, b, t, late, next)
 
 -- what is answered so, where the answer is the next and a state stands for what it leaves
 pub answered_so : (configs : List Configuration) (h : History) (s after : State) (now : ℕ) (event : Event) (answer : Told) → StandsFor configs h s → is_begin event ≡ false → has_target event ≡ true
-    → IsSourced configs h event → latest h ≤ now → full_next_at configs (marked configs h) now event ≡ gives answer → Stands configs (marked configs (entry_at now event answer ∷ h)) after
+    → IsSourced configs h event → latest h ≤ now → next_at configs (marked configs h) now event ≡ gives answer → Stands configs (marked configs (entry_at now event answer ∷ h)) after
     → IsAnswered configs h now event answer after
 answered_so configs h s after now event answer st b t source late next stands =
     let is = next_now configs h now event late ∙ next in
@@ -131,18 +133,18 @@ first_for configs config offset now good is = record { good = good; legal = (ref
 
 -- a seat that is answered leaves the state
 pub seat_answered : (configs : List Configuration) (h : History) (s : State) (now c : ℕ) (answer : Told) → StandsFor configs h s → latest h ≤ now
-    → full_next_at configs (marked configs h) now (Seat c) ≡ gives answer → IsAnswered configs h now (Seat c) answer s
+    → next_at configs (marked configs h) now (Seat c) ≡ gives answer → IsAnswered configs h now (Seat c) answer s
 seat_answered configs h s now c answer st late next =
     answered_so configs h s s now (Seat c) answer st refl refl tt late next (seat_stands configs (marked configs h) s now c answer st.stands)
 
 -- so does a grant
 pub grant_answered : (configs : List Configuration) (h : History) (s : State) (now n wanted : ℕ) (answer : Told) → StandsFor configs h s → latest h ≤ now
-    → full_next_at configs (marked configs h) now (Grant n wanted) ≡ gives answer → IsAnswered configs h now (Grant n wanted) answer s
+    → next_at configs (marked configs h) now (Grant n wanted) ≡ gives answer → IsAnswered configs h now (Grant n wanted) answer s
 grant_answered configs h s now n wanted answer st late next =
     answered_so configs h s s now (Grant n wanted) answer st refl refl tt late next (grant_stands configs (marked configs h) s now n wanted answer st.stands)
 
 -- and a seat that is left
 pub leave_answered : (configs : List Configuration) (h : History) (s : State) (now n : ℕ) (answer : Told) → StandsFor configs h s → latest h ≤ now
-    → full_next_at configs (marked configs h) now (Leave n) ≡ gives answer → IsAnswered configs h now (Leave n) answer s
+    → next_at configs (marked configs h) now (Leave n) ≡ gives answer → IsAnswered configs h now (Leave n) answer s
 leave_answered configs h s now n answer st late next =
     answered_so configs h s s now (Leave n) answer st refl refl tt late next (leave_stands configs (marked configs h) s now n answer st.stands)

@@ -2,25 +2,24 @@
 use Rattle.std.proofs.Common.{◌≡◌, ℕ, ℤ, List, [], ◌∷◌, Bool, true, false, ◌||◌, ◌==◌, if◌then◌else◌, slice_get, Option, Some, None, refl, sym, ap, ◌∙◌}
 use Rattle.std.specs.Option.{option_and_then, option_map}
 use Rattle.sq_base.specs.Addresses.{Address}
-use Rattle.sq_rules.specs.declared.entries.Event.{Event}
-use Rattle.sq_rules.specs.declared.entries.Event.TheVariants.{Begin, Seat, Grant, Leave}
-use Rattle.sq_rules.specs.declared.entries.Told.{Told}
-use Rattle.sq_rules.specs.Checks.{ask_count, check_open, more_if}
+use Rattle.sq_machine.specs.declared.entries.Event.{Event}
+use Rattle.sq_machine.specs.declared.entries.Event.TheVariants.{Begin, Seat, Grant, Leave}
+use Rattle.sq_machine.specs.declared.entries.Told.{Told}
+use Rattle.sq_machine.specs.Checks.{ask_count, check_open, more_if}
 use Rattle.sq_rules.specs.Classes.{Class}
 use Rattle.sq_rules.specs.Configurations.{Configuration}
-use Rattle.sq_rules.specs.Connections.{conns_of, open_besides, open_count, peer_after, peer_at}
-use Rattle.sq_rules.specs.Entries.{Noted}
-use Rattle.sq_rules.specs.Epochs.{is_live}
-use Rattle.sq_rules.specs.Events.{Asking, ConnNews, begins_epoch, begun_offset, conn_news}
-use Rattle.sq_rules.specs.Machine.{config_of}
-use Rattle.sq_rules.specs.Marking.{marked}
-use Rattle.sq_rules.specs.Marks.{Past, entries}
-use Rattle.sq_rules.specs.Numbered.{rows}
-use Rattle.sq_rules.specs.Questions.{end_at}
-use Rattle.sq_rules.specs.Readings.{current, epoch_after, offset_after, offset_of}
-use Rattle.sq_rules.proofs.CheckLaws.{ask_count_more}
-use Rattle.sq_rules.proofs.ConnectionLaws.{conns_of_quiet, open_count_quiet, peer_at_more}
-use Rattle.sq_rules.proofs.ReadingLaws.{offset_of_more}
+use Rattle.sq_machine.specs.Connections.{conns_of, open_besides, open_count, peer_after, peer_at}
+use Rattle.sq_machine.specs.Entries.{Noted}
+use Rattle.sq_machine.specs.Epochs.{is_live, config_of}
+use Rattle.sq_machine.specs.Events.{Asking, ConnNews, begins_epoch, begun_offset, conn_news}
+use Rattle.sq_machine.specs.Marking.{marked}
+use Rattle.sq_machine.specs.Marks.{Past, entries}
+use Rattle.sq_machine.specs.Numbered.{rows}
+use Rattle.sq_machine.specs.Questions.{end_at}
+use Rattle.sq_machine.specs.Readings.{current, epoch_after, offset_after, offset_of}
+use Rattle.sq_machine.proofs.CheckLaws.{ask_count_more}
+use Rattle.sq_machine.proofs.ConnectionLaws.{conns_of_quiet, open_count_quiet, peer_at_more}
+use Rattle.sq_machine.proofs.ReadingLaws.{offset_of_more}
 use Rattle.sq_rows.specs.CheckRows.{Held, held_checks, held_of}
 use Rattle.sq_rows.specs.ClassRows.{class_part, class_row, new_row}
 use Rattle.sq_history.specs.Carried.{IsUnused}

@@ -4,23 +4,24 @@ use Rattle.std.specs.Option.{option_map, option_map_or}
 use Rattle.std.proofs.lemmas.List.Quantifiers.{position-Some}
 use Rattle.std.proofs.lemmas.Option.{slice_get-get_or}
 use Rattle.sq_base.proofs.CommonLaws.{then_some}
-use Rattle.sq_rules.specs.declared.entries.Event.TheVariants.{Reconfigure}
-use Rattle.sq_rules.specs.declared.entries.Told.{Told}
-use Rattle.sq_rules.specs.declared.entries.Told.TheVariants as told
-use Rattle.sq_rules.specs.declared.refusals.Refusal.TheVariants as refusal
+use Rattle.sq_machine.specs.declared.entries.Event.TheVariants.{Reconfigure}
+use Rattle.sq_machine.specs.declared.entries.Told.{Told}
+use Rattle.sq_machine.specs.declared.entries.Told.TheVariants as told
+use Rattle.sq_machine.specs.declared.refusals.Refusal.TheVariants as refusal
 use Rattle.sq_rules.specs.Classes.{Class}
 use Rattle.sq_rules.specs.Configurations.{Configuration}
-use Rattle.sq_rules.specs.DueActs.{Place}
-use Rattle.sq_rules.specs.Epochs.{busy_epochs, class_at, has_open_check, is_live}
-use Rattle.sq_rules.specs.FullNext.{full_next_at}
-use Rattle.sq_rules.specs.KeptLists.{KeptList, is_alike}
-use Rattle.sq_rules.specs.KeptReadings.{alike_place, kept}
-use Rattle.sq_rules.specs.Limits.{epoch_limit, last_number}
-use Rattle.sq_rules.specs.Machine.{config_of, gives, refuse_if}
-use Rattle.sq_rules.specs.Marks.{Marked, Past, entries}
-use Rattle.sq_rules.specs.Numbered.{picks}
-use Rattle.sq_rules.specs.Processes.{Home, home_of, is_at_home}
-use Rattle.sq_rules.specs.Readings.{current}
+use Rattle.sq_machine.specs.DueActs.{Place}
+use Rattle.sq_machine.specs.Epochs.{busy_epochs, class_at, has_open_check, is_live, config_of}
+use Rattle.sq_machine.specs.Machine.{next_at}
+use Rattle.sq_rules.specs.AlikeClasses.{is_alike}
+use Rattle.sq_machine.specs.KeptLists.{KeptList}
+use Rattle.sq_machine.specs.KeptReadings.{alike_place, kept}
+use Rattle.sq_machine.specs.Limits.{epoch_limit, last_number}
+use Rattle.sq_machine.specs.Next.{gives, refuse_if}
+use Rattle.sq_machine.specs.Marks.{Marked, Past, entries}
+use Rattle.sq_machine.specs.Numbered.{picks}
+use Rattle.sq_machine.specs.Processes.{Home, home_of, is_at_home}
+use Rattle.sq_machine.specs.Readings.{current}
 use Rattle.sq_rows.specs.CheckRows.{Held, held_checks}
 use Rattle.sq_rows.specs.ClassRows.{ClassRow, class_part, class_row, new_row}
 use Rattle.sq_history.specs.MarkedEntries.{noted_at}
@@ -43,8 +44,8 @@ busy_is configs m s st =
 
 -- what is answered to a reconfiguration
 pub reconfigure_next : (configs : List Configuration) (m : Past) (s : State) (now : ℕ) (text : List ℕ) → Stands configs m s
-    → full_next_at configs m now (Reconfigure text) ≡ reconfigure_answer s
-unfolding full_next_at
+    → next_at configs m now (Reconfigure text) ≡ reconfigure_answer s
+unfolding next_at
 reconfigure_next configs m s now text st =
     ap₂ (λ (n busy : ℕ). refuse_if (nat_le last_number (suc n)) (refusal.Spent (suc n)) (refuse_if (nat_le epoch_limit busy) (refusal.TooManyEpochs epoch_limit) (gives (told.Epoch (suc n)))))
     (sym st.current_is) (sym (busy_is configs m s st))

@@ -6,19 +6,18 @@ use Rattle.std.proofs.lemmas.Option.{none-some, same_Some}
 use Rattle.sq_base.specs.declared.helpers.Reply.{Reply}
 use Rattle.sq_base.specs.declared.helpers.What.{What}
 use Rattle.sq_base.specs.Replies.{reply_of}
-use Rattle.sq_rules.specs.declared.entries.Event.TheVariants.{Line}
-use Rattle.sq_rules.specs.declared.entries.Told.TheVariants as told
-use Rattle.sq_rules.specs.Channels.{Channels}
+use Rattle.sq_machine.specs.declared.entries.Event.TheVariants.{Line}
+use Rattle.sq_machine.specs.declared.entries.Told.TheVariants as told
+use Rattle.sq_machine.specs.Channels.{Channels}
 use Rattle.sq_rules.specs.Classes.{Class}
 use Rattle.sq_rules.specs.Configurations.{Configuration}
-use Rattle.sq_rules.specs.DueActs.{Place}
-use Rattle.sq_rules.specs.Epochs.{is_live}
-use Rattle.sq_rules.specs.FarmReadings.{is_put_for}
-use Rattle.sq_rules.specs.Machine.{config_of}
-use Rattle.sq_rules.specs.Marks.{Marked, Past, Put, entries}
-use Rattle.sq_rules.specs.OpenLookups.{LookupRow, key_of}
-use Rattle.sq_rules.specs.Questions.{has_ended, put_count, put_of, said_by, what_of}
-use Rattle.sq_rules.specs.Transcripts.{ReplyTo, channels_of, line_is, line_told}
+use Rattle.sq_machine.specs.DueActs.{Place}
+use Rattle.sq_machine.specs.Epochs.{is_live, config_of}
+use Rattle.sq_machine.specs.FarmReadings.{is_put_for}
+use Rattle.sq_machine.specs.Marks.{Marked, Past, Put, entries}
+use Rattle.sq_machine.specs.OpenLookups.{LookupRow, key_of}
+use Rattle.sq_machine.specs.Questions.{has_ended, put_count, put_of, said_by, what_of}
+use Rattle.sq_machine.specs.Transcripts.{ReplyTo, channels_of, line_is, line_told}
 use Rattle.sq_rows.specs.CheckRows.{Ends, after_ends, ends_at, held_checks, one_end, served}
 use Rattle.sq_rows.specs.ClassRows.{ClassRow, after_reply, class_row, is_asked, lookup_of, lookups}
 use Rattle.sq_history.specs.MarkedEntries.{noted_at}

@@ -7,20 +7,20 @@ use Rattle.std.proofs.lemmas.Option.{same_Some}
 use Rattle.sq_base.specs.declared.helpers.Answer.{Answer}
 use Rattle.sq_base.specs.declared.helpers.Cause.TheVariants as cause
 use Rattle.sq_base.specs.declared.helpers.What.TheVariants as what
-use Rattle.sq_rules.specs.declared.entries.Event.TheVariants.{StartFail, Started}
-use Rattle.sq_rules.specs.declared.entries.Told.{Told}
-use Rattle.sq_rules.specs.declared.entries.Told.TheVariants as told
-use Rattle.sq_rules.specs.declared.refusals.Refusal.{Refusal}
-use Rattle.sq_rules.specs.declared.refusals.Refusal.TheVariants as refusal
+use Rattle.sq_machine.specs.declared.entries.Event.TheVariants.{StartFail, Started}
+use Rattle.sq_machine.specs.declared.entries.Told.{Told}
+use Rattle.sq_machine.specs.declared.entries.Told.TheVariants as told
+use Rattle.sq_machine.specs.declared.refusals.Refusal.{Refusal}
+use Rattle.sq_machine.specs.declared.refusals.Refusal.TheVariants as refusal
 use Rattle.sq_rules.specs.Classes.{Class}
 use Rattle.sq_rules.specs.Configurations.{Configuration}
-use Rattle.sq_rules.specs.DueActs.{Place}
-use Rattle.sq_rules.specs.Epochs.{class_at, is_live}
-use Rattle.sq_rules.specs.FullNext.{full_next_at, has_start, with_place}
-use Rattle.sq_rules.specs.Limits.{last_number}
-use Rattle.sq_rules.specs.Machine.{Next, config_of, gives, refuse_if}
-use Rattle.sq_rules.specs.Marks.{Marked, Past, entries}
-use Rattle.sq_rules.specs.Processes.{Home, home_of, is_stopped, lives_on, proc_count, proc_end, starting, stop_due}
+use Rattle.sq_machine.specs.DueActs.{Place}
+use Rattle.sq_machine.specs.Epochs.{class_at, is_live, config_of}
+use Rattle.sq_machine.specs.Machine.{next_at, has_start, with_place}
+use Rattle.sq_machine.specs.Limits.{last_number}
+use Rattle.sq_machine.specs.Next.{Next, gives, refuse_if}
+use Rattle.sq_machine.specs.Marks.{Marked, Past, entries}
+use Rattle.sq_machine.specs.Processes.{Home, home_of, is_stopped, lives_on, proc_count, proc_end, starting, stop_due}
 use Rattle.sq_rows.specs.CheckRows.{Ends, Held, after_ends, ends_at, held_checks, served, served_by}
 use Rattle.sq_rows.specs.ClassRows.{ClassRow, after_failed, after_started, class_row}
 use Rattle.sq_history.specs.Carried.{NamesOnce}
@@ -56,8 +56,8 @@ start_open configs m s p class st at =
 
 -- what is answered where a process was started
 pub started_next : (configs : List Configuration) (m : Past) (s : State) (now : ℕ) (p : Place) (class : Class) → NamesOnce configs → Stands configs m s
-    → class_at configs p.epoch p.class ≡ Some class → full_next_at configs m now (Started p.epoch class.name) ≡ started_answer s p
-unfolding full_next_at
+    → class_at configs p.epoch p.class ≡ Some class → next_at configs m now (Started p.epoch class.name) ≡ started_answer s p
+unfolding next_at
 started_next configs m s now p class once st at =
     ap (λ (o : Option ℕ). with_place o (λ place. refuse_if (not (has_start (entries m) p.epoch class.name)) (refusal.NoStartOpen p.epoch place)
     (refuse_if (nat_le last_number (suc (proc_count (entries m)))) (refusal.Spent (suc (proc_count (entries m)))) (gives (told.Proc (suc (proc_count (entries m))))))))
@@ -67,8 +67,8 @@ started_next configs m s now p class once st at =
 
 -- and where a start failed
 pub failed_next : (configs : List Configuration) (m : Past) (s : State) (now : ℕ) (p : Place) (class : Class) → NamesOnce configs → Stands configs m s
-    → class_at configs p.epoch p.class ≡ Some class → full_next_at configs m now (StartFail p.epoch class.name) ≡ failed_answer s p
-unfolding full_next_at
+    → class_at configs p.epoch p.class ≡ Some class → next_at configs m now (StartFail p.epoch class.name) ≡ failed_answer s p
+unfolding next_at
 failed_next configs m s now p class once st at =
     ap (λ (o : Option ℕ). with_place o (λ place. refuse_if (not (has_start (entries m) p.epoch class.name)) (refusal.NoStartOpen p.epoch place) (gives told.Fine)))
     (place_named configs p.epoch p.class class once at)
@@ -94,7 +94,7 @@ is_open_start m p class t =
 
 -- a process was started
 pub started_stands : (configs : List Configuration) (m : Past) (s : State) (now : ℕ) (p : Place) (class : Class) (answer : Told) → Lawful configs m → Stands configs m s
-    → class_at configs p.epoch p.class ≡ Some class → full_next_at configs m now (Started p.epoch class.name) ≡ gives answer
+    → class_at configs p.epoch p.class ≡ Some class → next_at configs m now (Started p.epoch class.name) ≡ gives answer
     → Stands configs (noted_at now (Started p.epoch class.name) answer ∷ m) (after_started_at p now s)
 started_stands configs m s now p class answer law st at told_so =
     stands_inside configs m s now (Started p.epoch class.name) answer (after_started_at p now s)
@@ -179,7 +179,7 @@ served_asked ends h = by (option_and_then ends h.waits)
 
 -- a start failed
 pub failed_stands : (configs : List Configuration) (m : Past) (s : State) (now : ℕ) (p : Place) (class : Class) (answer : Told) → Lawful configs m → Stands configs m s
-    → class_at configs p.epoch p.class ≡ Some class → full_next_at configs m now (StartFail p.epoch class.name) ≡ gives answer
+    → class_at configs p.epoch p.class ≡ Some class → next_at configs m now (StartFail p.epoch class.name) ≡ gives answer
     → Stands configs (noted_at now (StartFail p.epoch class.name) answer ∷ m) (after_failed_at p now s)
 failed_stands configs m s now p class answer law st at told_so =
     stands_inside configs m s now (StartFail p.epoch class.name) answer (after_failed_at p now s)

@@ -1,24 +1,24 @@
 -- What is promised of a step.
 use Rattle.std.proofs.Common.{◌≡◌, ℕ, suc, ◌≤◌, List, ◌∷◌, Bool, true, false, ◌&&◌, nat_le, Some, None, is_some, refl, sym, ap, subst, ◌∙◌}
-use Rattle.sq_rules.specs.declared.entries.Event.TheVariants.{Step}
-use Rattle.sq_rules.specs.declared.entries.Told.{Told}
-use Rattle.sq_rules.specs.declared.entries.Told.TheVariants as told
-use Rattle.sq_rules.specs.declared.refusals.Refusal.{Refusal}
-use Rattle.sq_rules.specs.declared.refusals.Refusal.TheVariants as refusal
+use Rattle.sq_machine.specs.declared.entries.Event.TheVariants.{Step}
+use Rattle.sq_machine.specs.declared.entries.Told.{Told}
+use Rattle.sq_machine.specs.declared.entries.Told.TheVariants as told
+use Rattle.sq_machine.specs.declared.refusals.Refusal.{Refusal}
+use Rattle.sq_machine.specs.declared.refusals.Refusal.TheVariants as refusal
 use Rattle.sq_rules.specs.Configurations.{Configuration}
-use Rattle.sq_rules.specs.Entries.{History}
-use Rattle.sq_rules.specs.FullNext.{full_next, step_next}
-use Rattle.sq_rules.specs.Limits.{last_number}
-use Rattle.sq_rules.specs.Machine.{gives, refuse_if}
-use Rattle.sq_rules.specs.Marking.{marked}
-use Rattle.sq_rules.specs.Readings.{latest}
-use Rattle.sq_rules.specs.StepRule.{StepSays}
+use Rattle.sq_machine.specs.Entries.{History, entry_at}
+use Rattle.sq_machine.specs.Machine.{next, step_next}
+use Rattle.sq_machine.specs.Limits.{last_number}
+use Rattle.sq_machine.specs.Next.{gives, refuse_if}
+use Rattle.sq_machine.specs.Marking.{marked}
+use Rattle.sq_machine.specs.Readings.{latest}
+use Rattle.sq_machine.specs.StepRule.{StepSays}
 use Rattle.sq_rows.specs.CheckRows.{Held, held_at}
 use Rattle.sq_history.proofs.ConfigurationLaws.{names_once}
 use Rattle.sq_history.proofs.WaitLaws.{waiting_says}
 use Rattle.sq_state.specs.Answers.{step_answer, step_of_held}
 use Rattle.sq_state.specs.Changes.{after_step_of}
-use Rattle.sq_state.specs.Promises.{IsAnswered, StandsFor, entry_at}
+use Rattle.sq_state.specs.Promises.{IsAnswered, StandsFor}
 use Rattle.sq_state.specs.Says.{says_in}
 use Rattle.sq_state.specs.States.{Stands, State}
 use Rattle.sq_state.proofs.PromiseLaws.{answered_so, law_of, next_now}
@@ -26,7 +26,7 @@ use Rattle.sq_state.proofs.StepStands.{found_held, says_is, step_marked, step_ne
 
 -- what is answered to a step
 pub step_told : (configs : List Configuration) (h : History) (s : State) (now n : ℕ) → StandsFor configs h s → latest h ≤ now
-    → full_next configs (marked configs h) now (Step n) ≡ step_answer s n now
+    → next configs (marked configs h) now (Step n) ≡ step_answer s n now
 step_told configs h s now n st late = next_now configs h now (Step n) late ∙ step_next_is configs (marked configs h) s now n (law_of configs h s st) st.stands
 
 -- a step of a check that waits says to wait for the same question, puts nothing and takes nothing

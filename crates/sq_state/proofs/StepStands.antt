@@ -4,27 +4,27 @@ use Rattle.std.specs.List.{list_any}
 use Rattle.std.specs.Option.{option_and_then, option_map, option_map_or}
 use Rattle.std.proofs.lemmas.Bool.{or_right}
 use Rattle.std.proofs.lemmas.Option.{none-some, same_Some}
-use Rattle.sq_rules.specs.declared.entries.Event.TheVariants.{Step}
+use Rattle.sq_machine.specs.declared.entries.Event.TheVariants.{Step}
 use Rattle.sq_rules.specs.declared.outcomes.Why.TheVariants as why
-use Rattle.sq_rules.specs.declared.refusals.Refusal.TheVariants as refusal
+use Rattle.sq_machine.specs.declared.refusals.Refusal.TheVariants as refusal
 use Rattle.sq_rules.specs.declared.values.Value.{Value}
 use Rattle.sq_rules.specs.declared.values.Value.TheVariants as value
-use Rattle.sq_rules.specs.AnswerReadings.{waits_told}
-use Rattle.sq_rules.specs.Checks.{Asked, check_open}
+use Rattle.sq_machine.specs.AnswerReadings.{waits_told}
+use Rattle.sq_machine.specs.Checks.{Asked, check_open}
 use Rattle.sq_rules.specs.Classes.{Class}
 use Rattle.sq_rules.specs.Configurations.{Configuration}
-use Rattle.sq_rules.specs.Epochs.{class_at, is_live}
-use Rattle.sq_rules.specs.FullNext.{full_next_at, step_next}
-use Rattle.sq_rules.specs.Machine.{config_of, refuse_if}
-use Rattle.sq_rules.specs.Marking.{mark}
-use Rattle.sq_rules.specs.Marks.{Marked, Past, entries}
-use Rattle.sq_rules.specs.Questions.{put_count, unended}
-use Rattle.sq_rules.specs.Readings.{current}
-use Rattle.sq_rules.specs.StepRule.{StepSays, class_of_acl, says_at_place, says_of_class, says_value, step_says, value_over}
+use Rattle.sq_machine.specs.Epochs.{class_at, is_live, config_of}
+use Rattle.sq_machine.specs.Machine.{next_at, step_next}
+use Rattle.sq_machine.specs.Next.{refuse_if}
+use Rattle.sq_machine.specs.Marking.{mark}
+use Rattle.sq_machine.specs.Marks.{Marked, Past, entries}
+use Rattle.sq_machine.specs.Questions.{put_count, unended}
+use Rattle.sq_machine.specs.Readings.{current}
+use Rattle.sq_machine.specs.StepRule.{StepSays, class_of_acl, says_at_place, says_of_class, says_value, step_says, value_over}
 use Rattle.sq_rules.specs.Verdicts.{verdict_over}
-use Rattle.sq_rules.proofs.CheckLaws.{ask_count_more}
-use Rattle.sq_rules.proofs.ConnectionLaws.{conns_of_quiet, open_count_quiet, peer_at_more}
-use Rattle.sq_rules.proofs.ReadingLaws.{offset_of_more}
+use Rattle.sq_machine.proofs.CheckLaws.{ask_count_more}
+use Rattle.sq_machine.proofs.ConnectionLaws.{conns_of_quiet, open_count_quiet, peer_at_more}
+use Rattle.sq_machine.proofs.ReadingLaws.{offset_of_more}
 use Rattle.sq_rows.specs.CheckRows.{Held, after_step, held_at, held_checks, held_of, stepped}
 use Rattle.sq_rows.specs.ClassRows.{ClassRow, class_part, class_row}
 use Rattle.sq_rows.specs.StepRows.{says_of_row}
@@ -114,8 +114,8 @@ says_is configs m s now n law st opened =
         ∙ by_place key (option_and_then (λ config. class_of_acl config.acls acl) (config_of configs e))
 
 -- what is answered to a step
-pub step_next_is : (configs : List Configuration) (m : Past) (s : State) (now n : ℕ) → Lawful configs m → Stands configs m s → full_next_at configs m now (Step n) ≡ step_answer s n now
-unfolding full_next_at
+pub step_next_is : (configs : List Configuration) (m : Past) (s : State) (now n : ℕ) → Lawful configs m → Stands configs m s → next_at configs m now (Step n) ≡ step_answer s n now
+unfolding next_at
 step_next_is configs m s now n law st = by (check_open (entries m) n) refl ∙ sym (ap (step_of_held s n now) (held_is configs m s n st))
   where
     by : (b : Bool) → check_open (entries m) n ≡ b

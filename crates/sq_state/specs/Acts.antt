@@ -3,9 +3,9 @@ use Rattle.std.specs.Prelude.{ℕ, List, map, length, Some, None, if◌then◌el
 use Rattle.std.specs.List.{flat_map}
 use Rattle.std.specs.Option.{option_and_then, option_map, option_map_or, option_or}
 use Rattle.std.specs.declared.option.Option.{Option}
-use Rattle.sq_rules.specs.DueActs.{Place, first_made, first_of}
-use Rattle.sq_rules.specs.Farms.{Sending, send_of, start_due}
-use Rattle.sq_rules.specs.Numbered.{below, picks}
+use Rattle.sq_machine.specs.DueActs.{Place, first_made, first_of}
+use Rattle.sq_machine.specs.Farms.{Sending, send_of, start_due}
+use Rattle.sq_machine.specs.Numbered.{below, picks}
 use Rattle.sq_state.specs.States.{State, live}
 
 -- an act: the stop of a process, a send of the class at a place, or a start of it

@@ -4,20 +4,20 @@ use Rattle.std.specs.List.{list_any}
 use Rattle.std.specs.Option.{option_and_then, option_map, option_map_or}
 use Rattle.std.specs.declared.option.Option.{Option}
 use Rattle.sq_base.specs.declared.requests.Field.{Field}
-use Rattle.sq_rules.specs.declared.entries.Told.{Told}
-use Rattle.sq_rules.specs.declared.entries.Told.TheVariants as told
-use Rattle.sq_rules.specs.declared.refusals.Refusal.TheVariants as refusal
+use Rattle.sq_machine.specs.declared.entries.Told.{Told}
+use Rattle.sq_machine.specs.declared.entries.Told.TheVariants as told
+use Rattle.sq_machine.specs.declared.refusals.Refusal.TheVariants as refusal
 use Rattle.sq_rules.specs.declared.sights.Sight.{Sight}
-use Rattle.sq_rules.specs.Channels.{Channels}
-use Rattle.sq_rules.specs.Checks.{Asked, peer_or_nobody}
-use Rattle.sq_rules.specs.DueActs.{Place, sending_told}
-use Rattle.sq_rules.specs.FullNext.{step_next}
-use Rattle.sq_rules.specs.Limits.{conn_limit, epoch_limit, last_number}
-use Rattle.sq_rules.specs.Living.{find_proc}
-use Rattle.sq_rules.specs.Machine.{Next, gives, nothing, refuse_if, refuse_open, refuses}
-use Rattle.sq_rules.specs.Numbered.{picks}
+use Rattle.sq_machine.specs.Channels.{Channels}
+use Rattle.sq_machine.specs.Checks.{Asked, peer_or_nobody}
+use Rattle.sq_machine.specs.DueActs.{Place, sending_told}
+use Rattle.sq_machine.specs.Machine.{step_next}
+use Rattle.sq_machine.specs.Limits.{conn_limit, epoch_limit, last_number}
+use Rattle.sq_machine.specs.Living.{find_proc}
+use Rattle.sq_machine.specs.Next.{Next, gives, nothing, refuse_if, refuse_open, refuses}
+use Rattle.sq_machine.specs.Numbered.{picks}
 use Rattle.sq_rules.specs.Sights.{asked_request, minute_of_week}
-use Rattle.sq_rules.specs.Transcripts.{line_is, line_told}
+use Rattle.sq_machine.specs.Transcripts.{line_is, line_told}
 use Rattle.sq_rows.specs.CheckRows.{Held, held_at, held_on}
 use Rattle.sq_state.specs.Acts.{Due, due_in, sends, starts, stops}
 use Rattle.sq_state.specs.Says.{class_in, outcome_in, says_in}

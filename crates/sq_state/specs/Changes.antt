@@ -8,17 +8,18 @@ use Rattle.sq_base.specs.declared.helpers.Cause.TheVariants as cause
 use Rattle.sq_base.specs.declared.helpers.What.{What}
 use Rattle.sq_base.specs.declared.helpers.What.TheVariants as what
 use Rattle.sq_rules.specs.declared.sights.Peer.{Peer}
-use Rattle.sq_rules.specs.Channels.{is_open}
-use Rattle.sq_rules.specs.Checks.{Asked}
+use Rattle.sq_machine.specs.Channels.{is_open}
+use Rattle.sq_machine.specs.Checks.{Asked}
 use Rattle.sq_rules.specs.Classes.{Class}
 use Rattle.sq_rules.specs.Configurations.{Configuration}
-use Rattle.sq_rules.specs.Connections.{is_address}
-use Rattle.sq_rules.specs.DueActs.{Place}
-use Rattle.sq_rules.specs.Farms.{is_last_start}
-use Rattle.sq_rules.specs.KeptLists.{KeptList, is_alike}
-use Rattle.sq_rules.specs.Living.{slots_in}
-use Rattle.sq_rules.specs.OpenLookups.{key_of}
-use Rattle.sq_rules.specs.StepRule.{StepSays}
+use Rattle.sq_machine.specs.Connections.{is_address}
+use Rattle.sq_machine.specs.DueActs.{Place}
+use Rattle.sq_machine.specs.Farms.{is_last_start}
+use Rattle.sq_rules.specs.AlikeClasses.{is_alike}
+use Rattle.sq_machine.specs.KeptLists.{KeptList}
+use Rattle.sq_machine.specs.Living.{slots_in}
+use Rattle.sq_machine.specs.OpenLookups.{key_of}
+use Rattle.sq_machine.specs.StepRule.{StepSays}
 use Rattle.sq_rows.specs.CheckRows.{Ends, Held, after_ends, after_step, begun, one_end, without_check, without_conn}
 use Rattle.sq_rows.specs.ClassRows.{ClassRow, after_death, after_failed, after_reply, after_sending, after_started, after_starting, is_waiting, new_row}
 use Rattle.sq_history.specs.ClassChanges.{after_said}

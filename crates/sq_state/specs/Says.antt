@@ -7,7 +7,7 @@ use Rattle.sq_rules.specs.declared.outcomes.Why.TheVariants as why
 use Rattle.sq_rules.specs.declared.values.Value.{Value}
 use Rattle.sq_rules.specs.declared.values.Value.TheVariants as value
 use Rattle.sq_rules.specs.Classes.{Class}
-use Rattle.sq_rules.specs.StepRule.{StepSays, class_of_acl, says_done}
+use Rattle.sq_machine.specs.StepRule.{StepSays, class_of_acl, says_done}
 use Rattle.sq_rules.specs.Verdicts.{outcome_so_far, verdict_over}
 use Rattle.sq_rows.specs.CheckRows.{Held}
 use Rattle.sq_rows.specs.ClassRows.{ClassRow}

@@ -1,11 +1,11 @@
 -- Which text an epoch began by.
 use Rattle.std.specs.Prelude.{◌≡◌, suc, List, [], ◌∷◌, Some}
-use Rattle.sq_rules.specs.declared.entries.Event.{Event}
-use Rattle.sq_rules.specs.declared.entries.Event.TheVariants.{Reconfigure}
+use Rattle.sq_machine.specs.declared.entries.Event.{Event}
+use Rattle.sq_machine.specs.declared.entries.Event.TheVariants.{Reconfigure}
 use Rattle.sq_rules.specs.Configurations.{Configuration}
-use Rattle.sq_rules.specs.Entries.{History}
-use Rattle.sq_rules.specs.Machine.{config_of}
-use Rattle.sq_rules.specs.Readings.{current}
+use Rattle.sq_machine.specs.Entries.{History}
+use Rattle.sq_machine.specs.Epochs.{config_of}
+use Rattle.sq_machine.specs.Readings.{current}
 
 -- the text of a reconfiguration is the source of the configuration of the epoch that it begins
 abbrev pub IsSourced : List Configuration → History → Event → Type 0

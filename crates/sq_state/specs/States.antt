@@ -4,20 +4,19 @@ use Rattle.std.specs.List.{list_any}
 use Rattle.std.specs.Option.{option_and_then, option_map}
 use Rattle.std.specs.declared.option.Option.{Option}
 use Rattle.sq_base.specs.Addresses.{Address}
-use Rattle.sq_rules.specs.declared.entries.Event.{Event}
-use Rattle.sq_rules.specs.declared.entries.Event.TheVariants.{Seat, Grant, Leave}
+use Rattle.sq_machine.specs.declared.entries.Event.{Event}
+use Rattle.sq_machine.specs.declared.entries.Event.TheVariants.{Seat, Grant, Leave}
 use Rattle.sq_rules.specs.declared.sights.Peer.{Peer}
-use Rattle.sq_rules.specs.Checks.{ask_count}
+use Rattle.sq_machine.specs.Checks.{ask_count}
 use Rattle.sq_rules.specs.Configurations.{Configuration}
-use Rattle.sq_rules.specs.Connections.{conns_of, open_count, peer_at}
-use Rattle.sq_rules.specs.DueActs.{Place}
-use Rattle.sq_rules.specs.Entries.{History}
-use Rattle.sq_rules.specs.Epochs.{is_live, place_of_class}
-use Rattle.sq_rules.specs.Machine.{config_of}
-use Rattle.sq_rules.specs.Marks.{Past, entries}
-use Rattle.sq_rules.specs.Processes.{home_of, lives_on, proc_count, stop_due}
-use Rattle.sq_rules.specs.Questions.{put_count}
-use Rattle.sq_rules.specs.Readings.{current, offset_of}
+use Rattle.sq_machine.specs.Connections.{conns_of, open_count, peer_at}
+use Rattle.sq_machine.specs.DueActs.{Place}
+use Rattle.sq_machine.specs.Entries.{History}
+use Rattle.sq_machine.specs.Epochs.{is_live, place_of_class, config_of}
+use Rattle.sq_machine.specs.Marks.{Past, entries}
+use Rattle.sq_machine.specs.Processes.{home_of, lives_on, proc_count, stop_due}
+use Rattle.sq_machine.specs.Questions.{put_count}
+use Rattle.sq_machine.specs.Readings.{current, offset_of}
 use Rattle.sq_rows.specs.CheckRows.{Held, held_checks}
 use Rattle.sq_rows.specs.ClassRows.{ClassRow, class_part}
 

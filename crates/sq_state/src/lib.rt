@@ -9,5 +9,5 @@
 mod moments;
 mod outcomes;
 
-pub use moments::{later, minute_of_week};
+pub use moments::minute_of_week;
 pub use outcomes::copy_outcome;

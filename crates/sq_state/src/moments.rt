@@ -1,9 +1,10 @@
 //! Moments: the later of two, and what a check sees of the one when it begins.
-ghost use Rattle.std.specs.Prelude.{◌≡◌, ◌≤◌, max};
+ghost use Rattle.std.specs.Prelude.{◌≡◌, ◌≤◌};
 ghost use Rattle.sq_rules.specs.Sights.{local_seconds, minute_of_day, minute_of_week, weekday};
 
 use sq_base::Moment;
-use sq_rules::{DAY_MINUTES, Offset};
+use sq_machine::Offset;
+use sq_rules::DAY_MINUTES;
 
 /// The seconds of a day.
 const DAY: i64 = 86_400;
@@ -37,11 +38,4 @@ pub fn minute_of_week(moment: Moment, offset: Offset) -> u32
 {
     let seconds = local_seconds(moment, offset);
     (weekday(seconds) * DAY_MINUTES as u64 + minute_of_day(seconds)) as u32
-}
-
-/// The later of two moments: a clock that fell stays at the latest.
-pub fn later(now: Moment, latest: Moment) -> Moment
-    ensures { result ≡ max now latest }
-{
-    Moment(now.0.max(latest.0))
 }

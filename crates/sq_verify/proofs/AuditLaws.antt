@@ -7,16 +7,15 @@ use Rattle.sq_base.specs.declared.requests.Field.{Field}
 use Rattle.sq_outside.specs.SourceLines.{Line, lines}
 use Rattle.sq_request.specs.Heads.{at_target, most_fields, request_with}
 use Rattle.sq_request.specs.Written.{is_written}
-use Rattle.sq_rules.specs.declared.entries.Event.{Event}
-use Rattle.sq_rules.specs.declared.entries.Event.TheVariants.{Ask, Begin, Reconfigure}
+use Rattle.sq_machine.specs.declared.entries.Event.{Event}
+use Rattle.sq_machine.specs.declared.entries.Event.TheVariants.{Ask, Begin, Reconfigure}
 use Rattle.sq_rules.specs.Configurations.{Configuration, IsConfiguration}
-use Rattle.sq_rules.specs.Entries.{History, Noted}
-use Rattle.sq_rules.specs.FullNext.{FullLegal}
-use Rattle.sq_rules.specs.Machine.{has_target, is_begin}
-use Rattle.sq_rules.specs.Readings.{current, latest}
+use Rattle.sq_machine.specs.Entries.{History, Noted, entry_at}
+use Rattle.sq_machine.specs.Machine.{Legal}
+use Rattle.sq_machine.specs.Events.{has_target, is_begin}
+use Rattle.sq_machine.specs.Readings.{current, latest}
 use Rattle.sq_journal.specs.EntryText.{written}
 use Rattle.sq_journal.specs.Journals.{journal_text, numbered_lines, version_line}
-use Rattle.sq_state.specs.Promises.{entry_at}
 use Rattle.sq_state.proofs.PromiseLaws.{legal_more}
 use Rattle.sq_replay.specs.Headline.{AreAccepted, IsAccepted, IsTrue}
 use Rattle.sq_replay.proofs.HeadlineLaws.{history_true}
@@ -39,7 +38,7 @@ use Rattle.sq_verify.proofs.TextLaws.{eq_of, lines_back, lines_next}
 
 -- what is so of a journal under way
 pub record IsUnderWay (v : Version) (configs : List Configuration) (all : List ℕ) (ls : List Line) (h : History) : Type 0 where
-  pub legal : FullLegal configs h
+  pub legal : Legal configs h
   pub accepted : AreAccepted configs h
   pub ahead : AreAhead v configs h ls
   pub text : lines_in v h ++ bytes_of ls ≡ all
@@ -80,7 +79,7 @@ later_stays v configs all l ls h place t e u =
     let entry = entry_at now i.stated.event i.answer in
     let next = has_next configs h (noted_in v l.bytes) i.stated i.noted_is (ahead_next v configs h l ls u.ahead) in
     record {
-      legal = subst (FullLegal configs) i.history_is
+      legal = subst (Legal configs) i.history_is
           (legal_more configs h now i.stated.event i.answer u.legal (begins_none i.stated.event i.may) (formed i.stated.event i.may) (omega arith) i.next_is);
       accepted = subst (AreAccepted configs) i.history_is (accepts configs h i.stated.event i.may next, u.accepted);
       ahead = later_ahead v configs h t l ls i u.ahead;
@@ -123,7 +122,7 @@ first_under_way v config place l ls t e =
     let configs = epochs_of v config (l ∷ ls) in
     let named : named_from v (l ∷ ls) ≡ named_from v ls = ap (λ (o : Option Noted). named_in o (named_from v ls)) i.noted_is ∙ i.begins (named_from v ls) in
     record {
-      legal = subst (FullLegal configs) i.history_is (i.starts, i.answer_is);
+      legal = subst (Legal configs) i.history_is (i.starts, i.answer_is);
       accepted = subst (AreAccepted configs) i.history_is (i.accepted configs, tt);
       ahead = record {
         begun = config ∷ [];
@@ -150,7 +149,7 @@ reached v configs h ls a =
     let count = a.count_is in
     omega arith
 
-journal_is : (h : History) (configs : List Configuration) → FullLegal configs h → journal_text h ≡ version_line ++ numbered_lines h
+journal_is : (h : History) (configs : List Configuration) → Legal configs h → journal_text h ≡ version_line ++ numbered_lines h
 journal_is [] configs legal = absurd legal
 journal_is (e ∷ h) configs legal = refl
 

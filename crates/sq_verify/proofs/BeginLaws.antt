@@ -4,15 +4,15 @@ use Rattle.std.specs.Io.KnownBytes.{IsAtEnd, prepend_known}
 use Rattle.std.proofs.lemmas.Bool.{and_parts}
 use Rattle.sq_outside.specs.SourceLines.{FindsWithin, Line, is_within, lines}
 use Rattle.sq_outside.specs.declared.lines.Found.TheVariants as found
-use Rattle.sq_rules.specs.declared.entries.Event.{Event}
-use Rattle.sq_rules.specs.declared.entries.Event.TheVariants.{Begin}
-use Rattle.sq_rules.specs.declared.entries.Told.TheVariants as told
+use Rattle.sq_machine.specs.declared.entries.Event.{Event}
+use Rattle.sq_machine.specs.declared.entries.Event.TheVariants.{Begin}
+use Rattle.sq_machine.specs.declared.entries.Told.TheVariants as told
 use Rattle.sq_rules.specs.Configurations.{Configuration, IsConfiguration}
-use Rattle.sq_rules.specs.Entries.{History, Noted}
-use Rattle.sq_rules.specs.Machine.{config_of, is_begin}
-use Rattle.sq_rules.specs.Readings.{current}
+use Rattle.sq_machine.specs.Entries.{History, Noted, entry_at}
+use Rattle.sq_machine.specs.Epochs.{config_of}
+use Rattle.sq_machine.specs.Events.{is_begin}
+use Rattle.sq_machine.specs.Readings.{current}
 use Rattle.sq_history.specs.Given.{EachOf}
-use Rattle.sq_state.specs.Promises.{entry_at}
 use Rattle.sq_replay.specs.RunText.{first_history}
 use Rattle.sq_replay.specs.Runs.{Is, Machine}
 use Rattle.sq_verify.specs.declared.findings.Finding.{Finding}

@@ -3,19 +3,19 @@ use Rattle.std.proofs.Common.{◌≡◌, ℕ, ◌+◌, ◌≤◌, max, List, [],
 use Rattle.std.proofs.lemmas.Slice.Eq.{bytes_eq-Decides}
 use Rattle.sq_outside.specs.Holding.{NoEnd}
 use Rattle.sq_outside.specs.SourceLines.{Line, lines}
-use Rattle.sq_rules.specs.declared.entries.Event.{Event}
-use Rattle.sq_rules.specs.declared.entries.Event.TheVariants.{Ask, Begin, Reconfigure}
-use Rattle.sq_rules.specs.declared.entries.Told.{Told}
-use Rattle.sq_rules.specs.declared.entries.Told.TheVariants as told
+use Rattle.sq_machine.specs.declared.entries.Event.{Event}
+use Rattle.sq_machine.specs.declared.entries.Event.TheVariants.{Ask, Begin, Reconfigure}
+use Rattle.sq_machine.specs.declared.entries.Told.{Told}
+use Rattle.sq_machine.specs.declared.entries.Told.TheVariants as told
 use Rattle.sq_rules.specs.declared.kinds.ConfError.{ConfError}
 use Rattle.sq_rules.specs.Configurations.{Configuration}
-use Rattle.sq_rules.specs.Entries.{History, Noted}
-use Rattle.sq_rules.specs.FullNext.{FullLegal, full_next}
-use Rattle.sq_rules.specs.Machine.{Next, gives, is_begin}
-use Rattle.sq_rules.specs.Marking.{marked}
-use Rattle.sq_rules.specs.Readings.{latest}
+use Rattle.sq_machine.specs.Entries.{History, Noted, entry_at}
+use Rattle.sq_machine.specs.Machine.{Legal, next}
+use Rattle.sq_machine.specs.Events.{is_begin}
+use Rattle.sq_machine.specs.Next.{Next, gives}
+use Rattle.sq_machine.specs.Marking.{marked}
+use Rattle.sq_machine.specs.Readings.{latest}
 use Rattle.sq_journal.specs.Journals.{journal_text, numbered_lines}
-use Rattle.sq_state.specs.Promises.{entry_at}
 use Rattle.sq_replay.specs.RunText.{with_config}
 use Rattle.sq_verify.specs.declared.findings.Finding.{Finding}
 use Rattle.sq_verify.specs.declared.findings.Finding.TheVariants as finding
@@ -82,7 +82,7 @@ named_last : (v : Version) (h : History) (e : Noted) (ls : List Line) → IsTold
     → named_from v (line_at v h e ∷ ls) ≡ held_by e.event ++ named_from v ls
 named_last v h e ls t holds = ap (λ (o : Option Noted). named_in o (named_from v ls)) t.read_back ∙ holds
 
-named_are : (v : Version) (configs : List Configuration) (h : History) (ls : List Line) → FullLegal configs h → AreTold v h → named_from v (lines_at v h ++ ls) ≡ held_in h ++ named_from v ls
+named_are : (v : Version) (configs : List Configuration) (h : History) (ls : List Line) → Legal configs h → AreTold v h → named_from v (lines_at v h ++ ls) ≡ held_in h ++ named_from v ls
 named_are v configs [] ls legal t = refl
 named_are v configs (e ∷ []) ls legal t = named_last v [] e ls t (begin_holds e.event (named_from v ls) legal.0)
 named_are v configs (e ∷ f ∷ h) ls legal t =
@@ -102,11 +102,11 @@ compared_same v h e = ap (λ (b : Bool). if b then Ok (e ∷ h) else Err (halt.D
 greatest : (now late : ℕ) → late ≤ now → max now late ≡ now
 greatest now late le = omega (arith, le)
 
-asked_same : (v : Version) (configs : List Configuration) (h : History) (e : Noted) → latest h ≤ e.moment → full_next configs (marked configs h) e.moment e.event ≡ gives e.answer
+asked_same : (v : Version) (configs : List Configuration) (h : History) (e : Noted) → latest h ≤ e.moment → next configs (marked configs h) e.moment e.event ≡ gives e.answer
     → asked_line v configs h (line_in v h e) e.moment e.event ≡ Ok (e ∷ h)
-asked_same v configs h e le next =
-    ap (λ (now : ℕ). matched v h (line_in v h e) now e.event (full_next configs (marked configs h) now e.event)) (greatest e.moment (latest h) le)
-    ∙ ap (λ (n : Next). matched v h (line_in v h e) e.moment e.event n) next ∙ compared_same v h e
+asked_same v configs h e le said =
+    ap (λ (now : ℕ). matched v h (line_in v h e) now e.event (next configs (marked configs h) now e.event)) (greatest e.moment (latest h) le)
+    ∙ ap (λ (n : Next). matched v h (line_in v h e) e.moment e.event n) said ∙ compared_same v h e
 
 event_same : (v : Version) (configs : List Configuration) (h : History) (line : List ℕ) (now : ℕ) (event : Event) (t : History) → MayFollow event → asked_line v configs h line now event ≡ Ok t
     → event_line v configs h line now event ≡ Ok t
@@ -117,11 +117,11 @@ event_same v configs h line now (Reconfigure text) t may e =
 event_same v configs h line now event t may e = e
 
 later_same : (v : Version) (configs : List Configuration) (h : History) (e : Noted) → IsTold v h e → MayFollow e.event → latest h ≤ e.moment
-    → full_next configs (marked configs h) e.moment e.event ≡ gives e.answer → later_line v configs h (start_of v + length (lines_in v h)) (line_at v h e) ≡ Ok (e ∷ h)
-later_same v configs h e t may le next =
+    → next configs (marked configs h) e.moment e.event ≡ gives e.answer → later_line v configs h (start_of v + length (lines_in v h)) (line_at v h e) ≡ Ok (e ∷ h)
+later_same v configs h e t may le said =
     ap (λ (b : Bool). if b then stated_line v configs h (line_in v h e) (noted_in v (line_in v h e)) else Err halt.NoLine) t.fits
     ∙ ap (stated_line v configs h (line_in v h e)) t.read_back
-    ∙ event_same v configs h (line_in v h e) e.moment e.event (e ∷ h) may (asked_same v configs h e le next)
+    ∙ event_same v configs h (line_in v h e) e.moment e.event (e ∷ h) may (asked_same v configs h e le said)
 
 begun_same : (v : Version) (e : Noted) (event : Event) → e.event ≡ event → is_begin event ≡ true → e.answer ≡ told.Epoch 1 → begun_line v (line_in v [] e) e.moment event ≡ Ok (e ∷ [])
 begun_same v e (Begin offset) same begins answer =
@@ -149,7 +149,7 @@ goes_same v configs h e ls step is =
     ∙ ap (λ (n : ℕ). judged_lines v configs (e ∷ h) n ls) (place_next v h e)
 
 -- the lines of a history come to that history, and the judging goes on behind it
-comes_to : (v : Version) (configs : List Configuration) (h : History) (ls : List Line) → FullLegal configs h → AreTold v h
+comes_to : (v : Version) (configs : List Configuration) (h : History) (ls : List Line) → Legal configs h → AreTold v h
     → judged_first v configs (start_of v) (lines_at v h ++ ls) ≡ judged_lines v configs h (start_of v + length (lines_in v h)) ls
 comes_to v configs [] ls legal t = absurd legal
 comes_to v configs (e ∷ []) ls legal t =
@@ -164,7 +164,7 @@ comes_to v configs (e ∷ f ∷ h) ls legal t =
 -- whole journals
 
 -- its lines, over its configurations
-all_verified : (config : Configuration) (v : Version) (h : History) → FullLegal (config ∷ held_in h) h → AreTold v h
+all_verified : (config : Configuration) (v : Version) (h : History) → Legal (config ∷ held_in h) h → AreTold v h
     → (judged_first v (epochs_of v config (lines (lines_in v h))) (start_of v) (lines (lines_in v h))).found ≡ finding.Verified (length h)
 all_verified config v h legal told =
     let at : lines (lines_in v h) ≡ lines_at v h ++ [] = ap lines (sym (append-nil (lines_in v h))) ∙ lines_are v h [] told in
@@ -175,7 +175,7 @@ all_verified config v h legal told =
     ∙ ap (λ (j : Judged). j.found) (comes_to v (config ∷ held_in h) h [] legal told)
 
 -- the first line of version 1 tells no version
-first_is : (h : History) (configs : List Configuration) → FullLegal configs h → AreTold version.One h → (l : Line) × (ls : List Line) × (lines_at version.One h ≡ l ∷ ls) × (is_version_line l ≡ false)
+first_is : (h : History) (configs : List Configuration) → Legal configs h → AreTold version.One h → (l : Line) × (ls : List Line) × (lines_at version.One h ≡ l ∷ ls) × (is_version_line l ≡ false)
 first_is [] configs legal t = absurd legal
 first_is (e ∷ []) configs legal t = (line_at version.One [] e, [], refl, t.plain)
 first_is (e ∷ f ∷ h) configs legal t =
@@ -189,7 +189,7 @@ one_is config ls l more is none =
 not_end : NoEnd (codes "journal 2")
 not_end = (refl, (refl, (refl, (refl, (refl, (refl, (refl, (refl, (refl, tt)))))))))
 
-text_is : (h : History) (configs : List Configuration) → FullLegal configs h → journal_text h ≡ codes "journal 2" ++ 10 ∷ numbered_lines h
+text_is : (h : History) (configs : List Configuration) → Legal configs h → journal_text h ≡ codes "journal 2" ++ 10 ∷ numbered_lines h
 text_is [] configs legal = absurd legal
 text_is (e ∷ h) configs legal = refl
 

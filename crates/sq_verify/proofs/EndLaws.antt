@@ -22,13 +22,13 @@ use Rattle.sq_base.specs.declared.helpers.Word.TheVariants as reply
 use Rattle.sq_base.specs.declared.requests.Field.{Field}
 use Rattle.sq_base.proofs.AddressLaws.{groups_fit, octets_fit}
 use Rattle.sq_outside.specs.Holding.{NoEnd}
-use Rattle.sq_rules.specs.declared.entries.Event.{Event}
-use Rattle.sq_rules.specs.declared.entries.Event.TheVariants.{Begin, Open, Close, Ask, Step, Take, Started, StartFail, Line, Died, Act, Reconfigure, Seat, Grant, Leave}
-use Rattle.sq_rules.specs.declared.entries.Told.{Told}
-use Rattle.sq_rules.specs.declared.entries.Told.TheVariants as told
+use Rattle.sq_machine.specs.declared.entries.Event.{Event}
+use Rattle.sq_machine.specs.declared.entries.Event.TheVariants.{Begin, Open, Close, Ask, Step, Take, Started, StartFail, Line, Died, Act, Reconfigure, Seat, Grant, Leave}
+use Rattle.sq_machine.specs.declared.entries.Told.{Told}
+use Rattle.sq_machine.specs.declared.entries.Told.TheVariants as told
 use Rattle.sq_rules.specs.declared.outcomes.Why.{Why}
 use Rattle.sq_rules.specs.declared.outcomes.Why.TheVariants as why
-use Rattle.sq_rules.specs.Entries.{Noted}
+use Rattle.sq_machine.specs.Entries.{Noted}
 use Rattle.sq_rules.specs.OutcomeText.{action_word, cause_word, why_words}
 use Rattle.sq_rules.specs.Steps.{Words}
 use Rattle.sq_journal.specs.declared.escapes.TheConstants.{ESCAPES}

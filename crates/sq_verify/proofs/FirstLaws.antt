@@ -1,16 +1,15 @@
 -- The line of a journal's first entry, and the configurations of its epochs.
 use Rattle.std.proofs.Common.{◌≡◌, ℕ, List, [], ◌∷◌, true, bytes_eq, Option, Some, None, Result, Ok, Err, refl, ap}
 use Rattle.sq_outside.specs.SourceLines.{Line, is_within}
-use Rattle.sq_rules.specs.declared.entries.Event.{Event}
-use Rattle.sq_rules.specs.declared.entries.Event.TheVariants.{Begin, Reconfigure}
-use Rattle.sq_rules.specs.declared.entries.Told.TheVariants as told
+use Rattle.sq_machine.specs.declared.entries.Event.{Event}
+use Rattle.sq_machine.specs.declared.entries.Event.TheVariants.{Begin, Reconfigure}
+use Rattle.sq_machine.specs.declared.entries.Told.TheVariants as told
 use Rattle.sq_rules.specs.declared.kinds.ConfError.{ConfError}
 use Rattle.sq_rules.specs.Configurations.{Configuration, IsConfiguration}
-use Rattle.sq_rules.specs.Entries.{History, Noted}
-use Rattle.sq_rules.specs.Machine.{is_begin}
-use Rattle.sq_rules.specs.Readings.{current}
+use Rattle.sq_machine.specs.Entries.{History, Noted, entry_at}
+use Rattle.sq_machine.specs.Events.{is_begin}
+use Rattle.sq_machine.specs.Readings.{current}
 use Rattle.sq_history.specs.Given.{EachOf}
-use Rattle.sq_state.specs.Promises.{entry_at}
 use Rattle.sq_replay.specs.ConfReading.{read_result}
 use Rattle.sq_replay.specs.Headline.{IsAccepted}
 use Rattle.sq_replay.specs.RunText.{with_config}

@@ -2,18 +2,17 @@
 use Rattle.std.proofs.Common.{◌≡◌, ℕ, suc, max, List, [], ◌∷◌, ◌++◌, append_assoc, length, length-append, Bool, true, false, if◌then◌else◌, bytes_eq, is_some, slice_get, Option, Some, None, Result, Ok, Err, refl, sym, ap, ap₂, ◌∙◌, arith}
 use Rattle.sq_outside.specs.SourceLines.{Line, is_within}
 use Rattle.sq_request.specs.Written.{made_request}
-use Rattle.sq_rules.specs.declared.entries.Event.{Event}
-use Rattle.sq_rules.specs.declared.entries.Event.TheVariants.{Begin, Ask, Reconfigure}
-use Rattle.sq_rules.specs.declared.entries.Told.{Told}
+use Rattle.sq_machine.specs.declared.entries.Event.{Event}
+use Rattle.sq_machine.specs.declared.entries.Event.TheVariants.{Begin, Ask, Reconfigure}
+use Rattle.sq_machine.specs.declared.entries.Told.{Told}
 use Rattle.sq_rules.specs.declared.kinds.ConfError.{ConfError}
 use Rattle.sq_rules.specs.Configurations.{Configuration}
-use Rattle.sq_rules.specs.Entries.{History, Noted}
-use Rattle.sq_rules.specs.Events.{begins_epoch}
-use Rattle.sq_rules.specs.FullNext.{full_next}
-use Rattle.sq_rules.specs.Machine.{Next, gives, nothing, refuses}
-use Rattle.sq_rules.specs.Marking.{marked}
-use Rattle.sq_rules.specs.Readings.{current, epoch_after, latest}
-use Rattle.sq_state.specs.Promises.{entry_at}
+use Rattle.sq_machine.specs.Entries.{History, Noted, entry_at}
+use Rattle.sq_machine.specs.Events.{begins_epoch}
+use Rattle.sq_machine.specs.Machine.{next}
+use Rattle.sq_machine.specs.Next.{Next, gives, nothing, refuses}
+use Rattle.sq_machine.specs.Marking.{marked}
+use Rattle.sq_machine.specs.Readings.{current, epoch_after, latest}
 use Rattle.sq_replay.specs.ConfReading.{read_result}
 use Rattle.sq_replay.specs.RunText.{with_config}
 use Rattle.sq_verify.specs.declared.halts.Halt.{Halt}
@@ -31,7 +30,7 @@ pub record IsLater (v : Version) (configs : List Configuration) (h : History) (l
   pub answer : Told
   pub noted_is : noted_in v line ≡ Some stated
   pub may : MayFollow stated.event
-  pub next_is : full_next configs (marked configs h) (max stated.moment (latest h)) stated.event ≡ gives answer
+  pub next_is : next configs (marked configs h) (max stated.moment (latest h)) stated.event ≡ gives answer
   pub text_is : bytes_eq (line_in v h (entry_at (max stated.moment (latest h)) stated.event answer)) line ≡ true
   pub history_is : entry_at (max stated.moment (latest h)) stated.event answer ∷ h ≡ t
 
@@ -68,7 +67,7 @@ stated_ok : (v : Version) (configs : List Configuration) (h : History) (line : L
 stated_ok v configs h line None t is e = absurd (cc)
 stated_ok v configs h line (Some s) t is e =
     let a = event_ok v configs h line s.moment s.event t e in
-    let m = matched_ok v h line (max s.moment (latest h)) s.event (full_next configs (marked configs h) (max s.moment (latest h)) s.event) t a.1 in
+    let m = matched_ok v h line (max s.moment (latest h)) s.event (next configs (marked configs h) (max s.moment (latest h)) s.event) t a.1 in
     let c = compared_ok v h line (entry_at (max s.moment (latest h)) s.event m.0) t m.2 in
     record { stated = s; answer = m.0; noted_is = is; may = a.0; next_is = m.1; text_is = c.0; history_is = c.1 }
 

@@ -5,7 +5,7 @@ use Rattle.std.specs.Io.KnownBytes.{IsAtEnd, prepend_known}
 use Rattle.sq_outside.specs.Output.{IsPrefix}
 use Rattle.sq_outside.specs.SourceLines.{Line, lines, IsLine, Finds}
 use Rattle.sq_outside.specs.declared.lines.Found.TheVariants as found
-use Rattle.sq_rules.specs.Entries.{Noted, History}
+use Rattle.sq_machine.specs.Entries.{Noted, History}
 use Rattle.sq_journal.specs.Journals.{epoch_at, greatest_number, journal_text, next_number, number_at, numbered_lines, numbered_text, version_line}
 use Rattle.sq_journal.specs.Lines.{spaced_words}
 use Rattle.sq_journal.specs.ToldReading.{entry_of}

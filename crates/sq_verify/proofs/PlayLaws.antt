@@ -1,13 +1,13 @@
 -- What the machine makes of an event, as the judging of a line has it.
 use Rattle.std.proofs.Common.{◌≡◌, inr, ℕ, max, List, true, false, Some, None, Result, Ok, Err, refl, ap, subst}
-use Rattle.sq_rules.specs.declared.entries.Event.{Event}
-use Rattle.sq_rules.specs.declared.entries.Event.TheVariants.{Act, Ask, Begin, Reconfigure}
-use Rattle.sq_rules.specs.declared.entries.Told.{Told}
+use Rattle.sq_machine.specs.declared.entries.Event.{Event}
+use Rattle.sq_machine.specs.declared.entries.Event.TheVariants.{Act, Ask, Begin, Reconfigure}
+use Rattle.sq_machine.specs.declared.entries.Told.{Told}
 use Rattle.sq_rules.specs.Configurations.{Configuration}
-use Rattle.sq_rules.specs.Entries.{History}
-use Rattle.sq_rules.specs.Events.{begins_epoch}
-use Rattle.sq_rules.specs.FullNext.{full_next}
-use Rattle.sq_rules.specs.Marking.{marked}
+use Rattle.sq_machine.specs.Entries.{History}
+use Rattle.sq_machine.specs.Events.{begins_epoch}
+use Rattle.sq_machine.specs.Machine.{next}
+use Rattle.sq_machine.specs.Marking.{marked}
 use Rattle.sq_replay.specs.declared.stops.Stop.{Stop}
 use Rattle.sq_replay.specs.declared.stops.Stop.TheVariants as stop
 use Rattle.sq_replay.specs.ConfReading.{read_result}
@@ -55,9 +55,9 @@ source_is text config is = gives_source text config (is_read text config is).giv
 pub reconfigure_plays : (old new : Machine) (now : ℕ) (text : List ℕ) (config : Configuration) (r : Result Told Stop) → read_result text ≡ Ok config → IsReconfiguring old new now config r
     → Plays old new now (Reconfigure text) r
 reconfigure_plays old new now text config (Ok answer) read m =
-    ((config, read), λ configs h is next. subst (λ (t : List ℕ). IsMade new configs h (max now old.latest) (Reconfigure t) answer) (source_is text config read) (m configs h is (next config read)))
+    ((config, read), λ configs h is said. subst (λ (t : List ℕ). IsMade new configs h (max now old.latest) (Reconfigure t) answer) (source_is text config read) (m configs h is (said config read)))
 reconfigure_plays old new now text config (Err stop.Refused) read m = λ configs h is.
-    inr (subst (λ (t : List ℕ). is_refused (full_next configs (marked configs h) (max now old.latest) (Reconfigure t)) ≡ true) (source_is text config read) (m configs h is))
+    inr (subst (λ (t : List ℕ). is_refused (next configs (marked configs h) (max now old.latest) (Reconfigure t)) ≡ true) (source_is text config read) (m configs h is))
 reconfigure_plays old new now text config (Err stop.WantOfMemory) read m = tt
 
 -- a text that gives no configuration

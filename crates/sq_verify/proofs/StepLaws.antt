@@ -1,20 +1,19 @@
 -- What a line comes to, from what the machine makes of its event.
 use Rattle.std.proofs.Common.{◌≡◌, inl, inr, ℕ, ◌+◌, ◌≤◌, max, min, List, ◌∷◌, length, Bool, true, false, if◌then◌else◌, bytes_eq, is_some, Result, Ok, Err, refl, sym, ap, subst, ◌∙◌, arith}
 use Rattle.sq_request.specs.Written.{made_request}
-use Rattle.sq_rules.specs.declared.entries.Event.{Event}
-use Rattle.sq_rules.specs.declared.entries.Event.TheVariants.{Begin, Ask, Reconfigure}
-use Rattle.sq_rules.specs.declared.entries.Told.{Told}
+use Rattle.sq_machine.specs.declared.entries.Event.{Event}
+use Rattle.sq_machine.specs.declared.entries.Event.TheVariants.{Begin, Ask, Reconfigure}
+use Rattle.sq_machine.specs.declared.entries.Told.{Told}
 use Rattle.sq_rules.specs.declared.kinds.ConfError.{ConfError}
 use Rattle.sq_rules.specs.Configurations.{Configuration}
-use Rattle.sq_rules.specs.Entries.{History, Noted}
-use Rattle.sq_rules.specs.Events.{begins_epoch}
-use Rattle.sq_rules.specs.FullNext.{full_next}
-use Rattle.sq_rules.specs.Machine.{Next, gives, nothing, refuses}
-use Rattle.sq_rules.specs.Marking.{marked}
-use Rattle.sq_rules.specs.Readings.{current, epoch_after}
+use Rattle.sq_machine.specs.Entries.{History, Noted, entry_at}
+use Rattle.sq_machine.specs.Events.{begins_epoch}
+use Rattle.sq_machine.specs.Machine.{next}
+use Rattle.sq_machine.specs.Next.{Next, gives, nothing, refuses}
+use Rattle.sq_machine.specs.Marking.{marked}
+use Rattle.sq_machine.specs.Readings.{current, epoch_after}
 use Rattle.sq_journal.specs.Journals.{epoch_at, greatest_number, next_number, number_at}
 use Rattle.sq_note.specs.Sinks.{epoch_behind}
-use Rattle.sq_state.specs.Promises.{entry_at}
 use Rattle.sq_replay.specs.ConfReading.{read_result}
 use Rattle.sq_replay.specs.Making.{is_refused}
 use Rattle.sq_replay.specs.Runs.{Is, IsMade, Machine}
@@ -60,7 +59,7 @@ follows v configs h line now event may = refl
 asked_is : (v : Version) (old new : Machine) (configs : List Configuration) (h : History) (line : List ℕ) (now : ℕ) (event : Event) (answer : Told) → Is old configs h
     → IsMade new configs h (max now old.latest) event answer → asked_line v configs h line now event ≡ compared v h line (entry_at (max now old.latest) event answer)
 asked_is v old new configs h line now event answer is m =
-    ap (λ (n : ℕ). matched v h line (max now n) event (full_next configs (marked configs h) (max now n) event)) (sym is.latest_is) ∙ ap (matched v h line (max now old.latest) event) m.next_is
+    ap (λ (n : ℕ). matched v h line (max now n) event (next configs (marked configs h) (max now n) event)) (sym is.latest_is) ∙ ap (matched v h line (max now old.latest) event) m.next_is
 
 -- what the line comes to: the machine's entry compared with it
 event_is : (v : Version) (old new : Machine) (configs : List Configuration) (h : History) (line : List ℕ) (now : ℕ) (event : Event) (answer : Told) → Is old configs h → MayFollow event
@@ -99,10 +98,10 @@ refused_matched v h line moment event (refuses r) e = refl
 refused_matched v h line moment event nothing e = refl
 
 refused_asked : (v : Version) (old : Machine) (configs : List Configuration) (h : History) (line : List ℕ) (now : ℕ) (event : Event) → Is old configs h
-    → is_refused (full_next configs (marked configs h) (max now old.latest) event) ≡ true → asked_line v configs h line now event ≡ Err halt.NoLine
+    → is_refused (next configs (marked configs h) (max now old.latest) event) ≡ true → asked_line v configs h line now event ≡ Err halt.NoLine
 refused_asked v old configs h line now event is e =
-    ap (λ (n : ℕ). matched v h line (max now n) event (full_next configs (marked configs h) (max now n) event)) (sym is.latest_is)
-    ∙ refused_matched v h line (max now old.latest) event (full_next configs (marked configs h) (max now old.latest) event) e
+    ap (λ (n : ℕ). matched v h line (max now n) event (next configs (marked configs h) (max now n) event)) (sym is.latest_is)
+    ∙ refused_matched v h line (max now old.latest) event (next configs (marked configs h) (max now old.latest) event) e
 
 none_if : (b : Bool) (step : Result History Halt) → step ≡ Err halt.NoLine → if_request b step ≡ Err halt.NoLine
 none_if true step e = e

@@ -4,7 +4,7 @@ use Rattle.std.proofs.lemmas.Bool.{and_parts}
 use Rattle.std.proofs.lemmas.Slice.Eq.{bytes_eq-Decides}
 use Rattle.sq_base.specs.Lines.{is_lf}
 use Rattle.sq_outside.specs.SourceLines.{Line, is_within, lines, onto, total_limit}
-use Rattle.sq_rules.specs.Entries.{History, Noted}
+use Rattle.sq_machine.specs.Entries.{History, Noted}
 use Rattle.sq_verify.specs.declared.versions.Version.{Version}
 use Rattle.sq_verify.specs.declared.versions.Version.TheVariants as version
 use Rattle.sq_verify.specs.Audits.{behind_end, bytes_of, lines_in}

@@ -7,7 +7,7 @@ use Rattle.std.proofs.lemmas.Str.Parse.{digit_at}
 use Rattle.std.specs.Int.{IsInRange}
 use Rattle.sq_outside.specs.Holding.{NoEnd}
 use Rattle.sq_outside.specs.SourceLines.{is_within, total_limit}
-use Rattle.sq_rules.specs.Entries.{History, Noted}
+use Rattle.sq_machine.specs.Entries.{History, Noted}
 use Rattle.sq_journal.specs.declared.faults.EntryFault.TheVariants.{BadEntry}
 use Rattle.sq_journal.specs.EntryText.{entry_text, entry_words, event_words, told_words}
 use Rattle.sq_journal.specs.Journals.{epoch_at, number_at, numbered_text, version_line}

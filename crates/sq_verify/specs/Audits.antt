@@ -3,7 +3,7 @@ use Rattle.std.specs.Prelude.{◌≡◌, ℕ, List, [], ◌∷◌, ◌++◌, len
 use Rattle.std.specs.declared.option.Option.{Option}
 use Rattle.sq_outside.specs.SourceLines.{Line}
 use Rattle.sq_rules.specs.Configurations.{Configuration}
-use Rattle.sq_rules.specs.Entries.{History}
+use Rattle.sq_machine.specs.Entries.{History}
 use Rattle.sq_journal.specs.EntryText.{written}
 use Rattle.sq_journal.specs.Journals.{journal_text, numbered_lines}
 use Rattle.sq_replay.specs.Headline.{IsTrue}

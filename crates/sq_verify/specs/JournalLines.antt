@@ -2,7 +2,7 @@
 use Rattle.std.specs.Prelude.{ℕ, ◌+◌, List, ◌∷◌, Bool, ◌&&◌, bytes_eq, codes, option_map}
 use Rattle.std.specs.declared.option.Option.{Option}
 use Rattle.sq_outside.specs.SourceLines.{Line, script_line_limit}
-use Rattle.sq_rules.specs.Entries.{History, Noted}
+use Rattle.sq_machine.specs.Entries.{History, Noted}
 use Rattle.sq_journal.specs.EntryText.{entry_text}
 use Rattle.sq_journal.specs.Journals.{epoch_at, number_at, numbered_text}
 use Rattle.sq_journal.specs.Lines.{spaced_words}

@@ -5,16 +5,16 @@ use Rattle.std.specs.declared.option.Option.{Option}
 use Rattle.sq_outside.specs.Causes.{Rose}
 use Rattle.sq_outside.specs.SourceLines.{Line, lines}
 use Rattle.sq_request.specs.Written.{made_request}
-use Rattle.sq_rules.specs.declared.entries.Event.{Event}
-use Rattle.sq_rules.specs.declared.entries.Event.TheVariants.{Begin, Ask, Reconfigure}
-use Rattle.sq_rules.specs.declared.entries.Told.{Told}
+use Rattle.sq_machine.specs.declared.entries.Event.{Event}
+use Rattle.sq_machine.specs.declared.entries.Event.TheVariants.{Begin, Ask, Reconfigure}
+use Rattle.sq_machine.specs.declared.entries.Told.{Told}
 use Rattle.sq_rules.specs.declared.kinds.ConfError.{ConfError}
 use Rattle.sq_rules.specs.Configurations.{Configuration, IsConfiguration}
-use Rattle.sq_rules.specs.Entries.{History, Noted}
-use Rattle.sq_rules.specs.FullNext.{full_next}
-use Rattle.sq_rules.specs.Machine.{config_of}
-use Rattle.sq_rules.specs.Marking.{marked}
-use Rattle.sq_rules.specs.Readings.{current}
+use Rattle.sq_machine.specs.Entries.{History, Noted}
+use Rattle.sq_machine.specs.Machine.{next}
+use Rattle.sq_machine.specs.Epochs.{config_of}
+use Rattle.sq_machine.specs.Marking.{marked}
+use Rattle.sq_machine.specs.Readings.{current}
 use Rattle.sq_history.specs.Given.{EachOf}
 use Rattle.sq_journal.specs.Journals.{epoch_at}
 use Rattle.sq_conf.specs.declared.faults.ConfFault.{ConfFault}
@@ -71,10 +71,10 @@ MayFollow event = Unit {0}
 abbrev pub IsNone : List Configuration → History → ℕ → Event → Type 0
 IsNone configs h moment (Begin offset) = Unit {0}
 IsNone configs h moment (Ask conn method target fields) =
-    (made_request method target 1 fields ≡ None) ⊎ (is_refused (full_next configs (marked configs h) moment (Ask conn method target fields)) ≡ true)
+    (made_request method target 1 fields ≡ None) ⊎ (is_refused (next configs (marked configs h) moment (Ask conn method target fields)) ≡ true)
 IsNone configs h moment (Reconfigure text) =
-    ((e : ConfError) × (read_result text ≡ Err e)) ⊎ (is_refused (full_next configs (marked configs h) moment (Reconfigure text)) ≡ true)
-IsNone configs h moment event = is_refused (full_next configs (marked configs h) moment event) ≡ true
+    ((e : ConfError) × (read_result text ≡ Err e)) ⊎ (is_refused (next configs (marked configs h) moment (Reconfigure text)) ≡ true)
+IsNone configs h moment event = is_refused (next configs (marked configs h) moment event) ≡ true
 
 -- an event behind the first is made at the greatest moment so far, or refused; where memory is wanting, nothing is said
 abbrev pub Plays : Machine → Machine → ℕ → Event → Result Told Stop → Type 0

@@ -1,11 +1,11 @@
 -- What a history has to be that a journal of its text is verified.
 use Rattle.std.specs.Prelude.{ℕ, ◌≡◌, ◌≤◌, List, [], ◌∷◌, ◌++◌, length}
 use Rattle.sq_outside.specs.SourceLines.{total_limit}
-use Rattle.sq_rules.specs.declared.entries.Event.{Event}
-use Rattle.sq_rules.specs.declared.entries.Event.TheVariants.{Reconfigure}
+use Rattle.sq_machine.specs.declared.entries.Event.{Event}
+use Rattle.sq_machine.specs.declared.entries.Event.TheVariants.{Reconfigure}
 use Rattle.sq_rules.specs.Configurations.{Configuration}
-use Rattle.sq_rules.specs.Entries.{History}
-use Rattle.sq_rules.specs.FullNext.{FullLegal}
+use Rattle.sq_machine.specs.Entries.{History}
+use Rattle.sq_machine.specs.Machine.{Legal}
 use Rattle.sq_journal.specs.Values.{IsNoted}
 use Rattle.sq_replay.specs.ConfReading.{read_result}
 use Rattle.sq_replay.specs.RunText.{with_config}
@@ -45,7 +45,7 @@ AreShort v (e ∷ h) = AreShort v h × (length (line_in v h e) ≤ line_limit v)
 -- each answer of the history is the machine's next over this configuration and those that its reconfigurations hold, and its text is within
 -- the limits
 pub record IsTellable (config : Configuration) (v : Version) (h : History) : Type 0 where
-  pub legal : FullLegal (config ∷ held_in h) h
+  pub legal : Legal (config ∷ held_in h) h
   pub noted : AreNoted h
   pub may : MayStand h
   pub short : AreShort v h

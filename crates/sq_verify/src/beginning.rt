@@ -2,10 +2,10 @@
 ghost use Rattle.std.specs.Prelude.{◌≡◌, ◌≤◌, List, Some, length, IfSome};
 ghost use Rattle.std.specs.Io.KnownBytes.{IsAtEnd, prepend_known};
 ghost use Rattle.sq_outside.specs.SourceLines.{lines, total_limit};
-ghost use Rattle.sq_rules.specs.Entries.{History};
+ghost use Rattle.sq_machine.specs.Entries.{History};
 ghost use Rattle.sq_verify.specs.Audits.{Audits, text_of};
 ghost use Rattle.sq_verify.specs.JournalLines.{noted_in};
-ghost use Rattle.sq_rules.specs.declared.entries.Event.TheVariants as event;
+ghost use Rattle.sq_machine.specs.declared.entries.Event.TheVariants as event;
 ghost use Rattle.sq_verify.specs.Judging.{begun_line, epochs_of, judged, judged_behind, judged_first, stated_first};
 ghost use Rattle.sq_verify.specs.Promised.{BeginsLine, Comes, JudgeHasCauses, ReachesEnd};
 ghost use Rattle.sq_verify.specs.Tellable.{IsTellable, Verifies};
@@ -22,8 +22,8 @@ use crate::taking::journal_line;
 use crate::versions::{Version, is_version_line};
 use sq_base::{EpochNo, Moment, WantOfMemory};
 use sq_journal::EntryFault;
+use sq_machine::{Entry, Event, Offset, Told};
 use sq_outside::{Found, Held, Source, Unread};
-use sq_rules::{Entry, Event, Offset, Told};
 use sq_urlmatch::Setup;
 use std::alloc::Global;
 

@@ -11,8 +11,8 @@ use crate::halts::Halt;
 use crate::versions::Version;
 use sq_base::{EpochNo, Text, WantOfMemory};
 use sq_journal::{EntryFault, print_entry, print_numbered, read_entry, read_numbered};
+use sq_machine::{Entry, Event};
 use sq_outside::COUNT_LIMIT;
-use sq_rules::{Entry, Event};
 use std::alloc::Global;
 
 /// The entry that a line states, which stands without its LF.

@@ -3,7 +3,7 @@ ghost use Rattle.std.specs.Prelude.{◌≡◌, ◌+◌, ◌-◌, ◌<◌, ◌≤
 ghost use Rattle.std.specs.Io.KnownBytes.{IsAtEnd, prepend_known};
 ghost use Rattle.sq_outside.specs.SourceLines.{lines, total_limit};
 ghost use Rattle.sq_rules.specs.Configurations.{Configuration};
-ghost use Rattle.sq_rules.specs.Entries.{History, is_event};
+ghost use Rattle.sq_machine.specs.Entries.{History, is_event};
 ghost use Rattle.sq_verify.specs.JournalLines.{noted_in};
 ghost use Rattle.sq_verify.specs.Judging.{event_line, found_at, judged_lines, line_number, stated_line};
 ghost use Rattle.sq_verify.specs.Promised.{Goes, HasNext, IsNext, JudgeHasCauses, JudgesOver, ReachesEnd, Stands};
@@ -17,10 +17,9 @@ use crate::taking::journal_line;
 use crate::versions::Version;
 use sq_base::{EpochNo, Moment, Text};
 use sq_journal::EntryFault;
+use sq_machine::{Entry, Event, later};
 use sq_outside::{Found, Held, Source, Unread};
 use sq_replay::Stop;
-use sq_rules::{Entry, Event};
-use sq_state::later;
 use std::alloc::Global;
 
 // Judges the event of a line behind so many entries, the last of which has this epoch. The answer is the epoch of its entry.

@@ -1,8 +1,8 @@
 //! The machine plays a journal's events.
 use crate::players::Player;
 use sq_base::{Moment, WantOfMemory};
+use sq_machine::{Event, Offset, Told};
 use sq_replay::{Machine, Stop};
-use sq_rules::{Event, Offset, Told};
 use sq_urlmatch::Setup;
 use std::alloc::Global;
 

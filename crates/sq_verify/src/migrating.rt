@@ -3,7 +3,7 @@ ghost use Rattle.std.specs.Prelude.{◌≡◌, ◌+◌, ◌-◌, ◌^◌, ◌<�
 ghost use Rattle.std.specs.Io.KnownBytes.{IsAtEnd};
 ghost use Rattle.sq_outside.specs.Causes.{Rose};
 ghost use Rattle.sq_outside.specs.SourceLines.{lines};
-ghost use Rattle.sq_rules.specs.Machine.{is_begin};
+ghost use Rattle.sq_machine.specs.Events.{is_begin};
 ghost use Rattle.sq_journal.specs.Lines.{spaced_words};
 ghost use Rattle.sq_journal.specs.ToldReading.{entry_of};
 ghost use Rattle.sq_verify.specs.Migrating.{MigrateHasCauses, Migrates, MigratesLine, PutsEntry, PutsText, first_behind, is_in_place, placed, read_journal};
@@ -15,9 +15,9 @@ ghost use Rattle.sq_verify.specs.declared.migrating.MigrateFault.TheVariants as 
 use crate::comparing::epoch_behind;
 use sq_base::{EpochNo, WantOfMemory};
 use sq_journal::{EntryFault, print_numbered, read_entry};
+use sq_machine::{Entry, Event};
 use sq_outside::{Found, Held, Sink, Source, Unread, next_line};
 use sq_replay::{Untold, put_line};
-use sq_rules::{Entry, Event};
 use std::alloc::Global;
 use thiserror::Error;
 

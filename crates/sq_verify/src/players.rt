@@ -1,18 +1,18 @@
 //! What plays the events of a journal.
 ghost use Rattle.std.specs.Prelude.{◌≡◌, false, true, List, Some, max, IfOk, IfSome};
-ghost use Rattle.sq_rules.specs.declared.entries.Event.TheVariants as event;
+ghost use Rattle.sq_machine.specs.declared.entries.Event.TheVariants as event;
 ghost use Rattle.sq_rules.specs.Configurations.{Configuration, IsConfiguration};
-ghost use Rattle.sq_rules.specs.Entries.{is_event, is_row};
-ghost use Rattle.sq_rules.specs.Events.{begins_epoch};
-ghost use Rattle.sq_rules.specs.Machine.{config_of};
+ghost use Rattle.sq_machine.specs.Entries.{is_event, is_row};
+ghost use Rattle.sq_machine.specs.Events.{begins_epoch};
+ghost use Rattle.sq_machine.specs.Epochs.{config_of};
 ghost use Rattle.sq_history.specs.Given.{EachOf};
 ghost use Rattle.sq_replay.specs.Making.{IsActing, IsMaking, IsReconfiguring};
 ghost use Rattle.sq_replay.specs.RunText.{first_history};
 ghost use Rattle.sq_replay.specs.Runs.{Is, Machine};
 
 use sq_base::{Moment, WantOfMemory};
+use sq_machine::{Event, Offset, Told};
 use sq_replay::Stop;
-use sq_rules::{Event, Offset, Told};
 use sq_urlmatch::Setup;
 use std::alloc::Global;
 

@@ -1,15 +1,15 @@
 //! The events of a journal, played.
 ghost use Rattle.std.specs.Prelude.{◌≡◌, true, IfOk};
 ghost use Rattle.sq_rules.specs.Configurations.{IsConfiguration};
-ghost use Rattle.sq_rules.specs.Entries.{is_event, is_row};
-ghost use Rattle.sq_rules.specs.declared.entries.Event.TheVariants as event;
+ghost use Rattle.sq_machine.specs.Entries.{is_event, is_row};
+ghost use Rattle.sq_machine.specs.declared.entries.Event.TheVariants as event;
 ghost use Rattle.sq_verify.specs.Promised.{Accepts, Plays, stop_for};
 
 use crate::players::Player;
 use sq_base::{Moment, Text, WantOfMemory};
 use sq_conf::{ConfFault, read_config};
+use sq_machine::{Event, Told};
 use sq_replay::Stop;
-use sq_rules::{Event, Told};
 use sq_urlmatch::Setup;
 use std::alloc::Global;
 

@@ -3,13 +3,13 @@ ghost use Rattle.std.specs.Prelude.{◌≡◌, ◌+◌, min};
 ghost use Rattle.sq_outside.specs.Causes.{count_limit};
 
 use crate::lock_hub::{LockHub, Shares};
-use crate::sums::{Sums, add};
+use crate::sums::Sums;
 use sq_bank::Bank;
 use sq_base::{Addr, ConnNo};
 use sq_calls::DeskCalls;
 use sq_forward::{Ahead, Half};
 use sq_hub::HubFront;
-use sq_outside::{Clock, Dialer, Out, Source};
+use sq_outside::{Clock, Dialer, Out, Source, raised_by};
 use sq_room::Room;
 use sq_session::{SessionEnd, session};
 use std::alloc::Global;
@@ -71,8 +71,8 @@ pub(crate) fn attend<
     asked.merge(back.asked);
     refused.merge(back.refused);
     grants.merge(back.granted);
-    *requests = add(*requests, end.requests);
-    *granted = add(*granted, end.granted);
+    *requests = raised_by(*requests, end.requests);
+    *granted = raised_by(*granted, end.granted);
     end
 }
 

@@ -8,7 +8,7 @@ use sq_base::{Addr, CheckNo, ConnNo, EpochNo, Request};
 use sq_calls::{DeskCalls, DeskFault};
 use sq_checks::Record;
 use sq_hub::{Hub, HubFault};
-use sq_outside::{COUNT_LIMIT, Clock};
+use sq_outside::{Clock, raised, raised_by};
 use sq_pools::{ChooseFault, Seat};
 use sq_room::{Room, holds, tell, wait_answered};
 use sq_rows::Stepped;
@@ -80,25 +80,6 @@ fn hub_gave<T>(gave: Result<T, DeskFault>) -> Result<T, HubFault>
         Ok(value) => Ok(value),
         Err(fault) => Err(hub_fault(fault)),
     }
-}
-
-// One more, up to the limit.
-fn raise(count: u64) -> u64
-    requires { count ≤ count_limit }
-    ensures { result ≡ raised count }
-{
-    if count < COUNT_LIMIT {
-        count + 1
-    } else {
-        count
-    }
-}
-
-// So many more, up to the limit.
-fn raise_by(count: u64, more: u64) -> u64
-    ensures { result ≡ min (count + more) count_limit }
-{
-    count.saturating_add(more).min(COUNT_LIMIT)
 }
 
 impl<
@@ -218,7 +199,7 @@ impl<'a, R: Wait, D: DeskCalls, A: Ledger, M: Ledger, N: Ledger, G: Ledger, C: C
         let gave = holds::ask(*rt, *room, alloc, conn, request, now, asked, refused);
         tell(*rt, *room, &gave);
         if gave.is_ok() {
-            *asks = raise(*asks);
+            *asks = raised(*asks);
         }
         hub_gave(gave)
     }
@@ -269,7 +250,7 @@ impl<'a, R: Wait, D: DeskCalls, A: Ledger, M: Ledger, N: Ledger, G: Ledger, C: C
             ..
         } = self;
         let given = sq_bank::grant(*rt, *bank, seat, wanted, now, granted);
-        *grants = raise_by(*grants, given);
+        *grants = raised_by(*grants, given);
         given
     }
 

@@ -2,7 +2,7 @@
 ghost use Rattle.std.specs.Prelude.{◌≡◌, ◌+◌, min};
 ghost use Rattle.sq_outside.specs.Causes.{count_limit};
 
-use sq_outside::COUNT_LIMIT;
+use sq_outside::raised_by;
 use std::sync::ledger::{Ledger, Share};
 
 /// The sums of what the sessions of workers asked and were granted, each up to 2^63 - 1, with the workers' shares of the
@@ -17,13 +17,6 @@ pub struct Sums<A: Ledger, G: Ledger> {
     pub grants: Share<G>,
     pub ghost requests_are: { requests ≡ min asked.amount count_limit },
     pub ghost granted_are: { granted ≡ min grants.amount count_limit },
-}
-
-// The lesser of a sum and the limit.
-pub(crate) fn add(one: u64, other: u64) -> u64
-    ensures { result ≡ min (one + other) count_limit }
-{
-    one.saturating_add(other).min(COUNT_LIMIT)
 }
 
 /// The sums of both.
@@ -48,8 +41,8 @@ pub(crate) fn both<A: Ledger, G: Ledger>(one: Sums<A, G>, other: Sums<A, G>) -> 
     asked.merge(more_asked);
     grants.merge(more_grants);
     Sums {
-        requests: add(requests, more_requests),
-        granted: add(granted, more_granted),
+        requests: raised_by(requests, more_requests),
+        granted: raised_by(granted, more_granted),
         asked,
         grants,
     }

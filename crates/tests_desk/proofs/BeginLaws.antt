@@ -5,12 +5,12 @@ use Rattle.std.specs.Prelude.{ℤ}
 use Rattle.std.specs.Option.{ForSome}
 use Rattle.std.specs.declared.option.Option.{Option}
 use Rattle.sq_outside.specs.Causes.{count_limit}
-use Rattle.sq_rules.specs.declared.entries.Event.TheVariants as event
-use Rattle.sq_rules.specs.declared.entries.Told.TheVariants as told
-use Rattle.sq_rules.specs.Entries.{History}
-use Rattle.sq_rules.specs.Readings.{current}
+use Rattle.sq_machine.specs.declared.entries.Event.TheVariants as event
+use Rattle.sq_machine.specs.declared.entries.Told.TheVariants as told
+use Rattle.sq_machine.specs.Entries.{History, entry_at}
+use Rattle.sq_machine.specs.Readings.{current}
 use Rattle.sq_note.specs.Noting.{with_entry}
-use Rattle.sq_calls.specs.Telling.{Counts, entry_at}
+use Rattle.sq_calls.specs.Telling.{Counts}
 use Rattle.sq_calls.specs.declared.faults.DeskFault.{DeskFault}
 use Rattle.sq_room.specs.Books.{AreCounted, asks_in}
 

@@ -4,7 +4,8 @@ use sq_checks::Record;
 use sq_engine::Engine;
 use sq_epochs::Act;
 use sq_farm::Got;
-use sq_rules::{Outcome, Refusal, Why};
+use sq_machine::Refusal;
+use sq_rules::{Outcome, Why};
 use std::alloc::Global;
 use std::test::Fail;
 

@@ -6,9 +6,9 @@ use sq_cache::HashSeed;
 use sq_conf::read_config;
 use sq_engine::Engine;
 use sq_journal::read_event;
+use sq_machine::{Event, Offset, Refusal};
 use sq_request::make_request;
 use sq_rows::Stepped;
-use sq_rules::{Event, Offset, Refusal};
 use std::alloc::Global;
 use std::test::Fail;
 

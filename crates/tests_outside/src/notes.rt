@@ -2,9 +2,9 @@
 
 use sq_base::WantOfMemory;
 use sq_journal::{EntryFault, read_entry};
+use sq_machine::Entry;
 use sq_note::{Journal, MemJournal, SinkJournal};
 use sq_outside::{Failed, MemSink};
-use sq_rules::Entry;
 use std::alloc::Global;
 use std::process::Abort;
 use std::test::Fail;

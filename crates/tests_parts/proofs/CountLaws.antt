@@ -1,9 +1,9 @@
 -- Questions that are counted, after a step and after an end.
 use Rattle.std.proofs.Common.{◌≡◌, ◌∙◌, ◌&&◌, ◌++◌, ◌+◌, ◌==◌, not, cond, Bool, true, false, ℕ, suc, List, [], ◌∷◌, Option, None, Some, if◌then◌else◌, filter, nat_lt, is_some, refl, ap, sym, arith, IfSome, IfNone}
 use Rattle.std.proofs.lemmas.Bool.Decides.{nat_tests}
-use Rattle.sq_rules.specs.Marks.{Put}
-use Rattle.sq_rules.specs.OpenLookups.{LookupRow, all_below}
-use Rattle.sq_rules.specs.StepRule.{StepSays}
+use Rattle.sq_machine.specs.Marks.{Put}
+use Rattle.sq_machine.specs.OpenLookups.{LookupRow, all_below}
+use Rattle.sq_machine.specs.StepRule.{StepSays}
 use Rattle.sq_rows.specs.ClassRows.{ClassRow, with_took}
 use Rattle.sq_rows.specs.StepRows.{with_put}
 use Rattle.sq_rows.specs.declared.said.Said.{Said}

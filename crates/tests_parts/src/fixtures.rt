@@ -39,7 +39,7 @@ pub struct Asked {
 
 impl Model for Asked {
     ghost use Rattle.std.specs.Prelude.{◌≡◌, ◌≤◌, ℕ};
-    ghost use Rattle.sq_rules.specs.Farms.{places};
+    ghost use Rattle.sq_machine.specs.Farms.{places};
 
     ghost Value = { ℕ };
 

@@ -24,7 +24,7 @@ pub struct Run {
 
 impl Model for Run {
     ghost use Rattle.std.specs.Prelude.{◌≡◌, ℕ, suc, true};
-    ghost use Rattle.sq_rules.specs.OpenLookups.{all_below};
+    ghost use Rattle.sq_machine.specs.OpenLookups.{all_below};
 
     ghost Value = { ℕ };
 

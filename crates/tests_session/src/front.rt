@@ -7,8 +7,9 @@ use sq_checks::{OpenCheck, Record};
 use sq_conf::read_config;
 use sq_facts::read_facts;
 use sq_forward::Meter;
-use sq_outside::COUNT_LIMIT;
-use sq_rules::{Refusal, Sight, Value};
+use sq_machine::Refusal;
+use sq_outside::{raised, raised_by};
+use sq_rules::{Sight, Value};
 use sq_session::{CloseFault, Counts, Decided, Front, Opened, SitFault};
 use std::alloc::Global;
 use std::sync::Arc;
@@ -69,14 +70,6 @@ pub struct MemFront {
     ghost refused_capped: { refused ≤ 2 ^ 63 - 1 },
     ghost granted_capped: { granted ≤ 2 ^ 63 - 1 },
     ghost dry_capped: { dry ≤ 2 ^ 63 - 1 },
-}
-
-/// A count that rose by one.
-fn raised(count: u64) -> u64
-    requires { count ≤ 2 ^ 63 - 1 }
-    ensures { result ≡ raised count }
-{
-    (count + 1).min(COUNT_LIMIT)
 }
 
 /// The record of this request, which the configuration judges.
@@ -204,7 +197,7 @@ impl Meter for MemFront {
         };
         if self.seated {
             self.room.first -= given;
-            self.granted = self.granted.saturating_add(given).min(COUNT_LIMIT);
+            self.granted = raised_by(self.granted, given);
         }
         self.short = wanted > 0 && given == 0;
         if given > 0 {
@@ -216,7 +209,7 @@ impl Meter for MemFront {
     fn pause(&mut self) {
         self.room.first = self.room.first.saturating_add(self.room.more);
         if self.short {
-            self.dry = (self.dry + 1).min(COUNT_LIMIT);
+            self.dry = raised(self.dry);
         }
         self.short = false;
     }

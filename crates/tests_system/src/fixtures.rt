@@ -1,11 +1,12 @@
 //! What several tests share: a long text, and both ends of a link on this machine.
 use sq_base::{Text, WantOfMemory};
 use sq_outside::{
-    Accepted, Clock, Dialer, Failed, Listener, Out, RealDialer, RealIn, RealListener, RealOut,
-    Sink, Source, read_whole, write_all,
+    Accepted, Clock, Dialer, Failed, Listener, Out, Sink, Source, read_whole, write_all,
 };
+use sq_system::{RealDialer, RealIn, RealListener, RealOut};
 use std::alloc::Global;
 use std::net::{Net, TcpStream};
+use std::time;
 
 /// How many bytes each side sends.
 pub const LONG: usize = 1 << 20;
@@ -45,7 +46,7 @@ pub fn receives<S: Source>(alloc: Global, from: &mut S, mark: u8) -> bool {
 pub type Halves = (RealIn, RealOut);
 
 /// Dials this machine by this host.
-pub fn dials<R: Net<Stream = TcpStream>>(
+pub fn dials<R: Net<Stream = TcpStream> + time::Clock>(
     alloc: Global,
     dialer: &mut RealDialer<R>,
     host: &[u8],

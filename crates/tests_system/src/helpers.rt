@@ -1,10 +1,8 @@
 //! Programs as helpers, as POSIX has `cat` and `sh`.
 use crate::fixtures::{fails_to_write, words};
 use sq_base::{Text, WantOfMemory};
-use sq_outside::{
-    Another, Files, Found, Held, NoOpen, Out, RealClock, RealFiles, RealSpawner, Source, Spawner,
-    next_line, write_all,
-};
+use sq_outside::{Another, Files, Found, Held, NoOpen, Out, Source, Spawner, next_line, write_all};
+use sq_system::{RealClock, RealFiles, RealSpawner};
 use std::alloc::Global;
 use std::test::Fail;
 

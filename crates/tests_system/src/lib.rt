@@ -10,6 +10,12 @@ mod fixtures;
 #[cfg(test)]
 mod helpers;
 #[cfg(test)]
+mod hosts;
+#[cfg(test)]
+mod limits;
+#[cfg(test)]
 mod links;
+#[cfg(test)]
+mod readers;
 #[cfg(test)]
 mod refusals;

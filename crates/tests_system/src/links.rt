@@ -1,10 +1,8 @@
 //! Links between two ends on this machine.
 use crate::fixtures::{accepts, dials, receives, sends};
 use sq_base::{Addr, Text};
-use sq_outside::{
-    Accepted, Another, Clock, Dialer, Listener, Net, RealClock, RealDialer, RealListener, RealNet,
-    Sink, Source, Stopper,
-};
+use sq_outside::{Accepted, Another, Clock, Dialer, Listener, Net, Sink, Source, Stopper};
+use sq_system::{LinkTimes, RealClock, RealDialer, RealListener, RealNet};
 use std::alloc::Global;
 use std::test::Fail;
 use std::thread;
@@ -20,10 +18,12 @@ fn replies(alloc: Global, mut listener: RealListener) -> bool {
 #[test]
 fn each_side_sends_1_mib_and_closes(rt: HostRuntime) -> Result<(), Fail> {
     let alloc = rt.alloc();
-    let (listener, _stopper) = RealListener::listen(alloc, rt, 0).ok_or("no port")?;
+    let (listener, _stopper) = RealListener::listen(alloc, rt, 0, LinkTimes::of_server()).ok_or(
+        "no port",
+    )?;
     let port = listener.port().ok_or("no port")?;
     let other = thread::spawn(&rt, move || replies(alloc, listener))?;
-    let mut dialer = RealDialer::new(rt).another();
+    let mut dialer = RealDialer::new(rt, LinkTimes::of_server()).another();
     let (mut from, mut to) = dials(alloc, &mut dialer, b"127.0.0.1", port)?;
     assert!(rt; sends(&mut to, 1));
     assert!(rt; receives(alloc, &mut from, 2));
@@ -58,9 +58,11 @@ fn a_listener_that_waits_is_stopped(rt: HostRuntime) -> Result<(), Fail> {
 #[test]
 fn clients_come_from_their_address(rt: HostRuntime) -> Result<(), Fail> {
     let alloc = rt.alloc();
-    let (mut listener, _stopper) = RealListener::listen(alloc, rt, 0).ok_or("no port")?;
+    let (mut listener, _stopper) = RealListener::listen(alloc, rt, 0, LinkTimes::of_server()).ok_or(
+        "no port",
+    )?;
     let port = listener.port().ok_or("no port")?;
-    let mut dialer = RealDialer::new(rt);
+    let mut dialer = RealDialer::new(rt, LinkTimes::of_server());
     let hosts: [(&[u8], bool, u128); 2] = [(b"127.0.0.1", false, 0x7f00_0001), (b"::1", true, 1)];
     for &(host, v6, number) in &hosts {
         match dials(alloc, &mut dialer, host, port) {

@@ -1,9 +1,9 @@
 //! What is not there: programs, ports, hosts. And what always is: the time, and this machine's own name.
 use crate::fixtures::{dials, words};
 use sq_base::Text;
-use sq_outside::{
-    Another, Clock, Failed, LookFault, Net, RealClock, RealDialer, RealListener, RealNet,
-    RealResolver, RealSpawner, Resolver, Spawner,
+use sq_outside::{Another, Clock, Failed, LookFault, Net, Resolver, Spawner};
+use sq_system::{
+    LinkTimes, RealClock, RealDialer, RealListener, RealNet, RealResolver, RealSpawner,
 };
 use std::test::Fail;
 
@@ -42,7 +42,7 @@ static NO_HOSTS: [&[u8]; 5] = [
 #[test]
 fn what_is_no_host_is_not_reached(rt: HostRuntime) -> Result<(), Fail> {
     let alloc = rt.alloc();
-    let mut dialer = RealDialer::new(rt);
+    let mut dialer = RealDialer::new(rt, LinkTimes::of_server());
     let mut resolver = RealResolver::new(rt).another();
     for &host in &NO_HOSTS {
         assert!(rt; dials(alloc, &mut dialer, host, 80).is_err(), "at {host:?}");
@@ -61,7 +61,7 @@ fn a_port_is_taken_once_and_free_again(rt: HostRuntime) -> Result<(), Fail> {
     let mut net = RealNet::new(rt);
     let parts = net.parts(alloc, 0)?;
     let port = parts.listener.port().ok_or("no port")?;
-    assert!(rt; RealListener::listen(alloc, rt, port).is_none());
+    assert!(rt; RealListener::listen(alloc, rt, port, LinkTimes::of_server()).is_none());
     assert!(rt; net.parts(alloc, port).is_err());
     let mut dialer = parts.dialer;
     assert!(rt; dials(alloc, &mut dialer, b"127.0.0.1", port).is_ok());

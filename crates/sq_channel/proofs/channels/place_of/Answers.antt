@@ -2,7 +2,7 @@ use Rattle.std.proofs.lemmas.List.Sorted.{IsPartitionPoint-from_clause}
 use Rattle.std.proofs.lemmas.List.{map-id}
 use Rattle.std.proofs.lemmas.Grind.{common_steps}
 use Rattle.std.proofs.Common.{nat_lt, rules, map, ℕ, subst, sym, ap, ◌∙◌, ◌≤◌, length, arith}
-use Rattle.sq_rules.specs.Rising.{Rises, place_among}
+use Rattle.sq_machine.specs.Rising.{Rises, place_among}
 use Rattle.sq_channel.proofs.RisingLaws.{place_found, rises_parts}
 use Rattle.sq_channel.proofs.channels.place_of.Goals as goal
 

@@ -1,5 +1,5 @@
 use Rattle.std.proofs.Common.{◌≡◌, drop}
-use Rattle.sq_rules.specs.Channels.{first_open}
+use Rattle.sq_machine.specs.Channels.{first_open}
 use Rattle.sq_channel.proofs.processes.first_open.Given as goal
 
 abbrev pub invariant-loop-slot : goal.invariant-loop-slot

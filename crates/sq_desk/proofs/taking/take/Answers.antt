@@ -1,5 +1,5 @@
 use Rattle.std.proofs.Common.{◌∙◌, ap, refl}
-use Rattle.sq_rules.specs.Entries.{is_outcome}
+use Rattle.sq_machine.specs.Entries.{is_outcome}
 use Rattle.sq_engine.specs.EngineViews.{state_of}
 use Rattle.sq_engine.specs.Stepping.{epoch_of}
 use Rattle.sq_desk.proofs.EventLaws.{told_outcome}

@@ -1,5 +1,5 @@
 use Rattle.std.proofs.Common.{sym}
-use Rattle.sq_rules.specs.StepRule.{class_of_acl}
+use Rattle.sq_machine.specs.StepRule.{class_of_acl}
 use Rattle.sq_engine.proofs.NowLaws.{class_is_there, class_needed, some_none}
 use Rattle.sq_engine.proofs.stepping.needed_class.Goals as goal
 

@@ -1,7 +1,7 @@
 use Rattle.std.proofs.Common.{◌≡◌, ◌+◌, ◌<◌, ◌∷◌, true, is_some, drop, length, arith, ap, sym, subst, ◌∙◌, map, if◌then◌else◌, ℕ}
 use Rattle.std.proofs.lemmas.Grind.{common_steps}
 use Rattle.std.proofs.lemmas.List.{drop_more}
-use Rattle.sq_rules.specs.Rising.{Rises, times_of}
+use Rattle.sq_machine.specs.Rising.{Rises, times_of}
 use Rattle.sq_epochs.specs.HomeStates.{home_in, home_number, is_of_epoch, procs_of, with_number, with_numbers}
 use Rattle.sq_epochs.proofs.HomeLaws.{apart_step, home_first, length_if, procs_step}
 use Rattle.sq_epochs.proofs.homes.put_all.Goals as goal

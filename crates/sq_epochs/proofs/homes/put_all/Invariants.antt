@@ -1,5 +1,5 @@
 use Rattle.std.proofs.Common.{◌≡◌, ◌+◌, ◌≤◌, ℕ, drop, length, map, is_some, true}
-use Rattle.sq_rules.specs.Rising.{Rises, times_of}
+use Rattle.sq_machine.specs.Rising.{Rises, times_of}
 use Rattle.sq_epochs.specs.HomeStates.{home_in, home_number, procs_of, with_numbers}
 use Rattle.sq_epochs.proofs.homes.put_all.Given as goal
 

@@ -1,7 +1,7 @@
 use Rattle.std.proofs.Common.{ap, ◌∙◌, map, arith}
 use Rattle.std.proofs.lemmas.Grind.{common_steps}
 use Rattle.std.specs.List.{remove}
-use Rattle.sq_rules.specs.Rising.{place_among}
+use Rattle.sq_machine.specs.Rising.{place_among}
 use Rattle.sq_epochs.specs.EpochStates.{epoch_number}
 use Rattle.sq_epochs.proofs.DropLaws.{removed}
 use Rattle.sq_epochs.proofs.LiveLaws.{place_within}

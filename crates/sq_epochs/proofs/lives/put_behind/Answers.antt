@@ -1,6 +1,6 @@
 use Rattle.std.proofs.Common.{ap, ◌∙◌, map, arith}
 use Rattle.std.proofs.lemmas.Grind.{common_steps}
-use Rattle.sq_rules.specs.Rising.{place_among}
+use Rattle.sq_machine.specs.Rising.{place_among}
 use Rattle.sq_epochs.specs.EpochStates.{epoch_number}
 use Rattle.sq_epochs.proofs.BegunLaws.{put_begun}
 use Rattle.sq_epochs.proofs.LiveLaws.{place_within}

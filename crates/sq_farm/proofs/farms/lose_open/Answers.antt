@@ -1,8 +1,8 @@
 use Rattle.std.proofs.Common.{◌≡◌, ◌+◌, ◌++◌, ◌<◌, drop, length, arith, ap, sym, ◌∙◌}
 use Rattle.std.proofs.lemmas.Grind.{common_steps}
 use Rattle.std.specs.Option.{option_to_list}
-use Rattle.sq_rules.specs.Channels.{opened}
-use Rattle.sq_rules.specs.Losses.{lose_all}
+use Rattle.sq_machine.specs.Channels.{opened}
+use Rattle.sq_machine.specs.Losses.{lose_all}
 use Rattle.sq_farm.proofs.FarmLaws.{length_lose_all}
 use Rattle.sq_farm.proofs.PlaceLaws.{lose_slot_law, once_slot, opened_step}
 use Rattle.sq_farm.proofs.CallLaws.{length_join}

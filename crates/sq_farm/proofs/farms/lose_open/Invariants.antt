@@ -1,7 +1,7 @@
 use Rattle.std.proofs.Common.{◌≡◌, ◌+◌, ◌≤◌, ℕ, drop, length}
-use Rattle.sq_rules.specs.Channels.{opened}
-use Rattle.sq_rules.specs.Losses.{lose_all, times_lost}
-use Rattle.sq_rules.specs.Rising.{times_of}
+use Rattle.sq_machine.specs.Channels.{opened}
+use Rattle.sq_machine.specs.Losses.{lose_all, times_lost}
+use Rattle.sq_machine.specs.Rising.{times_of}
 use Rattle.sq_farm.proofs.farms.lose_open.Given as goal
 
 abbrev pub invariant-loop-slot : goal.invariant-loop-slot

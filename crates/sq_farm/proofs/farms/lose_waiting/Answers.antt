@@ -1,7 +1,7 @@
 use Rattle.std.proofs.Common.{◌≡◌, ◌∷◌, length, map, arith, ap, sym, ◌∙◌}
 use Rattle.sq_base.specs.declared.helpers.Cause.TheVariants as cause
-use Rattle.sq_rules.specs.Farms.{Waiting, waiting_number}
-use Rattle.sq_rules.specs.Losses.{lose_all}
+use Rattle.sq_machine.specs.Farms.{Waiting, waiting_number}
+use Rattle.sq_machine.specs.Losses.{lose_all}
 use Rattle.sq_farm.proofs.DueLaws.{once_lose}
 use Rattle.sq_farm.proofs.LostLaws.{length_lose}
 use Rattle.sq_farm.proofs.farms.lose_waiting.Goals as goal

@@ -1,8 +1,8 @@
 use Rattle.std.proofs.Common.{◌≡◌, ◌+◌, ◌≤◌, ℕ, length, map}
 use Rattle.sq_base.specs.declared.helpers.Cause.TheVariants as cause
-use Rattle.sq_rules.specs.Farms.{waiting_number}
-use Rattle.sq_rules.specs.Losses.{lose_all, times_lost}
-use Rattle.sq_rules.specs.Rising.{times_of}
+use Rattle.sq_machine.specs.Farms.{waiting_number}
+use Rattle.sq_machine.specs.Losses.{lose_all, times_lost}
+use Rattle.sq_machine.specs.Rising.{times_of}
 use Rattle.sq_farm.proofs.farms.lose_waiting.Given as goal
 
 abbrev pub decreases-loop-waiting : goal.decreases-loop-waiting

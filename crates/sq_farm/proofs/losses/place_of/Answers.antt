@@ -1,7 +1,7 @@
 use Rattle.std.proofs.lemmas.List.Sorted.{IsPartitionPoint-from_clause}
 use Rattle.std.proofs.Common.{nat_lt, rules, ◌≤◌, length, arith}
 use Rattle.std.proofs.lemmas.Grind.{common_steps}
-use Rattle.sq_rules.specs.Losses.{loss_number}
+use Rattle.sq_machine.specs.Losses.{loss_number}
 use Rattle.sq_channel.proofs.RisingLaws.{place_found, rises_parts}
 use Rattle.sq_farm.proofs.losses.place_of.Goals as goal
 

@@ -1,7 +1,7 @@
 use Rattle.std.proofs.lemmas.List.Sorted.{IsPartitionPoint-from_clause}
 use Rattle.std.proofs.lemmas.List.{map-id}
 use Rattle.std.proofs.Common.{nat_lt, rules, map, ℕ, subst, sym, ap, ◌∙◌}
-use Rattle.sq_rules.specs.Rising.{Rises, place_among}
+use Rattle.sq_machine.specs.Rising.{Rises, place_among}
 use Rattle.sq_channel.proofs.RisingLaws.{place_found, rises_parts}
 use Rattle.sq_farm.proofs.procs.place_in.Goals as goal
 

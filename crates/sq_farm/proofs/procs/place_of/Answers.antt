@@ -1,6 +1,6 @@
 use Rattle.std.proofs.lemmas.List.Sorted.{IsPartitionPoint-from_clause}
 use Rattle.std.proofs.Common.{nat_lt, rules}
-use Rattle.sq_rules.specs.Living.{living_number}
+use Rattle.sq_machine.specs.Living.{living_number}
 use Rattle.sq_channel.proofs.RisingLaws.{place_found, rises_parts}
 use Rattle.sq_farm.proofs.procs.place_of.Goals as goal
 

@@ -1,5 +1,5 @@
 use Rattle.std.proofs.Common.{◌≡◌, ◌∷◌, [], ◌++◌, ◌∙◌, codes, decimal, ap}
-use Rattle.sq_rules.specs.Entries.{Noted}
+use Rattle.sq_machine.specs.Entries.{Noted}
 use Rattle.sq_journal.specs.EntryText.{event_words, told_words, entry_text}
 use Rattle.sq_journal.specs.Lines.{after_spaces}
 use Rattle.sq_journal.proofs.EntryLaws.{entry_is}

@@ -1,5 +1,5 @@
 use Rattle.std.proofs.Common.{[], map, sym}
-use Rattle.sq_rules.specs.declared.entries.Event.TheVariants.{Ask}
+use Rattle.sq_machine.specs.declared.entries.Event.TheVariants.{Ask}
 use Rattle.sq_journal.specs.EntryText.{event_words, field_word}
 use Rattle.sq_journal.specs.Lines.{after_spaces}
 use Rattle.sq_journal.proofs.LineLaws.{both_after}

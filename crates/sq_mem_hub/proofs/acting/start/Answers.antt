@@ -1,4 +1,4 @@
-use Rattle.sq_rules.specs.declared.entries.Told.TheVariants as told
+use Rattle.sq_machine.specs.declared.entries.Told.TheVariants as told
 use Rattle.sq_mem_hub.proofs.CallLaws.{kept_same, unmade}
 use Rattle.sq_mem_hub.proofs.WaitLaws.{waited_start}
 use Rattle.sq_mem_hub.proofs.acting.start.Goals as goal

@@ -1,6 +1,6 @@
 use Rattle.std.proofs.Common.{refl}
-use Rattle.sq_rules.specs.declared.entries.Event.TheVariants as event
-use Rattle.sq_rules.specs.declared.entries.Told.TheVariants as told
+use Rattle.sq_machine.specs.declared.entries.Event.TheVariants as event
+use Rattle.sq_machine.specs.declared.entries.Told.TheVariants as told
 use Rattle.sq_engine.specs.Lines.{got_told}
 use Rattle.sq_mem_hub.proofs.CallLaws.{kept_by, unmade}
 use Rattle.sq_mem_hub.proofs.WaitLaws.{waited_by}

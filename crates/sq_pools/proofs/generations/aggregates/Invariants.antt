@@ -1,5 +1,5 @@
 use Rattle.std.proofs.Common.{◌≡◌, ◌&&◌, nat_lt, None, Some}
-use Rattle.sq_rules.specs.PoolReadings.{Spot, is_aggregate}
+use Rattle.sq_machine.specs.PoolReadings.{Spot, is_aggregate}
 use Rattle.sq_pools.specs.Grants.{bucket_at, filled_if, opened_in}
 use Rattle.sq_pools.proofs.generations.aggregates.Given as goal
 

@@ -1,5 +1,5 @@
 use Rattle.std.proofs.Common.{◌≡◌, ◌++◌, drop}
-use Rattle.sq_rules.specs.PoolReadings.{spots_from}
+use Rattle.sq_machine.specs.PoolReadings.{spots_from}
 use Rattle.sq_pools.proofs.spots.spots_of.Given as goal
 
 -- the buckets so far, and those of the pairs that are left

@@ -1,6 +1,6 @@
 use Rattle.std.proofs.Common.{◌≡◌, ◌+◌, ◌≤◌, List}
 use Rattle.sq_rules.specs.Configurations.{Configuration}
-use Rattle.sq_rules.specs.Entries.{History}
+use Rattle.sq_machine.specs.Entries.{History}
 use Rattle.sq_replay.specs.MachineViews.{machine_of}
 use Rattle.sq_replay.specs.Runs.{Is}
 use Rattle.sq_rehearse.specs.Summaries.{counted, total}

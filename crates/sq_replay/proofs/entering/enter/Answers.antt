@@ -1,10 +1,10 @@
 use Rattle.std.proofs.Common.{◌∷◌, ap, Err}
 use Rattle.sq_journal.specs.EntryText.{written}
-use Rattle.sq_state.specs.Promises.{entry_at}
 use Rattle.sq_replay.specs.RunText.{acts}
 use Rattle.sq_replay.proofs.GrowthLaws.{acts_grow}
 use Rattle.sq_replay.proofs.LoopLaws.{front_more, part_more}
 use Rattle.sq_replay.proofs.entering.enter.Goals as goal
+use Rattle.sq_machine.specs.Entries.{entry_at}
 
 pub returns-in-Ok-clause-arrives : goal.returns-in-Ok-clause-arrives
 returns-in-Ok-clause-arrives g c = λ base configs h is w.

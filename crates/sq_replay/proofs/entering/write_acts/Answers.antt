@@ -1,9 +1,8 @@
 use Rattle.std.proofs.Common.{◌≡◌, ℕ, List, Option, ◌++◌, Ok, Err, IfNone, IfSome, ◌<◌, refl, subst, sym, ap, ◌∙◌}
-use Rattle.sq_rules.specs.declared.entries.Event.TheVariants.{Act}
+use Rattle.sq_machine.specs.declared.entries.Event.TheVariants.{Act}
 use Rattle.sq_rules.specs.Configurations.{Configuration}
-use Rattle.sq_rules.specs.Entries.{History}
+use Rattle.sq_machine.specs.Entries.{History, entry_at}
 use Rattle.sq_journal.specs.EntryText.{entry_line}
-use Rattle.sq_state.specs.Promises.{entry_at}
 use Rattle.sq_replay.specs.Dues.{dues_in}
 use Rattle.sq_replay.specs.Making.{IsActing}
 use Rattle.sq_replay.specs.MachineViews.{machine_of}

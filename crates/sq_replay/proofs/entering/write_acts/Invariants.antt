@@ -1,6 +1,6 @@
 use Rattle.std.proofs.Common.{◌≡◌, ℕ, List, Option}
 use Rattle.sq_rules.specs.Configurations.{Configuration}
-use Rattle.sq_rules.specs.Entries.{History}
+use Rattle.sq_machine.specs.Entries.{History}
 use Rattle.sq_replay.specs.Dues.{dues_in}
 use Rattle.sq_replay.specs.MachineViews.{machine_of}
 use Rattle.sq_replay.specs.Runs.{At, Reached}

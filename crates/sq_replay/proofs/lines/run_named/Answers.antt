@@ -1,7 +1,6 @@
 use Rattle.std.proofs.Common.{◌≡◌, ◌∷◌, max, Ok, Err, subst, ◌∙◌}
-use Rattle.sq_rules.specs.declared.entries.Event.TheVariants.{Reconfigure}
-use Rattle.sq_rules.specs.Readings.{current}
-use Rattle.sq_state.specs.Promises.{entry_at}
+use Rattle.sq_machine.specs.declared.entries.Event.TheVariants.{Reconfigure}
+use Rattle.sq_machine.specs.Readings.{current}
 use Rattle.sq_replay.specs.declared.page.Untold.TheVariants as untold
 use Rattle.sq_replay.specs.Entering.{Arrives}
 use Rattle.sq_replay.specs.MachineViews.{machine_of}
@@ -10,6 +9,7 @@ use Rattle.sq_replay.specs.RunText.{acts, event_step}
 use Rattle.sq_replay.specs.Runs.{IsMade}
 use Rattle.sq_replay.proofs.EnteringLaws.{arrives_at, event_front, front_step, named_refused, named_source_is, named_step, named_stops, part_step}
 use Rattle.sq_replay.proofs.lines.run_named.Goals as goal
+use Rattle.sq_machine.specs.Entries.{entry_at}
 
 pub returns-in-Err-clause-goes : goal.returns-in-Err-clause-goes
 returns-in-Err-clause-goes g c = λ base configs h shelf at tells next.

@@ -1,5 +1,4 @@
 use Rattle.std.proofs.Common.{◌≡◌, ◌∷◌, max, Ok, Err, subst, ◌∙◌}
-use Rattle.sq_state.specs.Promises.{entry_at}
 use Rattle.sq_replay.specs.declared.page.Untold.TheVariants as untold
 use Rattle.sq_replay.specs.Entering.{Arrives}
 use Rattle.sq_replay.specs.MachineViews.{machine_of}
@@ -7,6 +6,7 @@ use Rattle.sq_replay.specs.Making.{IsMaking}
 use Rattle.sq_replay.specs.RunText.{acts, event_step}
 use Rattle.sq_replay.proofs.EnteringLaws.{arrives_at, event_front, front_step, part_step, plain_step, refusal_step}
 use Rattle.sq_replay.proofs.lines.run_plain.Goals as goal
+use Rattle.sq_machine.specs.Entries.{entry_at}
 
 pub returns-in-Err-Refused-clause-goes : goal.returns-in-Err-Refused-clause-goes
 returns-in-Err-Refused-clause-goes g c = λ base configs h shelf at.

@@ -1,10 +1,10 @@
 use Rattle.std.proofs.Common.{◌≡◌, ◌+◌, ℕ, Err, max, bytes_eq, true, arith, ap, subst, ◌∙◌}
-use Rattle.sq_state.specs.Promises.{entry_at}
 use Rattle.sq_replay.specs.declared.stops.Stop.{Stop}
 use Rattle.sq_verify.specs.JournalLines.{text_in}
 use Rattle.sq_verify.specs.Promised.{Compares, Plays}
 use Rattle.sq_verify.proofs.StepLaws.{goes_no_more, goes_on, none_is}
 use Rattle.sq_verify.proofs.judging.judge_event.Goals as goal
+use Rattle.sq_machine.specs.Entries.{entry_at}
 
 pub returns-in-Err-Refused : goal.returns-in-Err-Refused
 returns-in-Err-Refused g c = record {

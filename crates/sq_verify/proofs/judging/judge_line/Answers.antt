@@ -1,6 +1,6 @@
 use Rattle.std.proofs.Common.{◌+◌, List, Option, Some, ap, sym, subst, ◌∙◌}
 use Rattle.sq_rules.specs.Configurations.{Configuration}
-use Rattle.sq_rules.specs.Entries.{History, Noted}
+use Rattle.sq_machine.specs.Entries.{History, Noted}
 use Rattle.sq_verify.specs.Judging.{stated_line}
 use Rattle.sq_verify.specs.Promised.{Goes, IsNext, Stands}
 use Rattle.sq_verify.proofs.judging.judge_line.Goals as goal

@@ -2,7 +2,7 @@ use Rattle.std.proofs.Common.{◌+◌, ℕ, List, Err, Ok, arith, sym, subst, �
 use Rattle.std.specs.Io.KnownBytes.{prepend_known}
 use Rattle.sq_outside.specs.SourceLines.{FindsWithin, Moves, lines}
 use Rattle.sq_rules.specs.Configurations.{Configuration}
-use Rattle.sq_rules.specs.Entries.{History}
+use Rattle.sq_machine.specs.Entries.{History}
 use Rattle.sq_verify.specs.declared.findings.Finding.{Finding}
 use Rattle.sq_verify.specs.JournalLines.{line_limit, noted_in}
 use Rattle.sq_verify.specs.Judging.{judged_lines, stated_line}

@@ -2,7 +2,7 @@ use Rattle.std.proofs.Common.{◌≡◌, ◌+◌, ◌-◌, ◌≤◌, List}
 use Rattle.std.specs.Io.KnownBytes.{prepend_known}
 use Rattle.sq_outside.specs.SourceLines.{lines, total_limit}
 use Rattle.sq_rules.specs.Configurations.{Configuration}
-use Rattle.sq_rules.specs.Entries.{History}
+use Rattle.sq_machine.specs.Entries.{History}
 use Rattle.sq_verify.specs.Promised.{Going, Stands, StaysKnown}
 use Rattle.sq_verify.specs.Judging.{judged_lines}
 use Rattle.sq_verify.proofs.judging.judge_rest.Given as goal

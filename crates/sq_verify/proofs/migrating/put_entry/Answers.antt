@@ -1,5 +1,5 @@
 use Rattle.std.proofs.Common.{◌∙◌, ◌++◌, ◌∷◌, [], ◌==◌, Err, ap, inr, subst}
-use Rattle.sq_rules.specs.Entries.{Noted}
+use Rattle.sq_machine.specs.Entries.{Noted}
 use Rattle.sq_note.specs.Sinks.{epoch_behind}
 use Rattle.sq_replay.specs.declared.page.Untold.{Untold}
 use Rattle.sq_replay.specs.declared.page.Untold.TheVariants as untold

@@ -1,7 +1,7 @@
 use Rattle.std.proofs.Common.{◌≡◌, ◌<◌, ◌∙◌, sym, ap, Some, arith}
-use Rattle.sq_rules.specs.Freshness.{ttl_of}
-use Rattle.sq_rules.specs.KeptLists.{keep}
-use Rattle.sq_rules.specs.declared.kept.KeptVerdict.{KeptVerdict}
+use Rattle.sq_machine.specs.Freshness.{ttl_of}
+use Rattle.sq_machine.specs.KeptLists.{keep}
+use Rattle.sq_machine.specs.declared.kept.KeptVerdict.{KeptVerdict}
 use Rattle.sq_cache.specs.Keeping.{keeping_of}
 use Rattle.sq_cache.proofs.KeepLaws.{put_keeps}
 use Rattle.sq_cache.proofs.kept.Kept.put.Goals as goal

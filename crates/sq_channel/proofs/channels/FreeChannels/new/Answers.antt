@@ -1,6 +1,6 @@
 use Rattle.std.proofs.Common.{◌≡◌, ℕ, suc, ◌+◌, ◌∷◌, ◌++◌, [], None, ◌∙◌, ap, arith, length, replicate, subst, sym}
 use Rattle.std.proofs.lemmas.Grind.{common_steps}
-use Rattle.sq_rules.specs.Rising.{Rises}
+use Rattle.sq_machine.specs.Rising.{Rises}
 use Rattle.sq_channel.specs.Indexes.{free_channels}
 use Rattle.sq_channel.proofs.ChannelLaws.{free_count_law, free_new, from_zero, rises_free}
 use Rattle.sq_channel.proofs.SlotLaws.{new_slots}

@@ -1,7 +1,7 @@
 use Rattle.std.proofs.Common.{◌≡◌, ◌<◌, ◌∙◌, false, if◌then◌else◌, ◌==◌, Some, is_some, ap, arith, length, sym}
 use Rattle.sq_channel.specs.Indexes.{channel_in}
 use Rattle.std.proofs.lemmas.Grind.{common_steps}
-use Rattle.sq_rules.specs.Channels.{asked, channel_name, free_count, is_open, least_free}
+use Rattle.sq_machine.specs.Channels.{asked, channel_name, free_count, is_open, least_free}
 use Rattle.sq_channel.proofs.ChannelLaws.{channel_asked, channel_open, free_count_law, none-of, taken}
 use Rattle.sq_channel.proofs.SlotLaws.{IsProcess_asked, all_slots, free_asked, least_within, length_asked, set_asked}
 use Rattle.sq_channel.proofs.processes.Process.ask.Goals as goal

@@ -1,6 +1,6 @@
 use Rattle.std.proofs.Common.{◌≡◌, ◌∙◌, ◌∷◌, ◌++◌, None, Some, ap, sym}
 use Rattle.std.specs.Option.{option_to_list}
-use Rattle.sq_rules.specs.Channels.{drained, first_open, opened}
+use Rattle.sq_machine.specs.Channels.{drained, first_open, opened}
 use Rattle.sq_channel.proofs.SlotLaws.{drained_none, first_open_law, opened_drained, settled_first}
 use Rattle.sq_channel.proofs.processes.Process.drain.Goals as goal
 

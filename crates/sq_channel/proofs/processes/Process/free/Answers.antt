@@ -1,6 +1,6 @@
 use Rattle.std.proofs.Common.{◌≡◌, ◌∙◌, ap, arith, length}
 use Rattle.std.proofs.lemmas.Grind.{common_steps}
-use Rattle.sq_rules.specs.Channels.{free_count}
+use Rattle.sq_machine.specs.Channels.{free_count}
 use Rattle.sq_channel.proofs.ChannelLaws.{free_count_law}
 use Rattle.sq_channel.proofs.SlotLaws.{all_slots, free_within}
 use Rattle.sq_channel.proofs.processes.Process.free.Goals as goal

@@ -1,6 +1,6 @@
 use Rattle.std.proofs.Common.{◌≡◌, ◌<◌, ◌∙◌, Some, ap, arith, length, sym}
 use Rattle.std.proofs.lemmas.Grind.{common_steps}
-use Rattle.sq_rules.specs.Channels.{channel_name, free_count, least_free}
+use Rattle.sq_machine.specs.Channels.{channel_name, free_count, least_free}
 use Rattle.sq_channel.proofs.ChannelLaws.{first-is, free_count_law}
 use Rattle.sq_channel.proofs.processes.Process.next_channel.Goals as goal
 

@@ -1,9 +1,9 @@
 use Rattle.std.proofs.Common.{◌≡◌, ◌∙◌, true, None, if◌then◌else◌, ◌==◌, is_some, ap, arith, length, subst, sym}
 use Rattle.std.specs.List.{insert}
-use Rattle.sq_rules.specs.Rising.{place_among, times_of}
+use Rattle.sq_machine.specs.Rising.{place_among, times_of}
 use Rattle.sq_channel.specs.Indexes.{free_channels}
 use Rattle.std.proofs.lemmas.Grind.{common_steps}
-use Rattle.sq_rules.specs.Channels.{free_count, is_open, settled}
+use Rattle.sq_machine.specs.Channels.{free_count, is_open, settled}
 use Rattle.sq_channel.proofs.ChannelLaws.{channel_open, channel_settled, free_count_law, free_given, not_free, on_channel_law, IsOn, OnChannel}
 use Rattle.sq_channel.proofs.SlotLaws.{IsProcess_settled, all_slots, free_settled, length_settled, open_once}
 use Rattle.sq_channel.proofs.processes.Process.settle.Goals as goal

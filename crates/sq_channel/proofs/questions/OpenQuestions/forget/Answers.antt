@@ -1,7 +1,7 @@
 use Rattle.std.proofs.Common.{◌≡◌, ◌∙◌, ap, arith, get_or, map, Some, ◌<◌, length}
 use Rattle.std.proofs.lemmas.Grind.{common_steps}
 use Rattle.sq_channel.specs.Indexes.{place_question}
-use Rattle.sq_rules.specs.Rising.{place_among}
+use Rattle.sq_machine.specs.Rising.{place_among}
 use Rattle.sq_channel.proofs.RisingLaws.{on_some}
 use Rattle.sq_channel.proofs.PlaceLaws.{found}
 use Rattle.sq_channel.proofs.questions.OpenQuestions.forget.Goals as goal

@@ -1,6 +1,6 @@
 use Rattle.std.proofs.Common.{arith, map, subst, sym}
 use Rattle.std.proofs.lemmas.Grind.{common_steps}
-use Rattle.sq_rules.specs.Rising.{Rises, place_among}
+use Rattle.sq_machine.specs.Rising.{Rises, place_among}
 use Rattle.sq_channel.specs.Indexes.{place_question}
 use Rattle.sq_channel.specs.declared.questions.Place.{Place}
 use Rattle.sq_channel.proofs.RisingLaws.{map-insert, on_ok, rises_insert}

@@ -1,6 +1,6 @@
 use Rattle.std.proofs.Common.{◌≡◌, ◌∙◌, ap, sym, subst, IfOk, true, false, ℕ, List, Some}
 use Rattle.sq_base.specs.Distinct.{has_answer}
-use Rattle.sq_rules.specs.StepRule.{class_of_acl}
+use Rattle.sq_machine.specs.StepRule.{class_of_acl}
 use Rattle.sq_rules.specs.Verdicts.{verdict_over}
 use Rattle.sq_rules.specs.declared.values.Value.TheVariants as value
 use Rattle.sq_checks.specs.OpenChecks.{CheckParts, comes_to, is_need}

@@ -3,7 +3,7 @@ use Rattle.std.specs.BTreeMap.{is_at}
 use Rattle.std.specs.Map.{set_value}
 use Rattle.std.specs.Ordering.{nat_cmp}
 use Rattle.sq_rows.specs.CheckRows.{stepped}
-use Rattle.sq_rules.specs.StepRule.{says_done}
+use Rattle.sq_machine.specs.StepRule.{says_done}
 use Rattle.sq_rules.specs.declared.values.Value.TheVariants as value
 use Rattle.sq_checks.specs.OpenChecks.{comes_to, finished, rows_of}
 use Rattle.sq_checks.specs.Stages.{is_settled}

@@ -1,5 +1,5 @@
 use Rattle.std.proofs.Common.{max}
-use Rattle.sq_rules.specs.declared.entries.Told.TheVariants as told
+use Rattle.sq_machine.specs.declared.entries.Told.TheVariants as told
 use Rattle.sq_state.specs.Answers.{asked_in}
 use Rattle.sq_state.specs.Changes.{after_ask}
 use Rattle.sq_state.specs.States.{IsSame}

@@ -1,5 +1,5 @@
 use Rattle.std.proofs.Common.{◌≡◌, ◌∙◌, ◌+◌, ◌^◌, ◌<◌, ◌++◌, ◌∷◌, [], suc, None, ap, max, refl, sym, subst, arith, rules, true}
-use Rattle.sq_rules.specs.Limits.{last_number}
+use Rattle.sq_machine.specs.Limits.{last_number}
 use Rattle.sq_rules.specs.declared.sights.Sight.{Sight}
 use Rattle.sq_checks.specs.Conns.{check_in}
 use Rattle.sq_checks.specs.OpenChecks.{all_before, begun_parts, row, rows_of}

@@ -1,5 +1,5 @@
 use Rattle.std.proofs.Common.{◌≡◌, ◌∙◌, max, true, false, Err, Ok, is_none, ap, sym, subst}
-use Rattle.sq_rules.specs.declared.refusals.Refusal.TheVariants as refusal
+use Rattle.sq_machine.specs.declared.refusals.Refusal.TheVariants as refusal
 use Rattle.sq_rows.specs.CheckRows.{without_conn}
 use Rattle.sq_checks.specs.Conns.{client_in}
 use Rattle.sq_checks.specs.OpenChecks.{rows_of}

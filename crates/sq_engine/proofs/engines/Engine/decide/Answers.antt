@@ -1,5 +1,5 @@
 use Rattle.std.proofs.Common.{None, ◌≡◌, subst, refl}
-use Rattle.sq_rules.specs.StepRule.{says_done}
+use Rattle.sq_machine.specs.StepRule.{says_done}
 use Rattle.sq_checks.specs.Conns.{check_in}
 use Rattle.sq_checks.specs.OpenChecks.{finished, rows_of}
 use Rattle.sq_checks.specs.Stages.{need_in}

@@ -1,6 +1,6 @@
 use Rattle.std.proofs.Common.{◌≡◌, ◌∙◌, ◌==◌, None, Some, is_some, map, ap, sym, subst, rules}
 use Rattle.std.proofs.lemmas.Option.{same_Some}
-use Rattle.sq_rules.specs.Rising.{Rises}
+use Rattle.sq_machine.specs.Rising.{Rises}
 use Rattle.sq_checks.proofs.AloneLaws.{conn_numbered}
 use Rattle.sq_checks.specs.Conns.{check_in}
 use Rattle.sq_checks.specs.OpenChecks.{rows_of}

@@ -1,8 +1,8 @@
 use Rattle.std.proofs.Common.{◌≡◌, ◌∙◌, None, Some, OnOk, is_some, ap, sym, subst}
 use Rattle.std.specs.List.{slice_get}
-use Rattle.sq_rules.specs.FullNext.{step_next}
-use Rattle.sq_rules.specs.StepRule.{class_of_acl, says_done}
-use Rattle.sq_rules.specs.declared.entries.Told.TheVariants as told
+use Rattle.sq_machine.specs.Machine.{step_next}
+use Rattle.sq_machine.specs.StepRule.{class_of_acl, says_done}
+use Rattle.sq_machine.specs.declared.entries.Told.TheVariants as told
 use Rattle.sq_rules.specs.declared.values.Value.TheVariants as value
 use Rattle.sq_checks.specs.OpenChecks.{comes_to}
 use Rattle.sq_checks.specs.Stages.{need_in}

@@ -1,9 +1,9 @@
 use Rattle.std.proofs.Common.{◌≡◌, ◌∙◌, None, Some, Ok, Err, is_some, true, max, ap, sym, subst}
 use Rattle.sq_base.specs.declared.helpers.Cause.TheVariants as cause
 use Rattle.sq_channel.specs.declared.replies.Got.TheVariants as got
-use Rattle.sq_rules.specs.declared.entries.Told.TheVariants as told
-use Rattle.sq_rules.specs.declared.refusals.Refusal.TheVariants as refusal
-use Rattle.sq_rules.specs.Machine.{gives}
+use Rattle.sq_machine.specs.declared.entries.Told.TheVariants as told
+use Rattle.sq_machine.specs.declared.refusals.Refusal.TheVariants as refusal
+use Rattle.sq_machine.specs.Next.{gives}
 use Rattle.sq_epochs.specs.EpochStates.{home_at, part_at}
 use Rattle.sq_state.specs.Answers.{line_answer}
 use Rattle.sq_state.specs.Changes.{after_end_at}

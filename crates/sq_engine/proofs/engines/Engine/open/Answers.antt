@@ -1,6 +1,6 @@
 use Rattle.std.proofs.Common.{◌≡◌, ◌∙◌, is_some, true, false, max, length, nat_le, Ok, Err, ap, sym, rules, subst}
-use Rattle.sq_rules.specs.Limits.{conn_limit}
-use Rattle.sq_rules.specs.declared.refusals.Refusal.TheVariants as refusal
+use Rattle.sq_machine.specs.Limits.{conn_limit}
+use Rattle.sq_machine.specs.declared.refusals.Refusal.TheVariants as refusal
 use Rattle.sq_rules.specs.declared.sights.Peer.{Peer}
 use Rattle.sq_checks.specs.Conns.{client_in}
 use Rattle.sq_state.specs.Changes.{after_open}

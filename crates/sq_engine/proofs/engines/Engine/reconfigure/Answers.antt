@@ -1,8 +1,8 @@
 use Rattle.std.proofs.Common.{◌≡◌, ◌∙◌, ◌+◌, ◌≤◌, ◌<◌, ℕ, suc, max, Ok, Err, ap, sym, subst, arith}
-use Rattle.sq_rules.specs.Limits.{epoch_limit, last_number}
-use Rattle.sq_rules.specs.Machine.{gives, refuses}
-use Rattle.sq_rules.specs.declared.entries.Told.TheVariants as told
-use Rattle.sq_rules.specs.declared.refusals.Refusal.TheVariants as refusal
+use Rattle.sq_machine.specs.Limits.{epoch_limit, last_number}
+use Rattle.sq_machine.specs.Next.{gives, refuses}
+use Rattle.sq_machine.specs.declared.entries.Told.TheVariants as told
+use Rattle.sq_machine.specs.declared.refusals.Refusal.TheVariants as refusal
 use Rattle.sq_epochs.specs.Reconfigured.{after_reconfigured}
 use Rattle.sq_state.specs.Answers.{reconfigure_answer}
 use Rattle.sq_state.specs.Changes as changes

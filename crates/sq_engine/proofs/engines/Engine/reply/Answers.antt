@@ -1,8 +1,8 @@
 use Rattle.std.proofs.Common.{◌≡◌, ◌∙◌, Some, is_some, true, false, ap, sym, subst}
 use Rattle.sq_lookup.specs.Index.{IsListed}
-use Rattle.sq_rules.specs.Channels.{is_open}
-use Rattle.sq_rules.specs.Living.{slots_in}
-use Rattle.sq_rules.specs.OpenLookups.{key_of}
+use Rattle.sq_machine.specs.Channels.{is_open}
+use Rattle.sq_machine.specs.Living.{slots_in}
+use Rattle.sq_machine.specs.OpenLookups.{key_of}
 use Rattle.sq_part.specs.Parts.{PartState}
 use Rattle.sq_epochs.specs.EpochStates.{part_at}
 use Rattle.sq_state.specs.States.{IsSame}

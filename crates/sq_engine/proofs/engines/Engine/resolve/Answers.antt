@@ -1,7 +1,7 @@
 use Rattle.std.proofs.Common.{◌≡◌, ◌∙◌, ◌+◌, suc, Err, ap, subst, arith, refl}
-use Rattle.sq_rules.specs.FullNext.{step_next}
-use Rattle.sq_rules.specs.Machine.{gives, refuses}
-use Rattle.sq_rules.specs.declared.refusals.Refusal.TheVariants as refusal
+use Rattle.sq_machine.specs.Machine.{step_next}
+use Rattle.sq_machine.specs.Next.{gives, refuses}
+use Rattle.sq_machine.specs.declared.refusals.Refusal.TheVariants as refusal
 use Rattle.sq_state.specs.Changes.{after_step_of}
 use Rattle.sq_state.specs.States.{IsSame}
 use Rattle.sq_engine.specs.EngineViews.{EngineView, state_of}

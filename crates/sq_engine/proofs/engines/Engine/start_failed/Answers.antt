@@ -5,8 +5,8 @@ use Rattle.sq_state.specs.States.{IsSame}
 use Rattle.sq_engine.specs.EngineViews.{EngineView, state_of}
 use Rattle.sq_engine.proofs.HandingLaws.{there_after}
 use Rattle.sq_engine.proofs.LosingLaws.{failed_engine, failed_listed, failed_same}
-use Rattle.sq_rules.specs.DueActs.{Place}
-use Rattle.sq_rules.specs.declared.refusals.Refusal.TheVariants as refusal
+use Rattle.sq_machine.specs.DueActs.{Place}
+use Rattle.sq_machine.specs.declared.refusals.Refusal.TheVariants as refusal
 use Rattle.sq_state.specs.Answers.{has_start_in}
 use Rattle.sq_engine.proofs.PromiseLaws.{failed_promised}
 use Rattle.sq_engine.proofs.StartedLaws.{failed_fine, failed_none, start_read}

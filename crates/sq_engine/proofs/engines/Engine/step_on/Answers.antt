@@ -1,6 +1,6 @@
 use Rattle.std.proofs.Common.{◌≡◌, ◌∙◌, None, Some, max, ap, sym, subst, rules}
-use Rattle.sq_rules.specs.FullNext.{step_next}
-use Rattle.sq_rules.specs.declared.entries.Told.TheVariants as told
+use Rattle.sq_machine.specs.Machine.{step_next}
+use Rattle.sq_machine.specs.declared.entries.Told.TheVariants as told
 use Rattle.sq_checks.specs.Stages.{need_in}
 use Rattle.sq_checks.specs.Tables.{value_at}
 use Rattle.sq_state.specs.Changes.{after_step_of}

@@ -1,5 +1,5 @@
 use Rattle.std.proofs.Common.{ap, refl, subst}
-use Rattle.sq_rules.specs.Living.{lives}
+use Rattle.sq_machine.specs.Living.{lives}
 use Rattle.std.specs.Arc.{arc_value}
 use Rattle.sq_epochs.specs.EpochStates.{EpochState, with_part}
 use Rattle.sq_epochs.specs.EpochChanges.{HasLeft}

@@ -2,8 +2,8 @@ use Rattle.std.proofs.Common.{◌≡◌, Some, length, refl, ap, ◌∙◌, sym,
 use Rattle.std.specs.Arc.{arc_value}
 use Rattle.std.specs.List.{slice_get}
 use Rattle.std.proofs.lemmas.Option.{same_Some, slice_get_read, slice_get_within}
-use Rattle.sq_rules.specs.Farms.{send_of}
-use Rattle.sq_rules.specs.Living.{lives}
+use Rattle.sq_machine.specs.Farms.{send_of}
+use Rattle.sq_machine.specs.Living.{lives}
 use Rattle.sq_epochs.specs.DueStates.{act_in, after_act_in, first_place, owes_send, send_by, sent_part, told_due}
 use Rattle.sq_epochs.specs.EpochProcs.{SameLiving}
 use Rattle.sq_epochs.specs.EpochStates.{EpochState, part_limit, with_part}

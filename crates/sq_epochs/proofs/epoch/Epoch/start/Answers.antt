@@ -2,7 +2,7 @@ use Rattle.std.proofs.Common.{◌≡◌, Some, length, refl, ap, ◌∙◌, sym,
 use Rattle.std.specs.Arc.{arc_value}
 use Rattle.std.specs.List.{slice_get}
 use Rattle.std.proofs.lemmas.Option.{slice_get_read, slice_get_within}
-use Rattle.sq_rules.specs.Living.{lives}
+use Rattle.sq_machine.specs.Living.{lives}
 use Rattle.sq_epochs.specs.DueStates.{act_in, after_act_in, first_place, owes_start, start_by, started_part, told_due}
 use Rattle.sq_epochs.specs.EpochProcs.{SameLiving}
 use Rattle.sq_epochs.specs.EpochStates.{EpochState, part_limit, with_part}

@@ -1,7 +1,7 @@
 use Rattle.std.proofs.Common.{◌≡◌, Some, set, refl, ap, ◌∙◌, sym, map, subst, arith}
 use Rattle.std.proofs.lemmas.Grind.{common_steps}
-use Rattle.sq_rules.specs.DueActs.{Place}
-use Rattle.sq_rules.specs.Rising.{place_among}
+use Rattle.sq_machine.specs.DueActs.{Place}
+use Rattle.sq_machine.specs.Rising.{place_among}
 use Rattle.sq_epochs.specs.EpochProcs.{HasEnded, IsEnded, lives_in}
 use Rattle.sq_epochs.specs.EpochStates.{EpochsState, epoch_number, home_at, part_at}
 use Rattle.sq_epochs.proofs.HomedLaws.{epochs_with, home_lives, lives_there, whole_ended}

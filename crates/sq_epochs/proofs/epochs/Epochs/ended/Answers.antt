@@ -1,7 +1,7 @@
 use Rattle.std.proofs.Common.{◌≡◌, ◌<◌, false, sym, subst, ap, ◌∙◌, map, arith}
 use Rattle.std.proofs.lemmas.Grind.{common_steps}
 use Rattle.sq_channel.proofs.RisingLaws.{if_false}
-use Rattle.sq_rules.specs.Rising.{place_among}
+use Rattle.sq_machine.specs.Rising.{place_among}
 use Rattle.sq_epochs.specs.EpochStates.{EpochsState, change_epoch, epoch_number}
 use Rattle.sq_epochs.specs.LiveEpochs.{check_less, drop_epoch, ends_with_check, is_used, without_epoch}
 use Rattle.sq_epochs.specs.HomeStates.{other_homes, procs_of, with_numbers}

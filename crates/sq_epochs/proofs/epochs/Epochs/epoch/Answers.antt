@@ -1,7 +1,7 @@
 use Rattle.std.proofs.Common.{◌≡◌, ◌≤◌, Some, slice_get, refl, length, arith, ap, ◌∙◌, sym, map}
 use Rattle.std.proofs.lemmas.Grind.{common_steps}
 use Rattle.std.proofs.lemmas.Option.{slice_get_past, slice_get_read}
-use Rattle.sq_rules.specs.Rising.{place_among}
+use Rattle.sq_machine.specs.Rising.{place_among}
 use Rattle.sq_epochs.specs.EpochStates.{epoch_in, epoch_number}
 use Rattle.sq_epochs.proofs.FindLaws.{epoch_read, epoch_other, epoch_none}
 use Rattle.sq_epochs.proofs.epochs.Epochs.epoch.Goals as goal

@@ -1,6 +1,6 @@
 use Rattle.std.proofs.Common.{ap, ◌∙◌, map, arith}
 use Rattle.std.proofs.lemmas.Grind.{common_steps}
-use Rattle.sq_rules.specs.Rising.{place_among}
+use Rattle.sq_machine.specs.Rising.{place_among}
 use Rattle.sq_epochs.specs.EpochStates.{EpochsState, epoch_number}
 use Rattle.sq_epochs.proofs.OutcomeLaws.{looked}
 use Rattle.sq_epochs.proofs.PartLaws.{find_at, part_here, within_at}

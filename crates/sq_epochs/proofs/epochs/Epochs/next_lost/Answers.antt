@@ -1,6 +1,6 @@
 use Rattle.std.proofs.Common.{refl, ap, ◌∙◌, map, arith}
 use Rattle.std.proofs.lemmas.Grind.{common_steps}
-use Rattle.sq_rules.specs.Rising.{place_among}
+use Rattle.sq_machine.specs.Rising.{place_among}
 use Rattle.sq_epochs.specs.EpochChanges.{HasNoLoss, IsHandedOn}
 use Rattle.sq_epochs.specs.EpochStates.{EpochsState, epoch_number}
 use Rattle.sq_epochs.proofs.HomedLaws.{still_whole}

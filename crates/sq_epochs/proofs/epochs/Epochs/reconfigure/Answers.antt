@@ -1,6 +1,6 @@
 use Rattle.std.proofs.Common.{◌≡◌, is_some, refl, sym, subst, ap, ◌∙◌, map}
 use Rattle.std.specs.Arc.{arc_value}
-use Rattle.sq_rules.specs.Rising.{Rises}
+use Rattle.sq_machine.specs.Rising.{Rises}
 use Rattle.sq_epochs.specs.EpochStates.{EpochsState, epoch_in, epoch_number}
 use Rattle.sq_epochs.specs.LiveEpochs.{checks_at, without_epoch}
 use Rattle.sq_epochs.specs.Reconfigured.{with_begun}

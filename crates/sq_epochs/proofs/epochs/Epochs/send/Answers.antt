@@ -1,7 +1,7 @@
 use Rattle.std.proofs.Common.{◌≡◌, Some, None, length, set, refl, ap, ◌∙◌, sym}
 use Rattle.std.specs.List.{slice_get}
 use Rattle.std.proofs.lemmas.Option.{slice_get_read, slice_get_within}
-use Rattle.sq_rules.specs.DueActs.{first_made}
+use Rattle.sq_machine.specs.DueActs.{first_made}
 use Rattle.sq_epochs.specs.DueStates.{act_at, act_in, after_due, first_place, has_act, live_places, owes_send, send_by, told_due}
 use Rattle.sq_epochs.specs.EpochStates.{EpochsState}
 use Rattle.sq_epochs.proofs.DueLaws.{act_lifted, all_made, all_nothing, first_is, send_agrees, send_of_epoch}

@@ -1,7 +1,7 @@
 use Rattle.std.proofs.Common.{◌≡◌, ◌∷◌, ◌++◌, [], suc, true, set, refl, ap, ◌∙◌, sym, map, subst, arith}
 use Rattle.std.proofs.lemmas.Grind.{common_steps}
-use Rattle.sq_rules.specs.Living.{lives}
-use Rattle.sq_rules.specs.Rising.{place_among}
+use Rattle.sq_machine.specs.Living.{lives}
+use Rattle.sq_machine.specs.Rising.{place_among}
 use Rattle.sq_epochs.specs.EpochProcs.{HasStarted, IsStarted, has_start, lives_in}
 use Rattle.sq_epochs.specs.EpochStates.{EpochsState, IsEpochChanged, epoch_number}
 use Rattle.sq_epochs.proofs.HomedLaws.{epochs_with, next_is, next_lifeless, start_there, whole_started}

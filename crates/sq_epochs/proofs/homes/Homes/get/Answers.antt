@@ -1,7 +1,7 @@
 use Rattle.std.proofs.Common.{◌≡◌, ◌≤◌, Some, slice_get, refl, length, arith, ap, ◌∙◌, sym, map}
 use Rattle.std.proofs.lemmas.Grind.{common_steps}
 use Rattle.std.proofs.lemmas.Option.{slice_get_past, slice_get_read}
-use Rattle.sq_rules.specs.Rising.{place_among}
+use Rattle.sq_machine.specs.Rising.{place_among}
 use Rattle.sq_epochs.specs.HomeStates.{home_in, home_number}
 use Rattle.sq_epochs.proofs.FindLaws.{home_read, home_other, home_none}
 use Rattle.sq_epochs.proofs.homes.Homes.get.Goals as goal

@@ -1,7 +1,7 @@
 use Rattle.std.proofs.Common.{◌≡◌, ◌∙◌, length, map, arith, ap, sym, subst}
 use Rattle.std.proofs.lemmas.Grind.{common_steps}
 use Rattle.std.specs.List.{remove}
-use Rattle.sq_rules.specs.Rising.{place_among}
+use Rattle.sq_machine.specs.Rising.{place_among}
 use Rattle.sq_epochs.specs.HomeStates.{AreHomes, home_number, without_home}
 use Rattle.sq_epochs.proofs.HomeLaws.{homes_less, length_if, taken}
 use Rattle.sq_epochs.proofs.homes.Homes.remove.Goals as goal

@@ -1,6 +1,6 @@
 use Rattle.std.proofs.Common.{◌≡◌, ap, sym, ◌∙◌, None}
 use Rattle.sq_farm.specs.Acts.{told_start}
-use Rattle.sq_rules.specs.Farms.{places, after_start, send_of, start_due}
+use Rattle.sq_machine.specs.Farms.{places, after_start, send_of, start_due}
 use Rattle.sq_farm.proofs.PlaceLaws.{places_send, places_start}
 use Rattle.sq_farm.proofs.DueLaws.{act_none, none_told, after_act_none, after_send_none}
 use Rattle.sq_farm.proofs.farms.Farm.act.Goals as goal

@@ -1,8 +1,8 @@
 use Rattle.std.proofs.Common.{◌≡◌, ◌+◌, ◌≤◌, ℕ, length, true, false, Some, is_some, arith, ap, sym, ◌∙◌, subst, refl}
-use Rattle.sq_rules.specs.Channels.{opened}
-use Rattle.sq_rules.specs.Living.{find_proc, lives, slots_by, slots_in}
-use Rattle.sq_rules.specs.Losses.{times_lost}
-use Rattle.sq_rules.specs.Rising.{times_of}
+use Rattle.sq_machine.specs.Channels.{opened}
+use Rattle.sq_machine.specs.Living.{find_proc, lives, slots_by, slots_in}
+use Rattle.sq_machine.specs.Losses.{times_lost}
+use Rattle.sq_machine.specs.Rising.{times_of}
 use Rattle.sq_farm.proofs.PlaceLaws.{places_ended}
 use Rattle.sq_farm.proofs.FarmLaws.{IsStock_ended, length_lose_all, once_ended, open_without}
 use Rattle.sq_farm.proofs.CallLaws.{without_none}

@@ -1,6 +1,6 @@
 use Rattle.std.proofs.Common.{◌≡◌, ◌+◌, ◌*◌, length, max, nat_le, arith, ap, ◌∙◌}
 use Rattle.std.proofs.lemmas.Grind.{common_steps}
-use Rattle.sq_rules.specs.Farms.{open_in}
+use Rattle.sq_machine.specs.Farms.{open_in}
 use Rattle.sq_farm.proofs.DueLaws.{full_is, max_swap}
 use Rattle.sq_farm.proofs.farms.Farm.is_full.Goals as goal
 

@@ -1,7 +1,7 @@
 use Rattle.std.proofs.Common.{map, true, arith}
 use Rattle.std.proofs.lemmas.List.{length-map}
 use Rattle.sq_base.specs.declared.helpers.Cause.TheVariants as cause
-use Rattle.sq_rules.specs.Farms.{waiting_number}
+use Rattle.sq_machine.specs.Farms.{waiting_number}
 use Rattle.sq_farm.proofs.FarmLaws.{IsStock_emptied, length_lose_all, once_failed}
 use Rattle.sq_farm.proofs.farms.Farm.lose_queue.Goals as goal
 

@@ -1,6 +1,6 @@
 use Rattle.std.proofs.Common.{◌≡◌, ◌++◌, ◌∷◌, [], arith, ap, sym, ◌∙◌}
 use Rattle.std.proofs.lemmas.Grind.{common_steps}
-use Rattle.sq_rules.specs.Farms.{Waiting}
+use Rattle.sq_machine.specs.Farms.{Waiting}
 use Rattle.sq_farm.proofs.PlaceLaws.{places_put}
 use Rattle.sq_farm.proofs.DueLaws.{IsStock_put, length-push}
 use Rattle.sq_farm.proofs.farms.Farm.put.Goals as goal

@@ -1,7 +1,7 @@
 use Rattle.std.proofs.Common.{◌≡◌, ◌∷◌, true, length, arith, ap, sym, ◌∙◌}
 use Rattle.std.proofs.lemmas.Grind.{common_steps}
-use Rattle.sq_rules.specs.Living.{some_free}
-use Rattle.sq_rules.specs.Farms.{Waiting}
+use Rattle.sq_machine.specs.Living.{some_free}
+use Rattle.sq_machine.specs.Farms.{Waiting}
 use Rattle.sq_farm.specs.Acts.{told_send}
 use Rattle.sq_farm.proofs.FarmLaws.{IsStock_send, open_sent}
 use Rattle.sq_farm.proofs.DueLaws.{send_none}

@@ -1,6 +1,6 @@
 use Rattle.std.proofs.Common.{◌≡◌, ◌≤◌, true, arith, refl}
-use Rattle.sq_rules.specs.Channels.{is_open}
-use Rattle.sq_rules.specs.Living.{slots_in, times_in}
+use Rattle.sq_machine.specs.Channels.{is_open}
+use Rattle.sq_machine.specs.Living.{slots_in, times_in}
 use Rattle.sq_farm.proofs.ReplyLaws.{IsStock_settled, others_settled, open_settled_law}
 use Rattle.sq_farm.proofs.farms.Farm.settle_reply.Goals as goal
 

@@ -1,8 +1,8 @@
 use Rattle.std.proofs.Common.{◌≡◌, ap₂, ◌<◌, ◌∙◌, ap, arith, Bool, List, ℕ}
 use Rattle.std.specs.declared.option.Option.{Option}
-use Rattle.sq_rules.specs.Channels.{Channels}
-use Rattle.sq_rules.specs.Farms.{fresh}
-use Rattle.sq_rules.specs.Living.{with_proc}
+use Rattle.sq_machine.specs.Channels.{Channels}
+use Rattle.sq_machine.specs.Farms.{fresh}
+use Rattle.sq_machine.specs.Living.{with_proc}
 use Rattle.sq_farm.proofs.ReplyLaws.{IsStock_started, open_started, places_started}
 use Rattle.sq_farm.proofs.farms.Farm.started.Goals as goal
 

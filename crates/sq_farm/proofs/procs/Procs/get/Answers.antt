@@ -1,7 +1,7 @@
 use Rattle.std.proofs.Common.{◌≡◌, true, arith, ap, ◌∙◌, sym, map}
 use Rattle.std.proofs.lemmas.Grind.{common_steps}
-use Rattle.sq_rules.specs.Living.{Living, lives, living_number}
-use Rattle.sq_rules.specs.Rising.{place_among}
+use Rattle.sq_machine.specs.Living.{Living, lives, living_number}
+use Rattle.sq_machine.specs.Rising.{place_among}
 use Rattle.sq_farm.proofs.LivingLaws.{viewed}
 use Rattle.sq_farm.proofs.CallLaws.{lives_within, removes}
 use Rattle.sq_farm.proofs.procs.Procs.get.Goals as goal

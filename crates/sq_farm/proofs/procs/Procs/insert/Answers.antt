@@ -1,9 +1,8 @@
 use Rattle.std.proofs.Common.{◌≡◌, IsOk, arith, ap, ◌∙◌, sym, map, subst}
 use Rattle.std.proofs.lemmas.Grind.{common_steps}
 use Rattle.std.specs.List.{insert}
-use Rattle.sq_rules.specs.Living.{Living}
-use Rattle.sq_rules.specs.Living.{free_numbers, living_number, with_proc}
-use Rattle.sq_rules.specs.Rising.{Rises, place_among}
+use Rattle.sq_machine.specs.Living.{Living, free_numbers, living_number, with_proc}
+use Rattle.sq_machine.specs.Rising.{Rises, place_among}
 use Rattle.sq_farm.proofs.CallLaws.{inserts}
 use Rattle.sq_farm.proofs.LivingLaws.{rises_free}
 use Rattle.sq_channel.proofs.RisingLaws.{if_ok}

@@ -1,8 +1,7 @@
 use Rattle.std.proofs.Common.{◌≡◌, List, [], ◌∷◌, ◌==◌, length, arith, refl, ap, ◌∙◌}
 use Rattle.std.proofs.lemmas.Grind.{common_steps}
 use Rattle.std.specs.Vec.{vec_len}
-use Rattle.sq_rules.specs.Living.{Living}
-use Rattle.sq_rules.specs.Living.{is_none_living}
+use Rattle.sq_machine.specs.Living.{Living, is_none_living}
 use Rattle.sq_farm.proofs.procs.Procs.is_empty.Goals as goal
 
 none_by : (rows : List Living) → (length rows == 0) ≡ is_none_living rows

@@ -1,9 +1,9 @@
 use Rattle.std.proofs.Common.{◌≡◌, ◌<◌, true, false, Some, arith, ap, get_or, ◌∙◌, sym, map, subst, length}
 use Rattle.std.proofs.lemmas.Grind.{common_steps}
 use Rattle.std.specs.List.{remove}
-use Rattle.sq_rules.specs.Channels.{free_count}
-use Rattle.sq_rules.specs.Living.{free_numbers, lives, living_number, without}
-use Rattle.sq_rules.specs.Rising.{Rises, place_among}
+use Rattle.sq_machine.specs.Channels.{free_count}
+use Rattle.sq_machine.specs.Living.{free_numbers, lives, living_number, without}
+use Rattle.sq_machine.specs.Rising.{Rises, place_among}
 use Rattle.sq_farm.proofs.CallLaws.{lives_within, removes, without_none}
 use Rattle.sq_farm.proofs.LivingLaws.{rises_free}
 use Rattle.sq_farm.proofs.procs.Procs.remove.Goals as goal

@@ -1,13 +1,11 @@
 use Rattle.std.proofs.Common.{List, ℕ, ◌≡◌, ◌<◌, true, length, arith, ap, get_or, ◌∙◌, sym, map}
 use Rattle.std.specs.List.{remove}
 use Rattle.std.proofs.lemmas.Grind.{common_steps}
-use Rattle.sq_rules.specs.Channels.{free_count}
-use Rattle.sq_rules.specs.Living.{free_numbers, living_number, some_free}
-use Rattle.sq_rules.specs.Rising.{place_among}
+use Rattle.sq_machine.specs.Channels.{free_count, asked}
+use Rattle.sq_machine.specs.Living.{free_numbers, living_number, some_free, Living}
+use Rattle.sq_machine.specs.Rising.{place_among}
 use Rattle.sq_farm.proofs.LivingLaws.{viewed, some_free_law}
 use Rattle.sq_farm.proofs.CallLaws.{sends, sends_within}
-use Rattle.sq_rules.specs.Living.{Living}
-use Rattle.sq_rules.specs.Channels.{asked}
 use Rattle.sq_farm.proofs.procs.Procs.send.Goals as goal
 use Rattle.sq_farm.proofs.procs.Procs.send.Goals.{then-free-eq0, else-free-eq0}
 

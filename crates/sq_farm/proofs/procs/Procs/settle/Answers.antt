@@ -1,9 +1,9 @@
 use Rattle.std.proofs.Common.{◌≡◌, IsOk, length, arith, ap, get_or, ◌∙◌, sym, map, subst}
 use Rattle.std.proofs.lemmas.Grind.{common_steps}
 use Rattle.std.specs.List.{insert}
-use Rattle.sq_rules.specs.Channels.{free_count}
-use Rattle.sq_rules.specs.Living.{Living, free_numbers, living_number}
-use Rattle.sq_rules.specs.Rising.{Rises, place_among}
+use Rattle.sq_machine.specs.Channels.{free_count}
+use Rattle.sq_machine.specs.Living.{Living, free_numbers, living_number}
+use Rattle.sq_machine.specs.Rising.{Rises, place_among}
 use Rattle.sq_farm.proofs.LivingLaws.{viewed, rises_free}
 use Rattle.sq_farm.proofs.CallLaws.{lives_slots, lives_within, settles}
 use Rattle.sq_channel.proofs.RisingLaws.{if_ok}

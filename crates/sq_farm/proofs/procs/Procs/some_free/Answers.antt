@@ -1,7 +1,7 @@
 use Rattle.std.proofs.Common.{◌≡◌, length, not, ◌==◌, arith, ◌∙◌, sym, ap}
 use Rattle.std.proofs.lemmas.Grind.{common_steps}
 use Rattle.std.specs.Vec.{vec_len}
-use Rattle.sq_rules.specs.Living.{free_numbers}
+use Rattle.sq_machine.specs.Living.{free_numbers}
 use Rattle.sq_farm.proofs.LivingLaws.{some_free_law}
 use Rattle.sq_farm.proofs.procs.Procs.some_free.Goals as goal
 

@@ -1,8 +1,7 @@
 use Rattle.std.proofs.Common.{List, ℕ, ◌≡◌, ◌<◌, true, length, arith, ap, get_or, ◌∙◌, sym, map}
 use Rattle.std.proofs.lemmas.Grind.{common_steps}
-use Rattle.sq_rules.specs.Living.{Living}
-use Rattle.sq_rules.specs.Living.{free_numbers, living_number, some_free}
-use Rattle.sq_rules.specs.Rising.{place_among}
+use Rattle.sq_machine.specs.Living.{Living, free_numbers, living_number, some_free}
+use Rattle.sq_machine.specs.Rising.{place_among}
 use Rattle.sq_farm.proofs.LivingLaws.{viewed, some_free_law}
 use Rattle.sq_farm.proofs.CallLaws.{sends_within, target_at, target_none}
 use Rattle.sq_farm.proofs.procs.Procs.target.Goals as goal

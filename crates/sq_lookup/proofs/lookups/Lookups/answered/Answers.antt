@@ -1,5 +1,5 @@
 use Rattle.std.proofs.Common.{◌≡◌, ◌∙◌, ap, sym, is_some, cond, None, Some}
-use Rattle.sq_rules.specs.OpenLookups.{question_of}
+use Rattle.sq_machine.specs.OpenLookups.{question_of}
 use Rattle.sq_lookup.specs.Index.{row_at, listed_by}
 use Rattle.sq_lookup.proofs.IndexLaws.{open_is, key_at, removed}
 use Rattle.sq_lookup.proofs.lookups.Lookups.answered.Goals as goal

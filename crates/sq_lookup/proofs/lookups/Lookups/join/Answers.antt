@@ -1,5 +1,5 @@
 use Rattle.std.proofs.Common.{◌≡◌, ◌∙◌, sym, Some}
-use Rattle.sq_rules.specs.OpenLookups.{pending_in}
+use Rattle.sq_machine.specs.OpenLookups.{pending_in}
 use Rattle.sq_lookup.specs.Index.{rows_of}
 use Rattle.sq_lookup.proofs.OpenLaws.{pending_open}
 use Rattle.sq_lookup.proofs.IndexLaws.{open_is}

@@ -1,5 +1,5 @@
 use Rattle.std.proofs.Common.{◌≡◌, ◌∙◌, ap, sym, true}
-use Rattle.sq_rules.specs.Events.{is_number}
+use Rattle.sq_machine.specs.Events.{is_number}
 use Rattle.sq_lookup.specs.Index.{listed_in}
 use Rattle.sq_lookup.proofs.MapLaws.{self_number}
 use Rattle.sq_lookup.proofs.IndexLaws.{listed_row}

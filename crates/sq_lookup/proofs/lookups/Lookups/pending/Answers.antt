@@ -1,5 +1,5 @@
 use Rattle.std.proofs.Common.{◌≡◌, ◌∙◌, ap, sym, None, false}
-use Rattle.sq_rules.specs.OpenLookups.{is_open_lookup}
+use Rattle.sq_machine.specs.OpenLookups.{is_open_lookup}
 use Rattle.sq_lookup.specs.Index.{listed_by, row_at, rows_of}
 use Rattle.sq_lookup.proofs.IndexLaws.{no_row}
 use Rattle.sq_lookup.proofs.lookups.Lookups.pending.Goals as goal

@@ -1,5 +1,5 @@
 use Rattle.std.proofs.Common.{◌≡◌, ◌∙◌, ap, Some, None}
-use Rattle.sq_rules.specs.OpenLookups.{question_of}
+use Rattle.sq_machine.specs.OpenLookups.{question_of}
 use Rattle.sq_lookup.specs.Waits.{without_waiting}
 use Rattle.sq_lookup.proofs.MapLaws.{number_after, put_undone}
 use Rattle.sq_lookup.proofs.waiters.Waiters.put.Goals as goal

@@ -1,6 +1,6 @@
 use Rattle.std.proofs.Common.{◌≡◌, ℕ, None, cond, map}
 use Rattle.std.specs.Map.Iter.{deref}
-use Rattle.sq_rules.specs.OpenLookups.{question_of}
+use Rattle.sq_machine.specs.OpenLookups.{question_of}
 use Rattle.sq_lookup.specs.Waits.{has_check}
 use Rattle.sq_lookup.proofs.waiters.Waiters.remove_all.Given as goal
 

@@ -1,6 +1,6 @@
 use Rattle.std.proofs.Common.{◌≡◌, true, false, None, is_some}
-use Rattle.sq_rules.specs.Farms.{full}
-use Rattle.sq_rules.specs.OpenLookups.{pending_in}
+use Rattle.sq_machine.specs.Farms.{full}
+use Rattle.sq_machine.specs.OpenLookups.{pending_in}
 use Rattle.sq_part.proofs.HoldLaws.{not_some}
 use Rattle.sq_part.proofs.StepLaws.{refused}
 use Rattle.sq_part.proofs.parts.Part.ask.Goals as goal

@@ -1,6 +1,6 @@
 use Rattle.std.proofs.Common.{◌≡◌, ◌∙◌}
 use Rattle.sq_channel.proofs.RisingLaws.{if_true}
-use Rattle.sq_rules.specs.Farms.{ended}
+use Rattle.sq_machine.specs.Farms.{ended}
 use Rattle.sq_part.proofs.LossLaws.{cause_ended, handed_death}
 use Rattle.sq_part.proofs.parts.Part.end.Goals as goal
 

@@ -1,5 +1,5 @@
 use Rattle.std.proofs.Common.{◌≡◌, sym, ◌∷◌}
-use Rattle.sq_rules.specs.Losses.{later_lost}
+use Rattle.sq_machine.specs.Losses.{later_lost}
 use Rattle.sq_part.proofs.HoldLaws.{holds_less}
 use Rattle.sq_part.proofs.LossLaws.{first_is, first_none, handed_next, handed_none}
 use Rattle.sq_part.proofs.parts.Part.next_lost.Goals as goal

@@ -1,7 +1,7 @@
 use Rattle.std.proofs.Common.{◌≡◌, ◌∙◌, ◌+◌, ◌==◌, not, List, true, false, if◌then◌else◌, filter, ap, ap₂, sym, refl}
 use Rattle.sq_lookup.specs.Waits.{is_free}
-use Rattle.sq_rules.specs.Farms.{Stock, places}
-use Rattle.sq_rules.specs.OpenLookups.{LookupRow, all_below, is_open_lookup}
+use Rattle.sq_machine.specs.Farms.{Stock, places}
+use Rattle.sq_machine.specs.OpenLookups.{LookupRow, all_below, is_open_lookup}
 use Rattle.sq_rows.specs.ClassRows.{ClassRow}
 use Rattle.sq_part.proofs.HoldLaws.{counted_next, itself, not_open, undone, undone_waiting}
 use Rattle.sq_part.proofs.parts.Part.put.Goals as goal

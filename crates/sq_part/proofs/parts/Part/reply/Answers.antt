@@ -1,6 +1,6 @@
 use Rattle.std.proofs.Common.{◌≡◌, ◌∙◌, true, false}
-use Rattle.sq_rules.specs.Channels.{is_open}
-use Rattle.sq_rules.specs.Living.{slots_in}
+use Rattle.sq_machine.specs.Channels.{is_open}
+use Rattle.sq_machine.specs.Living.{slots_in}
 use Rattle.sq_part.proofs.HoldLaws.{holds_replied, is_there, open_place}
 use Rattle.sq_part.proofs.parts.Part.reply.Goals as goal
 

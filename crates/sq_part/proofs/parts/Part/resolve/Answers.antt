@@ -2,7 +2,7 @@ use Rattle.std.proofs.Common.{◌≡◌, true, false, None, Some, length, nat_lt
 use Rattle.std.proofs.lemmas.Bool.{le-ltb, lt-ltb}
 use Rattle.sq_base.specs.declared.helpers.Cause.TheVariants as cause
 use Rattle.sq_cache.specs.Keeping.{taken_for}
-use Rattle.sq_rules.specs.Limits.{key_limit}
+use Rattle.sq_machine.specs.Limits.{key_limit}
 use Rattle.sq_part.specs.Steps.{IsStepped}
 use Rattle.sq_part.proofs.StepLaws.{faulted, need_long, need_open, need_taken, open_ok, spent_same, taken_ok}
 use Rattle.sq_part.proofs.parts.Part.resolve.Goals as goal

@@ -1,5 +1,5 @@
 use Rattle.std.proofs.Common.{ap, ◌∙◌}
-use Rattle.sq_rules.specs.Farms.{places}
+use Rattle.sq_machine.specs.Farms.{places}
 use Rattle.sq_farm.proofs.PlaceLaws.{places_send}
 use Rattle.sq_part.proofs.parts.Part.send.Goals as goal
 

@@ -1,7 +1,7 @@
 use Rattle.std.proofs.Common.{◌≡◌, ◌∙◌, true, ap}
-use Rattle.sq_rules.specs.Channels.{is_open}
-use Rattle.sq_rules.specs.Living.{slots_in}
-use Rattle.sq_rules.specs.OpenLookups.{is_open_lookup}
+use Rattle.sq_machine.specs.Channels.{is_open}
+use Rattle.sq_machine.specs.Living.{slots_in}
+use Rattle.sq_machine.specs.OpenLookups.{is_open_lookup}
 use Rattle.sq_part.proofs.HoldLaws.{is_there, open_place}
 use Rattle.sq_part.proofs.parts.Part.waiting.Goals as goal
 

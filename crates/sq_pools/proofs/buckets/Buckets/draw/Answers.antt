@@ -1,6 +1,6 @@
 use Rattle.std.proofs.Common.{rules, ◌≡◌, ◌∙◌, cond, sym, Some, None, is_some, true}
-use Rattle.sq_rules.specs.BucketLevels.{Filled}
-use Rattle.sq_rules.specs.PoolReadings.{is_spot}
+use Rattle.sq_machine.specs.BucketLevels.{Filled}
+use Rattle.sq_machine.specs.PoolReadings.{is_spot}
 use Rattle.sq_pools.specs.Grants.{bucket_at}
 use Rattle.sq_pools.proofs.BucketLaws.{drawn_there, level_there, not_missing}
 use Rattle.sq_pools.proofs.MapLaws.{after, found, spot_key}

@@ -1,6 +1,6 @@
 use Rattle.std.proofs.Common.{◌∙◌, ap}
 use Rattle.std.specs.Option.{option_map}
-use Rattle.sq_rules.specs.PoolReadings.{is_spot}
+use Rattle.sq_machine.specs.PoolReadings.{is_spot}
 use Rattle.sq_pools.specs.Grants.{bucket_at, granted_if}
 use Rattle.sq_pools.proofs.BucketLaws.{amount_fits, granted_more}
 use Rattle.sq_pools.proofs.buckets.Buckets.grant.Goals as goal

@@ -1,5 +1,5 @@
 use Rattle.std.proofs.Common.{Some}
-use Rattle.sq_rules.specs.PoolReadings.{is_aggregate}
+use Rattle.sq_machine.specs.PoolReadings.{is_aggregate}
 use Rattle.sq_pools.proofs.GenerationLaws.{begun_filled, begun_held, begun_made, made_absent}
 use Rattle.sq_pools.proofs.generations.Generations.begin.Goals as goal
 

@@ -3,7 +3,7 @@ use Rattle.std.specs.BTreeMap.{is_at}
 use Rattle.std.specs.Ordering.{nat_cmp}
 use Rattle.std.proofs.lemmas.Map.Steps.{set_value_same}
 use Rattle.std.proofs.lemmas.Result.{err_from_is_err_and}
-use Rattle.sq_rules.specs.PoolReadings.{has_spot, is_aggregate, second_of}
+use Rattle.sq_machine.specs.PoolReadings.{has_spot, is_aggregate, second_of}
 use Rattle.sq_pools.specs.Grants.{bucket_at, filled_if, opened_in}
 use Rattle.sq_pools.specs.Generations.{generation_at, held_at}
 use Rattle.sq_pools.specs.declared.generations.Generation.{Generation}

@@ -1,5 +1,5 @@
 use Rattle.std.proofs.Common.{◌∙◌, Some, ap, sym, suc}
-use Rattle.sq_rules.specs.PoolReadings.{has_spot, is_aggregate}
+use Rattle.sq_machine.specs.PoolReadings.{has_spot, is_aggregate}
 use Rattle.sq_pools.proofs.GenerationLaws.{begun_made, entered_held, held_absent, made_filled, opened_alike}
 use Rattle.sq_pools.proofs.generations.Generations.enter_new.Goals as goal
 

@@ -1,6 +1,6 @@
 use Rattle.std.proofs.Common.{◌≡◌, ◌∙◌, Some, is_none, false, length, refl, sym, ap, slice_get}
 use Rattle.std.proofs.lemmas.Option.{slice_get_read}
-use Rattle.sq_rules.specs.PoolReadings.{Sat}
+use Rattle.sq_machine.specs.PoolReadings.{Sat}
 use Rattle.sq_pools.specs.Basins.{tally_then}
 use Rattle.sq_pools.specs.Seats.{seat_at}
 use Rattle.sq_pools.proofs.BasinLaws.{basin}

@@ -1,7 +1,7 @@
 use Rattle.std.proofs.Common.{◌≡◌, ◌==◌, ◌&&◌, ◌||◌, ◌≤◌, ◌<◌, ◌+◌, cond, suc, max, true, is_none, ℕ, List, Some, sym, arith, add-one, slice_get}
 use Rattle.sq_rules.specs.Configurations.{Configuration}
-use Rattle.sq_rules.specs.Limits.{last_number}
-use Rattle.sq_rules.specs.PoolReadings.{Sat, Spot, has_spot, is_aggregate, made_if, spots_in}
+use Rattle.sq_machine.specs.Limits.{last_number}
+use Rattle.sq_machine.specs.PoolReadings.{Sat, Spot, has_spot, is_aggregate, made_if, spots_in}
 use Rattle.sq_pools.specs.Generations.{filled_at, held_at, made_at, second_at}
 use Rattle.sq_pools.specs.Grants.{are_own, filled_if, opened_in}
 use Rattle.sq_pools.specs.Seats.{seat_at}

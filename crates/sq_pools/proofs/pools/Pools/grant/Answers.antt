@@ -1,5 +1,5 @@
 use Rattle.std.proofs.Common.{◌≡◌, ◌∙◌, ◌==◌, ◌≤◌, Some, sym, ap, subst}
-use Rattle.sq_rules.specs.PoolReadings.{Sat}
+use Rattle.sq_machine.specs.PoolReadings.{Sat}
 use Rattle.sq_pools.specs.Basins.{is_dry}
 use Rattle.sq_pools.specs.Generations.{buckets_at, second_at}
 use Rattle.sq_pools.specs.Grants.{least_at}

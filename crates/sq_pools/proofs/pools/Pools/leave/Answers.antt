@@ -1,5 +1,5 @@
 use Rattle.std.proofs.Common.{◌≡◌, ◌∙◌, Some, sym, ap}
-use Rattle.sq_rules.specs.PoolReadings.{Sat}
+use Rattle.sq_machine.specs.PoolReadings.{Sat}
 use Rattle.sq_pools.specs.Seats.{seat_at}
 use Rattle.sq_pools.proofs.BasinLaws.{IsLoose, basin, has_left, held_some, left_loose, retired_basin}
 use Rattle.sq_pools.proofs.pools.Pools.leave.Goals as goal

@@ -1,6 +1,6 @@
 use Rattle.std.proofs.Common.{◌≡◌, ◌≤◌, max, ℕ, Some, arith}
 use Rattle.sq_rules.specs.Configurations.{Configuration}
-use Rattle.sq_rules.specs.PoolReadings.{is_aggregate}
+use Rattle.sq_machine.specs.PoolReadings.{is_aggregate}
 use Rattle.sq_pools.proofs.BasinLaws.{IsLoose, basin, renewed_loose, retired_basin}
 use Rattle.sq_pools.proofs.pools.Pools.renew.Goals as goal
 

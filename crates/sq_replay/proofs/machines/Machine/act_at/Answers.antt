@@ -1,5 +1,5 @@
 use Rattle.std.proofs.Common.{◌≡◌, ◌∙◌, max, Option, Some, None, Ok, sym, subst, rules}
-use Rattle.sq_rules.specs.declared.entries.Told.{Told}
+use Rattle.sq_machine.specs.declared.entries.Told.{Told}
 use Rattle.sq_engine.specs.EngineViews.{state_of}
 use Rattle.sq_replay.specs.MachineViews.{MachineView, machine_of}
 use Rattle.std.proofs.Common.{◌<◌}

@@ -1,6 +1,6 @@
 use Rattle.std.proofs.Common.{ℕ, List, max, Ok, Err, refl, sym, subst}
-use Rattle.sq_rules.specs.declared.entries.Event.TheVariants as event
-use Rattle.sq_rules.specs.declared.entries.Told.{Told}
+use Rattle.sq_machine.specs.declared.entries.Event.TheVariants as event
+use Rattle.sq_machine.specs.declared.entries.Told.{Told}
 use Rattle.sq_engine.specs.EngineViews.{state_of}
 use Rattle.sq_replay.specs.MachineViews.{MachineView, machine_of}
 use Rattle.sq_replay.specs.Making.{IsMaking}

@@ -1,5 +1,5 @@
 use Rattle.std.proofs.Common.{max, subst, sym}
-use Rattle.sq_rules.specs.declared.entries.Event.{Event}
+use Rattle.sq_machine.specs.declared.entries.Event.{Event}
 use Rattle.sq_replay.specs.Making.{IsRefusal}
 use Rattle.sq_replay.proofs.AskLaws.{begin_refused}
 use Rattle.sq_replay.proofs.machines.Machine.make.Goals as goal

@@ -1,5 +1,5 @@
 use Rattle.std.proofs.Common.{◌≡◌, ◌∙◌, max, Ok, Err, is_some, sym, subst}
-use Rattle.sq_rules.specs.declared.entries.Told.TheVariants as told
+use Rattle.sq_machine.specs.declared.entries.Told.TheVariants as told
 use Rattle.sq_engine.specs.EngineViews.{state_of}
 use Rattle.sq_replay.specs.declared.stops.Stop.{Stop}
 use Rattle.sq_replay.specs.MachineViews.{MachineView, machine_of}

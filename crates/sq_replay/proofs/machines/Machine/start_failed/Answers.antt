@@ -1,6 +1,6 @@
 use Rattle.std.proofs.Common.{◌≡◌, ℕ, Option, None, Ok, Err, refl, sym, subst, rules}
-use Rattle.sq_rules.specs.declared.entries.Event.TheVariants as event
-use Rattle.sq_rules.specs.declared.entries.Told.TheVariants as told
+use Rattle.sq_machine.specs.declared.entries.Event.TheVariants as event
+use Rattle.sq_machine.specs.declared.entries.Told.TheVariants as told
 use Rattle.sq_engine.specs.EngineViews.{state_of}
 use Rattle.sq_replay.specs.declared.stops.Stop.{Stop}
 use Rattle.sq_replay.specs.declared.stops.Stop.TheVariants as stop

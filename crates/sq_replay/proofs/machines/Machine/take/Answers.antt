@@ -1,6 +1,6 @@
 use Rattle.std.proofs.Common.{◌≡◌, ◌∙◌, ℕ, None, Ok, Err, sym, subst, rules}
-use Rattle.sq_rules.specs.declared.entries.Event.TheVariants as event
-use Rattle.sq_rules.specs.declared.entries.Told.TheVariants as told
+use Rattle.sq_machine.specs.declared.entries.Event.TheVariants as event
+use Rattle.sq_machine.specs.declared.entries.Told.TheVariants as told
 use Rattle.sq_engine.specs.EngineViews.{state_of}
 use Rattle.sq_replay.specs.declared.stops.Stop.TheVariants as stop
 use Rattle.sq_replay.specs.MachineViews.{MachineView, machine_of}
@@ -8,7 +8,7 @@ use Rattle.sq_replay.specs.Making.{IsMaking}
 use Rattle.sq_replay.proofs.ViewLaws.{stops_view}
 use Rattle.std.proofs.Common.{true}
 use Rattle.sq_rules.specs.declared.outcomes.Outcome.{Outcome}
-use Rattle.sq_rules.specs.Entries.{is_outcome}
+use Rattle.sq_machine.specs.Entries.{is_outcome}
 use Rattle.sq_checks.specs.Records.{Judged}
 use Rattle.sq_replay.specs.Riding.{rider_at}
 use Rattle.sq_replay.proofs.OutcomeLaws.{verdict_sound}

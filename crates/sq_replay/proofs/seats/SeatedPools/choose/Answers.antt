@@ -1,5 +1,5 @@
 use Rattle.std.proofs.Common.{◌≡◌, ◌≤◌, ◌<◌, ◌∙◌, suc, subst, arith}
-use Rattle.sq_rules.specs.Limits.{last_number}
+use Rattle.sq_machine.specs.Limits.{last_number}
 use Rattle.sq_pools.specs.Basins.{Basin, sat_in}
 use Rattle.sq_replay.proofs.HoldingLaws.{held_more}
 use Rattle.sq_replay.proofs.seats.SeatedPools.choose.Goals as goal

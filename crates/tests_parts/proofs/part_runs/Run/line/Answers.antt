@@ -1,5 +1,5 @@
 use Rattle.std.proofs.Common.{suc, not, ◌==◌, ap, ◌∙◌}
-use Rattle.sq_rules.specs.OpenLookups.{LookupRow, all_below}
+use Rattle.sq_machine.specs.OpenLookups.{LookupRow, all_below}
 use Rattle.sq_rows.specs.ClassRows.{ClassRow}
 use Rattle.tests_parts.proofs.CountLaws.{some_below}
 use Rattle.tests_parts.proofs.part_runs.Run.line.Goals as goal

@@ -1,0 +1,52 @@
+//! Tests of the names of fields: which lines of a head go out.
+ghost use Rattle.std.specs.Prelude.{◌≡◌, ℕ, List, Bool, ⊤};
+ghost use Rattle.sq_head.specs.FieldNames.{always_there, each_name, goes_out, is_one_of};
+
+use crate::names::is_one_of;
+
+/// A test of names of fields.
+pub trait NameTest {
+    ghost IsReady: { Self → Type 0 };
+
+    ghost passes: { Self → List ℕ → Bool };
+
+    /// Whether the name passes.
+    fn passes(&self, name: &[u8]) -> bool
+        requires { IsReady self.now }
+        ensures { result ≡ passes self.now name.now };
+}
+
+/// The test that each name passes.
+#[derive(Clone, Copy)]
+pub struct EachName;
+
+impl NameTest for EachName {
+    ghost IsReady = { λ _. ⊤ };
+
+    ghost passes = { λ _. each_name };
+
+    fn passes(&self, _name: &[u8]) -> bool {
+        true
+    }
+}
+
+const ALWAYS_THERE: [&[u8]; 4] = [
+    b"host",
+    b"content-length",
+    b"transfer-encoding",
+    b"connection",
+];
+
+fn is_always_there(name: &[u8]) -> bool
+    ensures { result ≡ is_one_of always_there name.now }
+{
+    is_one_of(&ALWAYS_THERE, name)
+}
+
+/// Whether a line of this name goes out.
+pub(crate) fn goes_out<T: NameTest>(test: &T, name: &[u8]) -> bool
+    requires { T.IsReady test.now }
+    ensures { result ≡ goes_out (T.passes test.now) name.now }
+{
+    test.passes(name) || is_always_there(name)
+}

@@ -1,0 +1,6 @@
+pub mod CheckLaws
+pub mod ConnectionLaws
+pub mod EventLaws
+mod MachineRows
+pub mod OpenCheckLaws
+pub mod ReadingLaws

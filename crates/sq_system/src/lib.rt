@@ -1,0 +1,29 @@
+//! The adapters over the system: files and streams, sockets, helper programs, names and the clock, as objects of
+//! the traits of `sq_outside`. They are the trusted edge: that what they hand on are the true bytes is for the
+//! reader to see, and `tests_system` tries them on the loopback.
+//!
+//! Over readers and writers of std that tell what they hold, an adapter tells the same; the system's tell nothing.
+//! A host is dialled in its one spelling alone (`has_one_spelling`), and links and dials have limits of time (`LinkTimes`).
+//! A call answers a fault only where the object's count rose, and each error of the system raises it.
+#![tactic(auto)]
+
+mod again;
+mod children;
+mod hosts;
+mod real_clock;
+mod real_net;
+mod system;
+mod tcp;
+mod tcp_client;
+mod tcp_server;
+mod times;
+
+pub use children::{RealChildIn, RealSpawner};
+pub use hosts::has_one_spelling;
+pub use real_clock::RealClock;
+pub use real_net::RealNet;
+pub use system::{RealFiles, RealSink, RealSource};
+pub use tcp::{RealIn, RealOut};
+pub use tcp_client::{RealDialer, RealResolver};
+pub use tcp_server::{RealListener, RealStopper};
+pub use times::LinkTimes;

@@ -1,0 +1,98 @@
+//! The adapters over readers and writers of std, and over the system's files.
+
+use sq_base::{Text, WantOfMemory};
+use sq_outside::{Files, NoOpen, read_file, read_whole, write_all};
+use sq_system::{RealFiles, RealSink, RealSource};
+use std::alloc::Global;
+use std::io::{self, ErrorKind, Read, Write};
+use std::test::Fail;
+
+// A reader and writer that is interrupted at each second call.
+#[derive(Drop)]
+struct Stutters<T> {
+    inner: T,
+    waits: bool,
+}
+
+impl<T> Stutters<T> {
+    // Whether this call is interrupted.
+    fn turn(&mut self) -> io::Result<()> {
+        self.waits = !self.waits;
+        if self.waits {
+            Err(ErrorKind::Interrupted.into())
+        } else {
+            Ok(())
+        }
+    }
+}
+
+impl<T: Read> Read for Stutters<T> {
+    fn read(&mut self, buf: &mut [u8]) -> io::Result<usize> {
+        self.turn()?;
+        self.inner.read(buf)
+    }
+}
+
+impl<T: Write> Write for Stutters<T> {
+    fn write(&mut self, buf: &[u8]) -> io::Result<usize> {
+        self.turn()?;
+        self.inner.write(buf)
+    }
+
+    fn flush(&mut self) -> io::Result<()> {
+        self.inner.flush()
+    }
+}
+
+#[test]
+fn adapters_reach_what_stands_behind_them(rt: HostRuntime) -> Result<(), Fail> {
+    let mut source = RealSource::new(Stutters {
+        inner: b"hello".as_slice(),
+        waits: false,
+    });
+    let text = read_whole(rt.alloc(), 5, &mut source)
+        .ok()
+        .flatten()
+        .ok_or("the text")?;
+    assert!(rt; text.as_bytes() == b"hello".as_slice());
+
+    let mut bytes = [0u8; 8];
+    let mut sink = RealSink::new(Stutters {
+        inner: bytes.as_mut_slice(),
+        waits: false,
+    });
+    assert!(rt; write_all(&mut sink, b"help me") == Ok(()));
+    assert!(rt; &bytes == b"help me\0");
+    Ok(())
+}
+
+// Why a file is not read; none where it is.
+fn unread<F: Files>(
+    alloc: Global,
+    files: &mut F,
+    name: &[u8],
+) -> Result<Option<NoOpen>, WantOfMemory> {
+    let name = Text::from_slice(alloc, name)?;
+    match read_file(alloc, 5, &name, files) {
+        Ok(_) => Ok(None),
+        Err(fault) => Ok(Some(fault)),
+    }
+}
+
+#[test]
+fn files_of_the_system_are_opened_by_their_names(rt: HostRuntime) -> Result<(), Fail> {
+    let alloc = rt.alloc();
+    let mut files = RealFiles::new(&rt);
+    let missing = unread(alloc, &mut files, b"/dev/null.none")?;
+    let folder = unread(alloc, &mut files, b"/")?;
+    let unreadable = unread(alloc, &mut files, b"/dev/\xff")?;
+    assert!(rt; missing == Some(NoOpen::Missing));
+    assert!(rt; folder == Some(NoOpen::Failed) && unreadable == Some(NoOpen::Failed));
+    let empty = Text::from_slice(alloc, b"/dev/null")?;
+    let text = read_file(alloc, 5, &empty, &mut files)
+        .ok()
+        .flatten()
+        .ok_or("no byte")?;
+    assert!(rt; text.is_empty());
+    Ok(())
+}
