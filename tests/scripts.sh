@@ -7,6 +7,7 @@ if [ "$(uname -s -m)" != "Linux x86_64" ] || [ ! -e /lib64/ld-linux-x86-64.so.2 
     echo "scripts: not tried, since the shipped program is one for other machines"
     exit 0
 fi
+unset COSTS
 room=$(mktemp -d) || exit 1
 trap 'rm -rf "$room"' EXIT
 trap 'exit 1' HUP INT TERM
