@@ -220,8 +220,6 @@ KNOWN: dict[str, str] = {
     "refused, in any program; its later calls fail as they should (docs/OPERATING.md, Memory)",
     "a tunnel has one thread": "where the second one could not be made, the bytes of the origin go first, and those of the client once that "
     "has ended, so that two sides that wait for one another wait, and an end of the server waits for them (docs/OPERATING.md, Memory)",
-    "a listener failed": "a link that was accepted and for which there was no memory counts as a fault of the listener, which ends the server "
-    "with status 9 at its end, or at an order at which no worker waits for a link (docs/OPERATING.md, Memory and Its end)",
     "the port was not opened": "want of memory in the opening of the port is told as `error net`, with status 9 (docs/DECISIONS.md)",
 }
 
@@ -720,9 +718,6 @@ class Trial:
             self.bench.knows(self.part, self.nth, "a look-up crashes")
             self.crashed = True
             self.found.clear()
-            self.unanswered.clear()
-        elif (said, status) == (["error net"], 9) and self.control.refused:
-            self.bench.knows(self.part, self.nth, "a listener failed")
             self.unanswered.clear()
         elif (said, status) != (["stopped"], 0):
             self.miss(f"it ends by {said}, status {status}")

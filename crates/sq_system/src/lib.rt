@@ -8,8 +8,11 @@
 #![tactic(auto)]
 
 mod again;
+mod arrivals;
 mod children;
 mod hosts;
+mod house;
+mod line;
 mod real_clock;
 mod real_net;
 mod system;
@@ -25,5 +28,5 @@ pub use real_net::RealNet;
 pub use system::{RealFiles, RealSink, RealSource};
 pub use tcp::{RealIn, RealOut};
 pub use tcp_client::{RealDialer, RealResolver};
-pub use tcp_server::{RealListener, RealStopper};
+pub use tcp_server::{Listening, RealListener, RealStopper};
 pub use times::LinkTimes;

@@ -44,7 +44,7 @@ impl<
 where
     R::Started: OpenProcess<Stdin = ChildStdin, Stdout = ChildStdout, Stderr = ChildStderr> + Send,
 {
-    type L = RealListener;
+    type L = RealListener<R>;
 
     type T = RealStopper<R>;
 
@@ -62,21 +62,21 @@ where
 
     fn parts(&mut self, alloc: Global, port: u16) -> Result<Parts<RealNet<R>>, Failed> {
         let times = LinkTimes::of_server();
-        let Some((listener, stopper)) = RealListener::listen(alloc, self.rt, port, times) else {
+        let Some(listening) = RealListener::listen(alloc, self.rt, port, times) else {
             raise(&mut self.faults);
             return Err(Failed);
         };
         Ok(Parts {
-            listener,
-            stopper,
-            dialer: RealDialer::new(self.rt, times),
+            listener: listening.listener,
+            stopper: listening.stopper,
+            dialer: listening.dialer,
             spawner: RealSpawner::new(self.rt),
             clock: RealClock::new(self.rt),
             resolver: RealResolver::new(self.rt),
         })
     }
 
-    fn give_back(&mut self, listener: RealListener) {
+    fn give_back(&mut self, listener: RealListener<R>) {
         if listener.has_failed() {
             raise(&mut self.faults);
         }

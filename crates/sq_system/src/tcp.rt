@@ -2,55 +2,122 @@
 //! that `read` and `write` hand on its bytes, and that `shutdown` ends what the other side reads.
 ghost use Rattle.std.specs.Prelude.{◌≡◌, ◌≤◌, ◌-◌, ◌^◌, nat_lt, None, IfSome};
 
-use crate::again::{raise, write_again};
+use crate::again::raise;
+use crate::house::{House, Seat};
+use crate::line::{Line, Side, Watch, is_tick};
 use crate::times::LinkTimes;
 use sq_outside::{Failed, Out, Sink, Source};
 use std::alloc::Global;
-use std::io::{ErrorKind, Read};
+use std::io::ErrorKind;
 use std::net::{Shutdown, TcpStream};
 use std::sync::Arc;
-use std::sync::atomic::{AtomicU64, Ordering};
+use std::time::Clock;
 
-/// The half of a link that is read. Both halves hold one socket, which is closed when both are dropped, and a count of the
-/// calls by which bytes passed: a read that waits for long fails where none did in either direction.
+/// The half of a link that is read. Both halves hold one socket, which is closed when both are dropped.
 #[derive(Drop)]
-pub struct RealIn {
-    stream: Arc<TcpStream>,
-    passed: Arc<AtomicU64>,
-    waits: u32,
+pub struct RealIn<R> {
+    watch: Watch<R>,
+    _seat: Taken,
     faults: u64,
     ghost capped: { faults ≤ 2 ^ 63 - 1 },
 }
 
-impl RealIn {
+/// The half of a link that is written. To close it shuts the socket's way out, once.
+#[derive(Drop)]
+pub struct RealOut<R> {
+    watch: Watch<R>,
+    open: bool,
+    faults: u64,
+    ghost capped: { faults ≤ 2 ^ 63 - 1 },
+}
+
+// The seat of the worker that serves a client, which is empty when this is let go.
+struct Taken(Option<Arc<Seat>>);
+
+impl Drop for Taken {
+    fn drop(self) {
+        let Taken(seat) = self;
+        if let Some(seat) = seat {
+            seat.put(None);
+        }
+    }
+}
+
+/// Sends small pieces at once, and lets a call that waits look around at each tick.
+pub(crate) fn set(stream: &TcpStream, times: LinkTimes) -> Option<()> {
+    stream.set_nodelay(true).ok()?;
+    stream.set_read_timeout(Some(times.tick)).ok()?;
+    stream.set_write_timeout(Some(times.tick)).ok()
+}
+
+impl<R: Copy + Drop> RealIn<R> {
     ghost use Rattle.sq_system.specs.Adapters.{in_faults, out_faults};
 
-    /// Both halves of a link with these limits of time, without the delay that gathers small pieces. None where there is no
-    /// memory, or the socket takes no setting.
-    pub fn halves(alloc: Global, stream: TcpStream, times: LinkTimes) -> Option<(RealIn, RealOut)>
+    /// Both halves of a link to an origin, over a socket without the delay that gathers small pieces, dialled for this client. None
+    /// where there is no memory, or the socket takes no setting.
+    pub(crate) fn dialled(
+        alloc: Global,
+        rt: R,
+        stream: TcpStream,
+        times: LinkTimes,
+        house: Option<Arc<House>>,
+        client: Option<Arc<Line>>,
+    ) -> Option<(RealIn<R>, RealOut<R>)>
         ensures fresh { IfSome result (λ h. (in_faults h.0 ≡ 0) × (out_faults h.1 ≡ 0)) }
     {
-        stream.set_nodelay(true).ok()?;
-        stream.set_read_timeout(Some(times.wait)).ok()?;
-        stream.set_write_timeout(Some(times.write)).ok()?;
-        let stream = Arc::new(alloc, stream).ok()?;
-        let other = Arc::try_clone(&stream).ok()?;
-        let passed = Arc::new(alloc, AtomicU64::new(0)).ok()?;
-        let also_passed = Arc::try_clone(&passed).ok()?;
-        let from = RealIn {
-            stream,
-            passed,
-            waits: times.waits,
+        set(&stream, times)?;
+        let line = Arc::new(alloc, Line::new(stream)).ok()?;
+        let side = match client {
+            Some(client) => {
+                client.set_dialled(true);
+                Side::Origin(client)
+            }
+            None => Side::Unknown,
+        };
+        RealIn::halves(Watch::new(rt, line, side, house, times), None)
+    }
+
+    /// Both halves of a client's link, over a socket that has its settings from the listener's, which takes this seat.
+    pub(crate) fn accepted(
+        alloc: Global,
+        rt: R,
+        stream: TcpStream,
+        times: LinkTimes,
+        house: Arc<House>,
+        seat: Option<Arc<Seat>>,
+    ) -> Option<(RealIn<R>, RealOut<R>)>
+        ensures fresh { IfSome result (λ h. (in_faults h.0 ≡ 0) × (out_faults h.1 ≡ 0)) }
+    {
+        let line = Arc::new(alloc, Line::new(stream)).ok()?;
+        let side = match &seat {
+            Some(seat) => {
+                seat.put(Arc::try_clone(&line).ok());
+                Side::Client
+            }
+            None => Side::Unknown,
+        };
+        RealIn::halves(Watch::new(rt, line, side, Some(house), times), seat)
+    }
+
+    fn halves(watch: Watch<R>, seat: Option<Arc<Seat>>) -> Option<(RealIn<R>, RealOut<R>)>
+        ensures fresh { IfSome result (λ h. (in_faults h.0 ≡ 0) × (out_faults h.1 ≡ 0)) }
+    {
+        let to = RealOut {
+            watch: watch.another()?,
+            open: true,
             faults: 0,
         };
-        let to = RealOut {
-            stream: other,
-            passed: also_passed,
-            open: true,
+        let from = RealIn {
+            watch,
+            _seat: Taken(seat),
             faults: 0,
         };
         Some((from, to))
     }
+}
+
+impl<R> RealIn<R> {
+    ghost use Rattle.sq_system.specs.Adapters.{in_faults};
 
     /// Whether a read has failed.
     pub fn has_failed(&self) -> bool
@@ -58,14 +125,16 @@ impl RealIn {
     {
         self.faults > 0
     }
+
+    /// The dial was given back: its client has none any more.
+    pub(crate) fn end_dial(&self) {
+        if let Side::Origin(client) = &self.watch.side {
+            client.set_dialled(false);
+        }
+    }
 }
 
-// What a read ends with that waited as long as it may at a time.
-fn is_wait(kind: ErrorKind) -> bool {
-    matches!(kind, ErrorKind::WouldBlock | ErrorKind::TimedOut)
-}
-
-impl Source for RealIn {
+impl<R: Clock> Source for RealIn<R> {
     ghost left = { λ _. None };
 
     ghost origin = { λ _. None };
@@ -75,28 +144,18 @@ impl Source for RealIn {
     ghost capped = { λ s. s.capped };
 
     fn read(&mut self, into: &mut [u8]) -> Result<usize, Failed> {
-        let mut stream: &TcpStream = &self.stream;
-        let mut passed = self.passed.load(Ordering::SeqCst);
-        let mut waits = 0u32;
+        let mut wait = self.watch.begin();
         for _ in 0..u64::MAX {
-            match stream.read(into) {
+            if self.watch.is_over() {
+                break;
+            }
+            match self.watch.read(into) {
                 Ok(count) => {
-                    self.passed.fetch_add(1, Ordering::SeqCst);
+                    self.watch.line.pass();
                     return Ok(count);
                 }
                 Err(e) if e.kind() == ErrorKind::Interrupted => {}
-                Err(e) if is_wait(e.kind()) => {
-                    let now = self.passed.load(Ordering::SeqCst);
-                    waits = if now == passed {
-                        waits.saturating_add(1)
-                    } else {
-                        0
-                    };
-                    passed = now;
-                    if waits >= self.waits {
-                        break;
-                    }
-                }
+                Err(e) if is_tick(e.kind()) && self.watch.goes_on(&mut wait) => {}
                 Err(_) => break,
             }
         }
@@ -105,17 +164,7 @@ impl Source for RealIn {
     }
 }
 
-/// The half of a link that is written. To close it shuts the socket's way out, once.
-#[derive(Drop)]
-pub struct RealOut {
-    stream: Arc<TcpStream>,
-    passed: Arc<AtomicU64>,
-    open: bool,
-    faults: u64,
-    ghost capped: { faults ≤ 2 ^ 63 - 1 },
-}
-
-impl RealOut {
+impl<R> RealOut<R> {
     ghost use Rattle.sq_system.specs.Adapters.{out_faults};
 
     /// Whether a write or the closing has failed.
@@ -126,7 +175,7 @@ impl RealOut {
     }
 }
 
-impl Sink for RealOut {
+impl<R: Clock> Sink for RealOut<R> {
     ghost contents = { λ _. None };
 
     ghost faults = { λ s. s.faults };
@@ -134,18 +183,31 @@ impl Sink for RealOut {
     ghost capped = { λ s. s.capped };
 
     fn write(&mut self, bytes: &[u8]) -> Result<usize, Failed> {
-        let mut stream: &TcpStream = &self.stream;
-        let count = write_again(&mut stream, bytes, &mut self.faults)?;
-        self.passed.fetch_add(1, Ordering::SeqCst);
-        Ok(count)
+        let mut wait = self.watch.begin();
+        for _ in 0..u64::MAX {
+            if self.watch.is_over() {
+                break;
+            }
+            match self.watch.write(bytes) {
+                Ok(count) if count > 0 || bytes.is_empty() => {
+                    self.watch.line.pass();
+                    return Ok(count);
+                }
+                Err(e) if e.kind() == ErrorKind::Interrupted => {}
+                Err(e) if is_tick(e.kind()) && self.watch.goes_on(&mut wait) => {}
+                _ => break,
+            }
+        }
+        raise(&mut self.faults);
+        Err(Failed)
     }
 }
 
-impl Out for RealOut {
+impl<R: Clock> Out for RealOut<R> {
     ghost closed = { λ _. None };
 
     fn close(&mut self) {
-        if self.open && self.stream.shutdown(Shutdown::Write).is_err() {
+        if self.open && self.watch.line.stream.shutdown(Shutdown::Write).is_err() {
             raise(&mut self.faults);
         }
         self.open = false;

@@ -4,32 +4,52 @@ ghost use Rattle.std.specs.Prelude.{◌≡◌, ◌≤◌, ◌-◌, ◌^◌, None
 
 use crate::again::raise;
 use crate::hosts::has_one_spelling;
+use crate::house::{House, Seat};
+use crate::line::{Line, copy_of};
 use crate::tcp::{RealIn, RealOut};
 use crate::tcp_server::addr_of;
 use crate::times::LinkTimes;
 use sq_base::{Addrs, Text};
-use sq_outside::{Another, Dialer, Failed, LookFault, Resolver, Sink, Source};
+use sq_outside::{Another, Dialer, Failed, LookFault, Resolver};
 use std::alloc::Global;
 use std::io::ErrorKind;
 use std::net::{Net, TcpStream, ToSocketAddrs};
+use std::rt::Files;
+use std::sync::Arc;
 use std::time::{Clock, Instant};
 
 /// A dialer by the system's names and sockets. It reaches a host in its one spelling alone, and gives up where that takes too
-/// long; the look-up of a name takes as long as the system lets it.
+/// long; the look-up of a name takes as long as the system lets it. It is used by one thread: what it dials is for the client
+/// whose link this thread has accepted last.
 #[derive(Drop)]
 pub struct RealDialer<R> {
     rt: R,
     times: LinkTimes,
+    house: Option<Arc<House>>,
+    seat: Option<Arc<Seat>>,
     faults: u64,
     ghost capped: { faults ≤ 2 ^ 63 - 1 },
 }
 
 impl<R> RealDialer<R> {
-    /// A dialer of this runtime with these limits of time, and the count 0.
+    /// A dialer of this runtime with these limits of time, beside no listener, and the count 0.
     pub fn new(rt: R, times: LinkTimes) -> RealDialer<R> {
         RealDialer {
             rt,
             times,
+            house: None,
+            seat: None,
+            faults: 0,
+        }
+    }
+
+    /// One beside a listener.
+    pub(crate) fn beside(rt: R, times: LinkTimes, house: Arc<House>) -> RealDialer<R> {
+        RealDialer {
+            rt,
+            times,
+            house: Some(house),
+            seat: None,
             faults: 0,
         }
     }
@@ -37,11 +57,30 @@ impl<R> RealDialer<R> {
 
 impl<R: Copy> Another for RealDialer<R> {
     fn another(&self) -> RealDialer<R> {
-        RealDialer::new(self.rt, self.times)
+        RealDialer {
+            rt: self.rt,
+            times: self.times,
+            house: copy_of(&self.house),
+            seat: None,
+            faults: 0,
+        }
     }
 }
 
-impl<R: Net<Stream = TcpStream> + Clock> RealDialer<R> {
+impl<R: Files> RealDialer<R> {
+    // The link of the client that the calling thread serves.
+    fn client(&mut self, alloc: Global) -> Option<Arc<Line>>
+        ensures kept { self.new.faults ≡ self.old.faults }
+    {
+        let house = self.house.as_ref()?;
+        if self.seat.is_none() {
+            self.seat = house.seat(&self.rt, alloc);
+        }
+        self.seat.as_ref()?.client()
+    }
+}
+
+impl<R: Net<Stream = TcpStream> + Clock + Files + Copy + Drop> RealDialer<R> {
     ghost use Rattle.sq_system.specs.Adapters.{in_faults, out_faults};
 
     // A socket of the first of the host's addresses that is reached in time.
@@ -60,22 +99,25 @@ impl<R: Net<Stream = TcpStream> + Clock> RealDialer<R> {
     }
 
     // Both halves of a link to that host and port, if it is reached.
-    fn reach(&self, alloc: Global, host: &Text, port: u16) -> Option<(RealIn, RealOut)>
+    fn reach(&mut self, alloc: Global, host: &Text, port: u16) -> Option<(RealIn<R>, RealOut<R>)>
         ensures fresh { IfSome result (λ h. (in_faults h.0 ≡ 0) × (out_faults h.1 ≡ 0)) }
+        ensures kept { self.new.faults ≡ self.old.faults }
     {
         let host = str::from_utf8(host.as_bytes()).ok()?;
         if !has_one_spelling(host) {
             return None;
         }
         let stream = self.connect(host, port)?;
-        RealIn::halves(alloc, stream, self.times)
+        let client = self.client(alloc);
+        let house = copy_of(&self.house);
+        RealIn::dialled(alloc, self.rt, stream, self.times, house, client)
     }
 }
 
-impl<R: Net<Stream = TcpStream> + Clock> Dialer for RealDialer<R> {
-    type In = RealIn;
+impl<R: Net<Stream = TcpStream> + Clock + Files + Copy + Send + Drop> Dialer for RealDialer<R> {
+    type In = RealIn<R>;
 
-    type Outgo = RealOut;
+    type Outgo = RealOut<R>;
 
     ghost dialled = { λ _. None };
 
@@ -83,7 +125,12 @@ impl<R: Net<Stream = TcpStream> + Clock> Dialer for RealDialer<R> {
 
     ghost capped = { λ s. s.capped };
 
-    fn dial(&mut self, alloc: Global, host: &Text, port: u16) -> Result<(RealIn, RealOut), Failed> {
+    fn dial(
+        &mut self,
+        alloc: Global,
+        host: &Text,
+        port: u16,
+    ) -> Result<(RealIn<R>, RealOut<R>), Failed> {
         match self.reach(alloc, host, port) {
             Some(halves) => Ok(halves),
             None => {
@@ -93,7 +140,8 @@ impl<R: Net<Stream = TcpStream> + Clock> Dialer for RealDialer<R> {
         }
     }
 
-    fn give_back(&mut self, from: RealIn, to: RealOut) {
+    fn give_back(&mut self, from: RealIn<R>, to: RealOut<R>) {
+        from.end_dial();
         if from.has_failed() || to.has_failed() {
             raise(&mut self.faults);
         }

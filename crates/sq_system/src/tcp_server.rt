@@ -1,22 +1,31 @@
 //! What accepts TCP links, and what stops it: the trusted edge. It relies on `accept` giving the links that
-//! come to the port, and on a link from here being one of them.
+//! come to the port, on a link from here being one of them, and on Linux: a socket that is accepted has the settings of the
+//! listener's, and an `accept` ends when its socket is shut.
 ghost use Rattle.std.specs.Prelude.{◌≡◌, ◌≤◌, ◌-◌, ◌^◌, nat_lt, None, IfSome};
+ghost use Rattle.sq_outside.specs.World.{IfLink};
 
-use crate::again::{TRIES, raise};
-use crate::tcp::{RealIn, RealOut};
+use crate::again::raise;
+use crate::arrivals::{Arrival, Arrivals};
+use crate::house::House;
+use crate::line::is_tick;
+use crate::tcp::{RealIn, RealOut, set};
+use crate::tcp_client::RealDialer;
 use crate::times::LinkTimes;
 use sq_base::Addr;
 use sq_outside::{Accepted, Listener, Stopper};
 use std::alloc::Global;
-use std::io::{self, ErrorKind};
-use std::net::{IpAddr, Ipv4Addr, Ipv6Addr, Net, SocketAddr, TcpListener, TcpStream};
+use std::net::{IpAddr, Ipv4Addr, Ipv6Addr, Net, Shutdown, SocketAddr, TcpListener, TcpStream};
+use std::os::fd::OwnedFd;
+use std::rt::Files;
 use std::sync::Arc;
-use std::sync::atomic::{AtomicBool, Ordering};
-use std::time::Duration;
+use std::time::{Clock, Duration};
+use std::{io, thread};
 
-/// How long a link that wakes a listener may take, in milliseconds. It takes no time where a call of it waits: only where none
-/// does can the queue of links be full.
-const WAKING: u64 = 500;
+/// How many milliseconds a listener pauses where no link is there and behind an error that passes.
+const PAUSE: u64 = 10;
+
+/// Errors of `accept` that do not pass, of Linux: no such file, no socket, none that listens, no memory of the program's.
+const LASTING: [i32; 4] = [9, 88, 22, 14];
 
 /// An address as the system has it. An IPv4 address that stands in an IPv6 one is that IPv4 address.
 pub fn addr_of(ip: IpAddr) -> Addr {
@@ -39,50 +48,50 @@ fn v4(ip: Ipv4Addr) -> Addr {
     }
 }
 
-/// A listener at a port of this machine.
+/// A listener at a port of this machine. No link comes to it once it is let go.
 #[derive(Drop)]
-pub struct RealListener {
-    listener: TcpListener,
-    times: LinkTimes,
-    stopped: Arc<AtomicBool>,
+pub struct RealListener<R> {
+    entrance: Entrance<R>,
     faults: u64,
     ghost capped: { faults ≤ 2 ^ 63 - 1 },
 }
 
-impl RealListener {
-    ghost use Rattle.sq_system.specs.Adapters.{accept_faults};
+// The socket of a listener, and the links that came and say nothing yet.
+struct Entrance<R> {
+    rt: R,
+    listener: TcpListener,
+    arrivals: Arrivals,
+    times: LinkTimes,
+    house: Arc<House>,
+}
 
-    /// A listener at this port, or at a free one for port 0, whose links have these limits of time, and what stops it. None where
-    /// it can't be had.
-    pub fn listen<R: Net<Listener = TcpListener, Stream = TcpStream> + Drop>(
-        alloc: Global,
-        rt: R,
-        port: u16,
-        times: LinkTimes,
-    ) -> Option<(RealListener, RealStopper<R>)>
-        ensures fresh { IfSome result (λ h. accept_faults h.0 ≡ 0) }
-    {
-        let listener = bind(&rt, port).ok()?;
-        let port = listener.local_addr().ok()?.port();
-        let stopped = Arc::new(alloc, AtomicBool::new(false)).ok()?;
-        let other = Arc::try_clone(&stopped).ok()?;
-        let stopper = RealStopper {
-            rt,
-            port,
-            stopped: other,
-        };
-        let listener = RealListener {
+impl<R: Drop> Drop for Entrance<R> {
+    fn drop(self) {
+        let Entrance {
+            rt: _,
             listener,
-            times,
-            stopped,
-            faults: 0,
-        };
-        Some((listener, stopper))
+            arrivals: _,
+            times: _,
+            house: _,
+        } = self;
+        let _ = TcpStream::from(OwnedFd::from(listener)).shutdown(Shutdown::Both);
     }
+}
+
+/// What a listener, what stops it and what dials beside it have in common.
+#[derive(Drop)]
+pub struct Listening<R> {
+    pub listener: RealListener<R>,
+    pub stopper: RealStopper<R>,
+    pub dialer: RealDialer<R>,
+}
+
+impl<R> RealListener<R> {
+    ghost use Rattle.sq_system.specs.Adapters.{accept_faults};
 
     /// The port at which it listens, which the system chose where it was made for port 0.
     pub fn port(&self) -> Option<u16> {
-        Some(self.listener.local_addr().ok()?.port())
+        Some(self.entrance.listener.local_addr().ok()?.port())
     }
 
     /// Whether a call has failed.
@@ -93,25 +102,170 @@ impl RealListener {
     }
 }
 
-// The next link. A call that was interrupted, or whose client has gone already, is made again.
-fn accept(listener: &TcpListener) -> io::Result<(TcpStream, SocketAddr)> {
-    for _ in 0..TRIES {
-        match listener.accept() {
-            Err(e)
-                if matches!(
-                    e.kind(),
-                    ErrorKind::Interrupted | ErrorKind::ConnectionAborted
-                ) => {}
-            answer => return answer,
-        }
+impl<R: Net<Listener = TcpListener, Stream = TcpStream> + Copy + Drop> RealListener<R> {
+    ghost use Rattle.sq_system.specs.Adapters.{accept_faults};
+
+    /// A listener at this port, or at a free one for port 0, whose links have these limits of time, what stops it, and a dialer
+    /// for the workers that take its links. None where it can't be had.
+    pub fn listen(alloc: Global, rt: R, port: u16, times: LinkTimes) -> Option<Listening<R>>
+        ensures fresh { IfSome result (λ l. accept_faults l.listener ≡ 0) }
+    {
+        let listener = bind(&rt, port).ok()?;
+        let socket = TcpStream::from(OwnedFd::from(listener.try_clone().ok()?));
+        set(&socket, times)?;
+        let house = Arc::new(alloc, House::new(alloc)).ok()?;
+        let stopper = RealStopper {
+            rt,
+            socket,
+            house: Arc::try_clone(&house).ok()?,
+        };
+        let dialer = RealDialer::beside(rt, times, Arc::try_clone(&house).ok()?);
+        let entrance = Entrance {
+            rt,
+            listener,
+            arrivals: Arrivals::new(alloc),
+            times,
+            house,
+        };
+        let listener = RealListener {
+            entrance,
+            faults: 0,
+        };
+        Some(Listening {
+            listener,
+            stopper,
+            dialer,
+        })
     }
-    Err(io::Error::from(ErrorKind::Interrupted))
 }
 
-impl Listener for RealListener {
-    type In = RealIn;
+// What a call of the listener's socket came to.
+#[derive(Drop)]
+enum Found {
+    Link(Arrival),
+    Nothing,
+    Failed,
+}
 
-    type Outgo = RealOut;
+fn is_lasting(error: &io::Error) -> bool {
+    match error.raw_os_error() {
+        Some(number) => LASTING.contains(&number),
+        None => false,
+    }
+}
+
+impl<R: Clock> Entrance<R> {
+    // The next link of the socket. It waits for one, for a tick at the most, or only a moment.
+    fn accept(&self, waits: bool) -> Found {
+        if !waits && self.listener.set_nonblocking(true).is_err() {
+            return Found::Nothing;
+        }
+        let answer = self.listener.accept();
+        if !waits {
+            let _ = self.listener.set_nonblocking(false);
+        }
+        match answer {
+            Ok((stream, peer)) => Found::Link(Arrival { stream, peer }),
+            Err(e) if is_lasting(&e) => Found::Failed,
+            Err(e) => {
+                if !waits || !is_tick(e.kind()) {
+                    thread::sleep(&self.rt, Duration::from_millis(PAUSE));
+                }
+                Found::Nothing
+            }
+        }
+    }
+
+    // Whether a link gave way of late.
+    fn is_crowded(&self) -> bool {
+        match self.house.since_crowd(&self.rt) {
+            Some(passed) => passed < self.times.crowd,
+            None => false,
+        }
+    }
+
+    // The next link. Where links gave way of late it is one that says something, and others wait.
+    fn find(&mut self, now: Duration) -> Found {
+        if self.arrivals.is_empty() && !self.is_crowded() {
+            return self.accept(true);
+        }
+        let silent = self.times.tick.saturating_mul(self.times.silent);
+        if let Some(arrival) = self.arrivals.take(now.saturating_sub(silent)) {
+            return Found::Link(arrival);
+        }
+        match self.accept(self.arrivals.is_empty()) {
+            Found::Link(arrival) => match self.arrivals.keep(now, arrival) {
+                Some(arrival) => Found::Link(arrival),
+                None => Found::Nothing,
+            },
+            found => found,
+        }
+    }
+
+    // The same, and others see that this one waits.
+    fn seek(&mut self) -> Found {
+        let begun = self.rt.monotonic().unwrap_or(Duration::ZERO);
+        self.house.enter();
+        let found = self.find(begun);
+        let ended = self.rt.monotonic().unwrap_or(Duration::MAX);
+        self.house.leave(ended.saturating_sub(begun));
+        found
+    }
+}
+
+impl<R: Files + Clock + Copy + Drop> Entrance<R> {
+    ghost use Rattle.sq_system.specs.Adapters.{in_faults, out_faults};
+
+    // Both halves of a link that came, for the worker that calls.
+    fn halves(&self, alloc: Global, stream: TcpStream) -> Option<(RealIn<R>, RealOut<R>)>
+        ensures fresh { IfSome result (λ h. (in_faults h.0 ≡ 0) × (out_faults h.1 ≡ 0)) }
+    {
+        let seat = self.house.seat(&self.rt, alloc);
+        let house = Arc::try_clone(&self.house).ok()?;
+        RealIn::accepted(alloc, self.rt, stream, self.times, house, seat)
+    }
+
+    // The link that came, if there is memory for it.
+    fn let_in(&self, alloc: Global, arrival: Arrival) -> Option<Accepted<RealIn<R>, RealOut<R>>>
+        ensures fresh { IfSome result (λ a. IfLink a (λ from to addr port. (in_faults from ≡ 0) × (out_faults to ≡ 0))) }
+    {
+        let Arrival { stream, peer } = arrival;
+        let (from, to) = self.halves(alloc, stream)?;
+        Some(Accepted::Link {
+            from,
+            to,
+            addr: addr_of(peer.ip()),
+            port: peer.port(),
+        })
+    }
+
+    // Waits for the next link.
+    fn next(&mut self, alloc: Global) -> Accepted<RealIn<R>, RealOut<R>>
+        ensures fresh { IfLink result (λ from to addr port. (in_faults from ≡ 0) × (out_faults to ≡ 0)) }
+    {
+        for _ in 0..u64::MAX {
+            let found = self.seek();
+            if self.house.is_stopped() {
+                self.arrivals.clear();
+                return Accepted::Stopped;
+            }
+            match found {
+                Found::Link(arrival) => match self.let_in(alloc, arrival) {
+                    Some(accepted) => return accepted,
+                    None => thread::sleep(&self.rt, Duration::from_millis(PAUSE)),
+                },
+                Found::Nothing => {}
+                Found::Failed => return Accepted::Failed,
+            }
+        }
+        Accepted::Failed
+    }
+}
+
+impl<R: Files + Clock + Copy + Send + Drop> Listener for RealListener<R> {
+    type In = RealIn<R>;
+
+    type Outgo = RealOut<R>;
 
     ghost coming = { λ _. None };
 
@@ -119,47 +273,42 @@ impl Listener for RealListener {
 
     ghost capped = { λ s. s.capped };
 
-    fn next(&mut self, alloc: Global) -> Accepted<RealIn, RealOut> {
-        if self.stopped.load(Ordering::SeqCst) {
-            return Accepted::Stopped;
-        }
-        let Ok((stream, peer)) = accept(&self.listener) else {
-            raise(&mut self.faults);
-            return Accepted::Failed;
-        };
-        if self.stopped.load(Ordering::SeqCst) {
-            return Accepted::Stopped;
-        }
-        let Some((from, to)) = RealIn::halves(alloc, stream, self.times) else {
-            raise(&mut self.faults);
-            return Accepted::Failed;
-        };
-        Accepted::Link {
-            from,
-            to,
-            addr: addr_of(peer.ip()),
-            port: peer.port(),
+    fn next(&mut self, alloc: Global) -> Accepted<RealIn<R>, RealOut<R>> {
+        match self.entrance.next(alloc) {
+            Accepted::Link {
+                from,
+                to,
+                addr,
+                port,
+            } => Accepted::Link {
+                from,
+                to,
+                addr,
+                port,
+            },
+            Accepted::Stopped => Accepted::Stopped,
+            Accepted::Failed => {
+                raise(&mut self.faults);
+                Accepted::Failed
+            }
         }
     }
 }
 
-/// Stops a listener: it says so to the listener, and wakes it by a link to its port, of IPv4 or else of IPv6.
+/// Stops a listener: it says so to all that belongs to the listener, and shuts its socket, so that no link comes to it any more
+/// and another listener can have its port.
 #[derive(Drop)]
 pub struct RealStopper<R> {
     rt: R,
-    port: u16,
-    stopped: Arc<AtomicBool>,
+    // Another handle of the listener's socket.
+    socket: TcpStream,
+    house: Arc<House>,
 }
 
-impl<R: Net> Stopper for RealStopper<R> {
+impl<R: Clock> Stopper for RealStopper<R> {
     fn stop(&self) {
-        self.stopped.store(true, Ordering::SeqCst);
-        let v4 = SocketAddr::from((Ipv4Addr::LOCALHOST, self.port));
-        let v6 = SocketAddr::from((Ipv6Addr::LOCALHOST, self.port));
-        let time = Duration::from_millis(WAKING);
-        if TcpStream::connect_timeout(&self.rt, &v4, time).is_err() {
-            let _ = TcpStream::connect_timeout(&self.rt, &v6, time);
-        }
+        self.house.stop(&self.rt);
+        let _ = self.socket.shutdown(Shutdown::Both);
     }
 }
 
@@ -170,7 +319,7 @@ fn bind<R: Net<Listener = TcpListener, Stream = TcpStream>>(
     port: u16,
 ) -> io::Result<TcpListener> {
     match TcpListener::bind(rt, (Ipv6Addr::UNSPECIFIED, port)) {
-        Err(e) if e.kind() != ErrorKind::AddrInUse => {
+        Err(e) if e.kind() != io::ErrorKind::AddrInUse => {
             TcpListener::bind(rt, (Ipv4Addr::UNSPECIFIED, port))
         }
         answer => answer,

@@ -1,16 +1,24 @@
 //! How long links and dials may take.
 use std::time::Duration;
 
-/// How long links and dials may take. A link on which nothing passed in either direction for `wait` times `waits` fails, and so
-/// does one whose other side takes nothing for `write`.
+/// How long links and dials may take. A call that waits for a link looks around at each tick: then a link fails on which nothing
+/// passed in either direction for too many ticks. How many that are hangs on who else waits, and on whether its server is stopped.
 #[derive(Clone, Copy)]
 pub struct LinkTimes {
-    /// How long a read waits at a time.
-    pub wait: Duration,
-    /// How many such waits in a row may pass without a byte on the link.
-    pub waits: u32,
-    /// How long a write may stand still.
-    pub write: Duration,
+    /// How long a tick is.
+    pub tick: Duration,
+    /// How many silent ticks a link may have.
+    pub silent: u32,
+    /// How many a client's link may have that is between requests, where nobody waits for the next link.
+    pub spare: u32,
+    /// How many any other link may have then.
+    pub held: u32,
+    /// How many any other link may have where the server is stopped.
+    pub ending: u32,
+    /// How long links may go on where the server is stopped.
+    pub end: Duration,
+    /// How long links that say nothing wait without a worker, where one gave way before.
+    pub crowd: Duration,
     /// How long one address of a host may take to be reached.
     pub address: Duration,
     /// How long all addresses of a host may take to be reached.
@@ -18,12 +26,17 @@ pub struct LinkTimes {
 }
 
 impl LinkTimes {
-    /// Those of a server: two minutes for a link, ten seconds for an address, half a minute for a host.
+    /// Those of a server: ticks of half a second, two minutes for a silent link, two seconds for one that is idle and ten for
+    /// another where they are wanted, half a minute to end, ten seconds for an address, half a minute for a host.
     pub fn of_server() -> LinkTimes {
         LinkTimes {
-            wait: Duration::from_secs(10),
-            waits: 12,
-            write: Duration::from_secs(120),
+            tick: Duration::from_millis(500),
+            silent: 240,
+            spare: 4,
+            held: 20,
+            ending: 2,
+            end: Duration::from_secs(30),
+            crowd: Duration::from_secs(10),
             address: Duration::from_secs(10),
             host: Duration::from_secs(30),
         }

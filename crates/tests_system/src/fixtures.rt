@@ -6,6 +6,7 @@ use sq_outside::{
 use sq_system::{RealDialer, RealIn, RealListener, RealOut};
 use std::alloc::Global;
 use std::net::{Net, TcpStream};
+use std::rt::Files;
 use std::time;
 
 /// How many bytes each side sends.
@@ -43,15 +44,15 @@ pub fn receives<S: Source>(alloc: Global, from: &mut S, mark: u8) -> bool {
 }
 
 /// Both halves of a link.
-pub type Halves = (RealIn, RealOut);
+pub type Halves<R> = (RealIn<R>, RealOut<R>);
 
 /// Dials this machine by this host.
-pub fn dials<R: Net<Stream = TcpStream> + time::Clock>(
+pub fn dials<R: Net<Stream = TcpStream> + time::Clock + Files + Copy + Send + Drop>(
     alloc: Global,
     dialer: &mut RealDialer<R>,
     host: &[u8],
     port: u16,
-) -> Result<Halves, Failed> {
+) -> Result<Halves<R>, Failed> {
     let Ok(host) = Text::from_slice(alloc, host) else {
         return Err(Failed);
     };
@@ -59,7 +60,10 @@ pub fn dials<R: Net<Stream = TcpStream> + time::Clock>(
 }
 
 /// The halves of the next link, if one came.
-pub fn accepts(alloc: Global, listener: &mut RealListener) -> Option<Halves> {
+pub fn accepts<R: time::Clock + Files + Copy + Send + Drop>(
+    alloc: Global,
+    listener: &mut RealListener<R>,
+) -> Option<Halves<R>> {
     match listener.next(alloc) {
         Accepted::Link { from, to, .. } => Some((from, to)),
         _ => None,

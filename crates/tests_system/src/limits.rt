@@ -1,31 +1,50 @@
-//! Limits of time: links on which nothing passes, and those on which something does in one direction.
+//! Limits of time, with short ticks: links on which nothing passes, and those on which something does in one direction; links
+//! that give way where nobody waits for the next one; what ends with a client, and with a server.
 use crate::fixtures::{accepts, dials};
-use sq_outside::{Clock, Sink, Source};
+use sq_outside::{Accepted, Clock, Dialer, Listener, Out, Sink, Source, Stopper};
 use sq_system::{LinkTimes, RealClock, RealDialer, RealListener};
 use std::test::Fail;
+use std::thread;
 use std::time::Duration;
 
-// A link that may be silent for 8 waits of 20 milliseconds.
+// Ticks of 20 milliseconds. A link may be silent for 50 of them; where it is wanted, for 3 if it is idle, and for 20 if not.
 fn short() -> LinkTimes {
     LinkTimes {
-        wait: Duration::from_millis(20),
-        waits: 8,
-        write: Duration::from_millis(160),
+        tick: Duration::from_millis(20),
+        silent: 50,
+        spare: 3,
+        held: 20,
+        ending: 4,
+        end: Duration::from_millis(600),
         ..LinkTimes::of_server()
+    }
+}
+
+/// After how many milliseconds a read fails. More than all of them where it does not.
+fn fails_after<S: Source, C: Clock>(from: &mut S, clock: &mut C) -> u64 {
+    let begun = clock.now();
+    let mut chunk = [0u8; 16];
+    match from.read(&mut chunk) {
+        Ok(_) => u64::MAX,
+        Err(_) => clock.now().0.saturating_sub(begun.0),
     }
 }
 
 #[test]
 fn a_silent_link_fails_in_time(rt: HostRuntime) -> Result<(), Fail> {
     let alloc = rt.alloc();
-    let (mut listener, _stopper) = RealListener::listen(alloc, rt, 0, short()).ok_or("no port")?;
+    let mut listener = RealListener::listen(alloc, rt, 0, short())
+        .ok_or("no port")?
+        .listener;
     let port = listener.port().ok_or("no port")?;
-    let mut dialer = RealDialer::new(rt, LinkTimes::of_server());
-    let _client = dials(alloc, &mut dialer, b"127.0.0.1", port)?;
-    let (mut from, mut to) = accepts(alloc, &mut listener).ok_or("no link")?;
-    let mut chunk = [0u8; 16];
-    assert!(rt; from.read(&mut chunk).is_err());
-    assert!(rt; from.has_failed());
+    let mut dialer = RealDialer::new(rt, short());
+    let (mut from, mut to) = dials(alloc, &mut dialer, b"127.0.0.1", port)?;
+    let other = accepts(alloc, &mut listener).ok_or("no link")?;
+    let time = fails_after(&mut from, &mut RealClock::new(rt));
+    assert!(rt;
+        from.has_failed() && (950..2000).contains(&time),
+        "after {time}"
+    );
     // What its other side does not read piles up, until a write stands still for as long.
     let piece = [0u8; 65536];
     let mut fails = false;
@@ -36,18 +55,27 @@ fn a_silent_link_fails_in_time(rt: HostRuntime) -> Result<(), Fail> {
         }
     }
     assert!(rt; fails && to.has_failed());
+    drop(other);
     Ok(())
 }
 
 #[test]
 fn what_is_written_keeps_the_half_that_is_read(rt: HostRuntime) -> Result<(), Fail> {
     let alloc = rt.alloc();
-    let (mut listener, _stopper) = RealListener::listen(alloc, rt, 0, short()).ok_or("no port")?;
+    let mut listener = RealListener::listen(alloc, rt, 0, short())
+        .ok_or("no port")?
+        .listener;
     let port = listener.port().ok_or("no port")?;
-    let mut dialer = RealDialer::new(rt, LinkTimes::of_server());
-    let mut client = dials(alloc, &mut dialer, b"127.0.0.1", port)?;
-    let (mut from, mut to) = accepts(alloc, &mut listener).ok_or("no link")?;
-    let reading = std::thread::spawn(&rt, move || {
+    let mut dialer = RealDialer::new(
+        rt,
+        LinkTimes {
+            silent: 8,
+            ..short()
+        },
+    );
+    let (mut from, mut to) = dials(alloc, &mut dialer, b"127.0.0.1", port)?;
+    let mut other = accepts(alloc, &mut listener).ok_or("no link")?;
+    let reading = thread::spawn(&rt, move || {
         let mut chunk = [0u8; 16];
         from.read(&mut chunk)
     })?;
@@ -57,7 +85,111 @@ fn what_is_written_keeps_the_half_that_is_read(rt: HostRuntime) -> Result<(), Fa
         assert!(rt; to.write(b".").is_ok());
         clock.pause();
     }
-    assert!(rt; client.1.write(b"late").is_ok());
+    assert!(rt; other.1.write(b"late").is_ok());
     assert!(rt; reading.join(&rt) == Ok(4));
+    Ok(())
+}
+
+#[test]
+fn a_link_gives_way_where_it_is_wanted(rt: HostRuntime) -> Result<(), Fail> {
+    let alloc = rt.alloc();
+    let mut net = RealListener::listen(alloc, rt, 0, short()).ok_or("no port")?;
+    let port = net.listener.port().ok_or("no port")?;
+    let mut clock = RealClock::new(rt);
+    let mut clients = RealDialer::new(rt, LinkTimes::of_server());
+    let first = dials(alloc, &mut clients, b"127.0.0.1", port)?;
+    let (mut from, to) = accepts(alloc, &mut net.listener).ok_or("no link")?;
+    let time = fails_after(&mut from, &mut clock);
+    assert!(rt; (40..300).contains(&time), "an idle one after {time}");
+    drop((from, to));
+    // From then on those that say nothing wait behind the one that does.
+    let second = dials(alloc, &mut clients, b"127.0.0.1", port)?;
+    let mut third = dials(alloc, &mut clients, b"127.0.0.1", port)?;
+    assert!(rt; third.1.write(b"third").is_ok());
+    let (mut from, _to) = accepts(alloc, &mut net.listener).ok_or("no link")?;
+    let mut chunk = [0u8; 16];
+    assert!(rt; from.read(&mut chunk) == Ok(5));
+    // A link for which its worker has dialled is no idle one.
+    let dialled = dials(alloc, &mut net.dialer, b"127.0.0.1", port)?;
+    let time = fails_after(&mut from, &mut clock);
+    assert!(rt; (380..900).contains(&time), "a busy one after {time}");
+    net.dialer.give_back(dialled.0, dialled.1);
+    drop((first, second));
+    Ok(())
+}
+
+#[test]
+fn a_link_stays_where_somebody_waits_for_the_next(rt: HostRuntime) -> Result<(), Fail> {
+    let alloc = rt.alloc();
+    let mut listener = RealListener::listen(alloc, rt, 0, short())
+        .ok_or("no port")?
+        .listener;
+    let port = listener.port().ok_or("no port")?;
+    let mut clients = RealDialer::new(rt, LinkTimes::of_server());
+    let client = dials(alloc, &mut clients, b"127.0.0.1", port)?;
+    let (mut from, _to) = accepts(alloc, &mut listener).ok_or("no link")?;
+    let waiting = thread::spawn(&rt, move || accepts(alloc, &mut listener).is_some())?;
+    let time = fails_after(&mut from, &mut RealClock::new(rt));
+    assert!(rt; (950..2000).contains(&time), "after {time}");
+    let _next = dials(alloc, &mut clients, b"127.0.0.1", port)?;
+    assert!(rt; waiting.join(&rt));
+    drop(client);
+    Ok(())
+}
+
+#[test]
+fn what_was_dialled_ends_with_its_client(rt: HostRuntime) -> Result<(), Fail> {
+    let alloc = rt.alloc();
+    let mut net = RealListener::listen(alloc, rt, 0, short()).ok_or("no port")?;
+    let port = net.listener.port().ok_or("no port")?;
+    let origins = RealListener::listen(alloc, rt, 0, short())
+        .ok_or("no port")?
+        .listener;
+    let theirs = origins.port().ok_or("no port")?;
+    let mut clock = RealClock::new(rt);
+    let mut clients = RealDialer::new(rt, LinkTimes::of_server());
+    let mut client = dials(alloc, &mut clients, b"127.0.0.1", port)?;
+    let (_from, mut to) = accepts(alloc, &mut net.listener).ok_or("no link")?;
+    // One that only says nothing more is still served.
+    client.1.close();
+    let (mut silent, out) = dials(alloc, &mut net.dialer, b"127.0.0.1", theirs)?;
+    let time = fails_after(&mut silent, &mut clock);
+    assert!(rt; time >= 380, "after {time}");
+    net.dialer.give_back(silent, out);
+    // A socket that is closed before all was read resets its link.
+    let (mut silent, _out) = dials(alloc, &mut net.dialer, b"127.0.0.1", theirs)?;
+    assert!(rt; to.write(b"unread").is_ok());
+    clock.pause();
+    drop(client);
+    let time = fails_after(&mut silent, &mut clock);
+    assert!(rt; time < 300, "after {time}");
+    Ok(())
+}
+
+#[test]
+fn links_end_with_their_server(rt: HostRuntime) -> Result<(), Fail> {
+    let alloc = rt.alloc();
+    let mut net = RealListener::listen(alloc, rt, 0, short()).ok_or("no port")?;
+    let port = net.listener.port().ok_or("no port")?;
+    let mut clock = RealClock::new(rt);
+    let mut clients = RealDialer::new(rt, LinkTimes::of_server());
+    let _client = dials(alloc, &mut clients, b"127.0.0.1", port)?;
+    let (mut from, mut to) = accepts(alloc, &mut net.listener).ok_or("no link")?;
+    net.stopper.stop();
+    let stopped = clock.now();
+    assert!(rt; matches!(net.listener.next(alloc), Accepted::Stopped));
+    assert!(rt; dials(alloc, &mut clients, b"127.0.0.1", port).is_err());
+    // The port is free, while its links go on.
+    assert!(rt; RealListener::listen(alloc, rt, port, short()).is_some());
+    let time = fails_after(&mut from, &mut clock);
+    assert!(rt; time < 300, "an idle one after {time}");
+    for _ in 0..200 {
+        if to.write(b".").is_err() {
+            break;
+        }
+        clock.pause();
+    }
+    let time = clock.now().0.saturating_sub(stopped.0);
+    assert!(rt; (550..1900).contains(&time), "a busy one after {time}");
     Ok(())
 }

@@ -4,11 +4,15 @@ use sq_base::{Addr, Text};
 use sq_outside::{Accepted, Another, Clock, Dialer, Listener, Net, Sink, Source, Stopper};
 use sq_system::{LinkTimes, RealClock, RealDialer, RealListener, RealNet};
 use std::alloc::Global;
+use std::rt::Files;
 use std::test::Fail;
-use std::thread;
+use std::{thread, time};
 
 /// The other side: reads a long text to its end, and then sends one. Whether all went well.
-fn replies(alloc: Global, mut listener: RealListener) -> bool {
+fn replies<R: time::Clock + Files + Copy + Send + Drop>(
+    alloc: Global,
+    mut listener: RealListener<R>,
+) -> bool {
     let Some((mut from, mut to)) = accepts(alloc, &mut listener) else {
         return false;
     };
@@ -18,9 +22,8 @@ fn replies(alloc: Global, mut listener: RealListener) -> bool {
 #[test]
 fn each_side_sends_1_mib_and_closes(rt: HostRuntime) -> Result<(), Fail> {
     let alloc = rt.alloc();
-    let (listener, _stopper) = RealListener::listen(alloc, rt, 0, LinkTimes::of_server()).ok_or(
-        "no port",
-    )?;
+    let net = RealListener::listen(alloc, rt, 0, LinkTimes::of_server()).ok_or("no port")?;
+    let listener = net.listener;
     let port = listener.port().ok_or("no port")?;
     let other = thread::spawn(&rt, move || replies(alloc, listener))?;
     let mut dialer = RealDialer::new(rt, LinkTimes::of_server()).another();
@@ -34,7 +37,10 @@ fn each_side_sends_1_mib_and_closes(rt: HostRuntime) -> Result<(), Fail> {
 }
 
 /// Whether the next link does not come, and no later one, since the listener was stopped.
-fn is_stopped(alloc: Global, mut listener: RealListener) -> bool {
+fn is_stopped<R: time::Clock + Files + Copy + Send + Drop>(
+    alloc: Global,
+    mut listener: RealListener<R>,
+) -> bool {
     matches!(listener.next(alloc), Accepted::Stopped)
         && matches!(listener.next(alloc), Accepted::Stopped)
         && !listener.has_failed()
@@ -58,9 +64,8 @@ fn a_listener_that_waits_is_stopped(rt: HostRuntime) -> Result<(), Fail> {
 #[test]
 fn clients_come_from_their_address(rt: HostRuntime) -> Result<(), Fail> {
     let alloc = rt.alloc();
-    let (mut listener, _stopper) = RealListener::listen(alloc, rt, 0, LinkTimes::of_server()).ok_or(
-        "no port",
-    )?;
+    let net = RealListener::listen(alloc, rt, 0, LinkTimes::of_server()).ok_or("no port")?;
+    let mut listener = net.listener;
     let port = listener.port().ok_or("no port")?;
     let mut dialer = RealDialer::new(rt, LinkTimes::of_server());
     let hosts: [(&[u8], bool, u128); 2] = [(b"127.0.0.1", false, 0x7f00_0001), (b"::1", true, 1)];

@@ -1,0 +1,467 @@
+#!/usr/bin/env python3
+"""Links of `aclproxy serve` on the loopback that end in time: tests/links.py [--program PROGRAM] [--long] [NAME ..]
+
+Each function below says first what must hold by docs/OPERATING.md, and checks that. With --long those are tried, too, that take
+minutes. The status is 0 where all holds. Python 3.11 and its standard library are what it needs.
+"""
+
+import argparse
+import os
+import re
+import shutil
+import signal
+import socket
+import struct
+import subprocess
+import sys
+import tempfile
+import threading
+import time
+from pathlib import Path
+from typing import Callable
+
+sys.dont_write_bytecode = True
+
+from chaos_parts.server import Server  # noqa: E402
+
+HERE = Path(__file__).resolve().parent
+PATIENCE = 30.0  # the seconds after which a wait has failed
+PLAIN = "acl SSL_ports port 1-65535\nacl CONNECT method CONNECT\nhttp_access allow all\n"
+LONG = False
+
+
+class Origin:
+    """Answers by a request's path: /hello, /slow after 1.5 seconds, /silent never, /drip a piece each 0.4 seconds for 8 seconds. A
+    line behind a tunnel's beginning comes back."""
+
+    def __init__(self) -> None:
+        self.listener = socket.create_server(("127.0.0.1", 0), backlog=512)
+        self.port = self.listener.getsockname()[1]
+        self.ended: list[float] = []
+        threading.Thread(target=self.accept, daemon=True).start()
+
+    def accept(self) -> None:
+        while True:
+            link, _ = self.listener.accept()
+            threading.Thread(target=self.answer, args=(link,), daemon=True).start()
+
+    def answer(self, link: socket.socket) -> None:
+        with link:
+            try:
+                text = b""
+                while b"\n" not in text:
+                    more = link.recv(65536)
+                    if not more:
+                        return
+                    text += more
+                if not text.startswith(b"GET"):
+                    self.echo(link, text)
+                    return
+                path = text.split(b" ")[1]
+                if path == b"/silent":
+                    self.wait_for_end(link)
+                    return
+                if path == b"/slow":
+                    time.sleep(1.5)
+                pieces = 20 if path == b"/drip" else 1
+                link.sendall(b"HTTP/1.1 200 OK\r\nContent-Length: %d\r\n\r\n" % (5 * pieces))
+                for piece in range(pieces):
+                    if piece:
+                        time.sleep(0.4)
+                    link.sendall(b"hello")
+                while link.recv(65536):
+                    pass
+            except OSError:
+                pass
+
+    def echo(self, link: socket.socket, text: bytes) -> None:
+        while text:
+            link.sendall(text)
+            text = link.recv(65536)
+
+    def wait_for_end(self, link: socket.socket) -> None:
+        """Reads on to the end of the proxy's own link, and keeps when that was: it sends nothing more, or has no other side."""
+        link.settimeout(0.05)
+        while True:
+            try:
+                if not link.recv(65536):
+                    break
+            except TimeoutError:
+                continue
+            except OSError:
+                break
+        self.ended.append(time.monotonic())
+
+
+class Bench:
+    """What the checks share: the program, an origin, and what was found."""
+
+    def __init__(self, program: str) -> None:
+        self.program = program
+        self.origin = Origin()
+        self.failed = 0
+        self.what = ""
+        self.servers: list[Server] = []
+
+    def check(self, what: str, holds: bool, got: object = "") -> None:
+        print(f"links, {self.what}, {what}: {'as expected' if holds else f'it was {got!r}'}")
+        self.failed += not holds
+
+    def start(self, workers: int, port: int = 0) -> Server:
+        Path("squid.conf").write_text(PLAIN)
+        self.port = port or free_port()
+        server = Server(self.program, ["squid.conf", "--port", str(self.port), "--workers", str(workers)], "journal")
+        self.servers.append(server)
+        said = server.hear(PATIENCE)
+        if said != f"listening {self.port}":
+            raise AssertionError(f"it says {said}")
+        return server
+
+    def ends(self, server: Server, seconds: float = PATIENCE) -> str:
+        server.order("shutdown\n")
+        return f"{server.hear(seconds)}, status {server.ends(5)}"
+
+    def verify(self) -> str:
+        text = Path("journal").read_bytes()
+        ran = subprocess.run([self.program, "verify", "squid.conf", "journal"], capture_output=True, timeout=300)
+        said = ran.stdout.decode(errors="replace").strip()
+        return "verified" if said == f"verified {text.count(b'%c' % 10) - 1}" else said
+
+    def connect(self) -> socket.socket:
+        link = socket.create_connection(("127.0.0.1", self.port), timeout=PATIENCE)
+        link.settimeout(PATIENCE)
+        return link
+
+    def ask(self, link: socket.socket, path: str) -> None:
+        link.sendall(f"GET http://127.0.0.1:{self.origin.port}{path} HTTP/1.1\r\nHost: a\r\n\r\n".encode())
+
+    def get(self, path: str = "/hello") -> tuple[socket.socket, float]:
+        """A reply over a connection of its own, which stays open, and how long that took."""
+        begun = time.monotonic()
+        link = self.connect()
+        self.ask(link, path)
+        reply = reply_of(link)
+        if not reply.startswith(b"HTTP/1.1 200 ") or not reply.endswith(b"hello"):
+            raise AssertionError(f"{path} is {reply!r}")
+        return link, time.monotonic() - begun
+
+    def tunnel(self) -> socket.socket:
+        link = self.connect()
+        link.sendall(f"CONNECT 127.0.0.1:{self.origin.port} HTTP/1.1\r\nHost: a\r\n\r\n".encode())
+        reply = b""
+        while b"\r\n\r\n" not in reply:
+            more = link.recv(65536)
+            if not more:
+                raise AssertionError(f"a tunnel is {reply!r}")
+            reply += more
+        return link
+
+
+def free_port() -> int:
+    for port in range(20_000 + os.getpid() % 5000, 32_000):
+        with socket.socket() as link:
+            try:
+                link.bind(("0.0.0.0", port))
+                return port
+            except OSError:
+                continue
+    raise AssertionError("no port is free")
+
+
+def reply_of(link: socket.socket) -> bytes:
+    """A reply with a length."""
+    out = b""
+    try:
+        while b"\r\n\r\n" not in out:
+            more = link.recv(65536)
+            if not more:
+                return out
+            out += more
+        head, body = out.split(b"\r\n\r\n", 1)
+        found = re.search(rb"(?i)\r\ncontent-length: (\d+)", head)
+        while found and len(body) < int(found[1]):
+            more = link.recv(65536)
+            if not more:
+                break
+            body += more
+        return head + b"\r\n\r\n" + body
+    except OSError as fault:
+        return out + f"<{type(fault).__name__}>".encode()
+
+
+def echoes(link: socket.socket, text: bytes) -> bool:
+    try:
+        link.sendall(text)
+        return link.recv(65536) == text
+    except OSError:
+        return False
+
+
+def time_of_end(link: socket.socket, begun: float, most: float) -> float:
+    """How long after `begun` a connection ended, or its limit."""
+    link.settimeout(most)
+    try:
+        while link.recv(65536):
+            pass
+    except TimeoutError:
+        return most
+    except OSError:
+        pass
+    return time.monotonic() - begun
+
+
+def reset(link: socket.socket) -> None:
+    link.setsockopt(socket.SOL_SOCKET, socket.SO_LINGER, struct.pack("ii", 1, 0))
+    link.close()
+
+
+def each(count: int, what: Callable[[], object]) -> list[threading.Thread]:
+    threads = [threading.Thread(target=what, daemon=True) for _ in range(count)]
+    for one in threads:
+        one.start()
+    return threads
+
+
+# The checks.
+
+
+def silent_clients(bench: Bench) -> None:
+    """64 clients say nothing, and there are 8 workers: one more is answered within 3 seconds, and so is the next."""
+    server = bench.start(8)
+    silent = [bench.connect() for _ in range(64)]
+    for number in range(3):
+        link, took = bench.get()
+        bench.check(f"client {number}", took < 3, took)
+        link.close()
+    # One that says something later is served, too.
+    bench.ask(silent[-1], "/hello")
+    reply = reply_of(silent[-1])
+    bench.check("a silent one that speaks", reply.endswith(b"hello"), reply)
+    for link in silent:
+        link.close()
+    bench.check("its end", (said := bench.ends(server)) == "stopped, status 0", said)
+    bench.check("its journal", (said := bench.verify()) == "verified", said)
+
+
+def idle_links(bench: Bench) -> None:
+    """160 idle connections and 40 idle tunnels at 64 workers, and 20 clients that work: none of these waits 3 seconds, and no
+    download and no tunnel that is used is cut."""
+    server = bench.start(64)
+    idle = [bench.get()[0] for _ in range(160)]
+    tunnels = [bench.tunnel() for _ in range(40)]
+    longest = 0.0
+    cut: list[str] = []
+    until = time.monotonic() + 6
+
+    def work() -> None:
+        nonlocal longest
+        while time.monotonic() < until:
+            try:
+                link, took = bench.get()
+                longest = max(longest, took)
+                link.close()
+            except Exception as what:
+                cut.append(f"{what}")
+
+    def download() -> None:
+        try:
+            bench.get("/drip")[0].close()
+        except Exception as what:
+            cut.append(f"{what}")
+
+    def talk() -> None:
+        link = bench.tunnel()
+        while time.monotonic() < until:
+            if not echoes(link, b"line\n"):
+                cut.append("a tunnel")
+                return
+            time.sleep(0.4)
+        link.close()
+
+    threads = each(1, download) + each(1, talk) + each(20, work)
+    for one in threads:
+        one.join(PATIENCE)
+    bench.check("the longest wait", longest < 3, longest)
+    bench.check("what was cut", not cut, cut[:3])
+    for link in idle + tunnels:
+        link.close()
+    bench.check("its end", (said := bench.ends(server)) == "stopped, status 0", said)
+    bench.check("its journal", (said := bench.verify()) == "verified", said)
+
+
+def free_workers(bench: Bench) -> None:
+    """Where a worker is free, nobody gives way: idle connections at all but one of 8 workers are there after 4 seconds."""
+    server = bench.start(8)
+    idle = [bench.get()[0] for _ in range(6)] + [bench.tunnel()]
+    time.sleep(4)
+    for link in idle[:6]:
+        bench.ask(link, "/hello")
+        reply = reply_of(link)
+        bench.check("a connection", reply.endswith(b"hello"), reply)
+    bench.check("a tunnel", echoes(idle[6], b"line\n"))
+    for link in idle:
+        link.close()
+    bench.check("its end", (said := bench.ends(server)) == "stopped, status 0", said)
+
+
+def clients_that_leave(bench: Bench) -> None:
+    """A client that resets its link while its origin is silent ends the origin's within a second; one that only says that it
+    sends nothing more gets its reply."""
+    server = bench.start(4)
+    for tunnelled in (False, True):
+        bench.origin.ended.clear()
+        link = bench.tunnel() if tunnelled else bench.connect()
+        if tunnelled:
+            link.sendall(b"GET /silent \n")
+        else:
+            bench.ask(link, "/silent")
+        time.sleep(0.3)
+        gone = time.monotonic()
+        reset(link)
+        while not bench.origin.ended and time.monotonic() < gone + 5:
+            time.sleep(0.02)
+        took = bench.origin.ended[0] - gone if bench.origin.ended else 5
+        bench.check("a tunnel" if tunnelled else "a request", took < 1, took)
+    link = bench.connect()
+    bench.ask(link, "/slow")
+    link.shutdown(socket.SHUT_WR)
+    reply = reply_of(link)
+    bench.check("a half that is shut", reply.endswith(b"hello"), reply)
+    # Eight more than there are workers leave, and a client is served at once.
+    for _ in range(12):
+        link = bench.connect()
+        bench.ask(link, "/silent")
+        time.sleep(0.02)
+        reset(link)
+    link, took = bench.get()
+    bench.check("the next client", took < 3, took)
+    link.close()
+    bench.check("its end", (said := bench.ends(server)) == "stopped, status 0", said)
+    bench.check("its journal", (said := bench.verify()) == "verified", said)
+
+
+def shutdown(bench: Bench) -> None:
+    """Idle links end within a second of the order, one on which bytes pass goes on; nobody is let in, and the port is free."""
+    server = bench.start(16)
+    groups = {
+        "an idle connection": [bench.get()[0] for _ in range(4)],
+        "one that says nothing": [bench.connect()],
+        "an idle tunnel": [bench.tunnel() for _ in range(4)],
+    }
+    used = bench.tunnel()
+    begun = time.monotonic()
+    until = begun + (40 if LONG else 4)
+    lasted = [0.0]
+    took: dict[str, float] = {}
+
+    def use() -> None:
+        while time.monotonic() < until and echoes(used, b"line\n"):
+            lasted[0] = time.monotonic() - begun
+            time.sleep(0.1)
+
+    def watch(name: str, links: list[socket.socket]) -> None:
+        took[name] = max(time_of_end(link, begun, 10) for link in links)
+
+    watching = [threading.Thread(target=watch, args=it, daemon=True) for it in groups.items()]
+    watching += [threading.Thread(target=use, daemon=True)]
+    for one in watching:
+        one.start()
+    time.sleep(0.2)
+    begun = time.monotonic()
+    server.order("shutdown\n")
+    time.sleep(0.1)
+    try:
+        bench.connect().close()
+        bench.check("the next client is refused", False, "connected")
+    except ConnectionRefusedError:
+        bench.check("the next client is refused", True)
+    next_one = bench.start(2, bench.port)
+    link, time_of_next = bench.get()
+    bench.check("the next server", time_of_next < 1, time_of_next)
+    link.close()
+    bench.check("its end", (said := bench.ends(next_one)) == "stopped, status 0", said)
+    for one in watching:
+        one.join(60)
+    for name in groups:
+        bench.check(name, took[name] < 1.5, took[name])
+    if LONG:
+        bench.check("half a minute for a tunnel that is used", 29 < lasted[0] < 32, lasted)
+    else:
+        bench.check("a tunnel that is used", lasted[0] > 3.5, lasted)
+    used.close()
+    said = f"{server.hear(PATIENCE)}, status {server.ends(5)}"
+    bench.check("the end of the first", said == "stopped, status 0", said)
+
+
+def silence(bench: Bench) -> None:
+    """A tunnel that is silent gives way after 10 seconds where it is wanted, and after 2 minutes where it is not."""
+    server = bench.start(2)
+    first, second = bench.tunnel(), bench.tunnel()
+    begun = time.monotonic()
+    link, took = bench.get()
+    bench.check("a client at silent tunnels", 9 < took < 12, took)
+    link.close()
+    left = first if time_of_end(second, begun, 1) < 1 else second
+    took = time_of_end(left, begun, 150)
+    bench.check("the other tunnel", took > 9, took)
+    one = bench.tunnel()
+    begun = time.monotonic()
+    took = time_of_end(one, begun, 150)
+    bench.check("a tunnel alone", 119 < took < 130, took)
+    bench.check("its end", (said := bench.ends(server)) == "stopped, status 0", said)
+
+
+CHECKS = [silent_clients, idle_links, free_workers, clients_that_leave, shutdown]
+LONG_CHECKS = [silence]
+
+
+def main() -> int:
+    global LONG
+    parser = argparse.ArgumentParser(description=__doc__, formatter_class=argparse.RawDescriptionHelpFormatter)
+    parser.add_argument("names", nargs="*", metavar="NAME", help=f"some of: {', '.join(one.__name__ for one in CHECKS + LONG_CHECKS)}")
+    parser.add_argument("--program", default=str(HERE.parent / "crates/sq_main/out/sq_main"))
+    parser.add_argument("--long", action="store_true", help="try those, too, that take minutes")
+    options = parser.parse_args()
+    LONG = options.long
+    program = os.path.abspath(options.program)
+    if not os.access(program, os.X_OK):
+        parser.error(f"{program} is no program: build it first, or name it by --program")
+    bench = Bench(program)
+    top = tempfile.mkdtemp(prefix="links.")
+
+    def give_up(*_: object) -> None:
+        print(f"links, {bench.what}: it has not come to its end in time", flush=True)
+        for one in bench.servers:
+            one.kill()
+        os._exit(1)
+
+    signal.signal(signal.SIGALRM, give_up)
+    for check in CHECKS + (LONG_CHECKS if LONG else []):
+        if options.names and check.__name__ not in options.names:
+            continue
+        bench.what = check.__name__.replace("_", " ")
+        folder = os.path.join(top, check.__name__)
+        os.mkdir(folder)
+        os.chdir(folder)
+        signal.alarm(400)
+        try:
+            check(bench)
+        except Exception as what:  # a check that cannot be made to its end is one that failed
+            bench.failed += 1
+            print(f"links, {bench.what}: {type(what).__name__}: {what}")
+        finally:
+            for one in bench.servers:
+                one.kill()
+            bench.servers.clear()
+        sys.stdout.flush()
+    os.chdir("/")
+    if bench.failed:
+        print(f"links: what they left stands in {top}")
+    else:
+        shutil.rmtree(top)
+    print(f"links: {bench.failed} failed")
+    return 1 if bench.failed else 0
+
+
+if __name__ == "__main__":
+    sys.exit(main())
