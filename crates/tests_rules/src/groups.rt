@@ -77,7 +77,7 @@ fn answer(alloc: Global, name: u8) -> Result<Answer, WantOfMemory> {
 }
 
 /// Puts an answer, unless one of this class and key is there.
-fn put(answers: &mut Answers, answer: Answer) -> Result<(), Fail> {
+pub fn put(answers: &mut Answers, answer: Answer) -> Result<(), Fail> {
     for other in answers.as_slice() {
         if other.class == answer.class && other.key == answer.key {
             return Err(Fail::new("two answers for one key"));
@@ -92,7 +92,7 @@ fn words(outcome: &Outcome) -> &'static str {
 }
 
 /// What rules came to, in words.
-fn shown(alloc: Global, acls: &[Acl], value: &Value) -> Result<String, Fail> {
+pub fn shown(alloc: Global, acls: &[Acl], value: &Value) -> Result<String, Fail> {
     match value {
         Value::Need { acl, key } => match acls.get(*acl as usize) {
             Some(acl) => Ok(format!(in alloc; "needs {} for {key}", acl.name)?),

@@ -1,5 +1,6 @@
 //! Tests of configurations that are made or built from parts, and of their patterns; of the facts of a check, of what
-//! rules come to over answers of helpers, of keys and of the pool of a check; of open connections and open checks.
+//! rules come to over answers of helpers, at one stroke and by a stored place, of keys and of the pool of a check; of open
+//! connections and open checks.
 //!
 //! It has no public call. The expected values come from Squid's configuration reference, directives `acl`,
 //! `http_access`, `external_acl_type`, `delay_access` and `delay_pools`, from the syntax of the crate regex, and from
@@ -18,6 +19,8 @@ mod conns;
 mod facts;
 #[cfg(test)]
 mod fixtures;
+#[cfg(test)]
+mod frames;
 #[cfg(test)]
 mod groups;
 #[cfg(test)]

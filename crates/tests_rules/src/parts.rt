@@ -1,10 +1,11 @@
 //! Parts of configurations: what they state, and their first faults.
-ghost use Rattle.std.specs.Prelude.{◌≡◌, ◌∷◌, [], IfOk};
+ghost use Rattle.std.specs.Prelude.{◌≡◌, ◌∷◌, [], true, IfOk};
+ghost use Rattle.sq_rules.specs.Building.{AreWithin};
 
 use sq_base::{Listed, Text, Texts};
 use sq_rules::{
     AclPart, AclParts, BodyPart, BuildFault, Class, Classes, Config, Leaf, Limits, LineParts,
-    Parts, PoolPart, PoolParts, RulePart, RuleParts, TermPart, TermParts,
+    Parts, PoolPart, PoolParts, RulePart, RuleParts, TermPart, TermParts, Token,
 };
 use std::alloc::Global;
 use std::test::Fail;
@@ -12,7 +13,7 @@ use std::test::Fail;
 /// What is shown, the parts, and their first fault with the name that it names, or nothing. Each name is
 /// one byte, and a term a name with `!` before it or not. A word for each part: `C` and a class; a
 /// list as `L` and its name, `E`, its name and a class, `G`, its name and terms, or `A`, its name and
-/// lines of terms that `/` divides; `R` and the terms of a rule; `P`, the class and the count of limits of
+/// lines of terms that `/` divides; `R` and the terms of a rule that denies, `Y` and those of one that allows; `P`, the class and the count of limits of
 /// a pool, and the terms of its rule.
 static PARTS: [(&str, &str, &str); 27] = [
     ("nothing is a configuration", "", ""),
@@ -92,8 +93,10 @@ fn lines(alloc: Global, bytes: &[u8]) -> Result<LineParts, Fail> {
     Ok(lines)
 }
 
-/// A class with the defaults.
+/// A class with the defaults, whose key is the name of the list and what it is asked with.
 fn class(alloc: Global, name: u8) -> Result<Class, Fail> {
+    let mut format = Listed::new(alloc);
+    format.push(Token::AclName)?;
     Ok(Class {
         name: text(alloc, name)?,
         ttl: 3600,
@@ -104,7 +107,7 @@ fn class(alloc: Global, name: u8) -> Result<Class, Fail> {
         startup: 0,
         concurrency: 0,
         queue_size: 10,
-        format: Listed::new(alloc),
+        format,
         words: Texts::new(alloc),
     })
 }
@@ -122,13 +125,10 @@ fn body(alloc: Global, kind: u8, rest: &[u8]) -> Result<BodyPart, Fail> {
     })
 }
 
-/// A rule that denies.
-fn rule(alloc: Global, bytes: &[u8]) -> Result<RulePart, Fail> {
+/// A rule that allows or denies.
+fn rule(alloc: Global, allow: bool, bytes: &[u8]) -> Result<RulePart, Fail> {
     let terms = terms(alloc, bytes)?;
-    Ok(RulePart {
-        allow: false,
-        terms,
-    })
+    Ok(RulePart { allow, terms })
 }
 
 /// A pool of this class with so many limits that are none.
@@ -138,7 +138,7 @@ fn pool(alloc: Global, class: u8, count: u8, bytes: &[u8]) -> Result<PoolPart, F
         pairs.push(None)?;
     }
     let mut lists = RuleParts::new(alloc);
-    lists.push(rule(alloc, bytes)?)?;
+    lists.push(rule(alloc, false, bytes)?)?;
     Ok(PoolPart {
         class,
         pairs,
@@ -150,7 +150,8 @@ fn pool(alloc: Global, class: u8, count: u8, bytes: &[u8]) -> Result<PoolPart, F
 fn add(alloc: Global, parts: &mut Parts, bytes: &[u8]) -> Result<(), Fail> {
     match bytes {
         &[b'C', name] => parts.classes.push(class(alloc, name)?)?,
-        &[b'R', ref rest @ ..] => parts.rules.push(rule(alloc, rest)?)?,
+        &[b'R', ref rest @ ..] => parts.rules.push(rule(alloc, false, rest)?)?,
+        &[b'Y', ref rest @ ..] => parts.rules.push(rule(alloc, true, rest)?)?,
         &[b'P', class, count, ref rest @ ..] => {
             let (class, count) = (class.saturating_sub(b'0'), count.saturating_sub(b'0'));
             parts.pools.push(pool(alloc, class, count, rest)?)?;
@@ -195,15 +196,43 @@ fn digit(place: u32) -> &'static [u8] {
     }
 }
 
+/// Whether parts are no more than there may be.
+fn are_few(parts: &Parts) -> bool
+    ensures { result ≡ true → AreWithin parts.now }
+{
+    parts.source.len() <= 1_048_576
+        && parts.classes.len() <= 64
+        && parts.acls.len() <= 4_096
+        && parts.rules.len() <= 10_000
+        && parts.pools.len() <= 64
+        && parts.initial <= 100
+}
+
+/// Adds the parts that the words state.
+fn add_all(alloc: Global, parts: &mut Parts, stated: &str) -> Result<(), Fail> {
+    for part in stated.split_whitespace() {
+        add(alloc, parts, part.as_bytes())?;
+    }
+    Ok(())
+}
+
+/// The configuration of the parts that the words of two texts state.
+pub fn config_of(alloc: Global, front: &str, stated: &str) -> Result<Config, Fail> {
+    let mut parts = no_parts(alloc);
+    add_all(alloc, &mut parts, front)?;
+    add_all(alloc, &mut parts, stated)?;
+    if !are_few(&parts) {
+        return Err(Fail::new("too many parts"));
+    }
+    match Config::build(alloc, parts) {
+        Ok(config) => Ok(config),
+        Err(_) => Err(Fail::new("no configuration")),
+    }
+}
+
 /// The fault of parts as the table has it, where they are no more than there may be.
 fn fault(alloc: Global, parts: Parts) -> Result<Text, Fail> {
-    if parts.source.len() > 1_048_576
-        || parts.classes.len() > 64
-        || parts.acls.len() > 4_096
-        || parts.rules.len() > 10_000
-        || parts.pools.len() > 64
-        || parts.initial > 100
-    {
+    if !are_few(&parts) {
         return Err(Fail::new("too many parts"));
     }
     match Config::build(alloc, parts) {
@@ -223,9 +252,7 @@ fn parts_have_this_first_fault(rt: HostRuntime) -> Result<(), Fail> {
     let alloc = rt.alloc();
     for &(why, stated, wanted) in &PARTS {
         let mut parts = no_parts(alloc);
-        for part in stated.split_whitespace() {
-            add(alloc, &mut parts, part.as_bytes())?;
-        }
+        add_all(alloc, &mut parts, stated)?;
         assert!(rt;
             fault(alloc, parts)?.as_bytes() == wanted.as_bytes(),
             "{why}"

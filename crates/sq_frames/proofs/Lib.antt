@@ -1,0 +1,10 @@
+mod CourseLaws
+mod Defaults
+mod DropLaws
+mod FrameLaws
+mod MemberLaws
+mod NestLaws
+mod PlaceLaws
+mod SlotLaws
+mod StepLaws
+mod WeightLaws

@@ -1,0 +1,6 @@
+use Rattle.std.proofs.Common.{◌∙◌, sym}
+use Rattle.sq_frames.proofs.StepLaws.{none_here}
+use Rattle.sq_frames.proofs.stepping.end.Goals as goal
+
+pub decide-requires-clause-open : goal.decide-requires-clause-open
+decide-requires-clause-open c = none_here c.args.position.now.groups.list (sym c.first.ensures ∙ c.in-None.is)

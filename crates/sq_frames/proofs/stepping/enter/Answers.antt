@@ -1,0 +1,14 @@
+use Rattle.std.proofs.Common.{◌≡◌, ◌+◌, ◌<◌, ◌≤◌, suc, length, slice_index_or, arith}
+use Rattle.sq_rules.specs.Configurations.{nestings}
+use Rattle.sq_frames.proofs.NestLaws.{fits_within}
+use Rattle.sq_frames.proofs.StepLaws.{group_step}
+use Rattle.sq_frames.proofs.stepping.enter.Goals as goal
+
+pub open-requires : goal.open-requires
+open-requires c =
+    let p = c.args.position.now in
+    let fits : slice_index_or (nestings c.args.config.now.acls) c.args.term.acl 0 + suc (length p.groups.list) ≤ p.groups.room = fits_within c.args.config.now p c.args.term c.requires.next in
+    omega (arith, fits)
+
+pub returns : goal.returns
+returns c = λ taken n. rw c.open.ensures (group_step taken c.args.config.now c.args.position.now c.args.term n c.requires.next c.requires.group)

@@ -1,0 +1,92 @@
+-- A place in the rules as a value, and what it is that steps lead from one to another.
+use Rattle.std.specs.Prelude.{◌≡◌, ℕ, ◌+◌, ◌-◌, ◌^◌, ◌≤◌, ◌<◌, List, Bool, true, length, min, suc, Some, None, slice_get, slice_index_or}
+use Rattle.std.specs.declared.option.Option.{Option}
+use Rattle.sq_rules.specs.Configurations.{Configuration, IsConfiguration, nestings}
+use Rattle.sq_rules.specs.declared.configs.Acl.{Acl}
+use Rattle.sq_rules.specs.declared.configs.Term.{Term}
+use Rattle.sq_rules.specs.declared.values.TermValue.{TermValue}
+use Rattle.sq_frames.specs.Courses.{Course, Extends, ahead, leaves}
+use Rattle.sq_frames.specs.Givens.{given_at, ran_value, taken_given}
+use Rattle.sq_frames.specs.Groups.{AreOpen, bound_on, groups_moved, line_moved, line_on, lines_on, next_at, term_moved, term_on}
+use Rattle.sq_frames.specs.Slots.{is_external_at}
+use Rattle.sq_frames.specs.Weights.{weight_at}
+use Rattle.sq_frames.specs.declared.answers.Given.{Given}
+use Rattle.sq_frames.specs.declared.answers.Ran.{Ran}
+use Rattle.sq_frames.specs.declared.looking.Next.{Next}
+use Rattle.sq_frames.specs.declared.looking.Next.TheVariants as next
+use Rattle.sq_frames.specs.declared.positions.Position.{Position}
+use Rattle.sq_frames.specs.declared.tables.Taking.{Taking}
+
+-- the greatest number of looks that is counted
+abbrev pub look_limit : ℕ
+look_limit = 2 ^ 63 - 1
+
+-- what is taken of a place
+abbrev pub taken_in : Taking → ℕ → TermValue
+taken_in t = taken_given t.config.now.acls t.slots.now t.facts.now t.table.now
+
+-- behind a term that matched, or did not
+abbrev pub position_moved : Bool → Position → Position
+position_moved hit p = record p {
+  line = line_moved hit p.line p.groups.list;
+  term = term_moved hit p.term p.groups.list;
+  groups = record { room = p.groups.room; list = groups_moved hit p.groups.list };
+}
+
+-- one look more
+abbrev pub looked_more : Position → Position
+looked_more p = record p { looks = min look_limit (p.looks + 1) }
+
+-- there is room for the groups of this configuration, and those that are open follow from each other
+pub record IsPosition (c : Configuration) (p : Position) : Type 0 where
+  pub groups : AreOpen c p.groups.room p.line p.term p.groups.list
+  pub room : (acl : ℕ) → acl < length c.acls → suc (slice_index_or (nestings c.acls) acl 0) ≤ p.groups.room
+  pub counted : p.looks ≤ look_limit
+
+-- what the rules come to from a place on
+abbrev pub course_at : (ℕ → TermValue) → Configuration → Position → Course
+course_at taken c p = ahead taken c p.line p.term p.groups.list
+
+-- From one place to another with so many looks: the rules come to the same, and by as many looks less, whatever is
+-- given from now on.
+pub record Goes (taken : ℕ → TermValue) (c : Configuration) (old new : Position) (before after : ℕ) : Type 0 where
+  pub looked : ℕ
+  pub counts : after ≡ before + looked
+  pub looks : new.looks ≡ min look_limit (old.looks + looked)
+  pub value : (more : ℕ → TermValue) → Extends taken more → (course_at more c new).value ≡ (course_at more c old).value
+  pub leaves_are : (more : ℕ → TermValue) → Extends taken more → leaves c.acls (course_at more c old).walk ≡ looked + leaves c.acls (course_at more c new).walk
+
+-- what is next at a place
+abbrev pub next_of : Configuration → Position → Next
+next_of c p = next_at (lines_on c p.groups.list) (line_on p.line p.groups.list) (term_on p.term p.groups.list)
+
+-- the places that count what is next can be counted on
+pub record IsSmall (p : Position) : Type 0 where
+  pub line : line_on p.line p.groups.list + 1 < 2 ^ 64
+  pub term : term_on p.term p.groups.list + 1 < 2 ^ 64
+
+-- this term is next
+pub record IsNext (c : Configuration) (p : Position) (t : Term) : Type 0 where
+  pub config : IsConfiguration c
+  pub position : IsPosition c p
+  pub next_is : next_of c p ≡ next.Term t
+  pub small : IsSmall p
+  pub before : t.acl < bound_on c p.groups.list
+  pub there : t.acl < length c.acls
+  pub rule : p.line < length c.rules
+
+-- one step: it leads on, and less is left
+pub record IsStep (taken : ℕ → TermValue) (c : Configuration) (old new : Position) (before after : ℕ) : Type 0 where
+  pub goes : Goes taken c old new before after
+  pub stands : IsPosition c new
+  pub falls : weight_at c new < weight_at c old
+
+-- what the rules come to is known, the place stays, and nothing is looked at
+pub record Stops (taken : ℕ → TermValue) (c : Configuration) (old new : Position) (before after : ℕ) (r : Ran) : Type 0 where
+  pub stays : new ≡ old
+  pub quiet : after ≡ before
+  pub ran : ran_value c.acls r ≡ (course_at taken c old).value
+
+-- the acl that is needed asks a helper, and no value was given for it
+abbrev pub Asks : List Acl → List ℕ → List (Option Given) → Option ℕ → Type 0
+Asks acls slots table need = (acl : ℕ) → need ≡ Some acl → (is_external_at acls acl ≡ true) × (given_at slots table acl ≡ None)

@@ -1,0 +1,13 @@
+use Rattle.std.proofs.Common.{◌∙◌}
+use Rattle.tests_rules.proofs.frames.come_to.Goals as goal
+
+pub needs-init : goal.needs-init
+needs-init g c = record { over = (0, c.in_ok-frames.ensures.at c.args.facts.now); config = c.in_ok-frames.ensures.config }
+
+pub needs-preserved : goal.needs-preserved
+needs-preserved g c =
+    let over = c.run-ran.ensures.over in
+    record {
+      over = (over.0, c.give.ensures.at c.args.facts.now over.0 over.1);
+      config = c.give.ensures.config ∙ c.run-ran.ensures.config ∙ c.needs.invariant.config;
+    }
