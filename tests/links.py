@@ -1,8 +1,8 @@
 #!/usr/bin/env python3
 """Links of `aclproxy serve` on the loopback that end in time: tests/links.py [--program PROGRAM] [--long] [NAME ..]
 
-Each function below says first what must hold by docs/OPERATING.md, and checks that. With --long those are tried, too, that take
-minutes. The status is 0 where all holds. Python 3.11 and its standard library are what it needs.
+Each function below says first what must hold by docs/OPERATING.md, and checks that, a second time where it did not hold. With --long
+those are tried, too, that take minutes. The status is 0 where all holds. Python 3.11 and its standard library are what it needs.
 """
 
 import argparse
@@ -100,12 +100,13 @@ class Bench:
         self.program = program
         self.origin = Origin()
         self.failed = 0
+        self.wrong = 0
         self.what = ""
         self.servers: list[Server] = []
 
     def check(self, what: str, holds: bool, got: object = "") -> None:
         print(f"links, {self.what}, {what}: {'as expected' if holds else f'it was {got!r}'}")
-        self.failed += not holds
+        self.wrong += not holds
 
     def start(self, workers: int, port: int = 0) -> Server:
         Path("squid.conf").write_text(PLAIN)
@@ -415,6 +416,26 @@ CHECKS = [silent_clients, idle_links, free_workers, clients_that_leave, shutdown
 LONG_CHECKS = [silence]
 
 
+def tried(bench: Bench, check: Callable[[Bench], None], folder: str) -> bool:
+    """Whether all of a check holds."""
+    bench.what = check.__name__.replace("_", " ")
+    bench.wrong = 0
+    os.mkdir(folder)
+    os.chdir(folder)
+    signal.alarm(400)
+    try:
+        check(bench)
+    except Exception as what:  # a check that cannot be made to its end is one that failed
+        bench.wrong += 1
+        print(f"links, {bench.what}: {type(what).__name__}: {what}")
+    finally:
+        for one in bench.servers:
+            one.kill()
+        bench.servers.clear()
+    sys.stdout.flush()
+    return not bench.wrong
+
+
 def main() -> int:
     global LONG
     parser = argparse.ArgumentParser(description=__doc__, formatter_class=argparse.RawDescriptionHelpFormatter)
@@ -439,21 +460,10 @@ def main() -> int:
     for check in CHECKS + (LONG_CHECKS if LONG else []):
         if options.names and check.__name__ not in options.names:
             continue
-        bench.what = check.__name__.replace("_", " ")
-        folder = os.path.join(top, check.__name__)
-        os.mkdir(folder)
-        os.chdir(folder)
-        signal.alarm(400)
-        try:
-            check(bench)
-        except Exception as what:  # a check that cannot be made to its end is one that failed
-            bench.failed += 1
-            print(f"links, {bench.what}: {type(what).__name__}: {what}")
-        finally:
-            for one in bench.servers:
-                one.kill()
-            bench.servers.clear()
-        sys.stdout.flush()
+        # A check whose times do not hold is made once more: what else the machine does may have taken a second away.
+        if not tried(bench, check, os.path.join(top, check.__name__)):
+            print(f"links, {bench.what}: once more")
+            bench.failed += not tried(bench, check, os.path.join(top, f"{check.__name__}-again"))
     os.chdir("/")
     if bench.failed:
         print(f"links: what they left stands in {top}")
