@@ -227,6 +227,11 @@ class Run(InFolder):
                         time.sleep(0.05)
                 self.assertIn(status, (200, 403))
                 self.assertTrue(status == 403 or body == b"hello")
+                if number == 600:
+                    # By now a new run is due. The size is looked at once a second, and a fast machine would be through before.
+                    until = time.monotonic() + TIME
+                    while len(service.runs()) < 2 and time.monotonic() < until:
+                        time.sleep(0.05)
             service.process.send_signal(signal.SIGTERM)
             self.assertEqual(service.ended(), 0)
             runs = service.runs()
@@ -264,6 +269,20 @@ class Run(InFolder):
         self.assertIn(b"denied rule 1\n", held.recv(4096))
         return held
 
+    def keep_asking(self, held: socket.socket) -> None:
+        """Asks over a connection, again and again, until it is cut: one that is idle ends with its server by itself."""
+
+        def ask() -> None:
+            try:
+                held.sendall(b"GET http://a.example/ HTTP/1.1\r\nHost: a.example\r\n\r\n")
+                while held.recv(4096):
+                    time.sleep(0.1)
+                    held.sendall(b"GET http://a.example/ HTTP/1.1\r\nHost: a.example\r\n\r\n")
+            except OSError:
+                pass
+
+        threading.Thread(target=ask, daemon=True).start()
+
     def test_second_signal(self) -> None:
         conf = self.file("conf", ["http_access deny all"])
         with Service(self.folder, conf, "--grace", "1000") as service:
@@ -281,7 +300,8 @@ class Run(InFolder):
         conf = self.file("conf", ["http_access deny all"])
         with Service(self.folder, conf, "--grace", "1") as service:
             service.told("READY")
-            with self.hold(service):
+            with self.hold(service) as held:
+                self.keep_asking(held)
                 service.process.send_signal(signal.SIGTERM)
                 self.assertEqual(service.ended(), 128 + signal.SIGTERM)
         self.assertIn("connections are still open after 1 seconds", service.said())
@@ -301,6 +321,7 @@ class Run(InFolder):
                 for _ in range(5):
                     held.sendall(b"GET http://a.example/ HTTP/1.1\r\nHost: a.example\r\nX: " + b"x" * 200 + b"\r\n\r\n")
                     self.assertIn(b"denied rule 1\n", held.recv(4096))
+                self.keep_asking(held)
                 self.assertEqual(service.told("READY")["STATUS"], f"listening at port {service.port}")
             service.process.send_signal(signal.SIGTERM)
             self.assertEqual(service.ended(), 0)
