@@ -175,7 +175,7 @@ same 'how many were seen by more than one process' "$(cat 400?/seen | sort | uni
 same 'how many requests were judged' "$(cat 400?/journal | awk '$4 == "ask"' | wc -l)" 697
 if [ -x "$top/tools/bin/aclproxyctl" ]; then
     ACLPROXY=$program python3 "$top/tools/bin/aclproxyctl" log 4001/journal 4002/journal 4003/journal 4004/journal >log
-    sort --numeric-sort --check log || failed=1
+    sort --numeric-sort --stable --check log || failed=1
     same 'one access log of all' "$(wc -l <log), $(grep -c TCP_DENIED log), $(grep -oE ' (10\.77\.0|fd77:)[.:][0-9a-f]+ ' log | sort -u | wc -l)" '697, 1, 240'
 else
     left_out 'one access log of all' aclproxyctl
