@@ -24,7 +24,7 @@ from typing import Callable, Iterator
 
 sys.dont_write_bytecode = True
 
-from chaos_parts.server import Server, stat_of, until  # noqa: E402
+from chaos_parts.server import Server, free_port, reply_of, stat_of, until  # noqa: E402
 
 HERE = Path(__file__).resolve().parent
 PATIENCE = 30.0  # the seconds after which a wait has failed
@@ -158,17 +158,6 @@ class Bench:
         return "verified" if said == wanted and ran.returncode == 0 else f"{said}, status {ran.returncode}, and not {wanted}"
 
 
-def free_port() -> int:
-    for port in range(20_000 + os.getpid() % 5000, 32_000):
-        with socket.socket() as link:
-            try:
-                link.bind(("0.0.0.0", port))
-                return port
-            except OSError:
-                continue
-    raise AssertionError("no port is free")
-
-
 def all_of(link: socket.socket) -> bytes:
     """What comes up to the end; a reset and a wait that is too long are told behind it."""
     out = b""
@@ -180,27 +169,6 @@ def all_of(link: socket.socket) -> bytes:
     except OSError:
         return out + b"<reset>"
     return out
-
-
-def reply_of(link: socket.socket) -> bytes:
-    """A reply with a length."""
-    out = b""
-    try:
-        while b"\r\n\r\n" not in out:
-            more = link.recv(65536)
-            if not more:
-                return out
-            out += more
-        head, body = out.split(b"\r\n\r\n", 1)
-        found = re.search(rb"(?i)\r\ncontent-length: (\d+)", head)
-        while found and len(body) < int(found[1]):
-            more = link.recv(65536)
-            if not more:
-                break
-            body += more
-        return head + b"\r\n\r\n" + body
-    except OSError as fault:
-        return out + f"<{type(fault).__name__}>".encode()
 
 
 def own(status: str, body: str, closes: bool = True) -> bytes:

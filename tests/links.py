@@ -7,7 +7,6 @@ those are tried, too, that take minutes. The status is 0 where all holds. Python
 
 import argparse
 import os
-import re
 import shutil
 import signal
 import socket
@@ -22,7 +21,7 @@ from typing import Callable
 
 sys.dont_write_bytecode = True
 
-from chaos_parts.server import Server  # noqa: E402
+from chaos_parts.server import Server, free_port, reply_of  # noqa: E402
 
 HERE = Path(__file__).resolve().parent
 PATIENCE = 30.0  # the seconds after which a wait has failed
@@ -156,38 +155,6 @@ class Bench:
                 raise AssertionError(f"a tunnel is {reply!r}")
             reply += more
         return link
-
-
-def free_port() -> int:
-    for port in range(20_000 + os.getpid() % 5000, 32_000):
-        with socket.socket() as link:
-            try:
-                link.bind(("0.0.0.0", port))
-                return port
-            except OSError:
-                continue
-    raise AssertionError("no port is free")
-
-
-def reply_of(link: socket.socket) -> bytes:
-    """A reply with a length."""
-    out = b""
-    try:
-        while b"\r\n\r\n" not in out:
-            more = link.recv(65536)
-            if not more:
-                return out
-            out += more
-        head, body = out.split(b"\r\n\r\n", 1)
-        found = re.search(rb"(?i)\r\ncontent-length: (\d+)", head)
-        while found and len(body) < int(found[1]):
-            more = link.recv(65536)
-            if not more:
-                break
-            body += more
-        return head + b"\r\n\r\n" + body
-    except OSError as fault:
-        return out + f"<{type(fault).__name__}>".encode()
 
 
 def echoes(link: socket.socket, text: bytes) -> bool:

@@ -1,9 +1,11 @@
-"""A running `serve`: its orders, what it says, and what the system says of it."""
+"""A running `serve`: its orders, what it says, what the system says of it, and what comes over a link to it."""
 
 import glob
 import os
 import queue
+import re
 import signal
+import socket
 import subprocess
 import threading
 import time
@@ -136,3 +138,35 @@ def until(seconds: float, holds: Callable[[], object]) -> bool:
             return False
         time.sleep(0.05)
     return True
+
+
+def free_port() -> int:
+    for port in range(20_000 + os.getpid() % 5000, 32_000):
+        with socket.socket() as link:
+            try:
+                link.bind(("0.0.0.0", port))
+                return port
+            except OSError:
+                continue
+    raise AssertionError("no port is free")
+
+
+def reply_of(link: socket.socket) -> bytes:
+    """A reply with a length."""
+    out = b""
+    try:
+        while b"\r\n\r\n" not in out:
+            more = link.recv(65536)
+            if not more:
+                return out
+            out += more
+        head, body = out.split(b"\r\n\r\n", 1)
+        found = re.search(rb"(?i)\r\ncontent-length: (\d+)", head)
+        while found and len(body) < int(found[1]):
+            more = link.recv(65536)
+            if not more:
+                break
+            body += more
+        return head + b"\r\n\r\n" + body
+    except OSError as fault:
+        return out + f"<{type(fault).__name__}>".encode()
