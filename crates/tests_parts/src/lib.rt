@@ -24,3 +24,5 @@ mod parts;
 mod pools;
 #[cfg(test)]
 mod processes;
+#[cfg(test)]
+mod rewriting;

@@ -1,0 +1,6 @@
+-- Lemmas that the proofs use.
+mod AgreeLaws
+mod LostLaws
+mod OpenLaws
+mod RowLaws
+mod RunLaws

@@ -1,0 +1,7 @@
+use Rattle.std.proofs.Common.{rules}
+use Rattle.sq_rewrite.specs.Calls.{Died}
+use Rattle.sq_rewrite.proofs.RunLaws.{reached_after}
+use Rattle.sq_rewrite.proofs.rewriters.Rewriter.died.Goals as goal
+
+pub invariant_of-self-2 : goal.invariant_of-self-2
+invariant_of-self-2 c = reached_after (Died c.args.proc) _ _ c.self.invariant (search rules) (search rules)
