@@ -1,9 +1,8 @@
 -- What the openings of a command add up to, where they are told.
-use Rattle.std.proofs.Common.{inl, inr, ◌≡◌, ◌⊎◌, ◌≤◌, ℕ, List, [], ◌∷◌, ◌++◌, true, false, if◌then◌else◌, append_assoc, Result, Ok, Err, Some, None, IfSome, IsSome, refl, sym, ap, ◌∙◌, subst}
+use Rattle.std.proofs.Common.{inl, inr, ◌≡◌, ◌⊎◌, ◌≤◌, ℕ, List, [], ◌∷◌, ◌++◌, append_assoc, Result, Ok, Err, Some, None, IfSome, refl, sym, ap, ◌∙◌, subst}
 use Rattle.std.proofs.KnownBytes.{Appends-nil}
 use Rattle.std.specs.declared.option.Option.{Option}
 use Rattle.sq_outside.specs.Input.{IsWhole, OpensAtMost}
-use Rattle.sq_outside.specs.Output.{Grew, IsWritten}
 use Rattle.sq_outside.specs.SourceLines.{lines}
 use Rattle.sq_outside.specs.Told.{Opening, Openings, AddsOpening, AddsText, Texts}
 use Rattle.sq_outside.proofs.Writing.{IsPrefix_nil}
@@ -13,46 +12,23 @@ use Rattle.sq_rules.specs.ConfText.{conf_result}
 use Rattle.sq_rules.specs.Limits.{text_limit}
 use Rattle.sq_rules.specs.declared.kinds.Kind.TheVariants as kind
 use Rattle.sq_replay.specs.declared.ends.RunEnd.{RunEnd}
-use Rattle.sq_replay.specs.Ends.{End, Done, Refused, Faulted, Fault, Reading, Writing, Lacking}
+use Rattle.sq_replay.specs.Ends.{End, Done, Refused, Faulted, Reading, Writing, Lacking}
 use Rattle.sq_replay.specs.ConfReading.{checked}
 use Rattle.sq_replay.specs.RunText.{Ran, run_script}
-use Rattle.sq_replay.specs.Runs.{Adds, Reaches, ScriptRuns, missed}
+use Rattle.sq_replay.specs.Openings.{Added, RunOpened}
+use Rattle.sq_replay.specs.Runs.{Reaches, ScriptRuns, missed}
+use Rattle.sq_replay.proofs.OpenedLaws.{Added_map, Added_none, Added_one, Added_then}
 use Rattle.sq_replay.proofs.ReadingLaws.{read_is}
 use Rattle.sq_proxy.specs.declared.ends.Status.{Status}
 use Rattle.sq_proxy.specs.declared.ends.Status.TheVariants as ends
-use Rattle.sq_proxy.specs.Commands.{Command, Parse, Replay, Disk, Output, conf_read, conf_stage, parse_output, replay_output, shelf_of, start_stage, ran_output, script_stage, silent, staged}
-use Rattle.sq_proxy.specs.Ends.{Comes, IsFault, IsFaultEnd, IsMissingOr, IsToldEnd, end_of, last_line}
-use Rattle.sq_proxy.specs.Opened.{Added, BeginsWith, IsOnce, IsOpened, PlayOpened, behind_first, first_text, opened_output, shelf_over}
-use Rattle.sq_proxy.specs.Outputs.{Delivers, DeliversAs, IsOutput}
+use Rattle.sq_proxy.specs.Commands.{Parse, Replay, Disk, Output, conf_read, conf_stage, parse_output, replay_output, shelf_of, start_stage, ran_output, script_stage, silent, staged}
+use Rattle.sq_proxy.specs.Ends.{Comes, IsFault, IsFaultEnd, IsMissingOr, IsOpenEnd, end_of, run_status}
+use Rattle.sq_proxy.specs.Opened.{BeginsWith, CommandOpened, IsOnce, NamedOpened, PlayOpened, ScriptOpened, behind_first, first_text, opened_output, shelf_over}
+use Rattle.sq_proxy.specs.Outputs.{Delivers, DeliversAs, IsSettled}
 use Rattle.sq_proxy.specs.ParseText.{parse_text}
-use Rattle.sq_proxy.proofs.EndLaws.{with_line_is}
 use Rattle.sq_proxy.proofs.SettleLaws.{delivers_later}
 use Rattle.sq_proxy.proofs.ShelfLaws.{begins_is, behind_is, first_is, tells_over}
 use Rattle.sq_proxy.proofs.StageLaws.{too_long}
-
--- more is said of the openings that were added
-pub Added_map : (old new : Openings) (P Q : List Opening → Type 0) → ((more : List Opening) → P more → Q more) → Added old new P → Added old new Q
-Added_map None new P Q f a = tt
-Added_map (Some earlier) new P Q f (more, e, p) = (more, e, f more p)
-
--- no opening was added
-pub Added_none : (old new : Openings) (P : List Opening → Type 0) → new ≡ old → P [] → Added old new P
-Added_none None new P e p = tt
-Added_none (Some earlier) new P e p = ([], e, p)
-
--- one opening was added
-pub Added_one : (old new : Openings) (name : List ℕ) (T : List ℕ → Type 0) (P : List Opening → Type 0) → AddsText old new name T
-    → ((text : List ℕ) → T text → P (record { name = name; text = text } ∷ [])) → Added old new P
-Added_one None new name T P a f = tt
-Added_one (Some earlier) new name T P (text, e, t) f = (record { name = name; text = text } ∷ [], e, f text t)
-
--- openings of one part of a command, and then of the next
-pub Added_then : (old mid new : Openings) (P Q R : List Opening → Type 0) → Added old mid P → Added mid new Q
-    → ((first next : List Opening) → P first → Q next → R (next ++ first)) → Added old new R
-Added_then None mid new P Q R a b f = tt
-Added_then (Some earlier) mid new P Q R (first, e, p) b f =
-    let next = subst (λ m. Added m new Q) e b in
-    (next.0 ++ first, next.1 ∙ ap (λ l. Some l) (sym (append_assoc next.0 first earlier)), f first next.0 p next.2)
 
 -- what `open_conf` says of its openings
 abbrev pub ConfOpened : List ℕ → Result Configuration Status → List Opening → Type 0
@@ -130,25 +106,44 @@ missing_no_write name (ends.Script n) m e = m
 missing_no_write name ends.ReadFault m e = m
 missing_no_write name (ends.Differs l x j) m e = m
 
+-- nothing is written before a configuration is read
+pub open_no_write : (texts : Texts) (name : List ℕ) (end : Status) → IsOpenEnd texts name end → end_of end ≡ Faulted Writing → ⊥
+open_no_write texts name ends.ReadFault is e = absurd (cc)
+open_no_write texts name ends.WantOfMemory is e = absurd (cc)
+open_no_write texts name (ends.Config l k) is e = absurd (cc)
+open_no_write texts name (ends.Missing other) is e = absurd (cc)
+open_no_write texts name ends.WriteFault is e = is
+open_no_write texts name ends.Ok is e = is
+open_no_write texts name ends.Usage is e = is
+open_no_write texts name ends.JournalFault is e = is
+open_no_write texts name ends.Net is e = is
+open_no_write texts name (ends.Script n) is e = is
+open_no_write texts name (ends.Differs l x j) is e = is
+
 -- the script was opened, and run with what it names
 pub play_opened : (texts : Texts) (old mid last new : Openings) (left a b written : Option (List ℕ)) (before later now : ℕ) (name page : List ℕ) (config : Configuration) (end : RunEnd) (result : Status)
-    → AddsOpening old mid name left → Adds mid last → new ≡ last → before ≤ later → ScriptRuns texts mid last left a written page config end
-    → ((base : Option (List ℕ)) (ran : Ran) → Reaches base written page ran end → Delivers base b later now (ran_output ran) result)
+    → AddsOpening old mid name left → IfSome left (λ bytes. Added mid last (RunOpened 0 (lines bytes) end)) → new ≡ last → before ≤ later → ScriptRuns texts mid last left a written page config end
+    → IsSettled (run_status end) result → ((base : Option (List ℕ)) (ran : Ran) → Reaches base written page ran end → Delivers base b later now (ran_output ran) result)
     → Added old new (PlayOpened name config a b before now result)
-play_opened texts None mid last new left a b written before later now name page config end result adds more same le runs settle = tt
-play_opened texts (Some earlier) mid last new None a b written before later now name page config end result adds more same le runs settle = absurd adds
-play_opened texts (Some earlier) mid last new (Some text) a b written before later now name page config end result adds more same le runs settle =
+play_opened texts None mid last new left a b written before later now name page config end result adds opens same le runs settled settle = tt
+play_opened texts (Some earlier) mid last new None a b written before later now name page config end result adds opens same le runs settled settle = absurd adds
+play_opened texts (Some earlier) mid last new (Some text) a b written before later now name page config end result adds opens same le runs settled settle =
     let o : Opening = record { name = name; text = text } in
-    let x = subst (λ (m : Openings). Adds m last) adds more in
+    let x = subst (λ (m : Openings). Added m last (RunOpened 0 (lines text) end)) adds opens in
+    let all = x.0 ++ o ∷ [] in
     let run = run_script (shelf_over x.0) config (lines text) in
     let tells = tells_over texts (o ∷ earlier) x.0 mid last (missed end) adds x.1 in
-    let delivers : Delivers a b before now (ran_output run) result = delivers_later a b before later now (ran_output run) result le (settle a run (runs (shelf_over x.0) tells)) in (
-      x.0 ++ o ∷ [],
+    let delivers : Delivers a b before now (ran_output run) result = delivers_later a b before later now (ran_output run) result le (settle a run (runs (shelf_over x.0) tells)) in
+    let named : NamedOpened (Some text) result x.0 = record { end = end; settled = settled; opens = x.2 } in (
+      all,
       same ∙ x.1 ∙ ap (λ (l : List Opening). Some l) (sym (append_assoc x.0 (o ∷ []) earlier)),
       (
-        begins_is x.0 o name refl,
-        subst (λ (f : Option (List ℕ)). Delivers a b before now
-            (staged (script_stage name f) (λ t. ran_output (run_script (shelf_over (behind_first (x.0 ++ o ∷ []))) config (lines t)))) result) (sym (first_is x.0 o))
+        (
+          begins_is x.0 o name refl,
+          subst (λ (f : Option (List ℕ)). NamedOpened f result (behind_first all)) (sym (first_is x.0 o)) (subst (NamedOpened (Some text) result) (sym (behind_is x.0 o)) named),
+        ),
+        subst (λ (f : Option (List ℕ)). Delivers a b before now (staged (script_stage name f) (λ t. ran_output (run_script (shelf_over (behind_first all)) config (lines t)))) result)
+            (sym (first_is x.0 o))
             (subst (λ (l : List Opening). Delivers a b before now (ran_output (run_script (shelf_over l) config (lines text))) result) (sym (behind_is x.0 o)) delivers),
       ),
     )
@@ -156,12 +151,12 @@ play_opened texts (Some earlier) mid last new (Some text) a b written before lat
 pub play_missing : (old new : Openings) (a : Option (List ℕ)) (n : ℕ) (name : List ℕ) (config : Configuration) (end : Status) → new ≡ old → IsMissingOr name end
     → Added old new (PlayOpened name config a a n n end)
 play_missing old new a n name config end same missing =
-    Added_none old new (PlayOpened name config a a n n end) same (tt, nothing_delivers a n (silent (ends.Missing name)) end (missing_no_write name end missing) (missing_silent name end missing))
+    Added_none old new (PlayOpened name config a a n n end) same ((tt, refl), nothing_delivers a n (silent (ends.Missing name)) end (missing_no_write name end missing) (missing_silent name end missing))
 
 pub play_fault : (old new : Openings) (a : Option (List ℕ)) (n : ℕ) (name : List ℕ) (config : Configuration) (end : Status) → new ≡ old → (end_of end ≡ Faulted Writing → ⊥) → IsFault end
     → Added old new (PlayOpened name config a a n n end)
 play_fault old new a n name config end same other fault =
-    Added_none old new (PlayOpened name config a a n n end) same (tt, nothing_delivers a n (silent (ends.Missing name)) end other (inr fault))
+    Added_none old new (PlayOpened name config a a n n end) same ((tt, refl), nothing_delivers a n (silent (ends.Missing name)) end other (inr fault))
 
 -- a stage that ended a command
 pub staged_ends : {A : Type 0} (stage : Result A Status) (go : A → Output) (end : Status) → Comes (Err end) stage → (staged stage go ≡ silent end) ⊎ IsFault end
@@ -186,10 +181,6 @@ pub start_is : (name : List ℕ) (o : Option (List ℕ)) (config : Configuration
 start_is name None config e good = absurd (cc)
 start_is name (Some text) config e good = ap conf_read (read_is text config (start_gives text (conf_result text) config refl e) good)
 
--- what a command says of its openings
-abbrev pub CommandOpened : Option Command → Option (List ℕ) → Option (List ℕ) → ℕ → ℕ → Status → List Opening → Type 0
-CommandOpened command a b before now result more = IsOpened command more × Delivers a b before now (opened_output command more) result
-
 pub parse_ends : (old new : Openings) (a : Option (List ℕ)) (n : ℕ) (conf : List ℕ) (end : Status) → (end_of end ≡ Faulted Writing → ⊥) → Added old new (ConfOpened conf (Err end))
     → Added old new (CommandOpened (Some (Parse conf)) a a n n end)
 parse_ends old new a n conf end other added =
@@ -203,17 +194,17 @@ parse_opened old new a b before now conf config result added delivers =
     Added_map old new (ConfOpened conf (Ok config)) (CommandOpened (Some (Parse conf)) a b before now result)
     (λ more p. (p.0, subst (λ s. Delivers a b before now (staged s (λ c. record { text = parse_text c; end = ends.Ok })) result) (sym p.1) delivers)) added
 
-conf_begins : (conf script : List ℕ) (more : List Opening) → IsOnce conf more → BeginsWith conf more × BeginsWith script (behind_first more)
-conf_begins conf script [] once = (tt, tt)
-conf_begins conf script (o ∷ []) once = (once, tt)
-conf_begins conf script (o ∷ p ∷ more) once = absurd once
+conf_begins : (conf script : List ℕ) (end : Status) (more : List Opening) → IsOnce conf more → BeginsWith conf more × ScriptOpened script end (behind_first more)
+conf_begins conf script end [] once = (tt, (tt, refl))
+conf_begins conf script end (o ∷ []) once = (once, (tt, refl))
+conf_begins conf script end (o ∷ p ∷ more) once = absurd once
 
 pub replay_ends : (old new : Openings) (a : Option (List ℕ)) (n : ℕ) (conf script : List ℕ) (end : Status) → (end_of end ≡ Faulted Writing → ⊥) → Added old new (ConfOpened conf (Err end))
     → Added old new (CommandOpened (Some (Replay conf script)) a a n n end)
 replay_ends old new a n conf script end other added =
     Added_map old new (ConfOpened conf (Err end)) (CommandOpened (Some (Replay conf script)) a a n n end)
     (λ more p. (
-      conf_begins conf script more p.0,
+      conf_begins conf script end more p.0,
       nothing_delivers a n (opened_output (Some (Replay conf script)) more) end other (staged_ends (start_stage conf (first_text more)) _ end (start_ends conf (first_text more) end p.1)),
     )) added
 
@@ -232,7 +223,7 @@ played a b before now conf script config result good (o ∷ []) next p q =
     let there : start_stage conf (first_text all) ≡ Ok config = ap (start_stage conf) (first_is next o) ∙ start in
     let run : Delivers a b before now (script_run (behind_first (behind_first all)) script (first_text (behind_first all)) config) result =
     subst (λ (l : List Opening). Delivers a b before now (script_run (behind_first l) script (first_text l) config) result) behind q.1 in (
-      (begins_is next o conf p.0, subst (BeginsWith script) behind q.0),
+      (begins_is next o conf p.0, subst (ScriptOpened script result) behind q.0),
       subst (λ r. Delivers a b before now (staged r (script_run (behind_first (behind_first all)) script (first_text (behind_first all)))) result) (sym there) run,
     )
 played a b before now conf script config result good (o ∷ u ∷ first) next p q = absurd p.0
@@ -264,14 +255,6 @@ replay_stops (Some disk) a n conf script end other comes =
 -- words that are no command open nothing
 pub usage_opened : (old : Openings) (a : Option (List ℕ)) (n : ℕ) → Added old old (CommandOpened None a a n n ends.Usage)
 usage_opened old a n = Added_none old old (CommandOpened None a a n n ends.Usage) refl (refl, (refl, Appends-nil a))
-
--- the last line is written behind what the openings gave
-pub opened_told : (old new : Openings) (a b c : Option (List ℕ)) (command : Option Command) (before mid now : ℕ) (s same : Status) → same ≡ s → before ≤ mid → (IsToldEnd (end_of s) → mid ≡ before)
-    → Added old new (CommandOpened command a b before mid s) → Grew b c (IsWritten mid now (last_line s))
-    → Added old new (λ more. IsOpened command more × Grew a c (IsOutput (opened_output command more) before now same))
-opened_told old new a b c command before mid now s same e le quiet added line =
-    Added_map old new (CommandOpened command a b before mid s) (λ more. IsOpened command more × Grew a c (IsOutput (opened_output command more) before now same))
-    (λ more p. (p.0, subst (λ (x : Status). Grew a c (IsOutput (opened_output command more) before now x)) (sym e) (with_line_is a b c (opened_output command more) before mid now s le quiet p.1 line))) added
 
 -- what `parse` writes of a configuration that its file has, where texts are told
 pub parse_told : (texts : Texts) (a b : Option (List ℕ)) (before now : ℕ) (conf : List ℕ) (config : Configuration) (result : Status) → IfSome texts (λ disk. Comes (Ok config) (conf_stage conf (disk conf)))

@@ -1,8 +1,8 @@
 -- What a rehearsal writes, and how it ends.
-use Rattle.std.proofs.Common.{◌≡◌, ◌⊎◌, ◌↔◌, inl, inr, ℕ, List, [], Option, Some, None, IfSome, Ok, Err, refl, sym, ap, subst, ◌∙◌, arith}
+use Rattle.std.proofs.Common.{◌≡◌, ◌↔◌, inl, inr, ℕ, List, Option, Some, None, IfSome, Ok, Err, refl, sym, ap, subst, ◌∙◌, arith}
 use Rattle.std.specs.Io.KnownBytes.{Appends}
 use Rattle.sq_outside.specs.Output.{Grew, IsProperPrefix}
-use Rattle.sq_outside.specs.Told.{IsNotTold, Openings, Texts}
+use Rattle.sq_outside.specs.Told.{Openings, Texts}
 use Rattle.sq_replay.specs.Ends.{Faulted, Writing}
 use Rattle.sq_rules.specs.Configurations.{Configuration}
 use Rattle.sq_rules.specs.ConfText.{conf_result}
@@ -11,11 +11,13 @@ use Rattle.sq_rehearse.specs.Rehearsals.{configuration_text, rehearsal}
 use Rattle.sq_rehearse.specs.Summaries.{summary_line}
 use Rattle.sq_proxy.specs.declared.ends.Status.{Status}
 use Rattle.sq_proxy.specs.declared.ends.Status.TheVariants as ends
-use Rattle.sq_proxy.specs.Commands.{IsNamed, Rehearse, command_of, command_output, conf_read, output_of, rehearse_output, rehearsed_by, rehearsed_stage, staged}
-use Rattle.sq_proxy.specs.Ends.{Comes, HasCauses, IfMissing, IsConfEnd, IsFault, IsRehearsedEnd, end_of}
-use Rattle.sq_proxy.specs.Opened.{Added, IsOpened, opened_output}
+use Rattle.sq_proxy.specs.Commands.{Rehearse, command_of, command_output, conf_read, output_of, rehearse_output, rehearsed_by, rehearsed_stage, staged}
+use Rattle.sq_proxy.specs.Ends.{Comes, HasCauses, IfMissing, IsConfEnd, IsRehearsedEnd, end_of}
+use Rattle.sq_proxy.specs.Opened.{CommandOpened}
+use Rattle.sq_replay.specs.Openings.{Added}
+use Rattle.sq_replay.proofs.OpenedLaws.{Added_none}
 use Rattle.sq_proxy.specs.Outputs.{Delivers}
-use Rattle.sq_proxy.proofs.OpenedLaws.{Added_none, CommandOpened, nothing_delivers, staged_ends}
+use Rattle.sq_proxy.proofs.OpenedLaws.{nothing_delivers, staged_ends}
 
 -- the line
 

@@ -1,5 +1,5 @@
 -- What comes of a journal that is judged, and of its openings.
-use Rattle.std.proofs.Common.{◌≡◌, ◌⊎◌, inl, inr, ℕ, ◌<◌, ◌≤◌, List, [], ◌∷◌, ◌++◌, arith, Result, Ok, Err, Some, None, IfSome, IsSome, refl, sym, ap, ◌∙◌, subst}
+use Rattle.std.proofs.Common.{◌≡◌, inl, inr, ℕ, ◌<◌, ◌≤◌, List, [], ◌∷◌, ◌++◌, arith, Result, Ok, Err, Some, None, IfSome, refl, sym, ap, ◌∙◌, subst}
 use Rattle.std.specs.declared.option.Option.{Option}
 use Rattle.std.specs.Io.KnownBytes.{Appends}
 use Rattle.sq_outside.specs.Causes.{Rose, TakesBack}
@@ -9,7 +9,7 @@ use Rattle.sq_outside.specs.Told.{AddsOpening, GivesText, IsNotTold, Opening, Op
 use Rattle.sq_rules.specs.Configurations.{Configuration, IsConfiguration}
 use Rattle.sq_rules.specs.declared.kinds.ConfError.{ConfError}
 use Rattle.sq_replay.specs.ConfReading.{read_result}
-use Rattle.sq_replay.specs.Ends.{End, Done, Refused, Faulted, Fault, Reading, Writing, Lacking}
+use Rattle.sq_replay.specs.Ends.{Faulted, Writing}
 use Rattle.sq_replay.proofs.ReadingLaws.{is_read}
 use Rattle.sq_verify.specs.declared.findings.Finding.{Finding}
 use Rattle.sq_verify.specs.declared.findings.Finding.TheVariants as finding
@@ -19,11 +19,13 @@ use Rattle.sq_verify.specs.Telling.{finding_text}
 use Rattle.sq_verify.proofs.AuditLaws.{audited}
 use Rattle.sq_proxy.specs.declared.ends.Status.{Status}
 use Rattle.sq_proxy.specs.declared.ends.Status.TheVariants as ends
-use Rattle.sq_proxy.specs.Commands.{AuditedFiles, AuditsFiles, Command, Disk, IsNamed, Output, Verify, command_of, command_output, conf_read, conf_stage, found_output, journal_output, output_of, script_stage, silent, staged, start_stage, verify_output, verify_over}
+use Rattle.sq_proxy.specs.Commands.{AuditedTexts, AuditsFiles, Command, IsNamed, Output, Verify, command_output, conf_read, conf_stage, found_output, journal_output, output_of, script_stage, silent, staged, start_stage, verify_output, verify_over}
 use Rattle.sq_proxy.specs.Ends.{Comes, HasCauses, IfMissing, IsFault, IsFoundEnd, IsMissingOr, IsPlayedEnd, IsToldEnd, IsVerifyEnd, end_of}
-use Rattle.sq_proxy.specs.Opened.{Added, BeginsWith, IsOnce, JournalOpened, behind_first, first_text, opened_output}
+use Rattle.sq_proxy.specs.Opened.{BeginsWith, CommandOpened, IsOnce, JournalOpened, behind_first, first_text, opened_output}
 use Rattle.sq_proxy.specs.Outputs.{Delivers}
-use Rattle.sq_proxy.proofs.OpenedLaws.{Added_map, Added_none, Added_then, CommandOpened, ConfOpened, missing_no_write, missing_silent, nothing_delivers, staged_ends, start_ends, start_is}
+use Rattle.sq_replay.specs.Openings.{Added}
+use Rattle.sq_replay.proofs.OpenedLaws.{Added_map, Added_none, Added_then}
+use Rattle.sq_proxy.proofs.OpenedLaws.{ConfOpened, missing_no_write, missing_silent, nothing_delivers, staged_ends, start_ends, start_is}
 use Rattle.sq_proxy.proofs.ShelfLaws.{begins_is, behind_is, first_is}
 
 -- what was found
@@ -212,37 +214,38 @@ verify_missing texts conf journal ends.WantOfMemory e = tt
 
 -- audits
 
-by_found : (disk : Disk) (conf journal text bytes : List ℕ) (config : Configuration) (found : Finding) → disk conf ≡ Some text → disk journal ≡ Some bytes → read_result text ≡ Ok config
-    → (judged config (lines bytes)).found ≡ found → ends.Ok ≡ (found_output found).end → AuditedFiles disk conf journal
-by_found disk conf journal text bytes config (finding.Verified n) there here reads is e =
+by_found : (text bytes : List ℕ) (config : Configuration) (found : Finding) → read_result text ≡ Ok config → (judged config (lines bytes)).found ≡ found → ends.Ok ≡ (found_output found).end
+    → AuditedTexts (Some text) (Some bytes)
+by_found text bytes config (finding.Verified n) reads is e =
     record {
       text = text;
       config = config;
       bytes = bytes;
       count = n;
-      conf_there = there;
+      conf_there = refl;
       conf_reads = reads;
-      journal_there = here;
+      journal_there = refl;
       audited = audited config bytes n (is_read text config reads).good is;
     }
-by_found disk conf journal text bytes config (finding.Script n) there here reads is e = absurd (cc)
-by_found disk conf journal text bytes config (finding.Differs l m j) there here reads is e = absurd (cc)
-by_found disk conf journal text bytes config finding.ReadFault there here reads is e = absurd (cc)
-by_found disk conf journal text bytes config finding.WantOfMemory there here reads is e = absurd (cc)
+by_found text bytes config (finding.Script n) reads is e = absurd (cc)
+by_found text bytes config (finding.Differs l m j) reads is e = absurd (cc)
+by_found text bytes config finding.ReadFault reads is e = absurd (cc)
+by_found text bytes config finding.WantOfMemory reads is e = absurd (cc)
 
-by_journal : (disk : Disk) (conf journal text : List ℕ) (config : Configuration) (o : Option (List ℕ)) → disk conf ≡ Some text → disk journal ≡ o → read_result text ≡ Ok config
-    → ends.Ok ≡ (staged (script_stage journal o) (journal_output config)).end → AuditedFiles disk conf journal
-by_journal disk conf journal text config None there here reads e = absurd (cc)
-by_journal disk conf journal text config (Some bytes) there here reads e = by_found disk conf journal text bytes config (judged config (lines bytes)).found there here reads refl e
+by_journal : (journal text : List ℕ) (config : Configuration) (o : Option (List ℕ)) → read_result text ≡ Ok config → ends.Ok ≡ (staged (script_stage journal o) (journal_output config)).end
+    → AuditedTexts (Some text) o
+by_journal journal text config None reads e = absurd (cc)
+by_journal journal text config (Some bytes) reads e = by_found text bytes config (judged config (lines bytes)).found reads refl e
 
-by_read : (disk : Disk) (conf journal text : List ℕ) (r : Result Configuration ConfError) → disk conf ≡ Some text → read_result text ≡ r
-    → ends.Ok ≡ (staged (conf_read r) (λ config. staged (script_stage journal (disk journal)) (journal_output config))).end → AuditedFiles disk conf journal
-by_read disk conf journal text (Ok config) there reads e = by_journal disk conf journal text config (disk journal) there refl reads e
-by_read disk conf journal text (Err x) there reads e = absurd (cc)
+by_read : (journal text : List ℕ) (r : Result Configuration ConfError) (o : Option (List ℕ)) → read_result text ≡ r
+    → ends.Ok ≡ (staged (conf_read r) (λ config. staged (script_stage journal o) (journal_output config))).end → AuditedTexts (Some text) o
+by_read journal text (Ok config) o reads e = by_journal journal text config o reads e
+by_read journal text (Err x) o reads e = absurd (cc)
 
-by_conf : (disk : Disk) (conf journal : List ℕ) (o : Option (List ℕ)) → disk conf ≡ o → ends.Ok ≡ (verify_over o (disk journal) conf journal).end → AuditedFiles disk conf journal
-by_conf disk conf journal None there e = absurd (cc)
-by_conf disk conf journal (Some text) there e = by_read disk conf journal text (read_result text) there refl e
+-- where `verify` ends well over two texts, they are audited
+pub texts_audited : (conf journal : List ℕ) (o p : Option (List ℕ)) → ends.Ok ≡ (verify_over o p conf journal).end → AuditedTexts o p
+texts_audited conf journal None p e = absurd (cc)
+texts_audited conf journal (Some text) p e = by_read journal text (read_result text) p refl e
 
 -- where `verify` ends well, its journal is audited
 pub audits_told : (texts : Texts) (a b : Option (List ℕ)) (before now : ℕ) (words : List (List ℕ)) (s same : Status) → same ≡ s → same ≡ ends.Ok
@@ -250,4 +253,4 @@ pub audits_told : (texts : Texts) (a b : Option (List ℕ)) (before now : ℕ) (
 audits_told None a b before now words s same is ok d = tt
 audits_told (Some disk) a b before now words s same is ok d = λ conf journal command.
     let done : Delivers a b before now (output_of disk words) ends.Ok = subst (λ (x : Status). Delivers a b before now (output_of disk words) x) (sym is ∙ ok) d in
-    by_conf disk conf journal (disk conf) refl (done.0 ∙ ap (λ (c : Option Command). (command_output disk c).end) command)
+    texts_audited conf journal (disk conf) (disk journal) (done.0 ∙ ap (λ (c : Option Command). (command_output disk c).end) command)

@@ -1,8 +1,9 @@
 -- The commands, and what each comes to over files: the text that is written before the last line, and the end.
-use Rattle.std.specs.Prelude.{◌≡◌, ◌⊎◌, ℕ, ◌+◌, List, [], ◌∷◌, length, Bool, true, false, Result, Ok, Err, Some, None, IfSome, codes, bytes_eq, if◌then◌else◌}
+use Rattle.std.specs.Prelude.{◌≡◌, ◌⊎◌, ◌↔◌, ℕ, ◌+◌, ◌≤◌, List, [], ◌∷◌, length, Bool, true, false, Result, Ok, Err, Some, None, IfSome, codes, bytes_eq, if◌then◌else◌}
 use Rattle.std.specs.declared.option.Option.{Option}
 use Rattle.sq_base.specs.Decimals.{number_of}
-use Rattle.sq_outside.specs.SourceLines.{Line, lines}
+use Rattle.sq_base.specs.Texts.{AreBytes}
+use Rattle.sq_outside.specs.SourceLines.{Line, lines, total_limit}
 use Rattle.sq_outside.specs.Told.{Texts}
 use Rattle.sq_machine.specs.declared.entries.Event.TheVariants.{Reconfigure}
 use Rattle.sq_rules.specs.Configurations.{Configuration}
@@ -17,9 +18,11 @@ use Rattle.sq_rehearse.specs.Rehearsals.{configuration_text, rehearsal}
 use Rattle.sq_rehearse.specs.Summaries.{summary_line}
 use Rattle.sq_verify.specs.declared.findings.Finding.{Finding}
 use Rattle.sq_verify.specs.declared.findings.Finding.TheVariants as finding
+use Rattle.sq_verify.specs.declared.versions.Version.TheVariants as version
 use Rattle.sq_verify.specs.Audits.{IsAudited}
 use Rattle.sq_verify.specs.Judging.{judged}
 use Rattle.sq_verify.specs.Migrating.{Reading, read_journal}
+use Rattle.sq_verify.specs.Tellable.{AreShort}
 use Rattle.sq_verify.specs.Telling.{finding_text}
 use Rattle.sq_proxy.specs.declared.ends.Status.{Status}
 use Rattle.sq_proxy.specs.declared.ends.Status.TheVariants as ends
@@ -210,27 +213,41 @@ command_output disk (Some (Rehearse count)) = rehearse_output count
 abbrev pub output_of : Disk → List (List ℕ) → Output
 output_of disk words = command_output disk (command_of words)
 
--- what is true of the run over each configuration and script that are there, with the files that the script names: nothing was run, or the
--- history is legal, with what is so of every legal history
-abbrev pub RunsTruly : Disk → List (List ℕ) → Type 0
-RunsTruly disk words = (conf script text : List ℕ) (config : Configuration) → command_of words ≡ Some (Replay conf script)
-    → start_stage conf (disk conf) ≡ Ok config → disk script ≡ Some text
-    → IsTrueOrNone (configs_of (shelf_of disk) config (lines text)) (run_script (shelf_of disk) config (lines text)).history
+-- what is true of the run over a configuration and a script, where these are the texts of the two files, with what stands on the shelf for the
+-- files that the script names: nothing was run, or the history is legal, with what is so of every legal history
+abbrev pub RunsTrulyOver : Shelf → Option (List ℕ) → Option (List ℕ) → List ℕ → Type 0
+RunsTrulyOver files conf_text script_text conf = (config : Configuration) (text : List ℕ) → start_stage conf conf_text ≡ Ok config → script_text ≡ Some text
+    → IsTrueOrNone (configs_of files config (lines text)) (run_script files config (lines text)).history
 
--- the two files are there, and the journal is, byte for byte, the text of a history over the configuration, with all that is so of every run
-pub record AuditedFiles (disk : Disk) (conf journal : List ℕ) : Type 0 where
+-- so it is of the files that `replay` names, where they are there
+abbrev pub RunsTruly : Disk → List (List ℕ) → Type 0
+RunsTruly disk words = (conf script : List ℕ) → command_of words ≡ Some (Replay conf script) → RunsTrulyOver (shelf_of disk) (disk conf) (disk script) conf
+
+-- The journal of version 1 of this text was migrated whole, and what was written is within the limits of a journal: `verify` ends well of what was
+-- written exactly where it ends well of what was read, whatever CONF holds.
+abbrev pub MigratesAlike : List ℕ → Type 0
+MigratesAlike bytes = AreBytes bytes → (read_journal (lines bytes)).whole ≡ true → AreShort version.Two (read_journal (lines bytes)).history → length (migrated_output bytes).text ≤ total_limit
+    → (conf_text : Option (List ℕ)) (conf journal : List ℕ)
+    → ((verify_over conf_text (Some bytes) conf journal).end ≡ ends.Ok) ↔ ((verify_over conf_text (Some (migrated_output bytes).text) conf journal).end ≡ ends.Ok)
+
+-- so it is of the file that `migrate` names
+abbrev pub MigratesTruly : Disk → List (List ℕ) → Type 0
+MigratesTruly disk words = (journal bytes : List ℕ) → command_of words ≡ Some (Migrate journal) → disk journal ≡ Some bytes → MigratesAlike bytes
+
+-- the two texts are there, and the journal is, byte for byte, the text of a history over the configuration, with all that is so of every run
+pub record AuditedTexts (conf_text journal_text : Option (List ℕ)) : Type 0 where
   pub text : List ℕ
   pub config : Configuration
   pub bytes : List ℕ
   pub count : ℕ
-  pub conf_there : disk conf ≡ Some text
+  pub conf_there : conf_text ≡ Some text
   pub conf_reads : read_result text ≡ Ok config
-  pub journal_there : disk journal ≡ Some bytes
+  pub journal_there : journal_text ≡ Some bytes
   pub audited : IsAudited config bytes count
 
 -- so it is of the files that `verify` names
 abbrev pub AuditsFiles : Disk → List (List ℕ) → Type 0
-AuditsFiles disk words = (conf journal : List ℕ) → command_of words ≡ Some (Verify conf journal) → AuditedFiles disk conf journal
+AuditsFiles disk words = (conf journal : List ℕ) → command_of words ≡ Some (Verify conf journal) → AuditedTexts (disk conf) (disk journal)
 
 -- the command that the code reads
 abbrev pub shown_command : Words.Command → Command

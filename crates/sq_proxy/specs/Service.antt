@@ -13,12 +13,13 @@ use Rattle.sq_machine.specs.Entries.{History}
 use Rattle.sq_machine.specs.Readings.{current, offset_of}
 use Rattle.sq_calls.specs.Legality.{Beginning}
 use Rattle.sq_replay.specs.Headline.{IsTrue}
+use Rattle.sq_replay.specs.Openings.{Added}
 use Rattle.sq_panel.specs.declared.panel.PanelEnd.{PanelEnd}
 use Rattle.sq_panel.specs.declared.panel.PanelEnd.TheVariants as panel
 use Rattle.sq_panel.specs.Attending.{FilesSeen, Runs, Streams}
 use Rattle.sq_proxy.specs.Commands.{conf_stage}
 use Rattle.sq_proxy.specs.Ends.{EndsBy, IfMissing, last_line}
-use Rattle.sq_proxy.specs.Opened.{Added, IsOnce, first_text}
+use Rattle.sq_proxy.specs.Opened.{IsOnce, first_text}
 use Rattle.sq_proxy.specs.Serving.{Server}
 use Rattle.sq_proxy.specs.declared.ends.Status.{Status}
 use Rattle.sq_proxy.specs.declared.ends.Status.TheVariants as ends

@@ -4,8 +4,9 @@ ghost use Rattle.sq_outside.specs.Causes.{Rose};
 ghost use Rattle.sq_proxy.specs.declared.ends.Status.TheVariants as ends;
 ghost use Rattle.sq_proxy.specs.Commands.{migrate_output, migrated, Migrate};
 ghost use Rattle.sq_proxy.specs.Ends.{HasCauses, IsPlayedEnd, IsToldEnd, end_of, migrate_status};
-ghost use Rattle.sq_proxy.specs.Opened.{Added, IsOpened, opened_output};
+ghost use Rattle.sq_proxy.specs.Opened.{CommandOpened};
 ghost use Rattle.sq_proxy.specs.Outputs.{Delivers, IsSettled, failed_end, is_write_fault};
+ghost use Rattle.sq_replay.specs.Openings.{Added};
 ghost use Rattle.sq_verify.specs.Migrating.{Migrates, Reading};
 
 use crate::ends::Status;
@@ -80,9 +81,8 @@ pub fn migrate<F: Files, O: Sink>(
 ) -> Status
     ensures delivers { IfSome (F.texts files.old) (λ disk. Delivers (O.contents out.old) (O.contents out.new) (O.faults out.old) (O.faults out.new)
         (migrate_output disk journal.now) result) }
-    ensures opened { Added (F.opened files.old) (F.opened files.new) (λ more. IsOpened (Some (Migrate journal.now)) more
-        × Delivers (O.contents out.old) (O.contents out.new) (O.faults out.old) (O.faults out.new)
-        (opened_output (Some (Migrate journal.now)) more) result) }
+    ensures opened { Added (F.opened files.old) (F.opened files.new)
+        (CommandOpened (Some (Migrate journal.now)) (O.contents out.old) (O.contents out.new) (O.faults out.old) (O.faults out.new) result) }
     ensures end { IsPlayedEnd (F.texts files.old) journal.now result }
     ensures causes { HasCauses (F.faults files.old) (F.faults files.new) (O.faults out.old) (O.faults out.new) result }
 {

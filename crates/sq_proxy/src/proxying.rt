@@ -4,12 +4,13 @@ ghost use Rattle.sq_outside.specs.Causes.{Rose};
 ghost use Rattle.sq_outside.specs.Told.{IsNotTold};
 ghost use Rattle.sq_outside.specs.Output.{Grew};
 ghost use Rattle.sq_proxy.specs.declared.ends.Status.TheVariants as ends;
-ghost use Rattle.sq_proxy.specs.Commands.{command_of, output_of, AuditsFiles, IsNamed, RunsTruly};
+ghost use Rattle.sq_proxy.specs.Commands.{command_of, output_of, AuditsFiles, IsNamed, MigratesTruly, RunsTruly};
 ghost use Rattle.sq_proxy.specs.Ends.{EndsBy, EndsWithoutFault, IfMissing};
-ghost use Rattle.sq_proxy.specs.Opened.{Added, IsOpened, opened_output};
+ghost use Rattle.sq_proxy.specs.Opened.{CameOf};
 ghost use Rattle.sq_proxy.specs.Outputs.{IsOutput};
 ghost use Rattle.sq_proxy.specs.Service.{IsService};
 ghost use Rattle.sq_proxy.specs.Serving.{service_of};
+ghost use Rattle.sq_replay.specs.Openings.{Added};
 
 use crate::ends::Status;
 use crate::options::read_service;
@@ -52,11 +53,11 @@ pub fn proxy<
     // What a command writes, where the files and the sink tell: its text, and the last line.
     ensures bytes { service_of words.now ≡ None → IfSome (F.texts files.old) (λ disk. Grew (O.contents out.old) (O.contents out.new)
         (IsOutput (output_of disk words.now) (O.faults out.old) (O.faults out.new) result.0)) }
-    // Where the files tell their openings: CONF is opened first, once, then JOURNAL, once, or SCRIPT, and then what the script names,
-    // one file in each epoch; and what is written is what comes of the texts that these openings gave.
-    ensures opened { service_of words.now ≡ None → Added (F.opened files.old) (F.opened files.new) (λ more. IsOpened (command_of words.now) more
-        × Grew (O.contents out.old) (O.contents out.new)
-        (IsOutput (opened_output (command_of words.now) more) (O.faults out.old) (O.faults out.new) result.0)) }
+    // Where the files tell their openings: CONF is opened first, once, then JOURNAL, once, or SCRIPT, and then what its lines name, as
+    // far as it was run, in their order, and nothing else. What is written, how it ends, and what is true of a run and of a journal
+    // that was judged, comes of the texts that these openings gave.
+    ensures opened { service_of words.now ≡ None → Added (F.opened files.old) (F.opened files.new)
+        (CameOf (command_of words.now) (O.contents out.old) (O.contents out.new) (O.faults out.old) (O.faults out.new) result.0) }
     // How it ends, where the files tell: so, or by a fault.
     ensures ended { service_of words.now ≡ None → IfSome (F.texts files.old) (λ disk. EndsBy (output_of disk words.now).end result.0) }
     // How it ends, where the files tell and no count rises: so, or by want of memory.
@@ -67,6 +68,8 @@ pub fn proxy<
     // check saw then and answers that have their sources; each reconfiguration's is the configuration of its text; and between any two
     // places no bucket grants more than its level and what was restored.
     ensures truly { IfSome (F.texts files.old) (λ disk. RunsTruly disk words.now) }
+    // Of a journal that was migrated whole, to one within the limits, `verify` ends well exactly where it ends well of the one that was read.
+    ensures migrates { IfSome (F.texts files.old) (λ disk. MigratesTruly disk words.now) }
     // After `Ok` a journal that was judged is, byte for byte, the text of a history over the configuration that CONF holds and those that
     // the journal's reconfigurations hold, and all holds of it that holds of every run.
     ensures audits { service_of words.now ≡ None → result.0 ≡ ends.Ok → IfSome (F.texts files.old) (λ disk. AuditsFiles disk words.now) }

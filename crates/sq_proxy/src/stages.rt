@@ -5,8 +5,9 @@ ghost use Rattle.sq_proxy.specs.declared.ends.Status.TheVariants as ends;
 ghost use Rattle.sq_rules.specs.ConfText.{conf_result};
 ghost use Rattle.sq_rules.specs.Configurations.{IsConfiguration};
 ghost use Rattle.sq_proxy.specs.Commands.{conf_read, conf_stage};
-ghost use Rattle.sq_proxy.specs.Opened.{Added, IsOnce, first_text};
+ghost use Rattle.sq_proxy.specs.Opened.{IsOnce, first_text};
 ghost use Rattle.sq_proxy.specs.Ends.{Comes, IsConfEnd, IsMissingOr, IsOpenEnd};
+ghost use Rattle.sq_replay.specs.Openings.{Added};
 
 use crate::ends::Status;
 use sq_base::{Copying, Text, WantOfMemory};

@@ -5,12 +5,13 @@ ghost use Rattle.sq_outside.specs.Told.{IsNotTold};
 ghost use Rattle.sq_outside.specs.Output.{Grew};
 ghost use Rattle.sq_outside.specs.SourceLines.{lines};
 ghost use Rattle.sq_proxy.specs.declared.ends.Status.TheVariants as ends;
-ghost use Rattle.sq_proxy.specs.Commands.{command_of, output_of, parse_output, ran_output, replay_output, script_stage, shelf_of, staged, AuditsFiles, IsNamed, Parse, Replay, RunsTruly};
+ghost use Rattle.sq_proxy.specs.Commands.{command_of, output_of, parse_output, ran_output, replay_output, script_stage, shelf_of, staged, AuditsFiles, IsNamed, MigratesTruly, Parse, Replay, RunsTruly};
 ghost use Rattle.sq_proxy.specs.Ends.{EndsBy, EndsWithoutFault, HasCauses, IfMissing, IsPlayedEnd, IsReplayEnd, IsToldEnd, end_of, run_status};
 ghost use Rattle.sq_replay.specs.RunText.{Ran, run_script};
 ghost use Rattle.sq_replay.specs.Runs.{Reaches};
-ghost use Rattle.sq_proxy.specs.Opened.{Added, IsOpened, PlayOpened, opened_output};
+ghost use Rattle.sq_proxy.specs.Opened.{CameOf, CommandOpened, PlayOpened};
 ghost use Rattle.sq_proxy.specs.Outputs.{Delivers, IsOutput, IsSettled, failed_end, is_write_fault};
+ghost use Rattle.sq_replay.specs.Openings.{Added};
 
 use crate::command::{Command, read_command};
 use crate::ends::{Status, status_of};
@@ -104,9 +105,8 @@ fn replay<F: Files, O: Sink>(
 ) -> Status
     ensures delivers { IfSome (F.texts files.old) (λ disk. Delivers (O.contents out.old) (O.contents out.new) (O.faults out.old) (O.faults out.new)
         (replay_output disk conf.now script.now) result) }
-    ensures opened { Added (F.opened files.old) (F.opened files.new) (λ more. IsOpened (Some (Replay conf.now script.now)) more
-        × Delivers (O.contents out.old) (O.contents out.new) (O.faults out.old) (O.faults out.new)
-        (opened_output (Some (Replay conf.now script.now)) more) result) }
+    ensures opened { Added (F.opened files.old) (F.opened files.new)
+        (CommandOpened (Some (Replay conf.now script.now)) (O.contents out.old) (O.contents out.new) (O.faults out.old) (O.faults out.new) result) }
     ensures end { IsReplayEnd (F.texts files.old) result }
     ensures causes { HasCauses (F.faults files.old) (F.faults files.new) (O.faults out.old) (O.faults out.new) result }
 {
@@ -120,9 +120,8 @@ fn replay<F: Files, O: Sink>(
 fn parse<F: Files, O: Sink>(alloc: Global, conf: &Text, files: &mut F, out: &mut O) -> Status
     ensures delivers { IfSome (F.texts files.old) (λ disk. Delivers (O.contents out.old) (O.contents out.new) (O.faults out.old) (O.faults out.new)
         (parse_output disk conf.now) result) }
-    ensures opened { Added (F.opened files.old) (F.opened files.new) (λ more. IsOpened (Some (Parse conf.now)) more
-        × Delivers (O.contents out.old) (O.contents out.new) (O.faults out.old) (O.faults out.new)
-        (opened_output (Some (Parse conf.now)) more) result) }
+    ensures opened { Added (F.opened files.old) (F.opened files.new)
+        (CommandOpened (Some (Parse conf.now)) (O.contents out.old) (O.contents out.new) (O.faults out.old) (O.faults out.new) result) }
     ensures end { IsPlayedEnd (F.texts files.old) conf.now result }
     ensures causes { HasCauses (F.faults files.old) (F.faults files.new) (O.faults out.old) (O.faults out.new) result }
 {
@@ -144,9 +143,8 @@ fn parse<F: Files, O: Sink>(alloc: Global, conf: &Text, files: &mut F, out: &mut
 fn run_words<F: Files, O: Sink>(alloc: Global, words: &[Text], files: &mut F, out: &mut O) -> Status
     ensures delivers { IfSome (F.texts files.old) (λ disk. Delivers (O.contents out.old) (O.contents out.new) (O.faults out.old) (O.faults out.new)
         (output_of disk words.now) result) }
-    ensures opened { Added (F.opened files.old) (F.opened files.new) (λ more. IsOpened (command_of words.now) more
-        × Delivers (O.contents out.old) (O.contents out.new) (O.faults out.old) (O.faults out.new)
-        (opened_output (command_of words.now) more) result) }
+    ensures opened { Added (F.opened files.old) (F.opened files.new)
+        (CommandOpened (command_of words.now) (O.contents out.old) (O.contents out.new) (O.faults out.old) (O.faults out.new) result) }
     ensures usage { (result ≡ ends.Usage) ↔ (command_of words.now ≡ None) }
     ensures missing { IfMissing result (λ name. IsNamed (F.texts files.old) (command_of words.now) name × IsNotTold (F.texts files.old) name) }
     ensures causes { HasCauses (F.faults files.old) (F.faults files.new) (O.faults out.old) (O.faults out.new) result }
@@ -176,11 +174,11 @@ pub fn run_command<F: Files, O: Sink>(
     // What it writes, where the files and the sink tell: the command's text, and the last line.
     ensures bytes { IfSome (F.texts files.old) (λ disk. Grew (O.contents out.old) (O.contents out.new)
         (IsOutput (output_of disk words.now) (O.faults out.old) (O.faults out.new) result)) }
-    // Where the files tell their openings: CONF is opened first, once, then JOURNAL, once, or SCRIPT, and then what the script names,
-    // one file in each epoch, and a rehearsal opens none; and what is written is what comes of the texts that these openings gave.
-    ensures opened { Added (F.opened files.old) (F.opened files.new) (λ more. IsOpened (command_of words.now) more
-        × Grew (O.contents out.old) (O.contents out.new)
-        (IsOutput (opened_output (command_of words.now) more) (O.faults out.old) (O.faults out.new) result)) }
+    // Where the files tell their openings: CONF is opened first, once, then JOURNAL, once, or SCRIPT, and then what its lines name, as
+    // far as it was run, in their order, and nothing else; a rehearsal opens none. What is written, how it ends, and what is true of a
+    // run and of a journal that was judged, comes of the texts that these openings gave.
+    ensures opened { Added (F.opened files.old) (F.opened files.new)
+        (CameOf (command_of words.now) (O.contents out.old) (O.contents out.new) (O.faults out.old) (O.faults out.new) result) }
     // How it ends, where the files tell: so, or by a fault.
     ensures ended { IfSome (F.texts files.old) (λ disk. EndsBy (output_of disk words.now).end result) }
     // How it ends, where the files tell and no count rises: so, or by want of memory.
@@ -191,6 +189,8 @@ pub fn run_command<F: Files, O: Sink>(
     // check saw then and answers that have their sources; each reconfiguration's is the configuration of its text; and between any two
     // places no bucket grants more than its level and what was restored.
     ensures truly { IfSome (F.texts files.old) (λ disk. RunsTruly disk words.now) }
+    // Of a journal that was migrated whole, to one within the limits, `verify` ends well exactly where it ends well of the one that was read.
+    ensures migrates { IfSome (F.texts files.old) (λ disk. MigratesTruly disk words.now) }
     // After `Ok` a journal that was judged is, byte for byte, the text of a history over the configuration that CONF holds and those that
     // the journal's reconfigurations hold, and all holds of it that holds of every run.
     ensures audits { result ≡ ends.Ok → IfSome (F.texts files.old) (λ disk. AuditsFiles disk words.now) }

@@ -4,8 +4,9 @@ ghost use Rattle.sq_outside.specs.Causes.{Rose};
 ghost use Rattle.sq_proxy.specs.declared.ends.Status.TheVariants as ends;
 ghost use Rattle.sq_proxy.specs.Commands.{found_output, journal_output, script_stage, staged, verify_output, Verify};
 ghost use Rattle.sq_proxy.specs.Ends.{HasCauses, IsFoundEnd, IsPlayedEnd, IsToldEnd, IsVerifyEnd, end_of};
-ghost use Rattle.sq_proxy.specs.Opened.{Added, IsOpened, JournalOpened, opened_output};
+ghost use Rattle.sq_proxy.specs.Opened.{CommandOpened, JournalOpened};
 ghost use Rattle.sq_proxy.specs.Outputs.{Delivers};
+ghost use Rattle.sq_replay.specs.Openings.{Added};
 ghost use Rattle.sq_verify.specs.Judging.{Judged};
 ghost use Rattle.sq_verify.specs.Promised.{Comes};
 ghost use Rattle.sq_verify.specs.declared.findings.Finding.TheVariants as finding;
@@ -96,9 +97,8 @@ pub fn verify<F: Files, O: Sink>(
 ) -> Status
     ensures delivers { IfSome (F.texts files.old) (λ disk. Delivers (O.contents out.old) (O.contents out.new) (O.faults out.old) (O.faults out.new)
         (verify_output disk conf.now journal.now) result) }
-    ensures opened { Added (F.opened files.old) (F.opened files.new) (λ more. IsOpened (Some (Verify conf.now journal.now)) more
-        × Delivers (O.contents out.old) (O.contents out.new) (O.faults out.old) (O.faults out.new)
-        (opened_output (Some (Verify conf.now journal.now)) more) result) }
+    ensures opened { Added (F.opened files.old) (F.opened files.new)
+        (CommandOpened (Some (Verify conf.now journal.now)) (O.contents out.old) (O.contents out.new) (O.faults out.old) (O.faults out.new) result) }
     ensures end { IsVerifyEnd (F.texts files.old) conf.now journal.now result }
     ensures causes { HasCauses (F.faults files.old) (F.faults files.new) (O.faults out.old) (O.faults out.new) result }
 {

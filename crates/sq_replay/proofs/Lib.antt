@@ -9,6 +9,7 @@ pub mod HeadlineLaws
 pub mod EndLaws
 pub mod PageLaws
 pub mod OpeningLaws
+pub mod OpenedLaws
 pub mod LoopLaws
 pub mod MakingLaws
 pub mod EnteringLaws

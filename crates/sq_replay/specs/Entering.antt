@@ -53,12 +53,12 @@ IsJudgeEnd (ends.Config e) = Unit {0}
 IsJudgeEnd ends.WantOfMemory = Unit {0}
 IsJudgeEnd end = ⊥
 
--- so does an event that names no file
-abbrev pub IsPlainEnd : RunEnd → Type 0
-IsPlainEnd (ends.Script line) = Unit {0}
-IsPlainEnd ends.WriteFault = Unit {0}
-IsPlainEnd ends.WantOfMemory = Unit {0}
-IsPlainEnd end = ⊥
+-- so does an event that names no file, in the line with this number
+abbrev pub IsPlainEnd : ℕ → RunEnd → Type 0
+IsPlainEnd number (ends.Script line) = line ≡ number
+IsPlainEnd number ends.WriteFault = Unit {0}
+IsPlainEnd number ends.WantOfMemory = Unit {0}
+IsPlainEnd number end = ⊥
 
 -- so does the beginning
 abbrev pub IsBeginEnd : RunEnd → Type 0

@@ -7,6 +7,7 @@ pub mod Headline
 pub mod MachineViews
 pub mod Making
 pub mod Naming
+pub mod Openings
 pub mod Riding
 pub mod RunText
 pub mod Runs

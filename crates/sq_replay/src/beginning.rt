@@ -1,5 +1,5 @@
 //! The run of a script over a configuration, from its beginning.
-ghost use Rattle.std.specs.Prelude.{◌≡◌, ◌≤◌, ◌∷◌, [], ℕ, List, Option, true, Some, IfErr, IsErrOf};
+ghost use Rattle.std.specs.Prelude.{◌≡◌, ◌≤◌, ◌∷◌, [], ℕ, List, Option, true, Some, IfErr, IfSome, IsErrOf};
 ghost use Rattle.std.specs.Io.KnownBytes.{prepend_known};
 ghost use Rattle.sq_outside.specs.Causes.{Rose};
 ghost use Rattle.sq_outside.specs.SourceLines.{Line, lines, total_limit};
@@ -10,6 +10,7 @@ ghost use Rattle.sq_machine.specs.Epochs.{config_of};
 ghost use Rattle.sq_machine.specs.declared.entries.Event.TheVariants as event;
 ghost use Rattle.sq_history.specs.Given.{EachOf};
 ghost use Rattle.sq_replay.specs.Entering.{Begins, IfMissed, IsBeginEnd, IsEmptyEnd, first_kind};
+ghost use Rattle.sq_replay.specs.Openings.{Added, ReachesEnd, RunOpened};
 ghost use Rattle.sq_replay.specs.RunText.{Shelf, begun_history, run_first, run_from, run_lines, run_script, run_stated, stated};
 ghost use Rattle.sq_replay.specs.Runs.{Adds, FirstRuns, IsRunEnd, Reaches, RunHasCauses, ScriptRuns, Wrote, missed, whole_line};
 ghost use Rattle.sq_replay.specs.declared.ends.RunEnd.TheVariants as ends;
@@ -100,6 +101,9 @@ fn run_from<S: Source, F: Files, O: Sink>(
         → FirstRuns (F.texts files.old) (F.opened files.old) (F.opened files.new) (prepend_known held.old (S.left script.old)) base (O.contents out.new) page.new.items setup l
         (λ shelf configs bytes. run_from shelf configs place (lines bytes) now event) result }
     ensures adds { Adds (F.opened files.old) (F.opened files.new) }
+    ensures opens { (l : Line) → stated l.bytes ≡ Some (now, event)
+        → IfSome (prepend_known held.old (S.left script.old)) (λ bytes. Added (F.opened files.old) (F.opened files.new) (RunOpened 0 (l ∷ lines bytes) result)) }
+    ensures reached { ReachesEnd result (prepend_known held.old (S.left script.old)) (S.left script.new) }
     ensures missing { IfMissed (missed result) (IsNotTold (F.texts files.old)) }
     ensures causes { RunHasCauses (S.faults script.old) (S.faults script.new) (F.faults files.old) (F.faults files.new) (O.faults out.old) (O.faults out.new) result }
     ensures texts { F.texts files.new ≡ F.texts files.old }
@@ -135,6 +139,9 @@ fn run_begun<S: Source, F: Files, O: Sink>(
         → FirstRuns (F.texts files.old) (F.opened files.old) (F.opened files.new) (prepend_known held.old (S.left script.old)) base (O.contents out.new) page.new.items setup l
         (λ shelf configs bytes. run_lines shelf configs (begun_history configs now offset) 2 place (lines bytes)) result }
     ensures adds { Adds (F.opened files.old) (F.opened files.new) }
+    ensures opens { (l : Line) → stated l.bytes ≡ Some (now, event.Begin offset)
+        → IfSome (prepend_known held.old (S.left script.old)) (λ bytes. Added (F.opened files.old) (F.opened files.new) (RunOpened 0 (l ∷ lines bytes) result)) }
+    ensures reached { ReachesEnd result (prepend_known held.old (S.left script.old)) (S.left script.new) }
     ensures missing { IfMissed (missed result) (IsNotTold (F.texts files.old)) }
     ensures causes { RunHasCauses (S.faults script.old) (S.faults script.new) (F.faults files.old) (F.faults files.new) (O.faults out.old) (O.faults out.new) result }
     ensures texts { F.texts files.new ≡ F.texts files.old }
@@ -183,6 +190,9 @@ fn run_first<S: Source, F: Files, O: Sink>(
         → FirstRuns (F.texts files.old) (F.opened files.old) (F.opened files.new) (prepend_known held.old (S.left script.old)) base (O.contents out.new) page.new.items setup l
         (λ shelf configs bytes. run_first shelf configs place (lines bytes) now event) result }
     ensures adds { Adds (F.opened files.old) (F.opened files.new) }
+    ensures opens { (l : Line) → stated l.bytes ≡ Some (now, event)
+        → IfSome (prepend_known held.old (S.left script.old)) (λ bytes. Added (F.opened files.old) (F.opened files.new) (RunOpened 0 (l ∷ lines bytes) result)) }
+    ensures reached { ReachesEnd result (prepend_known held.old (S.left script.old)) (S.left script.new) }
     ensures missing { IfMissed (missed result) (IsNotTold (F.texts files.old)) }
     ensures causes { RunHasCauses (S.faults script.old) (S.faults script.new) (F.faults files.old) (F.faults files.new) (O.faults out.old) (O.faults out.new) result }
     ensures texts { F.texts files.new ≡ F.texts files.old }
@@ -217,6 +227,8 @@ fn run_stated<S: Source, F: Files, O: Sink>(
         → FirstRuns (F.texts files.old) (F.opened files.old) (F.opened files.new) (prepend_known held.old (S.left script.old)) base (O.contents out.new) page.new.items setup
         (whole_line line.now) (λ shelf configs bytes. run_stated shelf configs place (lines bytes) (stated line.now)) result }
     ensures adds { Adds (F.opened files.old) (F.opened files.new) }
+    ensures opens { IfSome (prepend_known held.old (S.left script.old)) (λ bytes. Added (F.opened files.old) (F.opened files.new) (RunOpened 0 (whole_line line.now ∷ lines bytes) result)) }
+    ensures reached { ReachesEnd result (prepend_known held.old (S.left script.old)) (S.left script.new) }
     ensures missing { IfMissed (missed result) (IsNotTold (F.texts files.old)) }
     ensures causes { RunHasCauses (S.faults script.old) (S.faults script.new) (F.faults files.old) (F.faults files.new) (O.faults out.old) (O.faults out.new) result }
     ensures texts { F.texts files.new ≡ F.texts files.old }
@@ -246,6 +258,11 @@ pub fn replay<S: Source, F: Files, O: Sink>(
         → ScriptRuns (F.texts files.old) (F.opened files.old) (F.opened files.new) (S.left script.old) base (O.contents out.new) page.new.items setup result }
     // Openings are added alone.
     ensures adds { Adds (F.opened files.old) (F.opened files.new) }
+    // Where the script tells: each file that it names in a line which was run was opened once, in the order of the lines; and at the line at which
+    // the run ended, the file that it names, at most.
+    ensures opens { IfSome (S.left script.old) (λ bytes. Added (F.opened files.old) (F.opened files.new) (RunOpened 0 (lines bytes) result)) }
+    // After `Ok` nothing of the script is left to be read.
+    ensures reached { ReachesEnd result (S.left script.old) (S.left script.new) }
     // A file that is missed is told nowhere.
     ensures missing { IfMissed (missed result) (IsNotTold (F.texts files.old)) }
     // A fault has its cause, and no fault leaves the counts.

@@ -1,5 +1,5 @@
 //! The lines of a script, run one after another.
-ghost use Rattle.std.specs.Prelude.{◌≡◌, ◌≤◌, ℕ, List, Option, true, false, IfErr, IsErrOf, OnOk};
+ghost use Rattle.std.specs.Prelude.{◌≡◌, ◌≤◌, ℕ, List, Option, Some, true, false, IfErr, IfSome, IsErrOf, OnOk};
 ghost use Rattle.std.specs.Io.KnownBytes.{prepend_known};
 ghost use Rattle.sq_outside.specs.Causes.{Rose};
 ghost use Rattle.sq_outside.specs.SourceLines.{lines, total_limit};
@@ -11,6 +11,7 @@ ghost use Rattle.sq_machine.specs.Readings.{current};
 ghost use Rattle.sq_machine.specs.declared.entries.Event.TheVariants as event;
 ghost use Rattle.sq_replay.specs.Entering.{IfMissed, IsPlainEnd, StepHasCauses, named_of};
 ghost use Rattle.sq_replay.specs.MachineViews.{machine_of};
+ghost use Rattle.sq_replay.specs.Openings.{Added, ReachesEnd, RunOpened, StepOpened, name_in, name_of};
 ghost use Rattle.sq_replay.specs.RunText.{Shelf, event_step, run_lines, stated};
 ghost use Rattle.sq_replay.specs.Runs.{Adds, AddsCount, At, Goes, HasNext, IsRunEnd, IsStepEnd, LineGoes, RunHasCauses, RunsOver, Tells, missed, missed_by, openings_in, openings_of};
 ghost use Rattle.sq_replay.specs.declared.ends.RunEnd.TheVariants as ends;
@@ -57,7 +58,7 @@ fn run_plain<O: Sink>(
     ensures later { O.faults out.old ≤ O.faults out.new }
     ensures write { IsErrOf result ends.WriteFault → Rose (O.faults out.old) (O.faults out.new) }
     ensures quiet { (IsErrOf result ends.WriteFault → ⊥) → O.faults out.new ≡ O.faults out.old }
-    ensures end { IfErr result IsPlainEnd }
+    ensures end { IfErr result (IsPlainEnd number) }
 {
     let answer = match machine.make(alloc, &event, now) {
         Ok(answer) => answer,
@@ -87,6 +88,7 @@ fn run_named<F: Files, O: Sink>(
         → Goes (machine_of machine.new) base (O.contents out.new) page.new.items configs h (event_step shelf configs h number now (event.Reconfigure name)) result }
     ensures adds { Adds (F.opened files.old) (F.opened files.new) }
     ensures counts { OnOk result (AddsCount (F.opened files.old) (F.opened files.new) 1) }
+    ensures opens { Added (F.opened files.old) (F.opened files.new) (StepOpened number (Some name) result) }
     ensures missing { IfMissed (missed_by result) (IsNotTold (F.texts files.old)) }
     ensures causes { StepHasCauses (F.faults files.old) (F.faults files.new) (O.faults out.old) (O.faults out.new) result }
     ensures texts { F.texts files.new ≡ F.texts files.old }
@@ -126,6 +128,7 @@ pub fn run_event<F: Files, O: Sink>(
         → Goes (machine_of machine.new) base (O.contents out.new) page.new.items configs h (event_step shelf configs h number now event) result }
     ensures adds { Adds (F.opened files.old) (F.opened files.new) }
     ensures counts { OnOk result (AddsCount (F.opened files.old) (F.opened files.new) (openings_of event)) }
+    ensures opens { Added (F.opened files.old) (F.opened files.new) (StepOpened number (name_of event) result) }
     ensures missing { IfMissed (missed_by result) (IsNotTold (F.texts files.old)) }
     ensures causes { StepHasCauses (F.faults files.old) (F.faults files.new) (O.faults out.old) (O.faults out.new) result }
     ensures texts { F.texts files.new ≡ F.texts files.old }
@@ -151,6 +154,7 @@ fn run_line<F: Files, O: Sink>(
         base (O.contents out.old) (O.contents out.new) page.old.items page.new.items configs number line.now result }
     ensures adds { Adds (F.opened files.old) (F.opened files.new) }
     ensures counts { OnOk result (AddsCount (F.opened files.old) (F.opened files.new) (openings_in (stated line.now))) }
+    ensures opens { Added (F.opened files.old) (F.opened files.new) (StepOpened number (name_in (stated line.now)) result) }
     ensures missing { IfMissed (missed_by result) (IsNotTold (F.texts files.old)) }
     ensures causes { StepHasCauses (F.faults files.old) (F.faults files.new) (O.faults out.old) (O.faults out.new) result }
     ensures texts { F.texts files.new ≡ F.texts files.old }
@@ -179,6 +183,8 @@ pub fn run_rest<S: Source, F: Files, O: Sink>(
         → RunsOver (F.texts files.old) (F.opened files.old) (F.opened files.new) (prepend_known held.old (S.left script.old)) base (O.contents out.new) page.new.items configs h
         (λ shelf bytes. run_lines shelf configs h 2 place (lines bytes)) result }
     ensures adds { Adds (F.opened files.old) (F.opened files.new) }
+    ensures opens { IfSome (prepend_known held.old (S.left script.old)) (λ bytes. Added (F.opened files.old) (F.opened files.new) (RunOpened 1 (lines bytes) result)) }
+    ensures reached { ReachesEnd result (prepend_known held.old (S.left script.old)) (S.left script.new) }
     ensures missing { IfMissed (missed result) (IsNotTold (F.texts files.old)) }
     ensures causes { RunHasCauses (S.faults script.old) (S.faults script.new) (F.faults files.old) (F.faults files.new) (O.faults out.old) (O.faults out.new) result }
     ensures texts { F.texts files.new ≡ F.texts files.old }

@@ -1,7 +1,8 @@
 //! The file that a reconfiguration names, read and judged.
-ghost use Rattle.std.specs.Prelude.{◌≡◌, ℕ, IfErr, OnOk};
+ghost use Rattle.std.specs.Prelude.{◌≡◌, ℕ, Some, IfErr, OnOk};
 ghost use Rattle.sq_outside.specs.Told.{IsNotTold};
 ghost use Rattle.sq_replay.specs.Entering.{IfMissed, IsJudgeEnd, IsNamingEnd, Judges, NamedReads, NamingHasCauses};
+ghost use Rattle.sq_replay.specs.Openings.{Added, StepOpened};
 ghost use Rattle.sq_replay.specs.RunText.{Shelf};
 ghost use Rattle.sq_replay.specs.ConfReading.{read_result};
 ghost use Rattle.sq_replay.specs.Runs.{Adds, AddsCount, Tells, missed_by};
@@ -39,6 +40,7 @@ pub fn read_named<F: Files>(
         → NamedReads name (shelf e name) result }
     ensures adds { Adds (F.opened files.old) (F.opened files.new) }
     ensures counts { OnOk result (AddsCount (F.opened files.old) (F.opened files.new) 1) }
+    ensures opens { (number : ℕ) → Added (F.opened files.old) (F.opened files.new) (StepOpened number (Some name) result) }
     ensures missing { IfMissed (missed_by result) (IsNotTold (F.texts files.old)) }
     ensures end { IfErr result IsNamingEnd }
     ensures causes { NamingHasCauses (F.faults files.old) (F.faults files.new) result }

@@ -34,15 +34,15 @@ use Rattle.sq_verify.proofs.ToldLaws.{AreTold, IsTold, place_next, start_of, tol
 -- the lines of a history's text
 
 -- a line that LF ends stands before the lines of the rest
-lines_ended : (l rest : List ℕ) → NoEnd l → lines (l ++ 10 ∷ rest) ≡ record { bytes = l; ended = true } ∷ lines rest
+pub lines_ended : (l rest : List ℕ) → NoEnd l → lines (l ++ 10 ∷ rest) ≡ record { bytes = l; ended = true } ∷ lines rest
 lines_ended [] rest h = refl
 lines_ended (b ∷ l) rest h = rw (h.0, lines_ended l rest h.1) refl
 
-abbrev line_at : Version → History → Noted → Line
+abbrev pub line_at : Version → History → Noted → Line
 line_at v h e = record { bytes = line_in v h e; ended = true }
 
 -- the lines of a history, the oldest first
-abbrev lines_at : Version → History → List Line
+abbrev pub lines_at : Version → History → List Line
 lines_at v [] = []
 lines_at v (e ∷ h) = lines_at v h ++ line_at v h e ∷ []
 
@@ -182,11 +182,11 @@ first_is (e ∷ f ∷ h) configs legal t =
     let more = first_is (f ∷ h) configs legal.0 t.0 in
     (more.0, more.1 ++ line_at version.One (f ∷ h) e ∷ [], ap (λ (ls : List Line). ls ++ line_at version.One (f ∷ h) e ∷ []) more.2, more.3)
 
-one_is : (config : Configuration) (ls : List Line) (l : Line) (more : List Line) → ls ≡ l ∷ more → is_version_line l ≡ false → judged config ls ≡ judged_one config ls
+pub one_is : (config : Configuration) (ls : List Line) (l : Line) (more : List Line) → ls ≡ l ∷ more → is_version_line l ≡ false → judged config ls ≡ judged_one config ls
 one_is config ls l more is none =
     subst (λ (xs : List Line). judged config xs ≡ judged_one config xs) (sym is) (ap (λ (b : Bool). if b then judged_two config l more else judged_one config (l ∷ more)) none)
 
-not_end : NoEnd (codes "journal 2")
+pub not_end : NoEnd (codes "journal 2")
 not_end = (refl, (refl, (refl, (refl, (refl, (refl, (refl, (refl, (refl, tt)))))))))
 
 text_is : (h : History) (configs : List Configuration) → Legal configs h → journal_text h ≡ codes "journal 2" ++ 10 ∷ numbered_lines h

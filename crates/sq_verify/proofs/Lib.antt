@@ -5,6 +5,7 @@ mod EndLaws
 mod FirstLaws
 mod LaterLaws
 mod LoopLaws
+pub mod MigratedLaws
 mod MigrateLaws
 mod PlayLaws
 mod StepLaws

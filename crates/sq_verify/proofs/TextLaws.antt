@@ -35,7 +35,7 @@ more_is version.One h e = refl
 more_is version.Two h e = refl
 
 -- a line that can be read is ended
-ended : (limit place : ℕ) (l : Line) → is_within limit place l ≡ true → l.ended ≡ true
+pub ended : (limit place : ℕ) (l : Line) → is_within limit place l ≡ true → l.ended ≡ true
 ended limit place l r = (and_parts l.ended (nat_le (length l.bytes) limit && nat_le (place + length l.bytes + 1) total_limit) r).0
 
 -- the next line is that of the next entry

@@ -55,7 +55,7 @@ epoch_fits h = omega arith
 
 -- one line
 
-open_line : (v : Version) (h : History) (e : Noted) → IsNoted e → NoEnd (line_in v h e)
+pub open_line : (v : Version) (h : History) (e : Noted) → IsNoted e → NoEnd (line_in v h e)
 open_line version.One h e n = entry_open e n
 open_line version.Two h e n = numbered_open (number_at (e ∷ h)) (epoch_at (e ∷ h)) e (number_fits (e ∷ h)) (epoch_fits (e ∷ h)) n
 
@@ -73,7 +73,7 @@ no_version n ws h =
     ap (λ (t : List ℕ). bytes_eq t (codes "journal 2")) (line_joined (decimal n) ws)
     ∙ digits_first (decimal n) (after_spaces ws) (All-from_get_or (λ b. IsInRange 48 57 b) (decimal n) 0 (λ i l. digit_at (decimal n) i numeral.0.1 l)) (omega (arith, numeral.0.0))
 
-plain_line : (v : Version) (h : History) (e : Noted) → IsNoted e → bytes_eq (line_in v h e) (codes "journal 2") ≡ false
+pub plain_line : (v : Version) (h : History) (e : Noted) → IsNoted e → bytes_eq (line_in v h e) (codes "journal 2") ≡ false
 plain_line version.One h e n = no_version e.moment (event_words e.event ++ codes "=>" ∷ told_words e.answer) n.moment_is
 plain_line version.Two h e n = no_version (number_at (e ∷ h)) (decimal (epoch_at (e ∷ h)) ∷ entry_words e) (number_fits (e ∷ h))
 
@@ -88,7 +88,7 @@ numbered_by number epoch e None is p q n = absurd (numbered_only (Err BadEntry) 
 numbered_by number epoch e (Some y) is p q n =
     ap (λ (x : ℕ × ℕ × Noted). Some x.2) (numbered_only (Ok y) (numbered_text number epoch e) is number epoch e p q n refl)
 
-back_line : (v : Version) (h : History) (e : Noted) → IsNoted e → noted_in v (line_in v h e) ≡ Some e
+pub back_line : (v : Version) (h : History) (e : Noted) → IsNoted e → noted_in v (line_in v h e) ≡ Some e
 back_line version.One h e n = entry_back e n
 back_line version.Two h e n =
     numbered_by (number_at (e ∷ h)) (epoch_at (e ∷ h)) e (numbered_of (spaced_words (numbered_text (number_at (e ∷ h)) (epoch_at (e ∷ h)) e))) refl (number_fits (e ∷ h)) (epoch_fits (e ∷ h)) n
@@ -103,7 +103,7 @@ place_next v h e =
 within_by : (n limit end : ℕ) → n ≤ limit → end ≤ total_limit → nat_le n limit && nat_le end total_limit ≡ true
 within_by n limit end short fits = grind (arith, nat_tests)
 
-told_line : (v : Version) (h : History) (e : Noted) → IsNoted e → length (line_in v h e) ≤ line_limit v → start_of v + length (lines_in v (e ∷ h)) ≤ total_limit → IsTold v h e
+pub told_line : (v : Version) (h : History) (e : Noted) → IsNoted e → length (line_in v h e) ≤ line_limit v → start_of v + length (lines_in v (e ∷ h)) ≤ total_limit → IsTold v h e
 told_line v h e n short fits = record {
   one_line = open_line v h e n;
   plain = plain_line v h e n;
@@ -122,7 +122,7 @@ told_lines v (e ∷ f ∷ h) noted may short fits = (
   may.1,
 )
 
-text_fits : (v : Version) (h : History) → length (text_of v h) ≤ total_limit → start_of v + length (lines_in v h) ≤ total_limit
+pub text_fits : (v : Version) (h : History) → length (text_of v h) ≤ total_limit → start_of v + length (lines_in v h) ≤ total_limit
 text_fits version.One h fits = omega (arith, fits)
 text_fits version.Two [] fits = omega arith
 text_fits version.Two (e ∷ h) fits = omega (arith, length-append version_line (lines_in version.Two (e ∷ h)), fits)

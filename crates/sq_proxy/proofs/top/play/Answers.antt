@@ -38,8 +38,8 @@ returns-clause-opened g c =
     let a = g.O.Sink.contents c.args.out.now in
     play_opened (g.F.Files.texts c.open.new.self) (g.F.Files.opened c.args.files.now) (g.F.Files.opened c.open.new.self) (g.F.Files.opened c.replay-end.new.files) (g.F.Files.opened c.give_back.new.self) _ a _ _
     (g.O.Sink.faults c.args.out.now) (g.O.Sink.faults c.replay-end.new.out) (g.O.Sink.faults c.settle.new.out) c.args.script.now _ c.args.setup c.replay-end.result c.settle.result
-    c.in-Ok.ensures.opened_list c.replay-end.ensures.adds c.give_back.ensures.opened_list c.replay-end.ensures.causes.out_later
-    (c.replay-end.ensures.runs a (nothing_yet a c.new-page.result.items c.new-page.ensures.items)) c.settle.ensures.delivers
+    c.in-Ok.ensures.opened_list c.replay-end.ensures.opens c.give_back.ensures.opened_list c.replay-end.ensures.causes.out_later
+    (c.replay-end.ensures.runs a (nothing_yet a c.new-page.result.items c.new-page.ensures.items)) c.settle.ensures.same c.settle.ensures.delivers
 
 pub returns-clause-causes : goal.returns-clause-causes
 returns-clause-causes g c =

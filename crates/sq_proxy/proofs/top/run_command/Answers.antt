@@ -1,7 +1,6 @@
 use Rattle.sq_proxy.specs.Commands.{command_of, output_of}
-use Rattle.sq_proxy.proofs.DoneLaws.{runs_truly_told}
+use Rattle.sq_proxy.proofs.DoneLaws.{migrates_truly_told, opened_told, runs_truly_told}
 use Rattle.sq_proxy.proofs.EndLaws.{joined_told}
-use Rattle.sq_proxy.proofs.OpenedLaws.{opened_told}
 use Rattle.sq_proxy.proofs.VerifyLaws.{audits_told}
 use Rattle.sq_proxy.proofs.top.run_command.Goals as goal
 
@@ -15,6 +14,9 @@ returns-clause-bytes g c =
 
 pub returns-clause-truly : goal.returns-clause-truly
 returns-clause-truly g c = runs_truly_told (g.F.Files.texts c.args.files.now) c.args.words.now
+
+pub returns-clause-migrates : goal.returns-clause-migrates
+returns-clause-migrates g c = migrates_truly_told (g.F.Files.texts c.args.files.now) c.args.words.now
 
 pub returns-clause-opened : goal.returns-clause-opened
 returns-clause-opened g c =

@@ -1,9 +1,11 @@
-use Rattle.std.proofs.Common.{◌∙◌, ap, sym, refl, Some}
+use Rattle.std.proofs.Common.{◌∷◌, ◌∙◌, ap, sym, refl, Some}
+use Rattle.sq_outside.specs.SourceLines.{lines}
 use Rattle.std.specs.Io.KnownBytes.{prepend_known}
 use Rattle.sq_replay.specs.declared.beginning.First.TheVariants as first
 use Rattle.sq_replay.specs.declared.ends.RunEnd.TheVariants as ends
 use Rattle.sq_replay.specs.RunText.{stopped}
 use Rattle.sq_replay.proofs.BeginLaws.{by_kind, kind_begin, stopped_first}
+use Rattle.sq_replay.proofs.OpenedLaws.{none_first}
 use Rattle.sq_replay.proofs.beginning.run_first.Goals as goal
 
 pub returns-in-Begin-clause-runs : goal.returns-in-Begin-clause-runs
@@ -25,3 +27,14 @@ pub returns-in-Other-clause-runs : goal.returns-in-Other-clause-runs
 returns-in-Other-clause-runs g c = λ base l states w.
     by_kind _ _ _ _ base _ _ c.args.setup l c.args.place c.args.now c.args.event first.Other c.run_from.result (sym c.in-Other.is ∙ c.first_kind.ensures)
     (c.run_from.ensures.runs base l states w)
+
+pub returns-in-Begin-clause-opens : goal.returns-in-Begin-clause-opens
+returns-in-Begin-clause-opens g c = λ l states.
+    c.run_begun.ensures.opens l (states ∙ ap (λ e. Some (c.args.now, e)) (kind_begin c.args.event c.in-Begin.offset (sym c.first_kind.ensures ∙ c.in-Begin.is)))
+
+pub returns-in-Other-clause-opens : goal.returns-in-Other-clause-opens
+returns-in-Other-clause-opens g c = λ l states. c.run_from.ensures.opens l states
+
+pub returns-in-Act-clause-opens : goal.returns-in-Act-clause-opens
+returns-in-Act-clause-opens g c = λ l states.
+    none_first (g.F.Files.opened c.args.files.now) (g.F.Files.opened c.args.files.now) (prepend_known c.args.held.now (g.S.Source.left c.args.script.now)) (λ bytes. l ∷ lines bytes) (ends.Script 1) refl (λ name. (refl, tt)) (λ e. absurd (cc))

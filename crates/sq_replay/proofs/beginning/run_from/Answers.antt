@@ -1,4 +1,4 @@
-use Rattle.std.proofs.Common.{◌∷◌, [], pos, subst}
+use Rattle.std.proofs.Common.{◌∷◌, [], pos, refl, subst}
 use Rattle.std.specs.Io.KnownBytes.{prepend_known}
 use Rattle.sq_outside.specs.SourceLines.{lines}
 use Rattle.sq_outside.specs.Told.{IsNotTold}
@@ -9,6 +9,7 @@ use Rattle.sq_replay.specs.Runs.{RunsOver, missed}
 use Rattle.sq_replay.proofs.BeginLaws.{begins_first, from_first_goes, from_first_stops}
 use Rattle.sq_replay.proofs.GrowthLaws.{from_grows}
 use Rattle.sq_replay.proofs.OpeningLaws.{adds_then}
+use Rattle.sq_replay.proofs.OpenedLaws.{begin_not_ok, begun_none, first_then, not_reached, step_not_ok, stopped_at}
 use Rattle.sq_replay.proofs.beginning.run_from.Goals as goal
 
 pub returns-in-Err-clause-runs : goal.returns-in-Err-clause-runs
@@ -36,3 +37,20 @@ returns-clause-adds g c = adds_then _ _ _ c.in-Ok-run_event.ensures.adds c.run_r
 
 pub returns-clause-missing : goal.returns-clause-missing
 returns-clause-missing g c = subst (λ t. IfMissed (missed c.run_rest.result) (IsNotTold t)) c.in-Ok-run_event.ensures.texts c.run_rest.ensures.missing
+
+pub returns-in-Err-clause-opens : goal.returns-in-Err-clause-opens
+returns-in-Err-clause-opens g c = λ l states. begun_none (g.F.Files.opened c.args.files.now) (g.F.Files.opened c.args.files.now) (prepend_known c.args.held.now (g.S.Source.left c.args.script.now)) l c.in-Err.end refl c.in-Err.ensures.end
+
+pub returns-in-Err-clause-reached : goal.returns-in-Err-clause-reached
+returns-in-Err-clause-reached g c = not_reached c.in-Err.end (prepend_known c.args.held.now (g.S.Source.left c.args.script.now)) (g.S.Source.left c.args.script.now) (begin_not_ok c.in-Err.end c.in-Err.ensures.end)
+
+pub returns-in-Err-run_event-clause-opens : goal.returns-in-Err-run_event-clause-opens
+returns-in-Err-run_event-clause-opens g c = λ l states.
+    stopped_at (g.F.Files.opened c.args.files.now) (g.F.Files.opened c.run_event.new.files) (prepend_known c.args.held.now (g.S.Source.left c.args.script.now)) l c.args.now c.args.event c.in-Err-run_event.end states c.in-Err-run_event.ensures.opens c.in-Err-run_event.ensures.end
+
+pub returns-in-Err-run_event-clause-reached : goal.returns-in-Err-run_event-clause-reached
+returns-in-Err-run_event-clause-reached g c = not_reached c.in-Err-run_event.end (prepend_known c.args.held.now (g.S.Source.left c.args.script.now)) (g.S.Source.left c.args.script.now) (step_not_ok c.in-Err-run_event.end c.in-Err-run_event.ensures.end)
+
+pub returns-clause-opens : goal.returns-clause-opens
+returns-clause-opens g c = λ l states.
+    first_then (g.F.Files.opened c.args.files.now) (g.F.Files.opened c.run_event.new.files) (g.F.Files.opened c.run_rest.new.files) (prepend_known c.args.held.now (g.S.Source.left c.args.script.now)) l c.args.now c.args.event c.run_rest.result states c.in-Ok-run_event.ensures.opens c.run_rest.ensures.opens

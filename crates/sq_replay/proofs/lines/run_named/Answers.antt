@@ -1,4 +1,4 @@
-use Rattle.std.proofs.Common.{◌≡◌, ◌∷◌, max, Ok, Err, subst, ◌∙◌}
+use Rattle.std.proofs.Common.{◌≡◌, ◌∷◌, max, Ok, Err, Some, subst, ◌∙◌}
 use Rattle.sq_machine.specs.declared.entries.Event.TheVariants.{Reconfigure}
 use Rattle.sq_machine.specs.Readings.{current}
 use Rattle.sq_replay.specs.declared.page.Untold.TheVariants as untold
@@ -8,6 +8,7 @@ use Rattle.sq_replay.specs.Making.{IsReconfiguring}
 use Rattle.sq_replay.specs.RunText.{acts, event_step}
 use Rattle.sq_replay.specs.Runs.{IsMade}
 use Rattle.sq_replay.proofs.EnteringLaws.{arrives_at, event_front, front_step, named_refused, named_source_is, named_step, named_stops, part_step}
+use Rattle.sq_replay.proofs.OpenedLaws.{opened_refused, opened_stops}
 use Rattle.sq_replay.proofs.lines.run_named.Goals as goal
 use Rattle.sq_machine.specs.Entries.{entry_at}
 
@@ -70,3 +71,21 @@ returns-in-Err-WantOfMemory-enter-clause-goes g c = λ base configs h shelf at t
     (max c.args.now c.args.machine.now.latest) (Reconfigure c.in-Ok.named.0) c.in-Ok-reconfigure.answer (Err untold.WantOfMemory) moment (λ is w. subst (λ f. Arrives (machine_of c.enter.new.machine) base (g.O.Sink.contents c.enter.new.out) c.enter.new.page.items configs (acts configs (entry_at c.latest.result (Reconfigure c.in-Ok.named.0) c.in-Ok-reconfigure.answer ∷ h)) (Err f))
     c.in-Err-WantOfMemory-enter.field-0-is (c.in-Err-WantOfMemory-enter.ensures.arrives base configs h is w)) made.is at.wrote in
     front_step base (g.O.Sink.contents c.enter.new.out) c.enter.new.page.items h t (event_step shelf configs h c.args.number c.args.now (Reconfigure c.args.name)) step arrived
+
+pub returns-in-Err-clause-opens : goal.returns-in-Err-clause-opens
+returns-in-Err-clause-opens g c = c.in-Err.ensures.opens c.args.number
+
+pub returns-in-Err-Refused-clause-opens : goal.returns-in-Err-Refused-clause-opens
+returns-in-Err-Refused-clause-opens g c = opened_refused (g.F.Files.opened c.args.files.now) (g.F.Files.opened c.read_named.new.files) c.args.number (Some c.args.name) (c.in-Ok.ensures.opens c.args.number)
+
+pub returns-in-Err-WantOfMemory-clause-opens : goal.returns-in-Err-WantOfMemory-clause-opens
+returns-in-Err-WantOfMemory-clause-opens g c = opened_stops (g.F.Files.opened c.args.files.now) (g.F.Files.opened c.read_named.new.files) (Some c.args.name) (c.in-Ok.ensures.opens c.args.number)
+
+pub returns-in-Ok-enter-clause-opens : goal.returns-in-Ok-enter-clause-opens
+returns-in-Ok-enter-clause-opens g c = c.in-Ok.ensures.opens c.args.number
+
+pub returns-in-Err-Failed-clause-opens : goal.returns-in-Err-Failed-clause-opens
+returns-in-Err-Failed-clause-opens g c = opened_stops (g.F.Files.opened c.args.files.now) (g.F.Files.opened c.read_named.new.files) (Some c.args.name) (c.in-Ok.ensures.opens c.args.number)
+
+pub returns-in-Err-WantOfMemory-enter-clause-opens : goal.returns-in-Err-WantOfMemory-enter-clause-opens
+returns-in-Err-WantOfMemory-enter-clause-opens g c = opened_stops (g.F.Files.opened c.args.files.now) (g.F.Files.opened c.read_named.new.files) (Some c.args.name) (c.in-Ok.ensures.opens c.args.number)

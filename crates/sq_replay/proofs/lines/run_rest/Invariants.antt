@@ -1,9 +1,10 @@
-use Rattle.std.proofs.Common.{◌≡◌, ℕ, ◌+◌, ◌-◌, ◌≤◌, List, Option}
+use Rattle.std.proofs.Common.{◌≡◌, ℕ, ◌+◌, ◌-◌, ◌≤◌, List, Option, IfSome}
 use Rattle.std.specs.Io.KnownBytes.{prepend_known}
 use Rattle.sq_outside.specs.SourceLines.{lines, total_limit}
 use Rattle.sq_rules.specs.Configurations.{Configuration}
 use Rattle.sq_machine.specs.Entries.{History}
 use Rattle.sq_replay.specs.MachineViews.{machine_of}
+use Rattle.sq_replay.specs.Openings.{OpenedSoFar}
 use Rattle.sq_replay.specs.Runs.{Adds, At, Going}
 use Rattle.sq_replay.specs.RunText.{run_lines}
 use Rattle.sq_replay.proofs.lines.run_rest.Given as goal
@@ -23,6 +24,7 @@ invariant-lines g l =
       out_quiet : g.O.Sink.faults l.out ≡ g.O.Sink.faults l.fn.out;
       texts_same : texts l.files ≡ texts l.fn.files;
       adds : Adds (opened l.fn.files) (opened l.files);
+      opens : IfSome (prepend_known l.fn.held (left l.fn.script)) (λ bytes. OpenedSoFar 1 (lines bytes) (opened l.fn.files) (opened l.files) (prepend_known l.held (left l.script)) l.number);
       goes : (base : Option (List ℕ)) (configs : List Configuration) (h : History) → At (machine_of l.fn.machine) base (contents l.fn.out) l.fn.page.items configs h
           → Going (machine_of l.machine) (texts l.fn.files) (opened l.fn.files) (opened l.files) (prepend_known l.fn.held (left l.fn.script)) (prepend_known l.held (left l.script)) base (contents l.out) l.page.items configs h
           (λ shelf bytes. run_lines shelf configs h 2 l.fn.place (lines bytes)) l.number l.place;
