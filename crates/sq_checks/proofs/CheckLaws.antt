@@ -7,7 +7,7 @@ use Rattle.sq_base.specs.declared.helpers.What.{What}
 use Rattle.sq_rules.proofs.SightLaws.{over_unversioned}
 use Rattle.sq_rules.specs.Configurations.{Configuration}
 use Rattle.sq_rules.specs.Sights.{unversioned_sight}
-use Rattle.sq_rules.specs.Verdicts.{verdict_over}
+use Rattle.sq_rules.specs.Verdicts.{pool_of, verdict_over}
 use Rattle.sq_machine.specs.StepRule.{says_done}
 use Rattle.sq_rules.specs.declared.outcomes.Outcome.{Outcome}
 use Rattle.sq_rules.specs.declared.sights.Sight.{Sight}
@@ -18,7 +18,7 @@ use Rattle.sq_rows.specs.declared.said.Stepped.{Stepped}
 use Rattle.sq_rows.specs.declared.said.Stepped.TheVariants as told
 use Rattle.sq_rules.specs.declared.values.Value.{Value}
 use Rattle.sq_rules.specs.declared.values.Value.TheVariants as value
-use Rattle.sq_checks.specs.OpenChecks.{CheckParts, IsFit, answers_in, comes_to, ended_by, finished, is_need, noted, row, says_of, settled, step_more}
+use Rattle.sq_checks.specs.OpenChecks.{CheckParts, IsFit, answers_in, begun_parts, comes_to, ended_by, finished, is_need, noted, row, says_of, settled, step_more}
 use Rattle.sq_checks.specs.Stages.{IsStage, came_in, decided_in, ended_stage, given, is_done_in, is_idle, is_noted, is_settled, need_in, noted_stage}
 use Rattle.sq_checks.specs.declared.stages.Stage.{Stage}
 use Rattle.sq_checks.specs.declared.stages.Stage.TheVariants as stage
@@ -166,3 +166,14 @@ decided_is config sight answers (stage.Done o) i = sym (over_unversioned answers
 pub found_has : {A : Type 0} (P : A → Type 0) (o : Option A) (x : A) → o ≡ Some x → IfSome o P → P x
 found_has P None x e h = absurd cc
 found_has P (Some y) x e h = let same : y ≡ x = cc in subst P same h
+
+-- a check of these parts that was not stepped yet
+abbrev pub parts_of : ℕ → ℕ → Configuration → Sight → Option ℕ → List Answer → ℕ → CheckParts
+parts_of conn epoch config sight pool answers looks = record { conn = conn; epoch = epoch; config = config; sight = sight; pool = pool; answers = answers; stage = stage.Ready; looks = looks; steps = 0 }
+
+-- for a check that begins
+pub begun_is : (conn epoch : ℕ) (config d : Configuration) (sight : Sight) (pool : Option ℕ) (answers : List Answer) (looks : ℕ) → config ≡ d → pool ≡ pool_of d sight → answers ≡ [] → looks ≡ 0
+    → parts_of conn epoch config sight pool answers looks ≡ begun_parts conn epoch d sight
+begun_is conn epoch config d sight pool answers looks is theirs none first =
+    ap (λ c. parts_of conn epoch c sight pool answers looks) is ∙ ap (λ p. parts_of conn epoch d sight p answers looks) theirs
+    ∙ ap (λ l. parts_of conn epoch d sight (pool_of d sight) l looks) none ∙ ap (parts_of conn epoch d sight (pool_of d sight) []) first

@@ -2,6 +2,7 @@ pub mod AloneLaws
 mod CheckLaws
 mod EndLaws
 pub mod EpochLaws
+mod GivenLaws
 mod MapLaws
 pub mod NeedLaws
 mod PoolLaws

@@ -93,6 +93,17 @@ set_changed n f c (e ∷ es) o h = (elim (n == e.0) as (λ y. (n == e.0) ≡ y �
   | false ↦ λ t. rw (same_key n e.0, t) (ap (λ l. e ∷ l) (set_changed n f c es o.1 (rw (same_key n e.0, t) at h)))
 ]) refl
 
+-- a check that was changed is found so
+pub value_changed : (n : ℕ) (f : CheckParts → CheckParts) (c : CheckParts) (es : List (ℕ × CheckParts)) → value_at es n ≡ Some c → value_at (change_at n f es) n ≡ Some (f c)
+value_changed n f c [] h = absurd cc
+value_changed n f c (e ∷ es) h = (elim (n == e.0) as (λ y. (n == e.0) ≡ y → value_at (change_at n f (e ∷ es)) n ≡ Some (f c)) [
+  | true ↦ λ t.
+      let h' = rw (same_key n e.0, t) at h in
+      let same : e.1 ≡ c = cc in
+      rw (t, same_key n e.0, t) (ap (λ (x : CheckParts). Some (f x)) same)
+  | false ↦ λ t. rw (t, same_key n e.0, t) (value_changed n f c es (rw (same_key n e.0, t) at h))
+]) refl
+
 rows_same : (n : ℕ) (g : Held → Held) (es : List (ℕ × CheckParts)) → IsAbsent n es → map (λ h. if n == h.number then g h else h) (rows_of es) ≡ rows_of es
 rows_same n g [] h = refl
 rows_same n g (e ∷ es) h = rw h.0 (ap (λ l. entry_row e ∷ l) (rows_same n g es h.1))

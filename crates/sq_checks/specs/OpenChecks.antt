@@ -3,13 +3,14 @@ use Rattle.std.specs.Prelude.{◌≡◌, ℕ, suc, min, List, [], ◌∷◌, ◌
 use Rattle.std.specs.List.{list_all}
 use Rattle.std.specs.Option.{option_to_list, option_and_then, option_or}
 use Rattle.std.specs.declared.option.Option.{Option}
+use Rattle.sq_base.specs.Distinct.{has_answer}
 use Rattle.sq_base.specs.declared.helpers.Answer.{Answer}
 use Rattle.sq_base.specs.declared.helpers.What.{What}
 use Rattle.sq_rules.specs.Configurations.{Configuration}
 use Rattle.sq_rules.specs.Facts.{facts_of}
 use Rattle.sq_machine.specs.Limits.{last_number}
 use Rattle.sq_rules.specs.Sights.{unversioned_sight}
-use Rattle.sq_machine.specs.StepRule.{StepSays}
+use Rattle.sq_machine.specs.StepRule.{StepSays, class_of_acl}
 use Rattle.sq_rules.specs.Verdicts.{pool_of, verdict_over}
 use Rattle.sq_rules.specs.declared.outcomes.Outcome.{Outcome}
 use Rattle.sq_rules.specs.declared.sights.Sight.{Sight}
@@ -18,13 +19,15 @@ use Rattle.sq_rules.specs.declared.values.Value.TheVariants as value
 use Rattle.sq_rows.specs.CheckRows.{Ends, Held, held_on}
 use Rattle.sq_rows.specs.StepRows.{question_told, told_of}
 use Rattle.sq_rows.specs.declared.said.Said.{Said}
-use Rattle.sq_checks.specs.Stages.{IsStage, came_in, ended_stage, given, is_done_in, is_noted, noted_stage, question_in}
+use Rattle.sq_frames.specs.Standing.{Standing}
+use Rattle.sq_checks.specs.Givens.{AreFrames}
+use Rattle.sq_checks.specs.Stages.{IsStage, came_in, ended_stage, given, is_done_in, is_idle, is_noted, noted_stage, question_in}
 use Rattle.sq_checks.specs.Tables.{value_at}
 use Rattle.sq_checks.specs.declared.stages.Stage.{Stage}
 use Rattle.sq_checks.specs.declared.stages.Stage.TheVariants as stage
 
--- an open check: its connection, its epoch with the configuration, what it saw, its pool, the answers that are put, how far it has come, and how
--- often it was stepped
+-- an open check: its connection, its epoch with the configuration, what it saw, its pool, the answers that are put, how far it has come, how many
+-- facts were looked at, and how often it was stepped
 pub record CheckParts : Type 0 where
   pub conn : ℕ
   pub epoch : ℕ
@@ -33,6 +36,7 @@ pub record CheckParts : Type 0 where
   pub pool : Option ℕ
   pub answers : List Answer
   pub stage : Stage
+  pub looks : ℕ
   pub steps : ℕ
 
 -- a check that begins
@@ -45,14 +49,16 @@ begun_parts conn epoch config sight = record {
   pool = pool_of config sight;
   answers = [];
   stage = stage.Ready;
+  looks = 0;
   steps = 0;
 }
 
--- its facts are those of what it saw, so is its pool, and its stage is sound
-pub record IsCheck (c : CheckParts) (facts : List Bool) : Type 0 where
+-- its facts are those of what it saw, so is its pool, its stage is sound, and its frames were given what its answers give
+pub record IsCheck (c : CheckParts) (facts : List Bool) (frames : Standing) : Type 0 where
   pub facts_are : facts ≡ facts_of c.config.acls c.sight
   pub pool_is : c.pool ≡ pool_of c.config c.sight
   pub stage_is : IsStage c.config c.sight c.answers c.stage
+  pub frames_are : AreFrames c.config c.sight c.answers facts frames
 
 -- all answers that a check has
 abbrev pub answers_in : CheckParts → List Answer
@@ -66,6 +72,16 @@ comes_to c = verdict_over (answers_in c) c.config (unversioned_sight c.sight)
 abbrev pub is_need : Value → Bool
 is_need (value.Verdict o) = false
 is_need (value.Need acl key) = true
+
+-- this is what a check comes to; where it is a need, the check is not done, and has no answer of that class and key
+pub record HasCome (c : CheckParts) (v : Value) : Type 0 where
+  pub comes : v ≡ comes_to c
+  pub idle : is_need v ≡ true → is_idle c.stage ≡ true
+  pub other : (acl class : ℕ) (key : List ℕ) → v ≡ value.Need acl key → class_of_acl c.config.acls acl ≡ Some class → has_answer c.answers class key ≡ false
+
+-- a check after so many looks
+abbrev pub looked : ℕ → CheckParts → CheckParts
+looked looks c = record c { looks = looks }
 
 -- check n as a row
 abbrev pub row : ℕ → CheckParts → Held

@@ -1,14 +1,16 @@
 //! The open connections and the open checks.
 //!
 //! `Conns` has the open connections, each with its client and its open check, and counts them by client
-//! address. `OpenCheck` is a check from its request to its outcome: `come_to` evaluates it over its answers,
-//! `note` and `finish` take what a step says, `serve` gives it the answer of the question that it waits for.
+//! address. `OpenCheck` is a check from its request to its outcome: `come_to` goes on with its rules over its
+//! answers, from where it stopped, `note` and `finish` take what a step says, `serve` gives it the answer of the
+//! question that it waits for.
 //! `OpenChecks` holds them by number, and `Record` is what is left of one whose outcome was taken. A check
 //! that waits has its own copy of the key, so the end of its question is delivered without memory.
 #![tactic(auto)]
 
 mod conns;
 mod counts;
+mod going;
 mod open_check;
 mod open_checks;
 mod records;
@@ -16,7 +18,8 @@ mod stages;
 mod tables;
 
 pub use conns::{Conns, Link};
-pub use open_check::{OpenCheck, class_of};
+pub use going::class_of;
+pub use open_check::OpenCheck;
 pub use open_checks::OpenChecks;
 pub use records::Record;
 pub use stages::{Need, Stage};

@@ -1,24 +1,25 @@
 //! An open check.
-ghost use Rattle.std.specs.Prelude.{◌≡◌, ℕ, List, true, false, suc, min, Some, IfOk, OnOk, OnErr, IfSome, is_some};
+ghost use Rattle.std.specs.Prelude.{◌≡◌, true, false, suc, min, Some, IfOk, OnOk, OnErr, IfSome, is_some};
 ghost use Rattle.std.specs.Arc.{arc_value};
 ghost use Rattle.std.specs.Option.{option_copied};
 ghost use Rattle.sq_base.specs.Distinct.{has_answer};
 ghost use Rattle.sq_rules.specs.Facts.{facts_of};
 ghost use Rattle.sq_machine.specs.Limits.{last_number};
-ghost use Rattle.sq_machine.specs.StepRule.{class_of_acl};
 ghost use Rattle.sq_rules.specs.Verdicts.{verdict_over};
 ghost use Rattle.sq_rules.specs.declared.values.Value.TheVariants as value;
-ghost use Rattle.sq_checks.specs.OpenChecks.{IsNoted, begun_parts, comes_to, ended_by, finished, is_need, noted, settled, step_more};
+ghost use Rattle.sq_checks.specs.OpenChecks.{HasCome, IsNoted, begun_parts, comes_to, ended_by, finished, looked, noted, settled, step_more};
 ghost use Rattle.sq_checks.specs.Records.{judged_of};
 ghost use Rattle.sq_checks.specs.Stages.{decided_in, is_idle, is_settled, need_in, question_in};
 
+use crate::going::come_to;
 use crate::records::Record;
 use crate::stages::{Need, Stage, came, decided, ended, need_of, noted, question};
 use sq_base::{Answers, CheckNo, ConnNo, EpochNo, Moment, QuestionNo, Text, WantOfMemory, What};
-use sq_eval::{evaluate, pool_of};
+use sq_eval::pool_of;
+use sq_frames::{Frames, Slots};
 use sq_machine::LAST_NUMBER;
 use sq_rows::Said;
-use sq_rules::{Body, Config, Facts, Outcome, Sight, Value};
+use sq_rules::{Config, Facts, Outcome, Sight, Value};
 use std::alloc::Global;
 use std::marker::Model;
 use std::mem;
@@ -32,6 +33,7 @@ pub struct OpenCheck {
     config: Arc<Config>,
     sight: Sight,
     facts: Facts,
+    frames: Frames,
     pool: Option<u32>,
     answers: Answers,
     stage: Stage,
@@ -40,13 +42,14 @@ pub struct OpenCheck {
 
 impl Model for OpenCheck {
     ghost use Rattle.std.specs.Arc.{arc_value};
+    ghost use Rattle.sq_frames.specs.Standing.{looks_in};
     ghost use Rattle.sq_checks.specs.OpenChecks.{CheckParts, IsCheck};
 
     ghost Value = { CheckParts };
 
-    ghost view = { λ c. record { conn = c.conn; epoch = c.epoch; config = arc_value c.config; sight = c.sight; pool = c.pool; answers = c.answers; stage = c.stage; steps = c.steps } };
+    ghost view = { λ c. record { conn = c.conn; epoch = c.epoch; config = arc_value c.config; sight = c.sight; pool = c.pool; answers = c.answers; stage = c.stage; looks = looks_in c.frames; steps = c.steps } };
 
-    ghost invariant = { λ c. IsCheck (record { conn = c.conn; epoch = c.epoch; config = arc_value c.config; sight = c.sight; pool = c.pool; answers = c.answers; stage = c.stage; steps = c.steps }) c.facts };
+    ghost invariant = { λ c. IsCheck (record { conn = c.conn; epoch = c.epoch; config = arc_value c.config; sight = c.sight; pool = c.pool; answers = c.answers; stage = c.stage; looks = looks_in c.frames; steps = c.steps }) c.facts c.frames };
 }
 
 // A step more.
@@ -62,30 +65,33 @@ fn step_more(steps: u64) -> u64
 
 impl OpenCheck {
     /// The check that begins on a connection, in an epoch with its configuration, with what it sees and the
-    /// facts of that. It takes no memory.
+    /// facts of that. It takes the room in which its rules are gone on with.
     pub fn new(
         alloc: Global,
         conn: ConnNo,
         epoch: EpochNo,
-        config: Arc<Config>,
+        slots: &Arc<Slots>,
         sight: Sight,
         facts: Facts,
-    ) -> OpenCheck
-        requires { facts ≡ facts_of (arc_value config).acls sight }
-        ensures { result ≡ begun_parts conn epoch (arc_value config) sight }
+    ) -> Result<OpenCheck, WantOfMemory>
+        requires { facts ≡ facts_of (arc_value slots.now).acls sight }
+        ensures { IfOk result (λ c. c ≡ begun_parts conn epoch (arc_value slots.now) sight) }
     {
+        let config = Arc::try_clone(slots.config())?;
+        let frames = Frames::start(alloc, slots)?;
         let pool = pool_of(&config, &facts, sight.addr);
-        OpenCheck {
+        Ok(OpenCheck {
             conn,
             epoch,
             config,
             sight,
             facts,
+            frames,
             pool,
             answers: Answers::new(alloc),
             stage: Stage::Ready,
             steps: 0,
-        }
+        })
     }
 
     /// The connection of its request.
@@ -148,14 +154,21 @@ impl OpenCheck {
         !matches!(self.stage, Stage::Came(_))
     }
 
-    /// What it comes to over its answers: the verdict, or the need of an answer that it does not have.
-    pub fn come_to(&self, alloc: Global) -> Result<Value, WantOfMemory>
-        requires { is_settled self.now.stage ≡ true }
-        ensures value { IfOk result (λ v. v ≡ comes_to self.now) }
-        ensures idle { IfOk result (λ v. is_need v ≡ true → is_idle self.now.stage ≡ true) }
-        ensures other { IfOk result (λ v. (acl class : ℕ) (key : List ℕ) → v ≡ value.Need acl key → class_of_acl self.now.config.acls acl ≡ Some class → has_answer self.now.answers class key ≡ false) }
+    /// What it comes to over its answers: the verdict, or the need of an answer that it does not have. It goes on from
+    /// the place in its rules to which it came before, so no fact is looked at twice for one place.
+    pub fn come_to(&mut self, alloc: Global) -> Result<Value, WantOfMemory>
+        requires { is_settled self.old.stage ≡ true }
+        ensures same { self.new ≡ looked self.new.looks self.old }
+        ensures come { IfOk result (HasCome self.new) }
     {
-        evaluate(alloc, &self.config, &self.facts, &self.sight, &self.answers)
+        come_to(
+            alloc,
+            &mut self.frames,
+            &self.config,
+            &self.facts,
+            &self.sight,
+            &self.answers,
+        )
     }
 
     /// Puts the answer that came among the others, if one did. It takes a copy, since a push that fails gives
@@ -218,29 +231,18 @@ impl OpenCheck {
             config,
             sight,
             facts,
+            frames,
             pool,
             answers,
             stage,
             steps,
         } = self;
+        let looks = frames.looks();
         match stage {
             Stage::Done(outcome) => Record::new(
-                check, epoch, config, sight, facts, answers, outcome, pool, steps,
+                check, epoch, config, sight, facts, answers, outcome, pool, looks, steps,
             ),
             _ => unreachable!(),
         }
-    }
-}
-
-/// The class, by its place, that the external acl at a place asks, if there is one there.
-pub fn class_of(config: &Config, acl: u32) -> Option<u32>
-    ensures { result ≡ class_of_acl config.now.acls acl }
-{
-    match &config.acls().get(acl as usize)?.body {
-        Body::External {
-            class,
-            arguments: _,
-        } => Some(*class),
-        _ => None,
     }
 }

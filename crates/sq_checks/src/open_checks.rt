@@ -1,5 +1,5 @@
 //! The open checks by number.
-ghost use Rattle.std.specs.Prelude.{◌≡◌, ◌++◌, ◌∷◌, [], ℕ, true, false, length, map, is_some, IfSome, IfErr, OnOk, OnErr, Some};
+ghost use Rattle.std.specs.Prelude.{◌≡◌, ◌++◌, ◌∷◌, [], ℕ, true, false, length, map, is_some, IfSome, IfOk, IfErr, OnOk, OnErr, Some};
 ghost use Rattle.std.specs.Option.{option_copied};
 ghost use Rattle.sq_base.specs.Distinct.{has_answer};
 ghost use Rattle.sq_lookup.specs.Waits.{has_check};
@@ -8,7 +8,7 @@ ghost use Rattle.sq_machine.specs.Events.{is_number};
 ghost use Rattle.sq_machine.specs.Rising.{Rises};
 ghost use Rattle.sq_machine.specs.StepRule.{says_done};
 ghost use Rattle.sq_rules.specs.declared.values.Value.TheVariants as value;
-ghost use Rattle.sq_checks.specs.OpenChecks.{AllAre, IsNoted, all_before, all_ended, change_at, comes_to, ended_by, finished, noted, row, rows_of, says_of, settled, wait_at, without_entry};
+ghost use Rattle.sq_checks.specs.OpenChecks.{AllAre, HasCome, IsNoted, all_before, all_ended, change_at, comes_to, ended_by, finished, looked, noted, row, rows_of, says_of, settled, wait_at, without_entry};
 ghost use Rattle.sq_checks.specs.Stages.{is_idle, is_settled};
 ghost use Rattle.sq_checks.specs.Tables.{value_at};
 
@@ -16,7 +16,7 @@ use crate::open_check::OpenCheck;
 use sq_base::{Cause, CheckNo, Moment, QuestionNo, Text, WantOfMemory, What};
 use sq_lookup::Checks;
 use sq_rows::Said;
-use sq_rules::Outcome;
+use sq_rules::{Outcome, Value};
 use std::alloc::Global;
 use std::collections::BTreeMap;
 use std::marker::Model;
@@ -91,6 +91,21 @@ impl OpenChecks {
         };
         check.settle(alloc)?;
         Ok(())
+    }
+
+    /// What a check comes to over its answers, from the place in its rules on to which it came before. As a row it
+    /// stays as it is.
+    pub fn come_to(&mut self, alloc: Global, number: CheckNo) -> Result<Value, WantOfMemory>
+        requires there { is_some (value_at self.old number) ≡ true }
+        requires settled { IfSome (value_at self.old number) (λ c. is_settled c.stage ≡ true) }
+        ensures list { (looks : ℕ) × (self.new ≡ change_at number (looked looks) self.old) }
+        ensures rows { rows_of self.new ≡ rows_of self.old }
+        ensures come { IfOk result (λ v. IfSome (value_at self.new number) (λ c. HasCome c v)) }
+    {
+        match self.map.get_mut(&number) {
+            Some(check) => check.come_to(alloc),
+            None => unreachable!(),
+        }
     }
 
     /// Takes what a step of a check says that asked for this key of the class at this place. It takes no

@@ -3,7 +3,7 @@ use Rattle.std.proofs.Common.{◌≡◌, ◌∙◌, ◌==◌, ℕ, List, Bool, t
 use Rattle.std.proofs.lemmas.Option.{none-some, same_Some}
 use Rattle.std.specs.declared.result.Result.{Result}
 use Rattle.sq_checks.specs.Conns.{check_in}
-use Rattle.sq_checks.specs.OpenChecks.{CheckParts, change_at, finished, noted, rows_of, settled, settled_by}
+use Rattle.sq_checks.specs.OpenChecks.{CheckParts, change_at, finished, looked, noted, rows_of, settled, settled_by}
 use Rattle.sq_checks.specs.Stages.{came_in, need_in}
 use Rattle.sq_checks.specs.Tables.{value_at}
 use Rattle.sq_checks.specs.declared.stages.Stage.{Stage}
@@ -125,3 +125,10 @@ settled_engine v cs n (Ok a) i list rows same =
     changed_engine v cs v.latest n settled i list (subst (λ r. AreAsked (check_in v.conns) r v.asks) (sym rows) i.asked)
     (subst (λ r. AreCounted v.epochs.current (epoch_at v.epochs) r) (sym rows) i.counted) (λ m here j is. settled_keeps j)
 settled_engine v cs n (Err e) i list rows same = subst (λ es. IsEngine (record v { checks = es })) (sym same) i
+
+-- the engine after more looks of a check
+pub looked_engine : (v : EngineView) (cs : List (ℕ × CheckParts)) (n looks : ℕ) → IsEngine v → cs ≡ change_at n (looked looks) v.checks → rows_of cs ≡ rows_of v.checks
+    → IsEngine (record v { checks = cs })
+looked_engine v cs n looks i list rows =
+    changed_engine v cs v.latest n (looked looks) i list (subst (λ r. AreAsked (check_in v.conns) r v.asks) (sym rows) i.asked)
+    (subst (λ r. AreCounted v.epochs.current (epoch_at v.epochs) r) (sym rows) i.counted) (λ m here j is. record { epoch_is = refl; config_is = refl; need_is = refl })

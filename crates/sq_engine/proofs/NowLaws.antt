@@ -14,10 +14,11 @@ use Rattle.sq_rules.specs.Configurations.{Configuration, IsConfiguration}
 use Rattle.sq_machine.specs.Next.{Next, refuses}
 use Rattle.sq_machine.specs.Machine.{step_next}
 use Rattle.sq_machine.specs.StepRule.{class_of_acl, says_done}
+use Rattle.sq_rules.specs.Sights.{unversioned_sight}
 use Rattle.sq_rules.specs.Verdicts.{verdict_over}
 use Rattle.sq_rows.specs.CheckRows.{held_at}
 use Rattle.sq_history.proofs.ConfigurationLaws.{NeedsClass, needs_class}
-use Rattle.sq_checks.specs.OpenChecks.{CheckParts, change_at, comes_to, row, rows_of, settled, settled_by}
+use Rattle.sq_checks.specs.OpenChecks.{CheckParts, answers_in, change_at, comes_to, looked, row, rows_of, settled, settled_by}
 use Rattle.sq_checks.specs.Stages.{came_in, is_settled, need_in, question_in}
 use Rattle.sq_checks.specs.Tables.{value_at}
 use Rattle.sq_checks.specs.declared.stages.Need.{Need}
@@ -122,7 +123,7 @@ settled_none (stage.Came a) k e n = refl
 settled_none (stage.Waits x) k e n = n
 settled_none (stage.Done o) k e n = n
 
-if_has : (P : CheckParts → Type 0) (o : Option CheckParts) (k : CheckParts) → o ≡ Some k → P k → IfSome o P
+pub if_has : (P : CheckParts → Type 0) (o : Option CheckParts) (k : CheckParts) → o ≡ Some k → P k → IfSome o P
 if_has P o k e h = subst (λ z. IfSome z P) (sym e) h
 
 pub value_settled : (es cs : List (ℕ × CheckParts)) (n : ℕ) (k : CheckParts) → value_at es n ≡ Some k → cs ≡ change_at n settled es → value_at cs n ≡ Some (settled k)
@@ -136,6 +137,29 @@ settled_settled es cs n k is list = if_has (λ z. is_settled z.stage ≡ true) (
 
 pub settled_idle : (es cs : List (ℕ × CheckParts)) (n : ℕ) (k : CheckParts) → value_at es n ≡ Some k → cs ≡ change_at n settled es → need_in k.stage ≡ None → IfSome (value_at cs n) (λ z. need_in z.stage ≡ None)
 settled_idle es cs n k is list none = if_has (λ z. need_in z.stage ≡ None) (value_at cs n) (settled k) (value_settled es cs n k is list) (settled_none k.stage k refl none)
+
+-- the same after its looks
+value_looked : (es cs : List (ℕ × CheckParts)) (n looks : ℕ) (k : CheckParts) → value_at es n ≡ Some k → cs ≡ change_at n (looked looks) es → value_at cs n ≡ Some (looked looks k)
+value_looked es cs n looks k is list =
+    ap (λ z. value_at z n) list ∙ changed_at n n (looked looks) es ∙ ap (λ b. mapped_if b (looked looks) (value_at es n)) (number_self n) ∙ ap (option_map (looked looks)) is
+
+pub there_looked : (es cs ds : List (ℕ × CheckParts)) (n looks : ℕ) (k : CheckParts) → value_at es n ≡ Some k → cs ≡ change_at n settled es → ds ≡ change_at n (looked looks) cs
+    → is_some (value_at ds n) ≡ true
+there_looked es cs ds n looks k is list more = ap is_some (value_looked cs ds n looks (settled k) (value_settled es cs n k is list) more)
+
+pub settled_looked : (es cs ds : List (ℕ × CheckParts)) (n looks : ℕ) (k : CheckParts) → value_at es n ≡ Some k → cs ≡ change_at n settled es → ds ≡ change_at n (looked looks) cs
+    → IfSome (value_at ds n) (λ z. is_settled z.stage ≡ true)
+settled_looked es cs ds n looks k is list more =
+    if_has (λ z. is_settled z.stage ≡ true) (value_at ds n) (looked looks (settled k)) (value_looked cs ds n looks (settled k) (value_settled es cs n k is list) more) (settled_done k.stage k refl)
+
+pub idle_looked : (es cs ds : List (ℕ × CheckParts)) (n looks : ℕ) (k : CheckParts) → value_at es n ≡ Some k → cs ≡ change_at n settled es → ds ≡ change_at n (looked looks) cs → need_in k.stage ≡ None
+    → IfSome (value_at ds n) (λ z. need_in z.stage ≡ None)
+idle_looked es cs ds n looks k is list more none =
+    if_has (λ z. need_in z.stage ≡ None) (value_at ds n) (looked looks (settled k)) (value_looked cs ds n looks (settled k) (value_settled es cs n k is list) more) (settled_none k.stage k refl none)
+
+-- the answer of an acl is needed to which a check comes
+pub needs_acl : (k : CheckParts) (config : Configuration) (acl : ℕ) (key : List ℕ) → config ≡ k.config → comes_to k ≡ value.Need acl key → NeedsAcl config acl
+needs_acl k config acl key same comes = subst (λ c. NeedsAcl c acl) (sym same) (record { answers = answers_in k; sight = unversioned_sight k.sight; key = key; needs = comes })
 
 pub some_none : {A : Type 0} (o : Option A) → is_some o ≡ true → None ≡ o → ⊥
 some_none None a b = cc

@@ -5,7 +5,6 @@ ghost use Rattle.sq_base.specs.declared.requests.Field.{Field};
 ghost use Rattle.sq_rules.specs.Sights.{asked_request, unversioned};
 ghost use Rattle.sq_machine.specs.declared.entries.Event.TheVariants as event;
 ghost use Rattle.sq_machine.specs.declared.entries.Told.TheVariants as told;
-ghost use Rattle.sq_checks.specs.OpenChecks.{begun_parts};
 ghost use Rattle.sq_state.specs.Answers.{ask_answer, asked_in};
 ghost use Rattle.sq_state.specs.Changes.{after_ask};
 ghost use Rattle.sq_state.specs.States.{IsSame};
@@ -15,31 +14,11 @@ ghost use Rattle.sq_engine.specs.Promised.{IsPromised};
 ghost use Rattle.sq_engine.specs.Tellings.{IsTold};
 
 use crate::engines::Engine;
-use sq_base::{CheckNo, ConnNo, EpochNo, Moment, Request, WantOfMemory};
-use sq_checks::OpenCheck;
-use sq_facts::read_facts;
+use sq_base::{CheckNo, ConnNo, Moment, Request, WantOfMemory};
 use sq_machine::{LAST_NUMBER, Refusal, later};
 use sq_rules::Sight;
 use sq_state::minute_of_week;
-use sq_urlmatch::Setup;
 use std::alloc::Global;
-use std::sync::Arc;
-
-// The check that begins on a connection, in the epoch of this setup.
-fn begun(
-    alloc: Global,
-    setup: &mut Setup,
-    conn: ConnNo,
-    epoch: EpochNo,
-    sight: Sight,
-) -> Result<OpenCheck, WantOfMemory>
-    ensures ok { IfOk result (λ c. c ≡ begun_parts conn epoch setup.old sight) }
-    ensures same { setup.new ≡ setup.old }
-{
-    let facts = read_facts(alloc, setup, &sight)?;
-    let config = Arc::try_clone(setup.config())?;
-    Ok(OpenCheck::new(alloc, conn, epoch, config, sight, facts))
-}
 
 impl Engine {
     // A request arrives, by the state alone.
@@ -78,7 +57,7 @@ impl Engine {
             minute: minute_of_week(moment, self.offset),
             conns: self.conns.of(peer.addr),
         };
-        let open = match begun(alloc, &mut self.setup, conn, epoch, sight) {
+        let open = match self.setup.begun(alloc, conn, epoch, sight) {
             Ok(open) => open,
             Err(WantOfMemory) => return Err(Refusal::WantOfMemory),
         };

@@ -5,6 +5,7 @@ ghost use Rattle.sq_state.specs.States.{IsSame};
 ghost use Rattle.sq_engine.specs.EngineViews.{state_of};
 ghost use Rattle.sq_engine.specs.Promised.{IsBegun};
 
+use crate::current::Current;
 use sq_base::{Moment, WantOfMemory};
 use sq_cache::HashSeed;
 use sq_checks::{Conns, OpenChecks};
@@ -23,7 +24,7 @@ pub struct Engine {
     pub(crate) puts: u64,
     pub(crate) epochs: Epochs,
     // Of the current epoch.
-    pub(crate) setup: Setup,
+    pub(crate) setup: Current,
     pub(crate) offset: Offset,
     pub(crate) latest: Moment,
     pub(crate) seed: HashSeed,
@@ -71,6 +72,7 @@ impl Engine {
         ensures promised { IfOk result (λ g. IsBegun setup offset now (state_of g)) }
     {
         let config = Arc::try_clone(setup.config())?;
+        let setup = Current::make(alloc, setup)?;
         let epochs = Epochs::new(alloc, config, seed)?;
         Ok(Engine {
             conns: Conns::new(alloc),

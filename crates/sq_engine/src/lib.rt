@@ -8,6 +8,7 @@
 
 mod acts;
 mod asking;
+mod current;
 mod deaths;
 mod ending;
 mod engines;

@@ -8,6 +8,7 @@ ghost use Rattle.sq_engine.specs.EngineViews.{state_of};
 ghost use Rattle.sq_engine.specs.Promised.{IsPromisedNext};
 ghost use Rattle.sq_engine.specs.Tellings.{IsTold};
 
+use crate::current::Current;
 use crate::engines::Engine;
 use sq_base::{EpochNo, Moment, WantOfMemory};
 use sq_machine::{EPOCH_LIMIT, LAST_NUMBER, Refusal, later};
@@ -42,6 +43,10 @@ impl Engine {
         let config = match Arc::try_clone(setup.config()) {
             Ok(config) => config,
             Err(_) => return Err(Refusal::WantOfMemory),
+        };
+        let setup = match Current::make(alloc, setup) {
+            Ok(setup) => setup,
+            Err(WantOfMemory) => return Err(Refusal::WantOfMemory),
         };
         let epoch = match self.epochs.reconfigure(alloc, config, self.seed) {
             Ok(epoch) => epoch,

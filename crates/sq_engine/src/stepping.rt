@@ -1,12 +1,12 @@
 //! A check goes on.
-ghost use Rattle.std.specs.Prelude.{◌≡◌, ◌<◌, ◌^◌, suc, if◌then◌else◌, ℕ, max, true, false, is_some, slice_get, IfSome, OnOk, OnErr, Some, None};
+ghost use Rattle.std.specs.Prelude.{◌≡◌, ◌<◌, ◌^◌, suc, if◌then◌else◌, ℕ, max, true, false, is_some, slice_get, IfSome, IfOk, OnOk, OnErr, Some, None};
 ghost use Rattle.sq_base.specs.Distinct.{has_answer};
 ghost use Rattle.sq_machine.specs.Machine.{step_next};
 ghost use Rattle.sq_machine.specs.declared.entries.Event.TheVariants as event;
 ghost use Rattle.sq_machine.specs.StepRule.{class_of_acl, says_done};
 ghost use Rattle.sq_rules.specs.declared.values.Value.TheVariants as value;
 ghost use Rattle.sq_rows.specs.CheckRows.{after_step};
-ghost use Rattle.sq_checks.specs.OpenChecks.{change_at, comes_to, rows_of, settled};
+ghost use Rattle.sq_checks.specs.OpenChecks.{HasCome, change_at, comes_to, looked, rows_of, settled};
 ghost use Rattle.sq_checks.specs.Stages.{is_idle, is_settled, need_in};
 ghost use Rattle.sq_checks.specs.Tables.{value_at};
 ghost use Rattle.sq_epochs.specs.EpochStates.{part_at};
@@ -135,11 +135,31 @@ impl Engine {
         Ok(stepped)
     }
 
-    // A step of a check that waits for nothing, and whose answers are put among the others.
-    fn go_on(&mut self, alloc: Global, check: CheckNo, moment: Moment) -> Result<Stepped, Refusal>
+    // What a check comes to over its answers, from the place in its rules on to which it came before.
+    fn come_to(&mut self, alloc: Global, check: CheckNo) -> Result<Value, WantOfMemory>
+        requires there { is_some (value_at self.old.checks check) ≡ true }
+        requires settled { IfSome (value_at self.old.checks check) (λ k. is_settled k.stage ≡ true) }
+        ensures value { self.new ≡ record self.old { checks = self.new.checks } }
+        ensures list { (looks : ℕ) × (self.new.checks ≡ change_at check (looked looks) self.old.checks) }
+        ensures rows { rows_of self.new.checks ≡ rows_of self.old.checks }
+        ensures come { IfOk result (λ v. IfSome (value_at self.new.checks check) (λ k. HasCome k v)) }
+        ensures kept { AreKept self.old.checks self.new.checks }
+    {
+        self.checks.come_to(alloc, check)
+    }
+
+    // A step of a check that waits for nothing, and came to this.
+    fn go_on(
+        &mut self,
+        alloc: Global,
+        check: CheckNo,
+        value: Value,
+        moment: Moment,
+    ) -> Result<Stepped, Refusal>
         requires there { is_some (value_at self.old.checks check) ≡ true }
         requires settled { IfSome (value_at self.old.checks check) (λ k. is_settled k.stage ≡ true) }
         requires idle { IfSome (value_at self.old.checks check) (λ k. need_in k.stage ≡ None) }
+        requires come { IfSome (value_at self.old.checks check) (λ k. HasCome k value) }
         ensures told { IsTold (stepped_told (state_of self.old) (epoch_of (state_of self.old) check)) (step_now (state_of self.old) check moment) result }
         ensures ok { OnOk result (IsSame (state_of self.new) (after_step_now (state_of self.old) check moment)) }
         ensures err { OnErr result (IsSame (state_of self.new) (state_of self.old)) }
@@ -149,10 +169,6 @@ impl Engine {
             unreachable!();
         };
         let epoch = open.epoch();
-        let value = match open.come_to(alloc) {
-            Ok(value) => value,
-            Err(WantOfMemory) => return Err(Refusal::WantOfMemory),
-        };
         match value {
             Value::Verdict(outcome) => {
                 self.decide(check, outcome, moment);
@@ -190,7 +206,11 @@ impl Engine {
             Ok(()) => {}
             Err(WantOfMemory) => return Err(Refusal::WantOfMemory),
         }
-        self.go_on(alloc, check, moment)
+        let value = match self.come_to(alloc, check) {
+            Ok(value) => value,
+            Err(WantOfMemory) => return Err(Refusal::WantOfMemory),
+        };
+        self.go_on(alloc, check, value, moment)
     }
 
     /// A check goes on: it takes an answer, waits for one, or has its outcome.

@@ -1,16 +1,13 @@
 -- A course goes on behind a term as the value of the term says.
-use Rattle.std.proofs.Common.{◌≡◌, ℕ, ◌+◌, ◌<◌, zero, suc, List, [], ◌∷◌, ◌++◌, map, drop, length, slice_get, Bool, true, false, ◌&&◌, if◌then◌else◌, nat_lt, Option, Some, None, refl, sym, ap, subst, ◌∙◌, append_assoc, arith}
+use Rattle.std.proofs.Common.{◌≡◌, ℕ, ◌+◌, ◌<◌, zero, suc, List, [], ◌∷◌, ◌++◌, map, drop, length, slice_get, Bool, true, false, if◌then◌else◌, Option, Some, None, refl, sym, ap, ◌∙◌, append_assoc, arith}
 use Rattle.std.proofs.lemmas.List.{drop_more}
 use Rattle.std.proofs.lemmas.Option.{get_or_from_slice_get, slice_get_within}
 use Rattle.sq_base.specs.declared.helpers.Cause.{Cause}
-use Rattle.sq_rules.proofs.ValueLaws.{known_here}
-use Rattle.sq_rules.specs.Configurations.{Configuration, IsConfiguration, are_known, are_known_bodies, is_known_body}
-use Rattle.sq_rules.specs.Values.{acl_value, body_value, both, either, member_value, turned, value_if}
-use Rattle.sq_rules.specs.Verdicts.{decided, default_of, name_of}
-use Rattle.sq_rules.specs.Walks.{Seen, acl_walk, body_walk, is_hit, is_miss, line_seen, member_walk, term_seen, walk_while}
+use Rattle.sq_rules.specs.Configurations.{Configuration}
+use Rattle.sq_rules.specs.Values.{both, either, turned, value_if}
+use Rattle.sq_rules.specs.Verdicts.{default_of, name_of}
+use Rattle.sq_rules.specs.Walks.{Seen, is_hit, is_miss, line_seen, term_seen}
 use Rattle.sq_rules.specs.declared.configs.Acl.{Acl}
-use Rattle.sq_rules.specs.declared.configs.Body.{Body}
-use Rattle.sq_rules.specs.declared.configs.Body.TheVariants as body
 use Rattle.sq_rules.specs.declared.configs.Rule.{Rule}
 use Rattle.sq_rules.specs.declared.configs.Term.{Term}
 use Rattle.sq_rules.specs.declared.outcomes.Why.TheVariants as why
@@ -19,7 +16,6 @@ use Rattle.sq_rules.specs.declared.values.TermValue.TheVariants.{Hit, Miss, Faul
 use Rattle.sq_rules.specs.declared.values.Value.TheVariants as value
 use Rattle.sq_frames.specs.Courses.{Course, ahead, alone, behind, course_behind, course_from, lines_behind, lines_from, lines_seen, rule_course, rules_course, then_seen, walked}
 use Rattle.sq_frames.specs.Groups.{groups_moved, line_moved, line_on, lines_at, lines_on, next_at, next_in, term_moved, term_on, term_or_end}
-use Rattle.sq_frames.specs.declared.looking.Next.{Next}
 use Rattle.sq_frames.specs.declared.looking.Next.TheVariants as next
 use Rattle.sq_frames.specs.declared.spots.Spot.{Spot}
 

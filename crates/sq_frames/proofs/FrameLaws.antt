@@ -1,16 +1,16 @@
 -- Frames are at a place in the rules from their beginning on.
-use Rattle.std.proofs.Common.{◌≡◌, ℕ, ◌+◌, ◌≤◌, List, [], ◌∷◌, length, min, slice_index_or, set, Bool, true, Option, Some, None, refl, sym, ap, ◌∙◌, arith}
+use Rattle.std.proofs.Common.{◌≡◌, ℕ, ◌+◌, ◌≤◌, List, [], length, min, slice_index_or, set, Bool, true, Option, Some, None, refl, ap, ◌∙◌, arith}
 use Rattle.sq_rules.specs.Configurations.{Configuration}
 use Rattle.sq_rules.specs.Verdicts.{default_of, rules_from}
 use Rattle.sq_rules.specs.Walks.{rules_walk}
 use Rattle.sq_rules.specs.declared.values.TermValue.{TermValue}
 use Rattle.sq_frames.proofs.CourseLaws.{rules_begun}
 use Rattle.sq_frames.proofs.SlotLaws.{extends_after}
-use Rattle.sq_frames.specs.Courses.{Course, leaves}
+use Rattle.sq_frames.specs.Courses.{Course, Extends, leaves}
 use Rattle.sq_frames.specs.Givens.{given_at, taken_given}
 use Rattle.sq_frames.specs.Positions.{Goes, course_at, look_limit}
 use Rattle.sq_frames.specs.Slots.{externals_on, is_external_at, slots_of}
-use Rattle.sq_frames.specs.Standing.{IsPlaced}
+use Rattle.sq_frames.specs.Standing.{IsAt, IsOver, IsPlaced, Standing, looks_in, taken_of}
 use Rattle.sq_frames.specs.declared.answers.Given.{Given}
 use Rattle.sq_frames.specs.declared.positions.Position.{Position}
 
@@ -64,3 +64,14 @@ placed_given facts c table new need v p n counted external none is placed = reco
   value = λ more extends. placed.value more (extends_after c.acls facts table new need v more counted external none is extends);
   leaves_are = λ more extends. placed.leaves_are more (extends_after c.acls facts table new need v more counted external none is extends);
 }
+
+-- whatever is given from now on, the walk has as many leaf acls as looks were counted
+pub few_over : (facts : List Bool) (f : Standing) (more : ℕ → TermValue) → IsOver facts f → Extends (taken_of facts f) more → looks_in f ≤ leaves f.config.acls (rules_walk more f.config.acls f.config.rules)
+few_over facts f more over extends =
+    let x : f.position.looks ≡ min look_limit over.0 = over.1.looks in
+    let y : leaves f.config.acls (rules_walk more f.config.acls f.config.rules) ≡ over.0 + leaves f.config.acls (course_at more f.config f.position).walk = over.1.leaves_are more extends in
+    omega (arith, x, y)
+
+-- where nothing was looked at yet
+pub none_looked : (facts : List Bool) (f : Standing) → IsAt facts f 0 → looks_in f ≡ 0
+none_looked facts f at = let x : f.position.looks ≡ min look_limit 0 = at.looks in omega (arith, x)

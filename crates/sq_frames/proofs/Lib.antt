@@ -1,7 +1,7 @@
 mod CourseLaws
 mod Defaults
 mod DropLaws
-mod FrameLaws
+pub mod FrameLaws
 mod MemberLaws
 mod NestLaws
 mod PlaceLaws

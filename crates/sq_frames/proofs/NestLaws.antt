@@ -1,12 +1,12 @@
 -- What is next is there, and there is room for it where it is a group.
-use Rattle.std.proofs.Common.{◌≡◌, ℕ, ◌+◌, ◌<◌, ◌≤◌, zero, suc, List, [], ◌∷◌, map, take, length, max, slice_get, slice_index_or, Bool, true, false, ◌&&◌, nat_lt, nat_le, Option, Some, None, refl, sym, ap, subst, ◌∙◌, arith}
+use Rattle.std.proofs.Common.{◌≡◌, ℕ, ◌+◌, ◌<◌, ◌≤◌, zero, suc, List, [], ◌∷◌, map, take, length, slice_get, slice_index_or, Bool, true, false, ◌&&◌, nat_lt, nat_le, Option, Some, None, refl, sym, ap, ◌∙◌, arith}
 use Rattle.std.proofs.lemmas.Bool.Decides.{nat_tests}
 use Rattle.std.proofs.lemmas.List.{get_or-take, length-map}
 use Rattle.std.proofs.lemmas.Option.{get_or_from_slice_get}
 use Rattle.std.specs.List.{list_all}
 use Rattle.sq_rules.proofs.TableLaws.{nesting_at, nestings_length}
 use Rattle.sq_rules.proofs.ValueLaws.{known_here}
-use Rattle.sq_rules.specs.Configurations.{Configuration, IsConfiguration, are_known, are_known_bodies, are_shallow, deepest, greatest_of, is_known_body, is_known_rule, nesting_of, nestings}
+use Rattle.sq_rules.specs.Configurations.{Configuration, IsConfiguration, are_known, are_known_bodies, deepest, greatest_of, is_known_body, is_known_rule, nesting_of, nestings}
 use Rattle.sq_rules.specs.Limits.{nesting_limit}
 use Rattle.sq_rules.specs.declared.configs.Acl.{Acl}
 use Rattle.sq_rules.specs.declared.configs.Body.{Body}
@@ -14,7 +14,7 @@ use Rattle.sq_rules.specs.declared.configs.Body.TheVariants as body
 use Rattle.sq_rules.specs.declared.configs.Rule.{Rule}
 use Rattle.sq_rules.specs.declared.configs.Term.{Term}
 use Rattle.sq_frames.proofs.CourseLaws.{in_line, within_some}
-use Rattle.sq_frames.specs.Groups.{AreOpen, IsOpen, bound_on, line_on, lines_at, lines_of, lines_of_body, lines_on, next_at, next_in, term_on}
+use Rattle.sq_frames.specs.Groups.{AreOpen, bound_on, line_on, lines_at, lines_of, lines_of_body, lines_on, next_at, term_on}
 use Rattle.sq_frames.specs.Positions.{IsNext}
 use Rattle.sq_frames.specs.declared.looking.Next.TheVariants as next
 use Rattle.sq_frames.specs.declared.positions.Position.{Position}

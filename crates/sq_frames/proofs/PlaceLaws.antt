@@ -1,13 +1,13 @@
 -- A place by its innermost open group, or by its rule.
-use Rattle.std.proofs.Common.{◌≡◌, ℕ, ◌+◌, ◌<◌, ◌≤◌, ◌^◌, List, [], ◌∷◌, drop, length, slice_get, Bool, true, false, Option, Some, None, refl, sym, ap, subst, ◌∙◌, arith}
+use Rattle.std.proofs.Common.{◌≡◌, ℕ, ◌+◌, ◌<◌, ◌≤◌, ◌^◌, List, [], ◌∷◌, drop, length, slice_get, Bool, Option, Some, None, refl, sym, ap, subst, ◌∙◌, arith}
 use Rattle.sq_rules.specs.Configurations.{Configuration, IsConfiguration}
 use Rattle.sq_rules.specs.declared.configs.Acl.{Acl}
 use Rattle.sq_rules.specs.declared.configs.Body.{Body}
 use Rattle.sq_rules.specs.declared.configs.Term.{Term}
 use Rattle.sq_frames.proofs.NestLaws.{bound_there, next_before, rule_there}
 use Rattle.sq_frames.proofs.StepLaws.{first_here, pointed}
-use Rattle.sq_frames.specs.Groups.{AreOpen, FitsNext, body_of, bound_on, first_of, groups_moved, line_moved, line_on, lines_at, lines_of, lines_of_body, lines_on, moved, next_at, term_moved, term_on}
-use Rattle.sq_frames.specs.Positions.{IsNext, IsPosition, IsSmall, next_of, position_moved}
+use Rattle.sq_frames.specs.Groups.{AreOpen, FitsNext, body_of, bound_on, first_of, groups_moved, line_moved, line_on, lines_of, lines_of_body, lines_on, moved, next_at, term_moved, term_on}
+use Rattle.sq_frames.specs.Positions.{IsNext, IsPosition, next_of, position_moved}
 use Rattle.sq_frames.specs.declared.looking.Next.{Next}
 use Rattle.sq_frames.specs.declared.looking.Next.TheVariants as next
 use Rattle.sq_frames.specs.declared.positions.Position.{Position}

@@ -1,5 +1,5 @@
 -- External acls have slots of their own, and a value that is given stands in one of them alone.
-use Rattle.std.proofs.Common.{◌≡◌, ◌≢◌, ℕ, ◌+◌, ◌<◌, ◌≤◌, zero, suc, List, [], ◌∷◌, length, set, replicate, get_or, slice_get, slice_index_or, Bool, true, false, true≢false, ◌==◌, if◌then◌else◌, nat_lt, Option, Some, None, refl, sym, ap, subst, ◌∙◌, arith}
+use Rattle.std.proofs.Common.{◌≡◌, ◌≢◌, ℕ, ◌+◌, ◌<◌, ◌≤◌, zero, suc, List, [], ◌∷◌, length, set, replicate, slice_get, slice_index_or, Bool, true, false, true≢false, ◌==◌, if◌then◌else◌, nat_lt, Option, Some, None, refl, sym, ap, ◌∙◌, arith}
 use Rattle.std.proofs.lemmas.Bool.Decides.{nat_tests}
 use Rattle.std.proofs.lemmas.List.{get_or-set_other, get_or-set_same}
 use Rattle.std.proofs.lemmas.Option.{get_or_from_slice_get}
@@ -9,7 +9,7 @@ use Rattle.sq_rules.specs.declared.configs.Body.TheVariants as body
 use Rattle.sq_rules.specs.declared.values.TermValue.{TermValue}
 use Rattle.sq_frames.proofs.StepLaws.{external_taken}
 use Rattle.sq_frames.specs.Courses.{Extends, is_need}
-use Rattle.sq_frames.specs.Givens.{given_at, given_value, in_slot, taken_given, taken_of_acl, taken_of_body}
+use Rattle.sq_frames.specs.Givens.{given_at, given_value, in_slot, left_in, taken_given, taken_of_acl, taken_of_body}
 use Rattle.sq_frames.specs.Slots.{external_of, externals_on, is_external, is_external_at, slots_of, slots_on}
 use Rattle.sq_frames.specs.declared.answers.Given.{Given}
 
@@ -153,3 +153,20 @@ nothing_given slots n acl = at (slice_get slots acl)
     at : (o : Option ℕ) → in_slot (replicate n nothing) o ≡ nothing
     at None = refl
     at (Some slot) = nothing_in n slot
+
+-- a value that is given leaves one slot less without one
+left_set : (table : List (Option Given)) (slot : ℕ) (v : Given) → slot < length table → slice_index_or table slot None ≡ None → left_in table ≡ suc (left_in (set table slot (Some v)))
+left_set [] slot v within none = absurd (omega (arith, within))
+left_set (None ∷ table) zero v within none = refl
+left_set (Some g ∷ table) zero v within none = absurd (cc)
+left_set (None ∷ table) (suc slot) v within none = ap suc (left_set table slot v (omega (arith, within)) none)
+left_set (Some g ∷ table) (suc slot) v within none = left_set table slot v (omega (arith, within)) none
+
+pub left_after : (acls : List Acl) (table new : List (Option Given)) (need : ℕ) (v : Given) → length table ≡ externals_on 0 acls → is_external_at acls need ≡ true
+    → given_at (slots_of acls) table need ≡ None → new ≡ set table (slice_index_or (slots_of acls) need 0) (Some v) → left_in table ≡ suc (left_in new)
+left_after acls table new need v counted e none is =
+    let slot = slot_there acls need e in
+    let here : slice_index_or (slots_of acls) need 0 ≡ slot.0 = get_or_from_slice_get (slots_of acls) need slot.0 0 slot.1 in
+    let free : slice_index_or table slot.0 None ≡ None = sym (ap (in_slot table) slot.1) ∙ none in
+    let within : slot.0 < length table = omega (arith, counted, slot.2) in
+    left_set table slot.0 v within free ∙ ap (λ l. suc (left_in l)) (sym (is ∙ ap (λ k. set table k (Some v)) here))

@@ -1,8 +1,8 @@
 -- Each step leads on.
-use Rattle.std.proofs.Common.{◌≡◌, ℕ, ◌+◌, ◌<◌, ◌≤◌, ◌^◌, zero, suc, List, [], ◌∷◌, ◌++◌, drop, length, min, slice_get, slice_index_or, Bool, true, false, if◌then◌else◌, Option, Some, None, refl, sym, ap, subst, ◌∙◌, arith}
+use Rattle.std.proofs.Common.{◌≡◌, ℕ, ◌+◌, ◌<◌, ◌≤◌, List, [], ◌∷◌, drop, length, min, slice_get, slice_index_or, Bool, true, false, if◌then◌else◌, Option, Some, None, refl, sym, ap, subst, ◌∙◌, arith}
 use Rattle.std.proofs.lemmas.Option.{slice_get_within}
 use Rattle.sq_base.specs.declared.helpers.Cause.{Cause}
-use Rattle.sq_rules.specs.Configurations.{Configuration, IsConfiguration, is_leaf_body, nestings}
+use Rattle.sq_rules.specs.Configurations.{Configuration, is_leaf_body}
 use Rattle.sq_rules.specs.Values.{turned, value_if}
 use Rattle.sq_rules.specs.Verdicts.{name_of}
 use Rattle.sq_rules.specs.Walks.{Seen, term_seen}
@@ -12,20 +12,19 @@ use Rattle.sq_rules.specs.declared.configs.Body.TheVariants as body
 use Rattle.sq_rules.specs.declared.configs.Term.{Term}
 use Rattle.sq_rules.specs.declared.outcomes.Why.TheVariants as why
 use Rattle.sq_rules.specs.declared.values.TermValue.{TermValue}
-use Rattle.sq_rules.specs.declared.values.TermValue.TheVariants.{Hit, Miss, Fault, Need}
+use Rattle.sq_rules.specs.declared.values.TermValue.TheVariants.{Fault, Need}
 use Rattle.sq_rules.specs.declared.values.Value.TheVariants as value
 use Rattle.sq_frames.proofs.CourseLaws.{ahead_at_term, ahead_failed, ahead_held, ahead_moved, fault_stops, in_line, lines_begun, need_stops, turned_fault, turned_need}
 use Rattle.sq_frames.proofs.MemberLaws.{term_of_group, term_of_plain}
 use Rattle.sq_frames.proofs.NestLaws.{fits_within}
 use Rattle.sq_frames.proofs.WeightLaws.{closed_weight, looked_weight, opened_weight}
-use Rattle.sq_frames.specs.Courses.{Course, Extends, ahead, behind, is_need, leaf_here, leaves, lines_from, lines_seen, walked}
+use Rattle.sq_frames.specs.Courses.{Course, Extends, ahead, behind, is_need, leaf_here, leaves, walked}
 use Rattle.sq_frames.specs.Givens.{given_at, given_value, taken_given, taken_of_acl, taken_of_body}
-use Rattle.sq_frames.specs.Groups.{AreOpen, IsOpen, body_of, bound_on, first_of, groups_moved, line_moved, line_on, lines_at, lines_on, next_at, term_moved, term_on, under_not}
+use Rattle.sq_frames.specs.Groups.{AreOpen, body_of, first_of, groups_moved, line_moved, line_on, lines_at, lines_on, next_at, term_moved, term_on, under_not}
 use Rattle.sq_frames.specs.Kinds.{group_body, is_group_at, is_leaf_at, leaf_of}
-use Rattle.sq_frames.specs.OpenGroups.{OpenGroups}
-use Rattle.sq_frames.specs.Positions.{Asks, Goes, IsNext, IsPosition, IsSmall, IsStep, Stops, course_at, look_limit, looked_more, next_of, position_moved}
+use Rattle.sq_frames.specs.Positions.{Asks, Goes, IsNext, IsPosition, IsStep, course_at, look_limit, looked_more, next_of, position_moved}
 use Rattle.sq_frames.specs.Slots.{external_of, is_external, is_external_at}
-use Rattle.sq_frames.specs.Weights.{ahead_weight, weight_at}
+use Rattle.sq_frames.specs.Weights.{ahead_weight}
 use Rattle.sq_frames.specs.declared.answers.Given.{Given}
 use Rattle.sq_frames.specs.declared.looking.Next.TheVariants as next
 use Rattle.sq_frames.specs.declared.positions.Position.{Position}

@@ -1,5 +1,5 @@
 -- What rules come to from a place in them on, and by which acls.
-use Rattle.std.specs.Prelude.{◌≡◌, ℕ, ◌+◌, List, [], ◌∷◌, ◌++◌, Bool, true, false, if◌then◌else◌, drop, map, min, Some, None, slice_get}
+use Rattle.std.specs.Prelude.{◌≡◌, ℕ, ◌+◌, List, [], ◌∷◌, ◌++◌, Bool, true, false, if◌then◌else◌, drop, map, Some, None, slice_get}
 use Rattle.std.specs.declared.option.Option.{Option}
 use Rattle.sq_rules.specs.Configurations.{Configuration, is_leaf}
 use Rattle.sq_rules.specs.Values.{either, turned}

@@ -1,5 +1,5 @@
 -- What the values of leaf acls and of external acls are taken from: the facts of a check, and the values that were given.
-use Rattle.std.specs.Prelude.{◌≡◌, ℕ, List, [], Bool, true, false, Some, None, slice_get, slice_index_or}
+use Rattle.std.specs.Prelude.{ℕ, suc, List, [], ◌∷◌, Bool, false, Some, None, slice_get, slice_index_or}
 use Rattle.std.specs.declared.option.Option.{Option}
 use Rattle.sq_rules.specs.Values.{value_if}
 use Rattle.sq_rules.specs.Verdicts.{name_of}
@@ -65,3 +65,9 @@ ran_value acls (ran.Need acl) = value.Need acl []
 abbrev pub needed_by : Ran → Option ℕ
 needed_by (ran.Verdict allow p) = None
 needed_by (ran.Need acl) = Some acl
+
+-- how many slots no value was given to
+abbrev pub left_in : List (Option Given) → ℕ
+left_in [] = 0
+left_in (None ∷ table) = suc (left_in table)
+left_in (Some g ∷ table) = left_in table

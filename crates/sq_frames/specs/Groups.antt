@@ -1,5 +1,5 @@
 -- The place in a configuration's rules: which rule and term of it, and in each open group which line and term of it.
-use Rattle.std.specs.Prelude.{◌≡◌, ℕ, ◌+◌, ◌<◌, ◌≤◌, ◌^◌, suc, List, [], ◌∷◌, length, map, Bool, true, false, not, Some, None, if◌then◌else◌, slice_get, slice_index_or}
+use Rattle.std.specs.Prelude.{ℕ, ◌+◌, ◌<◌, ◌≤◌, ◌^◌, suc, List, [], ◌∷◌, length, map, Bool, true, false, not, Some, None, if◌then◌else◌, slice_get, slice_index_or}
 use Rattle.std.specs.declared.option.Option.{Option}
 use Rattle.sq_rules.specs.Configurations.{Configuration, nestings}
 use Rattle.sq_rules.specs.declared.configs.Acl.{Acl}

@@ -1,5 +1,5 @@
 -- A place in the rules as a value, and what it is that steps lead from one to another.
-use Rattle.std.specs.Prelude.{◌≡◌, ℕ, ◌+◌, ◌-◌, ◌^◌, ◌≤◌, ◌<◌, List, Bool, true, length, min, suc, Some, None, slice_get, slice_index_or}
+use Rattle.std.specs.Prelude.{◌≡◌, ℕ, ◌+◌, ◌-◌, ◌^◌, ◌≤◌, ◌<◌, List, Bool, true, length, min, suc, Some, None, slice_index_or}
 use Rattle.std.specs.declared.option.Option.{Option}
 use Rattle.sq_rules.specs.Configurations.{Configuration, IsConfiguration, nestings}
 use Rattle.sq_rules.specs.declared.configs.Acl.{Acl}

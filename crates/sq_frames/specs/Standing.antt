@@ -1,5 +1,5 @@
 -- Frames as a value, and what it is for them to be at a place in the rules.
-use Rattle.std.specs.Prelude.{◌≡◌, ℕ, ◌+◌, ◌≤◌, List, Bool, length, min}
+use Rattle.std.specs.Prelude.{◌≡◌, ℕ, ◌+◌, List, Bool, length, min}
 use Rattle.std.specs.declared.option.Option.{Option}
 use Rattle.sq_rules.specs.Configurations.{Configuration}
 use Rattle.sq_rules.specs.Verdicts.{default_of, rules_from}
@@ -61,3 +61,7 @@ IsOver facts f = (looked : ℕ) × IsAt facts f looked
 -- how many leaf acls the walk of the rules has, over the values that were given
 abbrev pub leaves_of : List Bool → Standing → ℕ
 leaves_of facts f = leaves f.config.acls (rules_walk (taken_of facts f) f.config.acls f.config.rules)
+
+-- how many looks were counted
+abbrev pub looks_in : Standing → ℕ
+looks_in f = f.position.looks

@@ -1,10 +1,10 @@
 //! Rules that are evaluated by a stored place.
-ghost use Rattle.std.specs.Prelude.{◌≡◌, ◌+◌, ◌≤◌, ℕ, List, Bool, true, length, if◌then◌else◌, ◌==◌, Some, None, is_some, IfOk};
+ghost use Rattle.std.specs.Prelude.{◌≡◌, ◌+◌, ◌≤◌, ℕ, suc, List, Bool, true, length, if◌then◌else◌, ◌==◌, Some, None, is_some, IfOk};
 ghost use Rattle.std.specs.Arc.{arc_value};
-ghost use Rattle.sq_frames.specs.Givens.{given_at, needed_by, ran_value};
+ghost use Rattle.sq_frames.specs.Givens.{given_at, left_in, needed_by, ran_value};
 ghost use Rattle.sq_frames.specs.Positions.{Asks, IsPosition};
 ghost use Rattle.sq_frames.specs.Slots.{externals_on, is_external_at, slots_of};
-ghost use Rattle.sq_frames.specs.Standing.{given_to, leaves_of, value_of, value_over, IsAt, IsOver, IsPlaced};
+ghost use Rattle.sq_frames.specs.Standing.{given_to, leaves_of, looks_in, value_of, value_over, IsAt, IsOver, IsPlaced};
 
 use crate::answers::{Given, Ran, needed_by};
 use crate::positions::{Position, begin};
@@ -83,6 +83,7 @@ fn give_to(slots: &Slots, table: &mut Vec<Option<Given>>, acl: u32, value: Given
     requires none { given_at (slots_of slots.now.acls) table.old.items acl ≡ None }
     ensures counted { length table.new.items ≡ length table.old.items }
     ensures given { (other : ℕ) → is_external_at slots.now.acls other ≡ true → given_at (slots_of slots.now.acls) table.new.items other ≡ (if other == acl then Some value else given_at (slots_of slots.now.acls) table.old.items other) }
+    ensures left { left_in table.old.items ≡ suc (left_in table.new.items) }
     ensures at { (facts : List Bool) (p : Position) (n : ℕ) → IsPlaced facts slots.now table.old.items p n → IsPlaced facts slots.now table.new.items p n }
 {
     give(slots.as_slice(), table, acl, value);
@@ -127,6 +128,7 @@ impl Frames {
         ensures config { self.new.config ≡ self.old.config }
         ensures given { self.new.table ≡ self.old.table }
         ensures need { self.new.need ≡ needed_by result }
+        ensures asks { Asks self.new.config.acls (slots_of self.new.config.acls) self.new.table (needed_by result) }
         ensures value { ran_value self.new.config.acls result ≡ value_of facts.now self.new }
         ensures over { IsOver facts.now self.new }
         ensures at { (looked : ℕ) → IsAt facts.now self.old looked → (k : ℕ) × (steps.new ≡ steps.old + k) × IsAt facts.now self.new (looked + k) }
@@ -152,8 +154,9 @@ impl Frames {
         requires { is_some self.old.need ≡ true }
         ensures config { self.new.config ≡ self.old.config }
         ensures need { self.new.need ≡ None }
-        ensures looks { self.new.position.looks ≡ self.old.position.looks }
+        ensures looks { looks_in self.new ≡ looks_in self.old }
         ensures given { (need acl : ℕ) → self.old.need ≡ Some need → is_external_at self.old.config.acls acl ≡ true → given_to self.new acl ≡ (if acl == need then Some value else given_to self.old acl) }
+        ensures left { left_in self.old.table ≡ suc (left_in self.new.table) }
         ensures at { (facts : List Bool) (looked : ℕ) → IsAt facts self.old looked → IsAt facts self.new looked }
     {
         if let Some(acl) = self.need {
@@ -164,7 +167,7 @@ impl Frames {
 
     /// How many looks its runs made; it stays at 2^63 - 1 once it is there. It takes no memory.
     pub fn looks(&self) -> u64
-        ensures looks { result ≡ self.now.position.looks }
+        ensures looks { result ≡ looks_in self.now }
         ensures few { (facts : List Bool) → IsOver facts self.now → result ≤ leaves_of facts self.now }
     {
         self.position.looks

@@ -1,7 +1,7 @@
 -- That the machine crosses threads, from its parts.
 use denote.RattleType.{RattleType}
-use denote.Param.Send.{IsSend, param_send, sendable, view_send}
-use denote.Param.SendFields.{FieldsHave, declared_send}
+use denote.Param.Send.{IsSend, IsSync, param_send, sendable, view_send, view_sync}
+use denote.Param.SendFields.{FieldsHave, declared_send, declared_sync}
 use Rattle.std.proofs.Crossing.{crosses, Vec-send}
 use Rattle.std_collections.proofs.Crosses.{BTreeMap-send, HashMap-send}
 use Rattle.lru.proofs.Crosses.{KeyRef-send, KeyRef-sync, List-send, Deed-send}
@@ -24,6 +24,13 @@ use Rattle.sq_epochs.specs.contracts.epoch.Epoch.TheInside as epoch_inside
 use Rattle.sq_epochs.specs.contracts.homes.Homes as homes
 use Rattle.sq_epochs.specs.contracts.epochs.Epochs as epochs
 use Rattle.sq_epochs.specs.contracts.epochs.Epochs.TheInside as epochs_inside
+use Rattle.sq_frames.specs.contracts.slots.Slots as slots
+use Rattle.sq_frames.specs.contracts.slots.Slots.TheInside as slots_inside
+use Rattle.sq_frames.specs.contracts.spots.Spots as spots
+use Rattle.sq_frames.specs.contracts.spots.Spots.TheInside as spots_inside
+use Rattle.sq_frames.specs.contracts.positions.Position as position
+use Rattle.sq_frames.specs.contracts.frames.Frames as frames
+use Rattle.sq_frames.specs.contracts.frames.Frames.TheInside as frames_inside
 use Rattle.sq_checks.specs.contracts.conns.Link as link
 use Rattle.sq_checks.specs.contracts.counts.Counts as counts
 use Rattle.sq_checks.specs.contracts.conns.Conns as conns
@@ -31,6 +38,8 @@ use Rattle.sq_checks.specs.contracts.stages.Stage as stage
 use Rattle.sq_checks.specs.contracts.open_check.OpenCheck as open_check
 use Rattle.sq_checks.specs.contracts.open_check.OpenCheck.TheInside as open_check_inside
 use Rattle.sq_checks.specs.contracts.open_checks.OpenChecks as open_checks
+use Rattle.sq_engine.specs.contracts.current.Current as current
+use Rattle.sq_engine.specs.contracts.current.Current.TheInside as current_inside
 use Rattle.sq_engine.specs.contracts.engines.Engine as engine
 use Rattle.sq_engine.specs.contracts.engines.Engine.TheInside as engine_inside
 use Rattle.sq_note.specs.declared.journal.Journal as journal
@@ -99,6 +108,39 @@ epochs_inside_send =
 epochs_send : IsSend epochs.the_row
 epochs_send = view_send _ _ _ _ _ epochs_inside_send
 
+slots_inside_send : IsSend slots_inside.the_row
+slots_inside_send =
+    let parts : FieldsHave IsSend (slots_inside.the_type).parts = (search (sendable, crosses, config_send, config_sync) depth 40 fits 20000, (search (sendable, crosses) depth 40 fits 20000, (search (sendable, crosses) depth 40 fits 20000, tt))) in
+    declared_send slots_inside.the_type parts
+
+slots_send : IsSend slots.the_row
+slots_send = view_send _ _ _ _ _ slots_inside_send
+
+slots_inside_sync : IsSync slots_inside.the_row
+slots_inside_sync =
+    let parts : FieldsHave IsSync (slots_inside.the_type).parts = (search (sendable, crosses, config_send, config_sync) depth 40 fits 20000, (search (sendable, crosses) depth 40 fits 20000, (search (sendable, crosses) depth 40 fits 20000, tt))) in
+    declared_sync slots_inside.the_type parts
+
+slots_sync : IsSync slots.the_row
+slots_sync = view_sync _ _ _ _ _ slots_inside_sync
+
+spots_inside_send : IsSend spots_inside.the_row
+spots_inside_send = search (sendable, crosses) depth 40 fits 20000
+
+spots_send : IsSend spots.the_row
+spots_send = view_send _ _ _ _ _ spots_inside_send
+
+position_send : IsSend position.the_row
+position_send = search (sendable, crosses, spots_send) depth 40 fits 20000
+
+frames_inside_send : IsSend frames_inside.the_row
+frames_inside_send =
+    let parts : FieldsHave IsSend (frames_inside.the_type).parts = (search (sendable, crosses, slots_send, slots_sync) depth 40 fits 20000, (search (sendable, crosses) depth 40 fits 20000, (search (sendable, position_send), (search (sendable, crosses) depth 40 fits 20000, tt)))) in
+    declared_send frames_inside.the_type parts
+
+frames_send : IsSend frames.the_row
+frames_send = view_send _ _ _ _ _ frames_inside_send
+
 link_send : IsSend link.the_row
 link_send = search (sendable, crosses) depth 40 fits 20000
 
@@ -113,7 +155,7 @@ stage_send = search (sendable, crosses) depth 40 fits 20000
 
 open_check_inside_send : IsSend open_check_inside.the_row
 open_check_inside_send =
-    let parts : FieldsHave IsSend (open_check_inside.the_type).parts = (search (sendable, crosses) depth 40 fits 20000, (search (sendable, crosses) depth 40 fits 20000, (search (sendable, crosses, config_send, config_sync) depth 40 fits 20000, (search (sendable, crosses) depth 40 fits 20000, (search (sendable, facts_send), (search (sendable, crosses) depth 40 fits 20000, (search (sendable, crosses) depth 40 fits 20000, (search (sendable, stage_send), (search (sendable, crosses) depth 40 fits 20000, tt))))))))) in
+    let parts : FieldsHave IsSend (open_check_inside.the_type).parts = (search (sendable, crosses) depth 40 fits 20000, (search (sendable, crosses) depth 40 fits 20000, (search (sendable, crosses, config_send, config_sync) depth 40 fits 20000, (search (sendable, crosses) depth 40 fits 20000, (search (sendable, facts_send), (search (sendable, frames_send), (search (sendable, crosses) depth 40 fits 20000, (search (sendable, crosses) depth 40 fits 20000, (search (sendable, stage_send), (search (sendable, crosses) depth 40 fits 20000, tt)))))))))) in
     declared_send open_check_inside.the_type parts
 
 open_check_send : IsSend open_check.the_row
@@ -122,9 +164,17 @@ open_check_send = view_send _ _ _ _ _ open_check_inside_send
 open_checks_send : IsSend open_checks.the_row
 open_checks_send = search (sendable, crosses, BTreeMap-send, open_check_send) depth 40 fits 20000
 
+current_inside_send : IsSend current_inside.the_row
+current_inside_send =
+    let parts : FieldsHave IsSend (current_inside.the_type).parts = (search (sendable, setup_send), (search (sendable, crosses, slots_send, slots_sync) depth 40 fits 20000, tt)) in
+    declared_send current_inside.the_type parts
+
+current_send : IsSend current.the_row
+current_send = view_send _ _ _ _ _ current_inside_send
+
 engine_inside_send : IsSend engine_inside.the_row
 engine_inside_send =
-    let parts : FieldsHave IsSend (engine_inside.the_type).parts = (search (sendable, conns_send), (search (sendable, open_checks_send), (search (sendable, crosses) depth 40 fits 20000, (search (sendable, crosses) depth 40 fits 20000, (search (sendable, epochs_send), (search (sendable, setup_send), (search (sendable, crosses) depth 40 fits 20000, (search (sendable, crosses) depth 40 fits 20000, (search (sendable, crosses) depth 40 fits 20000, tt))))))))) in
+    let parts : FieldsHave IsSend (engine_inside.the_type).parts = (search (sendable, conns_send), (search (sendable, open_checks_send), (search (sendable, crosses) depth 40 fits 20000, (search (sendable, crosses) depth 40 fits 20000, (search (sendable, epochs_send), (search (sendable, current_send), (search (sendable, crosses) depth 40 fits 20000, (search (sendable, crosses) depth 40 fits 20000, (search (sendable, crosses) depth 40 fits 20000, tt))))))))) in
     declared_send engine_inside.the_type parts
 
 engine_send : IsSend engine.the_row

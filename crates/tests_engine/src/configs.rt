@@ -8,6 +8,7 @@ pub fn text_of(name: &[u8]) -> &'static str {
         b"grace" => GRACE,
         b"graced" => GRACED,
         b"least" => LEAST,
+        b"long" => LONG,
         b"small" => SMALL,
         b"numbered" => NUMBERED,
         b"pair" => PAIR,
@@ -89,4 +90,69 @@ static OPEN: &str = "http_access allow all
 
 /// No helper is asked, and everything is denied.
 static SHUT: &str = "http_access deny all
+";
+
+/// Twenty rules of one list, and twenty with a list each that asks a helper.
+static LONG: &str = "acl q port 81
+http_access deny q
+http_access deny q
+http_access deny q
+http_access deny q
+http_access deny q
+http_access deny q
+http_access deny q
+http_access deny q
+http_access deny q
+http_access deny q
+http_access deny q
+http_access deny q
+http_access deny q
+http_access deny q
+http_access deny q
+http_access deny q
+http_access deny q
+http_access deny q
+http_access deny q
+http_access deny q
+external_acl_type v %ACL /bin/h
+acl e1 external v
+http_access deny e1
+acl e2 external v
+http_access deny e2
+acl e3 external v
+http_access deny e3
+acl e4 external v
+http_access deny e4
+acl e5 external v
+http_access deny e5
+acl e6 external v
+http_access deny e6
+acl e7 external v
+http_access deny e7
+acl e8 external v
+http_access deny e8
+acl e9 external v
+http_access deny e9
+acl e10 external v
+http_access deny e10
+acl e11 external v
+http_access deny e11
+acl e12 external v
+http_access deny e12
+acl e13 external v
+http_access deny e13
+acl e14 external v
+http_access deny e14
+acl e15 external v
+http_access deny e15
+acl e16 external v
+http_access deny e16
+acl e17 external v
+http_access deny e17
+acl e18 external v
+http_access deny e18
+acl e19 external v
+http_access deny e19
+acl e20 external v
+http_access deny e20
 ";

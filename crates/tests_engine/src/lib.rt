@@ -19,6 +19,8 @@ mod joins;
 #[cfg(test)]
 mod kept;
 #[cfg(test)]
+mod looks;
+#[cfg(test)]
 mod machines;
 #[cfg(test)]
 mod refusals;

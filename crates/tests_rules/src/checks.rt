@@ -6,6 +6,7 @@ use sq_checks::{OpenCheck, OpenChecks, Record, class_of};
 use sq_conf::read_config;
 use sq_eval::evaluate;
 use sq_facts::read_facts;
+use sq_frames::Slots;
 use sq_request::make_request;
 use sq_rows::{Said, Stepped};
 use sq_rules::{Sight, Value};
@@ -37,8 +38,8 @@ fn begun(alloc: Global) -> Result<OpenCheck, Fail> {
     let sight = sight(alloc)?;
     let mut setup = read_config(alloc, TEXT.as_bytes())?;
     let facts = read_facts(alloc, &mut setup, &sight)?;
-    let config = Arc::try_clone(setup.config())?;
-    Ok(OpenCheck::new(alloc, ConnNo(7), EpochNo(1), config, sight, facts))
+    let slots = Arc::new(alloc, Slots::new(alloc, setup.config())?)?;
+    Ok(OpenCheck::new(alloc, ConnNo(7), EpochNo(1), &slots, sight, facts)?)
 }
 
 /// Steps a check; where it asks, it is told to wait for this question. The key that it asks for, or none where
@@ -56,7 +57,14 @@ fn step(
     if !check.is_settled() {
         return Err(Fail::new("not settled"));
     }
-    match check.come_to(alloc)? {
+    let value = checks.come_to(alloc, number)?;
+    let Some(check) = checks.get(number) else {
+        return Err(Fail::new("no longer open"));
+    };
+    if !check.is_settled() {
+        return Err(Fail::new("no longer settled"));
+    }
+    match value {
         Value::Verdict(outcome) => {
             checks.finish(number, outcome);
             Ok(None)

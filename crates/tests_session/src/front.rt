@@ -7,6 +7,7 @@ use sq_checks::{OpenCheck, Record};
 use sq_conf::read_config;
 use sq_facts::read_facts;
 use sq_forward::Meter;
+use sq_frames::Slots;
 use sq_machine::Refusal;
 use sq_outside::{raised, raised_by};
 use sq_rules::{Sight, Value};
@@ -92,11 +93,16 @@ fn judge(alloc: Global, addr: Addr, request: &Request) -> Option<Record>
     let Ok(facts) = read_facts(alloc, &mut setup, &sight) else {
         return None;
     };
-    let Ok(config) = Arc::try_clone(setup.config()) else {
+    let Ok(slots) = Slots::new(alloc, setup.config()) else {
         return None;
     };
-    let check = OpenCheck::new(alloc, ConnNo(1), EpochNo(1), config, sight, facts);
-    finished(alloc, check)
+    let Ok(slots) = Arc::new(alloc, slots) else {
+        return None;
+    };
+    match OpenCheck::new(alloc, ConnNo(1), EpochNo(1), &slots, sight, facts) {
+        Ok(check) => finished(alloc, check),
+        Err(_) => None,
+    }
 }
 
 /// Another request than this one, of the other version.

@@ -1,7 +1,7 @@
-use Rattle.std.proofs.Common.{◌≡◌, ◌<◌, ◌≤◌, ℕ, List, Some, length, set, slice_get, slice_index_or, ap, sym, ◌∙◌, arith, length-set}
+use Rattle.std.proofs.Common.{◌≡◌, ◌<◌, ℕ, List, Some, length, set, slice_index_or, ap, ◌∙◌, arith, length-set}
 use Rattle.std.proofs.lemmas.Option.{get_or_from_slice_get, slice_get_within}
 use Rattle.sq_frames.proofs.FrameLaws.{placed_given}
-use Rattle.sq_frames.proofs.SlotLaws.{given_after, slot_there}
+use Rattle.sq_frames.proofs.SlotLaws.{given_after, left_after, slot_there}
 use Rattle.sq_frames.specs.Slots.{slots_of}
 use Rattle.sq_frames.proofs.frames.give_to.Goals as goal
 
@@ -33,3 +33,7 @@ returns-clause-given c = λ other external.
 pub returns-clause-at : goal.returns-clause-at
 returns-clause-at c = λ facts p n is.
     placed_given facts c.args.slots.now c.args.table.now.items c.give.new.table.items c.args.acl c.args.value p n c.requires.counted c.requires.external c.requires.none (changed c) is
+
+pub returns-clause-left : goal.returns-clause-left
+returns-clause-left c =
+    left_after c.args.slots.now.acls c.args.table.now.items c.give.new.table.items c.args.acl c.args.value c.requires.counted c.requires.external c.requires.none (changed c)

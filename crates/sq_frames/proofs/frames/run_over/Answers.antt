@@ -1,10 +1,8 @@
 use Rattle.std.proofs.Common.{◌≡◌, ℕ, List, ap, subst, ◌∙◌}
 use Rattle.sq_frames.proofs.FrameLaws.{placed_after, placed_value}
-use Rattle.sq_frames.specs.Courses.{Course}
 use Rattle.sq_frames.specs.Givens.{ran_value, taken_given}
 use Rattle.sq_frames.specs.Positions.{Goes, course_at}
 use Rattle.sq_frames.specs.Slots.{slots_of}
-use Rattle.sq_frames.specs.Standing.{IsPlaced}
 use Rattle.sq_frames.proofs.frames.run_over.Goals as goal
 
 pub returns-clause-value : goal.returns-clause-value

@@ -1,4 +1,4 @@
-use Rattle.std.proofs.Common.{◌≡◌, ◌∷◌, [], ◌+◌, ◌<◌, ◌^◌, ◌∙◌, List, drop, subst, sym}
+use Rattle.std.proofs.Common.{◌+◌, ◌<◌, ◌^◌, ◌∙◌, List, subst, sym}
 use Rattle.sq_frames.proofs.StepLaws.{first_here, none_here}
 use Rattle.sq_frames.specs.Groups.{line_on, term_on}
 use Rattle.sq_frames.specs.declared.spots.Spot.{Spot}

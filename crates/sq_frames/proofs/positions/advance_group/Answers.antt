@@ -1,7 +1,6 @@
-use Rattle.std.proofs.Common.{◌≡◌, ◌∷◌, ◌<◌, ◌∙◌, drop, length, ap, subst, sym, arith}
+use Rattle.std.proofs.Common.{◌≡◌, ◌∷◌, drop, length, ap, arith}
 use Rattle.sq_frames.proofs.PlaceLaws.{group_moved}
 use Rattle.sq_frames.proofs.StepLaws.{first_here}
-use Rattle.sq_frames.specs.OpenGroups.{OpenGroups}
 use Rattle.sq_frames.proofs.positions.advance_group.Goals as goal
 
 pub set-requires : goal.set-requires

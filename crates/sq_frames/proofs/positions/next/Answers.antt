@@ -1,4 +1,4 @@
-use Rattle.std.proofs.Common.{◌≡◌, ◌∙◌, map, sym, ap}
+use Rattle.std.proofs.Common.{◌∙◌, map, sym, ap}
 use Rattle.sq_rules.specs.declared.configs.Rule.{Rule}
 use Rattle.sq_frames.proofs.PlaceLaws.{fits_in_group, fits_in_rules, group_there, next_in_group, next_in_rules}
 use Rattle.sq_frames.proofs.StepLaws.{none_here}

@@ -1,4 +1,4 @@
-use Rattle.std.proofs.Common.{◌≡◌, ◌+◌, ◌<◌, ◌≤◌, suc, length, slice_index_or, arith}
+use Rattle.std.proofs.Common.{◌+◌, ◌≤◌, suc, length, slice_index_or, arith}
 use Rattle.sq_rules.specs.Configurations.{nestings}
 use Rattle.sq_frames.proofs.NestLaws.{fits_within}
 use Rattle.sq_frames.proofs.StepLaws.{group_step}

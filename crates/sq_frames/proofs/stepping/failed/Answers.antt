@@ -1,4 +1,4 @@
-use Rattle.std.proofs.Common.{refl, ◌≡◌, ◌∙◌, [], List, ap, sym, subst}
+use Rattle.std.proofs.Common.{◌≡◌, ◌∙◌, [], List, ap, sym, subst}
 use Rattle.sq_rules.specs.Verdicts.{default_of}
 use Rattle.sq_rules.specs.declared.values.Value.TheVariants as value
 use Rattle.sq_frames.proofs.CourseLaws.{default_decides}

@@ -1,4 +1,4 @@
-use Rattle.std.proofs.Common.{refl, ◌≡◌, ◌<◌, ap, ◌∙◌}
+use Rattle.std.proofs.Common.{refl, ◌≡◌, ap, ◌∙◌}
 use Rattle.sq_rules.specs.declared.values.TermValue.TheVariants.{Fault}
 use Rattle.sq_frames.proofs.StepLaws.{external_taken, fault_stop, nothing_asked}
 use Rattle.sq_frames.specs.Givens.{given_value}

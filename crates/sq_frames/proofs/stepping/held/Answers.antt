@@ -1,4 +1,4 @@
-use Rattle.std.proofs.Common.{refl, ◌≡◌, ◌<◌, ◌∙◌, [], List, length, slice_get, ap, sym, subst}
+use Rattle.std.proofs.Common.{◌≡◌, ◌<◌, ◌∙◌, [], List, length, slice_get, ap, sym, subst}
 use Rattle.std.proofs.lemmas.Option.{slice_get_within}
 use Rattle.sq_rules.specs.declared.values.TermValue.TheVariants.{Miss}
 use Rattle.sq_frames.proofs.CourseLaws.{rule_decides}

@@ -1,8 +1,6 @@
-use Rattle.std.proofs.Common.{◌≡◌, ◌∷◌, ◌<◌, ◌+◌, ◌^◌, List, drop, length, subst, sym, arith, ap}
+use Rattle.std.proofs.Common.{◌≡◌, ◌∷◌, drop, length, subst, arith, ap}
 use Rattle.sq_frames.proofs.StepLaws.{closed_step, first_here}
-use Rattle.sq_frames.specs.Groups.{AreOpen, line_on, term_on}
-use Rattle.sq_frames.specs.OpenGroups.{OpenGroups}
-use Rattle.sq_frames.specs.declared.spots.Spot.{Spot}
+use Rattle.sq_frames.specs.Groups.{AreOpen}
 use Rattle.sq_frames.proofs.stepping.leave.Goals as goal
 
 pub close-requires : goal.close-requires

@@ -1,4 +1,4 @@
-use Rattle.std.proofs.Common.{refl, ◌≡◌, ap, ◌∙◌, []}
+use Rattle.std.proofs.Common.{◌≡◌, ap, ◌∙◌, []}
 use Rattle.sq_rules.specs.declared.values.TermValue.TheVariants.{Need}
 use Rattle.sq_frames.proofs.StepLaws.{asks_it, external_taken, need_stop}
 use Rattle.sq_frames.specs.Givens.{given_value}

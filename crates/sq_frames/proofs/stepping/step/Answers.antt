@@ -1,4 +1,3 @@
-use Rattle.std.proofs.Common.{refl}
 use Rattle.sq_frames.proofs.PlaceLaws.{is_next}
 use Rattle.sq_frames.proofs.stepping.step.Goals as goal
 

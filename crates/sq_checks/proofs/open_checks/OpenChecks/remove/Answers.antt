@@ -1,7 +1,11 @@
 use Rattle.std.proofs.Common.{◌∙◌, ap}
 use Rattle.sq_checks.specs.OpenChecks.{rows_of}
+use Rattle.sq_checks.specs.Tables.{value_at}
 use Rattle.sq_checks.proofs.MapLaws.{removed_list, rows_without, sorted_once}
 use Rattle.sq_checks.proofs.open_checks.OpenChecks.remove.Goals as goal
+
+pub returns-clause-check : goal.returns-clause-check
+returns-clause-check c = c.remove.ensures.value ∙ ap (λ es. value_at es c.args.number) c.self.view_is
 
 pub returns-clause-list : goal.returns-clause-list
 returns-clause-list c =

@@ -1,11 +1,12 @@
-use Rattle.std.proofs.Common.{◌≡◌, ◌∙◌, None, Some, OnOk, is_some, ap, sym, subst}
+use Rattle.std.proofs.Common.{◌≡◌, ◌∙◌, None, Some, OnOk, true, false, is_some, ap, sym, subst}
+use Rattle.sq_base.specs.Distinct.{has_answer}
 use Rattle.std.specs.List.{slice_get}
 use Rattle.sq_machine.specs.Machine.{step_next}
 use Rattle.sq_machine.specs.StepRule.{class_of_acl, says_done}
 use Rattle.sq_machine.specs.declared.entries.Told.TheVariants as told
 use Rattle.sq_rules.specs.declared.values.Value.TheVariants as value
-use Rattle.sq_checks.specs.OpenChecks.{comes_to}
-use Rattle.sq_checks.specs.Stages.{need_in}
+use Rattle.sq_checks.specs.OpenChecks.{HasCome, comes_to, is_need}
+use Rattle.sq_checks.specs.Stages.{is_idle, need_in}
 use Rattle.sq_checks.specs.Tables.{value_at}
 use Rattle.sq_epochs.specs.EpochStates.{part_at}
 use Rattle.sq_state.specs.Changes.{after_step_of}
@@ -14,10 +15,46 @@ use Rattle.sq_engine.specs.Engines.{IsEngine}
 use Rattle.sq_engine.specs.EngineViews.{state_of}
 use Rattle.sq_engine.specs.Stepping.{epoch_of, step_now, stepped_told}
 use Rattle.sq_engine.proofs.ChangedLaws.{some_has}
-use Rattle.sq_engine.proofs.NowLaws.{after_found, epoch_found, part_needed, says_asks, says_decided, step_found, told_by}
+use Rattle.sq_engine.proofs.NowLaws.{after_found, epoch_found, if_has, needs_acl, part_needed, says_asks, says_decided, step_found, told_by}
 use Rattle.sq_engine.proofs.ResolveLaws.{says_here}
 use Rattle.sq_engine.proofs.StepLaws.{quiet_same}
 use Rattle.sq_engine.proofs.engines.Engine.go_on.Goals as goal
+
+pub needed_class-class-requires : goal.needed_class-class-requires
+needed_class-class-requires c =
+    let w = c.args.self.now in
+    let k = c.in-Some.open.now in
+    let found : value_at w.checks c.args.check ≡ Some k = subst (λ z. value_at z.checks c.args.check ≡ Some k) c.self.view_is (sym c.in-Some.ensures) in
+    let come : HasCome k c.args.value = some_has (λ z. HasCome z c.args.value) (value_at w.checks c.args.check) k c.requires.come found in
+    let config : c.deref.result.now ≡ k.config = cc in
+    needs_acl k _ c.in-Need.acl c.in-Need.key config (sym come.comes ∙ c.in-Need.is)
+
+pub decide-requires-clause-verdict : goal.decide-requires-clause-verdict
+decide-requires-clause-verdict c =
+    let w = c.args.self.now in
+    let k = c.in-Some.open.now in
+    let found : value_at w.checks c.args.check ≡ Some k = subst (λ z. value_at z.checks c.args.check ≡ Some k) c.self.view_is (sym c.in-Some.ensures) in
+    let come : HasCome k c.args.value = some_has (λ z. HasCome z c.args.value) (value_at w.checks c.args.check) k c.requires.come found in
+    if_has (λ z. comes_to z ≡ value.Verdict c.in-Verdict.outcome) (value_at w.checks c.args.check) k found (sym come.comes ∙ c.in-Verdict.is)
+
+pub resolve-requires-clause-idle : goal.resolve-requires-clause-idle
+resolve-requires-clause-idle c =
+    let w = c.args.self.now in
+    let k = c.in-Some.open.now in
+    let found : value_at w.checks c.args.check ≡ Some k = subst (λ z. value_at z.checks c.args.check ≡ Some k) c.self.view_is (sym c.in-Some.ensures) in
+    let come : HasCome k c.args.value = some_has (λ z. HasCome z c.args.value) (value_at w.checks c.args.check) k c.requires.come found in
+    if_has (λ z. is_idle z.stage ≡ true) (value_at w.checks c.args.check) k found (come.idle (ap is_need c.in-Need.is))
+
+pub resolve-requires-clause-other : goal.resolve-requires-clause-other
+resolve-requires-clause-other c =
+    let w = c.args.self.now in
+    let k = c.in-Some.open.now in
+    let found : value_at w.checks c.args.check ≡ Some k = subst (λ z. value_at z.checks c.args.check ≡ Some k) c.self.view_is (sym c.in-Some.ensures) in
+    let come : HasCome k c.args.value = some_has (λ z. HasCome z c.args.value) (value_at w.checks c.args.check) k c.requires.come found in
+    let config : c.deref.result.now ≡ k.config = cc in
+    let of : class_of_acl k.config.acls c.in-Need.acl ≡ Some c.needed_class-class.result = ap (λ z. class_of_acl z.acls c.in-Need.acl) (sym config) ∙ c.needed_class-class.ensures.class in
+    if_has (λ z. has_answer z.answers c.needed_class-class.result c.in-Need.key ≡ false) (value_at w.checks c.args.check) k found
+    (come.other c.in-Need.acl c.needed_class-class.result c.in-Need.key c.in-Need.is of)
 
 pub resolve-requires-clause-part : goal.resolve-requires-clause-part
 resolve-requires-clause-part c =
@@ -36,7 +73,7 @@ returns-in-Verdict-clause-told c =
     let k = c.in-Some.open.now in
     let found : value_at w.checks c.args.check ≡ Some k = subst (λ z. value_at z.checks c.args.check ≡ Some k) c.self.view_is (sym c.in-Some.ensures) in
     let none = some_has (λ z. need_in z.stage ≡ None) (value_at w.checks c.args.check) k c.requires.idle found in
-    let comes : comes_to k ≡ value.Verdict c.in-Verdict.outcome = sym c.in-Ok.ensures.value ∙ c.in-Verdict.is in
+    let comes : comes_to k ≡ value.Verdict c.in-Verdict.outcome = sym (some_has (λ z. HasCome z c.args.value) (value_at w.checks c.args.check) k c.requires.come found).comes ∙ c.in-Verdict.is in
     step_found w c.args.check c.args.moment k found ∙ ap (step_next w.puts) (says_decided w c.args.check c.args.moment k c.in-Verdict.outcome i found none comes)
 
 pub returns-in-Verdict-clause-ok : goal.returns-in-Verdict-clause-ok
@@ -46,7 +83,7 @@ returns-in-Verdict-clause-ok c =
     let k = c.in-Some.open.now in
     let found : value_at w.checks c.args.check ≡ Some k = subst (λ z. value_at z.checks c.args.check ≡ Some k) c.self.view_is (sym c.in-Some.ensures) in
     let none = some_has (λ z. need_in z.stage ≡ None) (value_at w.checks c.args.check) k c.requires.idle found in
-    let comes : comes_to k ≡ value.Verdict c.in-Verdict.outcome = sym c.in-Ok.ensures.value ∙ c.in-Verdict.is in
+    let comes : comes_to k ≡ value.Verdict c.in-Verdict.outcome = sym (some_has (λ z. HasCome z c.args.value) (value_at w.checks c.args.check) k c.requires.come found).comes ∙ c.in-Verdict.is in
     let after = after_found w c.args.check c.args.moment k found ∙ ap (λ z. after_step_of c.args.check k.epoch z c.args.moment (state_of w)) (says_decided w c.args.check c.args.moment k c.in-Verdict.outcome i found none comes) in
     subst (λ z. IsSame (state_of c.decide.new.self) z) (sym after)
     (subst (λ z. IsSame (state_of z) (after_step_of c.args.check k.epoch says_done c.args.moment (state_of w))) (sym c.decide.ensures.value)
@@ -61,7 +98,7 @@ returns-in-Need-clause-told c =
     let none = some_has (λ z. need_in z.stage ≡ None) (value_at w.checks c.args.check) k c.requires.idle found in
     let config : c.deref.result.now ≡ k.config = cc in
     let of : class_of_acl k.config.acls c.in-Need.acl ≡ Some c.needed_class-class.result = ap (λ z. class_of_acl z.acls c.in-Need.acl) (sym config) ∙ c.needed_class-class.ensures.class in
-    let comes : comes_to k ≡ value.Need c.in-Need.acl c.in-Need.key = sym c.in-Ok.ensures.value ∙ c.in-Need.is in
+    let comes : comes_to k ≡ value.Need c.in-Need.acl c.in-Need.key = sym (some_has (λ z. HasCome z c.args.value) (value_at w.checks c.args.check) k c.requires.come found).comes ∙ c.in-Need.is in
     let epoch = c.epoch-epoch.ensures in
     told_by (stepped_told (state_of w) c.epoch-epoch.result) (stepped_told (state_of w) (epoch_of (state_of w) c.args.check)) (step_now (state_of w) c.args.check c.args.moment)
     (step_next w.puts (says_here w c.args.moment c.epoch-epoch.result c.needed_class-class.result c.in-Need.key)) c.resolve.result
@@ -80,7 +117,7 @@ returns-in-Need-clause-ok c =
     let none = some_has (λ z. need_in z.stage ≡ None) (value_at w.checks c.args.check) k c.requires.idle found in
     let config : c.deref.result.now ≡ k.config = cc in
     let of : class_of_acl k.config.acls c.in-Need.acl ≡ Some c.needed_class-class.result = ap (λ z. class_of_acl z.acls c.in-Need.acl) (sym config) ∙ c.needed_class-class.ensures.class in
-    let comes : comes_to k ≡ value.Need c.in-Need.acl c.in-Need.key = sym c.in-Ok.ensures.value ∙ c.in-Need.is in
+    let comes : comes_to k ≡ value.Need c.in-Need.acl c.in-Need.key = sym (some_has (λ z. HasCome z c.args.value) (value_at w.checks c.args.check) k c.requires.come found).comes ∙ c.in-Need.is in
     let epoch = c.epoch-epoch.ensures in
     let after =
     ap (λ e. after_step_of c.args.check e (says_here w c.args.moment e c.needed_class-class.result c.in-Need.key) c.args.moment (state_of w)) epoch

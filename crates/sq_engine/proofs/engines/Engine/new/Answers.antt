@@ -11,7 +11,7 @@ invariant_of-result c = fresh_engine _ c.args.setup c.args.offset c.args.now rec
   asks_are = refl;
   puts_are = refl;
   epochs_are = c.in_ok-epochs.ensures ∙ ap first_epochs (c.in_ok-config.ensures ∙ c.config.ensures);
-  setup_is = refl;
+  setup_is = c.in_ok-setup.ensures;
   offset_is = refl;
   latest_is = refl;
 }
@@ -24,7 +24,7 @@ returns-clause-same c = fresh_same _ c.args.setup c.args.offset c.args.now recor
   asks_are = refl;
   puts_are = refl;
   epochs_are = c.in_ok-epochs.ensures ∙ ap first_epochs (c.in_ok-config.ensures ∙ c.config.ensures);
-  setup_is = refl;
+  setup_is = c.in_ok-setup.ensures;
   offset_is = refl;
   latest_is = refl;
 }

@@ -7,6 +7,7 @@ use Rattle.sq_epochs.specs.Reconfigured.{after_reconfigured}
 use Rattle.sq_state.specs.Answers.{reconfigure_answer}
 use Rattle.sq_state.specs.Changes as changes
 use Rattle.sq_state.specs.States.{IsSame}
+use Rattle.sq_engine.specs.Engines.{IsEngine}
 use Rattle.sq_engine.specs.EngineViews.{EngineView, state_of}
 use Rattle.sq_engine.proofs.ReconfigureLaws.{busy_read, reconfigure_busy, reconfigure_fine, reconfigure_promised, reconfigure_spent, reconfigured_engine, reconfigured_same}
 use Rattle.sq_engine.proofs.engines.Engine.reconfigure.Goals as goal
@@ -40,7 +41,8 @@ pub invariant_of-self-2 : goal.invariant_of-self-2
 invariant_of-self-2 c =
     let v : EngineView = record { conns = c.self.inside.conns; checks = c.self.inside.checks; asks = c.self.inside.asks; puts = c.self.inside.puts; epochs = c.self.inside.epochs; setup = c.self.inside.setup; offset = c.self.inside.offset; latest = c.self.inside.latest } in
     let made : c.reconfigure.new.self ≡ after_reconfigured c.args.setup v.epochs = c.in-Ok-reconfigure.ensures.ok ∙ ap (λ z. after_reconfigured z v.epochs) (c.in-Ok.ensures ∙ c.config.ensures) in
-    reconfigured_engine v c.args.setup c.reconfigure.new.self c.later-self-inside.result c.self.invariant c.facts.ensures.live made
+    subst (λ z. IsEngine (record v { epochs = c.reconfigure.new.self; setup = z; latest = c.later-self-inside.result })) (sym c.in-Ok-make.ensures)
+    (reconfigured_engine v c.args.setup c.reconfigure.new.self c.later-self-inside.result c.self.invariant c.facts.ensures.live made)
 
 pub returns-clause-told : goal.returns-clause-told
 returns-clause-told c =

@@ -7,7 +7,7 @@ use Rattle.sq_state.specs.Changes.{after_step_of}
 use Rattle.sq_state.specs.States.{IsSame}
 use Rattle.sq_engine.specs.EngineViews.{state_of}
 use Rattle.sq_engine.specs.Stepping.{says_waits}
-use Rattle.sq_engine.proofs.NowLaws.{after_found, says_waiting, settled_idle, settled_settled, step_found, step_unknown, there_settled}
+use Rattle.sq_engine.proofs.NowLaws.{after_found, idle_looked, says_waiting, settled_looked, settled_settled, step_found, step_unknown, there_looked, there_settled}
 use Rattle.sq_engine.proofs.StepLaws.{quiet_same}
 use Rattle.sq_engine.proofs.BegunLaws.{kept_then}
 use Rattle.sq_engine.proofs.engines.Engine.step_on.Goals as goal
@@ -43,27 +43,46 @@ returns-in-Some-need-clause-ok c =
     (subst (λ z. IsSame (state_of z) (after_step_of c.args.check k.epoch (says_waits x.question) c.later-moment.result (state_of w))) (sym c.wait_on.ensures.value)
     (quiet_same w c.wait_on.new.self.checks c.later-moment.result c.args.check k.epoch (told.Waits x.question) c.wait_on.ensures.rows)))
 
+pub come_to-requires-clause-there : goal.come_to-requires-clause-there
+come_to-requires-clause-there c =
+    let w = c.args.self.now in
+    let k = c.in-Some.open.now in
+    let found : value_at w.checks c.args.check ≡ Some k = subst (λ z. value_at z.checks c.args.check ≡ Some k) c.self.view_is (sym c.in-Some.ensures) in
+    there_settled w.checks c.settle.new.self.checks c.args.check k found c.in-Ok-settle.ensures.ok
+
+pub come_to-requires-clause-settled : goal.come_to-requires-clause-settled
+come_to-requires-clause-settled c =
+    let w = c.args.self.now in
+    let k = c.in-Some.open.now in
+    let found : value_at w.checks c.args.check ≡ Some k = subst (λ z. value_at z.checks c.args.check ≡ Some k) c.self.view_is (sym c.in-Some.ensures) in
+    settled_settled w.checks c.settle.new.self.checks c.args.check k found c.in-Ok-settle.ensures.ok
+
 pub go_on-requires-clause-there : goal.go_on-requires-clause-there
 go_on-requires-clause-there c =
     let w = c.args.self.now in
     let k = c.in-Some.open.now in
     let found : value_at w.checks c.args.check ≡ Some k = subst (λ z. value_at z.checks c.args.check ≡ Some k) c.self.view_is (sym c.in-Some.ensures) in
-    there_settled w.checks c.settle.new.self.checks c.args.check k found c.in-Ok-settle.ensures.ok
+    let list = c.come_to.ensures.list in
+    there_looked w.checks c.settle.new.self.checks c.come_to.new.self.checks c.args.check list.0 k found c.in-Ok-settle.ensures.ok list.1
 
 pub go_on-requires-clause-settled : goal.go_on-requires-clause-settled
 go_on-requires-clause-settled c =
     let w = c.args.self.now in
     let k = c.in-Some.open.now in
     let found : value_at w.checks c.args.check ≡ Some k = subst (λ z. value_at z.checks c.args.check ≡ Some k) c.self.view_is (sym c.in-Some.ensures) in
-    settled_settled w.checks c.settle.new.self.checks c.args.check k found c.in-Ok-settle.ensures.ok
+    let list = c.come_to.ensures.list in
+    settled_looked w.checks c.settle.new.self.checks c.come_to.new.self.checks c.args.check list.0 k found c.in-Ok-settle.ensures.ok list.1
 
 pub go_on-requires-clause-idle : goal.go_on-requires-clause-idle
 go_on-requires-clause-idle c =
     let w = c.args.self.now in
     let k = c.in-Some.open.now in
     let found : value_at w.checks c.args.check ≡ Some k = subst (λ z. value_at z.checks c.args.check ≡ Some k) c.self.view_is (sym c.in-Some.ensures) in
+    let list = c.come_to.ensures.list in
     let none : need_in k.stage ≡ None = search rules in
-    settled_idle w.checks c.settle.new.self.checks c.args.check k found c.in-Ok-settle.ensures.ok none
+    idle_looked w.checks c.settle.new.self.checks c.come_to.new.self.checks c.args.check list.0 k found c.in-Ok-settle.ensures.ok list.1 none
 
 pub returns-clause-kept : goal.returns-clause-kept
-returns-clause-kept c = kept_then c.args.self.now.checks c.settle.new.self.checks c.go_on.new.self.checks c.settle.ensures.kept c.go_on.ensures.kept
+returns-clause-kept c =
+    kept_then c.args.self.now.checks c.settle.new.self.checks c.go_on.new.self.checks c.settle.ensures.kept
+    (kept_then c.settle.new.self.checks c.come_to.new.self.checks c.go_on.new.self.checks c.come_to.ensures.kept c.go_on.ensures.kept)

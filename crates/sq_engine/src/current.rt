@@ -1,0 +1,67 @@
+//! What is made once of the configuration that is current.
+ghost use Rattle.std.specs.Prelude.{◌≡◌, IfOk};
+ghost use Rattle.sq_checks.specs.OpenChecks.{begun_parts};
+
+use sq_base::{ConnNo, EpochNo, WantOfMemory};
+use sq_checks::OpenCheck;
+use sq_facts::read_facts;
+use sq_frames::Slots;
+use sq_rules::Sight;
+use sq_urlmatch::Setup;
+use std::alloc::Global;
+use std::marker::Model;
+use std::sync::Arc;
+
+/// The configuration of the current epoch, with what is made of it once: its patterns and lists, and the slots of its
+/// external acls. A contract sees the configuration.
+pub(crate) struct Current {
+    setup: Setup,
+    slots: Arc<Slots>,
+}
+
+// Written out, so that the drops of its parts are proved here alone.
+impl Drop for Current {
+    fn drop(self) {
+        let Current { setup: _, slots: _ } = self;
+    }
+}
+
+impl Model for Current {
+    ghost use Rattle.std.specs.Prelude.{◌≡◌};
+    ghost use Rattle.std.specs.Arc.{arc_value};
+    ghost use Rattle.sq_rules.specs.Configurations.{Configuration};
+
+    ghost Value = { Configuration };
+
+    ghost view = { λ c. c.setup };
+
+    ghost invariant = { λ c. arc_value c.slots ≡ c.setup };
+}
+
+impl Current {
+    /// What is made of the configuration of this setup.
+    pub(crate) fn make(alloc: Global, setup: Setup) -> Result<Current, WantOfMemory>
+        ensures { IfOk result (λ c. c ≡ setup) }
+    {
+        let slots = Slots::new(alloc, setup.config())?;
+        match Arc::new(alloc, slots) {
+            Ok(slots) => Ok(Current { setup, slots }),
+            Err(_) => Err(WantOfMemory),
+        }
+    }
+
+    /// The check that begins on a connection, in the epoch of this configuration, of what it sees.
+    pub(crate) fn begun(
+        &mut self,
+        alloc: Global,
+        conn: ConnNo,
+        epoch: EpochNo,
+        sight: Sight,
+    ) -> Result<OpenCheck, WantOfMemory>
+        ensures ok { IfOk result (λ c. c ≡ begun_parts conn epoch self.old sight) }
+        ensures same { self.new ≡ self.old }
+    {
+        let facts = read_facts(alloc, &mut self.setup, &sight)?;
+        OpenCheck::new(alloc, conn, epoch, &self.slots, sight, facts)
+    }
+}
