@@ -4,6 +4,7 @@ ghost use Rattle.sq_pools.specs.Basins.{grant_in, has_pool, is_dry, made_in, sea
 ghost use Rattle.sq_pools.specs.declared.pools.ChooseFault.TheVariants as fault;
 ghost use Rattle.sq_machine.specs.Limits.{last_number};
 
+use crate::turns::Turns;
 use sq_base::{Addr, EpochNo, Moment, WantOfMemory};
 use sq_pools::{ChooseFault, Pools, Seat};
 use sq_rules::Config;
@@ -11,11 +12,13 @@ use std::alloc::Global;
 use std::sync::Arc;
 use std::sync::ledger::{Book, Ledger, Share};
 
-/// The delay pools, and the book of what they granted. The book counts on where the pools' number stands at 2^127.
+/// The delay pools, the book of what they granted, and the seats that wait for their turn. The book counts on where the
+/// pools' number stands at 2^127.
 #[derive(Drop)]
 pub struct Bank<G: Ledger> {
     pools: Pools,
     grants: Book<G>,
+    turns: Turns,
     ghost grants_are: { pools.granted ≡ min (2 ^ 127) grants.total },
 }
 
@@ -27,7 +30,11 @@ impl<G: Ledger> Bank<G> {
         requires { pools.granted ≡ min (2 ^ 127) grants.total }
         ensures { pools_of result ≡ pools }
     {
-        Bank { pools, grants }
+        Bank {
+            pools,
+            grants,
+            turns: Turns::new(),
+        }
     }
 
     /// Gives a seat, as the pools do.
@@ -60,9 +67,39 @@ impl<G: Ledger> Bank<G> {
         ensures amount { share.new.amount ≡ share.old.amount + result }
         ensures parts { share.new.parts ≡ share.old.parts }
     {
-        let Bank { pools, grants } = self;
+        let Bank { pools, grants, .. } = self;
         let amount = pools.grant(seat, wanted, now);
         grants.add(share, amount);
+        amount
+    }
+
+    /// Grants bytes to a seat whose turn it is, and none to another. Where others wait for a bucket of the seat, each that has
+    /// waited since an earlier second is granted an even part of what there is; a seat that was granted some waits for the next
+    /// second then.
+    pub fn grant_in_turn(
+        &mut self,
+        seat: &Seat,
+        wanted: u64,
+        now: Moment,
+        share: &mut Share<G>,
+    ) -> u64
+        requires { 0 < share.old.parts }
+        ensures within { result ≤ wanted }
+        ensures amount { share.new.amount ≡ share.old.amount + result }
+        ensures parts { share.new.parts ≡ share.old.parts }
+    {
+        let number = seat.number();
+        let second = self.pools.second(seat, now);
+        let others = self.turns.others(number, second);
+        let whole = wanted.min(self.pools.even_part(seat, &[], now));
+        let part = wanted.min(self.pools.even_part(seat, &others, now));
+        let is_due = part == whole || self.turns.may_take(number, second);
+        let amount = self.grant(seat, if is_due { part } else { 0 }, now, share);
+        if amount == 0 {
+            self.turns.enter(number, second);
+        } else {
+            self.turns.leave(number);
+        }
         amount
     }
 
@@ -70,6 +107,7 @@ impl<G: Ledger> Bank<G> {
     pub fn leave(&mut self, seat: Seat)
         ensures { HasLeft (pools_of self.old) (pools_of self.new) seat }
     {
+        self.turns.leave(seat.number());
         self.pools.leave(seat);
     }
 
@@ -93,7 +131,11 @@ impl<G: Ledger> Bank<G> {
         requires { all.parts ≡ G.parts }
         ensures { result.granted ≡ min (2 ^ 127) all.amount }
     {
-        let Bank { pools, mut grants } = self;
+        let Bank {
+            pools,
+            mut grants,
+            ..
+        } = self;
         let mut all = all;
         grants.audit(&mut all);
         pools

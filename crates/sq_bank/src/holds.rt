@@ -1,5 +1,6 @@
 //! The holds of the pools' lock. Nothing is proved here of what lies under it but what its type keeps; each function
-//! takes the lock, makes the one call of its name with the arguments that it was handed, and lets go.
+//! takes the lock, makes the one call of its name with the arguments that it was handed, and lets go; `grant` makes
+//! `grant_in_turn`.
 ghost use Rattle.std.specs.Prelude.{◌≡◌, ◌+◌, ◌<◌, ◌≤◌, true};
 ghost use Rattle.sq_pools.specs.Basins.{has_pool};
 
@@ -27,7 +28,7 @@ pub fn choose<R: Wait, G: Ledger>(
     bank.lock(rt).choose(alloc, epoch, config, pool, addr, now)
 }
 
-/// Grants bytes to a seat, which the share counts.
+/// Grants bytes to a seat whose turn it is, which the share counts.
 pub fn grant<R: Wait, G: Ledger>(
     rt: &R,
     bank: &Mutex<Bank<G>>,
@@ -41,7 +42,7 @@ pub fn grant<R: Wait, G: Ledger>(
     ensures amount { share.new.amount ≡ share.old.amount + result }
     ensures parts { share.new.parts ≡ share.old.parts }
 {
-    bank.lock(rt).grant(seat, wanted, now, share)
+    bank.lock(rt).grant_in_turn(seat, wanted, now, share)
 }
 
 /// Gives a seat up.

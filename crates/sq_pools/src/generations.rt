@@ -159,6 +159,14 @@ impl Generations {
         Some(filling.bucket_in(generation.second(now)))
     }
 
+    // The second of the generation of an epoch that a moment lies in; 0 where there is none.
+    pub(crate) fn second(&self, epoch: EpochNo, now: Moment) -> u64 {
+        match self.map.get(&epoch) {
+            Some(generation) => generation.second(now),
+            None => 0,
+        }
+    }
+
     // Makes the generation of an epoch that has none.
     pub(crate) fn begin(
         &mut self,

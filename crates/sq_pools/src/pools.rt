@@ -87,6 +87,17 @@ fn newer(one: EpochNo, other: EpochNo) -> EpochNo
     if one.0 < other.0 { other } else { one }
 }
 
+// A level divided among a seat and so many others, rounded up.
+fn divided(level: u64, others: u64) -> u64 {
+    let count = others.saturating_add(1).max(1);
+    let part = level / count;
+    if level % count == 0 {
+        part
+    } else {
+        part.saturating_add(1)
+    }
+}
+
 // The pool at a place.
 fn pool_at(config: &Config, place: u32) -> Option<&Pool>
     ensures pool { option_copied result ≡ slice_get config.now.pools place }
@@ -261,6 +272,33 @@ impl Pools {
         let seated = self.seats.get(seat.number())?;
         let spot = seated.spots.as_slice().get(i as usize)?;
         self.generations.bucket(seated.epoch, *spot, self.latest)
+    }
+
+    /// The second of its generation in which a seat is at a moment: its buckets gain as the next one begins.
+    pub fn second(&self, seat: &Seat, now: Moment) -> u64 {
+        match self.seats.get(seat.number()) {
+            Some(seated) => self
+                .generations
+                .second(seated.epoch, later(now, self.latest)),
+            None => 0,
+        }
+    }
+
+    /// The least of what a seat's buckets hold at a moment, in bytes, each divided evenly among the seat and those of these
+    /// others that have the bucket too, and rounded up.
+    pub fn even_part(&self, seat: &Seat, others: &[SeatNo], now: Moment) -> u64 {
+        let Some(seated) = self.seats.get(seat.number()) else {
+            return 0;
+        };
+        let now = later(now, self.latest);
+        let mut least = u64::MAX;
+        for spot in seated.spots.as_slice() {
+            if let Some(bucket) = self.generations.bucket(seated.epoch, *spot, now) {
+                let count = self.seats.count(others, seated.epoch, *spot);
+                least = least.min(divided(bucket.level, count));
+            }
+        }
+        least
     }
 
     /// The sum of all grants so far, in bytes, or 2^127 where that is less.

@@ -1,19 +1,22 @@
 //! The desk, as it lies behind its lock, with its three books.
-ghost use Rattle.std.specs.Prelude.{◌≡◌, ◌+◌, ◌<◌, min, true, IfOk};
+ghost use Rattle.std.specs.Prelude.{◌≡◌, ◌+◌, ◌<◌, [], min, nat_lt, true, IfOk};
 ghost use Rattle.std.specs.Option.{ForSome};
 ghost use Rattle.sq_outside.specs.Causes.{count_limit};
 ghost use Rattle.sq_room.specs.Books.{AreCounted, asks_in};
+ghost use Rattle.sq_room.specs.Waking.{is_awaited, one_more};
 ghost use Rattle.sq_machine.specs.Readings.{current};
 
-use sq_base::{EpochNo, Texts, WantOfMemory};
+use crate::awaited::Awaited;
+use crate::older::Older;
+use sq_base::{EpochNo, QuestionNo, Texts, WantOfMemory};
 use sq_calls::DeskCalls;
 use sq_rules::Config;
 use std::alloc::Global;
 use std::sync::Arc;
 use std::sync::ledger::{Book, Ledger, Share};
 
-/// A desk with the books of its requests, reconfigurations and refusals, how often it changed, how often a question may
-/// have been answered, and whether it was given up. A book goes on counting where the number that the desk tells stands
+/// A desk with the books of its requests, reconfigurations and refusals, how often an act may have become due, for which
+/// questions' answers sessions wait, and whether it was given up. A book goes on counting where the number that the desk tells stands
 /// at its limit.
 #[derive(Drop)]
 pub struct Hall<D: DeskCalls, A: Ledger, M: Ledger, N: Ledger> {
@@ -22,7 +25,8 @@ pub struct Hall<D: DeskCalls, A: Ledger, M: Ledger, N: Ledger> {
     pub(crate) makes: Book<M>,
     pub(crate) refusals: Book<N>,
     pub(crate) changes: u64,
-    pub(crate) answers: u64,
+    pub(crate) awaited: Awaited,
+    pub(crate) older: Older,
     pub(crate) stopped: bool,
     pub(crate) done: bool,
     ghost entries_are: { AreCounted requests.total makes.total (D.told desk) },
@@ -32,11 +36,18 @@ pub struct Hall<D: DeskCalls, A: Ledger, M: Ledger, N: Ledger> {
 
 impl<D: DeskCalls, A: Ledger, M: Ledger, N: Ledger> Hall<D, A, M, N> {
     /// A desk and its books.
-    pub fn new(desk: D, requests: Book<A>, makes: Book<M>, refusals: Book<N>) -> Hall<D, A, M, N>
+    pub fn new(
+        alloc: Global,
+        desk: D,
+        requests: Book<A>,
+        makes: Book<M>,
+        refusals: Book<N>,
+    ) -> Hall<D, A, M, N>
         requires entries { AreCounted requests.total makes.total (D.told desk) }
         requires makes { ForSome (D.made desk) (λ m. m ≡ makes.total) }
         requires refusals { D.refused desk ≡ min refusals.total count_limit }
-        ensures { result.desk ≡ desk }
+        ensures desk { result.desk ≡ desk }
+        ensures awaited { result.awaited.questions.items ≡ [] }
     {
         Hall {
             desk,
@@ -44,7 +55,8 @@ impl<D: DeskCalls, A: Ledger, M: Ledger, N: Ledger> Hall<D, A, M, N> {
             makes,
             refusals,
             changes: 0,
-            answers: 0,
+            awaited: Awaited::new(alloc),
+            older: Older::new(),
             stopped: false,
             done: false,
         }
@@ -65,18 +77,25 @@ impl<D: DeskCalls, A: Ledger, M: Ledger, N: Ledger> Hall<D, A, M, N> {
         self.desk.config(epoch)
     }
 
-    /// How often it changed, but for acts.
+    /// How often an act may have become due, or a keeper have ended.
     pub fn changes(&self) -> u64
         ensures { result ≡ self.now.changes }
     {
         self.changes
     }
 
-    /// How often a line was read, or a process died or could not be started: a question may have been answered.
-    pub fn answers(&self) -> u64
-        ensures { result ≡ self.now.answers }
+    /// Whether a session was told to wait for this question, and its answer has not come since.
+    pub fn is_awaited(&self, question: QuestionNo) -> bool
+        ensures { result ≡ is_awaited question self.now.awaited.questions.items }
     {
-        self.answers
+        self.awaited.has(question)
+    }
+
+    /// Whether an epoch may live that is not current: where its last check goes, acts are due.
+    pub fn may_have_older(&self) -> bool
+        ensures { result ≡ nat_lt self.now.older.oldest self.now.older.current }
+    {
+        self.older.may_live()
     }
 
     /// Whether it was given up.
@@ -90,9 +109,11 @@ impl<D: DeskCalls, A: Ledger, M: Ledger, N: Ledger> Hall<D, A, M, N> {
     pub fn give_up(&mut self)
         ensures stopped { self.new.stopped ≡ true }
         ensures desk { self.new.desk ≡ self.old.desk }
+        ensures changes { self.new.changes ≡ one_more self.old.changes }
+        ensures awaited { self.new.awaited.questions.items ≡ [] }
     {
         self.changes = self.changes.wrapping_add(1);
-        self.answers = self.answers.wrapping_add(1);
+        self.awaited.clear();
         self.stopped = true;
     }
 

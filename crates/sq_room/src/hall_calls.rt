@@ -1,13 +1,15 @@
 //! The calls of the desk under its lock, each counted.
-ghost use Rattle.std.specs.Prelude.{◌≡◌, ◌+◌, ◌<◌, true, IfOk, IsErrOf};
+ghost use Rattle.std.specs.Prelude.{◌≡◌, ◌+◌, ◌<◌, [], true, IfOk, IsErrOf, nat_lt};
 ghost use Rattle.sq_calls.specs.declared.faults.DeskFault.TheVariants as fault;
 ghost use Rattle.sq_calls.specs.Legality.{IsStated};
 ghost use Rattle.sq_calls.specs.Telling.{IsAsking, IsClosing, IsDead, IsFailed, IsLine, IsOpening, IsReread, IsStarted, IsStep, IsStepTold, IsTakeTold, IsTaking, MayAct, Notes, NotesAs, got_told};
 ghost use Rattle.sq_machine.specs.declared.entries.Told.TheVariants as answer;
 ghost use Rattle.sq_room.specs.Books.{SharesLine, SharesMade, SharesRefusal};
+ghost use Rattle.sq_room.specs.Waking.{after_line, after_step, may_ask, one_more, raised_if};
 
 use crate::counting::{count, count_line, count_made};
 use crate::hall::Hall;
+use crate::older::may_ask;
 use sq_base::{Addr, CheckNo, ConnNo, EpochNo, Moment, ProcNo, Request};
 use sq_calls::{DeskCalls, DeskFault};
 use sq_channel::Got;
@@ -33,14 +35,10 @@ impl<D: DeskCalls, A: Ledger, M: Ledger, N: Ledger> Hall<D, A, M, N> {
         ensures noted { Notes (λ _. answer.Fine) (IsOpening conn addr port) (D.told self.old.desk) (D.told self.new.desk) result }
         ensures refused { SharesRefusal refused.old.amount refused.new.amount result }
         ensures parts { refused.new.parts ≡ refused.old.parts }
+        ensures changes { self.new.changes ≡ self.old.changes }
+        ensures awaited { self.new.awaited ≡ self.old.awaited }
     {
-        let Hall {
-            desk,
-            refusals,
-            changes,
-            ..
-        } = self;
-        *changes = changes.wrapping_add(1);
+        let Hall { desk, refusals, .. } = self;
         let gave = desk.open(conn, addr, port, now);
         count(refusals, refused, &gave);
         gave
@@ -59,14 +57,19 @@ impl<D: DeskCalls, A: Ledger, M: Ledger, N: Ledger> Hall<D, A, M, N> {
         ensures memory { IsErrOf result fault.WantOfMemory → ⊥ }
         ensures refused { SharesRefusal refused.old.amount refused.new.amount result }
         ensures parts { refused.new.parts ≡ refused.old.parts }
+        ensures changes { self.new.changes ≡ raised_if (nat_lt self.old.older.oldest self.old.older.current) self.old.changes }
+        ensures awaited { self.new.awaited ≡ self.old.awaited }
     {
         let Hall {
             desk,
             refusals,
             changes,
+            older,
             ..
         } = self;
-        *changes = changes.wrapping_add(1);
+        if older.may_live() {
+            *changes = changes.wrapping_add(1);
+        }
         let gave = desk.close(conn, now);
         count(refusals, refused, &gave);
         gave
@@ -90,15 +93,15 @@ impl<D: DeskCalls, A: Ledger, M: Ledger, N: Ledger> Hall<D, A, M, N> {
         ensures asked_parts { asked.new.parts ≡ asked.old.parts }
         ensures refused { SharesRefusal refused.old.amount refused.new.amount result }
         ensures parts { refused.new.parts ≡ refused.old.parts }
+        ensures changes { self.new.changes ≡ self.old.changes }
+        ensures awaited { self.new.awaited ≡ self.old.awaited }
     {
         let Hall {
             desk,
             requests,
             refusals,
-            changes,
             ..
         } = self;
-        *changes = changes.wrapping_add(1);
         let gave = desk.ask(alloc, conn, request, now);
         count_made(requests, asked, &gave);
         count(refusals, refused, &gave);
@@ -118,15 +121,24 @@ impl<D: DeskCalls, A: Ledger, M: Ledger, N: Ledger> Hall<D, A, M, N> {
         ensures noted { NotesAs IsStepTold (IsStep check) (D.told self.old.desk) (D.told self.new.desk) result }
         ensures refused { SharesRefusal refused.old.amount refused.new.amount result }
         ensures parts { refused.new.parts ≡ refused.old.parts }
+        ensures changes { self.new.changes ≡ raised_if (may_ask result) self.old.changes }
+        ensures awaited { self.new.awaited.questions.items ≡ after_step result self.old.awaited.questions.items }
     {
         let Hall {
             desk,
             refusals,
             changes,
+            awaited,
             ..
         } = self;
-        *changes = changes.wrapping_add(1);
+        if awaited.reserve().is_err() {
+            return Err(DeskFault::WantOfMemory);
+        }
         let gave = desk.step(alloc, check, now);
+        if may_ask(&gave) {
+            *changes = changes.wrapping_add(1);
+        }
+        awaited.begin(&gave);
         count(refusals, refused, &gave);
         gave
     }
@@ -144,14 +156,19 @@ impl<D: DeskCalls, A: Ledger, M: Ledger, N: Ledger> Hall<D, A, M, N> {
         ensures noted { NotesAs IsTakeTold (IsTaking check) (D.told self.old.desk) (D.told self.new.desk) result }
         ensures refused { SharesRefusal refused.old.amount refused.new.amount result }
         ensures parts { refused.new.parts ≡ refused.old.parts }
+        ensures changes { self.new.changes ≡ raised_if (nat_lt self.old.older.oldest self.old.older.current) self.old.changes }
+        ensures awaited { self.new.awaited ≡ self.old.awaited }
     {
         let Hall {
             desk,
             refusals,
             changes,
+            older,
             ..
         } = self;
-        *changes = changes.wrapping_add(1);
+        if older.may_live() {
+            *changes = changes.wrapping_add(1);
+        }
         let gave = desk.take(alloc, check, now);
         count(refusals, refused, &gave);
         gave
@@ -171,6 +188,8 @@ impl<D: DeskCalls, A: Ledger, M: Ledger, N: Ledger> Hall<D, A, M, N> {
         ensures noted { Notes answer.Proc (IsStarted D.first (D.told self.old.desk) epoch class) (D.told self.old.desk) (D.told self.new.desk) result }
         ensures refused { SharesRefusal refused.old.amount refused.new.amount result }
         ensures parts { refused.new.parts ≡ refused.old.parts }
+        ensures changes { self.new.changes ≡ one_more self.old.changes }
+        ensures awaited { self.new.awaited ≡ self.old.awaited }
     {
         let Hall {
             desk,
@@ -198,16 +217,18 @@ impl<D: DeskCalls, A: Ledger, M: Ledger, N: Ledger> Hall<D, A, M, N> {
         ensures noted { Notes (λ _. answer.Fine) (IsFailed D.first (D.told self.old.desk) epoch class) (D.told self.old.desk) (D.told self.new.desk) result }
         ensures refused { SharesRefusal refused.old.amount refused.new.amount result }
         ensures parts { refused.new.parts ≡ refused.old.parts }
+        ensures changes { self.new.changes ≡ one_more self.old.changes }
+        ensures awaited { self.new.awaited.questions.items ≡ [] }
     {
         let Hall {
             desk,
             refusals,
             changes,
-            answers,
+            awaited,
             ..
         } = self;
         *changes = changes.wrapping_add(1);
-        *answers = answers.wrapping_add(1);
+        awaited.clear();
         let gave = desk.start_failed(alloc, epoch, class, now);
         count(refusals, refused, &gave);
         gave
@@ -227,17 +248,19 @@ impl<D: DeskCalls, A: Ledger, M: Ledger, N: Ledger> Hall<D, A, M, N> {
         ensures noted { Notes got_told (IsLine proc bytes.now) (D.told self.old.desk) (D.told self.new.desk) result }
         ensures refused { SharesLine refused.old.amount refused.new.amount result }
         ensures parts { refused.new.parts ≡ refused.old.parts }
+        ensures changes { self.new.changes ≡ one_more self.old.changes }
+        ensures awaited { self.new.awaited.questions.items ≡ after_line result self.old.awaited.questions.items }
     {
         let Hall {
             desk,
             refusals,
             changes,
-            answers,
+            awaited,
             ..
         } = self;
         *changes = changes.wrapping_add(1);
-        *answers = answers.wrapping_add(1);
         let gave = desk.line(alloc, proc, bytes, now);
+        awaited.end(&gave);
         count_line(refusals, refused, &gave);
         gave
     }
@@ -255,16 +278,18 @@ impl<D: DeskCalls, A: Ledger, M: Ledger, N: Ledger> Hall<D, A, M, N> {
         ensures memory { IsErrOf result fault.WantOfMemory → ⊥ }
         ensures refused { SharesRefusal refused.old.amount refused.new.amount result }
         ensures parts { refused.new.parts ≡ refused.old.parts }
+        ensures changes { self.new.changes ≡ one_more self.old.changes }
+        ensures awaited { self.new.awaited.questions.items ≡ [] }
     {
         let Hall {
             desk,
             refusals,
             changes,
-            answers,
+            awaited,
             ..
         } = self;
         *changes = changes.wrapping_add(1);
-        *answers = answers.wrapping_add(1);
+        awaited.clear();
         let gave = desk.died(proc, now);
         count(refusals, refused, &gave);
         gave
@@ -282,9 +307,19 @@ impl<D: DeskCalls, A: Ledger, M: Ledger, N: Ledger> Hall<D, A, M, N> {
         ensures noted { MayAct (D.told self.old.desk) (D.told self.new.desk) result }
         ensures refused { SharesRefusal refused.old.amount refused.new.amount result }
         ensures parts { refused.new.parts ≡ refused.old.parts }
+        ensures changes { self.new.changes ≡ self.old.changes }
+        ensures awaited { self.new.awaited ≡ self.old.awaited }
     {
-        let Hall { desk, refusals, .. } = self;
+        let Hall {
+            desk,
+            refusals,
+            older,
+            ..
+        } = self;
         let gave = desk.act(alloc, now);
+        if let Ok(None) = gave {
+            older.forget(&*desk);
+        }
         count(refusals, refused, &gave);
         gave
     }
@@ -310,17 +345,23 @@ impl<D: DeskCalls, A: Ledger, M: Ledger, N: Ledger> Hall<D, A, M, N> {
         ensures whole { made.old.parts ≡ M.parts → IfOk result (λ e. e ≡ made.new.amount + 1) }
         ensures refused { SharesRefusal refused.old.amount refused.new.amount result }
         ensures parts { refused.new.parts ≡ refused.old.parts }
+        ensures changes { self.new.changes ≡ one_more self.old.changes }
+        ensures awaited { self.new.awaited ≡ self.old.awaited }
     {
         let Hall {
             desk,
             makes,
             refusals,
             changes,
+            older,
             ..
         } = self;
         *changes = changes.wrapping_add(1);
         makes.audit(made);
         let gave = desk.reconfigure(alloc, setup, now);
+        if let Ok(epoch) = gave {
+            older.begin(epoch);
+        }
         count_made(makes, made, &gave);
         count(refusals, refused, &gave);
         gave

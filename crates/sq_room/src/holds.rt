@@ -19,6 +19,13 @@ use std::alloc::Global;
 use std::sync::ledger::{Ledger, Share};
 use std::sync::{Arc, Wait};
 
+// Wakes the pump where an act may be due.
+fn tell_if<D: DeskCalls, A: Ledger, M: Ledger, N: Ledger>(room: &Room<D, A, M, N>, due: bool) {
+    if due {
+        room.tell_pump();
+    }
+}
+
 /// A client's connection opens.
 pub fn open<R: Wait, D: DeskCalls, A: Ledger, M: Ledger, N: Ledger>(
     rt: &R,
@@ -49,7 +56,12 @@ pub fn close<R: Wait, D: DeskCalls, A: Ledger, M: Ledger, N: Ledger>(
     ensures refused { SharesRefusal refused.old.amount refused.new.amount result }
     ensures parts { refused.new.parts ≡ refused.old.parts }
 {
-    room.hall.lock(rt).close(conn, now, refused)
+    let mut hall = room.hall.lock(rt);
+    let gave = hall.close(conn, now, refused);
+    let due = hall.may_have_older();
+    drop(hall);
+    tell_if(room, due);
+    gave
 }
 
 /// A check goes on.
@@ -68,26 +80,6 @@ pub fn step<R: Wait, D: DeskCalls, A: Ledger, M: Ledger, N: Ledger>(
     room.hall.lock(rt).step(alloc, check, now, refused)
 }
 
-/// A check goes on. `seen` is then how often questions may have been answered so far.
-pub fn step_on<R: Wait, D: DeskCalls, A: Ledger, M: Ledger, N: Ledger>(
-    rt: &R,
-    room: &Room<D, A, M, N>,
-    alloc: Global,
-    check: CheckNo,
-    now: Moment,
-    refused: &mut Share<N>,
-    seen: &mut u64,
-) -> Result<Stepped, DeskFault>
-    requires { 0 < refused.old.parts }
-    ensures refused { SharesRefusal refused.old.amount refused.new.amount result }
-    ensures parts { refused.new.parts ≡ refused.old.parts }
-{
-    let mut hall = room.hall.lock(rt);
-    let gave = hall.step(alloc, check, now, refused);
-    *seen = hall.answers();
-    gave
-}
-
 /// The outcome of a check is taken.
 pub fn take<R: Wait, D: DeskCalls, A: Ledger, M: Ledger, N: Ledger>(
     rt: &R,
@@ -101,7 +93,12 @@ pub fn take<R: Wait, D: DeskCalls, A: Ledger, M: Ledger, N: Ledger>(
     ensures refused { SharesRefusal refused.old.amount refused.new.amount result }
     ensures parts { refused.new.parts ≡ refused.old.parts }
 {
-    room.hall.lock(rt).take(alloc, check, now, refused)
+    let mut hall = room.hall.lock(rt);
+    let gave = hall.take(alloc, check, now, refused);
+    let due = hall.may_have_older();
+    drop(hall);
+    tell_if(room, due);
+    gave
 }
 
 /// A process was started.

@@ -7,6 +7,7 @@
 //! `holds`, `door_holds` and `waits`.
 #![tactic(auto)]
 
+mod awaited;
 mod control_desk;
 mod counting;
 mod door;
@@ -15,6 +16,7 @@ mod hall;
 mod hall_calls;
 pub mod holds;
 mod lock_desk;
+mod older;
 mod room;
 mod waits;
 
@@ -24,4 +26,7 @@ pub use door_holds::{accept, has_failed};
 pub use hall::Hall;
 pub use lock_desk::LockDesk;
 pub use room::Room;
-pub use waits::{changes, is_stopped, set_done, tell, wait_answered, wait_due};
+pub use waits::{
+    changes, is_awaited, is_stopped, number_told, set_done, tell_end, tell_step, wait_answered,
+    wait_due,
+};

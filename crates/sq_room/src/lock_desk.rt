@@ -7,7 +7,7 @@ ghost use Rattle.sq_calls.specs.Legality.{IsStated};
 
 use crate::holds;
 use crate::room::Room;
-use crate::waits::{tell, tell_answer, tell_end};
+use crate::waits::{tell, tell_answers, tell_end, tell_line, tell_step};
 use sq_base::{Addr, CheckNo, ConnNo, EpochNo, Moment, ProcNo, Request, Texts, WantOfMemory};
 use sq_calls::{DeskCalls, DeskFault};
 use sq_channel::Got;
@@ -88,28 +88,28 @@ impl<'a, R: Wait, D: DeskCalls, A: Ledger, M: Ledger, N: Ledger> DeskCalls
     #[tactic(auto, using(crate::proofs::ShareLaws::untold, crate::proofs::ShareLaws::untold_as, crate::proofs::ShareLaws::untold_act, crate::proofs::ShareLaws::share_counts, crate::proofs::ShareLaws::share_counts_line))]
     fn open(&mut self, conn: ConnNo, addr: Addr, port: u16, now: Moment) -> Result<(), DeskFault> {
         let gave = holds::open(self.rt, self.room, conn, addr, port, now, &mut self.refused);
-        tell(self.rt, self.room, &gave);
+        tell_end(self.rt, self.room, &gave);
         gave
     }
 
     #[tactic(auto, using(crate::proofs::ShareLaws::untold, crate::proofs::ShareLaws::untold_as, crate::proofs::ShareLaws::untold_act, crate::proofs::ShareLaws::share_counts, crate::proofs::ShareLaws::share_counts_line))]
     fn close(&mut self, conn: ConnNo, now: Moment) -> Result<(), DeskFault> {
         let gave = holds::close(self.rt, self.room, conn, now, &mut self.refused);
-        tell(self.rt, self.room, &gave);
+        tell_end(self.rt, self.room, &gave);
         gave
     }
 
     #[tactic(auto, using(crate::proofs::ShareLaws::untold, crate::proofs::ShareLaws::untold_as, crate::proofs::ShareLaws::untold_act, crate::proofs::ShareLaws::share_counts, crate::proofs::ShareLaws::share_counts_line))]
     fn step(&mut self, alloc: Global, check: CheckNo, now: Moment) -> Result<Stepped, DeskFault> {
         let gave = holds::step(self.rt, self.room, alloc, check, now, &mut self.refused);
-        tell(self.rt, self.room, &gave);
+        tell_step(self.rt, self.room, &gave);
         gave
     }
 
     #[tactic(auto, using(crate::proofs::ShareLaws::untold, crate::proofs::ShareLaws::untold_as, crate::proofs::ShareLaws::untold_act, crate::proofs::ShareLaws::share_counts, crate::proofs::ShareLaws::share_counts_line))]
     fn take(&mut self, alloc: Global, check: CheckNo, now: Moment) -> Result<Record, DeskFault> {
         let gave = holds::take(self.rt, self.room, alloc, check, now, &mut self.refused);
-        tell(self.rt, self.room, &gave);
+        tell_end(self.rt, self.room, &gave);
         gave
     }
 
@@ -151,7 +151,7 @@ impl<'a, R: Wait, D: DeskCalls, A: Ledger, M: Ledger, N: Ledger> DeskCalls
             now,
             &mut self.refused,
         );
-        tell_answer(self.rt, self.room, &gave);
+        tell_answers(self.rt, self.room, &gave);
         gave
     }
 
@@ -172,14 +172,14 @@ impl<'a, R: Wait, D: DeskCalls, A: Ledger, M: Ledger, N: Ledger> DeskCalls
             now,
             &mut self.refused,
         );
-        tell_answer(self.rt, self.room, &gave);
+        tell_line(self.rt, self.room, &gave);
         gave
     }
 
     #[tactic(auto, using(crate::proofs::ShareLaws::untold, crate::proofs::ShareLaws::untold_as, crate::proofs::ShareLaws::untold_act, crate::proofs::ShareLaws::share_counts, crate::proofs::ShareLaws::share_counts_line))]
     fn died(&mut self, proc: ProcNo, now: Moment) -> Result<(), DeskFault> {
         let gave = holds::died(self.rt, self.room, proc, now, &mut self.refused);
-        tell_answer(self.rt, self.room, &gave);
+        tell_answers(self.rt, self.room, &gave);
         gave
     }
 

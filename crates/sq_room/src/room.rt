@@ -1,15 +1,18 @@
 //! The desk's lock.
 use crate::hall::Hall;
+use sq_base::QuestionNo;
 use sq_calls::DeskCalls;
+use std::array;
 use std::sync::ledger::Ledger;
 use std::sync::{Condvar, Mutex};
 
-/// The desk behind its lock, and where threads sleep: sessions at `answered` until a question may have been answered,
-/// the pump at `due` until the desk changed.
+/// The desk behind its lock, and where threads sleep: a session at the place of the question that it waits for, the pump at
+/// `due` until an act may be due. Questions that are open at once have numbers near one another, so with as many places as
+/// there are workers at most few share one.
 #[derive(Drop)]
 pub struct Room<D: DeskCalls, A: Ledger, M: Ledger, N: Ledger> {
     pub(crate) hall: Mutex<Hall<D, A, M, N>>,
-    pub(crate) answered: Condvar,
+    pub(crate) answered: [Condvar; 64],
     pub(crate) due: Condvar,
 }
 
@@ -18,7 +21,7 @@ impl<D: DeskCalls, A: Ledger, M: Ledger, N: Ledger> Room<D, A, M, N> {
     pub fn new(hall: Hall<D, A, M, N>) -> Room<D, A, M, N> {
         Room {
             hall: Mutex::new(hall),
-            answered: Condvar::new(),
+            answered: array::from_fn(|_place| Condvar::new()),
             due: Condvar::new(),
         }
     }
@@ -33,14 +36,27 @@ impl<D: DeskCalls, A: Ledger, M: Ledger, N: Ledger> Room<D, A, M, N> {
         hall.into_inner()
     }
 
-    /// Wakes the pump: the desk changed.
+    /// Wakes the pump: an act may be due.
     pub(crate) fn tell_pump(&self) {
         self.due.notify_all();
     }
 
-    /// Wakes the pump, and the sessions: a question may have been answered.
+    // Where the sessions sleep that wait for this question.
+    pub(crate) fn place(&self, question: QuestionNo) -> &Condvar {
+        &self.answered[(question.0 % 64) as usize]
+    }
+
+    /// Wakes the pump, and the sessions that wait for this question: it was answered.
+    pub(crate) fn tell_answered(&self, question: QuestionNo) {
+        self.place(question).notify_all();
+        self.due.notify_all();
+    }
+
+    /// Wakes the pump, and all sessions: any question may have been answered.
     pub(crate) fn tell_all(&self) {
-        self.answered.notify_all();
+        for place in &self.answered {
+            place.notify_all();
+        }
         self.due.notify_all();
     }
 }

@@ -1,12 +1,19 @@
-//! Threads that sleep until the desk changed or a question may have been answered, and what the pump and the control
-//! tell them. Each function takes the desk's lock for one call; nothing is proved here of what lies under it, and nothing
+//! Threads that sleep until an act may be due or a question was answered, and what the pump, keepers and the control tell
+//! them. Each function takes the desk's lock for one call; nothing is proved here of what lies under it, and nothing
 //! is said of when a thread wakes.
+ghost use Rattle.std.specs.Prelude.{◌≡◌, ◌<◌, ◌^◌};
+ghost use Rattle.sq_room.specs.Waking.{number_told};
+
+use crate::older::may_ask;
 use crate::room::Room;
+use sq_base::QuestionNo;
 use sq_calls::{DeskCalls, DeskFault};
+use sq_channel::Got;
+use sq_rows::Stepped;
 use std::sync::Wait;
 use std::sync::ledger::Ledger;
 
-/// How often the desk changed so far.
+/// How often an act may have become due so far.
 pub fn changes<R: Wait, D: DeskCalls, A: Ledger, M: Ledger, N: Ledger>(
     rt: &R,
     room: &Room<D, A, M, N>,
@@ -14,19 +21,39 @@ pub fn changes<R: Wait, D: DeskCalls, A: Ledger, M: Ledger, N: Ledger>(
     room.hall.lock(rt).changes()
 }
 
-/// Sleeps, as a session does, until questions may have been answered more often than this.
+/// The number of the question for which a step said to wait, or 0, which no question has.
+pub fn number_told(gave: &Result<Stepped, DeskFault>) -> u64
+    ensures number { result ≡ number_told gave.now }
+    ensures bound { result < 2 ^ 63 }
+{
+    match gave {
+        Ok(Stepped::Waits(question)) => question.0,
+        Ok(Stepped::Took(_)) | Ok(Stepped::Done) | Err(_) => 0,
+    }
+}
+
+/// Sleeps, as a session does, while the answer to this question has not come.
 pub fn wait_answered<R: Wait, D: DeskCalls, A: Ledger, M: Ledger, N: Ledger>(
     rt: &R,
     room: &Room<D, A, M, N>,
-    seen: u64,
+    question: QuestionNo,
 ) {
     let guard = room.hall.lock(rt);
     let _guard = room
-        .answered
-        .wait_while(rt, guard, |hall| hall.answers() == seen);
+        .place(question)
+        .wait_while(rt, guard, |hall| hall.is_awaited(question));
 }
 
-/// Sleeps, as the pump does, until the desk changed more often than this, or no more is to be done. Answers whether
+/// Whether a session sleeps, or is about to, until the answer to this question comes.
+pub fn is_awaited<R: Wait, D: DeskCalls, A: Ledger, M: Ledger, N: Ledger>(
+    rt: &R,
+    room: &Room<D, A, M, N>,
+    question: QuestionNo,
+) -> bool {
+    room.hall.lock(rt).is_awaited(question)
+}
+
+/// Sleeps, as the pump does, until acts may have become due more often than this, or no more is to be done. Answers whether
 /// that is so.
 pub fn wait_due<R: Wait, D: DeskCalls, A: Ledger, M: Ledger, N: Ledger>(
     rt: &R,
@@ -66,7 +93,7 @@ pub fn tell_end<R: Wait, D: DeskCalls, A: Ledger, M: Ledger, N: Ledger, T>(
     }
 }
 
-/// After a call: the pump learns that the desk changed, and all who wait where it has stopped.
+/// After a call by which an act may have become due: the pump learns it, and all who wait where the desk has stopped.
 pub fn tell<R: Wait, D: DeskCalls, A: Ledger, M: Ledger, N: Ledger, T>(
     rt: &R,
     room: &Room<D, A, M, N>,
@@ -76,14 +103,40 @@ pub fn tell<R: Wait, D: DeskCalls, A: Ledger, M: Ledger, N: Ledger, T>(
     room.tell_pump();
 }
 
-/// After a call that may answer a question: all who wait learn it.
-pub fn tell_answer<R: Wait, D: DeskCalls, A: Ledger, M: Ledger, N: Ledger, T>(
+/// After a step: the pump learns where it may have put a question, and all who wait where the desk has stopped.
+pub fn tell_step<R: Wait, D: DeskCalls, A: Ledger, M: Ledger, N: Ledger>(
+    rt: &R,
+    room: &Room<D, A, M, N>,
+    gave: &Result<Stepped, DeskFault>,
+) {
+    tell_end(rt, room, gave);
+    if may_ask(gave) {
+        room.tell_pump();
+    }
+}
+
+/// After a call that may have answered any question: all who wait learn it.
+pub fn tell_answers<R: Wait, D: DeskCalls, A: Ledger, M: Ledger, N: Ledger, T>(
     rt: &R,
     room: &Room<D, A, M, N>,
     gave: &Result<T, DeskFault>,
 ) {
     tell_end(rt, room, gave);
     room.tell_all();
+}
+
+/// After a line of a process: who waits for the question that it replied to learns it, or all where it ended the process.
+pub fn tell_line<R: Wait, D: DeskCalls, A: Ledger, M: Ledger, N: Ledger>(
+    rt: &R,
+    room: &Room<D, A, M, N>,
+    gave: &Result<Got, DeskFault>,
+) {
+    tell_end(rt, room, gave);
+    match gave {
+        Ok(Got::Reply(question, _)) => room.tell_answered(*question),
+        Ok(Got::Bad) | Ok(Got::Stray) => room.tell_all(),
+        Err(_) => {}
+    }
 }
 
 /// Whether the desk was given up.

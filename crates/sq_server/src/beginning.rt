@@ -70,6 +70,7 @@ pub(crate) fn begin<J: Journal, B: Before, F: First>(
 /// Opens the books of a desk and of pools that counted nothing yet.
 #[tactic(auto, using(crate::proofs::BeginLaws::counted_none, crate::proofs::BeginLaws::made_none, crate::proofs::BeginLaws::refused_none, crate::proofs::BeginLaws::granted_none))]
 pub(crate) fn open_books<D: DeskCalls, A: Ledger, M: Ledger, N: Ledger, G: Ledger>(
+    alloc: Global,
     desk: D,
     pools: Pools,
     blanks: Blanks,
@@ -101,7 +102,7 @@ pub(crate) fn open_books<D: DeskCalls, A: Ledger, M: Ledger, N: Ledger, G: Ledge
         grants: granted,
     };
     (
-        Hall::new(desk, asks, makes, refusals),
+        Hall::new(alloc, desk, asks, makes, refusals),
         Bank::new(pools, grants),
         wholes,
     )

@@ -92,7 +92,7 @@ fn serve_with<
     };
     let Machine { desk, pools } = machine;
     let (hall, bank, wholes) = open_books::<Desk<Watched<J, B>, F>, A, M, N, G>(
-        desk, pools, blanks,
+        alloc, desk, pools, blanks,
     );
     let Ran {
         desk,

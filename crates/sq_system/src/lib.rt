@@ -2,7 +2,8 @@
 //! the traits of `sq_outside`. They are the trusted edge: that what they hand on are the true bytes is for the
 //! reader to see, and `tests_system` tries them on the loopback.
 //!
-//! Over readers and writers of std that tell what they hold, an adapter tells the same; the system's tell nothing.
+//! Over readers and writers of std that tell what they hold, an adapter tells the same, but for `RealLines`, which holds bytes
+//! that are not written yet; the system's tell nothing.
 //! A host is dialled in its one spelling alone (`has_one_spelling`), and links and dials have limits of time (`LinkTimes`).
 //! A call answers a fault only where the object's count rose, and each error of the system raises it.
 #![tactic(auto)]
@@ -13,6 +14,7 @@ mod children;
 mod hosts;
 mod house;
 mod line;
+mod lines;
 mod real_clock;
 mod real_net;
 mod system;
@@ -23,6 +25,7 @@ mod times;
 
 pub use children::{RealChildIn, RealSpawner};
 pub use hosts::has_one_spelling;
+pub use lines::RealLines;
 pub use real_clock::RealClock;
 pub use real_net::RealNet;
 pub use system::{RealFiles, RealSink, RealSource};

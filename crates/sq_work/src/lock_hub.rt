@@ -1,16 +1,16 @@
 //! `LockHub`: the engine and the pools behind their locks, as one connection sees them.
-ghost use Rattle.std.specs.Prelude.{◌≡◌, ◌≤◌, ◌<◌, ◌+◌, ◌-◌, min, None};
+ghost use Rattle.std.specs.Prelude.{◌≡◌, ◌≤◌, ◌<◌, ◌+◌, ◌-◌, ◌^◌, min, None};
 ghost use Rattle.sq_outside.specs.Causes.{count_limit, raised};
 ghost use Rattle.sq_work.specs.HubFaults.{hub_fault, hub_gave};
 
 use sq_bank::Bank;
-use sq_base::{Addr, CheckNo, ConnNo, EpochNo, Request};
+use sq_base::{Addr, CheckNo, ConnNo, EpochNo, QuestionNo, Request};
 use sq_calls::{DeskCalls, DeskFault};
 use sq_checks::Record;
 use sq_hub::{Hub, HubFault};
 use sq_outside::{Clock, raised, raised_by};
 use sq_pools::{ChooseFault, Seat};
-use sq_room::{Room, holds, tell, wait_answered};
+use sq_room::{Room, holds, number_told, tell_end, tell_step, wait_answered};
 use sq_rows::Stepped;
 use sq_rules::Config;
 use sq_session::Counts;
@@ -31,8 +31,7 @@ pub struct Shares<A: Ledger, N: Ledger, G: Ledger> {
 
 /// The engine and the pools behind their locks. Each call that has the name of one of theirs is one hold, in which it
 /// makes that one call at the moment of its clock and adds to its shares. It tells how many requests it made and how many
-/// bytes it was granted, each up to 2^63 - 1, and remembers how often questions had been answered when its last step
-/// came back.
+/// bytes it was granted, each up to 2^63 - 1, and remembers the number of the question for which its last step said to wait, or 0.
 #[derive(Drop)]
 pub struct LockHub<
     'a,
@@ -50,7 +49,7 @@ pub struct LockHub<
     clock: C,
     asks: u64,
     grants: u64,
-    seen: u64,
+    question: u64,
     asked: Share<A>,
     refused: Share<N>,
     granted: Share<G>,
@@ -59,6 +58,17 @@ pub struct LockHub<
     ghost granted_part: { granted.parts ≡ 1 },
     ghost asks_are: { asks ≡ min asked.amount count_limit },
     ghost grants_are: { grants ≡ min granted.amount count_limit },
+    ghost question_fits: { question < 2 ^ 63 },
+}
+
+// So many pauses of a clock, of 10 milliseconds, come to a second.
+const SECOND: u32 = 100;
+
+// Waits for a second, in which each bucket gains once.
+fn rest<C: Clock>(clock: &mut C) {
+    for _ in 0..SECOND {
+        clock.pause();
+    }
 }
 
 // The fault of a hub where the desk did not make a call. A desk that has stopped is a journal that failed.
@@ -116,7 +126,7 @@ impl<
             clock,
             asks: 0,
             grants: 0,
-            seen: 0,
+            question: 0,
             asked,
             refused,
             granted,
@@ -173,7 +183,7 @@ impl<'a, R: Wait, D: DeskCalls, A: Ledger, M: Ledger, N: Ledger, G: Ledger, C: C
     ) -> Result<(), HubFault> {
         let now = self.clock.now();
         let gave = holds::open(self.rt, self.room, conn, addr, port, now, &mut self.refused);
-        tell(self.rt, self.room, &gave);
+        tell_end(self.rt, self.room, &gave);
         hub_gave(gave)
     }
 
@@ -181,7 +191,7 @@ impl<'a, R: Wait, D: DeskCalls, A: Ledger, M: Ledger, N: Ledger, G: Ledger, C: C
     fn close(&mut self, conn: ConnNo) -> Result<(), HubFault> {
         let now = self.clock.now();
         let gave = holds::close(self.rt, self.room, conn, now, &mut self.refused);
-        tell(self.rt, self.room, &gave);
+        tell_end(self.rt, self.room, &gave);
         hub_gave(gave)
     }
 
@@ -197,7 +207,7 @@ impl<'a, R: Wait, D: DeskCalls, A: Ledger, M: Ledger, N: Ledger, G: Ledger, C: C
             ..
         } = self;
         let gave = holds::ask(*rt, *room, alloc, conn, request, now, asked, refused);
-        tell(*rt, *room, &gave);
+        tell_end(*rt, *room, &gave);
         if gave.is_ok() {
             *asks = raised(*asks);
         }
@@ -207,15 +217,9 @@ impl<'a, R: Wait, D: DeskCalls, A: Ledger, M: Ledger, N: Ledger, G: Ledger, C: C
     #[tactic(auto, using(crate::proofs::HubLaws::hub_refuses, crate::proofs::HubLaws::hub_fails, crate::proofs::HubLaws::share_rises))]
     fn step(&mut self, alloc: Global, check: CheckNo) -> Result<Stepped, HubFault> {
         let now = self.clock.now();
-        let LockHub {
-            rt,
-            room,
-            seen,
-            refused,
-            ..
-        } = self;
-        let gave = holds::step_on(*rt, *room, alloc, check, now, refused, seen);
-        tell(*rt, *room, &gave);
+        let gave = holds::step(self.rt, self.room, alloc, check, now, &mut self.refused);
+        tell_step(self.rt, self.room, &gave);
+        self.question = number_told(&gave);
         hub_gave(gave)
     }
 
@@ -223,7 +227,7 @@ impl<'a, R: Wait, D: DeskCalls, A: Ledger, M: Ledger, N: Ledger, G: Ledger, C: C
     fn take(&mut self, alloc: Global, check: CheckNo) -> Result<Record, HubFault> {
         let now = self.clock.now();
         let gave = holds::take(self.rt, self.room, alloc, check, now, &mut self.refused);
-        tell(self.rt, self.room, &gave);
+        tell_end(self.rt, self.room, &gave);
         hub_gave(gave)
     }
 
@@ -259,11 +263,11 @@ impl<'a, R: Wait, D: DeskCalls, A: Ledger, M: Ledger, N: Ledger, G: Ledger, C: C
     }
 
     fn wait(&mut self) {
-        wait_answered(self.rt, self.room, self.seen);
+        wait_answered(self.rt, self.room, QuestionNo(self.question));
     }
 
     fn pause(&mut self) {
-        self.clock.pause();
+        rest(&mut self.clock);
     }
 
     fn counted(&self) -> Counts {

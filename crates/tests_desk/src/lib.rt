@@ -19,3 +19,7 @@ mod locked;
 mod locks;
 #[cfg(test)]
 mod seats;
+#[cfg(test)]
+mod turns;
+#[cfg(test)]
+mod waits;

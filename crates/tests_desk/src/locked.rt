@@ -313,7 +313,7 @@ fn run_locked<R: Wait, D: DeskCalls, A: Ledger, M: Ledger, N: Ledger, G: Ledger>
     requires refused { D.refused desk ≡ 0 }
     requires granted { pools.granted ≡ 0 }
 {
-    let (room, bank, wholes) = lock::<D, A, M, N, G>(desk, pools, blanks);
+    let (room, bank, wholes) = lock::<D, A, M, N, G>(alloc, desk, pools, blanks);
     let Back { done, asked, made } = run_case(rt, alloc, &room, &bank, clock, wholes, case, marks);
     (done, room.into_hall().end(asked, made))
 }

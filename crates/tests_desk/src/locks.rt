@@ -7,6 +7,7 @@ use sq_bank::Bank;
 use sq_calls::DeskCalls;
 use sq_pools::Pools;
 use sq_room::{Hall, Room};
+use std::alloc::Global;
 use std::sync::Mutex;
 use std::sync::ledger::{Blank, Book, Ledger, Share};
 
@@ -51,6 +52,7 @@ pub struct Wholes<A: Ledger, M: Ledger, N: Ledger, G: Ledger> {
 // Puts a desk that counted nothing yet behind its lock.
 #[tactic(auto, using(crate::proofs::BeginLaws::counted_none, crate::proofs::BeginLaws::made_none, crate::proofs::BeginLaws::refused_none))]
 fn room_of<D: DeskCalls, A: Ledger, M: Ledger, N: Ledger>(
+    alloc: Global,
     desk: D,
     asks: Book<A>,
     makes: Book<M>,
@@ -61,12 +63,12 @@ fn room_of<D: DeskCalls, A: Ledger, M: Ledger, N: Ledger>(
     requires made { ForSome (D.made desk) (λ m. m ≡ 0) }
     requires refused { D.refused desk ≡ 0 }
 {
-    Room::new(Hall::new(desk, asks, makes, refusals))
+    Room::new(Hall::new(alloc, desk, asks, makes, refusals))
 }
 
-// Puts pools that granted nothing yet behind their lock.
+/// Puts pools that granted nothing yet behind their lock.
 #[tactic(auto, using(crate::proofs::BeginLaws::granted_none))]
-fn bank_of<G: Ledger>(pools: Pools, grants: Book<G>) -> Mutex<Bank<G>>
+pub fn bank_of<G: Ledger>(pools: Pools, grants: Book<G>) -> Mutex<Bank<G>>
     requires { (grants.total ≡ 0) × (pools.granted ≡ 0) }
 {
     Mutex::new(Bank::new(pools, grants))
@@ -74,6 +76,7 @@ fn bank_of<G: Ledger>(pools: Pools, grants: Book<G>) -> Mutex<Bank<G>>
 
 /// Puts a desk and pools that counted nothing yet behind their locks.
 pub fn lock<D: DeskCalls, A: Ledger, M: Ledger, N: Ledger, G: Ledger>(
+    alloc: Global,
     desk: D,
     pools: Pools,
     blanks: Blanks,
@@ -108,7 +111,7 @@ pub fn lock<D: DeskCalls, A: Ledger, M: Ledger, N: Ledger, G: Ledger>(
         granted,
     };
     (
-        room_of(desk, asks, makes, refusals),
+        room_of(alloc, desk, asks, makes, refusals),
         bank_of(pools, grants),
         wholes,
     )

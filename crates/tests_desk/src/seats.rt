@@ -42,13 +42,13 @@ leave => - 300 - -
 ";
 
 /// A client.
-const CLIENT: Addr = Addr {
+pub const CLIENT: Addr = Addr {
     v6: false,
     number: 0x0a00_0001,
 };
 
-// Whether the configuration has this pool, and it takes the client.
-fn takes(config: &Config, pool: u32, addr: Addr) -> bool
+/// Whether the configuration has this pool, and it takes the client.
+pub fn takes(config: &Config, pool: u32, addr: Addr) -> bool
     ensures { result ≡ has_pool config.now pool addr }
 {
     match config.pools().get(pool as usize) {
@@ -237,7 +237,7 @@ fn run_locked<R: Wait, D: DeskCalls + Drop, A: Ledger, M: Ledger, N: Ledger, G: 
     requires refused { D.refused desk ≡ 0 }
     requires granted { pools.granted ≡ 0 }
 {
-    let (room, bank, wholes) = lock::<D, A, M, N, G>(desk, pools, blanks);
+    let (room, bank, wholes) = lock::<D, A, M, N, G>(alloc, desk, pools, blanks);
     let Wholes {
         asked,
         mut refused,

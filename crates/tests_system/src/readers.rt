@@ -2,7 +2,7 @@
 
 use sq_base::{Text, WantOfMemory};
 use sq_outside::{Files, NoOpen, read_file, read_whole, write_all};
-use sq_system::{RealFiles, RealSink, RealSource};
+use sq_system::{RealFiles, RealLines, RealSink, RealSource};
 use std::alloc::Global;
 use std::io::{self, ErrorKind, Read, Write};
 use std::test::Fail;
@@ -63,6 +63,58 @@ fn adapters_reach_what_stands_behind_them(rt: HostRuntime) -> Result<(), Fail> {
     });
     assert!(rt; write_all(&mut sink, b"help me") == Ok(()));
     assert!(rt; &bytes == b"help me\0");
+    Ok(())
+}
+
+// A writer that ends what each call wrote with `|`.
+#[derive(Drop)]
+struct Marks<'a> {
+    calls: &'a mut [u8],
+    count: usize,
+}
+
+impl<'a> Write for Marks<'a> {
+    fn write(&mut self, buf: &[u8]) -> io::Result<usize> {
+        let free = self.calls.len().saturating_sub(self.count);
+        if buf.len() >= free {
+            return Err(ErrorKind::StorageFull.into());
+        }
+        for byte in buf {
+            self.put(*byte);
+        }
+        self.put(b'|');
+        Ok(buf.len())
+    }
+
+    fn flush(&mut self) -> io::Result<()> {
+        Ok(())
+    }
+}
+
+impl<'a> Marks<'a> {
+    // One byte more.
+    fn put(&mut self, byte: u8) {
+        if let Some(place) = self.calls.get_mut(self.count) {
+            *place = byte;
+            self.count = self.count.saturating_add(1);
+        }
+    }
+}
+
+#[test]
+fn a_line_goes_out_with_its_end(rt: HostRuntime) -> Result<(), Fail> {
+    let mut calls = [b'.'; 16];
+    let marks = Marks {
+        calls: calls.as_mut_slice(),
+        count: 0,
+    };
+    let mut sink = RealLines::new(rt.alloc(), marks)?;
+    let wrote = write_all(&mut sink, b"1 1 act").is_ok() && write_all(&mut sink, b"\n").is_ok();
+    let open = write_all(&mut sink, b"2").is_ok();
+    let failed = write_all(&mut sink, b"2 1 act\n").is_err();
+    drop(sink);
+    assert!(rt; wrote && open && failed);
+    assert!(rt; &calls == b"1 1 act\n|.......");
     Ok(())
 }
 
