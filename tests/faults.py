@@ -31,16 +31,7 @@ PATIENCE = 30.0  # the seconds after which a wait has failed
 JOURNAL_BEGIN = re.compile(r"journal 2\n1 1 \d+ begin 0 => epoch 1\n")
 
 # Of a check by its name, why the program does not do what docs say.
-THREADS = (
-    "a worker, or the thread that asks helpers, that could not be made for want of memory is left out without a word. With less than about "
-    "13 MiB of address space there is no worker: it says `listening` and answers nobody, where docs have status 10. Up to some 40 MiB there are "
-    "fewer than were asked for"
-)
-KNOWN: dict[str, str] = {
-    "little memory and it serves, sizes without an answer": THREADS,
-    "little memory and it serves, sizes with which a helper's check waits for good": THREADS + ", and none that starts helpers",
-    "little memory and it serves, sizes with which it does not end": THREADS + ", and a check that waits for a helper holds the server",
-}
+KNOWN: dict[str, str] = {}
 
 
 class Bench:
@@ -371,19 +362,22 @@ def limit_memory(kib: int) -> None:
     resource.setrlimit(resource.RLIMIT_AS, (kib * 1024, kib * 1024))
 
 
-ENOUGH = 60_000  # KiB: more than six stacks of 8 MiB, and what else it takes
-
-
 def little_memory_and_it_serves(bench: Bench) -> None:
-    """Once it has written `listening` it answers clients, with whatever memory it began: as with more, or by what names the want."""
+    """With too little memory for its threads it ends with 10. Once it has written `listening` it answers clients, with whatever memory it
+    began: as with more, or by what names the want."""
     if bench.sanitized:
         return bench.left("a build for a sanitizer takes address space without end")
+    refused: list[int] = []
     silent: list[int] = []
     unasked: list[int] = []
     endless: list[int] = []
+    Path("c.conf").write_text(ASKING)
     denied = {own("403 Forbidden", f"denied fault 1 known {cause}") for cause in ("NoHelper", "Died")}
     fields = ["Connection: close", *(f"X-{number}: {'v' * 480}" for number in range(120))]
-    for kib in (6000, 14_000, 24_000, 42_000, 60_000, 120_000):
+    for kib in (6000, 14_000, 24_000, 36_000, 60_000, 120_000):
+        if run_serve(bench, lambda: limit_memory(kib), ("--workers", "4")) == ", status 10":
+            refused.append(kib)
+            continue
         server = bench.start(ASKING, "--workers", "4", before=lambda: limit_memory(kib))
         for what, path, more, wanted in (
             ("an answer", "/", ["Connection: close"], {hello()}),
@@ -393,21 +387,20 @@ def little_memory_and_it_serves(bench: Bench) -> None:
             ("another answer", "/", ["Connection: close"], {hello()}),
         ):
             with bench.connect() as link:
-                link.settimeout(2 if kib < ENOUGH else PATIENCE)
                 link.sendall(bench.request(path, *more))
                 got = all_of(link)
             if got == b"<too slow>":
                 (unasked if what == "a helper" else silent).append(kib)
             elif not (what == "a large reply" and BIG.startswith(got)):
                 bench.same(f"{kib} KiB, {what}", got, wanted | {NO_MEMORY, GATEWAY, b""})
-        ended = bench.ends(server, seconds=4 if kib < ENOUGH else PATIENCE)
+        ended = bench.ends(server)
         if ended == "status None":
             endless.append(kib)
             server.kill()
         else:
             bench.same(f"{kib} KiB, its end", ended, {"stopped status 0", "error net status 9"})
         bench.same(f"{kib} KiB, its journal", bench.verify(), "verified")
-    bench.same("with enough for its threads", [kib for kib in silent + unasked + endless if kib >= ENOUGH], [])
+    bench.same("sizes without room for its threads", refused, [6000, 14_000, 24_000, 36_000])
     bench.same("sizes without an answer", sorted(set(silent)), [])
     bench.same("sizes with which a helper's check waits for good", unasked, [])
     bench.same("sizes with which it does not end", endless, [])

@@ -7,6 +7,8 @@ those are tried, too, that take minutes. The status is 0 where all holds. Python
 
 import argparse
 import os
+import re
+import resource
 import shutil
 import signal
 import socket
@@ -21,11 +23,27 @@ from typing import Callable
 
 sys.dont_write_bytecode = True
 
-from chaos_parts.server import Server, free_port, reply_of  # noqa: E402
+from chaos_parts.server import Server, free_port, reply_of, stat_of  # noqa: E402
 
 HERE = Path(__file__).resolve().parent
 PATIENCE = 30.0  # the seconds after which a wait has failed
 PLAIN = "acl SSL_ports port 1-65535\nacl CONNECT method CONNECT\nhttp_access allow all\n"
+# Each class has a host of its own, which its helper is asked about: one that is silent, one that reads nothing, one that answers.
+HELPED = (
+    "external_acl_type silent concurrency=4 children-max=1 queue-size=10 %>rp /bin/sh ./helper silent\n"
+    "external_acl_type deaf concurrency=100 children-max=1 %>rp /bin/sh ./helper deaf\n"
+    "external_acl_type good ttl=0 children-max=1 %>rp /bin/sh ./helper good\n"
+    "acl is_silent external silent\nacl is_deaf external deaf\nacl is_good external good\n"
+    "acl to_silent url_regex /silent-helper\nacl to_deaf url_regex /deaf-helper\n"
+    "http_access deny to_silent !is_silent\nhttp_access deny to_deaf !is_deaf\nhttp_access deny !is_good\nhttp_access allow all\n"
+)
+HELPER = """echo $$ >>pids
+case $1 in
+silent) cat >/dev/null ;;
+deaf) exec sleep 600 ;;
+esac
+while read -r key rest; do echo OK; done
+"""
 LONG = False
 
 
@@ -107,8 +125,8 @@ class Bench:
         print(f"links, {self.what}, {what}: {'as expected' if holds else f'it was {got!r}'}")
         self.wrong += not holds
 
-    def start(self, workers: int, port: int = 0) -> Server:
-        Path("squid.conf").write_text(PLAIN)
+    def start(self, workers: int, port: int = 0, text: str = PLAIN) -> Server:
+        Path("squid.conf").write_text(text)
         self.port = port or free_port()
         server = Server(self.program, ["squid.conf", "--port", str(self.port), "--workers", str(workers)], "journal")
         self.servers.append(server)
@@ -379,7 +397,123 @@ def silence(bench: Bench) -> None:
     bench.check("its end", (said := bench.ends(server)) == "stopped, status 0", said)
 
 
-CHECKS = [silent_clients, idle_links, free_workers, clients_that_leave, shutdown]
+def helpers(bench: Bench) -> None:
+    """A helper that is silent, and one that does not read its questions, let those wait that ask them, and nobody else, not their
+    clients' leaving either; behind the order to end both are stopped after 5 seconds. No helper is left then."""
+    Path("helper").write_text(HELPER)
+    server = bench.start(32, text=HELPED)
+    waiting = []
+    for number in range(20):
+        # More than a pipe has room for.
+        for path in (f"/silent-helper/{number}", f"/deaf-helper/{number}/{'a' * 7000}"):
+            if number < 8 or path.startswith("/deaf"):
+                link = bench.connect()
+                bench.ask(link, path)
+                waiting.append(link)
+    for number in range(3):
+        time.sleep(0.2)
+        link, took = bench.get()
+        bench.check(f"client {number}", took < 2, took)
+        link.close()
+    for link in waiting[::3]:
+        reset(link)
+    link, took = bench.get()
+    bench.check("a client behind those that left", took < 2, took)
+    link.close()
+    pids = [int(word) for word in Path("pids").read_text().split()]
+    bench.check("one process of each", len(pids) == 3, pids)
+    if LONG:
+        begun = time.monotonic()
+        left = [one for number, one in enumerate(waiting) if number % 3]
+        for one in left:
+            one.settimeout(150)
+        replies = [reply_of(one) for one in left]
+        took = time.monotonic() - begun
+        wrong = [one for one in replies if not re.search(rb"denied fault [12] is_(silent|deaf) Died$", one)]
+        bench.check("all are denied by the fault", not wrong, wrong[:3])
+        bench.check("after a minute, and one for each turn of four", 115 < took < 130, took)
+        bench.get()[0].close()
+        link = bench.connect()
+        bench.ask(link, "/silent-helper/last")
+        time.sleep(0.5)
+    begun = time.monotonic()
+    server.order("shutdown\n")
+    said = f"{server.hear(PATIENCE)}, status {server.ends(5)}"
+    took = time.monotonic() - begun
+    bench.check("its end", said == "stopped, status 0", said)
+    bench.check("its end comes in time", 4 < took < 8, took)
+    pids = [int(word) for word in Path("pids").read_text().split()]
+    bench.check("no process is left", not [one for one in pids if stat_of(one)[0]], pids)
+    bench.check("its journal", (said := bench.verify()) == "verified", said)
+
+
+def unreachable(bench: Bench) -> None:
+    """Who asks an origin that cannot be reached waits for ten seconds, and nobody else does."""
+    server = bench.start(4)
+    with socket.socket() as listener:
+        # The system drops who comes to a full queue.
+        listener.bind(("127.0.0.1", 0))
+        listener.listen(0)
+        full = []
+        for _ in range(4):
+            full.append(socket.socket())
+            full[-1].setblocking(False)
+            full[-1].connect_ex(listener.getsockname())
+        waiting = [bench.connect() for _ in range(3)]
+        begun = time.monotonic()
+        for link in waiting:
+            link.sendall(b"GET http://127.0.0.1:%d/ HTTP/1.1\r\nHost: a\r\n\r\n" % listener.getsockname()[1])
+        time.sleep(0.3)
+        for number in range(3):
+            link, took = bench.get()
+            bench.check(f"client {number}", took < 2, took)
+            link.close()
+        if LONG:
+            replies = [reply_of(link) for link in waiting]
+            took = time.monotonic() - begun
+            bench.check("the others", all(one.startswith(b"HTTP/1.1 502 ") for one in replies), replies)
+            bench.check("after ten seconds", 9 < took < 13, took)
+            bench.check("its end", (said := bench.ends(server)) == "stopped, status 0", said)
+            bench.check("its journal", (said := bench.verify()) == "verified", said)
+        for link in full + waiting:
+            link.close()
+
+
+def shortages(bench: Bench) -> None:
+    """Where its port is taken it ends by 9, where it gets not all of its threads by 10, each before it listens. Where files are wanting
+    clients wait, and once they are there it is as if nothing had been."""
+    server = bench.start(4)
+    taken = Server(bench.program, ["squid.conf", "--port", str(bench.port)], "other")
+    said = f"{taken.hear(PATIENCE)}, {taken.hear(PATIENCE)}, status {taken.ends(5)}"
+    bench.check("a taken port", said == "error net, its end, status 9", said)
+    # Stacks of 8 MiB.
+    for workers, most in ((16, 100 << 20), (64, 400 << 20)):
+        words = ["squid.conf", "--port", str(free_port()), "--workers", str(workers)]
+        short = Server(bench.program, words, "other", lambda: resource.setrlimit(resource.RLIMIT_AS, (most, most)))
+        said = f"{short.hear(PATIENCE)}, status {short.ends(5)}"
+        bench.check(f"{workers} workers without memory", said == "its end, status 10", said)
+    old = resource.prlimit(server.pid, resource.RLIMIT_NOFILE)
+    resource.prlimit(server.pid, resource.RLIMIT_NOFILE, (4, old[1]))
+    # A worker that waits has the file for its next link.
+    first, link = bench.connect(), bench.connect()
+    for one in (first, link):
+        bench.ask(one, "/hello")
+        time.sleep(0.3)
+    reply = reply_of(first)
+    bench.check("a client without a file for its origin", reply.startswith(b"HTTP/1.1 502 "), reply)
+    resource.prlimit(server.pid, resource.RLIMIT_NOFILE, old)
+    reply = reply_of(link)
+    bench.check("a client that waited for a file", reply.endswith(b"hello"), reply)
+    links = [bench.get()[0] for _ in range(3)]
+    server.order("reconfigure\n")
+    bench.check("an order, later", (said := server.hear(PATIENCE)) == "reconfigured 2", said)
+    for one in (first, link, *links):
+        one.close()
+    bench.check("its end", (said := bench.ends(server)) == "stopped, status 0", said)
+    bench.check("its journal", (said := bench.verify()) == "verified", said)
+
+
+CHECKS = [silent_clients, idle_links, free_workers, clients_that_leave, shutdown, helpers, unreachable, shortages]
 LONG_CHECKS = [silence]
 
 

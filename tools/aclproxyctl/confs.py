@@ -107,3 +107,10 @@ class Conf:
     def rule(self, number: int) -> Optional[Line]:
         """Rule N: the N-th line of `http_access`."""
         return self.rules[number - 1] if 1 <= number <= len(self.rules) else None
+
+    def port(self) -> str:
+        """Where it listens unless an option says otherwise: the first line of `http_port` counts."""
+        for line in self.lines:
+            if line.word(0) == "http_port":
+                return line.word(1).rpartition(":")[2]
+        return "3128"

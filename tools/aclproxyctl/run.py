@@ -384,6 +384,9 @@ class Supervisor:
         said = run.last.split(" ")
         if said[:2] == ["error", "config"] and len(said) == 4:
             why = self.refused(run.source, said[2:])
+        elif status == 9 and not run.listening:
+            port = self.options.port if self.options.port is not None else Conf(run.source).port()
+            why = f"port {port} of all addresses (0.0.0.0 and ::) is taken or may not be opened"
         else:
             why = words.STATUSES.get(status, f"its last line is {run.last!r}")
         if not self.renewing or self.stopping or status != 0:

@@ -345,8 +345,8 @@ STATUSES = {
     5: "its standard output could not be written",
     6: "the journal could not be written",
     7: "there is no such configuration",
-    9: "the port is taken or may not be opened, or the listener failed",
-    10: "there was no memory to start",
+    9: "the listener failed",
+    10: "there was no memory to start, or not all of its threads could be made",
 }
 
 KEPT = {

@@ -40,3 +40,7 @@ class Lines(unittest.TestCase):
         assert rule is not None
         self.assertEqual((rule.number, rule.shown()), (3, "http_access allow a"))
         self.assertIsNone(conf.rule(2))
+
+    def test_port(self) -> None:
+        for source, port in ((b"", "3128"), (b"http_port [::1]:8080 name=a\nhttp_port 1\n", "8080"), (b"# x\nhttp_port 80\n", "80")):
+            self.assertEqual(Conf(source).port(), port)

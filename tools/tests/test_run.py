@@ -383,7 +383,7 @@ class Run(InFolder):
             taken.listen()
             with Service(self.folder, self.file("conf", ["http_access deny all"]), port=int(taken.getsockname()[1])) as service:
                 self.assertEqual(service.ended(), 9)
-                self.assertIn("status 9: the port is taken or may not be opened", service.said())
+                self.assertIn(f"status 9: port {taken.getsockname()[1]} of all addresses (0.0.0.0 and ::) is taken", service.said())
         with Service(self.folder, str(self.folder / "none")) as service:
             self.assertEqual(service.ended(), 66)
             self.assertIn("none: there is no such file\n", service.said())

@@ -1,12 +1,12 @@
 //! The listener, as it lies behind its lock.
-ghost use Rattle.std.specs.Prelude.{◌≡◌, ◌<◌, true, IfOk};
+ghost use Rattle.std.specs.Prelude.{◌≡◌, ◌<◌, true, false, IfOk};
 ghost use Rattle.sq_outside.specs.Dials.{IsOpen};
-ghost use Rattle.sq_outside.specs.World.{IfLink, has_failed};
+ghost use Rattle.sq_outside.specs.World.{IfLink, IfStopped, has_failed};
 
 use sq_outside::{Accepted, Listener};
 use std::alloc::Global;
 
-/// A listener, and whether it failed. It says so only where the listener counted a fault.
+/// A listener, and whether its last call failed that was not stopped. It says so only where the listener counted a fault.
 #[derive(Drop)]
 pub struct Door<L: Listener> {
     listener: L,
@@ -23,28 +23,31 @@ impl<L: Listener + Drop> Door<L> {
         }
     }
 
-    /// Waits for the next link, and remembers where that failed.
+    /// Waits for the next link, and remembers where that failed, until one comes.
     pub fn next(&mut self, alloc: Global) -> Accepted<L::In, L::Outgo>
         ensures open { IfLink result (λ from to addr port. IsOpen (L.Outgo.closed to)) }
         ensures fresh { IfLink result (λ from to addr port. (L.In.faults from ≡ 0) × (L.Outgo.Sink.faults to ≡ 0)) }
         ensures told { has_failed result ≡ true → self.new.failed ≡ true }
-        ensures kept { self.old.failed ≡ true → self.new.failed ≡ true }
+        ensures taken_back { IfLink result (λ from to addr port. self.new.failed ≡ false) }
+        ensures kept { IfStopped result (self.new.failed ≡ self.old.failed) }
     {
         let accepted = self.listener.next(alloc);
-        if let Accepted::Failed = &accepted {
-            self.failed = true;
+        match &accepted {
+            Accepted::Link { .. } => self.failed = false,
+            Accepted::Failed => self.failed = true,
+            Accepted::Stopped => {}
         }
         accepted
     }
 
-    /// Whether a call failed.
+    /// Whether the last call failed.
     pub fn has_failed(&self) -> bool
         ensures { result ≡ self.now.failed }
     {
         self.failed
     }
 
-    /// The listener, given back, and whether it failed: then it counted a fault.
+    /// The listener, given back, and whether its last call failed: then it counted a fault.
     pub fn into_listener(self) -> (L, bool)
         ensures listener { result.0 ≡ self.listener }
         ensures failed { result.1 ≡ self.failed }

@@ -13,6 +13,7 @@ mod beginning;
 mod running;
 mod serving;
 mod starting;
+mod threads;
 mod watched;
 
 pub use serving::serve;

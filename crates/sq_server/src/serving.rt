@@ -10,7 +10,9 @@ ghost use Rattle.sq_calls.specs.Legality.{IsLegal};
 use crate::beginning::{Blanks, Machine, begin, open_books};
 use crate::running::{REFUSALS, Ran, Tools, run};
 use crate::starting::{Served, Start, Unserved};
+use crate::threads::has_threads;
 use crate::watched::{Before, Watched};
+use sq_calls::DeskFault;
 use sq_desk::{Desk, First};
 use sq_note::Journal;
 use sq_outside::{Another, Clock, Dialer, Listener, Net, Parts, Spawner, Stopper};
@@ -150,6 +152,15 @@ pub fn serve<R: Threads + Wait + Sync, N: Net, J: Journal + Send + Drop, K: Pane
     ensures unwritten { IfErr result (λ u. J.history u.journal ≡ J.history journal) }
     ensures unrun { IfErr result (λ u. (u.panel ≡ panel) × (u.listener ≡ parts.listener)) }
 {
+    // Those of the workers and of the pump, beside the panel's, which is this one.
+    if !has_threads(rt, workers + 1) {
+        return Err(Unserved {
+            fault: DeskFault::WantOfMemory,
+            listener: parts.listener,
+            journal,
+            panel,
+        });
+    }
     let Parts {
         listener,
         stopper,

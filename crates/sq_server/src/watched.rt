@@ -1,5 +1,5 @@
 //! `Watched`: a journal that remembers whether a note of it failed.
-ghost use Rattle.std.specs.Prelude.{◌≡◌, ◌≤◌, ℕ, true};
+ghost use Rattle.std.specs.Prelude.{◌≡◌, ◌≤◌, ℕ, true, false};
 ghost use Rattle.sq_outside.specs.Causes.{Rose};
 
 use sq_base::WantOfMemory;
@@ -17,7 +17,7 @@ impl Before for Brand {
     ghost faults = { 0 };
 }
 
-/// A journal, and whether a note of it failed. It says so only where its count of faults rose since it began.
+/// A journal, and whether a note of it failed. It says so where its count of faults rose since it began, and there alone.
 #[derive(Drop)]
 pub struct Watched<J: Journal, B: Before> {
     journal: J,
@@ -25,6 +25,7 @@ pub struct Watched<J: Journal, B: Before> {
     begun: PhantomData<B>,
     ghost later: { B.faults ≤ J.faults journal },
     ghost said: { failed ≡ true → Rose B.faults (J.faults journal) },
+    ghost quiet: { failed ≡ false → J.faults journal ≡ B.faults },
 }
 
 impl<J: Journal, B: Before> Watched<J, B> {
@@ -45,6 +46,7 @@ impl<J: Journal, B: Before> Watched<J, B> {
         ensures journal { result.0 ≡ self.journal }
         ensures later { B.faults ≤ J.faults result.0 }
         ensures cause { result.1 ≡ true → Rose B.faults (J.faults result.0) }
+        ensures quiet { result.1 ≡ false → J.faults result.0 ≡ B.faults }
     {
         let Watched {
             journal,

@@ -1,33 +1,78 @@
-//! Helper processes: the trusted edge. It relies on the system to start programs, on pipes to hand on what
+//! Helper processes: the trusted edge. It relies on the system to start programs, on a pipe and a socket to hand on what
 //! they read and write, and on `kill` and `wait` to end and reap them. What a program started in its turn is
 //! not ended with it. What a program writes to its standard error goes to the end of the file that the variable
 //! `ACLPROXY_HELPER_ERRORS` names, or is dropped, since the program's own may be a journal.
+//!
+//! A write waits for nothing, whether the process reads or not. A process that owes an answer for too long is stopped by who reads it.
 ghost use Rattle.std.specs.Prelude.{◌≡◌, ◌≤◌, ◌-◌, ◌^◌, None, IfSome};
 
-use crate::again::{raise, write_again};
-use crate::system::RealSource;
+use crate::again::raise;
+use crate::house::House;
+use crate::line::{copy_of, is_tick};
+use crate::owed::Front;
+use crate::process::Process;
+use crate::times::LinkTimes;
 use sq_base::Text;
 use sq_outside::{Another, Failed, Out, Sink, Source, Spawner};
 use std::alloc::Global;
 use std::fs::{File, OpenOptions};
-use std::process::{
-    Child, ChildStderr, ChildStdin, ChildStdout, Command, OpenProcess, Processes, Stdio,
-};
+use std::io::ErrorKind;
+use std::net::Net;
+use std::os::fd::OwnedFd;
+use std::os::unix::net::UnixStream;
+use std::process::{ChildStderr, ChildStdin, ChildStdout, Command, OpenProcess, Processes, Stdio};
 use std::rt::{Env, Files};
+use std::sync::{Arc, Wait};
+use std::time::{Clock, Duration};
 
 /// The variable that names the file for what programs write to their standard error.
 const ERRORS: &str = "ACLPROXY_HELPER_ERRORS";
 
-/// The half of a process that is written to. To close it, or to let it go, ends the process and waits for its
-/// end, so that nothing of it is left.
-pub struct RealChildIn<P: OpenProcess<Stdin = ChildStdin, Stderr = ChildStderr>> {
-    child: Child<P>,
-    stdin: Option<ChildStdin>,
+/// How many bytes the line of a question has at most, with the number of its channel.
+const LINE: usize = 8192 + 16;
+
+/// The half of a process that is written to, which hands on whole lines. To close it, or to let it go, stops the process, and does not wait
+/// for its end.
+pub struct RealChildIn<R: Wait, P: OpenProcess<Stdin = ChildStdin>> {
+    rt: R,
+    process: Arc<Process<P>>,
+    // The front of a line.
+    line: Vec<u8>,
     faults: u64,
     ghost capped: { faults ≤ 2 ^ 63 - 1 },
 }
 
-impl<P: OpenProcess<Stdin = ChildStdin, Stderr = ChildStderr>> Sink for RealChildIn<P> {
+/// The half of a process that is read. At its end, and where it is let go, nobody hears the process any more: it is stopped, and
+/// waited for, so that nothing of it is left.
+pub struct RealChildOut<R: Wait + Clock, P: OpenProcess<Stdin = ChildStdin>> {
+    rt: R,
+    process: Arc<Process<P>>,
+    times: LinkTimes,
+    house: Option<Arc<House>>,
+    front: Front,
+    // When it was looked last how long answers are owed.
+    looked: Duration,
+    faults: u64,
+    ghost capped: { faults ≤ 2 ^ 63 - 1 },
+}
+
+impl<R: Wait + Clock, P: OpenProcess<Stdin = ChildStdin> + Drop> RealChildIn<R, P> {
+    // Takes a piece of a line, and asks it where it is whole.
+    fn gather(&mut self, bytes: &[u8]) -> Option<()>
+        ensures kept { self.new.faults ≡ self.old.faults }
+    {
+        self.line.extend_from_slice(bytes).ok()?;
+        if !bytes.ends_with(b"\n") {
+            return Some(());
+        }
+        let now = self.rt.monotonic().unwrap_or(Duration::MAX);
+        let asked = self.process.ask(&self.rt, self.line.as_slice(), now);
+        self.line.clear();
+        asked
+    }
+}
+
+impl<R: Wait + Clock, P: OpenProcess<Stdin = ChildStdin> + Drop> Sink for RealChildIn<R, P> {
     ghost contents = { λ _. None };
 
     ghost faults = { λ s. s.faults };
@@ -35,8 +80,8 @@ impl<P: OpenProcess<Stdin = ChildStdin, Stderr = ChildStderr>> Sink for RealChil
     ghost capped = { λ s. s.capped };
 
     fn write(&mut self, bytes: &[u8]) -> Result<usize, Failed> {
-        match &mut self.stdin {
-            Some(stdin) => write_again(stdin, bytes, &mut self.faults),
+        match self.gather(bytes) {
+            Some(()) => Ok(bytes.len()),
             None => {
                 raise(&mut self.faults);
                 Err(Failed)
@@ -45,27 +90,110 @@ impl<P: OpenProcess<Stdin = ChildStdin, Stderr = ChildStderr>> Sink for RealChil
     }
 }
 
-impl<P: OpenProcess<Stdin = ChildStdin, Stderr = ChildStderr>> Out for RealChildIn<P> {
+impl<R: Wait + Clock, P: OpenProcess<Stdin = ChildStdin> + Drop> Out for RealChildIn<R, P> {
     ghost closed = { λ _. None };
 
     fn close(&mut self) {
-        if self.stdin.take().is_none() {
-            return;
-        }
-        if self.child.kill().is_err() || self.child.wait().is_err() {
+        if !self.process.stop(&self.rt) {
             raise(&mut self.faults);
         }
     }
 }
 
-impl<P: OpenProcess<Stdin = ChildStdin, Stderr = ChildStderr> + Drop> Drop for RealChildIn<P> {
-    fn drop(mut self) {
-        self.close();
+impl<R: Wait + Drop, P: OpenProcess<Stdin = ChildStdin> + Drop> Drop for RealChildIn<R, P> {
+    fn drop(self) {
         let RealChildIn {
-            child: _,
-            stdin: _,
+            rt,
+            process,
+            line: _,
             faults: _,
         } = self;
+        let _ = process.stop(&rt);
+    }
+}
+
+impl<R: Wait + Clock, P: OpenProcess<Stdin = ChildStdin> + Drop> RealChildOut<R, P> {
+    // How long an answer may be owed.
+    fn limit(&self) -> Duration {
+        match &self.house {
+            Some(house) => match house.since_stop(&self.rt) {
+                Some(passed) if passed >= self.times.answer_end => self.times.answer_end,
+                _ => self.times.answer,
+            },
+            None => self.times.answer,
+        }
+    }
+
+    // Looks around. Whether the process goes on: else it is stopped.
+    fn looks(&mut self, now: Duration) -> bool
+        ensures kept { self.new.faults ≡ self.old.faults }
+    {
+        self.looked = now;
+        let limit = self.limit();
+        let goes_on = self.process.goes_on(&self.rt, now, limit);
+        if !goes_on {
+            let _ = self.process.stop(&self.rt);
+        }
+        goes_on
+    }
+
+    // It wrote these bytes. It is looked around where a tick has passed.
+    fn hear(&mut self, bytes: &[u8])
+        ensures kept { self.new.faults ≡ self.old.faults }
+    {
+        self.process.hear(&self.rt, &mut self.front, bytes);
+        let now = self.rt.monotonic().unwrap_or(Duration::ZERO);
+        if now.saturating_sub(self.looked) >= self.times.tick {
+            self.looks(now);
+        }
+    }
+}
+
+impl<R: Wait + Clock, P: OpenProcess<Stdin = ChildStdin> + Drop> Source for RealChildOut<R, P> {
+    ghost left = { λ _. None };
+
+    ghost origin = { λ _. None };
+
+    ghost faults = { λ s. s.faults };
+
+    ghost capped = { λ s. s.capped };
+
+    fn read(&mut self, into: &mut [u8]) -> Result<usize, Failed> {
+        for _ in 0..u64::MAX {
+            match self.process.read(into) {
+                Ok(count) => {
+                    self.hear(&into[..count]);
+                    return Ok(count);
+                }
+                Err(e) if e.kind() == ErrorKind::Interrupted => {}
+                Err(e) if is_tick(e.kind()) => {
+                    let now = self.rt.monotonic().unwrap_or(Duration::ZERO);
+                    if !self.looks(now) {
+                        return Ok(0);
+                    }
+                }
+                Err(_) => break,
+            }
+        }
+        raise(&mut self.faults);
+        Err(Failed)
+    }
+}
+
+impl<R: Wait + Clock + Drop, P: OpenProcess<Stdin = ChildStdin> + Drop> Drop
+    for RealChildOut<R, P> {
+    fn drop(self) {
+        let RealChildOut {
+            rt,
+            process,
+            times: _,
+            house: _,
+            front: _,
+            looked: _,
+            faults: _,
+        } = self;
+        let _ = process.stop(&rt);
+        process.end(&rt);
     }
 }
 
@@ -73,20 +201,42 @@ impl<P: OpenProcess<Stdin = ChildStdin, Stderr = ChildStderr> + Drop> Drop for R
 #[derive(Drop)]
 pub struct RealSpawner<R> {
     rt: R,
+    times: LinkTimes,
+    house: Option<Arc<House>>,
     faults: u64,
     ghost capped: { faults ≤ 2 ^ 63 - 1 },
 }
 
 impl<R> RealSpawner<R> {
-    /// A spawner of this runtime, with the count 0.
-    pub fn new(rt: R) -> RealSpawner<R> {
-        RealSpawner { rt, faults: 0 }
+    /// A spawner of this runtime with these limits of time, beside no listener, and the count 0.
+    pub fn new(rt: R, times: LinkTimes) -> RealSpawner<R> {
+        RealSpawner {
+            rt,
+            times,
+            house: None,
+            faults: 0,
+        }
+    }
+
+    /// One beside a listener.
+    pub(crate) fn beside(rt: R, times: LinkTimes, house: Arc<House>) -> RealSpawner<R> {
+        RealSpawner {
+            rt,
+            times,
+            house: Some(house),
+            faults: 0,
+        }
     }
 }
 
 impl<R: Copy> Another for RealSpawner<R> {
     fn another(&self) -> RealSpawner<R> {
-        RealSpawner::new(self.rt)
+        RealSpawner {
+            rt: self.rt,
+            times: self.times,
+            house: copy_of(&self.house),
+            faults: 0,
+        }
     }
 }
 
@@ -106,40 +256,68 @@ fn errors_of<R: Env + Files<File = File>>(rt: &R) -> Stdio {
 }
 
 // The words as a command. None where a word is not UTF-8, there is none, or there is no memory.
-fn command_of(alloc: Global, words: &[Text], errors: Stdio) -> Option<Command> {
+fn command_of(alloc: Global, words: &[Text], output: Stdio, errors: Stdio) -> Option<Command> {
     let (program, arguments) = words.split_first()?;
     let mut command = Command::new(alloc, str::from_utf8(program.as_bytes()).ok()?).ok()?;
     for word in arguments {
         command.arg(str::from_utf8(word.as_bytes()).ok()?).ok()?;
     }
-    command
-        .stdin(Stdio::piped())
-        .stdout(Stdio::piped())
-        .stderr(errors);
+    command.stdin(Stdio::piped()).stdout(output).stderr(errors);
     Some(command)
 }
 
-// The process that these words start, and what it writes.
-fn begin<P: Processes + Env + Files<File = File>>(
-    alloc: Global,
-    rt: &P,
-    words: &[Text],
-) -> Option<(Child<P::Started>, ChildStdout)>
-where
-    P::Started: OpenProcess<Stdin = ChildStdin, Stdout = ChildStdout, Stderr = ChildStderr>,
-{
-    let mut child = command_of(alloc, words, errors_of(rt))?.spawn(rt).ok()?;
-    let stdout = child.stdout.take()?;
-    Some((child, stdout))
+// The same pipe, whose writes wait for nothing.
+fn unblocked(stdin: Option<ChildStdin>) -> Option<ChildStdin> {
+    let stream = UnixStream::from(OwnedFd::from(stdin?));
+    stream.set_nonblocking(true).ok()?;
+    Some(ChildStdin::from(OwnedFd::from(stream)))
 }
 
-impl<R: Processes + Env + Files<File = File>> Spawner for RealSpawner<R>
+// The process that these words start. Nothing is wanting once it was started.
+fn begin<R: Processes + Net + Env + Files<File = File> + Wait>(
+    alloc: Global,
+    rt: &R,
+    words: &[Text],
+    times: LinkTimes,
+) -> Option<(Arc<Process<R::Started>>, Arc<Process<R::Started>>, Vec<u8>)>
+where
+    R::Started: OpenProcess<Stdin = ChildStdin, Stdout = ChildStdout, Stderr = ChildStderr>,
+{
+    let (said, theirs) = UnixStream::pair(rt).ok()?;
+    said.set_read_timeout(Some(times.tick)).ok()?;
+    let line = Vec::with_capacity(alloc, LINE).ok()?;
+    let process = Arc::new(alloc, Process::new(alloc, said)).ok()?;
+    let other = Arc::try_clone(&process).ok()?;
+    let output = Stdio::from(OwnedFd::from(theirs));
+    let mut child = command_of(alloc, words, output, errors_of(rt))?
+        .spawn(rt)
+        .ok()?;
+    let stdin = unblocked(child.stdin.take());
+    process.begin(rt, child, stdin);
+    Some((process, other, line))
+}
+
+impl<R: Clock> RealSpawner<R> {
+    // Whether the server was stopped too long ago for more processes.
+    fn is_over(&self) -> bool {
+        match &self.house {
+            Some(house) => match house.since_stop(&self.rt) {
+                Some(passed) => passed >= self.times.answer_end,
+                None => false,
+            },
+            None => false,
+        }
+    }
+}
+
+impl<R: Processes + Net + Env + Files<File = File> + Wait + Clock + Copy + Send + Drop> Spawner
+    for RealSpawner<R>
 where
     R::Started: OpenProcess<Stdin = ChildStdin, Stdout = ChildStdout, Stderr = ChildStderr> + Send,
 {
-    type ChildOut = RealSource<ChildStdout>;
+    type ChildOut = RealChildOut<R, R::Started>;
 
-    type ChildIn = RealChildIn<R::Started>;
+    type ChildIn = RealChildIn<R, R::Started>;
 
     ghost starts = { λ _. None };
 
@@ -151,17 +329,31 @@ where
         &mut self,
         alloc: Global,
         words: &[Text],
-    ) -> Result<(RealSource<ChildStdout>, RealChildIn<R::Started>), Failed> {
-        let Some((mut child, stdout)) = begin(alloc, &self.rt, words) else {
+    ) -> Result<(RealChildOut<R, R::Started>, RealChildIn<R, R::Started>), Failed> {
+        let begun = if self.is_over() {
+            None
+        } else {
+            begin(alloc, &self.rt, words, self.times)
+        };
+        let Some((process, other, line)) = begun else {
             raise(&mut self.faults);
             return Err(Failed);
         };
-        let stdin = child.stdin.take();
-        let to = RealChildIn {
-            child,
-            stdin,
+        let from = RealChildOut {
+            rt: self.rt,
+            process,
+            times: self.times,
+            house: copy_of(&self.house),
+            front: Front::new(),
+            looked: Duration::ZERO,
             faults: 0,
         };
-        Ok((RealSource::new(stdout), to))
+        let to = RealChildIn {
+            rt: self.rt,
+            process: other,
+            line,
+            faults: 0,
+        };
+        Ok((from, to))
     }
 }

@@ -4,7 +4,8 @@
 //!
 //! Over readers and writers of std that tell what they hold, an adapter tells the same, but for `RealLines`, which holds bytes
 //! that are not written yet; the system's tell nothing.
-//! A host is dialled in its one spelling alone (`has_one_spelling`), and links and dials have limits of time (`LinkTimes`).
+//! A host is dialled in its one spelling alone (`has_one_spelling`), and links, dials and answers of
+//! helper programs have limits of time (`LinkTimes`).
 //! A call answers a fault only where the object's count rose, and each error of the system raises it.
 #![tactic(auto)]
 
@@ -15,6 +16,8 @@ mod hosts;
 mod house;
 mod line;
 mod lines;
+mod owed;
+mod process;
 mod real_clock;
 mod real_net;
 mod system;
@@ -23,7 +26,7 @@ mod tcp_client;
 mod tcp_server;
 mod times;
 
-pub use children::{RealChildIn, RealSpawner};
+pub use children::{RealChildIn, RealChildOut, RealSpawner};
 pub use hosts::has_one_spelling;
 pub use lines::RealLines;
 pub use real_clock::RealClock;

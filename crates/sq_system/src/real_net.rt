@@ -14,6 +14,7 @@ use std::fs::File;
 use std::net::{self, TcpListener, TcpStream};
 use std::process::{ChildStderr, ChildStdin, ChildStdout, OpenProcess, Processes};
 use std::rt::{Env, Files};
+use std::sync::Wait;
 use std::time;
 
 /// The net of this machine.
@@ -36,6 +37,7 @@ impl<
         + Processes
         + Env
         + Files<File = File>
+        + Wait
         + time::Clock
         + Copy
         + Send
@@ -70,7 +72,7 @@ where
             listener: listening.listener,
             stopper: listening.stopper,
             dialer: listening.dialer,
-            spawner: RealSpawner::new(self.rt),
+            spawner: listening.spawner,
             clock: RealClock::new(self.rt),
             resolver: RealResolver::new(self.rt),
         })

@@ -6,6 +6,7 @@ ghost use Rattle.sq_outside.specs.World.{IfLink};
 
 use crate::again::raise;
 use crate::arrivals::{Arrival, Arrivals};
+use crate::children::RealSpawner;
 use crate::house::House;
 use crate::line::is_tick;
 use crate::tcp::{RealIn, RealOut, set};
@@ -78,12 +79,13 @@ impl<R: Drop> Drop for Entrance<R> {
     }
 }
 
-/// What a listener, what stops it and what dials beside it have in common.
+/// A listener, what stops it, and what dials and starts processes beside it.
 #[derive(Drop)]
 pub struct Listening<R> {
     pub listener: RealListener<R>,
     pub stopper: RealStopper<R>,
     pub dialer: RealDialer<R>,
+    pub spawner: RealSpawner<R>,
 }
 
 impl<R> RealListener<R> {
@@ -105,8 +107,8 @@ impl<R> RealListener<R> {
 impl<R: Net<Listener = TcpListener, Stream = TcpStream> + Copy + Drop> RealListener<R> {
     ghost use Rattle.sq_system.specs.Adapters.{accept_faults};
 
-    /// A listener at this port, or at a free one for port 0, whose links have these limits of time, what stops it, and a dialer
-    /// for the workers that take its links. None where it can't be had.
+    /// A listener at this port, or at a free one for port 0, whose links have these limits of time, what stops it, a dialer for the
+    /// workers that take its links, and a spawner of processes that end with it. None where it can't be had.
     pub fn listen(alloc: Global, rt: R, port: u16, times: LinkTimes) -> Option<Listening<R>>
         ensures fresh { IfSome result (λ l. accept_faults l.listener ≡ 0) }
     {
@@ -120,6 +122,7 @@ impl<R: Net<Listener = TcpListener, Stream = TcpStream> + Copy + Drop> RealListe
             house: Arc::try_clone(&house).ok()?,
         };
         let dialer = RealDialer::beside(rt, times, Arc::try_clone(&house).ok()?);
+        let spawner = RealSpawner::beside(rt, times, Arc::try_clone(&house).ok()?);
         let entrance = Entrance {
             rt,
             listener,
@@ -135,6 +138,7 @@ impl<R: Net<Listener = TcpListener, Stream = TcpStream> + Copy + Drop> RealListe
             listener,
             stopper,
             dialer,
+            spawner,
         })
     }
 }

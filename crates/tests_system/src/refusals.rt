@@ -10,7 +10,7 @@ use std::test::Fail;
 #[test]
 fn what_is_no_program_is_not_started(rt: HostRuntime) -> Result<(), Fail> {
     let alloc = rt.alloc();
-    let mut spawner = RealSpawner::new(rt);
+    let mut spawner = RealSpawner::new(rt, LinkTimes::of_server());
     let commands: [&[&[u8]]; 6] = [
         &[],
         &[b""],
