@@ -73,9 +73,8 @@ impl<G: Ledger> Bank<G> {
         amount
     }
 
-    /// Grants bytes to a seat whose turn it is, and none to another. Where others wait for a bucket of the seat, each that has
-    /// waited since an earlier second is granted an even part of what there is; a seat that was granted some waits for the next
-    /// second then.
+    /// Grants bytes to a seat. Where others wait for a bucket of the seat since an earlier second, it is an even part of what the
+    /// bucket holds that the seat is granted in this second, and no more: it waits for the next one then.
     pub fn grant_in_turn(
         &mut self,
         seat: &Seat,
@@ -91,14 +90,13 @@ impl<G: Ledger> Bank<G> {
         let number = seat.number();
         let second = self.pools.second(seat, now);
         let others = self.turns.others(number, second);
-        let whole = wanted.min(self.pools.even_part(seat, &[], now));
-        let part = wanted.min(self.pools.even_part(seat, &others, now));
-        let is_due = part == whole || self.turns.may_take(number, second);
-        let amount = self.grant(seat, if is_due { part } else { 0 }, now, share);
+        let part = self.pools.even_part(seat, &others, now);
+        let left = self.turns.left(number, second, part, &others);
+        let amount = self.grant(seat, wanted.min(left), now, share);
         if amount == 0 {
             self.turns.enter(number, second);
         } else {
-            self.turns.leave(number);
+            self.turns.take(number, amount);
         }
         amount
     }

@@ -12,7 +12,7 @@ ghost use Rattle.sq_pools.specs.Basins.{epoch_in, grant_in, has_pool, made_in, s
 use crate::bucket::Bucket;
 use crate::generations::Generations;
 use crate::seats::{Seat, Seated, Seats};
-use crate::spots::spots_of;
+use crate::spots::{Spot, spots_of};
 use sq_base::{Addr, EpochNo, Moment, SeatNo, WantOfMemory};
 use sq_machine::{LAST_NUMBER, later};
 use sq_rules::{Config, Pool};
@@ -284,8 +284,36 @@ impl Pools {
         }
     }
 
+    // The bucket that holds a seat back at a moment: that of its buckets that holds the least, the first of several.
+    fn narrowest(&self, seated: &Seated, now: Moment) -> Option<Spot> {
+        let mut narrowest = None;
+        let mut least = u64::MAX;
+        for spot in seated.spots.as_slice() {
+            if let Some(bucket) = self.generations.bucket(seated.epoch, *spot, now) {
+                if narrowest.is_none() || bucket.level < least {
+                    narrowest = Some(*spot);
+                    least = bucket.level;
+                }
+            }
+        }
+        narrowest
+    }
+
+    // How many of these seats this bucket of this epoch holds back at a moment.
+    fn held_back(&self, others: &[SeatNo], epoch: EpochNo, spot: Spot, now: Moment) -> u64 {
+        let mut count = 0u64;
+        for number in others {
+            if let Some(seated) = self.seats.get(*number) {
+                if seated.epoch == epoch && self.narrowest(seated, now) == Some(spot) {
+                    count = count.saturating_add(1);
+                }
+            }
+        }
+        count
+    }
+
     /// The least of what a seat's buckets hold at a moment, in bytes, each divided evenly among the seat and those of these
-    /// others that have the bucket too, and rounded up.
+    /// others that this very bucket holds back, and rounded up. One that another bucket holds back takes no part here.
     pub fn even_part(&self, seat: &Seat, others: &[SeatNo], now: Moment) -> u64 {
         let Some(seated) = self.seats.get(seat.number()) else {
             return 0;
@@ -294,7 +322,7 @@ impl Pools {
         let mut least = u64::MAX;
         for spot in seated.spots.as_slice() {
             if let Some(bucket) = self.generations.bucket(seated.epoch, *spot, now) {
-                let count = self.seats.count(others, seated.epoch, *spot);
+                let count = self.held_back(others, seated.epoch, *spot, now);
                 least = least.min(divided(bucket.level, count));
             }
         }

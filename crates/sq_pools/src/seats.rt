@@ -104,16 +104,4 @@ impl Seats {
     {
         self.map.remove(&number)
     }
-    // How many of these seats are in use and have this bucket of this epoch.
-    pub(crate) fn count(&self, numbers: &[SeatNo], epoch: EpochNo, spot: Spot) -> u64 {
-        let mut count = 0u64;
-        for number in numbers {
-            if let Some(seated) = self.get(*number) {
-                if seated.epoch == epoch && seated.spots.as_slice().contains(&spot) {
-                    count = count.saturating_add(1);
-                }
-            }
-        }
-        count
-    }
 }

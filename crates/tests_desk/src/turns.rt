@@ -5,7 +5,7 @@ use crate::calls::setup_of;
 use crate::locks::bank_of;
 use crate::seats::{CLIENT, takes};
 use sq_bank::{Bank, choose, grant};
-use sq_base::{EpochNo, Moment};
+use sq_base::{Addr, EpochNo, Moment};
 use sq_pools::{Pools, Seat};
 use sq_rules::Config;
 use std::alloc::Global;
@@ -20,6 +20,19 @@ delay_class 1 1
 delay_parameters 1 8000/8000
 delay_initial_bucket_level 0
 ";
+
+/// A bucket of all hosts, and one for each, which a host empties by itself.
+static HOSTS: &str = "delay_pools 1
+delay_class 1 2
+delay_parameters 1 1000/1000 100/100
+delay_initial_bucket_level 0
+";
+
+/// A host with one seat, beside one with many.
+const OTHER: Addr = Addr {
+    v6: false,
+    number: 0x0a00_0002,
+};
 
 /// A moment in each of five seconds.
 const MOMENTS: [Moment; 5] = [
@@ -36,17 +49,18 @@ fn seat<R: Wait, G: Ledger>(
     alloc: Global,
     bank: &Mutex<Bank<G>>,
     config: &Arc<Config>,
+    addr: Addr,
 ) -> Result<Seat, Fail> {
-    if !takes(config, 0, CLIENT) {
+    if !takes(config, 0, addr) {
         return Err(Fail::new("no such pool"));
     }
-    match choose(rt, alloc, bank, EpochNo(1), config, 0, CLIENT, Moment(0)) {
+    match choose(rt, alloc, bank, EpochNo(1), config, 0, addr, Moment(0)) {
         Ok(seat) => Ok(seat),
         Err(_) => Err(Fail::new("no seat is given")),
     }
 }
 
-// Each seat asks at this moment until it gets nothing: how many got some.
+// Each seat asks at this moment until it gets nothing: how many got 100 bytes or more.
 fn round<R: Wait, G: Ledger>(
     rt: &R,
     bank: &Mutex<Bank<G>>,
@@ -61,18 +75,34 @@ fn round<R: Wait, G: Ledger>(
     for seat in seats {
         let first = grant(rt, bank, seat, 16_384, now, share);
         let second = grant(rt, bank, seat, 16_384, now, share);
-        if first > 0 && second == 0 {
+        if first >= 100 && second == 0 {
             count = count.saturating_add(1);
         }
     }
     count
 }
 
-// How many of 24 seats get some in each second.
+// Seats of these hosts, in their order.
+fn seats<R: Wait, G: Ledger>(
+    rt: &R,
+    alloc: Global,
+    bank: &Mutex<Bank<G>>,
+    config: &Arc<Config>,
+    hosts: &[Addr],
+) -> Result<Vec<Seat>, Fail> {
+    let mut seats = Vec::new(alloc);
+    for host in hosts {
+        seats.push(seat(rt, alloc, bank, config, *host)?)?;
+    }
+    Ok(seats)
+}
+
+// How many of the seats of these hosts get 100 bytes or more in each second.
 fn run<R: Wait, G: Ledger>(
     rt: &R,
     alloc: Global,
     config: &Arc<Config>,
+    hosts: &[Addr],
     pools: Pools,
     blank: Blank,
 ) -> Result<String, Fail>
@@ -81,10 +111,7 @@ fn run<R: Wait, G: Ledger>(
 {
     let (grants, mut share) = blank.open::<G>();
     let bank = bank_of(pools, grants);
-    let mut seats = Vec::new(alloc);
-    for _ in 0..24 {
-        seats.push(seat(rt, alloc, &bank, config)?)?;
-    }
+    let seats = seats(rt, alloc, &bank, config, hosts)?;
     let mut text = String::new(alloc);
     for now in MOMENTS {
         let count = round(rt, &bank, seats.as_slice(), now, &mut share);
@@ -93,17 +120,29 @@ fn run<R: Wait, G: Ledger>(
     Ok(text)
 }
 
-// How many of 24 seats get some in each second.
-fn told<R: Wait>(rt: &R, alloc: Global) -> Result<String, Fail> {
-    let setup = setup_of(alloc, CONF.as_bytes())?;
+// How many of the seats of these hosts get 100 bytes or more in each second, by these pools.
+fn told<R: Wait>(rt: &R, alloc: Global, conf: &str, hosts: &[Addr]) -> Result<String, Fail> {
+    let setup = setup_of(alloc, conf.as_bytes())?;
     let pools = Pools::new(alloc, EpochNo(1), setup.config(), Moment(0))?;
-    run::<R, Brand>(rt, alloc, setup.config(), pools, Blank::new(1))
+    run::<R, Brand>(rt, alloc, setup.config(), hosts, pools, Blank::new(1))
 }
 
 #[test]
 fn seats_that_wait_take_turns(rt: HostRuntime) -> Result<(), Fail> {
-    let told = told(&rt, rt.alloc())?;
+    let told = told(&rt, rt.alloc(), CONF, &[CLIENT; 24])?;
     // In the first second nobody waited yet.
     assert!(rt; told.as_str() == "1 24 24 24 24 ", "{told}");
+    Ok(())
+}
+
+#[test]
+fn a_host_that_waits_at_its_own_bucket_takes_no_part_of_all_hosts(
+    rt: HostRuntime,
+) -> Result<(), Fail> {
+    let mut hosts = [CLIENT; 21];
+    hosts[0] = OTHER;
+    let told = told(&rt, rt.alloc(), HOSTS, &hosts)?;
+    // In the first second the first seat of the busy host takes its 100 bytes, and later each of its 20 gets 5.
+    assert!(rt; told.as_str() == "2 1 1 1 1 ", "{told}");
     Ok(())
 }
