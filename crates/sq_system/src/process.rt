@@ -34,6 +34,7 @@ pub(crate) struct Process<P: OpenProcess<Stdin = ChildStdin>> {
 struct State<P: OpenProcess<Stdin = ChildStdin>> {
     child: Option<Child<P>>,
     stdin: Option<ChildStdin>,
+    stopped: bool,
     // What the pipe had no room for so far.
     unwritten: Vec<u8>,
     owed: Owed,
@@ -100,6 +101,7 @@ impl<P: OpenProcess<Stdin = ChildStdin> + Drop> Process<P> {
             state: Mutex::new(State {
                 child: None,
                 stdin: None,
+                stopped: false,
                 unwritten: Vec::new(alloc),
                 owed: Owed::new(alloc),
             }),
@@ -145,9 +147,11 @@ impl<P: OpenProcess<Stdin = ChildStdin> + Drop> Process<P> {
     /// stopped.
     pub(crate) fn stop<R: Wait>(&self, rt: &R) -> bool {
         let mut state = self.state.lock(rt);
-        if state.stdin.take().is_none() {
+        if state.stopped {
             return true;
         }
+        state.stopped = true;
+        state.stdin = None;
         let _ = self.said.shutdown(Shutdown::Both);
         match &mut state.child {
             Some(child) => child.kill().is_ok(),
