@@ -1,2 +1,3 @@
 mod DayLaws
+mod GroupLaws
 mod NumberLaws

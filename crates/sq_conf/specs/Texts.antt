@@ -14,3 +14,8 @@ FailsAt (fault.At e) read = read ≡ Err e
 abbrev pub Leaves : {X Y : Type 0} → Result X ConfFault → Y → Result Y ConfError → Type 0
 Leaves (Ok x) after read = read ≡ Ok after
 Leaves (Err e) after read = FailsAt e read
+
+-- a value
+abbrev pub Tells : {X Y : Type 0} → (X → Y) → Result X ConfFault → Result Y ConfError → Type 0
+Tells view (Ok x) read = read ≡ Ok (view x)
+Tells view (Err e) read = FailsAt e read

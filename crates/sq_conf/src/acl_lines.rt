@@ -1,9 +1,11 @@
 //! Lines `acl` and `http_access`.
-ghost use Rattle.std.specs.Prelude.{◌≡◌, ◌<◌, true, length, Ok, IfOk};
+ghost use Rattle.std.specs.Prelude.{◌≡◌, ◌<◌, ◌&&◌, true, false, length, Ok, IfOk};
 ghost use Rattle.sq_conf.specs.Forms.{Gives, Makes};
 ghost use Rattle.sq_conf.specs.Targets.{IsTarget};
-ghost use Rattle.sq_rules.specs.AclLines.{acl_line, acl_values, external_line, known_class, rule_line, with_values};
+ghost use Rattle.sq_rules.specs.AclLines.{acl_line, acl_values, dst_values, external_line, has_type, known_class, lookup_values, rule_line, with_values};
 ghost use Rattle.sq_rules.specs.Drafts.{are_patterns};
+ghost use Rattle.sq_rules.specs.Lookups.{is_dst};
+ghost use Rattle.sq_rules.specs.declared.configs.Body.TheVariants as body;
 
 use crate::faults::ReadFault;
 use crate::finds::find_values;
@@ -30,6 +32,7 @@ fn leaf_line(
 ) -> Result<(), ReadFault>
     requires target { IsTarget builder.old.acls name.now place }
     requires patterns { are_patterns leaf ≡ true }
+    requires plain { (builder.old.dst_lookup && is_dst (body.Leaf leaf)) ≡ false }
     ensures { Makes result builder.new (Ok (with_values name.now place builder.old leaf)) }
 {
     match place {
@@ -40,6 +43,54 @@ fn leaf_line(
         Some(place) => builder.join_leaf(alloc, place, leaf)?,
     }
     Ok(())
+}
+
+// Values of an acl of type dst where names are looked up: a new one is four, and that of one that stands gets more.
+#[tactic(auto, unfolding(sq_rules::specs::AclLines::lookup_values))]
+fn lookup_values(
+    alloc: Global,
+    builder: &mut Builder,
+    name: &Text,
+    place: Option<u32>,
+    words: &[Text],
+) -> Result<(), ReadFault>
+    requires target { IsTarget builder.old.acls name.now place }
+    requires on { builder.old.dst_lookup ≡ true }
+    ensures { Makes result builder.new (lookup_values name.now place builder.old words.now) }
+{
+    match place {
+        None => {
+            if !builder.is_free(alloc, name)? {
+                return Err(ReadFault::Fault(Kind::BadValue));
+            }
+            let values = range_values(alloc, words)?;
+            let name = name.copy(alloc)?;
+            builder.push_lookup(alloc, name, values)?;
+        }
+        Some(place) => {
+            let values = range_values(alloc, words)?;
+            builder.join_leaf(alloc, place.saturating_sub(3), Leaf::Dst(values))?;
+        }
+    }
+    Ok(())
+}
+
+// Values of an acl of type dst.
+fn dst_values(
+    alloc: Global,
+    builder: &mut Builder,
+    name: &Text,
+    place: Option<u32>,
+    words: &[Text],
+) -> Result<(), ReadFault>
+    requires target { IsTarget builder.old.acls name.now place }
+    ensures { Makes result builder.new (dst_values name.now place builder.old words.now) }
+{
+    if builder.looks_up() {
+        return lookup_values(alloc, builder, name, place, words);
+    }
+    let values = range_values(alloc, words)?;
+    leaf_line(alloc, builder, name, place, Leaf::Dst(values))
 }
 
 // A class that stands.
@@ -90,11 +141,12 @@ fn acl_values(
     words: &[Text],
 ) -> Result<(), ReadFault>
     requires target { IsTarget builder.old.acls name.now place }
+    requires kind { has_type builder.old.acls kind place ≡ true }
     ensures { Makes result builder.new (acl_values kind name.now place builder.old words.now) }
 {
     let leaf = match kind {
         AclType::Src => Leaf::Src(range_values(alloc, words)?),
-        AclType::Dst => Leaf::Dst(range_values(alloc, words)?),
+        AclType::Dst => return dst_values(alloc, builder, name, place, words),
         AclType::DstDomain => Leaf::DstDomain(plain_values(alloc, words)?),
         AclType::Port => Leaf::Port(port_values(alloc, words)?),
         AclType::Method => Leaf::Method(method_values(alloc, words)?),

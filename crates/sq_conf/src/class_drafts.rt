@@ -1,12 +1,14 @@
 //! `ClassDraft`: a class of helpers as far as its line states it.
 ghost use Rattle.std.specs.Prelude.{◌≡◌, ◌≤◌, true, not, length, IfOk};
 ghost use Rattle.std.specs.List.{list_any};
+ghost use Rattle.sq_conf.specs.ClassDrafts.{children_of};
 ghost use Rattle.sq_conf.specs.Forms.{Gives, Makes};
 ghost use Rattle.sq_rules.specs.ClassLines.{class_of, class_step, default_class, option_step, token_step, up_to, with_option};
-ghost use Rattle.sq_rules.specs.Limits.{name_limit, token_limit};
+ghost use Rattle.sq_rules.specs.Limits.{children_limit, name_limit, token_limit};
+ghost use Rattle.sq_rules.specs.RewriteLines.{children_step, most_children};
 ghost use Rattle.sq_rules.specs.Steps.{is_empty, over};
 
-use crate::class_options::{is_option, option_of};
+use crate::class_options::{children_option, is_option, option_of};
 use crate::cuts::behind;
 use crate::faults::ReadFault;
 use crate::numbers::number_in;
@@ -152,6 +154,38 @@ impl ClassDraft {
         let mut draft = ClassDraft::new(alloc);
         for word in words {
             draft.take(alloc, word)?;
+        }
+        Ok(draft)
+    }
+
+    // The defaults, with so many processes.
+    fn with_most(alloc: Global, max: u32) -> ClassDraft
+        requires some { 1 ≤ max }
+        requires few { max ≤ children_limit }
+        ensures { result ≡ most_children max }
+    {
+        let mut draft = ClassDraft::new(alloc);
+        draft.children_max = max;
+        draft
+    }
+
+    // An option of `url_rewrite_children` and its value.
+    #[tactic(auto, unfolding(sq_rules::specs::RewriteLines::children_step))]
+    fn take_children(&mut self, word: &[u8]) -> Result<(), ReadFault>
+        ensures { Makes result self.new (children_step self.old word.now) }
+    {
+        let option = children_option(word)?;
+        self.set_option(option, behind(word, b'='))
+    }
+
+    /// What the number of processes and the options of `url_rewrite_children` state.
+    pub fn read_children(alloc: Global, max: &[u8], words: &[Text]) -> Result<ClassDraft, ReadFault>
+        ensures { Gives (λ c. c) result (children_of max.now words.now) }
+    {
+        let max = number_in(max, 1, CHILDREN_LIMIT as u64)?;
+        let mut draft = ClassDraft::with_most(alloc, max as u32);
+        for word in words {
+            draft.take_children(word.as_bytes())?;
         }
         Ok(draft)
     }

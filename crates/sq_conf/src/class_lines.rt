@@ -3,7 +3,8 @@ ghost use Rattle.std.specs.Prelude.{◌≡◌, ◌≤◌, true, length, nat_lt, 
 ghost use Rattle.sq_conf.specs.Forms.{Gives, Makes};
 ghost use Rattle.sq_rules.specs.Building.{class_place};
 ghost use Rattle.sq_rules.specs.ClassLines.{class_line, class_name, class_of, with_class, with_notice_if};
-ghost use Rattle.sq_rules.specs.Limits.{class_limit, name_limit};
+ghost use Rattle.sq_rules.specs.Limits.{name_limit};
+ghost use Rattle.sq_rules.specs.Lookups.{classes_within};
 
 use crate::class_drafts::ClassDraft;
 use crate::faults::ReadFault;
@@ -16,10 +17,10 @@ use std::alloc::Global;
 
 // A name that no class has, and room for one more.
 fn class_name(builder: &Builder, word: &Text) -> Result<(), ReadFault>
-    ensures read { Gives (λ _. word.now) result (class_name builder.now.classes word.now) }
+    ensures read { Gives (λ _. word.now) result (class_name builder.now word.now) }
     ensures short { IfOk result (λ _. length word.now ≤ name_limit) }
     ensures free { IfOk result (λ _. class_place builder.now.classes word.now ≡ None) }
-    ensures room { IfOk result (λ _. nat_lt (length builder.now.classes) class_limit ≡ true) }
+    ensures room { IfOk result (λ _. nat_lt (length builder.now.classes) (classes_within builder.now.dst_lookup) ≡ true) }
 {
     if word.len() > NAME_LIMIT {
         return Err(ReadFault::Fault(Kind::BadValue));
@@ -43,7 +44,7 @@ fn add_class(
 ) -> Result<(), WantOfMemory>
     requires short { length name.now ≤ name_limit }
     requires free { class_place builder.old.classes name.now ≡ None }
-    requires room { nat_lt (length builder.old.classes) class_limit ≡ true }
+    requires room { nat_lt (length builder.old.classes) (classes_within builder.old.dst_lookup) ≡ true }
     ensures { OnOk result (builder.new ≡ with_notice_if draft.noted line (codes "external_acl_type") (with_class (class_of name.now draft) builder.old)) }
 {
     let noted = draft.is_noted();

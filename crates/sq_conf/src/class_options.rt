@@ -1,8 +1,9 @@
-//! Options of `external_acl_type`, by their names.
+//! Options of `external_acl_type` and `url_rewrite_children`, by their names.
 ghost use Rattle.std.specs.Prelude.{◌≡◌, ◌==◌};
 ghost use Rattle.sq_base.specs.NameTables.{beside, is_among};
 ghost use Rattle.sq_conf.specs.Forms.{Gives};
 ghost use Rattle.sq_rules.specs.ClassLines.{bare_options, has_equals, is_option, option_of, valued_options, whole_options};
+ghost use Rattle.sq_rules.specs.RewriteLines.{children_option, children_options, option_named};
 
 use crate::cuts::{before, holds};
 use crate::faults::ReadFault;
@@ -34,6 +35,35 @@ pub fn option_of(word: &[u8]) -> Result<ClassOption, ReadFault>
         return Ok(ClassOption::NoEffect);
     }
     match named(&VALUED_OPTIONS, before(word, b'=')) {
+        Some(option) => Ok(option),
+        None => Err(ReadFault::Fault(Kind::UnknownOption)),
+    }
+}
+
+const CHILDREN_OPTIONS: [(&[u8], ClassOption); 4] = [
+    (b"startup", ClassOption::ChildrenStartup),
+    (b"idle", ClassOption::ChildrenIdle),
+    (b"concurrency", ClassOption::Concurrency),
+    (b"queue-size", ClassOption::QueueSize),
+];
+
+// The option of `url_rewrite_children` of a word in which `=` stands.
+fn option_named(word: &[u8]) -> Option<ClassOption>
+    ensures { result ≡ option_named word.now }
+{
+    if holds(word, b'=') {
+        named(&CHILDREN_OPTIONS, before(word, b'='))
+    } else {
+        None
+    }
+}
+
+/// The option of `url_rewrite_children` of a word.
+#[tactic(auto, unfolding(sq_rules::specs::RewriteLines::children_option))]
+pub fn children_option(word: &[u8]) -> Result<ClassOption, ReadFault>
+    ensures { Gives (λ o. o) result (children_option word.now) }
+{
+    match option_named(word) {
         Some(option) => Ok(option),
         None => Err(ReadFault::Fault(Kind::UnknownOption)),
     }

@@ -8,7 +8,7 @@ use crate::faults::ReadFault;
 use sq_base::{is_among, named};
 use sq_rules::{Directive, Kind};
 
-const DIRECTIVES: [(&[u8], Directive); 9] = [
+const DIRECTIVES: [(&[u8], Directive); 14] = [
     (b"acl", Directive::Acl),
     (b"http_access", Directive::HttpAccess),
     (b"external_acl_type", Directive::ExternalAclType),
@@ -18,6 +18,11 @@ const DIRECTIVES: [(&[u8], Directive); 9] = [
     (b"delay_parameters", Directive::DelayParameters),
     (b"delay_initial_bucket_level", Directive::InitialLevel),
     (b"http_port", Directive::HttpPort),
+    (b"request_header_access", Directive::RequestHeaderAccess),
+    (b"reply_header_access", Directive::ReplyHeaderAccess),
+    (b"url_rewrite_program", Directive::RewriteProgram),
+    (b"url_rewrite_children", Directive::RewriteChildren),
+    (b"dst_lookup", Directive::DstLookup),
 ];
 
 const WITHOUT_EFFECT: [&[u8]; 24] = [

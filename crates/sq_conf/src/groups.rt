@@ -1,9 +1,11 @@
 //! Lines of groups of acls.
-ghost use Rattle.std.specs.Prelude.{◌≡◌, ◌<◌, length};
+ghost use Rattle.std.specs.Prelude.{◌≡◌, ◌<◌, true, length};
 ghost use Rattle.sq_conf.specs.Forms.{Makes};
 ghost use Rattle.sq_conf.specs.Targets.{IsTarget};
-ghost use Rattle.sq_rules.specs.AclLines.{all_of, any_of, member, members, sound};
+ghost use Rattle.sq_rules.specs.AclLines.{all_of, any_of, has_type, member, members, sound};
 ghost use Rattle.sq_rules.specs.Drafts.{with_body, with_member};
+ghost use Rattle.sq_rules.specs.Lookups.{takes_members};
+ghost use Rattle.sq_rules.specs.declared.acl_types.AclType.TheVariants as type;
 
 use crate::faults::ReadFault;
 use crate::leaf_values::is_unquoted;
@@ -17,8 +19,10 @@ use std::alloc::Global;
 fn add_member(alloc: Global, builder: &mut Builder, place: u32, term: Term) -> Result<(), ReadFault>
     requires within { place < length builder.old.acls }
     requires earlier { term.acl < place }
+    requires group { takes_members builder.old.dst_lookup builder.old.acls place ≡ true }
     ensures made { Makes result builder.new (sound (with_body place (with_member term) builder.old)) }
     ensures count { length builder.new.acls ≡ length builder.old.acls }
+    ensures group { takes_members builder.new.dst_lookup builder.new.acls place ≡ true }
 {
     match builder.add_member(alloc, place, term) {
         Ok(()) => Ok(()),
@@ -31,9 +35,11 @@ fn add_member(alloc: Global, builder: &mut Builder, place: u32, term: Term) -> R
 // One member of the group at a place.
 #[tactic(auto, unfolding(sq_rules::specs::AclLines::member))]
 fn member(alloc: Global, builder: &mut Builder, place: u32, word: &Text) -> Result<(), ReadFault>
-    requires { place < length builder.old.acls }
+    requires within { place < length builder.old.acls }
+    requires group { takes_members builder.old.dst_lookup builder.old.acls place ≡ true }
     ensures made { Makes result builder.new (member place builder.old word.now) }
     ensures count { length builder.new.acls ≡ length builder.old.acls }
+    ensures group { takes_members builder.new.dst_lookup builder.new.acls place ≡ true }
 {
     if !is_unquoted(word.as_bytes()) {
         return Err(ReadFault::Fault(Kind::BadValue));
@@ -52,7 +58,8 @@ fn members(
     place: u32,
     words: &[Text],
 ) -> Result<(), ReadFault>
-    requires { place < length builder.old.acls }
+    requires within { place < length builder.old.acls }
+    requires group { takes_members builder.old.dst_lookup builder.old.acls place ≡ true }
     ensures { Makes result builder.new (members place builder.old words.now) }
 {
     if words.is_empty() {
@@ -74,6 +81,7 @@ pub fn any_of(
     words: &[Text],
 ) -> Result<(), ReadFault>
     requires target { IsTarget builder.old.acls name.now place }
+    requires kind { has_type builder.old.acls type.AnyOf place ≡ true }
     ensures { Makes result builder.new (any_of name.now place builder.old words.now) }
 {
     match place {
@@ -97,6 +105,7 @@ pub fn all_of(
     words: &[Text],
 ) -> Result<(), ReadFault>
     requires target { IsTarget builder.old.acls name.now place }
+    requires kind { has_type builder.old.acls type.AllOf place ≡ true }
     ensures { Makes result builder.new (all_of name.now place builder.old words.now) }
 {
     match place {

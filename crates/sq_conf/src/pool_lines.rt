@@ -1,10 +1,10 @@
 //! Lines of delay pools.
-ghost use Rattle.std.specs.Prelude.{◌≡◌, ◌≤◌, ◌<◌, true, false, length, slice_index_or, IfOk};
+ghost use Rattle.std.specs.Prelude.{◌≡◌, ◌≤◌, ◌<◌, true, false, length, slice_index_or, Some, IfOk};
 ghost use Rattle.sq_conf.specs.Forms.{Gives, Makes};
-ghost use Rattle.sq_rules.specs.Configurations.{are_known, slow_ones, some_slow};
+ghost use Rattle.sq_rules.specs.Configurations.{are_known, is_pool_class, pairs_of, slow_ones, some_slow};
 ghost use Rattle.sq_rules.specs.Drafts.{pool_at};
 ghost use Rattle.sq_rules.specs.Limits.{pool_limit};
-ghost use Rattle.sq_rules.specs.PoolLines.{class_for_pairs, fast_term, initial_line, limit_pairs_of, pool_access_line, pool_class_line, pool_number, pool_pairs_line, pool_place, pools_line};
+ghost use Rattle.sq_rules.specs.PoolLines.{class_for_pairs, fast_term, initial_line, limit_pairs_of, pool_access_line, pool_class, pool_class_line, pool_number, pool_pairs_line, pool_place, pools_line};
 ghost use Rattle.sq_rules.specs.Steps.{some_of};
 
 use crate::faults::ReadFault;
@@ -14,7 +14,9 @@ use crate::terms::{action, known_term};
 use crate::words::Words;
 use sq_base::{Listed, Text};
 use sq_drafts::Builder;
-use sq_rules::{INITIAL_LIMIT, Kind, Limits, POOL_LIMIT, Rule, Term, Terms};
+use sq_rules::{
+    INITIAL_LIMIT, Kind, Limits, POOL_LIMIT, Rule, Term, Terms, is_pool_class, pairs_of,
+};
 use std::alloc::Global;
 
 // How many pools there are.
@@ -68,6 +70,19 @@ fn pool_place(count: u8, word: &[u8]) -> Result<u8, ReadFault>
     }
 }
 
+// The class of a pool.
+#[tactic(auto, unfolding(sq_rules::specs::PoolLines::pool_class))]
+fn pool_class(word: &[u8]) -> Result<u8, ReadFault>
+    ensures read { Gives (λ c. c) result (pool_class word.now) }
+    ensures one { IfOk result (λ c. is_pool_class c ≡ true) }
+{
+    let class = number_in(word, 1, 5)? as u8;
+    if !is_pool_class(class) {
+        return Err(ReadFault::Fault(Kind::BadNumber));
+    }
+    Ok(class)
+}
+
 /// `delay_class POOL CLASS`
 #[tactic(auto, unfolding(sq_rules::specs::PoolLines::pool_class_line))]
 pub fn pool_class_line(builder: &mut Builder, words: &[Text]) -> Result<(), ReadFault>
@@ -78,9 +93,9 @@ pub fn pool_class_line(builder: &mut Builder, words: &[Text]) -> Result<(), Read
     if builder.pool_class(place).is_some() {
         return Err(ReadFault::Fault(Kind::BadValue));
     }
-    let class = number_in(words.next()?.as_bytes(), 1, 3)?;
+    let class = pool_class(words.next()?.as_bytes())?;
     words.no_more()?;
-    builder.set_class(place, class as u8);
+    builder.set_class(place, class);
     Ok(())
 }
 
@@ -98,8 +113,8 @@ fn fast_term(alloc: Global, builder: &Builder, word: &Text) -> Result<Term, Read
     Ok(term)
 }
 
-// One such term or more.
-fn fast_terms(alloc: Global, builder: &Builder, words: &[Text]) -> Result<Terms, ReadFault>
+/// One such term or more.
+pub fn fast_terms(alloc: Global, builder: &Builder, words: &[Text]) -> Result<Terms, ReadFault>
     ensures read { Gives (λ t. t) result (some_of (fast_term builder.now.acls) words.now) }
     ensures known { IfOk result (λ terms. are_known (length builder.now.acls) terms ≡ true) }
     ensures fast { IfOk result (λ terms. some_slow (slow_ones builder.now.acls) terms ≡ false) }
@@ -135,6 +150,7 @@ pub fn pool_access_line(
 fn class_for_pairs(builder: &Builder, place: u8) -> Result<u8, ReadFault>
     requires { place < length builder.now.pools }
     ensures read { Gives (λ c. c) result (class_for_pairs (pool_at builder.now.pools place)) }
+    ensures class { IfOk result (λ c. (pool_at builder.now.pools place).class ≡ Some c) }
 {
     let Some(class) = builder.pool_class(place) else {
         return Err(ReadFault::Fault(Kind::BadValue));
@@ -147,7 +163,7 @@ fn class_for_pairs(builder: &Builder, place: u8) -> Result<u8, ReadFault>
 
 // So many pairs.
 #[tactic(auto, unfolding(sq_rules::specs::PoolLines::limit_pairs_of))]
-fn pairs_of(alloc: Global, count: u8, words: &[Text]) -> Result<Limits, ReadFault>
+fn read_pairs(alloc: Global, count: u8, words: &[Text]) -> Result<Limits, ReadFault>
     ensures read { Gives (λ p. p) result (limit_pairs_of count words.now) }
     ensures count { IfOk result (λ p. length p ≡ count) }
 {
@@ -176,7 +192,7 @@ pub fn pool_pairs_line(
     let mut words = Words::new(words);
     let place = pool_place(builder.pool_count(), words.next()?.as_bytes())?;
     let class = class_for_pairs(builder, place)?;
-    let pairs = pairs_of(alloc, class, words.rest())?;
+    let pairs = read_pairs(alloc, pairs_of(class), words.rest())?;
     builder.set_pairs(place, pairs);
     Ok(())
 }

@@ -1,20 +1,24 @@
 //! A whole text.
 ghost use Rattle.std.specs.Prelude.{◌≡◌, ◌≤◌, ℕ, length, true, Ok, IfOk, IfErr};
 ghost use Rattle.sq_conf.specs.Forms.{Makes};
-ghost use Rattle.sq_conf.specs.Texts.{FailsAt, Leaves};
+ghost use Rattle.sq_conf.specs.Texts.{FailsAt, Leaves, Tells};
 ghost use Rattle.sq_rules.specs.Changes.{all_patterns};
-ghost use Rattle.sq_rules.specs.ConfText.{by_directive, conf_gives, conf_refuses, end_read, line_read, lines_read, text_read};
+ghost use Rattle.sq_rules.specs.ConfText.{all_read, and_then, by_directive, conf_gives, conf_refuses, end_read, line_read, lines_left, lines_read, lookup_read, text_read, then_read};
 ghost use Rattle.sq_rules.specs.Limits.{text_limit};
+ghost use Rattle.sq_rules.specs.LookupLines.{behind_first, lookup_line};
 ghost use Rattle.sq_rules.specs.declared.kinds.Kind.{Kind};
 
 use crate::acl_lines::{acl_line, rule_line};
 use crate::class_lines::class_line;
 use crate::directives::directive_of;
 use crate::faults::{ConfFault, ReadFault};
+use crate::header_lines::header_line;
+use crate::lookup_lines::{behind_first, lookup_line, states_lookup};
 use crate::pool_lines::{
     initial_line, pool_access_line, pool_class_line, pool_pairs_line, pools_line,
 };
 use crate::port_lines::{note, port_line};
+use crate::rewrite_lines::{children_line, program_line};
 use crate::words::Words;
 use sq_base::{Line, LineFault, Text};
 use sq_drafts::{Builder, FinishFault};
@@ -45,6 +49,11 @@ fn by_directive(
         Directive::DelayParameters => pool_pairs_line(alloc, builder, words),
         Directive::InitialLevel => initial_line(builder, words),
         Directive::HttpPort => port_line(alloc, builder, line, words),
+        Directive::RequestHeaderAccess => header_line(alloc, builder, false, words),
+        Directive::ReplyHeaderAccess => header_line(alloc, builder, true, words),
+        Directive::RewriteProgram => program_line(alloc, builder, words),
+        Directive::RewriteChildren => children_line(alloc, builder, words),
+        Directive::DstLookup => Err(ReadFault::Fault(Kind::BadValue)),
         Directive::NoEffect => Ok(note(alloc, builder, line, name.as_bytes())?),
     }
 }
@@ -82,6 +91,63 @@ fn read_lines(alloc: Global, builder: &mut Builder, lines: &[Line]) -> Result<()
         }
     }
     Ok(())
+}
+
+// What a first line `dst_lookup` says.
+fn switch_in(line: &Line) -> Result<bool, ConfFault>
+    ensures { Tells (λ on. on) result (then_read line.now.number (lookup_line (behind_first line.now.words)) (λ lookup. Ok lookup)) }
+{
+    match lookup_line(behind_first(line.words.as_slice())) {
+        Ok(on) => Ok(on),
+        Err(ReadFault::Memory) => Err(ConfFault::WantOfMemory),
+        Err(ReadFault::Fault(kind)) => Err(ConfFault::At(ConfError {
+            line: line.number,
+            kind,
+        })),
+    }
+}
+
+// Whether names are looked up, which the first line may say.
+fn read_lookup(lines: &[Line]) -> Result<bool, ConfFault>
+    ensures { Tells (λ on. on) result (lookup_read lines.now) }
+{
+    match lines {
+        [] => Ok(false),
+        [line, ..] => {
+            if states_lookup(line.words.as_slice()) {
+                switch_in(line)
+            } else {
+                Ok(false)
+            }
+        }
+    }
+}
+
+// The lines that are left then.
+fn lines_left(lines: &[Line]) -> &[Line]
+    ensures { result.now ≡ lines_left lines.now }
+{
+    match lines {
+        [] => lines,
+        [line, rest @ ..] => {
+            if states_lookup(line.words.as_slice()) {
+                rest
+            } else {
+                lines
+            }
+        }
+    }
+}
+
+// All lines.
+#[tactic(auto, unfolding(sq_rules::specs::ConfText::all_read))]
+fn read_all(alloc: Global, lines: &[Line]) -> Result<Builder, ConfFault>
+    ensures { Tells (λ b. b) result (all_read lines.now) }
+{
+    let lookup = read_lookup(lines)?;
+    let mut builder = Builder::new(alloc, lookup)?;
+    read_lines(alloc, &mut builder, lines_left(lines))?;
+    Ok(builder)
 }
 
 // The fault of a line as a whole, which comes after those of the lines before it.
@@ -132,6 +198,21 @@ fn set_up(alloc: Global, config: Config) -> Result<Setup, ConfFault>
     }
 }
 
+// What follows the lines: the fault of a line as a whole, and then the configuration.
+fn finish_lines(
+    alloc: Global,
+    builder: Builder,
+    fault: Option<LineFault>,
+    bytes: &[u8],
+) -> Result<Setup, ConfFault>
+    requires { length bytes.now ≤ text_limit }
+    ensures ok { IfOk result (λ c. and_then (text_read builder fault) (end_read bytes.now) ≡ Ok c) }
+    ensures err { IfErr result (λ e. FailsAt e (and_then (text_read builder fault) (end_read bytes.now))) }
+{
+    end_of_lines(&builder, fault)?;
+    finish(alloc, builder, bytes)
+}
+
 /// The configuration that a text states, with its patterns compiled, or the text's first fault.
 #[tactic(auto, unfolding(sq_rules::specs::ConfText::conf_result))]
 pub fn read_config(alloc: Global, bytes: &[u8]) -> Result<Setup, ConfFault>
@@ -145,8 +226,6 @@ pub fn read_config(alloc: Global, bytes: &[u8]) -> Result<Setup, ConfFault>
         }));
     }
     let lexed = lex(alloc, bytes)?;
-    let mut builder = Builder::new(alloc)?;
-    read_lines(alloc, &mut builder, lexed.lines.as_slice())?;
-    end_of_lines(&builder, lexed.fault)?;
-    finish(alloc, builder, bytes)
+    let builder = read_all(alloc, lexed.lines.as_slice())?;
+    finish_lines(alloc, builder, lexed.fault, bytes)
 }

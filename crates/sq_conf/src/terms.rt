@@ -10,7 +10,7 @@ use crate::faults::ReadFault;
 use crate::words::begins;
 use sq_base::{Listed, Text, named};
 use sq_drafts::Builder;
-use sq_rules::{AclType, Kind, NAME_LIMIT, Term, Terms};
+use sq_rules::{AclType, Kind, NAME_LIMIT, Term, Terms, has_blank};
 use std::alloc::Global;
 
 const ACTIONS: [(&[u8], bool); 2] = [(b"allow", true), (b"deny", false)];
@@ -44,7 +44,7 @@ pub fn action(word: &[u8]) -> Result<bool, ReadFault>
 fn is_name(word: &[u8]) -> bool
     ensures { result ≡ is_name word.now }
 {
-    !begins(word, b'!') && word.len() <= NAME_LIMIT
+    !begins(word, b'!') && word.len() <= NAME_LIMIT && !has_blank(word)
 }
 
 /// The place of the acl of this name, or none where there is room for it.

@@ -1,5 +1,5 @@
 -- What a desk stands for.
-use Rattle.std.specs.Prelude.{◌≡◌, ℕ, suc, pos, ◌+◌, ◌≤◌, List, [], ◌∷◌, ◌++◌, length, true, false, is_some, IfSome, nat_eq}
+use Rattle.std.specs.Prelude.{◌≡◌, ℕ, suc, pos, ◌+◌, ◌≤◌, List, [], ◌∷◌, ◌++◌, length, true, false, None, is_some, IfSome, nat_eq}
 use Rattle.std.specs.List.{IsDistinct}
 use Rattle.std.specs.Set.{is_member}
 use Rattle.sq_rules.specs.Configurations.{Configuration, IsConfiguration}
@@ -19,7 +19,7 @@ pub record DeskView : Type 0 where
 
 -- one that states nothing
 abbrev pub no_configuration : Configuration
-no_configuration = record { source = []; classes = []; acls = []; rules = []; pools = []; initial = 0; port = 0; notices = [] }
+no_configuration = record { source = []; dst_lookup = false; classes = []; acls = []; rules = []; pools = []; initial = 0; port = 0; rewriter = None; headers = []; notices = [] }
 
 -- with this one, and at the offset 0
 abbrev pub no_beginning : Beginning

@@ -1,3 +1,5 @@
+mod FirstLaws
 mod KnownLaws
 mod ListLaws
 mod SoundLaws
+mod TakesLaws

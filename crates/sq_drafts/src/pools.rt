@@ -1,13 +1,13 @@
-//! Delay pools under way.
+//! Delay pools under way, and whether their rules and those for fields are fast.
 ghost use Rattle.std.specs.Prelude.{◌≡◌, ◌++◌, ◌∷◌, [], cond, true, false, is_some, map, replicate, slice_index_or, Some, None, IfOk, IfErr, OnOk, OnErr};
 ghost use Rattle.std.specs.List.{list_all};
 ghost use Rattle.sq_drafts.specs.Sound.{stay_fast};
 ghost use Rattle.sq_rules.specs.Configurations.{some_slow};
-ghost use Rattle.sq_rules.specs.Drafts.{are_complete, is_complete, is_fast, no_pool, pool_of_draft};
+ghost use Rattle.sq_rules.specs.Drafts.{are_complete, are_fast_where, is_complete, is_fast, no_pool, pool_of_draft};
 
 use crate::faults::FinishFault;
 use sq_base::{Listed, WantOfMemory};
-use sq_rules::{Limits, Pool, Pools, Rule, Rules, Term};
+use sq_rules::{HeaderRule, Limits, Pool, Pools, Rule, Rules, Term};
 use std::alloc::Global;
 use std::marker::Model;
 
@@ -134,13 +134,30 @@ fn are_fast_pools(slow: &[bool], pools: &[StatedPool]) -> bool
     true
 }
 
-/// Whether no rule of a pool names a slow acl, where these are slow, or the same as before.
-pub fn stay_fast(slow: &Option<Listed<bool>>, pools: &[StatedPool]) -> bool
-    ensures { result ≡ stay_fast slow.now pools.now }
+fn are_fast_headers(slow: &[bool], headers: &[HeaderRule]) -> bool
+    ensures { result ≡ list_all (λ h. is_fast slow.now h.rule) headers.now }
+{
+    for header in headers {
+        if some_slow(slow, header.rule.terms.as_slice()) {
+            return false;
+        }
+    }
+    true
+}
+
+fn are_fast_where(slow: &[bool], pools: &[StatedPool], headers: &[HeaderRule]) -> bool
+    ensures { result ≡ are_fast_where slow.now pools.now headers.now }
+{
+    are_fast_pools(slow, pools) && are_fast_headers(slow, headers)
+}
+
+/// Whether no rule of a pool or for a field names a slow acl, where these are slow, or the same as before.
+pub fn stay_fast(slow: &Option<Listed<bool>>, pools: &[StatedPool], headers: &[HeaderRule]) -> bool
+    ensures { result ≡ stay_fast slow.now pools.now headers.now }
 {
     match slow {
         None => true,
-        Some(slow) => are_fast_pools(slow.as_slice(), pools),
+        Some(slow) => are_fast_where(slow.as_slice(), pools, headers),
     }
 }
 

@@ -12,7 +12,7 @@ use Rattle.sq_places.proofs.SetLaws.{set_marked, set_same}
 use Rattle.sq_rules.specs.Classes.{Class}
 use Rattle.sq_machine.specs.Farms.{send_of, start_due}
 use Rattle.sq_machine.specs.KeptLists.{KeptList}
-use Rattle.sq_rules.specs.Limits.{class_limit}
+use Rattle.sq_rules.specs.Limits.{most_classes}
 use Rattle.sq_part.specs.Parts.{PartState}
 use Rattle.sq_epochs.specs.DueSets.{DueState, IsDueOf, IsEpoch, IsMarked}
 use Rattle.sq_epochs.specs.DueStates.{first_place, owes_send, owes_start}
@@ -58,7 +58,7 @@ pub inside : (old v : EpochState) (c : ℕ) → old ≡ v → c < length v.parts
 inside old v c same within = subst (λ z. c < length z.parts) (sym same) within
 
 -- there are few classes
-pub is_few : (classes : List Class) (parts : List PartState) (due : DueState) (c : ℕ) → IsEpoch classes parts due → c < length parts → c < class_limit
+pub is_few : (classes : List Class) (parts : List PartState) (due : DueState) (c : ℕ) → IsEpoch classes parts due → c < length parts → c < most_classes
 is_few classes parts due c is within = let few = is.few in omega (arith, few, within)
 
 -- one part was changed, and what its class owes was noted
@@ -66,7 +66,7 @@ pub marked : (classes : List Class) (parts : List PartState) (old new : DueState
     → IsMarked c q old new → IsEpoch classes (set parts c q) new
 marked classes parts old new c p q is within at limit noted = record {
   parts_are = limits_kept parts (map class_cache classes) c p q is.parts_are at limit;
-  few = subst (λ n. n ≤ class_limit) (sym (length-set parts c q)) is.few;
+  few = subst (λ n. n ≤ most_classes) (sym (length-set parts c q)) is.few;
   due_are = record {
     sends_are = set_marked owes_send parts old.sends new.sends c q within is.due_are.sends_are noted.sends_are;
     starts_are = set_marked owes_start parts old.starts new.starts c q within is.due_are.starts_are noted.starts_are;
@@ -78,7 +78,7 @@ pub unmarked : (classes : List Class) (parts : List PartState) (due : DueState) 
     → q.row.stock ≡ p.row.stock → IsEpoch classes (set parts c q) due
 unmarked classes parts due c p q is at limit farm = record {
   parts_are = limits_kept parts (map class_cache classes) c p q is.parts_are at limit;
-  few = subst (λ n. n ≤ class_limit) (sym (length-set parts c q)) is.few;
+  few = subst (λ n. n ≤ most_classes) (sym (length-set parts c q)) is.few;
   due_are = record {
     sends_are = set_same owes_send owes_send parts (set parts c q) due.sends (sym (map-set_same owes_send parts c q p (ap (λ v. is_some (send_of v)) farm ∙ ap owes_send at))) is.due_are.sends_are;
     starts_are = set_same owes_start owes_start parts (set parts c q) due.starts (sym (map-set_same owes_start parts c q p (ap start_due farm ∙ ap owes_start at))) is.due_are.starts_are;
@@ -86,10 +86,10 @@ unmarked classes parts due c p q is at limit farm = record {
 }
 
 -- an epoch that begins
-pub new_marked : (classes : List Class) (parts : List PartState) (due : DueState) → parts ≡ map new_part classes → length classes ≤ class_limit → IsDueOf parts due → IsEpoch classes parts due
+pub new_marked : (classes : List Class) (parts : List PartState) (due : DueState) → parts ≡ map new_part classes → length classes ≤ most_classes → IsDueOf parts due → IsEpoch classes parts due
 new_marked classes parts due are few noted = record {
   parts_are = limits_new classes parts are;
-  few = subst (λ n. n ≤ class_limit) (sym (ap length are ∙ len_map new_part classes)) few;
+  few = subst (λ n. n ≤ most_classes) (sym (ap length are ∙ len_map new_part classes)) few;
   due_are = noted;
 }
 
@@ -98,7 +98,7 @@ pub begun_marked : (before : Class → KeptList) (classes : List Class) (parts b
     → begun ≡ map (begun_part before) classes → IsEpoch classes begun due
 begun_marked before classes parts begun due is are new = record {
   parts_are = limits_begun before classes classes begun new refl;
-  few = subst (λ n. n ≤ class_limit) (ap length are ∙ len_map new_part classes ∙ sym (len_map (begun_part before) classes) ∙ sym (ap length new)) is.few;
+  few = subst (λ n. n ≤ most_classes) (ap length are ∙ len_map new_part classes ∙ sym (len_map (begun_part before) classes) ∙ sym (ap length new)) is.few;
   due_are = record {
     sends_are = set_same owes_send owes_send parts begun due.sends (ap (map owes_send) are ∙ sends classes ∙ sym (ap (map owes_send) new)) is.due_are.sends_are;
     starts_are = set_same owes_start owes_start parts begun due.starts (ap (map owes_start) are ∙ starts classes ∙ sym (ap (map owes_start) new)) is.due_are.starts_are;

@@ -2,7 +2,7 @@
 use Rattle.std.specs.Prelude.{ℕ, ◌≤◌, List, length}
 use Rattle.sq_places.specs.Sets.{IsSetAt, IsSetOf}
 use Rattle.sq_rules.specs.Classes.{Class}
-use Rattle.sq_rules.specs.Limits.{class_limit}
+use Rattle.sq_rules.specs.Limits.{most_classes}
 use Rattle.sq_part.specs.Parts.{PartState}
 use Rattle.sq_epochs.specs.DueStates.{owes_send, owes_start}
 use Rattle.sq_epochs.specs.EpochStates.{AreParts}
@@ -25,5 +25,5 @@ pub record IsMarked (c : ℕ) (p : PartState) (old new : DueState) : Type 0 wher
 -- an epoch has a part for each class, of which there are few, and what is due of each is known
 pub record IsEpoch (classes : List Class) (parts : List PartState) (due : DueState) : Type 0 where
   pub parts_are : AreParts classes parts
-  pub few : length parts ≤ class_limit
+  pub few : length parts ≤ most_classes
   pub due_are : IsDueOf parts due

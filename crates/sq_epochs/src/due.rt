@@ -1,7 +1,7 @@
 //! `Due`: which classes of an epoch owe a send, and which a start.
 ghost use Rattle.std.specs.Prelude.{◌≡◌, ◌<◌, ◌≤◌, ℕ, false, length, IfNone, IfSome};
 ghost use Rattle.sq_places.specs.Sets.{IsLeast, is_in};
-ghost use Rattle.sq_rules.specs.Limits.{class_limit};
+ghost use Rattle.sq_rules.specs.Limits.{most_classes};
 ghost use Rattle.sq_epochs.specs.DueSets.{IsDueOf, IsMarked};
 
 use sq_part::Part;
@@ -26,7 +26,7 @@ impl Model for Due {
 impl Due {
     /// What these parts owe.
     pub fn of(parts: &[Part]) -> Due
-        requires { length parts.now ≤ class_limit }
+        requires { length parts.now ≤ most_classes }
         ensures { IsDueOf parts.now result }
     {
         let mut due = Due {
@@ -41,7 +41,7 @@ impl Due {
 
     /// Notes what the class at this place owes, by its part.
     pub fn mark(&mut self, class: u32, part: &Part)
-        requires { class < class_limit }
+        requires { class < most_classes }
         ensures { IsMarked class part.now self.old self.new }
     {
         self.sends.set(class, part.send_due());

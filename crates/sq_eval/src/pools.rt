@@ -20,7 +20,7 @@ use std::sync::ledger::{Blank, Ledger};
 fn is_passed_over(addr: Addr, pool: &Pool) -> bool
     ensures { result ≡ is_passed_over addr pool.now }
 {
-    addr.v6 && pool.class >= 2
+    addr.v6 && pool.class >= 2 && pool.class <= 3
 }
 
 // Whether rules came to a verdict that allows.

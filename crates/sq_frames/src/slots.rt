@@ -1,7 +1,7 @@
 //! The external acls of a configuration by their slots.
 ghost use Rattle.std.specs.Prelude.{◌≡◌, ◌≤◌, length, IfOk, OnOk};
 ghost use Rattle.std.specs.Arc.{arc_value};
-ghost use Rattle.sq_rules.specs.Limits.{acl_limit};
+ghost use Rattle.sq_rules.specs.Limits.{most_acls};
 ghost use Rattle.sq_frames.specs.Slots.{externals_on, is_external, slots_of};
 
 use sq_base::WantOfMemory;
@@ -57,7 +57,7 @@ fn is_external(body: &Body) -> bool
 
 // The slot of each acl, and how many slots there are.
 fn slots_of(alloc: Global, acls: &[Acl]) -> Result<(Vec<u32>, u32), WantOfMemory>
-    requires { length acls.now ≤ acl_limit }
+    requires { length acls.now ≤ most_acls }
     ensures { IfOk result (λ r. (r.0.items ≡ slots_of acls.now) × (r.1 ≡ externals_on 0 acls.now)) }
 {
     let mut slots = Vec::with_capacity(alloc, acls.len())?;

@@ -58,12 +58,15 @@ class_v = record { name = codes "v"; ttl = 60; negative_ttl = 60; grace = 0; cac
 abbrev config_with : Class → Configuration
 config_with class = record {
   source = [];
+  dst_lookup = false;
   classes = class ∷ [];
   acls = record { name = codes "x"; body = body.External 0 [] } ∷ [];
   rules = record { allow = true; terms = record { acl = 0; negated = false } ∷ [] } ∷ [];
   pools = [];
   initial = 50;
   port = 3128;
+  rewriter = None;
+  headers = [];
   notices = [];
 }
 
@@ -167,12 +170,15 @@ old_check_after_reconfigure = refl
 abbrev pooled : ℕ → List (Option Limit) → Configuration
 pooled class pairs = record {
   source = [];
+  dst_lookup = false;
   classes = [];
   acls = record { name = codes "all"; body = body.Leaf (leaf.Src (record { first = v4 0; last = v4 4294967295 } ∷ [])) } ∷ [];
   rules = record { allow = true; terms = record { acl = 0; negated = false } ∷ [] } ∷ [];
   pools = record { class = class; pairs = pairs; lists = record { allow = true; terms = record { acl = 0; negated = false } ∷ [] } ∷ [] } ∷ [];
   initial = 50;
   port = 3128;
+  rewriter = None;
+  headers = [];
   notices = [];
 }
 

@@ -51,9 +51,13 @@ abbrev pub spots_from : ℕ → ℕ → ℕ → ℕ → List (Option Limit) → 
 spots_from pool class number place [] = []
 spots_from pool class number place (r ∷ limits) = spot_if pool class place number r (spots_from pool class number (suc place) limits)
 
+-- the pairs of a pool that are buckets: a pool of class 5 has none, and grants what is wanted
+abbrev pub bucket_pairs : Pool → List (Option Limit)
+bucket_pairs p = if p.class == 5 then [] else p.pairs
+
 -- the buckets of a client in the pool at this place
 abbrev pub spots_of : ℕ → Pool → Address → List Spot
-spots_of place p a = spots_from place p.class a.number 0 p.pairs
+spots_of place p a = spots_from place p.class a.number 0 (bucket_pairs p)
 
 abbrev pub spots_in : Option Configuration → ℕ → Address → List Spot
 spots_in None pool a = []

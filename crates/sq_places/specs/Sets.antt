@@ -1,4 +1,4 @@
--- Sets of places below 64, a bit of a word for each.
+-- Sets of places below 128, a bit of a word for each.
 use Rattle.std.specs.Prelude.{◌≡◌, ℕ, ◌<◌, List, Bool, true, false, ◌==◌, if◌then◌else◌, slice_get}
 use Rattle.std.specs.Int.{bit_at}
 use Rattle.std.specs.Option.{option_map_or}

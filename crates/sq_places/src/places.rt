@@ -1,13 +1,13 @@
-//! `Places`: a set of places below 64.
+//! `Places`: a set of places below 128.
 ghost use Rattle.std.specs.Prelude.{◌≡◌, ◌<◌, ℕ, false, IfNone, IfSome};
 ghost use Rattle.sq_places.specs.Sets.{IsLeast, IsSetAt, is_in};
 
 use std::marker::Model;
 
-/// A set of places below 64. A contract sees its word, and by `is_in` which places are in it.
+/// A set of places below 128. A contract sees its word, and by `is_in` which places are in it.
 #[derive(Drop)]
 pub struct Places {
-    bits: u64,
+    bits: u128,
 }
 
 impl Model for Places {
@@ -28,7 +28,7 @@ impl Places {
 
     /// Puts a place in, or takes it out.
     pub fn set(&mut self, place: u32, within: bool)
-        requires { place < 64 }
+        requires { place < 128 }
         ensures { IsSetAt place within self.old self.new }
     {
         let bit = 1 << place;

@@ -3,7 +3,7 @@ use Rattle.std.proofs.Common.{◌≡◌, ◌∙◌, ◌==◌, ◌&&◌, ◌||◌
 use Rattle.std.specs.Option.{option_map_or}
 use Rattle.std.proofs.lemmas.Bool.Decides.{nat_tests}
 use Rattle.sq_rules.specs.Configurations.{Configuration}
-use Rattle.sq_machine.specs.PoolReadings.{Spot, has_spot, is_aggregate, is_spot, spots_from, spots_of}
+use Rattle.sq_machine.specs.PoolReadings.{Spot, bucket_pairs, has_spot, is_aggregate, is_spot, spots_from, spots_of}
 use Rattle.sq_rules.specs.Rates.{Limit}
 use Rattle.sq_rules.specs.declared.pools.Pool.{Pool}
 use Rattle.sq_pools.specs.Grants.{filled_if, is_aggregate_of, opened_in}
@@ -53,16 +53,16 @@ empty_by place class [] s e = refl
 empty_by place class (q ∷ limits) s e = absurd (cc)
 
 -- for a pool whose aggregate bucket has a limit
-pub aggregate_is : (place : ℕ) (p : Pool) (r : Limit) (s : Spot) → slice_get p.pairs 0 ≡ Some (Some r) → is_aggregate_of place p s ≡ is_spot (named place r) s
-aggregate_is place p r s e = aggregate_by place p.class p.pairs r s e
+pub aggregate_is : (place : ℕ) (p : Pool) (r : Limit) (s : Spot) → slice_get (bucket_pairs p) 0 ≡ Some (Some r) → is_aggregate_of place p s ≡ is_spot (named place r) s
+aggregate_is place p r s e = aggregate_by place p.class (bucket_pairs p) r s e
 
 -- for a pool whose aggregate bucket has no limit
-pub aggregate_unlimited : (place : ℕ) (p : Pool) (s : Spot) → slice_get p.pairs 0 ≡ Some None → is_aggregate_of place p s ≡ false
-aggregate_unlimited place p s e = unlimited_by place p.class p.pairs s e
+pub aggregate_unlimited : (place : ℕ) (p : Pool) (s : Spot) → slice_get (bucket_pairs p) 0 ≡ Some None → is_aggregate_of place p s ≡ false
+aggregate_unlimited place p s e = unlimited_by place p.class (bucket_pairs p) s e
 
--- for a pool without pairs
-pub aggregate_empty : (place : ℕ) (p : Pool) (s : Spot) → slice_get p.pairs 0 ≡ None → is_aggregate_of place p s ≡ false
-aggregate_empty place p s e = empty_by place p.class p.pairs s e
+-- for a pool without such pairs
+pub aggregate_empty : (place : ℕ) (p : Pool) (s : Spot) → slice_get (bucket_pairs p) 0 ≡ None → is_aggregate_of place p s ≡ false
+aggregate_empty place p s e = empty_by place p.class (bucket_pairs p) s e
 
 abbrev aggregate_at : List Pool → Spot → ℕ → Bool
 aggregate_at pools s k = has_spot (option_map_or (λ p. spots_of k p (record { v6 = false; number = 0 })) (slice_get pools k) []) s && s.place == 0
@@ -70,7 +70,7 @@ aggregate_at pools s k = has_spot (option_map_or (λ p. spots_of k p (record { v
 other_pool : (i : ℕ) (p : Pool) (s : Spot) (b : Bool) → is_aggregate_of i p s ≡ b → (s.pool == i) ≡ false → b ≡ false
 other_pool i p s false e t = refl
 other_pool i p s true e t =
-    let past = spots_past i p.class 0 0 p.pairs s (both_first _ (s.place == 0) e) in
+    let past = spots_past i p.class 0 0 (bucket_pairs p) s (both_first _ (s.place == 0) e) in
     let is = past.pool_is in
     let yes : (s.pool == i) ≡ true = grind (arith, nat_tests) in
     absurd (let no : true ≡ false = sym yes ∙ t in cc)

@@ -10,7 +10,7 @@ ghost use Rattle.sq_pools.specs.Grants.{are_own, are_there, bucket_at, filled_if
 
 use crate::bucket::Bucket;
 use crate::buckets::Buckets;
-use crate::spots::Spot;
+use crate::spots::{Spot, bucket_pairs};
 use sq_base::{EpochNo, Moment, WantOfMemory};
 use sq_rules::{Config, Pool};
 use std::alloc::Global;
@@ -35,7 +35,7 @@ fn open_aggregate(
     requires { initial ≤ initial_limit }
     ensures { OnOk result ((s : readings.Spot) → bucket_at buckets.new s ≡ filled_if (is_aggregate_of place pool.now s) (opened_in initial 0 s) (bucket_at buckets.old s)) }
 {
-    match pool.pairs.as_slice().first() {
+    match bucket_pairs(pool).first() {
         Some(Some(limit)) => {
             buckets.open(&[Spot::new(place, 0, 0, *limit)], initial, 0)?;
             Ok(())

@@ -69,6 +69,14 @@ fn host_of(class: u8, place: u32, number: u128) -> u32
     host as u32
 }
 
+// The pairs of a pool that are buckets: a pool of class 5 has none, and grants what is wanted.
+pub(crate) fn bucket_pairs(pool: &Pool) -> &[Option<Limit>]
+    ensures { result.now ≡ readings.bucket_pairs pool.now }
+{
+    let pairs = pool.pairs.as_slice();
+    if pool.class == 5 { &pairs[..0] } else { pairs }
+}
+
 // The buckets of a client in the pool at this place, in the order of their pairs.
 pub(crate) fn spots_of(
     alloc: Global,
@@ -81,7 +89,7 @@ pub(crate) fn spots_of(
 {
     let mut spots = Listed::new(alloc);
     let mut pair_place = 0;
-    for pair in pool.pairs.as_slice() {
+    for pair in bucket_pairs(pool) {
         if let Some(limit) = pair {
             let host = host_of(pool.class, pair_place, addr.number);
             spots.push(Spot::new(place, pair_place, host, *limit))?;

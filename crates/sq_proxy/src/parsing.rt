@@ -1,10 +1,11 @@
 //! What `parse` writes of a configuration.
 ghost use Rattle.std.specs.Prelude.{◌≡◌, ◌++◌, decimal, IfOk, OnOk};
+ghost use Rattle.sq_rules.specs.Lookups.{stated, stated_classes};
 ghost use Rattle.sq_proxy.specs.ParseText.{counts_line, notice_line, parse_text};
 
 use itoa::Buffer;
 use sq_base::{Text, WantOfMemory};
-use sq_rules::{Config, Notice};
+use sq_rules::{Acl, Config, Notice, has_blank};
 use std::alloc::Global;
 
 // Puts a word and a number.
@@ -26,13 +27,38 @@ fn put_notice(to: &mut Text, notice: &Notice) -> Result<(), WantOfMemory>
     to.push(b'\n')
 }
 
+// How many acls a file states: those that are made have a blank in their names.
+fn stated(acls: &[Acl]) -> usize
+    ensures { result ≡ stated acls.now }
+{
+    let mut count = 0;
+    for acl in acls {
+        if !has_blank(acl.name.as_bytes()) {
+            count += 1;
+        }
+    }
+    count
+}
+
+// How many classes a file states: all but the one that is made for look-ups.
+fn stated_classes(config: &Config) -> usize
+    ensures { result ≡ stated_classes config.now.dst_lookup config.now.classes }
+{
+    let count = config.classes().len();
+    if config.dst_lookup() {
+        count.saturating_sub(1)
+    } else {
+        count
+    }
+}
+
 // Puts the line of counts.
 fn put_counts(to: &mut Text, config: &Config) -> Result<(), WantOfMemory>
     ensures { OnOk result (to.new ≡ to.old ++ counts_line config.now) }
 {
-    put_count(to, b"ok acls ", config.acls().len() as u64)?;
+    put_count(to, b"ok acls ", stated(config.acls()) as u64)?;
     put_count(to, b" rules ", config.rules().len() as u64)?;
-    put_count(to, b" classes ", config.classes().len() as u64)?;
+    put_count(to, b" classes ", stated_classes(config) as u64)?;
     put_count(to, b" pools ", config.pools().len() as u64)?;
     to.push(b'\n')
 }

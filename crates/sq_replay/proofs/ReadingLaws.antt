@@ -11,9 +11,11 @@ use Rattle.sq_rules.specs.declared.kinds.ConfError.{ConfError}
 use Rattle.sq_rules.specs.declared.kinds.Kind.{Kind}
 use Rattle.sq_rules.specs.declared.kinds.Kind.TheVariants as kind
 use Rattle.sq_rules.specs.Configurations.{Configuration, IsConfiguration}
-use Rattle.sq_rules.specs.ConfText.{and_then, conf_gives, conf_refuses, conf_result, end_read, error_at, lines_read, text_read}
-use Rattle.sq_rules.specs.Drafts.{Drafts, are_complete, begun, finished}
-use Rattle.sq_rules.specs.Limits.{acl_limit, class_limit, initial_limit, pool_limit, rule_limit, text_limit}
+use Rattle.sq_rules.specs.ConfText.{all_read, and_then, conf_gives, conf_refuses, conf_result, end_read, error_at, text_read}
+use Rattle.sq_rules.specs.Drafts.{Drafts, are_complete, finished}
+use Rattle.sq_rules.specs.Limits.{acl_limit, header_limit, initial_limit, most_acls, pool_limit, rule_limit, text_limit}
+use Rattle.sq_rules.specs.Lookups as lookups
+use Rattle.sq_rules.specs.Lookups.{classes_within}
 use Rattle.sq_history.specs.Given.{EachOf}
 use Rattle.sq_replay.specs.ConfReading.{checked, is_configuration, no_configuration, read_result}
 use Rattle.sq_replay.specs.RunText.{Shelf, configs_of, named_by, named_from, named_in, stated, with_config, with_text}
@@ -42,6 +44,10 @@ tested_is c e =
     let k = and_parts _ _ j.1 in
     let l = and_parts _ _ k.1 in
     let m = and_parts _ _ l.1 in
+    let n = and_parts _ _ m.1 in
+    let o = and_parts _ _ n.1 in
+    let p = and_parts _ _ o.1 in
+    let q = and_parts _ _ p.1 in
     record {
       short = most (length c.source) text_limit a.0;
       class_names = b.0;
@@ -50,11 +56,15 @@ tested_is c e =
       shallow = g.0;
       places = h.0;
       pools_are = i.0;
-      few_classes = most (length c.classes) class_limit j.0;
-      few_acls = most (length c.acls) acl_limit k.0;
-      few_rules = most (length c.rules) rule_limit l.0;
-      few_pools = most (length c.pools) pool_limit m.0;
-      initial_is = most c.initial initial_limit m.1;
+      headers_are = j.0;
+      lookups_are = k.0;
+      few_classes = most (length c.classes) (classes_within c.dst_lookup) l.0;
+      few_acls = most (lookups.stated c.acls) acl_limit m.0;
+      all_acls = most (length c.acls) most_acls n.0;
+      few_rules = most (length c.rules) rule_limit o.0;
+      few_pools = most (length c.pools) pool_limit p.0;
+      few_headers = most (length c.headers) header_limit q.0;
+      initial_is = most c.initial initial_limit q.1;
     }
 
 pub is_tested : (c : Configuration) → IsConfiguration c → is_configuration c ≡ true
@@ -66,10 +76,14 @@ is_tested c is =
     (both _ _ is.shallow
     (both _ _ is.places
     (both _ _ is.pools_are
-    (both _ _ (is_most (length c.classes) class_limit is.few_classes)
-    (both _ _ (is_most (length c.acls) acl_limit is.few_acls)
+    (both _ _ is.headers_are
+    (both _ _ is.lookups_are
+    (both _ _ (is_most (length c.classes) (classes_within c.dst_lookup) is.few_classes)
+    (both _ _ (is_most (lookups.stated c.acls) acl_limit is.few_acls)
+    (both _ _ (is_most (length c.acls) most_acls is.all_acls)
     (both _ _ (is_most (length c.rules) rule_limit is.few_rules)
-    (both _ _ (is_most (length c.pools) pool_limit is.few_pools) (is_most c.initial initial_limit is.initial_is)))))))))))
+    (both _ _ (is_most (length c.pools) pool_limit is.few_pools)
+    (both _ _ (is_most (length c.headers) header_limit is.few_headers) (is_most c.initial initial_limit is.initial_is)))))))))))))))
 
 -- what a text gives, where it is a configuration, is read
 pub read_is : (text : List ℕ) (config : Configuration) → conf_gives text config → IsConfiguration config → read_result text ≡ Ok config
@@ -122,10 +136,10 @@ gives_source text config gives = by (nat_lt text_limit (length text)) gives
     whole (Ok d) e = read (text_read d (lexed text).fault) e
     whole (Err x) e = absurd (cc)
 
-    by : (b : Bool) → (if b then error_at 0 kind.TooMany else and_then (lines_read begun (lexed text).lines) (λ d. and_then (text_read d (lexed text).fault) (end_read text))) ≡ Ok config
+    by : (b : Bool) → (if b then error_at 0 kind.TooMany else and_then (all_read (lexed text).lines) (λ d. and_then (text_read d (lexed text).fault) (end_read text))) ≡ Ok config
         → config.source ≡ text
     by true e = absurd (cc)
-    by false e = whole (lines_read begun (lexed text).lines) e
+    by false e = whole (all_read (lexed text).lines) e
 
 -- so each configuration that a script names is one
 

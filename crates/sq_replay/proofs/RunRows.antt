@@ -57,17 +57,20 @@ runs configs es = map told_of (steps configs (begun_history configs 0 (pos 0)) e
 abbrev asking : ℕ → ℕ → Configuration
 asking startup concurrency = record {
   source = [];
+  dst_lookup = false;
   classes = record { name = codes "v"; ttl = 60; negative_ttl = 60; grace = 0; cache = 262144; children_max = 1; startup = startup; concurrency = concurrency; queue_size = 2; format = token.Host ∷ token.Arguments ∷ []; words = codes "/bin/h" ∷ [] } ∷ [];
   acls = record { name = codes "x"; body = body.External 0 [] } ∷ [];
   rules = record { allow = true; terms = record { acl = 0; negated = false } ∷ [] } ∷ [];
   pools = [];
   initial = 50;
   port = 3128;
+  rewriter = None;
+  headers = [];
   notices = [];
 }
 
 abbrev denying : Configuration
-denying = record { source = []; classes = []; acls = []; rules = []; pools = []; initial = 50; port = 3128; notices = [] }
+denying = record { source = []; dst_lookup = false; classes = []; acls = []; rules = []; pools = []; initial = 50; port = 3128; rewriter = None; headers = []; notices = [] }
 
 -- a check goes on under its own epoch; the stop of its process is due as it is taken, and a line of that process comes to nothing then
 pub old_check : runs (asking 0 0 ∷ denying ∷ [])
@@ -99,12 +102,15 @@ started_at_first = refl
 abbrev pooled : Configuration
 pooled = record {
   source = [];
+  dst_lookup = false;
   classes = [];
   acls = record { name = codes "all"; body = body.Leaf (leaf.Src (record { first = v4 0; last = v4 4294967295 } ∷ [])) } ∷ [];
   rules = record { allow = true; terms = record { acl = 0; negated = false } ∷ [] } ∷ [];
   pools = record { class = 1; pairs = Some (record { restore = 100; max = 1000 }) ∷ []; lists = record { allow = true; terms = record { acl = 0; negated = false } ∷ [] } ∷ [] } ∷ [];
   initial = 50;
   port = 3128;
+  rewriter = None;
+  headers = [];
   notices = [];
 }
 

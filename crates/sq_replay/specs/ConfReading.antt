@@ -3,9 +3,10 @@ use Rattle.std.specs.Prelude.{ℕ, List, length, Bool, ◌&&◌, nat_le, if◌th
 use Rattle.std.specs.List.{list_all}
 use Rattle.sq_rules.specs.declared.kinds.ConfError.{ConfError}
 use Rattle.sq_rules.specs.declared.kinds.Kind.TheVariants as kind
-use Rattle.sq_rules.specs.Configurations.{Configuration, are_known_bodies, are_shallow, are_unique, have_distinct_names, is_known_rule, is_pool}
+use Rattle.sq_rules.specs.Configurations.{Configuration, are_known_bodies, are_shallow, are_unique, have_distinct_names, is_header, is_known_rule, is_pool}
 use Rattle.sq_rules.specs.ConfText.{conf_result}
-use Rattle.sq_rules.specs.Limits.{acl_limit, class_limit, initial_limit, pool_limit, rule_limit, text_limit}
+use Rattle.sq_rules.specs.Limits.{acl_limit, header_limit, initial_limit, most_acls, pool_limit, rule_limit, text_limit}
+use Rattle.sq_rules.specs.Lookups.{are_looked_up, classes_within, stated}
 
 -- what holds of every configuration, as a test
 abbrev pub is_configuration : Configuration → Bool
@@ -17,8 +18,13 @@ is_configuration c =
     && (are_shallow c.acls
     && (list_all (is_known_rule (length c.acls)) c.rules
     && (list_all (is_pool c.acls) c.pools
-    && (nat_le (length c.classes) class_limit
-    && (nat_le (length c.acls) acl_limit && (nat_le (length c.rules) rule_limit && (nat_le (length c.pools) pool_limit && nat_le c.initial initial_limit))))))))))
+    && (list_all (is_header c.acls) c.headers
+    && (are_looked_up c.dst_lookup c.classes c.acls
+    && (nat_le (length c.classes) (classes_within c.dst_lookup)
+    && (nat_le (stated c.acls) acl_limit
+    && (nat_le (length c.acls) most_acls
+    && (nat_le (length c.rules) rule_limit
+    && (nat_le (length c.pools) pool_limit && (nat_le (length c.headers) header_limit && nat_le c.initial initial_limit))))))))))))))
 
 -- the fault of what is none
 abbrev pub no_configuration : ConfError

@@ -15,8 +15,8 @@ use Rattle.sq_machine.specs.Entries.{History}
 use Rattle.sq_machine.specs.declared.entries.Told.TheVariants as answer
 use Rattle.sq_rules.specs.declared.kinds.Kind.{Kind}
 use Rattle.sq_machine.specs.declared.refusals.Refusal.TheVariants as refusal
-use Rattle.sq_rules.specs.ConfText.{and_then, conf_gives, conf_refuses, conf_result, end_read, error_at, lines_read, text_read}
-use Rattle.sq_rules.specs.Drafts.{Drafts, are_complete, begun, finished}
+use Rattle.sq_rules.specs.ConfText.{all_read, and_then, conf_gives, conf_refuses, conf_result, end_read, error_at, text_read}
+use Rattle.sq_rules.specs.Drafts.{Drafts, are_complete, finished}
 use Rattle.sq_rules.specs.Limits.{text_limit}
 use Rattle.sq_rules.specs.declared.kinds.ConfError.{ConfError}
 use Rattle.sq_rules.specs.declared.kinds.Kind.TheVariants as kind
@@ -44,10 +44,10 @@ gives_source text config gives = by (nat_lt text_limit (length text)) gives
     whole (Ok d) e = read (text_read d (lexed text).fault) e
     whole (Err x) e = absurd (cc)
 
-    by : (b : Bool) → (if b then error_at 0 kind.TooMany else and_then (lines_read begun (lexed text).lines) (λ d. and_then (text_read d (lexed text).fault) (end_read text))) ≡ Ok config
+    by : (b : Bool) → (if b then error_at 0 kind.TooMany else and_then (all_read (lexed text).lines) (λ d. and_then (text_read d (lexed text).fault) (end_read text))) ≡ Ok config
         → config.source ≡ text
     by true e = absurd (cc)
-    by false e = whole (lines_read begun (lexed text).lines) e
+    by false e = whole (all_read (lexed text).lines) e
 
 -- and it is the one that its source states
 pub is_stated : (text : List ℕ) (config : Configuration) → conf_gives text config → IsStated config

@@ -9,7 +9,8 @@ use Rattle.sq_rules.specs.Limits.{nesting_limit}
 use Rattle.sq_rules.specs.Tables.{allowed}
 use Rattle.sq_rules.specs.declared.configs.Acl.{Acl}
 
-nestings_longer : (before : List ℕ) (acls : List Acl) (a : Acl) → nestings_on before (acls ++ a ∷ []) ≡ nestings_on before acls ++ nesting_of (nestings_on before acls) a.body ∷ []
+-- the nestings, where one acl more stands at the end
+pub nestings_longer : (before : List ℕ) (acls : List Acl) (a : Acl) → nestings_on before (acls ++ a ∷ []) ≡ nestings_on before acls ++ nesting_of (nestings_on before acls) a.body ∷ []
 nestings_longer before [] a = refl
 nestings_longer before (b ∷ acls) a = nestings_longer (before ++ nesting_of before b.body ∷ []) acls a
 

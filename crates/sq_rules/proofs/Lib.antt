@@ -1,7 +1,9 @@
 pub mod AclLaws
 mod ConfTexts
 pub mod FactLaws
+mod FourLaws
 pub mod ListLaws
+pub mod LookupLaws
 mod MadeLaws
 pub mod MemberLaws
 pub mod NameLaws

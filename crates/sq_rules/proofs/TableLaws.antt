@@ -8,6 +8,7 @@ use Rattle.std.specs.List.{list_all}
 use Rattle.std.specs.Str.{bytes_eq}
 use Rattle.sq_rules.proofs.AclLaws.{allowed_is}
 use Rattle.sq_rules.proofs.ListLaws.{last_fails}
+use Rattle.sq_rules.proofs.LookupLaws.{unmade_set}
 use Rattle.sq_rules.proofs.MemberLaws.{member_depth, member_none, member_slow}
 use Rattle.sq_rules.proofs.ScanLaws.{scan, scan_at, scan_fails, scan_length, scan_same, scan_set}
 use Rattle.sq_rules.specs.Changes.{AreDepths, AreSlowOnes, is_group, or_before, with_member_at}
@@ -109,15 +110,16 @@ pub too_deep : (before : List ℕ) (acls : List Acl) → list_all (λ n. nat_le 
 too_deep before acls bad = rw (nestings_scan before acls) (scan_fails depth_step (λ n. nat_le n nesting_limit) before acls bad)
 
 -- an acl of the same name, the same nesting and no other answer
-pub KnowsAcls_set : (acls : List Acl) (places : List (List ℕ × ℕ)) (depths : List ℕ) (slow : List Bool) (p : ℕ) (x y : Acl) → KnowsAcls acls places depths slow →
+pub KnowsAcls_set : (acls : List Acl) (places : List (List ℕ × ℕ)) (depths : List ℕ) (slow : List Bool) (count p : ℕ) (x y : Acl) → KnowsAcls acls places depths slow count →
     slice_get acls p ≡ Some x → y.name ≡ x.name → ((before : List ℕ) → nesting_of before y.body ≡ nesting_of before x.body) →
-    ((before : List Bool) → is_slow before y.body ≡ is_slow before x.body) → KnowsAcls (set acls p y) places depths slow
-KnowsAcls_set acls places depths slow p x y knows is named deep asks =
+    ((before : List Bool) → is_slow before y.body ≡ is_slow before x.body) → KnowsAcls (set acls p y) places depths slow count
+KnowsAcls_set acls places depths slow count p x y knows is named deep asks =
     let nest : nestings (set acls p y) ≡ nestings acls = nestings_same acls p x y is (deep (take p (nestings acls))) in
     record {
       places_are = λ q. knows.places_are q ∙ sym (place_set (λ (a : Acl). a.name) 0 acls p x y q is named);
       depths_are = knows.depths_are ∙ sym nest;
       slow_are = knows.slow_are ∙ sym (slow_same acls p x y is (asks (take p (slow_ones acls))));
+      count_is = knows.count_is ∙ sym (unmade_set (λ (a : Acl). a.name) acls p x y is named);
       unique = own_set (λ (a : Acl). a.name) acls p x y is named ∙ knows.unique;
       shallow = ap (list_all (λ n. nat_le n nesting_limit)) nest ∙ knows.shallow;
     }
@@ -203,16 +205,17 @@ too_deep_at before acls i x whole rest within is none =
     ∙ too_deep (before ++ nesting_of before x.body ∷ []) (drop (i + 1) acls) (last_fails (λ n. nat_le n nesting_limit) before (nesting_of before x.body) bad)
 
 -- one member more, with what was computed of it
-pub KnowsAcls_member : (acls : List Acl) (places : List (List ℕ × ℕ)) (depths : List ℕ) (slow : List Bool) (p : ℕ) (t : Term) (x y : Acl) (deeper : Option (List ℕ)) (slower : Option (List Bool)) →
-    KnowsAcls acls places depths slow → slice_get acls p ≡ Some x → y ≡ record x { body = with_member t x.body } → AreDepths deeper acls (with_member_at p t acls) →
-    AreSlowOnes slower acls (with_member_at p t acls) → are_shallow (with_member_at p t acls) ≡ true → KnowsAcls (set acls p y) places (or_before depths deeper) (or_before slow slower)
-KnowsAcls_member acls places depths slow p t x y deeper slower knows is changed deep asks shallow =
+pub KnowsAcls_member : (acls : List Acl) (places : List (List ℕ × ℕ)) (depths : List ℕ) (slow : List Bool) (count p : ℕ) (t : Term) (x y : Acl) (deeper : Option (List ℕ)) (slower : Option (List Bool)) →
+    KnowsAcls acls places depths slow count → slice_get acls p ≡ Some x → y ≡ record x { body = with_member t x.body } → AreDepths deeper acls (with_member_at p t acls) →
+    AreSlowOnes slower acls (with_member_at p t acls) → are_shallow (with_member_at p t acls) ≡ true → KnowsAcls (set acls p y) places (or_before depths deeper) (or_before slow slower) count
+KnowsAcls_member acls places depths slow count p t x y deeper slower knows is changed deep asks shallow =
     let now : with_member_at p t acls ≡ set acls p y = changed_at acls p x (with_member t) is ∙ sym (ap (set acls p) changed) in
     let named : y.name ≡ x.name = ap (λ a. a.name) changed in
     record {
       places_are = λ q. knows.places_are q ∙ sym (place_set (λ (a : Acl). a.name) 0 acls p x y q is named);
       depths_are = ap (λ l. or_before l deeper) knows.depths_are ∙ deep ∙ ap nestings now;
       slow_are = ap (λ l. or_before l slower) knows.slow_are ∙ asks ∙ ap slow_ones now;
+      count_is = knows.count_is ∙ sym (unmade_set (λ (a : Acl). a.name) acls p x y is named);
       unique = own_set (λ (a : Acl). a.name) acls p x y is named ∙ knows.unique;
       shallow = subst (λ l. are_shallow l ≡ true) now shallow;
     }

@@ -6,6 +6,7 @@ use Rattle.sq_rules.specs.contracts.classes.Token as token
 use Rattle.sq_rules.specs.contracts.classes.Class as class
 use Rattle.sq_rules.specs.contracts.configs.Acl as acl
 use Rattle.sq_rules.specs.contracts.configs.Rule as rule
+use Rattle.sq_rules.specs.contracts.headers.HeaderRule as header
 use Rattle.sq_rules.specs.contracts.pools.Limit as limit
 use Rattle.sq_rules.specs.contracts.pools.Pool as pool
 use Rattle.sq_rules.specs.contracts.notices.Notice as notice
@@ -26,6 +27,9 @@ acl_send = search (sendable, crosses) depth 40 fits 20000
 rule_send : IsSend rule.the_row
 rule_send = search (sendable, crosses) depth 40 fits 20000
 
+header_send : IsSend header.the_row
+header_send = search (sendable, crosses) depth 40 fits 20000
+
 limit_send : IsSend limit.the_row
 limit_send = search (sendable, crosses) depth 40 fits 20000
 
@@ -37,7 +41,7 @@ notice_send = search (sendable, crosses) depth 40 fits 20000
 
 inside_send : IsSend inside.the_row
 inside_send =
-    let parts : FieldsHave IsSend (inside.the_type).parts = (search (sendable, crosses) depth 40 fits 20000, (search (sendable, crosses, class_send) depth 40 fits 20000, (search (sendable, crosses, acl_send) depth 40 fits 20000, (search (sendable, crosses, rule_send) depth 40 fits 20000, (search (sendable, crosses, pool_send) depth 40 fits 20000, (search (sendable, crosses) depth 40 fits 20000, (search (sendable, crosses) depth 40 fits 20000, (search (sendable, crosses, notice_send) depth 40 fits 20000, tt)))))))) in
+    let parts : FieldsHave IsSend (inside.the_type).parts = (search (sendable, crosses) depth 40 fits 20000, (search (sendable, crosses) depth 40 fits 20000, (search (sendable, crosses, class_send) depth 40 fits 20000, (search (sendable, crosses, acl_send) depth 40 fits 20000, (search (sendable, crosses, rule_send) depth 40 fits 20000, (search (sendable, crosses, pool_send) depth 40 fits 20000, (search (sendable, crosses) depth 40 fits 20000, (search (sendable, crosses) depth 40 fits 20000, (search (sendable, crosses, class_send) depth 40 fits 20000, (search (sendable, crosses, header_send) depth 40 fits 20000, (search (sendable, crosses, notice_send) depth 40 fits 20000, tt))))))))))) in
     declared_send inside.the_type parts
 
 -- a configuration may go to another thread, for structs that hold one
@@ -56,6 +60,9 @@ acl_sync = search (sendable, crosses) depth 40 fits 20000
 rule_sync : IsSync rule.the_row
 rule_sync = search (sendable, crosses) depth 40 fits 20000
 
+header_sync : IsSync header.the_row
+header_sync = search (sendable, crosses) depth 40 fits 20000
+
 limit_sync : IsSync limit.the_row
 limit_sync = search (sendable, crosses) depth 40 fits 20000
 
@@ -67,7 +74,7 @@ notice_sync = search (sendable, crosses) depth 40 fits 20000
 
 inside_sync : IsSync inside.the_row
 inside_sync =
-    let parts : FieldsHave IsSync (inside.the_type).parts = (search (sendable, crosses) depth 40 fits 20000, (search (sendable, crosses, class_sync) depth 40 fits 20000, (search (sendable, crosses, acl_sync) depth 40 fits 20000, (search (sendable, crosses, rule_sync) depth 40 fits 20000, (search (sendable, crosses, pool_sync) depth 40 fits 20000, (search (sendable, crosses) depth 40 fits 20000, (search (sendable, crosses) depth 40 fits 20000, (search (sendable, crosses, notice_sync) depth 40 fits 20000, tt)))))))) in
+    let parts : FieldsHave IsSync (inside.the_type).parts = (search (sendable, crosses) depth 40 fits 20000, (search (sendable, crosses) depth 40 fits 20000, (search (sendable, crosses, class_sync) depth 40 fits 20000, (search (sendable, crosses, acl_sync) depth 40 fits 20000, (search (sendable, crosses, rule_sync) depth 40 fits 20000, (search (sendable, crosses, pool_sync) depth 40 fits 20000, (search (sendable, crosses) depth 40 fits 20000, (search (sendable, crosses) depth 40 fits 20000, (search (sendable, crosses, class_sync) depth 40 fits 20000, (search (sendable, crosses, header_sync) depth 40 fits 20000, (search (sendable, crosses, notice_sync) depth 40 fits 20000, tt))))))))))) in
     declared_sync inside.the_type parts
 
 -- a configuration may be read by several threads, for structs that hold one

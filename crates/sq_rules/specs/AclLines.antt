@@ -1,6 +1,6 @@
 -- Lines `acl NAME TYPE VALUE ...` and `http_access allow|deny TERM ...` (configuration reference,
 -- `acl`, `http_access`).
-use Rattle.std.specs.Prelude.{ℕ, List, [], ◌∷◌, ◌++◌, length, Bool, true, false, not, if◌then◌else◌, ◌&&◌, ◌||◌, ◌==◌, nat_lt, nat_le, Some, None, Ok, Err, is_some, is_none, codes}
+use Rattle.std.specs.Prelude.{ℕ, ◌-◌, List, [], ◌∷◌, ◌++◌, length, Bool, true, false, not, if◌then◌else◌, ◌&&◌, ◌||◌, ◌==◌, nat_lt, nat_le, Some, None, Ok, Err, is_some, is_none, codes}
 use Rattle.std.specs.declared.option.Option.{Option}
 use Rattle.std.specs.declared.result.Result.{Result}
 use Rattle.sq_base.specs.Bytes.{bang}
@@ -10,8 +10,9 @@ use Rattle.sq_rules.specs.AclValues.{is_unquoted, range_value, plain_value, port
 use Rattle.sq_rules.specs.Building.{place_of, class_place}
 use Rattle.sq_rules.specs.Changes.{type_at}
 use Rattle.sq_rules.specs.Configurations.{are_shallow}
-use Rattle.sq_rules.specs.Drafts.{Drafts, are_fast, with_acl_more, with_body, with_leaf, with_line, with_member}
+use Rattle.sq_rules.specs.Drafts.{Drafts, are_fast, with_acl_more, with_body, with_leaf, with_line, with_lookup, with_member}
 use Rattle.sq_rules.specs.Limits.{acl_limit, name_limit, rule_limit}
+use Rattle.sq_rules.specs.Lookups.{has_blank, literal_name, lookup_name, named_name, stated}
 use Rattle.sq_rules.specs.Steps.{Words, unless, needed, word, over, over_some, some_of, one_more, begins}
 use Rattle.sq_rules.specs.declared.acl_types.AclType.{AclType}
 use Rattle.sq_rules.specs.declared.acl_types.AclType.TheVariants as type
@@ -24,14 +25,14 @@ use Rattle.sq_rules.specs.declared.kinds.Kind.TheVariants.{BadValue, SlowInFastL
 use Rattle.sq_rules.specs.declared.leaves.Leaf.{Leaf}
 use Rattle.sq_rules.specs.declared.leaves.Leaf.TheVariants as leaf
 
--- a name does not begin with `!`, and is short
+-- a name does not begin with `!`, is short, and holds no blank, as no word of a line does
 abbrev pub is_name : List ℕ → Bool
-is_name w = not (begins bang w) && nat_le (length w) name_limit
+is_name w = not (begins bang w) && (nat_le (length w) name_limit && not (has_blank w))
 
 -- the place of the acl of this name, or room for one more
 abbrev pub acl_named : List Acl → List ℕ → Result (Option ℕ) Kind
 acl_named acls w =
-    unless (is_name w) BadValue (unless (is_some (place_of acls w) || nat_lt (length acls) acl_limit) TooMany (Ok (place_of acls w)))
+    unless (is_name w) BadValue (unless (is_some (place_of acls w) || nat_lt (stated acls) acl_limit) TooMany (Ok (place_of acls w)))
 
 -- the types by their names
 abbrev pub acl_types : List (List ℕ × AclType)
@@ -102,9 +103,9 @@ known_term acls w = term_from (is_negated w) (place_of acls (term_name w))
 abbrev pub earlier_term : ℕ → List Acl → List ℕ → Result Term Kind
 earlier_term place acls w = known_term acls w >>= λ t. unless (nat_lt t.acl place) UndefinedAcl (Ok t)
 
--- the drafts, where no pool's rule has become slow and no group nests too deep
+-- the drafts, where no rule of a pool or for a field has become slow and no group nests too deep
 abbrev pub sound : Drafts → Result Drafts Kind
-sound d = unless (are_fast d.acls d.pools) SlowInFastList (unless (are_shallow d.acls) TooDeep (Ok d))
+sound d = unless (are_fast d.acls d.pools d.headers) SlowInFastList (unless (are_shallow d.acls) TooDeep (Ok d))
 
 -- one member of the group at a place
 unfoldable pub member : ℕ → Drafts → List ℕ → Result Drafts Kind
@@ -133,6 +134,22 @@ with_values name (Some place) d l = with_body place (with_leaf l) d
 abbrev pub leaf_line : List ℕ → Option ℕ → Drafts → Result Leaf Kind → Result Drafts Kind
 leaf_line name place d values = values >>= λ l. Ok (with_values name place d l)
 
+-- the names of what is made for an acl of type dst are free. No word holds a blank, so they are but for one name: that of
+-- the values of an acl `dst` would be `dst literal`
+abbrev pub are_free : List Acl → List ℕ → Bool
+are_free acls name =
+    is_none (place_of acls (literal_name name)) && (is_none (place_of acls (lookup_name name)) && is_none (place_of acls (named_name name)))
+
+-- values of an acl of type dst where names are looked up: a new one is four, and one that stands gets more
+unfoldable pub lookup_values : List ℕ → Option ℕ → Drafts → Words → Result Drafts Kind
+lookup_values name None d ws = unless (are_free d.acls name) BadValue (some_of range_value ws >>= λ v. Ok (with_lookup name v d))
+lookup_values name (Some place) d ws = some_of range_value ws >>= λ v. Ok (with_body (place - 3) (with_leaf (leaf.Dst v)) d)
+
+-- values of an acl of type dst
+abbrev pub dst_values : List ℕ → Option ℕ → Drafts → Words → Result Drafts Kind
+dst_values name place d ws =
+    if d.dst_lookup then lookup_values name place d ws else leaf_line name place d (some_of range_value ws >>= λ v. Ok (leaf.Dst v))
+
 -- a class that stands
 abbrev pub known_class : Drafts → List ℕ → Result ℕ Kind
 known_class d w = unless (is_unquoted w) BadValue (needed UndefinedClass (class_place d.classes w))
@@ -152,7 +169,7 @@ external_line name place d ws = unless (is_none place) BadValue (external_body d
 -- what a line of this type adds
 unfoldable pub acl_values : AclType → List ℕ → Option ℕ → Drafts → Words → Result Drafts Kind
 acl_values type.Src name place d ws = leaf_line name place d (some_of range_value ws >>= λ v. Ok (leaf.Src v))
-acl_values type.Dst name place d ws = leaf_line name place d (some_of range_value ws >>= λ v. Ok (leaf.Dst v))
+acl_values type.Dst name place d ws = dst_values name place d ws
 acl_values type.DstDomain name place d ws = leaf_line name place d (some_of plain_value ws >>= λ v. Ok (leaf.DstDomain v))
 acl_values type.Port name place d ws = leaf_line name place d (some_of port_value ws >>= λ v. Ok (leaf.Port v))
 acl_values type.Method name place d ws = leaf_line name place d (some_of method_value ws >>= λ v. Ok (leaf.Method v))

@@ -1,23 +1,28 @@
 -- The configuration that parts state, or their first fault: the parts in their order, and in each its
 -- names from left to right; that an acl nests too deep comes after the names in it (configuration
--- reference, `acl`, `http_access`, `external_acl_type`, `delay_access`).
-use Rattle.std.specs.Prelude.{◌≡◌, ◌≢◌, ℕ, ◌≤◌, List, [], ◌∷◌, ◌++◌, length, suc, false, if◌then◌else◌, nat_le, Some, None, Ok, Err, MatchResult, slice_index_or}
+-- reference, `acl`, `http_access`, `external_acl_type`, `delay_access`, `request_header_access`,
+-- `reply_header_access`).
+use Rattle.std.specs.Prelude.{◌≡◌, ◌≢◌, ℕ, ◌≤◌, List, [], ◌∷◌, ◌++◌, length, suc, Bool, false, if◌then◌else◌, nat_le, Some, None, Ok, Err, MatchResult, slice_index_or}
+use Rattle.std.specs.Str.{str_to_ascii_lowercase}
 use Rattle.std.specs.declared.option.Option.{Option}
 use Rattle.std.specs.declared.result.Result.{Result}
 use Rattle.sq_base.specs.Results.{◌>>=◌}
 use Rattle.sq_rules.specs.Classes.{Class, with_arguments}
 use Rattle.sq_rules.specs.Configurations.{Configuration, has_buckets, has_class, has_name, nesting_of, nestings, place_from, slow_ones}
-use Rattle.sq_rules.specs.Limits.{acl_limit, class_limit, initial_limit, nesting_limit, pool_limit, rule_limit, text_limit}
+use Rattle.sq_rules.specs.Limits.{acl_limit, header_limit, initial_limit, most_acls, nesting_limit, pool_limit, rule_limit, text_limit}
+use Rattle.sq_rules.specs.Lookups.{are_looked_up, classes_within, unmade}
 use Rattle.sq_rules.specs.declared.configs.Acl.{Acl}
 use Rattle.sq_rules.specs.declared.configs.Body.{Body}
 use Rattle.sq_rules.specs.declared.configs.Body.TheVariants as body
 use Rattle.sq_rules.specs.declared.configs.Rule.{Rule}
 use Rattle.sq_rules.specs.declared.configs.Term.{Term}
+use Rattle.sq_rules.specs.declared.headers.HeaderRule.{HeaderRule}
 use Rattle.sq_rules.specs.declared.parts.AclPart.{AclPart}
 use Rattle.sq_rules.specs.declared.parts.BodyPart.{BodyPart}
 use Rattle.sq_rules.specs.declared.parts.BodyPart.TheVariants as part
 use Rattle.sq_rules.specs.declared.parts.BuildFault.{BuildFault}
 use Rattle.sq_rules.specs.declared.parts.BuildFault.TheVariants as fault
+use Rattle.sq_rules.specs.declared.parts.HeaderPart.{HeaderPart}
 use Rattle.sq_rules.specs.declared.parts.Parts.{Parts}
 use Rattle.sq_rules.specs.declared.parts.PoolPart.{PoolPart}
 use Rattle.sq_rules.specs.declared.parts.RulePart.{RulePart}
@@ -78,6 +83,10 @@ abbrev pub acls_made : List Class → List Acl → List AclPart → Result (List
 acls_made classes acls [] = Ok acls
 acls_made classes acls (a ∷ parts) = next_acl classes acls a >>= λ more. acls_made classes more parts
 
+-- the acls, where each of type dst stands with its look-up if names are looked up
+abbrev pub unless_looked_up : Bool → List Class → List Acl → Result (List Acl) BuildFault
+unless_looked_up lookup classes acls = if are_looked_up lookup classes acls then Ok acls else Err fault.NoLookup
+
 -- the class with `%DATA` in its format
 abbrev pub completed : Class → Class
 completed c = record c { format = with_arguments c.format }
@@ -116,20 +125,39 @@ abbrev pub pools_made : List Acl → ℕ → List PoolPart → Result (List Pool
 pools_made acls place [] = Ok []
 pools_made acls place (p ∷ parts) = pool_made acls place p >>= λ made. pools_made acls (suc place) parts >>= λ others. Ok (made ∷ others)
 
+-- a rule for a field is fast; the field's name is kept in lower case
+abbrev pub header_made : List Acl → HeaderPart → Result HeaderRule BuildFault
+header_made acls h = fast_rule_made acls h.rule >>= λ made. Ok (record { reply = h.reply; name = str_to_ascii_lowercase h.name; rule = made })
+
 -- the configuration that the parts state, or their first fault
 unfoldable pub built : Parts → Result Configuration BuildFault
 built p = do
   classes ← classes_made [] p.classes
-  acls ← acls_made classes [] p.acls
+  acls ← acls_made classes [] p.acls >>= unless_looked_up p.dst_lookup classes
   rules ← each_made (rule_made acls) p.rules
   pools ← pools_made acls 0 p.pools
-  Ok (record { source = p.source; classes = classes; acls = acls; rules = rules; pools = pools; initial = p.initial; port = p.port; notices = p.notices })
+  headers ← each_made (header_made acls) p.headers
+  Ok (record {
+    source = p.source;
+    dst_lookup = p.dst_lookup;
+    classes = classes;
+    acls = acls;
+    rules = rules;
+    pools = pools;
+    initial = p.initial;
+    port = p.port;
+    rewriter = p.rewriter;
+    headers = headers;
+    notices = p.notices;
+  })
 
--- the numbers and lengths of the parts lie within their limits
+-- the numbers and lengths of the parts lie within their limits; what is made for look-ups does not count
 pub record AreWithin (p : Parts) : Type 0 where
   pub short : length p.source ≤ text_limit
-  pub few_classes : length p.classes ≤ class_limit
-  pub few_acls : length p.acls ≤ acl_limit
+  pub few_classes : length p.classes ≤ classes_within p.dst_lookup
+  pub few_acls : unmade (λ a. a.name) p.acls ≤ acl_limit
+  pub all_acls : length p.acls ≤ most_acls
   pub few_rules : length p.rules ≤ rule_limit
   pub few_pools : length p.pools ≤ pool_limit
+  pub few_headers : length p.headers ≤ header_limit
   pub initial_is : p.initial ≤ initial_limit

@@ -1,10 +1,12 @@
 -- What is asked of the acls of a configuration under way, beside the changes of `Drafts`
 -- (configuration reference, `acl`).
-use Rattle.std.specs.Prelude.{◌≡◌, ℕ, List, Bool, true, false, Option, Some, None, slice_get}
+use Rattle.std.specs.Prelude.{◌≡◌, ℕ, List, Bool, true, false, if◌then◌else◌, Option, Some, None, slice_get}
 use Rattle.std.specs.List.{list_all}
 use Rattle.sq_rules.specs.Configurations.{nestings, slow_ones}
 use Rattle.sq_rules.specs.Drafts.{are_patterns, change_body, type_of_body, with_member}
+use Rattle.sq_rules.specs.Lookups.{is_last_of_four}
 use Rattle.sq_rules.specs.declared.acl_types.AclType.{AclType}
+use Rattle.sq_rules.specs.declared.acl_types.AclType.TheVariants as type
 use Rattle.sq_rules.specs.declared.configs.Acl.{Acl}
 use Rattle.sq_rules.specs.declared.configs.Body.{Body}
 use Rattle.sq_rules.specs.declared.configs.Body.TheVariants as body
@@ -14,9 +16,9 @@ abbrev pub type_of_acl : Option Acl → Option AclType
 type_of_acl None = None
 type_of_acl (Some a) = Some (type_of_body a.body)
 
--- the type of the acl at a place
+-- the type of the acl at a place; the last of four is the one that a file states as `dst`
 abbrev pub type_at : List Acl → ℕ → Option AclType
-type_at acls place = type_of_acl (slice_get acls place)
+type_at acls place = if is_last_of_four acls place then Some type.Dst else type_of_acl (slice_get acls place)
 
 -- an acl that has members
 abbrev pub is_group : Body → Bool

@@ -14,7 +14,8 @@ use Rattle.sq_rules.specs.Building.{class_place}
 use Rattle.sq_rules.specs.Classes.{Class, with_arguments}
 use Rattle.sq_rules.specs.ConfNumbers.{number_between}
 use Rattle.sq_rules.specs.Drafts.{Drafts}
-use Rattle.sq_rules.specs.Limits.{cache_limit, children_limit, class_limit, grace_limit, name_limit, queue_limit, seconds_limit, token_limit}
+use Rattle.sq_rules.specs.Limits.{cache_limit, children_limit, grace_limit, name_limit, queue_limit, seconds_limit, token_limit}
+use Rattle.sq_rules.specs.Lookups.{classes_within}
 use Rattle.sq_rules.specs.Steps.{Words, unless, needed, word, is_empty, over, begins}
 use Rattle.sq_rules.specs.declared.classes.Token.{Token}
 use Rattle.sq_rules.specs.declared.classes.Token.TheVariants as token
@@ -191,10 +192,10 @@ class_of name s = record {
 }
 
 -- a name that no class has, and room for one more
-abbrev pub class_name : List Class → List ℕ → Result (List ℕ) Kind
-class_name classes w =
+abbrev pub class_name : Drafts → List ℕ → Result (List ℕ) Kind
+class_name d w =
     unless (nat_le (length w) name_limit) BadValue
-    (unless (is_none (class_place classes w)) DuplicateClass (unless (nat_lt (length classes) class_limit) TooMany (Ok w)))
+    (unless (is_none (class_place d.classes w)) DuplicateClass (unless (nat_lt (length d.classes) (classes_within d.dst_lookup)) TooMany (Ok w)))
 
 -- one notice more
 abbrev pub with_notice : ℕ → List ℕ → Drafts → Drafts
@@ -211,7 +212,7 @@ with_class c d = record d { classes = d.classes ++ c ∷ [] }
 unfoldable pub class_line : ℕ → Drafts → Words → Result Drafts Kind
 class_line line d ws = do
   first ← word ws
-  name ← class_name d.classes first.0
+  name ← class_name d first.0
   s ← over class_step default_class first.1
   unless (not (is_empty s.words)) MissingWord
       (Ok (with_notice_if s.noted line (codes "external_acl_type") (with_class (class_of name s) d)))

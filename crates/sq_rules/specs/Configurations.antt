@@ -1,27 +1,33 @@
 -- A configuration as a value, and what holds of every one (configuration reference, `acl`,
--- `http_access`, `external_acl_type`, `delay_pools`, `delay_class`, `delay_access`, `delay_parameters`).
-use Rattle.std.specs.Prelude.{◌≡◌, ℕ, ◌≤◌, List, [], ◌∷◌, ◌++◌, length, Bool, true, false, not, ◌&&◌, ◌==◌, nat_lt, nat_le, max, suc, bytes_eq, slice_index_or, if◌then◌else◌, Some, None}
+-- `http_access`, `external_acl_type`, `delay_pools`, `delay_class`, `delay_access`, `delay_parameters`,
+-- `request_header_access`, `reply_header_access`, `url_rewrite_program`).
+use Rattle.std.specs.Prelude.{◌≡◌, ℕ, ◌≤◌, List, [], ◌∷◌, ◌++◌, length, Bool, true, false, not, ◌&&◌, ◌||◌, ◌==◌, nat_lt, nat_le, max, suc, bytes_eq, slice_index_or, if◌then◌else◌, Some, None}
 use Rattle.std.specs.declared.option.Option.{Option}
 use Rattle.std.specs.List.{list_all, list_any}
 use Rattle.sq_rules.specs.Classes.{Class}
-use Rattle.sq_rules.specs.Limits.{acl_limit, class_limit, initial_limit, nesting_limit, pool_limit, rule_limit, text_limit}
+use Rattle.sq_rules.specs.Limits.{acl_limit, header_limit, initial_limit, most_acls, nesting_limit, pool_limit, rule_limit, text_limit}
+use Rattle.sq_rules.specs.Lookups.{are_looked_up, classes_within, stated}
 use Rattle.sq_rules.specs.declared.configs.Acl.{Acl}
 use Rattle.sq_rules.specs.declared.configs.Body.{Body}
 use Rattle.sq_rules.specs.declared.configs.Body.TheVariants as body
 use Rattle.sq_rules.specs.declared.configs.Rule.{Rule}
 use Rattle.sq_rules.specs.declared.configs.Term.{Term}
+use Rattle.sq_rules.specs.declared.headers.HeaderRule.{HeaderRule}
 use Rattle.sq_rules.specs.declared.notices.Notice.{Notice}
 use Rattle.sq_rules.specs.declared.pools.Pool.{Pool}
 
--- the text of the file, and what it states
+-- the text of the file, and what it states; with `dst_lookup` names of hosts are looked up
 pub record Configuration : Type 0 where
   pub source : List ℕ
+  pub dst_lookup : Bool
   pub classes : List Class
   pub acls : List Acl
   pub rules : List Rule
   pub pools : List Pool
   pub initial : ℕ
   pub port : ℕ
+  pub rewriter : Option Class
+  pub headers : List HeaderRule
   pub notices : List Notice
 
 -- one of these has the name
@@ -141,13 +147,25 @@ is_fast_rule acls r = is_known_rule (length acls) r && not (some_slow (slow_ones
 abbrev pub asks_nobody : Configuration → Bool
 asks_nobody c = list_all (λ r. not (some_slow (slow_ones c.acls) r.terms)) c.rules
 
--- the class is 1, 2 or 3, and there are as many limits as it has buckets
+-- the class is 1, 2, 3 or 5
+abbrev pub is_pool_class : ℕ → Bool
+is_pool_class class = (nat_le 1 class && nat_le class 3) || class == 5
+
+-- how many limits a class has: one for each kind of its buckets
+abbrev pub pairs_of : ℕ → ℕ
+pairs_of class = if class == 5 then 1 else class
+
+-- the class is one, and there are as many limits as it has
 abbrev pub has_buckets : ℕ → ℕ → Bool
-has_buckets class pairs = nat_le 1 class && nat_le class 3 && pairs == class
+has_buckets class pairs = is_pool_class class && pairs == pairs_of class
 
 -- a pool has a class with its limits, and fast rules
 abbrev pub is_pool : List Acl → Pool → Bool
 is_pool acls p = has_buckets p.class (length p.pairs) && list_all (is_fast_rule acls) p.lists
+
+-- the rule for a field names acls that are there and are not slow
+abbrev pub is_header : List Acl → HeaderRule → Bool
+is_header acls h = is_fast_rule acls h.rule
 
 -- what holds of every configuration; the ranges of a class's options, of a pool's rates and of the
 -- periods of `time` are held by the invariants of these types
@@ -159,8 +177,12 @@ pub record IsConfiguration (c : Configuration) : Type 0 where
   pub shallow : are_shallow c.acls ≡ true
   pub places : list_all (is_known_rule (length c.acls)) c.rules ≡ true
   pub pools_are : list_all (is_pool c.acls) c.pools ≡ true
-  pub few_classes : length c.classes ≤ class_limit
-  pub few_acls : length c.acls ≤ acl_limit
+  pub headers_are : list_all (is_header c.acls) c.headers ≡ true
+  pub lookups_are : are_looked_up c.dst_lookup c.classes c.acls ≡ true
+  pub few_classes : length c.classes ≤ classes_within c.dst_lookup
+  pub few_acls : stated c.acls ≤ acl_limit
+  pub all_acls : length c.acls ≤ most_acls
   pub few_rules : length c.rules ≤ rule_limit
   pub few_pools : length c.pools ≤ pool_limit
+  pub few_headers : length c.headers ≤ header_limit
   pub initial_is : c.initial ≤ initial_limit

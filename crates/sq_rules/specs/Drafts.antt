@@ -1,11 +1,13 @@
 -- A configuration as far as some of its lines state it, and what a line changes (configuration
 -- reference, `acl`, `http_access`, `external_acl_type`, `delay_pools`, `delay_class`, `delay_access`,
--- `delay_parameters`, `delay_initial_bucket_level`, `http_port`).
-use Rattle.std.specs.Prelude.{ℕ, List, [], ◌∷◌, ◌++◌, map, Bool, true, false, not, ◌&&◌, replicate, set, Some, None, is_some, slice_get, slice_index_or}
+-- `delay_parameters`, `delay_initial_bucket_level`, `http_port`, `request_header_access`,
+-- `reply_header_access`, `url_rewrite_program`, `url_rewrite_children`).
+use Rattle.std.specs.Prelude.{ℕ, List, [], ◌∷◌, ◌++◌, map, length, codes, if◌then◌else◌, Bool, true, false, not, ◌&&◌, replicate, set, Some, None, is_some, slice_get, slice_index_or}
 use Rattle.std.specs.List.{list_all}
 use Rattle.std.specs.declared.option.Option.{Option}
 use Rattle.sq_rules.specs.Classes.{Class}
 use Rattle.sq_rules.specs.Configurations.{Configuration, slow_ones, some_slow}
+use Rattle.sq_rules.specs.Lookups.{literal_acl, lookup_class, looked_up}
 use Rattle.sq_rules.specs.Patterns.{is_pattern}
 use Rattle.sq_rules.specs.Predefined.{predefined}
 use Rattle.sq_rules.specs.Rates.{Limit}
@@ -16,6 +18,8 @@ use Rattle.sq_rules.specs.declared.configs.Body.{Body}
 use Rattle.sq_rules.specs.declared.configs.Body.TheVariants as body
 use Rattle.sq_rules.specs.declared.configs.Rule.{Rule}
 use Rattle.sq_rules.specs.declared.configs.Term.{Term}
+use Rattle.sq_base.specs.declared.addresses.Range.{Range}
+use Rattle.sq_rules.specs.declared.headers.HeaderRule.{HeaderRule}
 use Rattle.sq_rules.specs.declared.leaves.Leaf.{Leaf}
 use Rattle.sq_rules.specs.declared.leaves.Leaf.TheVariants as leaf
 use Rattle.sq_rules.specs.declared.notices.Notice.{Notice}
@@ -29,8 +33,10 @@ pub record PoolDraft : Type 0 where
   pub pairs : Option (List (Option Limit))
   pub lists : List Rule
 
--- what the lines so far state; the pools are counted once `delay_pools` stands
+-- what the lines so far state; the pools are counted once `delay_pools` stands, and the class of the program that rewrites is its
+-- numbers alone, without the program
 pub record Drafts : Type 0 where
+  pub dst_lookup : Bool
   pub classes : List Class
   pub acls : List Acl
   pub rules : List Rule
@@ -38,6 +44,9 @@ pub record Drafts : Type 0 where
   pub pools : List PoolDraft
   pub initial : ℕ
   pub port : Option ℕ
+  pub program : Option (List (List ℕ))
+  pub children : Option Class
+  pub headers : List HeaderRule
   pub notices : List Notice
 
 abbrev pub leaf_of : BodyPart → Body
@@ -48,9 +57,40 @@ leaf_of p = body.AnyOf []
 abbrev pub predefined_ones : List Acl
 predefined_ones = map (λ a. record { name = a.name; body = leaf_of a.body }) predefined
 
--- what stands before the first line
-unfoldable pub begun : Drafts
-begun = record { classes = []; acls = predefined_ones; rules = []; counted = false; pools = []; initial = 50; port = None; notices = [] }
+-- an acl behind others; of type dst it is four
+abbrev pub with_first : Body → List ℕ → List Acl → List Acl
+with_first (body.Leaf (leaf.Dst values)) name acls = acls ++ looked_up (length acls) name values
+with_first b name acls = acls ++ (record { name = name; body = b }) ∷ []
+
+-- some acls, behind those before them
+abbrev pub with_firsts : List Acl → List Acl → List Acl
+with_firsts acls [] = acls
+with_firsts acls (a ∷ more) = with_firsts (with_first a.body a.name acls) more
+
+-- the acls that stand before the first line
+abbrev pub first_acls : Bool → List Acl
+first_acls lookup = if lookup then with_firsts (literal_acl ∷ []) predefined_ones else predefined_ones
+
+-- the classes that do
+abbrev pub first_classes : Bool → List Class
+first_classes lookup = if lookup then lookup_class ∷ [] else []
+
+-- what stands before the lines, where names are looked up or not
+unfoldable pub begun : Bool → Drafts
+begun lookup = record {
+  dst_lookup = lookup;
+  classes = first_classes lookup;
+  acls = first_acls lookup;
+  rules = [];
+  counted = false;
+  pools = [];
+  initial = 50;
+  port = None;
+  program = None;
+  children = None;
+  headers = [];
+  notices = [];
+}
 
 abbrev pub type_of_leaf : Leaf → AclType
 type_of_leaf (leaf.Src values) = type.Src
@@ -122,6 +162,10 @@ with_body place change d = record d { acls = change_body place change d.acls }
 abbrev pub with_acl_more : List ℕ → Body → Drafts → Drafts
 with_acl_more name b d = record d { acls = d.acls ++ (record { name = name; body = b }) ∷ [] }
 
+-- the drafts with the four acls of one of type dst
+abbrev pub with_lookup : List ℕ → List Range → Drafts → Drafts
+with_lookup name values d = record d { acls = d.acls ++ looked_up (length d.acls) name values }
+
 -- each pattern of the leaf is one
 abbrev pub are_patterns : Leaf → Bool
 are_patterns (leaf.UrlRegex finds) = list_all is_pattern finds
@@ -131,9 +175,12 @@ are_patterns l = true
 abbrev pub is_fast : List Bool → Rule → Bool
 is_fast slow r = not (some_slow slow r.terms)
 
--- no rule of a pool asks a helper or reaches an acl that does
-abbrev pub are_fast : List Acl → List PoolDraft → Bool
-are_fast acls pools = list_all (λ p. list_all (is_fast (slow_ones acls)) p.lists) pools
+-- no rule of a pool or for a field asks a helper or reaches an acl that does, where these acls are slow
+abbrev pub are_fast_where : List Bool → List PoolDraft → List HeaderRule → Bool
+are_fast_where slow pools headers = list_all (λ p. list_all (is_fast slow) p.lists) pools && list_all (λ h. is_fast slow h.rule) headers
+
+abbrev pub are_fast : List Acl → List PoolDraft → List HeaderRule → Bool
+are_fast acls pools headers = are_fast_where (slow_ones acls) pools headers
 
 abbrev pub no_pool : PoolDraft
 no_pool = record { class = None; pairs = None; lists = [] }
@@ -178,15 +225,43 @@ abbrev pub port_or_default : Option ℕ → ℕ
 port_or_default None = 3128
 port_or_default (Some n) = n
 
+-- the class of the program that rewrites, without its program: the defaults of `url_rewrite_children`
+abbrev pub rewriter_class : Class
+rewriter_class = record {
+  name = codes "url rewrite";
+  ttl = 3600;
+  negative_ttl = 3600;
+  grace = 0;
+  cache = 262144;
+  children_max = 20;
+  startup = 0;
+  concurrency = 0;
+  queue_size = 40;
+  format = [];
+  words = [];
+}
+
+abbrev pub class_or_default : Option Class → Class
+class_or_default None = rewriter_class
+class_or_default (Some c) = c
+
+-- the class of the program that rewrites, where there is one
+abbrev pub rewriter_of : Option (List (List ℕ)) → Option Class → Option Class
+rewriter_of None children = None
+rewriter_of (Some words) children = Some (record (class_or_default children) { words = words })
+
 -- the configuration that all lines of a text state
 unfoldable pub finished : List ℕ → Drafts → Configuration
 finished source d = record {
   source = source;
+  dst_lookup = d.dst_lookup;
   classes = d.classes;
   acls = d.acls;
   rules = d.rules;
   pools = map pool_of_draft d.pools;
   initial = d.initial;
   port = port_or_default d.port;
+  rewriter = rewriter_of d.program d.children;
+  headers = d.headers;
   notices = d.notices;
 }

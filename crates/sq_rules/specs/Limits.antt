@@ -5,9 +5,13 @@ use Rattle.std.specs.Prelude.{ℕ}
 abbrev pub text_limit : ℕ
 text_limit = 1048576
 
--- acls, the predefined ones counted
+-- acls that a file states, the predefined ones counted
 abbrev pub acl_limit : ℕ
 acl_limit = 4096
+
+-- acls, with those that are made where names are looked up: three beside each, and one for all
+abbrev pub most_acls : ℕ
+most_acls = 16385
 
 -- rules
 abbrev pub rule_limit : ℕ
@@ -17,9 +21,17 @@ rule_limit = 10000
 abbrev pub name_limit : ℕ
 name_limit = 255
 
--- classes of helpers
+-- rules of `request_header_access` and `reply_header_access` together
+abbrev pub header_limit : ℕ
+header_limit = 10000
+
+-- classes of helpers that a file states
 abbrev pub class_limit : ℕ
 class_limit = 64
+
+-- classes, with the one that is made where names are looked up
+abbrev pub most_classes : ℕ
+most_classes = 65
 
 -- delay pools
 abbrev pub pool_limit : ℕ

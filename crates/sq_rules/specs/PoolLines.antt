@@ -9,7 +9,7 @@ use Rattle.sq_base.specs.Results.{◌>>=◌}
 use Rattle.sq_rules.specs.AclLines.{action, known_term}
 use Rattle.sq_rules.specs.ClassLines.{with_notice_if}
 use Rattle.sq_rules.specs.ConfNumbers.{digits_of, is_digits, number_between, limit_pair_of, port_text, has_host}
-use Rattle.sq_rules.specs.Configurations.{slow_ones}
+use Rattle.sq_rules.specs.Configurations.{is_pool_class, pairs_of, slow_ones}
 use Rattle.sq_rules.specs.Drafts.{Drafts, PoolDraft, pool_at, with_pool, with_pools}
 use Rattle.sq_rules.specs.Limits.{initial_limit, pool_limit}
 use Rattle.sq_rules.specs.Rates.{Limit}
@@ -43,13 +43,17 @@ pool_place count w = unless (is_digits w) BadNumber (place_in count (digits_of p
 abbrev pub with_pool_class : ℕ → PoolDraft → PoolDraft
 with_pool_class class p = record p { class = Some class }
 
+-- the class of a pool
+unfoldable pub pool_class : List ℕ → Result ℕ Kind
+pool_class w = number_between 1 5 w >>= λ class. unless (is_pool_class class) BadNumber (Ok class)
+
 -- delay_class POOL CLASS
 unfoldable pub pool_class_line : Drafts → Words → Result Drafts Kind
 pool_class_line d ws = do
   first ← word ws
   place ← pool_place (length d.pools) first.0
   second ← unless (is_none (pool_at d.pools place).class) BadValue (word first.1)
-  class ← number_between 1 3 second.0
+  class ← pool_class second.0
   no_more second.1 (with_pool place (with_pool_class class) d)
 
 -- TERM of a pool's rule: an acl that stands, asks no helper and reaches none that does
@@ -95,7 +99,7 @@ pool_pairs_line d ws = do
   first ← word ws
   place ← pool_place (length d.pools) first.0
   class ← class_for_pairs (pool_at d.pools place)
-  pairs ← limit_pairs_of class first.1
+  pairs ← limit_pairs_of (pairs_of class) first.1
   Ok (with_pool place (with_limits pairs) d)
 
 abbrev pub with_initial : ℕ → Drafts → Drafts

@@ -1,22 +1,34 @@
 //! The acls of a configuration under way.
-ghost use Rattle.std.specs.Prelude.{◌≡◌, ◌≢◌, ◌∷◌, ◌++◌, ◌<◌, [], true, false, length, nat_le, Some, None, IfOk, IfErr, IfSome, OnOk, OnErr, slice_index_or};
+ghost use Rattle.std.specs.Prelude.{◌≡◌, ◌≢◌, ◌∷◌, ◌++◌, ◌+◌, ◌<◌, ◌≤◌, [], true, false, if◌then◌else◌, length, nat_le, Some, None, IfOk, IfErr, IfSome, OnOk, OnErr, slice_index_or};
 ghost use Rattle.sq_rules.specs.Building.{place_of, with_acl, IsMade};
 ghost use Rattle.sq_rules.specs.Changes.{type_at, with_member_at, AreSlowOnes};
 ghost use Rattle.sq_rules.specs.Configurations.{are_shallow, are_unique, nesting_of, nestings, slow_ones};
 ghost use Rattle.sq_rules.specs.Drafts.{change_body, with_leaf, with_line};
-ghost use Rattle.sq_rules.specs.Limits.{acl_limit, nesting_limit};
+ghost use Rattle.sq_rules.specs.Limits.{most_acls, nesting_limit};
+ghost use Rattle.sq_rules.specs.Lookups.{begins_literal, has_blank, literal_name, lookup_name, looked_up, named_name, stated};
 
 use crate::acl_types::AclType;
 use crate::configs::{Acl, Acls, Body, Term};
 use crate::leaves::Leaf;
+use crate::lookups::{
+    asking, either_body, has_blank, is_last_of_four, literal_name, lookup_name, named_body,
+    named_name,
+};
 use crate::member_faults::MemberFault;
 use crate::names::Names;
 use crate::nesting::{is_slow, nesting_of};
 use crate::parts::BuildFault;
 use crate::rechecks::{depths_with, renew, slow_with};
-use sq_base::{Copying, Listed, Text, WantOfMemory};
+use sq_base::{Copying, Listed, Ranges, Text, WantOfMemory};
 use std::alloc::Global;
 use std::marker::Model;
+
+// What an acl of this name adds to the count of those that a file states.
+fn counted(name: &Text) -> usize
+    ensures { result ≡ (if has_blank name.now then 0 else 1) }
+{
+    if has_blank(name.as_bytes()) { 0 } else { 1 }
+}
 
 /// Acls with names of their own, and of each its place by name, how deep it nests, and whether it asks
 /// a helper or reaches an acl that does. A contract sees the acls.
@@ -26,6 +38,7 @@ pub struct AclTable {
     places: Names,
     nestings: Vec<u32>,
     slow: Vec<bool>,
+    stated: usize,
 }
 
 impl Model for AclTable {
@@ -37,7 +50,7 @@ impl Model for AclTable {
 
     ghost view = { λ t. t.acls.items };
 
-    ghost invariant = { λ t. KnowsAcls t.acls.items t.places t.nestings.items t.slow.items };
+    ghost invariant = { λ t. KnowsAcls t.acls.items t.places t.nestings.items t.slow.items t.stated };
 }
 
 impl AclTable {
@@ -50,6 +63,7 @@ impl AclTable {
             places: Names::new(alloc),
             nestings: Vec::new(alloc),
             slow: Vec::new(alloc),
+            stated: 0,
         }
     }
 
@@ -58,6 +72,20 @@ impl AclTable {
         ensures { result ≡ length self.now }
     {
         self.acls.len()
+    }
+
+    /// How many of them a file states: those whose names hold no blank.
+    pub fn stated(&self) -> usize
+        ensures { result ≡ stated self.now }
+    {
+        self.stated
+    }
+
+    /// The acls, lent.
+    pub fn as_slice(&self) -> &[Acl]
+        ensures { result.now ≡ self.now }
+    {
+        self.acls.as_slice()
     }
 
     /// The place of the acl with this name.
@@ -73,7 +101,11 @@ impl AclTable {
         requires { place < length self.now }
         ensures { type_at self.now place ≡ Some result }
     {
-        self.acls[place as usize].body.acl_type()
+        if is_last_of_four(self.acls.as_slice(), place) {
+            AclType::Dst
+        } else {
+            self.acls[place as usize].body.acl_type()
+        }
     }
 
     /// Whether the acl at a place asks a helper or reaches one that does.
@@ -88,7 +120,7 @@ impl AclTable {
 
     /// One acl more, which nests no deeper than it may.
     pub fn push(&mut self, alloc: Global, name: Text, body: Body) -> Result<(), WantOfMemory>
-        requires few { length self.old < acl_limit }
+        requires few { length self.old < most_acls }
         requires free { place_of self.old name ≡ None }
         requires shallow { nat_le (nesting_of (nestings self.old) body) nesting_limit ≡ true }
         ensures ok { OnOk result (self.new ≡ self.old ++ (record { name = name; body = body }) ∷ []) }
@@ -98,6 +130,7 @@ impl AclTable {
             unreachable!();
         };
         let asks = is_slow(self.slow.as_slice(), &body);
+        let stated = self.stated + counted(&name);
         let key = name.copy(alloc)?;
         self.acls.reserve(1)?;
         self.nestings.reserve(1)?;
@@ -107,12 +140,51 @@ impl AclTable {
         self.nestings.push_reserved(nesting);
         self.slow.push_reserved(asks);
         self.acls.push_reserved(Acl { name, body });
+        self.stated = stated;
         Ok(())
+    }
+
+    // The table with one acl more, which nests no deeper than it may.
+    fn with_made(mut self, alloc: Global, name: Text, body: Body) -> Result<AclTable, WantOfMemory>
+        requires few { length self < most_acls }
+        requires free { place_of self name ≡ None }
+        requires shallow { nat_le (nesting_of (nestings self) body) nesting_limit ≡ true }
+        ensures { IfOk result (λ t. t ≡ self ++ (record { name = name; body = body }) ∷ []) }
+    {
+        self.push(alloc, name, body)?;
+        Ok(self)
+    }
+
+    /// The table with the four acls of one of type `dst`, whose names are free.
+    pub fn with_lookup(
+        self,
+        alloc: Global,
+        name: Text,
+        values: Ranges,
+    ) -> Result<AclTable, WantOfMemory>
+        requires few { length self + 4 ≤ most_acls }
+        requires first { begins_literal self ≡ true }
+        requires free { place_of self name ≡ None }
+        requires literal { place_of self (literal_name name) ≡ None }
+        requires lookup { place_of self (lookup_name name) ≡ None }
+        requires named { place_of self (named_name name) ≡ None }
+        ensures { IfOk result (λ t. t ≡ self ++ looked_up (length self) name values) }
+    {
+        let place = self.acls.len() as u32;
+        let literal = literal_name(alloc, &name)?;
+        let lookup = lookup_name(alloc, &name)?;
+        let named = named_name(alloc, &name)?;
+        let body = named_body(alloc, place)?;
+        let either = either_body(alloc, place)?;
+        let one = self.with_made(alloc, literal, Body::Leaf(Leaf::Dst(values)))?;
+        let two = one.with_made(alloc, lookup, asking(alloc))?;
+        let three = two.with_made(alloc, named, body)?;
+        three.with_made(alloc, name, either)
     }
 
     /// The table with one acl more, which must not nest too deep.
     pub fn with(mut self, alloc: Global, name: Text, body: Body) -> Result<AclTable, BuildFault>
-        requires few { length self < acl_limit }
+        requires few { length self < most_acls }
         requires free { place_of self name ≡ None }
         ensures made { IsMade result (with_acl self name body) }
         ensures longer { IfOk result (λ t. t ≡ self ++ (record { name = name; body = body }) ∷ []) }

@@ -3,7 +3,8 @@ ghost use Rattle.std.specs.Prelude.{◌≡◌, ◌≤◌, ◌∷◌, [], true, f
 ghost use Rattle.std.specs.List.{list_all};
 ghost use Rattle.sq_rules.specs.Building.{acls_made, body_made, classes_made, completed, each_made, rule_made, term_made, terms_made, IsMade};
 ghost use Rattle.sq_rules.specs.Configurations.{are_known, are_known_bodies, is_known_body, is_known_rule};
-ghost use Rattle.sq_rules.specs.Limits.{acl_limit, class_limit};
+ghost use Rattle.sq_rules.specs.Limits.{most_acls, most_classes};
+ghost use Rattle.sq_rules.specs.Lookups.{stated, unmade};
 
 use crate::acl_table::AclTable;
 use crate::class_table::ClassTable;
@@ -86,7 +87,7 @@ fn completed(class: Class) -> Result<Class, WantOfMemory>
 /// The classes, each with a name of its own.
 #[tactic(auto, using(crate::proofs::NameLaws::place_tells))]
 pub fn classes_of(alloc: Global, parts: Classes) -> Result<ClassTable, BuildFault>
-    requires { length parts ≤ class_limit }
+    requires { length parts ≤ most_classes }
     ensures made { IsMade result (classes_made [] parts) }
     ensures count { IfOk result (λ t. length t ≡ length parts) }
 {
@@ -103,9 +104,10 @@ pub fn classes_of(alloc: Global, parts: Classes) -> Result<ClassTable, BuildFaul
 /// The acls over these classes, each over those before it.
 #[tactic(auto, using(crate::proofs::NameLaws::place_tells))]
 pub fn acls_of(alloc: Global, classes: &ClassTable, parts: AclParts) -> Result<AclTable, BuildFault>
-    requires { length parts ≤ acl_limit }
+    requires { length parts ≤ most_acls }
     ensures made { IsMade result (acls_made classes.now [] parts) }
     ensures count { IfOk result (λ t. length t ≡ length parts) }
+    ensures stated { IfOk result (λ t. stated t ≡ unmade (λ a. a.name) parts) }
     ensures known { IfOk result (λ acls. are_known_bodies (length classes.now) 0 acls ≡ true) }
 {
     let mut acls = AclTable::new(alloc);

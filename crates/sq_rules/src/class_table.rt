@@ -2,7 +2,7 @@
 ghost use Rattle.std.specs.Prelude.{◌≡◌, ◌∷◌, ◌++◌, ◌<◌, [], true, length, None, IfOk, IfSome, OnOk, OnErr};
 ghost use Rattle.sq_rules.specs.Building.{class_place};
 ghost use Rattle.sq_rules.specs.Configurations.{have_distinct_names};
-ghost use Rattle.sq_rules.specs.Limits.{class_limit};
+ghost use Rattle.sq_rules.specs.Limits.{most_classes};
 
 use crate::classes::{Class, Classes};
 use crate::names::Names;
@@ -58,7 +58,7 @@ impl ClassTable {
 
     /// One class more.
     pub fn push(&mut self, alloc: Global, class: Class) -> Result<(), WantOfMemory>
-        requires few { length self.old < class_limit }
+        requires few { length self.old < most_classes }
         requires free { class_place self.old class.name ≡ None }
         ensures ok { OnOk result (self.new ≡ self.old ++ class ∷ []) }
         ensures err { OnErr result (self.new ≡ self.old) }
@@ -73,12 +73,19 @@ impl ClassTable {
 
     /// The table with one class more.
     pub fn with(mut self, alloc: Global, class: Class) -> Result<ClassTable, WantOfMemory>
-        requires few { length self < class_limit }
+        requires few { length self < most_classes }
         requires free { class_place self class.name ≡ None }
         ensures { IfOk result (λ t. t ≡ self ++ class ∷ []) }
     {
         self.push(alloc, class)?;
         Ok(self)
+    }
+
+    /// The classes, lent.
+    pub fn as_slice(&self) -> &[Class]
+        ensures { result.now ≡ self.now }
+    {
+        self.classes.as_slice()
     }
 
     /// The classes alone.

@@ -1,13 +1,16 @@
 //! The configuration: classes of helpers, acls, rules and delay pools, with every named place there.
 ghost use Rattle.std.specs.Prelude.{◌≡◌, ◌≢◌, ◌≤◌, length, Ok, Err, IfOk, IfErr};
+ghost use Rattle.std.specs.Option.{option_map};
 ghost use Rattle.sq_rules.specs.Building.{built, AreWithin};
 ghost use Rattle.sq_rules.specs.Configurations.{IsConfiguration};
-ghost use Rattle.sq_rules.specs.Limits.{acl_limit, class_limit, initial_limit, pool_limit, rule_limit, text_limit};
+ghost use Rattle.sq_rules.specs.Limits.{header_limit, initial_limit, most_acls, most_classes, pool_limit, rule_limit, text_limit};
 
 use crate::building::{acls_of, classes_of, rules_of};
 use crate::classes::{Class, Classes};
-use crate::fast_lists::pools_of;
+use crate::fast_lists::{headers_of, pools_of};
+use crate::headers::{HeaderRule, HeaderRules};
 use crate::leaves::Leaf;
+use crate::lookups::are_looked_up;
 use crate::notices::{Notice, Notices};
 use crate::parts::{BuildFault, Parts};
 use crate::pools::{Pool, Pools};
@@ -62,16 +65,20 @@ pub struct Rule {
 pub type Rules = Listed<Rule>;
 
 /// A configuration. Names are unique, each named place is there and each member of a group stands
-/// before it, groups nest 32 deep at the most, and rules of pools reach no external acl.
+/// before it, groups nest 32 deep at the most, and rules of pools and for fields reach no external acl. Where names of
+/// hosts are looked up, each acl of type `dst` stands with its look-up.
 #[derive(Debug)]
 pub struct Config {
     source: Text,
+    dst_lookup: bool,
     classes: Classes,
     acls: Acls,
     rules: Rules,
     pools: Pools,
     initial: u8,
     port: u16,
+    rewriter: Option<Class>,
+    headers: HeaderRules,
     notices: Notices,
 }
 
@@ -80,12 +87,15 @@ impl Drop for Config {
     fn drop(self) {
         let Config {
             source: _,
+            dst_lookup: _,
             classes: _,
             acls: _,
             rules: _,
             pools: _,
             initial: _,
             port: _,
+            rewriter: _,
+            headers: _,
             notices: _,
         } = self;
     }
@@ -96,34 +106,40 @@ impl Model for Config {
 
     ghost Value = { Configuration };
 
-    ghost view = { λ c. record { source = c.source; classes = c.classes; acls = c.acls; rules = c.rules; pools = c.pools; initial = c.initial; port = c.port; notices = c.notices } };
+    ghost view = { λ c. record { source = c.source; dst_lookup = c.dst_lookup; classes = c.classes; acls = c.acls; rules = c.rules; pools = c.pools; initial = c.initial; port = c.port; rewriter = c.rewriter; headers = c.headers; notices = c.notices } };
 
-    ghost invariant = { λ c. IsConfiguration (record { source = c.source; classes = c.classes; acls = c.acls; rules = c.rules; pools = c.pools; initial = c.initial; port = c.port; notices = c.notices }) };
+    ghost invariant = { λ c. IsConfiguration (record { source = c.source; dst_lookup = c.dst_lookup; classes = c.classes; acls = c.acls; rules = c.rules; pools = c.pools; initial = c.initial; port = c.port; rewriter = c.rewriter; headers = c.headers; notices = c.notices }) };
 }
 
 impl Config {
     /// The configuration of these parts, where they are one.
     pub fn of_parts(
         source: Text,
+        dst_lookup: bool,
         classes: Classes,
         acls: Acls,
         rules: Rules,
         pools: Pools,
         initial: u8,
         port: u16,
+        rewriter: Option<Class>,
+        headers: HeaderRules,
         notices: Notices,
     ) -> Config
-        requires { IsConfiguration (record { source = source; classes = classes; acls = acls; rules = rules; pools = pools; initial = initial; port = port; notices = notices }) }
-        ensures { result ≡ record { source = source; classes = classes; acls = acls; rules = rules; pools = pools; initial = initial; port = port; notices = notices } }
+        requires { IsConfiguration (record { source = source; dst_lookup = dst_lookup; classes = classes; acls = acls; rules = rules; pools = pools; initial = initial; port = port; rewriter = rewriter; headers = headers; notices = notices }) }
+        ensures { result ≡ record { source = source; dst_lookup = dst_lookup; classes = classes; acls = acls; rules = rules; pools = pools; initial = initial; port = port; rewriter = rewriter; headers = headers; notices = notices } }
     {
         Config {
             source,
+            dst_lookup,
             classes,
             acls,
             rules,
             pools,
             initial,
             port,
+            rewriter,
+            headers,
             notices,
         }
     }
@@ -138,16 +154,23 @@ impl Config {
     {
         let classes = classes_of(alloc, parts.classes)?;
         let acls = acls_of(alloc, &classes, parts.acls)?;
+        if !are_looked_up(parts.dst_lookup, classes.as_slice(), acls.as_slice()) {
+            return Err(BuildFault::NoLookup);
+        }
         let rules = rules_of(alloc, &acls, parts.rules)?;
         let pools = pools_of(alloc, &acls, parts.pools)?;
+        let headers = headers_of(alloc, &acls, parts.headers)?;
         Ok(Config {
             source: parts.source,
+            dst_lookup: parts.dst_lookup,
             classes: classes.into_classes(),
             acls: acls.into_acls(),
             rules,
             pools,
             initial: parts.initial,
             port: parts.port,
+            rewriter: parts.rewriter,
+            headers,
             notices: parts.notices,
         })
     }
@@ -160,18 +183,25 @@ impl Config {
         &self.source
     }
 
-    /// The classes of helpers, in the order of the file.
+    /// Whether the names of hosts are looked up for acls of type `dst`.
+    pub fn dst_lookup(&self) -> bool
+        ensures { result ≡ self.now.dst_lookup }
+    {
+        self.dst_lookup
+    }
+
+    /// The classes of helpers, in the order of the file; where names are looked up, that of the look-ups is the first.
     pub fn classes(&self) -> &[Class]
         ensures classes { result.now ≡ self.now.classes }
-        ensures few { length result.now ≤ class_limit }
+        ensures few { length result.now ≤ most_classes }
     {
         self.classes.as_slice()
     }
 
-    /// The acls, in the order of their first lines.
+    /// The acls, in the order of their first lines; those that are made for one stand before it.
     pub fn acls(&self) -> &[Acl]
         ensures acls { result.now ≡ self.now.acls }
-        ensures few { length result.now ≤ acl_limit }
+        ensures few { length result.now ≤ most_acls }
     {
         self.acls.as_slice()
     }
@@ -205,6 +235,21 @@ impl Config {
         ensures { result ≡ self.now.port }
     {
         self.port
+    }
+
+    /// The class of the program that rewrites targets, where there is one.
+    pub fn rewriter(&self) -> Option<&Class>
+        ensures { option_map (λ c. c.now) result ≡ self.now.rewriter }
+    {
+        self.rewriter.as_ref()
+    }
+
+    /// The rules that say which fields are passed on, in the order of the file.
+    pub fn headers(&self) -> &[HeaderRule]
+        ensures headers { result.now ≡ self.now.headers }
+        ensures few { length result.now ≤ header_limit }
+    {
+        self.headers.as_slice()
     }
 
     /// The lines that were read without effect.

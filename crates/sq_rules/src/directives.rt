@@ -1,4 +1,4 @@
-//! The directives of a configuration, and the options of `external_acl_type`, by their names.
+//! The directives of a configuration, and the options of `external_acl_type` and `url_rewrite_children`, by their names.
 
 /// A directive.
 #[derive(Clone, Copy, Debug, PartialEq, Eq)]
@@ -12,6 +12,11 @@ pub enum Directive {
     DelayParameters,
     InitialLevel,
     HttpPort,
+    RequestHeaderAccess,
+    ReplyHeaderAccess,
+    RewriteProgram,
+    RewriteChildren,
+    DstLookup,
     /// One of those that are read without effect.
     NoEffect,
 }

@@ -1,13 +1,17 @@
-//! Delay pools over the acls of a configuration: their rules name no acl that asks a helper.
+//! Delay pools and rules for fields over the acls of a configuration: their rules name no acl that asks a helper.
 ghost use Rattle.std.specs.Prelude.{◌≡◌, ◌≤◌, ◌<◌, ◌^◌, ◌∷◌, [], true, false, length, IfOk, slice_index_or};
 ghost use Rattle.std.specs.List.{list_all};
-ghost use Rattle.sq_rules.specs.Building.{each_made, fast_rule_made, fast_term_made, pool_made, pools_made, IsMade};
-ghost use Rattle.sq_rules.specs.Configurations.{are_known, has_buckets, is_fast_rule, is_pool, slow_ones, some_slow};
+ghost use Rattle.sq_rules.specs.Building.{each_made, fast_rule_made, fast_term_made, header_made, pool_made, pools_made, IsMade};
+ghost use Rattle.sq_rules.specs.Configurations.{are_known, has_buckets, is_fast_rule, is_header, is_pool, is_pool_class, pairs_of, slow_ones, some_slow};
 ghost use Rattle.sq_rules.specs.Limits.{pool_limit};
 
 use crate::acl_table::AclTable;
 use crate::configs::{Rule, Rules, Term, Terms};
-use crate::parts::{BuildFault, PoolPart, PoolParts, RulePart, RuleParts, TermPart, TermParts};
+use crate::headers::{HeaderRule, HeaderRules, lowered};
+use crate::parts::{
+    BuildFault, HeaderPart, HeaderParts, PoolPart, PoolParts, RulePart, RuleParts, TermPart,
+    TermParts,
+};
 use crate::pools::{Pool, Pools};
 use sq_base::Listed;
 use std::alloc::Global;
@@ -69,11 +73,25 @@ fn fast_rules_of(alloc: Global, acls: &AclTable, parts: RuleParts) -> Result<Rul
     Ok(rules)
 }
 
-// Whether a pool has a class, and as many limits as that class has buckets.
+/// Whether there are pools of this class.
+pub fn is_pool_class(class: u8) -> bool
+    ensures { result ≡ is_pool_class class }
+{
+    (1 <= class && class <= 3) || class == 5
+}
+
+/// How many limits a pool of this class has: one for each kind of its buckets.
+pub fn pairs_of(class: u8) -> u8
+    ensures { result ≡ pairs_of class }
+{
+    if class == 5 { 1 } else { class }
+}
+
+// Whether a pool has a class, and as many limits as that class has.
 fn has_buckets(class: u8, pairs: usize) -> bool
     ensures { result ≡ has_buckets class pairs }
 {
-    1 <= class && class <= 3 && pairs == class as usize
+    is_pool_class(class) && pairs == pairs_of(class) as usize
 }
 
 fn pool_of(alloc: Global, acls: &AclTable, place: u32, part: PoolPart) -> Result<Pool, BuildFault>
@@ -106,4 +124,33 @@ pub fn pools_of(alloc: Global, acls: &AclTable, parts: PoolParts) -> Result<Pool
         pools.push(pool)?;
     }
     Ok(pools)
+}
+
+fn header_of(alloc: Global, acls: &AclTable, part: HeaderPart) -> Result<HeaderRule, BuildFault>
+    ensures made { IsMade result (header_made acls.now part) }
+    ensures is_header { IfOk result (λ h. is_header acls.now h ≡ true) }
+{
+    let HeaderPart { reply, name, rule } = part;
+    let rule = fast_rule_of(alloc, acls, rule)?;
+    let name = lowered(alloc, name.as_bytes())?;
+    Ok(HeaderRule { reply, name, rule })
+}
+
+/// The rules for fields over these acls.
+#[tactic(auto, using(crate::proofs::MadeLaws::made_first))]
+pub fn headers_of(
+    alloc: Global,
+    acls: &AclTable,
+    parts: HeaderParts,
+) -> Result<HeaderRules, BuildFault>
+    ensures made { IsMade result (each_made (header_made acls.now) parts) }
+    ensures count { IfOk result (λ headers. length headers ≡ length parts) }
+    ensures are_headers { IfOk result (λ headers. list_all (is_header acls.now) headers ≡ true) }
+{
+    let mut headers = Listed::new(alloc);
+    for part in parts.into_vec() {
+        let header = header_of(alloc, acls, part)?;
+        headers.push(header)?;
+    }
+    Ok(headers)
 }

@@ -23,17 +23,17 @@ pub enum Kind {
     /// 7: no acl of that name stands before, or none whose first line is before the group's.
     UndefinedAcl,
     /// 8: a name, an action, a mode or a value is outside its form, a word is one too many, or a line stands
-    /// again that may stand once.
+    /// again that may stand once or stands where it may not.
     BadValue,
     /// 9: no class of that name stands before.
     UndefinedClass,
     /// 10: the class's name stands already.
     DuplicateClass,
-    /// 11: the option of `external_acl_type` is none of the options.
+    /// 11: the option of `external_acl_type` or `url_rewrite_children` is none of the options.
     UnknownOption,
     /// 12: the token of `external_acl_type` is none of the tokens.
     UnknownToken,
-    /// 13: a rule of a delay pool asks a helper or reaches an acl that does.
+    /// 13: a rule of a delay pool or for fields asks a helper or reaches an acl that does.
     SlowInFastList,
     /// 14: the syntax does not read a pattern of `url_regex`, or it nests more than 250 deep.
     BadPattern,

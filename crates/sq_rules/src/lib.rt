@@ -1,7 +1,7 @@
 //! The configuration as a value, and the definitions of what its rules come to.
 //!
 //! `Config` holds what a configuration file says, with the invariant that every name is unique, every
-//! named place exists and is earlier, groups nest 32 deep at the most, and rules of delay pools ask no
+//! named place exists and is earlier, groups nest 32 deep at the most, and rules of delay pools and for fields ask no
 //! helper. `Facts` are the truth values of the leaf acls that a check looks at. The definitions of `specs/`
 //! say which configuration a text states (`ConfText`), when a leaf acl holds (`Leaves`), which facts a check
 //! has (`Facts`), what a helper is asked (`Keys`), what terms and rules come to over its answers (`Values`,
@@ -19,9 +19,11 @@ mod directives;
 mod facts;
 mod fast_lists;
 mod formats;
+mod headers;
 mod kinds;
 mod leaves;
 mod limits;
+mod lookups;
 mod member_faults;
 mod names;
 mod nesting;
@@ -42,20 +44,23 @@ pub use classes::{Class, Classes, Token, Tokens};
 pub use configs::{Acl, Acls, Body, Config, Lines, Rule, Rules, Term, Terms};
 pub use directives::{ClassOption, Directive};
 pub use facts::Facts;
+pub use fast_lists::{is_pool_class, pairs_of};
 pub use formats::with_arguments;
+pub use headers::{HeaderRule, HeaderRules, lowered};
 pub use kinds::{ConfError, Kind};
 pub use leaves::{Find, Finds, Hour, Hours, Leaf, Numbers, PortRange, PortRanges};
 pub use limits::{
     ACL_LIMIT, CACHE_LIMIT, CHILDREN_LIMIT, CLASS_LIMIT, DAY_MINUTES, DELAY_LIMIT, GRACE_LIMIT,
-    INITIAL_LIMIT, MAXCONN_LIMIT, NAME_LIMIT, NESTING_LIMIT, POOL_LIMIT, QUEUE_LIMIT, RULE_LIMIT,
-    SECONDS_LIMIT, TEXT_LIMIT, TOKEN_LIMIT,
+    HEADER_LIMIT, INITIAL_LIMIT, MAXCONN_LIMIT, NAME_LIMIT, NESTING_LIMIT, POOL_LIMIT, QUEUE_LIMIT,
+    RULE_LIMIT, SECONDS_LIMIT, TEXT_LIMIT, TOKEN_LIMIT,
 };
+pub use lookups::{has_blank, literal_leaf, literal_name, lookup_class, lookup_name, named_name};
 pub use member_faults::MemberFault;
 pub use notices::{Notice, Notices};
 pub use outcomes::{Outcome, Why};
 pub use parts::{
-    AclPart, AclParts, BodyPart, BuildFault, LineParts, Parts, PoolPart, PoolParts, RulePart,
-    RuleParts, TermPart, TermParts,
+    AclPart, AclParts, BodyPart, BuildFault, HeaderPart, HeaderParts, LineParts, Parts, PoolPart,
+    PoolParts, RulePart, RuleParts, TermPart, TermParts,
 };
 pub use pools::{Limit, Limits, Pool, Pools};
 pub use predefined::predefined_acls;

@@ -6,8 +6,11 @@ pub const TEXT_LIMIT: usize = 1_048_576;
 /// Bytes of a name.
 pub const NAME_LIMIT: usize = 255;
 
-/// Acls, the predefined ones counted.
+/// Acls that a file states, the predefined ones counted.
 pub const ACL_LIMIT: usize = 4096;
+
+/// Acls, with those that are made where names of hosts are looked up.
+pub const MOST_ACLS: usize = 16_385;
 
 /// How deep groups nest.
 pub const NESTING_LIMIT: u32 = 32;
@@ -15,8 +18,14 @@ pub const NESTING_LIMIT: u32 = 32;
 /// Rules.
 pub const RULE_LIMIT: usize = 10_000;
 
-/// Classes of helpers.
+/// Rules of `request_header_access` and `reply_header_access` together.
+pub const HEADER_LIMIT: usize = 10_000;
+
+/// Classes of helpers that a file states.
 pub const CLASS_LIMIT: usize = 64;
+
+/// Classes, with the one that is made where names of hosts are looked up.
+pub const MOST_CLASSES: usize = 65;
 
 /// Tokens that a format states.
 pub const TOKEN_LIMIT: usize = 32;

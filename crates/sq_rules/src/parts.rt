@@ -1,5 +1,5 @@
 //! What a configuration is built from: acls and classes are named by their names.
-use crate::classes::Classes;
+use crate::classes::{Class, Classes};
 use crate::leaves::Leaf;
 use crate::notices::Notices;
 use crate::pools::Limits;
@@ -59,16 +59,33 @@ pub struct PoolPart {
 /// A list of pools.
 pub type PoolParts = Listed<PoolPart>;
 
+/// A rule for the fields of a name, of replies or of requests.
+#[derive(Drop, Debug)]
+pub struct HeaderPart {
+    pub reply: bool,
+    pub name: Text,
+    pub rule: RulePart,
+}
+
+/// A list of such rules.
+pub type HeaderParts = Listed<HeaderPart>;
+
 /// The parts of a configuration, in the order in which they are looked through for a fault.
 #[derive(Drop, Debug)]
 pub struct Parts {
     pub source: Text,
+    /// Whether the names of hosts are looked up for acls of type `dst`. The parts have then what a reader of
+    /// configurations makes for that: the class `dst lookup` and the acl `dst literal` first, and four acls for each.
+    pub dst_lookup: bool,
     pub classes: Classes,
     pub acls: AclParts,
     pub rules: RuleParts,
     pub pools: PoolParts,
     pub initial: u8,
     pub port: u16,
+    /// The class of the program that rewrites targets.
+    pub rewriter: Option<Class>,
+    pub headers: HeaderParts,
     pub notices: Notices,
 }
 
@@ -84,15 +101,18 @@ pub enum BuildFault {
     /// No class has this name.
     #[error("{0}: no class has this name")]
     UndefinedClass(Text),
-    /// This acl, which a rule of a pool names, asks a helper or reaches one that does.
-    #[error("{0}: a rule of a delay pool names this acl, which asks a helper or reaches one that does")]
+    /// This acl, which a rule of a pool or for fields names, asks a helper or reaches one that does.
+    #[error("{0}: a rule of a delay pool or for fields names this acl, which asks a helper or reaches one that does")]
     SlowInFastList(Text),
     /// The acl of this name nests more than 32 deep.
     #[error("{0}: this acl nests more than 32 deep")]
     TooDeep(Text),
-    /// The pool at this place, from 0, has no class from 1 to 3, or not as many limits as its class has
-    /// buckets.
-    #[error("the pool at place {0}, from 0, has no class from 1 to 3, or not as many limits as that has buckets")]
+    /// Names are looked up, and the class `dst lookup` or the acl `dst literal` does not stand first, or an acl of type
+    /// `dst` does not stand with its look-up.
+    #[error("names are looked up, and an acl of type dst does not stand with its look-up")]
+    NoLookup,
+    /// The pool at this place, from 0, has none of the classes 1, 2, 3 and 5, or not as many limits as its class has.
+    #[error("the pool at place {0}, from 0, has none of the classes 1, 2, 3 and 5, or not as many limits as that has")]
     PoolIncomplete(u32),
     /// There was no memory.
     #[error("out of memory")]

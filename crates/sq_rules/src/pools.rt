@@ -25,7 +25,7 @@ impl Model for Limit {
 /// The limits of a pool's buckets, in the order of `delay_parameters`; None is no limit.
 pub type Limits = Listed<Option<Limit>>;
 
-/// A delay pool: its class from 1 to 3, a limit for each of that class's buckets, and the rules that
+/// A delay pool: its class, which is 1, 2, 3 or 5, a limit for each kind of that class's buckets, and the rules that
 /// say whom it delays.
 #[derive(Drop, Debug)]
 pub struct Pool {

@@ -442,12 +442,15 @@ fn config(alloc: Global, place: usize) -> Result<Arc<Config>, Fail> {
     pools.push(pool(alloc, pairs)?)?;
     let parts = Parts {
         source: Text::new(alloc),
+        dst_lookup: false,
         classes: Classes::new(alloc),
         acls: AclParts::new(alloc),
         rules: RuleParts::new(alloc),
         pools,
         initial: (*initial).min(100),
         port: 3128,
+        rewriter: None,
+        headers: Listed::new(alloc),
         notices: Listed::new(alloc),
     };
     if parts.pools.len() > 64 {

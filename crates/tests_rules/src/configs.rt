@@ -29,12 +29,15 @@ fn a_configuration_gives_its_parts_back(rt: HostRuntime) -> Result<(), Fail> {
     let pools = Listed::new(alloc);
     let config = Config::of_parts(
         source,
+        false,
         none,
         acls,
         rules,
         pools,
         50,
         8080,
+        None,
+        Listed::new(alloc),
         Listed::new(alloc),
     );
     assert!(rt; config.source().as_bytes().starts_with(b"acl web port"));

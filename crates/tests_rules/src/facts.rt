@@ -97,18 +97,22 @@ fn acls(alloc: Global) -> Result<AclParts, WantOfMemory> {
 }
 
 /// The configuration of these acls alone, where they are not too many.
+#[tactic(auto, using(sq_rules::proofs::LookupLaws::unmade_most))]
 fn setup(alloc: Global, acls: AclParts) -> Result<Setup, Fail> {
     if acls.len() > 4_096 {
         return Err(Fail::new("too many acls"));
     }
     let parts = Parts {
         source: Text::new(alloc),
+        dst_lookup: false,
         classes: Classes::new(alloc),
         acls,
         rules: RuleParts::new(alloc),
         pools: PoolParts::new(alloc),
         initial: 50,
         port: 3128,
+        rewriter: None,
+        headers: Listed::new(alloc),
         notices: Listed::new(alloc),
     };
     let config = Config::build(alloc, parts)?;

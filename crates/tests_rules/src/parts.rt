@@ -4,8 +4,8 @@ ghost use Rattle.sq_rules.specs.Building.{AreWithin};
 
 use sq_base::{Listed, Text, Texts};
 use sq_rules::{
-    AclPart, AclParts, BodyPart, BuildFault, Class, Classes, Config, Leaf, Limits, LineParts,
-    Parts, PoolPart, PoolParts, RulePart, RuleParts, TermPart, TermParts, Token,
+    AclPart, AclParts, BodyPart, BuildFault, Class, Classes, Config, HeaderPart, Leaf, Limits,
+    LineParts, Parts, PoolPart, PoolParts, RulePart, RuleParts, TermPart, TermParts, Token,
 };
 use std::alloc::Global;
 use std::test::Fail;
@@ -14,8 +14,9 @@ use std::test::Fail;
 /// one byte, and a term a name with `!` before it or not. A word for each part: `C` and a class; a
 /// list as `L` and its name, `E`, its name and a class, `G`, its name and terms, or `A`, its name and
 /// lines of terms that `/` divides; `R` and the terms of a rule that denies, `Y` and those of one that allows; `P`, the class and the count of limits of
-/// a pool, and the terms of its rule.
-static PARTS: [(&str, &str, &str); 27] = [
+/// a pool, and the terms of its rule; `H`, the name of a field and the terms of a rule for it; `D` where names of
+/// hosts are looked up.
+static PARTS: [(&str, &str, &str); 33] = [
     ("nothing is a configuration", "", ""),
     (
         "each kind of part",
@@ -46,6 +47,8 @@ static PARTS: [(&str, &str, &str); 27] = [
     ("a rule for requests asks a helper", "Cc Eac Ra P11", ""),
     ("a pool without a class", "P00", "PoolIncomplete 0"),
     ("a pool of class 4", "P44", "PoolIncomplete 0"),
+    ("a pool of class 5 has one limit", "P51", ""),
+    ("a pool of class 5 with two", "P52", "PoolIncomplete 0"),
     ("a limit too few", "P11 P32", "PoolIncomplete 1"),
     ("a limit too many", "P23", "PoolIncomplete 0"),
     ("a class before a list", "La La Cc Cc", "Duplicate c"),
@@ -59,6 +62,22 @@ static PARTS: [(&str, &str, &str); 27] = [
     ),
     ("the first term with a fault", "Ra!b!c", "UndefinedAcl a"),
     ("the first of two rules", "La Rab Rc", "UndefinedAcl b"),
+    (
+        "a rule for a field reaches a helper",
+        "Cc Eac Gga HVg",
+        "SlowInFastList g",
+    ),
+    (
+        "a pool before a rule for a field",
+        "HVa P99",
+        "PoolIncomplete 0",
+    ),
+    ("a list before its look-ups", "D Ggb", "UndefinedAcl b"),
+    (
+        "look-ups that are not there, before a rule",
+        "D Ra",
+        "NoLookup",
+    ),
 ];
 
 /// A text of one byte.
@@ -150,8 +169,14 @@ fn pool(alloc: Global, class: u8, count: u8, bytes: &[u8]) -> Result<PoolPart, F
 fn add(alloc: Global, parts: &mut Parts, bytes: &[u8]) -> Result<(), Fail> {
     match bytes {
         &[b'C', name] => parts.classes.push(class(alloc, name)?)?,
+        &[b'D'] => parts.dst_lookup = true,
         &[b'R', ref rest @ ..] => parts.rules.push(rule(alloc, false, rest)?)?,
         &[b'Y', ref rest @ ..] => parts.rules.push(rule(alloc, true, rest)?)?,
+        &[b'H', name, ref rest @ ..] => parts.headers.push(HeaderPart {
+            reply: false,
+            name: text(alloc, name)?,
+            rule: rule(alloc, false, rest)?,
+        })?,
         &[b'P', class, count, ref rest @ ..] => {
             let (class, count) = (class.saturating_sub(b'0'), count.saturating_sub(b'0'));
             parts.pools.push(pool(alloc, class, count, rest)?)?;
@@ -169,12 +194,15 @@ fn add(alloc: Global, parts: &mut Parts, bytes: &[u8]) -> Result<(), Fail> {
 fn no_parts(alloc: Global) -> Parts {
     Parts {
         source: Text::new(alloc),
+        dst_lookup: false,
         classes: Classes::new(alloc),
         acls: AclParts::new(alloc),
         rules: RuleParts::new(alloc),
         pools: PoolParts::new(alloc),
         initial: 50,
         port: 3128,
+        rewriter: None,
+        headers: Listed::new(alloc),
         notices: Listed::new(alloc),
     }
 }
@@ -197,6 +225,7 @@ fn digit(place: u32) -> &'static [u8] {
 }
 
 /// Whether parts are no more than there may be.
+#[tactic(auto, using(sq_rules::proofs::LookupLaws::unmade_most, sq_rules::proofs::LookupLaws::classes_least))]
 fn are_few(parts: &Parts) -> bool
     ensures { result ≡ true → AreWithin parts.now }
 {
@@ -205,6 +234,7 @@ fn are_few(parts: &Parts) -> bool
         && parts.acls.len() <= 4_096
         && parts.rules.len() <= 10_000
         && parts.pools.len() <= 64
+        && parts.headers.len() <= 10_000
         && parts.initial <= 100
 }
 
@@ -242,6 +272,7 @@ fn fault(alloc: Global, parts: Parts) -> Result<Text, Fail> {
         Err(BuildFault::UndefinedClass(name)) => named(alloc, "UndefinedClass", name.as_bytes()),
         Err(BuildFault::SlowInFastList(name)) => named(alloc, "SlowInFastList", name.as_bytes()),
         Err(BuildFault::TooDeep(name)) => named(alloc, "TooDeep", name.as_bytes()),
+        Err(BuildFault::NoLookup) => Ok(Text::from_slice(alloc, b"NoLookup")?),
         Err(BuildFault::PoolIncomplete(place)) => named(alloc, "PoolIncomplete", digit(place)),
         Err(BuildFault::WantOfMemory) => Err(Fail::new("out of memory")),
     }

@@ -48,6 +48,7 @@ fn list(alloc: Global, name: &[u8], patterns: &str) -> Result<AclPart, Fail> {
 }
 
 /// A configuration with these two lists of patterns.
+#[tactic(auto, using(sq_rules::proofs::LookupLaws::unmade_most))]
 fn setup(alloc: Global, first: &str, second: &str) -> Result<Result<Setup, SetupFault>, Fail> {
     let mut acls = AclParts::new(alloc);
     acls.push(list(alloc, b"first", first)?)?;
@@ -57,12 +58,15 @@ fn setup(alloc: Global, first: &str, second: &str) -> Result<Result<Setup, Setup
     }
     let parts = Parts {
         source: Text::new(alloc),
+        dst_lookup: false,
         classes: Classes::new(alloc),
         acls,
         rules: RuleParts::new(alloc),
         pools: PoolParts::new(alloc),
         initial: 50,
         port: 3128,
+        rewriter: None,
+        headers: Listed::new(alloc),
         notices: Listed::new(alloc),
     };
     let config = Config::build(alloc, parts)?;

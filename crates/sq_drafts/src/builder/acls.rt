@@ -1,10 +1,11 @@
 //! Acls: their lines, and what is asked of them.
-ghost use Rattle.std.specs.Prelude.{◌≡◌, ◌∷◌, ◌<◌, [], true, false, length, nat_lt, slice_index_or, Some, None, IfErr, IfSome, OnOk, OnErr};
+ghost use Rattle.std.specs.Prelude.{◌≡◌, ◌∷◌, ◌≤◌, ◌<◌, ◌&&◌, [], true, false, length, nat_lt, slice_index_or, Some, None, IfErr, IfSome, OnOk, OnErr};
 ghost use Rattle.sq_rules.specs.Building.{place_of};
 ghost use Rattle.sq_rules.specs.Changes.{type_at, with_member_at};
 ghost use Rattle.sq_rules.specs.Configurations.{are_shallow, slow_ones};
 ghost use Rattle.sq_rules.specs.Drafts.{are_fast, are_patterns, with_acl_more, with_body, with_leaf, with_line, with_member};
-ghost use Rattle.sq_rules.specs.Limits.{acl_limit};
+ghost use Rattle.sq_rules.specs.Limits.{acl_limit, most_acls};
+ghost use Rattle.sq_rules.specs.Lookups.{has_blank, is_dst, stated, takes_members};
 ghost use Rattle.sq_rules.specs.declared.configs.Body.TheVariants as body;
 
 use crate::builder::Builder;
@@ -24,16 +25,17 @@ impl Builder {
 
     /// How many acls there are.
     pub fn acl_count(&self) -> usize
-        ensures { result ≡ length self.now.acls }
+        ensures count { result ≡ length self.now.acls }
+        ensures few { result ≤ most_acls }
     {
         self.acls.len()
     }
 
     /// Whether one acl more may stand.
     pub fn has_room_for_acl(&self) -> bool
-        ensures { result ≡ nat_lt (length self.now.acls) acl_limit }
+        ensures { result ≡ nat_lt (stated self.now.acls) acl_limit }
     {
-        self.acls.len() < ACL_LIMIT
+        self.acls.stated() < ACL_LIMIT
     }
 
     /// The type of the acl at a place.
@@ -54,8 +56,10 @@ impl Builder {
     /// A new acl of values.
     pub fn push_leaf(&mut self, alloc: Global, name: Text, leaf: Leaf) -> Result<(), WantOfMemory>
         requires free { place_of self.old.acls name ≡ None }
-        requires room { nat_lt (length self.old.acls) acl_limit ≡ true }
+        requires room { nat_lt (stated self.old.acls) acl_limit ≡ true }
+        requires word { has_blank name ≡ false }
         requires patterns { are_patterns leaf ≡ true }
+        requires plain { (self.old.dst_lookup && is_dst (body.Leaf leaf)) ≡ false }
         ensures ok { OnOk result (self.new ≡ with_acl_more name (body.Leaf leaf) self.old) }
         ensures err { OnErr result (self.new ≡ self.old) }
     {
@@ -71,7 +75,8 @@ impl Builder {
         arguments: Texts,
     ) -> Result<(), WantOfMemory>
         requires free { place_of self.old.acls name ≡ None }
-        requires room { nat_lt (length self.old.acls) acl_limit ≡ true }
+        requires room { nat_lt (stated self.old.acls) acl_limit ≡ true }
+        requires word { has_blank name ≡ false }
         requires class { class < length self.old.classes }
         ensures ok { OnOk result (self.new ≡ with_acl_more name (body.External class arguments) self.old) }
         ensures err { OnErr result (self.new ≡ self.old) }
@@ -83,9 +88,11 @@ impl Builder {
     /// A new group that holds where some member does, with no member yet.
     pub fn push_any_of(&mut self, alloc: Global, name: Text) -> Result<(), WantOfMemory>
         requires free { place_of self.old.acls name ≡ None }
-        requires room { nat_lt (length self.old.acls) acl_limit ≡ true }
+        requires room { nat_lt (stated self.old.acls) acl_limit ≡ true }
+        requires word { has_blank name ≡ false }
         ensures ok { OnOk result (self.new ≡ with_acl_more name (body.AnyOf []) self.old) }
         ensures err { OnErr result (self.new ≡ self.old) }
+        ensures group { OnOk result (takes_members self.new.dst_lookup self.new.acls (length self.old.acls) ≡ true) }
     {
         self.acls.push(alloc, name, Body::AnyOf(Listed::new(alloc)))
     }
@@ -93,9 +100,11 @@ impl Builder {
     /// A new group that holds where all members of some line do, with no line yet.
     pub fn push_all_of(&mut self, alloc: Global, name: Text) -> Result<(), WantOfMemory>
         requires free { place_of self.old.acls name ≡ None }
-        requires room { nat_lt (length self.old.acls) acl_limit ≡ true }
+        requires room { nat_lt (stated self.old.acls) acl_limit ≡ true }
+        requires word { has_blank name ≡ false }
         ensures ok { OnOk result (self.new ≡ with_acl_more name (body.AllOf []) self.old) }
         ensures err { OnErr result (self.new ≡ self.old) }
+        ensures group { OnOk result (takes_members self.new.dst_lookup self.new.acls (length self.old.acls) ≡ true) }
     {
         self.acls.push(alloc, name, Body::AllOf(Listed::new(alloc)))
     }
@@ -112,30 +121,34 @@ impl Builder {
 
     /// Opens a further line of members of the acl at a place.
     pub fn open_line(&mut self, alloc: Global, place: u32) -> Result<(), WantOfMemory>
-        requires { place < length self.old.acls }
+        requires within { place < length self.old.acls }
+        requires group { takes_members self.old.dst_lookup self.old.acls place ≡ true }
         ensures ok { OnOk result (self.new ≡ with_body place with_line self.old) }
         ensures err { OnErr result (self.new ≡ self.old) }
         ensures count { length self.new.acls ≡ length self.old.acls }
+        ensures group { takes_members self.new.dst_lookup self.new.acls place ≡ true }
     {
         self.acls.open_line(alloc, place)
     }
 
-    /// Puts a member into the group at a place. A rule of a pool that would reach a slow acl is told
+    /// Puts a member into the group at a place. A rule of a pool or for fields that would reach a slow acl is told
     /// before groups that would nest too deep.
     pub fn add_member(&mut self, alloc: Global, place: u32, term: Term) -> Result<(), MemberFault>
         requires within { place < length self.old.acls }
         requires earlier { term.acl < place }
+        requires group { takes_members self.old.dst_lookup self.old.acls place ≡ true }
         ensures ok { OnOk result (self.new ≡ with_body place (with_member term) self.old) }
-        ensures fast { OnOk result (are_fast (with_member_at place term self.old.acls) self.old.pools ≡ true) }
+        ensures fast { OnOk result (are_fast (with_member_at place term self.old.acls) self.old.pools self.old.headers ≡ true) }
         ensures shallow { OnOk result (are_shallow (with_member_at place term self.old.acls) ≡ true) }
-        ensures slow { IfErr result (λ e. e ≡ MemberFault.Slow → are_fast (with_member_at place term self.old.acls) self.old.pools ≡ false) }
-        ensures not_slow { IfErr result (λ e. e ≡ MemberFault.Deep → are_fast (with_member_at place term self.old.acls) self.old.pools ≡ true) }
+        ensures slow { IfErr result (λ e. e ≡ MemberFault.Slow → are_fast (with_member_at place term self.old.acls) self.old.pools self.old.headers ≡ false) }
+        ensures not_slow { IfErr result (λ e. e ≡ MemberFault.Deep → are_fast (with_member_at place term self.old.acls) self.old.pools self.old.headers ≡ true) }
         ensures deep { IfErr result (λ e. e ≡ MemberFault.Deep → are_shallow (with_member_at place term self.old.acls) ≡ false) }
         ensures err { OnErr result (self.new ≡ self.old) }
         ensures count { length self.new.acls ≡ length self.old.acls }
+        ensures group { takes_members self.new.dst_lookup self.new.acls place ≡ true }
     {
         let slow = self.acls.slow_with(alloc, place, term)?;
-        if !stay_fast(&slow, self.pools.as_slice()) {
+        if !stay_fast(&slow, self.pools.as_slice(), self.headers.as_slice()) {
             return Err(MemberFault::Slow);
         }
         self.acls.add_member(alloc, place, term, slow)

@@ -1,7 +1,7 @@
 //! Classes of helpers.
 ghost use Rattle.std.specs.Prelude.{◌≡◌, ◌++◌, ◌∷◌, ◌<◌, [], true, length, nat_lt, None, IfSome, OnOk, OnErr};
 ghost use Rattle.sq_rules.specs.Building.{class_place};
-ghost use Rattle.sq_rules.specs.Limits.{class_limit};
+ghost use Rattle.sq_rules.specs.Lookups.{classes_within};
 
 use crate::builder::Builder;
 use sq_base::{Text, WantOfMemory};
@@ -19,15 +19,16 @@ impl Builder {
 
     /// Whether one class more may stand.
     pub fn has_room_for_class(&self) -> bool
-        ensures { result ≡ nat_lt (length self.now.classes) class_limit }
+        ensures { result ≡ nat_lt (length self.now.classes) (classes_within self.now.dst_lookup) }
     {
-        self.classes.len() < CLASS_LIMIT
+        let made = if self.dst_lookup { 1 } else { 0 };
+        self.classes.len() < CLASS_LIMIT + made
     }
 
     /// One class more.
     pub fn push_class(&mut self, alloc: Global, class: Class) -> Result<(), WantOfMemory>
         requires free { class_place self.old.classes class.name ≡ None }
-        requires room { nat_lt (length self.old.classes) class_limit ≡ true }
+        requires room { nat_lt (length self.old.classes) (classes_within self.old.dst_lookup) ≡ true }
         ensures ok { OnOk result (self.new ≡ record self.old { classes = self.old.classes ++ class ∷ [] }) }
         ensures err { OnErr result (self.new ≡ self.old) }
     {

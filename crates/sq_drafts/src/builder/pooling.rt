@@ -1,6 +1,7 @@
 //! Delay pools.
 ghost use Rattle.std.specs.Prelude.{◌≡◌, ◌≤◌, ◌++◌, ◌∷◌, ◌<◌, [], true, is_some, length, Some, None, IfOk, OnOk, OnErr};
-ghost use Rattle.sq_rules.specs.Configurations.{is_known_rule, slow_ones};
+ghost use Rattle.std.specs.Option.{option_map};
+ghost use Rattle.sq_rules.specs.Configurations.{is_known_rule, is_pool_class, pairs_of, slow_ones};
 ghost use Rattle.sq_rules.specs.Drafts.{is_fast, pool_at, with_pool, with_pools};
 ghost use Rattle.sq_rules.specs.Limits.{pool_limit};
 
@@ -58,17 +59,16 @@ impl Builder {
     pub fn set_class(&mut self, place: u8, class: u8)
         requires within { place < length self.old.pools }
         requires none { (pool_at self.old.pools place).class ≡ None }
-        requires from_1 { 1 ≤ class }
-        requires to_3 { class ≤ 3 }
+        requires one { is_pool_class class ≡ true }
         ensures { self.new ≡ with_pool place (λ p. record p { class = Some class }) self.old }
     {
         self.pools[place as usize].set_class(class);
     }
 
-    /// Sets the parameters of the pool at a place, from 0: as many as its class has buckets.
+    /// Sets the parameters of the pool at a place, from 0: as many as its class has.
     pub fn set_pairs(&mut self, place: u8, pairs: Limits)
         requires within { place < length self.old.pools }
-        requires class { (pool_at self.old.pools place).class ≡ Some (length pairs) }
+        requires class { option_map pairs_of (pool_at self.old.pools place).class ≡ Some (length pairs) }
         ensures { self.new ≡ with_pool place (λ p. record p { pairs = Some pairs }) self.old }
     {
         self.pools[place as usize].set_pairs(pairs);

@@ -1,5 +1,6 @@
-use Rattle.std.proofs.Common.{◌≡◌, ◌<◌, drop, length}
+use Rattle.std.proofs.Common.{◌≡◌, ◌<◌, true, drop, length}
 use Rattle.sq_rules.specs.AclLines.{member}
+use Rattle.sq_rules.specs.Lookups.{takes_members}
 use Rattle.sq_rules.specs.Steps.{over}
 use Rattle.sq_conf.proofs.groups.members.Given as goal
 
@@ -7,4 +8,4 @@ use Rattle.sq_conf.proofs.groups.members.Given as goal
 abbrev pub invariant-loop-word : goal.invariant-loop-word
 invariant-loop-word l =
     (over (member l.place) l.builder (drop l.word-index l.words) ≡ over (member l.place) l.fn.builder l.words)
-    × (l.place < length l.builder.acls)
+    × (l.place < length l.builder.acls) × (takes_members l.builder.dst_lookup l.builder.acls l.place ≡ true)

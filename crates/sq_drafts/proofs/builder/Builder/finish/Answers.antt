@@ -15,9 +15,13 @@ of_parts-requires c =
       shallow = c.into_acls.ensures.shallow;
       places = rw c.into_acls.ensures.acls c.self.invariant.places;
       pools_are = rw (c.into_acls.ensures.acls, c.in_ok-pools.ensures.ok) (pools_finished c.self.inside.acls c.self.inside.pools.items c.self.invariant.pools_are c.in_ok-pools.ensures.complete);
+      headers_are = rw c.into_acls.ensures.acls c.self.invariant.headers_are;
+      lookups_are = rw (c.into_classes.ensures.classes, c.into_acls.ensures.acls) c.self.invariant.lookups_are;
       few_classes = rw c.into_classes.ensures.classes c.self.invariant.few_classes;
       few_acls = rw c.into_acls.ensures.acls c.self.invariant.few_acls;
+      all_acls = rw c.into_acls.ensures.acls (omega (arith, c.self.invariant.all_acls, c.self.invariant.few_acls));
       few_rules = c.self.invariant.few_rules;
       few_pools = omega (arith, long, c.self.invariant.few_pools);
+      few_headers = c.self.invariant.few_headers;
       initial_is = c.self.invariant.initial_is;
     }

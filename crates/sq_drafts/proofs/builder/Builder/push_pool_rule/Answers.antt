@@ -28,5 +28,5 @@ returns-clause-ok c =
     let x = c.index_mut.result.now in
     let within : place < length pools = subst (λ (d : Drafts). place < length d.pools) (sym c.self.view_is) c.requires.within in
     let is : slice_get pools place ≡ Some x = slice_get_read pools _ place x refl within c.index_mut.ensures.value in
-    let d : Drafts = (record { classes = c.self.inside.classes; acls = c.self.inside.acls; rules = c.self.inside.rules; counted = c.self.inside.counted; pools = c.self.inside.pools.items; initial = c.self.inside.initial; port = c.self.inside.port; notices = c.self.inside.notices }) in
+    let d : Drafts = (record { dst_lookup = c.self.inside.dst_lookup; classes = c.self.inside.classes; acls = c.self.inside.acls; rules = c.self.inside.rules; counted = c.self.inside.counted; pools = c.self.inside.pools.items; initial = c.self.inside.initial; port = c.self.inside.port; program = c.self.inside.program; children = c.self.inside.children; headers = c.self.inside.headers; notices = c.self.inside.notices }) in
     rw (← c.self.view_is) (pool_changed_by c.push_rule.result d place x c.push_rule.new.self (λ p. record p { lists = p.lists ++ c.args.rule ∷ [] }) is c.push_rule.ensures.ok)

@@ -1,7 +1,7 @@
 use Rattle.std.proofs.Common.{◌≡◌, ◌==◌, ◌&&◌, ◌||◌, ◌≤◌, ◌<◌, ◌+◌, cond, suc, max, true, is_none, ℕ, List, Some, sym, arith, add-one, slice_get}
 use Rattle.sq_rules.specs.Configurations.{Configuration}
 use Rattle.sq_machine.specs.Limits.{last_number}
-use Rattle.sq_machine.specs.PoolReadings.{Sat, Spot, has_spot, is_aggregate, made_if, spots_in}
+use Rattle.sq_machine.specs.PoolReadings.{Sat, Spot, bucket_pairs, has_spot, is_aggregate, made_if, spots_in}
 use Rattle.sq_pools.specs.Generations.{filled_at, held_at, made_at, second_at}
 use Rattle.sq_pools.specs.Grants.{are_own, filled_if, opened_in}
 use Rattle.sq_pools.specs.Seats.{seat_at}
@@ -24,7 +24,7 @@ invariant_of-self-2 c =
     let epoch : ℕ = c.args.epoch in
     let spots : List Spot = c.in_ok-spots.spots in
     let sat : Sat = record { epoch = epoch; pool = c.args.pool; spots = spots } in
-    let own : are_own spots ≡ true = rw c.in_ok-spots.ensures (own_spots c.args.pool c.in-Some.taken.now.class c.args.addr.number 0 c.in-Some.taken.now.pairs) in
+    let own : are_own spots ≡ true = rw c.in_ok-spots.ensures (own_spots c.args.pool c.in-Some.taken.now.class c.args.addr.number 0 (bucket_pairs c.in-Some.taken.now)) in
     let place : n + 1 ≡ suc n = add-one n in
     let rest : (i : ℕ) → seat_at c.seat_one.new.seats i ≡ cond (i == suc n) (Some sat) (seat_at p.seats i) = rw place at c.in_ok-seat_one.ensures.seats in
     let made : (e : ℕ) → made_at c.seat_one.new.generations e ≡ made_if (e == epoch) u (made_at p.generations e) = c.in_ok-seat_one.ensures.made in
@@ -49,7 +49,7 @@ returns-clause-chosen c =
     let epoch : ℕ = c.args.epoch in
     let spots : List Spot = c.in_ok-spots.spots in
     let sat : Sat = record { epoch = epoch; pool = c.args.pool; spots = spots } in
-    let own : are_own spots ≡ true = rw c.in_ok-spots.ensures (own_spots c.args.pool c.in-Some.taken.now.class c.args.addr.number 0 c.in-Some.taken.now.pairs) in
+    let own : are_own spots ≡ true = rw c.in_ok-spots.ensures (own_spots c.args.pool c.in-Some.taken.now.class c.args.addr.number 0 (bucket_pairs c.in-Some.taken.now)) in
     let place : n + 1 ≡ suc n = add-one n in
     let rest : (i : ℕ) → seat_at c.seat_one.new.seats i ≡ cond (i == suc n) (Some sat) (seat_at p.seats i) = rw place at c.in_ok-seat_one.ensures.seats in
     let made : (e : ℕ) → made_at c.seat_one.new.generations e ≡ made_if (e == epoch) u (made_at p.generations e) = c.in_ok-seat_one.ensures.made in

@@ -1,11 +1,20 @@
-use Rattle.std.proofs.Common.{◌≡◌, ◌++◌, ◌∷◌, [], None, Some, arith}
+use Rattle.std.proofs.Common.{◌≡◌, ◌<◌, ◌≤◌, ◌+◌, ◌++◌, length, suc, ◌∷◌, [], None, Some, refl, arith}
 use Rattle.std.proofs.lemmas.Grind.{common_steps}
 use Rattle.sq_rules.proofs.AclLaws.{depths_push, shallow_push, slow_push}
+use Rattle.sq_rules.proofs.LookupLaws.{stated_most, stated_push}
 use Rattle.sq_rules.proofs.NameLaws.{known_push, own_push}
 use Rattle.sq_rules.specs.Configurations.{nesting_of, place_from}
+use Rattle.sq_rules.specs.Limits.{most_acls}
 use Rattle.sq_rules.specs.Tables.{allowed}
 use Rattle.sq_rules.specs.declared.configs.Acl.{Acl}
 use Rattle.sq_rules.proofs.acl_table.AclTable.push.Goals as goal
+
+pub overflow_add-stated : goal.overflow_add-stated
+overflow_add-stated c =
+    let old = c.self.inside.acls.items in
+    let most : c.self.inside.stated + c.counted.result ≤ suc (length old) = stated_most old c.args.name c.self.inside.stated c.counted.result c.self.invariant.count_is (grind (arith, common_steps, c.counted.ensures)) in
+    let few : length old < most_acls = rw c.self.view_is c.requires.few in
+    omega (arith, most, few)
 
 pub invariant_of-self-2 : goal.invariant_of-self-2
 invariant_of-self-2 c =
@@ -19,6 +28,7 @@ invariant_of-self-2 c =
       places_are = known_push (λ a. a.name) c.self.inside.places c.put.new.self old new acl c.in_ok-key.key c.len-place.result c.self.invariant.places_are c.in_ok-put.ensures.ok free (grind (arith, common_steps)) (grind (arith, common_steps)) more;
       depths_are = depths_push c.self.inside.nestings.items c.push_reserved.new.self.items old new acl c.in-Some.nesting c.self.invariant.depths_are (grind (arith, common_steps, c.push_reserved.ensures.items, c.reserve-2.ensures.items)) deep more;
       slow_are = slow_push c.self.inside.slow.items c.push_reserved-2.new.self.items old new acl c.is_slow-asks.result c.self.invariant.slow_are (grind (arith, common_steps, c.push_reserved-2.ensures.items, c.reserve-3.ensures.items)) (grind (arith, common_steps, c.is_slow-asks.ensures)) more;
+      count_is = stated_push old new acl c.self.inside.stated c.counted.result (c.self.inside.stated + c.counted.result) c.self.invariant.count_is (grind (arith, common_steps, c.counted.ensures)) refl more;
       unique = own_push (λ a. a.name) old new acl c.self.invariant.unique free more;
       shallow = shallow_push c.self.inside.nestings.items old new acl c.in-Some.nesting c.self.invariant.shallow c.self.invariant.depths_are deep more;
     }

@@ -1,7 +1,7 @@
 use Rattle.std.proofs.Common.{◌≡◌, [], drop}
 use Rattle.sq_rules.specs.PoolLines.{pair_step}
 use Rattle.sq_rules.specs.Steps.{over}
-use Rattle.sq_conf.proofs.pool_lines.pairs_of.Given as goal
+use Rattle.sq_conf.proofs.pool_lines.read_pairs.Given as goal
 
 -- the pairs so far, and those of the words that are left
 abbrev pub invariant-loop-word : goal.invariant-loop-word

@@ -5,7 +5,7 @@ use Rattle.sq_rules.specs.Configurations.{have_own_names}
 use Rattle.sq_rules.specs.Drafts.{leaf_of, predefined_ones}
 use Rattle.sq_rules.specs.declared.configs.Acl.{Acl}
 use Rattle.sq_rules.specs.declared.parts.AclPart.{AclPart}
-use Rattle.sq_drafts.proofs.builder.first_acls.Goals as goal
+use Rattle.sq_drafts.proofs.builder.plain_acls.Goals as goal
 
 abbrev acl_of : AclPart → Acl
 acl_of a = record { name = a.name; body = leaf_of a.body }

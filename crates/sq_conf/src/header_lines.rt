@@ -1,0 +1,54 @@
+//! Lines `request_header_access` and `reply_header_access`.
+ghost use Rattle.std.specs.Prelude.{◌≡◌};
+ghost use Rattle.sq_conf.specs.Forms.{Gives, Makes};
+ghost use Rattle.sq_rules.specs.HeaderLines.{header_line, header_name, is_field_name};
+
+use crate::faults::ReadFault;
+use crate::leaf_values::is_token;
+use crate::pool_lines::fast_terms;
+use crate::terms::action;
+use crate::words::Words;
+use sq_base::Text;
+use sq_drafts::Builder;
+use sq_rules::{HeaderRule, Kind, Rule, lowered};
+use std::alloc::Global;
+
+// A token that is not `Other`.
+fn is_field_name(word: &[u8]) -> bool
+    ensures { result ≡ is_field_name word.now }
+{
+    is_token(word) && !word.eq_ignore_ascii_case(b"other")
+}
+
+// The name of a field, in lower case.
+#[tactic(auto, unfolding(sq_rules::specs::HeaderLines::header_name))]
+fn header_name(alloc: Global, word: &[u8]) -> Result<Text, ReadFault>
+    ensures { Gives (λ t. t) result (header_name word.now) }
+{
+    if !is_field_name(word) {
+        return Err(ReadFault::Fault(Kind::BadValue));
+    }
+    Ok(lowered(alloc, word)?)
+}
+
+/// `request_header_access NAME allow|deny TERM ...`, and the same for replies.
+#[tactic(auto, unfolding(sq_rules::specs::HeaderLines::header_line))]
+pub fn header_line(
+    alloc: Global,
+    builder: &mut Builder,
+    reply: bool,
+    words: &[Text],
+) -> Result<(), ReadFault>
+    ensures { Makes result builder.new (header_line reply builder.old words.now) }
+{
+    let mut words = Words::new(words);
+    let name = header_name(alloc, words.next()?.as_bytes())?;
+    let allow = action(words.next()?.as_bytes())?;
+    if !builder.has_room_for_header() {
+        return Err(ReadFault::Fault(Kind::TooMany));
+    }
+    let terms = fast_terms(alloc, builder, words.rest())?;
+    let rule = Rule { allow, terms };
+    builder.push_header(HeaderRule { reply, name, rule })?;
+    Ok(())
+}

@@ -1,0 +1,69 @@
+//! Acls of type `dst` where the names of hosts are looked up.
+ghost use Rattle.std.specs.Prelude.{◌≡◌, true, false, length, nat_lt, None, IfOk, OnOk};
+ghost use Rattle.sq_rules.specs.AclLines.{are_free};
+ghost use Rattle.sq_rules.specs.Building.{place_of};
+ghost use Rattle.sq_rules.specs.Drafts.{with_lookup};
+ghost use Rattle.sq_rules.specs.Limits.{acl_limit};
+ghost use Rattle.sq_rules.specs.Lookups.{has_blank, stated};
+
+use crate::builder::Builder;
+use sq_base::{Ranges, Text, WantOfMemory};
+use sq_rules::{literal_name, lookup_name, named_name};
+use std::alloc::Global;
+use std::mem;
+
+impl Builder {
+    /// Whether names are looked up.
+    pub fn looks_up(&self) -> bool
+        ensures { result ≡ self.now.dst_lookup }
+    {
+        self.dst_lookup
+    }
+
+    /// Whether the names of what is made for an acl of type `dst` are free.
+    pub fn is_free(&self, alloc: Global, name: &Text) -> Result<bool, WantOfMemory>
+        ensures { IfOk result (λ b. b ≡ are_free self.now.acls name.now) }
+    {
+        let literal = literal_name(alloc, name)?;
+        let lookup = lookup_name(alloc, name)?;
+        let named = named_name(alloc, name)?;
+        let acls = &self.acls;
+        Ok(
+            acls.place(&literal).is_none()
+                && acls.place(&lookup).is_none()
+                && acls.place(&named).is_none(),
+        )
+    }
+
+    // The builder with the four acls of one of type dst.
+    fn with_lookup(self, alloc: Global, name: Text, values: Ranges) -> Result<Builder, WantOfMemory>
+        requires on { self.dst_lookup ≡ true }
+        requires free { place_of self.acls name ≡ None }
+        requires made { are_free self.acls name ≡ true }
+        requires room { nat_lt (stated self.acls) acl_limit ≡ true }
+        requires word { has_blank name ≡ false }
+        ensures { IfOk result (λ b. b ≡ with_lookup name values self) }
+    {
+        let acls = self.acls.with_lookup(alloc, name, values)?;
+        Ok(Builder { acls, ..self })
+    }
+
+    /// A new acl of type `dst`, which is four, whose names are free. Where memory ran out, nothing is stated any more.
+    pub fn push_lookup(
+        &mut self,
+        alloc: Global,
+        name: Text,
+        values: Ranges,
+    ) -> Result<(), WantOfMemory>
+        requires on { self.old.dst_lookup ≡ true }
+        requires free { place_of self.old.acls name ≡ None }
+        requires made { are_free self.old.acls name ≡ true }
+        requires room { nat_lt (stated self.old.acls) acl_limit ≡ true }
+        requires word { has_blank name ≡ false }
+        ensures { OnOk result (self.new ≡ with_lookup name values self.old) }
+    {
+        let before = mem::replace(self, Builder::nothing(alloc));
+        *self = before.with_lookup(alloc, name, values)?;
+        Ok(())
+    }
+}
