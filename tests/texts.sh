@@ -1,6 +1,7 @@
 #!/bin/sh
-# What can be seen of the texts without a proof, in seconds: layout and spelling of the crates' files, that each edit can be applied,
-# layout of the other files, that scripts can be read, and that links lead to something. The status is 0 where all is well.
+# What can be seen of the texts without a proof, in seconds: layout and spelling of the crates' files, that a type's
+# name is declared once, that each edit can be applied, layout of the other files, that scripts can be read, and that
+# links lead to something. The status is 0 where all is well.
 # `tests/texts.sh`; it takes along rt, shellcheck, perl and python3 where they are there.
 cd "$(dirname "$0")/.." || exit 1
 LC_ALL=C
@@ -41,6 +42,15 @@ none 'names that are spelled otherwise' "$(in_those '^crates/.*/src/.*\.rt$' awk
         if (name !~ form) print FILENAME ":" FNR ": " kind " " name
     }'
     those '/must-fail/' | grep -vE '/must-fail/[a-z0-9_]+\.edit$')"
+# A type's name is declared once in the library crates. Two words stay twice, each that of a public call's own argument or
+# answer: `Lines` (of a configuration's text, of an acl) and `Parts` (of a net, of a configuration).
+none 'type names that are declared twice in library crates' "$(in_those '^crates/sq_[^/]*/src/.*\.rt$' awk '
+    match($0, /^(pub(\([a-z]+\))? )?(struct|enum|trait|union|type) [A-Za-z][A-Za-z0-9]*/) {
+        count = split(substr($0, RSTART, RLENGTH), words, " ")
+        name = words[count]
+        if (name in home && name != "Lines" && name != "Parts") print FILENAME ":" FNR ": " name ", as in " home[name]
+        home[name] = FILENAME
+    }')"
 # An edit replaces a line that stands once in its file; further ones apply to what the earlier ones made.
 none 'edits that cannot be applied' "$(in_those '/must-fail/.*\.edit$' awk '
     function read_all(path,    text, line) {

@@ -21,7 +21,8 @@ whole_some (Some (y, [])) x e = ap (λ t. Some (t, [])) (same_Some y x e)
 whole_some (Some (y, b ∷ bs)) x e = let more = cond_some _ _ _ e in absurd (omega (arith, eqb-true _ _ more.0))
 
 -- what is read as IPv4 is spelled so
-pub v4_spelled : (text : List ℕ) (n : ℕ) → v4_of text ≡ Some n → (octets : List ℕ) × IsDotted text octets × (number_on 256 0 octets ≡ n)
+pub v4_spelled : (text : List ℕ) (n : ℕ) → v4_of text ≡ Some n
+    → (octets : List ℕ) × IsDotted text octets × (number_on 256 0 octets ≡ n)
 unfolding v4_of
 v4_spelled text n e =
     map_some (number_on 256 0) (whole_value (read_ipv4 text)) n e λ octets read value.
@@ -29,7 +30,8 @@ v4_spelled text n e =
     (octets, subst (λ t. IsDotted t octets) (sym (split ∙ append_none front)) dotted, value)
 
 -- what is read as IPv6 is spelled so
-pub v6_spelled : (text : List ℕ) (n : ℕ) → v6_of text ≡ Some n → (groups : List ℕ) × IsColonHex text groups × (number_on 65536 0 groups ≡ n)
+pub v6_spelled : (text : List ℕ) (n : ℕ) → v6_of text ≡ Some n
+    → (groups : List ℕ) × IsColonHex text groups × (number_on 65536 0 groups ≡ n)
 unfolding v6_of
 v6_spelled text n e =
     map_some (number_on 65536 0) (whole_value (read_ipv6 text)) n e λ groups read value.
@@ -52,7 +54,8 @@ v6_read text groups h =
 
 not_v4_at : (text groups : List ℕ) (o : Option ℕ) → IsColonHex text groups → v4_of text ≡ o → o ≡ None
 not_v4_at text groups None h e = refl
-not_v4_at text groups (Some n) h e = let s = v4_spelled text n e in absurd (IsDotted-not_colon_hex text s.0 groups s.1 h)
+not_v4_at text groups (Some n) h e = let s = v4_spelled text n e in
+    absurd (IsDotted-not_colon_hex text s.0 groups s.1 h)
 
 -- no text spells addresses of both kinds
 pub not_v4 : (text groups : List ℕ) → IsColonHex text groups → v4_of text ≡ None
@@ -64,7 +67,8 @@ unfolding address_of
 spelled_is_read text a (inl s) = rw (v4_read text s.0 s.1, s.2) refl
 spelled_is_read text a (inr s) = rw (not_v4 text s.0 s.1, v6_read text s.0 s.1, s.2) refl
 
-either_spelled : (text : List ℕ) (a : Address) (p q : Option ℕ) → v4_of text ≡ p → v6_of text ≡ q → either_of p q ≡ Some a → Spells text a
+either_spelled : (text : List ℕ) (a : Address) (p q : Option ℕ) → v4_of text ≡ p → v6_of text ≡ q
+    → either_of p q ≡ Some a → Spells text a
 either_spelled text a (Some n) q d g e =
     let s = v4_spelled text n d in inl (s.0, s.1, sym (same_Some _ a e) ∙ ap v4 (sym s.2))
 either_spelled text a None (Some n) d g e =
@@ -123,12 +127,21 @@ groups_fit n h (suc (suc (suc (suc (suc (suc zero)))))) = omega arith
 groups_fit n h (suc (suc (suc (suc (suc (suc (suc zero))))))) = omega arith
 groups_fit n h (suc (suc (suc (suc (suc (suc (suc (suc k)))))))) = omega arith
 
-kind_spells : (kind : Bool) (n : ℕ) → IsAddress (record { v6 = kind; number = n }) → Spells (address_text (record { v6 = kind; number = n })) (record { v6 = kind; number = n })
+kind_spells : (kind : Bool) (n : ℕ) → IsAddress (record { v6 = kind; number = n })
+    → Spells (address_text (record { v6 = kind; number = n })) (record { v6 = kind; number = n })
 unfolding v4_text v6_text
 kind_spells false n h =
-    inl (four_octets n, IsDotted-ipv4_text (four_octets n) refl (octets_fit n (ltb-true n (2 ^ 32) (h.0 refl))), ap v4 (sym (octets_number n)))
+    inl (
+      four_octets n,
+      IsDotted-ipv4_text (four_octets n) refl (octets_fit n (ltb-true n (2 ^ 32) (h.0 refl))),
+      ap v4 (sym (octets_number n)),
+    )
 kind_spells true n h =
-    inr (eight_groups n, IsColonHex-hex_groups_text (eight_groups n) refl (groups_fit n (ltb-true n (2 ^ 128) h.1)), ap v6 (sym (groups_number n)))
+    inr (
+      eight_groups n,
+      IsColonHex-hex_groups_text (eight_groups n) refl (groups_fit n (ltb-true n (2 ^ 128) h.1)),
+      ap v6 (sym (groups_number n)),
+    )
 
 -- the text of an address spells it
 pub text_spells : (a : Address) → IsAddress a → Spells (address_text a) a

@@ -10,12 +10,14 @@ and_then_so true b c h k = k h
 and_then_so false b c h k = h
 
 -- what a value behind a test says: the test held
-pub if_some : {A : Type 0} (t : Bool) (x : Option A) (w : A) → (if t then x else None) ≡ Some w → (t ≡ true) × (x ≡ Some w)
+pub if_some : {A : Type 0} (t : Bool) (x : Option A) (w : A) → (if t then x else None) ≡ Some w
+    → (t ≡ true) × (x ≡ Some w)
 if_some true x w e = (refl, e)
 if_some false x w e = absurd (cc)
 
 -- the same of two tests
-pub if_both_some : {A : Type 0} (a b : Bool) (x w : A) → (if a && b then Some x else None) ≡ Some w → (a ≡ true) × (b ≡ true) × (x ≡ w)
+pub if_both_some : {A : Type 0} (a b : Bool) (x w : A) → (if a && b then Some x else None) ≡ Some w
+    → (a ≡ true) × (b ≡ true) × (x ≡ w)
 if_both_some true true x w e = (refl, refl, cc)
 if_both_some true false x w e = absurd (cc)
 if_both_some false b x w e = absurd (cc)
@@ -26,17 +28,20 @@ left_out true b x e = rw e refl
 left_out false b x e = refl
 
 -- which of two values a test chose
-pub chosen : {A : Type 0} (t : Bool) (x y z : A) → (if t then x else y) ≡ z → ((t ≡ true) × (x ≡ z)) ⊎ ((t ≡ false) × (y ≡ z))
+pub chosen : {A : Type 0} (t : Bool) (x y z : A) → (if t then x else y) ≡ z
+    → ((t ≡ true) × (x ≡ z)) ⊎ ((t ≡ false) × (y ≡ z))
 chosen true x y z e = inl (refl, e)
 chosen false x y z e = inr (refl, e)
 
 -- what a mapped value was mapped from
-pub map_some : {A B : Type 0} (f : A → B) (o : Option A) (w : B) → option_map f o ≡ Some w → (x : A) × (o ≡ Some x) × (w ≡ f x)
+pub map_some : {A B : Type 0} (f : A → B) (o : Option A) (w : B) → option_map f o ≡ Some w
+    → (x : A) × (o ≡ Some x) × (w ≡ f x)
 map_some f None w e = absurd (cc)
 map_some f (Some x) w e = (x, refl, cc)
 
 -- what the second of two steps began with
-pub then_some : {A B : Type 0} (f : A → Option B) (o : Option A) (w : B) → option_and_then f o ≡ Some w → (x : A) × (o ≡ Some x) × (f x ≡ Some w)
+pub then_some : {A B : Type 0} (f : A → Option B) (o : Option A) (w : B) → option_and_then f o ≡ Some w
+    → (x : A) × (o ≡ Some x) × (f x ≡ Some w)
 then_some f None w e = absurd (cc)
 then_some f (Some x) w e = (x, refl, e)
 

@@ -37,7 +37,8 @@ power_below k bits h = elim (cases_lt bits k) [ inl over ↦ absurd (omega (arit
 
 sized : (v6 : Bool) (n mask : Option ℕ) (size : ℕ) → size_by v6 n mask ≡ Some size → Divides size (2 ^ bits_of v6)
 sized v6 (Some n) mask size e =
-    subst (λ s. Divides s (2 ^ bits_of v6)) (same_Some _ size e) (power_divides (bits_of v6 - n) (bits_of v6) (omega arith))
+    subst (λ s. Divides s (2 ^ bits_of v6)) (same_Some _ size e)
+    (power_divides (bits_of v6 - n) (bits_of v6) (omega arith))
 sized false None (Some mask) size e =
     let parts = cond_some _ _ _ e in
     let power = power_of_two (2 ^ 32 - mask) parts.0 in
@@ -47,11 +48,13 @@ sized false None None size e = absurd (none-some size e)
 sized true None mask size e = absurd (none-some size e)
 
 -- the size of a block divides the addresses of its kind
-pub block_size_divides : (v6 : Bool) (word : List ℕ) (size : ℕ) → block_size v6 word ≡ Some size → Divides size (2 ^ bits_of v6)
+pub block_size_divides : (v6 : Bool) (word : List ℕ) (size : ℕ) → block_size v6 word ≡ Some size
+    → Divides size (2 ^ bits_of v6)
 unfolding block_size
 block_size_divides v6 word size e = sized v6 (number_of (bits_of v6 + 1) word) (v4_of word) size e
 
-last_fits : (n start rest size total : ℕ) → start + rest ≡ n → rest < size → start + size ≤ total → n - rest + (size - 1) < total
+last_fits : (n start rest size total : ℕ) → start + rest ≡ n → rest < size → start + size ≤ total
+    → n - rest + (size - 1) < total
 last_fits n start rest size total e h fits = omega arith
 
 -- a block ends within the addresses that its size divides
@@ -62,9 +65,11 @@ block_within n (suc s) total d h =
     let below : n < d.0 * size = omega (arith, d.1, mul_comm size d.0) in
     let place = (div-lt_iff_lt-mul {k = size} {x = n} {y = d.0} (omega arith)).1 below in
     let room = mul-le size (n / size + 1) size d.0 (omega arith) (omega arith) in
-    last_fits n (size * (n / size)) (n % size) size total (div-add-mod n size) (omega arith) (omega (arith, room, d.1, mul-add size (n / size) 1, mul-one size))
+    last_fits n (size * (n / size)) (n % size) size total (div-add-mod n size) (omega arith)
+    (omega (arith, room, d.1, mul-add size (n / size) 1, mul-one size))
 
-in_kind : (v6 : Bool) (n size : ℕ) → IsAddress (record { v6 = v6; number = n }) → Divides size (2 ^ bits_of v6) → IsAddress (record { v6 = v6; number = n - n % size + (size - 1) })
+in_kind : (v6 : Bool) (n size : ℕ) → IsAddress (record { v6 = v6; number = n }) → Divides size (2 ^ bits_of v6)
+    → IsAddress (record { v6 = v6; number = n - n % size + (size - 1) })
 in_kind false n size h d =
     let fits = block_within n size (2 ^ 32) d (ltb-true n (2 ^ 32) (h.0 refl)) in
     (λ e. lt-ltb _ _ fits, lt-ltb _ _ (omega arith))
@@ -73,11 +78,13 @@ in_kind true n size h d =
     (λ e. absurd (cc), lt-ltb _ _ fits)
 
 -- the ends of a block are addresses
-pub block_ends_well : (a : Address) (size : ℕ) → IsAddress a → Divides size (2 ^ bits_of a.v6) → IsAddress (block size a).last
+pub block_ends_well : (a : Address) (size : ℕ) → IsAddress a → Divides size (2 ^ bits_of a.v6)
+    → IsAddress (block size a).last
 block_ends_well a size h d = in_kind a.v6 a.number size h d
 
 -- the same by the first address and the open bits
-pub block_end_address : (a : Address) (low first : ℕ) → IsAddress a → Divides (low + 1) (2 ^ bits_of a.v6) → first ≡ a.number - a.number % (low + 1)
+pub block_end_address : (a : Address) (low first : ℕ) → IsAddress a → Divides (low + 1) (2 ^ bits_of a.v6)
+    → first ≡ a.number - a.number % (low + 1)
     → IsAddress (record a { number = first + low })
 block_end_address a low first h d e =
     let same : a.number - a.number % (low + 1) + (low + 1 - 1) ≡ first + low = omega arith in

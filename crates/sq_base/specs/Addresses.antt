@@ -1,6 +1,6 @@
 -- IP addresses and their texts: RFC 4291 section 2.2 for IPv6, RFC 5952 section 4 for its printing,
--- and four decimal parts for IPv4. `IsDotted` and `IsColonHex` are the standard library's grammar of
--- both, `read_ipv4` and `read_ipv6` its readers.
+-- and four decimal parts for IPv4. `IsDotted` and `IsColonHex` are the standard library's grammar
+-- of both, `read_ipv4` and `read_ipv6` its readers.
 use Rattle.std.specs.Prelude.{◌≡◌, ℕ, ◌+◌, ◌*◌, ◌/◌, ◌%◌, ◌^◌, ◌⊎◌, List, [], ◌∷◌, Bool, true, false, not, if◌then◌else◌, ◌&&◌, ◌||◌, ◌==◌, nat_lt, nat_le, Some, None}
 use Rattle.std.specs.Option.{option_map}
 use Rattle.std.specs.declared.option.Option.{Option}
@@ -27,7 +27,8 @@ IsAddress a = (a.v6 ≡ false → nat_lt a.number (2 ^ 32) ≡ true) × (nat_lt 
 
 -- the one stands no later than the other: IPv4 before IPv6, and each kind by its number
 abbrev pub is_at_most : Address → Address → Bool
-is_at_most a b = (not a.v6 && b.v6) || (not (a.v6 || b.v6) && nat_le a.number b.number) || ((a.v6 && b.v6) && nat_le a.number b.number)
+is_at_most a b = (not a.v6 && b.v6) || (not (a.v6 || b.v6) && nat_le a.number b.number)
+    || ((a.v6 && b.v6) && nat_le a.number b.number)
 
 abbrev pub is_colon : ℕ → Bool
 is_colon b = b == colon
@@ -45,8 +46,8 @@ abbrev pub of_groups : List ℕ → Address
 of_groups groups = v6 (number_on 65536 0 groups)
 
 -- The text spells the address. IPv4: four decimal numbers below 256 without leading zeros, and dots
--- between them. IPv6: eight groups of one to four hexadecimal digits with colons between them, where
--- the last two may be written as IPv4, and one `::` may stand for one zero group or more.
+-- between them. IPv6: eight groups of one to four hexadecimal digits with colons between them,
+-- where the last two may be written as IPv4, and one `::` may stand for one zero group or more.
 abbrev pub Spells : List ℕ → Address → Type 0
 Spells text a =
     ((octets : List ℕ) × IsDotted text octets × (a ≡ of_octets octets))

@@ -11,7 +11,8 @@ read_on n (c ∷ cs) = read_on (n * 10 + (c - digit_zero)) cs
 -- the number below the limit whose decimal text the word is
 unfoldable pub number_of : ℕ → List ℕ → Option ℕ
 number_of limit word =
-    if nat_lt (read_on 0 word) limit && bytes_eq (decimal (read_on 0 word)) word then Some (read_on 0 word) else None
+    if nat_lt (read_on 0 word) limit
+    && bytes_eq (decimal (read_on 0 word)) word then Some (read_on 0 word) else None
 
 -- numbers of connections, checks and the like, and moments, are below this
 abbrev pub number_limit : ℕ

@@ -5,7 +5,8 @@ use Rattle.sq_base.specs.declared.helpers.Answer.{Answer}
 -- an answer of this class and key is among these
 abbrev pub has_answer : List Answer → ℕ → List ℕ → Bool
 has_answer [] class key = false
-has_answer (a ∷ answers) class key = (a.class == class && bytes_eq a.key key) || has_answer answers class key
+has_answer (a ∷ answers) class key = (a.class == class && bytes_eq a.key key)
+    || has_answer answers class key
 
 -- no two answers have one class and key
 abbrev pub are_distinct : List Answer → Bool

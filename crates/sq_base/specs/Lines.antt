@@ -108,7 +108,8 @@ lexed_to lines fault = record { lines = lines; fault = fault }
 -- a line without words is skipped
 abbrev pub line_before : ℕ → List (List ℕ) → Lexed → Lexed
 line_before n [] later = later
-line_before n (word ∷ words) later = lexed_to ((record { number = n; words = word ∷ words }) ∷ later.lines) later.fault
+line_before n (word ∷ words) later = lexed_to
+    ((record { number = n; words = word ∷ words }) ∷ later.lines) later.fault
 
 abbrev pub lexed_before : Joined → Option LineFault → Lexed → Lexed
 lexed_before j (Some fault) later = lexed_to [] (Some fault)

@@ -4,7 +4,8 @@ use Rattle.std.specs.List.{list_any}
 use Rattle.std.specs.Map.{lookup}
 use Rattle.std.specs.declared.option.Option.{Option}
 
--- what stands beside the word in a table, where the word is a name of it; of several, the first counts
+-- what stands beside the word in a table, where the word is a name of it; of several, the first
+-- counts
 abbrev pub beside : {A : Type 0} → List (List ℕ × A) → List ℕ → Option A
 beside table word = lookup (λ name. bytes_eq word name) table
 

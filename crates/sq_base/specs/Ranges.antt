@@ -1,5 +1,5 @@
--- Ranges of addresses, as the acl types src and dst of Squid's configuration reference have them: one
--- address, a block `ADDR/N` or `ADDR/MASK`, a span `ADDR-ADDR`, and `all`.
+-- Ranges of addresses, as the acl types src and dst of Squid's configuration reference have them:
+-- one address, a block `ADDR/N` or `ADDR/MASK`, a span `ADDR-ADDR`, and `all`.
 use Rattle.std.specs.Prelude.{◌≡◌, ℕ, ◌+◌, ◌-◌, ◌*◌, ◌%◌, ◌^◌, List, Bool, false, not, if◌then◌else◌, ◌&&◌, ◌==◌, nat_le, Some, None, take, drop, codes, bytes_eq}
 use Rattle.std.specs.Int.{is_power_of_two}
 use Rattle.std.specs.List.{position}
@@ -24,7 +24,10 @@ single a = record { first = a; last = a }
 -- the block of so many addresses in which the address stands: its low bits cleared, and set
 abbrev pub block : ℕ → Address → Range
 block size a =
-    record { first = record a { number = a.number - a.number % size }; last = record a { number = a.number - a.number % size + (size - 1) } }
+    record {
+      first = record a { number = a.number - a.number % size };
+      last = record a { number = a.number - a.number % size + (size - 1) };
+    }
 
 -- how many bits an address has
 abbrev pub bits_of : Bool → ℕ
@@ -34,7 +37,8 @@ bits_of v6 = if v6 then 128 else 32
 -- to stand before its zeros
 abbrev pub size_by : Bool → Option ℕ → Option ℕ → Option ℕ
 size_by v6 (Some n) mask = Some (2 ^ (bits_of v6 - n))
-size_by false None (Some mask) = if is_power_of_two (2 ^ 32 - mask) then Some (2 ^ 32 - mask) else None
+size_by false None (Some mask) = if is_power_of_two (2 ^ 32 - mask) then Some (2 ^ 32 - mask)
+    else None
 size_by v6 None mask = None
 
 -- how many addresses a block has by what stands behind `/`; only IPv4 has masks
@@ -51,7 +55,8 @@ one_kind a b = if a.v6 then b.v6 else not b.v6
 
 -- a span is of one kind and does not fall
 abbrev pub span_of : Option Address → Option Address → Option Range
-span_of (Some a) (Some b) = if one_kind a b && nat_le a.number b.number then Some (record { first = a; last = b }) else None
+span_of (Some a) (Some b) = if one_kind a b
+    && nat_le a.number b.number then Some (record { first = a; last = b }) else None
 span_of a b = None
 
 -- the range of a text by the places of its first `/` and its first `-`
@@ -68,7 +73,8 @@ is_dash b = b == dash
 
 -- the range with this text
 unfoldable pub range_of : List ℕ → Option Range
-range_of text = if bytes_eq text (codes "all") then Some all_addresses else range_at text (position is_slash text) (position is_dash text)
+range_of text = if bytes_eq text (codes "all") then Some all_addresses
+    else range_at text (position is_slash text) (position is_dash text)
 
 -- the one divides the other
 abbrev pub Divides : ℕ → ℕ → Type 0

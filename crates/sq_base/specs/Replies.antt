@@ -56,7 +56,8 @@ unfoldable pub quoted_len : Bool → List ℕ → Option ℕ
 quoted_len after [] = None
 quoted_len after (b ∷ bs) =
     if not after && b == quote then Some 0
-    else (if is_line_byte b then option_map (λ n. n + 1) (quoted_len (not after && b == backslash) bs) else None)
+    else (if is_line_byte b then option_map (λ n. n + 1)
+    (quoted_len (not after && b == backslash) bs) else None)
 
 -- the bytes for which those between quotes stand; `after` says that a `\` stands right before
 unfoldable pub unquoted : Bool → List ℕ → List ℕ
@@ -65,43 +66,48 @@ unquoted true (b ∷ bs) = meant b ∷ unquoted false bs
 unquoted false (b ∷ bs) = if b == backslash then unquoted true bs else b ∷ unquoted false bs
 
 -- the pairs of one word, and what stands behind it
-abbrev pub Found : Type 0
-Found = List Pair × List ℕ
+abbrev pub PairsFound : Type 0
+PairsFound = List Pair × List ℕ
 
 -- a pair, if its word ends here
-abbrev pub pair_before : List ℕ → List ℕ → List ℕ → Option Found
-pair_before key value rest = if ends_word rest then Some (record { key = key; value = value } ∷ [], rest) else None
+abbrev pub pair_before : List ℕ → List ℕ → List ℕ → Option PairsFound
+pair_before key value rest = if ends_word rest then Some
+    (record { key = key; value = value } ∷ [], rest) else None
 
 -- a pair with this many bytes in quotes
-abbrev pub quoted_in : List ℕ → List ℕ → Option ℕ → Option Found
+abbrev pub quoted_in : List ℕ → List ℕ → Option ℕ → Option PairsFound
 quoted_in key bytes None = None
 quoted_in key bytes (Some n) = pair_before key (unquoted false (take n bytes)) (drop (n + 1) bytes)
 
 -- a pair with a value without quotes
-abbrev pub plain_in : List ℕ → List ℕ → Option Found
-plain_in key bytes = pair_before key (percent_decode (take_while is_value_byte bytes)) (drop (prefix_len is_value_byte bytes) bytes)
+abbrev pub plain_in : List ℕ → List ℕ → Option PairsFound
+plain_in key bytes = pair_before key (percent_decode (take_while is_value_byte bytes))
+    (drop (prefix_len is_value_byte bytes) bytes)
 
 -- a pair whose value begins here
-unfoldable pub value_in : List ℕ → List ℕ → Option Found
+unfoldable pub value_in : List ℕ → List ℕ → Option PairsFound
 value_in key [] = plain_in key []
-value_in key (b ∷ bs) = if b == quote then quoted_in key bs (quoted_len false bs) else plain_in key (b ∷ bs)
+value_in key (b ∷ bs) = if b == quote then quoted_in key bs (quoted_len false bs)
+    else plain_in key (b ∷ bs)
 
 -- behind the first bytes of a word: its end, and so it was bare, or `=` and a value
-abbrev pub after_name : List ℕ → List ℕ → Option Found
+abbrev pub after_name : List ℕ → List ℕ → Option PairsFound
 after_name name [] = Some ([], [])
 after_name name (b ∷ bs) =
-    if b == space then Some ([], b ∷ bs) else (if b == equals && is_key name then value_in name bs else None)
+    if b == space then Some ([], b ∷ bs)
+    else (if b == equals && is_key name then value_in name bs else None)
 
 -- a word
-unfoldable pub reply_word_in : List ℕ → Option Found
-reply_word_in bytes = after_name (take_while is_word_byte bytes) (drop (prefix_len is_word_byte bytes) bytes)
+unfoldable pub reply_word_in : List ℕ → Option PairsFound
+reply_word_in bytes = after_name (take_while is_word_byte bytes)
+    (drop (prefix_len is_word_byte bytes) bytes)
 
 -- these pairs, in front of more
 abbrev pub in_front : List Pair → Option (List Pair) → Option (List Pair)
 in_front pairs more = option_map (λ others. pairs ++ others) more
 
 -- a space, or a word
-abbrev pub piece_in : List ℕ → Option Found
+abbrev pub piece_in : List ℕ → Option PairsFound
 piece_in [] = None
 piece_in (b ∷ bs) = if b == space then Some ([], bs) else reply_word_in (b ∷ bs)
 
@@ -109,7 +115,8 @@ piece_in (b ∷ bs) = if b == space then Some ([], bs) else reply_word_in (b ∷
 unfoldable pub pairs_in : ℕ → List ℕ → Option (List Pair)
 pairs_in most [] = Some []
 pairs_in zero (b ∷ bs) = None
-pairs_in (suc most) (b ∷ bs) = option_and_then (λ w. in_front w.0 (pairs_in most w.1)) (piece_in (b ∷ bs))
+pairs_in (suc most) (b ∷ bs) = option_and_then (λ w. in_front w.0 (pairs_in most w.1))
+    (piece_in (b ∷ bs))
 
 -- the pairs of all words of these bytes
 abbrev pub pairs_of : List ℕ → Option (List Pair)
@@ -133,7 +140,8 @@ after_result (Some word) bytes = if ends_word bytes then with_pairs word (pairs_
 
 -- a result and its words
 unfoldable pub result_in : List ℕ → Option Reply
-result_in bytes = after_result (result_of (take_while is_word_byte bytes)) (drop (prefix_len is_word_byte bytes) bytes)
+result_in bytes = after_result (result_of (take_while is_word_byte bytes))
+    (drop (prefix_len is_word_byte bytes) bytes)
 
 -- a channel's number, and a reply
 abbrev pub Answer : Type 0
@@ -152,7 +160,8 @@ after_channel (Some n) (b ∷ bs) = if b == space then on_channel (Some n) (resu
 unfoldable pub reply_line_in : Bool → List ℕ → Option Answer
 reply_line_in false bytes = on_channel None (result_in bytes)
 reply_line_in true bytes =
-    after_channel (number_of channel_limit (take_while is_word_byte bytes)) (drop (prefix_len is_word_byte bytes) bytes)
+    after_channel (number_of channel_limit (take_while is_word_byte bytes))
+    (drop (prefix_len is_word_byte bytes) bytes)
 
 -- a line without the CR at its end, where there is one
 unfoldable pub without_last_cr : List ℕ → List ℕ
@@ -162,7 +171,8 @@ without_last_cr (b ∷ c ∷ bs) = b ∷ without_last_cr (c ∷ bs)
 
 -- the channel and the reply of a line without its LF
 unfoldable pub reply_of : Bool → List ℕ → Option Answer
-reply_of with_channel line = if nat_le (length line) reply_limit then reply_line_in with_channel (without_last_cr line) else None
+reply_of with_channel line = if nat_le (length line) reply_limit then reply_line_in with_channel
+    (without_last_cr line) else None
 
 -- a channel and a space, or nothing
 abbrev pub channel_text : Option ℕ → List ℕ
@@ -178,7 +188,8 @@ result_text Broken = codes "BH"
 abbrev pub quoted_byte : ℕ → List ℕ
 quoted_byte b =
     if b == cr then codes "\\r"
-    else (if b == lf then codes "\\n" else (if b == quote || b == backslash then backslash ∷ b ∷ [] else b ∷ []))
+    else (if b == lf then codes "\\n"
+    else (if b == quote || b == backslash then backslash ∷ b ∷ [] else b ∷ []))
 
 -- a value: in quotes, or, where it holds NUL, without them and with each byte escaped
 unfoldable pub value_text : List ℕ → List ℕ
@@ -192,7 +203,8 @@ pair_text p = codes " " ++ p.key ++ codes "=" ++ value_text p.value
 
 -- a reply line without its LF
 unfoldable pub reply_text : Option ℕ → Reply → List ℕ
-reply_text channel reply = channel_text channel ++ result_text reply.word ++ flat_map pair_text reply.pairs
+reply_text channel reply = channel_text channel ++ result_text reply.word
+    ++ flat_map pair_text reply.pairs
 
 -- a question line with its LF
 unfoldable pub question_text : Option ℕ → List ℕ → List ℕ

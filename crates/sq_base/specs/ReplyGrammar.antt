@@ -1,5 +1,5 @@
--- The grammar of reply lines, as trees with their texts and their meanings, apart from how a line is
--- read. Squid's helper protocol page, "Helper protocol".
+-- The grammar of reply lines, as trees with their texts and their meanings, apart from how a line
+-- is read. Squid's helper protocol page, "Helper protocol".
 use Rattle.std.specs.Prelude.{◌≡◌, ℕ, ◌<◌, ◌≤◌, List, [], ◌∷◌, ◌++◌, length, Bool, true, false, not, if◌then◌else◌, ◌&&◌, ◌||◌, ◌==◌, IfSome, codes, is_some, map, replicate}
 use Rattle.std.specs.List.{list_all, flat_map}
 use Rattle.std.specs.declared.option.Option.{Option}
@@ -49,7 +49,8 @@ is_mark (Escaped b) = is_line_byte b
 abbrev pub word_text : ReplyWord → List ℕ
 word_text (Bare word) = word
 word_text (Plain key value) = key ++ codes "=" ++ value
-word_text (Quoted key marks) = key ++ codes "=" ++ codes "\"" ++ flat_map mark_text marks ++ codes "\""
+word_text (Quoted key marks) = key ++ codes "=" ++ codes "\"" ++ flat_map mark_text marks
+    ++ codes "\""
 
 -- a bare word stands for nothing, a value without quotes is percent-decoded
 abbrev pub word_pairs : ReplyWord → List Pair
@@ -89,7 +90,8 @@ cr_text ends = if ends then cr ∷ [] else []
 
 -- the bytes of a line without its LF
 abbrev pub line_text : ReplyLine → List ℕ
-line_text l = channel_text l.channel ++ result_text l.result ++ words_text l.words ++ replicate l.spaces space ++ cr_text l.cr
+line_text l = channel_text l.channel ++ result_text l.result ++ words_text l.words
+    ++ replicate l.spaces space ++ cr_text l.cr
 
 -- what a line says
 abbrev pub line_answer : ReplyLine → Answer

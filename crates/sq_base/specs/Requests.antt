@@ -21,7 +21,13 @@ pub record HttpRequest : Type 0 where
 
 -- the parts of the target that the request shows
 abbrev pub shown_target : HttpRequest → Target
-shown_target r = record { scheme = r.scheme; host = r.host; literal = r.literal; port = r.port; path = r.path }
+shown_target r = record {
+  scheme = r.scheme;
+  host = r.host;
+  literal = r.literal;
+  port = r.port;
+  path = r.path;
+}
 
 -- no byte of it is `:`
 abbrev pub has_no_colon : List ℕ → Bool

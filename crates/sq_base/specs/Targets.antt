@@ -54,31 +54,39 @@ pub record Host : Type 0 where
 -- a literal IPv6 address, without its brackets
 abbrev pub bracketed : List ℕ → List ℕ → Option ℕ → Option Host
 bracketed text rest None = None
-bracketed text rest (Some n) = Some (record { name = str_to_ascii_lowercase text; literal = Some (v6 n); rest = rest })
+bracketed text rest (Some n) = Some
+    (record { name = str_to_ascii_lowercase text; literal = Some (v6 n); rest = rest })
 
 -- a name or a literal IPv4 address
 abbrev pub named_host : List ℕ → List ℕ → Option Host
 named_host [] rest = None
 named_host (b ∷ bs) rest =
     if list_all is_host_byte (b ∷ bs)
-    then Some (record { name = str_to_ascii_lowercase (b ∷ bs); literal = option_map v4 (v4_of (b ∷ bs)); rest = rest }) else None
+    then Some (record {
+      name = str_to_ascii_lowercase (b ∷ bs);
+      literal = option_map v4 (v4_of (b ∷ bs));
+      rest = rest;
+    }) else None
 
 -- a literal IPv6 address behind `[`, by the place of the `]`
 abbrev pub in_brackets : List ℕ → Option ℕ → Option Host
 in_brackets inside None = None
-in_brackets inside (Some n) = bracketed (take n inside) (drop (n + 1) inside) (v6_of (take n inside))
+in_brackets inside (Some n) = bracketed (take n inside) (drop (n + 1) inside)
+    (v6_of (take n inside))
 
 -- the host at the front of an authority
 unfoldable pub host_in : List ℕ → Option Host
 host_in [] = None
 host_in (b ∷ bs) =
     if b == open_bracket then in_brackets bs (position is_bracket bs)
-    else named_host (take_while before_port (b ∷ bs)) (drop (prefix_len before_port (b ∷ bs)) (b ∷ bs))
+    else named_host (take_while before_port (b ∷ bs))
+    (drop (prefix_len before_port (b ∷ bs)) (b ∷ bs))
 
 -- the number of one to five digits, as a port may have it
 unfoldable pub port_of : List ℕ → Option ℕ
 port_of word =
-    if nat_le 1 (length word) && nat_le (length word) 5 && list_all is_ascii_digit word && nat_lt (read_on 0 word) port_limit
+    if nat_le 1 (length word) && nat_le (length word) 5 && list_all is_ascii_digit word
+    && nat_lt (read_on 0 word) port_limit
     then Some (read_on 0 word) else None
 
 -- the port that stands after a host; the default where there is none, or an empty one
@@ -106,17 +114,20 @@ with_host scheme path (Some h) = with_port scheme path h (port_after (scheme_por
 -- the target of a scheme, in lower case, and what stands behind `://`
 unfoldable pub with_scheme : List ℕ → List ℕ → Option Target
 with_scheme scheme rest =
-    with_host scheme (drop (prefix_len in_authority rest) rest) (host_in (take_while in_authority rest))
+    with_host scheme (drop (prefix_len in_authority rest) rest)
+    (host_in (take_while in_authority rest))
 
 -- what stands before and behind the first `:` of a target in absolute form
 abbrev pub with_colon : List ℕ → List ℕ → Option Target
 with_colon scheme after =
-    if is_scheme scheme && starts_with nat_eq after (codes "//") then with_scheme (str_to_ascii_lowercase scheme) (drop 2 after) else None
+    if is_scheme scheme && starts_with nat_eq after (codes "//") then with_scheme
+    (str_to_ascii_lowercase scheme) (drop 2 after) else None
 
 -- a target in absolute form: scheme, `://`, authority, and then nothing, a path or a query
 unfoldable pub absolute_form : List ℕ → Option Target
 absolute_form text =
-    if list_all is_target_byte text then with_colon (before_first is_colon text) (after_first is_colon text) else None
+    if list_all is_target_byte text then with_colon (before_first is_colon text)
+    (after_first is_colon text) else None
 
 abbrev pub connect_port : List ℕ → Option ℕ
 connect_port [] = None
@@ -137,4 +148,5 @@ authority_form text = if list_all is_target_byte text then connect_host (host_in
 
 -- the parts of a method's target, where it has the form that this method takes
 unfoldable pub target_of : List ℕ → List ℕ → Option Target
-target_of method text = if bytes_eq method (codes "CONNECT") then authority_form text else absolute_form text
+target_of method text = if bytes_eq method (codes "CONNECT") then authority_form text
+    else absolute_form text

@@ -44,9 +44,30 @@ impl Model for Request {
 
     ghost Value = { HttpRequest };
 
-    ghost view = { λ r. record { method = r.method; target = r.target; scheme = r.scheme; host = r.host; literal = r.literal; port = r.port; path = r.path; minor = r.minor; fields = r.fields } };
+    ghost view = { λ r. record {
+      method = r.method;
+      target = r.target;
+      scheme = r.scheme;
+      host = r.host;
+      literal = r.literal;
+      port = r.port;
+      path = r.path;
+      minor = r.minor;
+      fields = r.fields;
+    } };
 
-    ghost invariant = { λ r. IsRequest (record { method = r.method; target = r.target; scheme = r.scheme; host = r.host; literal = r.literal; port = r.port; path = r.path; minor = r.minor; fields = r.fields }) };
+    ghost invariant = { λ r. IsRequest
+        (record {
+          method = r.method;
+          target = r.target;
+          scheme = r.scheme;
+          host = r.host;
+          literal = r.literal;
+          port = r.port;
+          path = r.path;
+          minor = r.minor;
+          fields = r.fields;
+        }) };
 }
 
 impl Copying for Request {

@@ -8,7 +8,8 @@ use Rattle.sq_body.specs.ChunkLines.{LineSoFar, Start, Digits, Blank, Extension,
 use Rattle.sq_body.specs.Feeding.{may_be_whole}
 
 -- a line in two parts
-pub chunk_line_walk_append : (l : LineSoFar) (xs ys : List ℕ) → chunk_line_walk l (xs ++ ys) ≡ chunk_line_walk (chunk_line_walk l xs) ys
+pub chunk_line_walk_append : (l : LineSoFar) (xs ys : List ℕ)
+    → chunk_line_walk l (xs ++ ys) ≡ chunk_line_walk (chunk_line_walk l xs) ys
 unfolding chunk_line_walk
 chunk_line_walk_append l [] ys = refl
 chunk_line_walk_append l (x ∷ xs) ys = chunk_line_walk_append (chunk_line_step l x) xs ys
@@ -19,7 +20,8 @@ unfolding chunk_line_walk
 chunk_line_walk_one l b = refl
 
 -- a line by its first byte, and the rest
-pub chunk_line_walk_cons : (l : LineSoFar) (b : ℕ) (bs : List ℕ) → chunk_line_walk l (b ∷ bs) ≡ chunk_line_walk (chunk_line_step l b) bs
+pub chunk_line_walk_cons : (l : LineSoFar) (b : ℕ) (bs : List ℕ)
+    → chunk_line_walk l (b ∷ bs) ≡ chunk_line_walk (chunk_line_step l b) bs
 unfolding chunk_line_walk
 chunk_line_walk_cons l b bs = refl
 
@@ -40,7 +42,8 @@ unfolding chunk_line_walk
 whole_walk n x xs = never_walk xs
 
 -- the bytes so far and one more
-pub chunk_line_of_more : (text : List ℕ) (b : ℕ) → chunk_line_of (text ++ b ∷ []) ≡ chunk_line_step (chunk_line_of text) b
+pub chunk_line_of_more : (text : List ℕ) (b : ℕ)
+    → chunk_line_of (text ++ b ∷ []) ≡ chunk_line_step (chunk_line_of text) b
 chunk_line_of_more text b = chunk_line_walk_append Start text (b ∷ []) ∙ chunk_line_walk_one (chunk_line_of text) b
 
 -- what each state of a line comes to
@@ -57,27 +60,32 @@ digits_run (d ∷ ds) count size all few =
     let room : nat_lt count 16 ≡ true = grind arith in
     let next : in_digits count size d ≡ Digits (count + 1) (size * 16 + digit_value d) = rw hex (rw room refl) in
     ap (λ l. chunk_line_walk l ds) next
-    ∙ digits_run ds (count + 1) (size * 16 + digit_value d) (All-tail (λ b. IsTrue (is_ascii_hexdigit b)) d ds all) (omega arith)
+    ∙ digits_run ds (count + 1) (size * 16 + digit_value d) (All-tail (λ b. IsTrue (is_ascii_hexdigit b)) d ds all)
+    (omega arith)
     ∙ ap (λ c. Digits c (digits_value_after 16 (size * 16 + digit_value d) ds)) (omega arith)
 
-extension_run : (text : List ℕ) (n : ℕ) → AllPass is_extension_byte text → chunk_line_walk (Extension n) (text ++ 13 ∷ 10 ∷ []) ≡ Whole n
+extension_run : (text : List ℕ) (n : ℕ) → AllPass is_extension_byte text
+    → chunk_line_walk (Extension n) (text ++ 13 ∷ 10 ∷ []) ≡ Whole n
 unfolding chunk_line_walk
 extension_run [] n all = refl
 extension_run (b ∷ bs) n all =
     let pass : IsTrue (is_extension_byte b) = All-head (λ b. IsTrue (is_extension_byte b)) b bs all in
     let stays : chunk_line_step (Extension n) b ≡ Extension n = stays_in b n pass in
-    ap (λ l. chunk_line_walk l (bs ++ 13 ∷ 10 ∷ [])) stays ∙ extension_run bs n (All-tail (λ b. IsTrue (is_extension_byte b)) b bs all)
+    ap (λ l. chunk_line_walk l (bs ++ 13 ∷ 10 ∷ [])) stays
+    ∙ extension_run bs n (All-tail (λ b. IsTrue (is_extension_byte b)) b bs all)
   where
     stays_in : (b n : ℕ) → IsTrue (is_extension_byte b) → chunk_line_step (Extension n) b ≡ Extension n
     stays_in b n pass = grind arith
 
 -- behind the size and blanks: an extension or none, and CRLF
-tail_run : (e : Option (List ℕ)) (n : ℕ) → IsExtension e → chunk_line_walk (Blank n) (print_extension e ++ 13 ∷ 10 ∷ []) ≡ Whole n
+tail_run : (e : Option (List ℕ)) (n : ℕ) → IsExtension e
+    → chunk_line_walk (Blank n) (print_extension e ++ 13 ∷ 10 ∷ []) ≡ Whole n
 unfolding chunk_line_walk
 tail_run None n all = refl
 tail_run (Some text) n all = extension_run text n all
 
-tail_digits : (e : Option (List ℕ)) (c n : ℕ) → IsExtension e → chunk_line_walk (Digits c n) (print_extension e ++ 13 ∷ 10 ∷ []) ≡ Whole n
+tail_digits : (e : Option (List ℕ)) (c n : ℕ) → IsExtension e
+    → chunk_line_walk (Digits c n) (print_extension e ++ 13 ∷ 10 ∷ []) ≡ Whole n
 unfolding chunk_line_walk
 tail_digits None c n all = refl
 tail_digits (Some text) c n all = extension_run text n all
@@ -89,14 +97,16 @@ blank_at : (b n : ℕ) → IsTrue (is_ows b) → chunk_line_step (Blank n) b ≡
 blank_at b n h = ⊎_elim (λ e. ap (chunk_line_step (Blank n)) e) (λ e. ap (chunk_line_step (Blank n)) e) (ows_is b h)
 
 digits_at : (b c n : ℕ) → IsTrue (is_ows b) → chunk_line_step (Digits c n) b ≡ Blank n
-digits_at b c n h = ⊎_elim (λ e. ap (chunk_line_step (Digits c n)) e) (λ e. ap (chunk_line_step (Digits c n)) e) (ows_is b h)
+digits_at b c n h = ⊎_elim (λ e. ap (chunk_line_step (Digits c n)) e) (λ e. ap (chunk_line_step (Digits c n)) e)
+    (ows_is b h)
 
 blank_run : (pad : List ℕ) (n : ℕ) (e : Option (List ℕ)) → AllPass is_ows pad → IsExtension e
     → chunk_line_walk (Blank n) (pad ++ (print_extension e ++ 13 ∷ 10 ∷ [])) ≡ Whole n
 unfolding chunk_line_walk
 blank_run [] n e all ext = tail_run e n ext
 blank_run (b ∷ bs) n e all ext =
-    ap (λ l. chunk_line_walk l (bs ++ (print_extension e ++ 13 ∷ 10 ∷ []))) (blank_at b n (All-head (λ b. IsTrue (is_ows b)) b bs all))
+    ap (λ l. chunk_line_walk l (bs ++ (print_extension e ++ 13 ∷ 10 ∷ [])))
+    (blank_at b n (All-head (λ b. IsTrue (is_ows b)) b bs all))
     ∙ blank_run bs n e (All-tail (λ b. IsTrue (is_ows b)) b bs all) ext
 
 pad_run : (pad : List ℕ) (c n : ℕ) (e : Option (List ℕ)) → AllPass is_ows pad → IsExtension e
@@ -104,15 +114,18 @@ pad_run : (pad : List ℕ) (c n : ℕ) (e : Option (List ℕ)) → AllPass is_ow
 unfolding chunk_line_walk
 pad_run [] c n e all ext = tail_digits e c n ext
 pad_run (b ∷ bs) c n e all ext =
-    ap (λ l. chunk_line_walk l (bs ++ (print_extension e ++ 13 ∷ 10 ∷ []))) (digits_at b c n (All-head (λ b. IsTrue (is_ows b)) b bs all))
+    ap (λ l. chunk_line_walk l (bs ++ (print_extension e ++ 13 ∷ 10 ∷ [])))
+    (digits_at b c n (All-head (λ b. IsTrue (is_ows b)) b bs all))
     ∙ blank_run bs n e (All-tail (λ b. IsTrue (is_ows b)) b bs all) ext
 
 -- the text of a line by its parts
-pub print_is : (l : ChunkLine) → print_chunk_line l ≡ l.digits ++ (l.pad ++ (print_extension l.extension ++ 13 ∷ 10 ∷ []))
+pub print_is : (l : ChunkLine)
+    → print_chunk_line l ≡ l.digits ++ (l.pad ++ (print_extension l.extension ++ 13 ∷ 10 ∷ []))
 unfolding print_chunk_line
 print_is l = grind (arith, append_assoc)
 
-start_run : (ds : List ℕ) → 0 < length ds → length ds ≤ 16 → AllPass is_ascii_hexdigit ds → chunk_line_walk Start ds ≡ Digits (length ds) (digits_value_after 16 0 ds)
+start_run : (ds : List ℕ) → 0 < length ds → length ds ≤ 16 → AllPass is_ascii_hexdigit ds
+    → chunk_line_walk Start ds ≡ Digits (length ds) (digits_value_after 16 0 ds)
 unfolding chunk_line_walk
 start_run [] some few all = absurd (omega arith)
 start_run (d ∷ ds) some few all =
@@ -121,7 +134,8 @@ start_run (d ∷ ds) some few all =
     ap (λ l. chunk_line_walk l ds) next
     ∙ digits_run ds 1 (digit_value d) (All-tail (λ b. IsTrue (is_ascii_hexdigit b)) d ds all) (omega arith)
     ∙ ap (λ c. Digits c (digits_value_after 16 (digit_value d) ds)) (omega arith)
-    ∙ ap (λ v. Digits (length (d ∷ ds)) (digits_value_after 16 v ds)) {x = digit_value d} {y = 0 * 16 + digit_value d} (omega arith)
+    ∙ ap (λ v. Digits (length (d ∷ ds)) (digits_value_after 16 v ds)) {x = digit_value d} {y = 0 * 16 + digit_value d}
+    (omega arith)
 
 -- a chunk line is whole
 pub line_whole : (l : ChunkLine) → IsChunkLine l → chunk_line_of (print_chunk_line l) ≡ Whole (chunk_size l)
@@ -167,7 +181,8 @@ back_closing (b ∷ bs) n m h = by (b == 10) refl
 Extended : List ℕ → ℕ → ℕ → Type 0
 Extended xs n m = (text : List ℕ) × AllPass is_extension_byte text × (xs ≡ text ++ 13 ∷ 10 ∷ []) × (n ≡ m)
 
-extended_by : (t u : Bool) (b : ℕ) (bs : List ℕ) (n m : ℕ) → (b == 13) ≡ t → (b == 10) ≡ u → chunk_line_walk (chunk_line_step (Extension n) b) bs ≡ Whole m
+extended_by : (t u : Bool) (b : ℕ) (bs : List ℕ) (n m : ℕ) → (b == 13) ≡ t → (b == 10) ≡ u
+    → chunk_line_walk (chunk_line_step (Extension n) b) bs ≡ Whole m
     → (chunk_line_walk (Extension n) bs ≡ Whole m → Extended bs n m) → Extended (b ∷ bs) n m
 unfolding Extended
 extended_by true u b bs n m e f h more =
@@ -201,7 +216,8 @@ blank_tail b bs n m h t =
     }
 
 -- behind the size: by what the byte is
-after_by : (s t u : Bool) (b : ℕ) (bs : List ℕ) (n m : ℕ) → is_ows b ≡ s → (b == 59) ≡ t → (b == 13) ≡ u → chunk_line_walk (after_size n b) bs ≡ Whole m
+after_by : (s t u : Bool) (b : ℕ) (bs : List ℕ) (n m : ℕ) → is_ows b ≡ s → (b == 59) ≡ t → (b == 13) ≡ u
+    → chunk_line_walk (after_size n b) bs ≡ Whole m
     → (chunk_line_walk (Blank n) bs ≡ Whole m → Tail bs n m) → Tail (b ∷ bs) n m
 unfolding Extended
 after_by true t u b bs n m d e f h more =
@@ -252,9 +268,18 @@ record Numbered (xs : List ℕ) (room : ℕ) (m : ℕ) : Type 0 where
 
 none_numbered : (xs : List ℕ) (n room m : ℕ) → Tail xs n m → Numbered xs room m
 none_numbered xs n room m t =
-    record { ds = []; rest = xs; value = n; hex = All-nil (λ b. IsTrue (is_ascii_hexdigit b)); few = omega arith; shape = refl; tail = t }
+    record {
+      ds = [];
+      rest = xs;
+      value = n;
+      hex = All-nil (λ b. IsTrue (is_ascii_hexdigit b));
+      few = omega arith;
+      shape = refl;
+      tail = t;
+    }
 
-digit_numbered : (b : ℕ) (bs : List ℕ) (room m : ℕ) → IsTrue (is_ascii_hexdigit b) → Numbered bs room m → Numbered (b ∷ bs) (room + 1) m
+digit_numbered : (b : ℕ) (bs : List ℕ) (room m : ℕ) → IsTrue (is_ascii_hexdigit b) → Numbered bs room m
+    → Numbered (b ∷ bs) (room + 1) m
 digit_numbered b bs room m h t =
     record {
       ds = b ∷ t.ds;
@@ -266,25 +291,32 @@ digit_numbered b bs room m h t =
       tail = t.tail;
     }
 
-digits_by : (s t : Bool) (b : ℕ) (bs : List ℕ) (c n m : ℕ) → is_ascii_hexdigit b ≡ s → nat_lt c 16 ≡ t → chunk_line_walk (in_digits c n b) bs ≡ Whole m
-    → (chunk_line_walk (Digits (c + 1) (n * 16 + digit_value b)) bs ≡ Whole m → Numbered bs (16 - (c + 1)) m) → Numbered (b ∷ bs) (16 - c) m
+digits_by : (s t : Bool) (b : ℕ) (bs : List ℕ) (c n m : ℕ) → is_ascii_hexdigit b ≡ s → nat_lt c 16 ≡ t
+    → chunk_line_walk (in_digits c n b) bs ≡ Whole m
+    → (chunk_line_walk (Digits (c + 1) (n * 16 + digit_value b)) bs ≡ Whole m → Numbered bs (16 - (c + 1)) m)
+    → Numbered (b ∷ bs) (16 - c) m
 digits_by true true b bs c n m d e h more =
     let next : in_digits c n b ≡ Digits (c + 1) (n * 16 + digit_value b) = rw d (rw e refl) in
     let less : c < 16 = grind arith in
-    subst (λ k. Numbered (b ∷ bs) k m) (omega (arith, less)) (digit_numbered b bs (16 - (c + 1)) m d (more (ap (λ l. chunk_line_walk l bs) (sym next) ∙ h)))
+    subst (λ k. Numbered (b ∷ bs) k m) (omega (arith, less))
+    (digit_numbered b bs (16 - (c + 1)) m d (more (ap (λ l. chunk_line_walk l bs) (sym next) ∙ h)))
 digits_by true false b bs c n m d e h more =
     let next : in_digits c n b ≡ Never = rw d (rw e refl) in
     absurd (never_whole bs m (ap (λ l. chunk_line_walk l bs) (sym next) ∙ h))
 digits_by false t b bs c n m d e h more =
     let next : in_digits c n b ≡ after_size n b = rw d refl in
-    none_numbered (b ∷ bs) n (16 - c) m (after_by (is_ows b) (b == 59) (b == 13) b bs n m refl refl refl (ap (λ l. chunk_line_walk l bs) (sym next) ∙ h) (back_blank bs n m))
+    none_numbered (b ∷ bs) n (16 - c) m
+    (after_by (is_ows b) (b == 59) (b == 13) b bs n m refl refl refl (ap (λ l. chunk_line_walk l bs) (sym next) ∙ h)
+    (back_blank bs n m))
 
 back_digits : (xs : List ℕ) (c n m : ℕ) → chunk_line_walk (Digits c n) xs ≡ Whole m → Numbered xs (16 - c) m
 unfolding chunk_line_walk
 back_digits [] c n m h = absurd cc
-back_digits (b ∷ bs) c n m h = digits_by (is_ascii_hexdigit b) (nat_lt c 16) b bs c n m refl refl h (back_digits bs (c + 1) (n * 16 + digit_value b) m)
+back_digits (b ∷ bs) c n m h = digits_by (is_ascii_hexdigit b) (nat_lt c 16) b bs c n m refl refl h
+    (back_digits bs (c + 1) (n * 16 + digit_value b) m)
 
-line_by : (b : ℕ) (bs : List ℕ) (m : ℕ) → is_ascii_hexdigit b ≡ true → Numbered bs 15 m → (l : ChunkLine) × ReadsChunkLine (b ∷ bs) l []
+line_by : (b : ℕ) (bs : List ℕ) (m : ℕ) → is_ascii_hexdigit b ≡ true → Numbered bs 15 m
+    → (l : ChunkLine) × ReadsChunkLine (b ∷ bs) l []
 line_by b bs m e t =
     let l : ChunkLine = record { digits = b ∷ t.ds; pad = t.tail.pad; extension = t.tail.extension } in
     let is : IsChunkLine l =
@@ -293,10 +325,12 @@ line_by b bs m e t =
       pad = t.tail.pads;
       extension = t.tail.extends;
     } in
-    let same : b ∷ bs ≡ print_chunk_line l ++ [] = ap (λ l. b ∷ l) (t.shape ∙ ap (λ l. t.ds ++ l) t.tail.shape) ∙ sym (append-nil (print_chunk_line l) ∙ print_is l) in
+    let same : b ∷ bs ≡ print_chunk_line l ++ [] = ap (λ l. b ∷ l) (t.shape ∙ ap (λ l. t.ds ++ l) t.tail.shape)
+    ∙ sym (append-nil (print_chunk_line l) ∙ print_is l) in
     (l, (is, same))
 
-start_by : (s : Bool) (b : ℕ) (bs : List ℕ) (m : ℕ) → is_ascii_hexdigit b ≡ s → chunk_line_walk (chunk_line_step Start b) bs ≡ Whole m → (l : ChunkLine) × ReadsChunkLine (b ∷ bs) l []
+start_by : (s : Bool) (b : ℕ) (bs : List ℕ) (m : ℕ) → is_ascii_hexdigit b ≡ s
+    → chunk_line_walk (chunk_line_step Start b) bs ≡ Whole m → (l : ChunkLine) × ReadsChunkLine (b ∷ bs) l []
 start_by true b bs m e h =
     let next : chunk_line_step Start b ≡ Digits 1 (digit_value b) = rw e refl in
     line_by b bs m e (back_digits bs 1 (digit_value b) m (ap (λ l. chunk_line_walk l bs) (sym next) ∙ h))

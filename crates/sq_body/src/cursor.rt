@@ -4,8 +4,8 @@ ghost use Rattle.sq_body.specs.Bodies.{start, is_whole_body, is_refused, kept_by
 ghost use Rattle.sq_body.specs.Feeding.{is_sound, WroteOfBody, Feeds, Spoils, Follows, Joins, JoinsBad, Passes, is_data};
 ghost use Rattle.sq_base.specs.declared.plans.BodyPlan.{BodyPlan};
 
+use crate::body_state::BodyState;
 use crate::faults::FeedFault;
-use crate::place::Place;
 use crate::taking::advance;
 use sq_base::{BodyPlan, Text, WantOfMemory};
 use std::alloc::Global;
@@ -25,7 +25,7 @@ pub struct Fed {
 /// it goes out in chunks.
 #[derive(Drop)]
 pub struct BodyCursor {
-    place: Place,
+    place: BodyState,
     chunked: bool,
 }
 
@@ -42,39 +42,39 @@ impl Model for BodyCursor {
     ghost invariant = { λ k. is_sound k.place ≡ true };
 }
 
-fn is_complete(place: &Place) -> bool
+fn is_complete(place: &BodyState) -> bool
     ensures { result ≡ is_whole_body place.now }
 {
     match place {
-        Place::Plain(left) => *left == 0,
-        Place::Done => true,
+        BodyState::Plain(left) => *left == 0,
+        BodyState::Done => true,
         _ => false,
     }
 }
 
-fn is_refused(place: &Place) -> bool
+fn is_refused(place: &BodyState) -> bool
     ensures { result ≡ is_refused place.now }
 {
     match place {
-        Place::Refused => true,
+        BodyState::Refused => true,
         _ => false,
     }
 }
 
 // Where data at the front of the input leads, and how many bytes of it there are; none where more than data may stand there.
-fn data_at(place: &Place, input: &[u8]) -> Option<(Place, usize)>
+fn data_at(place: &BodyState, input: &[u8]) -> Option<(BodyState, usize)>
     ensures data { is_some result ≡ is_data place.now (length input.now) }
     ensures passes { IfSome result (λ r. Passes place.now input.now r.0 r.1) }
 {
     match place {
-        Place::Plain(left) => {
+        BodyState::Plain(left) => {
             let used = (input.len() as u64).min(*left) as usize;
-            Some((Place::Plain(*left - used as u64), used))
+            Some((BodyState::Plain(*left - used as u64), used))
         }
-        Place::Open => Some((Place::Open, input.len())),
-        Place::Data(left) => {
+        BodyState::Open => Some((BodyState::Open, input.len())),
+        BodyState::Data(left) => {
             if input.len() as u64 <= *left {
-                Some((Place::Data(*left - input.len() as u64), input.len()))
+                Some((BodyState::Data(*left - input.len() as u64), input.len()))
             } else {
                 None
             }
@@ -91,10 +91,10 @@ impl BodyCursor {
         ensures chunked { result.chunked ≡ chunked_out }
     {
         let place = match plan {
-            BodyPlan::None => Place::Plain(0),
-            BodyPlan::Length(left) => Place::Plain(left),
-            BodyPlan::Chunked => Place::Line(Text::new(alloc)),
-            BodyPlan::ToClose => Place::Open,
+            BodyPlan::None => BodyState::Plain(0),
+            BodyPlan::Length(left) => BodyState::Plain(left),
+            BodyPlan::Chunked => BodyState::Line(Text::new(alloc)),
+            BodyPlan::ToClose => BodyState::Open,
         };
         BodyCursor {
             place,
@@ -107,7 +107,9 @@ impl BodyCursor {
     pub fn take_data(&mut self, input: &[u8]) -> Option<Fed>
         ensures chunked { self.new.chunked ≡ self.old.chunked }
         ensures data { is_some result ≡ is_data self.old.place (length input.now) }
-        ensures fed { IfSome result (λ f. Feeds self.old.chunked self.old.place input.now self.new.place f.used f.done [] (take f.used input.now)) }
+        ensures fed { IfSome result
+            (λ f. Feeds self.old.chunked self.old.place input.now self.new.place f.used f.done []
+            (take f.used input.now)) }
         ensures none { is_some result ≡ false → self.new ≡ self.old }
     {
         match data_at(&self.place, input) {
@@ -125,16 +127,24 @@ impl BodyCursor {
     /// nothing is said of the next calls: the exchange ends there.
     pub fn feed(&mut self, alloc: Global, input: &[u8], out: &mut Text) -> Result<Fed, FeedFault>
         ensures chunked { self.new.chunked ≡ self.old.chunked }
-        ensures fed { IfOk result (λ f. Feeds self.old.chunked self.old.place input.now self.new.place f.used f.done out.old out.new) }
-        ensures joined { (plan : BodyPlan) (before : List ℕ) → Follows plan self.old.chunked before self.old.place
-            → IfOk result (λ f. Joins plan self.old.chunked before input.now self.new.place f.used out.old out.new) }
-        ensures bad { IsErrOf result FeedFault.BadChunk → Spoils self.old.chunked self.old.place input.now self.new.place out.old out.new }
-        ensures joined_bad { (plan : BodyPlan) (before : List ℕ) → Follows plan self.old.chunked before self.old.place
-            → IsErrOf result FeedFault.BadChunk → JoinsBad plan self.old.chunked before input.now out.old out.new }
+        ensures fed { IfOk result
+            (λ f. Feeds self.old.chunked self.old.place input.now self.new.place f.used f.done
+            out.old out.new) }
+        ensures joined { (plan : BodyPlan) (before : List ℕ)
+            → Follows plan self.old.chunked before self.old.place
+            → IfOk result (λ f. Joins plan self.old.chunked before input.now self.new.place f.used
+            out.old out.new) }
+        ensures bad { IsErrOf result FeedFault.BadChunk
+            → Spoils self.old.chunked self.old.place input.now self.new.place out.old out.new }
+        ensures joined_bad { (plan : BodyPlan) (before : List ℕ)
+            → Follows plan self.old.chunked before self.old.place
+            → IsErrOf result FeedFault.BadChunk
+            → JoinsBad plan self.old.chunked before input.now out.old out.new }
         ensures small { IfOk result (λ f. length out.new ≤ length out.old + f.used + 32) }
         ensures small_bad { OnErr result (length out.new ≤ length out.old + length input.now + 32) }
         ensures kept { kept_bytes self.new.place ≤ line_limit }
-        ensures for_good { is_refused self.old.place ≡ true → IsErrOf result FeedFault.BadChunk × (out.new ≡ out.old) }
+        ensures for_good { is_refused self.old.place ≡ true
+            → IsErrOf result FeedFault.BadChunk × (out.new ≡ out.old) }
         ensures wrote { WroteOfBody self.old.chunked self.old.place input.now out.old out.new }
     {
         let mut at = 0;
@@ -155,7 +165,7 @@ impl BodyCursor {
                 });
             }
             let (_, rest) = input.split_at(at);
-            let place = mem::replace(&mut self.place, Place::Refused);
+            let place = mem::replace(&mut self.place, BodyState::Refused);
             match advance(alloc, self.chunked, place, rest, out) {
                 Ok((place, count)) => {
                     self.place = place;

@@ -7,10 +7,10 @@
 //! 32 bytes longer than what it used. Chunk lines are read by `httparse`.
 #![tactic(auto)]
 
+mod body_state;
 mod cursor;
 mod faults;
 mod line;
-mod place;
 mod size;
 mod taking;
 

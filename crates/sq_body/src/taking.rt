@@ -2,10 +2,10 @@
 ghost use Rattle.std.specs.Prelude.{◌≡◌, ◌++◌, ◌<◌, [], ℕ, min, take, length, true, false, IfOk, OnOk, OnErr};
 ghost use Rattle.sq_body.specs.Bodies.{framed, sized, mark_step, trailed, is_whole_body, is_refused};
 ghost use Rattle.sq_body.specs.Feeding.{is_sound, is_sound_line, TakesFront};
-ghost use Rattle.sq_body.specs.declared.place.Place.TheVariants.{Line};
+ghost use Rattle.sq_body.specs.declared.body_state.BodyState.TheVariants.{Line};
 
+use crate::body_state::{BodyState, Mark};
 use crate::line::{LineRead, read_line};
-use crate::place::{Mark, Place};
 use crate::size::push_size;
 use sq_base::{Text, WantOfMemory};
 use std::alloc::Global;
@@ -21,7 +21,8 @@ const CHUNK_LIMIT: u64 = 9223372036854775807;
 
 // Copies bytes to the end, at most so many.
 fn copy_some(left: u64, rest: &[u8], out: &mut Text) -> Result<usize, WantOfMemory>
-    ensures ok { IfOk result (λ n. (n ≡ min left (length rest.now)) × (out.new ≡ out.old ++ take n rest.now)) }
+    ensures ok { IfOk result
+        (λ n. (n ≡ min left (length rest.now)) × (out.new ≡ out.old ++ take n rest.now)) }
     ensures err { OnErr result (out.new ≡ out.old) }
 {
     let count = (rest.len() as u64).min(left) as usize;
@@ -43,20 +44,22 @@ fn begin_chunk(
     chunked: bool,
     size: u64,
     out: &mut Text,
-) -> Result<Place, WantOfMemory>
-    ensures ok { IfOk result (λ p. (p ≡ (sized chunked size).place) × (out.new ≡ out.old ++ (sized chunked size).out) × (is_sound p ≡ true)) }
+) -> Result<BodyState, WantOfMemory>
+    ensures ok { IfOk result
+        (λ p. (p ≡ (sized chunked size).place) × (out.new ≡ out.old ++ (sized chunked size).out)
+        × (is_sound p ≡ true)) }
     ensures err { OnErr result (out.new ≡ out.old) }
 {
     if size > CHUNK_LIMIT {
-        return Ok(Place::Refused);
+        return Ok(BodyState::Refused);
     }
     if size == 0 {
-        return Ok(Place::Trailer(0, Mark::Begin));
+        return Ok(BodyState::Trailer(0, Mark::Begin));
     }
     if chunked {
         push_size(alloc, size, out)?;
     }
-    Ok(Place::Data(size))
+    Ok(BodyState::Data(size))
 }
 
 // At the beginning of a chunk line.
@@ -65,7 +68,7 @@ fn take_fresh_line(
     chunked: bool,
     rest: &[u8],
     out: &mut Text,
-) -> Result<(Place, usize), WantOfMemory>
+) -> Result<(BodyState, usize), WantOfMemory>
     requires some { 0 < length rest.now }
     ensures ok { IfOk result (λ r. TakesFront chunked (Line []) rest.now r.0 r.1 out.old out.new) }
     ensures err { OnErr result (out.new ≡ out.old) }
@@ -80,12 +83,12 @@ fn take_fresh_line(
         LineRead::NotYet => {
             if count < LINE_LIMIT {
                 let text = Text::from_slice(alloc, piece)?;
-                Ok((Place::Line(text), count))
+                Ok((BodyState::Line(text), count))
             } else {
-                Ok((Place::Refused, count))
+                Ok((BodyState::Refused, count))
             }
         }
-        LineRead::Never => Ok((Place::Refused, count)),
+        LineRead::Never => Ok((BodyState::Refused, count)),
     }
 }
 
@@ -96,10 +99,11 @@ fn take_line(
     text: Text,
     rest: &[u8],
     out: &mut Text,
-) -> Result<(Place, usize), WantOfMemory>
+) -> Result<(BodyState, usize), WantOfMemory>
     requires sound { is_sound_line text ≡ true }
     requires some { 0 < length rest.now }
-    ensures ok { IfOk result (λ r. TakesFront chunked (Line text) rest.now r.0 r.1 out.old out.new) }
+    ensures ok { IfOk result
+        (λ r. TakesFront chunked (Line text) rest.now r.0 r.1 out.old out.new) }
     ensures err { OnErr result (out.new ≡ out.old) }
 {
     if text.is_empty() {
@@ -117,12 +121,12 @@ fn take_line(
         }
         LineRead::NotYet => {
             if text.len() < LINE_LIMIT {
-                Ok((Place::Line(text), count))
+                Ok((BodyState::Line(text), count))
             } else {
-                Ok((Place::Refused, count))
+                Ok((BodyState::Refused, count))
             }
         }
-        LineRead::Never => Ok((Place::Refused, count)),
+        LineRead::Never => Ok((BodyState::Refused, count)),
     }
 }
 
@@ -144,18 +148,20 @@ fn take_trailer(
     mark: Mark,
     byte: u8,
     out: &mut Text,
-) -> Result<Place, WantOfMemory>
-    ensures ok { IfOk result (λ p. (p ≡ (trailed chunked count mark byte).place) × (out.new ≡ out.old ++ (trailed chunked count mark byte).out) × (is_sound p ≡ true)) }
+) -> Result<BodyState, WantOfMemory>
+    ensures ok { IfOk result
+        (λ p. (p ≡ (trailed chunked count mark byte).place)
+        × (out.new ≡ out.old ++ (trailed chunked count mark byte).out) × (is_sound p ≡ true)) }
     ensures err { OnErr result (out.new ≡ out.old) }
 {
     if mark == Mark::BeginCr && byte == b'\n' {
         push_framed(chunked, b"0\r\n\r\n", out)?;
-        return Ok(Place::Done);
+        return Ok(BodyState::Done);
     }
     if count < TRAILER_LIMIT - 1 {
-        Ok(Place::Trailer(count + 1, next_mark(mark, byte)))
+        Ok(BodyState::Trailer(count + 1, next_mark(mark, byte)))
     } else {
-        Ok(Place::Refused)
+        Ok(BodyState::Refused)
     }
 }
 
@@ -163,10 +169,10 @@ fn take_trailer(
 pub(crate) fn advance(
     alloc: Global,
     chunked: bool,
-    place: Place,
+    place: BodyState,
     rest: &[u8],
     out: &mut Text,
-) -> Result<(Place, usize), WantOfMemory>
+) -> Result<(BodyState, usize), WantOfMemory>
     requires sound { is_sound place ≡ true }
     requires some { 0 < length rest.now }
     requires going { is_whole_body place ≡ false }
@@ -175,38 +181,38 @@ pub(crate) fn advance(
     ensures err { OnErr result (out.new ≡ out.old) }
 {
     match place {
-        Place::Plain(left) => {
+        BodyState::Plain(left) => {
             let count = copy_some(left, rest, out)?;
-            Ok((Place::Plain(left - count as u64), count))
+            Ok((BodyState::Plain(left - count as u64), count))
         }
-        Place::Open => {
+        BodyState::Open => {
             let count = copy_some(u64::MAX, rest, out)?;
-            Ok((Place::Open, count))
+            Ok((BodyState::Open, count))
         }
-        Place::Line(text) => take_line(alloc, chunked, text, rest, out),
-        Place::Data(left) => {
+        BodyState::Line(text) => take_line(alloc, chunked, text, rest, out),
+        BodyState::Data(left) => {
             if left > 0 {
                 let count = copy_some(left, rest, out)?;
-                return Ok((Place::Data(left - count as u64), count));
+                return Ok((BodyState::Data(left - count as u64), count));
             }
             if rest[0] == b'\r' {
-                Ok((Place::Feed, 1))
+                Ok((BodyState::Feed, 1))
             } else {
-                Ok((Place::Refused, 1))
+                Ok((BodyState::Refused, 1))
             }
         }
-        Place::Feed => {
+        BodyState::Feed => {
             if rest[0] != b'\n' {
-                return Ok((Place::Refused, 1));
+                return Ok((BodyState::Refused, 1));
             }
             push_framed(chunked, b"\r\n", out)?;
-            Ok((Place::Line(Text::new(alloc)), 1))
+            Ok((BodyState::Line(Text::new(alloc)), 1))
         }
-        Place::Trailer(count, mark) => {
+        BodyState::Trailer(count, mark) => {
             let place = take_trailer(chunked, count, mark, rest[0], out)?;
             Ok((place, 1))
         }
-        Place::Done => Ok((Place::Done, 0)),
-        Place::Refused => Ok((Place::Refused, 0)),
+        BodyState::Done => Ok((BodyState::Done, 0)),
+        BodyState::Refused => Ok((BodyState::Refused, 0)),
     }
 }

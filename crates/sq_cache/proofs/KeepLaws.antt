@@ -7,26 +7,28 @@ use Rattle.std.specs.Cmp.Lexicographic.{pointwise, same_text}
 use Rattle.lru.specs.LruCache.{LruCache, put_entries, IsValid}
 use Rattle.sq_rules.specs.Classes.{Class}
 use Rattle.sq_machine.specs.Freshness.{ttl_of}
-use Rattle.sq_machine.specs.KeptLists.{KeptList, same_key, kept_without, keep}
-use Rattle.sq_machine.specs.declared.kept.KeptVerdict.{KeptVerdict}
+use Rattle.sq_machine.specs.KeptLists.{CachedReplies, same_key, kept_without, keep}
+use Rattle.sq_machine.specs.declared.kept.CachedReply.{CachedReply}
 
 -- what a look-up finds has the key, and one fewer is left without it
-found : (key : List ℕ) (kept : KeptList) (e : List ℕ × KeptVerdict) → lookup_entry (same_key key) kept ≡ Some e →
+found : (key : List ℕ) (kept : CachedReplies) (e : List ℕ × CachedReply) → lookup_entry (same_key key) kept ≡ Some e →
     (e.0 ≡ key) × (length (kept_without key kept) + 1 ≡ length kept)
 found key [] e h = cc
-found key (p ∷ ps) e h = (elim (pointwise nat_eq key p.0) as (λ y. pointwise nat_eq key p.0 ≡ y → (e.0 ≡ key) × (length (kept_without key (p ∷ ps)) + 1 ≡ length (p ∷ ps))) [
-  | true ↦ λ t. let h' = rw t at h in let same : p ≡ e = cc in
-      (sym (ap (λ (q : List ℕ × KeptVerdict). q.0) same) ∙ sym (same_text key p.0 (sym t)), rw t (omega arith))
-  | false ↦ λ t. let on = found key ps e (rw t at h) in (on.0, rw t (omega (arith, on.1)))
-]) refl
+found key (p ∷ ps) e h = (elim (pointwise nat_eq key p.0) as
+    (λ y. pointwise nat_eq key p.0 ≡ y → (e.0 ≡ key) × (length (kept_without key (p ∷ ps)) + 1 ≡ length (p ∷ ps))) [
+      | true ↦ λ t. let h' = rw t at h in let same : p ≡ e = cc in
+          (sym (ap (λ (q : List ℕ × CachedReply). q.0) same) ∙ sym (same_text key p.0 (sym t)), rw t (omega arith))
+      | false ↦ λ t. let on = found key ps e (rw t at h) in (on.0, rw t (omega (arith, on.1)))
+    ]) refl
 
 -- where it finds none, nothing is left out
-missing : (key : List ℕ) (kept : KeptList) → lookup_entry (same_key key) kept ≡ None → kept_without key kept ≡ kept
+missing : (key : List ℕ) (kept : CachedReplies) → lookup_entry (same_key key) kept ≡ None → kept_without key kept ≡ kept
 missing key [] h = refl
-missing key (p ∷ ps) h = (elim (pointwise nat_eq key p.0) as (λ y. pointwise nat_eq key p.0 ≡ y → kept_without key (p ∷ ps) ≡ p ∷ ps) [
-  | true ↦ λ t. let h' = rw t at h in cc
-  | false ↦ λ t. rw t (ap (λ l. p ∷ l) (missing key ps (rw t at h)))
-]) refl
+missing key (p ∷ ps) h = (elim (pointwise nat_eq key p.0) as
+    (λ y. pointwise nat_eq key p.0 ≡ y → kept_without key (p ∷ ps) ≡ p ∷ ps) [
+      | true ↦ λ t. let h' = rw t at h in cc
+      | false ↦ λ t. rw t (ap (λ l. p ∷ l) (missing key ps (rw t at h)))
+    ]) refl
 
 take_front : {A : Type 0} (n : ℕ) (x : A) (xs : List A) → 0 < n → take n (x ∷ xs) ≡ x ∷ take (n - 1) xs
 take_front zero x xs h = absurd (omega (arith, h))
@@ -35,9 +37,10 @@ take_front (suc n) x xs h =
     ap (λ k. x ∷ take k xs) e
 
 -- the list after a put is cut after its new front
-by_case : (key : List ℕ) (v : KeptVerdict) (most : ℕ) (kept : KeptList) (o : Option (List ℕ × KeptVerdict)) → lookup_entry (same_key key) kept ≡ o →
+by_case : (key : List ℕ) (v : CachedReply) (most : ℕ) (kept : CachedReplies) (o : Option (List ℕ × CachedReply))
+    → lookup_entry (same_key key) kept ≡ o →
     length kept ≤ most → 0 < most →
-    option_map_or (λ (e : List ℕ × KeptVerdict). (e.0, v) ∷ kept_without key kept) o ((key, v) ∷ take (most - 1) kept)
+    option_map_or (λ (e : List ℕ × CachedReply). (e.0, v) ∷ kept_without key kept) o ((key, v) ∷ take (most - 1) kept)
     ≡ take most ((key, v) ∷ kept_without key kept)
 by_case key v most kept None h le pos =
     rw (missing key kept h) (sym (take_front most (key, v) kept pos))
@@ -50,7 +53,8 @@ positive : (n : ℕ) → 0 < n → nat_lt 0 n ≡ true
 positive n h = grind (arith, h)
 
 -- for the put of a verdict: where its time is above 0, the table's put keeps it as the definition does
-pub put_keeps : (c : LruCache (List ℕ) KeptVerdict) (class : Class) (key : List ℕ) (v : KeptVerdict) → IsValid (pointwise nat_eq) c
+pub put_keeps : (c : LruCache (List ℕ) CachedReply) (class : Class) (key : List ℕ) (v : CachedReply)
+    → IsValid (pointwise nat_eq) c
     → 0 < ttl_of class v.what → put_entries (pointwise nat_eq) c key v ≡ keep c.cap class key v c.entries
 put_keeps c class key v valid some =
     rw (positive (ttl_of class v.what) some, positive c.cap valid.2)

@@ -1,9 +1,9 @@
-//! Whether a kept verdict is fresh, and whether its refresh is due.
+//! Whether a cached reply is fresh, and whether its refresh is due.
 ghost use Rattle.std.specs.Prelude.{◌≡◌, ◌≤◌, ◌<◌, nat_lt};
 ghost use Rattle.sq_machine.specs.Freshness.{ttl_of, age, is_fresh, is_due, due_age};
 
 use sq_base::{Moment, What};
-use sq_machine::KeptVerdict;
+use sq_machine::CachedReply;
 use sq_rules::Class;
 
 // The seconds for which an answer is fresh.
@@ -18,14 +18,14 @@ pub(crate) fn ttl_of(class: &Class, what: &What) -> u32
 }
 
 // The age of a verdict in milliseconds.
-fn age(verdict: &KeptVerdict, now: Moment) -> u64
+fn age(verdict: &CachedReply, now: Moment) -> u64
     ensures { result ≡ age verdict.now now }
 {
     now.0.saturating_sub(verdict.date.0)
 }
 
 // Whether a verdict is fresh.
-pub(crate) fn is_fresh(class: &Class, verdict: &KeptVerdict, now: Moment) -> bool
+pub(crate) fn is_fresh(class: &Class, verdict: &CachedReply, now: Moment) -> bool
     ensures { result ≡ is_fresh class.now verdict.now now }
 {
     let ttl = u64::from(ttl_of(class, &verdict.what));
@@ -42,7 +42,7 @@ fn due_age(class: &Class, what: &What) -> u64
 }
 
 // Whether the refresh of a verdict is due.
-pub(crate) fn is_due(class: &Class, verdict: &KeptVerdict, now: Moment) -> bool
+pub(crate) fn is_due(class: &Class, verdict: &CachedReply, now: Moment) -> bool
     ensures { result ≡ is_due class.now verdict.now now }
 {
     is_fresh(class, verdict, now)

@@ -7,7 +7,7 @@ use crate::freshness::{is_due, is_fresh, ttl_of};
 use crate::seed::HashSeed;
 use lru::LruCache;
 use sq_base::{Copying, Moment, QuestionNo, Text, WantOfMemory, What};
-use sq_machine::KeptVerdict;
+use sq_machine::CachedReply;
 use sq_rules::Class;
 use std::alloc::Global;
 use std::marker::Model;
@@ -24,11 +24,11 @@ pub struct Taken {
     pub refresh: bool,
 }
 
-/// The verdicts that are kept of one class. A contract sees them with their keys, the newest use first,
+/// The cached replies of one class. A contract sees them with their keys, the newest use first,
 /// and how many there may be.
 #[derive(Drop)]
 pub struct Kept {
-    cache: Option<LruCache<Text, KeptVerdict, HashSeed>>,
+    cache: Option<LruCache<Text, CachedReply, HashSeed>>,
 }
 
 impl Model for Kept {
@@ -104,7 +104,8 @@ impl Kept {
         now: Moment,
     ) -> Result<Option<Taken>, WantOfMemory>
         ensures taken { IfOk result (λ t. t ≡ taken_for class.now key.now now self.old.verdicts) }
-        ensures ok { OnOk result (self.new.verdicts ≡ used class.now key.now now self.old.verdicts) }
+        ensures ok { OnOk result
+            (self.new.verdicts ≡ used class.now key.now now self.old.verdicts) }
         ensures limit { self.new.limit ≡ self.old.limit }
         ensures err { OnErr result (self.new ≡ self.old) }
     {
@@ -126,7 +127,9 @@ impl Kept {
         date: Moment,
     ) -> Result<(), WantOfMemory>
         requires { is_fault what ≡ false }
-        ensures ok { OnOk result (self.new.verdicts ≡ keep self.old.limit class.now key (record { what = what; question = question; date = date }) self.old.verdicts) }
+        ensures ok { OnOk result
+            (self.new.verdicts ≡ keep self.old.limit class.now key
+            (record { what = what; question = question; date = date }) self.old.verdicts) }
         ensures limit { self.new.limit ≡ self.old.limit }
         ensures err { OnErr result (self.new ≡ self.old) }
         ensures sure { is_some (verdict_of key self.old.verdicts) ≡ true → IsOk result }
@@ -140,7 +143,7 @@ impl Kept {
         }
         // For the proof: there are no more verdicts than the limit.
         let _len = cache.len();
-        let verdict = KeptVerdict {
+        let verdict = CachedReply {
             what,
             question,
             date,
@@ -163,7 +166,7 @@ impl Kept {
 fn taken_as(
     alloc: Global,
     class: &Class,
-    verdict: &KeptVerdict,
+    verdict: &CachedReply,
     now: Moment,
 ) -> Result<Taken, WantOfMemory>
     ensures { IfOk result (λ t. t ≡ taken_as class.now now verdict.now) }

@@ -8,8 +8,8 @@ use Rattle.sq_machine.specs.Entries.{History}
 use Rattle.sq_machine.specs.Epochs.{class_at}
 use Rattle.sq_machine.specs.Machine.{Legal}
 use Rattle.sq_machine.specs.Readings.{current, offset_of}
-use Rattle.sq_history.specs.Given.{EachOf}
-use Rattle.sq_state.specs.Sources.{AreSourced}
+use Rattle.sq_model_laws.specs.Given.{EachOf}
+use Rattle.sq_model_state.specs.Sources.{AreSourced}
 
 -- with what a machine begins: its first configuration, and the offset of local time, in minutes
 pub record Beginning : Type 0 where
@@ -20,8 +20,9 @@ pub record Beginning : Type 0 where
 abbrev pub IsStated : Configuration → Type 0
 IsStated c = conf_gives c.source c
 
--- the history has the offset of its beginning, and is legal over the first configuration and those of its reconfigurations, one for each, which
--- hold the sources of these; each is what its source states
+-- the history has the offset of its beginning, and is legal over the first configuration and those
+-- of its reconfigurations, one for each, which hold the sources of these; each is what its source
+-- states
 pub record IsLegal (first : Beginning) (h : History) : Type 0 where
   pub given : List Configuration
   pub good : EachOf IsConfiguration (first.config ∷ given)
@@ -38,11 +39,13 @@ pub record IsLegalFrom (told : Option Beginning) (h : History) : Type 0 where
   pub legal : IsLegal first h
 
 -- the configurations over which it is legal, one for each epoch
-abbrev pub configs_over : {told : Option Beginning} {h : History} → IsLegalFrom told h → List Configuration
+abbrev pub configs_over : {told : Option Beginning} {h : History} → IsLegalFrom told h
+    → List Configuration
 configs_over l = l.first.config ∷ l.legal.given
 
 -- over the configurations of a legal history, this is the name of the class at a place of an epoch
-pub record HasName (told : Option Beginning) (h : History) (epoch place : ℕ) (name : List ℕ) : Type 0 where
+pub record HasName (told : Option Beginning) (h : History) (epoch place : ℕ)
+    (name : List ℕ) : Type 0 where
   pub over : IsLegalFrom told h
   pub class : Class
   pub class_is : class_at (configs_over over) epoch place ≡ Some class

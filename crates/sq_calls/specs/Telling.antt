@@ -9,8 +9,8 @@ use Rattle.sq_machine.specs.declared.entries.Event.TheVariants as event
 use Rattle.sq_machine.specs.declared.entries.Told.{Told}
 use Rattle.sq_machine.specs.declared.entries.Told.TheVariants as told
 use Rattle.sq_checks.specs.Records.{Judged}
-use Rattle.sq_rows.specs.declared.said.Stepped.{Stepped}
-use Rattle.sq_rows.specs.declared.said.Stepped.TheVariants as stepped
+use Rattle.sq_model_rows.specs.declared.stepping.Stepped.{Stepped}
+use Rattle.sq_model_rows.specs.declared.stepping.Stepped.TheVariants as stepped
 use Rattle.sq_rules.specs.Configurations.{Configuration}
 use Rattle.sq_machine.specs.Entries.{History, Noted, entry_at}
 use Rattle.sq_machine.specs.Machine.{next}
@@ -28,24 +28,30 @@ use Rattle.sq_calls.specs.Legality.{Beginning, IsLegalFrom, IsNameOf, configs_ov
 -- where the journal is told, one entry was added, with this answer, and P holds of its event
 abbrev pub AddsOne : (Event → Type 0) → Told → Option History → Option History → Type 0
 AddsOne P answer None new = new ≡ None
-AddsOne P answer (Some h) new = (moment : ℕ) × (e : Event) × P e × (new ≡ Some (entry_at moment e answer ∷ h))
+AddsOne P answer (Some h) new = (moment : ℕ) × (e : Event) × P e
+    × (new ≡ Some (entry_at moment e answer ∷ h))
 
 -- the same, with an answer of which R holds
 abbrev pub AddsSome : (Told → Type 0) → (Event → Type 0) → Option History → Option History → Type 0
 AddsSome R P None new = new ≡ None
-AddsSome R P (Some h) new = (answer : Told) × R answer × (moment : ℕ) × (e : Event) × P e × (new ≡ Some (entry_at moment e answer ∷ h))
+AddsSome R P (Some h) new = (answer : Told) × R answer × (moment : ℕ) × (e : Event) × P e
+    × (new ≡ Some (entry_at moment e answer ∷ h))
 
 -- a call that was made added its entry; one that was not added nothing
-abbrev pub Notes : {A : Type 0} → (A → Told) → (Event → Type 0) → Option History → Option History → Result A DeskFault → Type 0
+abbrev pub Notes : {A : Type 0} → (A → Told) → (Event → Type 0) → Option History → Option History
+    → Result A DeskFault → Type 0
 Notes told P old new (Ok a) = AddsOne P (told a) old new
 Notes told P old new (Err f) = new ≡ old
 
--- a call that was made added its entry, whose answer tells what it gave; one that was not added nothing
-abbrev pub NotesAs : {A : Type 0} → (A → Told → Type 0) → (Event → Type 0) → Option History → Option History → Result A DeskFault → Type 0
+-- a call that was made added its entry, whose answer tells what it gave; one that was not added
+-- nothing
+abbrev pub NotesAs : {A : Type 0} → (A → Told → Type 0) → (Event → Type 0) → Option History
+    → Option History → Result A DeskFault → Type 0
 NotesAs R P old new (Ok a) = AddsSome (R a) P old new
 NotesAs R P old new (Err f) = new ≡ old
 
--- the count rose by one where the call was refused or its note failed, up to its limit, and stayed otherwise
+-- the count rose by one where the call was refused or its note failed, up to its limit, and stayed
+-- otherwise
 abbrev pub CountsRefusal : {A : Type 0} → ℕ → ℕ → Result A DeskFault → Type 0
 CountsRefusal before now (Ok a) = now ≡ before
 CountsRefusal before now (Err fault.WantOfMemory) = now ≡ before
@@ -75,12 +81,15 @@ IsStep check e = e ≡ event.Step check
 abbrev pub IsTaking : ℕ → Event → Type 0
 IsTaking check e = e ≡ event.Take check
 
--- a start of the class at a place of an epoch; the name is the one that this class has over the journal before
+-- a start of the class at a place of an epoch; the name is the one that this class has over the
+-- journal before
 abbrev pub IsStarted : Option Beginning → Option History → ℕ → ℕ → Event → Type 0
-IsStarted first old epoch class e = (name : List ℕ) × IsNameOf first old epoch class name × (e ≡ event.Started epoch name)
+IsStarted first old epoch class e = (name : List ℕ) × IsNameOf first old epoch class name
+    × (e ≡ event.Started epoch name)
 
 abbrev pub IsFailed : Option Beginning → Option History → ℕ → ℕ → Event → Type 0
-IsFailed first old epoch class e = (name : List ℕ) × IsNameOf first old epoch class name × (e ≡ event.StartFail epoch name)
+IsFailed first old epoch class e = (name : List ℕ) × IsNameOf first old epoch class name
+    × (e ≡ event.StartFail epoch name)
 
 abbrev pub IsDead : ℕ → Event → Type 0
 IsDead proc e = e ≡ event.Died proc
@@ -110,20 +119,25 @@ IsTakeTold r answer = answer ≡ told.Judged r.epoch r.outcome
 -- how an act is told
 abbrev pub IsEventOf : Act → Told → Type 0
 IsEventOf (act.Stop proc) answer = answer ≡ told.Stop proc
-IsEventOf (act.Send proc question channel text) answer = answer ≡ told.Send proc question channel text
+IsEventOf (act.Send proc question channel text) answer = answer
+    ≡ told.Send proc question channel text
 IsEventOf (act.Start epoch class) answer = (name : List ℕ) × (answer ≡ told.Start epoch name)
 
--- over the configurations of the history, which is legal, this is what the machine answers next to the event
-pub record HasNext (first : Option Beginning) (h : History) (e : Event) (answer : Next) : Type 0 where
+-- over the configurations of the history, which is legal, this is what the machine answers next to
+-- the event
+pub record HasNext (first : Option Beginning) (h : History) (e : Event)
+    (answer : Next) : Type 0 where
   pub over : IsLegalFrom first h
   pub moment : ℕ
   pub late : latest h ≤ moment
   pub next_is : next (configs_over over) (marked (configs_over over) h) moment e ≡ answer
 
--- where the journal is told, an act that was given is the machine's next, and none was given where the machine has none
+-- where the journal is told, an act that was given is the machine's next, and none was given where
+-- the machine has none
 abbrev pub IsNextAct : Option Beginning → Option History → Result (Option Act) DeskFault → Type 0
 IsNextAct first None r = Unit {0}
-IsNextAct first (Some h) (Ok (Some a)) = (answer : Told) × IsEventOf a answer × HasNext first h event.Act (gives answer)
+IsNextAct first (Some h) (Ok (Some a)) = (answer : Told) × IsEventOf a answer
+    × HasNext first h event.Act (gives answer)
 IsNextAct first (Some h) (Ok None) = HasNext first h event.Act nothing
 IsNextAct first (Some h) (Err f) = Unit {0}
 
@@ -133,7 +147,8 @@ MayAct old new (Ok (Some a)) = AddsSome (IsEventOf a) (λ e. e ≡ event.Act) ol
 MayAct old new (Ok None) = new ≡ old
 MayAct old new (Err f) = new ≡ old
 
--- a reconfiguration that was made is counted, and its epoch is one above the count; one that was not made leaves the count
-abbrev pub Counts : Option ℕ → Option ℕ → Result ℕ DeskFault → Type 0
-Counts old new (Ok e) = IfSome old (λ m. (new ≡ Some (m + 1)) × (e ≡ m + 1 + 1))
-Counts old new (Err f) = new ≡ old
+-- a reconfiguration that was made is counted, and its epoch is one above the count; one that was
+-- not made leaves the count
+abbrev pub CountsReconfigured : Option ℕ → Option ℕ → Result ℕ DeskFault → Type 0
+CountsReconfigured old new (Ok e) = IfSome old (λ m. (new ≡ Some (m + 1)) × (e ≡ m + 1 + 1))
+CountsReconfigured old new (Err f) = new ≡ old

@@ -9,14 +9,14 @@ ghost use Rattle.sq_machine.specs.declared.entries.Told.TheVariants as answer;
 ghost use Rattle.sq_calls.specs.declared.faults.DeskFault.{DeskFault as Fault};
 ghost use Rattle.sq_calls.specs.declared.faults.DeskFault.TheVariants as fault;
 ghost use Rattle.sq_calls.specs.Legality.{Beginning, IsStated};
-ghost use Rattle.sq_calls.specs.Telling.{Counts, CountsLine, CountsRefusal, IsAsking, IsClosing, IsDead, IsFailed, IsLine, IsNextAct, IsOpening, IsReread, IsStarted, IsStep, IsStepTold, IsTakeTold, IsTaking, MayAct, Notes, NotesAs, got_told};
+ghost use Rattle.sq_calls.specs.Telling.{CountsReconfigured, CountsLine, CountsRefusal, IsAsking, IsClosing, IsDead, IsFailed, IsLine, IsNextAct, IsOpening, IsReread, IsStarted, IsStep, IsStepTold, IsTakeTold, IsTaking, MayAct, Notes, NotesAs, got_told};
 
 use crate::faults::DeskFault;
 use sq_base::{Addr, CheckNo, ConnNo, EpochNo, Moment, ProcNo, Request, Texts, WantOfMemory};
 use sq_channel::Got;
 use sq_checks::Record;
 use sq_epochs::Act;
-use sq_rows::Stepped;
+use sq_model_rows::Stepped;
 use sq_rules::Config;
 use sq_urlmatch::Setup;
 use std::alloc::Global;
@@ -41,7 +41,8 @@ pub trait DeskCalls {
 
     /// What `reconfigure` with a configuration at a moment answers and leaves, where a desk says more of it than its entries
     /// and counts tell: the desk before, the configuration, the moment, the answer, and the desk after.
-    ghost rereads: { Self → Configuration → ℕ → Result ℕ Fault → Self → Type 0 } = { λ _ _ _ _ _. ⊤ };
+    ghost rereads: { Self → Configuration → ℕ → Result ℕ Fault → Self
+        → Type 0 } = { λ _ _ _ _ _. ⊤ };
 
     /// The words of the program of the class at a place of a live epoch, if there is such a class, where it tells that.
     ghost programs: { Self → ℕ → ℕ → Option (Option (List (List ℕ))) } = { λ _ _ _. None };
@@ -51,13 +52,15 @@ pub trait DeskCalls {
 
     /// A client's connection opens.
     fn open(&mut self, conn: ConnNo, addr: Addr, port: u16, now: Moment) -> Result<(), DeskFault>
-        ensures told { Notes (λ _. answer.Fine) (IsOpening conn addr port) (told self.old) (told self.new) result }
+        ensures told { Notes (λ _. answer.Fine) (IsOpening conn addr port) (told self.old)
+            (told self.new) result }
         ensures refused { CountsRefusal (refused self.old) (refused self.new) result }
         ensures made { made self.new ≡ made self.old };
 
     /// A connection closes. It takes no memory.
     fn close(&mut self, conn: ConnNo, now: Moment) -> Result<(), DeskFault>
-        ensures told { Notes (λ _. answer.Fine) (IsClosing conn) (told self.old) (told self.new) result }
+        ensures told { Notes (λ _. answer.Fine) (IsClosing conn) (told self.old) (told self.new)
+            result }
         ensures memory { IsErrOf result fault.WantOfMemory → ⊥ }
         ensures refused { CountsRefusal (refused self.old) (refused self.new) result }
         ensures made { made self.new ≡ made self.old };
@@ -70,7 +73,8 @@ pub trait DeskCalls {
         request: Request,
         now: Moment,
     ) -> Result<CheckNo, DeskFault>
-        ensures told { Notes answer.Check (IsAsking conn request) (told self.old) (told self.new) result }
+        ensures told { Notes answer.Check (IsAsking conn request) (told self.old) (told self.new)
+            result }
         ensures refused { CountsRefusal (refused self.old) (refused self.new) result }
         ensures made { made self.new ≡ made self.old };
 
@@ -94,7 +98,8 @@ pub trait DeskCalls {
         class: u32,
         now: Moment,
     ) -> Result<ProcNo, DeskFault>
-        ensures told { Notes answer.Proc (IsStarted first (told self.old) epoch class) (told self.old) (told self.new) result }
+        ensures told { Notes answer.Proc (IsStarted first (told self.old) epoch class)
+            (told self.old) (told self.new) result }
         ensures refused { CountsRefusal (refused self.old) (refused self.new) result }
         ensures made { made self.new ≡ made self.old };
 
@@ -106,7 +111,8 @@ pub trait DeskCalls {
         class: u32,
         now: Moment,
     ) -> Result<(), DeskFault>
-        ensures told { Notes (λ _. answer.Fine) (IsFailed first (told self.old) epoch class) (told self.old) (told self.new) result }
+        ensures told { Notes (λ _. answer.Fine) (IsFailed first (told self.old) epoch class)
+            (told self.old) (told self.new) result }
         ensures refused { CountsRefusal (refused self.old) (refused self.new) result }
         ensures made { made self.new ≡ made self.old };
 
@@ -118,13 +124,15 @@ pub trait DeskCalls {
         bytes: &[u8],
         now: Moment,
     ) -> Result<Got, DeskFault>
-        ensures told { Notes got_told (IsLine proc bytes.now) (told self.old) (told self.new) result }
+        ensures told { Notes got_told (IsLine proc bytes.now) (told self.old) (told self.new)
+            result }
         ensures refused { CountsLine (refused self.old) (refused self.new) result }
         ensures made { made self.new ≡ made self.old };
 
     /// A process died. It takes no memory.
     fn died(&mut self, proc: ProcNo, now: Moment) -> Result<(), DeskFault>
-        ensures told { Notes (λ _. answer.Fine) (IsDead proc) (told self.old) (told self.new) result }
+        ensures told { Notes (λ _. answer.Fine) (IsDead proc) (told self.old) (told self.new)
+            result }
         ensures memory { IsErrOf result fault.WantOfMemory → ⊥ }
         ensures refused { CountsRefusal (refused self.old) (refused self.new) result }
         ensures made { made self.new ≡ made self.old };
@@ -149,7 +157,7 @@ pub trait DeskCalls {
         ensures told { Notes answer.Epoch (IsReread setup) (told self.old) (told self.new) result }
         ensures rereads { rereads self.old setup now result self.new }
         ensures refused { CountsRefusal (refused self.old) (refused self.new) result }
-        ensures made { Counts (made self.old) (made self.new) result }
+        ensures made { CountsReconfigured (made self.old) (made self.new) result }
         ensures counting { is_counting ≡ true → OnOk result (IsSome (made self.old)) };
 
     /// A copy of the words of the program of the class at a place of a live epoch.
@@ -163,7 +171,8 @@ pub trait DeskCalls {
 
     /// The configuration of a live epoch; none, too, where it cannot be shared once more.
     fn config(&self, epoch: EpochNo) -> Option<Arc<Config>>
-        ensures { IfSome (configs self.now epoch) (λ o. IfSome result (λ c. o ≡ Some (arc_value c))) };
+        ensures { IfSome (configs self.now epoch)
+            (λ o. IfSome result (λ c. o ≡ Some (arc_value c))) };
 
     ghost capped: { (desk : Self) → refused desk ≤ count_limit };
 }

@@ -74,21 +74,26 @@ place_above k (n ∷ ns) a = if_false (nat_lt n k) (suc (place_among k ns)) 0 (l
 
 -- what a binary search finds is the place
 pub place_found : {X : Type 0} (key : X → ℕ) (k : ℕ) (xs : List X) (i : ℕ) → i ≤ length xs
-    → IsPartitionPoint (λ y. nat_lt (key y) k ≡ true) (λ y. nat_lt (key y) k ≡ false) xs i → i ≡ place_among k (map key xs)
+    → IsPartitionPoint (λ y. nat_lt (key y) k ≡ true) (λ y. nat_lt (key y) k ≡ false) xs i
+    → i ≡ place_among k (map key xs)
 place_found key k [] i l p = omega arith
-place_found key k (x ∷ xs) zero l p = sym (if_false (nat_lt (key x) k) (suc (place_among k (map key xs))) 0 (p.1 0 x (omega arith) (omega arith)))
+place_found key k (x ∷ xs) zero l p = sym
+    (if_false (nat_lt (key x) k) (suc (place_among k (map key xs))) 0 (p.1 0 x (omega arith) (omega arith)))
 place_found key k (x ∷ xs) (suc i) l p =
-    ap suc (place_found key k xs i (omega arith) (λ j d a b. p.0 (suc j) d (omega arith) (omega arith), λ j d a b. p.1 (suc j) d (omega arith) (omega arith)))
+    ap suc (place_found key k xs i (omega arith)
+    (λ j d a b. p.0 (suc j) d (omega arith) (omega arith), λ j d a b. p.1 (suc j) d (omega arith) (omega arith)))
     ∙ sym (if_true (nat_lt (key x) k) (suc (place_among k (map key xs))) 0 (p.0 0 x (omega arith) (omega arith)))
 
 -- one row of a table whose numbers lie above a number
-pub above_key : {X : Type 0} (key : X → ℕ) (k : ℕ) (xs : List X) (i : ℕ) (d : X) → AreAbove k (map key xs) → i < length xs → k < key (get_or xs i d)
+pub above_key : {X : Type 0} (key : X → ℕ) (k : ℕ) (xs : List X) (i : ℕ) (d : X) → AreAbove k (map key xs)
+    → i < length xs → k < key (get_or xs i d)
 above_key key k [] i d a l = absurd (omega arith)
 above_key key k (x ∷ xs) zero d a l = a.0
 above_key key k (x ∷ xs) (suc i) d a l = above_key key k xs i d a.1 (omega arith)
 
 -- in a rising table the number at an earlier place is no greater
-pub rises_le : {X : Type 0} (key : X → ℕ) (xs : List X) (i j : ℕ) (d : X) → Rises (map key xs) → i ≤ j → j < length xs → key (get_or xs i d) ≤ key (get_or xs j d)
+pub rises_le : {X : Type 0} (key : X → ℕ) (xs : List X) (i j : ℕ) (d : X) → Rises (map key xs) → i ≤ j → j < length xs
+    → key (get_or xs i d) ≤ key (get_or xs j d)
 rises_le key [] i j d r le l = absurd (omega arith)
 rises_le key (x ∷ xs) zero zero d r le l = omega arith
 rises_le key (x ∷ xs) zero (suc j) d r le l = let a = above_key key (key x) xs j d r.0 (omega arith) in omega arith
@@ -96,7 +101,8 @@ rises_le key (x ∷ xs) (suc i) zero d r le l = absurd (omega arith)
 rises_le key (x ∷ xs) (suc i) (suc j) d r le l = rises_le key xs i j d r.1 (omega arith) (omega arith)
 
 -- a rising table is cut in two by a number: what a binary search asks for
-pub rises_parts : {X : Type 0} (key : X → ℕ) (k : ℕ) (xs : List X) → Rises (map key xs) → IsPartitionedBy (λ y. nat_lt (key y) k) xs
+pub rises_parts : {X : Type 0} (key : X → ℕ) (k : ℕ) (xs : List X) → Rises (map key xs)
+    → IsPartitionedBy (λ y. nat_lt (key y) k) xs
 rises_parts key k xs r i j d le l e =
     let a = rises_le key xs i j d r le l in
     let b = ltb-true (key (get_or xs j d)) k e in
@@ -108,7 +114,8 @@ insert_front [] x = refl
 insert_front (y ∷ ys) x = refl
 
 -- the numbers of a table into which a row goes
-pub map-insert : {X : Type 0} (key : X → ℕ) (xs : List X) (i : ℕ) (x : X) → map key (insert xs i x) ≡ insert (map key xs) i (key x)
+pub map-insert : {X : Type 0} (key : X → ℕ) (xs : List X) (i : ℕ) (x : X)
+    → map key (insert xs i x) ≡ insert (map key xs) i (key x)
 map-insert key xs zero x = ap (map key) (insert_front xs x) ∙ sym (insert_front (map key xs) (key x))
 map-insert key [] (suc i) x = refl
 map-insert key (y ∷ ys) (suc i) x = ap (λ z. key y ∷ z) (map-insert key ys i x)
@@ -123,7 +130,9 @@ pub rises_insert : (k : ℕ) (ns : List ℕ) → times_of k ns ≡ 0 → Rises n
 rises_insert k [] none r = (tt, tt)
 rises_insert k (n ∷ ns) none r = by_test (k == n) (nat_lt n k) (λ e. rises_insert k ns e r.1) refl refl none
   where
-    by_test : (b d : Bool) → (times_of k ns ≡ 0 → Rises (insert ns (place_among k ns) k)) → (k == n) ≡ b → nat_lt n k ≡ d → (if b then suc (times_of k ns) else times_of k ns) ≡ 0 → Rises (insert (n ∷ ns) (if d then suc (place_among k ns) else 0) k)
+    by_test : (b d : Bool) → (times_of k ns ≡ 0 → Rises (insert ns (place_among k ns) k)) → (k == n) ≡ b
+        → nat_lt n k ≡ d → (if b then suc (times_of k ns) else times_of k ns) ≡ 0
+        → Rises (insert (n ∷ ns) (if d then suc (place_among k ns) else 0) k)
     by_test true d more e l none = absurd (omega arith)
     by_test false true more e l none = (above_insert n k ns (place_among k ns) (ltb-true n k l) r.0, more none)
     by_test false false more e l none =

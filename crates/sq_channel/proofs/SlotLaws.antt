@@ -17,7 +17,9 @@ none_open q [] e = refl
 none_open q (None ∷ slots) e = none_open q slots e
 none_open q (Some p ∷ slots) e = by_test (q == p) (none_open q slots) e
   where
-    by_test : (b : Bool) → (is_open q slots ≡ false → times_open q slots ≡ 0) → (if b then true else is_open q slots) ≡ false → (if b then suc (times_open q slots) else times_open q slots) ≡ 0
+    by_test : (b : Bool) → (is_open q slots ≡ false → times_open q slots ≡ 0)
+        → (if b then true else is_open q slots) ≡ false
+        → (if b then suc (times_open q slots) else times_open q slots) ≡ 0
     by_test true next e = cc
     by_test false next e = next e
 
@@ -28,13 +30,15 @@ least_within (None ∷ slots) f = omega arith
 least_within (Some q ∷ slots) f = let r = least_within slots f in omega arith
 
 -- to set the least free slot is to ask
-pub set_asked : (q : ℕ) (slots : List (Option ℕ)) → 0 < free_count slots → set slots (least_free slots) (Some q) ≡ asked q slots
+pub set_asked : (q : ℕ) (slots : List (Option ℕ)) → 0 < free_count slots
+    → set slots (least_free slots) (Some q) ≡ asked q slots
 set_asked q [] f = refl
 set_asked q (None ∷ slots) f = refl
 set_asked q (Some p ∷ slots) f = ap (λ s. Some p ∷ s) (set_asked q slots f)
 
 -- a question takes one free slot
-pub free_asked : (q : ℕ) (slots : List (Option ℕ)) → 0 < free_count slots → free_count (asked q slots) + 1 ≡ free_count slots
+pub free_asked : (q : ℕ) (slots : List (Option ℕ)) → 0 < free_count slots
+    → free_count (asked q slots) + 1 ≡ free_count slots
 free_asked q [] f = absurd (omega arith)
 free_asked q (None ∷ slots) f = omega arith
 free_asked q (Some p ∷ slots) f = free_asked q slots f
@@ -46,25 +50,30 @@ length_asked q (None ∷ slots) = refl
 length_asked q (Some p ∷ slots) = ap suc (length_asked q slots)
 
 -- how often a question is open after one was asked
-pub times_asked : (p q : ℕ) (slots : List (Option ℕ)) → 0 < free_count slots → times_open p (asked q slots) ≡ (if p == q then suc (times_open p slots) else times_open p slots)
+pub times_asked : (p q : ℕ) (slots : List (Option ℕ)) → 0 < free_count slots
+    → times_open p (asked q slots) ≡ (if p == q then suc (times_open p slots) else times_open p slots)
 times_asked p q [] f = absurd (omega arith)
 times_asked p q (None ∷ slots) f = refl
 times_asked p q (Some k ∷ slots) f = step (p == k) (p == q) (times_asked p q slots f)
   where
     step : (b d : Bool) → times_open p (asked q slots) ≡ (if d then suc (times_open p slots) else times_open p slots)
         → (if b then suc (times_open p (asked q slots)) else times_open p (asked q slots))
-        ≡ (if d then suc (if b then suc (times_open p slots) else times_open p slots) else (if b then suc (times_open p slots) else times_open p slots))
+        ≡ (if d then suc (if b then suc (times_open p slots) else times_open p slots)
+        else (if b then suc (times_open p slots) else times_open p slots))
     step true true e = ap suc e
     step true false e = ap suc e
     step false true e = e
     step false false e = e
 
 -- a process stays one when a question that it has not is asked
-pub IsProcess_asked : (p : Channels) (q : ℕ) → IsProcess p → 0 < free_count p.slots → is_open q p.slots ≡ false → IsProcess (record p { slots = asked q p.slots })
+pub IsProcess_asked : (p : Channels) (q : ℕ) → IsProcess p → 0 < free_count p.slots → is_open q p.slots ≡ false
+    → IsProcess (record p { slots = asked q p.slots })
 IsProcess_asked p q is f other = record {
   some_slot = rw (length_asked q p.slots) is.some_slot;
   few_slots = rw (length_asked q p.slots) is.few_slots;
-  once = λ k. rw (times_asked k q p.slots f) (one_more k q (times_open k p.slots) (times_open q p.slots) (is.once k) (none_open q p.slots other) (λ e. ap (λ n. times_open n p.slots) e));
+  once = λ k. rw (times_asked k q p.slots f)
+      (one_more k q (times_open k p.slots) (times_open q p.slots) (is.once k) (none_open q p.slots other)
+      (λ e. ap (λ n. times_open n p.slots) e));
 }
   where
     one_more : (k q n m : ℕ) → n ≤ 1 → m ≡ 0 → (k ≡ q → n ≡ m) → (if k == q then suc n else n) ≤ 1
@@ -76,7 +85,9 @@ settled_none q [] e = refl
 settled_none q (None ∷ slots) e = ap (λ s. None ∷ s) (settled_none q slots e)
 settled_none q (Some p ∷ slots) e = by_test (q == p) (settled_none q slots) e
   where
-    by_test : (b : Bool) → (times_open q slots ≡ 0 → settled q slots ≡ slots) → (if b then suc (times_open q slots) else times_open q slots) ≡ 0 → (if b then None else Some p) ∷ settled q slots ≡ Some p ∷ slots
+    by_test : (b : Bool) → (times_open q slots ≡ 0 → settled q slots ≡ slots)
+        → (if b then suc (times_open q slots) else times_open q slots) ≡ 0
+        → (if b then None else Some p) ∷ settled q slots ≡ Some p ∷ slots
     by_test true next e = cc
     by_test false next e = ap (λ s. Some p ∷ s) (next e)
 
@@ -86,28 +97,34 @@ length_settled q [] = refl
 length_settled q (s ∷ slots) = ap suc (length_settled q slots)
 
 -- a settled question frees the slots that it had
-pub free_settled : (q : ℕ) (slots : List (Option ℕ)) → free_count (settled q slots) ≡ free_count slots + times_open q slots
+pub free_settled : (q : ℕ) (slots : List (Option ℕ))
+    → free_count (settled q slots) ≡ free_count slots + times_open q slots
 free_settled q [] = refl
 free_settled q (None ∷ slots) = let r = free_settled q slots in omega arith
 free_settled q (Some p ∷ slots) = by_test (q == p) (free_settled q slots)
   where
     by_test : (b : Bool) → free_count (settled q slots) ≡ free_count slots + times_open q slots
-        → free_count ((if b then None else Some p) ∷ settled q slots) ≡ free_count slots + (if b then suc (times_open q slots) else times_open q slots)
+        → free_count ((if b then None else Some p) ∷ settled q slots) ≡ free_count slots
+        + (if b then suc (times_open q slots) else times_open q slots)
     by_test true next = omega arith
     by_test false next = next
 
 -- how often a question is open after one was settled
-pub times_settled : (k q : ℕ) (slots : List (Option ℕ)) → times_open k (settled q slots) ≡ (if k == q then 0 else times_open k slots)
+pub times_settled : (k q : ℕ) (slots : List (Option ℕ))
+    → times_open k (settled q slots) ≡ (if k == q then 0 else times_open k slots)
 times_settled k q [] = grind arith
 times_settled k q (None ∷ slots) = times_settled k q slots
-times_settled k q (Some p ∷ slots) = front (q == p) ∙ numbers k q p (times_open k slots) (times_open k (settled q slots)) (times_settled k q slots)
+times_settled k q (Some p ∷ slots) = front (q == p)
+    ∙ numbers k q p (times_open k slots) (times_open k (settled q slots)) (times_settled k q slots)
   where
     front : (b : Bool) → times_open k ((if b then None else Some p) ∷ settled q slots)
-        ≡ (if b then times_open k (settled q slots) else (if k == p then suc (times_open k (settled q slots)) else times_open k (settled q slots)))
+        ≡ (if b then times_open k (settled q slots)
+        else (if k == p then suc (times_open k (settled q slots)) else times_open k (settled q slots)))
     front true = refl
     front false = refl
 
-    numbers : (k q p n m : ℕ) → m ≡ (if k == q then 0 else n) → (if q == p then m else (if k == p then suc m else m)) ≡ (if k == q then 0 else (if k == p then suc n else n))
+    numbers : (k q p n m : ℕ) → m ≡ (if k == q then 0 else n)
+        → (if q == p then m else (if k == p then suc m else m)) ≡ (if k == q then 0 else (if k == p then suc n else n))
     numbers k q p n m e = grind (arith, e)
 
 -- an open question stands on one channel at least
@@ -116,12 +133,15 @@ some_open q [] e = cc
 some_open q (None ∷ slots) e = some_open q slots e
 some_open q (Some p ∷ slots) e = by_test (q == p) (some_open q slots) e
   where
-    by_test : (b : Bool) → (is_open q slots ≡ true → 1 ≤ times_open q slots) → (if b then true else is_open q slots) ≡ true → 1 ≤ (if b then suc (times_open q slots) else times_open q slots)
+    by_test : (b : Bool) → (is_open q slots ≡ true → 1 ≤ times_open q slots)
+        → (if b then true else is_open q slots) ≡ true
+        → 1 ≤ (if b then suc (times_open q slots) else times_open q slots)
     by_test true next e = omega arith
     by_test false next e = next e
 
 -- a question that is open, and at most once, is open once
-pub open_once : (q : ℕ) (slots : List (Option ℕ)) → is_open q slots ≡ true → times_open q slots ≤ 1 → times_open q slots ≡ 1
+pub open_once : (q : ℕ) (slots : List (Option ℕ)) → is_open q slots ≡ true → times_open q slots ≤ 1
+    → times_open q slots ≡ 1
 open_once q slots e once = let some = some_open q slots e in omega arith
 
 -- no more slots are free than there are
@@ -155,12 +175,14 @@ open_at (Some p ∷ slots) (suc n) q e = either (q == p) (open_at slots n q e)
     either false e = e
 
 -- a question in a slot is open
-pub open_of_law : (slots : List (Option ℕ)) (channel : Option ℕ) (q : ℕ) → slot_of slots channel ≡ Some q → is_open q slots ≡ true
+pub open_of_law : (slots : List (Option ℕ)) (channel : Option ℕ) (q : ℕ) → slot_of slots channel ≡ Some q
+    → is_open q slots ≡ true
 open_of_law slots None q e = open_at slots 0 q e
 open_of_law slots (Some n) q e = open_at slots n q e
 
 -- draining
-pub opened_drained : (slots : List (Option ℕ)) → opened slots ≡ option_to_list (first_open slots) ++ opened (drained slots)
+pub opened_drained : (slots : List (Option ℕ))
+    → opened slots ≡ option_to_list (first_open slots) ++ opened (drained slots)
 opened_drained [] = refl
 opened_drained (None ∷ slots) = opened_drained slots
 opened_drained (Some q ∷ slots) = refl
@@ -175,12 +197,14 @@ first_open_law (Some p ∷ slots) q e = let same : p ≡ q = cc in rw same (itse
     itself q = grind arith
 
 -- to settle the first open question is to hand it out
-pub settled_first : (slots : List (Option ℕ)) (q : ℕ) → first_open slots ≡ Some q → times_open q slots ≤ 1 → settled q slots ≡ drained slots
+pub settled_first : (slots : List (Option ℕ)) (q : ℕ) → first_open slots ≡ Some q → times_open q slots ≤ 1
+    → settled q slots ≡ drained slots
 settled_first [] q e once = refl
 settled_first (None ∷ slots) q e once = ap (λ s. None ∷ s) (settled_first slots q e once)
 settled_first (Some p ∷ slots) q e once = let same : p ≡ q = cc in by_test (q == p) (grind (arith, same)) once
   where
-    by_test : (b : Bool) → b ≡ true → (if b then suc (times_open q slots) else times_open q slots) ≤ 1 → (if b then None else Some p) ∷ settled q slots ≡ None ∷ slots
+    by_test : (b : Bool) → b ≡ true → (if b then suc (times_open q slots) else times_open q slots) ≤ 1
+        → (if b then None else Some p) ∷ settled q slots ≡ None ∷ slots
     by_test true e once = ap (λ s. None ∷ s) (settled_none q slots (omega arith))
     by_test false e once = cc
 
@@ -206,7 +230,8 @@ new_times q zero = refl
 new_times q (suc n) = new_times q n
 
 -- a new process is one
-pub IsProcess_new : (numbered : Bool) (n : ℕ) → 1 ≤ n → n < 4294967296 → IsProcess (record { numbered = numbered; slots = replicate n None })
+pub IsProcess_new : (numbered : Bool) (n : ℕ) → 1 ≤ n → n < 4294967296
+    → IsProcess (record { numbered = numbered; slots = replicate n None })
 IsProcess_new numbered n some few = record {
   some_slot = rw (length-replicate {A = Option ℕ} n None) some;
   few_slots = rw (length-replicate {A = Option ℕ} n None) few;

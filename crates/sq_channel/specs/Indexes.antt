@@ -3,7 +3,7 @@ use Rattle.std.specs.Prelude.{◌≡◌, ℕ, suc, ◌≤◌, List, [], ◌∷�
 use Rattle.std.specs.declared.option.Option.{Option}
 use Rattle.std.specs.Option.{option_map}
 use Rattle.sq_machine.specs.Channels.{opened}
-use Rattle.sq_channel.specs.declared.questions.Place.{Place}
+use Rattle.sq_channel.specs.declared.questions.Slot.{Slot}
 
 -- channels in order, and for how many there is room
 pub record Numbers : Type 0 where
@@ -12,11 +12,11 @@ pub record Numbers : Type 0 where
 
 -- the places of open questions, by question, and for how many there is room
 pub record Places : Type 0 where
-  pub places : List Place
+  pub places : List Slot
   pub room : ℕ
 
 -- the question of a place
-abbrev pub place_question : Place → ℕ
+abbrev pub place_question : Slot → ℕ
 place_question p = p.question
 
 -- the channels that have no question, where the first of these is channel n
@@ -32,7 +32,7 @@ channel_with q (None ∷ slots) = option_map suc (channel_with q slots)
 channel_with q (Some p ∷ slots) = if q == p then Some 0 else option_map suc (channel_with q slots)
 
 -- the channel that stands with the question
-abbrev pub channel_in : ℕ → List Place → Option ℕ
+abbrev pub channel_in : ℕ → List Slot → Option ℕ
 channel_in q [] = None
 channel_in q (p ∷ places) = if q == p.question then Some p.channel else channel_in q places
 

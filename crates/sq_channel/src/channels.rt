@@ -78,7 +78,8 @@ impl FreeChannels {
     pub fn give(&mut self, channel: u32)
         requires room { length self.old.numbers < self.old.room }
         requires other { times_of channel self.old.numbers ≡ 0 }
-        ensures numbers { self.new.numbers ≡ insert self.old.numbers (place_among channel self.old.numbers) channel }
+        ensures numbers { self.new.numbers
+            ≡ insert self.old.numbers (place_among channel self.old.numbers) channel }
         ensures room { self.old.room ≤ self.new.room }
     {
         let place = place_of(&self.items, channel);

@@ -32,7 +32,8 @@ impl Model for Process {
 
     ghost view = { λ p. record { numbered = p.numbered; slots = p.slots.items } };
 
-    ghost invariant = { λ p. IsProcess (record { numbered = p.numbered; slots = p.slots.items }) × AreFree p.slots.items p.free × ArePlaces p.slots.items p.open };
+    ghost invariant = { λ p. IsProcess (record { numbered = p.numbered; slots = p.slots.items })
+        × AreFree p.slots.items p.free × ArePlaces p.slots.items p.open };
 }
 
 fn first_open(slots: &[Option<QuestionNo>]) -> Option<QuestionNo>
@@ -169,7 +170,8 @@ impl Process {
     /// What the line answers. A reply frees the channel of its question.
     pub fn got(&mut self, alloc: Global, line: &[u8]) -> Result<Got, WantOfMemory>
         ensures value { IfOk result (λ g. g ≡ got_in self.old line.now) }
-        ensures settled { IfOk result (λ g. self.new ≡ record self.old { slots = settled_by g self.old.slots }) }
+        ensures settled { IfOk result
+            (λ g. self.new ≡ record self.old { slots = settled_by g self.old.slots }) }
         ensures same { OnErr result (self.new ≡ self.old) }
     {
         let got = self.look(alloc, line)?;

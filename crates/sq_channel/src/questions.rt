@@ -10,7 +10,7 @@ use std::marker::Model;
 
 /// An open question and its channel.
 #[derive(Drop, Debug)]
-pub struct Place {
+pub struct Slot {
     pub question: QuestionNo,
     pub channel: u32,
 }
@@ -18,7 +18,7 @@ pub struct Place {
 /// Open questions and their channels, by question. A contract sees them, and for how many there is room.
 #[derive(Drop, Debug)]
 pub struct OpenQuestions {
-    items: VecDeque<Place>,
+    items: VecDeque<Slot>,
 }
 
 impl Model for OpenQuestions {
@@ -34,7 +34,7 @@ impl Model for OpenQuestions {
     ghost invariant = { λ o. Rises (map place_question o.items.items) };
 }
 
-fn place_of(items: &VecDeque<Place>, question: QuestionNo) -> usize
+fn place_of(items: &VecDeque<Slot>, question: QuestionNo) -> usize
     requires { Rises (map place_question items.now.items) }
     ensures place { result ≡ place_among question (map place_question items.now.items) }
     ensures bound { result ≤ length items.now.items }
@@ -63,19 +63,23 @@ impl OpenQuestions {
     pub fn note(&mut self, question: QuestionNo, channel: u32)
         requires room { length self.old.places < self.old.room }
         requires other { channel_in question self.old.places ≡ None }
-        ensures channels { (q : ℕ) → channel_in q self.new.places ≡ (if q == question then Some channel else channel_in q self.old.places) }
+        ensures channels { (q : ℕ)
+            → channel_in q self.new.places
+            ≡ (if q == question then Some channel else channel_in q self.old.places) }
         ensures count { length self.new.places ≡ length self.old.places + 1 }
         ensures room { self.old.room ≤ self.new.room }
     {
         let place = place_of(&self.items, question);
-        let _ = self.items.insert(place, Place { question, channel });
+        let _ = self.items.insert(place, Slot { question, channel });
     }
 
     /// Takes out a question, and answers its channel.
     pub fn forget(&mut self, question: QuestionNo) -> u32
         requires { is_some (channel_in question self.old.places) ≡ true }
         ensures channel { Some result ≡ channel_in question self.old.places }
-        ensures channels { (q : ℕ) → channel_in q self.new.places ≡ (if q == question then None else channel_in q self.old.places) }
+        ensures channels { (q : ℕ)
+            → channel_in q self.new.places
+            ≡ (if q == question then None else channel_in q self.old.places) }
         ensures count { length self.new.places + 1 ≡ length self.old.places }
         ensures room { self.new.room ≡ self.old.room }
     {

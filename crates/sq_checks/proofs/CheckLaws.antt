@@ -11,32 +11,32 @@ use Rattle.sq_rules.specs.Verdicts.{pool_of, verdict_over}
 use Rattle.sq_machine.specs.StepRule.{says_done}
 use Rattle.sq_rules.specs.declared.outcomes.Outcome.{Outcome}
 use Rattle.sq_rules.specs.declared.sights.Sight.{Sight}
-use Rattle.sq_rows.specs.CheckRows.{one_end, served, stepped}
-use Rattle.sq_rows.specs.StepRows.{question_told, told_of}
-use Rattle.sq_rows.specs.declared.said.Said.{Said}
-use Rattle.sq_rows.specs.declared.said.Stepped.{Stepped}
-use Rattle.sq_rows.specs.declared.said.Stepped.TheVariants as told
+use Rattle.sq_model_rows.specs.CheckRows.{one_end, served, stepped}
+use Rattle.sq_model_rows.specs.StepRows.{question_told, told_of}
+use Rattle.sq_model_rows.specs.declared.stepping.StepEffect.{StepEffect}
+use Rattle.sq_model_rows.specs.declared.stepping.Stepped.{Stepped}
+use Rattle.sq_model_rows.specs.declared.stepping.Stepped.TheVariants as told
 use Rattle.sq_rules.specs.declared.values.Value.{Value}
 use Rattle.sq_rules.specs.declared.values.Value.TheVariants as value
 use Rattle.sq_checks.specs.OpenChecks.{CheckParts, IsFit, answers_in, begun_parts, comes_to, ended_by, finished, is_need, noted, row, says_of, settled, step_more}
 use Rattle.sq_checks.specs.Stages.{IsStage, came_in, decided_in, ended_stage, given, is_done_in, is_idle, is_noted, is_settled, need_in, noted_stage}
-use Rattle.sq_checks.specs.declared.stages.Stage.{Stage}
-use Rattle.sq_checks.specs.declared.stages.Stage.TheVariants as stage
+use Rattle.sq_checks.specs.declared.stages.CheckStage.{CheckStage}
+use Rattle.sq_checks.specs.declared.stages.CheckStage.TheVariants as stage
 
 -- for a settled stage: no answer came
-pub settled_came : (s : Stage) → is_settled s ≡ true → came_in s ≡ None
+pub settled_came : (s : CheckStage) → is_settled s ≡ true → came_in s ≡ None
 settled_came stage.Ready h = refl
 settled_came (stage.Came a) h = absurd cc
 settled_came (stage.Waits n) h = refl
 settled_came (stage.Done o) h = refl
 
-idle_came : (s : Stage) → is_idle s ≡ true → came_in s ≡ None
+idle_came : (s : CheckStage) → is_idle s ≡ true → came_in s ≡ None
 idle_came stage.Ready h = refl
 idle_came (stage.Came a) h = absurd cc
 idle_came (stage.Waits n) h = refl
 idle_came (stage.Done o) h = absurd cc
 
-idle_done : (s : Stage) → is_idle s ≡ true → is_done_in s ≡ false
+idle_done : (s : CheckStage) → is_idle s ≡ true → is_done_in s ≡ false
 idle_done stage.Ready h = refl
 idle_done (stage.Came a) h = absurd cc
 idle_done (stage.Waits n) h = refl
@@ -49,18 +49,22 @@ settled_answers c h = rw (settled_came c.stage h) (append-nil c.answers)
 -- for what a settled check comes to, over what it sees as it is
 pub comes_settled : (c : CheckParts) → is_settled c.stage ≡ true → verdict_over c.answers c.config c.sight ≡ comes_to c
 comes_settled c h =
-    sym (over_unversioned c.answers c.config c.sight) ∙ ap (λ l. verdict_over l c.config (unversioned_sight c.sight)) (sym (settled_answers c h))
+    sym (over_unversioned c.answers c.config c.sight)
+    ∙ ap (λ l. verdict_over l c.config (unversioned_sight c.sight)) (sym (settled_answers c h))
 
 -- for a check that comes to a need: it is not done
-pub need_idle : (c : CheckParts) → is_settled c.stage ≡ true → IsStage c.config c.sight c.answers c.stage → (v : Value) → v ≡ comes_to c → is_need v ≡ true → is_idle c.stage ≡ true
+pub need_idle : (c : CheckParts) → is_settled c.stage ≡ true → IsStage c.config c.sight c.answers c.stage → (v : Value)
+    → v ≡ comes_to c → is_need v ≡ true → is_idle c.stage ≡ true
 need_idle c h i v is n = by c.stage refl i h
   where
-    by : (s : Stage) → c.stage ≡ s → IsStage c.config c.sight c.answers s → is_settled s ≡ true → is_idle c.stage ≡ true
+    by : (s : CheckStage) → c.stage ≡ s → IsStage c.config c.sight c.answers s → is_settled s ≡ true
+        → is_idle c.stage ≡ true
     by stage.Ready e j k = ap is_idle e
     by (stage.Came a) e j k = absurd cc
     by (stage.Waits m) e j k = ap is_idle e
     by (stage.Done o) e j k =
-        let known : v ≡ value.Verdict o = is ∙ ap (λ l. verdict_over l c.config (unversioned_sight c.sight)) (settled_answers c h) ∙ j in
+        let known : v ≡ value.Verdict o = is
+        ∙ ap (λ l. verdict_over l c.config (unversioned_sight c.sight)) (settled_answers c h) ∙ j in
         let none = rw known at n in
         absurd cc
 
@@ -73,14 +77,16 @@ ok_then (Err e) P Q f h = tt
 pub row_settled : (n : ℕ) (c : CheckParts) → row n (settled c) ≡ row n c
 row_settled n c = by c.stage refl
   where
-    by : (s : Stage) → c.stage ≡ s → row n (settled c) ≡ row n c
+    by : (s : CheckStage) → c.stage ≡ s → row n (settled c) ≡ row n c
     by stage.Ready e = rw e refl
     by (stage.Came a) e = rw (e, append-nil (c.answers ++ a ∷ [])) refl
     by (stage.Waits k) e = rw e refl
     by (stage.Done o) e = rw e refl
 
-noted_by : (n : ℕ) (c : CheckParts) (o : Option Answer) (t : Stepped) (class : ℕ) (key : List ℕ) → came_in c.stage ≡ None → is_done_in c.stage ≡ false → is_noted o t ≡ true
-    → row n (record c { stage = noted_stage o (question_told t) class key; steps = step_more c.steps }) ≡ stepped (record { answer = told_of [] t; put = None; took = o }) (row n c)
+noted_by : (n : ℕ) (c : CheckParts) (o : Option Answer) (t : Stepped) (class : ℕ) (key : List ℕ)
+    → came_in c.stage ≡ None → is_done_in c.stage ≡ false → is_noted o t ≡ true
+    → row n (record c { stage = noted_stage o (question_told t) class key; steps = step_more c.steps })
+    ≡ stepped (record { answer = told_of [] t; put = None; took = o }) (row n c)
 noted_by n c None (told.Took k) class key e d h = rw (e, d) (simp append-nil)
 noted_by n c None (told.Waits q) class key e d h = rw (e, d) (simp append-nil)
 noted_by n c None told.Done class key e d h = absurd cc
@@ -89,57 +95,71 @@ noted_by n c (Some a) (told.Waits q) class key e d h = absurd cc
 noted_by n c (Some a) told.Done class key e d h = absurd cc
 
 -- for a check after a step that asked: its row is stepped
-pub row_noted : (n : ℕ) (c : CheckParts) (s : Said) (class : ℕ) (key : List ℕ) → is_idle c.stage ≡ true → is_noted s.took s.stepped ≡ true
+pub row_noted : (n : ℕ) (c : CheckParts) (s : StepEffect) (class : ℕ) (key : List ℕ) → is_idle c.stage ≡ true
+    → is_noted s.took s.stepped ≡ true
     → row n (noted s class key c) ≡ stepped (says_of s) (row n c)
 row_noted n c s class key i h = noted_by n c s.took s.stepped class key (idle_came c.stage i) (idle_done c.stage i) h
 
 -- for a check after a step that came to a verdict
-pub row_finished : (n : ℕ) (c : CheckParts) (o : Outcome) → is_settled c.stage ≡ true → row n (finished o c) ≡ stepped says_done (row n c)
+pub row_finished : (n : ℕ) (c : CheckParts) (o : Outcome) → is_settled c.stage ≡ true
+    → row n (finished o c) ≡ stepped says_done (row n c)
 row_finished n c o h = rw (settled_came c.stage h) (simp append-nil)
 
 -- for a check after the end of a question
-pub row_ended : (n q : ℕ) (a : Answer) (w : What) (now : ℕ) (c : CheckParts) → IsFit q a w now c.stage → row n (ended_by q w now c) ≡ served (one_end q a) (row n c)
+pub row_ended : (n q : ℕ) (a : Answer) (w : What) (now : ℕ) (c : CheckParts) → IsFit q a w now c.stage
+    → row n (ended_by q w now c) ≡ served (one_end q a) (row n c)
 row_ended n q a w now c fit = by c.stage refl fit
   where
-    by : (s : Stage) → c.stage ≡ s → IsFit q a w now s → row n (ended_by q w now c) ≡ served (one_end q a) (row n c)
+    by : (s : CheckStage) → c.stage ≡ s → IsFit q a w now s
+        → row n (ended_by q w now c) ≡ served (one_end q a) (row n c)
     by stage.Ready e f = rw e refl
     by (stage.Came b) e f = rw e refl
-    by (stage.Waits k) e f = (elim (k.question == q) as (λ y. (k.question == q) ≡ y → row n (ended_by q w now c) ≡ served (one_end q a) (row n c)) [
-      | true ↦ λ t. let is : a ≡ given w now k = f t in rw (e, t, is) (simp append-nil)
-      | false ↦ λ t. rw (e, t) refl
-    ]) refl
+    by (stage.Waits k) e f = (elim (k.question == q) as
+        (λ y. (k.question == q) ≡ y → row n (ended_by q w now c) ≡ served (one_end q a) (row n c)) [
+          | true ↦ λ t. let is : a ≡ given w now k = f t in rw (e, t, is) (simp append-nil)
+          | false ↦ λ t. rw (e, t) refl
+        ]) refl
     by (stage.Done o) e f = rw e refl
 
 -- for the end of a question that comes twice
-pub ended_twice : (q : ℕ) (w : What) (now : ℕ) (s : Stage) → ended_stage q w now (ended_stage q w now s) ≡ ended_stage q w now s
+pub ended_twice : (q : ℕ) (w : What) (now : ℕ) (s : CheckStage)
+    → ended_stage q w now (ended_stage q w now s) ≡ ended_stage q w now s
 ended_twice q w now stage.Ready = refl
 ended_twice q w now (stage.Came a) = refl
-ended_twice q w now (stage.Waits k) = (elim (k.question == q) as (λ y. (k.question == q) ≡ y → ended_stage q w now (ended_stage q w now (stage.Waits k)) ≡ ended_stage q w now (stage.Waits k)) [
-  | true ↦ λ t. rw t refl
-  | false ↦ λ t. rw (t, t) refl
-]) refl
+ended_twice q w now (stage.Waits k) = (elim (k.question == q) as
+    (λ y. (k.question == q) ≡ y
+    → ended_stage q w now (ended_stage q w now (stage.Waits k)) ≡ ended_stage q w now (stage.Waits k)) [
+      | true ↦ λ t. rw t refl
+      | false ↦ λ t. rw (t, t) refl
+    ]) refl
 ended_twice q w now (stage.Done o) = refl
 
 -- for a stage after a step that asked: it is sound
-pub noted_sound : (config : Configuration) (sight : Sight) (answers : List Answer) (o : Option Answer) (q : Option ℕ) (class : ℕ) (key : List ℕ)
-    → has_answer answers class key ≡ false → IfSome o (λ a. (a.class ≡ class) × (a.key ≡ key)) → IsStage config sight answers (noted_stage o q class key)
+pub noted_sound : (config : Configuration) (sight : Sight) (answers : List Answer) (o : Option Answer) (q : Option ℕ)
+    (class : ℕ) (key : List ℕ)
+    → has_answer answers class key ≡ false → IfSome o (λ a. (a.class ≡ class) × (a.key ≡ key))
+    → IsStage config sight answers (noted_stage o q class key)
 noted_sound config sight answers None None class key h f = tt
 noted_sound config sight answers None (Some q) class key h f = h
 noted_sound config sight answers (Some a) q class key h f = rw (f.0, f.1) h
 
 -- for a stage after the end of a question: it is sound
-pub ended_sound : (config : Configuration) (sight : Sight) (answers : List Answer) (q : ℕ) (w : What) (now : ℕ) (s : Stage) → IsStage config sight answers s
+pub ended_sound : (config : Configuration) (sight : Sight) (answers : List Answer) (q : ℕ) (w : What) (now : ℕ)
+    (s : CheckStage) → IsStage config sight answers s
     → IsStage config sight answers (ended_stage q w now s)
 ended_sound config sight answers q w now stage.Ready h = h
 ended_sound config sight answers q w now (stage.Came a) h = h
-ended_sound config sight answers q w now (stage.Waits k) h = (elim (k.question == q) as (λ y. (k.question == q) ≡ y → IsStage config sight answers (ended_stage q w now (stage.Waits k))) [
-  | true ↦ λ t. rw t h
-  | false ↦ λ t. rw t h
-]) refl
+ended_sound config sight answers q w now (stage.Waits k) h =
+    (elim (k.question == q) as
+    (λ y. (k.question == q) ≡ y → IsStage config sight answers (ended_stage q w now (stage.Waits k))) [
+      | true ↦ λ t. rw t h
+      | false ↦ λ t. rw t h
+    ]) refl
 ended_sound config sight answers q w now (stage.Done o) h = h
 
 -- for an answer that came: it is new
-pub came_new : (config : Configuration) (sight : Sight) (answers : List Answer) (s : Stage) (a : Answer) → IsStage config sight answers s → came_in s ≡ Some a
+pub came_new : (config : Configuration) (sight : Sight) (answers : List Answer) (s : CheckStage) (a : Answer)
+    → IsStage config sight answers s → came_in s ≡ Some a
     → has_answer answers a.class a.key ≡ false
 came_new config sight answers stage.Ready a i e = absurd cc
 came_new config sight answers (stage.Came b) a i e = let same : a ≡ b = cc in rw same i
@@ -147,7 +167,8 @@ came_new config sight answers (stage.Waits k) a i e = absurd cc
 came_new config sight answers (stage.Done o) a i e = absurd cc
 
 -- for what is waited for: it is new
-pub need_new : (config : Configuration) (sight : Sight) (answers : List Answer) (s : Stage) → IsStage config sight answers s
+pub need_new : (config : Configuration) (sight : Sight) (answers : List Answer) (s : CheckStage)
+    → IsStage config sight answers s
     → IfSome (need_in s) (λ n. has_answer answers n.class n.key ≡ false)
 need_new config sight answers stage.Ready i = tt
 need_new config sight answers (stage.Came a) i = tt
@@ -155,7 +176,8 @@ need_new config sight answers (stage.Waits n) i = i
 need_new config sight answers (stage.Done o) i = tt
 
 -- for an outcome that a step said: it is the verdict over what is seen as it is
-pub decided_is : (config : Configuration) (sight : Sight) (answers : List Answer) (s : Stage) → IsStage config sight answers s
+pub decided_is : (config : Configuration) (sight : Sight) (answers : List Answer) (s : CheckStage)
+    → IsStage config sight answers s
     → IfSome (decided_in s) (λ o. verdict_over answers config sight ≡ value.Verdict o)
 decided_is config sight answers stage.Ready i = tt
 decided_is config sight answers (stage.Came a) i = tt
@@ -169,11 +191,24 @@ found_has P (Some y) x e h = let same : y ≡ x = cc in subst P same h
 
 -- a check of these parts that was not stepped yet
 abbrev pub parts_of : ℕ → ℕ → Configuration → Sight → Option ℕ → List Answer → ℕ → CheckParts
-parts_of conn epoch config sight pool answers looks = record { conn = conn; epoch = epoch; config = config; sight = sight; pool = pool; answers = answers; stage = stage.Ready; looks = looks; steps = 0 }
+parts_of conn epoch config sight pool answers looks = record {
+  conn = conn;
+  epoch = epoch;
+  config = config;
+  sight = sight;
+  pool = pool;
+  answers = answers;
+  stage = stage.Ready;
+  looks = looks;
+  steps = 0;
+}
 
 -- for a check that begins
-pub begun_is : (conn epoch : ℕ) (config d : Configuration) (sight : Sight) (pool : Option ℕ) (answers : List Answer) (looks : ℕ) → config ≡ d → pool ≡ pool_of d sight → answers ≡ [] → looks ≡ 0
+pub begun_is : (conn epoch : ℕ) (config d : Configuration) (sight : Sight) (pool : Option ℕ) (answers : List Answer)
+    (looks : ℕ) → config ≡ d → pool ≡ pool_of d sight → answers ≡ [] → looks ≡ 0
     → parts_of conn epoch config sight pool answers looks ≡ begun_parts conn epoch d sight
 begun_is conn epoch config d sight pool answers looks is theirs none first =
-    ap (λ c. parts_of conn epoch c sight pool answers looks) is ∙ ap (λ p. parts_of conn epoch d sight p answers looks) theirs
-    ∙ ap (λ l. parts_of conn epoch d sight (pool_of d sight) l looks) none ∙ ap (parts_of conn epoch d sight (pool_of d sight) []) first
+    ap (λ c. parts_of conn epoch c sight pool answers looks) is
+    ∙ ap (λ p. parts_of conn epoch d sight p answers looks) theirs
+    ∙ ap (λ l. parts_of conn epoch d sight (pool_of d sight) l looks) none
+    ∙ ap (parts_of conn epoch d sight (pool_of d sight) []) first

@@ -14,8 +14,12 @@ tally t a = unwrap_or (value_at (if a.v6 then t.v6 else t.v4) a.number) 0
 
 -- one more of a number, and the others as they were
 abbrev pub Raises : List (ℕ × ℕ) → List (ℕ × ℕ) → ℕ → Type 0
-Raises old new n = (k : ℕ) → unwrap_or (value_at new k) 0 ≡ (if n == k then suc (unwrap_or (value_at old k) 0) else unwrap_or (value_at old k) 0)
+Raises old new n = (k : ℕ)
+    → unwrap_or (value_at new k) 0
+    ≡ (if n == k then suc (unwrap_or (value_at old k) 0) else unwrap_or (value_at old k) 0)
 
 -- one less of a number, and the others as they were
 abbrev pub Lowers : List (ℕ × ℕ) → List (ℕ × ℕ) → ℕ → Type 0
-Lowers old new n = (k : ℕ) → unwrap_or (value_at new k) 0 ≡ (if n == k then unwrap_or (value_at old k) 0 - 1 else unwrap_or (value_at old k) 0)
+Lowers old new n = (k : ℕ)
+    → unwrap_or (value_at new k) 0
+    ≡ (if n == k then unwrap_or (value_at old k) 0 - 1 else unwrap_or (value_at old k) 0)

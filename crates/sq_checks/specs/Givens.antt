@@ -32,10 +32,12 @@ found_value acl (found.Open key) = Need acl key
 -- what was given for an external acl is the value of the answer for its class and its key
 abbrev pub AreGiven : Configuration → Sight → List Answer → Standing → Type 0
 AreGiven config sight answers f =
-    (acl : ℕ) (g : Given) → is_external_at config.acls acl ≡ true → given_to f acl ≡ Some g → taken_at config sight answers acl ≡ given_value acl (Some g)
+    (acl : ℕ) (g : Given) → is_external_at config.acls acl ≡ true → given_to f acl ≡ Some g
+    → taken_at config sight answers acl ≡ given_value acl (Some g)
 
 -- frames at a place in the rules of a configuration over these facts, given what these answers give
-pub record AreFrames (config : Configuration) (sight : Sight) (answers : List Answer) (facts : List Bool) (f : Standing) : Type 0 where
+pub record AreFrames (config : Configuration) (sight : Sight) (answers : List Answer)
+    (facts : List Bool) (f : Standing) : Type 0 where
   pub config_is : f.config ≡ config
   pub over : IsOver facts f
   pub given : AreGiven config sight answers f

@@ -16,18 +16,19 @@ use Rattle.sq_rules.specs.declared.outcomes.Outcome.{Outcome}
 use Rattle.sq_rules.specs.declared.sights.Sight.{Sight}
 use Rattle.sq_rules.specs.declared.values.Value.{Value}
 use Rattle.sq_rules.specs.declared.values.Value.TheVariants as value
-use Rattle.sq_rows.specs.CheckRows.{Ends, Held, held_on}
-use Rattle.sq_rows.specs.StepRows.{question_told, told_of}
-use Rattle.sq_rows.specs.declared.said.Said.{Said}
+use Rattle.sq_model_rows.specs.CheckRows.{Ends, Held, held_on}
+use Rattle.sq_model_rows.specs.StepRows.{question_told, told_of}
+use Rattle.sq_model_rows.specs.declared.stepping.StepEffect.{StepEffect}
 use Rattle.sq_frames.specs.Standing.{Standing}
 use Rattle.sq_checks.specs.Givens.{AreFrames}
 use Rattle.sq_checks.specs.Stages.{IsStage, came_in, ended_stage, given, is_done_in, is_idle, is_noted, noted_stage, question_in}
 use Rattle.sq_checks.specs.Tables.{value_at}
-use Rattle.sq_checks.specs.declared.stages.Stage.{Stage}
-use Rattle.sq_checks.specs.declared.stages.Stage.TheVariants as stage
+use Rattle.sq_checks.specs.declared.stages.CheckStage.{CheckStage}
+use Rattle.sq_checks.specs.declared.stages.CheckStage.TheVariants as stage
 
--- an open check: its connection, its epoch with the configuration, what it saw, its pool, the answers that are put, how far it has come, how many
--- facts were looked at, and how often it was stepped
+-- an open check: its connection, its epoch with the configuration, what it saw, its pool, the
+-- answers that are put, how far it has come, how many facts were looked at, and how often it was
+-- stepped
 pub record CheckParts : Type 0 where
   pub conn : ℕ
   pub epoch : ℕ
@@ -35,7 +36,7 @@ pub record CheckParts : Type 0 where
   pub sight : Sight
   pub pool : Option ℕ
   pub answers : List Answer
-  pub stage : Stage
+  pub stage : CheckStage
   pub looks : ℕ
   pub steps : ℕ
 
@@ -53,7 +54,8 @@ begun_parts conn epoch config sight = record {
   steps = 0;
 }
 
--- its facts are those of what it saw, so is its pool, its stage is sound, and its frames were given what its answers give
+-- its facts are those of what it saw, so is its pool, its stage is sound, and its frames were given
+-- what its answers give
 pub record IsCheck (c : CheckParts) (facts : List Bool) (frames : Standing) : Type 0 where
   pub facts_are : facts ≡ facts_of c.config.acls c.sight
   pub pool_is : c.pool ≡ pool_of c.config c.sight
@@ -73,11 +75,13 @@ abbrev pub is_need : Value → Bool
 is_need (value.Verdict o) = false
 is_need (value.Need acl key) = true
 
--- this is what a check comes to; where it is a need, the check is not done, and has no answer of that class and key
+-- this is what a check comes to; where it is a need, the check is not done, and has no answer of
+-- that class and key
 pub record HasCome (c : CheckParts) (v : Value) : Type 0 where
   pub comes : v ≡ comes_to c
   pub idle : is_need v ≡ true → is_idle c.stage ≡ true
-  pub other : (acl class : ℕ) (key : List ℕ) → v ≡ value.Need acl key → class_of_acl c.config.acls acl ≡ Some class → has_answer c.answers class key ≡ false
+  pub other : (acl class : ℕ) (key : List ℕ) → v ≡ value.Need acl key
+      → class_of_acl c.config.acls acl ≡ Some class → has_answer c.answers class key ≡ false
 
 -- a check after so many looks
 abbrev pub looked : ℕ → CheckParts → CheckParts
@@ -114,8 +118,9 @@ abbrev pub step_more : ℕ → ℕ
 step_more n = min last_number (suc n)
 
 -- a check after a step that asked for this key of this class
-abbrev pub noted : Said → ℕ → List ℕ → CheckParts → CheckParts
-noted s class key c = record c { stage = noted_stage s.took (question_told s.stepped) class key; steps = step_more c.steps }
+abbrev pub noted : StepEffect → ℕ → List ℕ → CheckParts → CheckParts
+noted s class key c = record c
+    { stage = noted_stage s.took (question_told s.stepped) class key; steps = step_more c.steps }
 
 -- a check after a step that said that it is done
 abbrev pub finished : Outcome → CheckParts → CheckParts
@@ -126,7 +131,7 @@ abbrev pub ended_by : ℕ → What → ℕ → CheckParts → CheckParts
 ended_by q w now c = record c { stage = ended_stage q w now c.stage }
 
 -- what a step says, as far as a check changes by it
-abbrev pub says_of : Said → StepSays
+abbrev pub says_of : StepEffect → StepSays
 says_of s = record { answer = told_of [] s.stepped; put = None; took = s.took }
 
 abbrev pub change_entry : ℕ → (CheckParts → CheckParts) → ℕ × CheckParts → ℕ × CheckParts
@@ -153,7 +158,7 @@ abbrev pub wait_at : ℕ → List (ℕ × CheckParts) → Option ℕ
 wait_at n checks = option_and_then (λ c. question_in c.stage) (value_at checks n)
 
 -- the answer is the one that the end of a question gives, where the stage waits for that one
-abbrev pub IsFit : ℕ → Answer → What → ℕ → Stage → Type 0
+abbrev pub IsFit : ℕ → Answer → What → ℕ → CheckStage → Type 0
 IsFit q a w now stage.Ready = Unit {0}
 IsFit q a w now (stage.Came b) = Unit {0}
 IsFit q a w now (stage.Waits n) = (n.question == q) ≡ true → a ≡ given w now n
@@ -173,8 +178,9 @@ abbrev pub AllAre : What → List What → Type 0
 AllAre w [] = Unit {0}
 AllAre w (x ∷ xs) = (x ≡ w) × AllAre w xs
 
--- what a step says that asked for this key of this class: it took an answer of these, or was told to wait
-pub record IsNoted (class : ℕ) (key : List ℕ) (s : Said) : Type 0 where
+-- what a step says that asked for this key of this class: it took an answer of these, or was told
+-- to wait
+pub record IsNoted (class : ℕ) (key : List ℕ) (s : StepEffect) : Type 0 where
   pub fits : is_noted s.took s.stepped ≡ true
   pub took : IfSome s.took (λ a. (a.class ≡ class) × (a.key ≡ key))
 

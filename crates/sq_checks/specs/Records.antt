@@ -14,8 +14,8 @@ use Rattle.sq_rules.specs.declared.values.Value.TheVariants as value
 use Rattle.sq_checks.specs.Givens.{leaves_over}
 use Rattle.sq_checks.specs.OpenChecks.{CheckParts}
 
--- a check that is over: its number, its epoch with the configuration, what it saw, its answers in order, the outcome, its pool, how many facts were
--- looked at, and how often it was stepped
+-- a check that is over: its number, its epoch with the configuration, what it saw, its answers in
+-- order, the outcome, its pool, how many facts were looked at, and how often it was stepped
 pub record Judged : Type 0 where
   pub check : ℕ
   pub epoch : ℕ
@@ -27,8 +27,9 @@ pub record Judged : Type 0 where
   pub looks : ℕ
   pub steps : ℕ
 
--- its facts are those of what was seen, the outcome is the verdict of the configuration over that and the answers, the pool is theirs, and no more
--- facts were looked at than the walk of that verdict has leaf acls
+-- its facts are those of what was seen, the outcome is the verdict of the configuration over that
+-- and the answers, the pool is theirs, and no more facts were looked at than the walk of that
+-- verdict has leaf acls
 pub record IsJudged (r : Judged) (facts : List Bool) : Type 0 where
   pub facts_are : facts ≡ facts_of r.config.acls r.sight
   pub verdict_is : verdict_over r.answers r.config r.sight ≡ value.Verdict r.outcome
@@ -51,4 +52,5 @@ judged_of n o c = record {
 
 -- the pool at a place is there, and a client of this address does not pass over it
 abbrev pub takes_client : List Pool → Address → ℕ → Bool
-takes_client pools a place = option_map_or (λ p. not (is_passed_over a p)) (slice_get pools place) false
+takes_client pools a place = option_map_or (λ p. not (is_passed_over a p)) (slice_get pools place)
+    false

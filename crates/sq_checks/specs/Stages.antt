@@ -10,44 +10,44 @@ use Rattle.sq_rules.specs.Verdicts.{verdict_over}
 use Rattle.sq_rules.specs.declared.outcomes.Outcome.{Outcome}
 use Rattle.sq_rules.specs.declared.sights.Sight.{Sight}
 use Rattle.sq_rules.specs.declared.values.Value.TheVariants as value
-use Rattle.sq_rows.specs.declared.said.Stepped.{Stepped}
-use Rattle.sq_rows.specs.declared.said.Stepped.TheVariants as told
+use Rattle.sq_model_rows.specs.declared.stepping.Stepped.{Stepped}
+use Rattle.sq_model_rows.specs.declared.stepping.Stepped.TheVariants as told
 use Rattle.sq_checks.specs.declared.stages.Need.{Need}
-use Rattle.sq_checks.specs.declared.stages.Stage.{Stage}
-use Rattle.sq_checks.specs.declared.stages.Stage.TheVariants as stage
+use Rattle.sq_checks.specs.declared.stages.CheckStage.{CheckStage}
+use Rattle.sq_checks.specs.declared.stages.CheckStage.TheVariants as stage
 
 -- the question that is waited for
-abbrev pub question_in : Stage → Option ℕ
+abbrev pub question_in : CheckStage → Option ℕ
 question_in (stage.Waits n) = Some n.question
 question_in s = None
 
 -- what is waited for
-abbrev pub need_in : Stage → Option Need
+abbrev pub need_in : CheckStage → Option Need
 need_in (stage.Waits n) = Some n
 need_in s = None
 
 -- the answer that came and is not put among the others
-abbrev pub came_in : Stage → Option Answer
+abbrev pub came_in : CheckStage → Option Answer
 came_in (stage.Came a) = Some a
 came_in s = None
 
 -- the outcome, where a step said that there is one
-abbrev pub decided_in : Stage → Option Outcome
+abbrev pub decided_in : CheckStage → Option Outcome
 decided_in (stage.Done o) = Some o
 decided_in s = None
 
 -- a step said that the check is done
-abbrev pub is_done_in : Stage → Bool
+abbrev pub is_done_in : CheckStage → Bool
 is_done_in (stage.Done o) = true
 is_done_in s = false
 
 -- no answer is left to be put among the others
-abbrev pub is_settled : Stage → Bool
+abbrev pub is_settled : CheckStage → Bool
 is_settled (stage.Came a) = false
 is_settled s = true
 
 -- and it is not done
-abbrev pub is_idle : Stage → Bool
+abbrev pub is_idle : CheckStage → Bool
 is_idle stage.Ready = true
 is_idle (stage.Came a) = false
 is_idle (stage.Waits n) = true
@@ -55,19 +55,29 @@ is_idle (stage.Done o) = false
 
 -- the answer that the end of a question gives at a moment
 abbrev pub given : What → ℕ → Need → Answer
-given w now n = record { class = n.class; key = n.key; what = w; question = Some n.question; date = now; taken = now }
+given w now n = record {
+  class = n.class;
+  key = n.key;
+  what = w;
+  question = Some n.question;
+  date = now;
+  taken = now;
+}
 
 -- the stage after a question ended with this: a check that waits for it is given its answer
-abbrev pub ended_stage : ℕ → What → ℕ → Stage → Stage
+abbrev pub ended_stage : ℕ → What → ℕ → CheckStage → CheckStage
 ended_stage q w now stage.Ready = stage.Ready
 ended_stage q w now (stage.Came a) = stage.Came a
-ended_stage q w now (stage.Waits n) = if n.question == q then stage.Came (given w now n) else stage.Waits n
+ended_stage q w now (stage.Waits n) = if n.question == q then stage.Came (given w now n)
+    else stage.Waits n
 ended_stage q w now (stage.Done o) = stage.Done o
 
--- the stage after a step that asked for this key of this class: what it took has come, or it waits for what it was told to
-abbrev pub noted_stage : Option Answer → Option ℕ → ℕ → List ℕ → Stage
+-- the stage after a step that asked for this key of this class: what it took has come, or it waits
+-- for what it was told to
+abbrev pub noted_stage : Option Answer → Option ℕ → ℕ → List ℕ → CheckStage
 noted_stage (Some a) q class key = stage.Came a
-noted_stage None (Some q) class key = stage.Waits (record { question = q; class = class; key = key })
+noted_stage None (Some q) class key = stage.Waits
+    (record { question = q; class = class; key = key })
 noted_stage None None class key = stage.Ready
 
 -- a step takes an answer, or is told to wait
@@ -78,8 +88,9 @@ is_noted (Some a) (told.Waits q) = false
 is_noted took told.Done = false
 
 -- what came is new, what is waited for is new, and what is done is the verdict
-abbrev pub IsStage : Configuration → Sight → List Answer → Stage → Type 0
+abbrev pub IsStage : Configuration → Sight → List Answer → CheckStage → Type 0
 IsStage config sight answers stage.Ready = Unit {0}
 IsStage config sight answers (stage.Came a) = has_answer answers a.class a.key ≡ false
 IsStage config sight answers (stage.Waits n) = has_answer answers n.class n.key ≡ false
-IsStage config sight answers (stage.Done o) = verdict_over answers config (unversioned_sight sight) ≡ value.Verdict o
+IsStage config sight answers (stage.Done o) = verdict_over answers config (unversioned_sight sight)
+    ≡ value.Verdict o

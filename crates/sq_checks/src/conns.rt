@@ -6,7 +6,7 @@ ghost use Rattle.sq_machine.specs.Limits.{conn_limit};
 ghost use Rattle.sq_checks.specs.Conns.{check_in, client_in, lowered};
 ghost use Rattle.sq_checks.specs.Counts.{tally};
 
-use crate::counts::Counts;
+use crate::counts::ConnCounts;
 use crate::tables::Table;
 use sq_base::{Addr, CheckNo, ConnNo, WantOfMemory};
 use sq_machine::CONN_LIMIT;
@@ -25,7 +25,7 @@ pub struct Link {
 /// open check of each connection, how many are open, and the count of each address.
 pub struct Conns {
     links: Table<Link>,
-    counts: Counts,
+    counts: ConnCounts,
 }
 
 // Written out, so that the drops of its parts are proved here alone, and not in each crate that lets connections go.
@@ -54,7 +54,7 @@ impl Conns {
     {
         Conns {
             links: Table::new(alloc),
-            counts: Counts::new(alloc),
+            counts: ConnCounts::new(alloc),
         }
     }
 
@@ -109,10 +109,16 @@ impl Conns {
     /// Opens a connection that is not open. It has no check.
     pub fn open(&mut self, conn: ConnNo, addr: Addr, port: u16) -> Result<(), WantOfMemory>
         requires { client_in self.old conn ≡ None }
-        ensures clients { OnOk result ((c : ℕ) → client_in self.new c ≡ (if conn == c then Some (record { addr = addr; port = port }) else client_in self.old c)) }
+        ensures clients { OnOk result
+            ((c : ℕ) → client_in self.new c
+            ≡ (if conn == c then Some (record { addr = addr; port = port })
+            else client_in self.old c)) }
         ensures checks { OnOk result ((c : ℕ) → check_in self.new c ≡ check_in self.old c) }
         ensures len { OnOk result (length self.new.links ≡ suc (length self.old.links)) }
-        ensures counts { OnOk result ((a : Address) → tally self.new.counts a ≡ (if is_address a addr then suc (tally self.old.counts a) else tally self.old.counts a)) }
+        ensures counts { OnOk result
+            ((a : Address) → tally self.new.counts a
+            ≡ (if is_address a addr then suc (tally self.old.counts a)
+            else tally self.old.counts a)) }
         ensures err { OnErr result (self.new ≡ self.old) }
     {
         let link = Link {
@@ -132,10 +138,14 @@ impl Conns {
     /// Closes a connection, and tells its client; none where it is not open. It takes no memory.
     pub fn close(&mut self, conn: ConnNo) -> Option<Peer>
         ensures client { result ≡ client_in self.old conn }
-        ensures clients { (c : ℕ) → client_in self.new c ≡ (if conn == c then None else client_in self.old c) }
-        ensures checks { (c : ℕ) → check_in self.new c ≡ (if conn == c then None else check_in self.old c) }
-        ensures len { length self.new.links ≡ (if is_some result then length self.old.links - 1 else length self.old.links) }
-        ensures counts { (a : Address) → tally self.new.counts a ≡ lowered result a (tally self.old.counts a) }
+        ensures clients { (c : ℕ)
+            → client_in self.new c ≡ (if conn == c then None else client_in self.old c) }
+        ensures checks { (c : ℕ)
+            → check_in self.new c ≡ (if conn == c then None else check_in self.old c) }
+        ensures len { length self.new.links
+            ≡ (if is_some result then length self.old.links - 1 else length self.old.links) }
+        ensures counts { (a : Address)
+            → tally self.new.counts a ≡ lowered result a (tally self.old.counts a) }
     {
         let Some(link) = self.links.get(conn.0 as u128) else {
             return None;
@@ -151,7 +161,8 @@ impl Conns {
     pub fn set_check(&mut self, conn: ConnNo, check: Option<CheckNo>)
         requires { is_some (client_in self.old conn) ≡ true }
         ensures clients { (c : ℕ) → client_in self.new c ≡ client_in self.old c }
-        ensures checks { (c : ℕ) → check_in self.new c ≡ (if conn == c then check else check_in self.old c) }
+        ensures checks { (c : ℕ)
+            → check_in self.new c ≡ (if conn == c then check else check_in self.old c) }
         ensures len { length self.new.links ≡ length self.old.links }
         ensures counts { self.new.counts ≡ self.old.counts }
     {

@@ -12,12 +12,12 @@ use std::marker::Model;
 
 /// The counts of addresses that have some. A contract sees those of both kinds.
 #[derive(Drop)]
-pub struct Counts {
+pub struct ConnCounts {
     v4: Table<u32>,
     v6: Table<u32>,
 }
 
-impl Model for Counts {
+impl Model for ConnCounts {
     ghost use Rattle.sq_checks.specs.Counts.{Tallies};
 
     ghost Value = { Tallies };
@@ -35,12 +35,12 @@ fn count_in(table: &Table<u32>, number: u128) -> u32
     }
 }
 
-impl Counts {
+impl ConnCounts {
     /// No address has any.
-    pub fn new(alloc: Global) -> Counts
+    pub fn new(alloc: Global) -> ConnCounts
         ensures { (a : Address) → tally result a ≡ 0 }
     {
-        Counts {
+        ConnCounts {
             v4: Table::new(alloc),
             v6: Table::new(alloc),
         }
@@ -59,7 +59,9 @@ impl Counts {
 
     /// One more of an address.
     pub fn raise(&mut self, addr: Addr) -> Result<(), WantOfMemory>
-        ensures ok { OnOk result ((a : Address) → tally self.new a ≡ (if is_address a addr then suc (tally self.old a) else tally self.old a)) }
+        ensures ok { OnOk result
+            ((a : Address) → tally self.new a
+            ≡ (if is_address a addr then suc (tally self.old a) else tally self.old a)) }
         ensures err { OnErr result (self.new ≡ self.old) }
     {
         if addr.v6 {
@@ -71,7 +73,9 @@ impl Counts {
 
     /// One less of an address.
     pub fn lower(&mut self, addr: Addr)
-        ensures { (a : Address) → tally self.new a ≡ (if is_address a addr then tally self.old a - 1 else tally self.old a) }
+        ensures { (a : Address)
+            → tally self.new a ≡ (if is_address a addr then tally self.old a - 1
+            else tally self.old a) }
     {
         if addr.v6 {
             lower(&mut self.v6, addr.number)

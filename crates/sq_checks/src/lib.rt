@@ -22,4 +22,4 @@ pub use going::class_of;
 pub use open_check::OpenCheck;
 pub use open_checks::OpenChecks;
 pub use records::Record;
-pub use stages::{Need, Stage};
+pub use stages::{CheckStage, Need};

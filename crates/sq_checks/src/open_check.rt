@@ -13,12 +13,12 @@ ghost use Rattle.sq_checks.specs.Stages.{decided_in, is_idle, is_settled, need_i
 
 use crate::going::come_to;
 use crate::records::Record;
-use crate::stages::{Need, Stage, came, decided, ended, need_of, noted, question};
+use crate::stages::{CheckStage, Need, came, decided, ended, need_of, noted, question};
 use sq_base::{Answers, CheckNo, ConnNo, EpochNo, Moment, QuestionNo, Text, WantOfMemory, What};
 use sq_eval::pool_of;
 use sq_frames::{Frames, Slots};
 use sq_machine::LAST_NUMBER;
-use sq_rows::Said;
+use sq_model_rows::StepEffect;
 use sq_rules::{Config, Facts, Outcome, Sight, Value};
 use std::alloc::Global;
 use std::marker::Model;
@@ -36,7 +36,7 @@ pub struct OpenCheck {
     frames: Frames,
     pool: Option<u32>,
     answers: Answers,
-    stage: Stage,
+    stage: CheckStage,
     steps: u64,
 }
 
@@ -47,9 +47,30 @@ impl Model for OpenCheck {
 
     ghost Value = { CheckParts };
 
-    ghost view = { λ c. record { conn = c.conn; epoch = c.epoch; config = arc_value c.config; sight = c.sight; pool = c.pool; answers = c.answers; stage = c.stage; looks = looks_in c.frames; steps = c.steps } };
+    ghost view = { λ c. record {
+      conn = c.conn;
+      epoch = c.epoch;
+      config = arc_value c.config;
+      sight = c.sight;
+      pool = c.pool;
+      answers = c.answers;
+      stage = c.stage;
+      looks = looks_in c.frames;
+      steps = c.steps;
+    } };
 
-    ghost invariant = { λ c. IsCheck (record { conn = c.conn; epoch = c.epoch; config = arc_value c.config; sight = c.sight; pool = c.pool; answers = c.answers; stage = c.stage; looks = looks_in c.frames; steps = c.steps }) c.facts c.frames };
+    ghost invariant = { λ c. IsCheck
+        (record {
+          conn = c.conn;
+          epoch = c.epoch;
+          config = arc_value c.config;
+          sight = c.sight;
+          pool = c.pool;
+          answers = c.answers;
+          stage = c.stage;
+          looks = looks_in c.frames;
+          steps = c.steps;
+        }) c.facts c.frames };
 }
 
 // A step more.
@@ -89,7 +110,7 @@ impl OpenCheck {
             frames,
             pool,
             answers: Answers::new(alloc),
-            stage: Stage::Ready,
+            stage: CheckStage::Ready,
             steps: 0,
         })
     }
@@ -133,7 +154,8 @@ impl OpenCheck {
     /// answer.
     pub fn need(&self) -> Option<&Need>
         ensures value { option_copied result ≡ need_in self.now.stage }
-        ensures other { IfSome (need_in self.now.stage) (λ n. has_answer self.now.answers n.class n.key ≡ false) }
+        ensures other { IfSome (need_in self.now.stage)
+            (λ n. has_answer self.now.answers n.class n.key ≡ false) }
     {
         need_of(&self.stage)
     }
@@ -142,7 +164,8 @@ impl OpenCheck {
     /// answers.
     pub fn outcome(&self) -> Option<&Outcome>
         ensures value { option_copied result ≡ decided_in self.now.stage }
-        ensures verdict { IfSome (decided_in self.now.stage) (λ o. verdict_over self.now.answers self.now.config self.now.sight ≡ value.Verdict o) }
+        ensures verdict { IfSome (decided_in self.now.stage)
+            (λ o. verdict_over self.now.answers self.now.config self.now.sight ≡ value.Verdict o) }
     {
         decided(&self.stage)
     }
@@ -151,7 +174,7 @@ impl OpenCheck {
     pub fn is_settled(&self) -> bool
         ensures { result ≡ is_settled self.now.stage }
     {
-        !matches!(self.stage, Stage::Came(_))
+        !matches!(self.stage, CheckStage::Came(_))
     }
 
     /// What it comes to over its answers: the verdict, or the need of an answer that it does not have. It goes on from
@@ -181,19 +204,19 @@ impl OpenCheck {
             return Ok(());
         };
         self.answers.push(answer)?;
-        self.stage = Stage::Ready;
+        self.stage = CheckStage::Ready;
         Ok(())
     }
 
     /// Takes what a step says that asked for this key of the class at this place: the answer that it took has
     /// come, or the check waits for the question that it was told. It takes no memory.
-    pub fn note(&mut self, said: Said, class: u32, key: Text)
+    pub fn note(&mut self, said: StepEffect, class: u32, key: Text)
         requires idle { is_idle self.old.stage ≡ true }
         requires said { IsNoted class key said }
         requires other { has_answer self.old.answers class key ≡ false }
         ensures { self.new ≡ noted said class key self.old }
     {
-        let Said {
+        let StepEffect {
             stepped,
             took,
             put: _,
@@ -208,7 +231,7 @@ impl OpenCheck {
         requires verdict { comes_to self.old ≡ value.Verdict outcome }
         ensures { self.new ≡ finished outcome self.old }
     {
-        self.stage = Stage::Done(outcome);
+        self.stage = CheckStage::Done(outcome);
         self.steps = step_more(self.steps);
     }
 
@@ -216,7 +239,7 @@ impl OpenCheck {
     pub fn serve(&mut self, question: QuestionNo, what: What, now: Moment)
         ensures { self.new ≡ ended_by question what now self.old }
     {
-        let stage = mem::replace(&mut self.stage, Stage::Ready);
+        let stage = mem::replace(&mut self.stage, CheckStage::Ready);
         self.stage = ended(stage, question, what, now);
     }
 
@@ -239,7 +262,7 @@ impl OpenCheck {
         } = self;
         let looks = frames.looks();
         match stage {
-            Stage::Done(outcome) => Record::new(
+            CheckStage::Done(outcome) => Record::new(
                 check, epoch, config, sight, facts, answers, outcome, pool, looks, steps,
             ),
             _ => unreachable!(),

@@ -3,7 +3,7 @@ ghost use Rattle.std.specs.Prelude.{◌≡◌, ◌++◌, ◌∷◌, [], ℕ, tru
 ghost use Rattle.std.specs.Option.{option_copied};
 ghost use Rattle.sq_base.specs.Distinct.{has_answer};
 ghost use Rattle.sq_lookup.specs.Waits.{has_check};
-ghost use Rattle.sq_rows.specs.CheckRows.{after_step, without_check};
+ghost use Rattle.sq_model_rows.specs.CheckRows.{after_step, without_check};
 ghost use Rattle.sq_machine.specs.Events.{is_number};
 ghost use Rattle.sq_machine.specs.Rising.{Rises};
 ghost use Rattle.sq_machine.specs.StepRule.{says_done};
@@ -15,7 +15,7 @@ ghost use Rattle.sq_checks.specs.Tables.{value_at};
 use crate::open_check::OpenCheck;
 use sq_base::{Cause, CheckNo, Moment, QuestionNo, Text, WantOfMemory, What};
 use sq_lookup::Checks;
-use sq_rows::Said;
+use sq_model_rows::StepEffect;
 use sq_rules::{Outcome, Value};
 use std::alloc::Global;
 use std::collections::BTreeMap;
@@ -110,11 +110,12 @@ impl OpenChecks {
 
     /// Takes what a step of a check says that asked for this key of the class at this place. It takes no
     /// memory.
-    pub fn note(&mut self, number: CheckNo, said: Said, class: u32, key: Text)
+    pub fn note(&mut self, number: CheckNo, said: StepEffect, class: u32, key: Text)
         requires there { is_some (value_at self.old number) ≡ true }
         requires idle { IfSome (value_at self.old number) (λ c. is_idle c.stage ≡ true) }
         requires said { IsNoted class key said }
-        requires other { IfSome (value_at self.old number) (λ c. has_answer c.answers class key ≡ false) }
+        requires other { IfSome (value_at self.old number)
+            (λ c. has_answer c.answers class key ≡ false) }
         ensures list { self.new ≡ change_at number (noted said class key) self.old }
         ensures rows { rows_of self.new ≡ after_step number (says_of said) (rows_of self.old) }
     {
@@ -128,7 +129,8 @@ impl OpenChecks {
     pub fn finish(&mut self, number: CheckNo, outcome: Outcome)
         requires there { is_some (value_at self.old number) ≡ true }
         requires settled { IfSome (value_at self.old number) (λ c. is_settled c.stage ≡ true) }
-        requires verdict { IfSome (value_at self.old number) (λ c. comes_to c ≡ value.Verdict outcome) }
+        requires verdict { IfSome (value_at self.old number)
+            (λ c. comes_to c ≡ value.Verdict outcome) }
         ensures list { self.new ≡ change_at number (finished outcome) self.old }
         ensures rows { rows_of self.new ≡ after_step number says_done (rows_of self.old) }
     {
@@ -170,9 +172,11 @@ impl OpenChecks {
         mut copies: Vec<What>,
         now: Moment,
     )
-        requires waiting { (n : ℕ) → has_check n waiting.now ≡ is_number question (wait_at n self.old) }
+        requires waiting { (n : ℕ)
+            → has_check n waiting.now ≡ is_number question (wait_at n self.old) }
         requires enough { length copies.items ≡ length waiting.now }
-        ensures { (what : What) → AllAre what copies.items → self.new ≡ all_ended question what now self.old }
+        ensures { (what : What) → AllAre what copies.items
+            → self.new ≡ all_ended question what now self.old }
     {
         // For the proof: the numbers ascend.
         let _len = self.map.len();

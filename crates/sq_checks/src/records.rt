@@ -33,9 +33,31 @@ impl Model for Record {
 
     ghost Value = { Judged };
 
-    ghost view = { λ r. record { check = r.check; epoch = r.epoch; config = arc_value r.config; sight = r.sight; answers = r.answers; outcome = r.outcome; pool = r.pool; looks = r.looks; steps = r.steps } };
+    ghost view = { λ r. record {
+      check = r.check;
+      epoch = r.epoch;
+      config = arc_value r.config;
+      sight = r.sight;
+      answers = r.answers;
+      outcome = r.outcome;
+      pool = r.pool;
+      looks = r.looks;
+      steps = r.steps;
+    } };
 
-    ghost invariant = { λ r. IsJudged (record { check = r.check; epoch = r.epoch; config = arc_value r.config; sight = r.sight; answers = r.answers; outcome = r.outcome; pool = r.pool; looks = r.looks; steps = r.steps }) r.facts };
+    ghost invariant = { λ r. IsJudged
+        (record {
+          check = r.check;
+          epoch = r.epoch;
+          config = arc_value r.config;
+          sight = r.sight;
+          answers = r.answers;
+          outcome = r.outcome;
+          pool = r.pool;
+          looks = r.looks;
+          steps = r.steps;
+        })
+        r.facts };
 }
 
 impl Record {
@@ -58,7 +80,17 @@ impl Record {
         requires verdict { verdict_over answers (arc_value config) sight ≡ value.Verdict outcome }
         requires pool { pool ≡ pool_of (arc_value config) sight }
         requires looks { looks ≤ leaves_over answers (arc_value config) sight }
-        ensures { result ≡ record { check = check; epoch = epoch; config = arc_value config; sight = sight; answers = answers; outcome = outcome; pool = pool; looks = looks; steps = steps } }
+        ensures { result ≡ record {
+          check = check;
+          epoch = epoch;
+          config = arc_value config;
+          sight = sight;
+          answers = answers;
+          outcome = outcome;
+          pool = pool;
+          looks = looks;
+          steps = steps;
+        } }
     {
         Record {
             check,
@@ -119,7 +151,8 @@ impl Record {
     /// What it came to.
     pub fn outcome(&self) -> &Outcome
         ensures value { result.now ≡ self.now.outcome }
-        ensures verdict { verdict_over self.now.answers self.now.config self.now.sight ≡ value.Verdict self.now.outcome }
+        ensures verdict { verdict_over self.now.answers self.now.config self.now.sight
+            ≡ value.Verdict self.now.outcome }
     {
         &self.outcome
     }
@@ -128,7 +161,8 @@ impl Record {
     pub fn pool(&self) -> Option<u32>
         ensures value { result ≡ self.now.pool }
         ensures theirs { result ≡ pool_of self.now.config self.now.sight }
-        ensures takes { IfSome result (λ p. takes_client self.now.config.pools self.now.sight.addr p ≡ true) }
+        ensures takes { IfSome result
+            (λ p. takes_client self.now.config.pools self.now.sight.addr p ≡ true) }
     {
         self.pool
     }

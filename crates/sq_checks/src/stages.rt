@@ -4,7 +4,7 @@ ghost use Rattle.std.specs.Option.{option_copied};
 ghost use Rattle.sq_checks.specs.Stages.{came_in, decided_in, ended_stage, given, need_in, noted_stage, question_in};
 
 use sq_base::{Answer, Copying, Moment, QuestionNo, Text, WantOfMemory, What};
-use sq_rows::Stepped;
+use sq_model_rows::Stepped;
 use sq_rules::Outcome;
 use std::alloc::Global;
 
@@ -18,7 +18,7 @@ pub struct Need {
 
 /// How far a check has come.
 #[derive(Drop)]
-pub enum Stage {
+pub enum CheckStage {
     /// It can be evaluated.
     Ready,
     /// An answer came that is not put among the others yet, which takes memory.
@@ -44,15 +44,15 @@ fn given(need: Need, what: What, now: Moment) -> Answer
 }
 
 /// The stage after the end of a question: a check that waits for it is given what it ended with.
-pub(crate) fn ended(stage: Stage, question: QuestionNo, what: What, now: Moment) -> Stage
+pub(crate) fn ended(stage: CheckStage, question: QuestionNo, what: What, now: Moment) -> CheckStage
     ensures { result ≡ ended_stage question what now stage }
 {
     match stage {
-        Stage::Waits(need) => {
+        CheckStage::Waits(need) => {
             if need.question == question {
-                Stage::Came(given(need, what, now))
+                CheckStage::Came(given(need, what, now))
             } else {
-                Stage::Waits(need)
+                CheckStage::Waits(need)
             }
         }
         other => other,
@@ -61,28 +61,33 @@ pub(crate) fn ended(stage: Stage, question: QuestionNo, what: What, now: Moment)
 
 /// The stage after a step that asked for this key of the class at this place, and took an answer or said to
 /// wait for a question.
-pub(crate) fn noted(took: Option<Answer>, told: Option<QuestionNo>, class: u32, key: Text) -> Stage
+pub(crate) fn noted(
+    took: Option<Answer>,
+    told: Option<QuestionNo>,
+    class: u32,
+    key: Text,
+) -> CheckStage
     ensures { result ≡ noted_stage took told class key }
 {
     match took {
-        Some(answer) => Stage::Came(answer),
+        Some(answer) => CheckStage::Came(answer),
         None => match told {
-            Some(question) => Stage::Waits(Need {
+            Some(question) => CheckStage::Waits(Need {
                 question,
                 class,
                 key,
             }),
-            None => Stage::Ready,
+            None => CheckStage::Ready,
         },
     }
 }
 
 /// A copy of the answer that came, if one did.
-pub(crate) fn came(alloc: Global, stage: &Stage) -> Result<Option<Answer>, WantOfMemory>
+pub(crate) fn came(alloc: Global, stage: &CheckStage) -> Result<Option<Answer>, WantOfMemory>
     ensures { IfOk result (λ a. a ≡ came_in stage.now) }
 {
     match stage {
-        Stage::Came(answer) => {
+        CheckStage::Came(answer) => {
             let copy = answer.copy(alloc)?;
             Ok(Some(copy))
         }
@@ -91,31 +96,31 @@ pub(crate) fn came(alloc: Global, stage: &Stage) -> Result<Option<Answer>, WantO
 }
 
 /// The question that is waited for, if one is.
-pub(crate) fn question(stage: &Stage) -> Option<QuestionNo>
+pub(crate) fn question(stage: &CheckStage) -> Option<QuestionNo>
     ensures { result ≡ question_in stage.now }
 {
     match stage {
-        Stage::Waits(need) => Some(need.question),
+        CheckStage::Waits(need) => Some(need.question),
         _ => None,
     }
 }
 
 /// What is waited for, if something is.
-pub(crate) fn need_of(stage: &Stage) -> Option<&Need>
+pub(crate) fn need_of(stage: &CheckStage) -> Option<&Need>
     ensures { option_copied result ≡ need_in stage.now }
 {
     match stage {
-        Stage::Waits(need) => Some(need),
+        CheckStage::Waits(need) => Some(need),
         _ => None,
     }
 }
 
 /// The outcome, where the check is done.
-pub(crate) fn decided(stage: &Stage) -> Option<&Outcome>
+pub(crate) fn decided(stage: &CheckStage) -> Option<&Outcome>
     ensures { option_copied result ≡ decided_in stage.now }
 {
     match stage {
-        Stage::Done(outcome) => Some(outcome),
+        CheckStage::Done(outcome) => Some(outcome),
         _ => None,
     }
 }

@@ -48,9 +48,14 @@ impl<V: Copy + Drop> Table<V> {
 
     /// Puts the value of a number.
     pub fn put(&mut self, number: u128, value: V) -> Result<(), WantOfMemory>
-        ensures ok { OnOk result ((c : ℕ) → value_at self.new c ≡ cond (is_eq (nat_cmp number c)) (Some value) (value_at self.old c)) }
-        ensures len { OnOk result (length self.new ≡ length self.old + (if is_none (value_at self.old number) then 1 else 0)) }
-        ensures undo { OnOk result (value_at self.old number ≡ None → without number self.new ≡ self.old) }
+        ensures ok { OnOk result
+            ((c : ℕ) → value_at self.new c
+            ≡ cond (is_eq (nat_cmp number c)) (Some value) (value_at self.old c)) }
+        ensures len { OnOk result
+            (length self.new ≡ length self.old
+            + (if is_none (value_at self.old number) then 1 else 0)) }
+        ensures undo { OnOk result
+            (value_at self.old number ≡ None → without number self.new ≡ self.old) }
         ensures err { OnErr result (self.new ≡ self.old) }
     {
         match self.map.insert(number, value) {
@@ -63,7 +68,8 @@ impl<V: Copy + Drop> Table<V> {
     /// Puts another value in the place of one that is there, which takes no memory.
     pub fn change(&mut self, number: u128, value: V)
         requires { is_some (value_at self.old number) ≡ true }
-        ensures value { (c : ℕ) → value_at self.new c ≡ cond (is_eq (nat_cmp number c)) (Some value) (value_at self.old c) }
+        ensures value { (c : ℕ) → value_at self.new c
+            ≡ cond (is_eq (nat_cmp number c)) (Some value) (value_at self.old c) }
         ensures len { length self.new ≡ length self.old }
     {
         match self.map.get_mut(&number) {
@@ -75,8 +81,10 @@ impl<V: Copy + Drop> Table<V> {
     /// Takes the value of a number away.
     pub fn remove(&mut self, number: u128)
         ensures list { self.new ≡ without number self.old }
-        ensures value { (c : ℕ) → value_at self.new c ≡ cond (is_eq (nat_cmp number c)) None (value_at self.old c) }
-        ensures len { length self.new + (if is_some (value_at self.old number) then 1 else 0) ≡ length self.old }
+        ensures value { (c : ℕ) → value_at self.new c
+            ≡ cond (is_eq (nat_cmp number c)) None (value_at self.old c) }
+        ensures len { length self.new + (if is_some (value_at self.old number) then 1 else 0)
+            ≡ length self.old }
     {
         let _ = self.map.remove(&number);
     }

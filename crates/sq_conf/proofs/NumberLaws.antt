@@ -9,7 +9,8 @@ use Rattle.sq_rules.specs.ConfNumbers.{digits_of, is_digits}
 -- a number above the most
 pub digits_past : (most : ℕ) (word : List ℕ) → most < read_on 0 word → digits_of most word ≡ None
 unfolding digits_of
-digits_past most word h = left_out (is_digits word) (nat_le (read_on 0 word) most) (read_on 0 word) (grind (arith, nat_tests))
+digits_past most word h = left_out (is_digits word) (nat_le (read_on 0 word) most) (read_on 0 word)
+    (grind (arith, nat_tests))
 
 -- bits of seven weekdays stay so
 pub seven_days : (a b : ℕ) → a < 128 → b < 128 → bit_or a b < 128

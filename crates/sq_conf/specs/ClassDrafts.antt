@@ -6,7 +6,7 @@ use Rattle.sq_rules.specs.ClassLines.{ClassDraft}
 use Rattle.sq_rules.specs.ConfNumbers.{number_between}
 use Rattle.sq_rules.specs.Limits.{cache_limit, children_limit, grace_limit, queue_limit, seconds_limit, token_limit}
 use Rattle.sq_rules.specs.RewriteLines.{children_step, most_children}
-use Rattle.sq_rules.specs.Steps.{Words, over}
+use Rattle.sq_rules.specs.Steps.{WordList, over}
 use Rattle.sq_rules.specs.declared.kinds.Kind.{Kind}
 
 -- each option lies in its range, and the tokens are few
@@ -23,5 +23,6 @@ pub record IsClassDraft (s : ClassDraft) : Type 0 where
   pub few_tokens : length s.format ≤ token_limit
 
 -- what the number of processes and the options of `url_rewrite_children` state
-abbrev pub children_of : List ℕ → Words → Result ClassDraft Kind
-children_of max ws = number_between 1 children_limit max >>= λ n. over children_step (most_children n) ws
+abbrev pub children_of : List ℕ → WordList → Result ClassDraft Kind
+children_of max ws = number_between 1 children_limit max >>= λ n. over children_step
+    (most_children n) ws

@@ -3,7 +3,7 @@ use Rattle.std.specs.Prelude.{◌≡◌, ⊤, Ok, Err}
 use Rattle.std.specs.declared.result.Result.{Result}
 use Rattle.sq_conf.specs.declared.faults.ReadFault.{ReadFault}
 use Rattle.sq_conf.specs.declared.faults.ReadFault.TheVariants as fault
-use Rattle.sq_rules.specs.Steps.{Words}
+use Rattle.sq_rules.specs.Steps.{WordList}
 use Rattle.sq_rules.specs.declared.kinds.Kind.{Kind}
 
 -- a fault is that of the reading
@@ -17,7 +17,8 @@ Gives view (Ok x) read = read ≡ Ok (view x)
 Gives view (Err e) read = Fails e read
 
 -- a value, and the words that are left
-abbrev pub Takes : {X Y : Type 0} → (X → Y) → Result X ReadFault → Words → Result (Y × Words) Kind → Type 0
+abbrev pub Takes : {X Y : Type 0} → (X → Y) → Result X ReadFault → WordList
+    → Result (Y × WordList) Kind → Type 0
 Takes view (Ok x) after read = read ≡ Ok (view x, after)
 Takes view (Err e) after read = Fails e read
 

@@ -6,7 +6,8 @@ use Rattle.sq_rules.specs.Limits.{acl_limit}
 use Rattle.sq_rules.specs.Lookups.{has_blank, stated}
 use Rattle.sq_rules.specs.declared.configs.Acl.{Acl}
 
--- the place of the acl of this name; where there is none, there is room for it. The name is a word, which holds no blank
+-- the place of the acl of this name; where there is none, there is room for it. The name is a word,
+-- which holds no blank
 pub record IsTarget (acls : List Acl) (name : List ℕ) (place : Option ℕ) : Type 0 where
   pub place_is : place ≡ place_of acls name
   pub within : IfSome place (λ p. p < length acls)

@@ -16,7 +16,7 @@ use crate::leaf_values::{
 };
 use crate::terms::{acl_named, acl_type, action, has_type, known_terms};
 use crate::times::time_values;
-use crate::words::Words;
+use crate::words::ConfigWords;
 use sq_base::{Copying, Text};
 use sq_drafts::Builder;
 use sq_rules::{AclType, Kind, Leaf, Rule};
@@ -122,7 +122,7 @@ fn external_line(
     if place.is_some() {
         return Err(ReadFault::Fault(Kind::BadValue));
     }
-    let mut words = Words::new(words);
+    let mut words = ConfigWords::new(words);
     let class = known_class(builder, words.next()?)?;
     let arguments = plain_words(alloc, words.rest())?;
     let name = name.copy(alloc)?;
@@ -166,7 +166,7 @@ fn acl_values(
 pub fn acl_line(alloc: Global, builder: &mut Builder, words: &[Text]) -> Result<(), ReadFault>
     ensures { Makes result builder.new (acl_line builder.old words.now) }
 {
-    let mut words = Words::new(words);
+    let mut words = ConfigWords::new(words);
     let name = words.next()?;
     let place = acl_named(builder, name)?;
     let kind = acl_type(words.next()?.as_bytes())?;
@@ -181,7 +181,7 @@ pub fn acl_line(alloc: Global, builder: &mut Builder, words: &[Text]) -> Result<
 pub fn rule_line(alloc: Global, builder: &mut Builder, words: &[Text]) -> Result<(), ReadFault>
     ensures { Makes result builder.new (rule_line builder.old words.now) }
 {
-    let mut words = Words::new(words);
+    let mut words = ConfigWords::new(words);
     let allow = action(words.next()?.as_bytes())?;
     if !builder.has_room_for_rule() {
         return Err(ReadFault::Fault(Kind::TooMany));

@@ -44,9 +44,34 @@ impl Model for ClassDraft {
 
     ghost Value = { ClassDraft };
 
-    ghost view = { λ c. record { ttl = c.ttl; negative_ttl = c.negative_ttl; grace = c.grace; cache = c.cache; children_max = c.children_max; startup = c.startup; concurrency = c.concurrency; queue_size = c.queue_size; noted = c.noted; format = c.format; words = c.words } };
+    ghost view = { λ c. record {
+      ttl = c.ttl;
+      negative_ttl = c.negative_ttl;
+      grace = c.grace;
+      cache = c.cache;
+      children_max = c.children_max;
+      startup = c.startup;
+      concurrency = c.concurrency;
+      queue_size = c.queue_size;
+      noted = c.noted;
+      format = c.format;
+      words = c.words;
+    } };
 
-    ghost invariant = { λ c. IsClassDraft (record { ttl = c.ttl; negative_ttl = c.negative_ttl; grace = c.grace; cache = c.cache; children_max = c.children_max; startup = c.startup; concurrency = c.concurrency; queue_size = c.queue_size; noted = c.noted; format = c.format; words = c.words }) };
+    ghost invariant = { λ c. IsClassDraft
+        (record {
+          ttl = c.ttl;
+          negative_ttl = c.negative_ttl;
+          grace = c.grace;
+          cache = c.cache;
+          children_max = c.children_max;
+          startup = c.startup;
+          concurrency = c.concurrency;
+          queue_size = c.queue_size;
+          noted = c.noted;
+          format = c.format;
+          words = c.words;
+        }) };
 }
 
 // A number up to the most.

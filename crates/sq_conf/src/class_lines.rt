@@ -9,7 +9,7 @@ ghost use Rattle.sq_rules.specs.Lookups.{classes_within};
 use crate::class_drafts::ClassDraft;
 use crate::faults::ReadFault;
 use crate::port_lines::note_if;
-use crate::words::Words;
+use crate::words::ConfigWords;
 use sq_base::{Copying, Text, WantOfMemory};
 use sq_drafts::Builder;
 use sq_rules::{Kind, NAME_LIMIT};
@@ -20,7 +20,8 @@ fn class_name(builder: &Builder, word: &Text) -> Result<(), ReadFault>
     ensures read { Gives (λ _. word.now) result (class_name builder.now word.now) }
     ensures short { IfOk result (λ _. length word.now ≤ name_limit) }
     ensures free { IfOk result (λ _. class_place builder.now.classes word.now ≡ None) }
-    ensures room { IfOk result (λ _. nat_lt (length builder.now.classes) (classes_within builder.now.dst_lookup) ≡ true) }
+    ensures room { IfOk result
+        (λ _. nat_lt (length builder.now.classes) (classes_within builder.now.dst_lookup) ≡ true) }
 {
     if word.len() > NAME_LIMIT {
         return Err(ReadFault::Fault(Kind::BadValue));
@@ -44,8 +45,11 @@ fn add_class(
 ) -> Result<(), WantOfMemory>
     requires short { length name.now ≤ name_limit }
     requires free { class_place builder.old.classes name.now ≡ None }
-    requires room { nat_lt (length builder.old.classes) (classes_within builder.old.dst_lookup) ≡ true }
-    ensures { OnOk result (builder.new ≡ with_notice_if draft.noted line (codes "external_acl_type") (with_class (class_of name.now draft) builder.old)) }
+    requires room { nat_lt (length builder.old.classes) (classes_within builder.old.dst_lookup)
+        ≡ true }
+    ensures { OnOk result
+        (builder.new ≡ with_notice_if draft.noted line (codes "external_acl_type")
+        (with_class (class_of name.now draft) builder.old)) }
 {
     let noted = draft.is_noted();
     let name = name.copy(alloc)?;
@@ -64,7 +68,7 @@ pub fn class_line(
 ) -> Result<(), ReadFault>
     ensures { Makes result builder.new (class_line line builder.old words.now) }
 {
-    let mut words = Words::new(words);
+    let mut words = ConfigWords::new(words);
     let name = words.next()?;
     class_name(builder, name)?;
     let draft = ClassDraft::read(alloc, words.rest())?;

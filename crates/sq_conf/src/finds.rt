@@ -17,7 +17,10 @@ const CASE_SWITCHES: [(&[u8], bool); 2] = [(b"-i", true), (b"+i", false)];
 fn find(alloc: Global, word: &Text, fold: bool) -> Result<Find, ReadFault>
     ensures value { IfOk result (λ f. f ≡ record { pattern = word.now; fold = fold }) }
     ensures good { IfOk result (λ f. is_pattern f ≡ true) }
-    ensures bad { IfErr result (λ e. e ≢ ReadFault.Memory → (e ≡ ReadFault.Fault Kind.BadPattern) × (is_pattern (record { pattern = word.now; fold = fold }) ≡ false)) }
+    ensures bad { IfErr result
+        (λ e. e ≢ ReadFault.Memory
+        → (e ≡ ReadFault.Fault Kind.BadPattern)
+        × (is_pattern (record { pattern = word.now; fold = fold }) ≡ false)) }
 {
     if !is_pattern(alloc, word.as_bytes(), fold)? {
         return Err(ReadFault::Fault(Kind::BadPattern));

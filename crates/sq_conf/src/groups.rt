@@ -20,7 +20,8 @@ fn add_member(alloc: Global, builder: &mut Builder, place: u32, term: Term) -> R
     requires within { place < length builder.old.acls }
     requires earlier { term.acl < place }
     requires group { takes_members builder.old.dst_lookup builder.old.acls place ≡ true }
-    ensures made { Makes result builder.new (sound (with_body place (with_member term) builder.old)) }
+    ensures made { Makes result builder.new
+        (sound (with_body place (with_member term) builder.old)) }
     ensures count { length builder.new.acls ≡ length builder.old.acls }
     ensures group { takes_members builder.new.dst_lookup builder.new.acls place ≡ true }
 {

@@ -7,7 +7,7 @@ use crate::faults::ReadFault;
 use crate::leaf_values::is_token;
 use crate::pool_lines::fast_terms;
 use crate::terms::action;
-use crate::words::Words;
+use crate::words::ConfigWords;
 use sq_base::Text;
 use sq_drafts::Builder;
 use sq_rules::{HeaderRule, Kind, Rule, lowered};
@@ -41,7 +41,7 @@ pub fn header_line(
 ) -> Result<(), ReadFault>
     ensures { Makes result builder.new (header_line reply builder.old words.now) }
 {
-    let mut words = Words::new(words);
+    let mut words = ConfigWords::new(words);
     let name = header_name(alloc, words.next()?.as_bytes())?;
     let allow = action(words.next()?.as_bytes())?;
     if !builder.has_room_for_header() {

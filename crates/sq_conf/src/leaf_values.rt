@@ -7,7 +7,7 @@ ghost use Rattle.sq_rules.specs.Steps.{some_of, over, one_more};
 
 use crate::cuts::{before, behind, holds};
 use crate::faults::ReadFault;
-use crate::words::{Words, begins};
+use crate::words::{ConfigWords, begins};
 use sq_addr::read_range;
 use sq_base::{Copying, Listed, PORT_LIMIT, Range, Ranges, Text, Texts, number_of};
 use sq_rules::{Kind, MAXCONN_LIMIT, Numbers, PortRange, PortRanges};
@@ -185,7 +185,7 @@ fn maxconn_value(word: &[u8]) -> Result<u32, ReadFault>
 pub fn maxconn_values(alloc: Global, words: &[Text]) -> Result<Numbers, ReadFault>
     ensures { Gives (λ v. v) result (maxconn_values words.now) }
 {
-    let mut words = Words::new(words);
+    let mut words = ConfigWords::new(words);
     let word = words.next()?;
     let number = maxconn_value(word.as_bytes())?;
     words.no_more()?;

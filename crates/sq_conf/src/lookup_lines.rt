@@ -4,7 +4,7 @@ ghost use Rattle.sq_conf.specs.Forms.{Gives};
 ghost use Rattle.sq_rules.specs.LookupLines.{behind_first, lookup_line, states_lookup, switch};
 
 use crate::faults::ReadFault;
-use crate::words::Words;
+use crate::words::ConfigWords;
 use sq_base::{Text, named};
 use sq_rules::Kind;
 
@@ -46,7 +46,7 @@ fn switch(word: &[u8]) -> Result<bool, ReadFault>
 pub fn lookup_line(words: &[Text]) -> Result<bool, ReadFault>
     ensures { Gives (λ on. on) result (lookup_line words.now) }
 {
-    let mut words = Words::new(words);
+    let mut words = ConfigWords::new(words);
     let on = switch(words.next()?.as_bytes())?;
     words.no_more()?;
     Ok(on)

@@ -11,7 +11,7 @@ use crate::faults::ReadFault;
 use crate::numbers::{digits_of, is_digits, number_in};
 use crate::pairs::pair_of;
 use crate::terms::{action, known_term};
-use crate::words::Words;
+use crate::words::ConfigWords;
 use sq_base::{Listed, Text};
 use sq_drafts::Builder;
 use sq_rules::{
@@ -39,7 +39,7 @@ fn pool_number(word: &[u8]) -> Result<u8, ReadFault>
 pub fn pools_line(alloc: Global, builder: &mut Builder, words: &[Text]) -> Result<(), ReadFault>
     ensures { Makes result builder.new (pools_line builder.old words.now) }
 {
-    let mut words = Words::new(words);
+    let mut words = ConfigWords::new(words);
     let count = pool_number(words.next()?.as_bytes())?;
     if builder.is_counted() {
         return Err(ReadFault::Fault(Kind::BadValue));
@@ -88,7 +88,7 @@ fn pool_class(word: &[u8]) -> Result<u8, ReadFault>
 pub fn pool_class_line(builder: &mut Builder, words: &[Text]) -> Result<(), ReadFault>
     ensures { Makes result builder.new (pool_class_line builder.old words.now) }
 {
-    let mut words = Words::new(words);
+    let mut words = ConfigWords::new(words);
     let place = pool_place(builder.pool_count(), words.next()?.as_bytes())?;
     if builder.pool_class(place).is_some() {
         return Err(ReadFault::Fault(Kind::BadValue));
@@ -104,7 +104,8 @@ pub fn pool_class_line(builder: &mut Builder, words: &[Text]) -> Result<(), Read
 fn fast_term(alloc: Global, builder: &Builder, word: &Text) -> Result<Term, ReadFault>
     ensures read { Gives (λ t. t) result (fast_term builder.now.acls word.now) }
     ensures within { IfOk result (λ t. t.acl < length builder.now.acls) }
-    ensures fast { IfOk result (λ t. slice_index_or (slow_ones builder.now.acls) t.acl false ≡ false) }
+    ensures fast { IfOk result
+        (λ t. slice_index_or (slow_ones builder.now.acls) t.acl false ≡ false) }
 {
     let term = known_term(alloc, builder, word)?;
     if builder.is_slow(term.acl) {
@@ -138,7 +139,7 @@ pub fn pool_access_line(
 ) -> Result<(), ReadFault>
     ensures { Makes result builder.new (pool_access_line builder.old words.now) }
 {
-    let mut words = Words::new(words);
+    let mut words = ConfigWords::new(words);
     let place = pool_place(builder.pool_count(), words.next()?.as_bytes())?;
     let allow = action(words.next()?.as_bytes())?;
     let terms = fast_terms(alloc, builder, words.rest())?;
@@ -189,7 +190,7 @@ pub fn pool_pairs_line(
 ) -> Result<(), ReadFault>
     ensures { Makes result builder.new (pool_pairs_line builder.old words.now) }
 {
-    let mut words = Words::new(words);
+    let mut words = ConfigWords::new(words);
     let place = pool_place(builder.pool_count(), words.next()?.as_bytes())?;
     let class = class_for_pairs(builder, place)?;
     let pairs = read_pairs(alloc, pairs_of(class), words.rest())?;
@@ -202,7 +203,7 @@ pub fn pool_pairs_line(
 pub fn initial_line(builder: &mut Builder, words: &[Text]) -> Result<(), ReadFault>
     ensures { Makes result builder.new (initial_line builder.old words.now) }
 {
-    let mut words = Words::new(words);
+    let mut words = ConfigWords::new(words);
     let level = number_in(words.next()?.as_bytes(), 0, INITIAL_LIMIT)?;
     words.no_more()?;
     builder.set_initial(level as u8);

@@ -8,7 +8,7 @@ ghost use Rattle.sq_rules.specs.Steps.{over};
 use crate::faults::ReadFault;
 use crate::numbers::number_in;
 use crate::pairs::{has_host, port_text};
-use crate::words::Words;
+use crate::words::ConfigWords;
 use sq_base::{PORT_LIMIT, Text, WantOfMemory, is_among};
 use sq_drafts::Builder;
 use sq_rules::{Kind, Notice};
@@ -80,7 +80,7 @@ pub fn port_line(
 ) -> Result<(), ReadFault>
     ensures { Makes result builder.new (port_line line builder.old words.now) }
 {
-    let mut words = Words::new(words);
+    let mut words = ConfigWords::new(words);
     let first = words.next()?.as_bytes();
     let port = number_in(port_text(first), 1, PORT_LIMIT - 1)?;
     let noted = modes(has_host(first), words.rest())?;

@@ -19,7 +19,7 @@ use crate::pool_lines::{
 };
 use crate::port_lines::{note, port_line};
 use crate::rewrite_lines::{children_line, program_line};
-use crate::words::Words;
+use crate::words::ConfigWords;
 use sq_base::{Line, LineFault, Text};
 use sq_drafts::{Builder, FinishFault};
 use sq_lex::lex;
@@ -37,7 +37,8 @@ fn by_directive(
     name: &Text,
     words: &[Text],
 ) -> Result<(), ReadFault>
-    ensures { Makes result builder.new (by_directive directive line name.now builder.old words.now) }
+    ensures { Makes result builder.new
+        (by_directive directive line name.now builder.old words.now) }
 {
     match directive {
         Directive::Acl => acl_line(alloc, builder, words),
@@ -68,7 +69,7 @@ fn read_line(
 ) -> Result<(), ReadFault>
     ensures { Makes result builder.new (line_read line builder.old words.now) }
 {
-    let mut words = Words::new(words);
+    let mut words = ConfigWords::new(words);
     let name = words.next()?;
     let directive = directive_of(name.as_bytes())?;
     by_directive(alloc, builder, directive, line, name, words.rest())
@@ -95,7 +96,9 @@ fn read_lines(alloc: Global, builder: &mut Builder, lines: &[Line]) -> Result<()
 
 // What a first line `dst_lookup` says.
 fn switch_in(line: &Line) -> Result<bool, ConfFault>
-    ensures { Tells (λ on. on) result (then_read line.now.number (lookup_line (behind_first line.now.words)) (λ lookup. Ok lookup)) }
+    ensures { Tells (λ on. on) result
+        (then_read line.now.number (lookup_line (behind_first line.now.words))
+        (λ lookup. Ok lookup)) }
 {
     match lookup_line(behind_first(line.words.as_slice())) {
         Ok(on) => Ok(on),
@@ -207,7 +210,8 @@ fn finish_lines(
 ) -> Result<Setup, ConfFault>
     requires { length bytes.now ≤ text_limit }
     ensures ok { IfOk result (λ c. and_then (text_read builder fault) (end_read bytes.now) ≡ Ok c) }
-    ensures err { IfErr result (λ e. FailsAt e (and_then (text_read builder fault) (end_read bytes.now))) }
+    ensures err { IfErr result
+        (λ e. FailsAt e (and_then (text_read builder fault) (end_read bytes.now))) }
 {
     end_of_lines(&builder, fault)?;
     finish(alloc, builder, bytes)
@@ -217,7 +221,9 @@ fn finish_lines(
 #[tactic(auto, unfolding(sq_rules::specs::ConfText::conf_result))]
 pub fn read_config(alloc: Global, bytes: &[u8]) -> Result<Setup, ConfFault>
     ensures ok { IfOk result (λ c. conf_gives bytes.now c) }
-    ensures err { IfErr result (λ e. (line : ℕ) (kind : Kind) → e ≡ ConfFault.At (record { line = line; kind = kind }) → conf_refuses bytes.now line kind) }
+    ensures err { IfErr result
+        (λ e. (line : ℕ) (kind : Kind) → e ≡ ConfFault.At (record { line = line; kind = kind })
+        → conf_refuses bytes.now line kind) }
 {
     if bytes.len() > TEXT_LIMIT {
         return Err(ConfFault::At(ConfError {

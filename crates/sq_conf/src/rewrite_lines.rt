@@ -5,7 +5,7 @@ ghost use Rattle.sq_rules.specs.RewriteLines.{children_line, children_words, pro
 
 use crate::class_drafts::ClassDraft;
 use crate::faults::ReadFault;
-use crate::words::Words;
+use crate::words::ConfigWords;
 use sq_base::{Copying, Listed, Text, Texts, WantOfMemory};
 use sq_drafts::Builder;
 use sq_rules::{Class, Kind};
@@ -50,7 +50,7 @@ pub fn program_line(alloc: Global, builder: &mut Builder, words: &[Text]) -> Res
 fn children_words(alloc: Global, words: &[Text]) -> Result<ClassDraft, ReadFault>
     ensures { Gives (λ c. c) result (children_words words.now) }
 {
-    let mut words = Words::new(words);
+    let mut words = ConfigWords::new(words);
     let first = words.next()?;
     ClassDraft::read_children(alloc, first.as_bytes(), words.rest())
 }

@@ -8,7 +8,7 @@ use crate::cuts::{before, behind};
 use crate::faults::ReadFault;
 use crate::leaf_values::is_unquoted;
 use crate::numbers::digits_of;
-use crate::words::Words;
+use crate::words::ConfigWords;
 use sq_base::{Listed, Text, named};
 use sq_rules::{DAY_MINUTES, Hour, Hours, Kind};
 use std::alloc::Global;
@@ -122,7 +122,7 @@ fn behind_days(days: u8, words: &[Text]) -> Result<Hour, ReadFault>
         }),
         [word, rest @ ..] => {
             let hours = hours_value(days, word.as_bytes())?;
-            Words::new(rest).no_more()?;
+            ConfigWords::new(rest).no_more()?;
             Ok(hours)
         }
     }
@@ -133,7 +133,7 @@ fn behind_days(days: u8, words: &[Text]) -> Result<Hour, ReadFault>
 fn time_value(words: &[Text]) -> Result<Hour, ReadFault>
     ensures { Gives (λ h. h) result (time_value words.now) }
 {
-    let mut words = Words::new(words);
+    let mut words = ConfigWords::new(words);
     let first = words.next()?;
     match days_of(first.as_bytes()) {
         Some(days) => behind_days(days, words.rest()),

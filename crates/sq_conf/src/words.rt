@@ -1,4 +1,4 @@
-//! `Words`: the words of a line, taken from the left.
+//! `ConfigWords`: the words of a line, taken from the left.
 ghost use Rattle.std.specs.Prelude.{◌≡◌, true, false, IfOk, IfErr};
 ghost use Rattle.sq_conf.specs.Forms.{Takes};
 ghost use Rattle.sq_rules.specs.Steps.{word, is_empty, begins};
@@ -10,11 +10,11 @@ use std::marker::Model;
 
 /// The words of a line that are left.
 #[derive(Drop)]
-pub struct Words<'a> {
+pub struct ConfigWords<'a> {
     left: &'a [Text],
 }
 
-impl<'a> Model for Words<'a> {
+impl<'a> Model for ConfigWords<'a> {
     ghost use Rattle.std.specs.Prelude.{List, ℕ};
 
     ghost Value = { List (List ℕ) };
@@ -22,12 +22,12 @@ impl<'a> Model for Words<'a> {
     ghost view = { λ w. w.left.now };
 }
 
-impl<'a> Words<'a> {
+impl<'a> ConfigWords<'a> {
     /// All words of a line.
-    pub fn new(words: &'a [Text]) -> Words<'a>
+    pub fn new(words: &'a [Text]) -> ConfigWords<'a>
         ensures { result ≡ words.now }
     {
-        Words { left: words }
+        ConfigWords { left: words }
     }
 
     /// Takes the next word, which is needed.
@@ -46,7 +46,8 @@ impl<'a> Words<'a> {
     /// A fault where a word is left.
     pub fn no_more(&self) -> Result<(), ReadFault>
         ensures ok { IfOk result (λ _. is_empty self.now ≡ true) }
-        ensures err { IfErr result (λ e. (e ≡ ReadFault.Fault Kind.BadValue) × (is_empty self.now ≡ false)) }
+        ensures err { IfErr result
+            (λ e. (e ≡ ReadFault.Fault Kind.BadValue) × (is_empty self.now ≡ false)) }
     {
         match self.left {
             [] => Ok(()),

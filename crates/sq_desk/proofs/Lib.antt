@@ -1,6 +1,6 @@
 -- Lemmas, by subject.
 mod CallLaws
-mod PlaceLaws
+mod SpareLaws
 mod ReplayLaws
 mod EventLaws
 mod NameLaws

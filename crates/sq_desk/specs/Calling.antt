@@ -11,21 +11,21 @@ use Rattle.sq_machine.specs.declared.entries.Told.TheVariants as told
 use Rattle.sq_machine.specs.declared.refusals.Refusal.{Refusal}
 use Rattle.sq_machine.specs.declared.refusals.Refusal.TheVariants as refusal
 use Rattle.sq_rules.specs.Configurations.{Configuration}
-use Rattle.sq_machine.specs.DueActs.{Place}
+use Rattle.sq_machine.specs.DueActs.{ClassId}
 use Rattle.sq_machine.specs.Entries.{History, Noted, entry_at}
 use Rattle.sq_machine.specs.Next.{Next, gives, refuses}
 use Rattle.sq_machine.specs.Readings.{latest}
 use Rattle.sq_channel.specs.declared.replies.Got.{Got}
 use Rattle.sq_channel.specs.declared.replies.Got.TheVariants as got
 use Rattle.sq_epochs.specs.declared.acts.Act.{Act}
-use Rattle.sq_state.specs.Answers.{line_answer, reconfigure_answer}
-use Rattle.sq_state.specs.Changes.{after_end_at, after_reconfigured, first_state}
-use Rattle.sq_state.specs.Promises.{IsAnswered, StandsFor}
-use Rattle.sq_state.specs.States.{IsSame, State}
+use Rattle.sq_model_state.specs.Answers.{line_answer, reconfigure_answer}
+use Rattle.sq_model_state.specs.Changes.{after_end_at, after_reconfigured, first_state}
+use Rattle.sq_model_state.specs.Promises.{IsAnswered, StandsFor}
+use Rattle.sq_model_state.specs.States.{IsSame, State}
 use Rattle.sq_engine.specs.Acting.{act_told, after_act, due_now, told_of_act}
 use Rattle.sq_engine.specs.EngineViews.{EngineView, state_of}
 use Rattle.sq_engine.specs.Lines.{IsLineDone, got_told}
-use Rattle.sq_note.specs.Noting.{with_entry}
+use Rattle.sq_journal_writers.specs.Noting.{with_entry}
 use Rattle.sq_calls.specs.declared.faults.DeskFault.{DeskFault}
 use Rattle.sq_calls.specs.declared.faults.DeskFault.TheVariants as fault
 use Rattle.sq_desk.specs.Desks.{DeskView}
@@ -36,7 +36,8 @@ pub record HasEntered (next : Next) (e : Noted) (after : State) (v w : DeskView)
   pub going : v.notes.stopped ≡ false
   pub next_is : next ≡ gives e.answer
   pub same : IsSame (state_of w.engine) after
-  pub notes : w.notes ≡ record v.notes { history = with_entry e v.notes.history; spare = w.notes.spare }
+  pub notes : w.notes ≡ record v.notes
+      { history = with_entry e v.notes.history; spare = w.notes.spare }
 
 -- a note had failed before: the refusal is counted, and nothing else changes
 pub record WasStopped (v w : DeskView) : Type 0 where
@@ -51,12 +52,18 @@ pub record HasRefused (next : Next) (r : Refusal) (v w : DeskView) : Type 0 wher
   pub same : IsSame (state_of w.engine) (state_of v.engine)
   pub notes : w.notes ≡ record v.notes { spare = w.notes.spare; refusals = raised v.notes.refusals }
 
--- the machine is in this state, but the note failed: the desk is stopped, and the journal is as it was
+-- the machine is in this state, but the note failed: the desk is stopped, and the journal is as it
+-- was
 pub record HasFailed (after : State) (v w : DeskView) : Type 0 where
   pub going : v.notes.stopped ≡ false
   pub same : IsSame (state_of w.engine) after
   pub rose : Rose v.notes.faults w.notes.faults
-  pub notes : w.notes ≡ record v.notes { spare = w.notes.spare; faults = w.notes.faults; stopped = true; refusals = raised v.notes.refusals }
+  pub notes : w.notes ≡ record v.notes {
+    spare = w.notes.spare;
+    faults = w.notes.faults;
+    stopped = true;
+    refusals = raised v.notes.refusals;
+  }
 
 -- memory was wanting: nothing changes but the places
 pub record HasWanted (v w : DeskView) : Type 0 where
@@ -64,8 +71,10 @@ pub record HasWanted (v w : DeskView) : Type 0 where
   pub same : IsSame (state_of w.engine) (state_of v.engine)
   pub notes : w.notes ≡ record v.notes { spare = w.notes.spare }
 
--- a call makes this event at this moment, to which the machine answers `next`, and is in the state `after` then
-abbrev pub Makes : {A : Type 0} → (A → Told) → Next → ℕ → Event → State → DeskView → Result A DeskFault → DeskView → Type 0
+-- a call makes this event at this moment, to which the machine answers `next`, and is in the state
+-- `after` then
+abbrev pub Makes : {A : Type 0} → (A → Told) → Next → ℕ → Event → State → DeskView
+    → Result A DeskFault → DeskView → Type 0
 Makes told next now event after v (Ok a) w = HasEntered next (entry_at now event (told a)) after v w
 Makes told next now event after v (Err fault.Stopped) w = WasStopped v w
 Makes told next now event after v (Err (fault.Engine refusal.WantOfMemory)) w = ⊥
@@ -73,7 +82,8 @@ Makes told next now event after v (Err (fault.Engine r)) w = HasRefused next r v
 Makes told next now event after v (Err fault.JournalFault) w = HasFailed after v w
 Makes told next now event after v (Err fault.WantOfMemory) w = HasWanted v w
 
--- so many places there were before the entry was noted; and where nothing was noted, no fewer than before
+-- so many places there were before the entry was noted; and where nothing was noted, no fewer than
+-- before
 abbrev pub Leaves : {A : Type 0} → ℕ → Notebook → Result A DeskFault → Notebook → Type 0
 Leaves n v (Ok a) w = n ≤ suc w.spare
 Leaves n v (Err fault.JournalFault) w = Unit {0}
@@ -84,7 +94,7 @@ abbrev pub load_of : EngineView → ℕ
 load_of v = length v.conns.links + length v.epochs.homes
 
 -- a process that lives died
-abbrev pub after_died_of : ℕ → ℕ → State → Option Place → State
+abbrev pub after_died_of : ℕ → ℕ → State → Option ClassId → State
 after_died_of k now s None = s
 after_died_of k now s (Some p) = after_end_at p k cause.Died false now s
 
@@ -104,7 +114,11 @@ pub record HasActed (now : ℕ) (a : Act) (v w : DeskView) : Type 0 where
   pub going : v.notes.stopped ≡ false
   pub act_is : option_map act_told (due_now v.engine) ≡ Some a
   pub same : IsSame (state_of w.engine) (after_act (due_now v.engine) now (state_of v.engine))
-  pub notes : w.notes ≡ record v.notes { history = with_entry (entry_at now event.Act (told_of_act (state_of v.engine) a)) v.notes.history; spare = w.notes.spare }
+  pub notes : w.notes ≡ record v.notes {
+    history = with_entry (entry_at now event.Act (told_of_act (state_of v.engine) a))
+        v.notes.history;
+    spare = w.notes.spare;
+  }
 
 -- the answer that tells of the act that is due, if one is
 abbrev pub told_due : EngineView → Option Told
@@ -116,7 +130,8 @@ Acts now v (Ok None) w = HasIdled v w
 Acts now v (Ok (Some a)) w = HasActed now a v w
 Acts now v (Err fault.Stopped) w = WasStopped v w
 Acts now v (Err (fault.Engine r)) w = ⊥
-Acts now v (Err fault.JournalFault) w = HasFailed (after_act (due_now v.engine) now (state_of v.engine)) v w
+Acts now v (Err fault.JournalFault) w = HasFailed
+    (after_act (due_now v.engine) now (state_of v.engine)) v w
 Acts now v (Err fault.WantOfMemory) w = HasWanted v w
 
 -- refusals are counted where a line ends its process
@@ -130,7 +145,11 @@ pub record HasRead (now k : ℕ) (line : List ℕ) (g : Got) (v w : DeskView) : 
   pub going : v.notes.stopped ≡ false
   pub next_is : line_answer (state_of v.engine) k line ≡ gives (got_told g)
   pub done : IsLineDone (state_of v.engine) k g now (state_of w.engine)
-  pub notes : w.notes ≡ record v.notes { history = with_entry (entry_at now (event.Line k line) (got_told g)) v.notes.history; spare = w.notes.spare; refusals = after_got g v.notes.refusals }
+  pub notes : w.notes ≡ record v.notes {
+    history = with_entry (entry_at now (event.Line k line) (got_told g)) v.notes.history;
+    spare = w.notes.spare;
+    refusals = after_got g v.notes.refusals;
+  }
 
 -- a line came to something, but the note failed: the desk is stopped, and the journal is as it was
 pub record HasMisread (now k : ℕ) (line : List ℕ) (v w : DeskView) : Type 0 where
@@ -139,36 +158,52 @@ pub record HasMisread (now k : ℕ) (line : List ℕ) (v w : DeskView) : Type 0 
   pub next_is : line_answer (state_of v.engine) k line ≡ gives (got_told got)
   pub done : IsLineDone (state_of v.engine) k got now (state_of w.engine)
   pub rose : Rose v.notes.faults w.notes.faults
-  pub notes : w.notes ≡ record v.notes { spare = w.notes.spare; faults = w.notes.faults; stopped = true; refusals = raised v.notes.refusals }
+  pub notes : w.notes ≡ record v.notes {
+    spare = w.notes.spare;
+    faults = w.notes.faults;
+    stopped = true;
+    refusals = raised v.notes.refusals;
+  }
 
 -- a call for a line of a process
 abbrev pub Reads : ℕ → ℕ → List ℕ → DeskView → Result Got DeskFault → DeskView → Type 0
 Reads now k line v (Ok g) w = HasRead now k line g v w
 Reads now k line v (Err fault.Stopped) w = WasStopped v w
 Reads now k line v (Err (fault.Engine refusal.WantOfMemory)) w = ⊥
-Reads now k line v (Err (fault.Engine r)) w = HasRefused (line_answer (state_of v.engine) k line) r v w
+Reads now k line v (Err (fault.Engine r)) w = HasRefused (line_answer (state_of v.engine) k line) r
+    v w
 Reads now k line v (Err fault.JournalFault) w = HasMisread now k line v w
 Reads now k line v (Err fault.WantOfMemory) w = HasWanted v w
 
 -- what is promised of a line that was read
 abbrev pub IsLinePromised : State → ℕ → ℕ → List ℕ → Result Got DeskFault → State → Type 0
-IsLinePromised s now k line (Ok g) t = (configs : List Configuration) (h : History) → StandsFor configs h s → latest h ≤ now → IsAnswered configs h now (event.Line k line) (got_told g) t
+IsLinePromised s now k line (Ok g) t = (configs : List Configuration) (h : History)
+    → StandsFor configs h s → latest h ≤ now
+    → IsAnswered configs h now (event.Line k line) (got_told g) t
 IsLinePromised s now k line (Err f) t = Unit {0}
 
--- the machine went on with this configuration in this epoch, the entry is in the journal, and the reconfigurations are counted by it
+-- the machine went on with this configuration in this epoch, the entry is in the journal, and the
+-- reconfigurations are counted by it
 pub record HasReread (now : ℕ) (config : Configuration) (epoch : ℕ) (v w : DeskView) : Type 0 where
   pub going : v.notes.stopped ≡ false
   pub next_is : reconfigure_answer (state_of v.engine) ≡ gives (told.Epoch epoch)
   pub same : IsSame (state_of w.engine) (after_reconfigured config now (state_of v.engine))
-  pub notes : w.notes ≡ record v.notes { history = with_entry (entry_at now (event.Reconfigure config.source) (told.Epoch epoch)) v.notes.history; spare = w.notes.spare; made = epoch - 1 }
+  pub notes : w.notes ≡ record v.notes {
+    history = with_entry (entry_at now (event.Reconfigure config.source) (told.Epoch epoch))
+        v.notes.history;
+    spare = w.notes.spare;
+    made = epoch - 1;
+  }
 
 -- a call for another configuration
 abbrev pub Rereads : ℕ → Configuration → DeskView → Result ℕ DeskFault → DeskView → Type 0
 Rereads now config v (Ok epoch) w = HasReread now config epoch v w
 Rereads now config v (Err fault.Stopped) w = WasStopped v w
 Rereads now config v (Err (fault.Engine refusal.WantOfMemory)) w = ⊥
-Rereads now config v (Err (fault.Engine r)) w = HasRefused (reconfigure_answer (state_of v.engine)) r v w
-Rereads now config v (Err fault.JournalFault) w = HasFailed (after_reconfigured config now (state_of v.engine)) v w
+Rereads now config v (Err (fault.Engine r)) w = HasRefused (reconfigure_answer (state_of v.engine))
+    r v w
+Rereads now config v (Err fault.JournalFault) w = HasFailed
+    (after_reconfigured config now (state_of v.engine)) v w
 Rereads now config v (Err fault.WantOfMemory) w = HasWanted v w
 
 -- a reconfiguration that was made is one more, and its epoch is one above them
@@ -177,9 +212,11 @@ CountsMade before (Ok epoch) now = (now ≡ before + 1) × (epoch ≡ now + 1)
 CountsMade before (Err f) now = now ≡ before
 
 -- the desk began with this configuration, and the journal has its first entry more than `before`
-pub record HasBegun (config : Configuration) (offset : ℤ) (now : ℕ) (before : Option History) (v : DeskView) : Type 0 where
+pub record HasBegun (config : Configuration) (offset : ℤ) (now : ℕ) (before : Option History)
+    (v : DeskView) : Type 0 where
   pub same : IsSame (state_of v.engine) (first_state config offset now)
-  pub history : v.notes.history ≡ with_entry (entry_at now (event.Begin offset) (told.Epoch 1)) before
+  pub history : v.notes.history
+      ≡ with_entry (entry_at now (event.Begin offset) (told.Epoch 1)) before
   pub stopped : v.notes.stopped ≡ false
   pub refusals : v.notes.refusals ≡ 0
   pub made : v.notes.made ≡ 0

@@ -5,14 +5,14 @@ ghost use Rattle.sq_engine.specs.Acting.{IsActPromised};
 ghost use Rattle.sq_engine.specs.EngineViews.{state_of};
 ghost use Rattle.sq_desk.specs.Calling.{Acts, Leaves, desk_of, load_of, told_due};
 
-use crate::desks::{Desk, First};
+use crate::desks::{Desk, DeskStart};
 use crate::notes::Notes;
 use sq_base::{Moment, WantOfMemory};
 use sq_calls::DeskFault;
 use sq_engine::Engine;
 use sq_epochs::Act;
+use sq_journal_writers::Journal;
 use sq_machine::{Entry, Event, Told, later};
-use sq_note::Journal;
 use std::alloc::Global;
 
 // The answer that tells of the act that is due, if one is.
@@ -36,9 +36,12 @@ fn act<J: Journal>(
     alloc: Global,
     now: Moment,
 ) -> Result<Option<Act>, DeskFault>
-    ensures acts { Acts (max now engine.old.latest) (desk_of engine.old notes.old) result (desk_of engine.new notes.new) }
+    ensures acts { Acts (max now engine.old.latest) (desk_of engine.old notes.old) result
+        (desk_of engine.new notes.new) }
     ensures leaves { Leaves (load_of engine.old + 1) notes.old result notes.new }
-    ensures promised { IfOk result (λ a. IsActPromised (state_of engine.old) (max now engine.old.latest) a (state_of engine.new)) }
+    ensures promised { IfOk result
+        (λ a. IsActPromised (state_of engine.old) (max now engine.old.latest) a
+        (state_of engine.new)) }
 {
     let moment = later(now, engine.latest());
     match notes.ready(engine.load(), 1) {
@@ -66,11 +69,13 @@ fn act<J: Journal>(
     }
 }
 
-impl<J: Journal, F: First> Desk<J, F> {
+impl<J: Journal, F: DeskStart> Desk<J, F> {
     /// The next act that is due, which counts as made with this call. Where none is, nothing is noted.
     pub fn act(&mut self, alloc: Global, now: Moment) -> Result<Option<Act>, DeskFault>
         ensures acts { Acts (max now self.old.engine.latest) self.old result self.new }
-        ensures promised { IfOk result (λ a. IsActPromised (state_of self.old.engine) (max now self.old.engine.latest) a (state_of self.new.engine)) }
+        ensures promised { IfOk result
+            (λ a. IsActPromised (state_of self.old.engine) (max now self.old.engine.latest) a
+            (state_of self.new.engine)) }
         // Where the journal is told, what is given is the machine's next act.
         ensures next { IsNextAct (Some F.first) self.old.notes.history result }
     {

@@ -2,25 +2,25 @@
 ghost use Rattle.std.proofs.Common.{arith};
 ghost use Rattle.std.specs.Prelude.{Some, true, max, min};
 ghost use Rattle.std.specs.Option.{option_map};
-ghost use Rattle.sq_state.specs.Says.{class_in};
+ghost use Rattle.sq_model_state.specs.Says.{class_in};
 ghost use Rattle.sq_engine.specs.EngineViews.{state_of};
 ghost use Rattle.sq_desk.specs.Calling.{Rereads};
 ghost use Rattle.sq_outside.specs.Causes.{count_limit};
 
-use crate::desks::{Desk, First};
+use crate::desks::{Desk, DeskStart};
 use sq_base::{Addr, CheckNo, ConnNo, EpochNo, Moment, ProcNo, Request, Texts, WantOfMemory};
 use sq_calls::{DeskCalls, DeskFault};
 use sq_channel::Got;
 use sq_checks::Record;
 use sq_epochs::Act;
-use sq_note::Journal;
-use sq_rows::Stepped;
+use sq_journal_writers::Journal;
+use sq_model_rows::Stepped;
 use sq_rules::Config;
 use sq_urlmatch::Setup;
 use std::alloc::Global;
 use std::sync::Arc;
 
-impl<J: Journal, F: First> DeskCalls for Desk<J, F> {
+impl<J: Journal, F: DeskStart> DeskCalls for Desk<J, F> {
     ghost told = { λ d. d.notes.history };
 
     ghost first = { Some F.first };
@@ -31,9 +31,11 @@ impl<J: Journal, F: First> DeskCalls for Desk<J, F> {
 
     ghost is_counting = { true };
 
-    ghost rereads = { λ d config now answer after. Rereads (max now d.engine.latest) config d answer after };
+    ghost rereads = { λ d config now answer after. Rereads (max now d.engine.latest) config d answer
+        after };
 
-    ghost programs = { λ d epoch class. Some (option_map (λ c. c.words) (class_in (state_of d.engine) epoch class)) };
+    ghost programs = { λ d epoch class. Some
+        (option_map (λ c. c.words) (class_in (state_of d.engine) epoch class)) };
 
     ghost configs = { λ d epoch. Some ((state_of d.engine).config epoch) };
 

@@ -5,23 +5,24 @@ ghost use Rattle.sq_base.specs.Targets.{target_of};
 ghost use Rattle.sq_rules.specs.Sights.{asked_request, unversioned};
 ghost use Rattle.sq_machine.specs.declared.entries.Event.TheVariants as event;
 ghost use Rattle.sq_machine.specs.declared.entries.Told.TheVariants as told;
-ghost use Rattle.sq_state.specs.Answers.{ask_answer, asked_in};
-ghost use Rattle.sq_state.specs.Changes.{after_ask};
+ghost use Rattle.sq_model_state.specs.Answers.{ask_answer, asked_in};
+ghost use Rattle.sq_model_state.specs.Changes.{after_ask};
 ghost use Rattle.sq_engine.specs.EngineViews.{state_of};
 ghost use Rattle.sq_desk.specs.Calling.{Leaves, Makes, desk_of, load_of};
 
-use crate::desks::{Desk, First};
+use crate::desks::{Desk, DeskStart};
 use crate::notes::Notes;
 use sq_base::{CheckNo, ConnNo, Copying, Moment, Request, WantOfMemory};
 use sq_calls::DeskFault;
 use sq_engine::Engine;
+use sq_journal_writers::Journal;
 use sq_machine::{Entry, Event, Told, later};
-use sq_note::Journal;
 use std::alloc::Global;
 
 // What holds of every request.
 fn formed(request: &Request)
-    ensures parts { unversioned request.now ≡ asked_request request.now.method request.now.target request.now.fields }
+    ensures parts { unversioned request.now
+        ≡ asked_request request.now.method request.now.target request.now.fields }
     ensures target { is_some (target_of request.now.method request.now.target) ≡ true }
     ensures names { have_plain_names request.now.fields ≡ true }
 {
@@ -30,7 +31,8 @@ fn formed(request: &Request)
 
 // The event of a request, with copies of its method, target and fields.
 fn asked(alloc: Global, conn: ConnNo, request: &Request) -> Result<Event, WantOfMemory>
-    ensures { IfOk result (λ e. e ≡ event.Ask conn request.now.method request.now.target request.now.fields) }
+    ensures { IfOk result
+        (λ e. e ≡ event.Ask conn request.now.method request.now.target request.now.fields) }
 {
     let method = request.method.copy(alloc)?;
     let target = request.target.copy(alloc)?;
@@ -52,8 +54,10 @@ fn ask<J: Journal>(
     request: Request,
     now: Moment,
 ) -> Result<CheckNo, DeskFault>
-    ensures makes { Makes (λ n. told.Check n) (ask_answer (state_of engine.old) conn) (max now engine.old.latest) (event.Ask conn request.method request.target request.fields)
-        (after_ask (asked_in (state_of engine.old) (max now engine.old.latest) conn request.method request.target request.fields) (max now engine.old.latest) (state_of engine.old))
+    ensures makes { Makes (λ n. told.Check n) (ask_answer (state_of engine.old) conn)
+        (max now engine.old.latest) (event.Ask conn request.method request.target request.fields)
+        (after_ask (asked_in (state_of engine.old) (max now engine.old.latest) conn request.method
+        request.target request.fields) (max now engine.old.latest) (state_of engine.old))
         (desk_of engine.old notes.old) result (desk_of engine.new notes.new) }
     ensures leaves { Leaves (load_of engine.old + 1) notes.old result notes.new }
     ensures formed { is_some (target_of request.method request.target) ≡ true }
@@ -83,7 +87,7 @@ fn ask<J: Journal>(
     }
 }
 
-impl<J: Journal, F: First> Desk<J, F> {
+impl<J: Journal, F: DeskStart> Desk<J, F> {
     /// A request arrives on a connection, and its check begins in the current epoch.
     pub fn ask(
         &mut self,
@@ -92,8 +96,12 @@ impl<J: Journal, F: First> Desk<J, F> {
         request: Request,
         now: Moment,
     ) -> Result<CheckNo, DeskFault>
-        ensures makes { Makes (λ n. told.Check n) (ask_answer (state_of self.old.engine) conn) (max now self.old.engine.latest) (event.Ask conn request.method request.target request.fields)
-            (after_ask (asked_in (state_of self.old.engine) (max now self.old.engine.latest) conn request.method request.target request.fields) (max now self.old.engine.latest) (state_of self.old.engine))
+        ensures makes { Makes (λ n. told.Check n) (ask_answer (state_of self.old.engine) conn)
+            (max now self.old.engine.latest)
+            (event.Ask conn request.method request.target request.fields)
+            (after_ask (asked_in (state_of self.old.engine) (max now self.old.engine.latest) conn
+            request.method request.target request.fields) (max now self.old.engine.latest)
+            (state_of self.old.engine))
             self.old result self.new }
         ensures formed { is_some (target_of request.method request.target) ≡ true }
     {

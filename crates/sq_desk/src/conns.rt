@@ -4,18 +4,18 @@ ghost use Rattle.sq_calls.specs.declared.faults.DeskFault.TheVariants as fault;
 ghost use Rattle.sq_checks.specs.Conns.{client_in};
 ghost use Rattle.sq_machine.specs.declared.entries.Event.TheVariants as event;
 ghost use Rattle.sq_machine.specs.declared.entries.Told.TheVariants as told;
-ghost use Rattle.sq_state.specs.Answers.{close_answer, open_answer};
-ghost use Rattle.sq_state.specs.Changes.{after_close, after_open};
+ghost use Rattle.sq_model_state.specs.Answers.{close_answer, open_answer};
+ghost use Rattle.sq_model_state.specs.Changes.{after_close, after_open};
 ghost use Rattle.sq_engine.specs.EngineViews.{state_of};
 ghost use Rattle.sq_desk.specs.Calling.{Leaves, Makes, desk_of, load_of};
 
-use crate::desks::{Desk, First};
+use crate::desks::{Desk, DeskStart};
 use crate::notes::Notes;
 use sq_base::{Addr, ConnNo, Moment};
 use sq_calls::DeskFault;
 use sq_engine::Engine;
+use sq_journal_writers::Journal;
 use sq_machine::{Entry, Event, Told, later};
-use sq_note::Journal;
 
 // A client's connection opens, and a place is made for its close.
 fn open<J: Journal>(
@@ -26,8 +26,11 @@ fn open<J: Journal>(
     port: u16,
     now: Moment,
 ) -> Result<(), DeskFault>
-    ensures makes { Makes (λ _. told.Fine) (open_answer (state_of engine.old) conn) (max now engine.old.latest) (event.Open conn addr port)
-        (after_open conn (record { addr = addr; port = port }) (max now engine.old.latest) (state_of engine.old)) (desk_of engine.old notes.old) result (desk_of engine.new notes.new) }
+    ensures makes { Makes (λ _. told.Fine) (open_answer (state_of engine.old) conn)
+        (max now engine.old.latest) (event.Open conn addr port)
+        (after_open conn (record { addr = addr; port = port }) (max now engine.old.latest)
+        (state_of engine.old)) (desk_of engine.old notes.old) result
+        (desk_of engine.new notes.new) }
     ensures leaves { Leaves (load_of engine.old + 2) notes.old result notes.new }
 {
     let moment = later(now, engine.latest());
@@ -54,9 +57,12 @@ fn close<J: Journal>(
     conn: ConnNo,
     now: Moment,
 ) -> Result<(), DeskFault>
-    requires { notes.old.stopped ≡ false → is_some (client_in engine.old.conns conn) ≡ true → 0 < notes.old.spare }
-    ensures makes { Makes (λ _. told.Fine) (close_answer (state_of engine.old) conn) (max now engine.old.latest) (event.Close conn)
-        (after_close conn (max now engine.old.latest) (state_of engine.old)) (desk_of engine.old notes.old) result (desk_of engine.new notes.new) }
+    requires { notes.old.stopped ≡ false → is_some (client_in engine.old.conns conn) ≡ true
+        → 0 < notes.old.spare }
+    ensures makes { Makes (λ _. told.Fine) (close_answer (state_of engine.old) conn)
+        (max now engine.old.latest) (event.Close conn)
+        (after_close conn (max now engine.old.latest) (state_of engine.old))
+        (desk_of engine.old notes.old) result (desk_of engine.new notes.new) }
     ensures leaves { Leaves notes.old.spare notes.old result notes.new }
     ensures memory { IsErrOf result fault.WantOfMemory → ⊥ }
 {
@@ -77,7 +83,7 @@ fn close<J: Journal>(
     notes.note(entry)
 }
 
-impl<J: Journal, F: First> Desk<J, F> {
+impl<J: Journal, F: DeskStart> Desk<J, F> {
     /// A client's connection opens.
     pub fn open(
         &mut self,
@@ -86,16 +92,20 @@ impl<J: Journal, F: First> Desk<J, F> {
         port: u16,
         now: Moment,
     ) -> Result<(), DeskFault>
-        ensures { Makes (λ _. told.Fine) (open_answer (state_of self.old.engine) conn) (max now self.old.engine.latest) (event.Open conn addr port)
-            (after_open conn (record { addr = addr; port = port }) (max now self.old.engine.latest) (state_of self.old.engine)) self.old result self.new }
+        ensures { Makes (λ _. told.Fine) (open_answer (state_of self.old.engine) conn)
+            (max now self.old.engine.latest) (event.Open conn addr port)
+            (after_open conn (record { addr = addr; port = port }) (max now self.old.engine.latest)
+            (state_of self.old.engine)) self.old result self.new }
     {
         open(&mut self.engine, &mut self.notes, conn, addr, port, now)
     }
 
     /// A connection closes, and its open check is dropped. It takes no memory.
     pub fn close(&mut self, conn: ConnNo, now: Moment) -> Result<(), DeskFault>
-        ensures makes { Makes (λ _. told.Fine) (close_answer (state_of self.old.engine) conn) (max now self.old.engine.latest) (event.Close conn)
-            (after_close conn (max now self.old.engine.latest) (state_of self.old.engine)) self.old result self.new }
+        ensures makes { Makes (λ _. told.Fine) (close_answer (state_of self.old.engine) conn)
+            (max now self.old.engine.latest) (event.Close conn)
+            (after_close conn (max now self.old.engine.latest) (state_of self.old.engine)) self.old
+            result self.new }
         ensures memory { IsErrOf result fault.WantOfMemory → ⊥ }
     {
         close(&mut self.engine, &mut self.notes, conn, now)

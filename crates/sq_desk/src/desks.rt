@@ -2,7 +2,7 @@
 ghost use Rattle.std.specs.Prelude.{◌≡◌, ◌≤◌, suc, [], false, Some, IfOk, IfErr, IfSome};
 ghost use Rattle.sq_calls.specs.Legality.{Beginning, IsLegal};
 ghost use Rattle.sq_desk.specs.Calling.{HasBegun, IsUnbegun};
-ghost use Rattle.sq_desk.specs.Desks.{HasPlaces, IsReplay, no_beginning};
+ghost use Rattle.sq_desk.specs.Desks.{HasSpare, IsReplay, no_beginning};
 ghost use Rattle.sq_engine.specs.EngineViews.{state_of};
 
 use crate::notes::Notes;
@@ -11,32 +11,32 @@ use sq_base::{EpochNo, Moment, WantOfMemory};
 use sq_cache::HashSeed;
 use sq_calls::DeskFault;
 use sq_engine::Engine;
+use sq_journal_writers::Journal;
 use sq_machine::{Entry, Event, Offset, Told};
-use sq_note::Journal;
 use sq_outside::COUNT_LIMIT;
 use sq_urlmatch::Setup;
 use std::alloc::Global;
 use std::marker::{Brand, Model, PhantomData};
 
 /// With what a desk begins: its configuration, and the offset of local time.
-pub trait First {
+pub trait DeskStart {
     ghost first: { Beginning };
 }
 
-impl First for Brand {
+impl DeskStart for Brand {
     ghost first = { no_beginning };
 }
 
 /// The machine and its journal. A contract sees both, whether a note failed, how many calls were refused, and how many
 /// reconfigurations were noted. Its type says with what it began.
 #[derive(Drop)]
-pub struct Desk<J: Journal, F: First> {
+pub struct Desk<J: Journal, F: DeskStart> {
     pub(crate) engine: Engine,
     pub(crate) notes: Notes<J>,
     begun: PhantomData<F>,
 }
 
-impl<J: Journal, F: First> Model for Desk<J, F> {
+impl<J: Journal, F: DeskStart> Model for Desk<J, F> {
     ghost use Rattle.sq_desk.specs.Desks.{DeskView, IsDesk};
 
     ghost Value = { DeskView };
@@ -46,7 +46,7 @@ impl<J: Journal, F: First> Model for Desk<J, F> {
     ghost invariant = { λ d. IsDesk F.first (record { engine = d.engine; notes = d.notes }) };
 }
 
-impl<J: Journal, F: First> Desk<J, F> {
+impl<J: Journal, F: DeskStart> Desk<J, F> {
     /// The machine that begins at this moment with epoch 1, over a journal without an entry, whose first entry it notes.
     /// The seed is for the hashes of keys. Where it does not begin, the journal is handed back.
     pub fn new(
@@ -109,9 +109,12 @@ impl<J: Journal, F: First> Desk<J, F> {
     /// What holds of it: it changes nothing, and its contract says it to a proof.
     pub fn facts(&self)
         ensures legal { IfSome self.now.notes.history (IsLegal F.first) }
-        ensures replay { self.now.notes.stopped ≡ false → IfSome self.now.notes.history (IsReplay F.first (state_of self.now.engine)) }
-        ensures places { self.now.notes.stopped ≡ false → HasPlaces self.now.notes.spare (state_of self.now.engine) }
-        ensures made { self.now.notes.stopped ≡ false → self.now.engine.epochs.current ≡ suc self.now.notes.made }
+        ensures replay { self.now.notes.stopped ≡ false
+            → IfSome self.now.notes.history (IsReplay F.first (state_of self.now.engine)) }
+        ensures places { self.now.notes.stopped ≡ false
+            → HasSpare self.now.notes.spare (state_of self.now.engine) }
+        ensures made { self.now.notes.stopped ≡ false
+            → self.now.engine.epochs.current ≡ suc self.now.notes.made }
     {
         let _refusals = self.notes.refusals();
     }

@@ -4,17 +4,17 @@ ghost use Rattle.sq_calls.specs.declared.faults.DeskFault.TheVariants as fault;
 ghost use Rattle.sq_epochs.specs.EpochStates.{home_at};
 ghost use Rattle.sq_machine.specs.declared.entries.Event.TheVariants as event;
 ghost use Rattle.sq_machine.specs.declared.entries.Told.TheVariants as told;
-ghost use Rattle.sq_state.specs.Answers.{died_answer};
+ghost use Rattle.sq_model_state.specs.Answers.{died_answer};
 ghost use Rattle.sq_engine.specs.EngineViews.{state_of};
 ghost use Rattle.sq_desk.specs.Calling.{Leaves, Makes, after_died, desk_of};
 
-use crate::desks::{Desk, First};
+use crate::desks::{Desk, DeskStart};
 use crate::notes::Notes;
 use sq_base::{Moment, ProcNo};
 use sq_calls::DeskFault;
 use sq_engine::Engine;
+use sq_journal_writers::Journal;
 use sq_machine::{Entry, Event, Told, later};
-use sq_note::Journal;
 
 // A process died. The place is there.
 fn died<J: Journal>(
@@ -23,9 +23,12 @@ fn died<J: Journal>(
     proc: ProcNo,
     now: Moment,
 ) -> Result<(), DeskFault>
-    requires { notes.old.stopped ≡ false → is_some (home_at engine.old.epochs proc) ≡ true → 0 < notes.old.spare }
-    ensures makes { Makes (λ _. told.Fine) (died_answer (state_of engine.old) proc) (max now engine.old.latest) (event.Died proc)
-        (after_died proc (max now engine.old.latest) (state_of engine.old)) (desk_of engine.old notes.old) result (desk_of engine.new notes.new) }
+    requires { notes.old.stopped ≡ false → is_some (home_at engine.old.epochs proc) ≡ true
+        → 0 < notes.old.spare }
+    ensures makes { Makes (λ _. told.Fine) (died_answer (state_of engine.old) proc)
+        (max now engine.old.latest) (event.Died proc)
+        (after_died proc (max now engine.old.latest) (state_of engine.old))
+        (desk_of engine.old notes.old) result (desk_of engine.new notes.new) }
     ensures leaves { Leaves notes.old.spare notes.old result notes.new }
     ensures memory { IsErrOf result fault.WantOfMemory → ⊥ }
 {
@@ -46,11 +49,13 @@ fn died<J: Journal>(
     notes.note(entry)
 }
 
-impl<J: Journal, F: First> Desk<J, F> {
+impl<J: Journal, F: DeskStart> Desk<J, F> {
     /// A process died. It takes no memory.
     pub fn died(&mut self, proc: ProcNo, now: Moment) -> Result<(), DeskFault>
-        ensures makes { Makes (λ _. told.Fine) (died_answer (state_of self.old.engine) proc) (max now self.old.engine.latest) (event.Died proc)
-            (after_died proc (max now self.old.engine.latest) (state_of self.old.engine)) self.old result self.new }
+        ensures makes { Makes (λ _. told.Fine) (died_answer (state_of self.old.engine) proc)
+            (max now self.old.engine.latest) (event.Died proc)
+            (after_died proc (max now self.old.engine.latest) (state_of self.old.engine)) self.old
+            result self.new }
         ensures memory { IsErrOf result fault.WantOfMemory → ⊥ }
     {
         died(&mut self.engine, &mut self.notes, proc, now)

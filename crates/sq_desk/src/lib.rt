@@ -25,5 +25,5 @@ mod starts;
 mod stepping;
 mod taking;
 
-pub use desks::{Desk, First};
+pub use desks::{Desk, DeskStart};
 pub use sq_calls::DeskFault;

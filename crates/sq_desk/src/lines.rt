@@ -6,14 +6,14 @@ ghost use Rattle.sq_engine.specs.Promised.{IsPromised};
 ghost use Rattle.sq_machine.specs.declared.entries.Event.TheVariants as event;
 ghost use Rattle.sq_desk.specs.Calling.{IsLinePromised, Leaves, Reads, desk_of, load_of};
 
-use crate::desks::{Desk, First};
+use crate::desks::{Desk, DeskStart};
 use crate::notes::Notes;
 use sq_base::{Moment, ProcNo, Text, WantOfMemory};
 use sq_calls::DeskFault;
 use sq_channel::Got;
 use sq_engine::Engine;
+use sq_journal_writers::Journal;
 use sq_machine::{Entry, Event, Told, later};
-use sq_note::Journal;
 use std::alloc::Global;
 
 // The answer that tells what a line comes to.
@@ -39,9 +39,11 @@ fn line<J: Journal>(
     bytes: &[u8],
     now: Moment,
 ) -> Result<Got, DeskFault>
-    ensures reads { Reads (max now engine.old.latest) proc bytes.now (desk_of engine.old notes.old) result (desk_of engine.new notes.new) }
+    ensures reads { Reads (max now engine.old.latest) proc bytes.now (desk_of engine.old notes.old)
+        result (desk_of engine.new notes.new) }
     ensures leaves { Leaves (load_of engine.old + 1) notes.old result notes.new }
-    ensures promised { IsLinePromised (state_of engine.old) (max now engine.old.latest) proc bytes.now result (state_of engine.new) }
+    ensures promised { IsLinePromised (state_of engine.old) (max now engine.old.latest) proc
+        bytes.now result (state_of engine.new) }
 {
     let moment = later(now, engine.latest());
     match notes.ready(engine.load(), 1) {
@@ -74,7 +76,7 @@ fn line<J: Journal>(
     Ok(got)
 }
 
-impl<J: Journal, F: First> Desk<J, F> {
+impl<J: Journal, F: DeskStart> Desk<J, F> {
     /// A line of a process: a reply to a question that is open on it, or one that ends it, which counts as a refusal.
     pub fn line(
         &mut self,
@@ -83,7 +85,8 @@ impl<J: Journal, F: First> Desk<J, F> {
         bytes: &[u8],
         now: Moment,
     ) -> Result<Got, DeskFault>
-        ensures reads { Reads (max now self.old.engine.latest) proc bytes.now self.old result self.new }
+        ensures reads { Reads (max now self.old.engine.latest) proc bytes.now self.old result
+            self.new }
     {
         line(&mut self.engine, &mut self.notes, alloc, proc, bytes, now)
     }

@@ -7,8 +7,8 @@ ghost use Rattle.sq_desk.specs.Noting.{IsNoted, IsReady, after_refusal, counted}
 
 use sq_base::{EpochNo, WantOfMemory};
 use sq_calls::DeskFault;
+use sq_journal_writers::Journal;
 use sq_machine::{Entry, Refusal};
-use sq_note::Journal;
 use sq_outside::{COUNT_LIMIT, Failed};
 use std::marker::Model;
 
@@ -32,7 +32,14 @@ impl<J: Journal> Model for Notes<J> {
 
     ghost Value = { Notebook };
 
-    ghost view = { λ n. record { history = J.history n.journal; spare = J.spare n.journal; faults = J.faults n.journal; stopped = n.stopped; refusals = n.refusals; made = n.made } };
+    ghost view = { λ n. record {
+      history = J.history n.journal;
+      spare = J.spare n.journal;
+      faults = J.faults n.journal;
+      stopped = n.stopped;
+      refusals = n.refusals;
+      made = n.made;
+    } };
 
     ghost invariant = { λ n. n.refusals ≤ count_limit };
 }
@@ -40,7 +47,14 @@ impl<J: Journal> Model for Notes<J> {
 impl<J: Journal> Notes<J> {
     /// A journal of which no note failed yet.
     pub fn new(journal: J) -> Notes<J>
-        ensures { result ≡ record { history = J.history journal; spare = J.spare journal; faults = J.faults journal; stopped = false; refusals = 0; made = 0 } }
+        ensures { result ≡ record {
+          history = J.history journal;
+          spare = J.spare journal;
+          faults = J.faults journal;
+          stopped = false;
+          refusals = 0;
+          made = 0;
+        } }
     {
         Notes {
             journal,

@@ -4,13 +4,13 @@ ghost use Rattle.sq_rules.specs.Configurations.{IsConfiguration};
 ghost use Rattle.sq_calls.specs.Legality.{IsStated};
 ghost use Rattle.sq_desk.specs.Calling.{CountsMade, Leaves, Rereads, desk_of, load_of};
 
-use crate::desks::{Desk, First};
+use crate::desks::{Desk, DeskStart};
 use crate::notes::Notes;
 use sq_base::{Copying, EpochNo, Moment, Text, WantOfMemory};
 use sq_calls::DeskFault;
 use sq_engine::Engine;
+use sq_journal_writers::Journal;
 use sq_machine::{Entry, Event, Told, later};
-use sq_note::Journal;
 use sq_urlmatch::Setup;
 use std::alloc::Global;
 
@@ -29,7 +29,8 @@ fn reconfigure<J: Journal>(
     setup: Setup,
     now: Moment,
 ) -> Result<EpochNo, DeskFault>
-    ensures rereads { Rereads (max now engine.old.latest) setup (desk_of engine.old notes.old) result (desk_of engine.new notes.new) }
+    ensures rereads { Rereads (max now engine.old.latest) setup (desk_of engine.old notes.old)
+        result (desk_of engine.new notes.new) }
     ensures leaves { Leaves (load_of engine.old + 1) notes.old result notes.new }
 {
     let moment = later(now, engine.latest());
@@ -65,7 +66,7 @@ pub(crate) fn good(setup: &Setup)
     setup.config().facts();
 }
 
-impl<J: Journal, F: First> Desk<J, F> {
+impl<J: Journal, F: DeskStart> Desk<J, F> {
     /// Another configuration is current, which is the one that its source states, in an epoch of its own: its number.
     pub fn reconfigure(
         &mut self,

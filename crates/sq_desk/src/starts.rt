@@ -2,19 +2,19 @@
 ghost use Rattle.std.specs.Prelude.{◌≡◌, ◌+◌, max, Some, OnOk};
 ghost use Rattle.sq_machine.specs.declared.entries.Event.TheVariants as event;
 ghost use Rattle.sq_machine.specs.declared.entries.Told.TheVariants as told;
-ghost use Rattle.sq_state.specs.Answers.{failed_answer, name_in, started_answer};
-ghost use Rattle.sq_state.specs.Changes.{after_failed_at, after_started_at};
+ghost use Rattle.sq_model_state.specs.Answers.{failed_answer, name_in, started_answer};
+ghost use Rattle.sq_model_state.specs.Changes.{after_failed_at, after_started_at};
 ghost use Rattle.sq_engine.specs.EngineViews.{state_of};
 ghost use Rattle.sq_calls.specs.Legality.{IsNameOf};
 ghost use Rattle.sq_desk.specs.Calling.{Leaves, Makes, desk_of, load_of};
 
-use crate::desks::{Desk, First};
+use crate::desks::{Desk, DeskStart};
 use crate::notes::Notes;
 use sq_base::{EpochNo, Moment, ProcNo, WantOfMemory};
 use sq_calls::DeskFault;
 use sq_engine::Engine;
+use sq_journal_writers::Journal;
 use sq_machine::{Entry, Event, Told, later};
-use sq_note::Journal;
 use std::alloc::Global;
 
 // A process was started, and a place is made for its death.
@@ -26,8 +26,14 @@ fn started<J: Journal>(
     class: u32,
     now: Moment,
 ) -> Result<ProcNo, DeskFault>
-    ensures makes { Makes told.Proc (started_answer (state_of engine.old) (record { epoch = epoch; class = class })) (max now engine.old.latest) (event.Started epoch (name_in (state_of engine.old) (record { epoch = epoch; class = class })))
-        (after_started_at (record { epoch = epoch; class = class }) (max now engine.old.latest) (state_of engine.old)) (desk_of engine.old notes.old) result (desk_of engine.new notes.new) }
+    ensures makes { Makes told.Proc
+        (started_answer (state_of engine.old) (record { epoch = epoch; class = class }))
+        (max now engine.old.latest)
+        (event.Started epoch (name_in (state_of engine.old)
+        (record { epoch = epoch; class = class })))
+        (after_started_at (record { epoch = epoch; class = class }) (max now engine.old.latest)
+        (state_of engine.old)) (desk_of engine.old notes.old) result
+        (desk_of engine.new notes.new) }
     ensures leaves { Leaves (load_of engine.old + 2) notes.old result notes.new }
 {
     let moment = later(now, engine.latest());
@@ -63,8 +69,14 @@ fn start_failed<J: Journal>(
     class: u32,
     now: Moment,
 ) -> Result<(), DeskFault>
-    ensures makes { Makes (λ _. told.Fine) (failed_answer (state_of engine.old) (record { epoch = epoch; class = class })) (max now engine.old.latest) (event.StartFail epoch (name_in (state_of engine.old) (record { epoch = epoch; class = class })))
-        (after_failed_at (record { epoch = epoch; class = class }) (max now engine.old.latest) (state_of engine.old)) (desk_of engine.old notes.old) result (desk_of engine.new notes.new) }
+    ensures makes { Makes (λ _. told.Fine)
+        (failed_answer (state_of engine.old) (record { epoch = epoch; class = class }))
+        (max now engine.old.latest)
+        (event.StartFail epoch (name_in (state_of engine.old)
+        (record { epoch = epoch; class = class })))
+        (after_failed_at (record { epoch = epoch; class = class }) (max now engine.old.latest)
+        (state_of engine.old)) (desk_of engine.old notes.old) result
+        (desk_of engine.new notes.new) }
     ensures leaves { Leaves (load_of engine.old + 1) notes.old result notes.new }
 {
     let moment = later(now, engine.latest());
@@ -88,7 +100,7 @@ fn start_failed<J: Journal>(
     notes.note(entry)
 }
 
-impl<J: Journal, F: First> Desk<J, F> {
+impl<J: Journal, F: DeskStart> Desk<J, F> {
     /// A process was started for an open start of the class at a place of an epoch: its number. Where no start is open,
     /// the caller stops the process itself.
     pub fn started(
@@ -98,10 +110,17 @@ impl<J: Journal, F: First> Desk<J, F> {
         class: u32,
         now: Moment,
     ) -> Result<ProcNo, DeskFault>
-        ensures makes { Makes told.Proc (started_answer (state_of self.old.engine) (record { epoch = epoch; class = class })) (max now self.old.engine.latest) (event.Started epoch (name_in (state_of self.old.engine) (record { epoch = epoch; class = class })))
-            (after_started_at (record { epoch = epoch; class = class }) (max now self.old.engine.latest) (state_of self.old.engine)) self.old result self.new }
+        ensures makes { Makes told.Proc
+            (started_answer (state_of self.old.engine) (record { epoch = epoch; class = class }))
+            (max now self.old.engine.latest)
+            (event.Started epoch (name_in (state_of self.old.engine)
+            (record { epoch = epoch; class = class })))
+            (after_started_at (record { epoch = epoch; class = class })
+            (max now self.old.engine.latest) (state_of self.old.engine)) self.old result self.new }
         // Where the journal is told, the name that is noted is that of the class in the configuration of its epoch.
-        ensures named { OnOk result (IsNameOf (Some F.first) self.old.notes.history epoch class (name_in (state_of self.old.engine) (record { epoch = epoch; class = class }))) }
+        ensures named { OnOk result
+            (IsNameOf (Some F.first) self.old.notes.history epoch class
+            (name_in (state_of self.old.engine) (record { epoch = epoch; class = class }))) }
     {
         started(&mut self.engine, &mut self.notes, alloc, epoch, class, now)
     }
@@ -114,9 +133,16 @@ impl<J: Journal, F: First> Desk<J, F> {
         class: u32,
         now: Moment,
     ) -> Result<(), DeskFault>
-        ensures makes { Makes (λ _. told.Fine) (failed_answer (state_of self.old.engine) (record { epoch = epoch; class = class })) (max now self.old.engine.latest) (event.StartFail epoch (name_in (state_of self.old.engine) (record { epoch = epoch; class = class })))
-            (after_failed_at (record { epoch = epoch; class = class }) (max now self.old.engine.latest) (state_of self.old.engine)) self.old result self.new }
-        ensures named { OnOk result (IsNameOf (Some F.first) self.old.notes.history epoch class (name_in (state_of self.old.engine) (record { epoch = epoch; class = class }))) }
+        ensures makes { Makes (λ _. told.Fine)
+            (failed_answer (state_of self.old.engine) (record { epoch = epoch; class = class }))
+            (max now self.old.engine.latest)
+            (event.StartFail epoch (name_in (state_of self.old.engine)
+            (record { epoch = epoch; class = class })))
+            (after_failed_at (record { epoch = epoch; class = class })
+            (max now self.old.engine.latest) (state_of self.old.engine)) self.old result self.new }
+        ensures named { OnOk result
+            (IsNameOf (Some F.first) self.old.notes.history epoch class
+            (name_in (state_of self.old.engine) (record { epoch = epoch; class = class }))) }
     {
         start_failed(&mut self.engine, &mut self.notes, alloc, epoch, class, now)
     }

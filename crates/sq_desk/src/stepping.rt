@@ -2,19 +2,19 @@
 ghost use Rattle.std.specs.Prelude.{◌≡◌, ◌+◌, ◌≤◌, [], max, vec_len, vec_capacity, IfOk};
 ghost use Rattle.std.specs.Option.{option_map_or};
 ghost use Rattle.sq_machine.specs.declared.entries.Event.TheVariants as event;
-ghost use Rattle.sq_state.specs.Answers.{name_in};
+ghost use Rattle.sq_model_state.specs.Answers.{name_in};
 ghost use Rattle.sq_engine.specs.EngineViews.{state_of};
 ghost use Rattle.sq_engine.specs.Stepping.{after_step_now, epoch_of, step_now, stepped_told};
 ghost use Rattle.sq_desk.specs.Calling.{Leaves, Makes, desk_of, load_of};
 
-use crate::desks::{Desk, First};
+use crate::desks::{Desk, DeskStart};
 use crate::notes::Notes;
 use sq_base::{CheckNo, EpochNo, Moment, Text, WantOfMemory};
 use sq_calls::DeskFault;
 use sq_engine::Engine;
+use sq_journal_writers::Journal;
 use sq_machine::{Entry, Event, Told, later};
-use sq_note::Journal;
-use sq_rows::Stepped;
+use sq_model_rows::Stepped;
 use std::alloc::Global;
 
 /// The bytes that the name of a class has at most.
@@ -65,8 +65,12 @@ fn step<J: Journal>(
     check: CheckNo,
     now: Moment,
 ) -> Result<Stepped, DeskFault>
-    ensures makes { Makes (stepped_told (state_of engine.old) (epoch_of (state_of engine.old) check)) (step_now (state_of engine.old) check (max now engine.old.latest)) (max now engine.old.latest) (event.Step check)
-        (after_step_now (state_of engine.old) check (max now engine.old.latest)) (desk_of engine.old notes.old) result (desk_of engine.new notes.new) }
+    ensures makes { Makes (stepped_told (state_of engine.old)
+        (epoch_of (state_of engine.old) check))
+        (step_now (state_of engine.old) check (max now engine.old.latest))
+        (max now engine.old.latest) (event.Step check)
+        (after_step_now (state_of engine.old) check (max now engine.old.latest))
+        (desk_of engine.old notes.old) result (desk_of engine.new notes.new) }
     ensures leaves { Leaves (load_of engine.old + 1) notes.old result notes.new }
 {
     let moment = later(now, engine.latest());
@@ -95,11 +99,15 @@ fn step<J: Journal>(
     }
 }
 
-impl<J: Journal, F: First> Desk<J, F> {
+impl<J: Journal, F: DeskStart> Desk<J, F> {
     /// A check goes on: it takes an answer, waits for one, or has its outcome.
     pub fn step(&mut self, alloc: Global, check: CheckNo, now: Moment) -> Result<Stepped, DeskFault>
-        ensures { Makes (stepped_told (state_of self.old.engine) (epoch_of (state_of self.old.engine) check)) (step_now (state_of self.old.engine) check (max now self.old.engine.latest)) (max now self.old.engine.latest) (event.Step check)
-            (after_step_now (state_of self.old.engine) check (max now self.old.engine.latest)) self.old result self.new }
+        ensures { Makes (stepped_told (state_of self.old.engine)
+            (epoch_of (state_of self.old.engine) check))
+            (step_now (state_of self.old.engine) check (max now self.old.engine.latest))
+            (max now self.old.engine.latest) (event.Step check)
+            (after_step_now (state_of self.old.engine) check (max now self.old.engine.latest))
+            self.old result self.new }
     {
         step(&mut self.engine, &mut self.notes, alloc, check, now)
     }

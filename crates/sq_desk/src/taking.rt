@@ -5,20 +5,20 @@ ghost use Rattle.sq_checks.specs.Records.{judged_of};
 ghost use Rattle.sq_checks.specs.Tables.{value_at};
 ghost use Rattle.sq_machine.specs.declared.entries.Event.TheVariants as event;
 ghost use Rattle.sq_machine.specs.declared.entries.Told.TheVariants as told;
-ghost use Rattle.sq_state.specs.Answers.{take_answer};
-ghost use Rattle.sq_state.specs.Changes.{after_take};
+ghost use Rattle.sq_model_state.specs.Answers.{take_answer};
+ghost use Rattle.sq_model_state.specs.Changes.{after_take};
 ghost use Rattle.sq_engine.specs.EngineViews.{state_of};
 ghost use Rattle.sq_desk.specs.Calling.{Leaves, Makes, desk_of, load_of};
 
-use crate::desks::{Desk, First};
+use crate::desks::{Desk, DeskStart};
 use crate::notes::Notes;
 use sq_base::{CheckNo, Moment, WantOfMemory};
 use sq_calls::DeskFault;
 use sq_checks::Record;
 use sq_engine::Engine;
+use sq_journal_writers::Journal;
 use sq_machine::{Entry, Event, Told, later};
-use sq_note::Journal;
-use sq_state::copy_outcome;
+use sq_model_state::copy_outcome;
 use std::alloc::Global;
 
 // The outcome of a check is taken, and the check is over.
@@ -29,10 +29,14 @@ fn take<J: Journal>(
     check: CheckNo,
     now: Moment,
 ) -> Result<Record, DeskFault>
-    ensures makes { Makes (λ r. told.Judged r.epoch r.outcome) (take_answer (state_of engine.old) check) (max now engine.old.latest) (event.Take check)
-        (after_take check (max now engine.old.latest) (state_of engine.old)) (desk_of engine.old notes.old) result (desk_of engine.new notes.new) }
+    ensures makes { Makes (λ r. told.Judged r.epoch r.outcome)
+        (take_answer (state_of engine.old) check) (max now engine.old.latest) (event.Take check)
+        (after_take check (max now engine.old.latest) (state_of engine.old))
+        (desk_of engine.old notes.old) result (desk_of engine.new notes.new) }
     ensures leaves { Leaves (load_of engine.old + 1) notes.old result notes.new }
-    ensures record { IfOk result (λ r. (k : CheckParts) → value_at engine.old.checks check ≡ Some k → r ≡ judged_of check r.outcome k) }
+    ensures record { IfOk result
+        (λ r. (k : CheckParts) → value_at engine.old.checks check ≡ Some k
+        → r ≡ judged_of check r.outcome k) }
 {
     let moment = later(now, engine.latest());
     match notes.ready(engine.load(), 1) {
@@ -66,13 +70,18 @@ fn take<J: Journal>(
     }
 }
 
-impl<J: Journal, F: First> Desk<J, F> {
+impl<J: Journal, F: DeskStart> Desk<J, F> {
     /// The outcome of a check is taken, and the check is over. The record comes exactly where its entry is in the
     /// journal.
     pub fn take(&mut self, alloc: Global, check: CheckNo, now: Moment) -> Result<Record, DeskFault>
-        ensures makes { Makes (λ r. told.Judged r.epoch r.outcome) (take_answer (state_of self.old.engine) check) (max now self.old.engine.latest) (event.Take check)
-            (after_take check (max now self.old.engine.latest) (state_of self.old.engine)) self.old result self.new }
-        ensures record { IfOk result (λ r. (k : CheckParts) → value_at self.old.engine.checks check ≡ Some k → r ≡ judged_of check r.outcome k) }
+        ensures makes { Makes (λ r. told.Judged r.epoch r.outcome)
+            (take_answer (state_of self.old.engine) check) (max now self.old.engine.latest)
+            (event.Take check)
+            (after_take check (max now self.old.engine.latest) (state_of self.old.engine)) self.old
+            result self.new }
+        ensures record { IfOk result
+            (λ r. (k : CheckParts) → value_at self.old.engine.checks check ≡ Some k
+            → r ≡ judged_of check r.outcome k) }
     {
         take(&mut self.engine, &mut self.notes, alloc, check, now)
     }

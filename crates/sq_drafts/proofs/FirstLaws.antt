@@ -21,18 +21,24 @@ abbrev named : Acl → List ℕ
 named a = a.name
 
 -- what stands in front of a list is free of a name that the whole is
-front_by : (b : Bool) (n : ℕ) (rest front : Option ℕ) → (rest ≡ None → front ≡ None) → (if b then Some n else rest) ≡ None → (if b then Some n else front) ≡ None
+front_by : (b : Bool) (n : ℕ) (rest front : Option ℕ) → (rest ≡ None → front ≡ None)
+    → (if b then Some n else rest) ≡ None → (if b then Some n else front) ≡ None
 front_by true n rest front so e = cc
 front_by false n rest front so e = so e
 
-free_front : (n : ℕ) (xs ys : List Acl) (q : List ℕ) → place_from named n (xs ++ ys) q ≡ None → place_from named n xs q ≡ None
+free_front : (n : ℕ) (xs ys : List Acl) (q : List ℕ) → place_from named n (xs ++ ys) q ≡ None
+    → place_from named n xs q ≡ None
 free_front n [] ys q none = refl
-free_front n (x ∷ xs) ys q none = front_by (bytes_eq x.name q) n (place_from named (suc n) (xs ++ ys) q) (place_from named (suc n) xs q) (free_front (suc n) xs ys q) none
+free_front n (x ∷ xs) ys q none = front_by (bytes_eq x.name q) n (place_from named (suc n) (xs ++ ys) q)
+    (place_from named (suc n) xs q) (free_front (suc n) xs ys q) none
 
 -- of names of their own, none that comes stands in front
-pub own_front : (acls before after : List Acl) (x : Acl) → have_own_names named (acls ++ (before ++ x ∷ after)) ≡ true → place_of acls x.name ≡ None
+pub own_front : (acls before after : List Acl) (x : Acl) → have_own_names named (acls ++ (before ++ x ∷ after)) ≡ true
+    → place_of acls x.name ≡ None
 own_front acls before after x own =
-    free_front 0 acls before x.name (own_free named 0 (acls ++ before) after x (subst (λ l. have_own_names named l ≡ true) (sym (append_assoc acls before (x ∷ after))) own))
+    free_front 0 acls before x.name
+    (own_free named 0 (acls ++ before) after x
+    (subst (λ l. have_own_names named l ≡ true) (sym (append_assoc acls before (x ∷ after))) own))
 
 -- what begins holds of what stands before the lines
 pub begun_members : (lookup : Bool) → are_known_bodies (length (first_classes lookup)) 0 (first_acls lookup) ≡ true
@@ -63,14 +69,31 @@ begun_acls false = omega arith
 first_ends : (b : Body) (name : List ℕ) (acls : List Acl) → (ends : List Acl) × (with_first b name acls ≡ acls ++ ends)
 first_ends (body.Leaf (leaf.Src v)) name acls = ((record { name = name; body = body.Leaf (leaf.Src v) }) ∷ [], refl)
 first_ends (body.Leaf (leaf.Dst v)) name acls = (looked_up (length acls) name v, refl)
-first_ends (body.Leaf (leaf.DstDomain v)) name acls = ((record { name = name; body = body.Leaf (leaf.DstDomain v) }) ∷ [], refl)
+first_ends (body.Leaf (leaf.DstDomain v)) name acls = (
+  (record { name = name; body = body.Leaf (leaf.DstDomain v) })
+      ∷ [],
+  refl,
+)
 first_ends (body.Leaf (leaf.Port v)) name acls = ((record { name = name; body = body.Leaf (leaf.Port v) }) ∷ [], refl)
-first_ends (body.Leaf (leaf.Method v)) name acls = ((record { name = name; body = body.Leaf (leaf.Method v) }) ∷ [], refl)
+first_ends (body.Leaf (leaf.Method v)) name acls = (
+  (record { name = name; body = body.Leaf (leaf.Method v) }) ∷ [],
+  refl,
+)
 first_ends (body.Leaf (leaf.Proto v)) name acls = ((record { name = name; body = body.Leaf (leaf.Proto v) }) ∷ [], refl)
 first_ends (body.Leaf (leaf.Time v)) name acls = ((record { name = name; body = body.Leaf (leaf.Time v) }) ∷ [], refl)
-first_ends (body.Leaf (leaf.UrlRegex v)) name acls = ((record { name = name; body = body.Leaf (leaf.UrlRegex v) }) ∷ [], refl)
-first_ends (body.Leaf (leaf.MaxConn v)) name acls = ((record { name = name; body = body.Leaf (leaf.MaxConn v) }) ∷ [], refl)
-first_ends (body.External class arguments) name acls = ((record { name = name; body = body.External class arguments }) ∷ [], refl)
+first_ends (body.Leaf (leaf.UrlRegex v)) name acls = (
+  (record { name = name; body = body.Leaf (leaf.UrlRegex v) }) ∷ [],
+  refl,
+)
+first_ends (body.Leaf (leaf.MaxConn v)) name acls = (
+  (record { name = name; body = body.Leaf (leaf.MaxConn v) }) ∷ [],
+  refl,
+)
+first_ends (body.External class arguments) name acls = (
+  (record { name = name; body = body.External class arguments })
+      ∷ [],
+  refl,
+)
 first_ends (body.AnyOf terms) name acls = ((record { name = name; body = body.AnyOf terms }) ∷ [], refl)
 first_ends (body.AllOf lines) name acls = ((record { name = name; body = body.AllOf lines }) ∷ [], refl)
 
@@ -89,43 +112,65 @@ grown_few acls more is =
     omega (arith, all, length-append acls g.0)
 
 -- where an acl of type dst comes, the names that are made for it are free
-pub grown_own : (acls more : List Acl) (name : List ℕ) (values : List Range) → with_firsts (acls ++ looked_up (length acls) name values) more ≡ first_acls true
-    → (place_of acls (literal_name name) ≡ None) × (place_of acls (lookup_name name) ≡ None) × (place_of acls (named_name name) ≡ None) × (place_of acls name ≡ None)
+pub grown_own : (acls more : List Acl) (name : List ℕ) (values : List Range)
+    → with_firsts (acls ++ looked_up (length acls) name values) more ≡ first_acls true
+    → (place_of acls (literal_name name) ≡ None) × (place_of acls (lookup_name name) ≡ None)
+    × (place_of acls (named_name name) ≡ None) × (place_of acls name ≡ None)
 grown_own acls more name values is =
     let g = grows (acls ++ looked_up (length acls) name values) more in
-    let whole : acls ++ (looked_up (length acls) name values ++ g.0) ≡ first_acls true = sym (append_assoc acls (looked_up (length acls) name values) g.0) ∙ sym g.1 ∙ is in
-    let own : have_own_names named (acls ++ (looked_up (length acls) name values ++ g.0)) ≡ true = ap (have_own_names named) whole in
+    let whole : acls ++ (looked_up (length acls) name values ++ g.0) ≡ first_acls true =
+    sym (append_assoc acls (looked_up (length acls) name values) g.0) ∙ sym g.1 ∙ is in
+    let own : have_own_names named (acls ++ (looked_up (length acls) name values ++ g.0)) ≡ true =
+    ap (have_own_names named) whole in
     let a = values_acl name values in
     let b = asking_acl name in
     let c = named_acl (length acls) name in
-    let e = either_acl (length acls) name in
-    (own_front acls [] (b ∷ c ∷ e ∷ g.0) a own, own_front acls (a ∷ []) (c ∷ e ∷ g.0) b own, own_front acls (a ∷ b ∷ []) (e ∷ g.0) c own, own_front acls (a ∷ b ∷ c ∷ []) g.0 e own)
+    let e = either_acl (length acls) name in (
+      own_front acls [] (b ∷ c ∷ e ∷ g.0) a own,
+      own_front acls (a ∷ []) (c ∷ e ∷ g.0) b own,
+      own_front acls (a ∷ b ∷ []) (e ∷ g.0) c own,
+      own_front acls (a ∷ b ∷ c ∷ []) g.0 e own,
+    )
 
 -- where another one comes, its name is free
-pub grown_free : (acls more : List Acl) (a : Acl) → with_firsts (acls ++ a ∷ []) more ≡ first_acls true → place_of acls a.name ≡ None
+pub grown_free : (acls more : List Acl) (a : Acl) → with_firsts (acls ++ a ∷ []) more ≡ first_acls true
+    → place_of acls a.name ≡ None
 grown_free acls more a is =
     let g = grows (acls ++ a ∷ []) more in
     let whole : acls ++ (a ∷ g.0) ≡ first_acls true = sym (append_assoc acls (a ∷ []) g.0) ∙ sym g.1 ∙ is in
     own_front acls [] g.0 a (ap (have_own_names named) whole)
 
 -- what comes behind others, where all come to what stands before the lines
-pub next_few : (b : Body) (name : List ℕ) (acls more : List Acl) → with_firsts acls ((record { name = name; body = b }) ∷ more) ≡ first_acls true → length acls + 4 ≤ most_acls
+pub next_few : (b : Body) (name : List ℕ) (acls more : List Acl)
+    → with_firsts acls ((record { name = name; body = b }) ∷ more) ≡ first_acls true → length acls + 4 ≤ most_acls
 next_few b name acls more is = grown_few acls ((record { name = name; body = b }) ∷ more) is
 
 -- its name is free
-pub next_free : (b : Body) (name : List ℕ) (acls more : List Acl) → with_firsts (with_first b name acls) more ≡ first_acls true → place_of acls name ≡ None
-next_free (body.Leaf (leaf.Src v)) name acls more is = grown_free acls more (record { name = name; body = body.Leaf (leaf.Src v) }) is
+pub next_free : (b : Body) (name : List ℕ) (acls more : List Acl)
+    → with_firsts (with_first b name acls) more ≡ first_acls true → place_of acls name ≡ None
+next_free (body.Leaf (leaf.Src v)) name acls more is = grown_free acls more
+    (record { name = name; body = body.Leaf (leaf.Src v) }) is
 next_free (body.Leaf (leaf.Dst v)) name acls more is = (grown_own acls more name v is).3
-next_free (body.Leaf (leaf.DstDomain v)) name acls more is = grown_free acls more (record { name = name; body = body.Leaf (leaf.DstDomain v) }) is
-next_free (body.Leaf (leaf.Port v)) name acls more is = grown_free acls more (record { name = name; body = body.Leaf (leaf.Port v) }) is
-next_free (body.Leaf (leaf.Method v)) name acls more is = grown_free acls more (record { name = name; body = body.Leaf (leaf.Method v) }) is
-next_free (body.Leaf (leaf.Proto v)) name acls more is = grown_free acls more (record { name = name; body = body.Leaf (leaf.Proto v) }) is
-next_free (body.Leaf (leaf.Time v)) name acls more is = grown_free acls more (record { name = name; body = body.Leaf (leaf.Time v) }) is
-next_free (body.Leaf (leaf.UrlRegex v)) name acls more is = grown_free acls more (record { name = name; body = body.Leaf (leaf.UrlRegex v) }) is
-next_free (body.Leaf (leaf.MaxConn v)) name acls more is = grown_free acls more (record { name = name; body = body.Leaf (leaf.MaxConn v) }) is
-next_free (body.External class arguments) name acls more is = grown_free acls more (record { name = name; body = body.External class arguments }) is
-next_free (body.AnyOf terms) name acls more is = grown_free acls more (record { name = name; body = body.AnyOf terms }) is
-next_free (body.AllOf lines) name acls more is = grown_free acls more (record { name = name; body = body.AllOf lines }) is
+next_free (body.Leaf (leaf.DstDomain v)) name acls more is =
+    grown_free acls more (record { name = name; body = body.Leaf (leaf.DstDomain v) }) is
+next_free (body.Leaf (leaf.Port v)) name acls more is = grown_free acls more
+    (record { name = name; body = body.Leaf (leaf.Port v) }) is
+next_free (body.Leaf (leaf.Method v)) name acls more is = grown_free acls more
+    (record { name = name; body = body.Leaf (leaf.Method v) }) is
+next_free (body.Leaf (leaf.Proto v)) name acls more is = grown_free acls more
+    (record { name = name; body = body.Leaf (leaf.Proto v) }) is
+next_free (body.Leaf (leaf.Time v)) name acls more is = grown_free acls more
+    (record { name = name; body = body.Leaf (leaf.Time v) }) is
+next_free (body.Leaf (leaf.UrlRegex v)) name acls more is =
+    grown_free acls more (record { name = name; body = body.Leaf (leaf.UrlRegex v) }) is
+next_free (body.Leaf (leaf.MaxConn v)) name acls more is = grown_free acls more
+    (record { name = name; body = body.Leaf (leaf.MaxConn v) }) is
+next_free (body.External class arguments) name acls more is =
+    grown_free acls more (record { name = name; body = body.External class arguments }) is
+next_free (body.AnyOf terms) name acls more is = grown_free acls more
+    (record { name = name; body = body.AnyOf terms }) is
+next_free (body.AllOf lines) name acls more is = grown_free acls more
+    (record { name = name; body = body.AllOf lines }) is
 
 -- the names that are made for an acl of type dst are free
 pub record AreFree (acls : List Acl) (name : List ℕ) : Type 0 where
@@ -133,9 +178,11 @@ pub record AreFree (acls : List Acl) (name : List ℕ) : Type 0 where
   pub lookup : place_of acls (lookup_name name) ≡ None
   pub named : place_of acls (named_name name) ≡ None
 
-pub next_made : (b : Body) (name : List ℕ) (acls more : List Acl) → with_firsts (with_first b name acls) more ≡ first_acls true → is_dst b ≡ true → AreFree acls name
+pub next_made : (b : Body) (name : List ℕ) (acls more : List Acl)
+    → with_firsts (with_first b name acls) more ≡ first_acls true → is_dst b ≡ true → AreFree acls name
 next_made (body.Leaf (leaf.Src v)) name acls more is dst = absurd (cc)
-next_made (body.Leaf (leaf.Dst v)) name acls more is dst = let own = grown_own acls more name v is in record { literal = own.0; lookup = own.1; named = own.2 }
+next_made (body.Leaf (leaf.Dst v)) name acls more is dst = let own = grown_own acls more name v is in
+    record { literal = own.0; lookup = own.1; named = own.2 }
 next_made (body.Leaf (leaf.DstDomain v)) name acls more is dst = absurd (cc)
 next_made (body.Leaf (leaf.Port v)) name acls more is dst = absurd (cc)
 next_made (body.Leaf (leaf.Method v)) name acls more is dst = absurd (cc)
@@ -148,7 +195,8 @@ next_made (body.AnyOf terms) name acls more is dst = absurd (cc)
 next_made (body.AllOf lines) name acls more is dst = absurd (cc)
 
 -- `dst literal` stays first
-pub next_begins : (b : Body) (name : List ℕ) (acls : List Acl) → begins_literal acls ≡ true → begins_literal (with_first b name acls) ≡ true
+pub next_begins : (b : Body) (name : List ℕ) (acls : List Acl) → begins_literal acls ≡ true
+    → begins_literal (with_first b name acls) ≡ true
 next_begins b name acls is =
     let ends = first_ends b name acls in
     rw ends.1 (literal_push acls ends.0 is)

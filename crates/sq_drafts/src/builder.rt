@@ -48,9 +48,36 @@ impl Model for Builder {
 
     ghost Value = { Drafts };
 
-    ghost view = { λ b. record { dst_lookup = b.dst_lookup; classes = b.classes; acls = b.acls; rules = b.rules; counted = b.counted; pools = b.pools.items; initial = b.initial; port = b.port; program = b.program; children = b.children; headers = b.headers; notices = b.notices } };
+    ghost view = { λ b. record {
+      dst_lookup = b.dst_lookup;
+      classes = b.classes;
+      acls = b.acls;
+      rules = b.rules;
+      counted = b.counted;
+      pools = b.pools.items;
+      initial = b.initial;
+      port = b.port;
+      program = b.program;
+      children = b.children;
+      headers = b.headers;
+      notices = b.notices;
+    } };
 
-    ghost invariant = { λ b. IsSound (record { dst_lookup = b.dst_lookup; classes = b.classes; acls = b.acls; rules = b.rules; counted = b.counted; pools = b.pools.items; initial = b.initial; port = b.port; program = b.program; children = b.children; headers = b.headers; notices = b.notices }) };
+    ghost invariant = { λ b. IsSound
+        (record {
+          dst_lookup = b.dst_lookup;
+          classes = b.classes;
+          acls = b.acls;
+          rules = b.rules;
+          counted = b.counted;
+          pools = b.pools.items;
+          initial = b.initial;
+          port = b.port;
+          program = b.program;
+          children = b.children;
+          headers = b.headers;
+          notices = b.notices;
+        }) };
 }
 
 // The body of a predefined acl, which is a leaf.
@@ -256,7 +283,8 @@ impl Builder {
 
     /// Notes a line that has no effect.
     pub fn push_notice(&mut self, notice: Notice) -> Result<(), WantOfMemory>
-        ensures ok { OnOk result (self.new ≡ record self.old { notices = self.old.notices ++ notice ∷ [] }) }
+        ensures ok { OnOk result
+            (self.new ≡ record self.old { notices = self.old.notices ++ notice ∷ [] }) }
         ensures err { OnErr result (self.new ≡ self.old) }
     {
         self.notices.push(notice)
@@ -269,7 +297,8 @@ impl Builder {
         ensures ok { IfOk result (λ c. c ≡ finished source self) }
         ensures complete { IfOk result (λ _. are_complete self.pools ≡ true) }
         ensures patterns { IfOk result (λ c. all_patterns c.acls ≡ true) }
-        ensures incomplete { IfErr result (λ e. e ≡ FinishFault.Incomplete → are_complete self.pools ≡ false) }
+        ensures incomplete { IfErr result
+            (λ e. e ≡ FinishFault.Incomplete → are_complete self.pools ≡ false) }
     {
         let pools = complete_pools(alloc, self.pools)?;
         let rewriter = rewriter_of(alloc, self.program, self.children)?;

@@ -7,7 +7,7 @@ ghost use Rattle.sq_rules.specs.Drafts.{are_complete, are_fast_where, is_complet
 
 use crate::faults::FinishFault;
 use sq_base::{Listed, WantOfMemory};
-use sq_rules::{HeaderRule, Limits, Pool, Pools, Rule, Rules, Term};
+use sq_rules::{HeaderRule, Limits, Pool, PoolList, Rule, Rules, Term};
 use std::alloc::Global;
 use std::marker::Model;
 
@@ -76,7 +76,8 @@ impl StatedPool {
 
     /// Puts a rule at the end.
     pub fn push_rule(&mut self, rule: Rule) -> Result<(), WantOfMemory>
-        ensures ok { OnOk result (self.new ≡ record self.old { lists = self.old.lists ++ rule ∷ [] }) }
+        ensures ok { OnOk result
+            (self.new ≡ record self.old { lists = self.old.lists ++ rule ∷ [] }) }
         ensures err { OnErr result (self.new ≡ self.old) }
     {
         self.lists.push(rule)
@@ -173,10 +174,11 @@ pub fn new_pools(alloc: Global, count: u8) -> Result<Vec<StatedPool>, WantOfMemo
 }
 
 /// The pools, where each is complete.
-pub fn complete_pools(alloc: Global, stated: Vec<StatedPool>) -> Result<Pools, FinishFault>
+pub fn complete_pools(alloc: Global, stated: Vec<StatedPool>) -> Result<PoolList, FinishFault>
     ensures ok { IfOk result (λ pools. pools ≡ map pool_of_draft stated.items) }
     ensures complete { IfOk result (λ _. are_complete stated.items ≡ true) }
-    ensures incomplete { IfErr result (λ e. e ≡ FinishFault.Incomplete → are_complete stated.items ≡ false) }
+    ensures incomplete { IfErr result
+        (λ e. e ≡ FinishFault.Incomplete → are_complete stated.items ≡ false) }
 {
     let mut pools = Listed::new(alloc);
     for pool in stated {

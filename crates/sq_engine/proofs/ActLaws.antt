@@ -5,14 +5,14 @@ use Rattle.std.specs.List.{flat_map, slice_get}
 use Rattle.std.specs.Prelude.{slice_set}
 use Rattle.std.specs.Option.{option_and_then, option_map, option_map_or, option_or}
 use Rattle.sq_machine.specs.declared.entries.Event.TheVariants as event
-use Rattle.sq_machine.specs.DueActs.{Place, first_made, first_of}
+use Rattle.sq_machine.specs.DueActs.{ClassId, first_made, first_of}
 use Rattle.sq_machine.specs.Farms.{Sending, Stock, Waiting, after_send, after_send_by, after_start, send_of, start_due}
 use Rattle.sq_machine.specs.Living.{some_free}
 use Rattle.sq_machine.specs.Numbered.{below, picks}
 use Rattle.sq_machine.specs.OpenLookups.{question_of}
-use Rattle.sq_rows.specs.ClassRows.{ClassRow, after_sending, after_starting}
-use Rattle.sq_history.proofs.RowLaws.{picks_same}
-use Rattle.sq_part.specs.Parts.{PartState}
+use Rattle.sq_model_rows.specs.ClassRows.{ClassRow, after_sending, after_starting}
+use Rattle.sq_model_laws.proofs.RowLaws.{picks_same}
+use Rattle.sq_class.specs.Parts.{PartState}
 use Rattle.sq_epochs.specs.DueStates as dues
 use Rattle.sq_epochs.specs.DueStates.{act_at, after_due, change_at, change_class, change_part, due_of, live_places, send_by, sent_part, start_by, started_part}
 use Rattle.sq_epochs.specs.EpochProcs.{AreWhole}
@@ -21,73 +21,90 @@ use Rattle.sq_epochs.specs.declared.acts.Act.{Act}
 use Rattle.sq_epochs.proofs.DueLaws.{found_self, made_same}
 use Rattle.sq_epochs.proofs.NumberLaws.{live_numbers, rising_picked}
 use Rattle.sq_epochs.proofs.ReadLaws.{config_acted, row_acted, stop_told}
-use Rattle.sq_state.specs.Acts.{Due, due_in, live_places_in, places_in, send_in, sends, start_in, starts, stops}
-use Rattle.sq_state.specs.States.{IsSame, State, live}
-use Rattle.sq_state.specs.Changes.{at, change_row}
-use Rattle.sq_state.proofs.ActPromises.{none_due, send_answered, start_answered, stop_answered}
-use Rattle.sq_state.proofs.PromiseLaws.{answered_same}
+use Rattle.sq_model_state.specs.Acts.{Due, due_in, live_places_in, places_in, send_in, sends, start_in, starts, stops}
+use Rattle.sq_model_state.specs.States.{IsSame, State, live}
+use Rattle.sq_model_state.specs.Changes.{at, change_row}
+use Rattle.sq_model_state.proofs.ActPromises.{none_due, send_answered, start_answered, stop_answered}
+use Rattle.sq_model_state.proofs.PromiseLaws.{answered_same}
 use Rattle.sq_engine.specs.Acting.{IsActPromised, act_told, after_act, as_due, due_now}
 use Rattle.sq_engine.specs.Engines.{IsEngine}
 use Rattle.sq_engine.specs.EngineViews.{EngineView, config_in, state_of, stop_at}
 use Rattle.sq_engine.proofs.QuietLaws.{IsQuiet, quiet_engine}
 
 -- the first that is made, mapped
-mapped_or : {A B : Type 0} (f : A → B) (o p : Option A) → option_map f (option_or o p) ≡ option_or (option_map f o) (option_map f p)
+mapped_or : {A B : Type 0} (f : A → B) (o p : Option A)
+    → option_map f (option_or o p) ≡ option_or (option_map f o) (option_map f p)
 mapped_or f None p = refl
 mapped_or f (Some x) p = refl
 
-mapped_made : {A B C : Type 0} (f : B → C) (g : A → Option B) (xs : List A) → option_map f (first_made g xs) ≡ first_made (λ x. option_map f (g x)) xs
+mapped_made : {A B C : Type 0} (f : B → C) (g : A → Option B) (xs : List A)
+    → option_map f (first_made g xs) ≡ first_made (λ x. option_map f (g x)) xs
 mapped_made f g [] = refl
-mapped_made f g (x ∷ xs) = mapped_or f (g x) (first_made g xs) ∙ ap (option_or (option_map f (g x))) (mapped_made f g xs)
+mapped_made f g (x ∷ xs) = mapped_or f (g x) (first_made g xs)
+    ∙ ap (option_or (option_map f (g x))) (mapped_made f g xs)
 
 -- what is made was made of one of them
 made_by : {A B : Type 0} (f : A → Option B) (xs : List A) (b : B) → first_made f xs ≡ Some b → (x : A) × (f x ≡ Some b)
 made_by f [] b is = absurd (cc)
 made_by {A = A} {B = B} f (x ∷ xs) b is = by (f x) refl is (made_by f xs b)
   where
-    by : (o : Option B) → f x ≡ o → option_or o (first_made f xs) ≡ Some b → (first_made f xs ≡ Some b → (y : A) × (f y ≡ Some b)) → (y : A) × (f y ≡ Some b)
+    by : (o : Option B) → f x ≡ o → option_or o (first_made f xs) ≡ Some b
+        → (first_made f xs ≡ Some b → (y : A) × (f y ≡ Some b)) → (y : A) × (f y ≡ Some b)
     by None e is more = more is
     by (Some z) e is more = (x, e ∙ is)
 
 -- the due stops are those of the state
 stops_read : (v : EngineView) → AreWhole v.epochs → v.epochs.stops ≡ picks (stop_at v.epochs) v.epochs.procs
-stops_read v w = rising_picked (stop_at v.epochs) v.epochs.procs v.epochs.stops w.homes.stops_rise w.homes.stops_above w.homes.stops_born (λ k. refl)
+stops_read v w = rising_picked (stop_at v.epochs) v.epochs.procs v.epochs.stops w.homes.stops_rise w.homes.stops_above
+    w.homes.stops_born (λ k. refl)
 
 -- lists that are made of each of these alike
-flat_same : {A : Type 0} (f : EpochState → List A) (g : ℕ → List A) (xs : List EpochState) → ((i : ℕ) (x : EpochState) → slice_get xs i ≡ Some x → f x ≡ g x.epoch)
+flat_same : {A : Type 0} (f : EpochState → List A) (g : ℕ → List A) (xs : List EpochState)
+    → ((i : ℕ) (x : EpochState) → slice_get xs i ≡ Some x → f x ≡ g x.epoch)
     → flat_map f xs ≡ flat_map g (map epoch_number xs)
 flat_same f g [] same = refl
-flat_same f g (x ∷ xs) same = ap (λ z. z ++ flat_map f xs) (same 0 x refl) ∙ ap (λ z. g x.epoch ++ z) (flat_same f g xs (λ i y at. same (suc i) y at))
+flat_same f g (x ∷ xs) same = ap (λ z. z ++ flat_map f xs) (same 0 x refl)
+    ∙ ap (λ z. g x.epoch ++ z) (flat_same f g xs (λ i y at. same (suc i) y at))
 
 -- the classes of live epochs are those of the state
 places_read : (v : EngineView) → IsEngine v → AreWhole v.epochs → live_places v.epochs ≡ live_places_in (state_of v)
 places_read v i w =
-    flat_same dues.places_in (places_in (state_of v)) v.epochs.epochs (λ j x at. there x (found_self v.epochs.epochs j x w.live.rise at))
-    ∙ ap (flat_map (places_in (state_of v))) (live_numbers v.epochs w.live ∙ sym (picks_same (λ e. is_some (epoch_at v.epochs e)) (live (state_of v)) v.epochs.current (λ k low high. sym (i.counted.live k))))
+    flat_same dues.places_in (places_in (state_of v)) v.epochs.epochs
+    (λ j x at. there x (found_self v.epochs.epochs j x w.live.rise at))
+    ∙ ap (flat_map (places_in (state_of v)))
+    (live_numbers v.epochs w.live
+    ∙ sym (picks_same (λ e. is_some (epoch_at v.epochs e)) (live (state_of v)) v.epochs.current
+    (λ k low high. sym (i.counted.live k))))
   where
     there : (x : EpochState) → epoch_at v.epochs x.epoch ≡ Some x → dues.places_in x ≡ places_in (state_of v) x.epoch
-    there x is = ap (λ o. map (λ c. record { epoch = x.epoch; class = c }) (below (option_map_or (λ config. length config.classes) (config_in o) 0))) (sym is)
+    there x is = ap (λ o. map (λ c. record { epoch = x.epoch; class = c })
+        (below (option_map_or (λ config. length config.classes) (config_in o) 0))) (sym is)
 
 -- what each class is to do is what the state says
-send_read : (v : EngineView) (p : Place) → option_map as_due (act_at send_by v.epochs p) ≡ send_in (state_of v) p
+send_read : (v : EngineView) (p : ClassId) → option_map as_due (act_at send_by v.epochs p) ≡ send_in (state_of v) p
 send_read v p = by (part_at v.epochs p.epoch p.class)
   where
     inside : (o : Option Sending) → option_map as_due (option_map (dues.sends p) o) ≡ option_map (sends p) o
     inside None = refl
     inside (Some s) = refl
 
-    by : (o : Option PartState) → option_map as_due (option_and_then (send_by p) o) ≡ option_map (sends p) (option_and_then (λ r. send_of r.stock) (option_map (λ x. x.row) o))
+    by : (o : Option PartState)
+        → option_map as_due (option_and_then (send_by p) o)
+        ≡ option_map (sends p) (option_and_then (λ r. send_of r.stock) (option_map (λ x. x.row) o))
     by None = refl
     by (Some x) = inside (send_of x.row.stock)
 
-start_read : (v : EngineView) (p : Place) → option_map as_due (act_at start_by v.epochs p) ≡ start_in (state_of v) p
+start_read : (v : EngineView) (p : ClassId) → option_map as_due (act_at start_by v.epochs p) ≡ start_in (state_of v) p
 start_read v p = by (part_at v.epochs p.epoch p.class)
   where
-    inside : (b : Bool) → option_map as_due (if b then Some (dues.starts p) else None) ≡ (if b then Some (starts p) else None)
+    inside : (b : Bool) → option_map as_due (if b then Some (dues.starts p) else None)
+        ≡ (if b then Some (starts p) else None)
     inside true = refl
     inside false = refl
 
-    by : (o : Option PartState) → option_map as_due (option_and_then (start_by p) o) ≡ option_and_then (λ r. if start_due r.stock then Some (starts p) else None) (option_map (λ x. x.row) o)
+    by : (o : Option PartState)
+        → option_map as_due (option_and_then (start_by p) o)
+        ≡ option_and_then (λ r. if start_due r.stock then Some (starts p) else None) (option_map (λ x. x.row) o)
     by None = refl
     by (Some x) = inside (start_due x.row.stock)
 
@@ -99,12 +116,20 @@ stop_mapped (Some k) = refl
 pub due_read : (v : EngineView) → IsEngine v → AreWhole v.epochs → due_now v ≡ due_in (state_of v)
 due_read v i w =
     mapped_or as_due (option_map dues.stops (first_of v.epochs.stops)) _
-    ∙ ap (λ z. option_or z (option_map as_due (option_or made_send made_start))) (stop_mapped (first_of v.epochs.stops) ∙ ap (λ ns. option_map stops (first_of ns)) (stops_read v w))
-    ∙ ap (option_or (option_map stops (first_of (picks (stop_at v.epochs) v.epochs.procs)))) (mapped_or as_due made_send made_start)
-    ∙ ap (λ z. option_or (option_map stops (first_of (picks (stop_at v.epochs) v.epochs.procs))) (option_or z (option_map as_due made_start)))
-    (mapped_made as_due (act_at send_by v.epochs) (live_places v.epochs) ∙ made_same _ (send_in (state_of v)) (live_places v.epochs) (send_read v) ∙ ap (first_made (send_in (state_of v))) (places_read v i w))
-    ∙ ap (λ z. option_or (option_map stops (first_of (picks (stop_at v.epochs) v.epochs.procs))) (option_or (first_made (send_in (state_of v)) (live_places_in (state_of v))) z))
-    (mapped_made as_due (act_at start_by v.epochs) (live_places v.epochs) ∙ made_same _ (start_in (state_of v)) (live_places v.epochs) (start_read v) ∙ ap (first_made (start_in (state_of v))) (places_read v i w))
+    ∙ ap (λ z. option_or z (option_map as_due (option_or made_send made_start)))
+    (stop_mapped (first_of v.epochs.stops) ∙ ap (λ ns. option_map stops (first_of ns)) (stops_read v w))
+    ∙ ap (option_or (option_map stops (first_of (picks (stop_at v.epochs) v.epochs.procs))))
+    (mapped_or as_due made_send made_start)
+    ∙ ap (λ z. option_or (option_map stops (first_of (picks (stop_at v.epochs) v.epochs.procs)))
+    (option_or z (option_map as_due made_start)))
+    (mapped_made as_due (act_at send_by v.epochs) (live_places v.epochs)
+    ∙ made_same _ (send_in (state_of v)) (live_places v.epochs) (send_read v)
+    ∙ ap (first_made (send_in (state_of v))) (places_read v i w))
+    ∙ ap (λ z. option_or (option_map stops (first_of (picks (stop_at v.epochs) v.epochs.procs)))
+    (option_or (first_made (send_in (state_of v)) (live_places_in (state_of v))) z))
+    (mapped_made as_due (act_at start_by v.epochs) (live_places v.epochs)
+    ∙ made_same _ (start_in (state_of v)) (live_places v.epochs) (start_read v)
+    ∙ ap (first_made (start_in (state_of v))) (places_read v i w))
   where
     made_send : Option dues.DueAt
     made_send = first_made (act_at send_by v.epochs) (live_places v.epochs)
@@ -121,7 +146,8 @@ IsThere v (dues.starts p) = (x : PartState) × (part_at v p.epoch p.class ≡ So
 due_there : (v : EpochsState) (d : dues.DueAt) → due_of v ≡ Some d → IsThere v d
 due_there v d is = stop (first_of v.stops) is
   where
-    starting : (q : Place) (o : Option PartState) → part_at v q.epoch q.class ≡ o → option_and_then (start_by q) o ≡ Some d → IsThere v d
+    starting : (q : ClassId) (o : Option PartState) → part_at v q.epoch q.class ≡ o
+        → option_and_then (start_by q) o ≡ Some d → IsThere v d
     starting q None e is = absurd (cc)
     starting q (Some x) e is = by (start_due x.row.stock) is
       where
@@ -129,7 +155,8 @@ due_there v d is = stop (first_of v.stops) is
         by false is = absurd (cc)
         by true is = subst (IsThere v) (same_Some (dues.starts q) d is) (x, e)
 
-    sending : (q : Place) (o : Option PartState) → part_at v q.epoch q.class ≡ o → option_and_then (send_by q) o ≡ Some d → IsThere v d
+    sending : (q : ClassId) (o : Option PartState) → part_at v q.epoch q.class ≡ o
+        → option_and_then (send_by q) o ≡ Some d → IsThere v d
     sending q None e is = absurd (cc)
     sending q (Some x) e is = by (send_of x.row.stock) is
       where
@@ -138,34 +165,47 @@ due_there v d is = stop (first_of v.stops) is
         by (Some s) is = subst (IsThere v) (same_Some (dues.sends q s) d is) (x, e)
 
     start : first_made (act_at start_by v) (live_places v) ≡ Some d → IsThere v d
-    start is = let q = made_by (act_at start_by v) (live_places v) d is in starting q.0 (part_at v q.0.epoch q.0.class) refl q.1
+    start is = let q = made_by (act_at start_by v) (live_places v) d is in
+        starting q.0 (part_at v q.0.epoch q.0.class) refl q.1
 
-    send : (o : Option dues.DueAt) → first_made (act_at send_by v) (live_places v) ≡ o → option_or o (first_made (act_at start_by v) (live_places v)) ≡ Some d → IsThere v d
+    send : (o : Option dues.DueAt) → first_made (act_at send_by v) (live_places v) ≡ o
+        → option_or o (first_made (act_at start_by v) (live_places v)) ≡ Some d → IsThere v d
     send None e is = start is
-    send (Some x) e is = let q = made_by (act_at send_by v) (live_places v) d (e ∙ is) in sending q.0 (part_at v q.0.epoch q.0.class) refl q.1
+    send (Some x) e is = let q = made_by (act_at send_by v) (live_places v) d (e ∙ is) in
+        sending q.0 (part_at v q.0.epoch q.0.class) refl q.1
 
-    stop : (o : Option ℕ) → option_or (option_map dues.stops o) (option_or (first_made (act_at send_by v) (live_places v)) (first_made (act_at start_by v) (live_places v))) ≡ Some d → IsThere v d
+    stop : (o : Option ℕ)
+        → option_or (option_map dues.stops o)
+        (option_or (first_made (act_at send_by v) (live_places v)) (first_made (act_at start_by v) (live_places v)))
+        ≡ Some d → IsThere v d
     stop None is = send (first_made (act_at send_by v) (live_places v)) refl is
     stop (Some k) is = subst (IsThere v) (same_Some (dues.stops k) d is) tt
 
 -- a part that is changed at its place
-change_slice : (ps : List PartState) (c : ℕ) (p : PartState) (f : PartState → PartState) → slice_get ps c ≡ Some p → change_at c f ps ≡ slice_set ps c (f p)
+change_slice : (ps : List PartState) (c : ℕ) (p : PartState) (f : PartState → PartState) → slice_get ps c ≡ Some p
+    → change_at c f ps ≡ slice_set ps c (f p)
 change_slice [] c p f at = absurd (cc)
 change_slice (q ∷ ps) zero p f at = ap (λ z. f z ∷ ps) (same_Some q p at)
 change_slice (q ∷ ps) (suc c) p f at = ap (λ z. q ∷ z) (change_slice ps c p f at)
 
-change_found : (e c : ℕ) (f : PartState → PartState) (x : PartState) (xs : List EpochState) → part_of c (epoch_in e xs) ≡ Some x → change_epoch e (change_class c f) xs ≡ change_epoch e (with_part c (f x)) xs
+change_found : (e c : ℕ) (f : PartState → PartState) (x : PartState) (xs : List EpochState)
+    → part_of c (epoch_in e xs) ≡ Some x → change_epoch e (change_class c f) xs ≡ change_epoch e (with_part c (f x)) xs
 change_found e c f x [] is = refl
 change_found e c f x (y ∷ ys) is = by (e == y.epoch) is (change_found e c f x ys)
   where
-    by : (b : Bool) → part_of c (if b then Some y else epoch_in e ys) ≡ Some x → (part_of c (epoch_in e ys) ≡ Some x → change_epoch e (change_class c f) ys ≡ change_epoch e (with_part c (f x)) ys)
-        → (if b then change_class c f y ∷ ys else y ∷ change_epoch e (change_class c f) ys) ≡ (if b then with_part c (f x) y ∷ ys else y ∷ change_epoch e (with_part c (f x)) ys)
+    by : (b : Bool) → part_of c (if b then Some y else epoch_in e ys) ≡ Some x
+        → (part_of c (epoch_in e ys) ≡ Some x
+        → change_epoch e (change_class c f) ys ≡ change_epoch e (with_part c (f x)) ys)
+        → (if b then change_class c f y ∷ ys else y ∷ change_epoch e (change_class c f) ys)
+        ≡ (if b then with_part c (f x) y ∷ ys else y ∷ change_epoch e (with_part c (f x)) ys)
     by true is more = ap (λ ps. record y { parts = ps } ∷ ys) (change_slice y.parts c x f is)
     by false is more = ap (λ z. y ∷ z) (more is)
 
 -- an act of a class, as a change that leaves questions
-act_change : (v : EpochsState) (p : Place) (f : PartState → PartState) (F : ClassRow → ClassRow) (x : PartState) → part_at v p.epoch p.class ≡ Some x → (f x).row ≡ F x.row
-    → ((n : ℕ) → question_of n (f x).waiting ≡ question_of n x.waiting) → IsChanged p.epoch p.class (IsQuiet F) v (change_part p f v)
+act_change : (v : EpochsState) (p : ClassId) (f : PartState → PartState) (F : ClassRow → ClassRow) (x : PartState)
+    → part_at v p.epoch p.class ≡ Some x → (f x).row ≡ F x.row
+    → ((n : ℕ) → question_of n (f x).waiting ≡ question_of n x.waiting)
+    → IsChanged p.epoch p.class (IsQuiet F) v (change_part p f v)
 act_change v p f F x was row waits = record {
   before = x;
   after = f x;
@@ -190,19 +230,34 @@ losses_started s = by (start_due s)
     by false = refl
 
 -- an engine is one still after an act
-pub act_engine : (v : EngineView) (d : dues.DueAt) (t : ℕ) → IsEngine v → due_of v.epochs ≡ Some d → IsEngine (record v { epochs = after_due (Some d) v.epochs; latest = t })
+pub act_engine : (v : EngineView) (d : dues.DueAt) (t : ℕ) → IsEngine v → due_of v.epochs ≡ Some d
+    → IsEngine (record v { epochs = after_due (Some d) v.epochs; latest = t })
 act_engine v d t i is = by d (due_there v.epochs d is)
   where
-    by : (d : dues.DueAt) → IsThere v.epochs d → IsEngine (record v { epochs = after_due (Some d) v.epochs; latest = t })
-    by (dues.stops k) there = record { asked = i.asked; counted = i.counted; configured = i.configured; waiting = i.waiting; fed = i.fed; keyed = i.keyed; setup_is = i.setup_is }
+    by : (d : dues.DueAt) → IsThere v.epochs d
+        → IsEngine (record v { epochs = after_due (Some d) v.epochs; latest = t })
+    by (dues.stops k) there = record {
+      asked = i.asked;
+      counted = i.counted;
+      configured = i.configured;
+      waiting = i.waiting;
+      fed = i.fed;
+      keyed = i.keyed;
+      setup_is = i.setup_is;
+    }
     by (dues.sends p s) there =
-        quiet_engine v (change_part p sent_part v.epochs) t p.epoch p.class after_sending i (λ r. refl) (λ r. losses_sent r.stock) (act_change v.epochs p sent_part after_sending there.0 there.1 refl (λ n. refl))
+        quiet_engine v (change_part p sent_part v.epochs) t p.epoch p.class after_sending i (λ r. refl)
+        (λ r. losses_sent r.stock) (act_change v.epochs p sent_part after_sending there.0 there.1 refl (λ n. refl))
     by (dues.starts p) there =
-        quiet_engine v (change_part p started_part v.epochs) t p.epoch p.class after_starting i (λ r. refl) (λ r. losses_started r.stock) (act_change v.epochs p started_part after_starting there.0 there.1 refl (λ n. refl))
+        quiet_engine v (change_part p started_part v.epochs) t p.epoch p.class after_starting i (λ r. refl)
+        (λ r. losses_started r.stock)
+        (act_change v.epochs p started_part after_starting there.0 there.1 refl (λ n. refl))
 
 -- the state after it
-part_same : (v : EngineView) (p : Place) (f : PartState → PartState) (F : ClassRow → ClassRow) (t : ℕ) → ((x : PartState) → (f x).row ≡ F x.row)
-    → IsSame (state_of (record v { epochs = change_part p f v.epochs; latest = t })) (at t (change_row p F (state_of v)))
+part_same : (v : EngineView) (p : ClassId) (f : PartState → PartState) (F : ClassRow → ClassRow) (t : ℕ)
+    → ((x : PartState) → (f x).row ≡ F x.row)
+    → IsSame (state_of (record v { epochs = change_part p f v.epochs; latest = t }))
+    (at t (change_row p F (state_of v)))
 part_same v p f F t same = record {
   clients_are = λ c. refl;
   conns_are = refl;
@@ -220,7 +275,9 @@ part_same v p f F t same = record {
   offset_is = refl;
 }
 
-pub act_same : (v : EngineView) (d : dues.DueAt) (t : ℕ) → IsSame (state_of (record v { epochs = after_due (Some d) v.epochs; latest = t })) (after_act (Some (as_due d)) t (state_of v))
+pub act_same : (v : EngineView) (d : dues.DueAt) (t : ℕ)
+    → IsSame (state_of (record v { epochs = after_due (Some d) v.epochs; latest = t }))
+    (after_act (Some (as_due d)) t (state_of v))
 act_same v (dues.stops k) t = record {
   clients_are = λ c. refl;
   conns_are = refl;
@@ -248,36 +305,58 @@ told_read (Some (dues.sends p s)) = refl
 told_read (Some (dues.starts p)) = refl
 
 -- what the live epochs leave is an engine, and its state is what the act makes of it
-pub act_left : (v : EngineView) (new : EpochsState) (t : ℕ) → IsEngine v → new ≡ after_due (due_of v.epochs) v.epochs → IsEngine (record v { epochs = new; latest = t })
-act_left v new t i left = subst (λ z. IsEngine (record v { epochs = z; latest = t })) (sym left) (by (due_of v.epochs) refl)
+pub act_left : (v : EngineView) (new : EpochsState) (t : ℕ) → IsEngine v → new ≡ after_due (due_of v.epochs) v.epochs
+    → IsEngine (record v { epochs = new; latest = t })
+act_left v new t i left = subst (λ z. IsEngine (record v { epochs = z; latest = t })) (sym left)
+    (by (due_of v.epochs) refl)
   where
-    by : (o : Option dues.DueAt) → due_of v.epochs ≡ o → IsEngine (record v { epochs = after_due o v.epochs; latest = t })
-    by None e = record { asked = i.asked; counted = i.counted; configured = i.configured; waiting = i.waiting; fed = i.fed; keyed = i.keyed; setup_is = i.setup_is }
+    by : (o : Option dues.DueAt) → due_of v.epochs ≡ o
+        → IsEngine (record v { epochs = after_due o v.epochs; latest = t })
+    by None e = record {
+      asked = i.asked;
+      counted = i.counted;
+      configured = i.configured;
+      waiting = i.waiting;
+      fed = i.fed;
+      keyed = i.keyed;
+      setup_is = i.setup_is;
+    }
     by (Some d) e = act_engine v d t i e
 
-pub left_same : (v : EngineView) (new : EpochsState) (t : ℕ) (a : Act) → new ≡ after_due (due_of v.epochs) v.epochs → dues.told_due (due_of v.epochs) ≡ Some a
+pub left_same : (v : EngineView) (new : EpochsState) (t : ℕ) (a : Act) → new ≡ after_due (due_of v.epochs) v.epochs
+    → dues.told_due (due_of v.epochs) ≡ Some a
     → IsSame (state_of (record v { epochs = new; latest = t })) (after_act (due_now v) t (state_of v))
-left_same v new t a left is = subst (λ z. IsSame (state_of (record v { epochs = z; latest = t })) (after_act (due_now v) t (state_of v))) (sym left) (by (due_of v.epochs) is)
+left_same v new t a left is = subst (λ z. IsSame (state_of (record v { epochs = z; latest = t }))
+    (after_act (due_now v) t (state_of v))) (sym left) (by (due_of v.epochs) is)
   where
-    by : (o : Option dues.DueAt) → dues.told_due o ≡ Some a → IsSame (state_of (record v { epochs = after_due o v.epochs; latest = t })) (after_act (option_map as_due o) t (state_of v))
+    by : (o : Option dues.DueAt) → dues.told_due o ≡ Some a
+        → IsSame (state_of (record v { epochs = after_due o v.epochs; latest = t }))
+        (after_act (option_map as_due o) t (state_of v))
     by None is = absurd (cc)
     by (Some d) is = act_same v d t
 
 -- what is promised of it
-pub act_promised : (v : EngineView) (new : State) (now : ℕ) (r : Option Act) → IsEngine v → AreWhole v.epochs → r ≡ option_map act_told (due_now v)
+pub act_promised : (v : EngineView) (new : State) (now : ℕ) (r : Option Act) → IsEngine v → AreWhole v.epochs
+    → r ≡ option_map act_told (due_now v)
     → IfSome r (λ a. IsSame new (after_act (due_now v) now (state_of v))) → IsActPromised (state_of v) now r new
 act_promised v new now r i w is ok = by (due_now v) refl r is ok
   where
     read : (o : Option Due) → due_now v ≡ o → due_in (state_of v) ≡ o
     read o e = sym (due_read v i w) ∙ e
 
-    done : (d : Due) → due_now v ≡ Some d → IsSame new (after_act (Some d) now (state_of v)) → IsActPromised (state_of v) now (Some (act_told d)) new
-    done (stops k) e same = λ configs h st late. answered_same configs h _ new now event.Act _ same (stop_answered configs h (state_of v) now k st late (read (Some (stops k)) e))
-    done (sends p s) e same = λ configs h st late. answered_same configs h _ new now event.Act _ same (send_answered configs h (state_of v) now p s st late (read (Some (sends p s)) e))
-    done (starts p) e same = λ configs h st late. answered_same configs h _ new now event.Act _ same (start_answered configs h (state_of v) now p st late (read (Some (starts p)) e))
+    done : (d : Due) → due_now v ≡ Some d → IsSame new (after_act (Some d) now (state_of v))
+        → IsActPromised (state_of v) now (Some (act_told d)) new
+    done (stops k) e same = λ configs h st late. answered_same configs h _ new now event.Act _ same
+        (stop_answered configs h (state_of v) now k st late (read (Some (stops k)) e))
+    done (sends p s) e same = λ configs h st late. answered_same configs h _ new now event.Act _ same
+        (send_answered configs h (state_of v) now p s st late (read (Some (sends p s)) e))
+    done (starts p) e same = λ configs h st late. answered_same configs h _ new now event.Act _ same
+        (start_answered configs h (state_of v) now p st late (read (Some (starts p)) e))
 
-    by : (o : Option Due) → due_now v ≡ o → (r : Option Act) → r ≡ option_map act_told o → IfSome r (λ a. IsSame new (after_act o now (state_of v))) → IsActPromised (state_of v) now r new
+    by : (o : Option Due) → due_now v ≡ o → (r : Option Act) → r ≡ option_map act_told o
+        → IfSome r (λ a. IsSame new (after_act o now (state_of v))) → IsActPromised (state_of v) now r new
     by None e None is ok = λ configs h st late. none_due configs h (state_of v) now st late (read None e)
     by None e (Some a) is ok = absurd (cc)
     by (Some d) e None is ok = absurd (cc)
-    by (Some d) e (Some a) is ok = subst (λ z. IsActPromised (state_of v) now (Some z) new) (sym (same_Some _ _ is)) (done d e ok)
+    by (Some d) e (Some a) is ok = subst (λ z. IsActPromised (state_of v) now (Some z) new) (sym (same_Some _ _ is))
+        (done d e ok)

@@ -24,29 +24,37 @@ kept_same es = λ n b h. h
 pub kept_then : (xs ys zs : List (ℕ × CheckParts)) → AreKept xs ys → AreKept ys zs → AreKept xs zs
 kept_then xs ys zs first second = λ n b h. first n b (second n b h)
 
-mapped_begun : (t : Bool) (f : CheckParts → CheckParts) (o : Option CheckParts) → ((k : CheckParts) → begun_of (f k) ≡ begun_of k) → option_map begun_of (mapped_if t f o) ≡ option_map begun_of o
+mapped_begun : (t : Bool) (f : CheckParts → CheckParts) (o : Option CheckParts)
+    → ((k : CheckParts) → begun_of (f k) ≡ begun_of k) → option_map begun_of (mapped_if t f o) ≡ option_map begun_of o
 mapped_begun true f None same = refl
 mapped_begun true f (Some k) same = ap Some (same k)
 mapped_begun false f o same = refl
 
 -- where one check is changed, and not in this
-pub kept_changed : (m : ℕ) (f : CheckParts → CheckParts) (es : List (ℕ × CheckParts)) → ((k : CheckParts) → begun_of (f k) ≡ begun_of k) → AreKept es (change_at m f es)
-kept_changed m f es same = λ n b h. sym (ap (option_map begun_of) (changed_at m n f es) ∙ mapped_begun (m == n) f (value_at es n) same) ∙ h
+pub kept_changed : (m : ℕ) (f : CheckParts → CheckParts) (es : List (ℕ × CheckParts))
+    → ((k : CheckParts) → begun_of (f k) ≡ begun_of k) → AreKept es (change_at m f es)
+kept_changed m f es same = λ n b h. sym
+    (ap (option_map begun_of) (changed_at m n f es) ∙ mapped_begun (m == n) f (value_at es n) same) ∙ h
 
 pub kept_ended : (q : ℕ) (w : What) (now : ℕ) (es : List (ℕ × CheckParts)) → AreKept es (all_ended q w now es)
-kept_ended q w now es = λ n b h. sym (ap (option_map begun_of) (ended_at q w now n es) ∙ mapped_begun true (ended_by q w now) (value_at es n) (λ k. refl)) ∙ h
+kept_ended q w now es = λ n b h. sym
+    (ap (option_map begun_of) (ended_at q w now n es)
+    ∙ mapped_begun true (ended_by q w now) (value_at es n) (λ k. refl)) ∙ h
 
-removed_begun : (t : Bool) (o : Option CheckParts) (b : Begun) → option_map begun_of (none_if t o) ≡ Some b → option_map begun_of o ≡ Some b
+removed_begun : (t : Bool) (o : Option CheckParts) (b : Begun) → option_map begun_of (none_if t o) ≡ Some b
+    → option_map begun_of o ≡ Some b
 removed_begun true o b e = absurd (none-some b e)
 removed_begun false o b e = e
 
 pub kept_removed : (m : ℕ) (es : List (ℕ × CheckParts)) → AreKept es (without_entry m es)
-kept_removed m es = λ n b h. removed_begun (m == n) (value_at es n) b (sym (ap (option_map begun_of) (removed_at m n es)) ∙ h)
+kept_removed m es = λ n b h. removed_begun (m == n) (value_at es n) b
+    (sym (ap (option_map begun_of) (removed_at m n es)) ∙ h)
 
 pub kept_given : (q now : ℕ) (xs : List Share) (es : List (ℕ × CheckParts)) → AreKept es (all_given q now xs es)
 kept_given q now [] es = kept_same es
 kept_given q now (x ∷ xs) es =
-    kept_then es (all_given q now xs es) (all_given q now (x ∷ xs) es) (kept_given q now xs es) (kept_changed x.check (ended_by q x.what now) (all_given q now xs es) (λ k. refl))
+    kept_then es (all_given q now xs es) (all_given q now (x ∷ xs) es) (kept_given q now xs es)
+    (kept_changed x.check (ended_by q x.what now) (all_given q now xs es) (λ k. refl))
 
 pub kept_lost : (ls : List Loss) (now : ℕ) (es : List (ℕ × CheckParts)) → AreKept es (all_lost ls now es)
 kept_lost [] now es = kept_same es
@@ -62,26 +70,33 @@ settled_begun k = by (came_in k.stage)
     by (Some a) = refl
 
 -- the same, where the list is such a one
-pub kept_change : (m : ℕ) (f : CheckParts → CheckParts) (old new : List (ℕ × CheckParts)) → new ≡ change_at m f old → ((k : CheckParts) → begun_of (f k) ≡ begun_of k) → AreKept old new
+pub kept_change : (m : ℕ) (f : CheckParts → CheckParts) (old new : List (ℕ × CheckParts)) → new ≡ change_at m f old
+    → ((k : CheckParts) → begun_of (f k) ≡ begun_of k) → AreKept old new
 kept_change m f old new list same = subst (AreKept old) (sym list) (kept_changed m f old same)
 
-pub kept_settled : {A B : Type 0} (m : ℕ) (old new : List (ℕ × CheckParts)) (r : Result A B) → OnOk r (new ≡ change_at m settled old) → OnErr r (new ≡ old) → AreKept old new
+pub kept_settled : {A B : Type 0} (m : ℕ) (old new : List (ℕ × CheckParts)) (r : Result A B)
+    → OnOk r (new ≡ change_at m settled old) → OnErr r (new ≡ old) → AreKept old new
 kept_settled m old new (Ok a) ok err = kept_change m settled old new ok settled_begun
 kept_settled m old new (Err e) ok err = subst (AreKept old) (sym err) (kept_same old)
 
 -- where a check is put behind the others, under a number above all
-pub has_begun : (n conn epoch : ℕ) (config : Configuration) (sight : Sight) (request : HttpRequest) (es : List (ℕ × CheckParts)) → all_before n (rows_of es) ≡ true → sight.request ≡ request
+pub has_begun : (n conn epoch : ℕ) (config : Configuration) (sight : Sight) (request : HttpRequest)
+    (es : List (ℕ × CheckParts)) → all_before n (rows_of es) ≡ true → sight.request ≡ request
     → HasBegun n config request es (es ++ (n, begun_parts conn epoch config sight) ∷ [])
 has_begun n conn epoch config sight request es above is = record {
   sight = sight;
   request_is = is;
-  begun = ap (option_map begun_of) (added_at n n k es ∙ ap (λ o. or_this o (some_if (n == n) k)) (none_above n es above) ∙ ap (λ t. some_if t k) (number_self n));
-  others = λ m b apart h. by m b (value_at es m) (sym (ap (option_map begun_of) (added_at n m k es ∙ ap (λ t. or_this (value_at es m) (some_if t k)) apart)) ∙ h);
+  begun = ap (option_map begun_of)
+      (added_at n n k es ∙ ap (λ o. or_this o (some_if (n == n) k)) (none_above n es above)
+      ∙ ap (λ t. some_if t k) (number_self n));
+  others = λ m b apart h. by m b (value_at es m)
+      (sym (ap (option_map begun_of) (added_at n m k es ∙ ap (λ t. or_this (value_at es m) (some_if t k)) apart)) ∙ h);
 }
   where
     k : CheckParts
     k = begun_parts conn epoch config sight
 
-    by : (m : ℕ) (b : Begun) (o : Option CheckParts) → option_map begun_of (or_this o None) ≡ Some b → option_map begun_of o ≡ Some b
+    by : (m : ℕ) (b : Begun) (o : Option CheckParts) → option_map begun_of (or_this o None) ≡ Some b
+        → option_map begun_of o ≡ Some b
     by m b None e = e
     by m b (Some x) e = e

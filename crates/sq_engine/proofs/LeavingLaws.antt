@@ -2,8 +2,8 @@
 use Rattle.std.proofs.Common.{◌≡◌, ◌∙◌, ◌==◌, ◌&&◌, ◌⊎◌, inl, inr, ℕ, List, Bool, true, false, if◌then◌else◌, Option, None, Some, is_some, refl, ap, sym, subst, arith}
 use Rattle.std.specs.Option.{option_map}
 use Rattle.sq_machine.specs.OpenLookups.{question_of}
-use Rattle.sq_rows.specs.CheckRows.{Held}
-use Rattle.sq_part.specs.Parts.{PartState}
+use Rattle.sq_model_rows.specs.CheckRows.{Held}
+use Rattle.sq_class.specs.Parts.{PartState}
 use Rattle.sq_checks.specs.OpenChecks.{CheckParts}
 use Rattle.sq_checks.specs.Stages.{need_in}
 use Rattle.sq_checks.specs.Tables.{value_at}
@@ -31,7 +31,8 @@ pub record LeftBy (n : ℕ) (old new : EpochsState) : Type 0 where
   pub stops_are : (k : ℕ) → stop_at new k ≡ stop_at old k
   pub configs_are : (f : ℕ) → config_in (epoch_at new f) ≡ config_in (epoch_at old f)
   pub rows_are : (f d : ℕ) → row_at new f d ≡ row_at old f d
-  pub counted : (checks : List Held) → AreCounted old.current (epoch_at old) checks → AreCounted new.current (epoch_at new) checks
+  pub counted : (checks : List Held) → AreCounted old.current (epoch_at old) checks
+      → AreCounted new.current (epoch_at new) checks
   pub parts_are : (f d : ℕ) (p : PartState) → part_at new f d ≡ Some p → WasPart n (part_at old f d) p
   pub there : (f d : ℕ) → is_some (part_at old f d) ≡ true → is_some (part_at new f d) ≡ true
 
@@ -44,7 +45,8 @@ if_same true o e = e refl
 if_same false o e = refl
 
 -- a check that waits for nothing waits in none
-pub left_none : (v : EngineView) (n : ℕ) (k : CheckParts) → IsEngine v → value_at v.checks n ≡ Some k → need_in k.stage ≡ None → LeftBy n v.epochs v.epochs
+pub left_none : (v : EngineView) (n : ℕ) (k : CheckParts) → IsEngine v → value_at v.checks n ≡ Some k
+    → need_in k.stage ≡ None → LeftBy n v.epochs v.epochs
 left_none v n k i found none = record {
   current_is = refl;
   procs_are = refl;
@@ -57,7 +59,9 @@ left_none v n k i found none = record {
     part = p;
     was = is;
     row_is = refl;
-    waiting_are = λ m. if_same (m == n) (question_of m p.waiting) (λ x. i.waiting.waits f d p is m ∙ ap (λ z. waits_at f d (value_at v.checks z)) (number_is m n x) ∙ ap (waits_at f d) found
+    waiting_are = λ m. if_same (m == n) (question_of m p.waiting)
+        (λ x. i.waiting.waits f d p is m ∙ ap (λ z. waits_at f d (value_at v.checks z)) (number_is m n x)
+        ∙ ap (waits_at f d) found
         ∙ none_either (f == k.epoch) (asked_of d (need_in k.stage)) (ap (asked_of d) none));
   };
   there = λ f d is. is;
@@ -68,20 +72,24 @@ both true b h = (refl, h)
 both false b h = absurd (cc)
 
 -- rows of which one was changed to itself
-pub rows_kept : (e c : ℕ) (before after : PartState) (old new : EpochsState) → PartChanged e c before after old new → after.row ≡ before.row → (f d : ℕ) → row_at new f d ≡ row_at old f d
+pub rows_kept : (e c : ℕ) (before after : PartState) (old new : EpochsState) → PartChanged e c before after old new
+    → after.row ≡ before.row → (f d : ℕ) → row_at new f d ≡ row_at old f d
 rows_kept e c before after old new k row f d = by (e == f && c == d) refl
   where
     by : (b : Bool) → (e == f && c == d) ≡ b → row_at new f d ≡ row_at old f d
     by true x =
         let two = both (e == f) (c == d) x in
-        let here : row_at new e c ≡ row_at old e c = ap (option_map (λ p. p.row)) k.here ∙ ap Some row ∙ sym (ap (option_map (λ p. p.row)) k.was) in
-        subst (λ g. row_at new g d ≡ row_at old g d) (number_is e f two.0) (subst (λ j. row_at new e j ≡ row_at old e j) (number_is c d two.1) here)
+        let here : row_at new e c ≡ row_at old e c = ap (option_map (λ p. p.row)) k.here ∙ ap Some row
+        ∙ sym (ap (option_map (λ p. p.row)) k.was) in
+        subst (λ g. row_at new g d ≡ row_at old g d) (number_is e f two.0)
+        (subst (λ j. row_at new e j ≡ row_at old e j) (number_is c d two.1) here)
     by false x = ap (option_map (λ p. p.row)) (k.other f d x)
 
 same_number : (a b : ℕ) → a ≡ b → (a == b) ≡ true
 same_number a b e = grind (arith, e)
 
-elsewhere : (e c f d q : ℕ) (b : Bool) → (f == e) ≡ b → (e == f && c == d) ≡ false → (if b then (if d == c then Some q else None) else None) ≡ None
+elsewhere : (e c f d q : ℕ) (b : Bool) → (f == e) ≡ b → (e == f && c == d) ≡ false
+    → (if b then (if d == c then Some q else None) else None) ≡ None
 elsewhere e c f d q false x apart = refl
 elsewhere e c f d q true x apart =
     let ef : (e == f) ≡ true = number_sym e f ∙ x in
@@ -93,7 +101,8 @@ elsewhere e c f d q true x apart =
     other false b x y = absurd (cc)
 
 -- a check that waits in this class waits in none after it left that
-pub left_part : (v : EngineView) (n : ℕ) (k : CheckParts) (x : Need) (new : EpochsState) → IsEngine v → value_at v.checks n ≡ Some k → need_in k.stage ≡ Some x
+pub left_part : (v : EngineView) (n : ℕ) (k : CheckParts) (x : Need) (new : EpochsState) → IsEngine v
+    → value_at v.checks n ≡ Some k → need_in k.stage ≡ Some x
     → IsChanged k.epoch x.class (HasLeft n) v.epochs new → LeftBy n v.epochs new
 left_part v n k x new i found needs ch = record {
   current_is = p.current_is;
@@ -110,7 +119,9 @@ left_part v n k x new i found needs ch = record {
     p : PartChanged k.epoch x.class ch.before ch.after v.epochs new
     p = part_changed k.epoch x.class (HasLeft n) v.epochs new ch
 
-    by : (f d : ℕ) (q : PartState) → IsHere k.epoch x.class f d ch.after q ⊎ IsOther k.epoch x.class f d (part_at v.epochs f d) q → WasPart n (part_at v.epochs f d) q
+    by : (f d : ℕ) (q : PartState)
+        → IsHere k.epoch x.class f d ch.after q ⊎ IsOther k.epoch x.class f d (part_at v.epochs f d) q
+        → WasPart n (part_at v.epochs f d) q
     by f d q (inl h) = record {
       part = ch.before;
       was = ap (λ z. part_at v.epochs z d) (sym h.epoch_is) ∙ ap (part_at v.epochs k.epoch) (sym h.class_is) ∙ ch.was;
@@ -121,6 +132,9 @@ left_part v n k x new i found needs ch = record {
       part = q;
       was = o.was;
       row_is = refl;
-      waiting_are = λ m. if_same (m == n) (question_of m q.waiting) (λ y. i.waiting.waits f d q o.was m ∙ ap (λ z. waits_at f d (value_at v.checks z)) (number_is m n y) ∙ ap (waits_at f d) found
-          ∙ ap (λ z. if f == k.epoch then asked_of d z else None) needs ∙ elsewhere k.epoch x.class f d x.question (f == k.epoch) refl o.apart);
+      waiting_are = λ m. if_same (m == n) (question_of m q.waiting)
+          (λ y. i.waiting.waits f d q o.was m ∙ ap (λ z. waits_at f d (value_at v.checks z)) (number_is m n y)
+          ∙ ap (waits_at f d) found
+          ∙ ap (λ z. if f == k.epoch then asked_of d z else None) needs
+          ∙ elsewhere k.epoch x.class f d x.question (f == k.epoch) refl o.apart);
     }

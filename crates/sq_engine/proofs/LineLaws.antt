@@ -10,16 +10,16 @@ use Rattle.sq_channel.specs.declared.replies.Got.{Got}
 use Rattle.sq_channel.specs.declared.replies.Got.TheVariants as got
 use Rattle.sq_farm.specs.Replies.{got_of}
 use Rattle.sq_machine.specs.Channels.{Channels, is_open, slot_of}
-use Rattle.sq_machine.specs.DueActs.{Place}
+use Rattle.sq_machine.specs.DueActs.{ClassId}
 use Rattle.sq_machine.specs.Living.{find_proc, lives, slots_by, slots_in}
 use Rattle.sq_machine.specs.Next.{gives, refuses}
 use Rattle.sq_machine.specs.Transcripts.{LineIs, OnFree, Outside, ReplyTo, line_at, line_by, line_is, line_told}
 use Rattle.sq_machine.specs.declared.refusals.Refusal.TheVariants as refusal
-use Rattle.sq_part.specs.Parts.{PartState}
+use Rattle.sq_class.specs.Parts.{PartState}
 use Rattle.sq_epochs.specs.EpochProcs.{AreHomed, is_place, lives_in}
 use Rattle.sq_epochs.specs.EpochStates.{home_at, part_at}
-use Rattle.sq_state.specs.Answers.{channels_in, line_answer, line_of}
-use Rattle.sq_state.specs.States.{State}
+use Rattle.sq_model_state.specs.Answers.{channels_in, line_answer, line_of}
+use Rattle.sq_model_state.specs.States.{State}
 use Rattle.sq_engine.specs.EngineViews.{EngineView, state_of}
 use Rattle.sq_engine.specs.Lines.{IsRead, got_told}
 use Rattle.sq_engine.proofs.TableLaws.{number_self}
@@ -35,20 +35,24 @@ slot_open (Some p ∷ slots) (suc n) q h = by (q == p) refl (slot_open slots n q
     by true x more = rw x refl
     by false x more = rw x more
 
-channel_open : (slots : List (Option ℕ)) (channel : Option ℕ) (q : ℕ) → slot_of slots channel ≡ Some q → is_open q slots ≡ true
+channel_open : (slots : List (Option ℕ)) (channel : Option ℕ) (q : ℕ) → slot_of slots channel ≡ Some q
+    → is_open q slots ≡ true
 channel_open slots None q h = slot_open slots 0 q h
 channel_open slots (Some n) q h = slot_open slots n q h
 
-at_open : (slots : List (Option ℕ)) (o : Option ℕ) (reply x : Reply) (q : ℕ) → got_at o x ≡ got.Reply q reply → o ≡ Some q
+at_open : (slots : List (Option ℕ)) (o : Option ℕ) (reply x : Reply) (q : ℕ) → got_at o x ≡ got.Reply q reply
+    → o ≡ Some q
 at_open slots None reply x q h = absurd (cc)
 at_open slots (Some p) reply x q h = cc
 
-by_open : (slots : List (Option ℕ)) (o : Option Answer) (q : ℕ) (reply : Reply) → got_by slots o ≡ got.Reply q reply → is_open q slots ≡ true
+by_open : (slots : List (Option ℕ)) (o : Option Answer) (q : ℕ) (reply : Reply) → got_by slots o ≡ got.Reply q reply
+    → is_open q slots ≡ true
 by_open slots None q reply h = absurd (cc)
 by_open slots (Some a) q reply h = channel_open slots a.0 q (at_open slots (slot_of slots a.0) reply a.1 q h)
 
 -- a reply is to a question that is open on the process
-got_open : (p : Channels) (line : List ℕ) (q : ℕ) (reply : Reply) → got_in p line ≡ got.Reply q reply → is_open q p.slots ≡ true
+got_open : (p : Channels) (line : List ℕ) (q : ℕ) (reply : Reply) → got_in p line ≡ got.Reply q reply
+    → is_open q p.slots ≡ true
 unfolding got_in
 got_open p line q reply h = by_open p.slots (reply_of p.numbered line) q reply h
 
@@ -91,10 +95,15 @@ has_got k p line g h = by (find_proc k p.row.stock.procs) refl
   where
     by : (o : Option Channels) → find_proc k p.row.stock.procs ≡ o → HasGot k p line g
     by None is = absurd (none-some g (sym (ap (option_map (λ c. got_in c line)) is) ∙ h))
-    by (Some c) is = record { channels = c; found = is; got_is = same_Some _ _ (sym (ap (option_map (λ z. got_in z line)) is) ∙ h) }
+    by (Some c) is = record {
+      channels = c;
+      found = is;
+      got_is = same_Some _ _ (sym (ap (option_map (λ z. got_in z line)) is) ∙ h);
+    }
 
 -- so its question is open
-pub got_opened : (k : ℕ) (p : PartState) (line : List ℕ) (q : ℕ) (reply : Reply) → got_of k p.row.stock line ≡ Some (got.Reply q reply) → is_open q (slots_in k p.row.stock.procs) ≡ true
+pub got_opened : (k : ℕ) (p : PartState) (line : List ℕ) (q : ℕ) (reply : Reply)
+    → got_of k p.row.stock line ≡ Some (got.Reply q reply) → is_open q (slots_in k p.row.stock.procs) ≡ true
 got_opened k p line q reply h =
     let g = has_got k p line (got.Reply q reply) h in
     ap (λ o. is_open q (slots_by o)) g.found ∙ got_open g.channels line q reply g.got_is
@@ -105,41 +114,51 @@ pub record IsHome (v : EngineView) (e c k : ℕ) : Type 0 where
   pub is : part_at v.epochs e c ≡ Some part
   pub lives_there : lives k part.row.stock.procs ≡ true
 
-pub at_home : (v : EngineView) (e c k : ℕ) → AreHomed v.epochs → home_at v.epochs k ≡ Some (record { epoch = e; class = c }) → IsHome v e c k
-at_home v e c k homed home = by (part_at v.epochs e c) refl (homed e c k ∙ ap (is_place e c) home ∙ rw (number_self e, number_self c) refl)
+pub at_home : (v : EngineView) (e c k : ℕ) → AreHomed v.epochs
+    → home_at v.epochs k ≡ Some (record { epoch = e; class = c }) → IsHome v e c k
+at_home v e c k homed home = by (part_at v.epochs e c) refl
+    (homed e c k ∙ ap (is_place e c) home ∙ rw (number_self e, number_self c) refl)
   where
     by : (o : Option PartState) → part_at v.epochs e c ≡ o → lives_in k o ≡ true → IsHome v e c k
     by None is h = absurd (cc)
     by (Some p) is h = record { part = p; is = is; lives_there = h }
 
-pub home_there : (v : EngineView) (e c k : ℕ) → AreHomed v.epochs → home_at v.epochs k ≡ Some (record { epoch = e; class = c }) → is_some (part_at v.epochs e c) ≡ true
+pub home_there : (v : EngineView) (e c k : ℕ) → AreHomed v.epochs
+    → home_at v.epochs k ≡ Some (record { epoch = e; class = c }) → is_some (part_at v.epochs e c) ≡ true
 home_there v e c k homed home = ap is_some (at_home v e c k homed home).is
 
-pub home_alive : (v : EngineView) (e c k : ℕ) → AreHomed v.epochs → home_at v.epochs k ≡ Some (record { epoch = e; class = c }) → (p : PartState) → part_at v.epochs e c ≡ Some p
+pub home_alive : (v : EngineView) (e c k : ℕ) → AreHomed v.epochs
+    → home_at v.epochs k ≡ Some (record { epoch = e; class = c }) → (p : PartState) → part_at v.epochs e c ≡ Some p
     → lives k p.row.stock.procs ≡ true
 home_alive v e c k homed home p is =
     let h = at_home v e c k homed home in
     subst (λ z. lives k z.row.stock.procs ≡ true) (same_Some h.part p (sym h.is ∙ is)) h.lives_there
 
 -- what is answered to a line of no process, and to one that came to this
-pub line_unknown : (s : State) (k : ℕ) (line : List ℕ) → s.home k ≡ None → line_answer s k line ≡ refuses (refusal.UnknownProc k)
+pub line_unknown : (s : State) (k : ℕ) (line : List ℕ) → s.home k ≡ None
+    → line_answer s k line ≡ refuses (refusal.UnknownProc k)
 line_unknown s k line e = rw e refl
 
 -- the channels of a process that lives at its home
-home_channels : (v : EngineView) (e c k : ℕ) (p : PartState) → home_at v.epochs k ≡ Some (record { epoch = e; class = c }) → part_at v.epochs e c ≡ Some p
+home_channels : (v : EngineView) (e c k : ℕ) (p : PartState)
+    → home_at v.epochs k ≡ Some (record { epoch = e; class = c }) → part_at v.epochs e c ≡ Some p
     → channels_in (state_of v) k ≡ find_proc k p.row.stock.procs
 home_channels v e c k p home is =
-    ap (option_and_then (λ (z : Place). option_and_then (λ r. find_proc k r.stock.procs) ((state_of v).row z.epoch z.class))) home
+    ap (option_and_then (λ (z : ClassId). option_and_then (λ r. find_proc k r.stock.procs)
+    ((state_of v).row z.epoch z.class))) home
     ∙ ap (λ o. option_and_then (λ r. find_proc k r.stock.procs) (option_map (λ (z : PartState). z.row) o)) is
 
-pub line_got : (v : EngineView) (e c k : ℕ) (line : List ℕ) (g : Got) (p : PartState) → home_at v.epochs k ≡ Some (record { epoch = e; class = c }) → part_at v.epochs e c ≡ Some p
+pub line_got : (v : EngineView) (e c k : ℕ) (line : List ℕ) (g : Got) (p : PartState)
+    → home_at v.epochs k ≡ Some (record { epoch = e; class = c }) → part_at v.epochs e c ≡ Some p
     → got_of k p.row.stock line ≡ Some g → line_answer (state_of v) k line ≡ gives (got_told g)
 line_got v e c k line g p home is h =
     let x = has_got k p line g h in
-    ap (line_of k line) (home_channels v e c k p home is ∙ x.found) ∙ ap gives (told_got x.channels line ∙ ap got_told x.got_is)
+    ap (line_of k line) (home_channels v e c k p home is ∙ x.found)
+    ∙ ap gives (told_got x.channels line ∙ ap got_told x.got_is)
 
 -- what is read of the line is what it came to
-pub line_read : (v : EngineView) (e c k : ℕ) (line : List ℕ) (g : Got) (p : PartState) → home_at v.epochs k ≡ Some (record { epoch = e; class = c }) → part_at v.epochs e c ≡ Some p
+pub line_read : (v : EngineView) (e c k : ℕ) (line : List ℕ) (g : Got) (p : PartState)
+    → home_at v.epochs k ≡ Some (record { epoch = e; class = c }) → part_at v.epochs e c ≡ Some p
     → got_of k p.row.stock line ≡ Some g → IsRead (state_of v) k line g
 line_read v e c k line g p home is h = λ d at.
     let x = has_got k p line g h in

@@ -9,19 +9,21 @@ use Rattle.sq_machine.specs.Limits.{conn_limit}
 use Rattle.sq_machine.specs.Next.{gives, refuses}
 use Rattle.sq_checks.specs.Conns.{OpenConns, check_in, client_in}
 use Rattle.sq_checks.specs.Counts.{tally}
-use Rattle.sq_state.specs.Answers.{open_answer}
-use Rattle.sq_state.specs.Changes.{after_open}
-use Rattle.sq_state.specs.States.{IsSame, State}
+use Rattle.sq_model_state.specs.Answers.{open_answer}
+use Rattle.sq_model_state.specs.Changes.{after_open}
+use Rattle.sq_model_state.specs.States.{IsSame, State}
 use Rattle.sq_engine.specs.Engines.{IsEngine}
 use Rattle.sq_engine.specs.EngineViews.{EngineView, state_of}
 
 pub open_in_use : (s : State) (c : ℕ) → is_some (s.client c) ≡ true → open_answer s c ≡ refuses (refusal.ConnInUse c)
 open_in_use s c e = rw e refl
 
-pub open_full : (s : State) (c : ℕ) → is_some (s.client c) ≡ false → nat_le conn_limit s.conns ≡ true → open_answer s c ≡ refuses (refusal.TooManyConns conn_limit)
+pub open_full : (s : State) (c : ℕ) → is_some (s.client c) ≡ false → nat_le conn_limit s.conns ≡ true
+    → open_answer s c ≡ refuses (refusal.TooManyConns conn_limit)
 open_full s c e f = rw (e, f) refl
 
-pub open_fine : (s : State) (c : ℕ) → is_some (s.client c) ≡ false → nat_le conn_limit s.conns ≡ false → open_answer s c ≡ gives told.Fine
+pub open_fine : (s : State) (c : ℕ) → is_some (s.client c) ≡ false → nat_le conn_limit s.conns ≡ false
+    → open_answer s c ≡ gives told.Fine
 open_fine s c e f = rw (e, f) refl
 
 -- the connections after one of this client opened
@@ -29,9 +31,11 @@ pub record Opened (c : ℕ) (p : Peer) (old new : OpenConns) : Type 0 where
   pub clients : (d : ℕ) → client_in new d ≡ (if c == d then Some p else client_in old d)
   pub checks : (d : ℕ) → check_in new d ≡ check_in old d
   pub len : length new.links ≡ suc (length old.links)
-  pub counts : (a : Address) → tally new.counts a ≡ (if is_address a p.addr then suc (tally old.counts a) else tally old.counts a)
+  pub counts : (a : Address)
+      → tally new.counts a ≡ (if is_address a p.addr then suc (tally old.counts a) else tally old.counts a)
 
-pub opened_engine : (v : EngineView) (k : OpenConns) (t c : ℕ) (p : Peer) → Opened c p v.conns k → IsEngine v → IsEngine (record v { conns = k; latest = t })
+pub opened_engine : (v : EngineView) (k : OpenConns) (t c : ℕ) (p : Peer) → Opened c p v.conns k → IsEngine v
+    → IsEngine (record v { conns = k; latest = t })
 opened_engine v k t c p o i = record {
   asked = record {
     on_conns = λ d. o.checks d ∙ i.asked.on_conns d;
@@ -47,7 +51,8 @@ opened_engine v k t c p o i = record {
   setup_is = i.setup_is;
 }
 
-pub opened_same : (v : EngineView) (k : OpenConns) (t c : ℕ) (p : Peer) → Opened c p v.conns k → IsSame (state_of (record v { conns = k; latest = t })) (after_open c p t (state_of v))
+pub opened_same : (v : EngineView) (k : OpenConns) (t c : ℕ) (p : Peer) → Opened c p v.conns k
+    → IsSame (state_of (record v { conns = k; latest = t })) (after_open c p t (state_of v))
 opened_same v k t c p o = record {
   clients_are = o.clients;
   conns_are = o.len;

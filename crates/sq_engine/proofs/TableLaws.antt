@@ -3,7 +3,7 @@ use Rattle.std.proofs.Common.{◌≡◌, ◌∙◌, ◌==◌, ◌&&◌, ℕ, Lis
 use Rattle.std.specs.Option.{option_map}
 use Rattle.std.specs.Ordering.{is_eq, nat_cmp}
 use Rattle.sq_base.specs.declared.helpers.What.{What}
-use Rattle.sq_rows.specs.CheckRows.{held_at}
+use Rattle.sq_model_rows.specs.CheckRows.{held_at}
 use Rattle.sq_checks.specs.OpenChecks.{CheckParts, all_before, all_ended, change_at, ended_by, row, rows_of, without_entry}
 use Rattle.sq_checks.specs.Tables.{value_at}
 
@@ -48,11 +48,13 @@ none_none true = refl
 none_none false = refl
 
 -- what stands at a number, where check m was changed
-pub changed_at : (m n : ℕ) (f : CheckParts → CheckParts) (es : List (ℕ × CheckParts)) → value_at (change_at m f es) n ≡ mapped_if (m == n) f (value_at es n)
+pub changed_at : (m n : ℕ) (f : CheckParts → CheckParts) (es : List (ℕ × CheckParts))
+    → value_at (change_at m f es) n ≡ mapped_if (m == n) f (value_at es n)
 changed_at m n f [] = sym (mapped_none (m == n) f)
 changed_at m n f (e ∷ es) = by (m == e.0) (n == e.0) refl refl (changed_at m n f es)
   where
-    by : (s t : Bool) → (m == e.0) ≡ s → (n == e.0) ≡ t → value_at (change_at m f es) n ≡ mapped_if (m == n) f (value_at es n)
+    by : (s t : Bool) → (m == e.0) ≡ s → (n == e.0) ≡ t
+        → value_at (change_at m f es) n ≡ mapped_if (m == n) f (value_at es n)
         → value_at (change_at m f (e ∷ es)) n ≡ mapped_if (m == n) f (value_at (e ∷ es) n)
     by true true x y more = rw (x, same_key n e.0, y, together m n e.0 x y) refl
     by true false x y more = rw (x, same_key n e.0, y) more
@@ -64,13 +66,16 @@ both_none true o p e = refl
 both_none false o p e = absurd (cc)
 
 -- what stands at a number, where check m was taken out
-pub removed_at : (m n : ℕ) (es : List (ℕ × CheckParts)) → value_at (without_entry m es) n ≡ none_if (m == n) (value_at es n)
+pub removed_at : (m n : ℕ) (es : List (ℕ × CheckParts))
+    → value_at (without_entry m es) n ≡ none_if (m == n) (value_at es n)
 removed_at m n [] = sym (none_none (m == n))
 removed_at m n (e ∷ es) = by (m == e.0) (n == e.0) refl refl (removed_at m n es)
   where
-    by : (s t : Bool) → (m == e.0) ≡ s → (n == e.0) ≡ t → value_at (without_entry m es) n ≡ none_if (m == n) (value_at es n)
+    by : (s t : Bool) → (m == e.0) ≡ s → (n == e.0) ≡ t
+        → value_at (without_entry m es) n ≡ none_if (m == n) (value_at es n)
         → value_at (without_entry m (e ∷ es)) n ≡ none_if (m == n) (value_at (e ∷ es) n)
-    by true true x y more = rw x (more ∙ both_none (m == n) (value_at es n) (value_at (e ∷ es) n) (together m n e.0 x y))
+    by true true x y more = rw x
+        (more ∙ both_none (m == n) (value_at es n) (value_at (e ∷ es) n) (together m n e.0 x y))
     by true false x y more = rw (x, same_key n e.0, y) more
     by false true x y more = rw (x, same_key n e.0, y, apart_left m n e.0 x y) refl
     by false false x y more = rw (x, same_key n e.0, y) more
@@ -90,7 +95,8 @@ below_other a n h = grind (arith, h)
 pub none_above : (n : ℕ) (es : List (ℕ × CheckParts)) → all_before n (rows_of es) ≡ true → value_at es n ≡ None
 none_above n [] h = refl
 none_above n (e ∷ es) h =
-    rw (same_key n e.0, below_other e.0 n (left (nat_lt e.0 n) (all_before n (rows_of es)) h)) (none_above n es (right (nat_lt e.0 n) (all_before n (rows_of es)) h))
+    rw (same_key n e.0, below_other e.0 n (left (nat_lt e.0 n) (all_before n (rows_of es)) h))
+    (none_above n es (right (nat_lt e.0 n) (all_before n (rows_of es)) h))
 
 -- the value, or the other where there is none
 abbrev pub or_this : {A : Type 0} → Option A → Option A → Option A
@@ -102,7 +108,8 @@ some_if true a = Some a
 some_if false a = None
 
 -- what stands at a number, where a check was put behind the others
-pub added_at : (m n : ℕ) (k : CheckParts) (es : List (ℕ × CheckParts)) → value_at (es ++ (m, k) ∷ []) n ≡ or_this (value_at es n) (some_if (n == m) k)
+pub added_at : (m n : ℕ) (k : CheckParts) (es : List (ℕ × CheckParts))
+    → value_at (es ++ (m, k) ∷ []) n ≡ or_this (value_at es n) (some_if (n == m) k)
 added_at m n k [] = by (n == m) refl
   where
     by : (b : Bool) → (n == m) ≡ b → value_at ((m, k) ∷ []) n ≡ some_if (n == m) k
@@ -116,7 +123,8 @@ added_at m n k (e ∷ es) = by (n == e.0) refl (added_at m n k es)
     by false x more = rw (same_key n e.0, x) more
 
 -- what stands at a number after the end of a question
-pub ended_at : (q : ℕ) (w : What) (now n : ℕ) (es : List (ℕ × CheckParts)) → value_at (all_ended q w now es) n ≡ option_map (ended_by q w now) (value_at es n)
+pub ended_at : (q : ℕ) (w : What) (now n : ℕ) (es : List (ℕ × CheckParts))
+    → value_at (all_ended q w now es) n ≡ option_map (ended_by q w now) (value_at es n)
 ended_at q w now n [] = refl
 ended_at q w now n (e ∷ es) = by (n == e.0) refl (ended_at q w now n es)
   where
@@ -130,6 +138,7 @@ pub row_at_number : (n : ℕ) (es : List (ℕ × CheckParts)) → held_at n (row
 row_at_number n [] = refl
 row_at_number n (e ∷ es) = by (n == e.0) refl (row_at_number n es)
   where
-    by : (b : Bool) → (n == e.0) ≡ b → held_at n (rows_of es) ≡ option_map (row n) (value_at es n) → held_at n (rows_of (e ∷ es)) ≡ option_map (row n) (value_at (e ∷ es) n)
+    by : (b : Bool) → (n == e.0) ≡ b → held_at n (rows_of es) ≡ option_map (row n) (value_at es n)
+        → held_at n (rows_of (e ∷ es)) ≡ option_map (row n) (value_at (e ∷ es) n)
     by true x more = rw (same_key n e.0, x) (ap (λ k. Some (row k e.1)) (sym (number_is n e.0 x)))
     by false x more = rw (same_key n e.0, x) more

@@ -18,15 +18,15 @@ use Rattle.sq_checks.specs.Stages.{came_in, decided_in, is_done_in, need_in}
 use Rattle.sq_checks.specs.Tables.{value_at}
 use Rattle.sq_checks.specs.declared.conns.Link.{Link}
 use Rattle.sq_checks.specs.declared.stages.Need.{Need}
-use Rattle.sq_checks.specs.declared.stages.Stage.{Stage}
-use Rattle.sq_checks.specs.declared.stages.Stage.TheVariants as stage
+use Rattle.sq_checks.specs.declared.stages.CheckStage.{CheckStage}
+use Rattle.sq_checks.specs.declared.stages.CheckStage.TheVariants as stage
 use Rattle.sq_epochs.specs.EpochChanges.{HasLeft}
 use Rattle.sq_epochs.specs.EpochStates.{EpochsState, IsChanged}
 use Rattle.sq_epochs.specs.LiveEpochs.{checks_at}
-use Rattle.sq_state.specs.Answers.{take_answer, take_of_held}
-use Rattle.sq_state.specs.Changes.{after_take}
-use Rattle.sq_state.specs.Says.{outcome_in}
-use Rattle.sq_state.specs.States.{IsSame, State}
+use Rattle.sq_model_state.specs.Answers.{take_answer, take_of_held}
+use Rattle.sq_model_state.specs.Changes.{after_take}
+use Rattle.sq_model_state.specs.Says.{outcome_in}
+use Rattle.sq_model_state.specs.States.{IsSame, State}
 use Rattle.sq_engine.specs.Engines.{IsEngine, held_number}
 use Rattle.sq_engine.specs.EngineViews.{EngineView, state_of}
 use Rattle.sq_engine.specs.Stepping.{epoch_of}
@@ -36,22 +36,25 @@ use Rattle.sq_engine.proofs.NowLaws.{epoch_found, held_is, value_is}
 use Rattle.sq_engine.proofs.OverLaws.{IsOver, held_alone}
 use Rattle.sq_engine.proofs.TableLaws.{row_at_number}
 
-pub take_unknown : (v : EngineView) (n : ℕ) → value_at v.checks n ≡ None → take_answer (state_of v) n ≡ refuses (refusal.UnknownCheck n)
+pub take_unknown : (v : EngineView) (n : ℕ) → value_at v.checks n ≡ None
+    → take_answer (state_of v) n ≡ refuses (refusal.UnknownCheck n)
 take_unknown v n is = ap (take_of_held (state_of v) n) (row_at_number n v.checks ∙ ap (option_map (row n)) is)
 
-take_found : (v : EngineView) (n : ℕ) (k : CheckParts) → value_at v.checks n ≡ Some k → take_answer (state_of v) n ≡ take_of_held (state_of v) n (Some (row n k))
+take_found : (v : EngineView) (n : ℕ) (k : CheckParts) → value_at v.checks n ≡ Some k
+    → take_answer (state_of v) n ≡ take_of_held (state_of v) n (Some (row n k))
 take_found v n k is = ap (take_of_held (state_of v) n) (held_is v n k is)
 
-done_by : (s : Stage) → is_done_in s ≡ is_some (decided_in s)
+done_by : (s : CheckStage) → is_done_in s ≡ is_some (decided_in s)
 done_by stage.Ready = refl
 done_by (stage.Came a) = refl
 done_by (stage.Waits x) = refl
 done_by (stage.Done o) = refl
 
-pub take_early : (v : EngineView) (n : ℕ) (k : CheckParts) → value_at v.checks n ≡ Some k → decided_in k.stage ≡ None → take_answer (state_of v) n ≡ refuses (refusal.NotDone n)
+pub take_early : (v : EngineView) (n : ℕ) (k : CheckParts) → value_at v.checks n ≡ Some k → decided_in k.stage ≡ None
+    → take_answer (state_of v) n ≡ refuses (refusal.NotDone n)
 take_early v n k is none = take_found v n k is ∙ rw (done_by k.stage ∙ ap is_some none) refl
 
-came_none : (s : Stage) → is_some (decided_in s) ≡ true → came_in s ≡ None
+came_none : (s : CheckStage) → is_some (decided_in s) ≡ true → came_in s ≡ None
 came_none stage.Ready e = absurd (cc)
 came_none (stage.Came a) e = absurd (cc)
 came_none (stage.Waits x) e = absurd (cc)
@@ -63,24 +66,35 @@ comes_by k e =
     ∙ ap (λ l. verdict_over l k.config (unversioned_sight k.sight)) (append-nil k.answers)
     ∙ over_unversioned k.answers k.config k.sight
 
-pub take_told : (v : EngineView) (n : ℕ) (k : CheckParts) (r : Judged) → IsEngine v → value_at v.checks n ≡ Some k → is_some (decided_in k.stage) ≡ true → r ≡ judged_of n r.outcome k
-    → verdict_over r.answers r.config r.sight ≡ value.Verdict r.outcome → take_answer (state_of v) n ≡ gives (told.Judged r.epoch r.outcome)
+pub take_told : (v : EngineView) (n : ℕ) (k : CheckParts) (r : Judged) → IsEngine v → value_at v.checks n ≡ Some k
+    → is_some (decided_in k.stage) ≡ true → r ≡ judged_of n r.outcome k
+    → verdict_over r.answers r.config r.sight ≡ value.Verdict r.outcome
+    → take_answer (state_of v) n ≡ gives (told.Judged r.epoch r.outcome)
 take_told v n k r i is done of verdict =
-    let comes : comes_to k ≡ value.Verdict r.outcome = comes_by k done ∙ sym (ap (λ z. verdict_over z.answers z.config z.sight) of) ∙ verdict in
+    let comes : comes_to k ≡ value.Verdict r.outcome = comes_by k done
+    ∙ sym (ap (λ z. verdict_over z.answers z.config z.sight) of) ∙ verdict in
     let out : outcome_in (state_of v) (row n k) ≡ r.outcome = ap outcome_so_far (value_is v n k i is ∙ comes) in
-    take_found v n k is ∙ rw (done_by k.stage ∙ done) (ap (λ z. gives (told.Judged k.epoch z)) out ∙ ap (λ z. gives (told.Judged z r.outcome)) (ap (λ z. z.epoch) (sym of)))
+    take_found v n k is ∙ rw (done_by k.stage ∙ done)
+    (ap (λ z. gives (told.Judged k.epoch z)) out
+    ∙ ap (λ z. gives (told.Judged z r.outcome)) (ap (λ z. z.epoch) (sym of)))
 
 -- the outcome that a check has is the one that is taken
-pub outcome_told : (v : EngineView) (n : ℕ) (k : CheckParts) (o : Outcome) → IsEngine v → value_at v.checks n ≡ Some k → decided_in k.stage ≡ Some o
-    → IfSome (decided_in k.stage) (λ x. verdict_over k.answers k.config k.sight ≡ value.Verdict x) → take_answer (state_of v) n ≡ gives (told.Judged (epoch_of (state_of v) n) o)
+pub outcome_told : (v : EngineView) (n : ℕ) (k : CheckParts) (o : Outcome) → IsEngine v → value_at v.checks n ≡ Some k
+    → decided_in k.stage ≡ Some o
+    → IfSome (decided_in k.stage) (λ x. verdict_over k.answers k.config k.sight ≡ value.Verdict x)
+    → take_answer (state_of v) n ≡ gives (told.Judged (epoch_of (state_of v) n) o)
 outcome_told v n k o i is done verdict =
-    take_told v n k (judged_of n o k) i is (ap is_some done) refl (found_so verdict) ∙ ap (λ e. gives (told.Judged e o)) (sym (epoch_found v n k is))
+    take_told v n k (judged_of n o k) i is (ap is_some done) refl (found_so verdict)
+    ∙ ap (λ e. gives (told.Judged e o)) (sym (epoch_found v n k is))
   where
-    found_so : IfSome (decided_in k.stage) (λ x. verdict_over k.answers k.config k.sight ≡ value.Verdict x) → verdict_over k.answers k.config k.sight ≡ value.Verdict o
-    found_so h = subst (λ (z : Option Outcome). IfSome z (λ x. verdict_over k.answers k.config k.sight ≡ value.Verdict x)) done h
+    found_so : IfSome (decided_in k.stage) (λ x. verdict_over k.answers k.config k.sight ≡ value.Verdict x)
+        → verdict_over k.answers k.config k.sight ≡ value.Verdict o
+    found_so h = subst (λ (z : Option Outcome). IfSome z
+        (λ x. verdict_over k.answers k.config k.sight ≡ value.Verdict x)) done h
 
 -- the client of a connection with a check is there
-client_of : (o : Option Link) (n : ℕ) → option_and_then (λ l. l.check) o ≡ Some n → is_some (option_map (λ l. l.peer) o) ≡ true
+client_of : (o : Option Link) (n : ℕ) → option_and_then (λ l. l.check) o ≡ Some n
+    → is_some (option_map (λ l. l.peer) o) ≡ true
 client_of None n e = absurd (none-some n e)
 client_of (Some l) n e = refl
 
@@ -88,11 +102,14 @@ pub client_there : (v : OpenConns) (c n : ℕ) → check_in v c ≡ Some n → i
 client_there v c n e = client_of (value_at v.links c) n e
 
 -- the check that is marked at its connection
-pub marked_there : (v : EngineView) (n : ℕ) (k : CheckParts) → IsEngine v → value_at v.checks n ≡ Some k → check_in v.conns k.conn ≡ Some n
-marked_there v n k i is = i.asked.on_conns k.conn ∙ ap (option_map held_number) (held_alone n (row n k) (rows_of v.checks) i.asked.alone (held_is v n k is))
+pub marked_there : (v : EngineView) (n : ℕ) (k : CheckParts) → IsEngine v → value_at v.checks n ≡ Some k
+    → check_in v.conns k.conn ≡ Some n
+marked_there v n k i is = i.asked.on_conns k.conn
+    ∙ ap (option_map held_number) (held_alone n (row n k) (rows_of v.checks) i.asked.alone (held_is v n k is))
 
 -- a check that was taken from the list in which it waits, if it waits
-pub left_by : (v : EngineView) (n : ℕ) (k : CheckParts) (new : EpochsState) → IsEngine v → value_at v.checks n ≡ Some k → ((x : Need) → need_in k.stage ≡ Some x → IsChanged k.epoch x.class (HasLeft n) v.epochs new)
+pub left_by : (v : EngineView) (n : ℕ) (k : CheckParts) (new : EpochsState) → IsEngine v → value_at v.checks n ≡ Some k
+    → ((x : Need) → need_in k.stage ≡ Some x → IsChanged k.epoch x.class (HasLeft n) v.epochs new)
     → (need_in k.stage ≡ None → new ≡ v.epochs) → LeftBy n v.epochs new
 left_by v n k new i found waits none = by (need_in k.stage) refl
   where
@@ -101,8 +118,10 @@ left_by v n k new i found waits none = by (need_in k.stage) refl
     by (Some x) e = left_part v n k x new i found e (waits x e)
 
 -- its epoch counts it still
-pub over_counts : (v : EngineView) (n : ℕ) (k : CheckParts) (left : EpochsState) → IsEngine v → IsOver v n k left → 0 < checks_at left k.epoch
-over_counts v n k left i o = counts_some left k.epoch n (row n k) (rows_of v.checks) o.rise (held_is v n k o.found) refl (o.leaves.counted (rows_of v.checks) i.counted)
+pub over_counts : (v : EngineView) (n : ℕ) (k : CheckParts) (left : EpochsState) → IsEngine v → IsOver v n k left
+    → 0 < checks_at left k.epoch
+over_counts v n k left i o = counts_some left k.epoch n (row n k) (rows_of v.checks) o.rise (held_is v n k o.found) refl
+    (o.leaves.counted (rows_of v.checks) i.counted)
 
 -- at another moment
 pub same_later : (s r : State) (t : ℕ) → IsSame s r → IsSame (record s { latest = t }) (record r { latest = t })
@@ -136,7 +155,8 @@ later_engine v t i = record {
 }
 
 -- what is left of a check with an outcome is judged so
-pub judged_is : (n : ℕ) (r : Judged) (k : CheckParts) → IfSome (decided_in k.stage) (λ o. r ≡ judged_of n o k) → is_some (decided_in k.stage) ≡ true → r ≡ judged_of n r.outcome k
+pub judged_is : (n : ℕ) (r : Judged) (k : CheckParts) → IfSome (decided_in k.stage) (λ o. r ≡ judged_of n o k)
+    → is_some (decided_in k.stage) ≡ true → r ≡ judged_of n r.outcome k
 judged_is n r k = by (decided_in k.stage)
   where
     by : (o : Option Outcome) → IfSome o (λ x. r ≡ judged_of n x k) → is_some o ≡ true → r ≡ judged_of n r.outcome k
@@ -144,7 +164,8 @@ judged_is n r k = by (decided_in k.stage)
     by (Some x) h e = h ∙ ap (λ z. judged_of n z k) (sym (ap (λ (z : Judged). z.outcome) h))
 
 -- a check taken out at another moment
-pub taken_at : (w : EngineView) (n l t : ℕ) (s : State) → IsSame (state_of w) (after_take n l s) → IsSame (state_of (record w { latest = t })) (after_take n t s)
+pub taken_at : (w : EngineView) (n l t : ℕ) (s : State) → IsSame (state_of w) (after_take n l s)
+    → IsSame (state_of (record w { latest = t })) (after_take n t s)
 taken_at w n l t s same = record {
   clients_are = same.clients_are;
   conns_are = same.conns_are;

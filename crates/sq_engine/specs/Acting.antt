@@ -14,11 +14,11 @@ use Rattle.sq_machine.specs.Readings.{latest}
 use Rattle.sq_epochs.specs.DueStates as dues
 use Rattle.sq_epochs.specs.declared.acts.Act.{Act}
 use Rattle.sq_epochs.specs.declared.acts.Act.TheVariants as act
-use Rattle.sq_state.specs.Acts.{Due, sends, starts, stops}
-use Rattle.sq_state.specs.Answers.{name_in}
-use Rattle.sq_state.specs.Changes.{after_send_at, after_start_at, after_stop_of}
-use Rattle.sq_state.specs.Promises.{IsAnswered, StandsFor}
-use Rattle.sq_state.specs.States.{State}
+use Rattle.sq_model_state.specs.Acts.{Due, sends, starts, stops}
+use Rattle.sq_model_state.specs.Answers.{name_in}
+use Rattle.sq_model_state.specs.Changes.{after_send_at, after_start_at, after_stop_of}
+use Rattle.sq_model_state.specs.Promises.{IsAnswered, StandsFor}
+use Rattle.sq_model_state.specs.States.{State}
 use Rattle.sq_engine.specs.EngineViews.{EngineView}
 
 -- an act of the live epochs, as one of the state
@@ -50,9 +50,12 @@ told_of_act s (act.Stop k) = told.Stop k
 told_of_act s (act.Send k q channel text) = told.Send k q channel text
 told_of_act s (act.Start e c) = told.Start e (name_in s (record { epoch = e; class = c }))
 
--- what is promised of an act: for every legal history that the state stood for, it is the machine's next answer, and the state that is
--- left stands for the history with it; where there is no act, the machine has none
+-- what is promised of an act: for every legal history that the state stood for, it is the machine's
+-- next answer, and the state that is left stands for the history with it; where there is no act,
+-- the machine has none
 abbrev pub IsActPromised : State → ℕ → Option Act → State → Type 0
-IsActPromised s now None new = (configs : List Configuration) (h : History) → StandsFor configs h s → latest h ≤ now → next configs (marked configs h) now event.Act ≡ nothing
+IsActPromised s now None new = (configs : List Configuration) (h : History) → StandsFor configs h s
+    → latest h ≤ now → next configs (marked configs h) now event.Act ≡ nothing
 IsActPromised s now (Some a) new =
-    (configs : List Configuration) (h : History) → StandsFor configs h s → latest h ≤ now → IsAnswered configs h now event.Act (told_of_act s a) new
+    (configs : List Configuration) (h : History) → StandsFor configs h s → latest h ≤ now
+    → IsAnswered configs h now event.Act (told_of_act s a) new

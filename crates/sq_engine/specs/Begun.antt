@@ -9,7 +9,8 @@ use Rattle.sq_rules.specs.declared.sights.Sight.{Sight}
 use Rattle.sq_checks.specs.OpenChecks.{CheckParts}
 use Rattle.sq_checks.specs.Tables.{value_at}
 
--- the configuration of a check, what it sees, with the HTTP version of its request, of which no history tells, and its pool
+-- the configuration of a check, what it sees, with the HTTP version of its request, of which no
+-- history tells, and its pool
 pub record Begun : Type 0 where
   pub config : Configuration
   pub sight : Sight
@@ -26,9 +27,13 @@ begun_at checks n = option_map begun_of (value_at checks n)
 abbrev pub AreKept : List (ℕ × CheckParts) → List (ℕ × CheckParts) → Type 0
 AreKept old new = (n : ℕ) (b : Begun) → begun_at new n ≡ Some b → begun_at old n ≡ Some b
 
--- check n began with this configuration and this very request, and has the pool of these; each other check has what it had
-pub record HasBegun (n : ℕ) (config : Configuration) (request : HttpRequest) (old new : List (ℕ × CheckParts)) : Type 0 where
+-- check n began with this configuration and this very request, and has the pool of these; each
+-- other check has what it had
+pub record HasBegun (n : ℕ) (config : Configuration) (request : HttpRequest)
+    (old new : List (ℕ × CheckParts)) : Type 0 where
   pub sight : Sight
   pub request_is : sight.request ≡ request
-  pub begun : begun_at new n ≡ Some (record { config = config; sight = sight; pool = pool_of config sight })
-  pub others : (m : ℕ) (b : Begun) → (m == n) ≡ false → begun_at new m ≡ Some b → begun_at old m ≡ Some b
+  pub begun : begun_at new n
+      ≡ Some (record { config = config; sight = sight; pool = pool_of config sight })
+  pub others : (m : ℕ) (b : Begun) → (m == n) ≡ false → begun_at new m ≡ Some b
+      → begun_at old m ≡ Some b

@@ -8,19 +8,19 @@ use Rattle.sq_machine.specs.declared.entries.Told.{Told}
 use Rattle.sq_machine.specs.declared.entries.Told.TheVariants as told
 use Rattle.sq_machine.specs.Channels.{Channels}
 use Rattle.sq_rules.specs.Classes.{Class}
-use Rattle.sq_machine.specs.DueActs.{Place}
+use Rattle.sq_machine.specs.DueActs.{ClassId}
 use Rattle.sq_machine.specs.OpenLookups.{key_of}
 use Rattle.sq_machine.specs.Questions.{what_of}
 use Rattle.sq_channel.specs.Gots.{got_in}
 use Rattle.sq_channel.specs.declared.replies.Got.{Got}
 use Rattle.sq_channel.specs.declared.replies.Got.TheVariants as got
-use Rattle.sq_rows.specs.ClassRows.{ClassRow}
+use Rattle.sq_model_rows.specs.ClassRows.{ClassRow}
 use Rattle.sq_checks.specs.OpenChecks.{CheckParts, change_at, ended_by}
 use Rattle.sq_engine.specs.declared.lines.Share.{Share}
-use Rattle.sq_state.specs.Answers.{channels_in}
-use Rattle.sq_state.specs.Changes.{after_end_at, after_reply_at}
-use Rattle.sq_state.specs.Says.{class_in}
-use Rattle.sq_state.specs.States.{IsSame, State}
+use Rattle.sq_model_state.specs.Answers.{channels_in}
+use Rattle.sq_model_state.specs.Changes.{after_end_at, after_reply_at}
+use Rattle.sq_model_state.specs.Says.{class_in}
+use Rattle.sq_model_state.specs.States.{IsSame, State}
 
 -- a line, as it is told
 abbrev pub got_told : Got → Told
@@ -34,13 +34,13 @@ IsRead s k line g = (c : Channels) → channels_in s k ≡ Some c → got_in c l
 
 -- process k ended by a line, by this cause
 pub record IsEndedBy (s : State) (k : ℕ) (by : Cause) (now : ℕ) (t : State) : Type 0 where
-  pub place : Place
+  pub place : ClassId
   pub home_is : s.home k ≡ Some place
   pub same : IsSame t (after_end_at place k by true now s)
 
 -- process k replied to question q
 pub record IsReplied (s : State) (k q : ℕ) (reply : Reply) (now : ℕ) (t : State) : Type 0 where
-  pub place : Place
+  pub place : ClassId
   pub class : Class
   pub row : ClassRow
   pub key : List ℕ
@@ -63,4 +63,5 @@ share_of w n = record { check = n; what = w }
 -- the checks after each was given its copy, the last one first
 abbrev pub all_given : ℕ → ℕ → List Share → List (ℕ × CheckParts) → List (ℕ × CheckParts)
 all_given q now [] checks = checks
-all_given q now (x ∷ xs) checks = change_at x.check (ended_by q x.what now) (all_given q now xs checks)
+all_given q now (x ∷ xs) checks = change_at x.check (ended_by q x.what now)
+    (all_given q now xs checks)

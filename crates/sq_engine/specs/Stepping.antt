@@ -13,13 +13,13 @@ use Rattle.sq_machine.specs.Machine.{step_next}
 use Rattle.sq_machine.specs.Next.{Next, refuses}
 use Rattle.sq_machine.specs.StepRule.{StepSays}
 use Rattle.sq_rules.specs.Verdicts.{verdict_over}
-use Rattle.sq_rows.specs.CheckRows.{Held, held_at}
-use Rattle.sq_rows.specs.declared.said.Stepped.{Stepped}
-use Rattle.sq_rows.specs.declared.said.Stepped.TheVariants as stepped
-use Rattle.sq_state.specs.Answers.{name_in}
-use Rattle.sq_state.specs.Changes.{after_step_of}
-use Rattle.sq_state.specs.Says.{says_in}
-use Rattle.sq_state.specs.States.{State}
+use Rattle.sq_model_rows.specs.CheckRows.{Held, held_at}
+use Rattle.sq_model_rows.specs.declared.stepping.Stepped.{Stepped}
+use Rattle.sq_model_rows.specs.declared.stepping.Stepped.TheVariants as stepped
+use Rattle.sq_model_state.specs.Answers.{name_in}
+use Rattle.sq_model_state.specs.Changes.{after_step_of}
+use Rattle.sq_model_state.specs.Says.{says_in}
+use Rattle.sq_model_state.specs.States.{State}
 
 -- the check waits for this question
 abbrev pub says_waits : ℕ → StepSays
@@ -29,7 +29,8 @@ abbrev pub says_of_wait : Option ℕ → StepSays → StepSays
 says_of_wait None s = s
 says_of_wait (Some q) s = says_waits q
 
--- what a step of an open check says at a moment: a check that waits waits on. Of a legal history it is the rule of a step
+-- what a step of an open check says at a moment: a check that waits waits on. Of a legal history it
+-- is the rule of a step
 abbrev pub says_now : State → ℕ → Held → StepSays
 says_now s now h = says_of_wait h.waits (says_in s now h)
 
@@ -59,7 +60,8 @@ after_step_held s n now (Some h) = after_step_of n h.asked.epoch (says_now s now
 abbrev pub after_step_now : State → ℕ → ℕ → State
 after_step_now s n now = after_step_held s n now (held_at n s.checks)
 
--- over some answers and what some check sees, the rules of a configuration need an answer of this acl
+-- over some answers and what some check sees, the rules of a configuration need an answer of this
+-- acl
 pub record NeedsAcl (config : Configuration) (acl : ℕ) : Type 0 where
   pub answers : List Answer
   pub sight : Sight

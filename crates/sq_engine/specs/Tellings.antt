@@ -5,7 +5,8 @@ use Rattle.sq_machine.specs.declared.refusals.Refusal.{Refusal}
 use Rattle.sq_machine.specs.declared.refusals.Refusal.TheVariants as refusal
 use Rattle.sq_machine.specs.Next.{Next, gives, refuses}
 
--- a call answers what the machine gives, as it is told, or refuses as the machine does; where memory is wanting, nothing is said
+-- a call answers what the machine gives, as it is told, or refuses as the machine does; where
+-- memory is wanting, nothing is said
 abbrev pub IsTold : {A : Type 0} → (A → Told) → Next → Result A Refusal → Type 0
 IsTold told next (Ok a) = next ≡ gives (told a)
 IsTold told next (Err refusal.WantOfMemory) = Unit {0}

@@ -1,8 +1,8 @@
 //! What is to be done next.
 ghost use Rattle.std.specs.Prelude.{◌≡◌, max, IfNone, IfOk, IfSome};
 ghost use Rattle.std.specs.Option.{option_map};
-ghost use Rattle.sq_state.specs.Acts.{due_in};
-ghost use Rattle.sq_state.specs.States.{IsSame};
+ghost use Rattle.sq_model_state.specs.Acts.{due_in};
+ghost use Rattle.sq_model_state.specs.States.{IsSame};
 ghost use Rattle.sq_engine.specs.Acting.{IsActPromised, act_told, after_act, due_now};
 ghost use Rattle.sq_engine.specs.EngineViews.{state_of};
 
@@ -18,10 +18,13 @@ impl Engine {
     pub fn act(&mut self, now: Moment) -> Option<Act>
         ensures act { result ≡ option_map act_told (due_now self.old) }
         ensures state { due_now self.old ≡ due_in (state_of self.old) }
-        ensures some { IfSome result (λ a. IsSame (state_of self.new) (after_act (due_now self.old) (max now self.old.latest) (state_of self.old))) }
+        ensures some { IfSome result
+            (λ a. IsSame (state_of self.new)
+            (after_act (due_now self.old) (max now self.old.latest) (state_of self.old))) }
         ensures none { IfNone result (self.new ≡ self.old) }
         ensures checks { self.new.checks ≡ self.old.checks }
-        ensures promised { IsActPromised (state_of self.old) (max now self.old.latest) result (state_of self.new) }
+        ensures promised { IsActPromised (state_of self.old) (max now self.old.latest) result
+            (state_of self.new) }
     {
         // For the proof: what holds of live epochs.
         self.epochs.facts();

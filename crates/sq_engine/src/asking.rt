@@ -5,9 +5,9 @@ ghost use Rattle.sq_base.specs.declared.requests.Field.{Field};
 ghost use Rattle.sq_rules.specs.Sights.{asked_request, unversioned};
 ghost use Rattle.sq_machine.specs.declared.entries.Event.TheVariants as event;
 ghost use Rattle.sq_machine.specs.declared.entries.Told.TheVariants as told;
-ghost use Rattle.sq_state.specs.Answers.{ask_answer, asked_in};
-ghost use Rattle.sq_state.specs.Changes.{after_ask};
-ghost use Rattle.sq_state.specs.States.{IsSame};
+ghost use Rattle.sq_model_state.specs.Answers.{ask_answer, asked_in};
+ghost use Rattle.sq_model_state.specs.Changes.{after_ask};
+ghost use Rattle.sq_model_state.specs.States.{IsSame};
 ghost use Rattle.sq_engine.specs.Begun.{HasBegun};
 ghost use Rattle.sq_engine.specs.EngineViews.{state_of};
 ghost use Rattle.sq_engine.specs.Promised.{IsPromised};
@@ -16,8 +16,8 @@ ghost use Rattle.sq_engine.specs.Tellings.{IsTold};
 use crate::engines::Engine;
 use sq_base::{CheckNo, ConnNo, Moment, Request, WantOfMemory};
 use sq_machine::{LAST_NUMBER, Refusal, later};
+use sq_model_state::minute_of_week;
 use sq_rules::Sight;
-use sq_state::minute_of_week;
 use std::alloc::Global;
 
 impl Engine {
@@ -30,10 +30,15 @@ impl Engine {
         now: Moment,
     ) -> Result<CheckNo, Refusal>
         ensures told { IsTold (λ n. told.Check n) (ask_answer (state_of self.old) conn) result }
-        ensures ok { OnOk result ((method target : List ℕ) (fields : List Field) → unversioned request ≡ asked_request method target fields
-            → IsSame (state_of self.new) (after_ask (asked_in (state_of self.old) (max now self.old.latest) conn method target fields) (max now self.old.latest) (state_of self.old))) }
+        ensures ok { OnOk result
+            ((method target : List ℕ) (fields : List Field)
+            → unversioned request ≡ asked_request method target fields
+            → IsSame (state_of self.new)
+            (after_ask (asked_in (state_of self.old) (max now self.old.latest) conn method target
+            fields) (max now self.old.latest) (state_of self.old))) }
         ensures err { OnErr result (self.new ≡ self.old) }
-        ensures begun { IfOk result (λ n. HasBegun n self.old.setup request self.old.checks self.new.checks) }
+        ensures begun { IfOk result
+            (λ n. HasBegun n self.old.setup request self.old.checks self.new.checks) }
     {
         let Some(peer) = self.conns.peer(conn) else {
             return Err(Refusal::UnknownConn(conn));
@@ -81,12 +86,20 @@ impl Engine {
         now: Moment,
     ) -> Result<CheckNo, Refusal>
         ensures told { IsTold (λ n. told.Check n) (ask_answer (state_of self.old) conn) result }
-        ensures ok { OnOk result ((method target : List ℕ) (fields : List Field) → unversioned request ≡ asked_request method target fields
-            → IsSame (state_of self.new) (after_ask (asked_in (state_of self.old) (max now self.old.latest) conn method target fields) (max now self.old.latest) (state_of self.old))) }
+        ensures ok { OnOk result
+            ((method target : List ℕ) (fields : List Field)
+            → unversioned request ≡ asked_request method target fields
+            → IsSame (state_of self.new)
+            (after_ask (asked_in (state_of self.old) (max now self.old.latest) conn method target
+            fields) (max now self.old.latest) (state_of self.old))) }
         ensures err { OnErr result (self.new ≡ self.old) }
-        ensures begun { IfOk result (λ n. HasBegun n self.old.setup request self.old.checks self.new.checks) }
-        ensures promised { (method target : List ℕ) (fields : List Field) → unversioned request ≡ asked_request method target fields → is_some (target_of method target) ≡ true
-            → IsPromised (λ n. told.Check n) (state_of self.old) (max now self.old.latest) (event.Ask conn method target fields) result (state_of self.new) }
+        ensures begun { IfOk result
+            (λ n. HasBegun n self.old.setup request self.old.checks self.new.checks) }
+        ensures promised { (method target : List ℕ) (fields : List Field)
+            → unversioned request ≡ asked_request method target fields
+            → is_some (target_of method target) ≡ true
+            → IsPromised (λ n. told.Check n) (state_of self.old) (max now self.old.latest)
+            (event.Ask conn method target fields) result (state_of self.new) }
     {
         self.ask_on(alloc, conn, request, now)
     }

@@ -1,13 +1,13 @@
 //! Processes end.
 ghost use Rattle.std.specs.Prelude.{◌≡◌, max, true, false, is_some, Some, OnOk, OnErr};
 ghost use Rattle.sq_base.specs.declared.helpers.Cause.TheVariants as cause;
-ghost use Rattle.sq_machine.specs.DueActs.{Place};
+ghost use Rattle.sq_machine.specs.DueActs.{ClassId};
 ghost use Rattle.sq_machine.specs.declared.entries.Event.TheVariants as event;
 ghost use Rattle.sq_machine.specs.declared.entries.Told.TheVariants as told;
 ghost use Rattle.sq_epochs.specs.EpochStates.{home_at};
-ghost use Rattle.sq_state.specs.Answers.{died_answer};
-ghost use Rattle.sq_state.specs.Changes.{after_end_at};
-ghost use Rattle.sq_state.specs.States.{IsSame};
+ghost use Rattle.sq_model_state.specs.Answers.{died_answer};
+ghost use Rattle.sq_model_state.specs.Changes.{after_end_at};
+ghost use Rattle.sq_model_state.specs.States.{IsSame};
 ghost use Rattle.sq_engine.specs.Begun.{AreKept};
 ghost use Rattle.sq_engine.specs.EngineViews.{state_of};
 ghost use Rattle.sq_engine.specs.Promised.{IsPromised};
@@ -30,7 +30,9 @@ impl Engine {
         moment: Moment,
     )
         requires { home_at self.old.epochs proc ≡ Some (record { epoch = epoch; class = class }) }
-        ensures same { IsSame (state_of self.new) (after_end_at (record { epoch = epoch; class = class }) proc cause by_line moment (state_of self.old)) }
+        ensures same { IsSame (state_of self.new)
+            (after_end_at (record { epoch = epoch; class = class }) proc cause by_line moment
+            (state_of self.old)) }
         ensures kept { AreKept self.old.checks self.new.checks }
     {
         self.epochs.end(proc, cause, by_line);
@@ -41,10 +43,14 @@ impl Engine {
     /// A process died. It takes no memory.
     pub fn died(&mut self, proc: ProcNo, now: Moment) -> Result<(), Refusal>
         ensures told { IsAlwaysTold (λ _. told.Fine) (died_answer (state_of self.old) proc) result }
-        ensures ok { OnOk result ((p : Place) → home_at self.old.epochs proc ≡ Some p → IsSame (state_of self.new) (after_end_at p proc cause.Died false (max now self.old.latest) (state_of self.old))) }
+        ensures ok { OnOk result
+            ((p : ClassId) → home_at self.old.epochs proc ≡ Some p
+            → IsSame (state_of self.new)
+            (after_end_at p proc cause.Died false (max now self.old.latest) (state_of self.old))) }
         ensures err { OnErr result (self.new ≡ self.old) }
         ensures kept { AreKept self.old.checks self.new.checks }
-        ensures promised { IsPromised (λ _. told.Fine) (state_of self.old) (max now self.old.latest) (event.Died proc) result (state_of self.new) }
+        ensures promised { IsPromised (λ _. told.Fine) (state_of self.old) (max now self.old.latest)
+            (event.Died proc) result (state_of self.new) }
     {
         let Some(home) = self.epochs.home(proc) else {
             return Err(Refusal::UnknownProc(proc));

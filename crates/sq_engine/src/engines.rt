@@ -1,7 +1,7 @@
 //! `Engine`: the parts of the machine.
 ghost use Rattle.std.specs.Prelude.{◌≡◌, ◌<◌, ◌^◌, suc, max, IfOk};
-ghost use Rattle.sq_state.specs.Changes.{first_state};
-ghost use Rattle.sq_state.specs.States.{IsSame};
+ghost use Rattle.sq_model_state.specs.Changes.{first_state};
+ghost use Rattle.sq_model_state.specs.States.{IsSame};
 ghost use Rattle.sq_engine.specs.EngineViews.{state_of};
 ghost use Rattle.sq_engine.specs.Promised.{IsBegun};
 
@@ -53,9 +53,28 @@ impl Model for Engine {
 
     ghost Value = { EngineView };
 
-    ghost view = { λ g. record { conns = g.conns; checks = g.checks; asks = g.asks; puts = g.puts; epochs = g.epochs; setup = g.setup; offset = g.offset; latest = g.latest } };
+    ghost view = { λ g. record {
+      conns = g.conns;
+      checks = g.checks;
+      asks = g.asks;
+      puts = g.puts;
+      epochs = g.epochs;
+      setup = g.setup;
+      offset = g.offset;
+      latest = g.latest;
+    } };
 
-    ghost invariant = { λ g. IsEngine (record { conns = g.conns; checks = g.checks; asks = g.asks; puts = g.puts; epochs = g.epochs; setup = g.setup; offset = g.offset; latest = g.latest }) };
+    ghost invariant = { λ g. IsEngine
+        (record {
+          conns = g.conns;
+          checks = g.checks;
+          asks = g.asks;
+          puts = g.puts;
+          epochs = g.epochs;
+          setup = g.setup;
+          offset = g.offset;
+          latest = g.latest;
+        }) };
 }
 
 impl Engine {

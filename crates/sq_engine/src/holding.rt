@@ -1,7 +1,7 @@
 //! What can be read of open checks.
 ghost use Rattle.std.specs.Prelude.{◌≡◌};
 ghost use Rattle.std.specs.Option.{option_map};
-ghost use Rattle.sq_rows.specs.CheckRows.{held_at};
+ghost use Rattle.sq_model_rows.specs.CheckRows.{held_at};
 ghost use Rattle.sq_engine.specs.EngineViews.{state_of};
 ghost use Rattle.sq_engine.specs.Engines.{IsEngine};
 
@@ -11,7 +11,8 @@ use sq_base::{CheckNo, ConnNo};
 impl Engine {
     /// The connection of an open check. It takes no memory.
     pub fn conn_of(&self, check: CheckNo) -> Option<ConnNo>
-        ensures { result ≡ option_map (λ h. h.asked.conn) (held_at check (state_of self.now).checks) }
+        ensures { result ≡ option_map (λ h. h.asked.conn)
+            (held_at check (state_of self.now).checks) }
     {
         match self.checks.get(check) {
             Some(open) => Some(open.conn()),

@@ -1,12 +1,12 @@
 //! Lines of processes.
 ghost use Rattle.std.specs.Prelude.{◌≡◌, max, map, true, is_some, Some, IfOk, OnOk, OnErr};
-ghost use Rattle.sq_part.specs.Parts.{PartState};
+ghost use Rattle.sq_class.specs.Parts.{PartState};
 ghost use Rattle.sq_machine.specs.Channels.{is_open};
 ghost use Rattle.sq_machine.specs.Living.{slots_in};
 ghost use Rattle.sq_machine.specs.declared.entries.Event.TheVariants as event;
 ghost use Rattle.sq_epochs.specs.EpochStates.{home_at, part_at};
-ghost use Rattle.sq_state.specs.Answers.{line_answer};
-ghost use Rattle.sq_state.specs.States.{IsSame};
+ghost use Rattle.sq_model_state.specs.Answers.{line_answer};
+ghost use Rattle.sq_model_state.specs.States.{IsSame};
 ghost use Rattle.sq_engine.specs.Begun.{AreKept};
 ghost use Rattle.sq_engine.specs.EngineViews.{state_of};
 ghost use Rattle.sq_engine.specs.Lines.{IsLineDone, IsRead, IsReplied, all_given, got_told, share_of};
@@ -19,9 +19,9 @@ use sq_base::{
 };
 use sq_checks::OpenChecks;
 use sq_farm::Got;
-use sq_history::what_of;
 use sq_lookup::Checks;
 use sq_machine::{Refusal, later};
+use sq_model_laws::what_of;
 use std::alloc::Global;
 
 // A check's copy of what the question ended with that it waits for.
@@ -68,9 +68,12 @@ impl Engine {
         moment: Moment,
     ) -> Result<(), WantOfMemory>
         requires there { is_some (part_at self.old.epochs epoch class) ≡ true }
-        requires home { home_at self.old.epochs proc ≡ Some (record { epoch = epoch; class = class }) }
-        requires opened { (p : PartState) → part_at self.old.epochs epoch class ≡ Some p → is_open question (slots_in proc p.row.stock.procs) ≡ true }
-        ensures ok { OnOk result (IsReplied (state_of self.old) proc question reply.now moment (state_of self.new)) }
+        requires home { home_at self.old.epochs proc
+            ≡ Some (record { epoch = epoch; class = class }) }
+        requires opened { (p : PartState) → part_at self.old.epochs epoch class ≡ Some p
+            → is_open question (slots_in proc p.row.stock.procs) ≡ true }
+        ensures ok { OnOk result
+            (IsReplied (state_of self.old) proc question reply.now moment (state_of self.new)) }
         ensures err { OnErr result (IsSame (state_of self.new) (state_of self.old)) }
         ensures kept { AreKept self.old.checks self.new.checks }
     {
@@ -100,10 +103,13 @@ impl Engine {
     ) -> Result<Got, Refusal>
         ensures told { IsTold got_told (line_answer (state_of self.old) proc bytes.now) result }
         ensures read { IfOk result (λ g. IsRead (state_of self.old) proc bytes.now g) }
-        ensures ok { IfOk result (λ g. IsLineDone (state_of self.old) proc g (max now self.old.latest) (state_of self.new)) }
+        ensures ok { IfOk result
+            (λ g. IsLineDone (state_of self.old) proc g (max now self.old.latest)
+            (state_of self.new)) }
         ensures err { OnErr result (IsSame (state_of self.new) (state_of self.old)) }
         ensures kept { AreKept self.old.checks self.new.checks }
-        ensures promised { IsPromised got_told (state_of self.old) (max now self.old.latest) (event.Line proc bytes.now) result (state_of self.new) }
+        ensures promised { IsPromised got_told (state_of self.old) (max now self.old.latest)
+            (event.Line proc bytes.now) result (state_of self.new) }
     {
         // For the proof: a process lives where its home is.
         self.epochs.facts();

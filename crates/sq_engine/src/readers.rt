@@ -3,8 +3,8 @@ ghost use Rattle.std.specs.Prelude.{◌≡◌, ◌+◌, length};
 ghost use Rattle.std.specs.Arc.{arc_value};
 ghost use Rattle.std.specs.Option.{option_map};
 ghost use Rattle.sq_machine.specs.declared.entries.Told.TheVariants as told;
-ghost use Rattle.sq_state.specs.Answers.{take_answer};
-ghost use Rattle.sq_state.specs.Says.{class_in};
+ghost use Rattle.sq_model_state.specs.Answers.{take_answer};
+ghost use Rattle.sq_model_state.specs.Says.{class_in};
 ghost use Rattle.sq_engine.specs.EngineViews.{state_of};
 ghost use Rattle.sq_engine.specs.Stepping.{epoch_of};
 ghost use Rattle.sq_engine.specs.Tellings.{IsAlwaysTold};
@@ -53,7 +53,8 @@ impl Engine {
 
     /// The name of a class of a live epoch, lent.
     pub fn name(&self, epoch: EpochNo, class: u32) -> Option<&Text>
-        ensures { option_map (λ t. t.now) result ≡ option_map (λ c. c.name) (class_in (state_of self.now) epoch class) }
+        ensures { option_map (λ t. t.now) result
+            ≡ option_map (λ c. c.name) (class_in (state_of self.now) epoch class) }
     {
         let class = self.class(epoch, class)?;
         Some(&class.name)
@@ -61,7 +62,8 @@ impl Engine {
 
     /// The words of the program of a class of a live epoch, lent.
     pub fn words(&self, epoch: EpochNo, class: u32) -> Option<&Texts>
-        ensures { option_map (λ t. t.now) result ≡ option_map (λ c. c.words) (class_in (state_of self.now) epoch class) }
+        ensures { option_map (λ t. t.now) result
+            ≡ option_map (λ c. c.words) (class_in (state_of self.now) epoch class) }
     {
         let class = self.class(epoch, class)?;
         Some(&class.words)
@@ -69,7 +71,8 @@ impl Engine {
 
     /// The outcome of a check that `take` would give, lent. It is refused as `take` is.
     pub fn outcome(&self, check: CheckNo) -> Result<&Outcome, Refusal>
-        ensures { IsAlwaysTold (λ o. told.Judged (epoch_of (state_of self.now) check) o.now) (take_answer (state_of self.now) check) result }
+        ensures { IsAlwaysTold (λ o. told.Judged (epoch_of (state_of self.now) check) o.now)
+            (take_answer (state_of self.now) check) result }
     {
         let Some(open) = self.checks.get(check) else {
             return Err(Refusal::UnknownCheck(check));

@@ -1,9 +1,9 @@
 //! Another configuration.
 ghost use Rattle.std.specs.Prelude.{◌≡◌, max, OnOk, OnErr};
 ghost use Rattle.sq_machine.specs.declared.entries.Told.TheVariants as told;
-ghost use Rattle.sq_state.specs.Answers.{reconfigure_answer};
-ghost use Rattle.sq_state.specs.Changes.{after_reconfigured};
-ghost use Rattle.sq_state.specs.States.{IsSame};
+ghost use Rattle.sq_model_state.specs.Answers.{reconfigure_answer};
+ghost use Rattle.sq_model_state.specs.Changes.{after_reconfigured};
+ghost use Rattle.sq_model_state.specs.States.{IsSame};
 ghost use Rattle.sq_engine.specs.EngineViews.{state_of};
 ghost use Rattle.sq_engine.specs.Promised.{IsPromisedNext};
 ghost use Rattle.sq_engine.specs.Tellings.{IsTold};
@@ -25,10 +25,13 @@ impl Engine {
         now: Moment,
     ) -> Result<EpochNo, Refusal>
         ensures told { IsTold (λ n. told.Epoch n) (reconfigure_answer (state_of self.old)) result }
-        ensures ok { OnOk result (IsSame (state_of self.new) (after_reconfigured setup (max now self.old.latest) (state_of self.old))) }
+        ensures ok { OnOk result
+            (IsSame (state_of self.new)
+            (after_reconfigured setup (max now self.old.latest) (state_of self.old))) }
         ensures err { OnErr result (self.new ≡ self.old) }
         ensures checks { self.new.checks ≡ self.old.checks }
-        ensures promised { IsPromisedNext (λ n. told.Epoch n) (state_of self.old) (max now self.old.latest) setup result (state_of self.new) }
+        ensures promised { IsPromisedNext (λ n. told.Epoch n) (state_of self.old)
+            (max now self.old.latest) setup result (state_of self.new) }
     {
         // For the proof: what holds of epochs and homes.
         self.epochs.facts();

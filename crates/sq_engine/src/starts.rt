@@ -5,9 +5,9 @@ ghost use Rattle.sq_machine.specs.declared.entries.Told.TheVariants as told;
 ghost use Rattle.sq_epochs.specs.EpochChanges.{HasFailed};
 ghost use Rattle.sq_epochs.specs.EpochProcs.{has_start};
 ghost use Rattle.sq_epochs.specs.EpochStates.{IsChanged};
-ghost use Rattle.sq_state.specs.Answers.{failed_answer, started_answer};
-ghost use Rattle.sq_state.specs.Changes.{after_failed_at, after_started_at};
-ghost use Rattle.sq_state.specs.States.{IsSame};
+ghost use Rattle.sq_model_state.specs.Answers.{failed_answer, started_answer};
+ghost use Rattle.sq_model_state.specs.Changes.{after_failed_at, after_started_at};
+ghost use Rattle.sq_model_state.specs.States.{IsSame};
 ghost use Rattle.sq_engine.specs.Begun.{AreKept};
 ghost use Rattle.sq_engine.specs.EngineViews.{state_of};
 ghost use Rattle.sq_engine.specs.Promised.{IsPromisedAt};
@@ -41,11 +41,16 @@ impl Engine {
         class: u32,
         now: Moment,
     ) -> Result<ProcNo, Refusal>
-        ensures told { IsTold told.Proc (started_answer (state_of self.old) (record { epoch = epoch; class = class })) result }
-        ensures ok { OnOk result (IsSame (state_of self.new) (after_started_at (record { epoch = epoch; class = class }) (max now self.old.latest) (state_of self.old))) }
+        ensures told { IsTold told.Proc
+            (started_answer (state_of self.old) (record { epoch = epoch; class = class })) result }
+        ensures ok { OnOk result
+            (IsSame (state_of self.new)
+            (after_started_at (record { epoch = epoch; class = class }) (max now self.old.latest)
+            (state_of self.old))) }
         ensures err { OnErr result (self.new ≡ self.old) }
         ensures checks { self.new.checks ≡ self.old.checks }
-        ensures promised { IsPromisedAt told.Proc (state_of self.old) (max now self.old.latest) event.Started (record { epoch = epoch; class = class }) result (state_of self.new) }
+        ensures promised { IsPromisedAt told.Proc (state_of self.old) (max now self.old.latest)
+            event.Started (record { epoch = epoch; class = class }) result (state_of self.new) }
     {
         // For the proof: what holds of homes.
         self.epochs.facts();
@@ -61,11 +66,17 @@ impl Engine {
 
     /// A start of a class failed. It takes no memory.
     pub fn start_failed(&mut self, epoch: EpochNo, class: u32, now: Moment) -> Result<(), Refusal>
-        ensures told { IsAlwaysTold (λ _. told.Fine) (failed_answer (state_of self.old) (record { epoch = epoch; class = class })) result }
-        ensures ok { OnOk result (IsSame (state_of self.new) (after_failed_at (record { epoch = epoch; class = class }) (max now self.old.latest) (state_of self.old))) }
+        ensures told { IsAlwaysTold (λ _. told.Fine)
+            (failed_answer (state_of self.old) (record { epoch = epoch; class = class })) result }
+        ensures ok { OnOk result
+            (IsSame (state_of self.new)
+            (after_failed_at (record { epoch = epoch; class = class }) (max now self.old.latest)
+            (state_of self.old))) }
         ensures err { OnErr result (self.new ≡ self.old) }
         ensures kept { AreKept self.old.checks self.new.checks }
-        ensures promised { IsPromisedAt (λ _. told.Fine) (state_of self.old) (max now self.old.latest) event.StartFail (record { epoch = epoch; class = class }) result (state_of self.new) }
+        ensures promised { IsPromisedAt (λ _. told.Fine) (state_of self.old)
+            (max now self.old.latest) event.StartFail (record { epoch = epoch; class = class })
+            result (state_of self.new) }
     {
         if !self.epochs.has_start(epoch, class) {
             return Err(Refusal::NoStartOpen(epoch, class));

@@ -5,14 +5,14 @@ ghost use Rattle.sq_machine.specs.Machine.{step_next};
 ghost use Rattle.sq_machine.specs.declared.entries.Event.TheVariants as event;
 ghost use Rattle.sq_machine.specs.StepRule.{class_of_acl, says_done};
 ghost use Rattle.sq_rules.specs.declared.values.Value.TheVariants as value;
-ghost use Rattle.sq_rows.specs.CheckRows.{after_step};
+ghost use Rattle.sq_model_rows.specs.CheckRows.{after_step};
 ghost use Rattle.sq_checks.specs.OpenChecks.{HasCome, change_at, comes_to, looked, rows_of, settled};
 ghost use Rattle.sq_checks.specs.Stages.{is_idle, is_settled, need_in};
 ghost use Rattle.sq_checks.specs.Tables.{value_at};
 ghost use Rattle.sq_epochs.specs.EpochStates.{part_at};
-ghost use Rattle.sq_state.specs.Changes.{after_step_of};
-ghost use Rattle.sq_state.specs.Says.{says_place_in};
-ghost use Rattle.sq_state.specs.States.{IsSame};
+ghost use Rattle.sq_model_state.specs.Changes.{after_step_of};
+ghost use Rattle.sq_model_state.specs.Says.{says_place_in};
+ghost use Rattle.sq_model_state.specs.States.{IsSame};
 ghost use Rattle.sq_engine.specs.Begun.{AreKept};
 ghost use Rattle.sq_engine.specs.EngineViews.{state_of};
 ghost use Rattle.sq_engine.specs.Promised.{IsPromised};
@@ -22,9 +22,9 @@ ghost use Rattle.sq_engine.specs.Tellings.{IsTold};
 use crate::engines::Engine;
 use sq_base::{CheckNo, Copying, EpochNo, Moment, QuestionNo, Text, WantOfMemory};
 use sq_checks::class_of;
+use sq_class::ResolveFault;
 use sq_machine::{Refusal, later};
-use sq_part::ResolveFault;
-use sq_rows::{Said, Stepped};
+use sq_model_rows::{StepEffect, Stepped};
 use sq_rules::{Config, Outcome, Value};
 use std::alloc::Global;
 
@@ -60,13 +60,17 @@ impl Engine {
         moment: Moment,
     )
         requires there { is_some (value_at self.old.checks check) ≡ true }
-        requires waits { IfSome (value_at self.old.checks check) (λ k. need_in k.stage ≡ Some (record { question = question; class = class; key = key })) }
-        requires other { IfSome (value_at self.old.checks check) (λ k. has_answer k.answers class key ≡ false) }
+        requires waits { IfSome (value_at self.old.checks check)
+            (λ k. need_in k.stage ≡ Some
+            (record { question = question; class = class; key = key })) }
+        requires other { IfSome (value_at self.old.checks check)
+            (λ k. has_answer k.answers class key ≡ false) }
         ensures value { self.new ≡ record self.old { checks = self.new.checks; latest = moment } }
-        ensures rows { rows_of self.new.checks ≡ after_step check (says_waits question) (rows_of self.old.checks) }
+        ensures rows { rows_of self.new.checks
+            ≡ after_step check (says_waits question) (rows_of self.old.checks) }
         ensures kept { AreKept self.old.checks self.new.checks }
     {
-        let said = Said {
+        let said = StepEffect {
             stepped: Stepped::Waits(question),
             took: None,
             put: false,
@@ -88,11 +92,14 @@ impl Engine {
     // A step of a check that has come to this verdict.
     fn decide(&mut self, check: CheckNo, outcome: Outcome, moment: Moment)
         requires there { is_some (value_at self.old.checks check) ≡ true }
-        requires settled { IfSome (value_at self.old.checks check) (λ k. is_settled k.stage ≡ true) }
+        requires settled { IfSome (value_at self.old.checks check)
+            (λ k. is_settled k.stage ≡ true) }
         requires idle { IfSome (value_at self.old.checks check) (λ k. need_in k.stage ≡ None) }
-        requires verdict { IfSome (value_at self.old.checks check) (λ k. comes_to k ≡ value.Verdict outcome) }
+        requires verdict { IfSome (value_at self.old.checks check)
+            (λ k. comes_to k ≡ value.Verdict outcome) }
         ensures value { self.new ≡ record self.old { checks = self.new.checks; latest = moment } }
-        ensures rows { rows_of self.new.checks ≡ after_step check says_done (rows_of self.old.checks) }
+        ensures rows { rows_of self.new.checks
+            ≡ after_step check says_done (rows_of self.old.checks) }
         ensures kept { AreKept self.old.checks self.new.checks }
     {
         self.checks.finish(check, outcome);
@@ -113,10 +120,18 @@ impl Engine {
         requires part { is_some (part_at self.old.epochs epoch class) ≡ true }
         requires of_epoch { IfSome (value_at self.old.checks check) (λ k. k.epoch ≡ epoch) }
         requires idle { IfSome (value_at self.old.checks check) (λ k. is_idle k.stage ≡ true) }
-        requires needs_none { IfSome (value_at self.old.checks check) (λ k. need_in k.stage ≡ None) }
-        requires other { IfSome (value_at self.old.checks check) (λ k. has_answer k.answers class key ≡ false) }
-        ensures told { IsTold (stepped_told (state_of self.old) epoch) (step_next self.old.puts (says_place_in (state_of self.old) moment epoch key (Some class))) result }
-        ensures ok { OnOk result (IsSame (state_of self.new) (after_step_of check epoch (says_place_in (state_of self.old) moment epoch key (Some class)) moment (state_of self.old))) }
+        requires needs_none { IfSome (value_at self.old.checks check)
+            (λ k. need_in k.stage ≡ None) }
+        requires other { IfSome (value_at self.old.checks check)
+            (λ k. has_answer k.answers class key ≡ false) }
+        ensures told { IsTold (stepped_told (state_of self.old) epoch)
+            (step_next self.old.puts
+            (says_place_in (state_of self.old) moment epoch key (Some class))) result }
+        ensures ok { OnOk result
+            (IsSame (state_of self.new)
+            (after_step_of check epoch
+            (says_place_in (state_of self.old) moment epoch key (Some class)) moment
+            (state_of self.old))) }
         ensures err { OnErr result (IsSame (state_of self.new) (state_of self.old)) }
         ensures kept { AreKept self.old.checks self.new.checks }
     {
@@ -138,11 +153,14 @@ impl Engine {
     // What a check comes to over its answers, from the place in its rules on to which it came before.
     fn come_to(&mut self, alloc: Global, check: CheckNo) -> Result<Value, WantOfMemory>
         requires there { is_some (value_at self.old.checks check) ≡ true }
-        requires settled { IfSome (value_at self.old.checks check) (λ k. is_settled k.stage ≡ true) }
+        requires settled { IfSome (value_at self.old.checks check)
+            (λ k. is_settled k.stage ≡ true) }
         ensures value { self.new ≡ record self.old { checks = self.new.checks } }
-        ensures list { (looks : ℕ) × (self.new.checks ≡ change_at check (looked looks) self.old.checks) }
+        ensures list { (looks : ℕ)
+            × (self.new.checks ≡ change_at check (looked looks) self.old.checks) }
         ensures rows { rows_of self.new.checks ≡ rows_of self.old.checks }
-        ensures come { IfOk result (λ v. IfSome (value_at self.new.checks check) (λ k. HasCome k v)) }
+        ensures come { IfOk result
+            (λ v. IfSome (value_at self.new.checks check) (λ k. HasCome k v)) }
         ensures kept { AreKept self.old.checks self.new.checks }
     {
         self.checks.come_to(alloc, check)
@@ -157,11 +175,15 @@ impl Engine {
         moment: Moment,
     ) -> Result<Stepped, Refusal>
         requires there { is_some (value_at self.old.checks check) ≡ true }
-        requires settled { IfSome (value_at self.old.checks check) (λ k. is_settled k.stage ≡ true) }
+        requires settled { IfSome (value_at self.old.checks check)
+            (λ k. is_settled k.stage ≡ true) }
         requires idle { IfSome (value_at self.old.checks check) (λ k. need_in k.stage ≡ None) }
         requires come { IfSome (value_at self.old.checks check) (λ k. HasCome k value) }
-        ensures told { IsTold (stepped_told (state_of self.old) (epoch_of (state_of self.old) check)) (step_now (state_of self.old) check moment) result }
-        ensures ok { OnOk result (IsSame (state_of self.new) (after_step_now (state_of self.old) check moment)) }
+        ensures told { IsTold (stepped_told (state_of self.old)
+            (epoch_of (state_of self.old) check)) (step_now (state_of self.old) check moment)
+            result }
+        ensures ok { OnOk result
+            (IsSame (state_of self.new) (after_step_now (state_of self.old) check moment)) }
         ensures err { OnErr result (IsSame (state_of self.new) (state_of self.old)) }
         ensures kept { AreKept self.old.checks self.new.checks }
     {
@@ -183,8 +205,12 @@ impl Engine {
 
     // A step of a check, by the state alone.
     fn step_on(&mut self, alloc: Global, check: CheckNo, now: Moment) -> Result<Stepped, Refusal>
-        ensures told { IsTold (stepped_told (state_of self.old) (epoch_of (state_of self.old) check)) (step_now (state_of self.old) check (max now self.old.latest)) result }
-        ensures ok { OnOk result (IsSame (state_of self.new) (after_step_now (state_of self.old) check (max now self.old.latest))) }
+        ensures told { IsTold (stepped_told (state_of self.old)
+            (epoch_of (state_of self.old) check))
+            (step_now (state_of self.old) check (max now self.old.latest)) result }
+        ensures ok { OnOk result
+            (IsSame (state_of self.new)
+            (after_step_now (state_of self.old) check (max now self.old.latest))) }
         ensures err { OnErr result (IsSame (state_of self.new) (state_of self.old)) }
         ensures kept { AreKept self.old.checks self.new.checks }
     {
@@ -215,11 +241,18 @@ impl Engine {
 
     /// A check goes on: it takes an answer, waits for one, or has its outcome.
     pub fn step(&mut self, alloc: Global, check: CheckNo, now: Moment) -> Result<Stepped, Refusal>
-        ensures told { IsTold (stepped_told (state_of self.old) (epoch_of (state_of self.old) check)) (step_now (state_of self.old) check (max now self.old.latest)) result }
-        ensures ok { OnOk result (IsSame (state_of self.new) (after_step_now (state_of self.old) check (max now self.old.latest))) }
+        ensures told { IsTold (stepped_told (state_of self.old)
+            (epoch_of (state_of self.old) check))
+            (step_now (state_of self.old) check (max now self.old.latest)) result }
+        ensures ok { OnOk result
+            (IsSame (state_of self.new)
+            (after_step_now (state_of self.old) check (max now self.old.latest))) }
         ensures err { OnErr result (IsSame (state_of self.new) (state_of self.old)) }
         ensures kept { AreKept self.old.checks self.new.checks }
-        ensures promised { IsPromised (stepped_told (state_of self.old) (epoch_of (state_of self.old) check)) (state_of self.old) (max now self.old.latest) (event.Step check) result (state_of self.new) }
+        ensures promised { IsPromised
+            (stepped_told (state_of self.old) (epoch_of (state_of self.old) check))
+            (state_of self.old) (max now self.old.latest) (event.Step check) result
+            (state_of self.new) }
     {
         self.step_on(alloc, check, now)
     }

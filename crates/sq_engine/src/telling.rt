@@ -2,7 +2,7 @@
 ghost use Rattle.std.specs.Prelude.{◌≡◌, true, IfOk};
 ghost use Rattle.sq_machine.specs.Entries.{is_row};
 ghost use Rattle.sq_machine.specs.declared.entries.Event.TheVariants as event;
-ghost use Rattle.sq_state.specs.Answers.{name_in};
+ghost use Rattle.sq_model_state.specs.Answers.{name_in};
 ghost use Rattle.sq_engine.specs.Acting.{told_of_act};
 ghost use Rattle.sq_engine.specs.EngineViews.{state_of};
 
@@ -15,7 +15,8 @@ use std::alloc::Global;
 impl Engine {
     /// A copy of the name of the class at a place of a live epoch; no byte where there is none.
     pub fn name_told(&self, alloc: Global, epoch: EpochNo, class: u32) -> Result<Text, WantOfMemory>
-        ensures { IfOk result (λ t. t ≡ name_in (state_of self.now) (record { epoch = epoch; class = class })) }
+        ensures { IfOk result
+            (λ t. t ≡ name_in (state_of self.now) (record { epoch = epoch; class = class })) }
     {
         match self.name(epoch, class) {
             Some(name) => name.copy(alloc),

@@ -6,7 +6,7 @@ use Rattle.std.specs.declared.result.Result.{Result}
 use Rattle.std.specs.List.{slice_get}
 use Rattle.sq_channel.proofs.RisingLaws.{if_true}
 use Rattle.sq_machine.specs.Farms.{Sending, send_of}
-use Rattle.sq_part.specs.Parts.{PartState}
+use Rattle.sq_class.specs.Parts.{PartState}
 use Rattle.sq_epochs.specs.DueStates.{act_in, after_due, first_place, owes_send, owes_start, send_by, sends, start_by, starts, stops}
 use Rattle.sq_epochs.specs.EpochStates.{EpochState, EpochsState}
 use Rattle.sq_epochs.proofs.DueLaws.{first_is, record_stops}
@@ -17,20 +17,27 @@ nothing_sent r None e n is = cc
 nothing_sent r (Some s) e n is = cc
 
 -- what the first class is to do
-pub send_told : (x : EpochState) (c : ℕ) (p : PartState) (s : Sending) → first_place owes_send x.parts ≡ Some c → slice_get x.parts c ≡ Some p → send_of p.row.stock ≡ Some s
+pub send_told : (x : EpochState) (c : ℕ) (p : PartState) (s : Sending) → first_place owes_send x.parts ≡ Some c
+    → slice_get x.parts c ≡ Some p → send_of p.row.stock ≡ Some s
     → act_in send_by owes_send x ≡ Some (sends (record { epoch = x.epoch; class = c }) s)
 send_told x c p s first at sending =
-    ap (option_and_then (λ d. option_and_then (send_by (record { epoch = x.epoch; class = d })) (slice_get x.parts d))) first
-    ∙ ap (option_and_then (send_by (record { epoch = x.epoch; class = c }))) at ∙ ap (option_map (sends (record { epoch = x.epoch; class = c }))) sending
+    ap (option_and_then (λ d. option_and_then (send_by (record { epoch = x.epoch; class = d })) (slice_get x.parts d)))
+    first
+    ∙ ap (option_and_then (send_by (record { epoch = x.epoch; class = c }))) at
+    ∙ ap (option_map (sends (record { epoch = x.epoch; class = c }))) sending
 
-pub start_told : (x : EpochState) (c : ℕ) → first_place owes_start x.parts ≡ Some c → act_in start_by owes_start x ≡ Some (starts (record { epoch = x.epoch; class = c }))
+pub start_told : (x : EpochState) (c : ℕ) → first_place owes_start x.parts ≡ Some c
+    → act_in start_by owes_start x ≡ Some (starts (record { epoch = x.epoch; class = c }))
 start_told x c first =
     let f = first_is owes_start x.parts c first in
-    ap (option_and_then (λ d. option_and_then (start_by (record { epoch = x.epoch; class = d })) (slice_get x.parts d))) first
-    ∙ ap (option_and_then (start_by (record { epoch = x.epoch; class = c }))) f.at ∙ if_true (owes_start f.it) (Some (starts (record { epoch = x.epoch; class = c }))) None f.hit
+    ap (option_and_then (λ d. option_and_then (start_by (record { epoch = x.epoch; class = d })) (slice_get x.parts d)))
+    first
+    ∙ ap (option_and_then (start_by (record { epoch = x.epoch; class = c }))) f.at
+    ∙ if_true (owes_start f.it) (Some (starts (record { epoch = x.epoch; class = c }))) None f.hit
 
 -- a stop was made
-pub after_stop : (v : EpochsState) (o : Option ℕ) → after_due (option_map stops o) v ≡ record v { stops = record_stops o v.stops }
+pub after_stop : (v : EpochsState) (o : Option ℕ)
+    → after_due (option_map stops o) v ≡ record v { stops = record_stops o v.stops }
 after_stop v None = refl
 after_stop v (Some k) = refl
 

@@ -117,7 +117,8 @@ among_picks t k zero = none (nat_lt 0 k) (nat_lt k 1) (t k) refl refl
     none a b c e f = sym (ap (λ z. z && c) (outside a b e f))
 among_picks t k (suc n) = front (t (suc n)) ∙ by_test (k == suc n) refl (among_picks t k n)
   where
-    front : (b : Bool) → is_among k (if b then picks t n ++ suc n ∷ [] else picks t n) ≡ (is_among k (picks t n) || (k == suc n && b))
+    front : (b : Bool) → is_among k (if b then picks t n ++ suc n ∷ [] else picks t n)
+        ≡ (is_among k (picks t n) || (k == suc n && b))
     front true = among_push k (picks t n) (suc n) ∙ last (is_among k (picks t n)) (k == suc n)
       where
         last : (a b : Bool) → (a || b) ≡ (a || (b && true))
@@ -155,25 +156,31 @@ among_picks t k (suc n) = front (t (suc n)) ∙ by_test (k == suc n) refl (among
     by_test true e more =
         let num : k ≡ suc n = equal k (suc n) e in
         let f = top num in
-        ap (λ z. z || (true && t (suc n))) more ∙ ap (λ z. (nat_lt 0 k && nat_lt k (suc n) && t k) || (true && t z)) (sym num)
+        ap (λ z. z || (true && t (suc n))) more
+        ∙ ap (λ z. (nat_lt 0 k && nat_lt k (suc n) && t k) || (true && t z)) (sym num)
         ∙ here (nat_lt 0 k) (nat_lt k (suc (suc n))) (t k) (nat_lt k (suc n)) f.0 f.1 f.2
     by_test false e more =
-        ap (λ z. z || (false && t (suc n))) more ∙ there (nat_lt 0 k) (nat_lt k (suc (suc n))) (t k) (nat_lt k (suc n)) (t (suc n)) (other e)
+        ap (λ z. z || (false && t (suc n))) more
+        ∙ there (nat_lt 0 k) (nat_lt k (suc (suc n))) (t k) (nat_lt k (suc n)) (t (suc n)) (other e)
 
-among_range : (k m : ℕ) (ns : List ℕ) → AreAbove 0 ns → AreBelow m ns → is_among k ns ≡ true → (nat_lt 0 k ≡ true) × (nat_lt k m ≡ true)
+among_range : (k m : ℕ) (ns : List ℕ) → AreAbove 0 ns → AreBelow m ns → is_among k ns ≡ true
+    → (nat_lt 0 k ≡ true) × (nat_lt k m ≡ true)
 among_range k m [] a b is = absurd cc
 among_range k m (n ∷ ns) a b is = by_test (k == n) refl is (among_range k m ns a.1 b.1)
   where
     in_range : k ≡ n → (nat_lt 0 k ≡ true) × (nat_lt k m ≡ true)
     in_range e = let low = a.0 in let high = b.0 in (lt-ltb 0 k (omega arith), lt-ltb k m (omega arith))
 
-    by_test : (t : Bool) → (k == n) ≡ t → (t || is_among k ns) ≡ true → (is_among k ns ≡ true → (nat_lt 0 k ≡ true) × (nat_lt k m ≡ true)) → (nat_lt 0 k ≡ true) × (nat_lt k m ≡ true)
+    by_test : (t : Bool) → (k == n) ≡ t → (t || is_among k ns) ≡ true
+        → (is_among k ns ≡ true → (nat_lt 0 k ≡ true) × (nat_lt k m ≡ true)) → (nat_lt 0 k ≡ true) × (nat_lt k m ≡ true)
     by_test true e f more = in_range (equal k n e)
     by_test false e f more = more f
 
 -- numbers from 1 to n that rise are those that a test picks, where it holds of them alone
-pub rising_picked : (t : ℕ → Bool) (n : ℕ) (ns : List ℕ) → Rises ns → AreAbove 0 ns → AreBelow (suc n) ns → ((k : ℕ) → is_among k ns ≡ t k) → ns ≡ picks t n
-rising_picked t n ns r a b same = rising_same ns (picks t n) r (rises_picks t n) (λ k. same k ∙ by_test k (t k) refl ∙ sym (among_picks t k n))
+pub rising_picked : (t : ℕ → Bool) (n : ℕ) (ns : List ℕ) → Rises ns → AreAbove 0 ns → AreBelow (suc n) ns
+    → ((k : ℕ) → is_among k ns ≡ t k) → ns ≡ picks t n
+rising_picked t n ns r a b same = rising_same ns (picks t n) r (rises_picks t n)
+    (λ k. same k ∙ by_test k (t k) refl ∙ sym (among_picks t k n))
   where
     by_test : (k : ℕ) (c : Bool) → t k ≡ c → t k ≡ (nat_lt 0 k && nat_lt k (suc n) && t k)
     by_test k true e =
@@ -194,27 +201,39 @@ pub found_among : (e : ℕ) (xs : List EpochState) → is_among e (map epoch_num
 found_among e [] = refl
 found_among e (x ∷ xs) = by_test (e == x.epoch) (found_among e xs)
   where
-    by_test : (b : Bool) → is_among e (map epoch_number xs) ≡ is_some (epoch_in e xs) → (b || is_among e (map epoch_number xs)) ≡ is_some (if b then Some x else epoch_in e xs)
+    by_test : (b : Bool) → is_among e (map epoch_number xs) ≡ is_some (epoch_in e xs)
+        → (b || is_among e (map epoch_number xs)) ≡ is_some (if b then Some x else epoch_in e xs)
     by_test true more = refl
     by_test false more = more
 
 -- the numbers of the live epochs, in order
-pub live_numbers : (v : EpochsState) → AreEpochs v → map epoch_number v.epochs ≡ picks (λ e. is_some (epoch_at v e)) v.current
-live_numbers v is = rising_picked (λ e. is_some (epoch_at v e)) v.current (map epoch_number v.epochs) is.rise is.numbered is.born (λ k. found_among k v.epochs)
+pub live_numbers : (v : EpochsState) → AreEpochs v
+    → map epoch_number v.epochs ≡ picks (λ e. is_some (epoch_at v e)) v.current
+live_numbers v is = rising_picked (λ e. is_some (epoch_at v e)) v.current (map epoch_number v.epochs) is.rise
+    is.numbered is.born (λ k. found_among k v.epochs)
 
-among_busy : (e : ℕ) (xs : List EpochState) → Rises (map epoch_number xs) → is_among e (map epoch_number (filter has_checks xs)) ≡ nat_lt 0 (option_map_or (λ x. x.checks) (epoch_in e xs) 0)
+among_busy : (e : ℕ) (xs : List EpochState) → Rises (map epoch_number xs)
+    → is_among e (map epoch_number (filter has_checks xs)) ≡ nat_lt 0 (option_map_or (λ x. x.checks) (epoch_in e xs) 0)
 among_busy e [] r = refl
 among_busy e (x ∷ xs) r = by_busy (has_checks x) refl (among_busy e xs r.1)
   where
-    by_number : (b c : Bool) → (e == x.epoch) ≡ c → has_checks x ≡ b → is_among e (map epoch_number (filter has_checks xs)) ≡ nat_lt 0 (option_map_or (λ y. y.checks) (epoch_in e xs) 0)
-        → is_among e (map epoch_number (cond b (x ∷ filter has_checks xs) (filter has_checks xs))) ≡ nat_lt 0 (option_map_or (λ y. y.checks) (if c then Some x else epoch_in e xs) 0)
+    by_number : (b c : Bool) → (e == x.epoch) ≡ c → has_checks x ≡ b
+        → is_among e (map epoch_number (filter has_checks xs))
+        ≡ nat_lt 0 (option_map_or (λ y. y.checks) (epoch_in e xs) 0)
+        → is_among e (map epoch_number (cond b (x ∷ filter has_checks xs) (filter has_checks xs)))
+        ≡ nat_lt 0 (option_map_or (λ y. y.checks) (if c then Some x else epoch_in e xs) 0)
     by_number true true s t more = ap (λ z. z || is_among e (map epoch_number (filter has_checks xs))) s ∙ sym t
     by_number true false s t more = ap (λ z. z || is_among e (map epoch_number (filter has_checks xs))) s ∙ more
-    by_number false true s t more = let num = equal e x.epoch s in not_among e x.epoch (map epoch_number (filter has_checks xs)) (omega arith) (above_filter epoch_number has_checks x.epoch xs r.0) ∙ sym t
+    by_number false true s t more = let num = equal e x.epoch s in
+        not_among e x.epoch (map epoch_number (filter has_checks xs)) (omega arith)
+        (above_filter epoch_number has_checks x.epoch xs r.0) ∙ sym t
     by_number false false s t more = more
 
-    by_busy : (b : Bool) → has_checks x ≡ b → is_among e (map epoch_number (filter has_checks xs)) ≡ nat_lt 0 (option_map_or (λ y. y.checks) (epoch_in e xs) 0)
-        → is_among e (map epoch_number (cond b (x ∷ filter has_checks xs) (filter has_checks xs))) ≡ nat_lt 0 (option_map_or (λ y. y.checks) (if e == x.epoch then Some x else epoch_in e xs) 0)
+    by_busy : (b : Bool) → has_checks x ≡ b
+        → is_among e (map epoch_number (filter has_checks xs))
+        ≡ nat_lt 0 (option_map_or (λ y. y.checks) (epoch_in e xs) 0)
+        → is_among e (map epoch_number (cond b (x ∷ filter has_checks xs) (filter has_checks xs)))
+        ≡ nat_lt 0 (option_map_or (λ y. y.checks) (if e == x.epoch then Some x else epoch_in e xs) 0)
     by_busy b t more = by_number b (e == x.epoch) refl t more
 
 long : {A B : Type 0} (f : A → B) (xs : List A) → length (map f xs) ≡ length xs
@@ -225,5 +244,7 @@ long f (x ∷ xs) = ap suc (long f xs)
 pub busy_is : (v : EpochsState) → AreEpochs v → length (filter has_checks v.epochs) ≡ busy_count v
 busy_is v is =
     sym (long epoch_number (filter has_checks v.epochs))
-    ∙ ap length (rising_picked (λ e. nat_lt 0 (checks_at v e)) v.current (map epoch_number (filter has_checks v.epochs)) (rises_filter epoch_number has_checks v.epochs is.rise) (above_filter epoch_number has_checks 0 v.epochs is.numbered)
+    ∙ ap length (rising_picked (λ e. nat_lt 0 (checks_at v e)) v.current (map epoch_number (filter has_checks v.epochs))
+    (rises_filter epoch_number has_checks v.epochs is.rise)
+    (above_filter epoch_number has_checks 0 v.epochs is.numbered)
     (below_filter epoch_number has_checks (suc v.current) v.epochs is.born) (λ e. among_busy e v.epochs is.rise))

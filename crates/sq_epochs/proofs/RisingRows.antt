@@ -2,23 +2,28 @@
 use Rattle.std.proofs.Common.{◌≡◌, ℕ, ◌<◌, List, [], ◌∷◌, ◌++◌, map, filter, Bool, true, false, cond, refl, ap}
 use Rattle.sq_machine.specs.Rising.{AreAbove, AreBelow, Rises}
 
-pub above_filter : {X : Type 0} (key : X → ℕ) (p : X → Bool) (k : ℕ) (xs : List X) → AreAbove k (map key xs) → AreAbove k (map key (filter p xs))
+pub above_filter : {X : Type 0} (key : X → ℕ) (p : X → Bool) (k : ℕ) (xs : List X) → AreAbove k (map key xs)
+    → AreAbove k (map key (filter p xs))
 above_filter key p k [] a = tt
 above_filter key p k (x ∷ xs) a = by_test (p x) (above_filter key p k xs a.1)
   where
-    by_test : (b : Bool) → AreAbove k (map key (filter p xs)) → AreAbove k (map key (cond b (x ∷ filter p xs) (filter p xs)))
+    by_test : (b : Bool) → AreAbove k (map key (filter p xs))
+        → AreAbove k (map key (cond b (x ∷ filter p xs) (filter p xs)))
     by_test true more = (a.0, more)
     by_test false more = more
 
-pub below_filter : {X : Type 0} (key : X → ℕ) (p : X → Bool) (k : ℕ) (xs : List X) → AreBelow k (map key xs) → AreBelow k (map key (filter p xs))
+pub below_filter : {X : Type 0} (key : X → ℕ) (p : X → Bool) (k : ℕ) (xs : List X) → AreBelow k (map key xs)
+    → AreBelow k (map key (filter p xs))
 below_filter key p k [] a = tt
 below_filter key p k (x ∷ xs) a = by_test (p x) (below_filter key p k xs a.1)
   where
-    by_test : (b : Bool) → AreBelow k (map key (filter p xs)) → AreBelow k (map key (cond b (x ∷ filter p xs) (filter p xs)))
+    by_test : (b : Bool) → AreBelow k (map key (filter p xs))
+        → AreBelow k (map key (cond b (x ∷ filter p xs) (filter p xs)))
     by_test true more = (a.0, more)
     by_test false more = more
 
-pub rises_filter : {X : Type 0} (key : X → ℕ) (p : X → Bool) (xs : List X) → Rises (map key xs) → Rises (map key (filter p xs))
+pub rises_filter : {X : Type 0} (key : X → ℕ) (p : X → Bool) (xs : List X) → Rises (map key xs)
+    → Rises (map key (filter p xs))
 rises_filter key p [] r = tt
 rises_filter key p (x ∷ xs) r = by_test (p x) (rises_filter key p xs r.1)
   where

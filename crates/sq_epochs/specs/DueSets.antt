@@ -1,9 +1,9 @@
 -- Which classes of an epoch owe an act, as sets of their places.
 use Rattle.std.specs.Prelude.{ℕ, ◌≤◌, List, length}
-use Rattle.sq_places.specs.Sets.{IsSetAt, IsSetOf}
+use Rattle.sq_bit_set.specs.Sets.{IsSetAt, IsSetOf}
 use Rattle.sq_rules.specs.Classes.{Class}
 use Rattle.sq_rules.specs.Limits.{most_classes}
-use Rattle.sq_part.specs.Parts.{PartState}
+use Rattle.sq_class.specs.Parts.{PartState}
 use Rattle.sq_epochs.specs.DueStates.{owes_send, owes_start}
 use Rattle.sq_epochs.specs.EpochStates.{AreParts}
 

@@ -3,11 +3,11 @@ use Rattle.std.specs.Prelude.{ℕ, zero, suc, List, [], ◌∷◌, Bool, not, �
 use Rattle.std.specs.List.{flat_map}
 use Rattle.std.specs.Option.{option_and_then, option_map, option_or}
 use Rattle.std.specs.declared.option.Option.{Option}
-use Rattle.sq_machine.specs.DueActs.{Place, first_made, first_of}
+use Rattle.sq_machine.specs.DueActs.{ClassId, first_made, first_of}
 use Rattle.sq_machine.specs.Farms.{Sending, send_of, start_due}
 use Rattle.sq_machine.specs.Numbered.{below}
-use Rattle.sq_rows.specs.ClassRows.{after_sending, after_starting}
-use Rattle.sq_part.specs.Parts.{PartState}
+use Rattle.sq_model_rows.specs.ClassRows.{after_sending, after_starting}
+use Rattle.sq_class.specs.Parts.{PartState}
 use Rattle.sq_epochs.specs.declared.acts.Act.{Act}
 use Rattle.sq_epochs.specs.declared.acts.Act.TheVariants as act
 use Rattle.sq_epochs.specs.EpochStates.{EpochState, EpochsState, change_epoch, part_at}
@@ -15,27 +15,27 @@ use Rattle.sq_epochs.specs.EpochStates.{EpochState, EpochsState, change_epoch, p
 -- an act: the stop of a process, a send of the class at a place, or a start of it
 pub data DueAt : Type 0 where
   stops : ℕ → DueAt
-  sends : Place → Sending → DueAt
-  starts : Place → DueAt
+  sends : ClassId → Sending → DueAt
+  starts : ClassId → DueAt
 
 -- the classes of an epoch, in order
-abbrev pub places_in : EpochState → List Place
+abbrev pub places_in : EpochState → List ClassId
 places_in x = map (λ c. record { epoch = x.epoch; class = c }) (below (length x.config.classes))
 
 -- the classes of the live epochs, by epoch and place
-abbrev pub live_places : EpochsState → List Place
+abbrev pub live_places : EpochsState → List ClassId
 live_places v = flat_map places_in v.epochs
 
 -- what a class at a place is to do, by its part
-abbrev pub act_at : (Place → PartState → Option DueAt) → EpochsState → Place → Option DueAt
+abbrev pub act_at : (ClassId → PartState → Option DueAt) → EpochsState → ClassId → Option DueAt
 act_at by v p = option_and_then (by p) (part_at v p.epoch p.class)
 
 -- the send of a class, where one is due
-abbrev pub send_by : Place → PartState → Option DueAt
+abbrev pub send_by : ClassId → PartState → Option DueAt
 send_by p x = option_map (sends p) (send_of x.row.stock)
 
 -- the start of a class, where one is due
-abbrev pub start_by : Place → PartState → Option DueAt
+abbrev pub start_by : ClassId → PartState → Option DueAt
 start_by p x = if start_due x.row.stock then Some (starts p) else None
 
 -- the next act: first stops, then sends, then starts
@@ -56,7 +56,7 @@ abbrev pub change_class : ℕ → (PartState → PartState) → EpochState → E
 change_class c f x = record x { parts = change_at c f x.parts }
 
 -- the part of the class at a place changed
-abbrev pub change_part : Place → (PartState → PartState) → EpochsState → EpochsState
+abbrev pub change_part : ClassId → (PartState → PartState) → EpochsState → EpochsState
 change_part p f v = record v { epochs = change_epoch p.epoch (change_class p.class f) v.epochs }
 
 abbrev pub sent_part : PartState → PartState
@@ -99,8 +99,11 @@ abbrev pub has_act : (PartState → Bool) → EpochState → Bool
 has_act test x = is_some (first_place test x.parts)
 
 -- what the first class of the epoch is to do that meets the test
-abbrev pub act_in : (Place → PartState → Option DueAt) → (PartState → Bool) → EpochState → Option DueAt
-act_in by test x = option_and_then (λ c. option_and_then (by (record { epoch = x.epoch; class = c })) (slice_get x.parts c)) (first_place test x.parts)
+abbrev pub act_in : (ClassId → PartState → Option DueAt) → (PartState → Bool) → EpochState
+    → Option DueAt
+act_in by test x = option_and_then
+    (λ c. option_and_then (by (record { epoch = x.epoch; class = c })) (slice_get x.parts c))
+    (first_place test x.parts)
 
 -- the epoch after an act of it
 abbrev pub after_act_in : Option DueAt → EpochState → EpochState

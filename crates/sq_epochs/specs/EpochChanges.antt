@@ -3,33 +3,40 @@ use Rattle.std.specs.Prelude.{◌≡◌, ℕ, ◌==◌, ◌&&◌, if◌then◌el
 use Rattle.sq_base.specs.declared.helpers.Cause.TheVariants as cause
 use Rattle.sq_rules.specs.Classes.{Class}
 use Rattle.sq_machine.specs.OpenLookups.{question_of, waits_in}
-use Rattle.sq_rows.specs.StepRows.{says_of_row}
-use Rattle.sq_rows.specs.declared.said.Said.{Said}
+use Rattle.sq_model_rows.specs.StepRows.{says_of_row}
+use Rattle.sq_model_rows.specs.declared.stepping.StepEffect.{StepEffect}
 use Rattle.sq_base.specs.declared.helpers.What.{What}
 use Rattle.sq_lookup.specs.Waits.{has_check}
 use Rattle.sq_machine.specs.Farms.{failed, is_last_start}
-use Rattle.sq_rows.specs.ClassRows.{after_failed, after_reply, is_waiting}
-use Rattle.sq_part.specs.Losing.{IsHandedOut, handed_out, lost_cause}
-use Rattle.sq_part.specs.declared.lost.Lost.{Lost}
-use Rattle.sq_part.specs.Parts.{PartState}
-use Rattle.sq_part.specs.Steps.{IsStepped}
+use Rattle.sq_model_rows.specs.ClassRows.{after_failed, after_reply, is_waiting}
+use Rattle.sq_class.specs.Losing.{IsHandedOut, handed_out, lost_cause}
+use Rattle.sq_class.specs.declared.lost.Lost.{Lost}
+use Rattle.sq_class.specs.Parts.{PartState}
+use Rattle.sq_class.specs.Steps.{IsStepped}
 
--- a step of a check on the class at a place, which needs this key, says what the rule says, and the part is left so
-abbrev pub IsResolved : Class → ℕ → List ℕ → ℕ → ℕ → ℕ → Said → PartState → PartState → Type 0
+-- a step of a check on the class at a place, which needs this key, says what the rule says, and the
+-- part is left so
+abbrev pub IsResolved : Class → ℕ → List ℕ → ℕ → ℕ → ℕ → StepEffect → PartState → PartState → Type 0
 IsResolved class place key now check count said old new =
-    (e : ℕ) → IsStepped place count check (says_of_row class e place key now count old.row) said old new
+    (e : ℕ) → IsStepped place count check (says_of_row class e place key now count old.row) said old
+    new
 
 -- the check waits for nothing in this part
 pub record HasLeft (check : ℕ) (old new : PartState) : Type 0 where
   pub row_is : new.row ≡ old.row
-  pub waiting_are : (n : ℕ) → question_of n new.waiting ≡ (if n == check then None else question_of n old.waiting)
+  pub waiting_are : (n : ℕ)
+      → question_of n new.waiting ≡ (if n == check then None else question_of n old.waiting)
   pub limit_is : new.limit ≡ old.limit
 
--- a reply of process k to question q, of this key, says so and dates from then; these checks waited for it
-pub record HasReplied (class : Class) (k q : ℕ) (key : List ℕ) (what : What) (date : ℕ) (checks : List ℕ) (old new : PartState) : Type 0 where
+-- a reply of process k to question q, of this key, says so and dates from then; these checks waited
+-- for it
+pub record HasReplied (class : Class) (k q : ℕ) (key : List ℕ) (what : What) (date : ℕ)
+    (checks : List ℕ) (old new : PartState) : Type 0 where
   pub checks_are : (n : ℕ) → has_check n checks ≡ waits_in old.waiting q n
   pub row_is : new.row ≡ after_reply class k q key what date old.row
-  pub waiting_are : (n : ℕ) → question_of n new.waiting ≡ (if waits_in old.waiting q n then None else question_of n old.waiting)
+  pub waiting_are : (n : ℕ)
+      → question_of n new.waiting
+      ≡ (if waits_in old.waiting q n then None else question_of n old.waiting)
   pub limit_is : new.limit ≡ old.limit
 
 -- the first of the lost questions was handed out; what is left in the end is the same
@@ -43,11 +50,15 @@ pub record HasNoLoss (old new : PartState) : Type 0 where
   pub same : new ≡ old
   pub done : handed_out old.row ≡ old.row
 
--- a start failed; these questions are lost, and once they were handed out, the row is that of a failed start
+-- a start failed; these questions are lost, and once they were handed out, the row is that of a
+-- failed start
 pub record HasFailed (old new : PartState) : Type 0 where
   pub value : new ≡ record old { row = record old.row { stock = failed old.row.stock } }
   pub after : old.row.stock.losses ≡ [] → handed_out new.row ≡ after_failed old.row
-  pub lost : old.row.stock.losses ≡ [] → (q : ℕ) → lost_cause q new.row.stock.losses ≡ (if is_last_start old.row.stock && is_waiting q old.row.stock.queue then Some cause.NoHelper else None)
+  pub lost : old.row.stock.losses ≡ [] → (q : ℕ)
+      → lost_cause q new.row.stock.losses
+      ≡ (if is_last_start old.row.stock && is_waiting q old.row.stock.queue then Some cause.NoHelper
+      else None)
 
 -- no start was open, and nothing changed
 pub record HasNoStart (old new : PartState) : Type 0 where

@@ -4,20 +4,22 @@ use Rattle.std.specs.Option.{option_map}
 use Rattle.std.specs.declared.option.Option.{Option}
 use Rattle.sq_rules.specs.Classes.{Class}
 use Rattle.sq_rules.specs.Configurations.{Configuration}
-use Rattle.sq_machine.specs.DueActs.{Place}
-use Rattle.sq_rows.specs.ClassRows.{ClassRow, new_row}
-use Rattle.sq_part.specs.Parts.{PartState}
+use Rattle.sq_machine.specs.DueActs.{ClassId}
+use Rattle.sq_model_rows.specs.ClassRows.{ClassRow, new_row}
+use Rattle.sq_class.specs.Parts.{PartState}
 use Rattle.sq_epochs.specs.HomeStates.{Home, home_in}
 
--- a live epoch: its number, its configuration, how many checks of it are open, and a part for each class, in the configuration's order
+-- a live epoch: its number, its configuration, how many checks of it are open, and a part for each
+-- class, in the configuration's order
 pub record EpochState : Type 0 where
   pub epoch : ℕ
   pub config : Configuration
   pub checks : ℕ
   pub parts : List PartState
 
--- what is kept by epoch: the number of the current one, the live epochs in order, how many processes were numbered, of which epoch and
--- class each living process is, and the processes for which a stop is due, by number
+-- what is kept by epoch: the number of the current one, the live epochs in order, how many
+-- processes were numbered, of which epoch and class each living process is, and the processes for
+-- which a stop is due, by number
 pub record EpochsState : Type 0 where
   pub current : ℕ
   pub epochs : List EpochState
@@ -58,7 +60,7 @@ abbrev pub row_at : EpochsState → ℕ → ℕ → Option ClassRow
 row_at v e c = option_map (λ p. p.row) (part_at v e c)
 
 -- of which epoch and class a living process is
-abbrev pub home_at : EpochsState → ℕ → Option Place
+abbrev pub home_at : EpochsState → ℕ → Option ClassId
 home_at v k = home_in k v.homes
 
 -- the epochs with the one of this number changed
@@ -71,7 +73,8 @@ abbrev pub with_part : ℕ → PartState → EpochState → EpochState
 with_part c p x = record x { parts = slice_set x.parts c p }
 
 -- the part at this place was changed so, and nothing else of the epoch
-pub record IsEpochChanged (c : ℕ) (Change : PartState → PartState → Type 0) (old new : EpochState) : Type 0 where
+pub record IsEpochChanged (c : ℕ) (Change : PartState → PartState → Type 0)
+    (old new : EpochState) : Type 0 where
   pub before : PartState
   pub after : PartState
   pub was : slice_get old.parts c ≡ Some before
@@ -79,7 +82,8 @@ pub record IsEpochChanged (c : ℕ) (Change : PartState → PartState → Type 0
   pub new_is : new ≡ with_part c after old
 
 -- the part of the class at this place of this epoch was changed so, and nothing else
-pub record IsChanged (e c : ℕ) (Change : PartState → PartState → Type 0) (old new : EpochsState) : Type 0 where
+pub record IsChanged (e c : ℕ) (Change : PartState → PartState → Type 0)
+    (old new : EpochsState) : Type 0 where
   pub before : PartState
   pub after : PartState
   pub was : part_at old e c ≡ Some before
@@ -98,7 +102,12 @@ new_part class = record { row = new_row [] class; waiting = []; limit = class.ca
 
 -- an epoch that begins, of whose classes nothing is kept
 abbrev pub new_epoch : ℕ → Configuration → EpochState
-new_epoch e config = record { epoch = e; config = config; checks = 0; parts = map new_part config.classes }
+new_epoch e config = record {
+  epoch = e;
+  config = config;
+  checks = 0;
+  parts = map new_part config.classes;
+}
 
 -- an epoch has a part for each class, which keeps as many verdicts as the class may
 abbrev pub AreParts : List Class → List PartState → Type 0

@@ -1,21 +1,21 @@
 -- Of which epoch and class each living process is, and for which processes a stop is due.
 use Rattle.std.specs.Prelude.{◌≡◌, ℕ, suc, List, [], ◌∷◌, map, filter, Bool, false, not, ◌||◌, if◌then◌else◌, nat_lt, ◌==◌, Some, None, is_some, true}
 use Rattle.std.specs.declared.option.Option.{Option}
-use Rattle.sq_machine.specs.DueActs.{Place}
+use Rattle.sq_machine.specs.DueActs.{ClassId}
 use Rattle.sq_machine.specs.Rising.{AreAbove, AreBelow, Rises, times_of}
 
 -- a living process, and the epoch and the class of which it is
 pub record Home : Type 0 where
   pub proc : ℕ
-  pub place : Place
+  pub place : ClassId
 
 -- due stops by number, and for how many there is room
 pub record StopsState : Type 0 where
   pub numbers : List ℕ
   pub room : ℕ
 
--- how many processes were numbered, those that live in live epochs, and those for which a stop is due, both by number; and for how many
--- processes more there is room
+-- how many processes were numbered, those that live in live epochs, and those for which a stop is
+-- due, both by number; and for how many processes more there is room
 pub record HomesState : Type 0 where
   pub given : ℕ
   pub homes : List Home
@@ -26,7 +26,7 @@ abbrev pub home_number : Home → ℕ
 home_number h = h.proc
 
 -- of which epoch and class this process is
-abbrev pub home_in : ℕ → List Home → Option Place
+abbrev pub home_in : ℕ → List Home → Option ClassId
 home_in k [] = None
 home_in k (h ∷ homes) = if k == h.proc then Some h.place else home_in k homes
 

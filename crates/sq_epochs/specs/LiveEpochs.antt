@@ -1,4 +1,5 @@
--- Which epochs live, and what a check that begins or is over, and the end of an epoch, make of them.
+-- Which epochs live, and what a check that begins or is over, and the end of an epoch, make of
+-- them.
 use Rattle.std.specs.Prelude.{◌≡◌, ℕ, suc, ◌-◌, List, map, length, filter, not, Bool, true, ◌&&◌, ◌||◌, ◌==◌, nat_lt, if◌then◌else◌, is_some}
 use Rattle.std.specs.List.{list_all}
 use Rattle.std.specs.Option.{option_map_or}
@@ -23,7 +24,8 @@ has_checks x = nat_lt 0 x.checks
 abbrev pub is_used : ℕ → EpochState → Bool
 is_used current x = current == x.epoch || has_checks x
 
--- the live epochs rise from 1 up to the current one, which is there, and each other one has an open check
+-- the live epochs rise from 1 up to the current one, which is there, and each other one has an open
+-- check
 pub record AreEpochs (v : EpochsState) : Type 0 where
   pub rise : Rises (map epoch_number v.epochs)
   pub numbered : AreAbove 0 (map epoch_number v.epochs)
@@ -61,4 +63,5 @@ ends_with_check e v = checks_at v e == 1 && not (e == v.current)
 
 -- a check of this epoch is over
 abbrev pub after_ended : ℕ → EpochsState → EpochsState
-after_ended e v = if ends_with_check e v then drop_epoch e v else record v { epochs = change_epoch e check_less v.epochs }
+after_ended e v = if ends_with_check e v then drop_epoch e v
+    else record v { epochs = change_epoch e check_less v.epochs }

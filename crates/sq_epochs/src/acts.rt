@@ -8,7 +8,7 @@ ghost use Rattle.sq_epochs.specs.EpochProcs.{SameLiving};
 use crate::epoch::Epoch;
 use crate::epochs::Epochs;
 use sq_base::{EpochNo, ProcNo, QuestionNo, Text, WantOfMemory};
-use sq_part::Sending;
+use sq_class::Sending;
 use std::alloc::Global;
 
 /// What is to be done next.
@@ -62,7 +62,8 @@ impl Epoch {
     fn send(&mut self) -> Option<Act>
         ensures act { result ≡ told_due (act_in send_by owes_send self.old) }
         ensures value { self.new ≡ after_act_in (act_in send_by owes_send self.old) self.old }
-        ensures few { (c : ℕ) → first_place owes_send self.old.parts ≡ Some c → c < length self.old.config.classes }
+        ensures few { (c : ℕ) → first_place owes_send self.old.parts ≡ Some c
+            → c < length self.old.config.classes }
         ensures number { self.new.epoch ≡ self.old.epoch }
         ensures checks { self.new.checks ≡ self.old.checks }
         ensures alive { SameLiving self.old self.new }
@@ -80,7 +81,8 @@ impl Epoch {
     fn start(&mut self) -> Option<Act>
         ensures act { result ≡ told_due (act_in start_by owes_start self.old) }
         ensures value { self.new ≡ after_act_in (act_in start_by owes_start self.old) self.old }
-        ensures few { (c : ℕ) → first_place owes_start self.old.parts ≡ Some c → c < length self.old.config.classes }
+        ensures few { (c : ℕ) → first_place owes_start self.old.parts ≡ Some c
+            → c < length self.old.config.classes }
         ensures number { self.new.epoch ≡ self.old.epoch }
         ensures checks { self.new.checks ≡ self.old.checks }
         ensures alive { SameLiving self.old self.new }
@@ -96,7 +98,8 @@ impl Epoch {
     // A copy of what `send` would answer.
     fn send_copy(&self, alloc: Global) -> Result<Option<Act>, WantOfMemory>
         ensures act { IfOk result (λ a. a ≡ told_due (act_in send_by owes_send self.now)) }
-        ensures few { (c : ℕ) → first_place owes_send self.now.parts ≡ Some c → c < length self.now.config.classes }
+        ensures few { (c : ℕ) → first_place owes_send self.now.parts ≡ Some c
+            → c < length self.now.config.classes }
     {
         let Some(class) = self.sender() else {
             return Ok(None);
@@ -111,7 +114,8 @@ impl Epoch {
     // A copy of what `start` would answer.
     fn start_copy(&self) -> Option<Act>
         ensures act { result ≡ told_due (act_in start_by owes_start self.now) }
-        ensures few { (c : ℕ) → first_place owes_start self.now.parts ≡ Some c → c < length self.now.config.classes }
+        ensures few { (c : ℕ) → first_place owes_start self.now.parts ≡ Some c
+            → c < length self.now.config.classes }
     {
         let class = self.starter()?;
         let epoch = self.number;
@@ -147,8 +151,10 @@ impl Epochs {
 
     // Makes the first send that is due.
     fn send(&mut self) -> Option<Act>
-        ensures act { result ≡ told_due (first_made (act_at send_by self.old) (live_places self.old)) }
-        ensures value { self.new ≡ after_due (first_made (act_at send_by self.old) (live_places self.old)) self.old }
+        ensures act { result ≡ told_due
+            (first_made (act_at send_by self.old) (live_places self.old)) }
+        ensures value { self.new
+            ≡ after_due (first_made (act_at send_by self.old) (live_places self.old)) self.old }
     {
         let place = sending_epoch(&self.epochs)?;
         let live = &mut self.epochs[place];
@@ -157,8 +163,10 @@ impl Epochs {
 
     // Makes the first start that is due.
     fn start(&mut self) -> Option<Act>
-        ensures act { result ≡ told_due (first_made (act_at start_by self.old) (live_places self.old)) }
-        ensures value { self.new ≡ after_due (first_made (act_at start_by self.old) (live_places self.old)) self.old }
+        ensures act { result ≡ told_due
+            (first_made (act_at start_by self.old) (live_places self.old)) }
+        ensures value { self.new
+            ≡ after_due (first_made (act_at start_by self.old) (live_places self.old)) self.old }
     {
         let place = starting_epoch(&self.epochs)?;
         let live = &mut self.epochs[place];
@@ -167,7 +175,8 @@ impl Epochs {
 
     // A copy of what `send` would answer.
     fn send_copy(&self, alloc: Global) -> Result<Option<Act>, WantOfMemory>
-        ensures { IfOk result (λ a. a ≡ told_due (first_made (act_at send_by self.now) (live_places self.now))) }
+        ensures { IfOk result
+            (λ a. a ≡ told_due (first_made (act_at send_by self.now) (live_places self.now))) }
     {
         let Some(place) = sending_epoch(&self.epochs) else {
             return Ok(None);

@@ -1,18 +1,18 @@
 //! `Due`: which classes of an epoch owe a send, and which a start.
 ghost use Rattle.std.specs.Prelude.{◌≡◌, ◌<◌, ◌≤◌, ℕ, false, length, IfNone, IfSome};
-ghost use Rattle.sq_places.specs.Sets.{IsLeast, is_in};
+ghost use Rattle.sq_bit_set.specs.Sets.{IsLeast, is_in};
 ghost use Rattle.sq_rules.specs.Limits.{most_classes};
 ghost use Rattle.sq_epochs.specs.DueSets.{IsDueOf, IsMarked};
 
-use sq_part::Part;
-use sq_places::Places;
+use sq_bit_set::BitSet;
+use sq_class::Part;
 use std::marker::Model;
 
 /// Which classes of an epoch owe a send, and which a start.
 #[derive(Drop)]
 pub struct Due {
-    sends: Places,
-    starts: Places,
+    sends: BitSet,
+    starts: BitSet,
 }
 
 impl Model for Due {
@@ -30,8 +30,8 @@ impl Due {
         ensures { IsDueOf parts.now result }
     {
         let mut due = Due {
-            sends: Places::none(),
-            starts: Places::none(),
+            sends: BitSet::none(),
+            starts: BitSet::none(),
         };
         for (place, part) in parts.iter().enumerate() {
             due.mark(place as u32, part);

@@ -2,11 +2,11 @@
 ghost use Rattle.std.specs.Prelude.{◌≡◌, ◌<◌, ◌^◌, ◌∷◌, [], ℕ, suc, true, None, Some, is_some, map, length, slice_get, IfOk, IfNone, IfSome, OnOk, OnErr, IsErrOf};
 ghost use Rattle.std.specs.Option.{option_map};
 ghost use Rattle.std.specs.Arc.{arc_value};
-ghost use Rattle.sq_part.specs.Parts.{IsAsBefore, PartState};
-ghost use Rattle.sq_part.specs.Steps.{IsSpent, IsStepped};
+ghost use Rattle.sq_class.specs.Parts.{IsAsBefore, PartState};
+ghost use Rattle.sq_class.specs.Steps.{IsSpent, IsStepped};
 ghost use Rattle.sq_rules.specs.Classes.{Class};
 ghost use Rattle.sq_machine.specs.OpenLookups.{all_below, question_of};
-ghost use Rattle.sq_rows.specs.StepRows.{says_of_row};
+ghost use Rattle.sq_model_rows.specs.StepRows.{says_of_row};
 ghost use Rattle.sq_epochs.specs.EpochStates.{IsEpochChanged, new_epoch, new_part};
 ghost use Rattle.sq_epochs.specs.EpochProcs.{SameLiving};
 ghost use Rattle.sq_epochs.specs.LiveEpochs.{check_less, check_more};
@@ -20,10 +20,10 @@ ghost use Rattle.sq_machine.specs.Living.{lives, slots_in};
 use crate::due::Due;
 use sq_base::{CheckNo, EpochNo, Moment, ProcNo, QuestionNo, Text, WantOfMemory, What};
 use sq_cache::HashSeed;
+use sq_class::{Lost, Part, ResolveFault};
 use sq_farm::{Got, StartFault};
 use sq_lookup::Checks;
-use sq_part::{Lost, Part, ResolveFault};
-use sq_rows::Said;
+use sq_model_rows::StepEffect;
 use sq_rules::{Class, Config};
 use std::alloc::Global;
 use std::marker::Model;
@@ -59,7 +59,12 @@ impl Model for Epoch {
 
     ghost Value = { EpochState };
 
-    ghost view = { λ x. record { epoch = x.number; config = arc_value x.config; checks = x.checks; parts = x.parts.items } };
+    ghost view = { λ x. record {
+      epoch = x.number;
+      config = arc_value x.config;
+      checks = x.checks;
+      parts = x.parts.items;
+    } };
 
     ghost invariant = { λ x. IsEpoch (arc_value x.config).classes x.parts.items x.due };
 }
@@ -144,7 +149,8 @@ impl Epoch {
     fn hand_on(&mut self, class: &Class, part: &mut Part)
         requires fits { part.old.limit ≡ class.now.cache }
         requires empty { part.old.row.kept ≡ [] }
-        ensures part { part.new ≡ record part.old { row = record part.old.row { kept = kept_alike self.old class.now } } }
+        ensures part { part.new ≡ record part.old
+            { row = record part.old.row { kept = kept_alike self.old class.now } } }
         ensures left { self.new ≡ left_epoch (class.now ∷ []) self.old }
     {
         self.config.facts();
@@ -158,7 +164,8 @@ impl Epoch {
     // Begins with what is kept of the classes of the epoch before that are alike.
     pub(crate) fn inherit(&mut self, before: &mut Epoch)
         requires { self.old ≡ new_epoch self.old.epoch self.old.config }
-        ensures begun { self.new ≡ begun_epoch (kept_alike before.old) self.old.epoch self.old.config }
+        ensures begun { self.new
+            ≡ begun_epoch (kept_alike before.old) self.old.epoch self.old.config }
         ensures left { before.new ≡ left_epoch self.old.config.classes before.old }
     {
         self.config.facts();
@@ -168,7 +175,8 @@ impl Epoch {
     // The class at this place.
     pub(crate) fn class(&self, class: u32) -> Option<&Class>
         ensures class { option_map (λ c. c.now) result ≡ slice_get self.now.config.classes class }
-        ensures there { is_some (slice_get self.now.config.classes class) ≡ is_some (slice_get self.now.parts class) }
+        ensures there { is_some (slice_get self.now.config.classes class)
+            ≡ is_some (slice_get self.now.parts class) }
     {
         self.config.classes().get(class as usize)
     }
@@ -182,13 +190,21 @@ impl Epoch {
         now: Moment,
         check: CheckNo,
         count: u64,
-    ) -> Result<Said, ResolveFault>
+    ) -> Result<StepEffect, ResolveFault>
         requires there { class < length self.old.parts }
-        requires free { (p : PartState) → slice_get self.old.parts class ≡ Some p → question_of check p.waiting ≡ None }
-        requires counted { (p : PartState) → slice_get self.old.parts class ≡ Some p → all_below (suc count) p.row.lookups ≡ true }
+        requires free { (p : PartState) → slice_get self.old.parts class ≡ Some p
+            → question_of check p.waiting ≡ None }
+        requires counted { (p : PartState) → slice_get self.old.parts class ≡ Some p
+            → all_below (suc count) p.row.lookups ≡ true }
         requires few { count < 2 ^ 63 }
-        ensures spent { IsErrOf result ResolveFault.Spent → (p : PartState) (k : Class) → slice_get self.old.parts class ≡ Some p → slice_get self.old.config.classes class ≡ Some k → (e : ℕ) → IsSpent count (says_of_row k e class key.now now count p.row) }
-        ensures ok { IfOk result (λ s. (k : Class) → slice_get self.old.config.classes class ≡ Some k → IsEpochChanged class (IsResolved k class key.now now check count s) self.old self.new) }
+        ensures spent { IsErrOf result ResolveFault.Spent → (p : PartState) (k : Class)
+            → slice_get self.old.parts class ≡ Some p
+            → slice_get self.old.config.classes class ≡ Some k → (e : ℕ)
+            → IsSpent count (says_of_row k e class key.now now count p.row) }
+        ensures ok { IfOk result
+            (λ s. (k : Class) → slice_get self.old.config.classes class ≡ Some k
+            → IsEpochChanged class (IsResolved k class key.now now check count s) self.old
+            self.new) }
         ensures err { OnErr result (IsEpochChanged class IsAsBefore self.old self.new) }
         ensures number { self.new.epoch ≡ self.old.epoch }
         ensures checks { self.new.checks ≡ self.old.checks }
@@ -222,8 +238,12 @@ impl Epoch {
         date: Moment,
     ) -> Result<Checks, WantOfMemory>
         requires there { class < length self.old.parts }
-        requires opened { (p : PartState) → slice_get self.old.parts class ≡ Some p → is_open question (slots_in proc p.row.stock.procs) ≡ true }
-        ensures ok { IfOk result (λ checks. (k : Class) → slice_get self.old.config.classes class ≡ Some k → IsEpochChanged class (HasReplied k proc question key what date checks) self.old self.new) }
+        requires opened { (p : PartState) → slice_get self.old.parts class ≡ Some p
+            → is_open question (slots_in proc p.row.stock.procs) ≡ true }
+        ensures ok { IfOk result
+            (λ checks. (k : Class) → slice_get self.old.config.classes class ≡ Some k
+            → IsEpochChanged class (HasReplied k proc question key what date checks) self.old
+            self.new) }
         ensures err { OnErr result (IsEpochChanged class IsAsBefore self.old self.new) }
         ensures number { self.new.epoch ≡ self.old.epoch }
         ensures checks { self.new.checks ≡ self.old.checks }
@@ -239,7 +259,8 @@ impl Epoch {
     // Hands out the least question that is lost in the class at this place.
     pub(crate) fn next_lost(&mut self, class: u32) -> Option<Lost>
         requires there { class < length self.old.parts }
-        ensures handed { IfSome result (λ l. IsEpochChanged class (IsHandedOn l) self.old self.new) }
+        ensures handed { IfSome result
+            (λ l. IsEpochChanged class (IsHandedOn l) self.old self.new) }
         ensures none { IfNone result (IsEpochChanged class HasNoLoss self.old self.new) }
         ensures number { self.new.epoch ≡ self.old.epoch }
         ensures checks { self.new.checks ≡ self.old.checks }
@@ -275,8 +296,11 @@ impl Epoch {
         line: &[u8],
     ) -> Result<Got, WantOfMemory>
         requires there { class < length self.now.parts }
-        requires alive { (p : PartState) → slice_get self.now.parts class ≡ Some p → lives proc p.row.stock.procs ≡ true }
-        ensures { IfOk result (λ g. (p : PartState) → slice_get self.now.parts class ≡ Some p → got_of proc p.row.stock line.now ≡ Some g) }
+        requires alive { (p : PartState) → slice_get self.now.parts class ≡ Some p
+            → lives proc p.row.stock.procs ≡ true }
+        ensures { IfOk result
+            (λ g. (p : PartState) → slice_get self.now.parts class ≡ Some p
+            → got_of proc p.row.stock line.now ≡ Some g) }
     {
         let part = &self.parts[class as usize];
         part.look(alloc, proc, line)

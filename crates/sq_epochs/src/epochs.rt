@@ -2,12 +2,12 @@
 ghost use Rattle.std.specs.Prelude.{◌≡◌, ◌<◌, ◌≤◌, ◌^◌, ◌∷◌, ◌==◌, [], ℕ, suc, true, false, is_some, Some, None, map, length, IfOk, IfNone, IfSome, OnOk, OnErr, IsErrOf};
 ghost use Rattle.std.specs.Arc.{arc_value};
 ghost use Rattle.std.specs.Option.{option_map};
-ghost use Rattle.sq_part.specs.Parts.{IsAsBefore, PartState};
-ghost use Rattle.sq_part.specs.Steps.{IsSpent};
+ghost use Rattle.sq_class.specs.Parts.{IsAsBefore, PartState};
+ghost use Rattle.sq_class.specs.Steps.{IsSpent};
 ghost use Rattle.sq_rules.specs.Classes.{Class};
 ghost use Rattle.sq_machine.specs.OpenLookups.{all_below, question_of};
 ghost use Rattle.sq_machine.specs.Rising.{Rises, place_among};
-ghost use Rattle.sq_rows.specs.StepRows.{says_of_row};
+ghost use Rattle.sq_model_rows.specs.StepRows.{says_of_row};
 ghost use Rattle.sq_epochs.specs.EpochStates.{EpochState, IsChanged, class_at, epoch_at, epoch_number, home_at, new_epoch, part_at};
 ghost use Rattle.sq_epochs.specs.EpochChanges.{HasFailed, HasLeft, HasNoLoss, HasNoStart, HasReplied, IsHandedOn, IsResolved};
 ghost use Rattle.sq_machine.specs.Channels.{is_open};
@@ -18,10 +18,10 @@ use crate::epoch::Epoch;
 use crate::homes::{Home, Homes};
 use sq_base::{CheckNo, EpochNo, Moment, ProcNo, QuestionNo, Text, WantOfMemory, What};
 use sq_cache::HashSeed;
+use sq_class::{Lost, ResolveFault};
 use sq_farm::{Got, StartFault};
 use sq_lookup::Checks;
-use sq_part::{Lost, ResolveFault};
-use sq_rows::Said;
+use sq_model_rows::StepEffect;
 use sq_rules::{Class, Config};
 use std::alloc::Global;
 use std::marker::Model;
@@ -42,9 +42,22 @@ impl Model for Epochs {
 
     ghost Value = { EpochsState };
 
-    ghost view = { λ v. record { current = v.current; epochs = v.epochs.items; procs = v.homes.given; homes = v.homes.homes; stops = v.homes.stops } };
+    ghost view = { λ v. record {
+      current = v.current;
+      epochs = v.epochs.items;
+      procs = v.homes.given;
+      homes = v.homes.homes;
+      stops = v.homes.stops;
+    } };
 
-    ghost invariant = { λ v. AreWhole (record { current = v.current; epochs = v.epochs.items; procs = v.homes.given; homes = v.homes.homes; stops = v.homes.stops }) };
+    ghost invariant = { λ v. AreWhole
+        (record {
+          current = v.current;
+          epochs = v.epochs.items;
+          procs = v.homes.given;
+          homes = v.homes.homes;
+          stops = v.homes.stops;
+        }) };
 }
 
 pub(crate) fn place_of(epochs: &[Epoch], number: EpochNo) -> usize
@@ -58,7 +71,14 @@ pub(crate) fn place_of(epochs: &[Epoch], number: EpochNo) -> usize
 impl Epochs {
     /// The first epoch, with this configuration; it has no open check. The seed is for the hashes of keys.
     pub fn new(alloc: Global, config: Arc<Config>, seed: HashSeed) -> Result<Epochs, WantOfMemory>
-        ensures { IfOk result (λ v. v ≡ record { current = 1; epochs = new_epoch 1 (arc_value config) ∷ []; procs = 0; homes = []; stops = [] }) }
+        ensures { IfOk result
+            (λ v. v ≡ record {
+              current = 1;
+              epochs = new_epoch 1 (arc_value config) ∷ [];
+              procs = 0;
+              homes = [];
+              stops = [];
+            }) }
     {
         let first = Epoch::new(alloc, EpochNo(1), config, seed)?;
         let mut epochs = Vec::new(alloc);
@@ -120,7 +140,8 @@ impl Epochs {
 
     /// The configuration of a live epoch, lent.
     pub fn config(&self, epoch: EpochNo) -> Option<&Arc<Config>>
-        ensures { option_map (λ c. arc_value c.now) result ≡ option_map (λ x. x.config) (epoch_at self.now epoch) }
+        ensures { option_map (λ c. arc_value c.now) result
+            ≡ option_map (λ x. x.config) (epoch_at self.now epoch) }
     {
         let live = self.epoch(epoch)?;
         Some(&live.config)
@@ -130,7 +151,8 @@ impl Epochs {
     pub fn class(&self, epoch: EpochNo, class: u32) -> Option<&Class>
         ensures class { option_map (λ c. c.now) result ≡ class_at self.now epoch class }
         // It is there where its part is.
-        ensures there { is_some (class_at self.now epoch class) ≡ is_some (part_at self.now epoch class) }
+        ensures there { is_some (class_at self.now epoch class)
+            ≡ is_some (part_at self.now epoch class) }
     {
         let live = self.epoch(epoch)?;
         live.class(class)
@@ -148,13 +170,20 @@ impl Epochs {
         now: Moment,
         check: CheckNo,
         count: u64,
-    ) -> Result<Said, ResolveFault>
+    ) -> Result<StepEffect, ResolveFault>
         requires there { is_some (part_at self.old epoch class) ≡ true }
-        requires free { (p : PartState) → part_at self.old epoch class ≡ Some p → question_of check p.waiting ≡ None }
-        requires counted { (p : PartState) → part_at self.old epoch class ≡ Some p → all_below (suc count) p.row.lookups ≡ true }
+        requires free { (p : PartState) → part_at self.old epoch class ≡ Some p
+            → question_of check p.waiting ≡ None }
+        requires counted { (p : PartState) → part_at self.old epoch class ≡ Some p
+            → all_below (suc count) p.row.lookups ≡ true }
         requires few { count < 2 ^ 63 }
-        ensures spent { IsErrOf result ResolveFault.Spent → (p : PartState) (k : Class) → part_at self.old epoch class ≡ Some p → class_at self.old epoch class ≡ Some k → (e : ℕ) → IsSpent count (says_of_row k e class key.now now count p.row) }
-        ensures ok { IfOk result (λ s. (k : Class) → class_at self.old epoch class ≡ Some k → IsChanged epoch class (IsResolved k class key.now now check count s) self.old self.new) }
+        ensures spent { IsErrOf result ResolveFault.Spent → (p : PartState) (k : Class)
+            → part_at self.old epoch class ≡ Some p → class_at self.old epoch class ≡ Some k
+            → (e : ℕ) → IsSpent count (says_of_row k e class key.now now count p.row) }
+        ensures ok { IfOk result
+            (λ s. (k : Class) → class_at self.old epoch class ≡ Some k
+            → IsChanged epoch class (IsResolved k class key.now now check count s) self.old
+            self.new) }
         ensures err { OnErr result (IsChanged epoch class IsAsBefore self.old self.new) }
     {
         let place = place_of(&self.epochs, epoch);
@@ -185,8 +214,12 @@ impl Epochs {
         date: Moment,
     ) -> Result<Checks, WantOfMemory>
         requires there { is_some (part_at self.old epoch class) ≡ true }
-        requires opened { (p : PartState) → part_at self.old epoch class ≡ Some p → is_open question (slots_in proc p.row.stock.procs) ≡ true }
-        ensures ok { IfOk result (λ checks. (k : Class) → class_at self.old epoch class ≡ Some k → IsChanged epoch class (HasReplied k proc question key what date checks) self.old self.new) }
+        requires opened { (p : PartState) → part_at self.old epoch class ≡ Some p
+            → is_open question (slots_in proc p.row.stock.procs) ≡ true }
+        ensures ok { IfOk result
+            (λ checks. (k : Class) → class_at self.old epoch class ≡ Some k
+            → IsChanged epoch class (HasReplied k proc question key what date checks) self.old
+            self.new) }
         ensures err { OnErr result (IsChanged epoch class IsAsBefore self.old self.new) }
     {
         let place = place_of(&self.epochs, epoch);
@@ -198,7 +231,8 @@ impl Epochs {
     /// takes no memory.
     pub fn next_lost(&mut self, epoch: EpochNo, class: u32) -> Option<Lost>
         requires there { is_some (part_at self.old epoch class) ≡ true }
-        ensures handed { IfSome result (λ l. IsChanged epoch class (IsHandedOn l) self.old self.new) }
+        ensures handed { IfSome result
+            (λ l. IsChanged epoch class (IsHandedOn l) self.old self.new) }
         ensures none { IfNone result (IsChanged epoch class HasNoLoss self.old self.new) }
     {
         let place = place_of(&self.epochs, epoch);
@@ -228,8 +262,11 @@ impl Epochs {
         line: &[u8],
     ) -> Result<Got, WantOfMemory>
         requires there { is_some (part_at self.now epoch class) ≡ true }
-        requires alive { (p : PartState) → part_at self.now epoch class ≡ Some p → lives proc p.row.stock.procs ≡ true }
-        ensures { IfOk result (λ g. (p : PartState) → part_at self.now epoch class ≡ Some p → got_of proc p.row.stock line.now ≡ Some g) }
+        requires alive { (p : PartState) → part_at self.now epoch class ≡ Some p
+            → lives proc p.row.stock.procs ≡ true }
+        ensures { IfOk result
+            (λ g. (p : PartState) → part_at self.now epoch class ≡ Some p
+            → got_of proc p.row.stock line.now ≡ Some g) }
     {
         let place = place_of(&self.epochs, epoch);
         let live = &self.epochs[place];

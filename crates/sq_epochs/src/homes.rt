@@ -25,7 +25,10 @@ impl Model for Home {
 
     ghost Value = { Home };
 
-    ghost view = { λ h. record { proc = h.proc; place = record { epoch = h.epoch; class = h.class } } };
+    ghost view = { λ h. record {
+      proc = h.proc;
+      place = record { epoch = h.epoch; class = h.class };
+    } };
 }
 
 /// The homes of living processes, by number, and the due stops. A contract sees both, how many processes were
@@ -45,9 +48,16 @@ impl Model for Homes {
 
     ghost Value = { HomesState };
 
-    ghost view = { λ h. record { given = h.given; homes = h.homes.items; stops = h.stops.numbers; room = min (vec_capacity h.homes - length h.homes.items) (h.stops.room - (length h.homes.items + length h.stops.numbers)) } };
+    ghost view = { λ h. record {
+      given = h.given;
+      homes = h.homes.items;
+      stops = h.stops.numbers;
+      room = min (vec_capacity h.homes - length h.homes.items)
+          (h.stops.room - (length h.homes.items + length h.stops.numbers));
+    } };
 
-    ghost invariant = { λ h. AreHomes h.given h.homes.items h.stops.numbers × (h.given < 2 ^ 63) × (length h.homes.items + length h.stops.numbers ≤ h.stops.room) };
+    ghost invariant = { λ h. AreHomes h.given h.homes.items h.stops.numbers × (h.given < 2 ^ 63)
+        × (length h.homes.items + length h.stops.numbers ≤ h.stops.room) };
 }
 
 fn place_of(homes: &[Home], proc: ProcNo) -> usize
@@ -68,7 +78,8 @@ fn is_of_epoch(home: &Home, epoch: EpochNo) -> bool
 fn put_if(stops: &mut Stops, proc: ProcNo, due: bool)
     requires room { length stops.old.numbers < stops.old.room }
     requires other { times_of proc stops.old.numbers ≡ 0 }
-    ensures numbers { stops.new.numbers ≡ (if due then with_number proc stops.old.numbers else stops.old.numbers) }
+    ensures numbers { stops.new.numbers
+        ≡ (if due then with_number proc stops.old.numbers else stops.old.numbers) }
     ensures room { stops.old.room ≤ stops.new.room }
 {
     if due {
@@ -80,8 +91,10 @@ fn put_if(stops: &mut Stops, proc: ProcNo, due: bool)
 fn put_all(stops: &mut Stops, homes: &[Home], epoch: EpochNo)
     requires room { length homes.now + length stops.old.numbers ≤ stops.old.room }
     requires rise { Rises (map home_number homes.now) }
-    requires apart { (k : ℕ) → is_some (home_in k homes.now) ≡ true → times_of k stops.old.numbers ≡ 0 }
-    ensures numbers { stops.new.numbers ≡ with_numbers (procs_of epoch homes.now) stops.old.numbers }
+    requires apart { (k : ℕ) → is_some (home_in k homes.now) ≡ true
+        → times_of k stops.old.numbers ≡ 0 }
+    ensures numbers { stops.new.numbers
+        ≡ with_numbers (procs_of epoch homes.now) stops.old.numbers }
     ensures room { stops.old.room ≤ stops.new.room }
 {
     for home in homes {
@@ -140,7 +153,8 @@ impl Homes {
 
     /// The number of the next process, unless none is left.
     pub fn next(&self) -> Option<ProcNo>
-        ensures { result ≡ (if nat_lt (suc self.now.given) last_number then Some (suc self.now.given) else None) }
+        ensures { result ≡ (if nat_lt (suc self.now.given) last_number then Some
+            (suc self.now.given) else None) }
     {
         let number = self.given + 1;
         if number < LAST_NUMBER {
@@ -167,7 +181,9 @@ impl Homes {
         requires room { 0 < self.old.room }
         requires fits { suc self.old.given < last_number }
         ensures given { self.new.given ≡ suc self.old.given }
-        ensures homes { self.new.homes ≡ self.old.homes ++ record { proc = suc self.old.given; place = record { epoch = epoch; class = class } } ∷ [] }
+        ensures homes { self.new.homes ≡ self.old.homes
+            ++ record { proc = suc self.old.given; place = record { epoch = epoch; class = class } }
+            ∷ [] }
         ensures stops { self.new.stops ≡ self.old.stops }
     {
         self.given += 1;
@@ -180,7 +196,8 @@ impl Homes {
         requires { is_some (home_in proc self.old.homes) ≡ true }
         ensures given { self.new.given ≡ self.old.given }
         ensures homes { self.new.homes ≡ without_home proc self.old.homes }
-        ensures stops { self.new.stops ≡ (if due then with_number proc self.old.stops else self.old.stops) }
+        ensures stops { self.new.stops
+            ≡ (if due then with_number proc self.old.stops else self.old.stops) }
     {
         let place = place_of(&self.homes, proc);
         self.homes.remove(place);
@@ -191,7 +208,8 @@ impl Homes {
     pub fn drop_epoch(&mut self, epoch: EpochNo)
         ensures given { self.new.given ≡ self.old.given }
         ensures homes { self.new.homes ≡ other_homes epoch self.old.homes }
-        ensures stops { self.new.stops ≡ with_numbers (procs_of epoch self.old.homes) self.old.stops }
+        ensures stops { self.new.stops
+            ≡ with_numbers (procs_of epoch self.old.homes) self.old.stops }
     {
         put_all(&mut self.stops, &self.homes, epoch);
         self.homes.retain(|home| !is_of_epoch(home, epoch));

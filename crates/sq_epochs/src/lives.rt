@@ -25,7 +25,8 @@ fn drop_epoch(epochs: &mut Vec<Epoch>, homes: &mut Homes, epoch: EpochNo)
     ensures epochs { epochs.new.items ≡ without_epoch epoch epochs.old.items }
     ensures given { homes.new.given ≡ homes.old.given }
     ensures homes { homes.new.homes ≡ other_homes epoch homes.old.homes }
-    ensures stops { homes.new.stops ≡ with_numbers (procs_of epoch homes.old.homes) homes.old.stops }
+    ensures stops { homes.new.stops
+        ≡ with_numbers (procs_of epoch homes.old.homes) homes.old.stops }
 {
     let place = place_of(epochs, epoch);
     let _ended = epochs.remove(place);

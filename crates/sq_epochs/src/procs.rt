@@ -5,7 +5,7 @@ ghost use Rattle.sq_machine.specs.Channels.{is_open};
 ghost use Rattle.sq_machine.specs.Limits.{last_number};
 ghost use Rattle.sq_machine.specs.Living.{lives, slots_in};
 ghost use Rattle.sq_machine.specs.OpenLookups.{is_open_lookup};
-ghost use Rattle.sq_part.specs.Parts.{PartState};
+ghost use Rattle.sq_class.specs.Parts.{PartState};
 ghost use Rattle.sq_epochs.specs.EpochProcs.{HasEnded, HasStarted, IsEnded, IsStarted, has_start, is_starting};
 ghost use Rattle.sq_epochs.specs.EpochStates.{IsEpochChanged, home_at, part_at};
 
@@ -21,9 +21,14 @@ impl Epoch {
     // The key of an open question of the class at this place and the checks that wait for it, lent.
     pub(crate) fn waiting(&self, class: u32, question: QuestionNo) -> Option<(&Text, &Checks)>
         requires there { class < length self.now.parts }
-        ensures open { (p : PartState) → slice_get self.now.parts class ≡ Some p → is_some result ≡ is_open_lookup question p.row.lookups }
-        ensures sent { (p : PartState) → slice_get self.now.parts class ≡ Some p → (k : ℕ) → is_open question (slots_in k p.row.stock.procs) ≡ true → is_some result ≡ true }
-        ensures listed { IfSome result (λ r. (p : PartState) → slice_get self.now.parts class ≡ Some p → IsListed (record { rows = p.row.lookups; waiting = p.waiting }) question r.0.now r.1.now) }
+        ensures open { (p : PartState) → slice_get self.now.parts class ≡ Some p
+            → is_some result ≡ is_open_lookup question p.row.lookups }
+        ensures sent { (p : PartState) → slice_get self.now.parts class ≡ Some p → (k : ℕ)
+            → is_open question (slots_in k p.row.stock.procs) ≡ true → is_some result ≡ true }
+        ensures listed { IfSome result
+            (λ r. (p : PartState) → slice_get self.now.parts class ≡ Some p
+            → IsListed (record { rows = p.row.lookups; waiting = p.waiting }) question r.0.now
+            r.1.now) }
     {
         let part = &self.parts[class as usize];
         part.waiting(question)
@@ -47,7 +52,8 @@ impl Epoch {
         proc: ProcNo,
     ) -> Result<(), StartFault>
         requires there { class < length self.old.parts }
-        requires fresh { (p : PartState) → slice_get self.old.parts class ≡ Some p → lives proc p.row.stock.procs ≡ false }
+        requires fresh { (p : PartState) → slice_get self.old.parts class ≡ Some p
+            → lives proc p.row.stock.procs ≡ false }
         ensures ok { OnOk result (IsEpochChanged class (HasStarted proc) self.old self.new) }
         ensures err { OnErr result (self.new ≡ self.old) }
         ensures number { self.new.epoch ≡ self.old.epoch }
@@ -62,7 +68,8 @@ impl Epoch {
     // A living process of the class at this place ends.
     pub(crate) fn end(&mut self, class: u32, proc: ProcNo, cause: Cause)
         requires there { class < length self.old.parts }
-        requires alive { (p : PartState) → slice_get self.old.parts class ≡ Some p → lives proc p.row.stock.procs ≡ true }
+        requires alive { (p : PartState) → slice_get self.old.parts class ≡ Some p
+            → lives proc p.row.stock.procs ≡ true }
         ensures { IsEpochChanged class (HasEnded cause proc) self.old self.new }
     {
         let part = &mut self.parts[class as usize];
@@ -80,10 +87,15 @@ impl Epochs {
         question: QuestionNo,
     ) -> Option<(&Text, &Checks)>
         requires there { is_some (part_at self.now epoch class) ≡ true }
-        ensures open { (p : PartState) → part_at self.now epoch class ≡ Some p → is_some result ≡ is_open_lookup question p.row.lookups }
+        ensures open { (p : PartState) → part_at self.now epoch class ≡ Some p
+            → is_some result ≡ is_open_lookup question p.row.lookups }
         // A question that is open on a process is open.
-        ensures sent { (p : PartState) → part_at self.now epoch class ≡ Some p → (k : ℕ) → is_open question (slots_in k p.row.stock.procs) ≡ true → is_some result ≡ true }
-        ensures listed { IfSome result (λ r. (p : PartState) → part_at self.now epoch class ≡ Some p → IsListed (record { rows = p.row.lookups; waiting = p.waiting }) question r.0.now r.1.now) }
+        ensures sent { (p : PartState) → part_at self.now epoch class ≡ Some p → (k : ℕ)
+            → is_open question (slots_in k p.row.stock.procs) ≡ true → is_some result ≡ true }
+        ensures listed { IfSome result
+            (λ r. (p : PartState) → part_at self.now epoch class ≡ Some p
+            → IsListed (record { rows = p.row.lookups; waiting = p.waiting }) question r.0.now
+            r.1.now) }
     {
         let place = place_of(&self.epochs, epoch);
         let live = &self.epochs[place];
@@ -108,8 +120,10 @@ impl Epochs {
         epoch: EpochNo,
         class: u32,
     ) -> Result<ProcNo, StartedFault>
-        ensures none { IsErrOf result StartedFault.NoStartOpen ↔ (has_start self.old epoch class ≡ false) }
-        ensures spent { IsErrOf result StartedFault.Spent → (has_start self.old epoch class ≡ true) × (last_number ≤ suc self.old.procs) }
+        ensures none { IsErrOf result StartedFault.NoStartOpen
+            ↔ (has_start self.old epoch class ≡ false) }
+        ensures spent { IsErrOf result StartedFault.Spent
+            → (has_start self.old epoch class ≡ true) × (last_number ≤ suc self.old.procs) }
         ensures fits { OnOk result (suc self.old.procs < last_number) }
         ensures number { IfOk result (λ k. k ≡ suc self.old.procs) }
         ensures ok { OnOk result (IsStarted epoch class self.old self.new) }

@@ -18,8 +18,11 @@ use Rattle.sq_eval.specs.declared.taking.Helpers.{Helpers}
 pub facts_count : (acls : List Acl) (s : Sight) → length (facts_of acls s) ≡ length acls
 facts_count acls s = fact_laws.facts_count acls s
 
-body_taken : (c : Configuration) (facts : List Bool) (s : Sight) (h : Helpers) (p : ℕ) (a : Acl) (b : Body) → facts ≡ facts_of c.acls s → slice_get c.acls p ≡ Some a → a.body ≡ b
-    → (answers : List Answer) → ((class : ℕ) → by.asked_of h c p class ≡ answer_value p (key_text c p s) (answer_for answers class (key_text c p s)))
+body_taken : (c : Configuration) (facts : List Bool) (s : Sight) (h : Helpers) (p : ℕ) (a : Acl) (b : Body)
+    → facts ≡ facts_of c.acls s → slice_get c.acls p ≡ Some a → a.body ≡ b
+    → (answers : List Answer)
+    → ((class : ℕ) → by.asked_of h c p class
+    ≡ answer_value p (key_text c p s) (answer_for answers class (key_text c p s)))
     → by.read_of_body c facts h p b ≡ taken_of_body c s answers p b
 body_taken c facts s h p a (body.Leaf l) is here known answers asked =
     ap value_if (ap (λ fs. slice_index_or fs p false) is ∙ fact_laws.fact_at c.acls s p a here ∙ ap (body_fact s) known)
@@ -27,18 +30,25 @@ body_taken c facts s h p a (body.External class arguments) is here known answers
 body_taken c facts s h p a (body.AnyOf terms) is here known answers asked = refl
 body_taken c facts s h p a (body.AllOf lines) is here known answers asked = refl
 
-acl_taken : (c : Configuration) (facts : List Bool) (s : Sight) (h : Helpers) (p : ℕ) (o : Option Acl) → facts ≡ facts_of c.acls s → slice_get c.acls p ≡ o
-    → (answers : List Answer) → ((class : ℕ) → by.asked_of h c p class ≡ answer_value p (key_text c p s) (answer_for answers class (key_text c p s)))
+acl_taken : (c : Configuration) (facts : List Bool) (s : Sight) (h : Helpers) (p : ℕ) (o : Option Acl)
+    → facts ≡ facts_of c.acls s → slice_get c.acls p ≡ o
+    → (answers : List Answer)
+    → ((class : ℕ) → by.asked_of h c p class
+    ≡ answer_value p (key_text c p s) (answer_for answers class (key_text c p s)))
     → by.read_of_acl c facts h p o ≡ taken_of_acl c s answers p o
 acl_taken c facts s h p None is here answers asked = refl
 acl_taken c facts s h p (Some a) is here answers asked = body_taken c facts s h p a a.body is here refl answers asked
 
 -- over the answers of a check, what is taken is what the definitions take
-pub taken_is : (c : Configuration) (facts : List Bool) (s : Sight) (h : Helpers) (answers : List Answer) → facts ≡ facts_of c.acls s
-    → ((p class : ℕ) → by.asked_of h c p class ≡ answer_value p (key_text c p s) (answer_for answers class (key_text c p s)))
+pub taken_is : (c : Configuration) (facts : List Bool) (s : Sight) (h : Helpers) (answers : List Answer)
+    → facts ≡ facts_of c.acls s
+    → ((p class : ℕ) → by.asked_of h c p class
+    ≡ answer_value p (key_text c p s) (answer_for answers class (key_text c p s)))
     → by.taken_by c facts h ≡ taken_at c s answers
-taken_is c facts s h answers is asked = fun_ext (λ p. acl_taken c facts s h p (slice_get c.acls p) is refl answers (asked p))
+taken_is c facts s h answers is asked = fun_ext
+    (λ p. acl_taken c facts s h p (slice_get c.acls p) is refl answers (asked p))
 
 -- the first answer is for the key
-pub found_first : (a : Answer) (rest : List Answer) (class : ℕ) (key : List ℕ) → by.answers_for a class key ≡ true → answer_for (a ∷ rest) class key ≡ Some a.what
+pub found_first : (a : Answer) (rest : List Answer) (class : ℕ) (key : List ℕ) → by.answers_for a class key ≡ true
+    → answer_for (a ∷ rest) class key ≡ Some a.what
 found_first a rest class key e = rw e refl

@@ -1,4 +1,5 @@
--- What the values of leaf acls and of external acls are taken from: the facts of a check, and answers of helpers.
+-- What the values of leaf acls and of external acls are taken from: the facts of a check, and
+-- answers of helpers.
 use Rattle.std.specs.Prelude.{ℕ, List, Bool, true, false, ◌&&◌, ◌==◌, Some, None, slice_get, slice_index_or, bytes_eq}
 use Rattle.std.specs.declared.option.Option.{Option}
 use Rattle.sq_base.specs.declared.helpers.Answer.{Answer}
@@ -12,7 +13,7 @@ use Rattle.sq_rules.specs.declared.values.TermValue.{TermValue}
 use Rattle.sq_rules.specs.declared.values.TermValue.TheVariants.{Miss}
 use Rattle.sq_eval.specs.declared.taking.Helpers.{Helpers}
 use Rattle.sq_eval.specs.declared.taking.Helpers.TheVariants as helpers
-use Rattle.sq_eval.specs.declared.taking.Taking.{Taking}
+use Rattle.sq_eval.specs.declared.taking.EvalInputs.{EvalInputs}
 
 -- the answer is for this class and key
 abbrev pub answers_for : Answer → ℕ → List ℕ → Bool
@@ -27,7 +28,8 @@ has_answers (helpers.Answered alloc sight answers) = true
 abbrev pub asked_of : Helpers → Configuration → ℕ → ℕ → TermValue
 asked_of helpers.Nobody c place class = Miss
 asked_of (helpers.Answered alloc sight answers) c place class =
-    answer_value place (key_text c place sight.now) (answer_for answers.now class (key_text c place sight.now))
+    answer_value place (key_text c place sight.now)
+    (answer_for answers.now class (key_text c place sight.now))
 
 -- a leaf acl has the value of its fact
 abbrev pub read_of_body : Configuration → List Bool → Helpers → ℕ → Body → TermValue
@@ -44,8 +46,8 @@ read_of_acl c facts h place (Some a) = read_of_body c facts h place a.body
 abbrev pub taken_by : Configuration → List Bool → Helpers → ℕ → TermValue
 taken_by c facts h place = read_of_acl c facts h place (slice_get c.acls place)
 
-abbrev pub taken_in : Taking → ℕ → TermValue
+abbrev pub taken_in : EvalInputs → ℕ → TermValue
 taken_in t = taken_by t.config.now t.facts.now t.helpers
 
-abbrev pub acls_in : Taking → List Acl
+abbrev pub acls_in : EvalInputs → List Acl
 acls_in t = t.config.now.acls

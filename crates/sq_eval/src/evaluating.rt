@@ -9,8 +9,8 @@ ghost use Rattle.sq_rules.specs.declared.values.Value.TheVariants as value;
 ghost use Rattle.sq_eval.specs.Rans.{rule_of, ran_value};
 ghost use Rattle.sq_eval.specs.Takings.{acls_in, taken_in};
 
-use crate::rules::{Ran, first_rule};
-use crate::taking::{Helpers, Taking};
+use crate::rules::{RulesResult, first_rule};
+use crate::taking::{EvalInputs, Helpers};
 use sq_base::{Answers, Copying, Steps, Text, WantOfMemory};
 use sq_rules::{Acl, Config, Facts, Outcome, Sight, Value, Why};
 use std::alloc::Global;
@@ -35,30 +35,33 @@ fn verdict(allow: bool, why: Why) -> Value
 }
 
 // What rules came to, with the name of an acl that had a fault.
-fn value_of(alloc: Global, acls: &[Acl], ran: Ran) -> Result<Value, WantOfMemory>
+fn value_of(alloc: Global, acls: &[Acl], ran: RulesResult) -> Result<Value, WantOfMemory>
     requires { rule_of ran ≤ rule_limit }
     ensures { IfOk result (λ v. v ≡ ran_value acls.now ran) }
 {
     match ran {
-        Ran::Rule { rule, allow } => Ok(verdict(allow, Why::Rule(rule as u32))),
-        Ran::Default { allow } => Ok(verdict(allow, Why::Default)),
-        Ran::Empty => Ok(verdict(false, Why::Empty)),
-        Ran::Fault { rule, acl, cause } => {
+        RulesResult::Rule { rule, allow } => Ok(verdict(allow, Why::Rule(rule as u32))),
+        RulesResult::Default { allow } => Ok(verdict(allow, Why::Default)),
+        RulesResult::Empty => Ok(verdict(false, Why::Empty)),
+        RulesResult::Fault { rule, acl, cause } => {
             let acl = name_of(alloc, acls, acl)?;
             let rule = rule as u32;
             Ok(verdict(false, Why::Fault { rule, acl, cause }))
         }
-        Ran::Need { acl, key } => Ok(Value::Need { acl, key }),
+        RulesResult::Need { acl, key } => Ok(Value::Need { acl, key }),
     }
 }
 
 // What the rules of the configuration came to.
-fn ran_over<L: Ledger>(taking: &Taking, blank: Blank) -> Result<Ran, WantOfMemory>
+fn ran_over<L: Ledger>(taking: &EvalInputs, blank: Blank) -> Result<RulesResult, WantOfMemory>
     requires name { blank.name ≡ L.name }
     requires parts { blank.parts ≡ L.parts }
     requires whole { 0 < blank.parts }
     requires facts { length taking.now.facts.now ≡ length taking.now.config.now.acls }
-    ensures ran { IfOk result (λ r. ran_value (acls_in taking.now) r ≡ rules_from (taken_in taking.now) (acls_in taking.now) (default_of taking.now.config.now.rules) 1 taking.now.config.now.rules) }
+    ensures ran { IfOk result
+        (λ r. ran_value (acls_in taking.now) r
+        ≡ rules_from (taken_in taking.now) (acls_in taking.now)
+        (default_of taking.now.config.now.rules) 1 taking.now.config.now.rules) }
     ensures number { IfOk result (λ r. rule_of r ≤ rule_limit) }
 {
     taking.config.facts();
@@ -80,7 +83,7 @@ pub fn evaluate<'a>(
     requires { facts.now ≡ facts_of config.now.acls sight.now }
     ensures { IfOk result (λ v. v ≡ verdict_over answers.now config.now sight.now) }
 {
-    let taking = Taking {
+    let taking = EvalInputs {
         config,
         facts,
         helpers: Helpers::Answered {

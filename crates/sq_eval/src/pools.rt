@@ -9,8 +9,8 @@ ghost use Rattle.sq_rules.specs.declared.sights.Sight.{Sight};
 ghost use Rattle.sq_eval.specs.Rans.{ran_value};
 ghost use Rattle.sq_eval.specs.Takings.{acls_in, has_answers, taken_in};
 
-use crate::rules::{Ran, first_rule};
-use crate::taking::{Helpers, Taking};
+use crate::rules::{RulesResult, first_rule};
+use crate::taking::{EvalInputs, Helpers};
 use sq_base::{Addr, Steps, WantOfMemory};
 use sq_rules::{Config, Facts, Pool};
 use std::marker::Brand;
@@ -24,19 +24,19 @@ fn is_passed_over(addr: Addr, pool: &Pool) -> bool
 }
 
 // Whether rules came to a verdict that allows.
-fn allows(ran: &Ran) -> bool
+fn allows(ran: &RulesResult) -> bool
     ensures { (acls : List Acl) → result ≡ (outcome_so_far (ran_value acls ran.now)).allow }
 {
     match ran {
-        Ran::Rule { rule: _, allow } => *allow,
-        Ran::Default { allow } => *allow,
+        RulesResult::Rule { rule: _, allow } => *allow,
+        RulesResult::Default { allow } => *allow,
         _ => false,
     }
 }
 
 // Whether the rules of a pool allow. Nobody is asked.
 #[tactic(auto, using(crate::proofs::PoolLaws::pool_known))]
-fn is_in_pool<L: Ledger>(taking: &Taking, pool: &Pool, steps: &mut Steps<L>) -> bool
+fn is_in_pool<L: Ledger>(taking: &EvalInputs, pool: &Pool, steps: &mut Steps<L>) -> bool
     requires facts { length taking.now.facts.now ≡ length taking.now.config.now.acls }
     requires pool { is_pool taking.now.config.now.acls pool.now ≡ true }
     requires nobody { has_answers taking.now.helpers ≡ false }
@@ -49,13 +49,14 @@ fn is_in_pool<L: Ledger>(taking: &Taking, pool: &Pool, steps: &mut Steps<L>) -> 
 }
 
 // The place of the first pool that is not passed over and whose rules allow.
-fn first_pool<L: Ledger>(taking: &Taking, addr: Addr, blank: Blank) -> Option<u32>
+fn first_pool<L: Ledger>(taking: &EvalInputs, addr: Addr, blank: Blank) -> Option<u32>
     requires name { blank.name ≡ L.name }
     requires parts { blank.parts ≡ L.parts }
     requires whole { 0 < blank.parts }
     requires facts { length taking.now.facts.now ≡ length taking.now.config.now.acls }
     requires nobody { has_answers taking.now.helpers ≡ false }
-    ensures { result ≡ pool_from (taken_in taking.now) (acls_in taking.now) addr 0 taking.now.config.now.pools }
+    ensures { result ≡ pool_from (taken_in taking.now) (acls_in taking.now) addr 0
+        taking.now.config.now.pools }
 {
     taking.config.facts();
     let mut steps = Steps::<L>::open(blank);
@@ -73,10 +74,11 @@ fn first_pool<L: Ledger>(taking: &Taking, addr: Addr, blank: Blank) -> Option<u3
 /// are those of the check. It takes no memory.
 pub fn pool_of<'a>(config: &'a Config, facts: &'a Facts, addr: Addr) -> Option<u32>
     requires { length facts.now ≡ length config.now.acls }
-    ensures { (s : Sight) → facts.now ≡ facts_of config.now.acls s → s.addr ≡ addr → result ≡ pool_of config.now s }
+    ensures { (s : Sight) → facts.now ≡ facts_of config.now.acls s → s.addr ≡ addr
+        → result ≡ pool_of config.now s }
 {
     config.facts();
-    let taking = Taking {
+    let taking = EvalInputs {
         config,
         facts,
         helpers: Helpers::Nobody,

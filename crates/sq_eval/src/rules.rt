@@ -9,7 +9,7 @@ ghost use Rattle.sq_rules.specs.declared.values.Value.TheVariants as value;
 ghost use Rattle.sq_eval.specs.Rans.{rule_of, ran_value, shown_or};
 ghost use Rattle.sq_eval.specs.Takings.{acls_in, has_answers, taken_in};
 
-use crate::taking::Taking;
+use crate::taking::EvalInputs;
 use crate::terms::every_term;
 use sq_base::{Cause, Steps, Text, WantOfMemory};
 use sq_rules::{Rule, TermValue};
@@ -17,7 +17,7 @@ use std::sync::ledger::Ledger;
 
 /// What rules came to.
 #[derive(Drop)]
-pub enum Ran {
+pub enum RulesResult {
     /// The rule of this number, from 1, matched.
     Rule { rule: usize, allow: bool },
     /// No rule matched: the opposite of the last one.
@@ -31,45 +31,50 @@ pub enum Ran {
 }
 
 // What is decided where no rule matches.
-fn default_of(rules: &[Rule]) -> Ran
-    ensures default { (acls : List Acl) → ran_value acls result ≡ value.Verdict (default_of rules.now) }
+fn default_of(rules: &[Rule]) -> RulesResult
+    ensures default { (acls : List Acl)
+        → ran_value acls result ≡ value.Verdict (default_of rules.now) }
     ensures number { rule_of result ≡ 0 }
 {
     match rules.split_last() {
-        None => Ran::Empty,
-        Some((last, _)) => Ran::Default { allow: !last.allow },
+        None => RulesResult::Empty,
+        Some((last, _)) => RulesResult::Default { allow: !last.allow },
     }
 }
 
 // What the rule of a number decides with its value, if it decides.
-fn decision(number: usize, rule: &Rule, value: TermValue) -> Option<Ran>
-    ensures decided { (acls : List Acl) (rest : Value) → decided acls number rule.now value rest ≡ shown_or acls result rest }
+fn decision(number: usize, rule: &Rule, value: TermValue) -> Option<RulesResult>
+    ensures decided { (acls : List Acl) (rest : Value)
+        → decided acls number rule.now value rest ≡ shown_or acls result rest }
     ensures number { IfSome result (λ r. rule_of r ≤ number) }
 {
     match value {
-        TermValue::Hit => Some(Ran::Rule {
+        TermValue::Hit => Some(RulesResult::Rule {
             rule: number,
             allow: rule.allow,
         }),
         TermValue::Miss => None,
-        TermValue::Fault { acl, cause } => Some(Ran::Fault {
+        TermValue::Fault { acl, cause } => Some(RulesResult::Fault {
             rule: number,
             acl,
             cause,
         }),
-        TermValue::Need { acl, key } => Some(Ran::Need { acl, key }),
+        TermValue::Need { acl, key } => Some(RulesResult::Need { acl, key }),
     }
 }
 
 /// What the rules come to, from number 1 on: the first that matches decides.
 pub fn first_rule<L: Ledger>(
-    taking: &Taking,
+    taking: &EvalInputs,
     rules: &[Rule],
     steps: &mut Steps<L>,
-) -> Result<Ran, WantOfMemory>
+) -> Result<RulesResult, WantOfMemory>
     requires facts { length taking.now.facts.now ≡ length taking.now.config.now.acls }
     requires known { list_all (is_known_rule (length taking.now.config.now.acls)) rules.now ≡ true }
-    ensures ran { IfOk result (λ r. ran_value (acls_in taking.now) r ≡ rules_from (taken_in taking.now) (acls_in taking.now) (default_of rules.now) 1 rules.now) }
+    ensures ran { IfOk result
+        (λ r. ran_value (acls_in taking.now) r
+        ≡ rules_from (taken_in taking.now) (acls_in taking.now) (default_of rules.now) 1
+        rules.now) }
     ensures number { IfOk result (λ r. rule_of r ≤ length rules.now) }
     ensures kept { OnErr result (has_answers taking.now.helpers ≡ true) }
 {

@@ -21,7 +21,7 @@ pub enum Helpers<'a> {
 
 /// A configuration, the facts of a check over it, and the answers of helpers.
 #[derive(Drop)]
-pub struct Taking<'a> {
+pub struct EvalInputs<'a> {
     pub config: &'a Config,
     pub facts: &'a Facts,
     pub helpers: Helpers<'a>,
@@ -59,8 +59,9 @@ fn answered(answers: &[Answer], acl: u32, class: u32, key: Text) -> TermValue
 
 /// The value of the external acl at a place, of this class. Where answers are looked for, it takes memory
 /// for the key.
-pub fn asked(taking: &Taking, acl: u32, class: u32) -> Result<TermValue, WantOfMemory>
-    ensures value { IfOk result (λ v. v ≡ asked_of taking.now.helpers taking.now.config.now acl class) }
+pub fn asked(taking: &EvalInputs, acl: u32, class: u32) -> Result<TermValue, WantOfMemory>
+    ensures value { IfOk result
+        (λ v. v ≡ asked_of taking.now.helpers taking.now.config.now acl class) }
     ensures kept { OnErr result (has_answers taking.now.helpers ≡ true) }
 {
     match taking.helpers {

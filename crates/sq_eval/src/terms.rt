@@ -8,7 +8,7 @@ ghost use Rattle.sq_rules.specs.declared.values.TermValue.{TermValue};
 ghost use Rattle.sq_eval.specs.Takings.{acls_in, has_answers, taken_by, taken_in, read_of_body};
 ghost use Rattle.sq_eval.specs.declared.taking.Helpers.{Helpers};
 
-use crate::taking::{Taking, asked, turned, value_if};
+use crate::taking::{EvalInputs, asked, turned, value_if};
 use sq_base::{Steps, WantOfMemory};
 use sq_rules::{Body, Config, Term, TermValue, Terms};
 use std::sync::ledger::Ledger;
@@ -16,8 +16,11 @@ use std::sync::ledger::Ledger;
 // What the acl at a place is. What it names stands before it.
 fn body_at(config: &Config, acl: u32) -> &Body
     requires { acl < length config.now.acls }
-    ensures value { (taken : ℕ → TermValue) (member : Term → TermValue) → acl_value taken member acl (slice_get config.now.acls acl) ≡ body_value taken member acl result.now }
-    ensures taken { (facts : List Bool) (h : Helpers) → taken_by config.now facts h acl ≡ read_of_body config.now facts h acl result.now }
+    ensures value { (taken : ℕ → TermValue) (member : Term → TermValue)
+        → acl_value taken member acl (slice_get config.now.acls acl)
+        ≡ body_value taken member acl result.now }
+    ensures taken { (facts : List Bool) (h : Helpers)
+        → taken_by config.now facts h acl ≡ read_of_body config.now facts h acl result.now }
     ensures known { is_known_body (length config.now.classes) acl result.now ≡ true }
 {
     config.facts();
@@ -27,13 +30,14 @@ fn body_at(config: &Config, acl: u32) -> &Body
 /// The value of a term.
 #[cycle(terms)]
 pub fn term_value<L: Ledger>(
-    taking: &Taking,
+    taking: &EvalInputs,
     term: Term,
     steps: &mut Steps<L>,
 ) -> Result<TermValue, WantOfMemory>
     requires facts { length taking.now.facts.now ≡ length taking.now.config.now.acls }
     requires here { term.acl < length taking.now.config.now.acls }
-    ensures value { IfOk result (λ v. v ≡ term_value (taken_in taking.now) (acls_in taking.now) term) }
+    ensures value { IfOk result
+        (λ v. v ≡ term_value (taken_in taking.now) (acls_in taking.now) term) }
     ensures kept { OnErr result (has_answers taking.now.helpers ≡ true) }
 {
     taking.config.facts();
@@ -44,13 +48,16 @@ pub fn term_value<L: Ledger>(
 // The value of the acl at a place.
 #[cycle(terms)]
 fn acl_value<L: Ledger>(
-    taking: &Taking,
+    taking: &EvalInputs,
     acl: u32,
     steps: &mut Steps<L>,
 ) -> Result<TermValue, WantOfMemory>
     requires facts { length taking.now.facts.now ≡ length taking.now.config.now.acls }
     requires here { acl < length taking.now.config.now.acls }
-    ensures value { IfOk result (λ v. v ≡ acl_value (taken_in taking.now) (term_value (taken_in taking.now) (acls_in taking.now)) acl (slice_get (acls_in taking.now) acl)) }
+    ensures value { IfOk result
+        (λ v. v ≡ acl_value (taken_in taking.now)
+        (term_value (taken_in taking.now) (acls_in taking.now)) acl
+        (slice_get (acls_in taking.now) acl)) }
     ensures kept { OnErr result (has_answers taking.now.helpers ≡ true) }
 {
     match body_at(taking.config, acl) {
@@ -67,7 +74,7 @@ fn acl_value<L: Ledger>(
 // The first value that is no mismatch, of terms that name acls before a place.
 #[cycle(terms)]
 fn some_term<L: Ledger>(
-    taking: &Taking,
+    taking: &EvalInputs,
     before: u32,
     terms: &[Term],
     steps: &mut Steps<L>,
@@ -75,7 +82,8 @@ fn some_term<L: Ledger>(
     requires facts { length taking.now.facts.now ≡ length taking.now.config.now.acls }
     requires here { before < length taking.now.config.now.acls }
     requires known { are_known before terms.now ≡ true }
-    ensures value { IfOk result (λ v. v ≡ either (map (term_value (taken_in taking.now) (acls_in taking.now)) terms.now)) }
+    ensures value { IfOk result
+        (λ v. v ≡ either (map (term_value (taken_in taking.now) (acls_in taking.now)) terms.now)) }
     ensures kept { OnErr result (has_answers taking.now.helpers ≡ true) }
 {
     for term in terms {
@@ -90,7 +98,7 @@ fn some_term<L: Ledger>(
 // The first value of a line that is no mismatch.
 #[cycle(terms)]
 fn some_line<L: Ledger>(
-    taking: &Taking,
+    taking: &EvalInputs,
     before: u32,
     lines: &[Terms],
     steps: &mut Steps<L>,
@@ -98,7 +106,9 @@ fn some_line<L: Ledger>(
     requires facts { length taking.now.facts.now ≡ length taking.now.config.now.acls }
     requires here { before < length taking.now.config.now.acls }
     requires known { list_all (are_known before) lines.now ≡ true }
-    ensures value { IfOk result (λ v. v ≡ either (map (λ l. both (map (term_value (taken_in taking.now) (acls_in taking.now)) l)) lines.now)) }
+    ensures value { IfOk result
+        (λ v. v ≡ either (map (λ l. both
+        (map (term_value (taken_in taking.now) (acls_in taking.now)) l)) lines.now)) }
     ensures kept { OnErr result (has_answers taking.now.helpers ≡ true) }
 {
     for line in lines {
@@ -113,7 +123,7 @@ fn some_line<L: Ledger>(
 /// The first value that is no match, of terms that name acls before a place.
 #[cycle(terms)]
 pub fn every_term<L: Ledger>(
-    taking: &Taking,
+    taking: &EvalInputs,
     before: u32,
     terms: &[Term],
     steps: &mut Steps<L>,
@@ -121,7 +131,8 @@ pub fn every_term<L: Ledger>(
     requires facts { length taking.now.facts.now ≡ length taking.now.config.now.acls }
     requires here { before ≤ length taking.now.config.now.acls }
     requires known { are_known before terms.now ≡ true }
-    ensures value { IfOk result (λ v. v ≡ both (map (term_value (taken_in taking.now) (acls_in taking.now)) terms.now)) }
+    ensures value { IfOk result
+        (λ v. v ≡ both (map (term_value (taken_in taking.now) (acls_in taking.now)) terms.now)) }
     ensures kept { OnErr result (has_answers taking.now.helpers ≡ true) }
 {
     for term in terms {

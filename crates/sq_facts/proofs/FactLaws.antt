@@ -22,7 +22,8 @@ pub asks_patterns : (has : Bool) (fact : Bool) → None ≡ (if has then None el
 asks_patterns true fact e = refl
 asks_patterns false fact e = cc
 
-body_pattern : (b : Body) (s : Sight) (subject : List ℕ) → body_has_patterns b ≡ true → subject ≡ percent_decode s.request.target →
+body_pattern : (b : Body) (s : Sight) (subject : List ℕ) → body_has_patterns b ≡ true
+    → subject ≡ percent_decode s.request.target →
     body_fact s b ≡ some_found (finds_in b) subject
 body_pattern (body.Leaf (leaf.UrlRegex finds)) s subject has e = ap (some_found finds) (sym e)
 body_pattern (body.Leaf (leaf.Src values)) s subject has e = cc
@@ -38,7 +39,8 @@ body_pattern (body.AnyOf terms) s subject has e = cc
 body_pattern (body.AllOf lines) s subject has e = cc
 
 -- where the acl at a place has patterns, they are its fact
-pub pattern_fact : (acls : List Acl) (k : ℕ) (a : Acl) (s : Sight) (subject : List ℕ) → slice_get acls k ≡ Some a → acl_has_patterns a ≡ true →
+pub pattern_fact : (acls : List Acl) (k : ℕ) (a : Acl) (s : Sight) (subject : List ℕ) → slice_get acls k ≡ Some a
+    → acl_has_patterns a ≡ true →
     (list_any acl_has_patterns acls ≡ true → subject ≡ percent_decode s.request.target) →
     slice_get (facts_of acls s) k ≡ Some (some_found (finds_at acls k) subject)
 pattern_fact acls k a s subject here has decoded =
@@ -47,9 +49,11 @@ pattern_fact acls k a s subject here has decoded =
     ∙ ap Some (body_pattern a.body s subject has e ∙ ap (λ o. some_found (finds_of o) subject) (sym here))
 
 -- one fact more
-pub take_more : (facts : List Bool) (k : ℕ) (b : Bool) → slice_get facts k ≡ Some b → take (k + 1) facts ≡ take k facts ++ b ∷ []
+pub take_more : (facts : List Bool) (k : ℕ) (b : Bool) → slice_get facts k ≡ Some b
+    → take (k + 1) facts ≡ take k facts ++ b ∷ []
 take_more facts k b here =
-    rw (add-one k) (take-suc facts k false (slice_get_within facts k b here) ∙ ap (λ x. take k facts ++ x ∷ []) (get_or_from_slice_get facts k b false here))
+    rw (add-one k) (take-suc facts k false (slice_get_within facts k b here)
+    ∙ ap (λ x. take k facts ++ x ∷ []) (get_or_from_slice_get facts k b false here))
 
 -- what holds of an answer, by what it is
 pub ok_then : {A E : Type 0} {P Q : A → Type 0} (r : Result A E) → IfOk r P → ((a : A) → P a → Q a) → IfOk r Q
@@ -57,6 +61,7 @@ ok_then (Ok a) p f = f a p
 ok_then (Err e) p f = tt
 
 -- a sorted list of domains holds what the list holds
-pub same_domains : (names : List (List ℕ)) (host : List ℕ) → index.in_some_domain names host ≡ list_any (λ n. in_domain host (str_to_ascii_lowercase n)) names
+pub same_domains : (names : List (List ℕ)) (host : List ℕ)
+    → index.in_some_domain names host ≡ list_any (λ n. in_domain host (str_to_ascii_lowercase n)) names
 same_domains [] host = refl
 same_domains (n ∷ names) host = rw (same_domains names host) refl

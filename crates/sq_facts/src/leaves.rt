@@ -22,7 +22,8 @@ pub fn fact_at(
     subject: &[u8],
 ) -> Result<bool, WantOfMemory>
     requires here { place < length setup.old.acls }
-    requires decoded { list_any acl_has_patterns setup.old.acls ≡ true → subject.now ≡ percent_decode sight.now.request.target }
+    requires decoded { list_any acl_has_patterns setup.old.acls ≡ true
+        → subject.now ≡ percent_decode sight.now.request.target }
     ensures fact { IfOk result (λ b. slice_get (facts_of setup.old.acls sight.now) place ≡ Some b) }
     ensures same { setup.new ≡ setup.old }
 {
@@ -36,7 +37,8 @@ pub fn fact_at(
 // The fact of the acl at a place, where that needs no patterns.
 fn plain_fact(setup: &Setup, place: u32, acl: &Acl, sight: &Sight) -> Option<bool>
     requires { slice_get setup.now.acls place ≡ Some acl.now }
-    ensures { result ≡ (if acl_has_patterns acl.now then None else Some (acl_fact sight.now acl.now)) }
+    ensures { result ≡ (if acl_has_patterns acl.now then None
+        else Some (acl_fact sight.now acl.now)) }
 {
     match &acl.body {
         Body::Leaf(Leaf::UrlRegex(_)) => None,

@@ -30,7 +30,8 @@ fn facts_over(
     sight: &Sight,
     subject: &[u8],
 ) -> Result<Facts, WantOfMemory>
-    requires { list_any acl_has_patterns setup.old.acls ≡ true → subject.now ≡ percent_decode sight.now.request.target }
+    requires { list_any acl_has_patterns setup.old.acls ≡ true
+        → subject.now ≡ percent_decode sight.now.request.target }
     ensures facts { IfOk result (λ f. f ≡ facts_of setup.old.acls sight.now) }
     ensures same { setup.new ≡ setup.old }
 {

@@ -17,7 +17,9 @@ pub fn subject_of<'a>(
     acls: &[Acl],
     target: &'a Text,
 ) -> Result<CowSlice<'a, u8, Global>, WantOfMemory>
-    ensures { IfOk result (λ t. list_any acl_has_patterns acls.now ≡ true → cow_slice_items t ≡ percent_decode target.now) }
+    ensures { IfOk result
+        (λ t. list_any acl_has_patterns acls.now ≡ true
+        → cow_slice_items t ≡ percent_decode target.now) }
 {
     let bytes = target.as_bytes();
     if some_have_patterns(acls) {

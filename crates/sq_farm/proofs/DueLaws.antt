@@ -16,13 +16,17 @@ use Rattle.sq_farm.proofs.LostLaws.{times_lose}
 use Rattle.sq_channel.proofs.RisingLaws.{if_false, if_true}
 
 -- a question more
-pub times_push : (q : ℕ) (w : Waiting) (queue : List Waiting) → times_waiting q (queue ++ w ∷ []) ≡ (if q == w.question then suc (times_waiting q queue) else times_waiting q queue)
+pub times_push : (q : ℕ) (w : Waiting) (queue : List Waiting)
+    → times_waiting q (queue ++ w ∷ [])
+    ≡ (if q == w.question then suc (times_waiting q queue) else times_waiting q queue)
 times_push q w [] = refl
 times_push q w (x ∷ queue) = by_test (q == x.question) (q == w.question) (times_push q w queue)
   where
-    by_test : (b d : Bool) → times_waiting q (queue ++ w ∷ []) ≡ (if d then suc (times_waiting q queue) else times_waiting q queue)
+    by_test : (b d : Bool)
+        → times_waiting q (queue ++ w ∷ []) ≡ (if d then suc (times_waiting q queue) else times_waiting q queue)
         → (if b then suc (times_waiting q (queue ++ w ∷ [])) else times_waiting q (queue ++ w ∷ []))
-        ≡ (if d then suc (if b then suc (times_waiting q queue) else times_waiting q queue) else (if b then suc (times_waiting q queue) else times_waiting q queue))
+        ≡ (if d then suc (if b then suc (times_waiting q queue) else times_waiting q queue)
+        else (if b then suc (times_waiting q queue) else times_waiting q queue))
     by_test true true e = ap suc e
     by_test true false e = ap suc e
     by_test false true e = e
@@ -37,21 +41,28 @@ pub all_in : (n : ℕ) (rows : List Living) → AreOfClass n rows → free_in ro
 all_in n [] a = omega arith
 all_in n (r ∷ rows) a = let e = all_in n rows a.2 in let b = all_slots r.process.slots in let d = a.0 in omega arith
 
-pub full_is : (v : Stock) → IsStock v → nat_le (v.queue_size + max 1 v.concurrency * v.children_max) (length v.queue + open_in v.procs) ≡ full v
+pub full_is : (v : Stock) → IsStock v
+    → nat_le (v.queue_size + max 1 v.concurrency * v.children_max) (length v.queue + open_in v.procs) ≡ full v
 unfolding full
-full_is v is = same v.queue_size (max 1 v.concurrency) v.children_max (length v.procs) (length v.queue) (open_in v.procs) (free_in v.procs) (all_in v.concurrency v.procs is.of_class) (omega (arith, is.few_procs))
+full_is v is = same v.queue_size (max 1 v.concurrency) v.children_max (length v.procs) (length v.queue)
+    (open_in v.procs) (free_in v.procs) (all_in v.concurrency v.procs is.of_class) (omega (arith, is.few_procs))
   where
     numbers : (z a b d t o f : ℕ) → f + o ≡ d → b + d ≡ a → nat_le (z + a) (t + o) ≡ nat_le (z + f + b) t
     numbers z a b d t o f e p = grind (arith, nat_tests, e, p)
 
     same : (z s m l t o f : ℕ) → f + o ≡ s * l → l ≤ m → nat_le (z + s * m) (t + o) ≡ nat_le (z + f + s * (m - l)) t
-    same z s m l t o f e le = numbers z (s * m) (s * (m - l)) (s * l) t o f e (sym (mul-add s (m - l) l) ∙ ap (λ n. s * n) (omega arith))
+    same z s m l t o f e le = numbers z (s * m) (s * (m - l)) (s * l) t o f e
+        (sym (mul-add s (m - l) l) ∙ ap (λ n. s * n) (omega arith))
 
 pub target_none : (rows : List Living) → some_free rows ≡ false → target rows ≡ None
 target_none [] e = refl
-target_none (r ∷ rows) e = ⊎_elim (λ y. absurd cc) (λ y. if_false (has_free r) (Some (r.number, channel_name r.process.numbered (least_free r.process.slots))) (target rows) y ∙ target_none rows (sym (if_false (has_free r) true (some_free rows) y) ∙ e)) (cases_Bool (has_free r))
+target_none (r ∷ rows) e = ⊎_elim (λ y. absurd cc)
+    (λ y. if_false (has_free r) (Some (r.number, channel_name r.process.numbered (least_free r.process.slots)))
+    (target rows) y ∙ target_none rows (sym (if_false (has_free r) true (some_free rows) y) ∙ e))
+    (cases_Bool (has_free r))
 
-pub send_none : (queue : List Waiting) (rows : List Living) → some_free rows ≡ false → send_by queue (target rows) ≡ None
+pub send_none : (queue : List Waiting) (rows : List Living) → some_free rows ≡ false
+    → send_by queue (target rows) ≡ None
 send_none [] rows e = refl
 send_none (w ∷ queue) rows e = ap (send_by (w ∷ queue)) (target_none rows e)
 
@@ -59,7 +70,8 @@ pub after_none : (v : Stock) (queue : List Waiting) → after_send_by v queue fa
 after_none v [] = refl
 after_none v (w ∷ queue) = refl
 
-pub IsStock_put : (v : Stock) (w : Waiting) → IsStock v → full v ≡ false → places w.question v ≡ 0 → IsStock (put_in w v)
+pub IsStock_put : (v : Stock) (w : Waiting) → IsStock v → full v ≡ false → places w.question v ≡ 0
+    → IsStock (put_in w v)
 IsStock_put v w is free none = record {
   concurrency_is = is.concurrency_is;
   children_are = is.children_are;
@@ -68,17 +80,23 @@ IsStock_put v w is free none = record {
   few_procs = is.few_procs;
   rising = is.rising;
   of_class = is.of_class;
-  few_questions = let a = below (v.queue_size + max 1 v.concurrency * v.children_max) (length v.queue + open_in v.procs) (full_is v is ∙ free) in let b = length-push w v.queue in omega arith;
+  few_questions = let a = below (v.queue_size + max 1 v.concurrency * v.children_max) (length v.queue + open_in v.procs)
+      (full_is v is ∙ free) in let b = length-push w v.queue in omega arith;
   once = λ q. added q (is.once q) (times_push q w v.queue);
 }
   where
     below : (a b : ℕ) → nat_le a b ≡ false → b < a
     below a b e = grind (arith, nat_tests, e)
 
-    added : (q : ℕ) → places q v ≤ 1 → times_waiting q (v.queue ++ w ∷ []) ≡ (if q == w.question then suc (times_waiting q v.queue) else times_waiting q v.queue)
+    added : (q : ℕ) → places q v ≤ 1
+        → times_waiting q (v.queue ++ w ∷ [])
+        ≡ (if q == w.question then suc (times_waiting q v.queue) else times_waiting q v.queue)
         → times_waiting q (v.queue ++ w ∷ []) + (times_in q v.procs + times_lost q v.losses) ≤ 1
-    added q few e = ⊎_elim (λ y. let s = if_true (q == w.question) (suc (times_waiting q v.queue)) (times_waiting q v.queue) y in let p = equal_places q y in omega arith)
-        (λ y. let s = if_false (q == w.question) (suc (times_waiting q v.queue)) (times_waiting q v.queue) y in omega arith) (cases_Bool (q == w.question))
+    added q few e = ⊎_elim (λ y. let s =
+        if_true (q == w.question) (suc (times_waiting q v.queue)) (times_waiting q v.queue) y in
+        let p = equal_places q y in omega arith)
+        (λ y. let s = if_false (q == w.question) (suc (times_waiting q v.queue)) (times_waiting q v.queue) y in
+        omega arith) (cases_Bool (q == w.question))
       where
         equal : (a b : ℕ) → (a == b) ≡ true → a ≡ b
         equal a b e = grind (arith, e)
@@ -93,24 +111,31 @@ left_true false b e = e
 
 pub start_room : (v : Stock) → start_due v ≡ true → length v.procs + v.starting < v.children_max
 unfolding start_due
-start_room v e = ltb-true (length v.procs + v.starting) v.children_max (left_true (nat_lt (length v.procs + v.starting) v.children_max) _ e)
+start_room v e = ltb-true (length v.procs + v.starting) v.children_max
+    (left_true (nat_lt (length v.procs + v.starting) v.children_max) _ e)
 
 pub start_many : (v : Stock) → v.children_max ≤ length v.procs + v.starting → start_due v ≡ false
 unfolding start_due
-start_many v le = ap (λ b. b && (not v.held && (nat_lt 0 v.owed || nat_lt (v.starting * max 1 v.concurrency) (length v.queue)))) (le-ltb (length v.procs + v.starting) v.children_max le)
+start_many v le = ap (λ b. b
+    && (not v.held && (nat_lt 0 v.owed || nat_lt (v.starting * max 1 v.concurrency) (length v.queue))))
+    (le-ltb (length v.procs + v.starting) v.children_max le)
 
 pub start_held : (v : Stock) → v.held ≡ true → start_due v ≡ false
 unfolding start_due
-start_held v e = ap (λ b. nat_lt (length v.procs + v.starting) v.children_max && (not b && (nat_lt 0 v.owed || nat_lt (v.starting * max 1 v.concurrency) (length v.queue)))) e ∙ no_more (nat_lt (length v.procs + v.starting) v.children_max)
+start_held v e = ap (λ b. nat_lt (length v.procs + v.starting) v.children_max
+    && (not b && (nat_lt 0 v.owed || nat_lt (v.starting * max 1 v.concurrency) (length v.queue)))) e
+    ∙ no_more (nat_lt (length v.procs + v.starting) v.children_max)
   where
     no_more : (b : Bool) → (b && false) ≡ false
     no_more true = refl
     no_more false = refl
 
-pub start_owed : (v : Stock) → length v.procs + v.starting < v.children_max → v.held ≡ false → start_due v ≡ (nat_lt 0 v.owed || nat_lt (v.starting * max 1 v.concurrency) (length v.queue))
+pub start_owed : (v : Stock) → length v.procs + v.starting < v.children_max → v.held ≡ false
+    → start_due v ≡ (nat_lt 0 v.owed || nat_lt (v.starting * max 1 v.concurrency) (length v.queue))
 unfolding start_due
 start_owed v l e =
-    ap (λ b. b && (not v.held && (nat_lt 0 v.owed || nat_lt (v.starting * max 1 v.concurrency) (length v.queue)))) (lt-ltb (length v.procs + v.starting) v.children_max l)
+    ap (λ b. b && (not v.held && (nat_lt 0 v.owed || nat_lt (v.starting * max 1 v.concurrency) (length v.queue))))
+    (lt-ltb (length v.procs + v.starting) v.children_max l)
     ∙ ap (λ b. not b && (nat_lt 0 v.owed || nat_lt (v.starting * max 1 v.concurrency) (length v.queue))) e
 
 -- sends
@@ -118,14 +143,19 @@ pub target_some : (rows : List Living) → some_free rows ≡ true → is_some (
 target_some [] e = e
 target_some (r ∷ rows) e = by_test (has_free r) e (target_some rows)
   where
-    by_test : (b : Bool) → (if b then true else some_free rows) ≡ true → (some_free rows ≡ true → is_some (target rows) ≡ true)
-        → is_some (if b then Some (r.number, channel_name r.process.numbered (least_free r.process.slots)) else target rows) ≡ true
+    by_test : (b : Bool) → (if b then true else some_free rows) ≡ true
+        → (some_free rows ≡ true → is_some (target rows) ≡ true)
+        → is_some (if b then Some (r.number, channel_name r.process.numbered (least_free r.process.slots))
+        else target rows) ≡ true
     by_test true e more = refl
     by_test false e more = more e
 
-pub send_some : (queue : List Waiting) (rows : List Living) → 0 < length queue → is_some (send_by queue (target rows)) ≡ some_free rows
+pub send_some : (queue : List Waiting) (rows : List Living) → 0 < length queue
+    → is_some (send_by queue (target rows)) ≡ some_free rows
 send_some [] rows l = absurd (omega arith)
-send_some (w ∷ queue) rows l = by_case (target rows) ∙ ⊎_elim (λ y. target_some rows y ∙ sym y) (λ y. ap is_some (target_none rows y) ∙ sym y) (cases_Bool (some_free rows))
+send_some (w ∷ queue) rows l = by_case (target rows)
+    ∙ ⊎_elim (λ y. target_some rows y ∙ sym y) (λ y. ap is_some (target_none rows y) ∙ sym y)
+    (cases_Bool (some_free rows))
   where
     by_case : (o : Option (ℕ × Option ℕ)) → is_some (send_by (w ∷ queue) o) ≡ is_some o
     by_case None = refl
@@ -134,9 +164,11 @@ send_some (w ∷ queue) rows l = by_case (target rows) ∙ ⊎_elim (λ y. targe
 pub after_send_none : (v : Stock) → send_of v ≡ None → after_send v ≡ v
 after_send_none v e = by_queue v.queue e
   where
-    by_queue : (queue : List Waiting) → send_by queue (target v.procs) ≡ None → after_send_by v queue (some_free v.procs) ≡ v
+    by_queue : (queue : List Waiting) → send_by queue (target v.procs) ≡ None
+        → after_send_by v queue (some_free v.procs) ≡ v
     by_queue [] e = refl
-    by_queue (w ∷ queue) e = ⊎_elim (λ y. absurd (no_send (target v.procs) (target_some v.procs y) e)) (λ y. ap (after_send_by v (w ∷ queue)) y) (cases_Bool (some_free v.procs))
+    by_queue (w ∷ queue) e = ⊎_elim (λ y. absurd (no_send (target v.procs) (target_some v.procs y) e))
+        (λ y. ap (after_send_by v (w ∷ queue)) y) (cases_Bool (some_free v.procs))
       where
         no_send : (o : Option (ℕ × Option ℕ)) → is_some o ≡ true → send_by (w ∷ queue) o ≡ None → ⊥
         no_send None s e = absurd cc
@@ -173,11 +205,13 @@ none_opened (None ∷ slots) e = none_opened slots e
 none_opened (Some q ∷ slots) e = absurd cc
 
 -- one question more is lost, of those that are to be
-pub once_lose : (c : Cause) (k : ℕ) (qs : List ℕ) (ls : List Loss) → ((q : ℕ) → times_lost q ls + times_of q (k ∷ qs) ≤ 1) → (q : ℕ) → times_lost q (lose k c ls) + times_of q qs ≤ 1
+pub once_lose : (c : Cause) (k : ℕ) (qs : List ℕ) (ls : List Loss)
+    → ((q : ℕ) → times_lost q ls + times_of q (k ∷ qs) ≤ 1) → (q : ℕ) → times_lost q (lose k c ls) + times_of q qs ≤ 1
 once_lose c k qs ls once q = by_test (q == k) (times_lose q k c ls) (once q)
   where
     by_test : (b : Bool) → times_lost q (lose k c ls) ≡ (if b then suc (times_lost q ls) else times_lost q ls)
-        → times_lost q ls + (if b then suc (times_of q qs) else times_of q qs) ≤ 1 → times_lost q (lose k c ls) + times_of q qs ≤ 1
+        → times_lost q ls + (if b then suc (times_of q qs) else times_of q qs) ≤ 1
+        → times_lost q (lose k c ls) + times_of q qs ≤ 1
     by_test true e o = omega arith
     by_test false e o = omega arith
 

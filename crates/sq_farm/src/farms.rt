@@ -45,9 +45,32 @@ impl Model for Farm {
 
     ghost Value = { Stock };
 
-    ghost view = { λ f. record { concurrency = f.concurrency; children_max = f.children_max; queue_size = f.queue_size; queue = f.queue.items; procs = f.procs; owed = f.owed; starting = f.starting; held = f.held; losses = f.losses.losses } };
+    ghost view = { λ f. record {
+      concurrency = f.concurrency;
+      children_max = f.children_max;
+      queue_size = f.queue_size;
+      queue = f.queue.items;
+      procs = f.procs;
+      owed = f.owed;
+      starting = f.starting;
+      held = f.held;
+      losses = f.losses.losses;
+    } };
 
-    ghost invariant = { λ f. IsStock (record { concurrency = f.concurrency; children_max = f.children_max; queue_size = f.queue_size; queue = f.queue.items; procs = f.procs; owed = f.owed; starting = f.starting; held = f.held; losses = f.losses.losses }) × (f.open ≡ open_in f.procs) × (length f.losses.losses + (length f.queue.items + open_in f.procs) ≤ f.losses.room) };
+    ghost invariant = { λ f. IsStock
+        (record {
+          concurrency = f.concurrency;
+          children_max = f.children_max;
+          queue_size = f.queue_size;
+          queue = f.queue.items;
+          procs = f.procs;
+          owed = f.owed;
+          starting = f.starting;
+          held = f.held;
+          losses = f.losses.losses;
+        })
+        × (f.open ≡ open_in f.procs)
+        × (length f.losses.losses + (length f.queue.items + open_in f.procs) ≤ f.losses.room) };
 }
 
 // Loses the question of a channel, if it has one.
@@ -77,8 +100,10 @@ fn lose_open(losses: &mut Losses, ended: Process, cause: Cause)
 // Loses the questions that wait.
 fn lose_waiting(losses: &mut Losses, queue: &mut VecDeque<Waiting>)
     requires room { length losses.old.losses + length queue.old.items ≤ losses.old.room }
-    requires once { (q : ℕ) → times_lost q losses.old.losses + times_of q (map waiting_number queue.old.items) ≤ 1 }
-    ensures losses { losses.new.losses ≡ lose_all Cause.NoHelper (map waiting_number queue.old.items) losses.old.losses }
+    requires once { (q : ℕ) → times_lost q losses.old.losses
+        + times_of q (map waiting_number queue.old.items) ≤ 1 }
+    ensures losses { losses.new.losses
+        ≡ lose_all Cause.NoHelper (map waiting_number queue.old.items) losses.old.losses }
     ensures room { losses.old.room ≤ losses.new.room }
     ensures queue { queue.new.items ≡ [] }
 {
@@ -119,9 +144,11 @@ impl Farm {
     pub fn put(&mut self, question: QuestionNo, text: Text) -> Result<(), PutFault>
         requires { places question self.old ≡ 0 }
         ensures full { IsErrOf result PutFault.Full ↔ (full self.old ≡ true) }
-        ensures ok { OnOk result (self.new ≡ put_in (record { question = question; text = text }) self.old) }
+        ensures ok { OnOk result
+            (self.new ≡ put_in (record { question = question; text = text }) self.old) }
         // Its question alone is added.
-        ensures stay { OnOk result ((q : ℕ) → places q self.new ≡ (if q == question then 1 else places q self.old)) }
+        ensures stay { OnOk result
+            ((q : ℕ) → places q self.new ≡ (if q == question then 1 else places q self.old)) }
         ensures err { OnErr result (self.new ≡ self.old) }
     {
         if self.is_full() {
@@ -271,7 +298,8 @@ impl Farm {
 
     /// A process died.
     pub fn died(&mut self, proc: ProcNo) -> Result<(), FarmFault>
-        ensures unknown { IsErrOf result FarmFault.UnknownProc ↔ (lives proc self.old.procs ≡ false) }
+        ensures unknown { IsErrOf result FarmFault.UnknownProc
+            ↔ (lives proc self.old.procs ≡ false) }
         // No other error comes, want of memory neither.
         ensures sure { OnErr result (lives proc self.old.procs ≡ false) }
         ensures ok { OnOk result (self.new ≡ ended Cause.Died proc self.old) }
@@ -320,7 +348,8 @@ impl Farm {
 
     /// What `got` would answer. Nothing changes.
     pub fn look(&self, alloc: Global, proc: ProcNo, line: &[u8]) -> Result<Got, FarmFault>
-        ensures unknown { IsErrOf result FarmFault.UnknownProc ↔ (lives proc self.now.procs ≡ false) }
+        ensures unknown { IsErrOf result FarmFault.UnknownProc
+            ↔ (lives proc self.now.procs ≡ false) }
         ensures value { IfOk result (λ g. got_of proc self.now line.now ≡ Some g) }
         ensures opened { IfOk result (names_open (slots_in proc self.now.procs)) }
     {
@@ -334,7 +363,8 @@ impl Farm {
     /// Frees the channel of a question that is open on this process.
     pub fn settle_reply(&mut self, proc: ProcNo, question: QuestionNo)
         requires { is_open question (slots_in proc self.old.procs) ≡ true }
-        ensures value { self.new ≡ record self.old { procs = settled_in proc question self.old.procs } }
+        ensures value { self.new
+            ≡ record self.old { procs = settled_in proc question self.old.procs } }
         ensures stay { (q : ℕ) → (q == question) ≡ false → places q self.new ≡ places q self.old }
     {
         self.procs.settle(proc, question);
@@ -347,7 +377,8 @@ impl Farm {
         requires opened { names_open (slots_in proc self.old.procs) got.now }
         ensures value { self.new ≡ after_got proc got.now self.old }
         // A question leaves only as the one that a reply names.
-        ensures stay { (q : ℕ) → is_reply_to q got.now ≡ false → places q self.new ≡ places q self.old }
+        ensures stay { (q : ℕ) → is_reply_to q got.now ≡ false
+            → places q self.new ≡ places q self.old }
     {
         match got {
             Got::Reply(question, _) => self.settle_reply(proc, *question),
@@ -362,10 +393,12 @@ impl Farm {
 
     /// What a line of a process answers, and its change.
     pub fn got(&mut self, alloc: Global, proc: ProcNo, line: &[u8]) -> Result<Got, FarmFault>
-        ensures unknown { IsErrOf result FarmFault.UnknownProc ↔ (lives proc self.old.procs ≡ false) }
+        ensures unknown { IsErrOf result FarmFault.UnknownProc
+            ↔ (lives proc self.old.procs ≡ false) }
         ensures value { IfOk result (λ g. got_of proc self.old line.now ≡ Some g) }
         ensures ok { IfOk result (λ g. self.new ≡ after_got proc g self.old) }
-        ensures stay { IfOk result (λ g. (q : ℕ) → is_reply_to q g ≡ false → places q self.new ≡ places q self.old) }
+        ensures stay { IfOk result
+            (λ g. (q : ℕ) → is_reply_to q g ≡ false → places q self.new ≡ places q self.old) }
         ensures err { OnErr result (self.new ≡ self.old) }
     {
         let got = self.look(alloc, proc, line)?;
@@ -395,7 +428,8 @@ impl Farm {
         ensures lost { result ≡ first_lost self.old.losses }
         ensures value { self.new ≡ record self.old { losses = later_lost self.old.losses } }
         // The question that is handed out leaves alone, and it stands nowhere then.
-        ensures stay { IfSome result (λ l. (q : ℕ) → places q self.new ≡ (if q == l.0 then 0 else places q self.old)) }
+        ensures stay { IfSome result
+            (λ l. (q : ℕ) → places q self.new ≡ (if q == l.0 then 0 else places q self.old)) }
     {
         self.losses.next()
     }

@@ -43,7 +43,9 @@ impl Model for Procs {
 
     ghost view = { λ p. p.rows.items };
 
-    ghost invariant = { λ p. Rises (map living_number p.rows.items) × (p.free.items ≡ free_numbers p.rows.items) × (length p.rows.items ≤ vec_capacity p.free) };
+    ghost invariant = { λ p. Rises (map living_number p.rows.items)
+        × (p.free.items ≡ free_numbers p.rows.items)
+        × (length p.rows.items ≤ vec_capacity p.free) };
 }
 
 fn place_of(rows: &[Living], proc: ProcNo) -> usize
@@ -179,7 +181,8 @@ impl Procs {
     pub fn insert(&mut self, number: ProcNo, process: Process) -> Result<(), WantOfMemory>
         requires other { lives number self.old ≡ false }
         requires free { has_free (record { number = number; process = process }) ≡ true }
-        ensures ok { OnOk result (self.new ≡ with_proc (record { number = number; process = process }) self.old) }
+        ensures ok { OnOk result
+            (self.new ≡ with_proc (record { number = number; process = process }) self.old) }
         ensures err { OnErr result (self.new ≡ self.old) }
     {
         self.rows.reserve(1)?;

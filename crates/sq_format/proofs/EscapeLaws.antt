@@ -18,8 +18,10 @@ unfolding should_percent_encode
 above b le = grind (arith, nat_tests)
 
 pub same_test : (b : ℕ) → should_percent_encode KEY_ESCAPES b ≡ is_key_escaped b
-same_test b = ⊎_elim (λ under. agree_below_at (should_percent_encode KEY_ESCAPES) is_key_escaped 128 b below under) (λ over. above b over) (cases_lt b 128)
+same_test b = ⊎_elim (λ under. agree_below_at (should_percent_encode KEY_ESCAPES) is_key_escaped 128 b below under)
+    (λ over. above b over) (cases_lt b 128)
 
 pub encodes : (bytes : List ℕ) → percent_encode KEY_ESCAPES bytes ≡ key_escaped bytes
 unfolding percent_encode key_escaped
-encodes bytes = ap (λ f. flat_map f bytes) (fun_ext (λ b. ap (λ t. if t then percent_encode_byte b else b ∷ []) (same_test b)))
+encodes bytes = ap (λ f. flat_map f bytes)
+    (fun_ext (λ b. ap (λ t. if t then percent_encode_byte b else b ∷ []) (same_test b)))

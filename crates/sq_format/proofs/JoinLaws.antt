@@ -40,41 +40,54 @@ unfolding key_escaped
 commas [] = refl
 commas (v ∷ values) =
     escaped_append (codes ", " ++ v) (flat_map (λ w. codes ", " ++ w) values)
-    ∙ ap (λ t. t ++ key_escaped (flat_map (λ w. codes ", " ++ w) values)) (escaped_append (codes ", ") v ∙ ap (λ t. t ++ key_escaped v) comma)
+    ∙ ap (λ t. t ++ key_escaped (flat_map (λ w. codes ", " ++ w) values))
+    (escaped_append (codes ", ") v ∙ ap (λ t. t ++ key_escaped v) comma)
     ∙ ap (λ t. (codes ",%20" ++ key_escaped v) ++ t) (commas values)
 
 -- the first value, and those behind it
-pub first_value : (v : List ℕ) (values : List (List ℕ)) → values_text (v ∷ values) ≡ key_escaped v ++ after_commas values
-first_value v values = escaped_append v (flat_map (λ w. codes ", " ++ w) values) ∙ ap (λ t. key_escaped v ++ t) (commas values)
+pub first_value : (v : List ℕ) (values : List (List ℕ))
+    → values_text (v ∷ values) ≡ key_escaped v ++ after_commas values
+first_value v values = escaped_append v (flat_map (λ w. codes ", " ++ w) values)
+    ∙ ap (λ t. key_escaped v ++ t) (commas values)
 
 -- a value is put, and the rest comes behind it
-pub next_value : (found : Bool) (v : List ℕ) (values : List (List ℕ)) → ((if found then codes ",%20" else []) ++ key_escaped v) ++ to_come true values ≡ to_come found (v ∷ values)
+pub next_value : (found : Bool) (v : List ℕ) (values : List (List ℕ))
+    → ((if found then codes ",%20" else []) ++ key_escaped v) ++ to_come true values ≡ to_come found (v ∷ values)
 next_value true v values = refl
 next_value false v values = sym (first_value v values)
 
 -- a loop that puts each text after a space, behind the first, puts them with a space between them
-pub put_all : {A : Type 0} (f : A → List ℕ) (x : A) (xs all : List A) (i : ℕ) (to start end : List ℕ) → all ≡ x ∷ xs → start ≡ to ++ f x
-    → end ++ after_spaces (map f (drop i xs)) ≡ start ++ after_spaces (map f xs) → length xs ≤ i → end ≡ to ++ join_with_byte 32 (map f all)
+pub put_all : {A : Type 0} (f : A → List ℕ) (x : A) (xs all : List A) (i : ℕ) (to start end : List ℕ) → all ≡ x ∷ xs
+    → start ≡ to ++ f x
+    → end ++ after_spaces (map f (drop i xs)) ≡ start ++ after_spaces (map f xs) → length xs ≤ i
+    → end ≡ to ++ join_with_byte 32 (map f all)
 put_all f x xs all i to start end is began rest over =
     sym (append-nil end)
     ∙ ap (λ l. end ++ after_spaces (map f l)) (sym (drop_all i xs over))
     ∙ rest
     ∙ ap (λ t. t ++ after_spaces (map f xs)) began
-    ∙ rw append_assoc (ap (λ t. to ++ t) (sym (spaced (f x) (map f xs)) ∙ ap (λ l. join_with_byte 32 (map f l)) (sym is)))
+    ∙ rw append_assoc (ap (λ t. to ++ t)
+    (sym (spaced (f x) (map f xs)) ∙ ap (λ l. join_with_byte 32 (map f l)) (sym is)))
 
-pub arguments_joined : (a : List ℕ) (arguments all : List (List ℕ)) → all ≡ a ∷ arguments → arguments_text all ≡ join_with_byte 32 (map key_escaped all)
+pub arguments_joined : (a : List ℕ) (arguments all : List (List ℕ)) → all ≡ a ∷ arguments
+    → arguments_text all ≡ join_with_byte 32 (map key_escaped all)
 arguments_joined a arguments all is = rw is refl
 
-alike : (name : List ℕ) (f : Field) (fields : List Field) → str_eq_ignore_ascii_case f.name name ≡ true → field_values name (f ∷ fields) ≡ f.value ∷ field_values name fields
+alike : (name : List ℕ) (f : Field) (fields : List Field) → str_eq_ignore_ascii_case f.name name ≡ true
+    → field_values name (f ∷ fields) ≡ f.value ∷ field_values name fields
 alike name f fields e = rw e refl
 
-unlike : (name : List ℕ) (f : Field) (fields : List Field) → str_eq_ignore_ascii_case f.name name ≡ false → field_values name (f ∷ fields) ≡ field_values name fields
+unlike : (name : List ℕ) (f : Field) (fields : List Field) → str_eq_ignore_ascii_case f.name name ≡ false
+    → field_values name (f ∷ fields) ≡ field_values name fields
 unlike name f fields e = rw e refl
 
 -- a field of the name is put
-pub one_put : (name : List ℕ) (fields : List Field) (i : ℕ) (f : Field) (found now : Bool) (to new whole : List ℕ) → drop i fields ≡ f ∷ drop (i + 1) fields
-    → str_eq_ignore_ascii_case f.name name ≡ true → now ≡ true → new ≡ to ++ ((if found then codes ",%20" else []) ++ key_escaped f.value)
-    → to ++ to_come found (field_values name (drop i fields)) ≡ whole → new ++ to_come now (field_values name (drop (i + 1) fields)) ≡ whole
+pub one_put : (name : List ℕ) (fields : List Field) (i : ℕ) (f : Field) (found now : Bool) (to new whole : List ℕ)
+    → drop i fields ≡ f ∷ drop (i + 1) fields
+    → str_eq_ignore_ascii_case f.name name ≡ true → now ≡ true
+    → new ≡ to ++ ((if found then codes ",%20" else []) ++ key_escaped f.value)
+    → to ++ to_come found (field_values name (drop i fields)) ≡ whole
+    → new ++ to_come now (field_values name (drop (i + 1) fields)) ≡ whole
 one_put name fields i f found now to new whole here same turned put rest =
     ap (λ b. new ++ to_come b (field_values name (drop (i + 1) fields))) turned
     ∙ ap (λ t. t ++ to_come true (field_values name (drop (i + 1) fields))) put
@@ -85,11 +98,14 @@ one_put name fields i f found now to new whole here same turned put rest =
     ∙ rest
 
 -- a field of another name is passed over
-pub one_passed : (name : List ℕ) (fields : List Field) (i : ℕ) (f : Field) (found now : Bool) (to new whole : List ℕ) → drop i fields ≡ f ∷ drop (i + 1) fields
-    → str_eq_ignore_ascii_case f.name name ≡ false → now ≡ found → new ≡ to → to ++ to_come found (field_values name (drop i fields)) ≡ whole
+pub one_passed : (name : List ℕ) (fields : List Field) (i : ℕ) (f : Field) (found now : Bool) (to new whole : List ℕ)
+    → drop i fields ≡ f ∷ drop (i + 1) fields
+    → str_eq_ignore_ascii_case f.name name ≡ false → now ≡ found → new ≡ to
+    → to ++ to_come found (field_values name (drop i fields)) ≡ whole
     → new ++ to_come now (field_values name (drop (i + 1) fields)) ≡ whole
 one_passed name fields i f found now to new whole here other kept put rest =
     ap (λ b. new ++ to_come b (field_values name (drop (i + 1) fields))) kept
     ∙ ap (λ t. t ++ to_come found (field_values name (drop (i + 1) fields))) put
-    ∙ ap (λ vs. to ++ to_come found vs) (sym (unlike name f (drop (i + 1) fields) other) ∙ ap (field_values name) (sym here))
+    ∙ ap (λ vs. to ++ to_come found vs)
+    (sym (unlike name f (drop (i + 1) fields) other) ∙ ap (field_values name) (sym here))
     ∙ rest

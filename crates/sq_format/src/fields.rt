@@ -15,7 +15,8 @@ fn is_alike(one: &[u8], other: &[u8]) -> bool
 
 // Puts a value; behind another one, after `, `.
 fn put_value(to: &mut Text, behind: bool, value: &[u8]) -> Result<(), WantOfMemory>
-    ensures { OnOk result (to.new ≡ to.old ++ ((if behind then codes ",%20" else []) ++ key_escaped value.now)) }
+    ensures { OnOk result
+        (to.new ≡ to.old ++ ((if behind then codes ",%20" else []) ++ key_escaped value.now)) }
 {
     if behind {
         to.append(b",%20")?;

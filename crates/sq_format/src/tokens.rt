@@ -34,7 +34,8 @@ fn put_token(
     sight: &Sight,
     token: &Token,
 ) -> Result<(), WantOfMemory>
-    ensures { OnOk result (to.new ≡ to.old ++ token_text name.now arguments.now sight.now token.now) }
+    ensures { OnOk result
+        (to.new ≡ to.old ++ token_text name.now arguments.now sight.now token.now) }
 {
     let request = &sight.request;
     match token {
@@ -62,7 +63,9 @@ pub fn put_format(
     sight: &Sight,
     format: &[Token],
 ) -> Result<(), WantOfMemory>
-    ensures { OnOk result (to.new ≡ to.old ++ join_with_byte 32 (map (token_text name.now arguments.now sight.now) format.now)) }
+    ensures { OnOk result
+        (to.new ≡ to.old ++ join_with_byte 32
+        (map (token_text name.now arguments.now sight.now) format.now)) }
 {
     let Some((first, rest)) = format.split_first() else {
         return Ok(());

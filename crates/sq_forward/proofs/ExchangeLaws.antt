@@ -30,17 +30,34 @@ reads_nothing : IsReading [] nothing
 reads_nothing = heads_alone [] [] refl (omega arith)
 
 -- the request went out whole
-answered_whole : (r : HttpRequest) (own origin : List ℕ) (body : Walk) (reading : Reading) → is_whole_body body.place ≡ true
-    → answered r own origin body reading ≡ record { own = own; client = interim_texts r reading.interim ++ (replied_if r reading.final reading.rest).text; origin = origin; rest = body.rest; end = (replied_if r reading.final reading.rest).end }
+answered_whole : (r : HttpRequest) (own origin : List ℕ) (body : Walk) (reading : Reading)
+    → is_whole_body body.place ≡ true
+    → answered r own origin body reading
+    ≡ record {
+      own = own;
+      client = interim_texts r reading.interim ++ (replied_if r reading.final reading.rest).text;
+      origin = origin;
+      rest = body.rest;
+      end = (replied_if r reading.final reading.rest).end;
+    }
 answered_whole r own origin body reading e = rw e refl
 
 -- or not
-answered_short : (r : HttpRequest) (own origin : List ℕ) (body : Walk) (reading : Reading) → is_whole_body body.place ≡ false
-    → answered r own origin body reading ≡ record { own = own; client = []; origin = origin; rest = []; end = if is_refused body.place then BadBody else Cut }
+answered_short : (r : HttpRequest) (own origin : List ℕ) (body : Walk) (reading : Reading)
+    → is_whole_body body.place ≡ false
+    → answered r own origin body reading
+    ≡ record {
+      own = own;
+      client = [];
+      origin = origin;
+      rest = [];
+      end = if is_refused body.place then BadBody else Cut;
+    }
 answered_short r own origin body reading e = rw e refl
 
 -- fronts of what goes out before the reply
-fronts_own : (own origin rest : List ℕ) (xend : Exchanged) (seated : Bool) (a b c d : Option (List ℕ)) (g spare : ℕ) → g ≤ count_limit → Grew a b (λ part. IsPrefix part own) → Grew c d (λ part. IsPrefix part origin)
+fronts_own : (own origin rest : List ℕ) (xend : Exchanged) (seated : Bool) (a b c d : Option (List ℕ)) (g spare : ℕ)
+    → g ≤ count_limit → Grew a b (λ part. IsPrefix part own) → Grew c d (λ part. IsPrefix part origin)
     → Fronts (record { own = own; client = []; origin = origin; rest = rest; end = xend }) seated a b c d g g spare
 fronts_own own origin rest xend seated a b c d g spare few (part, grew, (more, front)) v =
     let none : 0 ≡ length part - length own + 0 = omega (arith, ap length front, length-append part more) in
@@ -55,10 +72,12 @@ fronts_own own origin rest xend seated a b c d g spare few (part, grew, (more, f
     }
 
 -- fronts of what the client gets behind that
-fronts_after : (own text origin rest : List ℕ) (xend : Exchanged) (seated : Bool) (a b e c d : Option (List ℕ)) (g h spare : ℕ) → Appends a b own → PaysPart seated text b e g h spare → Appends c d origin
+fronts_after : (own text origin rest : List ℕ) (xend : Exchanged) (seated : Bool) (a b e c d : Option (List ℕ))
+    (g h spare : ℕ) → Appends a b own → PaysPart seated text b e g h spare → Appends c d origin
     → Fronts (record { own = own; client = text; origin = origin; rest = rest; end = xend }) seated a e c d g h spare
 fronts_after own text origin rest xend seated a b e c d g h spare w p v =
-    let count : length p.part + p.more ≡ length (own ++ p.part) - length own + p.more = omega (arith, length-append own p.part) in
+    let count : length p.part + p.more ≡ length (own ++ p.part) - length own + p.more =
+    omega (arith, length-append own p.part) in
     record {
       part = own ++ p.part;
       more = p.more;
@@ -70,13 +89,26 @@ fronts_after own text origin rest xend seated a b e c d g h spare w p v =
     }
 
 -- a fault before the reply
-fault_ends : (r : HttpRequest) (own origin rest : List ℕ) (xend : Exchanged) (body : Walk) (reply : List ℕ) (seated : Bool) (left a b c d : Option (List ℕ)) (g : ℕ) (failed : Type 0) (end : Exchanged)
-    → g ≤ count_limit → SentSo own origin body left a b c d (Some end) → (end ≡ NoReply → failed) → (end ≡ Cut → ⊥) → (end ≡ BadBody → ⊥)
-    → EndsExchange r nothing (record { own = own; client = []; origin = origin; rest = rest; end = xend }) [] reply seated left a b c d g g failed end
+fault_ends : (r : HttpRequest) (own origin rest : List ℕ) (xend : Exchanged) (body : Walk) (reply : List ℕ)
+    (seated : Bool) (left a b c d : Option (List ℕ)) (g : ℕ) (failed : Type 0) (end : Exchanged)
+    → g ≤ count_limit → SentSo own origin body left a b c d (Some end) → (end ≡ NoReply → failed) → (end ≡ Cut → ⊥)
+    → (end ≡ BadBody → ⊥)
+    → EndsExchange r nothing (record { own = own; client = []; origin = origin; rest = rest; end = xend }) [] reply
+    seated left a b c d g g failed end
 fault_ends r own origin rest xend body reply seated left a b c d g failed NoReply few s f i j =
-    inr (f refl, record { headless = refl; client = subst (Appends a b) (sym (append-nil own)) s.0; granted = granted_none seated g few; origin = s.1 })
-fault_ends r own origin rest xend body reply seated left a b c d g failed ClientFault few s f i j = fronts_own own origin rest xend seated a b c d g piece_limit few s.0 s.1
-fault_ends r own origin rest xend body reply seated left a b c d g failed WantOfMemory few s f i j = fronts_own own origin rest xend seated a b c d g 0 few s.0 s.1
+    inr (
+      f refl,
+      record {
+        headless = refl;
+        client = subst (Appends a b) (sym (append-nil own)) s.0;
+        granted = granted_none seated g few;
+        origin = s.1;
+      },
+    )
+fault_ends r own origin rest xend body reply seated left a b c d g failed ClientFault few s f i j =
+    fronts_own own origin rest xend seated a b c d g piece_limit few s.0 s.1
+fault_ends r own origin rest xend body reply seated left a b c d g failed WantOfMemory few s f i j =
+    fronts_own own origin rest xend seated a b c d g 0 few s.0 s.1
 fault_ends r own origin rest xend body reply seated left a b c d g failed Cut few s f i j = absurd (i refl)
 fault_ends r own origin rest xend body reply seated left a b c d g failed BadBody few s f i j = absurd (j refl)
 fault_ends r own origin rest xend body reply seated left a b c d g failed Kept few s f i j = absurd s
@@ -86,23 +118,33 @@ fault_ends r own origin rest xend body reply seated left a b c d g failed Origin
 fault_ends r own origin rest xend body reply seated left a b c d g failed Starved few s f i j = absurd s
 
 -- whether its body is complete or not
-by_whole : (r : HttpRequest) (own origin : List ℕ) (body : Walk) (reply : List ℕ) (seated : Bool) (left a b c d : Option (List ℕ)) (g : ℕ) (failed : Type 0) (end : Exchanged)
-    → g ≤ count_limit → SentSo own origin body left a b c d (Some end) → (end ≡ NoReply → failed) → (end ≡ Cut → ⊥) → (end ≡ BadBody → ⊥) → EndsExchange r nothing (answered r own origin body nothing) [] reply seated left a b c d g g failed end
+by_whole : (r : HttpRequest) (own origin : List ℕ) (body : Walk) (reply : List ℕ) (seated : Bool)
+    (left a b c d : Option (List ℕ)) (g : ℕ) (failed : Type 0) (end : Exchanged)
+    → g ≤ count_limit → SentSo own origin body left a b c d (Some end) → (end ≡ NoReply → failed) → (end ≡ Cut → ⊥)
+    → (end ≡ BadBody → ⊥) → EndsExchange r nothing (answered r own origin body nothing) [] reply seated left a b c d g g
+    failed end
 by_whole r own origin body reply seated left a b c d g failed end few s f i j = by (is_whole_body body.place) refl
   where
-    by : (t : Bool) → is_whole_body body.place ≡ t → EndsExchange r nothing (answered r own origin body nothing) [] reply seated left a b c d g g failed end
+    by : (t : Bool) → is_whole_body body.place ≡ t
+        → EndsExchange r nothing (answered r own origin body nothing) [] reply seated left a b c d g g failed end
     by true e =
-        subst (λ x. EndsExchange r nothing x [] reply seated left a b c d g g failed end) (sym (answered_whole r own origin body nothing e))
+        subst (λ x. EndsExchange r nothing x [] reply seated left a b c d g g failed end)
+        (sym (answered_whole r own origin body nothing e))
         (fault_ends r own origin body.rest NoReply body reply seated left a b c d g failed end few s f i j)
     by false e =
-        subst (λ x. EndsExchange r nothing x [] reply seated left a b c d g g failed end) (sym (answered_short r own origin body nothing e))
-        (fault_ends r own origin [] (if is_refused body.place then BadBody else Cut) body reply seated left a b c d g failed end few s f i j)
+        subst (λ x. EndsExchange r nothing x [] reply seated left a b c d g g failed end)
+        (sym (answered_short r own origin body nothing e))
+        (fault_ends r own origin [] (if is_refused body.place then BadBody else Cut) body reply seated left a b c d g
+        failed end few s f i j)
 
 -- the request did not go out whole
-unsent_ends : (r : HttpRequest) (own origin : List ℕ) (body : Walk) (reply : List ℕ) (seated : Bool) (left a b c d : Option (List ℕ)) (g : ℕ) (failed : Type 0) (end : Exchanged)
-    → g ≤ count_limit → SentSo own origin body left a b c d (Some end) → (end ≡ NoReply → failed) → EndsExchange r nothing (answered r own origin body nothing) [] reply seated left a b c d g g failed end
+unsent_ends : (r : HttpRequest) (own origin : List ℕ) (body : Walk) (reply : List ℕ) (seated : Bool)
+    (left a b c d : Option (List ℕ)) (g : ℕ) (failed : Type 0) (end : Exchanged)
+    → g ≤ count_limit → SentSo own origin body left a b c d (Some end) → (end ≡ NoReply → failed)
+    → EndsExchange r nothing (answered r own origin body nothing) [] reply seated left a b c d g g failed end
 unsent_ends r own origin body reply seated left a b c d g failed Cut few s f =
-    subst (λ x. EndsExchange r nothing x [] reply seated left a b c d g g failed Cut) (sym (answered_short r own origin body nothing s.0)) (record {
+    subst (λ x. EndsExchange r nothing x [] reply seated left a b c d g g failed Cut)
+    (sym (answered_short r own origin body nothing s.0)) (record {
       client = subst (Appends a b) (sym (append-nil own)) s.2;
       granted = granted_none seated g few;
       origin = s.3;
@@ -110,23 +152,28 @@ unsent_ends r own origin body reply seated left a b c d g failed Cut few s f =
       ends = rw s.1 refl;
     })
 unsent_ends r own origin body reply seated left a b c d g failed BadBody few s f =
-    subst (λ x. EndsExchange r nothing x [] reply seated left a b c d g g failed BadBody) (sym (answered_short r own origin body nothing s.0)) (record {
+    subst (λ x. EndsExchange r nothing x [] reply seated left a b c d g g failed BadBody)
+    (sym (answered_short r own origin body nothing s.0)) (record {
       client = subst (Appends a b) (sym (append-nil own)) s.2;
       granted = granted_none seated g few;
       origin = s.3;
       rest = λ e. absurd cc;
       ends = rw s.1 refl;
     })
-unsent_ends r own origin body reply seated left a b c d g failed NoReply few s f = by_whole r own origin body reply seated left a b c d g failed NoReply few s f (λ e. cc) (λ e. cc)
-unsent_ends r own origin body reply seated left a b c d g failed ClientFault few s f = by_whole r own origin body reply seated left a b c d g failed ClientFault few s f (λ e. cc) (λ e. cc)
-unsent_ends r own origin body reply seated left a b c d g failed WantOfMemory few s f = by_whole r own origin body reply seated left a b c d g failed WantOfMemory few s f (λ e. cc) (λ e. cc)
+unsent_ends r own origin body reply seated left a b c d g failed NoReply few s f =
+    by_whole r own origin body reply seated left a b c d g failed NoReply few s f (λ e. cc) (λ e. cc)
+unsent_ends r own origin body reply seated left a b c d g failed ClientFault few s f =
+    by_whole r own origin body reply seated left a b c d g failed ClientFault few s f (λ e. cc) (λ e. cc)
+unsent_ends r own origin body reply seated left a b c d g failed WantOfMemory few s f =
+    by_whole r own origin body reply seated left a b c d g failed WantOfMemory few s f (λ e. cc) (λ e. cc)
 unsent_ends r own origin body reply seated left a b c d g failed Kept few s f = absurd s
 unsent_ends r own origin body reply seated left a b c d g failed Closed few s f = absurd s
 unsent_ends r own origin body reply seated left a b c d g failed OriginCut few s f = absurd s
 unsent_ends r own origin body reply seated left a b c d g failed OriginFault few s f = absurd s
 unsent_ends r own origin body reply seated left a b c d g failed Starved few s f = absurd s
 
-pub exchange_unsent : (r : HttpRequest) (addr : Address) (p : BodyPlan) (first told left a b c d : Option (List ℕ)) (seated : Bool) (g : ℕ) (failed : Type 0) (end : Exchanged)
+pub exchange_unsent : (r : HttpRequest) (addr : Address) (p : BodyPlan) (first told left a b c d : Option (List ℕ))
+    (seated : Bool) (g : ℕ) (failed : Type 0) (end : Exchanged)
     → g ≤ count_limit → SendsRequest r addr p first left a b c d (Some end) → (end ≡ NoReply → failed)
     → IfSome first (λ input. IfSome told (λ reply. Exchanges r addr p input reply seated left a b c d g g failed end))
 exchange_unsent r addr p None told left a b c d seated g failed end few s f = tt
@@ -138,21 +185,47 @@ exchange_unsent r addr p (Some input) (Some reply) left a b c d seated g failed 
       reading = nothing;
       front = IsPrefix_nil reply;
       reads = reads_nothing;
-      ends = unsent_ends r (continue_part r p) (head_out r addr p ++ body.out) body reply seated left a b c d g failed end few s.known f;
+      ends = unsent_ends r (continue_part r p) (head_out r addr p ++ body.out) body reply seated left a b c d g failed
+          end few s.known f;
     }
 
 -- no reply's own head was reached
-led_ends : (r : HttpRequest) (reading : Reading) (own text origin : List ℕ) (rest seen reply : List ℕ) (seated : Bool) (left a b e c d : Option (List ℕ)) (g h : ℕ) (failed : Type 0) (end : Exchanged)
-    → reading.final ≡ None → Appends a b own → Appends c d origin → PaysHeads text seated b e g h end → (end ≡ NoReply → (seen ≡ reply) ⊎ failed)
-    → EndsExchange r reading (record { own = own; client = text; origin = origin; rest = rest; end = NoReply }) seen reply seated left a e c d g h failed end
+led_ends : (r : HttpRequest) (reading : Reading) (own text origin : List ℕ) (rest seen reply : List ℕ) (seated : Bool)
+    (left a b e c d : Option (List ℕ)) (g h : ℕ) (failed : Type 0) (end : Exchanged)
+    → reading.final ≡ None → Appends a b own → Appends c d origin → PaysHeads text seated b e g h end
+    → (end ≡ NoReply → (seen ≡ reply) ⊎ failed)
+    → EndsExchange r reading (record { own = own; client = text; origin = origin; rest = rest; end = NoReply }) seen
+    reply seated left a e c d g h failed end
 led_ends r reading own text origin rest seen reply seated left a b e c d g h failed NoReply n w v p all = by (all refl)
   where
-    by : (seen ≡ reply) ⊎ failed → EndsExchange r reading (record { own = own; client = text; origin = origin; rest = rest; end = NoReply }) seen reply seated left a e c d g h failed NoReply
-    by (inl i) = inl (i, record { client = Appends-trans a b e own text w p.wrote; granted = p.granted; origin = v; rest = λ x. absurd cc; ends = refl })
-    by (inr f) = inr (f, record { headless = n; client = Appends-trans a b e own text w p.wrote; granted = p.granted; origin = Grew_whole c d origin v })
-led_ends r reading own text origin rest seen reply seated left a b e c d g h failed ClientFault n w v p all = fronts_after own text origin rest NoReply seated a b e c d g h piece_limit w p v
-led_ends r reading own text origin rest seen reply seated left a b e c d g h failed Starved n w v p all = fronts_after own text origin rest NoReply seated a b e c d g h 0 w p v
-led_ends r reading own text origin rest seen reply seated left a b e c d g h failed WantOfMemory n w v p all = fronts_after own text origin rest NoReply seated a b e c d g h 0 w p v
+    by : (seen ≡ reply) ⊎ failed
+        → EndsExchange r reading (record { own = own; client = text; origin = origin; rest = rest; end = NoReply }) seen
+        reply seated left a e c d g h failed NoReply
+    by (inl i) = inl (
+      i,
+      record {
+        client = Appends-trans a b e own text w p.wrote;
+        granted = p.granted;
+        origin = v;
+        rest = λ x. absurd cc;
+        ends = refl;
+      },
+    )
+    by (inr f) = inr (
+      f,
+      record {
+        headless = n;
+        client = Appends-trans a b e own text w p.wrote;
+        granted = p.granted;
+        origin = Grew_whole c d origin v;
+      },
+    )
+led_ends r reading own text origin rest seen reply seated left a b e c d g h failed ClientFault n w v p all =
+    fronts_after own text origin rest NoReply seated a b e c d g h piece_limit w p v
+led_ends r reading own text origin rest seen reply seated left a b e c d g h failed Starved n w v p all =
+    fronts_after own text origin rest NoReply seated a b e c d g h 0 w p v
+led_ends r reading own text origin rest seen reply seated left a b e c d g h failed WantOfMemory n w v p all =
+    fronts_after own text origin rest NoReply seated a b e c d g h 0 w p v
 led_ends r reading own text origin rest seen reply seated left a b e c d g h failed Kept n w v p all = absurd p
 led_ends r reading own text origin rest seen reply seated left a b e c d g h failed Closed n w v p all = absurd p
 led_ends r reading own text origin rest seen reply seated left a b e c d g h failed Cut n w v p all = absurd p
@@ -160,8 +233,10 @@ led_ends r reading own text origin rest seen reply seated left a b e c d g h fai
 led_ends r reading own text origin rest seen reply seated left a b e c d g h failed OriginCut n w v p all = absurd p
 led_ends r reading own text origin rest seen reply seated left a b e c d g h failed OriginFault n w v p all = absurd p
 
-pub exchange_led : (r : HttpRequest) (addr : Address) (p : BodyPlan) (first told left next a b e c d : Option (List ℕ)) (seated : Bool) (g h : ℕ) (source failed : Type 0) (end : Exchanged)
-    → SendsRequest r addr p first left a b c d None → LeadsReply r seated told next b e g h source (Err end) → (source → failed)
+pub exchange_led : (r : HttpRequest) (addr : Address) (p : BodyPlan) (first told left next a b e c d : Option (List ℕ))
+    (seated : Bool) (g h : ℕ) (source failed : Type 0) (end : Exchanged)
+    → SendsRequest r addr p first left a b c d None → LeadsReply r seated told next b e g h source (Err end)
+    → (source → failed)
     → IfSome first (λ input. IfSome told (λ reply. Exchanges r addr p input reply seated left a e c d g h failed end))
 exchange_led r addr p None told left next a b e c d seated g h source failed end s l f = tt
 exchange_led r addr p (Some input) None left next a b e c d seated g h source failed end s l f = tt
@@ -172,7 +247,8 @@ exchange_led r addr p (Some input) (Some reply) left next a b e c d seated g h s
     let y = l.known in
     let text = interim_texts r y.interim in
     let reading : Reading = record { interim = y.interim; final = None; rest = [] } in
-    let whole : answered r own origin body reading ≡ record { own = own; client = text; origin = origin; rest = body.rest; end = NoReply } =
+    let whole : answered r own origin body reading
+    ≡ record { own = own; client = text; origin = origin; rest = body.rest; end = NoReply } =
     answered_whole r own origin body reading s.known.0
     ∙ ap (λ t. record { own = own; client = t; origin = origin; rest = body.rest; end = NoReply }) (append-nil text) in
     record {
@@ -182,7 +258,8 @@ exchange_led r addr p (Some input) (Some reply) left next a b e c d seated g h s
       reads = y.reads;
       ends =
           subst (λ x. EndsExchange r reading x y.seen reply seated left a e c d g h failed end) (sym whole)
-          (led_ends r reading own text origin body.rest y.seen reply seated left a b e c d g h failed end refl s.known.2 s.known.3 y.pays (λ i. or_failed (y.all i)));
+          (led_ends r reading own text origin body.rest y.seen reply seated left a b e c d g h failed end refl s.known.2
+          s.known.3 y.pays (λ i. or_failed (y.all i)));
     }
   where
     or_failed : {A : Type 0} → A ⊎ source → A ⊎ failed
@@ -190,24 +267,69 @@ exchange_led r addr p (Some input) (Some reply) left next a b e c d seated g h s
     or_failed (inr x) = inr (f x)
 
 -- the reply was sent, as far as it goes
-sent_ends : (r : HttpRequest) (reading : Reading) (final : ReplyHead) (own text origin rest reply : List ℕ) (xend : Exchanged) (seated : Bool) (left a b e m c d : Option (List ℕ)) (g h i : ℕ) (failed : Type 0) (end : Exchanged)
-    → reading.final ≡ Some final → left ≡ Some rest → Appends a b own → Appends c d origin → PaysAll seated (interim_texts r reading.interim) b e g h → SentReply r final text xend seated e m h i end
-    → EndsExchange r reading (record { own = own; client = interim_texts r reading.interim ++ text; origin = origin; rest = rest; end = xend }) reply reply seated left a m c d g i failed end
+sent_ends : (r : HttpRequest) (reading : Reading) (final : ReplyHead) (own text origin rest reply : List ℕ)
+    (xend : Exchanged) (seated : Bool) (left a b e m c d : Option (List ℕ)) (g h i : ℕ) (failed : Type 0)
+    (end : Exchanged)
+    → reading.final ≡ Some final → left ≡ Some rest → Appends a b own → Appends c d origin
+    → PaysAll seated (interim_texts r reading.interim) b e g h → SentReply r final text xend seated e m h i end
+    → EndsExchange r reading
+    (record { own = own; client = interim_texts r reading.interim ++ text; origin = origin; rest = rest; end = xend })
+    reply reply seated left a m c d g i failed end
 unfolding fronts_after pays_part_after
-sent_ends r reading final own text origin rest reply xend seated left a b e m c d g h i failed Kept n at w v p (x, same) =
+sent_ends r reading final own text origin rest reply xend seated left a b e m c d g h i failed Kept n
+    at w v p (x, same) =
+    let all = pays_after p x in (
+      refl,
+      record {
+        client = Appends-trans a b m own (interim_texts r reading.interim ++ text) w all.wrote;
+        granted = all.granted;
+        origin = v;
+        rest = λ _. at;
+        ends = same;
+      },
+    )
+sent_ends r reading final own text origin rest reply xend seated left a b e m c d g h i failed Closed n
+    at w v p (x, same) =
+    let all = pays_after p x in (
+      refl,
+      record {
+        client = Appends-trans a b m own (interim_texts r reading.interim ++ text) w all.wrote;
+        granted = all.granted;
+        origin = v;
+        rest = λ _. at;
+        ends = same;
+      },
+    )
+sent_ends r reading final own text origin rest reply xend seated left a b e m c d g h i failed OriginCut n
+    at w v p (x, same) =
+    let all = pays_after p x in (
+      refl,
+      record {
+        client = Appends-trans a b m own (interim_texts r reading.interim ++ text) w all.wrote;
+        granted = all.granted;
+        origin = v;
+        rest = λ _. at;
+        ends = same;
+      },
+    )
+sent_ends r reading final own text origin rest reply xend seated left a b e m c d g h i failed NoReply n
+    at w v p (x, same) =
     let all = pays_after p x in
-    (refl, record { client = Appends-trans a b m own (interim_texts r reading.interim ++ text) w all.wrote; granted = all.granted; origin = v; rest = λ _. at; ends = same })
-sent_ends r reading final own text origin rest reply xend seated left a b e m c d g h i failed Closed n at w v p (x, same) =
-    let all = pays_after p x in
-    (refl, record { client = Appends-trans a b m own (interim_texts r reading.interim ++ text) w all.wrote; granted = all.granted; origin = v; rest = λ _. at; ends = same })
-sent_ends r reading final own text origin rest reply xend seated left a b e m c d g h i failed OriginCut n at w v p (x, same) =
-    let all = pays_after p x in
-    (refl, record { client = Appends-trans a b m own (interim_texts r reading.interim ++ text) w all.wrote; granted = all.granted; origin = v; rest = λ _. at; ends = same })
-sent_ends r reading final own text origin rest reply xend seated left a b e m c d g h i failed NoReply n at w v p (x, same) =
-    let all = pays_after p x in
-    inl (refl, record { client = Appends-trans a b m own (interim_texts r reading.interim ++ text) w all.wrote; granted = all.granted; origin = v; rest = λ _. at; ends = same })
-sent_ends r reading final own text origin rest reply xend seated left a b e m c d g h i failed ClientFault n at w v p x = fronts_after own (interim_texts r reading.interim ++ text) origin rest xend seated a b m c d g i piece_limit w (pays_part_after p x) v
-sent_ends r reading final own text origin rest reply xend seated left a b e m c d g h i failed OriginFault n at w v p x =
+    inl (
+      refl,
+      record {
+        client = Appends-trans a b m own (interim_texts r reading.interim ++ text) w all.wrote;
+        granted = all.granted;
+        origin = v;
+        rest = λ _. at;
+        ends = same;
+      },
+    )
+sent_ends r reading final own text origin rest reply xend seated left a b e m c d g h i failed ClientFault n
+    at w v p x = fronts_after own (interim_texts r reading.interim ++ text) origin rest xend seated a b m c d g i
+    piece_limit w (pays_part_after p x) v
+sent_ends r reading final own text origin rest reply xend seated left a b e m c d g h i failed OriginFault n
+    at w v p x =
     let front = interim_texts r reading.interim in
     let text_of = reply_head_out final (shape_of r x.plan) in
     record {
@@ -216,27 +338,40 @@ sent_ends r reading final own text origin rest reply xend seated left a b e m c 
       final = n;
       planned = x.planned;
       fronts = fronts_after own (front ++ text) origin rest xend seated a b m c d g i 0 w (pays_part_after p x.pays) v;
-      sent = IsPrefix_after own (front ++ text_of) (front ++ x.pays.part) (IsPrefix_after front text_of x.pays.part x.sent);
+      sent = IsPrefix_after own (front ++ text_of) (front ++ x.pays.part)
+          (IsPrefix_after front text_of x.pays.part x.sent);
     }
-sent_ends r reading final own text origin rest reply xend seated left a b e m c d g h i failed Starved n at w v p x = fronts_after own (interim_texts r reading.interim ++ text) origin rest xend seated a b m c d g i 0 w (pays_part_after p x) v
-sent_ends r reading final own text origin rest reply xend seated left a b e m c d g h i failed WantOfMemory n at w v p x = fronts_after own (interim_texts r reading.interim ++ text) origin rest xend seated a b m c d g i 0 w (pays_part_after p x) v
-sent_ends r reading final own text origin rest reply xend seated left a b e m c d g h i failed Cut n at w v p x = absurd x
-sent_ends r reading final own text origin rest reply xend seated left a b e m c d g h i failed BadBody n at w v p x = absurd x
+sent_ends r reading final own text origin rest reply xend seated left a b e m c d g h i failed Starved n at w v p x =
+    fronts_after own (interim_texts r reading.interim ++ text) origin rest xend seated a b m c d g i 0 w
+    (pays_part_after p x) v
+sent_ends r reading final own text origin rest reply xend seated left a b e m c d g h i failed WantOfMemory n
+    at w v p x = fronts_after own (interim_texts r reading.interim ++ text) origin rest xend seated a b m c d g i 0 w
+    (pays_part_after p x) v
+sent_ends r reading final own text origin rest reply xend seated left a b e m c d g h i failed Cut n at w v p x =
+    absurd x
+sent_ends r reading final own text origin rest reply xend seated left a b e m c d g h i failed BadBody n at w v p x =
+    absurd x
 
 -- the reply with its own head, where what comes behind the head is told
-sent_known : {r : HttpRequest} {head : ReplyHead} {seated : Bool} {a b : Option (List ℕ)} {g h : ℕ} {end : Exchanged} (next : Option (List ℕ)) (rest : List ℕ) → next ≡ Some rest → SendsReply r head seated next a b g h end
+sent_known : {r : HttpRequest} {head : ReplyHead} {seated : Bool} {a b : Option (List ℕ)} {g h : ℕ} {end : Exchanged}
+    (next : Option (List ℕ)) (rest : List ℕ) → next ≡ Some rest → SendsReply r head seated next a b g h end
     → SentReply r head (replied r head rest).text (replied r head rest).end seated a b g h end
 sent_known {r} {head} {seated} {a} {b} {g} {h} {end} None rest e x = absurd cc
 sent_known {r} {head} {seated} {a} {b} {g} {h} {end} (Some bytes) rest e x =
     let same : bytes ≡ rest = cc in
     subst (λ l. SentReply r head (replied r head l).text (replied r head l).end seated a b g h end) same x.known
 
-pub exchange_sent : (r : HttpRequest) (addr : Address) (p : BodyPlan) (first told left next a b e m c d : Option (List ℕ)) (seated now_seated : Bool) (g h i : ℕ) (source failed : Type 0) (head : ReplyHead) (end : Exchanged)
-    → SendsRequest r addr p first left a b c d None → LeadsReply r seated told next b e g h source (Ok head) → now_seated ≡ seated → SendsReply r head now_seated next e m h i end
+pub exchange_sent : (r : HttpRequest) (addr : Address) (p : BodyPlan)
+    (first told left next a b e m c d : Option (List ℕ)) (seated now_seated : Bool) (g h i : ℕ) (source failed : Type 0)
+    (head : ReplyHead) (end : Exchanged)
+    → SendsRequest r addr p first left a b c d None → LeadsReply r seated told next b e g h source (Ok head)
+    → now_seated ≡ seated → SendsReply r head now_seated next e m h i end
     → IfSome first (λ input. IfSome told (λ reply. Exchanges r addr p input reply seated left a m c d g i failed end))
 exchange_sent r addr p None told left next a b e m c d seated now_seated g h i source failed head end s l same x = tt
-exchange_sent r addr p (Some input) None left next a b e m c d seated now_seated g h i source failed head end s l same x = tt
-exchange_sent r addr p (Some input) (Some reply) left next a b e m c d seated now_seated g h i source failed head end s l same x =
+exchange_sent r addr p (Some input) None left next a b e m c d seated now_seated g h i source failed head end s l same
+    x = tt
+exchange_sent r addr p (Some input) (Some reply) left next a b e m c d seated now_seated g h i source failed head end s
+    l same x =
     let body = body_of p (is_chunked p) input in
     let own = continue_part r p in
     let origin = head_out r addr p ++ body.out in
@@ -246,11 +381,21 @@ exchange_sent r addr p (Some input) (Some reply) left next a b e m c d seated no
       seen = reply;
       reading = reading;
       front = IsPrefix_refl reply;
-      reads = record { heads = y.heads; more = y.more; cut = y.cut; interim = y.are; few = y.few; final = (y.begins, y.own, y.goes) };
+      reads = record {
+        heads = y.heads;
+        more = y.more;
+        cut = y.cut;
+        interim = y.are;
+        few = y.few;
+        final = (y.begins, y.own, y.goes);
+      };
       ends =
-          subst (λ x. EndsExchange r reading x reply reply seated left a m c d g i failed end) (sym (answered_whole r own origin body reading s.known.0))
-          (sent_ends r reading head own (replied r head y.rest).text origin body.rest reply (replied r head y.rest).end seated left a b e m c d g h i failed end
-          refl s.known.1 s.known.2 s.known.3 y.pays (sent_known next y.rest y.left_is (subst (λ t. SendsReply r head t next e m h i end) same x)));
+          subst (λ x. EndsExchange r reading x reply reply seated left a m c d g i failed end)
+          (sym (answered_whole r own origin body reading s.known.0))
+          (sent_ends r reading head own (replied r head y.rest).text origin body.rest reply (replied r head y.rest).end
+          seated left a b e m c d g h i failed end
+          refl s.known.1 s.known.2 s.known.3 y.pays
+          (sent_known next y.rest y.left_is (subst (λ t. SendsReply r head t next e m h i end) same x)));
     }
 
 -- the link that failed in sending the request
@@ -280,7 +425,8 @@ lead_cause A B C OriginFault f x = absurd x
 lead_cause A B C Starved f x = tt
 
 -- and in sending the reply
-pub reply_cause : {A B C D : Type 0} (end : Exchanged) → (A → B) → (C → D) → ExchangeHasCause A C end → ExchangeHasCause B D end
+pub reply_cause : {A B C D : Type 0} (end : Exchanged) → (A → B) → (C → D) → ExchangeHasCause A C end
+    → ExchangeHasCause B D end
 reply_cause ClientFault f j x = f x
 reply_cause OriginFault f j x = j x
 reply_cause NoReply f j x = tt

@@ -9,7 +9,8 @@ use Rattle.sq_head.specs.ReplyHeads.{most_bytes}
 use Rattle.sq_forward.specs.Heads.{IsTooLarge}
 
 -- the head ahead is over the limit
-pub large_by_end : (ahead : List ℕ) (src : Option (List ℕ)) (len : ℕ) → head_end ahead ≡ Some len → len ≤ length ahead → most_bytes < len → IfSome (prepend_known ahead src) IsTooLarge
+pub large_by_end : (ahead : List ℕ) (src : Option (List ℕ)) (len : ℕ) → head_end ahead ≡ Some len → len ≤ length ahead
+    → most_bytes < len → IfSome (prepend_known ahead src) IsTooLarge
 large_by_end ahead None len e inside over = tt
 large_by_end ahead (Some s) len e inside over = record {
   long = omega (arith, length-append ahead s, inside, over);
@@ -19,9 +20,13 @@ large_by_end ahead (Some s) len e inside over = record {
 }
 
 -- so many bytes are ahead that no head within the limit is to come
-pub large_by_room : (ahead : List ℕ) (src : Option (List ℕ)) → head_end ahead ≡ None → most_bytes ≤ length ahead → IfSome (prepend_known ahead src) IsTooLarge
+pub large_by_room : (ahead : List ℕ) (src : Option (List ℕ)) → head_end ahead ≡ None → most_bytes ≤ length ahead
+    → IfSome (prepend_known ahead src) IsTooLarge
 large_by_room ahead None e room = tt
-large_by_room ahead (Some s) e room = record { long = omega (arith, length-append ahead s, room); endless = λ n at. by n at (nat_lt most_bytes n) refl }
+large_by_room ahead (Some s) e room = record {
+  long = omega (arith, length-append ahead s, room);
+  endless = λ n at. by n at (nat_lt most_bytes n) refl;
+}
   where
     by : (n : ℕ) → head_end (ahead ++ s) ≡ Some n → (t : Bool) → nat_lt most_bytes n ≡ t → most_bytes < n
     by n at true t = grind (arith, nat_tests)

@@ -14,7 +14,8 @@ use Rattle.sq_forward.proofs.HeadLaws.{missing_all}
 use Rattle.sq_forward.proofs.PayLaws.{pays_none, pays_after, pays_part_after, pays_whole}
 
 -- so many heads were passed on, none of which was the reply's own
-pub record Leading (r : HttpRequest) (bytes : List ℕ) (seated : Bool) (passed : ℕ) (left before now : Option (List ℕ)) (g h : ℕ) : Type 0 where
+pub record Leading (r : HttpRequest) (bytes : List ℕ) (seated : Bool) (passed : ℕ) (left before now : Option (List ℕ))
+    (g h : ℕ) : Type 0 where
   pub heads : List ℕ
   pub more : List ℕ
   pub interim : List ReplyHead
@@ -24,28 +25,47 @@ pub record Leading (r : HttpRequest) (bytes : List ℕ) (seated : Bool) (passed 
   pub left_is : left ≡ Some more
   pub pays : PaysAll seated (interim_texts r interim) before now g h
 
-pub record LeadingSo (r : HttpRequest) (seated : Bool) (passed : ℕ) (first left before now : Option (List ℕ)) (g h : ℕ) : Type 0 where
+pub record LeadingSo (r : HttpRequest) (seated : Bool) (passed : ℕ) (first left before now : Option (List ℕ))
+    (g h : ℕ) : Type 0 where
   pub known : IfSome first (λ bytes. Leading r bytes seated passed left before now g h)
 
-pub leads_none : (r : HttpRequest) (seated : Bool) (first out : Option (List ℕ)) (g : ℕ) → g ≤ count_limit → LeadingSo r seated 0 first first out out g g
+pub leads_none : (r : HttpRequest) (seated : Bool) (first out : Option (List ℕ)) (g : ℕ) → g ≤ count_limit
+    → LeadingSo r seated 0 first first out out g g
 leads_none r seated None out g few = record { known = tt }
 leads_none r seated (Some bytes) out g few = record {
-  known = record { heads = []; more = bytes; interim = []; cut = refl; are = refl; count = refl; left_is = refl; pays = pays_none seated out g few };
+  known = record {
+    heads = [];
+    more = bytes;
+    interim = [];
+    cut = refl;
+    are = refl;
+    count = refl;
+    left_is = refl;
+    pays = pays_none seated out g few;
+  };
 }
 
 -- a head behind those
-interim_more : (heads head : List ℕ) (hs : List ReplyHead) (h : ReplyHead) → AreInterim heads hs → IsHead head h → is_interim h ≡ true → AreInterim (heads ++ head) (hs ++ h ∷ [])
+interim_more : (heads head : List ℕ) (hs : List ReplyHead) (h : ReplyHead) → AreInterim heads hs → IsHead head h
+    → is_interim h ≡ true → AreInterim (heads ++ head) (hs ++ h ∷ [])
 interim_more heads head [] h are is one =
     ([], record { head = head; cut = ap (λ l. l ++ head) are ∙ sym (append-nil head); is = is }, one, refl)
-interim_more heads head (x ∷ hs) h (rest, b, x_one, are) is one =
-    (rest ++ head, record { head = b.head; cut = ap (λ l. l ++ head) b.cut ∙ append_assoc b.head rest head; is = b.is }, x_one, interim_more rest head hs h are is one)
+interim_more heads head (x ∷ hs) h (rest, b, x_one, are) is one = (
+  rest ++ head,
+  record { head = b.head; cut = ap (λ l. l ++ head) b.cut ∙ append_assoc b.head rest head; is = b.is },
+  x_one,
+  interim_more rest head hs h are is one,
+)
 
-texts_more : (r : HttpRequest) (hs : List ReplyHead) (h : ReplyHead) → interim_texts r hs ++ interim_text r h ≡ interim_texts r (hs ++ h ∷ [])
+texts_more : (r : HttpRequest) (hs : List ReplyHead) (h : ReplyHead)
+    → interim_texts r hs ++ interim_text r h ≡ interim_texts r (hs ++ h ∷ [])
 texts_more r [] h = sym (append-nil (interim_text r h))
-texts_more r (x ∷ hs) h = append_assoc (interim_text r x) (interim_texts r hs) (interim_text r h) ∙ ap (λ l. interim_text r x ++ l) (texts_more r hs h)
+texts_more r (x ∷ hs) h = append_assoc (interim_text r x) (interim_texts r hs) (interim_text r h)
+    ∙ ap (λ l. interim_text r x ++ l) (texts_more r hs h)
 
 -- a front of what comes that is heads alone
-pub heads_alone : (heads : List ℕ) (hs : List ReplyHead) → AreInterim heads hs → length hs ≤ interim_limit → IsReading heads (record { interim = hs; final = None; rest = [] })
+pub heads_alone : (heads : List ℕ) (hs : List ReplyHead) → AreInterim heads hs → length hs ≤ interim_limit
+    → IsReading heads (record { interim = hs; final = None; rest = [] })
 heads_alone heads hs are few = record {
   heads = heads;
   more = [];
@@ -56,8 +76,10 @@ heads_alone heads hs are few = record {
 }
 
 -- the reply's own head was taken
-pub leads_to : {r : HttpRequest} {seated : Bool} {passed : ℕ} {a b : Option (List ℕ)} {g h : ℕ} {failed : Type 0} (first left next : Option (List ℕ)) (head : ReplyHead)
-    → LeadingSo r seated passed first left a b g h → IfSome left (λ bytes. TakenHead bytes next head) → passed ≤ interim_limit → is_interim head ≡ false → (head.status ≡ 101 → ⊥)
+pub leads_to : {r : HttpRequest} {seated : Bool} {passed : ℕ} {a b : Option (List ℕ)} {g h : ℕ} {failed : Type 0}
+    (first left next : Option (List ℕ)) (head : ReplyHead)
+    → LeadingSo r seated passed first left a b g h → IfSome left (λ bytes. TakenHead bytes next head)
+    → passed ≤ interim_limit → is_interim head ≡ false → (head.status ≡ 101 → ⊥)
     → LeadsReply r seated first next a b g h failed (Ok head)
 leads_to None left next head x t few own goes = record { known = tt }
 leads_to (Some bytes) None next head x t few own goes = absurd (let e = x.known.left_is in cc)
@@ -82,8 +104,11 @@ leads_to (Some bytes) (Some now) next head x t few own goes =
     }
 
 -- what comes begins with no head that can be passed on
-leads_nowhere : {r : HttpRequest} {seated : Bool} {passed : ℕ} {a b : Option (List ℕ)} {g h : ℕ} {failed : Type 0} (bytes : List ℕ) (left : Option (List ℕ))
-    → (x : Leading r bytes seated passed left a b g h) → passed ≤ interim_limit → ((head : ReplyHead) (rest : List ℕ) → BeginsHead x.more head rest → (head.status ≡ 101) ⊎ ((is_interim head ≡ true) × (passed ≡ interim_limit)))
+leads_nowhere : {r : HttpRequest} {seated : Bool} {passed : ℕ} {a b : Option (List ℕ)} {g h : ℕ} {failed : Type 0}
+    (bytes : List ℕ) (left : Option (List ℕ))
+    → (x : Leading r bytes seated passed left a b g h) → passed ≤ interim_limit
+    → ((head : ReplyHead) (rest : List ℕ) → BeginsHead x.more head rest
+    → (head.status ≡ 101) ⊎ ((is_interim head ≡ true) × (passed ≡ interim_limit)))
     → LedNowhere r bytes seated a b g h failed NoReply
 leads_nowhere {r} {seated} {passed} bytes left x few refused = record {
   seen = bytes;
@@ -106,18 +131,26 @@ leads_nowhere {r} {seated} {passed} bytes left x few refused = record {
     refused_as (inr (p, e)) = inr (p, x.count ∙ e)
 
 -- no head comes
-pub leads_missing : {r : HttpRequest} {seated : Bool} {passed : ℕ} {a b : Option (List ℕ)} {g h : ℕ} {failed : Type 0} (first left next : Option (List ℕ))
-    → LeadingSo r seated passed first left a b g h → IfSome left (λ bytes. (head : ReplyHead) (rest : List ℕ) → BeginsHead bytes head rest → ⊥) → passed ≤ interim_limit
+pub leads_missing : {r : HttpRequest} {seated : Bool} {passed : ℕ} {a b : Option (List ℕ)} {g h : ℕ} {failed : Type 0}
+    (first left next : Option (List ℕ))
+    → LeadingSo r seated passed first left a b g h
+    → IfSome left (λ bytes. (head : ReplyHead) (rest : List ℕ) → BeginsHead bytes head rest → ⊥)
+    → passed ≤ interim_limit
     → LeadsReply r seated first next a b g h failed (Err NoReply)
 leads_missing None left next x t few = record { known = tt }
 leads_missing (Some bytes) None next x t few = absurd (let e = x.known.left_is in cc)
 leads_missing (Some bytes) (Some now) next x t few =
     let is : now ≡ x.known.more = let e = x.known.left_is in cc in
-    record { known = leads_nowhere bytes (Some now) x.known few (λ head rest b. absurd (t head rest (subst (λ l. BeginsHead l head rest) (sym is) b))) }
+    record {
+      known = leads_nowhere bytes (Some now) x.known few
+          (λ head rest b. absurd (t head rest (subst (λ l. BeginsHead l head rest) (sym is) b)));
+    }
 
 -- the head that came is refused
-pub leads_refused : {r : HttpRequest} {seated : Bool} {passed : ℕ} {a b : Option (List ℕ)} {g h : ℕ} {failed : Type 0} (first left next : Option (List ℕ)) (head : ReplyHead)
-    → LeadingSo r seated passed first left a b g h → IfSome left (λ bytes. TakenHead bytes next head) → passed ≤ interim_limit → (head.status ≡ 101) ⊎ ((is_interim head ≡ true) × (passed ≡ interim_limit))
+pub leads_refused : {r : HttpRequest} {seated : Bool} {passed : ℕ} {a b : Option (List ℕ)} {g h : ℕ} {failed : Type 0}
+    (first left next : Option (List ℕ)) (head : ReplyHead)
+    → LeadingSo r seated passed first left a b g h → IfSome left (λ bytes. TakenHead bytes next head)
+    → passed ≤ interim_limit → (head.status ≡ 101) ⊎ ((is_interim head ≡ true) × (passed ≡ interim_limit))
     → LeadsReply r seated first next a b g h failed (Err NoReply)
 leads_refused None left next head x t few refused = record { known = tt }
 leads_refused (Some bytes) None next head x t few refused = absurd (let e = x.known.left_is in cc)
@@ -130,22 +163,29 @@ leads_refused {r} {seated} {passed} (Some bytes) (Some now) next head x t few re
     }
 
 -- the head that came is no interim one
-pub leads_own : {r : HttpRequest} {seated : Bool} {passed : ℕ} {a b : Option (List ℕ)} {g h : ℕ} (failed : Type 0) (first left next : Option (List ℕ)) (head : ReplyHead) (led : Result ReplyHead Exchanged)
-    → LeadingSo r seated passed first left a b g h → IfSome left (λ bytes. TakenHead bytes next head) → passed ≤ interim_limit → is_interim head ≡ false → led ≡ own_head head
+pub leads_own : {r : HttpRequest} {seated : Bool} {passed : ℕ} {a b : Option (List ℕ)} {g h : ℕ} (failed : Type 0)
+    (first left next : Option (List ℕ)) (head : ReplyHead) (led : Result ReplyHead Exchanged)
+    → LeadingSo r seated passed first left a b g h → IfSome left (λ bytes. TakenHead bytes next head)
+    → passed ≤ interim_limit → is_interim head ≡ false → led ≡ own_head head
     → LeadsReply r seated first next a b g h failed led
-leads_own {r} {seated} {passed} {a} {b} {g} {h} failed first left next head led x t few own e = by (head.status == 101) refl
+leads_own {r} {seated} {passed} {a} {b} {g} {h} failed first left next head led x t few own e =
+    by (head.status == 101) refl
   where
     by : (u : Bool) → (head.status == 101) ≡ u → LeadsReply r seated first next a b g h failed led
     by true i =
         let is : own_head head ≡ Err NoReply = rw i refl in
-        subst (LeadsReply r seated first next a b g h failed) (sym (e ∙ is)) (leads_refused first left next head x t few (inl (grind arith)))
+        subst (LeadsReply r seated first next a b g h failed) (sym (e ∙ is))
+        (leads_refused first left next head x t few (inl (grind arith)))
     by false i =
         let is : own_head head ≡ Ok head = rw i refl in
-        subst (LeadsReply r seated first next a b g h failed) (sym (e ∙ is)) (leads_to first left next head x t few own (λ j. grind arith))
+        subst (LeadsReply r seated first next a b g h failed) (sym (e ∙ is))
+        (leads_to first left next head x t few own (λ j. grind arith))
 
 -- the source failed: what was looked at is heads alone
-pub leads_failed : {r : HttpRequest} {seated : Bool} {passed : ℕ} {a b : Option (List ℕ)} {g h : ℕ} {failed : Type 0} (first left next : Option (List ℕ))
-    → LeadingSo r seated passed first left a b g h → failed → passed ≤ interim_limit → LeadsReply r seated first next a b g h failed (Err NoReply)
+pub leads_failed : {r : HttpRequest} {seated : Bool} {passed : ℕ} {a b : Option (List ℕ)} {g h : ℕ} {failed : Type 0}
+    (first left next : Option (List ℕ))
+    → LeadingSo r seated passed first left a b g h → failed → passed ≤ interim_limit
+    → LeadsReply r seated first next a b g h failed (Err NoReply)
 leads_failed None left next x f few = record { known = tt }
 leads_failed (Some bytes) left next x f few =
     let y = x.known in
@@ -161,8 +201,10 @@ leads_failed (Some bytes) left next x f few =
     }
 
 -- there was no memory for a head
-pub leads_no_memory : {r : HttpRequest} {seated : Bool} {passed : ℕ} {a b : Option (List ℕ)} {g h : ℕ} {failed : Type 0} (first left next : Option (List ℕ))
-    → LeadingSo r seated passed first left a b g h → passed ≤ interim_limit → LeadsReply r seated first next a b g h failed (Err WantOfMemory)
+pub leads_no_memory : {r : HttpRequest} {seated : Bool} {passed : ℕ} {a b : Option (List ℕ)} {g h : ℕ} {failed : Type 0}
+    (first left next : Option (List ℕ))
+    → LeadingSo r seated passed first left a b g h → passed ≤ interim_limit
+    → LeadsReply r seated first next a b g h failed (Err WantOfMemory)
 leads_no_memory None left next x few = record { known = tt }
 leads_no_memory (Some bytes) left next x few =
     let y = x.known in
@@ -178,8 +220,10 @@ leads_no_memory (Some bytes) left next x few =
     }
 
 -- a head was taken that is not the reply's own, and sent
-pub leads_more : {r : HttpRequest} {seated : Bool} {passed : ℕ} {a b d : Option (List ℕ)} {g h k : ℕ} (first left next : Option (List ℕ)) (head : ReplyHead)
-    → LeadingSo r seated passed first left a b g h → IfSome left (λ bytes. TakenHead bytes next head) → is_interim head ≡ true → PaysAll seated (interim_text r head) b d h k
+pub leads_more : {r : HttpRequest} {seated : Bool} {passed : ℕ} {a b d : Option (List ℕ)} {g h k : ℕ}
+    (first left next : Option (List ℕ)) (head : ReplyHead)
+    → LeadingSo r seated passed first left a b g h → IfSome left (λ bytes. TakenHead bytes next head)
+    → is_interim head ≡ true → PaysAll seated (interim_text r head) b d h k
     → LeadingSo r seated (passed + 1) first next a d g k
 leads_more None left next head x t one p = record { known = tt }
 leads_more (Some bytes) None next head x t one p = absurd (let e = x.known.left_is in cc)
@@ -200,9 +244,12 @@ leads_more {r} {seated} {passed} {a} {b} {d} {g} {h} {k} (Some bytes) (Some now)
     }
 
 -- a head was taken that is not the reply's own, and a front of it sent
-pub leads_part : {r : HttpRequest} {seated : Bool} {passed : ℕ} {a b d : Option (List ℕ)} {g h k : ℕ} {failed : Type 0} (first left next : Option (List ℕ)) (head : ReplyHead) (end : Exchanged)
-    → LeadingSo r seated passed first left a b g h → IfSome left (λ bytes. TakenHead bytes next head) → is_interim head ≡ true → passed + 1 ≤ interim_limit
-    → (end ≡ NoReply → ⊥) → PaysHeads (interim_text r head) seated b d h k end → LeadsReply r seated first next a d g k failed (Err end)
+pub leads_part : {r : HttpRequest} {seated : Bool} {passed : ℕ} {a b d : Option (List ℕ)} {g h k : ℕ} {failed : Type 0}
+    (first left next : Option (List ℕ)) (head : ReplyHead) (end : Exchanged)
+    → LeadingSo r seated passed first left a b g h → IfSome left (λ bytes. TakenHead bytes next head)
+    → is_interim head ≡ true → passed + 1 ≤ interim_limit
+    → (end ≡ NoReply → ⊥) → PaysHeads (interim_text r head) seated b d h k end
+    → LeadsReply r seated first next a d g k failed (Err end)
 leads_part None left next head end x t one few other p = record { known = tt }
 leads_part (Some bytes) None next head end x t one few other p = absurd (let e = x.known.left_is in cc)
 leads_part {r} {seated} {passed} {a} {b} {d} {g} {h} {k} (Some bytes) (Some now) next head end x t one few other p =
@@ -212,14 +259,23 @@ leads_part {r} {seated} {passed} {a} {b} {d} {g} {h} {k} (Some bytes) (Some now)
       known = record {
         seen = y.heads ++ t.begins.head;
         interim = y.interim ++ head ∷ [];
-        front = (t.rest, y.cut ∙ ap (λ l. y.heads ++ l) (sym is ∙ t.begins.cut) ∙ sym (append_assoc y.heads t.begins.head t.rest));
-        reads = heads_alone (y.heads ++ t.begins.head) (y.interim ++ head ∷ []) (interim_more y.heads t.begins.head y.interim head y.are t.begins.is one) (omega (arith, length-append y.interim (head ∷ []), y.count, few));
+        front = (
+          t.rest,
+          y.cut ∙ ap (λ l. y.heads ++ l) (sym is ∙ t.begins.cut)
+              ∙ sym (append_assoc y.heads t.begins.head t.rest),
+        );
+        reads = heads_alone (y.heads ++ t.begins.head) (y.interim ++ head ∷ [])
+            (interim_more y.heads t.begins.head y.interim head y.are t.begins.is one)
+            (omega (arith, length-append y.interim (head ∷ []), y.count, few));
         all = λ e. absurd (other e);
-        pays = subst (λ l. PaysHeads l seated a d g k end) (texts_more r y.interim head) (part_by (interim_text r head) d k end y.pays p);
+        pays = subst (λ l. PaysHeads l seated a d g k end) (texts_more r y.interim head)
+            (part_by (interim_text r head) d k end y.pays p);
       };
     }
   where
-    part_by : {front : List ℕ} {seated : Bool} {a b : Option (List ℕ)} {g h : ℕ} (text : List ℕ) (d : Option (List ℕ)) (k : ℕ) (end : Exchanged) → PaysAll seated front a b g h → PaysHeads text seated b d h k end → PaysHeads (front ++ text) seated a d g k end
+    part_by : {front : List ℕ} {seated : Bool} {a b : Option (List ℕ)} {g h : ℕ} (text : List ℕ) (d : Option (List ℕ))
+        (k : ℕ) (end : Exchanged) → PaysAll seated front a b g h → PaysHeads text seated b d h k end
+        → PaysHeads (front ++ text) seated a d g k end
     part_by text d k NoReply w p = pays_after w p
     part_by text d k ClientFault w p = pays_part_after w p
     part_by text d k Starved w p = pays_part_after w p

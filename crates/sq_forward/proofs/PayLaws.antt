@@ -15,16 +15,19 @@ granted_none true before h = omega (arith, h)
 granted_none false before h = refl
 
 -- twice some bytes more
-pub granted_more : (seated : Bool) (before a n : ℕ) → granted_after seated (granted_after seated before a) n ≡ granted_after seated before (a + n)
+pub granted_more : (seated : Bool) (before a n : ℕ)
+    → granted_after seated (granted_after seated before a) n ≡ granted_after seated before (a + n)
 granted_more true before a n = omega arith
 granted_more false before a n = refl
 
 -- the first bytes of the rest, behind the first bytes
-pub take_more : (at n : ℕ) (bytes rest piece : List ℕ) → rest ≡ drop at bytes → piece ≡ take n rest → take at bytes ++ piece ≡ take (at + n) bytes
+pub take_more : (at n : ℕ) (bytes rest piece : List ℕ) → rest ≡ drop at bytes → piece ≡ take n rest
+    → take at bytes ++ piece ≡ take (at + n) bytes
 take_more at n bytes rest piece e f = ap (λ p. take at bytes ++ p) (f ∙ ap (take n) e) ∙ sym (take-add at n bytes)
 
 -- what was written before a pause too many
-pub starved_part : (seated : Bool) (bytes : List ℕ) (before now : Option (List ℕ)) (g h at spare : ℕ) → at ≤ length bytes → Appends before now (take at bytes) → h ≡ granted_after seated g at
+pub starved_part : (seated : Bool) (bytes : List ℕ) (before now : Option (List ℕ)) (g h at spare : ℕ)
+    → at ≤ length bytes → Appends before now (take at bytes) → h ≡ granted_after seated g at
     → PaysPart seated bytes before now g h spare
 starved_part seated bytes before now g h at spare within wrote granted = record {
   part = take at bytes;
@@ -36,11 +39,17 @@ starved_part seated bytes before now g h at spare within wrote granted = record 
 }
 
 -- what was written before the sink failed
-pub failed_part : (seated : Bool) (bytes rest piece : List ℕ) (before mid now : Option (List ℕ)) (g h at n : ℕ) → at ≤ length bytes → rest ≡ drop at bytes → piece ≡ take n rest → n ≤ piece_limit → length piece ≡ n
-    → Appends before mid (take at bytes) → Grew mid now (λ part. IsPrefix part piece) → h ≡ granted_after seated g (at + n) → PaysPart seated bytes before now g h piece_limit
-failed_part seated bytes rest piece before mid now g h at n within e f few len wrote (part, grew, (more, front)) granted =
+pub failed_part : (seated : Bool) (bytes rest piece : List ℕ) (before mid now : Option (List ℕ)) (g h at n : ℕ)
+    → at ≤ length bytes → rest ≡ drop at bytes → piece ≡ take n rest → n ≤ piece_limit → length piece ≡ n
+    → Appends before mid (take at bytes) → Grew mid now (λ part. IsPrefix part piece)
+    → h ≡ granted_after seated g (at + n) → PaysPart seated bytes before now g h piece_limit
+failed_part seated bytes rest piece before mid now g h
+    at n within e f few len wrote (part, grew, (more, front)) granted =
     let whole : bytes ≡ (take at bytes ++ part) ++ (more ++ drop n rest) =
-    sym (take-append-drop at bytes) ∙ ap (λ r. take at bytes ++ r) (sym e ∙ sym (take-append-drop n rest) ∙ ap (λ p. p ++ drop n rest) (sym f ∙ front) ∙ append_assoc part more (drop n rest))
+    sym (take-append-drop at bytes)
+    ∙ ap (λ r. take at bytes ++ r)
+    (sym e ∙ sym (take-append-drop n rest) ∙ ap (λ p. p ++ drop n rest) (sym f ∙ front)
+    ∙ append_assoc part more (drop n rest))
     ∙ sym (append_assoc (take at bytes) part (more ++ drop n rest)) in
     let sum : length part + length more ≡ n = omega (arith, len, ap length front, length-append part more) in
     record {
@@ -48,7 +57,8 @@ failed_part seated bytes rest piece before mid now g h at n within e f few len w
       more = length more;
       front = (more ++ drop n rest, whole);
       wrote = Appends-trans before mid now (take at bytes) part wrote grew;
-      granted = granted ∙ ap (granted_after seated g) (omega (arith, sum, length-append (take at bytes) part, length-take-le at bytes within));
+      granted = granted ∙ ap (granted_after seated g)
+          (omega (arith, sum, length-append (take at bytes) part, length-take-le at bytes within));
       close = omega (arith, sum, few);
     }
 
@@ -66,33 +76,46 @@ pub pays_none : (seated : Bool) (out : Option (List ℕ)) (g : ℕ) → g ≤ co
 pays_none seated out g few = record { wrote = Appends-nil out; granted = granted_none seated g few }
 
 -- nothing was written of a text
-pub pays_nothing : (seated : Bool) (text : List ℕ) (out : Option (List ℕ)) (g : ℕ) → g ≤ count_limit → PaysPart seated text out out g g 0
-pays_nothing seated text out g few = record { part = []; more = 0; front = IsPrefix_nil text; wrote = Appends-nil out; granted = granted_none seated g few; close = omega arith }
+pub pays_nothing : (seated : Bool) (text : List ℕ) (out : Option (List ℕ)) (g : ℕ) → g ≤ count_limit
+    → PaysPart seated text out out g g 0
+pays_nothing seated text out g few = record {
+  part = [];
+  more = 0;
+  front = IsPrefix_nil text;
+  wrote = Appends-nil out;
+  granted = granted_none seated g few;
+  close = omega arith;
+}
 
 -- a text behind another
-pub pays_after : {seated : Bool} {front text : List ℕ} {a b d : Option (List ℕ)} {g h k : ℕ} → PaysAll seated front a b g h → PaysAll seated text b d h k → PaysAll seated (front ++ text) a d g k
+pub pays_after : {seated : Bool} {front text : List ℕ} {a b d : Option (List ℕ)} {g h k : ℕ}
+    → PaysAll seated front a b g h → PaysAll seated text b d h k → PaysAll seated (front ++ text) a d g k
 pays_after {seated} {front} {text} {a} {b} {d} {g} {h} {k} x y = record {
   wrote = Appends-trans a b d front text x.wrote y.wrote;
   granted =
-      y.granted ∙ ap (λ n. granted_after seated n (length text)) x.granted ∙ granted_more seated g (length front) (length text)
+      y.granted ∙ ap (λ n. granted_after seated n (length text)) x.granted
+      ∙ granted_more seated g (length front) (length text)
       ∙ ap (granted_after seated g) (sym (length-append front text));
 }
 
 -- a part of a text behind another
-unfoldable pub pays_part_after : {seated : Bool} {front text : List ℕ} {a b d : Option (List ℕ)} {g h k spare : ℕ} → PaysAll seated front a b g h → PaysPart seated text b d h k spare → PaysPart seated (front ++ text) a d g k spare
+unfoldable pub pays_part_after : {seated : Bool} {front text : List ℕ} {a b d : Option (List ℕ)} {g h k spare : ℕ}
+    → PaysAll seated front a b g h → PaysPart seated text b d h k spare → PaysPart seated (front ++ text) a d g k spare
 pays_part_after {seated} {front} {text} {a} {b} {d} {g} {h} {k} {spare} x y = record {
   part = front ++ y.part;
   more = y.more;
   front = IsPrefix_after front y.part text y.front;
   wrote = Appends-trans a b d front y.part x.wrote y.wrote;
   granted =
-      y.granted ∙ ap (λ n. granted_after seated n (length y.part + y.more)) x.granted ∙ granted_more seated g (length front) (length y.part + y.more)
+      y.granted ∙ ap (λ n. granted_after seated n (length y.part + y.more)) x.granted
+      ∙ granted_more seated g (length front) (length y.part + y.more)
       ∙ ap (granted_after seated g) (omega (arith, length-append front y.part));
   close = y.close;
 }
 
 -- a part of a text that has more
-pub pays_part_more : {seated : Bool} {front : List ℕ} (text : List ℕ) {a b : Option (List ℕ)} {g h spare : ℕ} → PaysPart seated front a b g h spare → PaysPart seated (front ++ text) a b g h spare
+pub pays_part_more : {seated : Bool} {front : List ℕ} (text : List ℕ) {a b : Option (List ℕ)} {g h spare : ℕ}
+    → PaysPart seated front a b g h spare → PaysPart seated (front ++ text) a b g h spare
 pays_part_more {seated} {front} text {a} {b} {g} {h} {spare} y = record {
   part = y.part;
   more = y.more;
@@ -103,7 +126,8 @@ pays_part_more {seated} {front} text {a} {b} {g} {h} {spare} y = record {
 }
 
 -- the whole of a text is a part of it
-pub pays_whole : {seated : Bool} {text : List ℕ} {a b : Option (List ℕ)} {g h : ℕ} → PaysAll seated text a b g h → PaysPart seated text a b g h 0
+pub pays_whole : {seated : Bool} {text : List ℕ} {a b : Option (List ℕ)} {g h : ℕ} → PaysAll seated text a b g h
+    → PaysPart seated text a b g h 0
 pays_whole {seated} {text} {a} {b} {g} {h} x = record {
   part = text;
   more = 0;
@@ -114,7 +138,8 @@ pays_whole {seated} {text} {a} {b} {g} {h} x = record {
 }
 
 -- more may be granted than was
-pub pays_spare : {seated : Bool} {text : List ℕ} {a b : Option (List ℕ)} {g h : ℕ} (m n : ℕ) → m ≤ n → PaysPart seated text a b g h m → PaysPart seated text a b g h n
+pub pays_spare : {seated : Bool} {text : List ℕ} {a b : Option (List ℕ)} {g h : ℕ} (m n : ℕ) → m ≤ n
+    → PaysPart seated text a b g h m → PaysPart seated text a b g h n
 pays_spare {seated} {text} {a} {b} {g} {h} m n few y = record {
   part = y.part;
   more = y.more;

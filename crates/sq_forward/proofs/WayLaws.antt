@@ -2,7 +2,7 @@
 use Rattle.std.proofs.Common.{◌≡◌, ◌≤◌, inl, inr, ℕ, Bool, true, false, List, [], ◌++◌, Option, Some, None, refl, sym, ap, subst, ◌∙◌, arith, append-nil}
 use Rattle.std.specs.Io.KnownBytes.{Appends, IsAtEnd}
 use Rattle.sq_base.specs.declared.plans.BodyPlan.TheVariants as plan
-use Rattle.sq_body.specs.declared.place.Place.TheVariants.{Open}
+use Rattle.sq_body.specs.declared.body_state.BodyState.TheVariants.{Open}
 use Rattle.sq_body.specs.Bodies.{Walk, body_of, walk}
 use Rattle.sq_body.proofs.BodyLaws.{copy_open, walk_none}
 use Rattle.sq_forward.specs.Copying.{CopiesBody, Copies, dry_after_copy}
@@ -12,8 +12,8 @@ use Rattle.sq_forward.specs.declared.copying.Copied.{Copied}
 use Rattle.sq_forward.specs.declared.copying.Copied.TheVariants as copied
 use Rattle.sq_forward.specs.declared.tunnels.Tunnelled.{Tunnelled}
 use Rattle.sq_forward.specs.declared.tunnels.Tunnelled.TheVariants as tunnelled
-use Rattle.sq_forward.specs.declared.ways.Way.{Way}
-use Rattle.sq_forward.specs.declared.ways.Way.TheVariants.{Ended, NoSource, NoSink, Starved, WantOfMemory}
+use Rattle.sq_forward.specs.declared.ways.WayEnd.{WayEnd}
+use Rattle.sq_forward.specs.declared.ways.WayEnd.TheVariants.{Ended, NoSource, NoSink, Starved, WantOfMemory}
 use Rattle.sq_forward.proofs.PayLaws.{pays_whole, pays_spare}
 
 -- a body up to the end gives its bytes
@@ -25,7 +25,8 @@ open_body bytes =
 
 -- what was written of a body up to the end, by how its copying ended
 goes_of : (seated : Bool) (bytes : List ℕ) (left before now : Option (List ℕ)) (g h : ℕ) (c : Copied)
-    → CopiesBody seated (record { place = Open; out = bytes; rest = [] }) left before now g h c → PaysPart seated bytes before now g h (spare_of_way (way_of c))
+    → CopiesBody seated (record { place = Open; out = bytes; rest = [] }) left before now g h c
+    → PaysPart seated bytes before now g h (spare_of_way (way_of c))
 goes_of seated bytes left before now g h copied.Whole x = let f : false ≡ true = x.0 in absurd cc
 goes_of seated bytes left before now g h copied.Cut x = pays_whole x.3
 goes_of seated bytes left before now g h copied.Bad x = let f : false ≡ true = x.0 in absurd cc
@@ -35,7 +36,8 @@ goes_of seated bytes left before now g h copied.Starved x = x
 goes_of seated bytes left before now g h copied.WantOfMemory x = x
 
 whole_of : (seated : Bool) (bytes : List ℕ) (left before now : Option (List ℕ)) (g h : ℕ) (c : Copied)
-    → way_of c ≡ Ended → CopiesBody seated (record { place = Open; out = bytes; rest = [] }) left before now g h c → IsAtEnd left × Appends before now bytes
+    → way_of c ≡ Ended → CopiesBody seated (record { place = Open; out = bytes; rest = [] }) left before now g h c
+    → IsAtEnd left × Appends before now bytes
 whole_of seated bytes left before now g h copied.Whole e x = let f : false ≡ true = x.0 in absurd cc
 whole_of seated bytes left before now g h copied.Cut e x = (x.2, x.3.wrote)
 whole_of seated bytes left before now g h copied.Bad e x = let f : false ≡ true = x.0 in absurd cc
@@ -45,7 +47,8 @@ whole_of seated bytes left before now g h copied.Starved e x = absurd cc
 whole_of seated bytes left before now g h copied.WantOfMemory e x = absurd cc
 
 paid_of : (seated : Bool) (bytes : List ℕ) (left before now : Option (List ℕ)) (g h : ℕ) (c : Copied)
-    → way_of c ≡ Ended → CopiesBody seated (record { place = Open; out = bytes; rest = [] }) left before now g h c → PaysAll seated bytes before now g h
+    → way_of c ≡ Ended → CopiesBody seated (record { place = Open; out = bytes; rest = [] }) left before now g h c
+    → PaysAll seated bytes before now g h
 paid_of seated bytes left before now g h copied.Whole e x = let f : false ≡ true = x.0 in absurd cc
 paid_of seated bytes left before now g h copied.Cut e x = x.3
 paid_of seated bytes left before now g h copied.Bad e x = let f : false ≡ true = x.0 in absurd cc
@@ -55,32 +58,40 @@ paid_of seated bytes left before now g h copied.Starved e x = absurd cc
 paid_of seated bytes left before now g h copied.WantOfMemory e x = absurd cc
 
 -- a front of the bytes went as it was granted
-pub way_goes : {seated : Bool} {left before mid : Option (List ℕ)} {g h : ℕ} {c : Copied} (first now : Option (List ℕ)) (w : Way) → now ≡ mid → w ≡ way_of c
-    → Copies seated plan.ToClose false first left before mid g h c → GoesGranted seated first before now g h (spare_of_way w)
+pub way_goes : {seated : Bool} {left before mid : Option (List ℕ)} {g h : ℕ} {c : Copied} (first now : Option (List ℕ))
+    (w : WayEnd) → now ≡ mid → w ≡ way_of c
+    → Copies seated plan.ToClose false first left before mid g h c
+    → GoesGranted seated first before now g h (spare_of_way w)
 way_goes None now w same e x = tt
 way_goes {seated} {left} {before} {mid} {g} {h} {c} (Some bytes) now w same e x =
     subst (λ v. PaysPart seated bytes before now g h (spare_of_way v)) (sym e)
     (subst (λ o. PaysPart seated bytes before o g h (spare_of_way (way_of c))) (sym same)
-    (goes_of seated bytes left before mid g h c (subst (λ b. CopiesBody seated b left before mid g h c) (open_body bytes) x.body)))
+    (goes_of seated bytes left before mid g h c
+    (subst (λ b. CopiesBody seated b left before mid g h c) (open_body bytes) x.body)))
 
 -- all of it went
-pub way_whole : {seated : Bool} {left before mid : Option (List ℕ)} {g h : ℕ} {c : Copied} (first now : Option (List ℕ)) (w : Way) → now ≡ mid → w ≡ way_of c
+pub way_whole : {seated : Bool} {left before mid : Option (List ℕ)} {g h : ℕ} {c : Copied} (first now : Option (List ℕ))
+    (w : WayEnd) → now ≡ mid → w ≡ way_of c
     → Copies seated plan.ToClose false first left before mid g h c → w ≡ Ended → GoesWhole first left before now
 way_whole None now w same e x i = tt
 way_whole {seated} {left} {before} {mid} {g} {h} {c} (Some bytes) now w same e x i =
     subst (λ o. IsAtEnd left × Appends before o bytes) (sym same)
-    (whole_of seated bytes left before mid g h c (sym e ∙ i) (subst (λ b. CopiesBody seated b left before mid g h c) (open_body bytes) x.body))
+    (whole_of seated bytes left before mid g h c (sym e ∙ i)
+    (subst (λ b. CopiesBody seated b left before mid g h c) (open_body bytes) x.body))
 
 -- all of it was granted
-pub way_paid : {seated : Bool} {left before mid : Option (List ℕ)} {g h : ℕ} {c : Copied} (first now : Option (List ℕ)) (w : Way) → now ≡ mid → w ≡ way_of c
+pub way_paid : {seated : Bool} {left before mid : Option (List ℕ)} {g h : ℕ} {c : Copied} (first now : Option (List ℕ))
+    (w : WayEnd) → now ≡ mid → w ≡ way_of c
     → Copies seated plan.ToClose false first left before mid g h c → w ≡ Ended → GoesPaid seated first before now g h
 way_paid None now w same e x i = tt
 way_paid {seated} {left} {before} {mid} {g} {h} {c} (Some bytes) now w same e x i =
     subst (λ o. PaysAll seated bytes before o g h) (sym same)
-    (paid_of seated bytes left before mid g h c (sym e ∙ i) (subst (λ b. CopiesBody seated b left before mid g h c) (open_body bytes) x.body))
+    (paid_of seated bytes left before mid g h c (sym e ∙ i)
+    (subst (λ b. CopiesBody seated b left before mid g h c) (open_body bytes) x.body))
 
 -- what was written where nothing is counted
-pub way_grew : (first before now : Option (List ℕ)) (spare : ℕ) → GoesGranted false first before now 0 0 spare → GoesInPart first before now
+pub way_grew : (first before now : Option (List ℕ)) (spare : ℕ) → GoesGranted false first before now 0 0 spare
+    → GoesInPart first before now
 way_grew None before now spare x = tt
 way_grew (Some bytes) before now spare x = (x.part, x.wrote, x.front)
 
@@ -94,14 +105,14 @@ way_dry copied.NoSink = refl
 way_dry copied.Starved = refl
 way_dry copied.WantOfMemory = refl
 
-spare_most : (w : Way) → spare_of_way w ≤ piece_limit
+spare_most : (w : WayEnd) → spare_of_way w ≤ piece_limit
 spare_most NoSink = omega arith
 spare_most Ended = omega arith
 spare_most NoSource = omega arith
 spare_most Starved = omega arith
 spare_most WantOfMemory = omega arith
 
-no_spare : (w : Way) → (w ≡ NoSink → ⊥) → spare_of_way w ≤ 0
+no_spare : (w : WayEnd) → (w ≡ NoSink → ⊥) → spare_of_way w ≤ 0
 no_spare NoSink h = absurd (h refl)
 no_spare Ended h = omega arith
 no_spare NoSource h = omega arith
@@ -109,7 +120,8 @@ no_spare Starved h = omega arith
 no_spare WantOfMemory h = omega arith
 
 -- what a tunnel may have been granted more is that of its way to the client
-tunnel_spare : (up down : Way) (t : Tunnelled) → JoinsWays up down t → 0 ≡ dry_after_way up → spare_of_way down ≤ spare_of_tunnel t
+tunnel_spare : (up down : WayEnd) (t : Tunnelled) → JoinsWays up down t → 0 ≡ dry_after_way up
+    → spare_of_way down ≤ spare_of_tunnel t
 tunnel_spare up down tunnelled.Ended j fed = omega (arith, ap spare_of_way j.1)
 tunnel_spare up down tunnelled.ClientFault j fed = spare_most down
 tunnel_spare up down tunnelled.OriginFault j fed = no_spare down j.2
@@ -117,12 +129,16 @@ tunnel_spare up down tunnelled.Starved (inl e) fed = absurd (let f = fed ∙ ap 
 tunnel_spare up down tunnelled.Starved (inr e) fed = omega (arith, ap spare_of_way e)
 tunnel_spare up down tunnelled.WantOfMemory j fed = no_spare down j.2
 
-pub tunnel_goes : (up down : Way) (t : Tunnelled) (seated : Bool) (first before now : Option (List ℕ)) (g h : ℕ) → JoinsWays up down t → 0 ≡ dry_after_way up
-    → GoesGranted seated first before now g h (spare_of_way down) → GoesGranted seated first before now g h (spare_of_tunnel t)
+pub tunnel_goes : (up down : WayEnd) (t : Tunnelled) (seated : Bool) (first before now : Option (List ℕ)) (g h : ℕ)
+    → JoinsWays up down t → 0 ≡ dry_after_way up
+    → GoesGranted seated first before now g h (spare_of_way down)
+    → GoesGranted seated first before now g h (spare_of_tunnel t)
 tunnel_goes up down t seated None before now g h j fed x = tt
-tunnel_goes up down t seated (Some bytes) before now g h j fed x = pays_spare (spare_of_way down) (spare_of_tunnel t) (tunnel_spare up down t j fed) x
+tunnel_goes up down t seated (Some bytes) before now g h j fed x =
+    pays_spare (spare_of_way down) (spare_of_tunnel t) (tunnel_spare up down t j fed) x
 
 -- what was granted to a way that ended was to a tunnel that did
-pub tunnel_paid : {seated : Bool} {first before now : Option (List ℕ)} {g h : ℕ} (up down : Way) (t : Tunnelled) → JoinsWays up down t → PaidAtEnd seated first before now g h down
+pub tunnel_paid : {seated : Bool} {first before now : Option (List ℕ)} {g h : ℕ} (up down : WayEnd) (t : Tunnelled)
+    → JoinsWays up down t → PaidAtEnd seated first before now g h down
     → t ≡ tunnelled.Ended → GoesPaid seated first before now g h
 tunnel_paid up down t j p e = let k : JoinsWays up down tunnelled.Ended = subst (JoinsWays up down) e j in p.paid k.1

@@ -36,13 +36,18 @@ is_to_close plan.None = false
 is_to_close (plan.Length n) = false
 is_to_close plan.Chunked = false
 
--- a chunked body goes to a client of version 1.0 as its data, up to the close; a body up to the close stays one
+-- a chunked body goes to a client of version 1.0 as its data, up to the close; a body up to the
+-- close stays one
 abbrev pub shape_of : HttpRequest → BodyPlan → Shape
-shape_of r p = record { chunked = is_chunked p && not (r.minor == 0); closes = wants_close r || is_to_close p }
+shape_of r p = record {
+  chunked = is_chunked p && not (r.minor == 0);
+  closes = wants_close r || is_to_close p;
+}
 
 -- a head that is not the reply's own: clients of version 1.0 do not know them
 abbrev pub interim_text : HttpRequest → ReplyHead → List ℕ
-interim_text r h = if r.minor == 0 then [] else reply_head_out h (record { chunked = false; closes = false })
+interim_text r h = if r.minor == 0 then []
+    else reply_head_out h (record { chunked = false; closes = false })
 
 abbrev pub interim_texts : HttpRequest → List ReplyHead → List ℕ
 interim_texts r hs = flat_map (interim_text r) hs
@@ -59,13 +64,18 @@ no_reply = record { text = []; end = NoReply }
 -- how a reply's body ended
 abbrev pub body_end : Bool → Bool → Walk → Exchanged
 body_end to_close closes body =
-    if is_whole_body body.place || (to_close && not (is_refused body.place)) then (if closes then Closed else Kept) else OriginCut
+    if is_whole_body body.place
+    || (to_close && not (is_refused body.place)) then (if closes then Closed else Kept)
+    else OriginCut
 
 abbrev pub replied_by : HttpRequest → ReplyHead → Result BodyPlan bad.BadBody → List ℕ → Replied
 replied_by r h (Err fault) bytes = no_reply
 replied_by r h (Ok p) bytes =
     let body = body_of p (shape_of r p).chunked bytes in
-    record { text = reply_head_out h (shape_of r p) ++ body.out; end = body_end (is_to_close p) (shape_of r p).closes body }
+    record {
+      text = reply_head_out h (shape_of r p) ++ body.out;
+      end = body_end (is_to_close p) (shape_of r p).closes body;
+    }
 
 -- a reply with this head, and its body at the front of these bytes
 abbrev pub replied : HttpRequest → ReplyHead → List ℕ → Replied
@@ -75,8 +85,8 @@ abbrev pub replied_if : HttpRequest → Option ReplyHead → List ℕ → Replie
 replied_if r None bytes = no_reply
 replied_if r (Some h) bytes = replied r h bytes
 
--- what the client gets, of which `client` came from the origin; what the origin gets; what is left of the
--- client's input; and how it ends
+-- what the client gets, of which `client` came from the origin; what the origin gets; what is left
+-- of the client's input; and how it ends
 pub record Exchange : Type 0 where
   pub own : List ℕ
   pub client : List ℕ
@@ -89,17 +99,33 @@ abbrev pub answered : HttpRequest → List ℕ → List ℕ → Walk → Reading
 answered r own origin body reading =
     let reply = replied_if r reading.final reading.rest in
     if is_whole_body body.place
-    then record { own = own; client = interim_texts r reading.interim ++ reply.text; origin = origin; rest = body.rest; end = reply.end }
-    else record { own = own; client = []; origin = origin; rest = []; end = if is_refused body.place then BadBody else Cut }
+    then record {
+      own = own;
+      client = interim_texts r reading.interim ++ reply.text;
+      origin = origin;
+      rest = body.rest;
+      end = reply.end;
+    }
+    else record {
+      own = own;
+      client = [];
+      origin = origin;
+      rest = [];
+      end = if is_refused body.place then BadBody else Cut;
+    }
 
--- the exchange of a request from this address, whose body begins the input, with an origin whose bytes read so
+-- the exchange of a request from this address, whose body begins the input, with an origin whose
+-- bytes read so
 abbrev pub exchange : HttpRequest → Address → BodyPlan → List ℕ → Reading → Exchange
 exchange r addr p input reading =
     let body = body_of p (is_chunked p) input in
     answered r (continue_part r p) (head_out r addr p ++ body.out) body reading
 
--- both texts were written, and what came from the origin was granted; a kept connection stands behind the body
-pub record Exact (x : Exchange) (seated : Bool) (left client_before client_now origin_before origin_now : Option (List ℕ)) (g h : ℕ) (end : Exchanged) : Type 0 where
+-- both texts were written, and what came from the origin was granted; a kept connection stands
+-- behind the body
+pub record Exact (x : Exchange) (seated : Bool)
+    (left client_before client_now origin_before origin_now : Option (List ℕ)) (g h : ℕ)
+    (end : Exchanged) : Type 0 where
   pub client : Appends client_before client_now (x.own ++ x.client)
   pub granted : h ≡ granted_after seated g (length x.client)
   pub origin : Appends origin_before origin_now x.origin
@@ -107,7 +133,9 @@ pub record Exact (x : Exchange) (seated : Bool) (left client_before client_now o
   pub ends : end ≡ x.end
 
 -- fronts of both texts were written, and up to `spare` more was granted than came from the origin
-pub record Fronts (x : Exchange) (seated : Bool) (client_before client_now origin_before origin_now : Option (List ℕ)) (g h spare : ℕ) : Type 0 where
+pub record Fronts (x : Exchange) (seated : Bool)
+    (client_before client_now origin_before origin_now : Option (List ℕ))
+    (g h spare : ℕ) : Type 0 where
   pub part : List ℕ
   pub more : ℕ
   pub front : IsPrefix part (x.own ++ x.client)
@@ -116,44 +144,65 @@ pub record Fronts (x : Exchange) (seated : Bool) (client_before client_now origi
   pub close : more ≤ spare
   pub origin : Grew origin_before origin_now (λ part. IsPrefix part x.origin)
 
--- behind the reply's head: all up to that head was written to the client, and a front of what follows; nothing more was granted
-pub record Broken (r : HttpRequest) (reading : Reading) (x : Exchange) (seated : Bool) (client_before client_now origin_before origin_now : Option (List ℕ)) (g h : ℕ) : Type 0 where
+-- behind the reply's head: all up to that head was written to the client, and a front of what
+-- follows; nothing more was granted
+pub record Broken (r : HttpRequest) (reading : Reading) (x : Exchange) (seated : Bool)
+    (client_before client_now origin_before origin_now : Option (List ℕ)) (g h : ℕ) : Type 0 where
   pub head : ReplyHead
   pub plan : BodyPlan
   pub final : reading.final ≡ Some head
   pub planned : reply_plan r.method head ≡ Ok plan
   pub fronts : Fronts x seated client_before client_now origin_before origin_now g h 0
-  pub sent : IsPrefix (x.own ++ (interim_texts r reading.interim ++ reply_head_out head (shape_of r plan))) fronts.part
+  pub sent : IsPrefix (x.own
+      ++ (interim_texts r reading.interim ++ reply_head_out head (shape_of r plan))) fronts.part
 
--- no head of the reply's own was reached: all that the client gets without a reply was written, and a front of what the origin gets
-pub record Unreached (reading : Reading) (x : Exchange) (seated : Bool) (client_before client_now origin_before origin_now : Option (List ℕ)) (g h : ℕ) : Type 0 where
+-- no head of the reply's own was reached: all that the client gets without a reply was written, and
+-- a front of what the origin gets
+pub record Unreached (reading : Reading) (x : Exchange) (seated : Bool)
+    (client_before client_now origin_before origin_now : Option (List ℕ)) (g h : ℕ) : Type 0 where
   pub headless : reading.final ≡ None
   pub client : Appends client_before client_now (x.own ++ x.client)
   pub granted : h ≡ granted_after seated g (length x.client)
   pub origin : Grew origin_before origin_now (λ part. IsPrefix part x.origin)
 
--- what an exchange comes to by its answer, where the origin's bytes are this reply, and it looked at these of them
-abbrev pub EndsExchange : HttpRequest → Reading → Exchange → List ℕ → List ℕ → Bool → Option (List ℕ) → Option (List ℕ) → Option (List ℕ) → Option (List ℕ) → Option (List ℕ) → ℕ → ℕ → Type 0 → Exchanged → Type 0
-EndsExchange r reading x seen reply seated left a b c d g h failed ClientFault = Fronts x seated a b c d g h piece_limit
-EndsExchange r reading x seen reply seated left a b c d g h failed OriginFault = Broken r reading x seated a b c d g h
-EndsExchange r reading x seen reply seated left a b c d g h failed Starved = Fronts x seated a b c d g h 0
-EndsExchange r reading x seen reply seated left a b c d g h failed WantOfMemory = Fronts x seated a b c d g h 0
+-- what an exchange comes to by its answer, where the origin's bytes are this reply, and it looked
+-- at these of them
+abbrev pub EndsExchange : HttpRequest → Reading → Exchange → List ℕ → List ℕ → Bool
+    → Option (List ℕ) → Option (List ℕ) → Option (List ℕ) → Option (List ℕ) → Option (List ℕ) → ℕ
+    → ℕ → Type 0 → Exchanged → Type 0
+EndsExchange r reading x seen reply seated left a b c d g h failed ClientFault =
+    Fronts x seated a b c d g h piece_limit
+EndsExchange r reading x seen reply seated left a b c d g h failed OriginFault =
+    Broken r reading x seated a b c d g h
+EndsExchange r reading x seen reply seated left a b c d g h failed Starved =
+    Fronts x seated a b c d g h 0
+EndsExchange r reading x seen reply seated left a b c d g h failed WantOfMemory =
+    Fronts x seated a b c d g h 0
 EndsExchange r reading x seen reply seated left a b c d g h failed NoReply =
-    ((seen ≡ reply) × Exact x seated left a b c d g h NoReply) ⊎ (failed × Unreached reading x seated a b c d g h)
-EndsExchange r reading x seen reply seated left a b c d g h failed Kept = (seen ≡ reply) × Exact x seated left a b c d g h Kept
-EndsExchange r reading x seen reply seated left a b c d g h failed Closed = (seen ≡ reply) × Exact x seated left a b c d g h Closed
-EndsExchange r reading x seen reply seated left a b c d g h failed OriginCut = (seen ≡ reply) × Exact x seated left a b c d g h OriginCut
-EndsExchange r reading x seen reply seated left a b c d g h failed Cut = Exact x seated left a b c d g h Cut
-EndsExchange r reading x seen reply seated left a b c d g h failed BadBody = Exact x seated left a b c d g h BadBody
+    ((seen ≡ reply) × Exact x seated left a b c d g h NoReply)
+    ⊎ (failed × Unreached reading x seated a b c d g h)
+EndsExchange r reading x seen reply seated left a b c d g h failed Kept = (seen ≡ reply)
+    × Exact x seated left a b c d g h Kept
+EndsExchange r reading x seen reply seated left a b c d g h failed Closed = (seen ≡ reply)
+    × Exact x seated left a b c d g h Closed
+EndsExchange r reading x seen reply seated left a b c d g h failed OriginCut = (seen ≡ reply)
+    × Exact x seated left a b c d g h OriginCut
+EndsExchange r reading x seen reply seated left a b c d g h failed Cut =
+    Exact x seated left a b c d g h Cut
+EndsExchange r reading x seen reply seated left a b c d g h failed BadBody =
+    Exact x seated left a b c d g h BadBody
 
--- the exchange of this request: over a front of the origin's bytes that it looked at, by how these read
-pub record Exchanges (r : HttpRequest) (addr : Address) (p : BodyPlan) (input reply : List ℕ) (seated : Bool)
+-- the exchange of this request: over a front of the origin's bytes that it looked at, by how these
+-- read
+pub record Exchanges (r : HttpRequest) (addr : Address) (p : BodyPlan) (input reply : List ℕ)
+    (seated : Bool)
     (left a b c d : Option (List ℕ)) (g h : ℕ) (failed : Type 0) (end : Exchanged) : Type 0 where
   pub seen : List ℕ
   pub reading : Reading
   pub front : IsPrefix seen reply
   pub reads : IsReading seen reading
-  pub ends : EndsExchange r reading (exchange r addr p input reading) seen reply seated left a b c d g h failed end
+  pub ends : EndsExchange r reading (exchange r addr p input reading) seen reply seated left a b c d
+      g h failed end
 
 -- the count of the link that failed rose
 abbrev pub ExchangeHasCause : Type 0 → Type 0 → Exchanged → Type 0

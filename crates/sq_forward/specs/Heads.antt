@@ -11,11 +11,13 @@ pub record IsTooLarge (bytes : List ℕ) : Type 0 where
   pub long : most_bytes ≤ length bytes
   pub endless : (n : ℕ) → head_end bytes ≡ Some n → most_bytes < n
 
--- what was found at the front of what comes: a whole head ahead, none that ends within the limit, or the end of
--- the input before that of a head
+-- what was found at the front of what comes: a whole head ahead, none that ends within the limit,
+-- or the end of the input before that of a head
 abbrev pub FindsHead : List ℕ → Option (List ℕ) → HeadFound → Type 0
-FindsHead ahead told (found.Whole len) = (head_end ahead ≡ Some len) × (len ≤ length ahead) × (len ≤ most_bytes) × IsWholeHead (take len ahead)
+FindsHead ahead told (found.Whole len) = (head_end ahead ≡ Some len) × (len ≤ length ahead)
+    × (len ≤ most_bytes) × IsWholeHead (take len ahead)
 FindsHead ahead told found.TooLarge = IfSome told IsTooLarge
-FindsHead ahead told found.Ended = (head_end ahead ≡ None) × (length ahead < most_bytes) × IfSome told (λ bytes. bytes ≡ ahead)
+FindsHead ahead told found.Ended = (head_end ahead ≡ None) × (length ahead < most_bytes)
+    × IfSome told (λ bytes. bytes ≡ ahead)
 FindsHead ahead told found.Failed = ⊤
 FindsHead ahead told found.WantOfMemory = ⊤

@@ -28,12 +28,14 @@ pub record TakenHead (bytes : List ℕ) (left : Option (List ℕ)) (h : ReplyHea
 -- a head was taken, or the bytes begin with none
 abbrev pub TakesHead : List ℕ → Option (List ℕ) → Result ReplyHead NoHead → Type 0
 TakesHead bytes left (Ok h) = TakenHead bytes left h
-TakesHead bytes left (Err none.Missing) = (h : ReplyHead) (rest : List ℕ) → BeginsHead bytes h rest → ⊥
+TakesHead bytes left (Err none.Missing) = (h : ReplyHead) (rest : List ℕ) → BeginsHead bytes h rest
+    → ⊥
 TakesHead bytes left (Err none.Failed) = ⊤
 TakesHead bytes left (Err none.WantOfMemory) = ⊤
 
 -- behind heads that are not the reply's own, which were passed on, stands its own, and it was taken
-pub record LedTo (r : HttpRequest) (bytes : List ℕ) (seated : Bool) (left before now : Option (List ℕ)) (g h : ℕ) (final : ReplyHead) : Type 0 where
+pub record LedTo (r : HttpRequest) (bytes : List ℕ) (seated : Bool)
+    (left before now : Option (List ℕ)) (g h : ℕ) (final : ReplyHead) : Type 0 where
   pub heads : List ℕ
   pub more : List ℕ
   pub interim : List ReplyHead
@@ -48,7 +50,8 @@ pub record LedTo (r : HttpRequest) (bytes : List ℕ) (seated : Bool) (left befo
   pub pays : PaysAll seated (interim_texts r interim) before now g h
 
 -- how much of the heads that were looked at went to the client
-abbrev pub PaysHeads : List ℕ → Bool → Option (List ℕ) → Option (List ℕ) → ℕ → ℕ → Exchanged → Type 0
+abbrev pub PaysHeads : List ℕ → Bool → Option (List ℕ) → Option (List ℕ) → ℕ → ℕ → Exchanged
+    → Type 0
 PaysHeads text seated before now g h NoReply = PaysAll seated text before now g h
 PaysHeads text seated before now g h ClientFault = PaysPart seated text before now g h piece_limit
 PaysHeads text seated before now g h Starved = PaysPart seated text before now g h 0
@@ -73,8 +76,10 @@ LeadHasCause client BadBody = ⊥
 LeadHasCause client OriginCut = ⊥
 LeadHasCause client OriginFault = ⊥
 
--- no reply's own head was reached: a front of the bytes was looked at, which is all of them where no link failed
-pub record LedNowhere (r : HttpRequest) (bytes : List ℕ) (seated : Bool) (before now : Option (List ℕ)) (g h : ℕ) (failed : Type 0) (end : Exchanged) : Type 0 where
+-- no reply's own head was reached: a front of the bytes was looked at, which is all of them where
+-- no link failed
+pub record LedNowhere (r : HttpRequest) (bytes : List ℕ) (seated : Bool)
+    (before now : Option (List ℕ)) (g h : ℕ) (failed : Type 0) (end : Exchanged) : Type 0 where
   pub seen : List ℕ
   pub interim : List ReplyHead
   pub front : IsPrefix seen bytes
@@ -82,44 +87,60 @@ pub record LedNowhere (r : HttpRequest) (bytes : List ℕ) (seated : Bool) (befo
   pub all : end ≡ NoReply → (seen ≡ bytes) ⊎ failed
   pub pays : PaysHeads (interim_texts r interim) seated before now g h end
 
-abbrev pub Leads : HttpRequest → List ℕ → Bool → Option (List ℕ) → Option (List ℕ) → Option (List ℕ) → ℕ → ℕ → Type 0 → Result ReplyHead Exchanged → Type 0
-Leads r bytes seated left before now g h failed (Ok final) = LedTo r bytes seated left before now g h final
-Leads r bytes seated left before now g h failed (Err end) = LedNowhere r bytes seated before now g h failed end
+abbrev pub Leads : HttpRequest → List ℕ → Bool → Option (List ℕ) → Option (List ℕ) → Option (List ℕ)
+    → ℕ → ℕ → Type 0 → Result ReplyHead Exchanged → Type 0
+Leads r bytes seated left before now g h failed (Ok final) =
+    LedTo r bytes seated left before now g h final
+Leads r bytes seated left before now g h failed (Err end) =
+    LedNowhere r bytes seated before now g h failed end
 
 -- the same of what is to come, where that is told
-pub record LeadsReply (r : HttpRequest) (seated : Bool) (first left before now : Option (List ℕ)) (g h : ℕ) (failed : Type 0) (led : Result ReplyHead Exchanged) : Type 0 where
+pub record LeadsReply (r : HttpRequest) (seated : Bool) (first left before now : Option (List ℕ))
+    (g h : ℕ) (failed : Type 0) (led : Result ReplyHead Exchanged) : Type 0 where
   pub known : IfSome first (λ bytes. Leads r bytes seated left before now g h failed led)
 
 -- the reply's head went to the client, and a front of its body
-pub record SentHead (r : HttpRequest) (head : ReplyHead) (text : List ℕ) (seated : Bool) (before now : Option (List ℕ)) (g h : ℕ) : Type 0 where
+pub record SentHead (r : HttpRequest) (head : ReplyHead) (text : List ℕ) (seated : Bool)
+    (before now : Option (List ℕ)) (g h : ℕ) : Type 0 where
   pub plan : BodyPlan
   pub planned : reply_plan r.method head ≡ Ok plan
   pub pays : PaysPart seated text before now g h 0
   pub sent : IsPrefix (reply_head_out head (shape_of r plan)) pays.part
 
 -- how much of the reply went to the client
-abbrev pub SentReply : HttpRequest → ReplyHead → List ℕ → Exchanged → Bool → Option (List ℕ) → Option (List ℕ) → ℕ → ℕ → Exchanged → Type 0
-SentReply r head text end seated before now g h ClientFault = PaysPart seated text before now g h piece_limit
-SentReply r head text end seated before now g h OriginFault = SentHead r head text seated before now g h
+abbrev pub SentReply : HttpRequest → ReplyHead → List ℕ → Exchanged → Bool → Option (List ℕ)
+    → Option (List ℕ) → ℕ → ℕ → Exchanged → Type 0
+SentReply r head text end seated before now g h ClientFault =
+    PaysPart seated text before now g h piece_limit
+SentReply r head text end seated before now g h OriginFault =
+    SentHead r head text seated before now g h
 SentReply r head text end seated before now g h Starved = PaysPart seated text before now g h 0
 SentReply r head text end seated before now g h WantOfMemory = PaysPart seated text before now g h 0
-SentReply r head text end seated before now g h Kept = PaysAll seated text before now g h × (Kept ≡ end)
-SentReply r head text end seated before now g h Closed = PaysAll seated text before now g h × (Closed ≡ end)
-SentReply r head text end seated before now g h OriginCut = PaysAll seated text before now g h × (OriginCut ≡ end)
-SentReply r head text end seated before now g h NoReply = PaysAll seated text before now g h × (NoReply ≡ end)
+SentReply r head text end seated before now g h Kept = PaysAll seated text before now g h
+    × (Kept ≡ end)
+SentReply r head text end seated before now g h Closed = PaysAll seated text before now g h
+    × (Closed ≡ end)
+SentReply r head text end seated before now g h OriginCut = PaysAll seated text before now g h
+    × (OriginCut ≡ end)
+SentReply r head text end seated before now g h NoReply = PaysAll seated text before now g h
+    × (NoReply ≡ end)
 SentReply r head text end seated before now g h Cut = ⊥
 SentReply r head text end seated before now g h BadBody = ⊥
 
 -- the reply with this head, whose body begins what is to come, where that is told
-pub record SendsReply (r : HttpRequest) (head : ReplyHead) (seated : Bool) (first before now : Option (List ℕ)) (g h : ℕ) (end : Exchanged) : Type 0 where
-  pub known : IfSome first (λ bytes. SentReply r head (replied r head bytes).text (replied r head bytes).end seated before now g h end)
+pub record SendsReply (r : HttpRequest) (head : ReplyHead) (seated : Bool)
+    (first before now : Option (List ℕ)) (g h : ℕ) (end : Exchanged) : Type 0 where
+  pub known : IfSome first
+      (λ bytes. SentReply r head (replied r head bytes).text (replied r head bytes).end seated
+      before now g h end)
 
 -- the reply's own head may not be 101
 abbrev pub own_head : ReplyHead → Result ReplyHead Exchanged
 own_head h = if h.status == 101 then Err NoReply else Ok h
 
 -- how much of a text went to the client
-abbrev pub SendsText : {T : Type 0} → List ℕ → Bool → Option (List ℕ) → Option (List ℕ) → ℕ → ℕ → Result T Exchanged → Type 0
+abbrev pub SendsText : {T : Type 0} → List ℕ → Bool → Option (List ℕ) → Option (List ℕ) → ℕ → ℕ
+    → Result T Exchanged → Type 0
 SendsText text seated before now g h (Ok u) = PaysAll seated text before now g h
 SendsText text seated before now g h (Err end) = PaysHeads text seated before now g h end
 

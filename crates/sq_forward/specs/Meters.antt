@@ -35,12 +35,14 @@ abbrev pub dry_after_pause : Bool → ℕ → ℕ
 dry_after_pause short dry = if short then min (dry + 1) count_limit else dry
 
 -- the text was written, and as many bytes were granted
-pub record PaysAll (seated : Bool) (text : List ℕ) (before now : Option (List ℕ)) (granted_before granted_now : ℕ) : Type 0 where
+pub record PaysAll (seated : Bool) (text : List ℕ) (before now : Option (List ℕ))
+    (granted_before granted_now : ℕ) : Type 0 where
   pub wrote : Appends before now text
   pub granted : granted_now ≡ granted_after seated granted_before (length text)
 
 -- a front of the text was written, and as many bytes were granted, or up to `spare` more
-pub record PaysPart (seated : Bool) (text : List ℕ) (before now : Option (List ℕ)) (granted_before granted_now spare : ℕ) : Type 0 where
+pub record PaysPart (seated : Bool) (text : List ℕ) (before now : Option (List ℕ))
+    (granted_before granted_now spare : ℕ) : Type 0 where
   pub part : List ℕ
   pub more : ℕ
   pub front : IsPrefix part text

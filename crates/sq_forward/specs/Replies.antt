@@ -27,9 +27,11 @@ pub record BeginsHead (bytes : List ℕ) (h : ReplyHead) (rest : List ℕ) : Typ
 -- the bytes are these heads, none of which is the reply's own
 abbrev pub AreInterim : List ℕ → List ReplyHead → Type 0
 AreInterim bytes [] = bytes ≡ []
-AreInterim bytes (h ∷ hs) = (rest : List ℕ) × BeginsHead bytes h rest × (is_interim h ≡ true) × AreInterim rest hs
+AreInterim bytes (h ∷ hs) = (rest : List ℕ) × BeginsHead bytes h rest × (is_interim h ≡ true)
+    × AreInterim rest hs
 
--- heads that are not the reply's own; its own head, if there is one that can be passed on; and what follows
+-- heads that are not the reply's own; its own head, if there is one that can be passed on; and what
+-- follows
 pub record Reading : Type 0 where
   pub interim : List ReplyHead
   pub final : Option ReplyHead
@@ -41,8 +43,10 @@ IsRefusedHead n h = (h.status ≡ 101) ⊎ ((is_interim h ≡ true) × (n ≡ in
 
 -- behind so many heads: the reply's own head and what follows it; or no head that can be passed on
 abbrev pub EndsReading : ℕ → List ℕ → Option ReplyHead → List ℕ → Type 0
-EndsReading n bytes (Some h) rest = BeginsHead bytes h rest × (is_interim h ≡ false) × (h.status ≡ 101 → ⊥)
-EndsReading n bytes None rest = ((h : ReplyHead) (more : List ℕ) → BeginsHead bytes h more → IsRefusedHead n h) × (rest ≡ [])
+EndsReading n bytes (Some h) rest = BeginsHead bytes h rest × (is_interim h ≡ false)
+    × (h.status ≡ 101 → ⊥)
+EndsReading n bytes None rest = ((h : ReplyHead) (more : List ℕ) → BeginsHead bytes h more
+    → IsRefusedHead n h) × (rest ≡ [])
 
 -- the bytes read so
 pub record IsReading (bytes : List ℕ) (r : Reading) : Type 0 where

@@ -35,11 +35,13 @@ ends_by begun line b = is_lf b && begun && not (is_filled line)
 abbrev pub end_behind : Bool → LinePart → List ℕ → Option ℕ
 end_behind begun line [] = None
 end_behind begun line (b ∷ bs) =
-    if ends_by begun line b then Some 1 else option_map (λ n. 1 + n) (end_behind (begun_by begun line b) (line_by line b) bs)
+    if ends_by begun line b then Some 1
+    else option_map (λ n. 1 + n) (end_behind (begun_by begun line b) (line_by line b) bs)
 
 -- no head ends in these bytes, and the end of one is found in what follows them
 pub record IsSought (passed : List ℕ) (begun : Bool) (line : LinePart) : Type 0 where
-  pub goes_on : (more : List ℕ) → head_end (passed ++ more) ≡ option_map (λ n. length passed + n) (end_behind begun line more)
+  pub goes_on : (more : List ℕ)
+      → head_end (passed ++ more) ≡ option_map (λ n. length passed + n) (end_behind begun line more)
 
 -- where none was found, all were looked at
 abbrev pub SoughtAll : List ℕ → ℕ → Bool → LinePart → Option ℕ → Type 0

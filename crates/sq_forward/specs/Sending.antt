@@ -25,23 +25,32 @@ sent copied.Starved = Some Starved
 sent copied.WantOfMemory = Some WantOfMemory
 
 -- what a client heard that waits, and what the origin got: the head and the body, as far as they go
-abbrev pub SentSo : List ℕ → List ℕ → Walk → Option (List ℕ) → Option (List ℕ) → Option (List ℕ) → Option (List ℕ) → Option (List ℕ) → Option Exchanged → Type 0
-SentSo own origin body left a b c d None = (is_whole_body body.place ≡ true) × (left ≡ Some body.rest) × Appends a b own × Appends c d origin
-SentSo own origin body left a b c d (Some Cut) = (is_whole_body body.place ≡ false) × (is_refused body.place ≡ false) × Appends a b own × Appends c d origin
-SentSo own origin body left a b c d (Some BadBody) = (is_whole_body body.place ≡ false) × (is_refused body.place ≡ true) × Appends a b own × Appends c d origin
-SentSo own origin body left a b c d (Some NoReply) = Appends a b own × Grew c d (λ part. IsPrefix part origin)
+abbrev pub SentSo : List ℕ → List ℕ → Walk → Option (List ℕ) → Option (List ℕ) → Option (List ℕ)
+    → Option (List ℕ) → Option (List ℕ) → Option Exchanged → Type 0
+SentSo own origin body left a b c d None = (is_whole_body body.place ≡ true)
+    × (left ≡ Some body.rest) × Appends a b own × Appends c d origin
+SentSo own origin body left a b c d (Some Cut) = (is_whole_body body.place ≡ false)
+    × (is_refused body.place ≡ false) × Appends a b own × Appends c d origin
+SentSo own origin body left a b c d (Some BadBody) = (is_whole_body body.place ≡ false)
+    × (is_refused body.place ≡ true) × Appends a b own × Appends c d origin
+SentSo own origin body left a b c d (Some NoReply) = Appends a b own
+    × Grew c d (λ part. IsPrefix part origin)
 SentSo own origin body left a b c d (Some Kept) = ⊥
 SentSo own origin body left a b c d (Some Closed) = ⊥
 SentSo own origin body left a b c d (Some OriginCut) = ⊥
 SentSo own origin body left a b c d (Some OriginFault) = ⊥
 SentSo own origin body left a b c d (Some Starved) = ⊥
-SentSo own origin body left a b c d (Some ClientFault) = Grew a b (λ part. IsPrefix part own) × Grew c d (λ part. IsPrefix part origin)
-SentSo own origin body left a b c d (Some WantOfMemory) = Grew a b (λ part. IsPrefix part own) × Grew c d (λ part. IsPrefix part origin)
+SentSo own origin body left a b c d (Some ClientFault) = Grew a b (λ part. IsPrefix part own)
+    × Grew c d (λ part. IsPrefix part origin)
+SentSo own origin body left a b c d (Some WantOfMemory) = Grew a b (λ part. IsPrefix part own)
+    × Grew c d (λ part. IsPrefix part origin)
 
 -- the same of the request whose body begins what is to come, where that is told
-pub record SendsRequest (r : HttpRequest) (addr : Address) (p : BodyPlan) (first left a b c d : Option (List ℕ)) (ended : Option Exchanged) : Type 0 where
+pub record SendsRequest (r : HttpRequest) (addr : Address) (p : BodyPlan)
+    (first left a b c d : Option (List ℕ)) (ended : Option Exchanged) : Type 0 where
   pub known : IfSome first (λ input.
-      SentSo (continue_part r p) (head_out r addr p ++ (body_of p (is_chunked p) input).out) (body_of p (is_chunked p) input) left a b c d ended)
+      SentSo (continue_part r p) (head_out r addr p ++ (body_of p (is_chunked p) input).out)
+      (body_of p (is_chunked p) input) left a b c d ended)
 
 -- the count of the link that failed rose
 abbrev pub SendHasCause : Type 0 → Type 0 → Exchanged → Type 0

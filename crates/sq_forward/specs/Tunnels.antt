@@ -9,11 +9,11 @@ use Rattle.sq_forward.specs.declared.copying.Copied.{Copied}
 use Rattle.sq_forward.specs.declared.copying.Copied.TheVariants as copied
 use Rattle.sq_forward.specs.declared.tunnels.Tunnelled.{Tunnelled}
 use Rattle.sq_forward.specs.declared.tunnels.Tunnelled.TheVariants as tunnelled
-use Rattle.sq_forward.specs.declared.ways.Way.{Way}
-use Rattle.sq_forward.specs.declared.ways.Way.TheVariants.{Ended, NoSource, NoSink, Starved, WantOfMemory}
+use Rattle.sq_forward.specs.declared.ways.WayEnd.{WayEnd}
+use Rattle.sq_forward.specs.declared.ways.WayEnd.TheVariants.{Ended, NoSource, NoSink, Starved, WantOfMemory}
 
 -- how a way ended, by how the copying of its bytes did
-abbrev pub way_of : Copied → Way
+abbrev pub way_of : Copied → WayEnd
 way_of copied.Whole = Ended
 way_of copied.Cut = Ended
 way_of copied.Bad = Ended
@@ -23,7 +23,7 @@ way_of copied.Starved = Starved
 way_of copied.WantOfMemory = WantOfMemory
 
 -- the count of the link that failed rose
-abbrev pub WayHasCause : ℕ → ℕ → ℕ → ℕ → Way → Type 0
+abbrev pub WayHasCause : ℕ → ℕ → ℕ → ℕ → WayEnd → Type 0
 WayHasCause a b c d NoSource = Rose a b
 WayHasCause a b c d NoSink = Rose c d
 WayHasCause a b c d Ended = ⊤
@@ -31,7 +31,7 @@ WayHasCause a b c d Starved = ⊤
 WayHasCause a b c d WantOfMemory = ⊤
 
 -- how dry the meter of a way is then
-abbrev pub dry_after_way : Way → ℕ
+abbrev pub dry_after_way : WayEnd → ℕ
 dry_after_way Starved = dry_limit
 dry_after_way Ended = 0
 dry_after_way NoSource = 0
@@ -39,7 +39,7 @@ dry_after_way NoSink = 0
 dry_after_way WantOfMemory = 0
 
 -- how much more than was written may have been granted: up to a piece where the sink failed
-abbrev pub spare_of_way : Way → ℕ
+abbrev pub spare_of_way : WayEnd → ℕ
 spare_of_way NoSink = piece_limit
 spare_of_way Ended = 0
 spare_of_way NoSource = 0
@@ -47,12 +47,14 @@ spare_of_way Starved = 0
 spare_of_way WantOfMemory = 0
 
 -- how a tunnel ends whose ways ended so: a dry meter counts before a link, and a link before memory
-abbrev pub JoinsWays : Way → Way → Tunnelled → Type 0
+abbrev pub JoinsWays : WayEnd → WayEnd → Tunnelled → Type 0
 JoinsWays up down tunnelled.Ended = (up ≡ Ended) × (down ≡ Ended)
 JoinsWays up down tunnelled.ClientFault = ((up ≡ NoSource) ⊎ (down ≡ NoSink)) × (down ≡ Starved → ⊥)
-JoinsWays up down tunnelled.OriginFault = ((up ≡ NoSink) ⊎ (down ≡ NoSource)) × (down ≡ Starved → ⊥) × (down ≡ NoSink → ⊥)
+JoinsWays up down tunnelled.OriginFault = ((up ≡ NoSink) ⊎ (down ≡ NoSource)) × (down ≡ Starved → ⊥)
+    × (down ≡ NoSink → ⊥)
 JoinsWays up down tunnelled.Starved = (up ≡ Starved) ⊎ (down ≡ Starved)
-JoinsWays up down tunnelled.WantOfMemory = ((up ≡ WantOfMemory) ⊎ (down ≡ WantOfMemory)) × (down ≡ Starved → ⊥) × (down ≡ NoSink → ⊥)
+JoinsWays up down tunnelled.WantOfMemory = ((up ≡ WantOfMemory) ⊎ (down ≡ WantOfMemory))
+    × (down ≡ Starved → ⊥) × (down ≡ NoSink → ⊥)
 
 -- how dry the meter is behind a tunnel
 abbrev pub dry_after_tunnel : Tunnelled → ℕ
@@ -62,7 +64,8 @@ dry_after_tunnel tunnelled.ClientFault = 0
 dry_after_tunnel tunnelled.OriginFault = 0
 dry_after_tunnel tunnelled.WantOfMemory = 0
 
--- how much more than was written to the client may have been granted: up to a piece where its link failed
+-- how much more than was written to the client may have been granted: up to a piece where its link
+-- failed
 abbrev pub spare_of_tunnel : Tunnelled → ℕ
 spare_of_tunnel tunnelled.ClientFault = piece_limit
 spare_of_tunnel tunnelled.Ended = 0
@@ -75,7 +78,8 @@ abbrev pub GoesInPart : Option (List ℕ) → Option (List ℕ) → Option (List
 GoesInPart first before now = IfSome first (λ bytes. Grew before now (λ part. IsPrefix part bytes))
 
 -- all that was to come was written, and the source was read to its end
-abbrev pub GoesWhole : Option (List ℕ) → Option (List ℕ) → Option (List ℕ) → Option (List ℕ) → Type 0
+abbrev pub GoesWhole : Option (List ℕ) → Option (List ℕ) → Option (List ℕ) → Option (List ℕ)
+    → Type 0
 GoesWhole first left before now = IfSome first (λ bytes. IsAtEnd left × Appends before now bytes)
 
 -- all that was to come was granted and written
@@ -83,9 +87,12 @@ abbrev pub GoesPaid : Bool → Option (List ℕ) → Option (List ℕ) → Optio
 GoesPaid seated first before now g h = IfSome first (λ bytes. PaysAll seated bytes before now g h)
 
 -- where the way ended
-pub record PaidAtEnd (seated : Bool) (first before now : Option (List ℕ)) (g h : ℕ) (w : Way) : Type 0 where
+pub record PaidAtEnd (seated : Bool) (first before now : Option (List ℕ)) (g h : ℕ)
+    (w : WayEnd) : Type 0 where
   pub paid : w ≡ Ended → GoesPaid seated first before now g h
 
 -- a front of what was to come was written as it was granted
-abbrev pub GoesGranted : Bool → Option (List ℕ) → Option (List ℕ) → Option (List ℕ) → ℕ → ℕ → ℕ → Type 0
-GoesGranted seated first before now g h spare = IfSome first (λ bytes. PaysPart seated bytes before now g h spare)
+abbrev pub GoesGranted : Bool → Option (List ℕ) → Option (List ℕ) → Option (List ℕ) → ℕ → ℕ → ℕ
+    → Type 0
+GoesGranted seated first before now g h spare = IfSome first
+    (λ bytes. PaysPart seated bytes before now g h spare)

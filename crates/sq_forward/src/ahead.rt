@@ -60,7 +60,9 @@ fn read_at<S: Source>(source: &mut S, bytes: &mut Vec<u8>, end: usize) -> Result
     ensures len { length bytes.new.items ≡ length bytes.old.items }
     ensures front { take end bytes.new.items ≡ take end bytes.old.items }
     ensures within { IfOk result (λ n. (end + n ≤ length bytes.new.items) × (n ≤ read_limit)) }
-    ensures taken { IfOk result (λ n. Consumes (S.left source.old) (S.left source.new) (take n (drop end bytes.new.items))) }
+    ensures taken { IfOk result
+        (λ n. Consumes (S.left source.old) (S.left source.new)
+        (take n (drop end bytes.new.items))) }
     ensures over { IfOk result (λ n. n ≡ 0 → IsAtEnd (S.left source.new)) }
     ensures err { OnErr result (Keeps (S.left source.old) (S.left source.new)) }
     ensures origin { S.origin source.new ≡ S.origin source.old }
@@ -99,7 +101,8 @@ impl Ahead {
     /// Reads some bytes of a source behind these. The answer is whether there were any. None is read where there is
     /// no memory for it.
     pub(crate) fn read<S: Source>(&mut self, source: &mut S) -> Result<bool, Unread>
-        ensures kept { Keeps (prepend_known self.old (S.left source.old)) (prepend_known self.new (S.left source.new)) }
+        ensures kept { Keeps (prepend_known self.old (S.left source.old))
+            (prepend_known self.new (S.left source.new)) }
         ensures filled { IfOk result (Filled self.old self.new (S.left source.new)) }
         ensures front { IsPrefix self.old self.new }
         ensures few { length self.new ≤ length self.old + read_limit }

@@ -44,9 +44,11 @@ pub(crate) fn copy_body<R: Wait, S: Source, O: Sink, M: Meter>(
     chunked_out: bool,
 ) -> Copied
     requires dry { M.dry meter.old ≡ 0 }
-    ensures copies { Copies (M.seated meter.old) plan chunked_out (to_come S.left from.old) (to_come S.left from.new)
+    ensures copies { Copies (M.seated meter.old) plan chunked_out (to_come S.left from.old)
+        (to_come S.left from.new)
         (O.contents to.old) (O.contents to.new) (M.granted meter.old) (M.granted meter.new) result }
-    ensures cause { CopyHasCause (S.faults from.old.source) (S.faults from.new.source) (O.faults to.old) (O.faults to.new) result }
+    ensures cause { CopyHasCause (S.faults from.old.source) (S.faults from.new.source)
+        (O.faults to.old) (O.faults to.new) result }
     ensures dry { M.dry meter.new ≡ dry_after_copy result }
     ensures seated { M.seated meter.new ≡ M.seated meter.old }
     ensures besides { M.besides meter.new ≡ M.besides meter.old }
@@ -76,10 +78,13 @@ fn copy_piece<S: Source, O: Sink, M: Meter>(
     framed: &mut Text,
 ) -> Option<Copied>
     requires dry { M.dry meter.old ≡ 0 }
-    ensures copies { CopiesPiece (M.seated meter.old) cursor.old.chunked cursor.old.place cursor.new.place (to_come S.left from.old) (to_come S.left from.new)
+    ensures copies { CopiesPiece (M.seated meter.old) cursor.old.chunked cursor.old.place
+        cursor.new.place (to_come S.left from.old) (to_come S.left from.new)
         (O.contents to.old) (O.contents to.new) (M.granted meter.old) (M.granted meter.new) result }
     ensures chunked { cursor.new.chunked ≡ cursor.old.chunked }
-    ensures cause { IfSome result (CopyHasCause (S.faults from.old.source) (S.faults from.new.source) (O.faults to.old) (O.faults to.new)) }
+    ensures cause { IfSome result
+        (CopyHasCause (S.faults from.old.source) (S.faults from.new.source) (O.faults to.old)
+        (O.faults to.new)) }
     ensures dry { M.dry meter.new ≡ dry_after_piece result }
     ensures seated { M.seated meter.new ≡ M.seated meter.old }
     ensures besides { M.besides meter.new ≡ M.besides meter.old }
@@ -115,11 +120,15 @@ fn write_ahead<O: Sink, M: Meter>(
     framed: &mut Text,
 ) -> Result<Fed, Copied>
     requires dry { M.dry meter.old ≡ 0 }
-    ensures fed { IfOk result (λ f. PieceFed (M.seated meter.old) cursor.old.chunked cursor.old.place cursor.new.place ahead.now f.used f.done
+    ensures fed { IfOk result
+        (λ f. PieceFed (M.seated meter.old) cursor.old.chunked cursor.old.place cursor.new.place
+        ahead.now f.used f.done
         (O.contents to.old) (O.contents to.new) (M.granted meter.old) (M.granted meter.new)) }
-    ensures unfed { IfErr result (PieceUnfed (M.seated meter.old) cursor.old.chunked cursor.old.place ahead.now
+    ensures unfed { IfErr result
+        (PieceUnfed (M.seated meter.old) cursor.old.chunked cursor.old.place ahead.now
         (O.contents to.old) (O.contents to.new) (M.granted meter.old) (M.granted meter.new)) }
-    ensures cause { IfErr result (λ copied. (a b : ℕ) → CopyHasCause a b (O.faults to.old) (O.faults to.new) copied) }
+    ensures cause { IfErr result
+        (λ copied. (a b : ℕ) → CopyHasCause a b (O.faults to.old) (O.faults to.new) copied) }
     ensures chunked { cursor.new.chunked ≡ cursor.old.chunked }
     ensures dry_ok { OnOk result (M.dry meter.new ≡ 0) }
     ensures dry_err { IfErr result (λ copied. M.dry meter.new ≡ dry_after_copy copied) }
@@ -150,11 +159,15 @@ fn write_framed<O: Sink, M: Meter>(
     framed: &mut Text,
 ) -> Result<Fed, Copied>
     requires dry { M.dry meter.old ≡ 0 }
-    ensures fed { IfOk result (λ f. PieceFed (M.seated meter.old) cursor.old.chunked cursor.old.place cursor.new.place ahead.now f.used f.done
+    ensures fed { IfOk result
+        (λ f. PieceFed (M.seated meter.old) cursor.old.chunked cursor.old.place cursor.new.place
+        ahead.now f.used f.done
         (O.contents to.old) (O.contents to.new) (M.granted meter.old) (M.granted meter.new)) }
-    ensures unfed { IfErr result (PieceUnfed (M.seated meter.old) cursor.old.chunked cursor.old.place ahead.now
+    ensures unfed { IfErr result
+        (PieceUnfed (M.seated meter.old) cursor.old.chunked cursor.old.place ahead.now
         (O.contents to.old) (O.contents to.new) (M.granted meter.old) (M.granted meter.new)) }
-    ensures cause { IfErr result (λ copied. (a b : ℕ) → CopyHasCause a b (O.faults to.old) (O.faults to.new) copied) }
+    ensures cause { IfErr result
+        (λ copied. (a b : ℕ) → CopyHasCause a b (O.faults to.old) (O.faults to.new) copied) }
     ensures chunked { cursor.new.chunked ≡ cursor.old.chunked }
     ensures dry_ok { OnOk result (M.dry meter.new ≡ 0) }
     ensures dry_err { IfErr result (λ copied. M.dry meter.new ≡ dry_after_copy copied) }

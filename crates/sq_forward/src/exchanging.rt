@@ -56,12 +56,17 @@ pub fn exchange<R: Wait, I: Source, O: Sink, P: Source, Q: Sink, M: Meter>(
     plan: BodyPlan,
 ) -> Exchanged
     requires dry { M.dry meter.old ≡ 0 }
-    ensures told { IfSome (to_come I.left client.old) (λ input. IfSome (to_come P.left origin.old) (λ reply.
+    ensures told { IfSome (to_come I.left client.old)
+        (λ input. IfSome (to_come P.left origin.old) (λ reply.
         Exchanges request.now addr plan input reply (M.seated meter.old) (to_come I.left client.new)
-        (O.contents to_client.old) (O.contents to_client.new) (Q.contents to_origin.old) (Q.contents to_origin.new)
+        (O.contents to_client.old) (O.contents to_client.new) (Q.contents to_origin.old)
+        (Q.contents to_origin.new)
         (M.granted meter.old) (M.granted meter.new)
-        (Rose (P.faults origin.old.source) (P.faults origin.new.source) ⊎ Rose (Q.faults to_origin.old) (Q.faults to_origin.new)) result)) }
-    ensures cause { ExchangeHasCause (Rose (I.faults client.old.source) (I.faults client.new.source) ⊎ Rose (O.faults to_client.old) (O.faults to_client.new))
+        (Rose (P.faults origin.old.source) (P.faults origin.new.source)
+        ⊎ Rose (Q.faults to_origin.old) (Q.faults to_origin.new)) result)) }
+    ensures cause { ExchangeHasCause
+        (Rose (I.faults client.old.source) (I.faults client.new.source)
+        ⊎ Rose (O.faults to_client.old) (O.faults to_client.new))
         (Rose (P.faults origin.old.source) (P.faults origin.new.source)) result }
     // Starved exactly where the meter is that dry.
     ensures dry { M.dry meter.new ≡ dry_after_exchange result }
@@ -74,7 +79,8 @@ pub fn exchange<R: Wait, I: Source, O: Sink, P: Source, Q: Sink, M: Meter>(
     ensures client_dialled { I.origin client.new.source ≡ I.origin client.old.source }
     ensures origin_dialled { P.origin origin.new.source ≡ P.origin origin.old.source }
     ensures few_client { length client.new.ahead ≤ max (length client.old.ahead) read_limit }
-    ensures few_origin { length origin.new.ahead ≤ max (length origin.old.ahead) (most_bytes + read_limit) }
+    ensures few_origin { length origin.new.ahead
+        ≤ max (length origin.old.ahead) (most_bytes + read_limit) }
 {
     match send_request(rt, alloc, client, to_client, to_origin, request, addr, plan) {
         None => {}

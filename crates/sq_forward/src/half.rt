@@ -19,7 +19,8 @@ impl<S: Source> Half<S> {
     /// Reads some bytes behind those that are ahead. The answer is whether there were any. None is lost.
     pub fn fill(&mut self) -> Result<bool, Unread>
         ensures kept { Keeps (to_come S.left self.old) (to_come S.left self.new) }
-        ensures filled { IfOk result (Filled self.old.ahead self.new.ahead (S.left self.new.source)) }
+        ensures filled { IfOk result
+            (Filled self.old.ahead self.new.ahead (S.left self.new.source)) }
         ensures front { IsPrefix self.old.ahead self.new.ahead }
         ensures few { length self.new.ahead ≤ length self.old.ahead + read_limit }
         ensures origin { S.origin self.new.source ≡ S.origin self.old.source }

@@ -33,7 +33,8 @@ pub enum HeadFound {
 pub fn find_head<R: Wait, S: Source>(rt: &R, from: &mut Half<S>) -> HeadFound
     ensures found { FindsHead from.new.ahead (to_come S.left from.new) result }
     ensures kept { Keeps (to_come S.left from.old) (to_come S.left from.new) }
-    ensures cause { result ≡ HeadFound.Failed → Rose (S.faults from.old.source) (S.faults from.new.source) }
+    ensures cause { result ≡ HeadFound.Failed
+        → Rose (S.faults from.old.source) (S.faults from.new.source) }
     ensures later { S.faults from.old.source ≤ S.faults from.new.source }
     ensures origin { S.origin from.new.source ≡ S.origin from.old.source }
     ensures few { length from.new.ahead ≤ max (length from.old.ahead) (most_bytes + read_limit) }

@@ -27,7 +27,8 @@ pub trait Meter {
         ensures gives { Gives (seated self.old) wanted result }
         ensures seated { seated self.new ≡ seated self.old }
         ensures besides { besides self.new ≡ besides self.old }
-        ensures granted { granted self.new ≡ granted_after (seated self.old) (granted self.old) result }
+        ensures granted { granted self.new
+            ≡ granted_after (seated self.old) (granted self.old) result }
         ensures short { short self.new ≡ is_short wanted result }
         ensures dry { dry self.new ≡ dry_after_grant result (dry self.old) };
 

@@ -24,10 +24,14 @@ pub(crate) enum Unpaid {
 /// Writes the bytes as they are granted. At a failure of the sink one grant may be written in part.
 pub(crate) fn pay<M: Meter, O: Sink>(meter: &mut M, to: &mut O, bytes: &[u8]) -> Result<(), Unpaid>
     requires dry { M.dry meter.old ≡ 0 }
-    ensures ok { OnOk result (PaysAll (M.seated meter.old) bytes.now (O.contents to.old) (O.contents to.new) (M.granted meter.old) (M.granted meter.new)) }
-    ensures failed { IsErrOf result Unpaid.Failed → PaysPart (M.seated meter.old) bytes.now (O.contents to.old) (O.contents to.new)
+    ensures ok { OnOk result
+        (PaysAll (M.seated meter.old) bytes.now (O.contents to.old) (O.contents to.new)
+        (M.granted meter.old) (M.granted meter.new)) }
+    ensures failed { IsErrOf result Unpaid.Failed
+        → PaysPart (M.seated meter.old) bytes.now (O.contents to.old) (O.contents to.new)
         (M.granted meter.old) (M.granted meter.new) piece_limit }
-    ensures starved { IsErrOf result Unpaid.Starved → PaysPart (M.seated meter.old) bytes.now (O.contents to.old) (O.contents to.new)
+    ensures starved { IsErrOf result Unpaid.Starved
+        → PaysPart (M.seated meter.old) bytes.now (O.contents to.old) (O.contents to.new)
         (M.granted meter.old) (M.granted meter.new) 0 }
     ensures dry_at_ok { OnOk result (M.dry meter.new ≡ 0) }
     ensures dry_at_failed { IsErrOf result Unpaid.Failed → M.dry meter.new ≡ 0 }

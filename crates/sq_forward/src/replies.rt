@@ -43,11 +43,14 @@ fn take_head<R: Wait, P: Source>(
     alloc: Global,
     origin: &mut Half<P>,
 ) -> Result<ReplyHead, NoHead>
-    ensures takes { IfSome (to_come P.left origin.old) (λ bytes. TakesHead bytes (to_come P.left origin.new) result) }
-    ensures cause { IsErrOf result NoHead.Failed → Rose (P.faults origin.old.source) (P.faults origin.new.source) }
+    ensures takes { IfSome (to_come P.left origin.old)
+        (λ bytes. TakesHead bytes (to_come P.left origin.new) result) }
+    ensures cause { IsErrOf result NoHead.Failed
+        → Rose (P.faults origin.old.source) (P.faults origin.new.source) }
     ensures later { P.faults origin.old.source ≤ P.faults origin.new.source }
     ensures dialled { P.origin origin.new.source ≡ P.origin origin.old.source }
-    ensures few { length origin.new.ahead ≤ max (length origin.old.ahead) (most_bytes + read_limit) }
+    ensures few { length origin.new.ahead
+        ≤ max (length origin.old.ahead) (most_bytes + read_limit) }
 {
     let len = match find_head(rt, origin) {
         HeadFound::Whole(len) => len,
@@ -111,17 +114,21 @@ pub(crate) fn lead_reply<R: Wait, P: Source, O: Sink, M: Meter>(
     request: &Request,
 ) -> Result<ReplyHead, Exchanged>
     requires dry { M.dry meter.old ≡ 0 }
-    ensures leads { LeadsReply request.now (M.seated meter.old) (to_come P.left origin.old) (to_come P.left origin.new)
-        (O.contents to_client.old) (O.contents to_client.new) (M.granted meter.old) (M.granted meter.new)
+    ensures leads { LeadsReply request.now (M.seated meter.old) (to_come P.left origin.old)
+        (to_come P.left origin.new)
+        (O.contents to_client.old) (O.contents to_client.new) (M.granted meter.old)
+        (M.granted meter.new)
         (Rose (P.faults origin.old.source) (P.faults origin.new.source)) result }
-    ensures cause { IfErr result (LeadHasCause (Rose (O.faults to_client.old) (O.faults to_client.new))) }
+    ensures cause { IfErr result
+        (LeadHasCause (Rose (O.faults to_client.old) (O.faults to_client.new))) }
     ensures dry { M.dry meter.new ≡ dry_after_sending result }
     ensures seated { M.seated meter.new ≡ M.seated meter.old }
     ensures besides { M.besides meter.new ≡ M.besides meter.old }
     ensures origin_later { P.faults origin.old.source ≤ P.faults origin.new.source }
     ensures client_later { O.faults to_client.old ≤ O.faults to_client.new }
     ensures dialled { P.origin origin.new.source ≡ P.origin origin.old.source }
-    ensures few { length origin.new.ahead ≤ max (length origin.old.ahead) (most_bytes + read_limit) }
+    ensures few { length origin.new.ahead
+        ≤ max (length origin.old.ahead) (most_bytes + read_limit) }
 {
     let mut passed = 0;
     for _ in rt.forever() {
@@ -165,8 +172,11 @@ fn pass_on<O: Sink, M: Meter>(
     head: &ReplyHead,
 ) -> Result<(), Exchanged>
     requires dry { M.dry meter.old ≡ 0 }
-    ensures sends { SendsText (interim_text request.now head.now) (M.seated meter.old) (O.contents to_client.old) (O.contents to_client.new) (M.granted meter.old) (M.granted meter.new) result }
-    ensures cause { IfErr result (LeadHasCause (Rose (O.faults to_client.old) (O.faults to_client.new))) }
+    ensures sends { SendsText (interim_text request.now head.now) (M.seated meter.old)
+        (O.contents to_client.old) (O.contents to_client.new) (M.granted meter.old)
+        (M.granted meter.new) result }
+    ensures cause { IfErr result
+        (LeadHasCause (Rose (O.faults to_client.old) (O.faults to_client.new))) }
     ensures other { IfErr result (λ end. end ≡ Exchanged.NoReply → ⊥) }
     ensures dry { M.dry meter.new ≡ dry_after_sending result }
     ensures seated { M.seated meter.new ≡ M.seated meter.old }
@@ -202,8 +212,10 @@ pub(crate) fn send_reply<R: Wait, P: Source, O: Sink, M: Meter>(
 ) -> Exchanged
     requires dry { M.dry meter.old ≡ 0 }
     ensures sends { SendsReply request.now head.now (M.seated meter.old) (to_come P.left origin.old)
-        (O.contents to_client.old) (O.contents to_client.new) (M.granted meter.old) (M.granted meter.new) result }
-    ensures cause { ExchangeHasCause (Rose (O.faults to_client.old) (O.faults to_client.new)) (Rose (P.faults origin.old.source) (P.faults origin.new.source)) result }
+        (O.contents to_client.old) (O.contents to_client.new) (M.granted meter.old)
+        (M.granted meter.new) result }
+    ensures cause { ExchangeHasCause (Rose (O.faults to_client.old) (O.faults to_client.new))
+        (Rose (P.faults origin.old.source) (P.faults origin.new.source)) result }
     ensures dry { M.dry meter.new ≡ dry_after_exchange result }
     ensures seated { M.seated meter.new ≡ M.seated meter.old }
     ensures besides { M.besides meter.new ≡ M.besides meter.old }

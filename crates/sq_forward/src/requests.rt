@@ -27,9 +27,13 @@ pub(crate) fn send_request<R: Wait, I: Source, O: Sink, Q: Sink>(
     addr: Addr,
     plan: BodyPlan,
 ) -> Option<Exchanged>
-    ensures sends { SendsRequest request.now addr plan (to_come I.left client.old) (to_come I.left client.new)
-        (O.contents to_client.old) (O.contents to_client.new) (Q.contents to_origin.old) (Q.contents to_origin.new) result }
-    ensures cause { IfSome result (SendHasCause (Rose (I.faults client.old.source) (I.faults client.new.source) ⊎ Rose (O.faults to_client.old) (O.faults to_client.new))
+    ensures sends { SendsRequest request.now addr plan (to_come I.left client.old)
+        (to_come I.left client.new)
+        (O.contents to_client.old) (O.contents to_client.new) (Q.contents to_origin.old)
+        (Q.contents to_origin.new) result }
+    ensures cause { IfSome result
+        (SendHasCause (Rose (I.faults client.old.source) (I.faults client.new.source)
+        ⊎ Rose (O.faults to_client.old) (O.faults to_client.new))
         (Rose (Q.faults to_origin.old) (Q.faults to_origin.new))) }
     ensures fed { IfSome result (λ e. 0 ≡ dry_after_exchange e) }
     ensures client_later { I.faults client.old.source ≤ I.faults client.new.source }

@@ -7,7 +7,7 @@ ghost use Rattle.sq_forward.specs.Tunnels.{JoinsWays, dry_after_tunnel, spare_of
 
 use crate::half::Half;
 use crate::meter::Meter;
-use crate::ways::{Way, copy_way, send_way};
+use crate::ways::{WayEnd, copy_way, send_way};
 use sq_outside::{Out, Source};
 use std::alloc::Global;
 use std::sync::Wait;
@@ -29,19 +29,19 @@ pub enum Tunnelled {
 }
 
 // Of several causes a dry meter counts first, and then a link.
-fn joined(up: Way, down: Way) -> Tunnelled
+fn joined(up: WayEnd, down: WayEnd) -> Tunnelled
     ensures { JoinsWays up down result }
 {
     match (up, down) {
-        (_, Way::Starved) => Tunnelled::Starved,
-        (Way::Starved, _) => Tunnelled::Starved,
-        (Way::NoSource, _) => Tunnelled::ClientFault,
-        (_, Way::NoSink) => Tunnelled::ClientFault,
-        (Way::NoSink, _) => Tunnelled::OriginFault,
-        (_, Way::NoSource) => Tunnelled::OriginFault,
-        (Way::WantOfMemory, _) => Tunnelled::WantOfMemory,
-        (_, Way::WantOfMemory) => Tunnelled::WantOfMemory,
-        (Way::Ended, Way::Ended) => Tunnelled::Ended,
+        (_, WayEnd::Starved) => Tunnelled::Starved,
+        (WayEnd::Starved, _) => Tunnelled::Starved,
+        (WayEnd::NoSource, _) => Tunnelled::ClientFault,
+        (_, WayEnd::NoSink) => Tunnelled::ClientFault,
+        (WayEnd::NoSink, _) => Tunnelled::OriginFault,
+        (_, WayEnd::NoSource) => Tunnelled::OriginFault,
+        (WayEnd::WantOfMemory, _) => Tunnelled::WantOfMemory,
+        (_, WayEnd::WantOfMemory) => Tunnelled::WantOfMemory,
+        (WayEnd::Ended, WayEnd::Ended) => Tunnelled::Ended,
     }
 }
 
@@ -65,25 +65,41 @@ pub fn tunnel<
 ) -> Tunnelled
     requires dry { M.dry meter.old ≡ 0 }
     // What goes to the origin is a front of what the client has to say, and back.
-    ensures up { GoesInPart (to_come I.left client.old) (Q.Sink.contents to_origin.old) (Q.Sink.contents to_origin.new) }
+    ensures up { GoesInPart (to_come I.left client.old) (Q.Sink.contents to_origin.old)
+        (Q.Sink.contents to_origin.new) }
     // What goes to the client was granted; all that was granted was written, unless the client's link failed.
-    ensures down { GoesGranted (M.seated meter.old) (to_come P.left origin.old) (O.Sink.contents to_client.old) (O.Sink.contents to_client.new)
+    ensures down { GoesGranted (M.seated meter.old) (to_come P.left origin.old)
+        (O.Sink.contents to_client.old) (O.Sink.contents to_client.new)
         (M.granted meter.old) (M.granted meter.new) (spare_of_tunnel result) }
-    ensures up_ended { result ≡ Tunnelled.Ended → GoesWhole (to_come I.left client.old) (to_come I.left client.new) (Q.Sink.contents to_origin.old) (Q.Sink.contents to_origin.new) }
-    ensures down_ended { result ≡ Tunnelled.Ended → GoesWhole (to_come P.left origin.old) (to_come P.left origin.new) (O.Sink.contents to_client.old) (O.Sink.contents to_client.new) }
-    ensures down_paid { result ≡ Tunnelled.Ended → GoesPaid (M.seated meter.old) (to_come P.left origin.old) (O.Sink.contents to_client.old) (O.Sink.contents to_client.new)
+    ensures up_ended { result ≡ Tunnelled.Ended
+        → GoesWhole (to_come I.left client.old) (to_come I.left client.new)
+        (Q.Sink.contents to_origin.old) (Q.Sink.contents to_origin.new) }
+    ensures down_ended { result ≡ Tunnelled.Ended
+        → GoesWhole (to_come P.left origin.old) (to_come P.left origin.new)
+        (O.Sink.contents to_client.old) (O.Sink.contents to_client.new) }
+    ensures down_paid { result ≡ Tunnelled.Ended
+        → GoesPaid (M.seated meter.old) (to_come P.left origin.old) (O.Sink.contents to_client.old)
+        (O.Sink.contents to_client.new)
         (M.granted meter.old) (M.granted meter.new) }
     ensures closed { IsClosed (Q.closed to_origin.new) × IsClosed (O.closed to_client.new) }
-    ensures client { result ≡ Tunnelled.ClientFault → Rose (I.faults client.old.source) (I.faults client.new.source) ⊎ Rose (O.Sink.faults to_client.old) (O.Sink.faults to_client.new) }
-    ensures origin { result ≡ Tunnelled.OriginFault → Rose (P.faults origin.old.source) (P.faults origin.new.source) ⊎ Rose (Q.Sink.faults to_origin.old) (Q.Sink.faults to_origin.new) }
+    ensures client { result ≡ Tunnelled.ClientFault
+        → Rose (I.faults client.old.source) (I.faults client.new.source)
+        ⊎ Rose (O.Sink.faults to_client.old) (O.Sink.faults to_client.new) }
+    ensures origin { result ≡ Tunnelled.OriginFault
+        → Rose (P.faults origin.old.source) (P.faults origin.new.source)
+        ⊎ Rose (Q.Sink.faults to_origin.old) (Q.Sink.faults to_origin.new) }
     // Starved exactly where the meter is that dry.
     ensures dry { M.dry meter.new ≡ dry_after_tunnel result }
     ensures seated { M.seated meter.new ≡ M.seated meter.old }
     ensures besides { M.besides meter.new ≡ M.besides meter.old }
-    ensures client_later { (I.faults client.old.source ≤ I.faults client.new.source) × (O.Sink.faults to_client.old ≤ O.Sink.faults to_client.new) }
-    ensures origin_later { (P.faults origin.old.source ≤ P.faults origin.new.source) × (Q.Sink.faults to_origin.old ≤ Q.Sink.faults to_origin.new) }
-    ensures dialled { (I.origin client.new.source ≡ I.origin client.old.source) × (P.origin origin.new.source ≡ P.origin origin.old.source) }
-    ensures few { (length client.new.ahead ≤ max (length client.old.ahead) read_limit) × (length origin.new.ahead ≤ max (length origin.old.ahead) read_limit) }
+    ensures client_later { (I.faults client.old.source ≤ I.faults client.new.source)
+        × (O.Sink.faults to_client.old ≤ O.Sink.faults to_client.new) }
+    ensures origin_later { (P.faults origin.old.source ≤ P.faults origin.new.source)
+        × (Q.Sink.faults to_origin.old ≤ Q.Sink.faults to_origin.new) }
+    ensures dialled { (I.origin client.new.source ≡ I.origin client.old.source)
+        × (P.origin origin.new.source ≡ P.origin origin.old.source) }
+    ensures few { (length client.new.ahead ≤ max (length client.old.ahead) read_limit)
+        × (length origin.new.ahead ≤ max (length origin.old.ahead) read_limit) }
 {
     let (up, down) = join_mut(
         rt,

@@ -15,7 +15,7 @@ use std::sync::Wait;
 
 /// How one way of a tunnel ended.
 #[derive(Clone, Copy, Debug, PartialEq, Eq)]
-pub(crate) enum Way {
+pub(crate) enum WayEnd {
     /// All bytes were read, and written.
     Ended,
     /// The source failed.
@@ -28,15 +28,15 @@ pub(crate) enum Way {
     WantOfMemory,
 }
 
-fn way_of(copied: Copied) -> Way
+fn way_of(copied: Copied) -> WayEnd
     ensures { result ≡ way_of copied }
 {
     match copied {
-        Copied::Whole | Copied::Cut | Copied::Bad => Way::Ended,
-        Copied::NoSource => Way::NoSource,
-        Copied::NoSink => Way::NoSink,
-        Copied::Starved => Way::Starved,
-        Copied::WantOfMemory => Way::WantOfMemory,
+        Copied::Whole | Copied::Cut | Copied::Bad => WayEnd::Ended,
+        Copied::NoSource => WayEnd::NoSource,
+        Copied::NoSink => WayEnd::NoSink,
+        Copied::Starved => WayEnd::Starved,
+        Copied::WantOfMemory => WayEnd::WantOfMemory,
     }
 }
 
@@ -47,15 +47,20 @@ pub(crate) fn copy_way<R: Wait, S: Source, O: Out, M: Meter>(
     from: &mut Half<S>,
     to: &mut O,
     meter: &mut M,
-) -> Way
+) -> WayEnd
     requires dry { M.dry meter.old ≡ 0 }
-    ensures goes { GoesGranted (M.seated meter.old) (to_come S.left from.old) (O.Sink.contents to.old) (O.Sink.contents to.new)
+    ensures goes { GoesGranted (M.seated meter.old) (to_come S.left from.old)
+        (O.Sink.contents to.old) (O.Sink.contents to.new)
         (M.granted meter.old) (M.granted meter.new) (spare_of_way result) }
-    ensures whole { result ≡ Way.Ended → GoesWhole (to_come S.left from.old) (to_come S.left from.new) (O.Sink.contents to.old) (O.Sink.contents to.new) }
-    ensures paid { PaidAtEnd (M.seated meter.old) (to_come S.left from.old) (O.Sink.contents to.old) (O.Sink.contents to.new)
+    ensures whole { result ≡ WayEnd.Ended
+        → GoesWhole (to_come S.left from.old) (to_come S.left from.new) (O.Sink.contents to.old)
+        (O.Sink.contents to.new) }
+    ensures paid { PaidAtEnd (M.seated meter.old) (to_come S.left from.old) (O.Sink.contents to.old)
+        (O.Sink.contents to.new)
         (M.granted meter.old) (M.granted meter.new) result }
     ensures closed { IsClosed (O.closed to.new) }
-    ensures cause { WayHasCause (S.faults from.old.source) (S.faults from.new.source) (O.Sink.faults to.old) (O.Sink.faults to.new) result }
+    ensures cause { WayHasCause (S.faults from.old.source) (S.faults from.new.source)
+        (O.Sink.faults to.old) (O.Sink.faults to.new) result }
     ensures dry { M.dry meter.new ≡ dry_after_way result }
     ensures seated { M.seated meter.new ≡ M.seated meter.old }
     ensures besides { M.besides meter.new ≡ M.besides meter.old }
@@ -75,12 +80,16 @@ pub(crate) fn send_way<R: Wait, S: Source, O: Out>(
     alloc: Global,
     from: &mut Half<S>,
     to: &mut O,
-) -> Way
-    ensures goes { GoesInPart (to_come S.left from.old) (O.Sink.contents to.old) (O.Sink.contents to.new) }
-    ensures whole { result ≡ Way.Ended → GoesWhole (to_come S.left from.old) (to_come S.left from.new) (O.Sink.contents to.old) (O.Sink.contents to.new) }
+) -> WayEnd
+    ensures goes { GoesInPart (to_come S.left from.old) (O.Sink.contents to.old)
+        (O.Sink.contents to.new) }
+    ensures whole { result ≡ WayEnd.Ended
+        → GoesWhole (to_come S.left from.old) (to_come S.left from.new) (O.Sink.contents to.old)
+        (O.Sink.contents to.new) }
     ensures fed { 0 ≡ dry_after_way result }
     ensures closed { IsClosed (O.closed to.new) }
-    ensures cause { WayHasCause (S.faults from.old.source) (S.faults from.new.source) (O.Sink.faults to.old) (O.Sink.faults to.new) result }
+    ensures cause { WayHasCause (S.faults from.old.source) (S.faults from.new.source)
+        (O.Sink.faults to.old) (O.Sink.faults to.new) result }
     ensures source_later { S.faults from.old.source ≤ S.faults from.new.source }
     ensures sink_later { O.Sink.faults to.old ≤ O.Sink.faults to.new }
     ensures origin { S.origin from.new.source ≡ S.origin from.old.source }

@@ -21,15 +21,20 @@ externals_rise : (count : ℕ) (acls : List Acl) → count ≤ externals_on coun
 externals_rise count [] = omega arith
 externals_rise count (a ∷ acls) =
     let one : count ≤ (if is_external a.body then count + 1 else count) = count_rises (is_external a.body) count in
-    let rest : (if is_external a.body then count + 1 else count) ≤ externals_on (if is_external a.body then count + 1 else count) acls = externals_rise (if is_external a.body then count + 1 else count) acls in
+    let rest : (if is_external a.body then count + 1 else count)
+    ≤ externals_on (if is_external a.body then count + 1 else count) acls =
+    externals_rise (if is_external a.body then count + 1 else count) acls in
     omega (arith, one, rest)
 
 -- an external acl has a slot, which is one of so many
-slot_on : (count : ℕ) (acls : List Acl) (acl : ℕ) → is_external_at acls acl ≡ true → (s : ℕ) × (slice_get (slots_on count acls) acl ≡ Some s) × (count ≤ s) × (s < externals_on count acls)
+slot_on : (count : ℕ) (acls : List Acl) (acl : ℕ) → is_external_at acls acl ≡ true
+    → (s : ℕ) × (slice_get (slots_on count acls) acl ≡ Some s) × (count ≤ s) × (s < externals_on count acls)
 slot_on count [] acl e = absurd (cc)
 slot_on count (a ∷ acls) zero e =
     let more : (if is_external a.body then count + 1 else count) ≡ count + 1 = rw e refl in
-    let rest : (if is_external a.body then count + 1 else count) ≤ externals_on (if is_external a.body then count + 1 else count) acls = externals_rise (if is_external a.body then count + 1 else count) acls in
+    let rest : (if is_external a.body then count + 1 else count)
+    ≤ externals_on (if is_external a.body then count + 1 else count) acls =
+    externals_rise (if is_external a.body then count + 1 else count) acls in
     (count, refl, omega arith, omega (arith, more, rest))
 slot_on count (a ∷ acls) (suc acl) e =
     let one : count ≤ (if is_external a.body then count + 1 else count) = count_rises (is_external a.body) count in
@@ -37,11 +42,14 @@ slot_on count (a ∷ acls) (suc acl) e =
     let least : (if is_external a.body then count + 1 else count) ≤ at.0 = at.2 in
     (at.0, at.1, omega (arith, one, least), at.3)
 
-pub slot_there : (acls : List Acl) (acl : ℕ) → is_external_at acls acl ≡ true → (s : ℕ) × (slice_get (slots_of acls) acl ≡ Some s) × (s < externals_on 0 acls)
+pub slot_there : (acls : List Acl) (acl : ℕ) → is_external_at acls acl ≡ true
+    → (s : ℕ) × (slice_get (slots_of acls) acl ≡ Some s) × (s < externals_on 0 acls)
 slot_there acls acl e = let at = slot_on 0 acls acl e in (at.0, at.1, at.3)
 
 -- slots rise
-slots_rise : (count : ℕ) (acls : List Acl) (p q s t : ℕ) → p < q → is_external_at acls p ≡ true → is_external_at acls q ≡ true → slice_get (slots_on count acls) p ≡ Some s → slice_get (slots_on count acls) q ≡ Some t → s < t
+slots_rise : (count : ℕ) (acls : List Acl) (p q s t : ℕ) → p < q → is_external_at acls p ≡ true
+    → is_external_at acls q ≡ true → slice_get (slots_on count acls) p ≡ Some s
+    → slice_get (slots_on count acls) q ≡ Some t → s < t
 slots_rise count [] p q s t less e f is at = absurd (cc)
 slots_rise count (a ∷ acls) p zero s t less e f is at = absurd (omega arith)
 slots_rise count (a ∷ acls) zero (suc q) s t less e f is at =
@@ -52,10 +60,12 @@ slots_rise count (a ∷ acls) zero (suc q) s t less e f is at =
     let one : there.0 ≡ t = cc in
     let least : (if is_external a.body then count + 1 else count) ≤ there.0 = there.2 in
     omega (arith, more, same, one, least)
-slots_rise count (a ∷ acls) (suc p) (suc q) s t less e f is at = slots_rise (if is_external a.body then count + 1 else count) acls p q s t (omega arith) e f is at
+slots_rise count (a ∷ acls) (suc p) (suc q) s t less e f is at =
+    slots_rise (if is_external a.body then count + 1 else count) acls p q s t (omega arith) e f is at
 
 -- two external acls have two slots
-slots_differ : (acls : List Acl) (p q s t : ℕ) → (p == q) ≡ false → is_external_at acls p ≡ true → is_external_at acls q ≡ true → slice_get (slots_of acls) p ≡ Some s → slice_get (slots_of acls) q ≡ Some t → s ≢ t
+slots_differ : (acls : List Acl) (p q s t : ℕ) → (p == q) ≡ false → is_external_at acls p ≡ true
+    → is_external_at acls q ≡ true → slice_get (slots_of acls) p ≡ Some s → slice_get (slots_of acls) q ≡ Some t → s ≢ t
 slots_differ acls p q s t other e f is at = by (nat_lt p q) refl
   where
     by : (b : Bool) → nat_lt p q ≡ b → s ≢ t
@@ -69,17 +79,20 @@ slots_differ acls p q s t other e f is at = by (nat_lt p q) refl
         omega (arith, one)
 
 -- a table in which one slot was set
-set_here : (table : List (Option Given)) (slot : ℕ) (g : Option Given) → slot < length table → slice_index_or (set table slot g) slot None ≡ g
+set_here : (table : List (Option Given)) (slot : ℕ) (g : Option Given) → slot < length table
+    → slice_index_or (set table slot g) slot None ≡ g
 set_here table slot g within = get_or-set_same table slot g None within
 
-set_other : (table : List (Option Given)) (slot other : ℕ) (g : Option Given) → other ≢ slot → slice_index_or (set table slot g) other None ≡ slice_index_or table other None
+set_other : (table : List (Option Given)) (slot other : ℕ) (g : Option Given) → other ≢ slot
+    → slice_index_or (set table slot g) other None ≡ slice_index_or table other None
 set_other table slot other g differ = get_or-set_other table slot other g None differ
 
 same_of : (a b : ℕ) → (a == b) ≡ true → a ≡ b
 same_of a b e = grind (arith, nat_tests, e)
 
 -- a value that is given is that of its acl alone
-pub given_after : (acls : List Acl) (table new : List (Option Given)) (need : ℕ) (v : Given) (acl : ℕ) → length table ≡ externals_on 0 acls → is_external_at acls need ≡ true
+pub given_after : (acls : List Acl) (table new : List (Option Given)) (need : ℕ) (v : Given) (acl : ℕ)
+    → length table ≡ externals_on 0 acls → is_external_at acls need ≡ true
     → new ≡ set table (slice_index_or (slots_of acls) need 0) (Some v) → is_external_at acls acl ≡ true
     → given_at (slots_of acls) new acl ≡ (if acl == need then Some v else given_at (slots_of acls) table acl)
 given_after acls table new need v acl counted e is f = by (acl == need) refl
@@ -93,17 +106,21 @@ given_after acls table new need v acl counted e is f = by (acl == need) refl
     changed : new ≡ set table slot.0 (Some v)
     changed = is ∙ ap (λ k. set table k (Some v)) here
 
-    by : (b : Bool) → (acl == need) ≡ b → given_at (slots_of acls) new acl ≡ (if b then Some v else given_at (slots_of acls) table acl)
+    by : (b : Bool) → (acl == need) ≡ b
+        → given_at (slots_of acls) new acl ≡ (if b then Some v else given_at (slots_of acls) table acl)
     by true same =
         let within : slot.0 < length table = omega (arith, counted, slot.2) in
-        ap (given_at (slots_of acls) new) (same_of acl need same) ∙ ap (in_slot new) slot.1 ∙ ap (λ l. slice_index_or l slot.0 None) changed ∙ set_here table slot.0 (Some v) within
+        ap (given_at (slots_of acls) new) (same_of acl need same) ∙ ap (in_slot new) slot.1
+        ∙ ap (λ l. slice_index_or l slot.0 None) changed ∙ set_here table slot.0 (Some v) within
     by false other =
         let its = slot_there acls acl f in
         let differ : its.0 ≢ slot.0 = slots_differ acls acl need its.0 slot.0 other f e its.1 slot.1 in
-        ap (in_slot new) its.1 ∙ ap (λ l. slice_index_or l its.0 None) changed ∙ set_other table slot.0 its.0 (Some v) differ ∙ sym (ap (in_slot table) its.1)
+        ap (in_slot new) its.1 ∙ ap (λ l. slice_index_or l its.0 None) changed
+        ∙ set_other table slot.0 its.0 (Some v) differ ∙ sym (ap (in_slot table) its.1)
 
 -- what is taken at a place hangs on what was given for its acl alone
-taken_same : (facts : List Bool) (g h : Option Given) (acl : ℕ) (o : Option Acl) → (external_of o ≡ true → g ≡ h) → taken_of_acl facts g acl o ≡ taken_of_acl facts h acl o
+taken_same : (facts : List Bool) (g h : Option Given) (acl : ℕ) (o : Option Acl) → (external_of o ≡ true → g ≡ h)
+    → taken_of_acl facts g acl o ≡ taken_of_acl facts h acl o
 taken_same facts g h acl None same = refl
 taken_same facts g h acl (Some a) same = by_body a.body same
   where
@@ -114,9 +131,12 @@ taken_same facts g h acl (Some a) same = by_body a.body same
     by_body (body.AllOf lines) e = refl
 
 -- a value that is given for what was needed extends what is taken
-pub extends_after : (acls : List Acl) (facts : List Bool) (table new : List (Option Given)) (need : ℕ) (v : Given) (more : ℕ → TermValue) → length table ≡ externals_on 0 acls
-    → is_external_at acls need ≡ true → given_at (slots_of acls) table need ≡ None → new ≡ set table (slice_index_or (slots_of acls) need 0) (Some v)
-    → Extends (taken_given acls (slots_of acls) facts new) more → Extends (taken_given acls (slots_of acls) facts table) more
+pub extends_after : (acls : List Acl) (facts : List Bool) (table new : List (Option Given)) (need : ℕ) (v : Given)
+    (more : ℕ → TermValue) → length table ≡ externals_on 0 acls
+    → is_external_at acls need ≡ true → given_at (slots_of acls) table need ≡ None
+    → new ≡ set table (slice_index_or (slots_of acls) need 0) (Some v)
+    → Extends (taken_given acls (slots_of acls) facts new) more
+    → Extends (taken_given acls (slots_of acls) facts table) more
 extends_after acls facts table new need v more counted e none is extends acl known = by (acl == need) refl
   where
     old : ℕ → TermValue
@@ -128,13 +148,17 @@ extends_after acls facts table new need v more counted e none is extends acl kno
     by : (b : Bool) → (acl == need) ≡ b → more acl ≡ taken_given acls (slots_of acls) facts table acl
     by true same =
         let it : acl ≡ need = same_of acl need same in
-        let needed : taken_given acls (slots_of acls) facts table need ≡ given_value need None = external_taken acls (slots_of acls) facts table need e ∙ ap (given_value need) none in
-        let yes : is_need (taken_given acls (slots_of acls) facts table acl) ≡ true = ap (λ k. is_need (taken_given acls (slots_of acls) facts table k)) it ∙ ap is_need needed in
+        let needed : taken_given acls (slots_of acls) facts table need ≡ given_value need None =
+        external_taken acls (slots_of acls) facts table need e ∙ ap (given_value need) none in
+        let yes : is_need (taken_given acls (slots_of acls) facts table acl) ≡ true =
+        ap (λ k. is_need (taken_given acls (slots_of acls) facts table k)) it ∙ ap is_need needed in
         absurd (true≢false (sym yes ∙ known))
     by false other =
         let kept : taken_given acls (slots_of acls) facts new acl ≡ taken_given acls (slots_of acls) facts table acl =
-        taken_same facts (given_at (slots_of acls) new acl) (given_at (slots_of acls) table acl) acl (slice_get acls acl)
-        (λ f. given_after acls table new need v acl counted e is f ∙ ap (λ b. if b then Some v else given_at (slots_of acls) table acl) other) in
+        taken_same facts (given_at (slots_of acls) new acl) (given_at (slots_of acls) table acl) acl
+        (slice_get acls acl)
+        (λ f. given_after acls table new need v acl counted e is f
+        ∙ ap (λ b. if b then Some v else given_at (slots_of acls) table acl) other) in
         extends acl (ap is_need kept ∙ known) ∙ kept
 
 abbrev nothing : Option Given
@@ -155,18 +179,22 @@ nothing_given slots n acl = at (slice_get slots acl)
     at (Some slot) = nothing_in n slot
 
 -- a value that is given leaves one slot less without one
-left_set : (table : List (Option Given)) (slot : ℕ) (v : Given) → slot < length table → slice_index_or table slot None ≡ None → left_in table ≡ suc (left_in (set table slot (Some v)))
+left_set : (table : List (Option Given)) (slot : ℕ) (v : Given) → slot < length table
+    → slice_index_or table slot None ≡ None → left_in table ≡ suc (left_in (set table slot (Some v)))
 left_set [] slot v within none = absurd (omega (arith, within))
 left_set (None ∷ table) zero v within none = refl
 left_set (Some g ∷ table) zero v within none = absurd (cc)
 left_set (None ∷ table) (suc slot) v within none = ap suc (left_set table slot v (omega (arith, within)) none)
 left_set (Some g ∷ table) (suc slot) v within none = left_set table slot v (omega (arith, within)) none
 
-pub left_after : (acls : List Acl) (table new : List (Option Given)) (need : ℕ) (v : Given) → length table ≡ externals_on 0 acls → is_external_at acls need ≡ true
-    → given_at (slots_of acls) table need ≡ None → new ≡ set table (slice_index_or (slots_of acls) need 0) (Some v) → left_in table ≡ suc (left_in new)
+pub left_after : (acls : List Acl) (table new : List (Option Given)) (need : ℕ) (v : Given)
+    → length table ≡ externals_on 0 acls → is_external_at acls need ≡ true
+    → given_at (slots_of acls) table need ≡ None → new ≡ set table (slice_index_or (slots_of acls) need 0) (Some v)
+    → left_in table ≡ suc (left_in new)
 left_after acls table new need v counted e none is =
     let slot = slot_there acls need e in
-    let here : slice_index_or (slots_of acls) need 0 ≡ slot.0 = get_or_from_slice_get (slots_of acls) need slot.0 0 slot.1 in
+    let here : slice_index_or (slots_of acls) need 0 ≡ slot.0 =
+    get_or_from_slice_get (slots_of acls) need slot.0 0 slot.1 in
     let free : slice_index_or table slot.0 None ≡ None = sym (ap (in_slot table) slot.1) ∙ none in
     let within : slot.0 < length table = omega (arith, counted, slot.2) in
     left_set table slot.0 v within free ∙ ap (λ l. suc (left_in l)) (sym (is ∙ ap (λ k. set table k (Some v)) here))

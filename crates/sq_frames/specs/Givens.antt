@@ -1,4 +1,5 @@
--- What the values of leaf acls and of external acls are taken from: the facts of a check, and the values that were given.
+-- What the values of leaf acls and of external acls are taken from: the facts of a check, and the
+-- values that were given.
 use Rattle.std.specs.Prelude.{ℕ, suc, List, [], ◌∷◌, Bool, false, Some, None, slice_get, slice_index_or}
 use Rattle.std.specs.declared.option.Option.{Option}
 use Rattle.sq_rules.specs.Values.{value_if}
@@ -19,7 +20,8 @@ use Rattle.sq_frames.specs.declared.answers.Place.TheVariants as place
 use Rattle.sq_frames.specs.declared.answers.Ran.{Ran}
 use Rattle.sq_frames.specs.declared.answers.Ran.TheVariants as ran
 
--- the value of an external acl by what was given for it; where nothing was, it is needed, and the key is left open
+-- the value of an external acl by what was given for it; where nothing was, it is needed, and the
+-- key is left open
 abbrev pub given_value : ℕ → Option Given → TermValue
 given_value acl None = Need acl []
 given_value acl (Some given.Hit) = Hit
@@ -45,9 +47,11 @@ abbrev pub taken_of_acl : List Bool → Option Given → ℕ → Option Acl → 
 taken_of_acl facts g acl None = Miss
 taken_of_acl facts g acl (Some a) = taken_of_body facts g acl a.body
 
--- what is taken at a place: of a leaf acl its fact, of an external acl the value that was given for it
+-- what is taken at a place: of a leaf acl its fact, of an external acl the value that was given for
+-- it
 abbrev pub taken_given : List Acl → List ℕ → List Bool → List (Option Given) → ℕ → TermValue
-taken_given acls slots facts table acl = taken_of_acl facts (given_at slots table acl) acl (slice_get acls acl)
+taken_given acls slots facts table acl = taken_of_acl facts (given_at slots table acl) acl
+    (slice_get acls acl)
 
 -- why a run decided so, with the name of an acl that had a fault
 abbrev pub why_of : List Acl → Place → Why

@@ -1,4 +1,5 @@
--- The place in a configuration's rules: which rule and term of it, and in each open group which line and term of it.
+-- The place in a configuration's rules: which rule and term of it, and in each open group which
+-- line and term of it.
 use Rattle.std.specs.Prelude.{ℕ, ◌+◌, ◌<◌, ◌≤◌, ◌^◌, suc, List, [], ◌∷◌, length, map, Bool, true, false, not, Some, None, if◌then◌else◌, slice_get, slice_index_or}
 use Rattle.std.specs.declared.option.Option.{Option}
 use Rattle.sq_rules.specs.Configurations.{Configuration, nestings}
@@ -6,7 +7,7 @@ use Rattle.sq_rules.specs.declared.configs.Acl.{Acl}
 use Rattle.sq_rules.specs.declared.configs.Body.{Body}
 use Rattle.sq_rules.specs.declared.configs.Body.TheVariants as body
 use Rattle.sq_rules.specs.declared.configs.Term.{Term}
-use Rattle.sq_frames.specs.declared.spots.Spot.{Spot}
+use Rattle.sq_frames.specs.declared.spots.GroupSpot.{GroupSpot}
 use Rattle.sq_frames.specs.declared.looking.Next.{Next}
 use Rattle.sq_frames.specs.declared.looking.Next.TheVariants as next
 
@@ -25,23 +26,24 @@ lines_of (Some a) = lines_of_body a.body
 abbrev pub lines_at : List Acl → ℕ → List (List Term)
 lines_at acls acl = lines_of (slice_get acls acl)
 
--- the lines in which the next term stands: those of the innermost open group, which is the first here, or else the rules
-abbrev pub lines_on : Configuration → List Spot → List (List Term)
+-- the lines in which the next term stands: those of the innermost open group, which is the first
+-- here, or else the rules
+abbrev pub lines_on : Configuration → List GroupSpot → List (List Term)
 lines_on c [] = map (λ r. r.terms) c.rules
 lines_on c (s ∷ groups) = lines_at c.acls s.acl
 
 -- the line of the next term among them
-abbrev pub line_on : ℕ → List Spot → ℕ
+abbrev pub line_on : ℕ → List GroupSpot → ℕ
 line_on line [] = line
 line_on line (s ∷ groups) = s.line
 
 -- its place in the line
-abbrev pub term_on : ℕ → List Spot → ℕ
+abbrev pub term_on : ℕ → List GroupSpot → ℕ
 term_on term [] = term
 term_on term (s ∷ groups) = s.term
 
 -- what they name stands before this acl
-abbrev pub bound_on : Configuration → List Spot → ℕ
+abbrev pub bound_on : Configuration → List GroupSpot → ℕ
 bound_on c [] = length c.acls
 bound_on c (s ∷ groups) = s.acl
 
@@ -64,36 +66,41 @@ FitsNext next.Held line term = Unit {0}
 FitsNext next.Failed line term = Unit {0}
 
 -- what is next behind a term that matched, or did not: the next of its line, or the next line
-abbrev pub moved : Bool → Spot → Spot
-moved hit s = record s { line = if hit then s.line else s.line + 1; term = if hit then s.term + 1 else 0 }
+abbrev pub moved : Bool → GroupSpot → GroupSpot
+moved hit s = record s {
+  line = if hit then s.line else s.line + 1;
+  term = if hit then s.term + 1 else 0;
+}
 
 -- the groups that are open, each named by the term at which the one outside of it stands
-pub record IsOpen (c : Configuration) (room line term : ℕ) (s : Spot) (groups : List Spot) : Type 0 where
+pub record IsOpen (c : Configuration) (room line term : ℕ) (s : GroupSpot)
+    (groups : List GroupSpot) : Type 0 where
   pub pointed : line_on line groups < length (lines_on c groups)
   pub small : (line_on line groups + 1 < 2 ^ 64) × (term_on term groups + 1 < 2 ^ 64)
   pub before : s.acl < bound_on c groups
   pub fits : slice_index_or (nestings c.acls) s.acl 0 + suc (length groups) ≤ room
 
-abbrev pub AreOpen : Configuration → ℕ → ℕ → ℕ → List Spot → Type 0
+abbrev pub AreOpen : Configuration → ℕ → ℕ → ℕ → List GroupSpot → Type 0
 AreOpen c room line term [] = Unit {0}
-AreOpen c room line term (s ∷ groups) = IsOpen c room line term s groups × AreOpen c room line term groups
+AreOpen c room line term (s ∷ groups) = IsOpen c room line term s groups
+    × AreOpen c room line term groups
 
 -- the innermost open group, if one is open
-abbrev pub first_of : List Spot → Option Spot
+abbrev pub first_of : List GroupSpot → Option GroupSpot
 first_of [] = None
 first_of (s ∷ groups) = Some s
 
 -- what is next behind a term that matched, or did not, among the rules
-abbrev pub line_moved : Bool → ℕ → List Spot → ℕ
+abbrev pub line_moved : Bool → ℕ → List GroupSpot → ℕ
 line_moved hit line [] = if hit then line else line + 1
 line_moved hit line (s ∷ groups) = line
 
-abbrev pub term_moved : Bool → ℕ → List Spot → ℕ
+abbrev pub term_moved : Bool → ℕ → List GroupSpot → ℕ
 term_moved hit term [] = if hit then term + 1 else 0
 term_moved hit term (s ∷ groups) = term
 
 -- and in the innermost open group
-abbrev pub groups_moved : Bool → List Spot → List Spot
+abbrev pub groups_moved : Bool → List GroupSpot → List GroupSpot
 groups_moved hit [] = []
 groups_moved hit (s ∷ groups) = moved hit s ∷ groups
 

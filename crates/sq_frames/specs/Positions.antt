@@ -15,14 +15,14 @@ use Rattle.sq_frames.specs.declared.answers.Ran.{Ran}
 use Rattle.sq_frames.specs.declared.looking.Next.{Next}
 use Rattle.sq_frames.specs.declared.looking.Next.TheVariants as next
 use Rattle.sq_frames.specs.declared.positions.Position.{Position}
-use Rattle.sq_frames.specs.declared.tables.Taking.{Taking}
+use Rattle.sq_frames.specs.declared.tables.WalkInputs.{WalkInputs}
 
 -- the greatest number of looks that is counted
 abbrev pub look_limit : ℕ
 look_limit = 2 ^ 63 - 1
 
 -- what is taken of a place
-abbrev pub taken_in : Taking → ℕ → TermValue
+abbrev pub taken_in : WalkInputs → ℕ → TermValue
 taken_in t = taken_given t.config.now.acls t.slots.now t.facts.now t.table.now
 
 -- behind a term that matched, or did not
@@ -37,28 +37,35 @@ position_moved hit p = record p {
 abbrev pub looked_more : Position → Position
 looked_more p = record p { looks = min look_limit (p.looks + 1) }
 
--- there is room for the groups of this configuration, and those that are open follow from each other
+-- there is room for the groups of this configuration, and those that are open follow from each
+-- other
 pub record IsPosition (c : Configuration) (p : Position) : Type 0 where
   pub groups : AreOpen c p.groups.room p.line p.term p.groups.list
-  pub room : (acl : ℕ) → acl < length c.acls → suc (slice_index_or (nestings c.acls) acl 0) ≤ p.groups.room
+  pub room : (acl : ℕ) → acl < length c.acls
+      → suc (slice_index_or (nestings c.acls) acl 0) ≤ p.groups.room
   pub counted : p.looks ≤ look_limit
 
 -- what the rules come to from a place on
 abbrev pub course_at : (ℕ → TermValue) → Configuration → Position → Course
 course_at taken c p = ahead taken c p.line p.term p.groups.list
 
--- From one place to another with so many looks: the rules come to the same, and by as many looks less, whatever is
--- given from now on.
-pub record Goes (taken : ℕ → TermValue) (c : Configuration) (old new : Position) (before after : ℕ) : Type 0 where
+-- From one place to another with so many looks: the rules come to the same, and by as many looks
+-- less, whatever is given from now on.
+pub record Goes (taken : ℕ → TermValue) (c : Configuration) (old new : Position)
+    (before after : ℕ) : Type 0 where
   pub looked : ℕ
   pub counts : after ≡ before + looked
   pub looks : new.looks ≡ min look_limit (old.looks + looked)
-  pub value : (more : ℕ → TermValue) → Extends taken more → (course_at more c new).value ≡ (course_at more c old).value
-  pub leaves_are : (more : ℕ → TermValue) → Extends taken more → leaves c.acls (course_at more c old).walk ≡ looked + leaves c.acls (course_at more c new).walk
+  pub value : (more : ℕ → TermValue) → Extends taken more
+      → (course_at more c new).value ≡ (course_at more c old).value
+  pub leaves_are : (more : ℕ → TermValue) → Extends taken more
+      → leaves c.acls (course_at more c old).walk ≡ looked
+      + leaves c.acls (course_at more c new).walk
 
 -- what is next at a place
 abbrev pub next_of : Configuration → Position → Next
-next_of c p = next_at (lines_on c p.groups.list) (line_on p.line p.groups.list) (term_on p.term p.groups.list)
+next_of c p = next_at (lines_on c p.groups.list) (line_on p.line p.groups.list)
+    (term_on p.term p.groups.list)
 
 -- the places that count what is next can be counted on
 pub record IsSmall (p : Position) : Type 0 where
@@ -76,17 +83,20 @@ pub record IsNext (c : Configuration) (p : Position) (t : Term) : Type 0 where
   pub rule : p.line < length c.rules
 
 -- one step: it leads on, and less is left
-pub record IsStep (taken : ℕ → TermValue) (c : Configuration) (old new : Position) (before after : ℕ) : Type 0 where
+pub record IsStep (taken : ℕ → TermValue) (c : Configuration) (old new : Position)
+    (before after : ℕ) : Type 0 where
   pub goes : Goes taken c old new before after
   pub stands : IsPosition c new
   pub falls : weight_at c new < weight_at c old
 
 -- what the rules come to is known, the place stays, and nothing is looked at
-pub record Stops (taken : ℕ → TermValue) (c : Configuration) (old new : Position) (before after : ℕ) (r : Ran) : Type 0 where
+pub record Stops (taken : ℕ → TermValue) (c : Configuration) (old new : Position) (before after : ℕ)
+    (r : Ran) : Type 0 where
   pub stays : new ≡ old
   pub quiet : after ≡ before
   pub ran : ran_value c.acls r ≡ (course_at taken c old).value
 
 -- the acl that is needed asks a helper, and no value was given for it
 abbrev pub Asks : List Acl → List ℕ → List (Option Given) → Option ℕ → Type 0
-Asks acls slots table need = (acl : ℕ) → need ≡ Some acl → (is_external_at acls acl ≡ true) × (given_at slots table acl ≡ None)
+Asks acls slots table need = (acl : ℕ) → need ≡ Some acl
+    → (is_external_at acls acl ≡ true) × (given_at slots table acl ≡ None)

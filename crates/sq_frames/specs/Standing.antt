@@ -13,7 +13,8 @@ use Rattle.sq_frames.specs.Slots.{externals_on, slots_of}
 use Rattle.sq_frames.specs.declared.answers.Given.{Given}
 use Rattle.sq_frames.specs.declared.positions.Position.{Position}
 
--- the configuration, the values that were given, the place in the rules, and the external acl that is needed
+-- the configuration, the values that were given, the place in the rules, and the external acl that
+-- is needed
 pub record Standing : Type 0 where
   pub config : Configuration
   pub table : List (Option Given)
@@ -36,19 +37,25 @@ taken_of facts f = taken_given f.config.acls (slots_of f.config.acls) facts f.ta
 
 -- what the rules come to over these facts and given values, by direct evaluation
 abbrev pub value_over : List Bool → Configuration → List (Option Given) → Value
-value_over facts c table = rules_from (taken_given c.acls (slots_of c.acls) facts table) c.acls (default_of c.rules) 1 c.rules
+value_over facts c table = rules_from (taken_given c.acls (slots_of c.acls) facts table) c.acls
+    (default_of c.rules) 1 c.rules
 
 abbrev pub value_of : List Bool → Standing → Value
 value_of facts f = value_over facts f.config f.table
 
--- After so many looks, over these facts and given values: the rules come to what they come to from the place on, and
--- the walk has so many leaf acls more than from the place on, whatever is given from now on.
-pub record IsPlaced (facts : List Bool) (c : Configuration) (table : List (Option Given)) (p : Position) (looked : ℕ) : Type 0 where
+-- After so many looks, over these facts and given values: the rules come to what they come to from
+-- the place on, and the walk has so many leaf acls more than from the place on, whatever is given
+-- from now on.
+pub record IsPlaced (facts : List Bool) (c : Configuration) (table : List (Option Given))
+    (p : Position) (looked : ℕ) : Type 0 where
   pub looks : p.looks ≡ min look_limit looked
-  pub value : (more : ℕ → TermValue) → Extends (taken_given c.acls (slots_of c.acls) facts table) more
+  pub value : (more : ℕ → TermValue)
+      → Extends (taken_given c.acls (slots_of c.acls) facts table) more
       → (course_at more c p).value ≡ rules_from more c.acls (default_of c.rules) 1 c.rules
-  pub leaves_are : (more : ℕ → TermValue) → Extends (taken_given c.acls (slots_of c.acls) facts table) more
-      → leaves c.acls (rules_walk more c.acls c.rules) ≡ looked + leaves c.acls (course_at more c p).walk
+  pub leaves_are : (more : ℕ → TermValue)
+      → Extends (taken_given c.acls (slots_of c.acls) facts table) more
+      → leaves c.acls (rules_walk more c.acls c.rules) ≡ looked
+      + leaves c.acls (course_at more c p).walk
 
 -- frames at a place in the rules, over these facts and after so many looks
 abbrev pub IsAt : List Bool → Standing → ℕ → Type 0
@@ -60,7 +67,8 @@ IsOver facts f = (looked : ℕ) × IsAt facts f looked
 
 -- how many leaf acls the walk of the rules has, over the values that were given
 abbrev pub leaves_of : List Bool → Standing → ℕ
-leaves_of facts f = leaves f.config.acls (rules_walk (taken_of facts f) f.config.acls f.config.rules)
+leaves_of facts f = leaves f.config.acls
+    (rules_walk (taken_of facts f) f.config.acls f.config.rules)
 
 -- how many looks were counted
 abbrev pub looks_in : Standing → ℕ

@@ -10,7 +10,7 @@ use crate::answers::{Given, Ran, needed_by};
 use crate::positions::{Position, begin};
 use crate::slots::Slots;
 use crate::stepping::run_on;
-use crate::tables::{Taking, give};
+use crate::tables::{WalkInputs, give};
 use sq_base::{Steps, WantOfMemory};
 use sq_rules::{Config, Facts};
 use std::alloc::Global;
@@ -44,9 +44,20 @@ impl Model for Frames {
 
     ghost Value = { Standing };
 
-    ghost view = { λ f. record { config = arc_value f.slots; table = f.table.items; position = f.position; need = f.need } };
+    ghost view = { λ f. record {
+      config = arc_value f.slots;
+      table = f.table.items;
+      position = f.position;
+      need = f.need;
+    } };
 
-    ghost invariant = { λ f. IsStanding (record { config = arc_value f.slots; table = f.table.items; position = f.position; need = f.need }) };
+    ghost invariant = { λ f. IsStanding
+        (record {
+          config = arc_value f.slots;
+          table = f.table.items;
+          position = f.position;
+          need = f.need;
+        }) };
 }
 
 // Goes on from a place, and comes to another.
@@ -65,9 +76,11 @@ fn run_over<L: Ledger>(
     ensures stands { IsPosition config.now position.new }
     ensures asks { Asks config.now.acls (slots_of config.now.acls) table.now (needed_by result) }
     ensures value { ran_value config.now.acls result ≡ value_over facts.now config.now table.now }
-    ensures at { (n : ℕ) → IsPlaced facts.now config.now table.now position.old n → (k : ℕ) × (steps.new ≡ steps.old + k) × IsPlaced facts.now config.now table.now position.new (n + k) }
+    ensures at { (n : ℕ) → IsPlaced facts.now config.now table.now position.old n
+        → (k : ℕ) × (steps.new ≡ steps.old + k)
+        × IsPlaced facts.now config.now table.now position.new (n + k) }
 {
-    let taking = Taking {
+    let taking = WalkInputs {
         config,
         facts,
         slots,
@@ -82,9 +95,14 @@ fn give_to(slots: &Slots, table: &mut Vec<Option<Given>>, acl: u32, value: Given
     requires external { is_external_at slots.now.acls acl ≡ true }
     requires none { given_at (slots_of slots.now.acls) table.old.items acl ≡ None }
     ensures counted { length table.new.items ≡ length table.old.items }
-    ensures given { (other : ℕ) → is_external_at slots.now.acls other ≡ true → given_at (slots_of slots.now.acls) table.new.items other ≡ (if other == acl then Some value else given_at (slots_of slots.now.acls) table.old.items other) }
+    ensures given { (other : ℕ) → is_external_at slots.now.acls other ≡ true
+        → given_at (slots_of slots.now.acls) table.new.items other
+        ≡ (if other == acl then Some value
+        else given_at (slots_of slots.now.acls) table.old.items other) }
     ensures left { left_in table.old.items ≡ suc (left_in table.new.items) }
-    ensures at { (facts : List Bool) (p : Position) (n : ℕ) → IsPlaced facts slots.now table.old.items p n → IsPlaced facts slots.now table.new.items p n }
+    ensures at { (facts : List Bool) (p : Position) (n : ℕ)
+        → IsPlaced facts slots.now table.old.items p n
+        → IsPlaced facts slots.now table.new.items p n }
 {
     give(slots.as_slice(), table, acl, value);
 }
@@ -92,7 +110,8 @@ fn give_to(slots: &Slots, table: &mut Vec<Option<Given>>, acl: u32, value: Given
 // A table in which nothing was given, and the place before the first rule.
 fn begun(alloc: Global, slots: &Slots) -> Result<(Vec<Option<Given>>, Position), WantOfMemory>
     ensures counted { IfOk result (λ r. length r.0.items ≡ externals_on 0 slots.now.acls) }
-    ensures none { IfOk result (λ r. (acl : ℕ) → given_at (slots_of slots.now.acls) r.0.items acl ≡ None) }
+    ensures none { IfOk result
+        (λ r. (acl : ℕ) → given_at (slots_of slots.now.acls) r.0.items acl ≡ None) }
     ensures stands { IfOk result (λ r. IsPosition slots.now r.1) }
     ensures at { IfOk result (λ r. (facts : List Bool) → IsPlaced facts slots.now r.0.items r.1 0) }
 {
@@ -128,10 +147,12 @@ impl Frames {
         ensures config { self.new.config ≡ self.old.config }
         ensures given { self.new.table ≡ self.old.table }
         ensures need { self.new.need ≡ needed_by result }
-        ensures asks { Asks self.new.config.acls (slots_of self.new.config.acls) self.new.table (needed_by result) }
+        ensures asks { Asks self.new.config.acls (slots_of self.new.config.acls) self.new.table
+            (needed_by result) }
         ensures value { ran_value self.new.config.acls result ≡ value_of facts.now self.new }
         ensures over { IsOver facts.now self.new }
-        ensures at { (looked : ℕ) → IsAt facts.now self.old looked → (k : ℕ) × (steps.new ≡ steps.old + k) × IsAt facts.now self.new (looked + k) }
+        ensures at { (looked : ℕ) → IsAt facts.now self.old looked
+            → (k : ℕ) × (steps.new ≡ steps.old + k) × IsAt facts.now self.new (looked + k) }
     {
         let slots = &self.slots;
         let table = self.table.as_slice();
@@ -155,9 +176,12 @@ impl Frames {
         ensures config { self.new.config ≡ self.old.config }
         ensures need { self.new.need ≡ None }
         ensures looks { looks_in self.new ≡ looks_in self.old }
-        ensures given { (need acl : ℕ) → self.old.need ≡ Some need → is_external_at self.old.config.acls acl ≡ true → given_to self.new acl ≡ (if acl == need then Some value else given_to self.old acl) }
+        ensures given { (need acl : ℕ) → self.old.need ≡ Some need
+            → is_external_at self.old.config.acls acl ≡ true
+            → given_to self.new acl ≡ (if acl == need then Some value else given_to self.old acl) }
         ensures left { left_in self.old.table ≡ suc (left_in self.new.table) }
-        ensures at { (facts : List Bool) (looked : ℕ) → IsAt facts self.old looked → IsAt facts self.new looked }
+        ensures at { (facts : List Bool) (looked : ℕ) → IsAt facts self.old looked
+            → IsAt facts self.new looked }
     {
         if let Some(acl) = self.need {
             give_to(&self.slots, &mut self.table, acl, value);
@@ -168,7 +192,8 @@ impl Frames {
     /// How many looks its runs made; it stays at 2^63 - 1 once it is there. It takes no memory.
     pub fn looks(&self) -> u64
         ensures looks { result ≡ looks_in self.now }
-        ensures few { (facts : List Bool) → IsOver facts self.now → result ≤ leaves_of facts self.now }
+        ensures few { (facts : List Bool) → IsOver facts self.now
+            → result ≤ leaves_of facts self.now }
     {
         self.position.looks
     }

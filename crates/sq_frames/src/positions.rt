@@ -5,7 +5,7 @@ ghost use Rattle.sq_frames.specs.Groups.{first_of, line_on, lines_on, moved, nex
 ghost use Rattle.sq_frames.specs.Positions.{look_limit, looked_more, position_moved, IsPosition};
 
 use crate::looking::{Next, next_of_body, next_of_rules};
-use crate::spots::{Spot, Spots};
+use crate::spots::{GroupSpot, Spots};
 use crate::tables::body_at;
 use sq_base::WantOfMemory;
 use sq_rules::{Config, NESTING_LIMIT};
@@ -25,9 +25,13 @@ pub struct Position {
 
 /// What is next.
 pub fn next(config: &Config, position: &Position) -> Next
-    requires { AreOpen config.now position.now.groups.room position.now.line position.now.term position.now.groups.list }
-    ensures next { result ≡ next_at (lines_on config.now position.now.groups.list) (line_on position.now.line position.now.groups.list) (term_on position.now.term position.now.groups.list) }
-    ensures fits { FitsNext result (line_on position.now.line position.now.groups.list) (term_on position.now.term position.now.groups.list) }
+    requires { AreOpen config.now position.now.groups.room position.now.line position.now.term
+        position.now.groups.list }
+    ensures next { result ≡ next_at (lines_on config.now position.now.groups.list)
+        (line_on position.now.line position.now.groups.list)
+        (term_on position.now.term position.now.groups.list) }
+    ensures fits { FitsNext result (line_on position.now.line position.now.groups.list)
+        (term_on position.now.term position.now.groups.list) }
 {
     match position.groups.first() {
         None => next_of_rules(config.rules(), position.line, position.term),
@@ -36,18 +40,18 @@ pub fn next(config: &Config, position: &Position) -> Next
 }
 
 // The place in a group behind a term that matched, or did not.
-fn moved(spot: Spot, hit: bool) -> Spot
+fn moved(spot: GroupSpot, hit: bool) -> GroupSpot
     requires line { spot.line + 1 < 2 ^ 64 }
     requires term { spot.term + 1 < 2 ^ 64 }
     ensures { result ≡ moved hit spot }
 {
     if hit {
-        Spot {
+        GroupSpot {
             term: spot.term + 1,
             ..spot
         }
     } else {
-        Spot {
+        GroupSpot {
             line: spot.line + 1,
             term: 0,
             ..spot
@@ -56,7 +60,7 @@ fn moved(spot: Spot, hit: bool) -> Spot
 }
 
 // Goes on in the innermost open group.
-fn advance_group(position: &mut Position, spot: Spot, hit: bool)
+fn advance_group(position: &mut Position, spot: GroupSpot, hit: bool)
     requires here { first_of position.old.groups.list ≡ Some spot }
     requires line { spot.line + 1 < 2 ^ 64 }
     requires term { spot.term + 1 < 2 ^ 64 }
@@ -114,7 +118,13 @@ pub fn count(position: &mut Position)
 
 /// The place before the first rule, with room for the groups of a configuration.
 pub fn begin(alloc: Global, config: &Config) -> Result<Position, WantOfMemory>
-    ensures begun { IfOk result (λ p. p ≡ record { line = 0; term = 0; groups = record { room = nesting_limit + 1; list = [] }; looks = 0 }) }
+    ensures begun { IfOk result
+        (λ p. p ≡ record {
+          line = 0;
+          term = 0;
+          groups = record { room = nesting_limit + 1; list = [] };
+          looks = 0;
+        }) }
     ensures stands { IfOk result (λ p. IsPosition config.now p) }
 {
     config.facts();

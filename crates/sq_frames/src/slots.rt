@@ -39,7 +39,8 @@ impl Model for Slots {
 
     ghost view = { λ s. arc_value s.config };
 
-    ghost invariant = { λ s. (s.slots.items ≡ slots_of (arc_value s.config).acls) × (s.count ≡ externals_on 0 (arc_value s.config).acls) };
+    ghost invariant = { λ s. (s.slots.items ≡ slots_of (arc_value s.config).acls)
+        × (s.count ≡ externals_on 0 (arc_value s.config).acls) };
 }
 
 // Whether an acl asks a helper.

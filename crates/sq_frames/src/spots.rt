@@ -9,7 +9,7 @@ use std::marker::Model;
 /// A group that is looked at: its acl, whether `!` stands before the term that named it, and which of its
 /// terms is next, by its line and its place in the line.
 #[derive(Clone, Copy)]
-pub struct Spot {
+pub struct GroupSpot {
     pub acl: u32,
     pub negated: bool,
     pub line: usize,
@@ -19,7 +19,7 @@ pub struct Spot {
 /// Room for open groups, and those that are open, the innermost first.
 #[derive(Drop)]
 pub struct Spots {
-    spots: Vec<Spot>,
+    spots: Vec<GroupSpot>,
     free: usize,
 }
 
@@ -39,7 +39,7 @@ impl Spots {
     pub fn new(alloc: Global, room: usize) -> Result<Spots, WantOfMemory>
         ensures { IfOk result (λ s. s ≡ record { room = room; list = [] }) }
     {
-        let closed = Spot {
+        let closed = GroupSpot {
             acl: 0,
             negated: false,
             line: 0,
@@ -51,7 +51,7 @@ impl Spots {
     }
 
     /// The innermost group, if one is open.
-    pub fn first(&self) -> Option<Spot>
+    pub fn first(&self) -> Option<GroupSpot>
         ensures { result ≡ first_of self.now.list }
     {
         if self.free < self.spots.len() {
@@ -62,7 +62,7 @@ impl Spots {
     }
 
     /// A group opens inside of the others. It asks that there is room.
-    pub fn open(&mut self, spot: Spot)
+    pub fn open(&mut self, spot: GroupSpot)
         requires { length self.old.list < self.old.room }
         ensures { self.new ≡ record { room = self.old.room; list = spot ∷ self.old.list } }
     {
@@ -71,7 +71,7 @@ impl Spots {
     }
 
     /// Another place in the innermost group. It asks that one is open.
-    pub fn set(&mut self, spot: Spot)
+    pub fn set(&mut self, spot: GroupSpot)
         requires { 0 < length self.old.list }
         ensures { self.new ≡ record { room = self.old.room; list = spot ∷ drop 1 self.old.list } }
     {

@@ -22,8 +22,8 @@ ghost use Rattle.sq_frames.specs.declared.looking.Next.TheVariants as next;
 use crate::answers::{Given, Place, Ran};
 use crate::looking::Next;
 use crate::positions::{Position, advance, count, next};
-use crate::spots::Spot;
-use crate::tables::{Taking, body_at, given_at};
+use crate::spots::GroupSpot;
+use crate::tables::{WalkInputs, body_at, given_at};
 use sq_base::{Cause, Steps};
 use sq_rules::{Body, Config, Rule, Term};
 use std::sync::ledger::Ledger;
@@ -36,11 +36,12 @@ fn turned(negated: bool, hit: bool) -> bool
 }
 
 // Looks at the leaf acl that is next.
-fn look<L: Ledger>(taking: &Taking, term: Term, position: &mut Position, steps: &mut Steps<L>)
+fn look<L: Ledger>(taking: &WalkInputs, term: Term, position: &mut Position, steps: &mut Steps<L>)
     requires facts { length taking.now.facts.now ≡ length taking.now.config.now.acls }
     requires next { IsNext taking.now.config.now position.old term }
     requires leaf { is_leaf_at taking.now.config.now.acls term.acl ≡ true }
-    ensures { IsStep (taken_in taking.now) taking.now.config.now position.old position.new steps.old steps.new }
+    ensures { IsStep (taken_in taking.now) taking.now.config.now position.old position.new steps.old
+        steps.new }
 {
     let fact = taking.facts.look(term.acl, steps);
     count(position);
@@ -48,22 +49,27 @@ fn look<L: Ledger>(taking: &Taking, term: Term, position: &mut Position, steps: 
 }
 
 // Goes on behind the external acl that is next, for which a match was given, or a mismatch.
-fn go_on(taking: &Taking, term: Term, position: &mut Position, hit: bool)
+fn go_on(taking: &WalkInputs, term: Term, position: &mut Position, hit: bool)
     requires next { IsNext taking.now.config.now position.old term }
     requires external { is_external_at taking.now.config.now.acls term.acl ≡ true }
-    requires given { given_at taking.now.slots.now taking.now.table.now term.acl ≡ Some (if hit then given.Hit else given.Miss) }
-    ensures { (n : ℕ) → IsStep (taken_in taking.now) taking.now.config.now position.old position.new n n }
+    requires given { given_at taking.now.slots.now taking.now.table.now term.acl
+        ≡ Some (if hit then given.Hit else given.Miss) }
+    ensures { (n : ℕ) → IsStep (taken_in taking.now) taking.now.config.now position.old position.new
+        n n }
 {
     advance(position, turned(term.negated, hit));
 }
 
 // Stops at the external acl that is next, for which a fault was given.
-fn fault(taking: &Taking, term: Term, position: &Position, cause: Cause) -> Ran
+fn fault(taking: &WalkInputs, term: Term, position: &Position, cause: Cause) -> Ran
     requires next { IsNext taking.now.config.now position.now term }
     requires external { is_external_at taking.now.config.now.acls term.acl ≡ true }
-    requires given { given_at taking.now.slots.now taking.now.table.now term.acl ≡ Some (given.Fault cause) }
-    ensures ran { ran_value taking.now.config.now.acls result ≡ (course_at (taken_in taking.now) taking.now.config.now position.now).value }
-    ensures asks { (slots : List ℕ) (table : List (Option Given)) → Asks taking.now.config.now.acls slots table (needed_by result) }
+    requires given { given_at taking.now.slots.now taking.now.table.now term.acl
+        ≡ Some (given.Fault cause) }
+    ensures ran { ran_value taking.now.config.now.acls result
+        ≡ (course_at (taken_in taking.now) taking.now.config.now position.now).value }
+    ensures asks { (slots : List ℕ) (table : List (Option Given))
+        → Asks taking.now.config.now.acls slots table (needed_by result) }
 {
     Ran::Verdict {
         allow: false,
@@ -76,23 +82,29 @@ fn fault(taking: &Taking, term: Term, position: &Position, cause: Cause) -> Ran
 }
 
 // Stops at the external acl that is next, for which nothing was given.
-fn need(taking: &Taking, term: Term, position: &Position) -> Ran
+fn need(taking: &WalkInputs, term: Term, position: &Position) -> Ran
     requires next { IsNext taking.now.config.now position.now term }
     requires external { is_external_at taking.now.config.now.acls term.acl ≡ true }
     requires none { given_at taking.now.slots.now taking.now.table.now term.acl ≡ None }
-    ensures ran { ran_value taking.now.config.now.acls result ≡ (course_at (taken_in taking.now) taking.now.config.now position.now).value }
-    ensures asks { Asks taking.now.config.now.acls taking.now.slots.now taking.now.table.now (needed_by result) }
+    ensures ran { ran_value taking.now.config.now.acls result
+        ≡ (course_at (taken_in taking.now) taking.now.config.now position.now).value }
+    ensures asks { Asks taking.now.config.now.acls taking.now.slots.now taking.now.table.now
+        (needed_by result) }
 {
     Ran::Need(term.acl)
 }
 
 // Takes the value that was given for the external acl that is next, or stops.
-fn ask(taking: &Taking, term: Term, position: &mut Position) -> Option<Ran>
+fn ask(taking: &WalkInputs, term: Term, position: &mut Position) -> Option<Ran>
     requires next { IsNext taking.now.config.now position.old term }
     requires external { is_external_at taking.now.config.now.acls term.acl ≡ true }
-    ensures goes { (n : ℕ) → IfNone result (IsStep (taken_in taking.now) taking.now.config.now position.old position.new n n) }
-    ensures stops { (n : ℕ) → IfSome result (λ r. Stops (taken_in taking.now) taking.now.config.now position.old position.new n n r) }
-    ensures asks { IfSome result (λ r. Asks taking.now.config.now.acls taking.now.slots.now taking.now.table.now (needed_by r)) }
+    ensures goes { (n : ℕ) → IfNone result
+        (IsStep (taken_in taking.now) taking.now.config.now position.old position.new n n) }
+    ensures stops { (n : ℕ) → IfSome result
+        (λ r. Stops (taken_in taking.now) taking.now.config.now position.old position.new n n r) }
+    ensures asks { IfSome result
+        (λ r. Asks taking.now.config.now.acls taking.now.slots.now taking.now.table.now
+        (needed_by r)) }
 {
     match given_at(taking.slots, taking.table, term.acl) {
         None => Some(need(taking, term, position)),
@@ -112,9 +124,10 @@ fn ask(taking: &Taking, term: Term, position: &mut Position) -> Option<Ran>
 fn enter(term: Term, position: &mut Position, config: &Config)
     requires next { IsNext config.now position.old term }
     requires group { is_group_at config.now.acls term.acl ≡ true }
-    ensures { (taken : ℕ → TermValue) (n : ℕ) → IsStep taken config.now position.old position.new n n }
+    ensures { (taken : ℕ → TermValue) (n : ℕ)
+        → IsStep taken config.now position.old position.new n n }
 {
-    let spot = Spot {
+    let spot = GroupSpot {
         acl: term.acl,
         negated: term.negated,
         line: 0,
@@ -125,16 +138,22 @@ fn enter(term: Term, position: &mut Position, config: &Config)
 
 // Looks at the term that is next.
 fn take<L: Ledger>(
-    taking: &Taking,
+    taking: &WalkInputs,
     term: Term,
     position: &mut Position,
     steps: &mut Steps<L>,
 ) -> Option<Ran>
     requires facts { length taking.now.facts.now ≡ length taking.now.config.now.acls }
     requires next { IsNext taking.now.config.now position.old term }
-    ensures goes { IfNone result (IsStep (taken_in taking.now) taking.now.config.now position.old position.new steps.old steps.new) }
-    ensures stops { IfSome result (λ r. Stops (taken_in taking.now) taking.now.config.now position.old position.new steps.old steps.new r) }
-    ensures asks { IfSome result (λ r. Asks taking.now.config.now.acls taking.now.slots.now taking.now.table.now (needed_by r)) }
+    ensures goes { IfNone result
+        (IsStep (taken_in taking.now) taking.now.config.now position.old position.new steps.old
+        steps.new) }
+    ensures stops { IfSome result
+        (λ r. Stops (taken_in taking.now) taking.now.config.now position.old position.new steps.old
+        steps.new r) }
+    ensures asks { IfSome result
+        (λ r. Asks taking.now.config.now.acls taking.now.slots.now taking.now.table.now
+        (needed_by r)) }
 {
     match body_at(taking.config, term.acl) {
         Body::Leaf(_) => {
@@ -158,7 +177,8 @@ fn take<L: Ledger>(
 
 // What is decided where no rule matches.
 fn default_of(rules: &[Rule]) -> Ran
-    ensures default { (acls : List Acl) → ran_value acls result ≡ value.Verdict (default_of rules.now) }
+    ensures default { (acls : List Acl)
+        → ran_value acls result ≡ value.Verdict (default_of rules.now) }
     ensures none { needed_by result ≡ None }
 {
     match rules.split_last() {
@@ -177,7 +197,8 @@ fn default_of(rules: &[Rule]) -> Ran
 fn rule_at(rules: &[Rule], line: usize) -> Ran
     requires here { line < length rules.now }
     requires few { length rules.now ≤ rule_limit }
-    ensures rule { (r : Rule) → slice_get rules.now line ≡ Some r → result ≡ ran.Verdict r.allow (place.Rule (line + 1)) }
+    ensures rule { (r : Rule) → slice_get rules.now line ≡ Some r
+        → result ≡ ran.Verdict r.allow (place.Rule (line + 1)) }
     ensures none { needed_by result ≡ None }
 {
     Ran::Verdict {
@@ -190,8 +211,10 @@ fn rule_at(rules: &[Rule], line: usize) -> Ran
 fn held(config: &Config, position: &Position) -> Ran
     requires open { position.now.groups.list ≡ [] }
     requires next { next_of config.now position.now ≡ next.Held }
-    ensures ran { (taken : ℕ → TermValue) → ran_value config.now.acls result ≡ (course_at taken config.now position.now).value }
-    ensures asks { (slots : List ℕ) (table : List (Option Given)) → Asks config.now.acls slots table (needed_by result) }
+    ensures ran { (taken : ℕ → TermValue)
+        → ran_value config.now.acls result ≡ (course_at taken config.now position.now).value }
+    ensures asks { (slots : List ℕ) (table : List (Option Given))
+        → Asks config.now.acls slots table (needed_by result) }
 {
     rule_at(config.rules(), position.line)
 }
@@ -200,8 +223,10 @@ fn held(config: &Config, position: &Position) -> Ran
 fn failed(config: &Config, position: &Position) -> Ran
     requires open { position.now.groups.list ≡ [] }
     requires next { next_of config.now position.now ≡ next.Failed }
-    ensures ran { (taken : ℕ → TermValue) → ran_value config.now.acls result ≡ (course_at taken config.now position.now).value }
-    ensures asks { (slots : List ℕ) (table : List (Option Given)) → Asks config.now.acls slots table (needed_by result) }
+    ensures ran { (taken : ℕ → TermValue)
+        → ran_value config.now.acls result ≡ (course_at taken config.now position.now).value }
+    ensures asks { (slots : List ℕ) (table : List (Option Given))
+        → Asks config.now.acls slots table (needed_by result) }
 {
     default_of(config.rules())
 }
@@ -210,8 +235,10 @@ fn failed(config: &Config, position: &Position) -> Ran
 fn decide(config: &Config, position: &Position, hit: bool) -> Ran
     requires open { position.now.groups.list ≡ [] }
     requires next { next_of config.now position.now ≡ (if hit then next.Held else next.Failed) }
-    ensures ran { (taken : ℕ → TermValue) → ran_value config.now.acls result ≡ (course_at taken config.now position.now).value }
-    ensures asks { (slots : List ℕ) (table : List (Option Given)) → Asks config.now.acls slots table (needed_by result) }
+    ensures ran { (taken : ℕ → TermValue)
+        → ran_value config.now.acls result ≡ (course_at taken config.now position.now).value }
+    ensures asks { (slots : List ℕ) (table : List (Option Given))
+        → Asks config.now.acls slots table (needed_by result) }
 {
     if hit {
         held(config, position)
@@ -221,12 +248,13 @@ fn decide(config: &Config, position: &Position, hit: bool) -> Ran
 }
 
 // Closes the innermost group, a line of which has held, or all of which have failed.
-fn leave(config: &Config, spot: Spot, position: &mut Position, hit: bool)
+fn leave(config: &Config, spot: GroupSpot, position: &mut Position, hit: bool)
     requires config { IsConfiguration config.now }
     requires position { IsPosition config.now position.old }
     requires here { first_of position.old.groups.list ≡ Some spot }
     requires next { next_of config.now position.old ≡ (if hit then next.Held else next.Failed) }
-    ensures { (taken : ℕ → TermValue) (n : ℕ) → IsStep taken config.now position.old position.new n n }
+    ensures { (taken : ℕ → TermValue) (n : ℕ)
+        → IsStep taken config.now position.old position.new n n }
 {
     position.groups.close();
     advance(position, turned(spot.negated, hit));
@@ -237,9 +265,12 @@ fn end(config: &Config, position: &mut Position, hit: bool) -> Option<Ran>
     requires config { IsConfiguration config.now }
     requires position { IsPosition config.now position.old }
     requires next { next_of config.now position.old ≡ (if hit then next.Held else next.Failed) }
-    ensures goes { (taken : ℕ → TermValue) (n : ℕ) → IfNone result (IsStep taken config.now position.old position.new n n) }
-    ensures stops { (taken : ℕ → TermValue) (n : ℕ) → IfSome result (λ r. Stops taken config.now position.old position.new n n r) }
-    ensures asks { (slots : List ℕ) (table : List (Option Given)) → IfSome result (λ r. Asks config.now.acls slots table (needed_by r)) }
+    ensures goes { (taken : ℕ → TermValue) (n : ℕ)
+        → IfNone result (IsStep taken config.now position.old position.new n n) }
+    ensures stops { (taken : ℕ → TermValue) (n : ℕ)
+        → IfSome result (λ r. Stops taken config.now position.old position.new n n r) }
+    ensures asks { (slots : List ℕ) (table : List (Option Given))
+        → IfSome result (λ r. Asks config.now.acls slots table (needed_by r)) }
 {
     match position.groups.first() {
         None => Some(decide(config, position, hit)),
@@ -251,12 +282,22 @@ fn end(config: &Config, position: &mut Position, hit: bool) -> Option<Ran>
 }
 
 // One step.
-fn step<L: Ledger>(taking: &Taking, position: &mut Position, steps: &mut Steps<L>) -> Option<Ran>
+fn step<L: Ledger>(
+    taking: &WalkInputs,
+    position: &mut Position,
+    steps: &mut Steps<L>,
+) -> Option<Ran>
     requires facts { length taking.now.facts.now ≡ length taking.now.config.now.acls }
     requires position { IsPosition taking.now.config.now position.old }
-    ensures goes { IfNone result (IsStep (taken_in taking.now) taking.now.config.now position.old position.new steps.old steps.new) }
-    ensures stops { IfSome result (λ r. Stops (taken_in taking.now) taking.now.config.now position.old position.new steps.old steps.new r) }
-    ensures asks { IfSome result (λ r. Asks taking.now.config.now.acls taking.now.slots.now taking.now.table.now (needed_by r)) }
+    ensures goes { IfNone result
+        (IsStep (taken_in taking.now) taking.now.config.now position.old position.new steps.old
+        steps.new) }
+    ensures stops { IfSome result
+        (λ r. Stops (taken_in taking.now) taking.now.config.now position.old position.new steps.old
+        steps.new r) }
+    ensures asks { IfSome result
+        (λ r. Asks taking.now.config.now.acls taking.now.slots.now taking.now.table.now
+        (needed_by r)) }
 {
     taking.config.facts();
     match next(taking.config, position) {
@@ -267,13 +308,16 @@ fn step<L: Ledger>(taking: &Taking, position: &mut Position, steps: &mut Steps<L
 }
 
 /// Steps up to a verdict, or to an external acl for which no value was given.
-pub fn run_on<L: Ledger>(taking: &Taking, position: &mut Position, steps: &mut Steps<L>) -> Ran
+pub fn run_on<L: Ledger>(taking: &WalkInputs, position: &mut Position, steps: &mut Steps<L>) -> Ran
     requires facts { length taking.now.facts.now ≡ length taking.now.config.now.acls }
     requires position { IsPosition taking.now.config.now position.old }
-    ensures goes { Goes (taken_in taking.now) taking.now.config.now position.old position.new steps.old steps.new }
+    ensures goes { Goes (taken_in taking.now) taking.now.config.now position.old position.new
+        steps.old steps.new }
     ensures stands { IsPosition taking.now.config.now position.new }
-    ensures ran { ran_value taking.now.config.now.acls result ≡ (course_at (taken_in taking.now) taking.now.config.now position.new).value }
-    ensures asks { Asks taking.now.config.now.acls taking.now.slots.now taking.now.table.now (needed_by result) }
+    ensures ran { ran_value taking.now.config.now.acls result
+        ≡ (course_at (taken_in taking.now) taking.now.config.now position.new).value }
+    ensures asks { Asks taking.now.config.now.acls taking.now.slots.now taking.now.table.now
+        (needed_by result) }
 {
     'steps: loop {
         if let Some(ran) = step(taking, position, steps) {

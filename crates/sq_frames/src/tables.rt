@@ -12,7 +12,7 @@ use sq_rules::{Body, Config, Facts};
 /// A configuration, the facts of a check over it, and the values that were given for its external acls, each in
 /// its slot.
 #[derive(Drop)]
-pub struct Taking<'a> {
+pub struct WalkInputs<'a> {
     pub config: &'a Config,
     pub facts: &'a Facts,
     pub slots: &'a [u32],

@@ -19,9 +19,11 @@ above b le = grind (arith, nat_tests)
 
 -- the set of bytes is the test of the definition
 same_test : (b : ℕ) → should_percent_encode ESCAPES b ≡ is_escaped b
-same_test b = ⊎_elim (λ under. agree_below_at (should_percent_encode ESCAPES) is_escaped 128 b below under) (λ over. above b over) (cases_lt b 128)
+same_test b = ⊎_elim (λ under. agree_below_at (should_percent_encode ESCAPES) is_escaped 128 b below under)
+    (λ over. above b over) (cases_lt b 128)
 
 -- what is written is the escaped text
 pub encodes : (bytes : List ℕ) → percent_encode ESCAPES bytes ≡ escaped bytes
 unfolding percent_encode escaped
-encodes bytes = ap (λ f. flat_map f bytes) (fun_ext (λ b. ap (λ t. if t then percent_encode_byte b else b ∷ []) (same_test b)))
+encodes bytes = ap (λ f. flat_map f bytes)
+    (fun_ext (λ b. ap (λ t. if t then percent_encode_byte b else b ∷ []) (same_test b)))

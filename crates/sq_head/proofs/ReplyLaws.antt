@@ -22,8 +22,10 @@ pub no_head : (head : List ℕ) (h : ResponseHead) → HasMoreThan 128 head → 
 no_head head h more is = omega (arith, more h is.whole, is.few)
 
 -- the parts that were copied are those of the head
-pub read_is : (head : List ℕ) (headers : List HeaderSpan) (s : ResponseSpans) (reason : List ℕ) (fs : List Field) → CoversHead head headers s → length headers ≤ 128
-    → length head ≤ most_bytes → reason ≡ span_bytes head s.reason → map field_pair fs ≡ map (header_bytes head) (take s.headers headers)
+pub read_is : (head : List ℕ) (headers : List HeaderSpan) (s : ResponseSpans) (reason : List ℕ) (fs : List Field)
+    → CoversHead head headers s → length headers ≤ 128
+    → length head ≤ most_bytes → reason ≡ span_bytes head s.reason
+    → map field_pair fs ≡ map (header_bytes head) (take s.headers headers)
     → HasReply head (record { minor = s.version; status = s.code; reason = reason; fields = fs })
 read_is head headers s reason fs at room small r e =
     let h = at.0 in

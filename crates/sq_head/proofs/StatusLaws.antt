@@ -8,7 +8,8 @@ use Rattle.sq_head.specs.declared.own.Own.{Own}
 use Rattle.sq_head.specs.declared.own.Own.TheVariants.{BadRequest, HeadTooLarge, Inner, Stopped, NoMemory, NotImplemented, BadGateway, TooManyConns}
 
 -- a code, a space and a phrase are put
-pub phrase_put : (status : ℕ) (to digits front back bytes phrase : List ℕ) → digits ≡ code_digits status → front ≡ to ++ digits → back ≡ front ++ 32 ∷ []
+pub phrase_put : (status : ℕ) (to digits front back bytes phrase : List ℕ) → digits ≡ code_digits status
+    → front ≡ to ++ digits → back ≡ front ++ 32 ∷ []
     → bytes ≡ phrase → Some phrase ≡ reason_phrase status → back ++ bytes ≡ to ++ status_words status
 unfolding status_words
 phrase_put status to digits front back bytes phrase d f b p has =
@@ -16,7 +17,8 @@ phrase_put status to digits front back bytes phrase d f b p has =
     parts ∙ ap (λ o. to ++ (code_digits status ++ 32 ∷ unwrap_or o [])) has
 
 -- a code that has no phrase, and a space
-pub bare_put : (status : ℕ) (to digits front back : List ℕ) → digits ≡ code_digits status → front ≡ to ++ digits → back ≡ front ++ 32 ∷ []
+pub bare_put : (status : ℕ) (to digits front back : List ℕ) → digits ≡ code_digits status → front ≡ to ++ digits
+    → back ≡ front ++ 32 ∷ []
     → None ≡ reason_phrase status → back ≡ to ++ status_words status
 unfolding status_words
 bare_put status to digits front back d f b none =

@@ -14,7 +14,8 @@ abbrev pub has_name : List ℕ → Field → Bool
 has_name name f = str_eq_ignore_ascii_case f.name name
 
 -- what passes, from the first that does
-filter_first : {X : Type 0} (p : X → Bool) (xs : List X) (i : ℕ) (d : X) → i < length xs → p (get_or xs i d) ≡ true → ((k : ℕ) → k < i → p (get_or xs k d) ≡ false)
+filter_first : {X : Type 0} (p : X → Bool) (xs : List X) (i : ℕ) (d : X) → i < length xs → p (get_or xs i d) ≡ true
+    → ((k : ℕ) → k < i → p (get_or xs k d) ≡ false)
     → filter p xs ≡ get_or xs i d ∷ filter p (drop (i + 1) xs)
 filter_first p [] i d below here before = absurd (omega arith)
 filter_first p (x ∷ xs) zero d below here before = rw here refl
@@ -39,7 +40,8 @@ abbrev pub behind : List Field → ℕ → List Field
 behind fields i = take (length fields - (i + 1)) (drop (i + 1) fields)
 
 -- without a place of the name there is no value
-pub values_none : (name : List ℕ) (fields : List Field) → position (has_name name) fields ≡ None → field_values name fields ≡ []
+pub values_none : (name : List ℕ) (fields : List Field) → position (has_name name) fields ≡ None
+    → field_values name fields ≡ []
 values_none name fields e = ap (map (λ f. f.value)) (filter_none (has_name name) fields (no_place _ _ e))
 
 -- at the first place of the name stands the first value
@@ -49,25 +51,37 @@ values_first name fields i d e =
     let at = position-Some (has_name name) fields i d e in
     ap (map (λ f. f.value)) (filter_first (has_name name) fields i d at.0 at.1 at.2)
 
-later_none : (name : List ℕ) (rest : List Field) (o : Option ℕ) → position (has_name name) rest ≡ o → is_some o ≡ false → field_values name rest ≡ []
+later_none : (name : List ℕ) (rest : List Field) (o : Option ℕ) → position (has_name name) rest ≡ o → is_some o ≡ false
+    → field_values name rest ≡ []
 later_none name rest None at none = values_none name rest at
 later_none name rest (Some j) at none = cc
 
-later_some : (name : List ℕ) (rest : List Field) (o : Option ℕ) → position (has_name name) rest ≡ o → is_some o ≡ true → 1 ≤ length (field_values name rest)
+later_some : (name : List ℕ) (rest : List Field) (o : Option ℕ) → position (has_name name) rest ≡ o → is_some o ≡ true
+    → 1 ≤ length (field_values name rest)
 later_some name rest None at some = cc
 later_some name rest (Some j) at some =
     omega (arith, ap length (values_first name rest j (record { name = []; value = [] }) at))
 
 -- one place of the name, and none behind it
-pub values_one : (name : List ℕ) (fields : List Field) (i : ℕ) (later : Option ℕ) (f : Field) {v : List ℕ} → position (has_name name) fields ≡ Some i
-    → position (has_name name) (behind fields i) ≡ later → is_some later ≡ false → v ≡ (get_or fields i f).value → field_values name fields ≡ v ∷ []
+pub values_one : (name : List ℕ) (fields : List Field) (i : ℕ) (later : Option ℕ) (f : Field) {v : List ℕ}
+    → position (has_name name) fields ≡ Some i
+    → position (has_name name) (behind fields i) ≡ later → is_some later ≡ false → v ≡ (get_or fields i f).value
+    → field_values name fields ≡ v ∷ []
 values_one name fields i later f {v} at next none is =
-    let rest : field_values name (drop (i + 1) fields) ≡ [] = ap (field_values name) (sym (take_rest fields (i + 1))) ∙ later_none name (behind fields i) later next none in
+    let rest : field_values name (drop (i + 1) fields) ≡ [] = ap (field_values name) (sym (take_rest fields (i + 1)))
+    ∙ later_none name (behind fields i) later next none in
     values_first name fields i f at ∙ ap (λ vs. (get_or fields i f).value ∷ vs) rest ∙ ap (λ w. w ∷ []) (sym is)
 
 -- one place of the name, and another behind it
-pub values_many : (name : List ℕ) (fields : List Field) (i : ℕ) (later : Option ℕ) → position (has_name name) fields ≡ Some i
+pub values_many : (name : List ℕ) (fields : List Field) (i : ℕ) (later : Option ℕ)
+    → position (has_name name) fields ≡ Some i
     → position (has_name name) (behind fields i) ≡ later → is_some later ≡ true → 2 ≤ length (field_values name fields)
 values_many name fields i later at next some =
-    let same : field_values name (drop (i + 1) fields) ≡ field_values name (behind fields i) = ap (field_values name) (sym (take_rest fields (i + 1))) in
-    omega (arith, ap length (values_first name fields i (record { name = []; value = [] }) at), ap length same, later_some name (behind fields i) later next some)
+    let same : field_values name (drop (i + 1) fields) ≡ field_values name (behind fields i) =
+    ap (field_values name) (sym (take_rest fields (i + 1))) in
+    omega (
+      arith,
+      ap length (values_first name fields i (record { name = []; value = [] }) at),
+      ap length same,
+      later_some name (behind fields i) later next some,
+    )

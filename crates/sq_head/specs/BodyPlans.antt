@@ -1,5 +1,5 @@
--- How the end of a body is found: RFC 9112 section 6.3, where everything that two recipients could read
--- differently is refused.
+-- How the end of a body is found: RFC 9112 section 6.3, where everything that two recipients could
+-- read differently is refused.
 use Rattle.std.specs.Prelude.{ℕ, List, [], ◌∷◌, length, Bool, ◌&&◌, ◌||◌, ◌==◌, nat_le, nat_lt, if◌then◌else◌, codes, bytes_eq, Some, None, Ok, Err}
 use Rattle.std.specs.Char.{is_ascii_digit}
 use Rattle.std.specs.List.{list_all}
@@ -19,7 +19,8 @@ use Rattle.sq_head.specs.declared.replies.ReplyHead.{ReplyHead}
 -- the number of 1 to 19 digits, at most 2^63 - 1
 unfoldable pub length_of : List ℕ → Option ℕ
 length_of value =
-    if nat_le 1 (length value) && nat_le (length value) 19 && list_all is_ascii_digit value && nat_lt (read_on 0 value) number_limit
+    if nat_le 1 (length value) && nat_le (length value) 19 && list_all is_ascii_digit value
+    && nat_lt (read_on 0 value) number_limit
     then Some (read_on 0 value) else None
 
 abbrev pub by_length : Option ℕ → Result BodyPlan BadBody
@@ -33,7 +34,8 @@ length_plan value (other ∷ others) = Err BadLength
 
 -- one Transfer-Encoding with the one value `chunked`
 abbrev pub chunked_plan : List ℕ → List (List ℕ) → Result BodyPlan BadBody
-chunked_plan value [] = if str_eq_ignore_ascii_case value (codes "chunked") then Ok plan.Chunked else Err BadCoding
+chunked_plan value [] = if str_eq_ignore_ascii_case value (codes "chunked") then Ok plan.Chunked
+    else Err BadCoding
 chunked_plan value (other ∷ others) = Err BadCoding
 
 -- which HTTP/1.0 does not know
@@ -49,11 +51,13 @@ plan_by otherwise minor (c ∷ cs) (l ∷ ls) = Err BothLengths
 
 abbrev pub fields_plan : BodyPlan → ℕ → List Field → Result BodyPlan BadBody
 fields_plan otherwise minor fields =
-    plan_by otherwise minor (field_values (codes "transfer-encoding") fields) (field_values (codes "content-length") fields)
+    plan_by otherwise minor (field_values (codes "transfer-encoding") fields)
+    (field_values (codes "content-length") fields)
 
 -- the plan of a request's body: CONNECT has none
 unfoldable pub request_plan : HttpRequest → Result BodyPlan BadBody
-request_plan r = if bytes_eq r.method (codes "CONNECT") then Ok plan.None else fields_plan plan.None r.minor r.fields
+request_plan r = if bytes_eq r.method (codes "CONNECT") then Ok plan.None
+    else fields_plan plan.None r.minor r.fields
 
 -- a reply of this status has no body: 1xx, 204 and 304
 abbrev pub is_bodiless : ℕ → Bool
@@ -61,4 +65,5 @@ is_bodiless status = (nat_le 100 status && nat_lt status 200) || status == 204 |
 
 -- the plan of a reply's body: up to the close where no field says otherwise
 unfoldable pub reply_plan : List ℕ → ReplyHead → Result BodyPlan BadBody
-reply_plan method h = if bytes_eq method (codes "HEAD") || is_bodiless h.status then Ok plan.None else fields_plan plan.ToClose h.minor h.fields
+reply_plan method h = if bytes_eq method (codes "HEAD") || is_bodiless h.status then Ok plan.None
+    else fields_plan plan.ToClose h.minor h.fields

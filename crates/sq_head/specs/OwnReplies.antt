@@ -1,4 +1,5 @@
--- The replies of the proxy's own: RFC 9112 sections 2.1 and 4, RFC 9110 sections 10.2.2 (Location) and 15.
+-- The replies of the proxy's own: RFC 9112 sections 2.1 and 4, RFC 9110 sections 10.2.2 (Location)
+-- and 15.
 use Rattle.std.specs.Prelude.{ℕ, ◌+◌, List, [], ◌∷◌, ◌++◌, length, Bool, true, if◌then◌else◌, codes, decimal}
 use Rattle.std.specs.List.{flat_map}
 use Rattle.sq_base.specs.Bytes.{lf, space}
@@ -38,7 +39,9 @@ own_body no_body words = if no_body then [] else words ++ lf ∷ []
 -- a reply with this status, whose body says these words in a line
 abbrev pub own_reply : List ℕ → List ℕ → Bool → Bool → List ℕ
 own_reply status words no_body closes =
-    codes "HTTP/1.1 " ++ status ++ crlf ++ codes "Content-Type: text/plain" ++ crlf ++ codes "Content-Length: " ++ decimal (length words + 1) ++ crlf ++ closing_line closes ++ crlf ++ own_body no_body words
+    codes "HTTP/1.1 " ++ status ++ crlf ++ codes "Content-Type: text/plain" ++ crlf
+    ++ codes "Content-Length: " ++ decimal (length words + 1) ++ crlf ++ closing_line closes ++ crlf
+    ++ own_body no_body words
 
 -- such a reply closes the connection
 unfoldable pub error_text : Own → Bool → List ℕ
@@ -47,7 +50,8 @@ error_text own no_body = own_reply (own_status own) (own_words own) no_body true
 -- the reply that sends a client elsewhere, behind which the connection closes
 unfoldable pub redirect_text : ℕ → List ℕ → List ℕ
 redirect_text status url =
-    codes "HTTP/1.1 " ++ status_words status ++ crlf ++ codes "Location: " ++ url ++ crlf ++ codes "Content-Length: 0" ++ crlf ++ closing_line true ++ crlf
+    codes "HTTP/1.1 " ++ status_words status ++ crlf ++ codes "Location: " ++ url ++ crlf
+    ++ codes "Content-Length: 0" ++ crlf ++ closing_line true ++ crlf
 
 -- `denied rule 1`, `denied default` and the like
 abbrev pub outcome_text : Outcome → List ℕ

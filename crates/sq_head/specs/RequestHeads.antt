@@ -1,5 +1,5 @@
--- The head of a request as it goes to the origin: RFC 9112 section 3.2.1 (origin-form), RFC 9110 sections
--- 7.2 (Host) and 7.6.3 (Via).
+-- The head of a request as it goes to the origin: RFC 9112 section 3.2.1 (origin-form), RFC 9110
+-- sections 7.2 (Host) and 7.6.3 (Via).
 use Rattle.std.specs.Prelude.{ℕ, List, [], ◌∷◌, ◌++◌, Bool, true, false, ◌==◌, if◌then◌else◌, codes, decimal, bytes_eq, drop}
 use Rattle.std.specs.List.{after_first, take_while}
 use Rattle.sq_base.specs.Addresses.{Address, address_text, is_colon}
@@ -9,7 +9,7 @@ use Rattle.sq_base.specs.Targets.{in_authority}
 use Rattle.sq_base.specs.declared.plans.BodyPlan.{BodyPlan}
 use Rattle.sq_base.specs.declared.plans.BodyPlan.TheVariants as plan
 use Rattle.sq_head.specs.FieldNames.{each_name, kept_lines, line_of}
-use Rattle.sq_head.specs.declared.names.Way.TheVariants as way
+use Rattle.sq_head.specs.declared.names.Direction.TheVariants as way
 
 -- the end of a line
 abbrev pub crlf : List ℕ
@@ -18,7 +18,8 @@ crlf = cr ∷ lf ∷ []
 -- the authority of the target, as it was sent
 abbrev pub authority_of : List ℕ → List ℕ → List ℕ
 authority_of method target =
-    if bytes_eq method (codes "CONNECT") then target else take_while in_authority (drop 2 (after_first is_colon target))
+    if bytes_eq method (codes "CONNECT") then target
+    else take_while in_authority (drop 2 (after_first is_colon target))
 
 -- what stands for an empty path without a query
 abbrev pub no_path : List ℕ → List ℕ
@@ -60,12 +61,14 @@ is_chunked plan.ToClose = false
 -- the lines of the proxy, where names are tested so, and the empty line
 unfoldable pub proxy_lines : (List ℕ → Bool) → ℕ → Address → Bool → List ℕ
 proxy_lines test minor addr chunked =
-    coding_line chunked ++ line_of test (codes "Via") (via_line minor) ++ line_of test (codes "X-Forwarded-For") (forwarded_line addr) ++ closing_line true ++ crlf
+    coding_line chunked ++ line_of test (codes "Via") (via_line minor)
+    ++ line_of test (codes "X-Forwarded-For") (forwarded_line addr) ++ closing_line true ++ crlf
 
 -- the head that the origin gets, where names of fields are tested so
 unfoldable pub head_out_where : (List ℕ → Bool) → HttpRequest → Address → BodyPlan → List ℕ
 head_out_where test r addr p =
-    request_line r ++ host_line r ++ kept_lines test way.ToOrigin r.fields ++ proxy_lines test r.minor addr (is_chunked p)
+    request_line r ++ host_line r ++ kept_lines test way.ToOrigin r.fields
+    ++ proxy_lines test r.minor addr (is_chunked p)
 
 -- the head that the origin gets
 unfoldable pub head_out : HttpRequest → Address → BodyPlan → List ℕ

@@ -1,5 +1,5 @@
--- Where the parts of a whole head of a reply are: its status line (RFC 9112 section 4) and its field lines
--- (section 5).
+-- Where the parts of a whole head of a reply are: its status line (RFC 9112 section 4) and its
+-- field lines (section 5).
 use Rattle.std.specs.Prelude.{◌≡◌, ℕ, ◌<◌, ◌≤◌, List, [], length, map, take, All}
 use Rattle.httparse.specs.Grammar.{ResponseHead, ReadsResponse, status_code, reason_phrase}
 use Rattle.httparse.specs.Spans.{span_bytes, header_bytes, name_and_value, IsWithin, IsHeaderWithin}
@@ -13,7 +13,8 @@ pub record FitsIn (n : ℕ) (headers : List HeaderSpan) (s : ResponseSpans) : Ty
   pub fields : All (IsHeaderWithin n) (take s.headers headers)
 
 -- the bytes are the head h, and the spans cover its parts
-pub record Covers (head : List ℕ) (headers : List HeaderSpan) (s : ResponseSpans) (h : ResponseHead) : Type 0 where
+pub record Covers (head : List ℕ) (headers : List HeaderSpan) (s : ResponseSpans)
+    (h : ResponseHead) : Type 0 where
   pub whole : ReadsResponse head h []
   pub minor : s.version ≡ h.minor
   pub status : s.code ≡ status_code h

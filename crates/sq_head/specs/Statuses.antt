@@ -1,4 +1,5 @@
--- What the code writes of a status: its digits and its phrase, from the table of `http` (RFC 9110 section 15).
+-- What the code writes of a status: its digits and its phrase, from the table of `http` (RFC 9110
+-- section 15).
 use Rattle.std.specs.Prelude.{ℕ, List, [], ◌∷◌, ◌++◌, unwrap_or}
 use Rattle.http.specs.StatusCode.{code_digits, reason_phrase}
 use Rattle.sq_base.specs.Bytes.{space}

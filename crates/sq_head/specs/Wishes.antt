@@ -1,5 +1,5 @@
--- What a request says of its connection and of its body: RFC 9112 sections 9.3 and 9.6 (close), RFC 9110
--- section 10.1.1 (100-continue).
+-- What a request says of its connection and of its body: RFC 9112 sections 9.3 and 9.6 (close), RFC
+-- 9110 section 10.1.1 (100-continue).
 use Rattle.std.specs.Prelude.{ℕ, Bool, true, false, not, ◌&&◌, ◌||◌, ◌==◌, nat_lt, codes}
 use Rattle.std.specs.List.{list_any}
 use Rattle.std.specs.Str.{str_eq_ignore_ascii_case}
@@ -11,7 +11,8 @@ use Rattle.sq_head.specs.FieldNames.{elements, is_one_of}
 
 -- a Connection field that lists close
 abbrev pub lists_close : Field → Bool
-lists_close f = str_eq_ignore_ascii_case f.name (codes "connection") && is_one_of (elements f.value) (codes "close")
+lists_close f = str_eq_ignore_ascii_case f.name (codes "connection")
+    && is_one_of (elements f.value) (codes "close")
 
 -- the connection closes behind the reply: the client's version is 1.0, or it names close
 unfoldable pub wants_close : HttpRequest → Bool
@@ -26,7 +27,8 @@ has_body plan.ToClose = true
 
 -- an Expect field with the value 100-continue
 abbrev pub expects_continue : Field → Bool
-expects_continue f = str_eq_ignore_ascii_case f.name (codes "expect") && str_eq_ignore_ascii_case f.value (codes "100-continue")
+expects_continue f = str_eq_ignore_ascii_case f.name (codes "expect")
+    && str_eq_ignore_ascii_case f.value (codes "100-continue")
 
 -- the client waits until it hears that its body may come
 unfoldable pub wants_continue : HttpRequest → BodyPlan → Bool

@@ -76,7 +76,8 @@ fn trim_end(mut bytes: &[u8]) -> &[u8]
 
 // Puts the elements of a list at the end.
 fn put_elements<'a>(to: &mut Vec<&'a [u8]>, value: &'a [u8]) -> Result<(), WantOfMemory>
-    ensures { OnOk result (map (λ o. o.now) to.new.items ≡ map (λ o. o.now) to.old.items ++ elements value.now) }
+    ensures { OnOk result
+        (map (λ o. o.now) to.new.items ≡ map (λ o. o.now) to.old.items ++ elements value.now) }
 {
     for element in Elements::new(value) {
         to.push(element)?;

@@ -6,7 +6,7 @@ ghost use Rattle.sq_head.specs.FieldNames.{is_kept, is_listed, is_sent, kept_lin
 
 use crate::elements::connection_options;
 use crate::name_test::{NameTest, goes_out};
-use crate::names::{Way, is_alike, is_dropped, is_one_of};
+use crate::names::{Direction, is_alike, is_dropped, is_one_of};
 use sq_base::{Field, Text, WantOfMemory};
 use std::alloc::Global;
 
@@ -16,7 +16,7 @@ pub(crate) fn put_kept_fields<T: NameTest>(
     alloc: Global,
     to: &mut Text,
     test: &T,
-    way: Way,
+    way: Direction,
     fields: &[Field],
 ) -> Result<(), WantOfMemory>
     requires { T.IsReady test.now }
@@ -30,12 +30,14 @@ pub(crate) fn put_kept_fields<T: NameTest>(
 fn put_unlisted<T: NameTest>(
     to: &mut Text,
     test: &T,
-    way: Way,
+    way: Direction,
     fields: &[Field],
     options: &[&[u8]],
 ) -> Result<(), WantOfMemory>
     requires { T.IsReady test.now }
-    ensures { OnOk result (to.new ≡ to.old ++ flat_map field_line (filter (is_sent (T.passes test.now) way (map (λ o. o.now) options.now)) fields.now)) }
+    ensures { OnOk result
+        (to.new ≡ to.old ++ flat_map field_line
+        (filter (is_sent (T.passes test.now) way (map (λ o. o.now) options.now)) fields.now)) }
 {
     for field in fields {
         if is_sent(test, way, options, field) {
@@ -45,14 +47,14 @@ fn put_unlisted<T: NameTest>(
     Ok(())
 }
 
-fn is_sent<T: NameTest>(test: &T, way: Way, options: &[&[u8]], field: &Field) -> bool
+fn is_sent<T: NameTest>(test: &T, way: Direction, options: &[&[u8]], field: &Field) -> bool
     requires { T.IsReady test.now }
     ensures { result ≡ is_sent (T.passes test.now) way (map (λ o. o.now) options.now) field.now }
 {
     is_kept(way, options, field) && goes_out(test, field.name.as_bytes())
 }
 
-fn is_kept(way: Way, options: &[&[u8]], field: &Field) -> bool
+fn is_kept(way: Direction, options: &[&[u8]], field: &Field) -> bool
     ensures { result ≡ is_kept way (map (λ o. o.now) options.now) field.now }
 {
     let name = field.name.as_bytes();

@@ -32,7 +32,8 @@ pub(crate) fn put_tested_via<T: NameTest>(
     minor: u8,
 ) -> Result<(), WantOfMemory>
     requires { T.IsReady test.now }
-    ensures { OnOk result (to.new ≡ to.old ++ line_of (T.passes test.now) (codes "Via") (via_line minor)) }
+    ensures { OnOk result
+        (to.new ≡ to.old ++ line_of (T.passes test.now) (codes "Via") (via_line minor)) }
 {
     if goes_out(test, b"Via") {
         put_via(to, minor)

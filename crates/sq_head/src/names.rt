@@ -6,7 +6,7 @@ ghost use Rattle.sq_head.specs.FieldNames.{is_one_of, dropped, of_the_proxy, of_
 
 /// Which way a head goes.
 #[derive(Clone, Copy)]
-pub(crate) enum Way {
+pub(crate) enum Direction {
     ToOrigin,
     ToClient,
 }
@@ -61,11 +61,11 @@ fn is_of_the_proxy(name: &[u8]) -> bool
 }
 
 /// Whether the field is never passed on that way.
-pub(crate) fn is_dropped(way: Way, name: &[u8]) -> bool
+pub(crate) fn is_dropped(way: Direction, name: &[u8]) -> bool
     ensures { result ≡ is_one_of (dropped way) name.now }
 {
     match way {
-        Way::ToOrigin => is_of_the_proxy(name),
-        Way::ToClient => is_of_one_connection(name),
+        Direction::ToOrigin => is_of_the_proxy(name),
+        Direction::ToClient => is_of_one_connection(name),
     }
 }

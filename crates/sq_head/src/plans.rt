@@ -112,7 +112,8 @@ fn are_digits(value: &[u8]) -> bool
 
 // The value of digits, where it is below the limit.
 fn digits_value(digits: &[u8]) -> Option<u64>
-    ensures { result ≡ (if nat_lt (read_on 0 digits.now) number_limit then Some (read_on 0 digits.now) else None) }
+    ensures { result ≡ (if nat_lt (read_on 0 digits.now) number_limit then Some
+        (read_on 0 digits.now) else None) }
 {
     let mut number: u64 = 0;
     for &byte in digits {

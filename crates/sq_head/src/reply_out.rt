@@ -5,7 +5,7 @@ ghost use Rattle.sq_head.specs.ReplyHeads.{reply_head_out, reply_head_out_where,
 use crate::kept::put_kept_fields;
 use crate::lines::{put_closing, put_coding, put_number, put_tested_via};
 use crate::name_test::{EachName, NameTest};
-use crate::names::Way;
+use crate::names::Direction;
 use crate::replies::{ReplyHead, Shape};
 use sq_base::{Text, WantOfMemory};
 use std::alloc::Global;
@@ -36,7 +36,7 @@ pub fn reply_head_out_where<T: NameTest>(
         alloc,
         &mut text,
         test,
-        Way::ToClient,
+        Direction::ToClient,
         head.fields.as_slice(),
     )?;
     put_coding(&mut text, shape.chunked)?;

@@ -9,7 +9,7 @@ ghost use Rattle.sq_head.specs.RequestHeads.{head_out, head_out_where, proxy_lin
 use crate::kept::put_kept_fields;
 use crate::lines::{put_closing, put_coding, put_tested_via};
 use crate::name_test::{EachName, NameTest, goes_out};
-use crate::names::Way;
+use crate::names::Direction;
 use sq_addr::print_addr;
 use sq_base::{Addr, BodyPlan, Request, Text, WantOfMemory};
 use std::alloc::Global;
@@ -49,7 +49,7 @@ pub fn head_out_where<T: NameTest>(
         alloc,
         &mut head,
         test,
-        Way::ToOrigin,
+        Direction::ToOrigin,
         request.fields.as_slice(),
     )?;
     put_proxy_lines(
@@ -187,7 +187,9 @@ fn put_tested_forwarded<T: NameTest>(
     addr: Addr,
 ) -> Result<(), WantOfMemory>
     requires { T.IsReady test.now }
-    ensures { OnOk result (to.new ≡ to.old ++ line_of (T.passes test.now) (codes "X-Forwarded-For") (forwarded_line addr)) }
+    ensures { OnOk result
+        (to.new ≡ to.old ++ line_of (T.passes test.now) (codes "X-Forwarded-For")
+        (forwarded_line addr)) }
 {
     if goes_out(test, b"X-Forwarded-For") {
         put_forwarded(alloc, to, addr)

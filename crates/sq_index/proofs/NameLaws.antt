@@ -41,14 +41,21 @@ front_Decides (k ∷ ks) (b ∷ bs) = (
 )
 
 -- a path has a front where the name ends in the other
-path_front : (name host : List ℕ) → ((rest : List ℕ) × (path host ≡ path name ++ rest)) → (front : List ℕ) × (dot ∷ host ≡ front ++ dot ∷ name)
-path_front name host h =
-    (reverse h.0, sym (reverse-reverse (dot ∷ host)) ∙ ap reverse h.1 ∙ reverse-append (reverse (dot ∷ name)) h.0 ∙ ap (λ t. reverse h.0 ++ t) (reverse-reverse (dot ∷ name)))
+path_front : (name host : List ℕ) → ((rest : List ℕ) × (path host ≡ path name ++ rest))
+    → (front : List ℕ) × (dot ∷ host ≡ front ++ dot ∷ name)
+path_front name host h = (
+  reverse h.0,
+  sym (reverse-reverse (dot ∷ host)) ∙ ap reverse h.1 ∙ reverse-append (reverse (dot ∷ name)) h.0
+      ∙ ap (λ t. reverse h.0 ++ t) (reverse-reverse (dot ∷ name)),
+)
 
-front_path : (name host : List ℕ) → ((front : List ℕ) × (dot ∷ host ≡ front ++ dot ∷ name)) → (rest : List ℕ) × (path host ≡ path name ++ rest)
+front_path : (name host : List ℕ) → ((front : List ℕ) × (dot ∷ host ≡ front ++ dot ∷ name))
+    → (rest : List ℕ) × (path host ≡ path name ++ rest)
 front_path name host h = (reverse h.0, ap reverse h.1 ∙ reverse-append h.0 (dot ∷ name))
 
-ends_Decides : (host name : List ℕ) → Decides (bytes_eq name host || ends_with nat_eq host (dot ∷ name)) ((front : List ℕ) × (dot ∷ host ≡ front ++ dot ∷ name))
+ends_Decides : (host name : List ℕ)
+    → Decides (bytes_eq name host || ends_with nat_eq host (dot ∷ name))
+    ((front : List ℕ) × (dot ∷ host ≡ front ++ dot ∷ name))
 ends_Decides host name =
     let whole = bytes_eq-Decides name host in
     let end = ends_is Decides-eqb host (dot ∷ name) (ends_with nat_eq host (dot ∷ name)) refl in (
@@ -59,18 +66,22 @@ ends_Decides host name =
       (λ h. ends_from host name h.0 h.1 whole.1 end.1),
     )
   where
-    ends_from : (host name front : List ℕ) → dot ∷ host ≡ front ++ dot ∷ name → (name ≡ host → bytes_eq name host ≡ true) →
+    ends_from : (host name front : List ℕ) → dot ∷ host ≡ front ++ dot ∷ name
+        → (name ≡ host → bytes_eq name host ≡ true) →
         ((front : List ℕ) → host ≡ front ++ dot ∷ name → ends_with nat_eq host (dot ∷ name) ≡ true) →
         (bytes_eq name host || ends_with nat_eq host (dot ∷ name)) ≡ true
     ends_from host name [] e whole end = or_left (bytes_eq name host) (ends_with nat_eq host (dot ∷ name)) (whole (cc))
-    ends_from host name (f ∷ fs) e whole end = or_right (bytes_eq name host) (ends_with nat_eq host (dot ∷ name)) (end fs (cc))
+    ends_from host name (f ∷ fs) e whole end = or_right (bytes_eq name host) (ends_with nat_eq host (dot ∷ name))
+        (end fs (cc))
 
 -- a name that is wide stands for its host and for all hosts below
-pub wide_at : (n : Name) (name host : List ℕ) → n.key ≡ path name → n.wide ≡ true → is_at n (path host) ≡ (bytes_eq name host || ends_with nat_eq host (dot ∷ name))
+pub wide_at : (n : Name) (name host : List ℕ) → n.key ≡ path name → n.wide ≡ true
+    → is_at n (path host) ≡ (bytes_eq name host || ends_with nat_eq host (dot ∷ name))
 wide_at n name host key wide =
     let fronts = front_Decides (path name) (path host) in
     let ends = ends_Decides host name in
-    let same = same_from_decides (is_front (path name) (path host)) (bytes_eq name host || ends_with nat_eq host (dot ∷ name))
+    let same = same_from_decides (is_front (path name) (path host))
+    (bytes_eq name host || ends_with nat_eq host (dot ∷ name))
     ((λ h. path_front name host (fronts.0 h)), (λ h. fronts.1 (front_path name host h))) ends in
     rw (key, wide) (and_true (is_front (path name) (path host)) ∙ same)
   where
@@ -79,16 +90,19 @@ wide_at n name host key wide =
     and_true false = refl
 
 path_same : (name host : List ℕ) → path name ≡ path host → name ≡ host
-path_same name host e = let whole = sym (reverse-reverse (dot ∷ name)) ∙ ap reverse e ∙ reverse-reverse (dot ∷ host) in cc
+path_same name host e = let whole = sym (reverse-reverse (dot ∷ name)) ∙ ap reverse e
+    ∙ reverse-reverse (dot ∷ host) in cc
 
 -- one that is not stands for its host alone
-pub exact_at : (n : Name) (name host : List ℕ) → n.key ≡ path name → n.wide ≡ false → is_at n (path host) ≡ bytes_eq name host
+pub exact_at : (n : Name) (name host : List ℕ) → n.key ≡ path name → n.wide ≡ false
+    → is_at n (path host) ≡ bytes_eq name host
 exact_at n name host key exact =
     let both = is_front (path name) (path host) && (length (path name) == length (path host)) in
     let whole : Decides both (name ≡ host) = (
       (λ h.
           let parts = and_parts (is_front (path name) (path host)) (length (path name) == length (path host)) h in
-          path_same name host (front_whole (path name) (path host) parts.0 (eqb-true (length (path name)) (length (path host)) parts.1))),
+          path_same name host (front_whole (path name) (path host) parts.0
+          (eqb-true (length (path name)) (length (path host)) parts.1))),
       (λ e. and_from (is_front (path name) (path host)) (length (path name) == length (path host))
           (subst (λ t. is_front (path name) (path t) ≡ true) e (front_self (path name)))
           (eq-eqb (length (path name)) (length (path host)) (ap (λ t. length (path t)) e))),
@@ -106,7 +120,8 @@ map_reverse f xs = ap (λ t. t ++ dot ∷ []) (reverse_map f xs) ∙ sym (revers
         ∙ ap (λ t. t ++ f x ∷ []) (reverse_map f xs) ∙ sym (reverse-append (f x ∷ []) (map f xs))
 
 -- the bytes of a path by their places
-pub path_byte : (host : List ℕ) (k : ℕ) → k < length host → slice_get (path host) k ≡ Some (get_or host (length host - 1 - k) 0)
+pub path_byte : (host : List ℕ) (k : ℕ) → k < length host
+    → slice_get (path host) k ≡ Some (get_or host (length host - 1 - k) 0)
 path_byte host k h =
     let long = length-reverse (dot ∷ host) in
     let place : length (dot ∷ host) - 1 - k ≡ suc (length host - 1 - k) = omega arith in
@@ -124,11 +139,13 @@ pub path_past : (host : List ℕ) (k : ℕ) → length host < k → slice_get (p
 path_past host k h = let long = length-reverse (dot ∷ host) in slice_get_past (path host) k (omega (arith, long))
 
 -- a name that stands up to a path, behind a clear one that is at the path, is there too
-at_later : (m n : Name) (bytes : List ℕ) → is_at m bytes ≡ true → IsClear m n → is_up_to n.key bytes ≡ true → is_at n bytes ≡ true
+at_later : (m n : Name) (bytes : List ℕ) → is_at m bytes ≡ true → IsClear m n → is_up_to n.key bytes ≡ true
+    → is_at n bytes ≡ true
 at_later m n bytes there clear up =
     let parts = and_parts (is_front m.key bytes) (m.wide || (length m.key == length bytes)) there in
     elim (or_cases m.wide (length m.key == length bytes) parts.1) [
-      | inl wide ↦ absurd (both_ways (shades m n) clear.clear (and_from m.wide (is_front m.key n.key) wide (front_between m.key n.key bytes parts.0 clear.rises up)))
+      | inl wide ↦ absurd (both_ways (shades m n) clear.clear
+          (and_from m.wide (is_front m.key n.key) wide (front_between m.key n.key bytes parts.0 clear.rises up)))
       | inr long ↦
           let whole = front_whole m.key bytes parts.0 (eqb-true (length m.key) (length bytes) long) in
           let same = up_both n.key bytes up (subst (λ t. is_up_to t n.key ≡ true) whole clear.rises) in
@@ -138,7 +155,8 @@ at_later m n bytes there clear up =
     ]
 
 at_begun : (n : Name) (bytes : List ℕ) → is_at n bytes ≡ true → is_up_to n.key bytes ≡ true
-at_begun n bytes there = front_up n.key bytes (and_parts (is_front n.key bytes) (n.wide || (length n.key == length bytes)) there).0
+at_begun n bytes there = front_up n.key bytes
+    (and_parts (is_front n.key bytes) (n.wide || (length n.key == length bytes)) there).0
 
 -- of clear names, the last one that stands up to a path decides
 pub name_decides : (names : List Name) (p : ℕ) (bytes : List ℕ) (d : Name) → AreClear names → p ≤ length names →
@@ -146,15 +164,20 @@ pub name_decides : (names : List Name) (p : ℕ) (bytes : List ℕ) (d : Name) �
     some_at names bytes ≡ (ltb 0 p && is_at (get_or names (p - 1) d) bytes)
 name_decides names p bytes d clear fits point =
     decided (λ n. is_at n bytes) names p d fits
-    (λ k after within. unless (is_at (get_or names k d) bytes) (λ yes. both_ways (is_up_to (get_or names k d).key bytes) (point.1 k d after within) (at_begun (get_or names k d) bytes yes)))
-    (λ i j earlier before there. at_later (get_or names i d) (get_or names j d) bytes there (clear i j d earlier (omega arith)) (point.0 j d (omega arith) before))
+    (λ k after within. unless (is_at (get_or names k d) bytes)
+    (λ yes. both_ways (is_up_to (get_or names k d).key bytes) (point.1 k d after within)
+    (at_begun (get_or names k d) bytes yes)))
+    (λ i j earlier before there. at_later (get_or names i d) (get_or names j d) bytes there
+    (clear i j d earlier (omega arith)) (point.0 j d (omega arith) before))
 
 -- a search among clear names is one among names in order
-pub clear_parted : (names : List Name) (bytes : List ℕ) → AreClear names → IsPartitionedBy (λ n. is_up_to n.key bytes) names
+pub clear_parted : (names : List Name) (bytes : List ℕ) → AreClear names
+    → IsPartitionedBy (λ n. is_up_to n.key bytes) names
 clear_parted names bytes clear = λ i j d le within up.
     elim (cases_eq i j) [
       | inl same ↦ subst (λ k. is_up_to (get_or names k d).key bytes ≡ true) (sym same) up
-      | inr other ↦ up_trans (get_or names i d).key (get_or names j d).key bytes (clear i j d (omega arith) within).rises up
+      | inr other ↦ up_trans (get_or names i d).key (get_or names j d).key bytes
+          (clear i j d (omega arith) within).rises up
     ]
 
 -- the test by which names are sorted
@@ -172,7 +195,8 @@ shade_at : (m n : Name) (bytes : List ℕ) → shades m n ≡ true → is_at n b
 shade_at m n bytes shaded there =
     let parts = and_parts m.wide (is_front m.key n.key) shaded in
     let front = (and_parts (is_front n.key bytes) (n.wide || (length n.key == length bytes)) there).0 in
-    and_from (is_front m.key bytes) (m.wide || (length m.key == length bytes)) (front_trans m.key n.key bytes parts.1 front) (or_left m.wide (length m.key == length bytes) parts.0)
+    and_from (is_front m.key bytes) (m.wide || (length m.key == length bytes))
+    (front_trans m.key n.key bytes parts.1 front) (or_left m.wide (length m.key == length bytes) parts.0)
 
 absorbed : (k n r : Bool) → (n ≡ true → k ≡ true) → (k || r) ≡ (k || (n || r))
 absorbed true n r h = refl
@@ -191,21 +215,27 @@ left_same kept rest n bytes shaded =
     let parts = and_parts (ltb 0 (length kept)) (shades last n) shaded in
     let some = ltb-true 0 (length kept) parts.0 in
     absorbed (some_at kept bytes) (is_at n bytes) (some_at rest bytes)
-    (λ there. list_any_at (λ m. is_at m bytes) kept (length kept - 1) n (omega arith) (shade_at last n bytes parts.1 there))
+    (λ there. list_any_at (λ m. is_at m bytes) kept (length kept - 1) n (omega arith)
+    (shade_at last n bytes parts.1 there))
 
 -- another one is kept
 pub kept_same : (kept rest : List Name) (n : Name) (bytes : List ℕ) →
     (some_at (kept ++ n ∷ []) bytes || some_at rest bytes) ≡ (some_at kept bytes || some_at (n ∷ rest) bytes)
 kept_same kept rest n bytes =
-    ap (λ t. t || some_at rest bytes) (list_any-append (λ m. is_at m bytes) kept (n ∷ []) ∙ ap (λ t. some_at kept bytes || t) (or-false (is_at n bytes)))
+    ap (λ t. t || some_at rest bytes)
+    (list_any-append (λ m. is_at m bytes) kept (n ∷ []) ∙ ap (λ t. some_at kept bytes || t) (or-false (is_at n bytes)))
     ∙ sym (or_grouped (some_at kept bytes) (is_at n bytes) (some_at rest bytes))
 
 -- and stays clear of those before it, since the last of them would be shaded too
-pub kept_clear : (kept : List Name) (n : Name) → AreClear kept → All (λ m. IsUpTo m n) kept → last_shades kept n ≡ false → AreClear (kept ++ n ∷ [])
-kept_clear kept n clear up unshaded = pairs_push IsClear kept n clear (All-from_get_or (λ m. IsClear m n) kept n (λ k within.
+pub kept_clear : (kept : List Name) (n : Name) → AreClear kept → All (λ m. IsUpTo m n) kept → last_shades kept n ≡ false
+    → AreClear (kept ++ n ∷ [])
+kept_clear kept n clear up unshaded = pairs_push IsClear kept n clear
+    (All-from_get_or (λ m. IsClear m n) kept n (λ k within.
     let last = get_or kept (length kept - 1) n in
     let some : 0 < length kept = omega arith in
-    let fails : shades last n ≡ false = elim (and_cases (ltb 0 (length kept)) (shades last n) unshaded) [ inl none ↦ absurd (both_ways (ltb 0 (length kept)) none (lt-ltb 0 (length kept) some)) | inr fails ↦ fails ] in
+    let fails : shades last n ≡ false =
+    elim (and_cases (ltb 0 (length kept)) (shades last n) unshaded)
+    [ inl none ↦ absurd (both_ways (ltb 0 (length kept)) none (lt-ltb 0 (length kept) some)) | inr fails ↦ fails ] in
     let rises = up k n within in
     record {
       rises = rises;
@@ -217,7 +247,9 @@ kept_clear kept n clear up unshaded = pairs_push IsClear kept n clear (All-from_
             let up_last = up (length kept - 1) n (omega arith) in
             unless (shades m n) (λ yes.
             let parts = and_parts m.wide (is_front m.key n.key) yes in
-            both_ways (shades m last) apart.clear (and_from m.wide (is_front m.key last.key) parts.0 (front_between m.key last.key n.key parts.1 apart.rises up_last)))
+            both_ways (shades m last) apart.clear
+            (and_from m.wide (is_front m.key last.key) parts.0
+            (front_between m.key last.key n.key parts.1 apart.rises up_last)))
       ];
     }))
 
@@ -229,13 +261,17 @@ pub rise_head : (n : Name) (rest : List Name) → Rise (n ∷ rest) → All (λ 
 rise_head n rest rises = λ k d within. rises 0 (suc k) d (omega arith) (omega arith)
 
 -- what stood up to all of a list stands up to its rest
-pub below_tail : (kept : List Name) (n : Name) (rest : List Name) → All (λ m. All (λ o. IsUpTo m o) (n ∷ rest)) kept → All (λ m. All (λ o. IsUpTo m o) rest) kept
+pub below_tail : (kept : List Name) (n : Name) (rest : List Name) → All (λ m. All (λ o. IsUpTo m o) (n ∷ rest)) kept
+    → All (λ m. All (λ o. IsUpTo m o) rest) kept
 below_tail kept n rest below = λ k d within. All-tail (λ o. IsUpTo (get_or kept k d) o) n rest (below k d within)
 
-pub below_push : (kept : List Name) (n : Name) (rest : List Name) → All (λ m. All (λ o. IsUpTo m o) (n ∷ rest)) kept → Rise (n ∷ rest) →
+pub below_push : (kept : List Name) (n : Name) (rest : List Name) → All (λ m. All (λ o. IsUpTo m o) (n ∷ rest)) kept
+    → Rise (n ∷ rest) →
     All (λ m. All (λ o. IsUpTo m o) rest) (kept ++ n ∷ [])
-below_push kept n rest below rises = All-push (λ m. All (λ o. IsUpTo m o) rest) kept n (below_tail kept n rest below) (rise_head n rest rises)
+below_push kept n rest below rises = All-push (λ m. All (λ o. IsUpTo m o) rest) kept n (below_tail kept n rest below)
+    (rise_head n rest rises)
 
 -- what stood up to all of a list stands up to its first
-pub below_head : (kept : List Name) (n : Name) (rest : List Name) → All (λ m. All (λ o. IsUpTo m o) (n ∷ rest)) kept → All (λ m. IsUpTo m n) kept
+pub below_head : (kept : List Name) (n : Name) (rest : List Name) → All (λ m. All (λ o. IsUpTo m o) (n ∷ rest)) kept
+    → All (λ m. IsUpTo m n) kept
 below_head kept n rest below = λ k d within. below k d within 0 n (omega arith)

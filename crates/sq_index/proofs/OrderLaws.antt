@@ -23,7 +23,8 @@ up_first : (k b : ℕ) (ks bs : List ℕ) → is_up_to (k ∷ ks) (b ∷ bs) ≡
 up_first k b ks bs up =
     elim (cases_eq k b) [
       | inl same ↦ omega arith
-      | inr other ↦ let less : nat_lt k b ≡ true = rw (ne_eqb k b other) at up in let below = ltb-true k b less in omega arith
+      | inr other ↦ let less : nat_lt k b ≡ true = rw (ne_eqb k b other) at up in let below = ltb-true k b less in
+          omega arith
     ]
 
 -- the order is one
@@ -36,7 +37,8 @@ up_trans (k ∷ ks) (m ∷ ms) (n ∷ ns) a b =
     let high = up_first m n ms ns b in
     elim (cases_lt k n) [
       | inl less ↦ up_less k n ks ns less
-      | inr same ↦ up_same k n ks ns (omega arith) (up_trans ks ms ns (up_rest k m ks ms (omega arith) a) (up_rest m n ms ns (omega arith) b))
+      | inr same ↦ up_same k n ks ns (omega arith)
+          (up_trans ks ms ns (up_rest k m ks ms (omega arith) a) (up_rest m n ms ns (omega arith) b))
     ]
 
 pub up_both : (x y : List ℕ) → is_up_to x y ≡ true → is_up_to y x ≡ true → x ≡ y
@@ -56,7 +58,8 @@ up_from_cmp [] y h = refl
 up_from_cmp (k ∷ ks) [] h = cc
 up_from_cmp (k ∷ ks) (b ∷ bs) h =
     elim (cases_order b k) [
-      | inl same ↦ up_same k b ks bs (sym same) (up_from_cmp ks bs (rw (le-ltb b k (omega arith), eq-eqb b k same) at h))
+      | inl same ↦ up_same k b ks bs (sym same)
+          (up_from_cmp ks bs (rw (le-ltb b k (omega arith), eq-eqb b k same) at h))
       | inr other ↦ elim other [
         | inl above ↦ let wrong : true ≡ false = rw (lt-ltb b k above) at h in absurd (cc)
         | inr below ↦ up_less k b ks bs below
@@ -84,10 +87,12 @@ front_trans [] y z a b = refl
 front_trans (k ∷ ks) [] z a b = cc
 front_trans (k ∷ ks) (m ∷ ms) [] a b = cc
 front_trans (k ∷ ks) (m ∷ ms) (n ∷ ns) a b =
-    front_made k n ks ns (front_head k m ks ms a ∙ front_head m n ms ns b) (front_trans ks ms ns (front_tail k m ks ms a) (front_tail m n ms ns b))
+    front_made k n ks ns (front_head k m ks ms a ∙ front_head m n ms ns b)
+    (front_trans ks ms ns (front_tail k m ks ms a) (front_tail m n ms ns b))
 
 -- what stands between a front and the whole has that front
-pub front_between : (k m q : List ℕ) → is_front k q ≡ true → is_up_to k m ≡ true → is_up_to m q ≡ true → is_front k m ≡ true
+pub front_between : (k m q : List ℕ) → is_front k q ≡ true → is_up_to k m ≡ true → is_up_to m q ≡ true
+    → is_front k m ≡ true
 front_between [] m q f a b = refl
 front_between (k ∷ ks) [] q f a b = cc
 front_between (k ∷ ks) (m ∷ ms) [] f a b = cc
@@ -95,7 +100,9 @@ front_between (k ∷ ks) (m ∷ ms) (n ∷ ns) f a b =
     let low = up_first k m ks ms a in
     let high = up_first m n ms ns b in
     let ends = front_head k n ks ns f in
-    front_made k m ks ms (omega arith) (front_between ks ms ns (front_tail k n ks ns f) (up_rest k m ks ms (omega arith) a) (up_rest m n ms ns (omega arith) b))
+    front_made k m ks ms (omega arith)
+    (front_between ks ms ns (front_tail k n ks ns f) (up_rest k m ks ms (omega arith) a)
+    (up_rest m n ms ns (omega arith) b))
 
 pub front_self : (x : List ℕ) → is_front x x ≡ true
 front_self [] = refl
@@ -137,7 +144,8 @@ up_past (k ∷ ks) zero h = refl
 up_past (k ∷ ks) (suc i) h = up_past ks i (omega arith)
 
 pub front_step : (key bytes : List ℕ) (i : ℕ) → i < length key →
-    is_front (drop i key) (drop i bytes) ≡ front_on (get_or key i 0) (slice_get bytes i) (is_front (drop (suc i) key) (drop (suc i) bytes))
+    is_front (drop i key) (drop i bytes)
+    ≡ front_on (get_or key i 0) (slice_get bytes i) (is_front (drop (suc i) key) (drop (suc i) bytes))
 front_step [] bytes i h = absurd (omega arith)
 front_step (k ∷ ks) [] zero h = refl
 front_step (k ∷ ks) [] (suc i) h = front_past ks i (omega arith)
@@ -145,7 +153,8 @@ front_step (k ∷ ks) (b ∷ bs) zero h = refl
 front_step (k ∷ ks) (b ∷ bs) (suc i) h = front_step ks bs i (omega arith)
 
 pub up_step : (key bytes : List ℕ) (i : ℕ) → i < length key →
-    is_up_to (drop i key) (drop i bytes) ≡ up_on (get_or key i 0) (slice_get bytes i) (is_up_to (drop (suc i) key) (drop (suc i) bytes))
+    is_up_to (drop i key) (drop i bytes)
+    ≡ up_on (get_or key i 0) (slice_get bytes i) (is_up_to (drop (suc i) key) (drop (suc i) bytes))
 up_step [] bytes i h = absurd (omega arith)
 up_step (k ∷ ks) [] zero h = refl
 up_step (k ∷ ks) [] (suc i) h = up_past ks i (omega arith)
@@ -153,19 +162,24 @@ up_step (k ∷ ks) (b ∷ bs) zero h = refl
 up_step (k ∷ ks) (b ∷ bs) (suc i) h = up_step ks bs i (omega arith)
 
 -- a byte that differs from the one at its place, or has none there, and one that is the same
-pub front_apart : (key bytes : List ℕ) (i b : ℕ) → i < length key → slice_get bytes i ≡ Some b → (get_or key i 0 ≡ b → ⊥) → is_front (drop i key) (drop i bytes) ≡ false
+pub front_apart : (key bytes : List ℕ) (i b : ℕ) → i < length key → slice_get bytes i ≡ Some b
+    → (get_or key i 0 ≡ b → ⊥) → is_front (drop i key) (drop i bytes) ≡ false
 front_apart key bytes i b h at other =
     let rest = is_front (drop (suc i) key) (drop (suc i) bytes) in
-    front_step key bytes i h ∙ ap (λ o. front_on (get_or key i 0) o rest) at ∙ and_left (get_or key i 0 == b) rest (ne_eqb (get_or key i 0) b other)
+    front_step key bytes i h ∙ ap (λ o. front_on (get_or key i 0) o rest) at
+    ∙ and_left (get_or key i 0 == b) rest (ne_eqb (get_or key i 0) b other)
 
-pub front_ends : (key bytes : List ℕ) (i : ℕ) → i < length key → slice_get bytes i ≡ None → is_front (drop i key) (drop i bytes) ≡ false
-front_ends key bytes i h at = front_step key bytes i h ∙ ap (λ o. front_on (get_or key i 0) o (is_front (drop (suc i) key) (drop (suc i) bytes))) at
+pub front_ends : (key bytes : List ℕ) (i : ℕ) → i < length key → slice_get bytes i ≡ None
+    → is_front (drop i key) (drop i bytes) ≡ false
+front_ends key bytes i h at = front_step key bytes i h
+    ∙ ap (λ o. front_on (get_or key i 0) o (is_front (drop (suc i) key) (drop (suc i) bytes))) at
 
 pub front_goes : (key bytes : List ℕ) (i b : ℕ) → i < length key → slice_get bytes i ≡ Some b → get_or key i 0 ≡ b →
     is_front (drop (i + 1) key) (drop (i + 1) bytes) ≡ is_front (drop i key) (drop i bytes)
 front_goes key bytes i b h at same =
     let rest = is_front (drop (suc i) key) (drop (suc i) bytes) in
-    rw (add-one i) (sym (front_step key bytes i h ∙ ap (λ o. front_on (get_or key i 0) o rest) at ∙ ap (λ t. t && rest) (eq-eqb (get_or key i 0) b same)))
+    rw (add-one i) (sym (front_step key bytes i h ∙ ap (λ o. front_on (get_or key i 0) o rest) at
+    ∙ ap (λ t. t && rest) (eq-eqb (get_or key i 0) b same)))
 
 pub up_apart : (key bytes : List ℕ) (i b : ℕ) → i < length key → slice_get bytes i ≡ Some b → (get_or key i 0 ≡ b → ⊥) →
     is_up_to (drop i key) (drop i bytes) ≡ nat_lt (get_or key i 0) b
@@ -178,8 +192,10 @@ up_apart key bytes i b h at other =
     front_of true e x y h = absurd (cc)
     front_of false e x y h = h
 
-pub up_ends : (key bytes : List ℕ) (i : ℕ) → i < length key → slice_get bytes i ≡ None → is_up_to (drop i key) (drop i bytes) ≡ false
-up_ends key bytes i h at = up_step key bytes i h ∙ ap (λ o. up_on (get_or key i 0) o (is_up_to (drop (suc i) key) (drop (suc i) bytes))) at
+pub up_ends : (key bytes : List ℕ) (i : ℕ) → i < length key → slice_get bytes i ≡ None
+    → is_up_to (drop i key) (drop i bytes) ≡ false
+up_ends key bytes i h at = up_step key bytes i h
+    ∙ ap (λ o. up_on (get_or key i 0) o (is_up_to (drop (suc i) key) (drop (suc i) bytes))) at
 
 pub up_goes : (key bytes : List ℕ) (i b : ℕ) → i < length key → slice_get bytes i ≡ Some b → get_or key i 0 ≡ b →
     is_up_to (drop (i + 1) key) (drop (i + 1) bytes) ≡ is_up_to (drop i key) (drop i bytes)

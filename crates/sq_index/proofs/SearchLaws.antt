@@ -30,10 +30,14 @@ pub decided : {X : Type 0} (has : X → Bool) (xs : List X) (p : ℕ) (d : X) �
 decided has xs p d fits late early =
     elim (cases_lt 0 p) [
       | inl some ↦ elim (cases_Bool (has (get_or xs (p - 1) d))) [
-        | inl holds ↦ list_any_at has xs (p - 1) d (omega arith) holds ∙ sym (and_from (ltb 0 p) (has (get_or xs (p - 1) d)) (lt-ltb 0 p some) holds)
+        | inl holds ↦ list_any_at has xs (p - 1) d (omega arith) holds
+            ∙ sym (and_from (ltb 0 p) (has (get_or xs (p - 1) d)) (lt-ltb 0 p some) holds)
         | inr fails ↦
             list_any_none has xs (All-from_get_or (λ x. has x ≡ false) xs d (λ k within.
-            elim (cases_lt k p) [ inl below ↦ none_before has xs p d fails early k below | inr past ↦ late k past within ]))
+            elim (cases_lt k p) [
+              | inl below ↦ none_before has xs p d fails early k below
+              | inr past ↦ late k past within
+            ]))
             ∙ sym (and_right (ltb 0 p) (has (get_or xs (p - 1) d)) fails)
       ]
       | inr none ↦
@@ -42,14 +46,18 @@ decided has xs p d fits late early =
     ]
 
 -- one more value behind values in pairs
-pub pairs_push : {X : Type 0} (R : X → X → Type 0) (xs : List X) (y : X) → AllPairs R xs → All (λ x. R x y) xs → AllPairs R (xs ++ y ∷ [])
+pub pairs_push : {X : Type 0} (R : X → X → Type 0) (xs : List X) (y : X) → AllPairs R xs → All (λ x. R x y) xs
+    → AllPairs R (xs ++ y ∷ [])
 pairs_push R xs y pairs all = λ i j d earlier within.
     let more = length-append xs (y ∷ []) in
     let inside : i < length xs = omega (arith, more) in
     let front = get_or_append_left xs (y ∷ []) d i inside in
     elim (cases_lt j (length xs)) [
-      | inl before ↦ subst (λ a. R a (get_or (xs ++ y ∷ []) j d)) (sym front) (subst (λ b. R (get_or xs i d) b) (sym (get_or_append_left xs (y ∷ []) d j before)) (pairs i j d earlier before))
+      | inl before ↦ subst (λ a. R a (get_or (xs ++ y ∷ []) j d)) (sym front)
+          (subst (λ b. R (get_or xs i d) b) (sym (get_or_append_left xs (y ∷ []) d j before))
+          (pairs i j d earlier before))
       | inr last ↦
           let end : length xs ≡ j = omega (arith, more) in
-          subst (λ a. R a (get_or (xs ++ y ∷ []) j d)) (sym front) (subst (λ b. R (get_or xs i d) b) (sym (get_or_push xs y d j end)) (all i d inside))
+          subst (λ a. R a (get_or (xs ++ y ∷ []) j d)) (sym front)
+          (subst (λ b. R (get_or xs i d) b) (sym (get_or_push xs y d j end)) (all i d inside))
     ]

@@ -25,7 +25,8 @@ spans_send = view_send _ _ _ _ _ spans_inside_send
 
 addr_set_inside_send : IsSend addr_set_inside.the_row
 addr_set_inside_send =
-    let parts : FieldsHave IsSend (addr_set_inside.the_type).parts = (search (sendable, spans_send), (search (sendable, spans_send), tt)) in
+    let parts : FieldsHave IsSend (addr_set_inside.the_type).parts =
+    (search (sendable, spans_send), (search (sendable, spans_send), tt)) in
     declared_send addr_set_inside.the_type parts
 
 -- a set of addresses crosses threads
@@ -58,7 +59,8 @@ spans_sync = view_sync _ _ _ _ _ spans_inside_sync
 
 addr_set_inside_sync : IsSync addr_set_inside.the_row
 addr_set_inside_sync =
-    let parts : FieldsHave IsSync (addr_set_inside.the_type).parts = (search (sendable, spans_sync), (search (sendable, spans_sync), tt)) in
+    let parts : FieldsHave IsSync (addr_set_inside.the_type).parts =
+    (search (sendable, spans_sync), (search (sendable, spans_sync), tt)) in
     declared_sync addr_set_inside.the_type parts
 
 -- a set of addresses crosses threads

@@ -1,5 +1,5 @@
--- What lists of ranges and of domains hold, as they were written (configuration reference, `acl`, types
--- src, dst and dstdomain).
+-- What lists of ranges and of domains hold, as they were written (configuration reference, `acl`,
+-- types src, dst and dstdomain).
 use Rattle.std.specs.Prelude.{ℕ, List, Bool}
 use Rattle.std.specs.List.{list_any}
 use Rattle.std.specs.Str.{str_to_ascii_lowercase}

@@ -38,7 +38,8 @@ shades m n = m.wide && is_front m.key n.key
 
 -- the last of these names does
 abbrev pub last_shades : List Name → Name → Bool
-last_shades names n = nat_lt 0 (length names) && shades (slice_index_or names (length names - 1) n) n
+last_shades names n = nat_lt 0 (length names)
+    && shades (slice_index_or names (length names - 1) n) n
 
 -- the one stands no later than the other, by their paths
 abbrev pub IsUpTo : Name → Name → Type 0

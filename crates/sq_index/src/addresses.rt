@@ -28,7 +28,8 @@ impl Model for AddrSet {
 impl AddrSet {
     /// The addresses of these ranges.
     pub fn make(alloc: Global, values: &Ranges) -> Result<AddrSet, WantOfMemory>
-        ensures { IfOk result (λ s. (a : Address) → IsAddress a → has_address s a ≡ in_some_range values.now a) }
+        ensures { IfOk result
+            (λ s. (a : Address) → IsAddress a → has_address s a ≡ in_some_range values.now a) }
     {
         let v4 = Spans::of(alloc, values.as_slice(), false)?;
         let v6 = Spans::of(alloc, values.as_slice(), true)?;

@@ -31,7 +31,8 @@ impl DomainSet {
     /// The hosts of these domains: case does not count in a domain, and one that begins with `.` has the
     /// hosts below it too.
     pub fn make(alloc: Global, values: &Texts) -> Result<DomainSet, WantOfMemory>
-        ensures { IfOk result (λ s. (host : List ℕ) → has_host s host ≡ in_some_domain values.now host) }
+        ensures { IfOk result
+            (λ s. (host : List ℕ) → has_host s host ≡ in_some_domain values.now host) }
     {
         let names = sorted(names_of(alloc, values.as_slice())?)?;
         let names = clear(alloc, names)?;
@@ -52,7 +53,8 @@ impl DomainSet {
 
 // The name of each domain.
 fn names_of(alloc: Global, domains: &[Text]) -> Result<Vec<Name>, WantOfMemory>
-    ensures { IfOk result (λ names. (host : List ℕ) → has_host names.items host ≡ in_some_domain domains.now host) }
+    ensures { IfOk result
+        (λ names. (host : List ℕ) → has_host names.items host ≡ in_some_domain domains.now host) }
 {
     let mut names = Vec::with_capacity(alloc, domains.len())?;
     for domain in domains {
@@ -63,7 +65,8 @@ fn names_of(alloc: Global, domains: &[Text]) -> Result<Vec<Name>, WantOfMemory>
 
 // The names by their paths.
 fn sorted(mut names: Vec<Name>) -> Result<Vec<Name>, WantOfMemory>
-    ensures same { IfOk result (λ n. (bytes : List ℕ) → some_at n.items bytes ≡ some_at names.items bytes) }
+    ensures same { IfOk result
+        (λ n. (bytes : List ℕ) → some_at n.items bytes ≡ some_at names.items bytes) }
     ensures rising { IfOk result (λ n. Rise n.items) }
 {
     names.sort_by(|one, other| one.key.cmp(&other.key))?;
@@ -73,7 +76,8 @@ fn sorted(mut names: Vec<Name>) -> Result<Vec<Name>, WantOfMemory>
 // The names without those for which an earlier one stands.
 fn clear(alloc: Global, names: Vec<Name>) -> Result<Vec<Name>, WantOfMemory>
     requires { Rise names.items }
-    ensures same { IfOk result (λ n. (bytes : List ℕ) → some_at n.items bytes ≡ some_at names.items bytes) }
+    ensures same { IfOk result
+        (λ n. (bytes : List ℕ) → some_at n.items bytes ≡ some_at names.items bytes) }
     ensures clear { IfOk result (λ n. AreClear n.items) }
 {
     let mut kept = Vec::new(alloc);

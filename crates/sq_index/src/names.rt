@@ -21,7 +21,9 @@ pub struct Name {
 impl Name {
     /// The name of a domain, which is wide where the domain begins with `.`.
     pub fn of(alloc: Global, domain: &[u8]) -> Result<Name, WantOfMemory>
-        ensures { IfOk result (λ n. (host : List ℕ) → is_at n (path host) ≡ in_domain host (str_to_ascii_lowercase domain.now)) }
+        ensures { IfOk result
+            (λ n. (host : List ℕ) → is_at n (path host)
+            ≡ in_domain host (str_to_ascii_lowercase domain.now)) }
     {
         match domain {
             [b'.', name @ ..] => wide_name(alloc, name),
@@ -53,7 +55,9 @@ impl Name {
 
 // The name of a domain that stands for itself alone.
 fn exact_name(alloc: Global, name: &[u8]) -> Result<Name, WantOfMemory>
-    ensures { IfOk result (λ n. (host : List ℕ) → is_at n (path host) ≡ bytes_eq (str_to_ascii_lowercase name.now) host) }
+    ensures { IfOk result
+        (λ n. (host : List ℕ) → is_at n (path host)
+        ≡ bytes_eq (str_to_ascii_lowercase name.now) host) }
 {
     let key = key_of(alloc, name)?;
     Ok(Name { key, wide: false })
@@ -61,7 +65,10 @@ fn exact_name(alloc: Global, name: &[u8]) -> Result<Name, WantOfMemory>
 
 // The name of a domain that stands for all names below it too.
 fn wide_name(alloc: Global, name: &[u8]) -> Result<Name, WantOfMemory>
-    ensures { IfOk result (λ n. (host : List ℕ) → is_at n (path host) ≡ (bytes_eq (str_to_ascii_lowercase name.now) host || ends_with nat_eq host (dot ∷ str_to_ascii_lowercase name.now))) }
+    ensures { IfOk result
+        (λ n. (host : List ℕ) → is_at n (path host)
+        ≡ (bytes_eq (str_to_ascii_lowercase name.now) host
+        || ends_with nat_eq host (dot ∷ str_to_ascii_lowercase name.now))) }
 {
     let key = key_of(alloc, name)?;
     Ok(Name { key, wide: true })

@@ -37,7 +37,9 @@ impl Model for Spans {
 impl Spans {
     /// The addresses of one kind that the ranges hold, by their numbers.
     pub fn of(alloc: Global, ranges: &[Range], v6: bool) -> Result<Spans, WantOfMemory>
-        ensures { IfOk result (λ s. (n : ℕ) → n < 2 ^ 128 → in_spans s n ≡ in_some_range ranges.now (record { v6 = v6; number = n })) }
+        ensures { IfOk result
+            (λ s. (n : ℕ) → n < 2 ^ 128
+            → in_spans s n ≡ in_some_range ranges.now (record { v6 = v6; number = n })) }
     {
         let spans = parts(alloc, ranges, v6)?;
         Spans::make(alloc, spans)
@@ -64,7 +66,8 @@ impl Spans {
 
 // The addresses of one kind that a range holds, if it has some.
 fn part_of(range: &Range, v6: bool) -> Option<Span>
-    ensures { (n : ℕ) → n < 2 ^ 128 → in_part result n ≡ in_range range.now (record { v6 = v6; number = n }) }
+    ensures { (n : ℕ) → n < 2 ^ 128
+        → in_part result n ≡ in_range range.now (record { v6 = v6; number = n }) }
 {
     let first = match (range.first.v6, v6) {
         (true, false) => return None,
@@ -81,7 +84,9 @@ fn part_of(range: &Range, v6: bool) -> Option<Span>
 
 // The same of each range.
 fn parts(alloc: Global, ranges: &[Range], v6: bool) -> Result<Vec<Span>, WantOfMemory>
-    ensures { IfOk result (λ s. (n : ℕ) → n < 2 ^ 128 → in_spans s.items n ≡ in_some_range ranges.now (record { v6 = v6; number = n })) }
+    ensures { IfOk result
+        (λ s. (n : ℕ) → n < 2 ^ 128
+        → in_spans s.items n ≡ in_some_range ranges.now (record { v6 = v6; number = n })) }
 {
     let mut spans = Vec::new(alloc);
     for range in ranges {

@@ -13,7 +13,7 @@ use Rattle.sq_base.specs.Requests.{has_no_colon, have_plain_names}
 use Rattle.sq_base.specs.Escapes.{text_of, text_word}
 use Rattle.sq_base.specs.declared.requests.Field.{Field}
 use Rattle.sq_journal.specs.EntryText.{field_word}
-use Rattle.sq_rules.specs.Steps.{Words}
+use Rattle.sq_rules.specs.Steps.{WordList}
 use Rattle.sq_journal.specs.Reading.{field_at, cut_field, field_from, fields_from, fields_in, with_field}
 use Rattle.sq_base.specs.Addresses.{is_colon}
 use Rattle.sq_base.specs.Texts.{AreBytes}
@@ -36,7 +36,8 @@ name_len (b ∷ bs) more h =
     let both = and_parts (not_colon b) (has_no_colon bs) h in
     rw (both.0, name_len bs more both.1) (omega arith)
 
-found_colon : (text : List ℕ) (k : ℕ) → position_or_len is_colon text ≡ k → k < length text → position is_colon text ≡ Some k
+found_colon : (text : List ℕ) (k : ℕ) → position_or_len is_colon text ≡ k → k < length text
+    → position is_colon text ≡ Some k
 found_colon text k e l =
     let inside : nat_lt (position_or_len is_colon text) (length text) ≡ true = grind (arith, nat_tests, e) in
     rw (inside, e) refl
@@ -51,13 +52,16 @@ unfolding cut_field
 cut_again f h =
     let text = f.name ++ 58 ∷ f.value in
     let inside : length f.name < length text = omega (arith, length-append f.name (58 ∷ f.value)) in
-    let at : position is_colon text ≡ Some (length f.name) = found_colon text (length f.name) (name_len f.name f.value h) inside in
+    let at : position is_colon text ≡ Some (length f.name) =
+    found_colon text (length f.name) (name_len f.name f.value h) inside in
     let front : take (length f.name) text ≡ f.name = take-append_seam f.name (58 ∷ f.value) in
-    let back : drop (length f.name + 1) text ≡ f.value = sym (drop-drop 1 (length f.name) text) ∙ ap (drop 1) (drop_seam f.name (58 ∷ f.value)) in
+    let back : drop (length f.name + 1) text ≡ f.value = sym (drop-drop 1 (length f.name) text)
+    ∙ ap (drop 1) (drop_seam f.name (58 ∷ f.value)) in
     ap (field_at text) at ∙ rw (front, back) refl
 
 -- before the first colon stands none
-front_at : (b : ℕ) (bs : List ℕ) (t : Bool) (k : ℕ) → not_colon b ≡ t → k ≡ suc (prefix_len not_colon bs) → has_no_colon (take (prefix_len not_colon bs) bs) ≡ true
+front_at : (b : ℕ) (bs : List ℕ) (t : Bool) (k : ℕ) → not_colon b ≡ t → k ≡ suc (prefix_len not_colon bs)
+    → has_no_colon (take (prefix_len not_colon bs) bs) ≡ true
     → has_no_colon (take (cond t k 0) (b ∷ bs)) ≡ true
 front_at b bs true k e n h = rw n (and_from (not_colon b) (has_no_colon (take (prefix_len not_colon bs) bs)) e h)
 front_at b bs false k e n h = refl
@@ -73,8 +77,10 @@ cond_found : (t : Bool) (n m k : ℕ) → nat_lt n m ≡ t → cond t (Some n) N
 cond_found true n m k is e = let same : n ≡ k = same_Some n k e in (sym same, omega (arith, ltb-true n m is, same))
 cond_found false n m k is e = absurd (none-some k e)
 
-cut_found : (text : List ℕ) (k : ℕ) → position is_colon text ≡ Some k → (k ≡ position_or_len is_colon text) × (k < length text)
-cut_found text k e = cond_found (nat_lt (position_or_len is_colon text) (length text)) (position_or_len is_colon text) (length text) k refl e
+cut_found : (text : List ℕ) (k : ℕ) → position is_colon text ≡ Some k
+    → (k ≡ position_or_len is_colon text) × (k < length text)
+cut_found text k e = cond_found (nat_lt (position_or_len is_colon text) (length text)) (position_or_len is_colon text)
+    (length text) k refl e
 
 cut_by_place : (text : List ℕ) (o : Option ℕ) (f : Field) → position is_colon text ≡ o → field_at text o ≡ Some f
     → (text ≡ f.name ++ 58 ∷ f.value) × (has_no_colon f.name ≡ true) × (AreBytes text → IsField f)
@@ -84,23 +90,28 @@ cut_by_place text (Some k) f is e =
     let inside : position_or_len is_colon text < length text = omega (arith, c.0, c.1) in
     let whole = split_at_first is_colon text 0 inside in
     let colon = at_colon _ (passes_at_first is_colon text 0 inside) in
-    let parts : text ≡ take k text ++ 58 ∷ drop (k + 1) text = rw c.0 (subst (λ b. text ≡ before_first is_colon text ++ b ∷ after_first is_colon text) colon whole) in
+    let parts : text ≡ take k text ++ 58 ∷ drop (k + 1) text =
+    rw c.0 (subst (λ b. text ≡ before_first is_colon text ++ b ∷ after_first is_colon text) colon whole) in
     let name : has_no_colon (take k text) ≡ true = rw c.0 (front_plain text) in
-    subst (λ g. (text ≡ g.name ++ 58 ∷ g.value) × (has_no_colon g.name ≡ true) × (AreBytes text → IsField g)) (same_Some (record { name = take k text; value = drop (k + 1) text }) f e)
+    subst (λ g. (text ≡ g.name ++ 58 ∷ g.value) × (has_no_colon g.name ≡ true) × (AreBytes text → IsField g))
+    (same_Some (record { name = take k text; value = drop (k + 1) text }) f e)
     (parts, name, λ small. (All-take (λ b. b < 256) k text small, All-drop (λ b. b < 256) (k + 1) text small))
 
 -- a text that is cut is that of the field
-pub cut_takes : (text : List ℕ) (f : Field) → cut_field text ≡ Some f → (text ≡ f.name ++ 58 ∷ f.value) × (has_no_colon f.name ≡ true) × (AreBytes text → IsField f)
+pub cut_takes : (text : List ℕ) (f : Field) → cut_field text ≡ Some f
+    → (text ≡ f.name ++ 58 ∷ f.value) × (has_no_colon f.name ≡ true) × (AreBytes text → IsField f)
 unfolding cut_field
 cut_takes text f e = cut_by_place text (position is_colon text) f refl e
 
 field_bytes : (f : Field) → IsField f → AreBytes (f.name ++ 58 ∷ f.value)
-field_bytes f h = All-append (λ b. b < 256) f.name (58 ∷ f.value) h.0 (All-cons (λ b. b < 256) 58 f.value (omega arith) h.1)
+field_bytes f h = All-append (λ b. b < 256) f.name (58 ∷ f.value) h.0
+    (All-cons (λ b. b < 256) 58 f.value (omega arith) h.1)
 
 field_again : (f : Field) → FitsField f → field_from (field_word f) ≡ Some f
 unfolding field_from
 field_again f h =
-    bind_is (text_of (field_word f)) cut_field (f.name ++ 58 ∷ f.value) f (text_exact.again (f.name ++ 58 ∷ f.value) (field_bytes f h.0)) (cut_again f h.1)
+    bind_is (text_of (field_word f)) cut_field (f.name ++ 58 ∷ f.value) f
+    (text_exact.again (f.name ++ 58 ∷ f.value) (field_bytes f h.0)) (cut_again f h.1)
 
 field_takes : (w : List ℕ) (f : Field) → AreBytes w → field_from w ≡ Some f → (w ≡ field_word f) × FitsField f
 unfolding field_from
@@ -112,24 +123,29 @@ field_takes w f small e =
 
 -- the words of fields
 pub field_exact : ExactWord field_from field_word FitsField
-field_exact = record { again = field_again; takes = field_takes; plain = λ f h. text_exact.plain (f.name ++ 58 ∷ f.value) (field_bytes f h.0) }
+field_exact = record {
+  again = field_again;
+  takes = field_takes;
+  plain = λ f h. text_exact.plain (f.name ++ 58 ∷ f.value) (field_bytes f h.0);
+}
 
 -- no field stands next
-abbrev pub EndsFields : Words → Type 0
+abbrev pub EndsFields : WordList → Type 0
 EndsFields [] = Unit {0}
 EndsFields (w ∷ ws) = field_from w ≡ None
 
 -- `=>` is no field
-pub arrow_ends : (ws : Words) → EndsFields (codes "=>" ∷ ws)
+pub arrow_ends : (ws : WordList) → EndsFields (codes "=>" ∷ ws)
 unfolding field_from
 arrow_ends ws = ap (option_and_then cut_field) no_arrow
 
-none_next : (rest : Words) → EndsFields rest → fields_from rest ≡ ([], rest)
+none_next : (rest : WordList) → EndsFields rest → fields_from rest ≡ ([], rest)
 none_next [] h = refl
 none_next (w ∷ ws) h = ap (λ o. with_field o (w ∷ ws) (fields_from ws)) h
 
 -- fields that were written are read, where no field follows
-pub fields_again : (fs : List Field) (rest : Words) → AreFields fs → have_plain_names fs ≡ true → EndsFields rest → fields_from (map field_word fs ++ rest) ≡ (fs, rest)
+pub fields_again : (fs : List Field) (rest : WordList) → AreFields fs → have_plain_names fs ≡ true → EndsFields rest
+    → fields_from (map field_word fs ++ rest) ≡ (fs, rest)
 fields_again [] rest small names end = none_next rest end
 fields_again (f ∷ fs) rest small names end =
     let both = and_parts (has_no_colon f.name) (have_plain_names fs) names in
@@ -138,13 +154,14 @@ fields_again (f ∷ fs) rest small names end =
     ∙ ap (λ p. (f ∷ p.0, p.1)) (fields_again fs rest small.1 both.1 end)
 
 -- the fields that were read, and the words that were left
-pub record AreRead (ws : Words) (fs : List Field) (rest : Words) : Type 0 where
+pub record AreRead (ws : WordList) (fs : List Field) (rest : WordList) : Type 0 where
   pub whole : ws ≡ map field_word fs ++ rest
   pub fit : AreFields fs
   pub names : have_plain_names fs ≡ true
   pub left : AreWords rest
 
-with_read : (w : List ℕ) (ws : Words) (o : Option Field) → field_from w ≡ o → AreBytes w → AreWords ws → AreRead ws (fields_from ws).0 (fields_from ws).1
+with_read : (w : List ℕ) (ws : WordList) (o : Option Field) → field_from w ≡ o → AreBytes w → AreWords ws
+    → AreRead ws (fields_from ws).0 (fields_from ws).1
     → AreRead (w ∷ ws) (with_field o (w ∷ ws) (fields_from ws)).0 (with_field o (w ∷ ws) (fields_from ws)).1
 with_read w ws None is small smalls more = record { whole = refl; fit = tt; names = refl; left = (small, smalls) }
 with_read w ws (Some f) is small smalls more =
@@ -157,14 +174,17 @@ with_read w ws (Some f) is small smalls more =
     }
 
 -- the fields that stand first, whatever the words
-pub fields_read : (ws : Words) → AreWords ws → AreRead ws (fields_from ws).0 (fields_from ws).1
+pub fields_read : (ws : WordList) → AreWords ws → AreRead ws (fields_from ws).0 (fields_from ws).1
 fields_read [] small = record { whole = refl; fit = tt; names = refl; left = tt }
 fields_read (w ∷ ws) small = with_read w ws (field_from w) refl small.0 small.1 (fields_read ws small.1)
 
 -- no word of a field has a space
 pub fields_plain : (fs : List Field) → AreFields fs → ArePlain (map field_word fs)
 fields_plain [] small = tt
-fields_plain (f ∷ fs) small = (text_exact.plain (f.name ++ 58 ∷ f.value) (field_bytes f small.0), fields_plain fs small.1)
+fields_plain (f ∷ fs) small = (
+  text_exact.plain (f.name ++ 58 ∷ f.value) (field_bytes f small.0),
+  fields_plain fs small.1,
+)
 
 -- the fields of an event
 abbrev pub FitFields : List Field → Type 0
@@ -175,5 +195,6 @@ pub fields_takes : TakesOnly fields_in (map field_word) FitFields
 fields_takes = record {
   of = λ ws y small e.
       let t = fields_read ws small in
-      subst (λ z. IsRead (map field_word) FitFields ws z) (same_Some (fields_from ws) y e) (t.whole, (t.fit, t.names), t.left);
+      subst (λ z. IsRead (map field_word) FitFields ws z) (same_Some (fields_from ws) y e)
+      (t.whole, (t.fit, t.names), t.left);
 }

@@ -10,7 +10,7 @@ use Rattle.sq_machine.specs.declared.entries.Event.TheVariants.{Begin, Open, Clo
 use Rattle.sq_journal.specs.declared.names.EventName.TheVariants as name
 use Rattle.sq_journal.specs.EntryText.{event_words, field_word}
 use Rattle.sq_journal.specs.Names.{event_names}
-use Rattle.sq_rules.specs.Steps.{Words}
+use Rattle.sq_rules.specs.Steps.{WordList}
 use Rattle.sq_journal.specs.Reading.{word_in, below_in, number_in, text_in, offset_from, printed_address, event_after, event_in}
 use Rattle.sq_base.specs.Texts.{AreBytes}
 use Rattle.sq_journal.specs.Values.{IsNumber, IsOffset, HoldsValues, IsEvent}
@@ -46,19 +46,26 @@ event_rows : EachRow (λ w k. TakesAfter (w ∷ []) (event_after k) event_words 
 unfolding event_after
 event_rows =
     fields1_takes Begin _ _ _ offset.takes (codes "begin" ∷ []) event_words IsEvent (λ a. refl) (λ a p. (p, refl))
-    ⊗ fields3_takes Open _ _ _ number.takes _ _ _ address.takes _ _ _ port.takes (codes "open" ∷ []) event_words IsEvent (λ a b c. refl) (λ a b c p q r. ((p, q, r), refl))
+    ⊗ fields3_takes Open _ _ _ number.takes _ _ _ address.takes _ _ _ port.takes (codes "open" ∷ []) event_words IsEvent
+    (λ a b c. refl) (λ a b c p q r. ((p, q, r), refl))
     ⊗ fields1_takes Close _ _ _ number.takes (codes "close" ∷ []) event_words IsEvent (λ a. refl) (λ a p. (p, refl))
-    ⊗ fields4_takes Ask _ _ _ number.takes _ _ _ text.takes _ _ _ text.takes _ _ _ fields_takes (codes "ask" ∷ []) event_words IsEvent (λ a b c d. refl) (λ a b c d p q r s. ((p, q, r, s.0), s.1))
+    ⊗ fields4_takes Ask _ _ _ number.takes _ _ _ text.takes _ _ _ text.takes _ _ _ fields_takes (codes "ask" ∷ [])
+    event_words IsEvent (λ a b c d. refl) (λ a b c d p q r s. ((p, q, r, s.0), s.1))
     ⊗ fields1_takes Step _ _ _ number.takes (codes "step" ∷ []) event_words IsEvent (λ a. refl) (λ a p. (p, refl))
     ⊗ fields1_takes Take _ _ _ number.takes (codes "take" ∷ []) event_words IsEvent (λ a. refl) (λ a p. (p, refl))
-    ⊗ fields2_takes Started _ _ _ number.takes _ _ _ text.takes (codes "started" ∷ []) event_words IsEvent (λ a b. refl) (λ a b p q. ((p, q), refl))
-    ⊗ fields2_takes StartFail _ _ _ number.takes _ _ _ text.takes (codes "startfail" ∷ []) event_words IsEvent (λ a b. refl) (λ a b p q. ((p, q), refl))
-    ⊗ fields2_takes Line _ _ _ number.takes _ _ _ text.takes (codes "line" ∷ []) event_words IsEvent (λ a b. refl) (λ a b p q. ((p, q), refl))
+    ⊗ fields2_takes Started _ _ _ number.takes _ _ _ text.takes (codes "started" ∷ []) event_words IsEvent (λ a b. refl)
+    (λ a b p q. ((p, q), refl))
+    ⊗ fields2_takes StartFail _ _ _ number.takes _ _ _ text.takes (codes "startfail" ∷ []) event_words IsEvent
+    (λ a b. refl) (λ a b p q. ((p, q), refl))
+    ⊗ fields2_takes Line _ _ _ number.takes _ _ _ text.takes (codes "line" ∷ []) event_words IsEvent (λ a b. refl)
+    (λ a b p q. ((p, q), refl))
     ⊗ fields1_takes Died _ _ _ number.takes (codes "died" ∷ []) event_words IsEvent (λ a. refl) (λ a p. (p, refl))
     ⊗ fields0_takes Act (codes "act" ∷ []) event_words IsEvent refl (tt, refl)
-    ⊗ fields1_takes Reconfigure _ _ _ text.takes (codes "reconfigure" ∷ []) event_words IsEvent (λ a. refl) (λ a p. (p, refl))
+    ⊗ fields1_takes Reconfigure _ _ _ text.takes (codes "reconfigure" ∷ []) event_words IsEvent (λ a. refl)
+    (λ a p. (p, refl))
     ⊗ fields1_takes Seat _ _ _ number.takes (codes "seat" ∷ []) event_words IsEvent (λ a. refl) (λ a p. (p, refl))
-    ⊗ fields2_takes Grant _ _ _ number.takes _ _ _ number.takes (codes "grant" ∷ []) event_words IsEvent (λ a b. refl) (λ a b p q. ((p, q), lt-ltb b (2 ^ 63) q))
+    ⊗ fields2_takes Grant _ _ _ number.takes _ _ _ number.takes (codes "grant" ∷ []) event_words IsEvent (λ a b. refl)
+    (λ a b p q. ((p, q), lt-ltb b (2 ^ 63) q))
     ⊗ fields1_takes Leave _ _ _ number.takes (codes "leave" ∷ []) event_words IsEvent (λ a. refl) (λ a p. (p, refl))
     ⊗ tt
 
@@ -67,21 +74,28 @@ pub event_takes : TakesOnly event_in event_words IsEvent
 unfolding event_in
 event_takes = by_name event_names event_after event_words IsEvent event_rows
 
-ask_again : (conn : ℕ) (method target : List ℕ) (fields : _) (rest : Words) → HoldsValues (Ask conn method target fields) → have_plain_names fields ≡ true → EndsFields rest
-    → event_after name.Ask (decimal conn ∷ text_word method ∷ text_word target ∷ map field_word fields ++ rest) ≡ Some (Ask conn method target fields, rest)
+ask_again : (conn : ℕ) (method target : List ℕ) (fields : _) (rest : WordList)
+    → HoldsValues (Ask conn method target fields) → have_plain_names fields ≡ true → EndsFields rest
+    → event_after name.Ask (decimal conn ∷ text_word method ∷ text_word target ∷ map field_word fields ++ rest)
+    ≡ Some (Ask conn method target fields, rest)
 unfolding event_after
 ask_again conn method target fields rest h names end =
     let more = map field_word fields ++ rest in
-    bind_is (number_in (decimal conn ∷ text_word method ∷ text_word target ∷ more)) _ (conn, text_word method ∷ text_word target ∷ more) _ (number.again conn (text_word method ∷ text_word target ∷ more) h.0)
-    (bind_is (text_in (text_word method ∷ text_word target ∷ more)) _ (method, text_word target ∷ more) _ (text.again method (text_word target ∷ more) h.1)
+    bind_is (number_in (decimal conn ∷ text_word method ∷ text_word target ∷ more)) _
+    (conn, text_word method ∷ text_word target ∷ more) _
+    (number.again conn (text_word method ∷ text_word target ∷ more) h.0)
+    (bind_is (text_in (text_word method ∷ text_word target ∷ more)) _ (method, text_word target ∷ more) _
+    (text.again method (text_word target ∷ more) h.1)
     (bind_is (text_in (text_word target ∷ more)) _ (target, more) _ (text.again target more h.2)
     (ap (λ p. Some (Ask conn method target p.0, p.1)) (fields_again fields rest h.3 names end))))
 
 -- an event that was written is read, where no field follows
-pub event_again : (e : Event) (rest : Words) → IsEvent e → EndsFields rest → event_in (event_words e ++ rest) ≡ Some (e, rest)
+pub event_again : (e : Event) (rest : WordList) → IsEvent e → EndsFields rest
+    → event_in (event_words e ++ rest) ≡ Some (e, rest)
 unfolding event_in word_in event_after
 event_again (Begin z) rest h end = fields1_again Begin _ _ _ offset z rest h.0
-event_again (Open c a p) rest h end = fields3_again Open _ _ _ number _ _ _ address _ _ _ port c a p rest h.0.0 h.0.1 h.0.2
+event_again (Open c a p) rest h end = fields3_again Open _ _ _ number _ _ _ address _ _ _ port c a p rest h.0.0 h.0.1
+    h.0.2
 event_again (Close c) rest h end = fields1_again Close _ _ _ number c rest h.0
 event_again (Ask c m t fs) rest h end = ask_again c m t fs rest h.0 h.1 end
 event_again (Step n) rest h end = fields1_again Step _ _ _ number n rest h.0
@@ -103,14 +117,25 @@ number_plain n h = ((number_exact number_limit (omega arith)).plain n h, tt)
 -- no word of an event has a space
 pub event_plain : (e : Event) → HoldsValues e → ArePlain (event_words e)
 event_plain (Begin z) h = (plain_word (codes "begin") refl, (offset_exact.plain z h, tt))
-event_plain (Open c a p) h =
-    (plain_word (codes "open") refl, ((number_plain c h.0).0, (address_exact.plain a h.1, ((number_exact (2 ^ 16) (omega arith)).plain p h.2, tt))))
+event_plain (Open c a p) h = (
+  plain_word (codes "open") refl,
+  ((number_plain c h.0).0, (address_exact.plain a h.1, ((number_exact (2 ^ 16) (omega arith)).plain p h.2, tt))),
+)
 event_plain (Close c) h = (plain_word (codes "close") refl, number_plain c h)
-event_plain (Ask c m t fs) h = (plain_word (codes "ask") refl, ((number_plain c h.0).0, (text_exact.plain m h.1, (text_exact.plain t h.2, fields_plain fs h.3))))
+event_plain (Ask c m t fs) h = (
+  plain_word (codes "ask") refl,
+  ((number_plain c h.0).0, (text_exact.plain m h.1, (text_exact.plain t h.2, fields_plain fs h.3))),
+)
 event_plain (Step n) h = (plain_word (codes "step") refl, number_plain n h)
 event_plain (Take n) h = (plain_word (codes "take") refl, number_plain n h)
-event_plain (Started e c) h = (plain_word (codes "started") refl, ((number_plain e h.0).0, (text_exact.plain c h.1, tt)))
-event_plain (StartFail e c) h = (plain_word (codes "startfail") refl, ((number_plain e h.0).0, (text_exact.plain c h.1, tt)))
+event_plain (Started e c) h = (
+  plain_word (codes "started") refl,
+  ((number_plain e h.0).0, (text_exact.plain c h.1, tt)),
+)
+event_plain (StartFail e c) h = (
+  plain_word (codes "startfail") refl,
+  ((number_plain e h.0).0, (text_exact.plain c h.1, tt)),
+)
 event_plain (Line p b) h = (plain_word (codes "line") refl, ((number_plain p h.0).0, (text_exact.plain b h.1, tt)))
 event_plain (Died p) h = (plain_word (codes "died") refl, number_plain p h)
 event_plain Act h = (plain_word (codes "act") refl, tt)

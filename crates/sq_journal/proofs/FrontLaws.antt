@@ -6,7 +6,9 @@ and_front true b c d e = e
 and_front false b c d e = refl
 
 -- the front is compared, and then the rest
-pub front_first : (xs ps ys : List ℕ) → bytes_eq xs (ps ++ ys) ≡ (bytes_eq (take (length ps) xs) ps && bytes_eq (drop (length ps) xs) ys)
+pub front_first : (xs ps ys : List ℕ)
+    → bytes_eq xs (ps ++ ys) ≡ (bytes_eq (take (length ps) xs) ps && bytes_eq (drop (length ps) xs) ys)
 front_first xs [] ys = refl
 front_first [] (p ∷ ps) ys = refl
-front_first (x ∷ xs) (p ∷ ps) ys = and_front (nat_eq x p) (bytes_eq xs (ps ++ ys)) (bytes_eq (take (length ps) xs) ps) (bytes_eq (drop (length ps) xs) ys) (front_first xs ps ys)
+front_first (x ∷ xs) (p ∷ ps) ys = and_front (nat_eq x p) (bytes_eq xs (ps ++ ys)) (bytes_eq (take (length ps) xs) ps)
+    (bytes_eq (drop (length ps) xs) ys) (front_first xs ps ys)

@@ -18,12 +18,20 @@ pub puts_then : {T U E F : Type 0} (a b c : Option (List ℕ)) (m n k : ℕ) (u 
 puts_then a b c m n k u (Ok x) first next p q = record {
   whole = Appends-trans a b c first next p.whole q.whole;
   short = tt;
-  cause = record { later = omega (arith, p.cause.quiet, q.cause.later); failed = tt; quiet = q.cause.quiet ∙ p.cause.quiet };
+  cause = record {
+    later = omega (arith, p.cause.quiet, q.cause.later);
+    failed = tt;
+    quiet = q.cause.quiet ∙ p.cause.quiet;
+  };
 }
 puts_then a b c m n k u (Err e) first next p q = record {
   whole = tt;
   short = Grew_proper_after a b c first next p.whole q.short;
-  cause = record { later = omega (arith, p.cause.quiet, q.cause.later); failed = subst (λ x. Rose x k) p.cause.quiet q.cause.failed; quiet = tt };
+  cause = record {
+    later = omega (arith, p.cause.quiet, q.cause.later);
+    failed = subst (λ x. Rose x k) p.cause.quiet q.cause.failed;
+    quiet = tt;
+  };
 }
 
 -- a fault in the first text
@@ -40,7 +48,8 @@ pub halfway_none : (a : Option (List ℕ)) (m : ℕ) (whole : List ℕ) → Half
 halfway_none a m whole = record { done = []; wrote = Appends-nil a; whole_is = refl; quiet = refl }
 
 -- one piece more
-pub halfway_more : {T E : Type 0} (a b c : Option (List ℕ)) (m n k : ℕ) (u : T) (whole rest piece next : List ℕ) → Halfway a b m n whole rest → rest ≡ piece ++ next
+pub halfway_more : {T E : Type 0} (a b c : Option (List ℕ)) (m n k : ℕ) (u : T) (whole rest piece next : List ℕ)
+    → Halfway a b m n whole rest → rest ≡ piece ++ next
     → Puts {E = E} b c n k (Ok u) piece → Halfway a c m k whole next
 halfway_more a b c m n k u whole rest piece next h e p = record {
   done = h.done ++ piece;
@@ -50,19 +59,26 @@ halfway_more a b c m n k u whole rest piece next h e p = record {
 }
 
 -- a fault in the next piece
-pub halfway_stop : {T U E F : Type 0} (a b c : Option (List ℕ)) (m n k : ℕ) (e : E) (f : F) (whole rest piece next : List ℕ) → Halfway a b m n whole rest → rest ≡ piece ++ next
+pub halfway_stop : {T U E F : Type 0} (a b c : Option (List ℕ)) (m n k : ℕ) (e : E) (f : F)
+    (whole rest piece next : List ℕ) → Halfway a b m n whole rest → rest ≡ piece ++ next
     → Puts {T = T} b c n k (Err e) piece → Puts {T = U} a c m k (Err f) whole
 halfway_stop a b c m n k e f whole rest piece next h is p =
-    let all : (h.done ++ piece) ++ next ≡ whole = append_assoc h.done piece next ∙ ap (λ r. h.done ++ r) (sym is) ∙ h.whole_is in
+    let all : (h.done ++ piece) ++ next ≡ whole = append_assoc h.done piece next ∙ ap (λ r. h.done ++ r) (sym is)
+    ∙ h.whole_is in
     record {
       whole = tt;
       short = subst (λ w. Grew a c (λ part. IsProperPrefix part w)) all
           (Grew_proper_more a c (h.done ++ piece) next (Grew_proper_after a b c h.done piece h.wrote p.short));
-      cause = record { later = omega (arith, h.quiet, p.cause.later); failed = subst (λ x. Rose x k) h.quiet p.cause.failed; quiet = tt };
+      cause = record {
+        later = omega (arith, h.quiet, p.cause.later);
+        failed = subst (λ x. Rose x k) h.quiet p.cause.failed;
+        quiet = tt;
+      };
     }
 
 -- nothing is to come
-pub halfway_done : {T E : Type 0} (a b : Option (List ℕ)) (m n : ℕ) (u : T) (whole rest : List ℕ) → Halfway a b m n whole rest → rest ≡ [] → Puts {E = E} a b m n (Ok u) whole
+pub halfway_done : {T E : Type 0} (a b : Option (List ℕ)) (m n : ℕ) (u : T) (whole rest : List ℕ)
+    → Halfway a b m n whole rest → rest ≡ [] → Puts {E = E} a b m n (Ok u) whole
 halfway_done a b m n u whole rest h e = record {
   whole = subst (Appends a b) (sym (append-nil h.done) ∙ ap (λ r. h.done ++ r) (sym e) ∙ h.whole_is) h.wrote;
   short = tt;
@@ -72,27 +88,32 @@ halfway_done a b m n u whole rest h e = record {
 -- the next of some words after spaces
 pub spaced_next : {A : Type 0} (f : A → List ℕ) (xs : List A) (i : ℕ) (d : A) → i < length xs
     → after_spaces (map f (drop i xs)) ≡ (32 ∷ f (get_or xs i d)) ++ after_spaces (map f (drop (i + 1) xs))
-spaced_next f xs i d below = ap (λ l. after_spaces (map f l)) (drop-cons xs i d below ∙ ap (λ k. get_or xs i d ∷ drop k xs) (sym (add-one i)))
+spaced_next f xs i d below = ap (λ l. after_spaces (map f l))
+    (drop-cons xs i d below ∙ ap (λ k. get_or xs i d ∷ drop k xs) (sym (add-one i)))
 
 -- past the last word nothing is to come
-pub spaced_end : {A : Type 0} (f : A → List ℕ) (xs : List A) (i : ℕ) → length xs ≤ i → after_spaces (map f (drop i xs)) ≡ []
+pub spaced_end : {A : Type 0} (f : A → List ℕ) (xs : List A) (i : ℕ) → length xs ≤ i
+    → after_spaces (map f (drop i xs)) ≡ []
 spaced_end f xs i over = ap (λ l. after_spaces (map f l)) (drop_all i xs over)
 
 -- the next of some texts one behind the other
 pub joined_next : {A : Type 0} (f : A → List ℕ) (xs : List A) (i : ℕ) (d : A) → i < length xs
     → flat_map f (drop i xs) ≡ f (get_or xs i d) ++ flat_map f (drop (i + 1) xs)
 joined_next f xs i d below =
-    ap (λ l. flat_map f l) (drop-cons xs i d below ∙ ap (λ k. get_or xs i d ∷ drop k xs) (sym (add-one i))) ∙ flat_map-cons f (get_or xs i d) (drop (i + 1) xs)
+    ap (λ l. flat_map f l) (drop-cons xs i d below ∙ ap (λ k. get_or xs i d ∷ drop k xs) (sym (add-one i)))
+    ∙ flat_map-cons f (get_or xs i d) (drop (i + 1) xs)
 
 -- past the last text nothing is to come
 pub joined_end : {A : Type 0} (f : A → List ℕ) (xs : List A) (i : ℕ) → length xs ≤ i → flat_map f (drop i xs) ≡ []
 joined_end f xs i over = ap (λ l. flat_map f l) (drop_all i xs over)
 
 -- four texts with one between
-pub dotted : (a b c d dot : List ℕ) → a ++ dot ++ b ++ dot ++ c ++ dot ++ d ≡ (a ++ dot) ++ ((b ++ dot) ++ ((c ++ dot) ++ d))
+pub dotted : (a b c d dot : List ℕ)
+    → a ++ dot ++ b ++ dot ++ c ++ dot ++ d ≡ (a ++ dot) ++ ((b ++ dot) ++ ((c ++ dot) ++ d))
 dotted a b c d dot =
     append_assoc (a ++ dot ++ b ++ dot ++ c) dot d
     ∙ append_assoc (a ++ dot ++ b ++ dot) c (dot ++ d)
     ∙ append_assoc (a ++ dot ++ b) dot (c ++ (dot ++ d))
     ∙ append_assoc (a ++ dot) b (dot ++ (c ++ (dot ++ d)))
-    ∙ ap (λ l. (a ++ dot) ++ l) (sym (append_assoc b dot (c ++ (dot ++ d))) ∙ ap (λ l. (b ++ dot) ++ l) (sym (append_assoc c dot d)))
+    ∙ ap (λ l. (a ++ dot) ++ l)
+    (sym (append_assoc b dot (c ++ (dot ++ d))) ∙ ap (λ l. (b ++ dot) ++ l) (sym (append_assoc c dot d)))

@@ -12,4 +12,5 @@ each_field (f ∷ fs) h = (All-head IsField f fs h, each_field fs (All-tail IsFi
 
 -- a front that is as long as the list
 pub take_whole : {A : Type 0} (xs : List A) (n : ℕ) → length xs ≤ n → take n xs ≡ xs
-take_whole xs n h = sym (append-nil (take n xs)) ∙ ap (λ l. take n xs ++ l) (sym (drop_of_length-le xs h)) ∙ take-append-drop n xs
+take_whole xs n h = sym (append-nil (take n xs)) ∙ ap (λ l. take n xs ++ l) (sym (drop_of_length-le xs h))
+    ∙ take-append-drop n xs

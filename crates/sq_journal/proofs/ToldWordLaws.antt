@@ -67,7 +67,8 @@ cause_again cause.KeyTooLong = refl
 
 -- the words of causes
 pub cause_exact : ExactWord (beside cause_names) cause_word Any
-cause_exact = name_exact cause_names cause_word (refl ⊗ refl ⊗ refl ⊗ refl ⊗ refl ⊗ refl ⊗ refl ⊗ tt) cause_again cause_plain
+cause_exact = name_exact cause_names cause_word (refl ⊗ refl ⊗ refl ⊗ refl ⊗ refl ⊗ refl ⊗ refl ⊗ tt) cause_again
+    cause_plain
 
 no_dash : (w : List ℕ) → All (λ b. IsInRange 48 57 b) w → bytes_eq w (codes "-") ≡ false
 no_dash [] h = refl
@@ -79,9 +80,13 @@ no_dash (b ∷ bs) h =
 channel_again : (x : Option ℕ) → IsChannel x → channel_of (channel_word x) ≡ Some x
 unfolding channel_of
 channel_again None h = refl
-channel_again (Some n) h = rw (no_dash (decimal n) (all_digits n (omega (arith, h))), (number_exact (2 ^ 32) (omega arith)).again n h) refl
+channel_again (Some n) h = rw (
+  no_dash (decimal n) (all_digits n (omega (arith, h))),
+  (number_exact (2 ^ 32) (omega arith)).again n h,
+) refl
 
-channel_at : (w : List ℕ) (t : Bool) (x : Option ℕ) → bytes_eq w (codes "-") ≡ t → AreBytes w → (if t then Some None else option_map Some (number_of (2 ^ 32) w)) ≡ Some x
+channel_at : (w : List ℕ) (t : Bool) (x : Option ℕ) → bytes_eq w (codes "-") ≡ t → AreBytes w
+    → (if t then Some None else option_map Some (number_of (2 ^ 32) w)) ≡ Some x
     → (w ≡ channel_word x) × IsChannel x
 channel_at w true x is small e =
     subst (λ y. (w ≡ channel_word y) × IsChannel y) (same_Some None x e) (word_is w (codes "-") is, tt)
@@ -105,7 +110,8 @@ channel_exact = record { again = channel_again; takes = channel_takes; plain = c
 less_of_more : (n : ℕ) → one_less (n + 1) ≡ Some n
 less_of_more n = let e : n + 1 ≡ suc n = omega arith in rw e refl
 
-pool_word_at : (w : List ℕ) (k n : ℕ) → w ≡ decimal k → k < 2 ^ 32 + 1 → one_less k ≡ Some n → (w ≡ decimal (n + 1)) × (n < 2 ^ 32)
+pool_word_at : (w : List ℕ) (k n : ℕ) → w ≡ decimal k → k < 2 ^ 32 + 1 → one_less k ≡ Some n
+    → (w ≡ decimal (n + 1)) × (n < 2 ^ 32)
 pool_word_at w zero n is l e = absurd (none-some n e)
 pool_word_at w (suc m) n is l e =
     let same : m ≡ n = same_Some m n e in
@@ -114,7 +120,8 @@ pool_word_at w (suc m) n is l e =
 
 pool_word_again : (n : ℕ) → n < 2 ^ 32 → pool_named (decimal (n + 1)) ≡ Some n
 unfolding pool_named
-pool_word_again n h = ap (option_and_then one_less) ((number_exact (2 ^ 32 + 1) (omega arith)).again (n + 1) (omega (arith, h))) ∙ less_of_more n
+pool_word_again n h = ap (option_and_then one_less)
+    ((number_exact (2 ^ 32 + 1) (omega arith)).again (n + 1) (omega (arith, h))) ∙ less_of_more n
 
 pool_word_takes : (w : List ℕ) (n : ℕ) → AreBytes w → pool_named w ≡ Some n → (w ≡ decimal (n + 1)) × (n < 2 ^ 32)
 unfolding pool_named
@@ -125,4 +132,8 @@ pool_word_takes w n small e =
 
 -- the words of pools
 pub pool_exact : ExactWord pool_named (λ n. decimal (n + 1)) (λ n. n < 2 ^ 32)
-pool_exact = record { again = pool_word_again; takes = pool_word_takes; plain = λ n h. decimal_plain (n + 1) (omega (arith, h)) }
+pool_exact = record {
+  again = pool_word_again;
+  takes = pool_word_takes;
+  plain = λ n h. decimal_plain (n + 1) (omega (arith, h));
+}

@@ -43,7 +43,8 @@ digit_plain c h = grind (arith, nat_tests)
 
 -- no digit of a number is a space
 pub decimal_plain : (n : ℕ) → n < 2 ^ 64 → IsPlain (decimal n)
-decimal_plain n h = All-from_get_or (λ b. is_space b ≡ false) (decimal n) 0 (λ i l. digit_plain _ (digit_at (decimal n) i (decimal_is_IsNumeral n h).0.1 l))
+decimal_plain n h = All-from_get_or (λ b. is_space b ≡ false) (decimal n) 0
+    (λ i l. digit_plain _ (digit_at (decimal n) i (decimal_is_IsNumeral n h).0.1 l))
 
 -- the words of numbers below a limit
 pub number_exact : (limit : ℕ) → limit ≤ 2 ^ 64 → ExactWord (number_of limit) decimal (λ n. n < limit)
@@ -53,21 +54,26 @@ number_exact limit top = record {
   plain = λ n h. decimal_plain n (omega (arith, h, top));
 }
 
-below_zero : (rest : List ℕ) (o : Option ℕ) (z : ℤ) → number_of 841 rest ≡ o → option_and_then negative o ≡ Some z → (45 ∷ rest ≡ signed_decimal z) × IsOffset z
+below_zero : (rest : List ℕ) (o : Option ℕ) (z : ℤ) → number_of 841 rest ≡ o → option_and_then negative o ≡ Some z
+    → (45 ∷ rest ≡ signed_decimal z) × IsOffset z
 below_zero rest None z is e = absurd (none-some z e)
 below_zero rest (Some zero) z is e = absurd (none-some z e)
 below_zero rest (Some (suc n)) z is e =
     let s = number_sound 841 rest (suc n) is in
-    subst (λ y. (45 ∷ rest ≡ signed_decimal y) × IsOffset y) (same_Some (negsuc n) z e) (ap (λ l. 45 ∷ l) s.0, (record { le = le→leb n 839 (omega (arith, s.1)) }, record { le = tt }))
+    subst (λ y. (45 ∷ rest ≡ signed_decimal y) × IsOffset y) (same_Some (negsuc n) z e)
+    (ap (λ l. 45 ∷ l) s.0, (record { le = le→leb n 839 (omega (arith, s.1)) }, record { le = tt }))
 
-from_zero : (word : List ℕ) (o : Option ℕ) (z : ℤ) → number_of 841 word ≡ o → option_map pos o ≡ Some z → (word ≡ signed_decimal z) × IsOffset z
+from_zero : (word : List ℕ) (o : Option ℕ) (z : ℤ) → number_of 841 word ≡ o → option_map pos o ≡ Some z
+    → (word ≡ signed_decimal z) × IsOffset z
 from_zero word None z is e = absurd (none-some z e)
 from_zero word (Some n) z is e =
     let s = number_sound 841 word n is in
-    subst (λ y. (word ≡ signed_decimal y) × IsOffset y) (same_Some (pos n) z e) (s.0, (record { le = tt }, record { le = le→leb n 840 (omega (arith, s.1)) }))
+    subst (λ y. (word ≡ signed_decimal y) × IsOffset y) (same_Some (pos n) z e)
+    (s.0, (record { le = tt }, record { le = le→leb n 840 (omega (arith, s.1)) }))
 
 offset_at : (b : ℕ) (rest : List ℕ) (t : Bool) (z : ℤ) → (b == 45) ≡ t
-    → (if t then option_and_then negative (number_of 841 rest) else option_map pos (number_of 841 (b ∷ rest))) ≡ Some z → (b ∷ rest ≡ signed_decimal z) × IsOffset z
+    → (if t then option_and_then negative (number_of 841 rest) else option_map pos (number_of 841 (b ∷ rest))) ≡ Some z
+    → (b ∷ rest ≡ signed_decimal z) × IsOffset z
 offset_at b rest true z is e =
     let m = below_zero rest (number_of 841 rest) z refl e in
     let first : b ≡ 45 = grind (arith, nat_tests, is) in
@@ -88,7 +94,8 @@ unfolding offset_from
 below_again n h = rw (number_again 841 (suc n) (omega arith) (omega arith)) refl
 
 -- digits, whose first byte is no `-`
-digits_read : (w : List ℕ) (n : ℕ) → All (λ b. IsInRange 48 57 b) w → number_of 841 w ≡ Some n → offset_from w ≡ Some (pos n)
+digits_read : (w : List ℕ) (n : ℕ) → All (λ b. IsInRange 48 57 b) w → number_of 841 w ≡ Some n
+    → offset_from w ≡ Some (pos n)
 unfolding offset_from
 digits_read [] n h e = absurd (empty_number n e)
 digits_read (b ∷ rest) n h e =
@@ -98,7 +105,8 @@ digits_read (b ∷ rest) n h e =
 
 -- the text of a number is of digits
 pub all_digits : (n : ℕ) → n < 2 ^ 64 → All (λ b. IsInRange 48 57 b) (decimal n)
-all_digits n h = All-from_get_or (λ b. IsInRange 48 57 b) (decimal n) 0 (λ i l. digit_at (decimal n) i (decimal_is_IsNumeral n h).0.1 l)
+all_digits n h = All-from_get_or (λ b. IsInRange 48 57 b) (decimal n) 0
+    (λ i l. digit_at (decimal n) i (decimal_is_IsNumeral n h).0.1 l)
 
 offset_again : (z : ℤ) → IsOffset z → offset_from (signed_decimal z) ≡ Some z
 offset_again (pos n) h =
@@ -108,7 +116,8 @@ offset_again (negsuc n) h = below_again n (omega (arith, leb→le n 839 h.0.le))
 
 offset_plain : (z : ℤ) → IsOffset z → IsPlain (signed_decimal z)
 offset_plain (pos n) h = decimal_plain n (omega (arith, leb→le n 840 h.1.le))
-offset_plain (negsuc n) h = All-cons (λ b. is_space b ≡ false) 45 (decimal (suc n)) refl (decimal_plain (suc n) (omega (arith, leb→le n 839 h.0.le)))
+offset_plain (negsuc n) h = All-cons (λ b. is_space b ≡ false) 45 (decimal (suc n)) refl
+    (decimal_plain (suc n) (omega (arith, leb→le n 839 h.0.le)))
 
 -- the words of offsets
 pub offset_exact : ExactWord offset_from signed_decimal IsOffset
@@ -122,16 +131,20 @@ dash_decoded : percent_decode (codes "-") ≡ codes "-"
 unfolding percent_decode
 dash_decoded = refl
 
-not_dash : (bytes : List ℕ) (b : Bool) → AreBytes bytes → bytes_eq bytes (codes "-") ≡ false → bytes_eq (escaped bytes) (codes "-") ≡ b → b ≡ false
+not_dash : (bytes : List ℕ) (b : Bool) → AreBytes bytes → bytes_eq bytes (codes "-") ≡ false
+    → bytes_eq (escaped bytes) (codes "-") ≡ b → b ≡ false
 not_dash bytes false small h e = refl
 not_dash bytes true small h e =
-    let is : bytes ≡ codes "-" = sym (back bytes small) ∙ ap percent_decode (word_is (escaped bytes) (codes "-") e) ∙ dash_decoded in
+    let is : bytes ≡ codes "-" = sym (back bytes small) ∙ ap percent_decode (word_is (escaped bytes) (codes "-") e)
+    ∙ dash_decoded in
     sym (sym h ∙ ap (λ t. bytes_eq t (codes "-")) is)
 
-unescaped_at : (bytes : List ℕ) (t : Bool) → bytes_eq bytes (codes "-") ≡ t → AreBytes bytes → unescaped (if t then codes "%2D" else escaped bytes) ≡ bytes
+unescaped_at : (bytes : List ℕ) (t : Bool) → bytes_eq bytes (codes "-") ≡ t → AreBytes bytes
+    → unescaped (if t then codes "%2D" else escaped bytes) ≡ bytes
 unfolding percent_decode
 unescaped_at bytes true e small = sym (word_is bytes (codes "-") e)
-unescaped_at bytes false e small = rw (not_dash bytes (bytes_eq (escaped bytes) (codes "-")) small e refl) (back bytes small)
+unescaped_at bytes false e small = rw (not_dash bytes (bytes_eq (escaped bytes) (codes "-")) small e refl)
+    (back bytes small)
 
 unescaped_word : (bytes : List ℕ) → AreBytes bytes → unescaped (text_word bytes) ≡ bytes
 unfolding text_word
@@ -141,7 +154,8 @@ unescaped_word (b ∷ bs) small = unescaped_at (b ∷ bs) (bytes_eq (b ∷ bs) (
 text_reads : (word bytes : List ℕ) → unescaped word ≡ bytes → word ≡ text_word bytes → text_of word ≡ Some bytes
 unfolding text_of
 text_reads word bytes u w =
-    let t : bytes_eq word (text_word (unescaped word)) ≡ true = (bytes_eq-Decides word (text_word (unescaped word))).1 (w ∙ ap text_word (sym u)) in
+    let t : bytes_eq word (text_word (unescaped word)) ≡ true =
+    (bytes_eq-Decides word (text_word (unescaped word))).1 (w ∙ ap text_word (sym u)) in
     rw t (ap Some u)
 
 unescaped_bytes : (word : List ℕ) (t : Bool) → AreBytes word → AreBytes (if t then [] else percent_decode word)
@@ -152,8 +166,10 @@ text_takes : (w bytes : List ℕ) → AreBytes w → text_of w ≡ Some bytes �
 unfolding text_of
 text_takes w bytes small e =
     let c = if_some (bytes_eq w (text_word (unescaped w))) (Some (unescaped w)) bytes e in
-    let is : unescaped w ≡ bytes = same_Some (unescaped w) bytes c.1 in
-    (word_is w (text_word (unescaped w)) c.0 ∙ ap text_word is, subst AreBytes is (unescaped_bytes w (bytes_eq w (codes "-")) small))
+    let is : unescaped w ≡ bytes = same_Some (unescaped w) bytes c.1 in (
+      word_is w (text_word (unescaped w)) c.0 ∙ ap text_word is,
+      subst AreBytes is (unescaped_bytes w (bytes_eq w (codes "-")) small),
+    )
 
 kept_plain : (b : ℕ) → should_percent_encode ESCAPES b ≡ false → is_space b ≡ false
 kept_plain b h = let kept : is_escaped b ≡ false = sym (same_test b) ∙ h in grind (arith, nat_tests, kept)
@@ -164,7 +180,8 @@ escape_plain b (inr (inl r)) = grind (arith, nat_tests)
 escape_plain b (inr (inr r)) = grind (arith, nat_tests)
 
 escaped_plain : (bytes : List ℕ) → IsPlain (escaped bytes)
-escaped_plain bytes = subst IsPlain (encodes bytes) (All-percent_encode (λ b. is_space b ≡ false) ESCAPES bytes kept_plain escape_plain)
+escaped_plain bytes = subst IsPlain (encodes bytes)
+    (All-percent_encode (λ b. is_space b ≡ false) ESCAPES bytes kept_plain escape_plain)
 
 plain_at : (bytes : List ℕ) (t : Bool) → IsPlain (if t then codes "%2D" else escaped bytes)
 plain_at bytes true = plain_word (codes "%2D") refl

@@ -16,18 +16,20 @@ use Rattle.sq_machine.specs.declared.entries.Told.TheVariants as told
 use Rattle.sq_machine.specs.Entries.{Noted, History}
 use Rattle.sq_rules.specs.OutcomeText.{outcome_words}
 use Rattle.sq_journal.specs.Lines.{line_of}
-use Rattle.sq_rules.specs.Steps.{Words}
+use Rattle.sq_rules.specs.Steps.{WordList}
 
 -- a field's word: name, `:` and value
 abbrev pub field_word : Field → List ℕ
 field_word f = text_word (f.name ++ colon ∷ f.value)
 
 -- the words of an event
-abbrev pub event_words : Event → Words
+abbrev pub event_words : Event → WordList
 event_words (Begin offset) = codes "begin" ∷ signed_decimal offset ∷ []
-event_words (Open conn addr port) = codes "open" ∷ decimal conn ∷ address_text addr ∷ decimal port ∷ []
+event_words (Open conn addr port) = codes "open" ∷ decimal conn ∷ address_text addr ∷ decimal port
+    ∷ []
 event_words (Close conn) = codes "close" ∷ decimal conn ∷ []
-event_words (Ask conn method target fields) = codes "ask" ∷ decimal conn ∷ text_word method ∷ text_word target ∷ map field_word fields
+event_words (Ask conn method target fields) = codes "ask" ∷ decimal conn ∷ text_word method
+    ∷ text_word target ∷ map field_word fields
 event_words (Step check) = codes "step" ∷ decimal check ∷ []
 event_words (Take check) = codes "take" ∷ decimal check ∷ []
 event_words (Started epoch class) = codes "started" ∷ decimal epoch ∷ text_word class ∷ []
@@ -52,7 +54,7 @@ channel_word None = codes "-"
 channel_word (Some channel) = decimal channel
 
 -- the words of an answer; a pool is counted from 1
-abbrev pub told_words : Told → Words
+abbrev pub told_words : Told → WordList
 told_words (told.Epoch epoch) = codes "epoch" ∷ decimal epoch ∷ []
 told_words told.Fine = codes "ok" ∷ []
 told_words (told.Check check) = codes "check" ∷ decimal check ∷ []
@@ -65,18 +67,19 @@ told_words (told.Reply question word) = codes "reply" ∷ decimal question ∷ r
 told_words told.Bad = codes "bad" ∷ []
 told_words told.Stray = codes "stray" ∷ []
 told_words (told.Start epoch class) = codes "start" ∷ decimal epoch ∷ text_word class ∷ []
-told_words (told.Send proc question channel key) = codes "send" ∷ decimal proc ∷ decimal question ∷ channel_word channel ∷ text_word key ∷ []
+told_words (told.Send proc question channel key) = codes "send" ∷ decimal proc ∷ decimal question
+    ∷ channel_word channel ∷ text_word key ∷ []
 told_words (told.Stop proc) = codes "stop" ∷ decimal proc ∷ []
 told_words (told.Seat seat pool) = codes "seat" ∷ decimal seat ∷ decimal (pool + 1) ∷ []
 told_words told.NoSeat = codes "none" ∷ []
 told_words (told.Granted bytes) = codes "granted" ∷ decimal bytes ∷ []
 
 -- the words of a moment and an event
-abbrev pub dated_words : ℕ → Event → Words
+abbrev pub dated_words : ℕ → Event → WordList
 dated_words moment event = decimal moment ∷ event_words event
 
 -- the words of an entry
-abbrev pub entry_words : Noted → Words
+abbrev pub entry_words : Noted → WordList
 entry_words e = decimal e.moment ∷ event_words e.event ++ codes "=>" ∷ told_words e.answer
 
 -- the text of a script's line: a moment and an event

@@ -1,15 +1,15 @@
--- The text of a whole journal. Version 1 is the lines of its entries. Version 2 begins with the line
--- `journal 2`, and each entry's text stands after its number and its epoch.
+-- The text of a whole journal. Version 1 is the lines of its entries. Version 2 begins with the
+-- line `journal 2`, and each entry's text stands after its number and its epoch.
 use Rattle.std.specs.Prelude.{ℕ, ◌+◌, ◌-◌, ◌^◌, min, List, [], ◌∷◌, ◌++◌, length, codes, decimal}
 use Rattle.sq_base.specs.Bytes.{lf}
 use Rattle.sq_machine.specs.Entries.{Noted, History}
 use Rattle.sq_machine.specs.Readings.{current}
-use Rattle.sq_rules.specs.Steps.{Words}
+use Rattle.sq_rules.specs.Steps.{WordList}
 use Rattle.sq_journal.specs.EntryText.{entry_words}
 use Rattle.sq_journal.specs.Lines.{line_of}
 
 -- the words of a numbered entry
-abbrev pub numbered_words : ℕ → ℕ → Noted → Words
+abbrev pub numbered_words : ℕ → ℕ → Noted → WordList
 numbered_words number epoch e = decimal number ∷ decimal epoch ∷ entry_words e
 
 -- the text of a numbered entry, without LF

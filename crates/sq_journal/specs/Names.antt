@@ -1,5 +1,5 @@
--- The names by which a line's words tell events, answers, and what these hold. The word of each value in
--- the texts is its name here.
+-- The names by which a line's words tell events, answers, and what these hold. The word of each
+-- value in the texts is its name here.
 use Rattle.std.specs.Prelude.{ℕ, List, [], ◌∷◌, Bool, true, false, codes}
 use Rattle.sq_base.specs.declared.helpers.Cause.{Cause}
 use Rattle.sq_base.specs.declared.helpers.Cause.TheVariants as cause
@@ -7,8 +7,8 @@ use Rattle.sq_base.specs.declared.helpers.Word.{Word}
 use Rattle.sq_base.specs.declared.helpers.Word.TheVariants as reply
 use Rattle.sq_journal.specs.declared.names.EventName.{EventName}
 use Rattle.sq_journal.specs.declared.names.EventName.TheVariants as event
-use Rattle.sq_journal.specs.declared.names.ToldName.{ToldName}
-use Rattle.sq_journal.specs.declared.names.ToldName.TheVariants as told
+use Rattle.sq_journal.specs.declared.names.AnswerName.{AnswerName}
+use Rattle.sq_journal.specs.declared.names.AnswerName.TheVariants as told
 use Rattle.sq_journal.specs.declared.names.WhyName.{WhyName}
 use Rattle.sq_journal.specs.declared.names.WhyName.TheVariants as why
 
@@ -33,7 +33,7 @@ event_names =
     ∷ []
 
 -- the names of answers
-abbrev pub told_names : List (List ℕ × ToldName)
+abbrev pub told_names : List (List ℕ × AnswerName)
 told_names =
     (codes "epoch", told.Epoch)
     ∷ (codes "ok", told.Fine)
@@ -55,7 +55,8 @@ told_names =
 
 -- the names of reasons
 abbrev pub why_names : List (List ℕ × WhyName)
-why_names = (codes "rule", why.Rule) ∷ (codes "default", why.Default) ∷ (codes "empty", why.Empty) ∷ (codes "fault", why.Fault) ∷ []
+why_names = (codes "rule", why.Rule) ∷ (codes "default", why.Default) ∷ (codes "empty", why.Empty)
+    ∷ (codes "fault", why.Fault) ∷ []
 
 -- the names of what was decided
 abbrev pub action_names : List (List ℕ × Bool)

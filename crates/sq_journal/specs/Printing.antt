@@ -4,11 +4,11 @@ use Rattle.std.specs.Fmt.{signed_decimal}
 use Rattle.sq_base.specs.Addresses.{address_text}
 use Rattle.sq_base.specs.Escapes.{text_word}
 use Rattle.sq_journal.specs.EntryText.{channel_word}
-use Rattle.sq_journal.specs.declared.printing.Piece.{Piece}
-use Rattle.sq_journal.specs.declared.printing.Piece.TheVariants.{Plain, Number, Offset, Address, Escaped, Channel}
+use Rattle.sq_journal.specs.declared.printing.EntryPiece.{EntryPiece}
+use Rattle.sq_journal.specs.declared.printing.EntryPiece.TheVariants.{Plain, Number, Offset, Address, Escaped, Channel}
 
 -- the text of a word
-abbrev pub piece_text : Piece → List ℕ
+abbrev pub piece_text : EntryPiece → List ℕ
 piece_text (Plain bytes) = bytes.now
 piece_text (Number n) = decimal n
 piece_text (Offset minutes) = signed_decimal minutes

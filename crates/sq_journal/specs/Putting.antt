@@ -6,7 +6,8 @@ use Rattle.sq_outside.specs.Causes.{HasCause}
 use Rattle.sq_outside.specs.Output.{Grew, IsProperPrefix}
 
 -- the text was written; or a front of it, and not all, before a fault, which the sink counted
-pub record Puts {T E : Type 0} (old new : Option (List ℕ)) (before now : ℕ) (result : Result T E) (text : List ℕ) : Type 0 where
+pub record Puts {T E : Type 0} (old new : Option (List ℕ)) (before now : ℕ) (result : Result T E)
+    (text : List ℕ) : Type 0 where
   pub whole : OnOk result (Appends old new text)
   pub short : OnErr result (Grew old new (λ part. IsProperPrefix part text))
   pub cause : HasCause before now result

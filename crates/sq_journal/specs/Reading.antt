@@ -9,7 +9,7 @@ use Rattle.sq_base.specs.NameTables.{beside}
 use Rattle.sq_base.specs.declared.requests.Field.{Field}
 use Rattle.sq_machine.specs.declared.entries.Event.{Event}
 use Rattle.sq_machine.specs.declared.entries.Event.TheVariants.{Begin, Open, Close, Ask, Step, Take, Started, StartFail, Line, Died, Act, Reconfigure, Seat, Grant, Leave}
-use Rattle.sq_rules.specs.Steps.{Words}
+use Rattle.sq_rules.specs.Steps.{WordList}
 use Rattle.sq_journal.specs.declared.faults.EntryFault.{EntryFault}
 use Rattle.sq_journal.specs.declared.faults.EntryFault.TheVariants.{BadEntry, WantOfMemory}
 use Rattle.sq_journal.specs.declared.names.EventName.{EventName}
@@ -18,16 +18,19 @@ use Rattle.sq_journal.specs.Names.{event_names}
 
 -- a value and the words after it
 abbrev pub Reads : Type 0 → Type 0
-Reads A = Words → Option (A × Words)
+Reads A = WordList → Option (A × WordList)
 
--- What a function returned, and the words that it left, are what reading gives, unless memory ran out.
-abbrev pub ReadsFront : {X : Type 0} → Result X EntryFault → Words → Option (X × Words) → Type 0
+-- What a function returned, and the words that it left, are what reading gives, unless memory ran
+-- out.
+abbrev pub ReadsFront : {X : Type 0} → Result X EntryFault → WordList → Option (X × WordList)
+    → Type 0
 ReadsFront (Ok x) left read = read ≡ Some (x, left)
 ReadsFront (Err BadEntry) left read = read ≡ None
 ReadsFront (Err WantOfMemory) left read = Unit {0}
 
 -- The same of a function that takes no memory, and so never wants any.
-abbrev pub ReadsWithoutMemory : {X : Type 0} → Result X EntryFault → Words → Option (X × Words) → Type 0
+abbrev pub ReadsWithoutMemory : {X : Type 0} → Result X EntryFault → WordList
+    → Option (X × WordList) → Type 0
 ReadsWithoutMemory (Ok x) left read = read ≡ Some (x, left)
 ReadsWithoutMemory (Err BadEntry) left read = read ≡ None
 ReadsWithoutMemory (Err WantOfMemory) left read = ⊥
@@ -50,7 +53,7 @@ word_in of [] = None
 word_in of (w ∷ ws) = option_map (λ x. (x, ws)) (of w)
 
 -- the value, where no word is left
-abbrev pub whole : {A : Type 0} → A × Words → Option A
+abbrev pub whole : {A : Type 0} → A × WordList → Option A
 whole (x, []) = Some x
 whole (x, w ∷ ws) = None
 
@@ -71,7 +74,8 @@ abbrev pub fields3 : {A B C X : Type 0} → (A → B → C → X) → Reads A �
 fields3 make f g h = then_in f (λ a. fields2 (make a) g h)
 
 -- four in turn
-abbrev pub fields4 : {A B C D X : Type 0} → (A → B → C → D → X) → Reads A → Reads B → Reads C → Reads D → Reads X
+abbrev pub fields4 : {A B C D X : Type 0} → (A → B → C → D → X) → Reads A → Reads B → Reads C
+    → Reads D → Reads X
 fields4 make f g h k = then_in f (λ a. fields3 (make a) g h k)
 
 -- a number below a limit
@@ -94,7 +98,8 @@ negative (suc n) = Some (negsuc n)
 -- an offset of 14 hours at most
 unfoldable pub offset_from : List ℕ → Option ℤ
 offset_from [] = None
-offset_from (b ∷ rest) = if b == dash then option_and_then negative (number_of 841 rest) else option_map pos (number_of 841 (b ∷ rest))
+offset_from (b ∷ rest) = if b == dash then option_and_then negative (number_of 841 rest)
+    else option_map pos (number_of 841 (b ∷ rest))
 
 -- the number has the bits of its kind, as each that is read has
 abbrev pub has_bits : Address → Bool
@@ -123,12 +128,12 @@ unfoldable pub field_from : List ℕ → Option Field
 field_from word = option_and_then cut_field (text_of word)
 
 -- the field before those after it; or none, and all words
-abbrev pub with_field : Option Field → Words → List Field × Words → List Field × Words
+abbrev pub with_field : Option Field → WordList → List Field × WordList → List Field × WordList
 with_field None all more = ([], all)
 with_field (Some f) all more = (f ∷ more.0, more.1)
 
 -- the fields at the front, and the words from the first that is no field's on
-abbrev pub fields_from : Words → List Field × Words
+abbrev pub fields_from : WordList → List Field × WordList
 fields_from [] = ([], [])
 fields_from (w ∷ ws) = with_field (field_from w) (w ∷ ws) (fields_from ws)
 
@@ -159,5 +164,6 @@ unfoldable pub event_in : Reads Event
 event_in = then_in (word_in (beside event_names)) event_after
 
 -- the moment and the event of a script's line
-unfoldable pub dated_of : Words → Option (ℕ × Event)
-dated_of ws = option_and_then whole (fields2 (λ moment event. (moment, event)) number_in event_in ws)
+unfoldable pub dated_of : WordList → Option (ℕ × Event)
+dated_of ws = option_and_then whole
+    (fields2 (λ moment event. (moment, event)) number_in event_in ws)

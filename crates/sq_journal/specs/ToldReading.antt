@@ -11,9 +11,9 @@ use Rattle.sq_rules.specs.declared.outcomes.Outcome.{Outcome}
 use Rattle.sq_rules.specs.declared.outcomes.Why.{Why}
 use Rattle.sq_rules.specs.declared.outcomes.Why.TheVariants as why
 use Rattle.sq_machine.specs.Entries.{Noted, is_row}
-use Rattle.sq_rules.specs.Steps.{Words}
-use Rattle.sq_journal.specs.declared.names.ToldName.{ToldName}
-use Rattle.sq_journal.specs.declared.names.ToldName.TheVariants as name
+use Rattle.sq_rules.specs.Steps.{WordList}
+use Rattle.sq_journal.specs.declared.names.AnswerName.{AnswerName}
+use Rattle.sq_journal.specs.declared.names.AnswerName.TheVariants as name
 use Rattle.sq_journal.specs.declared.names.WhyName.{WhyName}
 use Rattle.sq_journal.specs.declared.names.WhyName.TheVariants as reason
 use Rattle.sq_journal.specs.Names.{told_names, why_names, action_names, cause_names, result_names, arrow_names}
@@ -21,7 +21,8 @@ use Rattle.sq_journal.specs.Reading.{Reads, word_in, then_in, below_in, number_i
 
 -- a channel, or `-`
 unfoldable pub channel_of : List ℕ → Option (Option ℕ)
-channel_of word = if bytes_eq word (codes "-") then Some None else option_map Some (number_of channel_limit word)
+channel_of word = if bytes_eq word (codes "-") then Some None
+    else option_map Some (number_of channel_limit word)
 
 -- the number before, if there is one
 abbrev pub one_less : ℕ → Option ℕ
@@ -37,7 +38,8 @@ unfoldable pub why_after : WhyName → Reads Why
 why_after reason.Rule = fields1 why.Rule (below_in (2 ^ 32))
 why_after reason.Default = λ ws. Some (why.Default, ws)
 why_after reason.Empty = λ ws. Some (why.Empty, ws)
-why_after reason.Fault = fields3 why.Fault (below_in (2 ^ 32)) text_in (word_in (beside cause_names))
+why_after reason.Fault = fields3 why.Fault (below_in (2 ^ 32)) text_in
+    (word_in (beside cause_names))
 
 -- why a check was decided so
 unfoldable pub why_in : Reads Why
@@ -57,7 +59,7 @@ epoch_told epoch [] = Some (told.Epoch epoch, [])
 epoch_told epoch (w ∷ ws) = fields1 (told.Judged epoch) outcome_in (w ∷ ws)
 
 -- what stands after an answer's name
-unfoldable pub told_after : ToldName → Reads Told
+unfoldable pub told_after : AnswerName → Reads Told
 told_after name.Epoch = then_in number_in epoch_told
 told_after name.Fine = λ ws. Some (told.Fine, ws)
 told_after name.Check = fields1 told.Check number_in
@@ -92,14 +94,16 @@ abbrev pub with_row : Noted → Option Noted
 with_row e = if is_row e.event e.answer then Some e else None
 
 -- the entry of some words
-unfoldable pub entry_of : Words → Option Noted
-entry_of ws = option_and_then with_row (option_and_then whole (fields4 noted_from number_in event_in arrow_in told_in ws))
+unfoldable pub entry_of : WordList → Option Noted
+entry_of ws = option_and_then with_row
+    (option_and_then whole (fields4 noted_from number_in event_in arrow_in told_in ws))
 
 -- a number, an epoch and an entry of their parts
 abbrev pub numbered_from : ℕ → ℕ → Noted → ℕ × ℕ × Noted
 numbered_from number epoch e = (number, epoch, e)
 
 -- the number, the epoch and the entry of some words
-unfoldable pub numbered_of : Words → Option (ℕ × ℕ × Noted)
+unfoldable pub numbered_of : WordList → Option (ℕ × ℕ × Noted)
 numbered_of ws =
-    option_and_then (λ n. option_and_then (λ m. option_map (numbered_from n.0 m.0) (entry_of m.1)) (number_in n.1)) (number_in ws)
+    option_and_then (λ n. option_and_then (λ m. option_map (numbered_from n.0 m.0) (entry_of m.1))
+    (number_in n.1)) (number_in ws)

@@ -1,5 +1,5 @@
--- What the numbers and texts of events and answers are: each number is below its type's limit, each amount
--- within its own, and each text is of bytes. Every entry is so.
+-- What the numbers and texts of events and answers are: each number is below its type's limit, each
+-- amount within its own, and each text is of bytes. Every entry is so.
 use Rattle.std.specs.Prelude.{◌≡◌, ℕ, ◌<◌, ◌^◌, ℤ, negsuc, pos, ◌≤ℤ◌, List, [], ◌∷◌, Bool, true, Some, None}
 use Rattle.std.specs.declared.option.Option.{Option}
 use Rattle.sq_base.specs.Addresses.{IsAddress}
@@ -37,7 +37,8 @@ abbrev pub HoldsValues : Event → Type 0
 HoldsValues (Begin offset) = IsOffset offset
 HoldsValues (Open conn addr port) = IsNumber conn × IsAddress addr × (port < port_limit)
 HoldsValues (Close conn) = IsNumber conn
-HoldsValues (Ask conn method target fields) = IsNumber conn × AreBytes method × AreBytes target × AreFields fields
+HoldsValues (Ask conn method target fields) = IsNumber conn × AreBytes method × AreBytes target
+    × AreFields fields
 HoldsValues (Step check) = IsNumber check
 HoldsValues (Take check) = IsNumber check
 HoldsValues (Started epoch class) = IsNumber epoch × AreBytes class
@@ -80,7 +81,8 @@ IsTold (told.Reply question word) = IsNumber question
 IsTold told.Bad = Unit {0}
 IsTold told.Stray = Unit {0}
 IsTold (told.Start epoch class) = IsNumber epoch × AreBytes class
-IsTold (told.Send proc question channel key) = IsNumber proc × IsNumber question × IsChannel channel × AreBytes key
+IsTold (told.Send proc question channel key) = IsNumber proc × IsNumber question × IsChannel channel
+    × AreBytes key
 IsTold (told.Stop proc) = IsNumber proc
 IsTold (told.Seat seat pool) = IsNumber seat × (pool < 2 ^ 32)
 IsTold told.NoSeat = Unit {0}

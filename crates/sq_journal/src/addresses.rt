@@ -11,7 +11,8 @@ use sq_outside::{Failed, Sink};
 
 /// Puts the text of an address.
 pub fn put_address<O: Sink>(to: &mut O, addr: Addr) -> Result<(), Failed>
-    ensures { Puts (O.contents to.old) (O.contents to.new) (O.faults to.old) (O.faults to.new) result (address_text addr) }
+    ensures { Puts (O.contents to.old) (O.contents to.new) (O.faults to.old) (O.faults to.new)
+        result (address_text addr) }
 {
     if addr.v6 {
         put_v6(to, addr.number)
@@ -22,7 +23,8 @@ pub fn put_address<O: Sink>(to: &mut O, addr: Addr) -> Result<(), Failed>
 
 // Puts a number and a dot.
 fn put_dotted<O: Sink>(to: &mut O, number: u64) -> Result<(), Failed>
-    ensures { Puts (O.contents to.old) (O.contents to.new) (O.faults to.old) (O.faults to.new) result (decimal number ++ codes ".") }
+    ensures { Puts (O.contents to.old) (O.contents to.new) (O.faults to.old) (O.faults to.new)
+        result (decimal number ++ codes ".") }
 {
     match put_decimal(to, number) {
         Ok(()) => {}
@@ -34,7 +36,8 @@ fn put_dotted<O: Sink>(to: &mut O, number: u64) -> Result<(), Failed>
 // Puts four numbers with dots between them.
 #[tactic(auto, unfolding(sq_base::specs::Addresses::v4_text))]
 fn put_v4<O: Sink>(to: &mut O, number: u32) -> Result<(), Failed>
-    ensures { Puts (O.contents to.old) (O.contents to.new) (O.faults to.old) (O.faults to.new) result (v4_text number) }
+    ensures { Puts (O.contents to.old) (O.contents to.new) (O.faults to.old) (O.faults to.new)
+        result (v4_text number) }
 {
     match put_dotted(to, (number / 16777216) as u64) {
         Ok(()) => {}
@@ -54,7 +57,8 @@ fn put_v4<O: Sink>(to: &mut O, number: u32) -> Result<(), Failed>
 // Puts the eight groups of an address.
 #[tactic(auto, unfolding(sq_base::specs::Addresses::v6_text))]
 fn put_v6<O: Sink>(to: &mut O, number: u128) -> Result<(), Failed>
-    ensures { Puts (O.contents to.old) (O.contents to.new) (O.faults to.old) (O.faults to.new) result (v6_text number) }
+    ensures { Puts (O.contents to.old) (O.contents to.new) (O.faults to.old) (O.faults to.new)
+        result (v6_text number) }
 {
     let groups = [
         (number >> 112) as u16,
@@ -72,7 +76,8 @@ fn put_v6<O: Sink>(to: &mut O, number: u128) -> Result<(), Failed>
 // Puts groups, with `::` for the longest run of zeros where that has two or more.
 #[tactic(auto, unfolding(std::specs::Net::Text::hex_groups_text))]
 fn put_shortened<O: Sink>(to: &mut O, groups: &[u16]) -> Result<(), Failed>
-    ensures { Puts (O.contents to.old) (O.contents to.new) (O.faults to.old) (O.faults to.new) result (hex_groups_text groups.now) }
+    ensures { Puts (O.contents to.old) (O.contents to.new) (O.faults to.old) (O.faults to.new)
+        result (hex_groups_text groups.now) }
 {
     let (start, len) = longest_zero_run(groups);
     if len <= 1 {
@@ -85,7 +90,8 @@ fn put_shortened<O: Sink>(to: &mut O, groups: &[u16]) -> Result<(), Failed>
 
 // Puts groups, `::` and other groups.
 fn put_parts<O: Sink>(to: &mut O, head: &[u16], tail: &[u16]) -> Result<(), Failed>
-    ensures { Puts (O.contents to.old) (O.contents to.new) (O.faults to.old) (O.faults to.new) result (groups_text head.now ++ (codes "::" ++ groups_text tail.now)) }
+    ensures { Puts (O.contents to.old) (O.contents to.new) (O.faults to.old) (O.faults to.new)
+        result (groups_text head.now ++ (codes "::" ++ groups_text tail.now)) }
 {
     match put_groups(to, head) {
         Ok(()) => {}
@@ -118,7 +124,8 @@ fn longest_zero_run(groups: &[u16]) -> (usize, usize)
 
 // Puts groups with colons between them.
 fn put_groups<O: Sink>(to: &mut O, groups: &[u16]) -> Result<(), Failed>
-    ensures { Puts (O.contents to.old) (O.contents to.new) (O.faults to.old) (O.faults to.new) result (groups_text groups.now) }
+    ensures { Puts (O.contents to.old) (O.contents to.new) (O.faults to.old) (O.faults to.new)
+        result (groups_text groups.now) }
 {
     if groups.is_empty() {
         return put(to, b"");
@@ -129,7 +136,8 @@ fn put_groups<O: Sink>(to: &mut O, groups: &[u16]) -> Result<(), Failed>
 
 // Puts a group, and each other one after a colon.
 fn put_joined<O: Sink>(to: &mut O, first: u16, rest: &[u16]) -> Result<(), Failed>
-    ensures { Puts (O.contents to.old) (O.contents to.new) (O.faults to.old) (O.faults to.new) result (hex first ++ flat_map (λ g. codes ":" ++ hex g) rest.now) }
+    ensures { Puts (O.contents to.old) (O.contents to.new) (O.faults to.old) (O.faults to.new)
+        result (hex first ++ flat_map (λ g. codes ":" ++ hex g) rest.now) }
 {
     match put_group(to, first) {
         Ok(()) => {}
@@ -140,7 +148,8 @@ fn put_joined<O: Sink>(to: &mut O, first: u16, rest: &[u16]) -> Result<(), Faile
 
 // Puts each group after a colon.
 fn put_more_groups<O: Sink>(to: &mut O, groups: &[u16]) -> Result<(), Failed>
-    ensures { Puts (O.contents to.old) (O.contents to.new) (O.faults to.old) (O.faults to.new) result (flat_map (λ g. codes ":" ++ hex g) groups.now) }
+    ensures { Puts (O.contents to.old) (O.contents to.new) (O.faults to.old) (O.faults to.new)
+        result (flat_map (λ g. codes ":" ++ hex g) groups.now) }
 {
     for group in groups {
         match put_next_group(to, *group) {
@@ -153,7 +162,8 @@ fn put_more_groups<O: Sink>(to: &mut O, groups: &[u16]) -> Result<(), Failed>
 
 // Puts a colon and a group.
 fn put_next_group<O: Sink>(to: &mut O, group: u16) -> Result<(), Failed>
-    ensures { Puts (O.contents to.old) (O.contents to.new) (O.faults to.old) (O.faults to.new) result (codes ":" ++ hex group) }
+    ensures { Puts (O.contents to.old) (O.contents to.new) (O.faults to.old) (O.faults to.new)
+        result (codes ":" ++ hex group) }
 {
     match put(to, b":") {
         Ok(()) => {}
@@ -165,7 +175,8 @@ fn put_next_group<O: Sink>(to: &mut O, group: u16) -> Result<(), Failed>
 // Puts a group in lower-case hexadecimal digits, without leading zeros.
 #[tactic(auto, unfolding(std::specs::Net::Text::hex))]
 fn put_group<O: Sink>(to: &mut O, group: u16) -> Result<(), Failed>
-    ensures { Puts (O.contents to.old) (O.contents to.new) (O.faults to.old) (O.faults to.new) result (hex group) }
+    ensures { Puts (O.contents to.old) (O.contents to.new) (O.faults to.old) (O.faults to.new)
+        result (hex group) }
 {
     let digits = [
         hex_digit(group / 0x1000),

@@ -2,20 +2,20 @@
 ghost use Rattle.std.specs.Prelude.{◌≡◌};
 ghost use Rattle.sq_journal.specs.Reading.{ReadsFront, ReadsWithoutMemory, word_in};
 ghost use Rattle.sq_journal.specs.ToldReading.{told_in, told_after, epoch_told, channel_of, pool_named};
-ghost use Rattle.sq_journal.specs.declared.names.ToldName.TheVariants as name;
+ghost use Rattle.sq_journal.specs.declared.names.AnswerName.TheVariants as name;
 
 use crate::faults::EntryFault;
-use crate::names::{ToldName, result_word, told_name};
+use crate::names::{AnswerName, result_word, told_name};
 use crate::outcomes::outcome;
 use crate::values::{number, text};
-use crate::words::Words;
+use crate::words::EntryWords;
 use sq_base::{CheckNo, EpochNo, ProcNo, QuestionNo, SeatNo, number_of};
 use sq_machine::Told;
 use std::alloc::Global;
 
 /// An answer, by its name.
 #[tactic(auto, unfolding(crate::specs::ToldReading::told_in))]
-pub fn told(alloc: Global, words: &mut Words) -> Result<Told, EntryFault>
+pub fn told(alloc: Global, words: &mut EntryWords) -> Result<Told, EntryFault>
     ensures { ReadsFront result words.new (told_in words.old) }
 {
     let name = told_name(words)?;
@@ -24,38 +24,38 @@ pub fn told(alloc: Global, words: &mut Words) -> Result<Told, EntryFault>
 
 // What stands after an answer's name.
 #[tactic(auto, unfolding(crate::specs::ToldReading::told_after))]
-fn told_after(alloc: Global, name: ToldName, words: &mut Words) -> Result<Told, EntryFault>
+fn told_after(alloc: Global, name: AnswerName, words: &mut EntryWords) -> Result<Told, EntryFault>
     ensures { ReadsFront result words.new (told_after name words.old) }
 {
     match name {
-        ToldName::Epoch => epoch(alloc, words),
-        ToldName::Fine => Ok(Told::Fine),
-        ToldName::Check => {
+        AnswerName::Epoch => epoch(alloc, words),
+        AnswerName::Fine => Ok(Told::Fine),
+        AnswerName::Check => {
             let check = CheckNo(number(words)?);
             Ok(Told::Check(check))
         }
-        ToldName::Took => took(alloc, words),
-        ToldName::Waits => {
+        AnswerName::Took => took(alloc, words),
+        AnswerName::Waits => {
             let question = QuestionNo(number(words)?);
             Ok(Told::Waits(question))
         }
-        ToldName::Done => Ok(Told::Done),
-        ToldName::Proc => {
+        AnswerName::Done => Ok(Told::Done),
+        AnswerName::Proc => {
             let proc = ProcNo(number(words)?);
             Ok(Told::Proc(proc))
         }
-        ToldName::Reply => reply(words),
-        ToldName::Bad => Ok(Told::Bad),
-        ToldName::Stray => Ok(Told::Stray),
-        ToldName::Start => start(alloc, words),
-        ToldName::Send => send(alloc, words),
-        ToldName::Stop => {
+        AnswerName::Reply => reply(words),
+        AnswerName::Bad => Ok(Told::Bad),
+        AnswerName::Stray => Ok(Told::Stray),
+        AnswerName::Start => start(alloc, words),
+        AnswerName::Send => send(alloc, words),
+        AnswerName::Stop => {
             let proc = ProcNo(number(words)?);
             Ok(Told::Stop(proc))
         }
-        ToldName::Seat => seat(words),
-        ToldName::NoSeat => Ok(Told::NoSeat),
-        ToldName::Granted => {
+        AnswerName::Seat => seat(words),
+        AnswerName::NoSeat => Ok(Told::NoSeat),
+        AnswerName::Granted => {
             let bytes = number(words)?;
             Ok(Told::Granted(bytes))
         }
@@ -64,7 +64,7 @@ fn told_after(alloc: Global, name: ToldName, words: &mut Words) -> Result<Told, 
 
 // `epoch EPOCH`, or `epoch EPOCH OUTCOME`
 #[tactic(auto, unfolding(crate::specs::ToldReading::told_after))]
-fn epoch(alloc: Global, words: &mut Words) -> Result<Told, EntryFault>
+fn epoch(alloc: Global, words: &mut EntryWords) -> Result<Told, EntryFault>
     ensures { ReadsFront result words.new (told_after name.Epoch words.old) }
 {
     let epoch = EpochNo(number(words)?);
@@ -72,7 +72,7 @@ fn epoch(alloc: Global, words: &mut Words) -> Result<Told, EntryFault>
 }
 
 // An epoch alone, or with the outcome of a check.
-fn epoch_told(alloc: Global, epoch: EpochNo, words: &mut Words) -> Result<Told, EntryFault>
+fn epoch_told(alloc: Global, epoch: EpochNo, words: &mut EntryWords) -> Result<Told, EntryFault>
     ensures { ReadsFront result words.new (epoch_told epoch words.old) }
 {
     match words.peek() {
@@ -86,7 +86,7 @@ fn epoch_told(alloc: Global, epoch: EpochNo, words: &mut Words) -> Result<Told, 
 
 // `took CLASS`
 #[tactic(auto, unfolding(crate::specs::ToldReading::told_after))]
-fn took(alloc: Global, words: &mut Words) -> Result<Told, EntryFault>
+fn took(alloc: Global, words: &mut EntryWords) -> Result<Told, EntryFault>
     ensures { ReadsFront result words.new (told_after name.Took words.old) }
 {
     let class = text(alloc, words)?;
@@ -95,7 +95,7 @@ fn took(alloc: Global, words: &mut Words) -> Result<Told, EntryFault>
 
 // `reply QUESTION RESULT`
 #[tactic(auto, unfolding(crate::specs::ToldReading::told_after))]
-fn reply(words: &mut Words) -> Result<Told, EntryFault>
+fn reply(words: &mut EntryWords) -> Result<Told, EntryFault>
     ensures { ReadsFront result words.new (told_after name.Reply words.old) }
 {
     let question = QuestionNo(number(words)?);
@@ -105,7 +105,7 @@ fn reply(words: &mut Words) -> Result<Told, EntryFault>
 
 // `start EPOCH CLASS`
 #[tactic(auto, unfolding(crate::specs::ToldReading::told_after))]
-fn start(alloc: Global, words: &mut Words) -> Result<Told, EntryFault>
+fn start(alloc: Global, words: &mut EntryWords) -> Result<Told, EntryFault>
     ensures { ReadsFront result words.new (told_after name.Start words.old) }
 {
     let epoch = EpochNo(number(words)?);
@@ -115,7 +115,7 @@ fn start(alloc: Global, words: &mut Words) -> Result<Told, EntryFault>
 
 // `send PROC QUESTION CHANNEL KEY`
 #[tactic(auto, unfolding(crate::specs::ToldReading::told_after))]
-fn send(alloc: Global, words: &mut Words) -> Result<Told, EntryFault>
+fn send(alloc: Global, words: &mut EntryWords) -> Result<Told, EntryFault>
     ensures { ReadsFront result words.new (told_after name.Send words.old) }
 {
     let proc = ProcNo(number(words)?);
@@ -132,7 +132,7 @@ fn send(alloc: Global, words: &mut Words) -> Result<Told, EntryFault>
 
 // A channel, or `-`.
 #[tactic(auto, unfolding(crate::specs::Reading::word_in, crate::specs::ToldReading::channel_of))]
-fn channel(words: &mut Words) -> Result<Option<u32>, EntryFault>
+fn channel(words: &mut EntryWords) -> Result<Option<u32>, EntryFault>
     ensures { ReadsWithoutMemory result words.new (word_in channel_of words.old) }
 {
     let Some(word) = words.next() else {
@@ -149,7 +149,7 @@ fn channel(words: &mut Words) -> Result<Option<u32>, EntryFault>
 
 // `seat SEAT POOL`
 #[tactic(auto, unfolding(crate::specs::ToldReading::told_after))]
-fn seat(words: &mut Words) -> Result<Told, EntryFault>
+fn seat(words: &mut EntryWords) -> Result<Told, EntryFault>
     ensures { ReadsFront result words.new (told_after name.Seat words.old) }
 {
     let seat = SeatNo(number(words)?);
@@ -159,7 +159,7 @@ fn seat(words: &mut Words) -> Result<Told, EntryFault>
 
 // A pool by its number from 1, given by its place.
 #[tactic(auto, unfolding(crate::specs::Reading::word_in, crate::specs::ToldReading::pool_named))]
-fn pool(words: &mut Words) -> Result<u32, EntryFault>
+fn pool(words: &mut EntryWords) -> Result<u32, EntryFault>
     ensures { ReadsWithoutMemory result words.new (word_in pool_named words.old) }
 {
     match words.next() {

@@ -18,7 +18,7 @@ use crate::putting::{Printed, put_moment};
 use crate::rows::is_row;
 use crate::told_printing::put_told;
 use crate::values::number;
-use crate::words::Words;
+use crate::words::EntryWords;
 use sq_base::{Moment, Text, WantOfMemory};
 use sq_machine::{Entry, Event, Told};
 use sq_outside::{Failed, Sink};
@@ -27,7 +27,8 @@ use std::alloc::Global;
 /// Writes the text of an entry, its line without LF, piece by piece and without memory. After a fault a front
 /// of it was written, and not all.
 pub fn write_entry<O: Sink>(entry: &Entry, to: &mut O) -> Result<(), Failed>
-    ensures { Puts (O.contents to.old) (O.contents to.new) (O.faults to.old) (O.faults to.new) result (entry_text entry.now) }
+    ensures { Puts (O.contents to.old) (O.contents to.new) (O.faults to.old) (O.faults to.new)
+        result (entry_text entry.now) }
 {
     match put_moment(to, entry.moment) {
         Ok(()) => {}
@@ -38,7 +39,9 @@ pub fn write_entry<O: Sink>(entry: &Entry, to: &mut O) -> Result<(), Failed>
 
 // Puts what follows the moment.
 fn put_rest<O: Sink>(to: &mut O, event: &Event, answer: &Told) -> Result<(), Failed>
-    ensures { Puts (O.contents to.old) (O.contents to.new) (O.faults to.old) (O.faults to.new) result (after_spaces (event_words event.now) ++ (after_spaces (codes "=>" ∷ []) ++ after_spaces (told_words answer.now))) }
+    ensures { Puts (O.contents to.old) (O.contents to.new) (O.faults to.old) (O.faults to.new)
+        result (after_spaces (event_words event.now)
+        ++ (after_spaces (codes "=>" ∷ []) ++ after_spaces (told_words answer.now))) }
 {
     match put_event(to, event) {
         Ok(()) => {}
@@ -79,11 +82,14 @@ pub fn read_entry(alloc: Global, line: &[u8]) -> Result<Entry, EntryFault>
 /// The moment and the event whose text the line is, as a script's line has them, without its LF.
 pub fn read_event(alloc: Global, line: &[u8]) -> Result<(Moment, Event), EntryFault>
     // What is read is printed so.
-    ensures found { IfOk result (λ r. IsNumber r.0 × IsEvent r.1 × (line.now ≡ dated_text r.0 r.1)) }
+    ensures found { IfOk result
+        (λ r. IsNumber r.0 × IsEvent r.1 × (line.now ≡ dated_text r.0 r.1)) }
     // What is printed so is read, unless memory runs out: there is no other event, and no fault.
-    ensures only { (moment : ℕ) (event : Event) → IsNumber moment → IsEvent event → line.now ≡ dated_text moment event → Is (moment, event) result }
+    ensures only { (moment : ℕ) (event : Event) → IsNumber moment → IsEvent event
+        → line.now ≡ dated_text moment event → Is (moment, event) result }
     // A line is one event: no two events with their moments have one text.
-    ensures one { (m n : ℕ) (a b : Event) → IsNumber m → IsNumber n → IsEvent a → IsEvent b → dated_text m a ≡ dated_text n b → (m ≡ n) × (a ≡ b) }
+    ensures one { (m n : ℕ) (a b : Event) → IsNumber m → IsNumber n → IsEvent a → IsEvent b
+        → dated_text m a ≡ dated_text n b → (m ≡ n) × (a ≡ b) }
     // So it is what the reading of the line's words gives.
     ensures read { ReadsText result (dated_of (spaced_words line.now)) }
 {
@@ -95,7 +101,7 @@ pub fn read_event(alloc: Global, line: &[u8]) -> Result<(Moment, Event), EntryFa
 pub fn entry(alloc: Global, line: &[u8]) -> Result<Entry, EntryFault>
     ensures { ReadsText result (entry_of (spaced_words line.now)) }
 {
-    let mut words = Words::new(line);
+    let mut words = EntryWords::new(line);
     let moment = Moment(number(&mut words)?);
     let event = event(alloc, &mut words)?;
     arrow(&mut words)?;
@@ -116,7 +122,7 @@ pub fn entry(alloc: Global, line: &[u8]) -> Result<Entry, EntryFault>
 fn dated(alloc: Global, line: &[u8]) -> Result<(Moment, Event), EntryFault>
     ensures { ReadsText result (dated_of (spaced_words line.now)) }
 {
-    let mut words = Words::new(line);
+    let mut words = EntryWords::new(line);
     let moment = Moment(number(&mut words)?);
     let event = event(alloc, &mut words)?;
     if words.is_done() {

@@ -17,7 +17,8 @@ pub const ESCAPES: AsciiSet = ascii_set!(CONTROLS.add(b' ').add(b'%').add(b'>'))
 
 /// Puts the escaped bytes, piece by piece.
 pub fn put_escaped<O: Sink>(to: &mut O, bytes: &[u8]) -> Result<(), Failed>
-    ensures { Puts (O.contents to.old) (O.contents to.new) (O.faults to.old) (O.faults to.new) result (escaped bytes.now) }
+    ensures { Puts (O.contents to.old) (O.contents to.new) (O.faults to.old) (O.faults to.new)
+        result (escaped bytes.now) }
 {
     for piece in percent_encode(bytes, ESCAPES) {
         match put(to, piece.as_bytes()) {
@@ -31,7 +32,8 @@ pub fn put_escaped<O: Sink>(to: &mut O, bytes: &[u8]) -> Result<(), Failed>
 /// Puts the word of a text.
 #[tactic(auto, unfolding(sq_base::specs::Escapes::text_word))]
 pub fn put_text<O: Sink>(to: &mut O, bytes: &[u8]) -> Result<(), Failed>
-    ensures { Puts (O.contents to.old) (O.contents to.new) (O.faults to.old) (O.faults to.new) result (text_word bytes.now) }
+    ensures { Puts (O.contents to.old) (O.contents to.new) (O.faults to.old) (O.faults to.new)
+        result (text_word bytes.now) }
 {
     if bytes.is_empty() {
         return put(to, b"-");

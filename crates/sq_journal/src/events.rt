@@ -6,14 +6,14 @@ ghost use Rattle.sq_journal.specs.declared.names.EventName.TheVariants as name;
 use crate::faults::EntryFault;
 use crate::names::{EventName, event_name};
 use crate::values::{address, below, number, offset, read_field, text};
-use crate::words::Words;
+use crate::words::EntryWords;
 use sq_base::{CheckNo, ConnNo, EpochNo, Fields, Listed, ProcNo, SeatNo};
 use sq_machine::Event;
 use std::alloc::Global;
 
 /// An event, by its name.
 #[tactic(auto, unfolding(crate::specs::Reading::event_in))]
-pub fn event(alloc: Global, words: &mut Words) -> Result<Event, EntryFault>
+pub fn event(alloc: Global, words: &mut EntryWords) -> Result<Event, EntryFault>
     ensures { ReadsFront result words.new (event_in words.old) }
 {
     let name = event_name(words)?;
@@ -22,7 +22,7 @@ pub fn event(alloc: Global, words: &mut Words) -> Result<Event, EntryFault>
 
 // What stands after an event's name.
 #[tactic(auto, unfolding(crate::specs::Reading::event_after))]
-fn event_after(alloc: Global, name: EventName, words: &mut Words) -> Result<Event, EntryFault>
+fn event_after(alloc: Global, name: EventName, words: &mut EntryWords) -> Result<Event, EntryFault>
     ensures { ReadsFront result words.new (event_after name words.old) }
 {
     match name {
@@ -64,7 +64,7 @@ fn event_after(alloc: Global, name: EventName, words: &mut Words) -> Result<Even
 
 // `begin OFFSET`
 #[tactic(auto, unfolding(crate::specs::Reading::event_after))]
-fn begin(words: &mut Words) -> Result<Event, EntryFault>
+fn begin(words: &mut EntryWords) -> Result<Event, EntryFault>
     ensures { ReadsFront result words.new (event_after name.Begin words.old) }
 {
     let offset = offset(words)?;
@@ -73,7 +73,7 @@ fn begin(words: &mut Words) -> Result<Event, EntryFault>
 
 // `open CONN ADDR PORT`
 #[tactic(auto, unfolding(crate::specs::Reading::event_after))]
-fn open(alloc: Global, words: &mut Words) -> Result<Event, EntryFault>
+fn open(alloc: Global, words: &mut EntryWords) -> Result<Event, EntryFault>
     ensures { ReadsFront result words.new (event_after name.Open words.old) }
 {
     let conn = ConnNo(number(words)?);
@@ -84,7 +84,7 @@ fn open(alloc: Global, words: &mut Words) -> Result<Event, EntryFault>
 
 // `ask CONN METHOD TARGET FIELD ..`
 #[tactic(auto, unfolding(crate::specs::Reading::event_after))]
-fn ask(alloc: Global, words: &mut Words) -> Result<Event, EntryFault>
+fn ask(alloc: Global, words: &mut EntryWords) -> Result<Event, EntryFault>
     ensures { ReadsFront result words.new (event_after name.Ask words.old) }
 {
     let conn = ConnNo(number(words)?);
@@ -100,7 +100,7 @@ fn ask(alloc: Global, words: &mut Words) -> Result<Event, EntryFault>
 }
 
 // The fields at the front, up to the first word that is no field's.
-fn fields(alloc: Global, words: &mut Words) -> Result<Fields, EntryFault>
+fn fields(alloc: Global, words: &mut EntryWords) -> Result<Fields, EntryFault>
     ensures { ReadsFront result words.new (Some (fields_from words.old)) }
 {
     let mut fields = Listed::new(alloc);
@@ -119,7 +119,7 @@ fn fields(alloc: Global, words: &mut Words) -> Result<Fields, EntryFault>
 
 // `started EPOCH CLASS`
 #[tactic(auto, unfolding(crate::specs::Reading::event_after))]
-fn started(alloc: Global, words: &mut Words) -> Result<Event, EntryFault>
+fn started(alloc: Global, words: &mut EntryWords) -> Result<Event, EntryFault>
     ensures { ReadsFront result words.new (event_after name.Started words.old) }
 {
     let epoch = EpochNo(number(words)?);
@@ -129,7 +129,7 @@ fn started(alloc: Global, words: &mut Words) -> Result<Event, EntryFault>
 
 // `startfail EPOCH CLASS`
 #[tactic(auto, unfolding(crate::specs::Reading::event_after))]
-fn start_fail(alloc: Global, words: &mut Words) -> Result<Event, EntryFault>
+fn start_fail(alloc: Global, words: &mut EntryWords) -> Result<Event, EntryFault>
     ensures { ReadsFront result words.new (event_after name.StartFail words.old) }
 {
     let epoch = EpochNo(number(words)?);
@@ -139,7 +139,7 @@ fn start_fail(alloc: Global, words: &mut Words) -> Result<Event, EntryFault>
 
 // `line PROC BYTES`
 #[tactic(auto, unfolding(crate::specs::Reading::event_after))]
-fn line(alloc: Global, words: &mut Words) -> Result<Event, EntryFault>
+fn line(alloc: Global, words: &mut EntryWords) -> Result<Event, EntryFault>
     ensures { ReadsFront result words.new (event_after name.Line words.old) }
 {
     let proc = ProcNo(number(words)?);
@@ -149,7 +149,7 @@ fn line(alloc: Global, words: &mut Words) -> Result<Event, EntryFault>
 
 // `reconfigure TEXT`
 #[tactic(auto, unfolding(crate::specs::Reading::event_after))]
-fn reconfigure(alloc: Global, words: &mut Words) -> Result<Event, EntryFault>
+fn reconfigure(alloc: Global, words: &mut EntryWords) -> Result<Event, EntryFault>
     ensures { ReadsFront result words.new (event_after name.Reconfigure words.old) }
 {
     let text = text(alloc, words)?;
@@ -158,7 +158,7 @@ fn reconfigure(alloc: Global, words: &mut Words) -> Result<Event, EntryFault>
 
 // `grant SEAT WANTED`
 #[tactic(auto, unfolding(crate::specs::Reading::event_after))]
-fn grant(words: &mut Words) -> Result<Event, EntryFault>
+fn grant(words: &mut EntryWords) -> Result<Event, EntryFault>
     ensures { ReadsFront result words.new (event_after name.Grant words.old) }
 {
     let seat = SeatNo(number(words)?);

@@ -5,7 +5,7 @@ ghost use Rattle.sq_journal.specs.Names.{event_names, told_names, why_names, act
 ghost use Rattle.sq_journal.specs.Reading.{ReadsWithoutMemory, word_in};
 
 use crate::faults::EntryFault;
-use crate::words::Words;
+use crate::words::EntryWords;
 use sq_base::{Cause, Word, named};
 
 /// An event, by its name alone.
@@ -30,7 +30,7 @@ pub enum EventName {
 
 /// An answer, by its name alone. An epoch may have an outcome after it.
 #[derive(Clone, Copy)]
-pub enum ToldName {
+pub enum AnswerName {
     Epoch,
     Fine,
     Check,
@@ -60,8 +60,9 @@ pub enum WhyName {
 
 // What stands beside the next word in a table of names.
 #[tactic(auto, unfolding(crate::specs::Reading::word_in))]
-fn name_in<A: Copy>(words: &mut Words, table: &[(&[u8], A)]) -> Result<A, EntryFault>
-    ensures { ReadsWithoutMemory result words.new (word_in (beside (map (λ row. (row.0.now, row.1)) table.now)) words.old) }
+fn name_in<A: Copy>(words: &mut EntryWords, table: &[(&[u8], A)]) -> Result<A, EntryFault>
+    ensures { ReadsWithoutMemory result words.new
+        (word_in (beside (map (λ row. (row.0.now, row.1)) table.now)) words.old) }
 {
     match words.next() {
         None => Err(EntryFault::BadEntry),
@@ -73,7 +74,7 @@ fn name_in<A: Copy>(words: &mut Words, table: &[(&[u8], A)]) -> Result<A, EntryF
 }
 
 /// The name of an event.
-pub fn event_name(words: &mut Words) -> Result<EventName, EntryFault>
+pub fn event_name(words: &mut EntryWords) -> Result<EventName, EntryFault>
     ensures { ReadsWithoutMemory result words.new (word_in (beside event_names) words.old) }
 {
     name_in(
@@ -99,34 +100,34 @@ pub fn event_name(words: &mut Words) -> Result<EventName, EntryFault>
 }
 
 /// The name of an answer.
-pub fn told_name(words: &mut Words) -> Result<ToldName, EntryFault>
+pub fn told_name(words: &mut EntryWords) -> Result<AnswerName, EntryFault>
     ensures { ReadsWithoutMemory result words.new (word_in (beside told_names) words.old) }
 {
     name_in(
         words,
         &[
-            (b"epoch", ToldName::Epoch),
-            (b"ok", ToldName::Fine),
-            (b"check", ToldName::Check),
-            (b"took", ToldName::Took),
-            (b"waits", ToldName::Waits),
-            (b"done", ToldName::Done),
-            (b"proc", ToldName::Proc),
-            (b"reply", ToldName::Reply),
-            (b"bad", ToldName::Bad),
-            (b"stray", ToldName::Stray),
-            (b"start", ToldName::Start),
-            (b"send", ToldName::Send),
-            (b"stop", ToldName::Stop),
-            (b"seat", ToldName::Seat),
-            (b"none", ToldName::NoSeat),
-            (b"granted", ToldName::Granted),
+            (b"epoch", AnswerName::Epoch),
+            (b"ok", AnswerName::Fine),
+            (b"check", AnswerName::Check),
+            (b"took", AnswerName::Took),
+            (b"waits", AnswerName::Waits),
+            (b"done", AnswerName::Done),
+            (b"proc", AnswerName::Proc),
+            (b"reply", AnswerName::Reply),
+            (b"bad", AnswerName::Bad),
+            (b"stray", AnswerName::Stray),
+            (b"start", AnswerName::Start),
+            (b"send", AnswerName::Send),
+            (b"stop", AnswerName::Stop),
+            (b"seat", AnswerName::Seat),
+            (b"none", AnswerName::NoSeat),
+            (b"granted", AnswerName::Granted),
         ],
     )
 }
 
 /// The name of a reason.
-pub fn why_name(words: &mut Words) -> Result<WhyName, EntryFault>
+pub fn why_name(words: &mut EntryWords) -> Result<WhyName, EntryFault>
     ensures { ReadsWithoutMemory result words.new (word_in (beside why_names) words.old) }
 {
     name_in(
@@ -141,14 +142,14 @@ pub fn why_name(words: &mut Words) -> Result<WhyName, EntryFault>
 }
 
 /// What was decided: whether it is allowed.
-pub fn action(words: &mut Words) -> Result<bool, EntryFault>
+pub fn action(words: &mut EntryWords) -> Result<bool, EntryFault>
     ensures { ReadsWithoutMemory result words.new (word_in (beside action_names) words.old) }
 {
     name_in(words, &[(b"allowed", true), (b"denied", false)])
 }
 
 /// A cause of a fault.
-pub fn cause(words: &mut Words) -> Result<Cause, EntryFault>
+pub fn cause(words: &mut EntryWords) -> Result<Cause, EntryFault>
     ensures { ReadsWithoutMemory result words.new (word_in (beside cause_names) words.old) }
 {
     name_in(
@@ -166,7 +167,7 @@ pub fn cause(words: &mut Words) -> Result<Cause, EntryFault>
 }
 
 /// The result of a reply.
-pub fn result_word(words: &mut Words) -> Result<Word, EntryFault>
+pub fn result_word(words: &mut EntryWords) -> Result<Word, EntryFault>
     ensures { ReadsWithoutMemory result words.new (word_in (beside result_names) words.old) }
 {
     name_in(
@@ -180,7 +181,7 @@ pub fn result_word(words: &mut Words) -> Result<Word, EntryFault>
 }
 
 /// The word between an event and its answer.
-pub fn arrow(words: &mut Words) -> Result<(), EntryFault>
+pub fn arrow(words: &mut EntryWords) -> Result<(), EntryFault>
     ensures { ReadsWithoutMemory result words.new (word_in (beside arrow_names) words.old) }
 {
     name_in(words, &[(b"=>", ())])

@@ -12,7 +12,7 @@ use crate::entries::{entry, write_entry};
 use crate::faults::EntryFault;
 use crate::putting::{Printed, put, put_decimal, put_epoch};
 use crate::values::number;
-use crate::words::Words;
+use crate::words::EntryWords;
 use sq_base::{EpochNo, Text, WantOfMemory};
 use sq_machine::Entry;
 use sq_outside::{Failed, Sink};
@@ -26,7 +26,8 @@ pub fn write_numbered<O: Sink>(
     entry: &Entry,
     to: &mut O,
 ) -> Result<(), Failed>
-    ensures { Puts (O.contents to.old) (O.contents to.new) (O.faults to.old) (O.faults to.new) result (numbered_text number epoch entry.now) }
+    ensures { Puts (O.contents to.old) (O.contents to.new) (O.faults to.old) (O.faults to.new)
+        result (numbered_text number epoch entry.now) }
 {
     match put_decimal(to, number) {
         Ok(()) => {}
@@ -63,12 +64,15 @@ pub fn print_numbered(
 /// The number, the epoch and the entry whose text the line is, which stands without its LF.
 pub fn read_numbered(alloc: Global, line: &[u8]) -> Result<(u64, EpochNo, Entry), EntryFault>
     // What is read is printed so.
-    ensures found { IfOk result (λ r. IsNumber r.0 × IsNumber r.1 × IsNoted r.2 × (line.now ≡ numbered_text r.0 r.1 r.2)) }
+    ensures found { IfOk result
+        (λ r. IsNumber r.0 × IsNumber r.1 × IsNoted r.2 × (line.now ≡ numbered_text r.0 r.1 r.2)) }
     // What is printed so is read, unless memory runs out: there is no other entry, and no fault.
-    ensures only { (number epoch : ℕ) (e : Noted) → IsNumber number → IsNumber epoch → IsNoted e → line.now ≡ numbered_text number epoch e
+    ensures only { (number epoch : ℕ) (e : Noted) → IsNumber number → IsNumber epoch → IsNoted e
+        → line.now ≡ numbered_text number epoch e
         → Is (number, epoch, e) result }
     // No two numbered entries have one text.
-    ensures one { (m n i j : ℕ) (a b : Noted) → IsNumber m → IsNumber n → IsNumber i → IsNumber j → IsNoted a → IsNoted b
+    ensures one { (m n i j : ℕ) (a b : Noted) → IsNumber m → IsNumber n → IsNumber i → IsNumber j
+        → IsNoted a → IsNoted b
         → numbered_text m i a ≡ numbered_text n j b → (m ≡ n) × (i ≡ j) × (a ≡ b) }
     // So it is what the reading of the line's words gives.
     ensures read { ReadsText result (numbered_of (spaced_words line.now)) }
@@ -81,7 +85,7 @@ pub fn read_numbered(alloc: Global, line: &[u8]) -> Result<(u64, EpochNo, Entry)
 fn numbered(alloc: Global, line: &[u8]) -> Result<(u64, EpochNo, Entry), EntryFault>
     ensures { ReadsText result (numbered_of (spaced_words line.now)) }
 {
-    let mut words = Words::new(line);
+    let mut words = EntryWords::new(line);
     let place = number(&mut words)?;
     let epoch = EpochNo(number(&mut words)?);
     match words.rest() {

@@ -6,13 +6,13 @@ ghost use Rattle.sq_journal.specs.declared.names.WhyName.TheVariants as name;
 use crate::faults::EntryFault;
 use crate::names::{WhyName, action, cause, why_name};
 use crate::values::{below, text};
-use crate::words::Words;
+use crate::words::EntryWords;
 use sq_rules::{Outcome, Why};
 use std::alloc::Global;
 
 /// An outcome: whether the request is allowed, and why.
 #[tactic(auto, unfolding(crate::specs::ToldReading::outcome_in))]
-pub fn outcome(alloc: Global, words: &mut Words) -> Result<Outcome, EntryFault>
+pub fn outcome(alloc: Global, words: &mut EntryWords) -> Result<Outcome, EntryFault>
     ensures { ReadsFront result words.new (outcome_in words.old) }
 {
     let allow = action(words)?;
@@ -22,7 +22,7 @@ pub fn outcome(alloc: Global, words: &mut Words) -> Result<Outcome, EntryFault>
 
 // Why it was decided so, by the reason's name.
 #[tactic(auto, unfolding(crate::specs::ToldReading::why_in))]
-fn why(alloc: Global, words: &mut Words) -> Result<Why, EntryFault>
+fn why(alloc: Global, words: &mut EntryWords) -> Result<Why, EntryFault>
     ensures { ReadsFront result words.new (why_in words.old) }
 {
     let name = why_name(words)?;
@@ -31,7 +31,7 @@ fn why(alloc: Global, words: &mut Words) -> Result<Why, EntryFault>
 
 // What stands after a reason's name.
 #[tactic(auto, unfolding(crate::specs::ToldReading::why_after))]
-fn why_after(alloc: Global, name: WhyName, words: &mut Words) -> Result<Why, EntryFault>
+fn why_after(alloc: Global, name: WhyName, words: &mut EntryWords) -> Result<Why, EntryFault>
     ensures { ReadsFront result words.new (why_after name words.old) }
 {
     match name {
@@ -47,7 +47,7 @@ fn why_after(alloc: Global, name: WhyName, words: &mut Words) -> Result<Why, Ent
 
 // `fault N ACL CAUSE`
 #[tactic(auto, unfolding(crate::specs::ToldReading::why_after))]
-fn fault(alloc: Global, words: &mut Words) -> Result<Why, EntryFault>
+fn fault(alloc: Global, words: &mut EntryWords) -> Result<Why, EntryFault>
     ensures { ReadsFront result words.new (why_after name.Fault words.old) }
 {
     let rule = below(words, 4294967296)? as u32;

@@ -19,7 +19,7 @@ use sq_outside::{Failed, Sink};
 
 /// A word of a line, and what it says.
 #[derive(Clone, Copy)]
-pub enum Piece<'a> {
+pub enum EntryPiece<'a> {
     Plain(&'a [u8]),
     Number(u64),
     Offset(i32),
@@ -29,31 +29,34 @@ pub enum Piece<'a> {
 }
 
 // Puts a word.
-fn put_piece<O: Sink>(to: &mut O, piece: &Piece<'_>) -> Result<(), Failed>
-    ensures { Puts (O.contents to.old) (O.contents to.new) (O.faults to.old) (O.faults to.new) result (piece_text piece.now) }
+fn put_piece<O: Sink>(to: &mut O, piece: &EntryPiece<'_>) -> Result<(), Failed>
+    ensures { Puts (O.contents to.old) (O.contents to.new) (O.faults to.old) (O.faults to.new)
+        result (piece_text piece.now) }
 {
     match piece {
-        Piece::Plain(bytes) => put(to, bytes),
-        Piece::Number(number) => put_decimal(to, *number),
-        Piece::Offset(minutes) => put_offset(to, *minutes),
-        Piece::Address(addr) => put_address(to, *addr),
-        Piece::Escaped(bytes) => put_text(to, bytes),
-        Piece::Channel(None) => put(to, b"-"),
-        Piece::Channel(Some(number)) => put_decimal(to, *number as u64),
+        EntryPiece::Plain(bytes) => put(to, bytes),
+        EntryPiece::Number(number) => put_decimal(to, *number),
+        EntryPiece::Offset(minutes) => put_offset(to, *minutes),
+        EntryPiece::Address(addr) => put_address(to, *addr),
+        EntryPiece::Escaped(bytes) => put_text(to, bytes),
+        EntryPiece::Channel(None) => put(to, b"-"),
+        EntryPiece::Channel(Some(number)) => put_decimal(to, *number as u64),
     }
 }
 
 // Puts minutes, with a sign where they are below zero.
 fn put_offset<O: Sink>(to: &mut O, minutes: i32) -> Result<(), Failed>
-    ensures { Puts (O.contents to.old) (O.contents to.new) (O.faults to.old) (O.faults to.new) result (signed_decimal minutes) }
+    ensures { Puts (O.contents to.old) (O.contents to.new) (O.faults to.old) (O.faults to.new)
+        result (signed_decimal minutes) }
 {
     let mut buffer = Buffer::new();
     put(to, buffer.format(minutes).as_bytes())
 }
 
 // Puts a space and a word.
-fn put_spaced<O: Sink>(to: &mut O, piece: &Piece<'_>) -> Result<(), Failed>
-    ensures { Puts (O.contents to.old) (O.contents to.new) (O.faults to.old) (O.faults to.new) result (space ∷ piece_text piece.now) }
+fn put_spaced<O: Sink>(to: &mut O, piece: &EntryPiece<'_>) -> Result<(), Failed>
+    ensures { Puts (O.contents to.old) (O.contents to.new) (O.faults to.old) (O.faults to.new)
+        result (space ∷ piece_text piece.now) }
 {
     match put(to, b" ") {
         Ok(()) => {}
@@ -63,8 +66,9 @@ fn put_spaced<O: Sink>(to: &mut O, piece: &Piece<'_>) -> Result<(), Failed>
 }
 
 /// Puts each word after a space.
-pub fn put_pieces<O: Sink>(to: &mut O, pieces: &[Piece]) -> Result<(), Failed>
-    ensures { Puts (O.contents to.old) (O.contents to.new) (O.faults to.old) (O.faults to.new) result (after_spaces (map piece_text pieces.now)) }
+pub fn put_pieces<O: Sink>(to: &mut O, pieces: &[EntryPiece]) -> Result<(), Failed>
+    ensures { Puts (O.contents to.old) (O.contents to.new) (O.faults to.old) (O.faults to.new)
+        result (after_spaces (map piece_text pieces.now)) }
 {
     for piece in pieces {
         match put_spaced(to, piece) {
@@ -77,16 +81,18 @@ pub fn put_pieces<O: Sink>(to: &mut O, pieces: &[Piece]) -> Result<(), Failed>
 
 /// Puts a name alone.
 pub fn put_name<O: Sink>(to: &mut O, name: &[u8]) -> Result<(), Failed>
-    ensures { Puts (O.contents to.old) (O.contents to.new) (O.faults to.old) (O.faults to.new) result (after_spaces (name.now ∷ [])) }
+    ensures { Puts (O.contents to.old) (O.contents to.new) (O.faults to.old) (O.faults to.new)
+        result (after_spaces (name.now ∷ [])) }
 {
-    put_pieces(to, &[Piece::Plain(name)])
+    put_pieces(to, &[EntryPiece::Plain(name)])
 }
 
 /// Puts a name and a number.
 pub fn put_number<O: Sink>(to: &mut O, name: &[u8], number: u64) -> Result<(), Failed>
-    ensures { Puts (O.contents to.old) (O.contents to.new) (O.faults to.old) (O.faults to.new) result (after_spaces (name.now ∷ decimal number ∷ [])) }
+    ensures { Puts (O.contents to.old) (O.contents to.new) (O.faults to.old) (O.faults to.new)
+        result (after_spaces (name.now ∷ decimal number ∷ [])) }
 {
-    put_pieces(to, &[Piece::Plain(name), Piece::Number(number)])
+    put_pieces(to, &[EntryPiece::Plain(name), EntryPiece::Number(number)])
 }
 
 /// Puts a name, a number and a text.
@@ -96,21 +102,23 @@ pub fn put_pair<'a, O: Sink>(
     number: u64,
     text: &'a Text,
 ) -> Result<(), Failed>
-    ensures { Puts (O.contents to.old) (O.contents to.new) (O.faults to.old) (O.faults to.new) result (after_spaces (name.now ∷ decimal number ∷ text_word text.now ∷ [])) }
+    ensures { Puts (O.contents to.old) (O.contents to.new) (O.faults to.old) (O.faults to.new)
+        result (after_spaces (name.now ∷ decimal number ∷ text_word text.now ∷ [])) }
 {
     put_pieces(
         to,
         &[
-            Piece::Plain(name),
-            Piece::Number(number),
-            Piece::Escaped(text.as_bytes()),
+            EntryPiece::Plain(name),
+            EntryPiece::Number(number),
+            EntryPiece::Escaped(text.as_bytes()),
         ],
     )
 }
 
 // Puts a space, and a field's name, `:` and value as one word.
 fn put_field<O: Sink>(to: &mut O, field: &Field) -> Result<(), Failed>
-    ensures { Puts (O.contents to.old) (O.contents to.new) (O.faults to.old) (O.faults to.new) result (space ∷ field_word field.now) }
+    ensures { Puts (O.contents to.old) (O.contents to.new) (O.faults to.old) (O.faults to.new)
+        result (space ∷ field_word field.now) }
 {
     match put(to, b" ") {
         Ok(()) => {}
@@ -129,7 +137,8 @@ fn put_field<O: Sink>(to: &mut O, field: &Field) -> Result<(), Failed>
 
 // Puts the word of each field after a space.
 fn put_fields<O: Sink>(to: &mut O, fields: &[Field]) -> Result<(), Failed>
-    ensures { Puts (O.contents to.old) (O.contents to.new) (O.faults to.old) (O.faults to.new) result (after_spaces (map field_word fields.now)) }
+    ensures { Puts (O.contents to.old) (O.contents to.new) (O.faults to.old) (O.faults to.new)
+        result (after_spaces (map field_word fields.now)) }
 {
     for field in fields {
         match put_field(to, field) {
@@ -142,11 +151,12 @@ fn put_fields<O: Sink>(to: &mut O, fields: &[Field]) -> Result<(), Failed>
 
 /// Puts the words of an event.
 pub fn put_event<O: Sink>(to: &mut O, event: &Event) -> Result<(), Failed>
-    ensures { Puts (O.contents to.old) (O.contents to.new) (O.faults to.old) (O.faults to.new) result (after_spaces (event_words event.now)) }
+    ensures { Puts (O.contents to.old) (O.contents to.new) (O.faults to.old) (O.faults to.new)
+        result (after_spaces (event_words event.now)) }
 {
     match event {
         Event::Begin { offset } => {
-            let words = [Piece::Plain(b"begin"), Piece::Offset(offset.0)];
+            let words = [EntryPiece::Plain(b"begin"), EntryPiece::Offset(offset.0)];
             put_pieces(to, &words)
         }
         Event::Open { conn, addr, port } => put_open(to, *conn, *addr, *port),
@@ -166,8 +176,8 @@ pub fn put_event<O: Sink>(to: &mut O, event: &Event) -> Result<(), Failed>
         Event::Act => put_name(to, b"act"),
         Event::Reconfigure { text } => {
             let words = [
-                Piece::Plain(b"reconfigure"),
-                Piece::Escaped(text.as_bytes()),
+                EntryPiece::Plain(b"reconfigure"),
+                EntryPiece::Escaped(text.as_bytes()),
             ];
             put_pieces(to, &words)
         }
@@ -179,15 +189,16 @@ pub fn put_event<O: Sink>(to: &mut O, event: &Event) -> Result<(), Failed>
 
 // Puts the words of an `open`.
 fn put_open<O: Sink>(to: &mut O, conn: ConnNo, addr: Addr, port: u16) -> Result<(), Failed>
-    ensures { Puts (O.contents to.old) (O.contents to.new) (O.faults to.old) (O.faults to.new) result (after_spaces (event_words (event.Open conn addr port))) }
+    ensures { Puts (O.contents to.old) (O.contents to.new) (O.faults to.old) (O.faults to.new)
+        result (after_spaces (event_words (event.Open conn addr port))) }
 {
     put_pieces(
         to,
         &[
-            Piece::Plain(b"open"),
-            Piece::Number(conn.0),
-            Piece::Address(addr),
-            Piece::Number(port as u64),
+            EntryPiece::Plain(b"open"),
+            EntryPiece::Number(conn.0),
+            EntryPiece::Address(addr),
+            EntryPiece::Number(port as u64),
         ],
     )
 }
@@ -200,7 +211,8 @@ fn put_ask<O: Sink>(
     target: &Text,
     fields: &[Field],
 ) -> Result<(), Failed>
-    ensures { Puts (O.contents to.old) (O.contents to.new) (O.faults to.old) (O.faults to.new) result (after_spaces (event_words (event.Ask conn method.now target.now fields.now))) }
+    ensures { Puts (O.contents to.old) (O.contents to.new) (O.faults to.old) (O.faults to.new)
+        result (after_spaces (event_words (event.Ask conn method.now target.now fields.now))) }
 {
     match put_request(to, conn, method, target) {
         Ok(()) => {}
@@ -216,29 +228,31 @@ fn put_request<'a, O: Sink>(
     method: &'a Text,
     target: &'a Text,
 ) -> Result<(), Failed>
-    ensures { Puts (O.contents to.old) (O.contents to.new) (O.faults to.old) (O.faults to.new) result (after_spaces (event_words (event.Ask conn method.now target.now []))) }
+    ensures { Puts (O.contents to.old) (O.contents to.new) (O.faults to.old) (O.faults to.new)
+        result (after_spaces (event_words (event.Ask conn method.now target.now []))) }
 {
     put_pieces(
         to,
         &[
-            Piece::Plain(b"ask"),
-            Piece::Number(conn.0),
-            Piece::Escaped(method.as_bytes()),
-            Piece::Escaped(target.as_bytes()),
+            EntryPiece::Plain(b"ask"),
+            EntryPiece::Number(conn.0),
+            EntryPiece::Escaped(method.as_bytes()),
+            EntryPiece::Escaped(target.as_bytes()),
         ],
     )
 }
 
 // Puts the words of a `grant`.
 fn put_grant<O: Sink>(to: &mut O, seat: SeatNo, wanted: u64) -> Result<(), Failed>
-    ensures { Puts (O.contents to.old) (O.contents to.new) (O.faults to.old) (O.faults to.new) result (after_spaces (event_words (event.Grant seat wanted))) }
+    ensures { Puts (O.contents to.old) (O.contents to.new) (O.faults to.old) (O.faults to.new)
+        result (after_spaces (event_words (event.Grant seat wanted))) }
 {
     put_pieces(
         to,
         &[
-            Piece::Plain(b"grant"),
-            Piece::Number(seat.0),
-            Piece::Number(wanted),
+            EntryPiece::Plain(b"grant"),
+            EntryPiece::Number(seat.0),
+            EntryPiece::Number(wanted),
         ],
     )
 }

@@ -12,14 +12,16 @@ use std::alloc::Global;
 
 /// Puts these bytes.
 pub fn put<O: Sink>(to: &mut O, bytes: &[u8]) -> Result<(), Failed>
-    ensures { Puts (O.contents to.old) (O.contents to.new) (O.faults to.old) (O.faults to.new) result bytes.now }
+    ensures { Puts (O.contents to.old) (O.contents to.new) (O.faults to.old) (O.faults to.new)
+        result bytes.now }
 {
     write_all(to, bytes)
 }
 
 /// Puts a number.
 pub fn put_decimal<O: Sink>(to: &mut O, number: u64) -> Result<(), Failed>
-    ensures { Puts (O.contents to.old) (O.contents to.new) (O.faults to.old) (O.faults to.new) result (decimal number) }
+    ensures { Puts (O.contents to.old) (O.contents to.new) (O.faults to.old) (O.faults to.new)
+        result (decimal number) }
 {
     let mut buffer = Buffer::new();
     put(to, buffer.format(number).as_bytes())
@@ -27,21 +29,24 @@ pub fn put_decimal<O: Sink>(to: &mut O, number: u64) -> Result<(), Failed>
 
 /// Puts a moment.
 pub fn put_moment<O: Sink>(to: &mut O, moment: Moment) -> Result<(), Failed>
-    ensures { Puts (O.contents to.old) (O.contents to.new) (O.faults to.old) (O.faults to.new) result (decimal moment) }
+    ensures { Puts (O.contents to.old) (O.contents to.new) (O.faults to.old) (O.faults to.new)
+        result (decimal moment) }
 {
     put_decimal(to, moment.0)
 }
 
 // Puts the number of an epoch.
 fn put_epoch_number<O: Sink>(to: &mut O, epoch: EpochNo) -> Result<(), Failed>
-    ensures { Puts (O.contents to.old) (O.contents to.new) (O.faults to.old) (O.faults to.new) result (decimal epoch) }
+    ensures { Puts (O.contents to.old) (O.contents to.new) (O.faults to.old) (O.faults to.new)
+        result (decimal epoch) }
 {
     put_decimal(to, epoch.0)
 }
 
 /// Puts a space and the number of an epoch.
 pub fn put_epoch<O: Sink>(to: &mut O, epoch: EpochNo) -> Result<(), Failed>
-    ensures { Puts (O.contents to.old) (O.contents to.new) (O.faults to.old) (O.faults to.new) result (codes " " ++ decimal epoch) }
+    ensures { Puts (O.contents to.old) (O.contents to.new) (O.faults to.old) (O.faults to.new)
+        result (codes " " ++ decimal epoch) }
 {
     match put(to, b" ") {
         Ok(()) => {}
@@ -91,7 +96,8 @@ impl Sink for Printed {
     fn write(&mut self, bytes: &[u8]) -> Result<usize, Failed>
         ensures bound { WritesAtMost result bytes.now }
         ensures some { IfOk result (λ n. 0 < length bytes.now → 0 < n) }
-        ensures bytes { WriteAppends (Some (printed_text self.old)) (Some (printed_text self.new)) result bytes.now }
+        ensures bytes { WriteAppends (Some (printed_text self.old)) (Some (printed_text self.new))
+            result bytes.now }
         ensures cause { HasCause (printed_faults self.old) (printed_faults self.new) result }
     {
         match self.text.append(bytes) {

@@ -7,7 +7,7 @@ ghost use Rattle.sq_journal.specs.Lines.{after_spaces};
 ghost use Rattle.sq_journal.specs.Putting.{Puts};
 ghost use Rattle.sq_machine.specs.declared.entries.Told.TheVariants as told;
 
-use crate::printing::{Piece, put_name, put_number, put_pair, put_pieces};
+use crate::printing::{EntryPiece, put_name, put_number, put_pair, put_pieces};
 use sq_base::{Cause, EpochNo, ProcNo, QuestionNo, SeatNo, Text, Word};
 use sq_machine::Told;
 use sq_outside::{Failed, Sink};
@@ -15,14 +15,18 @@ use sq_rules::{Outcome, Why};
 
 /// Puts the words of an answer.
 pub fn put_told<O: Sink>(to: &mut O, answer: &Told) -> Result<(), Failed>
-    ensures { Puts (O.contents to.old) (O.contents to.new) (O.faults to.old) (O.faults to.new) result (after_spaces (told_words answer.now)) }
+    ensures { Puts (O.contents to.old) (O.contents to.new) (O.faults to.old) (O.faults to.new)
+        result (after_spaces (told_words answer.now)) }
 {
     match answer {
         Told::Epoch(epoch) => put_number(to, b"epoch", epoch.0),
         Told::Fine => put_name(to, b"ok"),
         Told::Check(check) => put_number(to, b"check", check.0),
         Told::Took(class) => {
-            let words = [Piece::Plain(b"took"), Piece::Escaped(class.as_bytes())];
+            let words = [
+                EntryPiece::Plain(b"took"),
+                EntryPiece::Escaped(class.as_bytes()),
+            ];
             put_pieces(to, &words)
         }
         Told::Waits(question) => put_number(to, b"waits", question.0),
@@ -48,14 +52,15 @@ pub fn put_told<O: Sink>(to: &mut O, answer: &Told) -> Result<(), Failed>
 
 // Puts the words of a `reply`.
 fn put_reply<O: Sink>(to: &mut O, question: QuestionNo, word: Word) -> Result<(), Failed>
-    ensures { Puts (O.contents to.old) (O.contents to.new) (O.faults to.old) (O.faults to.new) result (after_spaces (told_words (told.Reply question word))) }
+    ensures { Puts (O.contents to.old) (O.contents to.new) (O.faults to.old) (O.faults to.new)
+        result (after_spaces (told_words (told.Reply question word))) }
 {
     put_pieces(
         to,
         &[
-            Piece::Plain(b"reply"),
-            Piece::Number(question.0),
-            Piece::Plain(result_word(word)),
+            EntryPiece::Plain(b"reply"),
+            EntryPiece::Number(question.0),
+            EntryPiece::Plain(result_word(word)),
         ],
     )
 }
@@ -68,30 +73,32 @@ fn put_send<O: Sink>(
     channel: Option<u32>,
     key: &Text,
 ) -> Result<(), Failed>
-    ensures { Puts (O.contents to.old) (O.contents to.new) (O.faults to.old) (O.faults to.new) result (after_spaces (told_words (told.Send proc question channel key.now))) }
+    ensures { Puts (O.contents to.old) (O.contents to.new) (O.faults to.old) (O.faults to.new)
+        result (after_spaces (told_words (told.Send proc question channel key.now))) }
 {
     put_pieces(
         to,
         &[
-            Piece::Plain(b"send"),
-            Piece::Number(proc.0),
-            Piece::Number(question.0),
-            Piece::Channel(channel),
-            Piece::Escaped(key.as_bytes()),
+            EntryPiece::Plain(b"send"),
+            EntryPiece::Number(proc.0),
+            EntryPiece::Number(question.0),
+            EntryPiece::Channel(channel),
+            EntryPiece::Escaped(key.as_bytes()),
         ],
     )
 }
 
 // Puts the words of a `seat`, with its pool counted from 1.
 fn put_seat<O: Sink>(to: &mut O, seat: SeatNo, pool: u32) -> Result<(), Failed>
-    ensures { Puts (O.contents to.old) (O.contents to.new) (O.faults to.old) (O.faults to.new) result (after_spaces (told_words (told.Seat seat pool))) }
+    ensures { Puts (O.contents to.old) (O.contents to.new) (O.faults to.old) (O.faults to.new)
+        result (after_spaces (told_words (told.Seat seat pool))) }
 {
     put_pieces(
         to,
         &[
-            Piece::Plain(b"seat"),
-            Piece::Number(seat.0),
-            Piece::Number(pool as u64 + 1),
+            EntryPiece::Plain(b"seat"),
+            EntryPiece::Number(seat.0),
+            EntryPiece::Number(pool as u64 + 1),
         ],
     )
 }
@@ -109,7 +116,8 @@ fn result_word(word: Word) -> &'static [u8]
 
 // Puts the words of an epoch and an outcome.
 fn put_judged<O: Sink>(to: &mut O, epoch: EpochNo, outcome: &Outcome) -> Result<(), Failed>
-    ensures { Puts (O.contents to.old) (O.contents to.new) (O.faults to.old) (O.faults to.new) result (after_spaces (told_words (told.Judged epoch outcome.now))) }
+    ensures { Puts (O.contents to.old) (O.contents to.new) (O.faults to.old) (O.faults to.new)
+        result (after_spaces (told_words (told.Judged epoch outcome.now))) }
 {
     let action = action_word(outcome.allow);
     match &outcome.why {
@@ -129,31 +137,34 @@ fn put_short<'a, O: Sink>(
     action: &'a [u8],
     why: &'a [u8],
 ) -> Result<(), Failed>
-    ensures { Puts (O.contents to.old) (O.contents to.new) (O.faults to.old) (O.faults to.new) result (after_spaces (codes "epoch" ∷ decimal epoch ∷ action.now ∷ why.now ∷ [])) }
+    ensures { Puts (O.contents to.old) (O.contents to.new) (O.faults to.old) (O.faults to.new)
+        result (after_spaces (codes "epoch" ∷ decimal epoch ∷ action.now ∷ why.now ∷ [])) }
 {
     put_pieces(
         to,
         &[
-            Piece::Plain(b"epoch"),
-            Piece::Number(epoch.0),
-            Piece::Plain(action),
-            Piece::Plain(why),
+            EntryPiece::Plain(b"epoch"),
+            EntryPiece::Number(epoch.0),
+            EntryPiece::Plain(action),
+            EntryPiece::Plain(why),
         ],
     )
 }
 
 // Puts the words of an epoch, and an action by a rule.
 fn put_ruled<O: Sink>(to: &mut O, epoch: EpochNo, action: &[u8], rule: u32) -> Result<(), Failed>
-    ensures { Puts (O.contents to.old) (O.contents to.new) (O.faults to.old) (O.faults to.new) result (after_spaces (codes "epoch" ∷ decimal epoch ∷ action.now ∷ codes "rule" ∷ decimal rule ∷ [])) }
+    ensures { Puts (O.contents to.old) (O.contents to.new) (O.faults to.old) (O.faults to.new)
+        result (after_spaces (codes "epoch" ∷ decimal epoch ∷ action.now ∷ codes "rule"
+        ∷ decimal rule ∷ [])) }
 {
     put_pieces(
         to,
         &[
-            Piece::Plain(b"epoch"),
-            Piece::Number(epoch.0),
-            Piece::Plain(action),
-            Piece::Plain(b"rule"),
-            Piece::Number(rule as u64),
+            EntryPiece::Plain(b"epoch"),
+            EntryPiece::Number(epoch.0),
+            EntryPiece::Plain(action),
+            EntryPiece::Plain(b"rule"),
+            EntryPiece::Number(rule as u64),
         ],
     )
 }
@@ -167,18 +178,20 @@ fn put_fault<'a, O: Sink>(
     acl: &'a Text,
     cause: &'a [u8],
 ) -> Result<(), Failed>
-    ensures { Puts (O.contents to.old) (O.contents to.new) (O.faults to.old) (O.faults to.new) result (after_spaces (codes "epoch" ∷ decimal epoch ∷ action.now ∷ codes "fault" ∷ decimal rule ∷ text_word acl.now ∷ cause.now ∷ [])) }
+    ensures { Puts (O.contents to.old) (O.contents to.new) (O.faults to.old) (O.faults to.new)
+        result (after_spaces (codes "epoch" ∷ decimal epoch ∷ action.now ∷ codes "fault"
+        ∷ decimal rule ∷ text_word acl.now ∷ cause.now ∷ [])) }
 {
     put_pieces(
         to,
         &[
-            Piece::Plain(b"epoch"),
-            Piece::Number(epoch.0),
-            Piece::Plain(action),
-            Piece::Plain(b"fault"),
-            Piece::Number(rule as u64),
-            Piece::Escaped(acl.as_bytes()),
-            Piece::Plain(cause),
+            EntryPiece::Plain(b"epoch"),
+            EntryPiece::Number(epoch.0),
+            EntryPiece::Plain(action),
+            EntryPiece::Plain(b"fault"),
+            EntryPiece::Number(rule as u64),
+            EntryPiece::Escaped(acl.as_bytes()),
+            EntryPiece::Plain(cause),
         ],
     )
 }

@@ -7,7 +7,7 @@ ghost use Rattle.sq_journal.specs.Values.{IsOffset};
 
 use crate::escapes::read_text;
 use crate::faults::EntryFault;
-use crate::words::Words;
+use crate::words::EntryWords;
 use sq_addr::{print_addr, read_addr};
 use sq_base::{Addr, Field, Text, number_of};
 use sq_machine::Offset;
@@ -18,7 +18,7 @@ pub const LIMIT: u64 = 1 << 63;
 
 /// A number below the limit.
 #[tactic(auto, unfolding(crate::specs::Reading::word_in))]
-pub fn below(words: &mut Words, limit: u64) -> Result<u64, EntryFault>
+pub fn below(words: &mut EntryWords, limit: u64) -> Result<u64, EntryFault>
     ensures read { ReadsWithoutMemory result words.new (below_in limit words.old) }
     ensures bound { IfOk result (λ n. n < limit) }
 {
@@ -32,7 +32,7 @@ pub fn below(words: &mut Words, limit: u64) -> Result<u64, EntryFault>
 }
 
 /// A number of a connection and the like, a moment or an amount.
-pub fn number(words: &mut Words) -> Result<u64, EntryFault>
+pub fn number(words: &mut EntryWords) -> Result<u64, EntryFault>
     ensures read { ReadsWithoutMemory result words.new (number_in words.old) }
     ensures bound { IfOk result (λ n. n < 2 ^ 63) }
 {
@@ -41,7 +41,7 @@ pub fn number(words: &mut Words) -> Result<u64, EntryFault>
 
 /// A text.
 #[tactic(auto, unfolding(crate::specs::Reading::word_in))]
-pub fn text(alloc: Global, words: &mut Words) -> Result<Text, EntryFault>
+pub fn text(alloc: Global, words: &mut EntryWords) -> Result<Text, EntryFault>
     ensures { ReadsFront result words.new (text_in words.old) }
 {
     match words.next() {
@@ -52,7 +52,7 @@ pub fn text(alloc: Global, words: &mut Words) -> Result<Text, EntryFault>
 
 /// An offset of local time.
 #[tactic(auto, unfolding(crate::specs::Reading::word_in))]
-pub fn offset(words: &mut Words) -> Result<Offset, EntryFault>
+pub fn offset(words: &mut EntryWords) -> Result<Offset, EntryFault>
     ensures { ReadsWithoutMemory result words.new (word_in offset_from words.old) }
 {
     match words.next() {
@@ -92,7 +92,7 @@ fn below_zero(number: u64) -> Option<i32>
 
 /// An address, in the spelling in which it is printed.
 #[tactic(auto, unfolding(crate::specs::Reading::word_in))]
-pub fn address(alloc: Global, words: &mut Words) -> Result<Addr, EntryFault>
+pub fn address(alloc: Global, words: &mut EntryWords) -> Result<Addr, EntryFault>
     ensures { ReadsFront result words.new (word_in printed_address words.old) }
 {
     match words.next() {

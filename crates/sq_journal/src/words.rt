@@ -7,11 +7,11 @@ use std::marker::Model;
 
 /// The words of a line that are left. A contract sees their list.
 #[derive(Drop)]
-pub struct Words<'a> {
+pub struct EntryWords<'a> {
     rest: Option<&'a [u8]>,
 }
 
-impl<'a> Model for Words<'a> {
+impl<'a> Model for EntryWords<'a> {
     ghost use Rattle.std.specs.Prelude.{List, ℕ};
     ghost use Rattle.sq_journal.specs.Lines.{words_left};
 
@@ -20,12 +20,12 @@ impl<'a> Model for Words<'a> {
     ghost view = { λ w. words_left w.rest };
 }
 
-impl<'a> Words<'a> {
+impl<'a> EntryWords<'a> {
     /// The words between the spaces of a line: one more than there are spaces.
-    pub fn new(line: &'a [u8]) -> Words<'a>
+    pub fn new(line: &'a [u8]) -> EntryWords<'a>
         ensures { result ≡ spaced_words line.now }
     {
-        Words { rest: Some(line) }
+        EntryWords { rest: Some(line) }
     }
 
     /// The next word.
@@ -44,7 +44,8 @@ impl<'a> Words<'a> {
 
     /// The next word, which stays.
     pub fn peek(&self) -> Option<&'a [u8]>
-        ensures { MatchOption result (self.now ≡ []) (λ word. (ws : _) × (self.now ≡ word.now ∷ ws)) }
+        ensures { MatchOption result (self.now ≡ [])
+            (λ word. (ws : _) × (self.now ≡ word.now ∷ ws)) }
     {
         match self.rest {
             None => None,

@@ -8,7 +8,8 @@ pub adds_none : (a : Option (List Handed)) → Adds a a []
 adds_none None = tt
 adds_none (Some xs) = (xs, refl, sym (append-nil xs))
 
-at_some : (a b : Option (List Handed)) (xs ys zs : List Handed) → b ≡ Some ys → Adds a b xs → zs ≡ ys → (before : List Handed) × (a ≡ Some before) × (zs ≡ before ++ xs)
+at_some : (a b : Option (List Handed)) (xs ys zs : List Handed) → b ≡ Some ys → Adds a b xs → zs ≡ ys
+    → (before : List Handed) × (a ≡ Some before) × (zs ≡ before ++ xs)
 at_some a None xs ys zs e h k = absurd (cc)
 at_some a (Some y) xs ys zs e h k = let same : y ≡ ys = cc in (h.0, h.1, k ∙ sym same ∙ h.2)
 

@@ -13,13 +13,15 @@ use Rattle.sq_keeper.proofs.AddLaws.{adds_none, adds_more}
 use Rattle.sq_keeper.proofs.WalkLaws.{walk_line_append, walk_handed_append, walk_none, line_none, walk_all}
 
 -- these bytes were read, and their lines handed on
-pub record SoFar (proc : ℕ) (left_before left_now : Option (List ℕ)) (before now : Option (List Handed)) (line : List ℕ) : Type 0 where
+pub record SoFar (proc : ℕ) (left_before left_now : Option (List ℕ)) (before now : Option (List Handed))
+    (line : List ℕ) : Type 0 where
   pub read : List ℕ
   pub consumed : Consumes left_before left_now read
   pub adds : Adds before now (walk_handed proc [] read)
   pub gathers : line ≡ walk_line [] read
 
-pub begins : (proc : ℕ) (left : Option (List ℕ)) (handed : Option (List Handed)) (line : List ℕ) → line ≡ [] → SoFar proc left left handed handed line
+pub begins : (proc : ℕ) (left : Option (List ℕ)) (handed : Option (List Handed)) (line : List ℕ) → line ≡ []
+    → SoFar proc left left handed handed line
 begins proc left handed line e =
     record {
       read = [];
@@ -28,7 +30,8 @@ begins proc left handed line e =
       gathers = e ∙ sym (line_none []);
     }
 
-joined : (proc : ℕ) (line read bytes : List ℕ) → line ≡ walk_line [] read → walk_handed proc [] read ++ walk_handed proc line bytes ≡ walk_handed proc [] (read ++ bytes)
+joined : (proc : ℕ) (line read bytes : List ℕ) → line ≡ walk_line [] read
+    → walk_handed proc [] read ++ walk_handed proc line bytes ≡ walk_handed proc [] (read ++ bytes)
 joined proc line read bytes e =
     ap (λ l. walk_handed proc [] read ++ walk_handed proc l bytes) e ∙ sym (walk_handed_append proc [] read bytes)
 
@@ -44,13 +47,16 @@ goes_on proc a b c x y z line longer bytes s k w =
     }
 
 stopped : (proc : ℕ) (line read bytes : List ℕ) → line ≡ walk_line [] read
-    → walk_handed proc [] read ++ (walk_handed proc line bytes ++ Stop proc ∷ []) ≡ walk_handed proc [] (read ++ bytes) ++ Stop proc ∷ []
+    → walk_handed proc [] read ++ (walk_handed proc line bytes ++ Stop proc ∷ []) ≡ walk_handed proc [] (read ++ bytes)
+    ++ Stop proc ∷ []
 stopped proc line read bytes e =
-    sym (append_assoc (walk_handed proc [] read) (walk_handed proc line bytes) (Stop proc ∷ [])) ∙ ap (λ l. l ++ Stop proc ∷ []) (joined proc line read bytes e)
+    sym (append_assoc (walk_handed proc [] read) (walk_handed proc line bytes) (Stop proc ∷ []))
+    ∙ ap (λ l. l ++ Stop proc ∷ []) (joined proc line read bytes e)
 
 -- more bytes, up to the LF at which the desk wanted no more
 pub is_told : (proc : ℕ) (a b c : Option (List ℕ)) (x y z : Option (List Handed)) (line longer bytes : List ℕ)
-    → SoFar proc a b x y line → Consumes b c bytes → Walks proc line longer bytes y z false → ReadsLines proc a c x z Told
+    → SoFar proc a b x y line → Consumes b c bytes → Walks proc line longer bytes y z false
+    → ReadsLines proc a c x z Told
 is_told proc a b c x y z line longer bytes s k w =
     let front = w.0 in
     let more = w.1 in
@@ -63,11 +69,14 @@ is_told proc a b c x y z line longer bytes s k w =
         s.read ++ front,
         more,
         ap (λ l. s.read ++ l) w.2 ∙ sym (append_assoc s.read front (10 ∷ more)),
-        ap (λ l. l ++ Stop proc ∷ []) (walk_all proc (s.read ++ (front ++ 10 ∷ [])) ∙ ap (lines_handed proc) (sym (append_assoc s.read front (10 ∷ [])))),
+        ap (λ l. l ++ Stop proc ∷ [])
+            (walk_all proc (s.read ++ (front ++ 10 ∷ []))
+            ∙ ap (lines_handed proc) (sym (append_assoc s.read front (10 ∷ [])))),
       );
     }
 
-lines_died : (proc : ℕ) (read : List ℕ) → walk_handed proc [] read ++ Died proc ∷ [] ≡ lines_handed proc read ++ Died proc ∷ []
+lines_died : (proc : ℕ) (read : List ℕ)
+    → walk_handed proc [] read ++ Died proc ∷ [] ≡ lines_handed proc read ++ Died proc ∷ []
 lines_died proc read = ap (λ l. l ++ Died proc ∷ []) (walk_all proc read)
 
 -- the end of the input, and the death
@@ -95,5 +104,12 @@ is_failed proc a b c x y z line s k d =
     }
 
 -- nothing was read or handed on
-pub is_refused : (proc : ℕ) (left : Option (List ℕ)) (handed : Option (List Handed)) → ReadsLines proc left left handed handed WantOfMemory
-is_refused proc left handed = record { read = []; handed = []; consumed = Consumes-nil left; adds = adds_none handed; hands = (refl, refl) }
+pub is_refused : (proc : ℕ) (left : Option (List ℕ)) (handed : Option (List Handed))
+    → ReadsLines proc left left handed handed WantOfMemory
+is_refused proc left handed = record {
+  read = [];
+  handed = [];
+  consumed = Consumes-nil left;
+  adds = adds_none handed;
+  hands = (refl, refl);
+}

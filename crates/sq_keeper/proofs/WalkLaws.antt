@@ -14,12 +14,14 @@ unfolding walk_line
 walk_line_append line [] ys = refl
 walk_line_append line (x ∷ xs) ys = walk_line_append (step_line line x) xs ys
 
-pub walk_handed_append : (proc : ℕ) (line xs ys : List ℕ) → walk_handed proc line (xs ++ ys) ≡ walk_handed proc line xs ++ walk_handed proc (walk_line line xs) ys
+pub walk_handed_append : (proc : ℕ) (line xs ys : List ℕ)
+    → walk_handed proc line (xs ++ ys) ≡ walk_handed proc line xs ++ walk_handed proc (walk_line line xs) ys
 unfolding walk_line walk_handed
 walk_handed_append proc line [] ys = refl
 walk_handed_append proc line (x ∷ xs) ys =
     ap (λ l. step_handed proc line x ++ l) (walk_handed_append proc (step_line line x) xs ys)
-    ∙ sym (append_assoc (step_handed proc line x) (walk_handed proc (step_line line x) xs) (walk_handed proc (walk_line (step_line line x) xs) ys))
+    ∙ sym (append_assoc (step_handed proc line x) (walk_handed proc (step_line line x) xs)
+    (walk_handed proc (walk_line (step_line line x) xs) ys))
 
 pub walk_line_one : (line : List ℕ) (b : ℕ) → walk_line line (b ∷ []) ≡ step_line line b
 unfolding walk_line
@@ -44,7 +46,8 @@ NotEnd b = is_lf b ≡ false
 abbrev NoEnd : List ℕ → Type 0
 NoEnd line = All NotEnd line
 
-front_cons : (x : List ℕ) (parts : List (List ℕ)) → 0 < length parts → take (length (x ∷ parts) - 1) (x ∷ parts) ≡ x ∷ take (length parts - 1) parts
+front_cons : (x : List ℕ) (parts : List (List ℕ)) → 0 < length parts
+    → take (length (x ∷ parts) - 1) (x ∷ parts) ≡ x ∷ take (length parts - 1) parts
 front_cons x [] h = absurd (omega arith)
 front_cons x (y ∷ parts) h =
     let more : suc (suc (length parts)) - 1 ≡ suc (length parts) = omega arith in
@@ -55,9 +58,11 @@ some_part : (bytes : List ℕ) → 0 < length (slice_split is_lf bytes)
 some_part bytes = omega (arith, length-slice_split is_lf bytes)
 
 none_ended : (line : List ℕ) → NoEnd line → ended_lines (line ++ []) ≡ []
-none_ended line h = ap (λ l. take (length (slice_split is_lf l) - 1) (slice_split is_lf l)) (append-nil line) ∙ ap (λ (ps : List (List ℕ)). take (length ps - 1) ps) (slice_split_none is_lf line h)
+none_ended line h = ap (λ l. take (length (slice_split is_lf l) - 1) (slice_split is_lf l)) (append-nil line)
+    ∙ ap (λ (ps : List (List ℕ)). take (length ps - 1) ps) (slice_split_none is_lf line h)
 
-one_ended : (line : List ℕ) (b : ℕ) (bs : List ℕ) → NoEnd line → is_lf b ≡ true → ended_lines (line ++ b ∷ bs) ≡ line ∷ ended_lines bs
+one_ended : (line : List ℕ) (b : ℕ) (bs : List ℕ) → NoEnd line → is_lf b ≡ true
+    → ended_lines (line ++ b ∷ bs) ≡ line ∷ ended_lines bs
 one_ended line b bs h e =
     ap (λ (ps : List (List ℕ)). take (length ps - 1) ps) (slice_split_at is_lf line b bs h e)
     ∙ front_cons line (slice_split is_lf bs) (some_part bs)
@@ -91,12 +96,15 @@ pub walk_all : (proc : ℕ) (bytes : List ℕ) → walk_handed proc [] bytes ≡
 walk_all proc bytes = ap (λ l. walk_handed proc l bytes) (sym cut_none) ∙ gathered proc [] bytes (All-nil NotEnd)
 
 -- one more byte
-pub one_more_handed : (proc : ℕ) (before line front : List ℕ) (b : ℕ) → line ≡ walk_line before front → walk_handed proc before front ++ step_handed proc line b ≡ walk_handed proc before (front ++ b ∷ [])
+pub one_more_handed : (proc : ℕ) (before line front : List ℕ) (b : ℕ) → line ≡ walk_line before front
+    → walk_handed proc before front ++ step_handed proc line b ≡ walk_handed proc before (front ++ b ∷ [])
 one_more_handed proc before line front b e =
     ap (λ l. walk_handed proc before front ++ step_handed proc l b) e
     ∙ sym (ap (λ l. walk_handed proc before front ++ l) (walk_handed_one proc (walk_line before front) b))
     ∙ sym (walk_handed_append proc before front (b ∷ []))
 
-pub one_more_line : (before line front : List ℕ) (b : ℕ) → line ≡ walk_line before front → step_line line b ≡ walk_line before (front ++ b ∷ [])
+pub one_more_line : (before line front : List ℕ) (b : ℕ) → line ≡ walk_line before front
+    → step_line line b ≡ walk_line before (front ++ b ∷ [])
 one_more_line before line front b e =
-    ap (λ l. step_line l b) e ∙ sym (walk_line_one (walk_line before front) b) ∙ sym (walk_line_append before front (b ∷ []))
+    ap (λ l. step_line l b) e ∙ sym (walk_line_one (walk_line before front) b)
+    ∙ sym (walk_line_append before front (b ∷ []))

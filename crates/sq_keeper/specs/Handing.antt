@@ -8,7 +8,8 @@ use Rattle.sq_keeper.specs.declared.desk.LineEnd.TheVariants.{Go, End, WantOfMem
 
 -- where the desk tells what it was handed, it is what it was handed before, and more
 abbrev pub Adds : Option (List Handed) → Option (List Handed) → List Handed → Type 0
-Adds old new more = IfSome new (λ now. (before : List Handed) × (old ≡ Some before) × (now ≡ before ++ more))
+Adds old new more = IfSome new
+    (λ now. (before : List Handed) × (old ≡ Some before) × (now ≡ before ++ more))
 
 -- what a call of `line` adds: the line where it was taken, and that no more are wanted
 abbrev pub taken : ℕ → List ℕ → LineEnd → List Handed

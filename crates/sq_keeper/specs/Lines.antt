@@ -21,16 +21,19 @@ cut line = take line_room line
 abbrev pub lines_handed : ℕ → List ℕ → List Handed
 lines_handed proc bytes = map (λ l. Line proc (cut l)) (ended_lines bytes)
 
--- what was handed on of the bytes that were read: each line, and then the death; where the desk ended
--- the reading, each line up to some LF, and that no more were wanted; nothing where there was no memory
+-- what was handed on of the bytes that were read: each line, and then the death; where the desk
+-- ended the reading, each line up to some LF, and that no more were wanted; nothing where there was
+-- no memory
 abbrev pub Hands : ℕ → List ℕ → KeeperEnd → List Handed → Type 0
 Hands proc read Ended handed = handed ≡ lines_handed proc read ++ Died proc ∷ []
 Hands proc read ReadFault handed = handed ≡ lines_handed proc read ++ Died proc ∷ []
-Hands proc read Told handed = (front more : List ℕ) × (read ≡ front ++ 10 ∷ more) × (handed ≡ lines_handed proc (front ++ 10 ∷ []) ++ Stop proc ∷ [])
+Hands proc read Told handed = (front more : List ℕ) × (read ≡ front ++ 10 ∷ more)
+    × (handed ≡ lines_handed proc (front ++ 10 ∷ []) ++ Stop proc ∷ [])
 Hands proc read WantOfMemory handed = (read ≡ []) × (handed ≡ [])
 
 -- some bytes of the source were read, and their lines were handed to the desk
-pub record ReadsLines (proc : ℕ) (left_before left_now : Option (List ℕ)) (before now : Option (List Handed)) (result : KeeperEnd) : Type 0 where
+pub record ReadsLines (proc : ℕ) (left_before left_now : Option (List ℕ))
+    (before now : Option (List Handed)) (result : KeeperEnd) : Type 0 where
   pub read : List ℕ
   pub handed : List Handed
   pub consumed : Consumes left_before left_now read

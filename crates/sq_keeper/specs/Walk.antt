@@ -31,7 +31,10 @@ closing proc true = []
 closing proc false = Stop proc ∷ []
 
 -- bytes were taken: all of them, or those up to an LF, at which the desk wanted no more
-abbrev pub Walks : ℕ → List ℕ → List ℕ → List ℕ → Option (List Handed) → Option (List Handed) → Bool → Type 0
-Walks proc before now bytes old new true = Adds old new (walk_handed proc before bytes) × (now ≡ walk_line before bytes)
+abbrev pub Walks : ℕ → List ℕ → List ℕ → List ℕ → Option (List Handed) → Option (List Handed) → Bool
+    → Type 0
+Walks proc before now bytes old new true = Adds old new (walk_handed proc before bytes)
+    × (now ≡ walk_line before bytes)
 Walks proc before now bytes old new false =
-    (front more : List ℕ) × (bytes ≡ front ++ 10 ∷ more) × Adds old new (walk_handed proc before (front ++ 10 ∷ []) ++ closing proc false)
+    (front more : List ℕ) × (bytes ≡ front ++ 10 ∷ more)
+    × Adds old new (walk_handed proc before (front ++ 10 ∷ []) ++ closing proc false)

@@ -8,7 +8,7 @@ ghost use Rattle.sq_keeper.specs.declared.desk.Handed.TheVariants as handed;
 ghost use Rattle.sq_outside.specs.Causes.{Rose};
 
 use crate::desk::{LineDesk, LineEnd};
-use crate::line::Line;
+use crate::line_buffer::LineBuffer;
 use sq_base::ProcNo;
 use sq_outside::Source;
 use std::alloc::Global;
@@ -32,7 +32,8 @@ pub enum KeeperEnd {
 
 /// Hands a line on until the desk has memory for it. Answers whether it wants more lines.
 fn hand<R: Wait, K: LineDesk>(rt: &R, proc: ProcNo, line: &[u8], desk: &mut K) -> bool
-    ensures adds { Adds (K.handed desk.old) (K.handed desk.new) (handed.Line proc line.now ∷ closing proc result) }
+    ensures adds { Adds (K.handed desk.old) (K.handed desk.new)
+        (handed.Line proc line.now ∷ closing proc result) }
     ensures later { K.refused desk.old ≤ K.refused desk.new }
     ensures told { result ≡ false → Rose (K.refused desk.old) (K.refused desk.new) }
 {
@@ -50,11 +51,12 @@ fn hand<R: Wait, K: LineDesk>(rt: &R, proc: ProcNo, line: &[u8], desk: &mut K) -
 fn take_byte<R: Wait, K: LineDesk>(
     rt: &R,
     proc: ProcNo,
-    line: &mut Line,
+    line: &mut LineBuffer,
     byte: u8,
     desk: &mut K,
 ) -> bool
-    ensures adds { Adds (K.handed desk.old) (K.handed desk.new) (step_handed proc line.old byte ++ closing proc result) }
+    ensures adds { Adds (K.handed desk.old) (K.handed desk.new)
+        (step_handed proc line.old byte ++ closing proc result) }
     ensures line { line.new ≡ step_line line.old byte }
     ensures later { K.refused desk.old ≤ K.refused desk.new }
     ensures told { result ≡ false → Rose (K.refused desk.old) (K.refused desk.new) }
@@ -73,11 +75,12 @@ fn take_byte<R: Wait, K: LineDesk>(
 fn take_bytes<R: Wait, K: LineDesk>(
     rt: &R,
     proc: ProcNo,
-    line: &mut Line,
+    line: &mut LineBuffer,
     bytes: &[u8],
     desk: &mut K,
 ) -> bool
-    ensures walks { Walks proc line.old line.new bytes.now (K.handed desk.old) (K.handed desk.new) result }
+    ensures walks { Walks proc line.old line.new bytes.now (K.handed desk.old) (K.handed desk.new)
+        result }
     ensures later { K.refused desk.old ≤ K.refused desk.new }
     ensures told { result ≡ false → Rose (K.refused desk.old) (K.refused desk.new) }
 {
@@ -98,17 +101,19 @@ pub fn read_lines<R: Wait + Sync, S: Source, K: LineDesk>(
     proc: ProcNo,
     desk: &mut K,
 ) -> KeeperEnd
-    ensures lines { ReadsLines proc (S.left from.old) (S.left from.new) (K.handed desk.old) (K.handed desk.new) result }
+    ensures lines { ReadsLines proc (S.left from.old) (S.left from.new) (K.handed desk.old)
+        (K.handed desk.new) result }
     ensures ended { result ≡ KeeperEnd.Ended → IsAtEnd (S.left from.new) }
     ensures fault { result ≡ KeeperEnd.ReadFault → Rose (S.faults from.old) (S.faults from.new) }
     ensures told { result ≡ KeeperEnd.Told → Rose (K.refused desk.old) (K.refused desk.new) }
-    ensures memory { result ≡ KeeperEnd.WantOfMemory → (from.new ≡ from.old) × (desk.new ≡ desk.old) }
+    ensures memory { result ≡ KeeperEnd.WantOfMemory
+        → (from.new ≡ from.old) × (desk.new ≡ desk.old) }
     ensures faults_later { S.faults from.old ≤ S.faults from.new }
     // The first read that fails ends the reading: where it ended otherwise, none failed.
     ensures quiet { (result ≡ KeeperEnd.ReadFault → ⊥) → S.faults from.new ≡ S.faults from.old }
     ensures refused_later { K.refused desk.old ≤ K.refused desk.new }
 {
-    let Ok(mut line) = Line::new(alloc) else {
+    let Ok(mut line) = LineBuffer::new(alloc) else {
         return KeeperEnd::WantOfMemory;
     };
     let mut chunk = [0u8; CHUNK];

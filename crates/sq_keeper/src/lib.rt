@@ -9,7 +9,7 @@
 
 mod desk;
 mod keeper;
-mod line;
+mod line_buffer;
 mod mem_desk;
 
 pub use desk::{Handed, LineDesk, LineEnd};

@@ -86,15 +86,18 @@ impl LineDesk for MemDesk {
     ghost handed = { desk_handed };
 
     fn line(&mut self, proc: ProcNo, bytes: &[u8]) -> LineEnd
-        ensures handed { Adds (desk_handed self.old) (desk_handed self.new) (taken proc bytes.now result) }
+        ensures handed { Adds (desk_handed self.old) (desk_handed self.new)
+            (taken proc bytes.now result) }
         ensures later { desk_refused self.old ≤ desk_refused self.new }
-        ensures refused { result ≡ LineEnd.End → Rose (desk_refused self.old) (desk_refused self.new) }
+        ensures refused { result ≡ LineEnd.End
+            → Rose (desk_refused self.old) (desk_refused self.new) }
         ensures ends { result ≡ LineEnd.End → desk_wants self.old ≡ 0 }
         ensures ended { result ≡ LineEnd.End → desk_wants self.new ≡ desk_wants self.old }
         ensures goes { result ≡ LineEnd.Go → desk_wants self.old ≡ desk_wants self.new + 1 }
         ensures waits { result ≡ LineEnd.WantOfMemory → desk_wants self.new ≡ desk_wants self.old }
         ensures calls { desk_calls self.new ≡ next_call (desk_calls self.old) }
-        ensures lacks { is_listed (desk_lacks self.old) (desk_calls self.new) ≡ true → result ≡ LineEnd.WantOfMemory }
+        ensures lacks { is_listed (desk_lacks self.old) (desk_calls self.new) ≡ true
+            → result ≡ LineEnd.WantOfMemory }
         ensures list { desk_lacks self.new ≡ desk_lacks self.old }
     {
         if self.lacks() {
@@ -114,7 +117,8 @@ impl LineDesk for MemDesk {
     }
 
     fn died(&mut self, proc: ProcNo)
-        ensures handed { Adds (desk_handed self.old) (desk_handed self.new) (Handed.Died proc ∷ []) }
+        ensures handed { Adds (desk_handed self.old) (desk_handed self.new)
+            (Handed.Died proc ∷ []) }
         ensures later { desk_refused self.old ≤ desk_refused self.new }
         ensures wants { desk_wants self.new ≡ desk_wants self.old }
         ensures calls { desk_calls self.new ≡ desk_calls self.old }

@@ -40,4 +40,5 @@ pub without_check : (n check : ℕ) (before after : List ℕ)
     → has_check n after ≡ (not (n == check) && has_check n before)
 without_check n check before after h =
     has_is n after ∙ h ∙ ap (λ b. cond b false (list_any (is_at (nat_cmp n)) before)) (other_number check n)
-    ∙ cond_false (n == check) (list_any (is_at (nat_cmp n)) before) ∙ ap (λ b. not (n == check) && b) (sym (has_is n before))
+    ∙ cond_false (n == check) (list_any (is_at (nat_cmp n)) before)
+    ∙ ap (λ b. not (n == check) && b) (sym (has_is n before))

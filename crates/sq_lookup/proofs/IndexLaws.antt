@@ -12,13 +12,15 @@ use Rattle.sq_lookup.proofs.OpenLaws.{none_is, pending_with, once_with, pending_
 -- for a question: it is open where the table has its row
 pub open_is : (q : ℕ) (rows : List (ℕ × Row)) → is_open_lookup q (rows_of rows) ≡ is_some (row_at rows q)
 open_is q [] = refl
-open_is q (e ∷ es) = (elim (q == e.0) as (λ y. (q == e.0) ≡ y → is_open_lookup q (rows_of (e ∷ es)) ≡ is_some (row_at (e ∷ es) q)) [
-  | true ↦ λ t. rw t refl
-  | false ↦ λ t. rw t (open_is q es)
-]) refl
+open_is q (e ∷ es) = (elim (q == e.0) as
+    (λ y. (q == e.0) ≡ y → is_open_lookup q (rows_of (e ∷ es)) ≡ is_some (row_at (e ∷ es) q)) [
+      | true ↦ λ t. rw t refl
+      | false ↦ λ t. rw t (open_is q es)
+    ]) refl
 
 -- for a question with a row: its key is the row's
-pub key_at : (q : ℕ) (rows : List (ℕ × Row)) (row : Row) → row_at rows q ≡ Some row → key_of q (rows_of rows) ≡ Some row.key
+pub key_at : (q : ℕ) (rows : List (ℕ × Row)) (row : Row) → row_at rows q ≡ Some row
+    → key_of q (rows_of rows) ≡ Some row.key
 key_at q [] row h = absurd cc
 key_at q (e ∷ es) row h = (elim (q == e.0) as (λ y. (q == e.0) ≡ y → key_of q (rows_of (e ∷ es)) ≡ Some row.key) [
   | true ↦ λ t. let h' = rw t at h in let same : e.1 ≡ row = cc in rw (t, same) refl
@@ -44,7 +46,8 @@ is_same : (n : ℕ) (o : Option ℕ) → is_number n o ≡ true → o ≡ Some n
 is_same n None h = absurd cc
 is_same n (Some k) h = rw (number_is n k h) refl
 
-free_none : (n : ℕ) (check : Option ℕ) (w : WaitingChecks) → is_free check w ≡ true → is_number n check ≡ true → question_of n w ≡ None
+free_none : (n : ℕ) (check : Option ℕ) (w : WaitingChecks) → is_free check w ≡ true → is_number n check ≡ true
+    → question_of n w ≡ None
 free_none n None w f h = absurd cc
 free_none n (Some k) w f h = rw (number_is n k h) (none_is (question_of k w) f)
 
@@ -68,11 +71,12 @@ not_and false = refl
 pub waits_with : (q k n : ℕ) (check : Option ℕ) (w v : WaitingChecks) → is_free check w ≡ true
     → question_of n v ≡ cond (is_number n check) (Some q) (question_of n w)
     → waits_in v k n ≡ ((k == q && is_number n check) || waits_in w k n)
-waits_with q k n check w v f s = (elim (is_number n check) as (λ y. is_number n check ≡ y → waits_in v k n ≡ ((k == q && is_number n check) || waits_in w k n)) [
-  | true ↦ λ t. let was : question_of n w ≡ None = free_none n check w f t in
-      rw (s, t, was) (sym (or_false (k == q && true) ∙ and_true (k == q)))
-  | false ↦ λ t. rw (s, t, and_false (k == q)) refl
-]) refl
+waits_with q k n check w v f s = (elim (is_number n check) as
+    (λ y. is_number n check ≡ y → waits_in v k n ≡ ((k == q && is_number n check) || waits_in w k n)) [
+      | true ↦ λ t. let was : question_of n w ≡ None = free_none n check w f t in
+          rw (s, t, was) (sym (or_false (k == q && true) ∙ and_true (k == q)))
+      | false ↦ λ t. rw (s, t, and_false (k == q)) refl
+    ]) refl
 
 -- for a check that joined: it is one more
 pub waits_more : (q k n check : ℕ) (w v : WaitingChecks) → question_of check w ≡ None
@@ -83,26 +87,31 @@ waits_more q k n check w v f s = waits_with q k n (Some check) w v (rw f refl) s
 -- for a check that left: it is one less
 pub waits_less : (k n check : ℕ) (w v : WaitingChecks) → question_of n v ≡ cond (n == check) None (question_of n w)
     → waits_in v k n ≡ (not (n == check) && waits_in w k n)
-waits_less k n check w v s = (elim (n == check) as (λ y. (n == check) ≡ y → waits_in v k n ≡ (not (n == check) && waits_in w k n)) [
-  | true ↦ λ t. rw (s, t) refl
-  | false ↦ λ t. rw (s, t) refl
-]) refl
+waits_less k n check w v s = (elim (n == check) as
+    (λ y. (n == check) ≡ y → waits_in v k n ≡ (not (n == check) && waits_in w k n)) [
+      | true ↦ λ t. rw (s, t) refl
+      | false ↦ λ t. rw (s, t) refl
+    ]) refl
 
 -- for the waiting checks after a question was answered
 pub waits_without : (q k n : ℕ) (checks : List ℕ) (w v : WaitingChecks) → has_check n checks ≡ waits_in w q n
     → question_of n v ≡ cond (has_check n checks) None (question_of n w)
     → waits_in v k n ≡ (not (k == q) && waits_in w k n)
-waits_without q k n checks w v l s = (elim (has_check n checks) as (λ y. has_check n checks ≡ y → waits_in v k n ≡ (not (k == q) && waits_in w k n)) [
-  | true ↦ λ t. let was : question_of n w ≡ Some q = is_same q (question_of n w) (sym l ∙ t) in rw (s, t, was) (sym (not_and (k == q)))
-  | false ↦ λ t. (elim (k == q) as (λ y. (k == q) ≡ y → waits_in v k n ≡ (not (k == q) && waits_in w k n)) [
-    | true ↦ λ u. let none : waits_in w k n ≡ false = rw (number_is k q u) (sym l ∙ t) in rw (s, t, u) none
-    | false ↦ λ u. rw (s, t, u) refl
-  ]) refl
-]) refl
+waits_without q k n checks w v l s = (elim (has_check n checks) as
+    (λ y. has_check n checks ≡ y → waits_in v k n ≡ (not (k == q) && waits_in w k n)) [
+      | true ↦ λ t. let was : question_of n w ≡ Some q = is_same q (question_of n w) (sym l ∙ t) in
+          rw (s, t, was) (sym (not_and (k == q)))
+      | false ↦ λ t. (elim (k == q) as (λ y. (k == q) ≡ y → waits_in v k n ≡ (not (k == q) && waits_in w k n)) [
+        | true ↦ λ u. let none : waits_in w k n ≡ false = rw (number_is k q u) (sym l ∙ t) in rw (s, t, u) none
+        | false ↦ λ u. rw (s, t, u) refl
+      ]) refl
+    ]) refl
 
 -- for an opening: the tables agree after it
-pub opened : (keys keys' : List (List ℕ × ℕ)) (rows rows' : List (ℕ × Row)) (w w' : WaitingChecks) (q : ℕ) (key : List ℕ) (check : Option ℕ) (checks : List ℕ)
-    → IsIndexed keys rows w → pending_in key (rows_of rows) ≡ None → is_open_lookup q (rows_of rows) ≡ false → is_free check w ≡ true
+pub opened : (keys keys' : List (List ℕ × ℕ)) (rows rows' : List (ℕ × Row)) (w w' : WaitingChecks) (q : ℕ)
+    (key : List ℕ) (check : Option ℕ) (checks : List ℕ)
+    → IsIndexed keys rows w → pending_in key (rows_of rows) ≡ None → is_open_lookup q (rows_of rows) ≡ false
+    → is_free check w ≡ true
     → ((n : ℕ) → has_check n checks ≡ is_number n check)
     → ((k : List ℕ) → question_at keys' k ≡ cond (same_key k key) (Some q) (question_at keys k))
     → rows_of rows' ≡ with_lookup (record { question = q; key = key }) (rows_of rows)
@@ -115,14 +124,17 @@ opened keys keys' rows rows' w w' q key check checks i pend closed free has k r 
   once = rw r (once_with (record { question = q; key = key }) (rows_of rows) pend i.once);
   listed = λ k' n. l k' n ∙ opened_list k' n ∙ sym (waits_with q k' n check w w' free (s n));
 } where
-  opened_list : (k' n : ℕ) → cond (k' == q) (has_check n checks) (listed_in rows k' n) ≡ ((k' == q && is_number n check) || waits_in w k' n)
-  opened_list k' n = (elim (k' == q) as (λ y. (k' == q) ≡ y → cond (k' == q) (has_check n checks) (listed_in rows k' n) ≡ ((k' == q && is_number n check) || waits_in w k' n)) [
-    | true ↦ λ t.
-        let none : row_at rows k' ≡ None = rw (number_is k' q t) (no_row q rows closed) in
-        let empty : waits_in w k' n ≡ false = sym (i.listed k' n) ∙ ap (λ o. listed_by o n) none in
-        rw (t, empty) (has n ∙ sym (or_false (is_number n check)))
-    | false ↦ λ t. rw t (i.listed k' n)
-  ]) refl
+  opened_list : (k' n : ℕ)
+      → cond (k' == q) (has_check n checks) (listed_in rows k' n) ≡ ((k' == q && is_number n check) || waits_in w k' n)
+  opened_list k' n = (elim (k' == q) as
+      (λ y. (k' == q) ≡ y → cond (k' == q) (has_check n checks) (listed_in rows k' n)
+      ≡ ((k' == q && is_number n check) || waits_in w k' n)) [
+        | true ↦ λ t.
+            let none : row_at rows k' ≡ None = rw (number_is k' q t) (no_row q rows closed) in
+            let empty : waits_in w k' n ≡ false = sym (i.listed k' n) ∙ ap (λ o. listed_by o n) none in
+            rw (t, empty) (has n ∙ sym (or_false (is_number n check)))
+        | false ↦ λ t. rw t (i.listed k' n)
+      ]) refl
 
 -- for a join: the tables agree after it
 pub joined : (keys : List (List ℕ × ℕ)) (rows rows' : List (ℕ × Row)) (w w' : WaitingChecks) (q check : ℕ)
@@ -133,7 +145,8 @@ pub joined : (keys : List (List ℕ × ℕ)) (rows rows' : List (ℕ × Row)) (w
 joined keys rows rows' w w' q check i free r l s = record {
   known = λ key. i.known key ∙ ap (pending_in key) (sym r);
   once = rw r i.once;
-  listed = λ k n. l k n ∙ ap (λ b. (k == q && n == check) || b) (i.listed k n) ∙ sym (waits_more q k n check w w' free (s n));
+  listed = λ k n. l k n ∙ ap (λ b. (k == q && n == check) || b) (i.listed k n)
+      ∙ sym (waits_more q k n check w w' free (s n));
 }
 
 -- for a leave: the tables agree after it
@@ -145,14 +158,16 @@ pub left : (keys : List (List ℕ × ℕ)) (rows rows' : List (ℕ × Row)) (w w
 left keys rows rows' w w' q check i was r l s = record {
   known = λ key. i.known key ∙ ap (pending_in key) (sym r);
   once = rw r i.once;
-  listed = λ k n. l k n ∙ ap (λ b. not (k == q && n == check) && b) (i.listed k n) ∙ left_list k n ∙ sym (waits_less k n check w w' (s n));
+  listed = λ k n. l k n ∙ ap (λ b. not (k == q && n == check) && b) (i.listed k n) ∙ left_list k n
+      ∙ sym (waits_less k n check w w' (s n));
 } where
   left_list : (k n : ℕ) → (not (k == q && n == check) && waits_in w k n) ≡ (not (n == check) && waits_in w k n)
-  left_list k n = (elim (n == check) as (λ y. (n == check) ≡ y → (not (k == q && n == check) && waits_in w k n) ≡ (not (n == check) && waits_in w k n)) [
-    | true ↦ λ t. let it : question_of n w ≡ Some q = rw (number_is n check t) was in
-        rw (t, it, and_true (k == q)) (not_and (k == q))
-    | false ↦ λ t. rw (t, and_false (k == q)) refl
-  ]) refl
+  left_list k n = (elim (n == check) as
+      (λ y. (n == check) ≡ y → (not (k == q && n == check) && waits_in w k n) ≡ (not (n == check) && waits_in w k n)) [
+        | true ↦ λ t. let it : question_of n w ≡ Some q = rw (number_is n check t) was in
+            rw (t, it, and_true (k == q)) (not_and (k == q))
+        | false ↦ λ t. rw (t, and_false (k == q)) refl
+      ]) refl
 
 -- for an answer: the tables agree after it
 pub removed : (keys keys' : List (List ℕ × ℕ)) (rows rows' : List (ℕ × Row)) (w w' : WaitingChecks) (q : ℕ) (row : Row)
@@ -164,7 +179,8 @@ pub removed : (keys keys' : List (List ℕ × ℕ)) (rows rows' : List (ℕ × R
     → IsIndexed keys' rows' w'
 removed keys keys' rows rows' w w' q row i here k r l s = record {
   known = λ key. k key ∙ ap (λ o. cond (same_key key row.key) None o) (i.known key)
-      ∙ sym (pending_without key q row.key (rows_of rows) i.once (key_at q rows row here)) ∙ ap (pending_in key) (sym r);
+      ∙ sym (pending_without key q row.key (rows_of rows) i.once (key_at q rows row here))
+      ∙ ap (pending_in key) (sym r);
   once = rw r (once_without q (rows_of rows) i.once);
   listed = λ k' n. l k' n ∙ ap (λ b. not (k' == q) && b) (i.listed k' n)
       ∙ sym (waits_without q k' n row.checks w w' (sym (ap (λ o. listed_by o n) here) ∙ i.listed q n) (s n));

@@ -30,7 +30,8 @@ number_after n k w before after h =
     ∙ ap (λ o. cond (n == k) w o) (sym (number_found n before))
 
 -- for a removal by number, with the plain test
-pub number_removed : {X : Type 0} (n : ℕ) (es : List (ℕ × X)) → remove_entry (is_at (nat_cmp n)) es ≡ remove_entry (λ m. n == m) es
+pub number_removed : {X : Type 0} (n : ℕ) (es : List (ℕ × X))
+    → remove_entry (is_at (nat_cmp n)) es ≡ remove_entry (λ m. n == m) es
 number_removed n [] = refl
 number_removed n (e ∷ es) = rw (same_number n e.0) (ap (λ l. cond (n == e.0) es (e ∷ l)) (number_removed n es))
 
@@ -38,12 +39,13 @@ number_removed n (e ∷ es) = rw (same_number n e.0) (ap (λ l. cond (n == e.0) 
 pub put_undone : {X : Type 0} (k : ℕ) (v : X) (es : List (ℕ × X)) → lookup (λ m. k == m) es ≡ None
     → remove_entry (λ m. k == m) (insert_entry nat_cmp es k v) ≡ es
 put_undone k v [] h = rw (self_number k) refl
-put_undone {X} k v (e ∷ es) h = (elim (nat_cmp k e.0) as (λ y. nat_cmp k e.0 ≡ y → remove_entry (λ m. k == m) (insert_entry nat_cmp (e ∷ es) k v) ≡ e ∷ es) [
-  | Less ↦ λ t. rw (t, self_number k) refl
-  | Equal ↦ λ t. let hit : (k == e.0) ≡ true = sym (same_number k e.0) ∙ ap is_eq t in let h' = rw hit at h in cc
-  | Greater ↦ λ t. let miss : (k == e.0) ≡ false = sym (same_number k e.0) ∙ ap is_eq t in
-      rw (t, miss) (ap (λ l. e ∷ l) (put_undone k v es (rw miss at h)))
-]) refl
+put_undone {X} k v (e ∷ es) h = (elim (nat_cmp k e.0) as
+    (λ y. nat_cmp k e.0 ≡ y → remove_entry (λ m. k == m) (insert_entry nat_cmp (e ∷ es) k v) ≡ e ∷ es) [
+      | Less ↦ λ t. rw (t, self_number k) refl
+      | Equal ↦ λ t. let hit : (k == e.0) ≡ true = sym (same_number k e.0) ∙ ap is_eq t in let h' = rw hit at h in cc
+      | Greater ↦ λ t. let miss : (k == e.0) ≡ false = sym (same_number k e.0) ∙ ap is_eq t in
+          rw (t, miss) (ap (λ l. e ∷ l) (put_undone k v es (rw miss at h)))
+    ]) refl
 
 pub same_again : (a : List ℕ) → same_key a a ≡ true
 same_again [] = refl
@@ -53,22 +55,29 @@ same_again (x ∷ xs) = rw (self_number x, same_again xs) refl
 pub key_undone : {X : Type 0} (key : List ℕ) (v : X) (es : List (List ℕ × X)) → lookup (λ k. same_key key k) es ≡ None
     → remove_entry (λ k. same_key key k) (insert_entry (slice_cmp nat_cmp) es key v) ≡ es
 key_undone key v [] h = rw (same_again key) refl
-key_undone {X} key v (e ∷ es) h = (elim (slice_cmp nat_cmp key e.0) as (λ y. slice_cmp nat_cmp key e.0 ≡ y → remove_entry (λ k. same_key key k) (insert_entry (slice_cmp nat_cmp) (e ∷ es) key v) ≡ e ∷ es) [
-  | Less ↦ λ t. rw (t, same_again key) refl
-  | Equal ↦ λ t. let hit : same_key key e.0 ≡ true = sym (is_eq-slice_cmp key e.0) ∙ ap is_eq t in let h' = rw hit at h in cc
-  | Greater ↦ λ t. let miss : same_key key e.0 ≡ false = sym (is_eq-slice_cmp key e.0) ∙ ap is_eq t in
-      rw (t, miss) (ap (λ l. e ∷ l) (key_undone key v es (rw miss at h)))
-]) refl
+key_undone {X} key v (e ∷ es) h = (elim (slice_cmp nat_cmp key e.0) as
+    (λ y. slice_cmp nat_cmp key e.0 ≡ y
+    → remove_entry (λ k. same_key key k) (insert_entry (slice_cmp nat_cmp) (e ∷ es) key v) ≡ e ∷ es) [
+      | Less ↦ λ t. rw (t, same_again key) refl
+      | Equal ↦ λ t. let hit : same_key key e.0 ≡ true = sym (is_eq-slice_cmp key e.0) ∙ ap is_eq t in
+          let h' = rw hit at h in cc
+      | Greater ↦ λ t. let miss : same_key key e.0 ≡ false = sym (is_eq-slice_cmp key e.0) ∙ ap is_eq t in
+          rw (t, miss) (ap (λ l. e ∷ l) (key_undone key v es (rw miss at h)))
+    ]) refl
 
 -- for a removal by key, with the plain test
-pub key_removed : {X : Type 0} (key : List ℕ) (es : List (List ℕ × X)) → remove_entry (is_at (slice_cmp nat_cmp key)) es ≡ remove_entry (λ k. same_key key k) es
+pub key_removed : {X : Type 0} (key : List ℕ) (es : List (List ℕ × X))
+    → remove_entry (is_at (slice_cmp nat_cmp key)) es ≡ remove_entry (λ k. same_key key k) es
 key_removed key [] = refl
-key_removed key (e ∷ es) = rw (is_eq-slice_cmp key e.0) (ap (λ l. cond (same_key key e.0) es (e ∷ l)) (key_removed key es))
+key_removed key (e ∷ es) = rw (is_eq-slice_cmp key e.0)
+    (ap (λ l. cond (same_key key e.0) es (e ∷ l)) (key_removed key es))
 
 -- for a look-up by key: the map's, with the plain test
-pub key_found : {X : Type 0} (key : List ℕ) (es : List (List ℕ × X)) → lookup (λ k. same_key key k) es ≡ lookup (is_at (slice_cmp nat_cmp key)) es
+pub key_found : {X : Type 0} (key : List ℕ) (es : List (List ℕ × X))
+    → lookup (λ k. same_key key k) es ≡ lookup (is_at (slice_cmp nat_cmp key)) es
 key_found key [] = refl
-key_found key (e ∷ es) = rw (is_eq-slice_cmp key e.0) (ap (λ o. cond (same_key key e.0) (Some e.1) o) (key_found key es))
+key_found key (e ∷ es) = rw (is_eq-slice_cmp key e.0)
+    (ap (λ o. cond (same_key key e.0) (Some e.1) o) (key_found key es))
 
 -- for equal keys
 pub key_is : (a b : List ℕ) → same_key a b ≡ true → a ≡ b
@@ -85,8 +94,10 @@ turned a b = (elim (same_key a b) as (λ y. same_key a b ≡ y → same_key a b 
 
 -- for a map by key after one key changed
 pub key_after : {X : Type 0} (k key : List ℕ) (w : Option X) (before after : List (List ℕ × X))
-    → lookup (is_at (slice_cmp nat_cmp k)) after ≡ cond (is_at (slice_cmp nat_cmp key) k) w (lookup (is_at (slice_cmp nat_cmp k)) before)
+    → lookup (is_at (slice_cmp nat_cmp k)) after
+    ≡ cond (is_at (slice_cmp nat_cmp key) k) w (lookup (is_at (slice_cmp nat_cmp k)) before)
     → lookup (λ m. same_key k m) after ≡ cond (same_key k key) w (lookup (λ m. same_key k m) before)
 key_after k key w before after h =
-    key_found k after ∙ h ∙ ap (λ b. cond b w (lookup (is_at (slice_cmp nat_cmp k)) before)) (is_eq-slice_cmp key k ∙ turned key k)
+    key_found k after ∙ h ∙ ap (λ b. cond b w (lookup (is_at (slice_cmp nat_cmp k)) before))
+    (is_eq-slice_cmp key k ∙ turned key k)
     ∙ ap (λ o. cond (same_key k key) w o) (sym (key_found k before))

@@ -41,11 +41,14 @@ listed_by (Some row) check = has_check check row.checks
 abbrev pub listed_in : List (ℕ × Row) → ℕ → ℕ → Bool
 listed_in rows question check = listed_by (row_at rows question) check
 
--- the tables agree: a key has the question that is open for it, each key is there once, and a check stands in the list of the question that it waits for
-pub record IsIndexed (keys : List (List ℕ × ℕ)) (rows : List (ℕ × Row)) (waiting : WaitingChecks) : Type 0 where
+-- the tables agree: a key has the question that is open for it, each key is there once, and a check
+-- stands in the list of the question that it waits for
+pub record IsIndexed (keys : List (List ℕ × ℕ)) (rows : List (ℕ × Row))
+    (waiting : WaitingChecks) : Type 0 where
   pub known : (key : List ℕ) → question_at keys key ≡ pending_in key (rows_of rows)
   pub once : keys_once (rows_of rows) ≡ true
-  pub listed : (question check : ℕ) → listed_in rows question check ≡ waits_in waiting question check
+  pub listed : (question check : ℕ)
+      → listed_in rows question check ≡ waits_in waiting question check
 
 -- an open lookup with its list: the key, and the checks that wait for the question
 pub record IsListed (l : OpenLookups) (question : ℕ) (key : List ℕ) (checks : List ℕ) : Type 0 where

@@ -64,7 +64,8 @@ impl Checks {
 
     // Puts a check in. Where it is there already nothing changes.
     pub(crate) fn add(&mut self, check: CheckNo) -> Result<(), WantOfMemory>
-        ensures ok { OnOk result ((n : ℕ) → has_check n self.new ≡ (n == check || has_check n self.old)) }
+        ensures ok { OnOk result
+            ((n : ℕ) → has_check n self.new ≡ (n == check || has_check n self.old)) }
         ensures err { OnErr result (self.new ≡ self.old) }
     {
         let _is_new = self.numbers.insert(check)?;

@@ -41,7 +41,9 @@ impl Keys {
     // Puts the question of a key that has none.
     pub(crate) fn put(&mut self, key: Text, question: QuestionNo) -> Result<(), WantOfMemory>
         requires { question_at self.old key ≡ None }
-        ensures ok { OnOk result ((k : List ℕ) → question_at self.new k ≡ (if same_key k key then Some question else question_at self.old k)) }
+        ensures ok { OnOk result
+            ((k : List ℕ) → question_at self.new k
+            ≡ (if same_key k key then Some question else question_at self.old k)) }
         ensures undo { OnOk result (without_key key self.new ≡ self.old) }
         ensures err { OnErr result (self.new ≡ self.old) }
     {
@@ -52,7 +54,9 @@ impl Keys {
     // Takes a key away.
     pub(crate) fn remove(&mut self, key: &Text)
         ensures list { self.new ≡ without_key key.now self.old }
-        ensures question { (k : List ℕ) → question_at self.new k ≡ (if same_key k key.now then None else question_at self.old k) }
+        ensures question { (k : List ℕ)
+            → question_at self.new k
+            ≡ (if same_key k key.now then None else question_at self.old k) }
     {
         let _was = self.map.remove(key);
     }

@@ -49,7 +49,8 @@ impl Lookups {
         ensures question { result ≡ pending_in key.now self.now.rows }
         ensures once { keys_once self.now.rows ≡ true }
         // Nobody waits for a question that is not open.
-        ensures alone { (q n : ℕ) → is_open_lookup q self.now.rows ≡ false → waits_in self.now.waiting q n ≡ false }
+        ensures alone { (q n : ℕ) → is_open_lookup q self.now.rows ≡ false
+            → waits_in self.now.waiting q n ≡ false }
     {
         self.keys.question(key)
     }
@@ -72,9 +73,15 @@ impl Lookups {
         requires key { pending_in key self.old.rows ≡ None }
         requires question { is_open_lookup question self.old.rows ≡ false }
         requires check { is_free check self.old.waiting ≡ true }
-        ensures rows { OnOk result (self.new.rows ≡ with_lookup (record { question = question; key = key }) self.old.rows) }
-        ensures last { OnOk result (all_below question self.old.rows ≡ true → self.new.rows ≡ self.old.rows ++ record { question = question; key = key } ∷ []) }
-        ensures waiting { OnOk result ((n : ℕ) → question_of n self.new.waiting ≡ (if is_number n check then Some question else question_of n self.old.waiting)) }
+        ensures rows { OnOk result
+            (self.new.rows ≡ with_lookup (record { question = question; key = key })
+            self.old.rows) }
+        ensures last { OnOk result
+            (all_below question self.old.rows ≡ true
+            → self.new.rows ≡ self.old.rows ++ record { question = question; key = key } ∷ []) }
+        ensures waiting { OnOk result
+            ((n : ℕ) → question_of n self.new.waiting
+            ≡ (if is_number n check then Some question else question_of n self.old.waiting)) }
         ensures err { OnErr result (self.new ≡ self.old) }
     {
         let copy = key.copy(alloc)?;
@@ -102,7 +109,9 @@ impl Lookups {
         requires pending { is_some (pending_in key.now self.old.rows) ≡ true }
         requires check { question_of check self.old.waiting ≡ None }
         ensures question { IfOk result (λ q. pending_in key.now self.old.rows ≡ Some q) }
-        ensures waiting { IfOk result (λ question. (n : ℕ) → question_of n self.new.waiting ≡ (if n == check then Some question else question_of n self.old.waiting)) }
+        ensures waiting { IfOk result
+            (λ question. (n : ℕ) → question_of n self.new.waiting
+            ≡ (if n == check then Some question else question_of n self.old.waiting)) }
         ensures rows { self.new.rows ≡ self.old.rows }
         ensures err { OnErr result (self.new ≡ self.old) }
     {
@@ -133,7 +142,10 @@ impl Lookups {
         ensures open { is_some result ≡ is_open_lookup question self.old.rows }
         ensures listed { IfSome result (λ p. IsListed self.old question p.0 p.1) }
         ensures rows { self.new.rows ≡ filter (λ l. not (question == l.question)) self.old.rows }
-        ensures waiting { (n : ℕ) → question_of n self.new.waiting ≡ (if waits_in self.old.waiting question n then None else question_of n self.old.waiting) }
+        ensures waiting { (n : ℕ)
+            → question_of n self.new.waiting
+            ≡ (if waits_in self.old.waiting question n then None
+            else question_of n self.old.waiting) }
     {
         let Some(row) = self.rows.remove(question) else {
             return None;
@@ -147,7 +159,9 @@ impl Lookups {
     /// over the others.
     pub fn leave(&mut self, check: CheckNo)
         ensures rows { self.new.rows ≡ self.old.rows }
-        ensures waiting { (n : ℕ) → question_of n self.new.waiting ≡ (if n == check then None else question_of n self.old.waiting) }
+        ensures waiting { (n : ℕ)
+            → question_of n self.new.waiting
+            ≡ (if n == check then None else question_of n self.old.waiting) }
     {
         let Some(question) = self.waiters.question(check) else {
             return;

@@ -52,8 +52,12 @@ impl Rows {
     // Puts the lookup of a question that has none; it comes back where there is no memory.
     pub(crate) fn put(&mut self, question: QuestionNo, row: Row) -> Result<(), Row>
         requires { row_at self.old question ≡ None }
-        ensures rows { OnOk result (rows_of self.new ≡ with_lookup (record { question = question; key = row.key }) (rows_of self.old)) }
-        ensures lists { OnOk result ((q n : ℕ) → listed_in self.new q n ≡ (if q == question then has_check n row.checks else listed_in self.old q n)) }
+        ensures rows { OnOk result
+            (rows_of self.new ≡ with_lookup (record { question = question; key = row.key })
+            (rows_of self.old)) }
+        ensures lists { OnOk result
+            ((q n : ℕ) → listed_in self.new q n
+            ≡ (if q == question then has_check n row.checks else listed_in self.old q n)) }
         ensures back { IfErr result (λ r. r ≡ row) }
         ensures err { OnErr result (self.new ≡ self.old) }
     {
@@ -68,8 +72,10 @@ impl Rows {
         ensures row { result ≡ row_at self.old question }
         ensures unchanged { IfNone result (self.new ≡ self.old) }
         ensures rows { rows_of self.new ≡ without_row question (rows_of self.old) }
-        ensures others { rows_of self.new ≡ filter (λ l. not (question == l.question)) (rows_of self.old) }
-        ensures lists { (q n : ℕ) → listed_in self.new q n ≡ (not (q == question) && listed_in self.old q n) }
+        ensures others { rows_of self.new
+            ≡ filter (λ l. not (question == l.question)) (rows_of self.old) }
+        ensures lists { (q n : ℕ)
+            → listed_in self.new q n ≡ (not (q == question) && listed_in self.old q n) }
     {
         // For the proof: the questions ascend.
         let _len = self.map.len();
@@ -80,7 +86,9 @@ impl Rows {
     pub(crate) fn add(&mut self, question: QuestionNo, check: CheckNo) -> Result<(), WantOfMemory>
         requires { is_some (row_at self.old question) ≡ true }
         ensures rows { rows_of self.new ≡ rows_of self.old }
-        ensures lists { OnOk result ((q n : ℕ) → listed_in self.new q n ≡ ((q == question && n == check) || listed_in self.old q n)) }
+        ensures lists { OnOk result
+            ((q n : ℕ) → listed_in self.new q n
+            ≡ ((q == question && n == check) || listed_in self.old q n)) }
         ensures err { OnErr result (self.new ≡ self.old) }
     {
         match self.map.get_mut(&question) {
@@ -96,7 +104,9 @@ impl Rows {
     pub(crate) fn drop_check(&mut self, question: QuestionNo, check: CheckNo)
         requires { is_some (row_at self.old question) ≡ true }
         ensures rows { rows_of self.new ≡ rows_of self.old }
-        ensures lists { (q n : ℕ) → listed_in self.new q n ≡ (not (q == question && n == check) && listed_in self.old q n) }
+        ensures lists { (q n : ℕ)
+            → listed_in self.new q n
+            ≡ (not (q == question && n == check) && listed_in self.old q n) }
     {
         match self.map.get_mut(&question) {
             Some(row) => row.checks.remove(check),

@@ -43,7 +43,9 @@ impl Waiters {
     // Lets a check wait that waits for nothing.
     pub(crate) fn put(&mut self, check: CheckNo, question: QuestionNo) -> Result<(), WantOfMemory>
         requires { question_of check self.old ≡ None }
-        ensures ok { OnOk result ((n : ℕ) → question_of n self.new ≡ (if n == check then Some question else question_of n self.old)) }
+        ensures ok { OnOk result
+            ((n : ℕ) → question_of n self.new
+            ≡ (if n == check then Some question else question_of n self.old)) }
         ensures undo { OnOk result (without_waiting check self.new ≡ self.old) }
         ensures err { OnErr result (self.new ≡ self.old) }
     {
@@ -54,7 +56,8 @@ impl Waiters {
     // Takes a check away.
     pub(crate) fn remove(&mut self, check: CheckNo)
         ensures list { self.new ≡ without_waiting check self.old }
-        ensures question { (n : ℕ) → question_of n self.new ≡ (if n == check then None else question_of n self.old) }
+        ensures question { (n : ℕ)
+            → question_of n self.new ≡ (if n == check then None else question_of n self.old) }
     {
         let _was = self.map.remove(&check);
     }
@@ -66,7 +69,9 @@ impl Waiters {
         question: QuestionNo,
     ) -> Result<(), WantOfMemory>
         requires { is_free check.now self.old ≡ true }
-        ensures ok { OnOk result ((n : ℕ) → question_of n self.new ≡ (if is_number n check.now then Some question else question_of n self.old)) }
+        ensures ok { OnOk result
+            ((n : ℕ) → question_of n self.new
+            ≡ (if is_number n check.now then Some question else question_of n self.old)) }
         ensures undo { OnOk result (without_some check.now self.new ≡ self.old) }
         ensures err { OnErr result (self.new ≡ self.old) }
     {
@@ -87,7 +92,8 @@ impl Waiters {
 
     // Takes these checks away.
     pub(crate) fn remove_all(&mut self, checks: &Checks)
-        ensures { (n : ℕ) → question_of n self.new ≡ (if has_check n checks.now then None else question_of n self.old) }
+        ensures { (n : ℕ) → question_of n self.new
+            ≡ (if has_check n checks.now then None else question_of n self.old) }
     {
         for check in checks.iter() {
             self.remove(*check);

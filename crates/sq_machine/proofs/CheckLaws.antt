@@ -32,21 +32,26 @@ unfolding is_done
 is_done_more e h n = refl
 
 -- an entry that does not begin a check leaves it as it began
-pub ask_of_kept : (e : Noted) (h : History) (n : ℕ) → numbered n (ask_count h) (asking e.event) ≡ None → ask_of (e ∷ h) n ≡ ask_of h n
+pub ask_of_kept : (e : Noted) (h : History) (n : ℕ) → numbered n (ask_count h) (asking e.event) ≡ None
+    → ask_of (e ∷ h) n ≡ ask_of h n
 ask_of_kept e h n old = ask_of_more e h n ∙ ap (λ x. option_or (option_map (asked_by h e.moment) x) (ask_of h n)) old
 
 -- and leaves it open unless it ends it
 pub check_open_kept : (e : Noted) (h : History) (n : ℕ) → numbered n (ask_count h) (asking e.event) ≡ None
     → check_open (e ∷ h) n ≡ (if ends_check n (conn_of h n) e.event then false else check_open h n)
-check_open_kept e h n old = check_open_more e h n ∙ ap (λ x. lasts x (ends_check n (conn_of h n) e.event) (check_open h n)) old
+check_open_kept e h n old = check_open_more e h n
+    ∙ ap (λ x. lasts x (ends_check n (conn_of h n) e.event) (check_open h n)) old
 
 -- an entry that begins a check with this number
-pub ask_of_begun : (e : Noted) (h : History) (n : ℕ) (a : Asking) → numbered n (ask_count h) (asking e.event) ≡ Some a → ask_of (e ∷ h) n ≡ Some (asked_by h e.moment a)
+pub ask_of_begun : (e : Noted) (h : History) (n : ℕ) (a : Asking) → numbered n (ask_count h) (asking e.event) ≡ Some a
+    → ask_of (e ∷ h) n ≡ Some (asked_by h e.moment a)
 ask_of_begun e h n a new = ask_of_more e h n ∙ ap (λ x. option_or (option_map (asked_by h e.moment) x) (ask_of h n)) new
 
 -- opens it
-pub check_open_begun : (e : Noted) (h : History) (n : ℕ) (a : Asking) → numbered n (ask_count h) (asking e.event) ≡ Some a → check_open (e ∷ h) n ≡ true
-check_open_begun e h n a new = check_open_more e h n ∙ ap (λ x. lasts x (ends_check n (conn_of h n) e.event) (check_open h n)) new
+pub check_open_begun : (e : Noted) (h : History) (n : ℕ) (a : Asking)
+    → numbered n (ask_count h) (asking e.event) ≡ Some a → check_open (e ∷ h) n ≡ true
+check_open_begun e h n a new = check_open_more e h n
+    ∙ ap (λ x. lasts x (ends_check n (conn_of h n) e.event) (check_open h n)) new
 
 -- an entry without a request begins no check
 pub none_numbered : (n k : ℕ) (o : Option Asking) → o ≡ None → numbered n k o ≡ None
@@ -79,9 +84,11 @@ pub ask_of_unborn : (h : History) (n : ℕ) → IsUnborn n (ask_count h) → ask
 unfolding ask_of ask_count
 ask_of_unborn [] n u = refl
 ask_of_unborn (e ∷ h) n u =
-    rw (numbered_none (asking e.event) n (ask_count h) u) (ask_of_unborn h n (unborn_before (asking e.event) n (ask_count h) u))
+    rw (numbered_none (asking e.event) n (ask_count h) u)
+    (ask_of_unborn h n (unborn_before (asking e.event) n (ask_count h) u))
 
-lasts_none : {A : Type 0} (o : Option A) (ended before : Bool) → o ≡ None → before ≡ false → lasts o ended before ≡ false
+lasts_none : {A : Type 0} (o : Option A) (ended before : Bool) → o ≡ None → before ≡ false
+    → lasts o ended before ≡ false
 lasts_none None true before e f = refl
 lasts_none None false before e f = f
 lasts_none (Some a) ended before e f = absurd (none-some a (sym e))
@@ -92,7 +99,8 @@ unfolding check_open ask_count
 check_open_unborn [] n u = refl
 check_open_unborn (e ∷ h) n u =
     lasts_none (numbered n (ask_count h) (asking e.event)) (ends_check n (conn_of h n) e.event) (check_open h n)
-    (numbered_none (asking e.event) n (ask_count h) u) (check_open_unborn h n (unborn_before (asking e.event) n (ask_count h) u))
+    (numbered_none (asking e.event) n (ask_count h) u)
+    (check_open_unborn h n (unborn_before (asking e.event) n (ask_count h) u))
 
 past : (n count : ℕ) → (n ≡ 0) ⊎ (count < n) → (n ≡ 0 → ⊥) → nat_le n count ≡ false
 past n count (inl e) pos = absurd (pos e)
@@ -108,11 +116,14 @@ unfolding is_done ask_count
 is_done_unborn [] n u pos = refl
 is_done_unborn (e ∷ h) n u pos =
     let before = unborn_before (asking e.event) n (ask_count h) u in
-    guarded (is_number n (done_check e.event e.answer)) (nat_le n (ask_count h)) (is_done h n) (past n (ask_count h) before.unborn pos) (is_done_unborn h n before pos)
+    guarded (is_number n (done_check e.event e.answer)) (nat_le n (ask_count h)) (is_done h n)
+    (past n (ask_count h) before.unborn pos) (is_done_unborn h n before pos)
 
-open_given : (n count : ℕ) (b given : Bool) → (IsUnborn n count → b ≡ false) → b ≡ true → nat_le n count ≡ given → n ≤ count
+open_given : (n count : ℕ) (b given : Bool) → (IsUnborn n count → b ≡ false) → b ≡ true → nat_le n count ≡ given
+    → n ≤ count
 open_given n count b true shut e f = grind (arith, nat_tests)
-open_given n count b false shut e f = let none : b ≡ false = shut (record { unborn = inr (grind (arith, nat_tests)) }) in absurd (cc)
+open_given n count b false shut e f = let none : b ≡ false =
+    shut (record { unborn = inr (grind (arith, nat_tests)) }) in absurd (cc)
 
 -- the number of an open check was given
 pub open_born : (h : History) (n : ℕ) → check_open h n ≡ true → n ≤ ask_count h
@@ -123,7 +134,8 @@ pub record IsAsked (o : Option Asked) : Type 0 where
   pub asked : Asked
   pub is : o ≡ Some asked
 
-asked_more : (o : Option Asking) (f : Asking → Asked) (ended before : Bool) (old : Option Asked) → (before ≡ true → IsAsked old) → lasts o ended before ≡ true
+asked_more : (o : Option Asking) (f : Asking → Asked) (ended before : Bool) (old : Option Asked)
+    → (before ≡ true → IsAsked old) → lasts o ended before ≡ true
     → IsAsked (option_or (option_map f o) old)
 asked_more (Some a) f ended before old more e = record { asked = f a; is = refl }
 asked_more None f true before old more e = absurd (cc)
@@ -134,4 +146,5 @@ pub open_asked : (h : History) (n : ℕ) → check_open h n ≡ true → IsAsked
 unfolding check_open ask_of
 open_asked [] n e = absurd (cc)
 open_asked (e ∷ h) n opened =
-    asked_more (numbered n (ask_count h) (asking e.event)) (asked_by h e.moment) (ends_check n (conn_of h n) e.event) (check_open h n) (ask_of h n) (open_asked h n) opened
+    asked_more (numbered n (ask_count h) (asking e.event)) (asked_by h e.moment) (ends_check n (conn_of h n) e.event)
+    (check_open h n) (ask_of h n) (open_asked h n) opened

@@ -19,7 +19,8 @@ judged_told n (told.Judged epoch o) j e =
 judged_told n answer j e = absurd (none-some j e)
 
 -- an outcome that was taken is that of a `take`, and was told
-pub judged_event : (event : Event) (answer : Told) (j : Judgement) → judgement event answer ≡ Some j → IsJudged event answer j
+pub judged_event : (event : Event) (answer : Told) (j : Judgement) → judgement event answer ≡ Some j
+    → IsJudged event answer j
 judged_event (Take n) answer j e = judged_told n answer j e
 judged_event event answer j e = absurd (none-some j e)
 

@@ -16,7 +16,8 @@ is_number_some : (n : ℕ) (o : Option ℕ) → is_number n o ≡ true → o ≡
 is_number_some n None e = absurd (cc)
 is_number_some n (Some k) e = let same : k ≡ n = grind (arith, nat_tests) in ap Some same
 
-open_by : (h : History) (c n : ℕ) (b : Bool) → check_open h n ≡ b → (b && is_number c (conn_of h n)) ≡ true → IsOpenOf h c n
+open_by : (h : History) (c n : ℕ) (b : Bool) → check_open h n ≡ b → (b && is_number c (conn_of h n)) ≡ true
+    → IsOpenOf h c n
 open_by h c n true same e = record { open_is = same; conn_is = is_number_some c (conn_of h n) e }
 open_by h c n false same e = absurd (cc)
 
@@ -28,7 +29,8 @@ open_of h c n e = open_by h c n (check_open h n) refl e
 pub is_itself : (c : ℕ) → (c == c) ≡ true
 is_itself c = grind (arith, nat_tests)
 
-among_by : (h : History) (c k n : ℕ) (b : Bool) → is_open_of h c (suc k) ≡ b → (open_among h c k ≡ Some n → IsOpenOf h c n)
+among_by : (h : History) (c k n : ℕ) (b : Bool) → is_open_of h c (suc k) ≡ b
+    → (open_among h c k ≡ Some n → IsOpenOf h c n)
     → (if b then Some (suc k) else open_among h c k) ≡ Some n → IsOpenOf h c n
 among_by h c k n true same before e = subst (IsOpenOf h c) (same_Some _ _ e) (open_of h c (suc k) same)
 among_by h c k n false same before e = before e

@@ -33,14 +33,24 @@ waits_for configs m n = unended configs m (last_wait m n)
 
 -- the answer that the end of a question gives, taken as it comes
 abbrev pub answer_by : ℕ → ℕ → Option Put → Option What → Option Answer
-answer_by date q (Some p) (Some w) = Some (record { class = p.class; key = p.key; what = w; question = Some q; date = date; taken = date })
+answer_by date q (Some p) (Some w) = Some
+    (record {
+      class = p.class;
+      key = p.key;
+      what = w;
+      question = Some q;
+      date = date;
+      taken = date;
+    })
 answer_by date q put w = None
 
 abbrev pub ended_answer : List Configuration → Past → Option ℕ → ℕ → Event → Told → Option Answer
 ended_answer configs m None date event answer = None
-ended_answer configs m (Some q) date event answer = answer_by date q (put_of m q) (end_at configs m q event answer)
+ended_answer configs m (Some q) date event answer = answer_by date q (put_of m q)
+    (end_at configs m q event answer)
 
--- what an entry gives check n: what it took at its step, or the end of the question that it waits for
+-- what an entry gives check n: what it took at its step, or the end of the question that it waits
+-- for
 abbrev pub answer_at : List Configuration → Past → ℕ → Marked → Option Answer
 answer_at configs m n x =
     if steps m n x.entry.event then x.took

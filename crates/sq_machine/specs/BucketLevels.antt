@@ -1,9 +1,10 @@
--- The numbers of a delay pool's bucket, second by second (configuration reference, `delay_parameters`
--- and `delay_initial_bucket_level`).
+-- The numbers of a delay pool's bucket, second by second (configuration reference,
+-- `delay_parameters` and `delay_initial_bucket_level`).
 use Rattle.std.specs.Prelude.{◌≡◌, ℕ, ◌+◌, ◌-◌, ◌*◌, ◌/◌, ◌≤◌, ◌<◌, ◌^◌, min, max, suc, zero}
 use Rattle.sq_rules.specs.Rates.{Limit}
 
--- a bucket: what it holds, and what it was opened at, gained, lost over its brim, and granted so far
+-- a bucket: what it holds, and what it was opened at, gained, lost over its brim, and granted so
+-- far
 pub record Tally : Type 0 where
   pub level : ℕ
   pub opened : ℕ
@@ -21,7 +22,13 @@ opening initial r = r.max * initial / 100
 
 -- a bucket as it opens
 abbrev pub opened_at : ℕ → Limit → Tally
-opened_at initial r = record { level = opening initial r; opened = opening initial r; restored = 0; spilled = 0; granted = 0 }
+opened_at initial r = record {
+  level = opening initial r;
+  opened = opening initial r;
+  restored = 0;
+  spilled = 0;
+  granted = 0;
+}
 
 -- after one second more
 abbrev pub a_second : Limit → Tally → Tally
@@ -66,7 +73,8 @@ filled_to second f = record {
 abbrev pub drawn_from : ℕ → Filled → Filled
 drawn_from amount f = record { limit = f.limit; second = f.second; tally = drawn amount f.tally }
 
--- what holds of a bucket: its level is within its limit, and it gained no more than its seconds gave
+-- what holds of a bucket: its level is within its limit, and it gained no more than its seconds
+-- gave
 pub record IsFilled (f : Filled) : Type 0 where
   pub within : f.tally.level ≤ f.limit.max
   pub opened_is : f.tally.opened ≤ f.limit.max

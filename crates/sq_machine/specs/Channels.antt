@@ -1,9 +1,11 @@
--- The channels of a helper process and the questions that are open on them (helper protocol page, "concurrency").
+-- The channels of a helper process and the questions that are open on them (helper protocol page,
+-- "concurrency").
 use Rattle.std.specs.Prelude.{ℕ, suc, ◌≤◌, ◌<◌, List, [], ◌∷◌, map, length, Bool, true, false, ◌==◌, if◌then◌else◌, Some, None, slice_get}
 use Rattle.std.specs.Option.{unwrap_or}
 use Rattle.std.specs.declared.option.Option.{Option}
 
--- a process: whether its lines have channel numbers, and the question that is open on each channel, from 0
+-- a process: whether its lines have channel numbers, and the question that is open on each channel,
+-- from 0
 pub record Channels : Type 0 where
   pub numbered : Bool
   pub slots : List (Option ℕ)

@@ -1,4 +1,5 @@
--- The checks of a history: check n is the n-th `ask`, and is open where neither a `take` of it nor a `close` of its connection stands after it.
+-- The checks of a history: check n is the n-th `ask`, and is open where neither a `take` of it nor
+-- a `close` of its connection stands after it.
 use Rattle.std.specs.Prelude.{ℕ, List, [], ◌∷◌, Bool, true, false, if◌then◌else◌, ◌&&◌, ◌||◌, ◌==◌, nat_le, Some, None, zero, suc}
 use Rattle.std.specs.Option.{option_map, option_or}
 use Rattle.std.specs.declared.option.Option.{Option}
@@ -31,7 +32,8 @@ abbrev pub peer_or_nobody : Option Peer → Peer
 peer_or_nobody None = nobody
 peer_or_nobody (Some p) = p
 
--- what a check sees that begins at this moment: the request, the client, the time and the connections
+-- what a check sees that begins at this moment: the request, the client, the time and the
+-- connections
 abbrev pub sight_of : History → ℕ → Peer → List ℕ → List ℕ → List Field → Sight
 sight_of h moment p method target fields = record {
   request = asked_request method target fields;
@@ -66,7 +68,8 @@ numbered n k (Some a) = if n == suc k then Some a else None
 -- check n is the n-th `ask`
 unfoldable pub ask_of : History → ℕ → Option Asked
 ask_of [] n = None
-ask_of (e ∷ h) n = option_or (option_map (asked_by h e.moment) (numbered n (ask_count h) (asking e.event))) (ask_of h n)
+ask_of (e ∷ h) n = option_or
+    (option_map (asked_by h e.moment) (numbered n (ask_count h) (asking e.event))) (ask_of h n)
 
 abbrev pub conn_in : Option Asked → Option ℕ
 conn_in a = option_map (λ x. x.conn) a
@@ -92,7 +95,8 @@ lasts None ended before = if ended then false else before
 -- check n is open
 unfoldable pub check_open : History → ℕ → Bool
 check_open [] n = false
-check_open (e ∷ h) n = lasts (numbered n (ask_count h) (asking e.event)) (ends_check n (conn_of h n) e.event) (check_open h n)
+check_open (e ∷ h) n = lasts (numbered n (ask_count h) (asking e.event))
+    (ends_check n (conn_of h n) e.event) (check_open h n)
 
 -- check n is open, and it is one of connection c
 abbrev pub is_open_of : History → ℕ → ℕ → Bool
@@ -110,4 +114,5 @@ open_check h c = open_among h c (ask_count h)
 -- a step of check n answered that it is done
 unfoldable pub is_done : History → ℕ → Bool
 is_done [] n = false
-is_done (e ∷ h) n = (is_number n (done_check e.event e.answer) && nat_le n (ask_count h)) || is_done h n
+is_done (e ∷ h) n = (is_number n (done_check e.event e.answer) && nat_le n (ask_count h))
+    || is_done h n

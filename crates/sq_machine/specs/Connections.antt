@@ -29,17 +29,19 @@ with_peer c (Some p) = record { conn = c; peer = p } ∷ []
 -- the connection that an event opens, unless it is one of those that a newer event opened or closed
 abbrev pub newly_open : List ℕ → Option ConnNews → List OpenConn
 newly_open newer None = []
-newly_open newer (Some news) = if list_any (λ c. c == news.conn) newer then [] else with_peer news.conn news.peer
+newly_open newer (Some news) = if list_any (λ c. c == news.conn) newer then []
+    else with_peer news.conn news.peer
 
 abbrev pub also_newer : Option ConnNews → List ℕ → List ℕ
 also_newer None newer = newer
 also_newer (Some news) newer = news.conn ∷ newer
 
--- from the newest entry on, each connection at the last event that opens or closes it, where that opens it; those that a newer event opened or
--- closed are left out
+-- from the newest entry on, each connection at the last event that opens or closes it, where that
+-- opens it; those that a newer event opened or closed are left out
 unfoldable pub open_besides : List ℕ → History → List OpenConn
 open_besides newer [] = []
-open_besides newer (e ∷ h) = newly_open newer (conn_news e.event) ++ open_besides (also_newer (conn_news e.event) newer) h
+open_besides newer (e ∷ h) = newly_open newer (conn_news e.event)
+    ++ open_besides (also_newer (conn_news e.event) newer) h
 
 -- the open connections
 abbrev pub open_conns : History → List OpenConn

@@ -24,17 +24,18 @@ first_made f [] = None
 first_made f (x ∷ xs) = option_or (f x) (first_made f xs)
 
 -- an epoch and the place of a class in its configuration
-pub record Place : Type 0 where
+pub record ClassId : Type 0 where
   pub epoch : ℕ
   pub class : ℕ
 
 -- the classes of an epoch, in order
-abbrev pub places_of : List Configuration → ℕ → List Place
-places_of configs e = map (λ c. record { epoch = e; class = c }) (below (option_map_or (λ config. length config.classes) (config_of configs e) 0))
+abbrev pub class_ids : List Configuration → ℕ → List ClassId
+class_ids configs e = map (λ c. record { epoch = e; class = c })
+    (below (option_map_or (λ config. length config.classes) (config_of configs e) 0))
 
 -- the classes of the live epochs, by epoch and place
-abbrev pub live_places : List Configuration → History → List Place
-live_places configs h = flat_map (places_of configs) (live_epochs h)
+abbrev pub live_places : List Configuration → History → List ClassId
+live_places configs h = flat_map (class_ids configs) (live_epochs h)
 
 -- the stop of the least process for which one is due
 abbrev pub stop_of : History → Option Told
@@ -43,12 +44,15 @@ stop_of h = option_map (λ k. told.Stop k) (first_of (picks (stop_due h) (proc_c
 abbrev pub sending_told : Sending → Told
 sending_told s = told.Send s.proc s.question s.channel s.text
 
-abbrev pub send_at : List Configuration → Past → Place → Option Told
-send_at configs m p = option_map sending_told (option_and_then send_of (farm_of configs m p.epoch p.class))
+abbrev pub send_at : List Configuration → Past → ClassId → Option Told
+send_at configs m p = option_map sending_told
+    (option_and_then send_of (farm_of configs m p.epoch p.class))
 
-abbrev pub start_at : List Configuration → Past → Place → Option Told
+abbrev pub start_at : List Configuration → Past → ClassId → Option Told
 start_at configs m p =
-    option_and_then (λ v. if start_due v then Some (told.Start p.epoch (name_of_class configs p.epoch p.class)) else None) (farm_of configs m p.epoch p.class)
+    option_and_then (λ v. if start_due v then Some
+    (told.Start p.epoch (name_of_class configs p.epoch p.class)) else None)
+    (farm_of configs m p.epoch p.class)
 
 -- the next act
 abbrev pub next_act : List Configuration → Past → Option Told

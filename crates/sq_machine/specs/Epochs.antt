@@ -1,4 +1,5 @@
--- Epochs of a history: each reconfiguration begins one, and it lives while it is current or has an open check.
+-- Epochs of a history: each reconfiguration begins one, and it lives while it is current or has an
+-- open check.
 use Rattle.std.specs.Prelude.{ℕ, zero, suc, List, [], length, Bool, false, None, ◌||◌, ◌&&◌, ◌==◌, slice_get, bytes_eq, position}
 use Rattle.std.specs.List.{list_any, find}
 use Rattle.std.specs.Option.{option_and_then, option_map_or}
@@ -45,12 +46,15 @@ name_of_class configs e c = option_map_or (λ class. class.name) (class_at confi
 
 -- the place of the class of this name in an epoch's configuration
 abbrev pub place_of_class : List Configuration → ℕ → List ℕ → Option ℕ
-place_of_class configs e name = option_and_then (λ config. position (λ class. bytes_eq class.name name) config.classes) (config_of configs e)
+place_of_class configs e name = option_and_then
+    (λ config. position (λ class. bytes_eq class.name name) config.classes) (config_of configs e)
 
 -- the class of this name
 abbrev pub class_named : List Configuration → ℕ → List ℕ → Option Class
-class_named configs e name = option_and_then (λ config. find (λ class. bytes_eq class.name name) config.classes) (config_of configs e)
+class_named configs e name = option_and_then
+    (λ config. find (λ class. bytes_eq class.name name) config.classes) (config_of configs e)
 
 -- how many channels the processes of that class have; 0 is one without a number
 abbrev pub channels_named : List Configuration → ℕ → List ℕ → ℕ
-channels_named configs e name = option_map_or (λ class. class.concurrency) (class_named configs e name) 0
+channels_named configs e name = option_map_or (λ class. class.concurrency)
+    (class_named configs e name) 0

@@ -1,4 +1,5 @@
--- What an event does, told by what it names, so that a reading, or a theorem over histories, goes by the one or two cases that matter to it.
+-- What an event does, told by what it names, so that a reading, or a theorem over histories, goes
+-- by the one or two cases that matter to it.
 use Rattle.std.specs.Prelude.{ℕ, ℤ, List, Bool, true, false, ◌==◌, Some, None, is_some}
 use Rattle.std.specs.declared.option.Option.{Option}
 use Rattle.sq_base.specs.Targets.{target_of}
@@ -30,7 +31,8 @@ pub record Judgement : Type 0 where
 
 -- the connection that an event opens or closes
 abbrev pub conn_news : Event → Option ConnNews
-conn_news (Open c addr port) = Some (record { conn = c; peer = Some (record { addr = addr; port = port }) })
+conn_news (Open c addr port) = Some
+    (record { conn = c; peer = Some (record { addr = addr; port = port }) })
 conn_news (Close c) = Some (record { conn = c; peer = None })
 conn_news event = None
 
@@ -41,7 +43,8 @@ closed_conn event = None
 
 -- the request whose check an event begins
 abbrev pub asking : Event → Option Asking
-asking (Ask c method target fields) = Some (record { conn = c; method = method; target = target; fields = fields })
+asking (Ask c method target fields) = Some
+    (record { conn = c; method = method; target = target; fields = fields })
 asking event = None
 
 -- the check whose outcome an event takes

@@ -1,4 +1,5 @@
--- The farm of an epoch's class as a history leaves it: its queue, its processes with their channels, its starts.
+-- The farm of an epoch's class as a history leaves it: its queue, its processes with their
+-- channels, its starts.
 use Rattle.std.specs.Prelude.{ℕ, ◌-◌, min, List, [], ◌∷◌, Bool, true, false, not, ◌&&◌, ◌||◌, ◌==◌, if◌then◌else◌, bytes_eq, is_some, Some, None}
 use Rattle.std.specs.Option.{option_map, option_map_or}
 use Rattle.std.specs.declared.option.Option.{Option}
@@ -23,7 +24,8 @@ is_put_for e c (Some p) = (p.epoch == e) && (p.class == c)
 
 -- question q waits in the queue of this epoch and class: it was not sent and has not ended
 abbrev pub is_queued : List Configuration → Past → ℕ → ℕ → ℕ → Bool
-is_queued configs m e c q = is_put_for e c (put_of m q) && not (is_some (sent_to m q)) && not (has_ended configs m q)
+is_queued configs m e c q = is_put_for e c (put_of m q) && not (is_some (sent_to m q))
+    && not (has_ended configs m q)
 
 abbrev pub waiting_of : Past → ℕ → Waiting
 waiting_of m q = record { question = q; text = option_map_or (λ p. p.key) (put_of m q) [] }
@@ -35,19 +37,23 @@ living_of concurrency h k = record { number = k; process = channels_of concurren
 -- the event is the end of a process of this epoch and class
 abbrev pub ends_process : History → ℕ → List ℕ → Event → Told → Bool
 ends_process h e name (Died p) answer = is_at_home h e name p
-ends_process h e name (Line p bytes) answer = is_at_home h e name p && is_some (ended_by h p (Line p bytes) answer)
+ends_process h e name (Line p bytes) answer = is_at_home h e name p
+    && is_some (ended_by h p (Line p bytes) answer)
 ends_process h e name event answer = false
 
 abbrev pub fails_start : ℕ → List ℕ → Event → Bool
 fails_start e name (StartFail epoch class) = (epoch == e) && bytes_eq class name
 fails_start e name event = false
 
--- the starts of this epoch and class are held: a start failed, and since then no question of it was put and no process of it ended
+-- the starts of this epoch and class are held: a start failed, and since then no question of it was
+-- put and no process of it ended
 abbrev pub is_held : Past → ℕ → ℕ → List ℕ → Bool
 is_held [] e c name = false
 is_held (x ∷ m) e c name =
     if fails_start e name x.entry.event then true
-    else (if is_put_for e c x.put || ends_process (entries m) e name x.entry.event x.entry.answer then false else is_held m e c name)
+    else (if is_put_for e c x.put
+    || ends_process (entries m) e name x.entry.event x.entry.answer then false
+    else is_held m e c name)
 
 -- the farm of a class
 abbrev pub farm_with : List Configuration → Past → ℕ → ℕ → Class → Stock
@@ -56,7 +62,8 @@ farm_with configs m e c class = record {
   children_max = class.children_max;
   queue_size = class.queue_size;
   queue = rows (waiting_of m) (is_queued configs m e c) (put_count m);
-  procs = rows (living_of class.concurrency (entries m)) (runs_at (entries m) e class.name) (proc_count (entries m));
+  procs = rows (living_of class.concurrency (entries m)) (runs_at (entries m) e class.name)
+      (proc_count (entries m));
   owed = min class.startup class.children_max - start_count (entries m) e class.name;
   starting = starting (entries m) e class.name;
   held = is_held m e c class.name;

@@ -1,5 +1,5 @@
--- The farm of one class: its queue, its processes, its starts, and what is due (configuration reference, `external_acl_type`,
--- "children-max", "children-startup", "queue-size").
+-- The farm of one class: its queue, its processes, its starts, and what is due (configuration
+-- reference, `external_acl_type`, "children-max", "children-startup", "queue-size").
 use Rattle.std.specs.Prelude.{◌≡◌, ℕ, suc, ◌+◌, ◌-◌, ◌*◌, ◌≤◌, max, min, List, [], ◌∷◌, ◌++◌, map, length, replicate, Bool, true, false, not, ◌&&◌, ◌||◌, ◌==◌, if◌then◌else◌, nat_lt, nat_le, Some, None, is_some}
 use Rattle.std.specs.declared.option.Option.{Option}
 use Rattle.sq_base.specs.declared.helpers.Cause.{Cause}
@@ -22,8 +22,9 @@ pub record Sending : Type 0 where
   pub channel : Option ℕ
   pub text : List ℕ
 
--- the numbers of its class that a farm needs, its queue (oldest first), its processes by number, the starts of
--- children-startup that are owed, those that are open, whether starts are held, and the questions that have a fault and were not handed out
+-- the numbers of its class that a farm needs, its queue (oldest first), its processes by number,
+-- the starts of children-startup that are owed, those that are open, whether starts are held, and
+-- the questions that have a fault and were not handed out
 pub record Stock : Type 0 where
   pub concurrency : ℕ
   pub children_max : ℕ
@@ -42,7 +43,8 @@ waiting_number w = w.question
 -- how often the question waits
 abbrev pub times_waiting : ℕ → List Waiting → ℕ
 times_waiting q [] = 0
-times_waiting q (w ∷ queue) = if q == w.question then suc (times_waiting q queue) else times_waiting q queue
+times_waiting q (w ∷ queue) = if q == w.question then suc (times_waiting q queue)
+    else times_waiting q queue
 
 -- in how many places the question stands: queued, open on a slot, or lost and not handed out
 abbrev pub places : ℕ → Stock → ℕ
@@ -58,9 +60,11 @@ abbrev pub open_in : List Living → ℕ
 open_in [] = 0
 open_in (r ∷ rows) = length (opened r.process.slots) + open_in rows
 
--- a question more is refused: as many wait as the queue may hold beside the channels that are free or may still come
+-- a question more is refused: as many wait as the queue may hold beside the channels that are free
+-- or may still come
 unfoldable pub full : Stock → Bool
-full v = nat_le (v.queue_size + free_in v.procs + max 1 v.concurrency * (v.children_max - length v.procs)) (length v.queue)
+full v = nat_le (v.queue_size + free_in v.procs + max 1 v.concurrency
+    * (v.children_max - length v.procs)) (length v.queue)
 
 -- the question put at the end of the queue, which ends a hold
 abbrev pub put_in : Waiting → Stock → Stock
@@ -69,9 +73,11 @@ put_in w v = record v { queue = v.queue ++ w ∷ []; held = false }
 abbrev pub send_by : List Waiting → Option (ℕ × Option ℕ) → Option Sending
 send_by [] t = None
 send_by (w ∷ queue) None = None
-send_by (w ∷ queue) (Some t) = Some (record { proc = t.0; question = w.question; channel = t.1; text = w.text })
+send_by (w ∷ queue) (Some t) = Some
+    (record { proc = t.0; question = w.question; channel = t.1; text = w.text })
 
--- the send that is due: the oldest question, to the least process with a free slot, on its least free channel
+-- the send that is due: the oldest question, to the least process with a free slot, on its least
+-- free channel
 abbrev pub send_of : Stock → Option Sending
 send_of v = send_by v.queue (target v.procs)
 
@@ -84,10 +90,12 @@ after_send_by v (w ∷ queue) false = v
 abbrev pub after_send : Stock → Stock
 after_send v = after_send_by v v.queue (some_free v.procs)
 
--- a start is due: there may be a process more, no hold stands, and a start is owed or more questions wait than the
--- processes that are starting will take
+-- a start is due: there may be a process more, no hold stands, and a start is owed or more
+-- questions wait than the processes that are starting will take
 unfoldable pub start_due : Stock → Bool
-start_due v = nat_lt (length v.procs + v.starting) v.children_max && (not v.held && (nat_lt 0 v.owed || nat_lt (v.starting * max 1 v.concurrency) (length v.queue)))
+start_due v = nat_lt (length v.procs + v.starting) v.children_max
+    && (not v.held && (nat_lt 0 v.owed
+    || nat_lt (v.starting * max 1 v.concurrency) (length v.queue)))
 
 -- after that start
 abbrev pub after_start : Stock → Stock
@@ -99,11 +107,16 @@ after_act v = if is_some (send_of v) then after_send v else after_start v
 
 -- process k ended, and its open questions are lost
 abbrev pub ended : Cause → ℕ → Stock → Stock
-ended c k v = record v { procs = without k v.procs; held = false; losses = lose_all c (opened (slots_in k v.procs)) v.losses }
+ended c k v = record v {
+  procs = without k v.procs;
+  held = false;
+  losses = lose_all c (opened (slots_in k v.procs)) v.losses;
+}
 
 -- its queued questions lost, or not
 abbrev pub emptied : Bool → Stock → Stock
-emptied true v = record v { queue = []; losses = lose_all cause.NoHelper (map waiting_number v.queue) v.losses }
+emptied true v = record v
+    { queue = []; losses = lose_all cause.NoHelper (map waiting_number v.queue) v.losses }
 emptied false v = v
 
 -- no process lives, and this start is the last that is open
@@ -112,15 +125,20 @@ is_last_start v = is_none_living v.procs && (v.starting == 1)
 
 -- a start failed: where no process lives or starts then, every queued question is lost
 abbrev pub failed : Stock → Stock
-failed v = let e = emptied (is_last_start v) v in record e { starting = v.starting - 1; held = true }
+failed v = let e = emptied (is_last_start v) v in
+    record e { starting = v.starting - 1; held = true }
 
 -- a process without questions
 abbrev pub fresh : ℕ → ℕ → Living
-fresh n k = record { number = k; process = record { numbered = nat_lt 0 n; slots = replicate (max 1 n) None } }
+fresh n k = record {
+  number = k;
+  process = record { numbered = nat_lt 0 n; slots = replicate (max 1 n) None };
+}
 
 -- process k was started
 abbrev pub started_in : ℕ → Stock → Stock
-started_in k v = record v { procs = with_proc (fresh v.concurrency k) v.procs; starting = v.starting - 1 }
+started_in k v = record v
+    { procs = with_proc (fresh v.concurrency k) v.procs; starting = v.starting - 1 }
 
 -- the farm of a class at its epoch's beginning
 abbrev pub stock_of : Class → Stock
@@ -139,7 +157,8 @@ stock_of c = record {
 -- each process has the slots of its class
 abbrev pub AreOfClass : ℕ → List Living → Type 0
 AreOfClass n [] = Unit {0}
-AreOfClass n (r ∷ rows) = (length r.process.slots ≡ max 1 n) × (r.process.numbered ≡ nat_lt 0 n) × AreOfClass n rows
+AreOfClass n (r ∷ rows) = (length r.process.slots ≡ max 1 n) × (r.process.numbered ≡ nat_lt 0 n)
+    × AreOfClass n rows
 
 -- a farm: no more processes than may be, and each question in one place
 pub record IsStock (v : Stock) : Type 0 where
@@ -150,5 +169,6 @@ pub record IsStock (v : Stock) : Type 0 where
   pub few_procs : length v.procs + v.starting ≤ v.children_max
   pub rising : Rises (map living_number v.procs)
   pub of_class : AreOfClass v.concurrency v.procs
-  pub few_questions : length v.queue + open_in v.procs ≤ v.queue_size + max 1 v.concurrency * v.children_max
+  pub few_questions : length v.queue + open_in v.procs ≤ v.queue_size + max 1 v.concurrency
+      * v.children_max
   pub once : (q : ℕ) → places q v ≤ 1

@@ -1,4 +1,5 @@
--- The living processes of a class, by number (configuration reference, `external_acl_type`, "children-max", "concurrency").
+-- The living processes of a class, by number (configuration reference, `external_acl_type`,
+-- "children-max", "concurrency").
 use Rattle.std.specs.Prelude.{ℕ, ◌+◌, List, [], ◌∷◌, map, Bool, true, false, if◌then◌else◌, nat_lt, ◌==◌, Some, None, is_some}
 use Rattle.std.specs.declared.option.Option.{Option}
 use Rattle.sq_machine.specs.Channels.{Channels, asked, channel_name, free_count, least_free, settled, times_open}
@@ -25,10 +26,12 @@ abbrev pub free_numbers : List Living → List ℕ
 free_numbers [] = []
 free_numbers (r ∷ rows) = if has_free r then r.number ∷ free_numbers rows else free_numbers rows
 
--- where the next question goes: the process of least number with a free channel, and its least free channel
+-- where the next question goes: the process of least number with a free channel, and its least free
+-- channel
 abbrev pub target : List Living → Option (ℕ × Option ℕ)
 target [] = None
-target (r ∷ rows) = if has_free r then Some (r.number, channel_name r.process.numbered (least_free r.process.slots)) else target rows
+target (r ∷ rows) = if has_free r then Some
+    (r.number, channel_name r.process.numbered (least_free r.process.slots)) else target rows
 
 -- the next question goes to this process
 abbrev pub is_target : ℕ → Option (ℕ × Option ℕ) → Bool
@@ -46,7 +49,9 @@ sent q (r ∷ rows) = if has_free r then asked_row q r ∷ rows else r ∷ sent 
 
 -- process k with the channel of question q free
 abbrev pub settled_row : ℕ → ℕ → Living → Living
-settled_row k q r = if k == r.number then record r { process = record r.process { slots = settled q r.process.slots } } else r
+settled_row k q r = if k
+    == r.number then record r { process = record r.process { slots = settled q r.process.slots } }
+    else r
 
 -- the processes after a reply to question q of process k
 abbrev pub settled_in : ℕ → ℕ → List Living → List Living

@@ -20,7 +20,8 @@ AreOfCause c (l ∷ ls) = (l.cause ≡ c) × AreOfCause c ls
 -- the question put to its place, by number
 abbrev pub lose : ℕ → Cause → List Loss → List Loss
 lose q c [] = record { question = q; cause = c } ∷ []
-lose q c (l ∷ ls) = if nat_lt l.question q then l ∷ lose q c ls else record { question = q; cause = c } ∷ l ∷ ls
+lose q c (l ∷ ls) = if nat_lt l.question q then l ∷ lose q c ls
+    else record { question = q; cause = c } ∷ l ∷ ls
 
 -- these questions put to their places
 abbrev pub lose_all : Cause → List ℕ → List Loss → List Loss

@@ -29,14 +29,16 @@ use Rattle.sq_machine.specs.StepRule.{StepSays, step_says, value_over}
 use Rattle.sq_machine.specs.Transcripts.{channels_of, line_is, line_told}
 use Rattle.sq_rules.specs.Verdicts.{outcome_so_far, pool_of}
 
--- the outcome of a check: the verdict of its epoch's configuration over what it saw and the answers that it took
+-- the outcome of a check: the verdict of its epoch's configuration over what it saw and the answers
+-- that it took
 abbrev pub outcome_over : List Configuration → Past → ℕ → Option Asked → Outcome
 outcome_over configs m n None = record { allow = false; why = why.Empty }
 outcome_over configs m n (Some a) = outcome_so_far (value_over configs a (answers configs m n))
 
 -- a step is refused where a question would get the last number
 abbrev pub step_next : ℕ → StepSays → Next
-step_next count s = refuse_if (is_some s.put && nat_le last_number (suc count)) (refusal.Spent (suc count)) (gives s.answer)
+step_next count s = refuse_if (is_some s.put && nat_le last_number (suc count))
+    (refusal.Spent (suc count)) (gives s.answer)
 
 -- the epoch lives, and a start of the class is open
 abbrev pub has_start : History → ℕ → List ℕ → Bool
@@ -49,7 +51,9 @@ with_place (Some place) answer = answer place
 
 -- what the machine tells of a line of a process
 abbrev pub told_of_line : List Configuration → History → ℕ → List ℕ → Told
-told_of_line configs h k bytes = line_told (line_is (channels_of (option_map_or (λ p. channels_named configs p.epoch p.class) (home_of h k) 0) h k) bytes)
+told_of_line configs h k bytes = line_told
+    (line_is (channels_of (option_map_or (λ p. channels_named configs p.epoch p.class) (home_of h k)
+    0) h k) bytes)
 
 abbrev pub act_next : Option Told → Next
 act_next None = nothing
@@ -58,12 +62,14 @@ act_next (Some t) = gives t
 -- the seat of a record: in its pool, or none where it has none
 abbrev pub seat_next : ℕ → Option ℕ → Next
 seat_next count None = gives told.NoSeat
-seat_next count (Some pool) = refuse_if (nat_le last_number (suc count)) (refusal.Spent (suc count)) (gives (told.Seat (suc count) pool))
+seat_next count (Some pool) = refuse_if (nat_le last_number (suc count)) (refusal.Spent (suc count))
+    (gives (told.Seat (suc count) pool))
 
 -- a seat is for the record that was last taken on the connection, where it allows
 abbrev pub seat_for : List Configuration → ℕ → Option Asked → Next
 seat_for configs count None = nothing
-seat_for configs count (Some a) = seat_next count (option_and_then (λ config. pool_of config a.sight) (config_of configs a.epoch))
+seat_for configs count (Some a) = seat_next count
+    (option_and_then (λ config. pool_of config a.sight) (config_of configs a.epoch))
 
 -- what the machine answers to an event at a moment that is none of the past
 unfoldable pub next_at : List Configuration → Past → ℕ → Event → Next
@@ -77,7 +83,8 @@ next_at configs m now (Close c) =
 next_at configs m now (Ask c method target fields) =
     refuse_if (is_none (peer_at (entries m) c)) (refusal.UnknownConn c)
     (refuse_open (open_check (entries m) c)
-    (refuse_if (nat_le last_number (suc (ask_count (entries m)))) (refusal.Spent (suc (ask_count (entries m))))
+    (refuse_if (nat_le last_number (suc (ask_count (entries m))))
+    (refusal.Spent (suc (ask_count (entries m))))
     (gives (told.Check (suc (ask_count (entries m)))))))
 next_at configs m now (Step n) =
     refuse_if (not (check_open (entries m) n)) (refusal.UnknownCheck n)
@@ -85,11 +92,13 @@ next_at configs m now (Step n) =
 next_at configs m now (Take n) =
     refuse_if (not (check_open (entries m) n)) (refusal.UnknownCheck n)
     (refuse_if (not (is_done (entries m) n)) (refusal.NotDone n)
-    (gives (told.Judged (epoch_of (ask_of (entries m) n)) (outcome_over configs m n (ask_of (entries m) n)))))
+    (gives (told.Judged (epoch_of (ask_of (entries m) n))
+    (outcome_over configs m n (ask_of (entries m) n)))))
 next_at configs m now (Started e name) =
     with_place (place_of_class configs e name) (λ place.
     refuse_if (not (has_start (entries m) e name)) (refusal.NoStartOpen e place)
-    (refuse_if (nat_le last_number (suc (proc_count (entries m)))) (refusal.Spent (suc (proc_count (entries m))))
+    (refuse_if (nat_le last_number (suc (proc_count (entries m))))
+    (refusal.Spent (suc (proc_count (entries m))))
     (gives (told.Proc (suc (proc_count (entries m)))))))
 next_at configs m now (StartFail e name) =
     with_place (place_of_class configs e name) (λ place.
@@ -103,12 +112,16 @@ next_at configs m now (Died k) =
     (gives told.Fine)
 next_at configs m now Act = act_next (next_act configs m)
 next_at configs m now (Reconfigure text) =
-    refuse_if (nat_le last_number (suc (current (entries m)))) (refusal.Spent (suc (current (entries m))))
+    refuse_if (nat_le last_number (suc (current (entries m))))
+    (refusal.Spent (suc (current (entries m))))
     (refuse_if (nat_le epoch_limit (busy_epochs (entries m))) (refusal.TooManyEpochs epoch_limit)
     (gives (told.Epoch (suc (current (entries m))))))
-next_at configs m now (Seat c) = seat_for configs (seat_count configs (entries m)) (allowed_of (entries m) c)
+next_at configs m now (Seat c) = seat_for configs (seat_count configs (entries m))
+    (allowed_of (entries m) c)
 next_at configs m now (Grant n wanted) =
-    if in_use configs (entries m) n then gives (told.Granted (grant_of configs (entries m) now wanted (seat_of configs (entries m) n))) else nothing
+    if in_use configs (entries m) n then gives
+    (told.Granted (grant_of configs (entries m) now wanted (seat_of configs (entries m) n)))
+    else nothing
 next_at configs m now (Leave n) = if in_use configs (entries m) n then gives told.Fine else nothing
 next_at configs m now event = nothing
 
@@ -116,10 +129,12 @@ next_at configs m now event = nothing
 unfoldable pub next : List Configuration → Past → ℕ → Event → Next
 next configs m moment event = next_at configs m (counted_moment (entries m) moment) event
 
--- a history is legal: it begins with `begin`, moments never fall, targets have their form, and each answer is the next
+-- a history is legal: it begins with `begin`, moments never fall, targets have their form, and each
+-- answer is the next
 abbrev pub Legal : List Configuration → History → Type 0
 Legal configs [] = ⊥
 Legal configs (e ∷ []) = (is_begin e.event ≡ true) × (e.answer ≡ told.Epoch 1)
 Legal configs (e ∷ f ∷ h) =
-    Legal configs (f ∷ h) × (is_begin e.event ≡ false) × (has_target e.event ≡ true) × (f.moment ≤ e.moment)
+    Legal configs (f ∷ h) × (is_begin e.event ≡ false) × (has_target e.event ≡ true)
+    × (f.moment ≤ e.moment)
     × (next configs (marked configs (f ∷ h)) e.moment e.event ≡ gives e.answer)

@@ -13,7 +13,8 @@ says_at configs m now (Step n) = step_says configs m n now
 says_at configs m now event = record { answer = told.Fine; put = None; took = None }
 
 abbrev pub mark : List Configuration → Past → Noted → Marked
-mark configs m e = let s = says_at configs m e.moment e.event in record { entry = e; put = s.put; took = s.took }
+mark configs m e = let s = says_at configs m e.moment e.event in
+    record { entry = e; put = s.put; took = s.took }
 
 -- the history with its marks
 abbrev pub marked : List Configuration → History → Past

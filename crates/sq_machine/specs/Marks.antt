@@ -1,4 +1,5 @@
--- A history with what its steps said: beside each entry the question that was put there, and what a check took there.
+-- A history with what its steps said: beside each entry the question that was put there, and what a
+-- check took there.
 use Rattle.std.specs.Prelude.{ℕ, List, [], ◌∷◌}
 use Rattle.std.specs.declared.option.Option.{Option}
 use Rattle.sq_base.specs.declared.helpers.Answer.{Answer}

@@ -5,7 +5,8 @@ use Rattle.sq_machine.specs.declared.entries.Told.{Told}
 use Rattle.sq_machine.specs.declared.refusals.Refusal.{Refusal}
 use Rattle.sq_machine.specs.declared.refusals.Refusal.TheVariants as refusal
 
--- an answer, a refusal, or nothing: for an event that may only stand first, an act where none is due, and an event that names what is not there
+-- an answer, a refusal, or nothing: for an event that may only stand first, an act where none is
+-- due, and an event that names what is not there
 pub data Next : Type 0 where
   gives : Told → Next
   refuses : Refusal → Next

@@ -32,7 +32,8 @@ key_of question rows = option_map (λ l. l.key) (find (λ l. question == l.quest
 -- a new lookup at its place in the order of the questions
 abbrev pub with_lookup : LookupRow → List LookupRow → List LookupRow
 with_lookup l [] = l ∷ []
-with_lookup l (r ∷ rows) = if nat_lt l.question r.question then l ∷ r ∷ rows else r ∷ with_lookup l rows
+with_lookup l (r ∷ rows) = if nat_lt l.question r.question then l ∷ r ∷ rows else r
+    ∷ with_lookup l rows
 
 -- each open question is below this one
 abbrev pub all_below : ℕ → List LookupRow → Bool

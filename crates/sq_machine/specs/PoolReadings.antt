@@ -22,7 +22,7 @@ use Rattle.sq_machine.specs.BucketLevels.{Tally, drawn, opened_at, seconds}
 -- which buckets a client has
 
 -- a bucket within its generation: its pool, the place of its pair, its host number, and its limit
-pub record Spot : Type 0 where
+pub record BucketSpot : Type 0 where
   pub pool : ℕ
   pub place : ℕ
   pub host : ℕ
@@ -42,24 +42,30 @@ host_of class place number =
     else (if place == 1 then third_octet number
     else third_octet number * 256 + fourth_octet number))
 
-abbrev pub spot_if : ℕ → ℕ → ℕ → ℕ → Option Limit → List Spot → List Spot
+abbrev pub spot_if : ℕ → ℕ → ℕ → ℕ → Option Limit → List BucketSpot → List BucketSpot
 spot_if pool class place number None rest = rest
-spot_if pool class place number (Some r) rest = record { pool = pool; place = place; host = host_of class place number; limit = r } ∷ rest
+spot_if pool class place number (Some r) rest = record {
+  pool = pool;
+  place = place;
+  host = host_of class place number;
+  limit = r;
+} ∷ rest
 
 -- the buckets of the pairs, the first of which stands at this place; no limit is no bucket
-abbrev pub spots_from : ℕ → ℕ → ℕ → ℕ → List (Option Limit) → List Spot
+abbrev pub spots_from : ℕ → ℕ → ℕ → ℕ → List (Option Limit) → List BucketSpot
 spots_from pool class number place [] = []
-spots_from pool class number place (r ∷ limits) = spot_if pool class place number r (spots_from pool class number (suc place) limits)
+spots_from pool class number place (r ∷ limits) = spot_if pool class place number r
+    (spots_from pool class number (suc place) limits)
 
 -- the pairs of a pool that are buckets: a pool of class 5 has none, and grants what is wanted
 abbrev pub bucket_pairs : Pool → List (Option Limit)
 bucket_pairs p = if p.class == 5 then [] else p.pairs
 
 -- the buckets of a client in the pool at this place
-abbrev pub spots_of : ℕ → Pool → Address → List Spot
+abbrev pub spots_of : ℕ → Pool → Address → List BucketSpot
 spots_of place p a = spots_from place p.class a.number 0 (bucket_pairs p)
 
-abbrev pub spots_in : Option Configuration → ℕ → Address → List Spot
+abbrev pub spots_in : Option Configuration → ℕ → Address → List BucketSpot
 spots_in None pool a = []
 spots_in (Some c) pool a = option_map_or (λ p. spots_of pool p a) (slice_get c.pools pool) []
 
@@ -70,34 +76,36 @@ initial_in (Some c) = c.initial
 abbrev pub same_limit : Limit → Limit → Bool
 same_limit a b = a.restore == b.restore && a.max == b.max
 
-abbrev pub is_spot : Spot → Spot → Bool
-is_spot a b = a.pool == b.pool && a.place == b.place && a.host == b.host && same_limit a.limit b.limit
+abbrev pub is_spot : BucketSpot → BucketSpot → Bool
+is_spot a b = a.pool == b.pool && a.place == b.place && a.host == b.host
+    && same_limit a.limit b.limit
 
-abbrev pub has_spot : List Spot → Spot → Bool
+abbrev pub has_spot : List BucketSpot → BucketSpot → Bool
 has_spot spots s = list_any (λ x. is_spot x s) spots
 
 -- records that were taken
 
 -- a check whose record was taken, and whether it allows
-pub record Taking : Type 0 where
+pub record TakenCheck : Type 0 where
   pub asked : Asked
   pub allows : Bool
 
-abbrev pub taking : Told → Option Asked → Option Taking
+abbrev pub taking : Told → Option Asked → Option TakenCheck
 taking (told.Judged epoch o) (Some a) = Some (record { asked = a; allows = o.allow })
 taking answer a = None
 
-abbrev pub taken_after : History → ℕ → Event → Told → Option Taking → Option Taking
-taken_after h c (Take n) answer before = if is_number c (conn_of h n) then taking answer (ask_of h n) else before
+abbrev pub taken_after : History → ℕ → Event → Told → Option TakenCheck → Option TakenCheck
+taken_after h c (Take n) answer before = if is_number c (conn_of h n) then taking answer
+    (ask_of h n) else before
 taken_after h c (Close d) answer before = if d == c then None else before
 taken_after h c event answer before = before
 
 -- the check whose record was last taken on connection c, where c was not closed since
-abbrev pub taken_of : History → ℕ → Option Taking
+abbrev pub taken_of : History → ℕ → Option TakenCheck
 taken_of [] c = None
 taken_of (e ∷ h) c = taken_after h c e.event e.answer (taken_of h c)
 
-abbrev pub if_allowed : Option Taking → Option Asked
+abbrev pub if_allowed : Option TakenCheck → Option Asked
 if_allowed None = None
 if_allowed (Some t) = if t.allows then Some t.asked else None
 
@@ -111,10 +119,14 @@ allowed_of h c = if_allowed (taken_of h c)
 pub record Sat : Type 0 where
   pub epoch : ℕ
   pub pool : ℕ
-  pub spots : List Spot
+  pub spots : List BucketSpot
 
 abbrev pub sat_of : List Configuration → ℕ → Asked → Sat
-sat_of configs pool a = record { epoch = a.epoch; pool = pool; spots = spots_in (config_of configs a.epoch) pool a.sight.addr }
+sat_of configs pool a = record {
+  epoch = a.epoch;
+  pool = pool;
+  spots = spots_in (config_of configs a.epoch) pool a.sight.addr;
+}
 
 -- the seat that an entry gives
 abbrev pub sat_at : List Configuration → History → Event → Told → Option Sat
@@ -128,12 +140,14 @@ count_if false n = n
 -- how many seats were given
 abbrev pub seat_count : List Configuration → History → ℕ
 seat_count configs [] = 0
-seat_count configs (e ∷ h) = count_if (is_some (sat_at configs h e.event e.answer)) (seat_count configs h)
+seat_count configs (e ∷ h) = count_if (is_some (sat_at configs h e.event e.answer))
+    (seat_count configs h)
 
 -- seat n is the n-th that was given
 abbrev pub seat_of : List Configuration → History → ℕ → Option Sat
 seat_of configs [] n = None
-seat_of configs (e ∷ h) n = option_or (numbered n (seat_count configs h) (sat_at configs h e.event e.answer)) (seat_of configs h n)
+seat_of configs (e ∷ h) n = option_or
+    (numbered n (seat_count configs h) (sat_at configs h e.event e.answer)) (seat_of configs h n)
 
 abbrev pub in_use_after : ℕ → Event → Bool → Bool → Bool
 in_use_after n (Leave k) born before = if k == n then false else before
@@ -143,7 +157,8 @@ in_use_after n event born before = born || before
 abbrev pub in_use : List Configuration → History → ℕ → Bool
 in_use configs [] n = false
 in_use configs (e ∷ h) n =
-    in_use_after n e.event (is_some (numbered n (seat_count configs h) (sat_at configs h e.event e.answer))) (in_use configs h n)
+    in_use_after n e.event (is_some
+    (numbered n (seat_count configs h) (sat_at configs h e.event e.answer))) (in_use configs h n)
 
 abbrev pub is_of_epoch : ℕ → Option Sat → Bool
 is_of_epoch e None = false
@@ -152,7 +167,8 @@ is_of_epoch e (Some s) = s.epoch == e
 -- one of the seats 1 to n is in use and of epoch e
 abbrev pub some_in_use : List Configuration → History → ℕ → ℕ → Bool
 some_in_use configs h e zero = false
-some_in_use configs h e (suc n) = (in_use configs h (suc n) && is_of_epoch e (seat_of configs h (suc n))) || some_in_use configs h e n
+some_in_use configs h e (suc n) = (in_use configs h (suc n)
+    && is_of_epoch e (seat_of configs h (suc n))) || some_in_use configs h e n
 
 -- epoch e is current, or a seat of it is in use
 abbrev pub is_needed : List Configuration → History → ℕ → Bool
@@ -181,7 +197,8 @@ kept_if false a = None
 abbrev pub made_of : List Configuration → History → ℕ → Option ℕ
 made_of configs [] e = None
 made_of configs (x ∷ h) e =
-    kept_if (is_needed configs (x ∷ h) e) (made_if (makes configs h e x.event x.answer) x.moment (made_of configs h e))
+    kept_if (is_needed configs (x ∷ h) e)
+    (made_if (makes configs h e x.event x.answer) x.moment (made_of configs h e))
 
 -- the second of a generation that a moment lies in
 abbrev pub second_of : ℕ → ℕ → ℕ
@@ -195,17 +212,20 @@ seconds_between (Some made) before now = second_of made now - second_of made bef
 -- buckets
 
 -- the aggregate bucket of a pool of this configuration
-abbrev pub is_aggregate : Option Configuration → Spot → Bool
-is_aggregate c s = has_spot (spots_in c s.pool (record { v6 = false; number = 0 })) s && s.place == 0
+abbrev pub is_aggregate : Option Configuration → BucketSpot → Bool
+is_aggregate c s = has_spot (spots_in c s.pool (record { v6 = false; number = 0 })) s && s.place
+    == 0
 
-abbrev pub names_spot : ℕ → Spot → Option Sat → Bool
+abbrev pub names_spot : ℕ → BucketSpot → Option Sat → Bool
 names_spot e s None = false
 names_spot e s (Some sat) = sat.epoch == e && has_spot sat.spots s
 
--- where this entry opens the bucket, if there is none: its generation begins with it, or a seat names it
-abbrev pub opens : List Configuration → Noted → History → ℕ → Spot → Bool
+-- where this entry opens the bucket, if there is none: its generation begins with it, or a seat
+-- names it
+abbrev pub opens : List Configuration → Noted → History → ℕ → BucketSpot → Bool
 opens configs x h e s =
-    (is_none (made_of configs h e) && is_aggregate (config_of configs e) s) || names_spot e s (sat_at configs h x.event x.answer)
+    (is_none (made_of configs h e) && is_aggregate (config_of configs e) s)
+    || names_spot e s (sat_at configs h x.event x.answer)
 
 abbrev pub opened_if : Bool → Tally → Option Tally → Option Tally
 opened_if b new (Some t) = Some t
@@ -213,16 +233,18 @@ opened_if true new None = Some new
 opened_if false new None = None
 
 -- what an entry takes from the bucket
-abbrev pub takes_at : List Configuration → History → ℕ → Spot → Event → Told → ℕ
-takes_at configs h e s (Grant n wanted) (told.Granted amount) = if in_use configs h n && names_spot e s (seat_of configs h n) then amount else 0
+abbrev pub takes_at : List Configuration → History → ℕ → BucketSpot → Event → Told → ℕ
+takes_at configs h e s (Grant n wanted) (told.Granted amount) = if in_use configs h n
+    && names_spot e s (seat_of configs h n) then amount else 0
 takes_at configs h e s event answer = 0
 
 -- the numbers of a bucket up to a moment no earlier than the last entry's: a second after another
-abbrev pub until : List Configuration → History → ℕ → Spot → ℕ → Option Tally → Option Tally
-until configs h e s now t = option_map (seconds s.limit (seconds_between (made_of configs h e) (latest h) now)) t
+abbrev pub until : List Configuration → History → ℕ → BucketSpot → ℕ → Option Tally → Option Tally
+until configs h e s now t = option_map
+    (seconds s.limit (seconds_between (made_of configs h e) (latest h) now)) t
 
 -- the numbers of a bucket of the generation of epoch e after the last entry, where it is open
-abbrev pub tally_of : List Configuration → History → ℕ → Spot → Option Tally
+abbrev pub tally_of : List Configuration → History → ℕ → BucketSpot → Option Tally
 tally_of configs [] e s = None
 tally_of configs (x ∷ h) e s =
     kept_if (is_some (made_of configs (x ∷ h) e))
@@ -237,10 +259,11 @@ level_of None = 0
 level_of (Some t) = t.level
 
 -- the least of a number and of the levels of these buckets at a moment
-abbrev pub least_level : List Configuration → History → ℕ → ℕ → List Spot → ℕ → ℕ
+abbrev pub least_level : List Configuration → History → ℕ → ℕ → List BucketSpot → ℕ → ℕ
 least_level configs h e now [] wanted = wanted
 least_level configs h e now (s ∷ spots) wanted =
-    least_level configs h e now spots (min wanted (level_of (until configs h e s now (tally_of configs h e s))))
+    least_level configs h e now spots
+    (min wanted (level_of (until configs h e s now (tally_of configs h e s))))
 
 abbrev pub grant_of : List Configuration → History → ℕ → ℕ → Option Sat → ℕ
 grant_of configs h now wanted None = 0
@@ -249,7 +272,8 @@ grant_of configs h now wanted (Some sat) = least_level configs h sat.epoch now s
 -- each grant is what its seat has, for a seat in use
 abbrev pub is_grant : List Configuration → Noted → History → Event → Told → Type 0
 is_grant configs x h (Grant n wanted) (told.Granted amount) =
-    (in_use configs h n ≡ true) × (amount ≡ grant_of configs h x.moment wanted (seat_of configs h n))
+    (in_use configs h n ≡ true)
+    × (amount ≡ grant_of configs h x.moment wanted (seat_of configs h n))
 is_grant configs x h event answer = ⊤
 
 -- the sum of all grants so far, over all generations

@@ -50,7 +50,8 @@ cause_here (Some c) here = if here then Some c else None
 -- how an entry ends process k
 abbrev pub ended_by : History → ℕ → Event → Told → Option Cause
 ended_by h k (Died p) answer = if_here ((k == p) && nat_le k (proc_count h)) (Some cause.Died)
-ended_by h k (Line p bytes) answer = cause_here (line_end answer) ((k == p) && nat_le k (proc_count h))
+ended_by h k (Line p bytes) answer = cause_here (line_end answer)
+    ((k == p) && nat_le k (proc_count h))
 ended_by h k event answer = None
 
 -- how process k ended, if it has: it died, or wrote a line that is bad or stray
@@ -64,7 +65,8 @@ is_running h k = is_some (home_of h k) && not (is_some (proc_end h k))
 
 -- process k is of this epoch and class
 abbrev pub is_at_home : History → ℕ → List ℕ → ℕ → Bool
-is_at_home h e name k = option_map_or (λ p. (p.epoch == e) && bytes_eq p.class name) (home_of h k) false
+is_at_home h e name k = option_map_or (λ p. (p.epoch == e) && bytes_eq p.class name) (home_of h k)
+    false
 
 -- process k has not ended, and its epoch lives
 abbrev pub lives_on : History → ℕ → Bool
@@ -86,7 +88,8 @@ stops k event answer = false
 -- process k was told to stop
 abbrev pub is_stopped : History → ℕ → Bool
 is_stopped [] k = false
-is_stopped (e ∷ h) k = if (nat_le k (proc_count h)) && stops k e.event e.answer then true else is_stopped h k
+is_stopped (e ∷ h) k = if (nat_le k (proc_count h)) && stops k e.event e.answer then true
+    else is_stopped h k
 
 -- the process ended by a line
 abbrev pub is_line_end : Option Cause → Bool
@@ -94,11 +97,13 @@ is_line_end (Some cause.BadReply) = true
 is_line_end (Some cause.Stray) = true
 is_line_end c = false
 
--- a stop of process k is due: it was not told to stop, and it ended by a line, or it was living as its epoch ended
+-- a stop of process k is due: it was not told to stop, and it ended by a line, or it was living as
+-- its epoch ended
 abbrev pub stop_due : History → ℕ → Bool
 stop_due h k =
     is_some (home_of h k) && not (is_stopped h k)
-    && (is_line_end (proc_end h k) || (is_running h k && not (option_map_or (λ p. is_live h p.epoch) (home_of h k) true)))
+    && (is_line_end (proc_end h k)
+    || (is_running h k && not (option_map_or (λ p. is_live h p.epoch) (home_of h k) true)))
 
 -- the entry is the start of a process of this epoch and class, as an act
 abbrev pub start_told : ℕ → List ℕ → Told → Bool
@@ -112,7 +117,8 @@ is_start e name event answer = false
 -- how many starts of this epoch and class were due and told
 abbrev pub start_count : History → ℕ → List ℕ → ℕ
 start_count [] e name = 0
-start_count (x ∷ h) e name = if is_start e name x.event x.answer then suc (start_count h e name) else start_count h e name
+start_count (x ∷ h) e name = if is_start e name x.event x.answer then suc (start_count h e name)
+    else start_count h e name
 
 -- the event settles a start of this epoch and class: a process runs, or could not be started
 abbrev pub settles_start : ℕ → List ℕ → Event → Bool
@@ -122,7 +128,8 @@ settles_start e name event = false
 
 abbrev pub settled_starts : History → ℕ → List ℕ → ℕ
 settled_starts [] e name = 0
-settled_starts (x ∷ h) e name = if settles_start e name x.event then suc (settled_starts h e name) else settled_starts h e name
+settled_starts (x ∷ h) e name = if settles_start e name x.event then suc (settled_starts h e name)
+    else settled_starts h e name
 
 -- how many starts of this epoch and class are open
 abbrev pub starting : History → ℕ → List ℕ → ℕ

@@ -1,4 +1,5 @@
--- Questions of a history: each is put at a step, sent to a process at most once, and ends once at most.
+-- Questions of a history: each is put at a step, sent to a process at most once, and ends once at
+-- most.
 use Rattle.std.specs.Prelude.{ℕ, suc, List, [], ◌∷◌, Bool, false, not, ◌&&◌, ◌==◌, if◌then◌else◌, nat_le, nat_lt, bytes_eq, is_some, Some, None}
 use Rattle.std.specs.List.{list_any}
 use Rattle.std.specs.Option.{option_or, option_map, option_map_or}
@@ -58,28 +59,35 @@ what_of reply = what_by reply.word reply.pairs
 
 -- whether the lines of process k have channel numbers
 abbrev pub is_numbered : List Configuration → History → ℕ → Bool
-is_numbered configs h k = nat_lt 0 (option_map_or (λ p. channels_named configs p.epoch p.class) (home_of h k) 0)
+is_numbered configs h k = nat_lt 0
+    (option_map_or (λ p. channels_named configs p.epoch p.class) (home_of h k) 0)
 
 -- what a line of process k says that is a reply
 abbrev pub said_by : List Configuration → Past → ℕ → List ℕ → Option What
-said_by configs m k bytes = option_map (λ a. what_of a.1) (reply_of (is_numbered configs (entries m) k) bytes)
+said_by configs m k bytes = option_map (λ a. what_of a.1)
+    (reply_of (is_numbered configs (entries m) k) bytes)
 
 -- how a question ended, and when
 pub record QuestionEnd : Type 0 where
   pub what : What
   pub date : ℕ
 
--- what a line of process k does to question q: a reply ends it, and a line that ends the process too
+-- what a line of process k does to question q: a reply ends it, and a line that ends the process
+-- too
 abbrev pub end_told : List Configuration → Past → ℕ → ℕ → List ℕ → Told → Option What
-end_told configs m q k bytes (told.Reply r w) = if_here ((q == r) && nat_le q (put_count m)) (said_by configs m k bytes)
-end_told configs m q k bytes told.Bad = if_here (is_number k (sent_to m q)) (Some (what.Fault cause.BadReply))
-end_told configs m q k bytes told.Stray = if_here (is_number k (sent_to m q)) (Some (what.Fault cause.Stray))
+end_told configs m q k bytes (told.Reply r w) = if_here ((q == r) && nat_le q (put_count m))
+    (said_by configs m k bytes)
+end_told configs m q k bytes told.Bad = if_here (is_number k (sent_to m q))
+    (Some (what.Fault cause.BadReply))
+end_told configs m q k bytes told.Stray = if_here (is_number k (sent_to m q))
+    (Some (what.Fault cause.Stray))
 end_told configs m q k bytes answer = None
 
 -- question q was put for this epoch and class and was not sent
 abbrev pub is_unsent : List Configuration → Past → ℕ → List ℕ → ℕ → Bool
 is_unsent configs m e name q =
-    option_map_or (λ p. (p.epoch == e) && bytes_eq (name_of_class configs e p.class) name) (put_of m q) false && not (is_some (sent_to m q))
+    option_map_or (λ p. (p.epoch == e) && bytes_eq (name_of_class configs e p.class) name)
+    (put_of m q) false && not (is_some (sent_to m q))
 
 -- a process of this epoch and class has not ended
 abbrev pub some_runs : History → ℕ → List ℕ → Bool
@@ -92,8 +100,11 @@ leaves_none h e name = not (some_runs h e name) && nat_le (starting h e name) 1
 -- what an entry ends question q with
 abbrev pub end_at : List Configuration → Past → ℕ → Event → Told → Option What
 end_at configs m q (Line k bytes) answer = end_told configs m q k bytes answer
-end_at configs m q (Died k) answer = if_here (is_number k (sent_to m q)) (Some (what.Fault cause.Died))
-end_at configs m q (StartFail e name) answer = if_here (is_unsent configs m e name q && leaves_none (entries m) e name) (Some (what.Fault cause.NoHelper))
+end_at configs m q (Died k) answer = if_here (is_number k (sent_to m q))
+    (Some (what.Fault cause.Died))
+end_at configs m q (StartFail e name) answer = if_here
+    (is_unsent configs m e name q && leaves_none (entries m) e name)
+    (Some (what.Fault cause.NoHelper))
 end_at configs m q event answer = None
 
 -- the first end counts
@@ -105,7 +116,8 @@ first_end date (Some w) (Some end) = Some end
 -- how question q ended, if it has
 abbrev pub question_end : List Configuration → Past → ℕ → Option QuestionEnd
 question_end configs [] q = None
-question_end configs (x ∷ m) q = first_end x.entry.moment (end_at configs m q x.entry.event x.entry.answer) (question_end configs m q)
+question_end configs (x ∷ m) q = first_end x.entry.moment
+    (end_at configs m q x.entry.event x.entry.answer) (question_end configs m q)
 
 abbrev pub has_ended : List Configuration → Past → ℕ → Bool
 has_ended configs m q = is_some (question_end configs m q)
@@ -122,7 +134,8 @@ put_is e c key (Some p) = (p.epoch == e) && (p.class == c) && bytes_eq p.key key
 -- the last question of this epoch, class and key
 abbrev pub last_put : Past → ℕ → ℕ → List ℕ → Option ℕ
 last_put [] e c key = None
-last_put (x ∷ m) e c key = if put_is e c key x.put then Some (suc (put_count m)) else last_put m e c key
+last_put (x ∷ m) e c key = if put_is e c key x.put then Some (suc (put_count m))
+    else last_put m e c key
 
 -- the question of these that has not ended; there is one at most
 abbrev pub pending : List Configuration → Past → ℕ → ℕ → List ℕ → Option ℕ

@@ -1,4 +1,5 @@
--- What a helper process was sent and what it wrote: on each channel the question that waits (helper protocol page).
+-- What a helper process was sent and what it wrote: on each channel the question that waits (helper
+-- protocol page).
 use Rattle.std.specs.Prelude.{ℕ, max, List, [], ◌∷◌, map, Bool, true, false, ◌&&◌, ◌==◌, if◌then◌else◌, nat_le, nat_lt, Some, None}
 use Rattle.std.specs.declared.option.Option.{Option}
 use Rattle.sq_base.specs.Replies.{Answer, reply_of}
@@ -18,14 +19,16 @@ same_channel None None = true
 same_channel (Some a) (Some b) = a == b
 same_channel a b = false
 
--- what an entry does on a channel of a process: it puts a question there, a line stands on it, or nothing
+-- what an entry does on a channel of a process: it puts a question there, a line stands on it, or
+-- nothing
 pub data Use : Type 0 where
   puts : ℕ → Use
   clears : Use
   keeps : Use
 
 abbrev pub use_told : History → ℕ → Option ℕ → Told → Use
-use_told h k channel (told.Send p q c key) = if (k == p) && nat_le k (proc_count h) && same_channel c channel then puts q else keeps
+use_told h k channel (told.Send p q c key) = if (k == p) && nat_le k (proc_count h)
+    && same_channel c channel then puts q else keeps
 use_told h k channel answer = keeps
 
 -- a line in the grammar stands on its channel, and one outside of it on none
@@ -35,7 +38,8 @@ stands_on (Some a) channel = same_channel a.0 channel
 
 abbrev pub use_of : Bool → History → ℕ → Option ℕ → Event → Told → Use
 use_of numbered h k channel Act answer = use_told h k channel answer
-use_of numbered h k channel (Line p bytes) answer = if (k == p) && nat_le k (proc_count h) && stands_on (reply_of numbered bytes) channel then clears else keeps
+use_of numbered h k channel (Line p bytes) answer = if (k == p) && nat_le k (proc_count h)
+    && stands_on (reply_of numbered bytes) channel then clears else keeps
 use_of numbered h k channel event answer = keeps
 
 abbrev pub after_use : Use → Option ℕ → Option ℕ
@@ -43,19 +47,23 @@ after_use (puts q) before = Some q
 after_use clears before = None
 after_use keeps before = before
 
--- the question of the last send on this channel, where no line on it stands after; `numbered` says whether lines have channels
+-- the question of the last send on this channel, where no line on it stands after; `numbered` says
+-- whether lines have channels
 abbrev pub holder : Bool → History → ℕ → Option ℕ → Option ℕ
 holder numbered [] k channel = None
-holder numbered (e ∷ h) k channel = after_use (use_of numbered h k channel e.event e.answer) (holder numbered h k channel)
+holder numbered (e ∷ h) k channel = after_use (use_of numbered h k channel e.event e.answer)
+    (holder numbered h k channel)
 
 -- the channels of a process of a class with so many: a class without channels has one
 abbrev pub channels_of : ℕ → History → ℕ → Channels
 channels_of concurrency h k = record {
   numbered = nat_lt 0 concurrency;
-  slots = map (λ n. holder (nat_lt 0 concurrency) h k (channel_name (nat_lt 0 concurrency) n)) (below (max 1 concurrency));
+  slots = map (λ n. holder (nat_lt 0 concurrency) h k (channel_name (nat_lt 0 concurrency) n))
+      (below (max 1 concurrency));
 }
 
--- what a line is: a reply to the question that is open on its channel, outside the grammar, or on a channel with none
+-- what a line is: a reply to the question that is open on its channel, outside the grammar, or on a
+-- channel with none
 pub data LineIs : Type 0 where
   ReplyTo : ℕ → Reply → LineIs
   Outside : LineIs

@@ -2,7 +2,7 @@
 //!
 //! `Entry` is one line of a journal: a moment, an event and its answer. The definitions of `specs/` say what a
 //! history of entries says of connections (`Connections`), checks (`Checks`), epochs (`Epochs`), processes
-//! (`Processes`), questions (`Questions`), kept verdicts (`KeptReadings`) and buckets (`PoolReadings`), by plain
+//! (`Processes`), questions (`Questions`), cached replies (`KeptReadings`) and buckets (`PoolReadings`), by plain
 //! records where a lower crate keeps the same (`Channels`, `Farms`, `KeptLists`, `OpenLookups`, `BucketLevels`);
 //! which act is due (`DueActs`), what a step says (`StepRule`), and what the machine answers next (`Machine`).
 //! Nothing that reads a configuration stands on them.
@@ -15,7 +15,7 @@ mod moments;
 mod refusals;
 
 pub use entries::{Entry, Event, Offset, Told};
-pub use kept::KeptVerdict;
+pub use kept::CachedReply;
 pub use limits::{CONN_LIMIT, EPOCH_LIMIT, LAST_NUMBER};
 pub use moments::later;
 pub use refusals::Refusal;

@@ -8,9 +8,9 @@ use Rattle.sq_checks.specs.OpenChecks.{CheckParts}
 use Rattle.sq_pools.specs.Basins.{Basin}
 use Rattle.sq_engine.specs.Begun.{Begun, begun_at}
 use Rattle.sq_engine.specs.EngineViews.{EngineView, state_of}
-use Rattle.sq_hub.specs.Tellings.{BegunCheck, HubState}
-use Rattle.sq_hub.specs.declared.hub.HubFault.{HubFault}
-use Rattle.sq_hub.specs.declared.hub.HubFault.TheVariants as fault
+use Rattle.sq_conn_policy.specs.Tellings.{BegunCheck, HubState}
+use Rattle.sq_conn_policy.specs.declared.hub.HubFault.{HubFault}
+use Rattle.sq_conn_policy.specs.declared.hub.HubFault.TheVariants as fault
 
 abbrev pub check_of : Begun → BegunCheck
 check_of b = record { config = b.config; sight = b.sight; pool = b.pool }
@@ -21,7 +21,12 @@ begun_in checks n = option_map check_of (begun_at checks n)
 
 -- the engine's state and its checks, the pools, and the moment of each call
 abbrev pub hub_state : EngineView → Basin → ℕ → HubState
-hub_state engine pools moment = record { machine = state_of engine; begun = begun_in engine.checks; pools = pools; moment = moment }
+hub_state engine pools moment = record {
+  machine = state_of engine;
+  begun = begun_in engine.checks;
+  pools = pools;
+  moment = moment;
+}
 
 -- the fault of a refusal: want of memory is a fault of its own
 abbrev pub fault_of : Refusal → HubFault

@@ -1,5 +1,5 @@
 //! What comes to the machine while a check waits.
-ghost use Rattle.sq_hub.specs.Tellings.{Waited};
+ghost use Rattle.sq_conn_policy.specs.Tellings.{Waited};
 ghost use Rattle.sq_mem_hub.specs.MemHubs.{hub_state};
 ghost use Rattle.sq_pools.specs.Basins.{Basin};
 
@@ -24,7 +24,8 @@ pub(crate) fn act_all<R: Wait>(
     asked: &mut Asked,
     moment: Moment,
 )
-    ensures waited { (pools : Basin) → Waited (hub_state engine.old pools moment) (hub_state engine.new pools moment) }
+    ensures waited { (pools : Basin)
+        → Waited (hub_state engine.old pools moment) (hub_state engine.new pools moment) }
 {
     for _ in rt.forever() {
         match engine.act(moment) {
@@ -37,7 +38,8 @@ pub(crate) fn act_all<R: Wait>(
 
 // Notes which process is asked by an act, or says that the one is there which it starts.
 fn perform(alloc: Global, engine: &mut Engine, asked: &mut Asked, act: Act, moment: Moment)
-    ensures waited { (pools : Basin) → Waited (hub_state engine.old pools moment) (hub_state engine.new pools moment) }
+    ensures waited { (pools : Basin)
+        → Waited (hub_state engine.old pools moment) (hub_state engine.new pools moment) }
 {
     match act {
         Act::Stop(_) => {}
@@ -53,7 +55,8 @@ fn perform(alloc: Global, engine: &mut Engine, asked: &mut Asked, act: Act, mome
 
 // Says that a process of this class is there.
 fn start(alloc: Global, engine: &mut Engine, epoch: EpochNo, class: u32, moment: Moment)
-    ensures waited { (pools : Basin) → Waited (hub_state engine.old pools moment) (hub_state engine.new pools moment) }
+    ensures waited { (pools : Basin)
+        → Waited (hub_state engine.old pools moment) (hub_state engine.new pools moment) }
 {
     let _proc = engine.started(alloc, epoch, class, moment);
 }
@@ -66,17 +69,19 @@ pub(crate) fn hear(
     asked: Asked,
     moment: Moment,
 )
-    ensures waited { (pools : Basin) → Waited (hub_state engine.old pools moment) (hub_state engine.new pools moment) }
+    ensures waited { (pools : Basin)
+        → Waited (hub_state engine.old pools moment) (hub_state engine.new pools moment) }
 {
     match asked {
         Asked::Nobody => {}
-        Asked::Last(proc) => tell(alloc, engine, proc, lines.pop(), moment),
+        Asked::Last(proc) => give_line(alloc, engine, proc, lines.pop(), moment),
     }
 }
 
 // Gives the process a line, or says that it died where there is none.
-fn tell(alloc: Global, engine: &mut Engine, proc: ProcNo, line: Option<Text>, moment: Moment)
-    ensures waited { (pools : Basin) → Waited (hub_state engine.old pools moment) (hub_state engine.new pools moment) }
+fn give_line(alloc: Global, engine: &mut Engine, proc: ProcNo, line: Option<Text>, moment: Moment)
+    ensures waited { (pools : Basin)
+        → Waited (hub_state engine.old pools moment) (hub_state engine.new pools moment) }
 {
     match line {
         Some(line) => {

@@ -4,18 +4,18 @@ ghost use Rattle.sq_base.specs.Targets.{target_of};
 ghost use Rattle.sq_outside.specs.Causes.{raised};
 ghost use Rattle.sq_rules.specs.Sights.{asked_request, unversioned};
 ghost use Rattle.sq_mem_hub.specs.MemHubs.{hub_result};
-ghost use Rattle.sq_hub.specs.Hubs.{HubRefuses, HubFails};
+ghost use Rattle.sq_conn_policy.specs.Hubs.{HubRefuses, HubFails};
 
 use crate::acting::{Asked, act_all, hear};
 use sq_base::{Addr, CheckNo, ConnNo, EpochNo, Moment, Request, Text, WantOfMemory};
 use sq_cache::HashSeed;
 use sq_checks::Record;
+use sq_conn_policy::{Hub, HubFault};
 use sq_engine::Engine;
-use sq_hub::{Hub, HubFault};
 use sq_machine::{Offset, Refusal};
+use sq_model_rows::Stepped;
 use sq_outside::{raised, raised_by};
 use sq_pools::{ChooseFault, Pools, Seat};
-use sq_rows::Stepped;
 use sq_rules::Config;
 use sq_session::Counts;
 use sq_urlmatch::Setup;
@@ -43,7 +43,8 @@ pub struct MemHub<'a, R: Wait> {
 
 // What holds of every request.
 fn formed(request: &Request)
-    ensures parts { unversioned request.now ≡ asked_request request.now.method request.now.target request.now.fields }
+    ensures parts { unversioned request.now
+        ≡ asked_request request.now.method request.now.target request.now.fields }
     ensures target { is_some (target_of request.now.method request.now.target) ≡ true }
 {
     let _minor = request.minor;
@@ -72,12 +73,12 @@ impl<'a, R: Wait> MemHub<'a, R> {
     ghost use Rattle.std.specs.Prelude.{IfOk, List, [], pos};
     ghost use Rattle.sq_rules.specs.Configurations.{Configuration, IsConfiguration};
     ghost use Rattle.sq_machine.specs.Epochs.{config_of};
-    ghost use Rattle.sq_history.specs.Given.{EachOf};
+    ghost use Rattle.sq_model_laws.specs.Given.{EachOf};
     ghost use Rattle.sq_machine.specs.Entries.{entry_at};
     ghost use Rattle.sq_engine.specs.EngineViews.{state_of};
     ghost use Rattle.sq_machine.specs.declared.entries.Event.TheVariants as event;
     ghost use Rattle.sq_machine.specs.declared.entries.Told.TheVariants as told;
-    ghost use Rattle.sq_hub.specs.Tellings.{StandsAt};
+    ghost use Rattle.sq_conn_policy.specs.Tellings.{StandsAt};
 
     /// A machine that begins with this configuration at this moment, with its pools. The helper processes write these
     /// lines, the last one first.
@@ -88,8 +89,11 @@ impl<'a, R: Wait> MemHub<'a, R> {
         moment: Moment,
         lines: Vec<Text>,
     ) -> Result<MemHub<'a, R>, WantOfMemory>
-        ensures stands { IfOk result (λ m. (configs : List Configuration) → EachOf IsConfiguration configs → config_of configs 1 ≡ Some setup
-            → StandsAt configs (entry_at moment (event.Begin (pos 0)) (told.Epoch 1) ∷ []) (state_of m.engine)) }
+        ensures stands { IfOk result
+            (λ m. (configs : List Configuration) → EachOf IsConfiguration configs
+            → config_of configs 1 ≡ Some setup
+            → StandsAt configs (entry_at moment (event.Begin (pos 0)) (told.Epoch 1) ∷ [])
+            (state_of m.engine)) }
     {
         let pools = Pools::new(alloc, EpochNo(1), setup.config(), moment)?;
         let engine = Engine::new(alloc, setup, Offset(0), moment, HashSeed::fixed())?;

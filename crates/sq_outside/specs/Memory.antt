@@ -68,7 +68,8 @@ sink_calls s = s.calls.made
 
 -- the next write, of so many bytes, fails: it is listed, or there are bytes and no room is left
 abbrev pub sink_fails_next : MemSink → ℕ → Bool
-sink_fails_next s count = is_listed (sink_fails s) (next_call (sink_calls s)) || nat_lt 0 count && sink_room s == 0
+sink_fails_next s count = is_listed (sink_fails s) (next_call (sink_calls s)) || nat_lt 0 count
+    && sink_room s == 0
 
 abbrev pub sink_faults : MemSink → ℕ
 sink_faults s = s.calls.faults
@@ -115,7 +116,8 @@ files_lists_next s = is_listed (files_fails s) (next_call (files_calls s))
 
 -- the next opening, of this name, fails: it is listed, or there is such a file and no room is left
 abbrev pub files_fails_next : MemFiles → List ℕ → Bool
-files_fails_next s name = files_lists_next s || is_some (text_at (files_list s) name) && files_room s == 0
+files_fails_next s name = files_lists_next s || is_some (text_at (files_list s) name)
+    && files_room s == 0
 
 abbrev pub files_faults : MemFiles → ℕ
 files_faults s = s.calls.faults

@@ -1,4 +1,5 @@
--- What listeners, spawners, clocks and resolvers in memory hold and tell, and the calls of them that are to fail.
+-- What listeners, spawners, clocks and resolvers in memory hold and tell, and the calls of them
+-- that are to fail.
 use Rattle.std.specs.Prelude.{◌≡◌, ℕ, List, [], ◌∷◌, map, position, Bool, ◌||◌, is_none, is_some, bytes_eq, Some, None}
 use Rattle.std.specs.List.{find}
 use Rattle.std.specs.declared.option.Option.{Option}
@@ -72,16 +73,19 @@ spawner_lists_next s = is_listed (spawner_fails s) (next_call (spawner_calls s))
 
 -- the next start, of these words, fails: it is listed, or no such child is left
 abbrev pub spawner_fails_next : MemSpawner → List (List ℕ) → Bool
-spawner_fails_next s words = spawner_lists_next s || is_none (position (is_child words) (spawner_children s))
+spawner_fails_next s words = spawner_lists_next s
+    || is_none (position (is_child words) (spawner_children s))
 
 abbrev pub spawner_faults : MemSpawner → ℕ
 spawner_faults s = s.calls.faults
 
--- the halves are those of the first child that these words start, which was taken from the list; what it says
--- waits where that child does
-abbrev pub StartTakes : List MemChild → List MemChild → List (List ℕ) → MemChildOut → MemOut → Type 0
+-- the halves are those of the first child that these words start, which was taken from the list;
+-- what it says waits where that child does
+abbrev pub StartTakes : List MemChild → List MemChild → List (List ℕ) → MemChildOut → MemOut
+    → Type 0
 StartTakes old new words from to = (c : MemChild) × TakesFirst (is_child words) old new c
-    × (pair_from c.pair ≡ child_source from) × (is_some c.waits ≡ child_waits from) × (pair_to c.pair ≡ to)
+    × (pair_from c.pair ≡ child_source from) × (is_some c.waits ≡ child_waits from)
+    × (pair_to c.pair ≡ to)
 
 -- the moment that the clock gives next
 abbrev pub clock_next : MemClock → ℕ

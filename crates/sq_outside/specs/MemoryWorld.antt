@@ -24,7 +24,10 @@ in_origin s = record { host = s.host; port = s.port; bytes = source_text s.sourc
 
 -- a kept dial, as it is told
 abbrev pub told_dial : MemDial → Dial
-told_dial d = record { origin = record { host = d.host; port = d.port; bytes = d.bytes }; written = d.written }
+told_dial d = record {
+  origin = record { host = d.host; port = d.port; bytes = d.bytes };
+  written = d.written;
+}
 
 -- the origins that no dial has reached yet
 abbrev pub dialer_origins : MemDialer → List MemOrigin
@@ -32,7 +35,8 @@ dialer_origins d = d.origins.items
 
 -- how many dials were made, and those that were given back
 abbrev pub dialer_told : MemDialer → Option Dialled
-dialer_told d = if d.whole then Some (record { made = d.made; back = map told_dial d.back.items }) else None
+dialer_told d = if d.whole then Some (record { made = d.made; back = map told_dial d.back.items })
+    else None
 
 -- for how many dials that are given back there is room
 abbrev pub dialer_room : MemDialer → ℕ
@@ -59,12 +63,18 @@ dialer_lists_next d = is_listed (dialer_fails d) (next_call (dialer_calls d))
 
 -- the next dial, to this host and port, fails: it is listed, or no such origin is left
 abbrev pub dialer_fails_next : MemDialer → List ℕ → ℕ → Bool
-dialer_fails_next d host port = dialer_lists_next d || is_none (position (is_origin host port) (dialer_origins d))
+dialer_fails_next d host port = dialer_lists_next d
+    || is_none (position (is_origin host port) (dialer_origins d))
 
 -- the halves are those of the first origin of this host and port, which was taken from the list
 abbrev pub DialTakes : List MemOrigin → List MemOrigin → List ℕ → ℕ → MemSource → MemOut → Type 0
-DialTakes old new host port from to = (o : MemOrigin) × TakesFirst (is_origin host port) old new o × (pair_from o.pair ≡ from) × (pair_to o.pair ≡ to)
+DialTakes old new host port from to = (o : MemOrigin) × TakesFirst (is_origin host port) old new o
+    × (pair_from o.pair ≡ from) × (pair_to o.pair ≡ to)
 
 -- what is told after this dial was given back
 abbrev pub adds_dial : Option Dialled → Origin → List ℕ → Option Dialled
-adds_dial told origin written = option_map (λ d. record { made = d.made; back = d.back ++ record { origin = origin; written = written } ∷ [] }) told
+adds_dial told origin written = option_map
+    (λ d. record {
+      made = d.made;
+      back = d.back ++ record { origin = origin; written = written } ∷ [];
+    }) told

@@ -4,7 +4,8 @@ use Rattle.std.specs.Cmp.Lexicographic.{pointwise}
 
 -- the element is the first that passes the test, and the new list is the old one without it
 abbrev pub TakesFirst : {X : Type 0} → (X → Bool) → List X → List X → X → Type 0
-TakesFirst test old new x = (i : ℕ) × (position test old ≡ Some i) × (x ≡ slice_index_or old i x) × (new ≡ remove old i)
+TakesFirst test old new x = (i : ℕ) × (position test old ≡ Some i) × (x ≡ slice_index_or old i x)
+    × (new ≡ remove old i)
 
 -- the same words in the same order
 abbrev pub same_words : List (List ℕ) → List (List ℕ) → Bool

@@ -32,13 +32,15 @@ has_failed (Link from to addr port) = false
 has_failed Stopped = false
 has_failed Failed = true
 
--- the count never falls; it rose where the listener answered `Failed`, and stayed where it answered otherwise
+-- the count never falls; it rose where the listener answered `Failed`, and stayed where it answered
+-- otherwise
 pub record AcceptHasCause {I O : Type 0} (before now : ℕ) (result : Accepted I O) : Type 0 where
   pub later : before ≤ now
   pub failed : result ≡ Failed → Rose before now
   pub quiet : has_failed result ≡ false → now ≡ before
 
--- the count never falls; it rose where the resolver answered `Failed`, and stayed where it answered otherwise
+-- the count never falls; it rose where the resolver answered `Failed`, and stayed where it answered
+-- otherwise
 pub record LookHasCause {T : Type 0} (before now : ℕ) (result : Result T LookFault) : Type 0 where
   pub later : before ≤ now
   pub failed : IsErrOf result fault.Failed → Rose before now
@@ -51,7 +53,8 @@ Starts = Option (List (List (List ℕ)))
 
 -- where the spawner tells, one start of these words more was made
 abbrev pub StartsMore : Starts → Starts → List (List ℕ) → Type 0
-StartsMore old new words = IfSome new (λ now. (before : List (List (List ℕ))) × (old ≡ Some before) × (now ≡ before ++ words ∷ []))
+StartsMore old new words = IfSome new
+    (λ now. (before : List (List (List ℕ))) × (old ≡ Some before) × (now ≡ before ++ words ∷ []))
 
 -- the moments that are left after one was given: the last one stays
 abbrev pub moments_after : List ℕ → List ℕ
@@ -62,7 +65,8 @@ moments_after (m ∷ n ∷ rest) = n ∷ rest
 -- a clock that tells its moments gave the first of them
 abbrev pub GivesMoment : Option (List ℕ) → Option (List ℕ) → ℕ → Type 0
 GivesMoment old new moment =
-    IfSome new (λ now. (rest : List ℕ) × (old ≡ Some (moment ∷ rest)) × (now ≡ moments_after (moment ∷ rest)))
+    IfSome new (λ now. (rest : List ℕ) × (old ≡ Some (moment ∷ rest))
+    × (now ≡ moments_after (moment ∷ rest)))
 
 -- the addresses of each host; None where the object does not tell
 abbrev pub Names : Type 0

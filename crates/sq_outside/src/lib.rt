@@ -35,7 +35,7 @@ mod world;
 pub use calls::{COUNT_LIMIT, Calls, raised, raised_by};
 pub use held::Held;
 pub use input::{Unread, read_file, read_whole};
-pub use lines::{Found, LINE_LIMIT, TOTAL_LIMIT, next_line, next_line_within};
+pub use lines::{LINE_LIMIT, LineFound, TOTAL_LIMIT, next_line, next_line_within};
 pub use links::{Accepted, Dialer, Listener, Out};
 pub use mem_child::{MemChildOut, MemWait};
 pub use mem_clock::{MemClock, MemName, MemResolver};

@@ -45,7 +45,8 @@ pub trait Dialer {
         ensures reaches { IfOk result (λ h. DialReaches (dialled self.new) host.now port
             (Self.In.origin h.0) (Self.In.left h.0) (Self.Outgo.Sink.contents h.1)) }
         ensures open { IfOk result (λ h. IsOpen (Self.Outgo.closed h.1)) }
-        ensures fresh { IfOk result (λ h. (Self.In.faults h.0 ≡ 0) × (Self.Outgo.Sink.faults h.1 ≡ 0)) }
+        ensures fresh { IfOk result
+            (λ h. (Self.In.faults h.0 ≡ 0) × (Self.Outgo.Sink.faults h.1 ≡ 0)) }
         ensures cause { HasCause (faults self.old) (faults self.new) result };
 
     /// Takes both halves of a dial back. It takes no memory.
@@ -88,7 +89,8 @@ pub trait Listener {
 
     /// Waits for the next link. Both halves begin with the count 0; the outgoing one is open.
     fn next(&mut self, alloc: Global) -> Accepted<Self::In, Self::Outgo>
-        ensures link { IfLink result (λ from to addr port. LinkComes (coming self.old) (coming self.new) addr port
+        ensures link { IfLink result
+            (λ from to addr port. LinkComes (coming self.old) (coming self.new) addr port
             (Self.In.left from) (Self.Outgo.Sink.contents to)) }
         ensures none { IfNoLink result (coming self.new ≡ coming self.old) }
         ensures open { IfLink result (λ from to addr port. IsOpen (Self.Outgo.closed to)) }

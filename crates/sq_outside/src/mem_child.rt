@@ -83,11 +83,14 @@ impl<'a> Source for MemChildOut<'a> {
         ensures bound { ReadsAtMost result into.new }
         ensures bytes { ReadConsumes (child_left self.old) (child_left self.new) result into.new }
         ensures origin { ◌≡◌ {A = Option Origin} None None }
-        ensures cause { HasCause (source_faults (child_source self.old)) (source_faults (child_source self.new)) result }
+        ensures cause { HasCause (source_faults (child_source self.old))
+            (source_faults (child_source self.new)) result }
         // A read fails only where its source fails; where it does not wait, exactly there. Each failure is counted.
-        ensures fails { child_waits self.old ≡ false → is_err result ≡ source_fails_next (child_source self.old) }
+        ensures fails { child_waits self.old ≡ false
+            → is_err result ≡ source_fails_next (child_source self.old) }
         ensures fails_only { OnErr result (source_fails_next (child_source self.old) ≡ true) }
-        ensures counts { source_faults (child_source self.new) ≡ counted (is_err result) (source_faults (child_source self.old)) }
+        ensures counts { source_faults (child_source self.new)
+            ≡ counted (is_err result) (source_faults (child_source self.old)) }
         ensures list { source_fails (child_source self.new) ≡ source_fails (child_source self.old) }
         ensures step { source_step (child_source self.new) ≡ source_step (child_source self.old) }
         ensures waits { child_waits self.new ≡ child_waits self.old }

@@ -122,12 +122,14 @@ impl<'a> Resolver for MemResolver<'a> {
 
     fn look(&mut self, alloc: Global, host: &Text) -> Result<Addrs, LookFault>
         ensures found { FindsAddrs (Some (addrs_at (resolver_names self.old))) host.now result }
-        ensures names { Some (addrs_at (resolver_names self.new)) ≡ Some (addrs_at (resolver_names self.old)) }
+        ensures names { Some (addrs_at (resolver_names self.new))
+            ≡ Some (addrs_at (resolver_names self.old)) }
         ensures cause { LookHasCause (resolver_faults self.old) (resolver_faults self.new) result }
         // A call fails where it is listed, and only there; each failure is counted.
         ensures fails { resolver_fails_next self.old ≡ true → result ≡ Err LookFault.Failed }
         ensures fails_only { IsErrOf result LookFault.Failed → resolver_fails_next self.old ≡ true }
-        ensures counts { resolver_faults self.new ≡ counted (resolver_fails_next self.old) (resolver_faults self.old) }
+        ensures counts { resolver_faults self.new
+            ≡ counted (resolver_fails_next self.old) (resolver_faults self.old) }
         ensures calls { resolver_calls self.new ≡ next_call (resolver_calls self.old) }
         ensures list { resolver_fails self.new ≡ resolver_fails self.old }
     {

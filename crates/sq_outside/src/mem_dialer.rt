@@ -37,14 +37,19 @@ impl Source for MemIn {
 
     fn read(&mut self, into: &mut [u8]) -> Result<usize, Failed>
         ensures bound { ReadsAtMost result into.new }
-        ensures bytes { ReadConsumes (Some (source_left (in_source self.old))) (Some (source_left (in_source self.new))) result into.new }
+        ensures bytes { ReadConsumes (Some (source_left (in_source self.old)))
+            (Some (source_left (in_source self.new))) result into.new }
         ensures origin { Some (in_origin self.new) ≡ Some (in_origin self.old) }
-        ensures cause { HasCause (source_faults (in_source self.old)) (source_faults (in_source self.new)) result }
+        ensures cause { HasCause (source_faults (in_source self.old))
+            (source_faults (in_source self.new)) result }
         // It gives as many bytes as its source, and fails where that fails, and only there.
         ensures count { IfOk result (λ n. n ≡ source_gives (in_source self.old) (length into.old)) }
         ensures fails { is_err result ≡ source_fails_next (in_source self.old) }
-        ensures counts { source_faults (in_source self.new) ≡ counted (source_fails_next (in_source self.old)) (source_faults (in_source self.old)) }
-        ensures calls { source_calls (in_source self.new) ≡ next_call (source_calls (in_source self.old)) }
+        ensures counts { source_faults (in_source self.new)
+            ≡ counted (source_fails_next (in_source self.old))
+            (source_faults (in_source self.old)) }
+        ensures calls { source_calls (in_source self.new)
+            ≡ next_call (source_calls (in_source self.old)) }
         ensures list { source_fails (in_source self.new) ≡ source_fails (in_source self.old) }
         ensures step { source_step (in_source self.new) ≡ source_step (in_source self.old) }
     {
@@ -100,8 +105,11 @@ fn take_origin<'a>(
     host: &Text,
     port: u16,
 ) -> Option<MemOrigin<'a>>
-    ensures found { is_none result ≡ is_none (position (λ o. bytes_eq o.host host.now && o.port == port) origins.old.items) }
-    ensures taken { IfSome result (TakesFirst (λ o. bytes_eq o.host host.now && o.port == port) origins.old.items origins.new.items) }
+    ensures found { is_none result
+        ≡ is_none (position (λ o. bytes_eq o.host host.now && o.port == port) origins.old.items) }
+    ensures taken { IfSome result
+        (TakesFirst (λ o. bytes_eq o.host host.now && o.port == port) origins.old.items
+        origins.new.items) }
     ensures host { IfSome result (λ o. o.host ≡ host.now) }
     ensures port { IfSome result (λ o. o.port ≡ port) }
     ensures len { IfSome result (λ _. vec_len origins.new + 1 ≡ vec_len origins.old) }
@@ -180,17 +188,22 @@ impl<'a> Dialer for MemDialer<'a> {
         ensures made { OnOk result (DialsMore (dialer_told self.old) (dialer_told self.new)) }
         ensures failed { OnErr result (dialer_told self.new ≡ dialer_told self.old) }
         ensures reaches { IfOk result (λ h. DialReaches (dialer_told self.new) host.now port
-            (Some (in_origin h.0)) (Some (source_left (in_source h.0))) (Some (sink_bytes (out_sink h.1)))) }
+            (Some (in_origin h.0)) (Some (source_left (in_source h.0)))
+            (Some (sink_bytes (out_sink h.1)))) }
         ensures open { IfOk result (λ h. IsOpen (Some (out_closed h.1))) }
-        ensures fresh { IfOk result (λ h. (source_faults (in_source h.0) ≡ 0) × (sink_faults (out_sink h.1) ≡ 0)) }
+        ensures fresh { IfOk result
+            (λ h. (source_faults (in_source h.0) ≡ 0) × (sink_faults (out_sink h.1) ≡ 0)) }
         ensures cause { HasCause (dialer_faults self.old) (dialer_faults self.new) result }
         // The link is the one to the first origin of this host and port, which then is used up.
-        ensures link { IfOk result (λ h. DialTakes (dialer_origins self.old) (dialer_origins self.new) host.now port (in_source h.0) h.1) }
+        ensures link { IfOk result
+            (λ h. DialTakes (dialer_origins self.old) (dialer_origins self.new) host.now port
+            (in_source h.0) h.1) }
         ensures kept { OnErr result (dialer_origins self.new ≡ dialer_origins self.old) }
         // A dial fails where it is listed, or no origin of this host and port is left, and only there; each
         // failure is counted.
         ensures fails { is_err result ≡ dialer_fails_next self.old host.now port }
-        ensures counts { dialer_faults self.new ≡ counted (dialer_fails_next self.old host.now port) (dialer_faults self.old) }
+        ensures counts { dialer_faults self.new
+            ≡ counted (dialer_fails_next self.old host.now port) (dialer_faults self.old) }
         ensures calls { dialer_calls self.new ≡ next_call (dialer_calls self.old) }
         ensures list { dialer_fails self.new ≡ dialer_fails self.old }
         // The room for a dial that is given back stays.
@@ -224,7 +237,9 @@ impl<'a> Dialer for MemDialer<'a> {
         ensures cause { TakesBack (dialer_faults self.old) (dialer_faults self.new)
             (source_faults (in_source from) + sink_faults (out_sink to.entry)) }
         // A dial of its own finds room. Where there is none, since links of others came back, it tells no more.
-        ensures kept { 0 < dialer_room self.old → dialer_told self.new ≡ adds_dial (dialer_told self.old) (in_origin from) (sink_bytes (out_sink to.entry)) }
+        ensures kept { 0 < dialer_room self.old
+            → dialer_told self.new ≡ adds_dial (dialer_told self.old) (in_origin from)
+            (sink_bytes (out_sink to.entry)) }
         ensures room { 0 < dialer_room self.old → dialer_room self.new + 1 ≡ dialer_room self.old }
         ensures origins { dialer_origins self.new ≡ dialer_origins self.old }
         ensures calls { dialer_calls self.new ≡ dialer_calls self.old }

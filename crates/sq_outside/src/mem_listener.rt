@@ -86,20 +86,27 @@ impl<'a> Listener for MemListener<'a> {
     ghost capped = { λ l. l.calls.capped };
 
     fn next(&mut self, _alloc: Global) -> Accepted<MemSource, MemOut<'a>>
-        ensures link { IfLink result (λ from to addr port. LinkComes (Some (listener_coming self.old)) (Some (listener_coming self.new)) addr port
+        ensures link { IfLink result
+            (λ from to addr port. LinkComes (Some (listener_coming self.old))
+            (Some (listener_coming self.new)) addr port
             (Some (source_left from)) (Some (sink_bytes (out_sink to)))) }
-        ensures none { IfNoLink result (Some (listener_coming self.new) ≡ Some (listener_coming self.old)) }
+        ensures none { IfNoLink result
+            (Some (listener_coming self.new) ≡ Some (listener_coming self.old)) }
         ensures open { IfLink result (λ from to addr port. IsOpen (Some (out_closed to))) }
-        ensures fresh { IfLink result (λ from to addr port. (source_faults from ≡ 0) × (sink_faults (out_sink to) ≡ 0)) }
-        ensures cause { AcceptHasCause (listener_faults self.old) (listener_faults self.new) result }
+        ensures fresh { IfLink result
+            (λ from to addr port. (source_faults from ≡ 0) × (sink_faults (out_sink to) ≡ 0)) }
+        ensures cause { AcceptHasCause (listener_faults self.old) (listener_faults self.new)
+            result }
         // It stops where it was asked to, or no link is left.
-        ensures stopped { IfStopped result ((listener_asked self.new ≡ true) ⊎ (listener_coming self.old ≡ [])) }
+        ensures stopped { IfStopped result
+            ((listener_asked self.new ≡ true) ⊎ (listener_coming self.old ≡ [])) }
         // It does not forget that it was asked, and then no link comes.
         ensures asked { listener_asked self.old ≡ true → listener_asked self.new ≡ true }
         ensures ends { IfLink result (λ from to addr port. listener_asked self.new ≡ false) }
         // A call fails where it is listed, and only there; each failure is counted.
         ensures fails { has_failed result ≡ listener_fails_next self.old }
-        ensures counts { listener_faults self.new ≡ counted (listener_fails_next self.old) (listener_faults self.old) }
+        ensures counts { listener_faults self.new
+            ≡ counted (listener_fails_next self.old) (listener_faults self.old) }
         ensures calls { listener_calls self.new ≡ next_call (listener_calls self.old) }
         ensures list { listener_fails self.new ≡ listener_fails self.old }
     {

@@ -121,16 +121,23 @@ impl<'a> Net for MemNet<'a> {
         ensures fresh { IfOk result (λ p. listener_faults p.listener ≡ 0) }
         ensures cause { HasCause (net_faults self.old) (net_faults self.new) result }
         // It hands out its parts, and keeps the port.
-        ensures listener { IfOk result (λ p. IfSome (net_unopened self.old) (λ q. p.listener ≡ parts_listener q)) }
-        ensures dialer { IfOk result (λ p. IfSome (net_unopened self.old) (λ q. p.dialer ≡ parts_dialer q)) }
-        ensures spawner { IfOk result (λ p. IfSome (net_unopened self.old) (λ q. p.spawner ≡ parts_spawner q)) }
-        ensures clock { IfOk result (λ p. IfSome (net_unopened self.old) (λ q. p.clock ≡ parts_clock q)) }
-        ensures resolver { IfOk result (λ p. IfSome (net_unopened self.old) (λ q. p.resolver ≡ parts_resolver q)) }
-        ensures opened { IfOk result (λ _. (net_unopened self.new ≡ None) × (net_port self.new ≡ Some port)) }
+        ensures listener { IfOk result
+            (λ p. IfSome (net_unopened self.old) (λ q. p.listener ≡ parts_listener q)) }
+        ensures dialer { IfOk result
+            (λ p. IfSome (net_unopened self.old) (λ q. p.dialer ≡ parts_dialer q)) }
+        ensures spawner { IfOk result
+            (λ p. IfSome (net_unopened self.old) (λ q. p.spawner ≡ parts_spawner q)) }
+        ensures clock { IfOk result
+            (λ p. IfSome (net_unopened self.old) (λ q. p.clock ≡ parts_clock q)) }
+        ensures resolver { IfOk result
+            (λ p. IfSome (net_unopened self.old) (λ q. p.resolver ≡ parts_resolver q)) }
+        ensures opened { IfOk result
+            (λ _. (net_unopened self.new ≡ None) × (net_port self.new ≡ Some port)) }
         ensures kept { OnErr result (net_unopened self.new ≡ net_unopened self.old) }
         // An opening fails where it is listed, or the parts were handed out, and only there; each failure is counted.
         ensures fails { is_err result ≡ net_fails_next self.old }
-        ensures counts { net_faults self.new ≡ counted (net_fails_next self.old) (net_faults self.old) }
+        ensures counts { net_faults self.new
+            ≡ counted (net_fails_next self.old) (net_faults self.old) }
         ensures calls { net_calls self.new ≡ next_call (net_calls self.old) }
         ensures list { net_fails self.new ≡ net_fails self.old }
     {
@@ -163,7 +170,8 @@ impl<'a> Net for MemNet<'a> {
     }
 
     fn give_back(&mut self, listener: MemListener<'a>)
-        ensures cause { TakesBack (net_faults self.old) (net_faults self.new) (listener_faults listener.entry) }
+        ensures cause { TakesBack (net_faults self.old) (net_faults self.new)
+            (listener_faults listener.entry) }
         ensures calls { net_calls self.new ≡ net_calls self.old }
         ensures port { net_port self.new ≡ net_port self.old }
         ensures list { net_fails self.new ≡ net_fails self.old }

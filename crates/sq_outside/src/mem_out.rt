@@ -51,15 +51,22 @@ impl<'a> Sink for MemOut<'a> {
     fn write(&mut self, bytes: &[u8]) -> Result<usize, Failed>
         ensures bound { WritesAtMost result bytes.now }
         ensures some { IfOk result (λ n. 0 < length bytes.now → 0 < n) }
-        ensures bytes { WriteAppends (Some (sink_bytes (out_sink self.old))) (Some (sink_bytes (out_sink self.new))) result bytes.now }
-        ensures cause { HasCause (sink_faults (out_sink self.old)) (sink_faults (out_sink self.new)) result }
+        ensures bytes { WriteAppends (Some (sink_bytes (out_sink self.old)))
+            (Some (sink_bytes (out_sink self.new))) result bytes.now }
+        ensures cause { HasCause (sink_faults (out_sink self.old)) (sink_faults (out_sink self.new))
+            result }
         // It takes as many bytes as its sink, and fails where that fails, and only there.
         ensures count { IfOk result (λ n. n ≡ sink_takes (out_sink self.old) (length bytes.now)) }
-        ensures room { IfOk result (λ n. sink_room (out_sink self.new) + n ≡ sink_room (out_sink self.old)) }
-        ensures kept { OnErr result (sink_room (out_sink self.new) ≡ sink_room (out_sink self.old)) }
+        ensures room { IfOk result
+            (λ n. sink_room (out_sink self.new) + n ≡ sink_room (out_sink self.old)) }
+        ensures kept { OnErr result
+            (sink_room (out_sink self.new) ≡ sink_room (out_sink self.old)) }
         ensures fails { is_err result ≡ sink_fails_next (out_sink self.old) (length bytes.now) }
-        ensures counts { sink_faults (out_sink self.new) ≡ counted (sink_fails_next (out_sink self.old) (length bytes.now)) (sink_faults (out_sink self.old)) }
-        ensures calls { sink_calls (out_sink self.new) ≡ next_call (sink_calls (out_sink self.old)) }
+        ensures counts { sink_faults (out_sink self.new)
+            ≡ counted (sink_fails_next (out_sink self.old) (length bytes.now))
+            (sink_faults (out_sink self.old)) }
+        ensures calls { sink_calls (out_sink self.new)
+            ≡ next_call (sink_calls (out_sink self.old)) }
         ensures list { sink_fails (out_sink self.new) ≡ sink_fails (out_sink self.old) }
         ensures step { sink_step (out_sink self.new) ≡ sink_step (out_sink self.old) }
         // A write does not close it.
@@ -81,7 +88,8 @@ impl<'a> Out for MemOut<'a> {
     ghost closed = { λ s. Some (out_closed s) };
 
     fn close(&mut self)
-        ensures contents { Some (sink_bytes (out_sink self.new)) ≡ Some (sink_bytes (out_sink self.old)) }
+        ensures contents { Some (sink_bytes (out_sink self.new))
+            ≡ Some (sink_bytes (out_sink self.old)) }
         ensures closed { IsClosed (Some (out_closed self.new)) }
         ensures later { sink_faults (out_sink self.old) ≤ sink_faults (out_sink self.new) }
         // Nothing else changes, and no fault is counted.

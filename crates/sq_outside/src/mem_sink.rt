@@ -75,18 +75,22 @@ impl Sink for MemSink {
     fn write(&mut self, bytes: &[u8]) -> Result<usize, Failed>
         ensures bound { WritesAtMost result bytes.now }
         ensures some { IfOk result (λ n. 0 < length bytes.now → 0 < n) }
-        ensures bytes { WriteAppends (Some (sink_bytes self.old)) (Some (sink_bytes self.new)) result bytes.now }
+        ensures bytes { WriteAppends (Some (sink_bytes self.old)) (Some (sink_bytes self.new))
+            result bytes.now }
         ensures cause { HasCause (sink_faults self.old) (sink_faults self.new) result }
         ensures count { IfOk result (λ n. n ≡ sink_takes self.old (length bytes.now)) }
         ensures room { IfOk result (λ n. sink_room self.new + n ≡ sink_room self.old) }
         ensures kept { OnErr result (sink_room self.new ≡ sink_room self.old) }
         // A call fails where it is listed, or has bytes and no room is left, and only there; each failure is counted.
         ensures fails { is_err result ≡ sink_fails_next self.old (length bytes.now) }
-        ensures counts { sink_faults self.new ≡ counted (sink_fails_next self.old (length bytes.now)) (sink_faults self.old) }
+        ensures counts { sink_faults self.new
+            ≡ counted (sink_fails_next self.old (length bytes.now)) (sink_faults self.old) }
         ensures calls { sink_calls self.new ≡ next_call (sink_calls self.old) }
         // With an empty list a call fails only where it has bytes and no room is left.
-        ensures quiet { sink_fails self.old ≡ [] → 0 < sink_room self.old → sink_faults self.new ≡ sink_faults self.old }
-        ensures quiet_none { sink_fails self.old ≡ [] → length bytes.now ≡ 0 → sink_faults self.new ≡ sink_faults self.old }
+        ensures quiet { sink_fails self.old ≡ [] → 0 < sink_room self.old
+            → sink_faults self.new ≡ sink_faults self.old }
+        ensures quiet_none { sink_fails self.old ≡ [] → length bytes.now ≡ 0
+            → sink_faults self.new ≡ sink_faults self.old }
         ensures list { sink_fails self.new ≡ sink_fails self.old }
         ensures step { sink_step self.new ≡ sink_step self.old }
     {

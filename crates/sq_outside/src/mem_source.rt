@@ -80,16 +80,19 @@ impl Source for MemSource {
 
     fn read(&mut self, into: &mut [u8]) -> Result<usize, Failed>
         ensures bound { ReadsAtMost result into.new }
-        ensures bytes { ReadConsumes (Some (source_left self.old)) (Some (source_left self.new)) result into.new }
+        ensures bytes { ReadConsumes (Some (source_left self.old)) (Some (source_left self.new))
+            result into.new }
         ensures origin { ◌≡◌ {A = Option Origin} None None }
         ensures cause { HasCause (source_faults self.old) (source_faults self.new) result }
         ensures count { IfOk result (λ n. n ≡ source_gives self.old (length into.old)) }
         // A call fails where it is listed, and only there; each failure is counted.
         ensures fails { is_err result ≡ source_fails_next self.old }
-        ensures counts { source_faults self.new ≡ counted (source_fails_next self.old) (source_faults self.old) }
+        ensures counts { source_faults self.new
+            ≡ counted (source_fails_next self.old) (source_faults self.old) }
         ensures calls { source_calls self.new ≡ next_call (source_calls self.old) }
         // With an empty list no call fails.
-        ensures quiet { source_fails self.old ≡ [] → source_faults self.new ≡ source_faults self.old }
+        ensures quiet { source_fails self.old ≡ []
+            → source_faults self.new ≡ source_faults self.old }
         ensures list { source_fails self.new ≡ source_fails self.old }
         ensures step { source_step self.new ≡ source_step self.old }
         // Its whole text stays.

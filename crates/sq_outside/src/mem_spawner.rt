@@ -41,8 +41,11 @@ fn child_place<'a>(children: &[MemChild<'a>], words: &[Text]) -> Option<usize>
 
 /// Takes the first child that these words start out of the list.
 fn take_child<'a>(children: &mut Vec<MemChild<'a>>, words: &[Text]) -> Option<MemChild<'a>>
-    ensures found { is_none result ≡ is_none (position (λ c. same_words c.words.items words.now) children.old.items) }
-    ensures taken { IfSome result (TakesFirst (λ c. same_words c.words.items words.now) children.old.items children.new.items) }
+    ensures found { is_none result
+        ≡ is_none (position (λ c. same_words c.words.items words.now) children.old.items) }
+    ensures taken { IfSome result
+        (TakesFirst (λ c. same_words c.words.items words.now) children.old.items
+        children.new.items) }
     ensures words { IfSome result (λ c. c.words.items ≡ words.now) }
     ensures len { IfSome result (λ _. vec_len children.new + 1 ≡ vec_len children.old) }
     ensures kept { IfNone result (children.new ≡ children.old) }
@@ -98,19 +101,26 @@ impl<'a> Spawner for MemSpawner<'a> {
         _alloc: Global,
         words: &[Text],
     ) -> Result<(MemChildOut<'a>, MemOut<'a>), Failed>
-        ensures made { OnOk result (StartsMore (Some (spawner_started self.old)) (Some (spawner_started self.new)) words.now) }
-        ensures failed { OnErr result (Some (spawner_started self.new) ≡ Some (spawner_started self.old)) }
+        ensures made { OnOk result
+            (StartsMore (Some (spawner_started self.old)) (Some (spawner_started self.new))
+            words.now) }
+        ensures failed { OnErr result
+            (Some (spawner_started self.new) ≡ Some (spawner_started self.old)) }
         ensures empty { IfOk result (λ h. IsEmpty (Some (sink_bytes (out_sink h.1)))) }
         ensures open { IfOk result (λ h. IsOpen (Some (out_closed h.1))) }
-        ensures fresh { IfOk result (λ h. (source_faults (child_source h.0) ≡ 0) × (sink_faults (out_sink h.1) ≡ 0)) }
+        ensures fresh { IfOk result
+            (λ h. (source_faults (child_source h.0) ≡ 0) × (sink_faults (out_sink h.1) ≡ 0)) }
         ensures cause { HasCause (spawner_faults self.old) (spawner_faults self.new) result }
         // The link is the one to the first child that these words start, which then is used up.
-        ensures link { IfOk result (λ h. StartTakes (spawner_children self.old) (spawner_children self.new) words.now h.0 h.1) }
+        ensures link { IfOk result
+            (λ h. StartTakes (spawner_children self.old) (spawner_children self.new) words.now h.0
+            h.1) }
         ensures kept { OnErr result (spawner_children self.new ≡ spawner_children self.old) }
         // A start fails where it is listed, or no child that these words start is left, and only there; each
         // failure is counted.
         ensures fails { is_err result ≡ spawner_fails_next self.old words.now }
-        ensures counts { spawner_faults self.new ≡ counted (spawner_fails_next self.old words.now) (spawner_faults self.old) }
+        ensures counts { spawner_faults self.new
+            ≡ counted (spawner_fails_next self.old words.now) (spawner_faults self.old) }
         ensures calls { spawner_calls self.new ≡ next_call (spawner_calls self.old) }
         ensures list { spawner_fails self.new ≡ spawner_fails self.old }
     {

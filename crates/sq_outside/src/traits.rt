@@ -90,8 +90,10 @@ pub trait Files {
     /// Opens the file of this name, with the count 0. It is `Missing` only where no such file is told, and
     /// a file that was opened is told, with the text that the source has left.
     fn open(&mut self, alloc: Global, name: &Text) -> Result<Self::Src, NoOpen>
-        ensures opened { IfOk result (λ source. GivesText (texts self.old) name.now (Self.Src.left source)) }
-        ensures opened_list { Opens Self.Src.left (opened self.old) (opened self.new) name.now result }
+        ensures opened { IfOk result
+            (λ source. GivesText (texts self.old) name.now (Self.Src.left source)) }
+        ensures opened_list { Opens Self.Src.left (opened self.old) (opened self.new) name.now
+            result }
         ensures fresh { IfOk result (λ source. Self.Src.faults source ≡ 0) }
         ensures missing { IsErrOf result NoOpen.Missing → IsNotTold (texts self.old) name.now }
         ensures texts { texts self.new ≡ texts self.old }

@@ -38,7 +38,8 @@ pub trait Spawner {
         ensures failed { OnErr result (starts self.new ≡ starts self.old) }
         ensures empty { IfOk result (λ h. IsEmpty (Self.ChildIn.Sink.contents h.1)) }
         ensures open { IfOk result (λ h. IsOpen (Self.ChildIn.closed h.1)) }
-        ensures fresh { IfOk result (λ h. (Self.ChildOut.faults h.0 ≡ 0) × (Self.ChildIn.Sink.faults h.1 ≡ 0)) }
+        ensures fresh { IfOk result
+            (λ h. (Self.ChildOut.faults h.0 ≡ 0) × (Self.ChildIn.Sink.faults h.1 ≡ 0)) }
         ensures cause { HasCause (faults self.old) (faults self.new) result };
 
     ghost capped: { (spawner : Self) → faults spawner ≤ count_limit };

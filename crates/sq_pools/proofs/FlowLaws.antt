@@ -16,7 +16,8 @@ flows_on r n m t a b c sum p q =
     let q1 = q.gains in
     let q2 = q.spills in
     let q4 = q.restores in
-    let split : r.restore * t ≡ r.restore * n + r.restore * m = ap (λ (x : ℕ). r.restore * x) (sym sum) ∙ mul-add r.restore n m in
+    let split : r.restore * t ≡ r.restore * n + r.restore * m = ap (λ (x : ℕ). r.restore * x) (sym sum)
+    ∙ mul-add r.restore n m in
     record { gains = omega arith; spills = omega arith; opens = q.opens ∙ p.opens; restores = omega arith }
 
 pub flows_seconds : (r : Limit) (n : ℕ) (a : Tally) → Flows r n a (seconds r n a)
@@ -41,7 +42,8 @@ flows_bound r n a b p =
     omega arith
 
 -- the books stay balanced
-pub flows_balanced : (r : Limit) (n : ℕ) (a b : Tally) → Flows r n a b → a.opened + a.restored ≡ a.level + a.granted + a.spilled → b.opened + b.restored ≡ b.level + b.granted + b.spilled
+pub flows_balanced : (r : Limit) (n : ℕ) (a b : Tally) → Flows r n a b
+    → a.opened + a.restored ≡ a.level + a.granted + a.spilled → b.opened + b.restored ≡ b.level + b.granted + b.spilled
 flows_balanced r n a b p e =
     let p1 = p.gains in
     let p3 = p.opens in

@@ -13,7 +13,7 @@ use Rattle.sq_machine.specs.declared.entries.Event.TheVariants.{Grant}
 use Rattle.sq_machine.specs.declared.entries.Told.{Told}
 use Rattle.sq_machine.specs.declared.entries.Told.TheVariants as told
 use Rattle.sq_machine.specs.BucketLevels.{IsBalanced, Tally, seconds, drawn, opened_at}
-use Rattle.sq_machine.specs.PoolReadings.{Spot, Sat, grant_of, has_spot, in_use, is_grant, is_spot, kept_if, least_level, level_of, made_if, made_of, makes, is_needed, names_spot, opened_if, opens, seat_of, seconds_between, takes_at, tally_of, until, initial_in}
+use Rattle.sq_machine.specs.PoolReadings.{BucketSpot, Sat, grant_of, has_spot, in_use, is_grant, is_spot, kept_if, least_level, level_of, made_if, made_of, makes, is_needed, names_spot, opened_if, opens, seat_of, seconds_between, takes_at, tally_of, until, initial_in}
 use Rattle.sq_pools.proofs.SpotLaws.{spot_same}
 use Rattle.sq_pools.specs.Flows.{AreGrants, Flows, GrantsWithin, Lives}
 use Rattle.sq_pools.proofs.FlowLaws.{flows_balanced, flows_bound, flows_drawn, flows_none, flows_on, flows_seconds}
@@ -31,53 +31,63 @@ behind true b e = e
 behind false b e = absurd cc
 
 -- the level of a bucket at a moment
-abbrev level_then : List Configuration → History → ℕ → ℕ → Spot → ℕ
+abbrev level_then : List Configuration → History → ℕ → ℕ → BucketSpot → ℕ
 level_then configs h e now s = level_of (until configs h e s now (tally_of configs h e s))
 
 -- the least level is none above that of a bucket among these
-least_below : (configs : List Configuration) (h : History) (e now : ℕ) (spots : List Spot) (wanted : ℕ) → least_level configs h e now spots wanted ≤ wanted
+least_below : (configs : List Configuration) (h : History) (e now : ℕ) (spots : List BucketSpot) (wanted : ℕ)
+    → least_level configs h e now spots wanted ≤ wanted
 least_below configs h e now [] wanted = omega arith
 least_below configs h e now (s ∷ spots) wanted =
     let more = least_below configs h e now spots (min wanted (level_then configs h e now s)) in omega arith
 
-least_by : (configs : List Configuration) (h : History) (e now : ℕ) (x : Spot) (spots : List Spot) (wanted : ℕ) (s : Spot) (b : Bool) → is_spot x s ≡ b → (b || has_spot spots s) ≡ true
-    → (has_spot spots s ≡ true → least_level configs h e now spots (min wanted (level_then configs h e now x)) ≤ level_then configs h e now s)
+least_by : (configs : List Configuration) (h : History) (e now : ℕ) (x : BucketSpot) (spots : List BucketSpot)
+    (wanted : ℕ) (s : BucketSpot) (b : Bool) → is_spot x s ≡ b → (b || has_spot spots s) ≡ true
+    → (has_spot spots s ≡ true
+    → least_level configs h e now spots (min wanted (level_then configs h e now x)) ≤ level_then configs h e now s)
     → least_level configs h e now spots (min wanted (level_then configs h e now x)) ≤ level_then configs h e now s
 least_by configs h e now x spots wanted s true t i rest =
-    let same : level_then configs h e now x ≡ level_then configs h e now s = ap (λ (z : Spot). level_then configs h e now z) (spot_same x s t) in
+    let same : level_then configs h e now x ≡ level_then configs h e now s =
+    ap (λ (z : BucketSpot). level_then configs h e now z) (spot_same x s t) in
     let more = least_below configs h e now spots (min wanted (level_then configs h e now x)) in
     omega arith
 least_by configs h e now x spots wanted s false t i rest = rest i
 
-least_fits : (configs : List Configuration) (h : History) (e now : ℕ) (spots : List Spot) (wanted : ℕ) (s : Spot) → has_spot spots s ≡ true
+least_fits : (configs : List Configuration) (h : History) (e now : ℕ) (spots : List BucketSpot) (wanted : ℕ)
+    (s : BucketSpot) → has_spot spots s ≡ true
     → least_level configs h e now spots wanted ≤ level_then configs h e now s
 least_fits configs h e now [] wanted s i = absurd cc
 least_fits configs h e now (x ∷ spots) wanted s i =
-    least_by configs h e now x spots wanted s (is_spot x s) refl i (λ more. least_fits configs h e now spots (min wanted (level_then configs h e now x)) s more)
+    least_by configs h e now x spots wanted s (is_spot x s) refl i
+    (λ more. least_fits configs h e now spots (min wanted (level_then configs h e now x)) s more)
 
 -- a seat that names the bucket
-named : (configs : List Configuration) (h : History) (e now wanted : ℕ) (s : Spot) (o : Option Sat) → names_spot e s o ≡ true
+named : (configs : List Configuration) (h : History) (e now wanted : ℕ) (s : BucketSpot) (o : Option Sat)
+    → names_spot e s o ≡ true
     → grant_of configs h now wanted o ≤ level_then configs h e now s
 named configs h e now wanted s None n = absurd cc
 named configs h e now wanted s (Some sat) n =
     let same : sat.epoch ≡ e = grind (arith, nat_tests) in
     rw same (least_fits configs h e now sat.spots wanted s (behind (sat.epoch == e) _ n))
 
-taken_by : (configs : List Configuration) (h : History) (e now wanted amount : ℕ) (s : Spot) (o : Option Sat) (u b : Bool) → names_spot e s o ≡ b
+taken_by : (configs : List Configuration) (h : History) (e now wanted amount : ℕ) (s : BucketSpot) (o : Option Sat)
+    (u b : Bool) → names_spot e s o ≡ b
     → amount ≡ grant_of configs h now wanted o → (if u && b then amount else 0) ≤ level_then configs h e now s
 taken_by configs h e now wanted amount s o true true n g = rw g (named configs h e now wanted s o n)
 taken_by configs h e now wanted amount s o true false n g = omega arith
 taken_by configs h e now wanted amount s o false b n g = omega arith
 
 -- what an entry takes is there
-takes_level : (configs : List Configuration) (x : Noted) (h : History) (e : ℕ) (s : Spot) (event : Event) (answer : Told) → is_grant configs x h event answer
+takes_level : (configs : List Configuration) (x : Noted) (h : History) (e : ℕ) (s : BucketSpot) (event : Event)
+    (answer : Told) → is_grant configs x h event answer
     → takes_at configs h e s event answer ≤ level_then configs h e x.moment s
 takes_level configs x h e s (Grant n wanted) (told.Granted amount) g =
     taken_by configs h e x.moment wanted amount s (seat_of configs h n) (in_use configs h n) _ refl g.1
 takes_level configs x h e s event answer g = omega arith
 
 -- for one entry more: what flows through a bucket
-pub one_more : (configs : List Configuration) (x : Noted) (h : History) (e : ℕ) (s : Spot) (a b : Tally) → is_grant configs x h x.event x.answer
+pub one_more : (configs : List Configuration) (x : Noted) (h : History) (e : ℕ) (s : BucketSpot) (a b : Tally)
+    → is_grant configs x h x.event x.answer
     → tally_of configs h e s ≡ Some a → tally_of configs (x ∷ h) e s ≡ Some b
     → Flows s.limit (seconds_between (made_of configs h e) (latest h) x.moment) a b
 one_more configs x h e s a b g p q =
@@ -86,7 +96,8 @@ one_more configs x h e s a b g p q =
     let level : w ≤ (seconds s.limit k a).level = rw p at (takes_level configs x h e s x.event x.answer g) in
     let kept = kept_some _ _ b (rw p at q) in
     let is : drawn w (seconds s.limit k a) ≡ b = some_same _ _ kept.1 in
-    rw (← is) (flows_on s.limit k 0 k a (seconds s.limit k a) _ (omega arith) (flows_seconds s.limit k a) (flows_drawn s.limit w (seconds s.limit k a) level))
+    rw (← is) (flows_on s.limit k 0 k a (seconds s.limit k a) _ (omega arith) (flows_seconds s.limit k a)
+    (flows_drawn s.limit w (seconds s.limit k a) level))
 
 -- places far apart
 
@@ -97,13 +108,15 @@ some_of (Some a) e = (a, refl)
 there_is : {A : Type 0} (o : Option A) (a : A) → o ≡ Some a → is_some o ≡ true
 there_is o a e = rw e refl
 
-lives_top : (configs : List Configuration) (later : List Noted) (h : History) (e : ℕ) (s : Spot) → Lives configs later h e s
+lives_top : (configs : List Configuration) (later : List Noted) (h : History) (e : ℕ) (s : BucketSpot)
+    → Lives configs later h e s
     → is_some (tally_of configs (later ++ h) e s) ≡ true
 lives_top configs [] h e s l = l
 lives_top configs (x ∷ later) h e s l = l.1
 
 -- an open bucket has a generation
-made_some : (configs : List Configuration) (h : History) (e : ℕ) (s : Spot) (a : Tally) → tally_of configs h e s ≡ Some a → is_some (made_of configs h e) ≡ true
+made_some : (configs : List Configuration) (h : History) (e : ℕ) (s : BucketSpot) (a : Tally)
+    → tally_of configs h e s ≡ Some a → is_some (made_of configs h e) ≡ true
 made_some configs [] e s a p = absurd cc
 made_some configs (x ∷ h) e s a p = (kept_some _ _ a p).0
 
@@ -112,14 +125,17 @@ made_kept : (b c : Bool) (moment made now : ℕ) → kept_if b (made_if c moment
 made_kept true c moment made now e = cc
 made_kept false c moment made now e = absurd cc
 
-made_stays : (configs : List Configuration) (x : Noted) (h : History) (e made now : ℕ) → made_of configs h e ≡ Some made → made_of configs (x ∷ h) e ≡ Some now → now ≡ made
-made_stays configs x h e made now p q = made_kept (is_needed configs (x ∷ h) e) (makes configs h e x.event x.answer) x.moment made now (rw p at q)
+made_stays : (configs : List Configuration) (x : Noted) (h : History) (e made now : ℕ) → made_of configs h e ≡ Some made
+    → made_of configs (x ∷ h) e ≡ Some now → now ≡ made
+made_stays configs x h e made now p q = made_kept (is_needed configs (x ∷ h) e) (makes configs h e x.event x.answer)
+    x.moment made now (rw p at q)
 
-seconds_split : (made a b c : ℕ) → a ≤ b → b ≤ c → seconds_between (Some made) a b + seconds_between (Some made) b c ≡ seconds_between (Some made) a c
+seconds_split : (made a b c : ℕ) → a ≤ b → b ≤ c
+    → seconds_between (Some made) a b + seconds_between (Some made) b c ≡ seconds_between (Some made) a c
 seconds_split made a b c p q = omega arith
 
 -- what holds between two places
-record Between (configs : List Configuration) (h g : History) (e : ℕ) (s : Spot) (a b : Tally) : Type 0 where
+record Between (configs : List Configuration) (h g : History) (e : ℕ) (s : BucketSpot) (a b : Tally) : Type 0 where
   made : ℕ
   first : made_of configs h e ≡ Some made
   last : made_of configs g e ≡ Some made
@@ -127,19 +143,29 @@ record Between (configs : List Configuration) (h g : History) (e : ℕ) (s : Spo
   flows : Flows s.limit (seconds_between (Some made) (latest h) (latest g)) a b
 
 flows_same : (r : Limit) (made m : ℕ) (a b : Tally) → a ≡ b → Flows r (seconds_between (Some made) m m) a b
-flows_same r made m a b e = let none : seconds_between (Some made) m m ≡ 0 = omega arith in rw (none, ← e) (flows_none r a)
+flows_same r made m a b e = let none : seconds_between (Some made) m m ≡ 0 = omega arith in
+    rw (none, ← e) (flows_none r a)
 
-between : (configs : List Configuration) (later : List Noted) (h : History) (e : ℕ) (s : Spot) (a b : Tally) → AreGrants configs (later ++ h) → Lives configs later h e s
-    → tally_of configs h e s ≡ Some a → tally_of configs (later ++ h) e s ≡ Some b → Between configs h (later ++ h) e s a b
+between : (configs : List Configuration) (later : List Noted) (h : History) (e : ℕ) (s : BucketSpot) (a b : Tally)
+    → AreGrants configs (later ++ h) → Lives configs later h e s
+    → tally_of configs h e s ≡ Some a → tally_of configs (later ++ h) e s ≡ Some b
+    → Between configs h (later ++ h) e s a b
 between configs [] h e s a b g l p q =
     let m = some_of (made_of configs h e) (made_some configs h e s a p) in
-    record { made = m.0; first = m.1; last = m.1; order = omega arith; flows = flows_same s.limit m.0 (latest h) a b (some_same a b (sym p ∙ q)) }
+    record {
+      made = m.0;
+      first = m.1;
+      last = m.1;
+      order = omega arith;
+      flows = flows_same s.limit m.0 (latest h) a b (some_same a b (sym p ∙ q));
+    }
 between configs (x ∷ later) h e s a b g l p q =
     let c = some_of (tally_of configs (later ++ h) e s) (lives_top configs later h e s l.0) in
     let k = between configs later h e s a c.0 g.0 l.0 p c.1 in
     let n = some_of (made_of configs (x ∷ later ++ h) e) (made_some configs (x ∷ later ++ h) e s b q) in
     let same = made_stays configs x (later ++ h) e k.made n.0 k.last n.1 in
-    let step : Flows s.limit (seconds_between (Some k.made) (latest (later ++ h)) x.moment) c.0 b = rw k.last at (one_more configs x (later ++ h) e s c.0 b g.2 c.1 q) in
+    let step : Flows s.limit (seconds_between (Some k.made) (latest (later ++ h)) x.moment) c.0 b = rw k.last
+    at (one_more configs x (later ++ h) e s c.0 b g.2 c.1 q) in
     let order : latest h ≤ latest (later ++ h) = k.order in
     let more : latest (later ++ h) ≤ x.moment = g.1 in
     record {
@@ -147,44 +173,57 @@ between configs (x ∷ later) h e s a b g l p q =
       first = k.first;
       last = rw same at n.1;
       order = omega arith;
-      flows = flows_on s.limit _ _ _ a c.0 b (seconds_split k.made (latest h) (latest (later ++ h)) x.moment order more) k.flows step;
+      flows = flows_on s.limit _ _ _ a c.0 b (seconds_split k.made (latest h) (latest (later ++ h)) x.moment order more)
+          k.flows step;
     }
 
 -- for every history: between two places from the one to the other of which a bucket lives, it grants at most its level and what was restored
-pub grants_within_levels : (configs : List Configuration) (later : List Noted) (h : History) (e : ℕ) (s : Spot) → AreGrants configs (later ++ h) → Lives configs later h e s
+pub grants_within_levels : (configs : List Configuration) (later : List Noted) (h : History) (e : ℕ) (s : BucketSpot)
+    → AreGrants configs (later ++ h) → Lives configs later h e s
     → GrantsWithin configs later h e s
 grants_within_levels configs later h e s g l a b p q =
     let k = between configs later h e s a b g l p q in
     rw k.first (flows_bound s.limit _ a b k.flows)
 
-balanced_if : (b : Bool) (new t : Tally) (o : Option Tally) → IsBalanced new → ((a : Tally) → o ≡ Some a → IsBalanced a) → opened_if b new o ≡ Some t → IsBalanced t
+balanced_if : (b : Bool) (new t : Tally) (o : Option Tally) → IsBalanced new → ((a : Tally) → o ≡ Some a → IsBalanced a)
+    → opened_if b new o ≡ Some t → IsBalanced t
 balanced_if true new t None n k e = rw (← some_same new t e) n
 balanced_if false new t None n k e = absurd cc
 balanced_if b new t (Some a) n k e = rw (← some_same a t e) (k a refl)
 
-drawn_of : (w : ℕ) (o : Option Tally) (b : Tally) → option_map (drawn w) o ≡ Some b → (t : Tally) × (o ≡ Some t) × (drawn w t ≡ b)
+drawn_of : (w : ℕ) (o : Option Tally) (b : Tally) → option_map (drawn w) o ≡ Some b
+    → (t : Tally) × (o ≡ Some t) × (drawn w t ≡ b)
 drawn_of w None b e = absurd cc
 drawn_of w (Some t) b e = (t, refl, some_same _ _ e)
 
-until_balanced : (r : Limit) (k : ℕ) (o : Option Tally) (t : Tally) → ((a : Tally) → o ≡ Some a → IsBalanced a) → option_map (seconds r k) o ≡ Some t → IsBalanced t
+until_balanced : (r : Limit) (k : ℕ) (o : Option Tally) (t : Tally) → ((a : Tally) → o ≡ Some a → IsBalanced a)
+    → option_map (seconds r k) o ≡ Some t → IsBalanced t
 until_balanced r k None t p e = absurd cc
-until_balanced r k (Some a) t p e = rw (← some_same _ _ e) (flows_balanced r k a (seconds r k a) (flows_seconds r k a) (p a refl))
+until_balanced r k (Some a) t p e = rw (← some_same _ _ e)
+    (flows_balanced r k a (seconds r k a) (flows_seconds r k a) (p a refl))
 
 -- so much is there, if anything is
-within_if : (b : Bool) (new t : Tally) (o : Option Tally) (w : ℕ) → w ≤ level_of o → opened_if b new o ≡ Some t → w ≤ t.level
+within_if : (b : Bool) (new t : Tally) (o : Option Tally) (w : ℕ) → w ≤ level_of o → opened_if b new o ≡ Some t
+    → w ≤ t.level
 within_if true new t None w h e = omega arith
 within_if false new t None w h e = absurd cc
 within_if b new t (Some a) w h e = rw (← some_same a t e) h
 
 -- for every history: the books of each bucket balance
-pub books_balance : (configs : List Configuration) (h : History) (e : ℕ) (s : Spot) (b : Tally) → AreGrants configs h → tally_of configs h e s ≡ Some b → IsBalanced b
+pub books_balance : (configs : List Configuration) (h : History) (e : ℕ) (s : BucketSpot) (b : Tally)
+    → AreGrants configs h → tally_of configs h e s ≡ Some b → IsBalanced b
 books_balance configs [] e s b g q = absurd cc
 books_balance configs (x ∷ h) e s b g q =
     let w = takes_at configs h e s x.event x.answer in
     let new = opened_at (initial_in (config_of configs e)) s.limit in
     let kept = kept_some _ _ b q in
-    let d = drawn_of w (opened_if (opens configs x h e s) new (until configs h e s x.moment (tally_of configs h e s))) b kept.1 in
-    let level : w ≤ (d.0).level = within_if (opens configs x h e s) new d.0 (until configs h e s x.moment (tally_of configs h e s)) w (takes_level configs x h e s x.event x.answer g.2) d.1 in
+    let d = drawn_of w (opened_if (opens configs x h e s) new (until configs h e s x.moment (tally_of configs h e s))) b
+    kept.1 in
+    let level : w ≤ (d.0).level =
+    within_if (opens configs x h e s) new d.0 (until configs h e s x.moment (tally_of configs h e s)) w
+    (takes_level configs x h e s x.event x.answer g.2) d.1 in
     let fresh : IsBalanced new = omega arith in
-    let before : IsBalanced d.0 = balanced_if (opens configs x h e s) new d.0 _ fresh (λ a p. until_balanced s.limit _ (tally_of configs h e s) a (λ c q. books_balance configs h e s c g.0 q) p) d.1 in
+    let before : IsBalanced d.0 =
+    balanced_if (opens configs x h e s) new d.0 _ fresh
+    (λ a p. until_balanced s.limit _ (tally_of configs h e s) a (λ c q. books_balance configs h e s c g.0 q) p) d.1 in
     rw (← d.2) (flows_balanced s.limit 0 d.0 (drawn w d.0) (flows_drawn s.limit w d.0 level) before)

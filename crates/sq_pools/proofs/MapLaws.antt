@@ -6,8 +6,8 @@ use Rattle.std.specs.Ordering.{nat_cmp, is_eq}
 use Rattle.std.specs.declared.cmp.Ordering.{Ordering}
 use Rattle.std.specs.declared.cmp.Ordering.TheVariants.{Less, Equal, Greater}
 use Rattle.std.proofs.lemmas.Bool.Decides.{nat_tests}
-use Rattle.sq_machine.specs.PoolReadings.{Spot, is_spot}
-use Rattle.sq_pools.specs.contracts.spots.SpotOrd as ord
+use Rattle.sq_machine.specs.PoolReadings.{BucketSpot, is_spot}
+use Rattle.sq_pools.specs.contracts.spots.BucketSpotOrd as ord
 
 -- the order of keys tells them apart as the test does
 pub record IsKey (K : Type 0) (cmp : K → K → Ordering) (same : K → K → Bool) : Type 0 where
@@ -20,17 +20,24 @@ pub number_key : IsKey ℕ nat_cmp (λ a b. a == b)
 number_key = record { agrees = λ a b. grind arith; itself = λ a. grind arith; turned = λ a b. grind (arith, nat_tests) }
 
 -- for maps by the names of buckets
-pub spot_key : IsKey Spot ord.TheImpl.cmp-value.it is_spot
-spot_key = record { agrees = λ a b. grind (arith, nat_tests); itself = λ a. grind (arith, nat_tests); turned = λ a b. grind (arith, nat_tests) }
+pub spot_key : IsKey BucketSpot ord.TheImpl.cmp-value.it is_spot
+spot_key = record {
+  agrees = λ a b. grind (arith, nat_tests);
+  itself = λ a. grind (arith, nat_tests);
+  turned = λ a b. grind (arith, nat_tests);
+}
 
 -- for a look-up: the map's, with the plain test
-pub found : {K X : Type 0} (cmp : K → K → Ordering) (same : K → K → Bool) (key : IsKey K cmp same) (k : K) (es : List (K × X))
+pub found : {K X : Type 0} (cmp : K → K → Ordering) (same : K → K → Bool) (key : IsKey K cmp same) (k : K)
+    (es : List (K × X))
     → lookup (λ m. same k m) es ≡ lookup (is_at (cmp k)) es
 found cmp same key k [] = refl
-found cmp same key k (e ∷ es) = rw (key.agrees k e.0) (ap (λ o. cond (same k e.0) (Some e.1) o) (found cmp same key k es))
+found cmp same key k (e ∷ es) = rw (key.agrees k e.0)
+    (ap (λ o. cond (same k e.0) (Some e.1) o) (found cmp same key k es))
 
 -- for a map after one key changed
-pub after : {K X : Type 0} (cmp : K → K → Ordering) (same : K → K → Bool) (key : IsKey K cmp same) (n k : K) (w : Option X) (es fs : List (K × X))
+pub after : {K X : Type 0} (cmp : K → K → Ordering) (same : K → K → Bool) (key : IsKey K cmp same) (n k : K)
+    (w : Option X) (es fs : List (K × X))
     → lookup (is_at (cmp n)) fs ≡ cond (is_at (cmp k) n) w (lookup (is_at (cmp n)) es)
     → lookup (λ m. same n m) fs ≡ cond (same n k) w (lookup (λ m. same n m) es)
 after cmp same key n k w es fs h =
@@ -38,21 +45,25 @@ after cmp same key n k w es fs h =
     ∙ ap (λ o. cond (same n k) w o) (sym (found cmp same key n es))
 
 -- for a removal, with the plain test
-pub removed : {K X : Type 0} (cmp : K → K → Ordering) (same : K → K → Bool) (key : IsKey K cmp same) (k : K) (es : List (K × X))
+pub removed : {K X : Type 0} (cmp : K → K → Ordering) (same : K → K → Bool) (key : IsKey K cmp same) (k : K)
+    (es : List (K × X))
     → remove_entry (is_at (cmp k)) es ≡ remove_entry (λ m. same k m) es
 removed cmp same key k [] = refl
-removed cmp same key k (e ∷ es) = rw (key.agrees k e.0) (ap (λ l. cond (same k e.0) es (e ∷ l)) (removed cmp same key k es))
+removed cmp same key k (e ∷ es) = rw (key.agrees k e.0)
+    (ap (λ l. cond (same k e.0) es (e ∷ l)) (removed cmp same key k es))
 
 -- for an insertion that is undone
-pub put_undone : {K X : Type 0} (cmp : K → K → Ordering) (same : K → K → Bool) (key : IsKey K cmp same) (k : K) (v : X) (es : List (K × X))
+pub put_undone : {K X : Type 0} (cmp : K → K → Ordering) (same : K → K → Bool) (key : IsKey K cmp same) (k : K) (v : X)
+    (es : List (K × X))
     → lookup (λ m. same k m) es ≡ None → remove_entry (λ m. same k m) (insert_entry cmp es k v) ≡ es
 put_undone cmp same key k v [] h = rw (key.itself k) refl
-put_undone cmp same key k v (e ∷ es) h = (elim (cmp k e.0) as (λ y. cmp k e.0 ≡ y → remove_entry (λ m. same k m) (insert_entry cmp (e ∷ es) k v) ≡ e ∷ es) [
-  | Less ↦ λ t. rw (t, key.itself k) refl
-  | Equal ↦ λ t. let hit : same k e.0 ≡ true = sym (key.agrees k e.0) ∙ ap is_eq t in let h' = rw hit at h in cc
-  | Greater ↦ λ t. let miss : same k e.0 ≡ false = sym (key.agrees k e.0) ∙ ap is_eq t in
-      rw (t, miss) (ap (λ l. e ∷ l) (put_undone cmp same key k v es (rw miss at h)))
-]) refl
+put_undone cmp same key k v (e ∷ es) h = (elim (cmp k e.0) as
+    (λ y. cmp k e.0 ≡ y → remove_entry (λ m. same k m) (insert_entry cmp (e ∷ es) k v) ≡ e ∷ es) [
+      | Less ↦ λ t. rw (t, key.itself k) refl
+      | Equal ↦ λ t. let hit : same k e.0 ≡ true = sym (key.agrees k e.0) ∙ ap is_eq t in let h' = rw hit at h in cc
+      | Greater ↦ λ t. let miss : same k e.0 ≡ false = sym (key.agrees k e.0) ∙ ap is_eq t in
+          rw (t, miss) (ap (λ l. e ∷ l) (put_undone cmp same key k v es (rw miss at h)))
+    ]) refl
 
 -- for a number that is the key or not
 pub by_key : (e k : ℕ) (P : ℕ → Bool → Type 0) → P k true → ((e == k) ≡ false → P e false) → P e (e == k)

@@ -8,7 +8,7 @@ use Rattle.sq_base.specs.Addresses.{Address}
 use Rattle.sq_machine.specs.BucketLevels.{Filled, Tally, filled_to}
 use Rattle.sq_rules.specs.Configurations.{Configuration}
 use Rattle.sq_machine.specs.Limits.{last_number}
-use Rattle.sq_machine.specs.PoolReadings.{Sat, Spot, has_spot, is_aggregate, kept_if, made_if, names_spot, spots_in}
+use Rattle.sq_machine.specs.PoolReadings.{Sat, BucketSpot, has_spot, is_aggregate, kept_if, made_if, names_spot, spots_in}
 use Rattle.sq_rules.specs.Verdicts.{is_passed_over}
 use Rattle.sq_pools.specs.Generations.{buckets_at, filled_at, held_at, made_at, second_at}
 use Rattle.sq_pools.specs.Grants.{are_own, filled_if, granted_if, least_at, opened_in}
@@ -34,7 +34,7 @@ abbrev pub made_in : Basin → ℕ → Option ℕ
 made_in p e = made_at p.generations e
 
 -- the bucket of a name in the generation of an epoch, as it was last reckoned
-abbrev pub bucket_in : Basin → ℕ → Spot → Option Filled
+abbrev pub bucket_in : Basin → ℕ → BucketSpot → Option Filled
 bucket_in p e s = filled_at p.generations e s
 
 -- the seat of a number, if it is in use
@@ -54,18 +54,20 @@ abbrev pub stays : Basin → ℕ → Bool
 stays p e = e == p.newest || is_held p e
 
 -- the numbers of a bucket at a moment
-abbrev pub tally_then : Basin → ℕ → ℕ → Spot → Option Tally
+abbrev pub tally_then : Basin → ℕ → ℕ → BucketSpot → Option Tally
 tally_then p now e s = option_map (λ f. (filled_to (second_in p e now) f).tally) (bucket_in p e s)
 
 -- what a seat is granted at a moment; a seat that is not in use is granted nothing
 abbrev pub grant_in : Basin → ℕ → ℕ → Option Sat → ℕ
 grant_in p now wanted None = 0
-grant_in p now wanted (Some sat) = least_at (second_in p sat.epoch now) (buckets_at p.generations sat.epoch) sat.spots wanted
+grant_in p now wanted (Some sat) = least_at (second_in p sat.epoch now)
+    (buckets_at p.generations sat.epoch) sat.spots wanted
 
 -- the seat is not in use, or a bucket of it is at level 0 at this moment
 abbrev pub is_dry : Basin → ℕ → Option Sat → Bool
 is_dry p now None = true
-is_dry p now (Some sat) = list_any (λ s. option_map_or (λ t. t.level == 0) (tally_then p now sat.epoch s) false) sat.spots
+is_dry p now (Some sat) = list_any
+    (λ s. option_map_or (λ t. t.level == 0) (tally_then p now sat.epoch s) false) sat.spots
 
 -- the seat that a client gets in a pool of this configuration
 abbrev pub sat_in : ℕ → Configuration → ℕ → Address → Sat
@@ -74,18 +76,23 @@ sat_in epoch c pool a = record { epoch = epoch; pool = pool; spots = spots_in (S
 -- pools with the one generation of this epoch and no seat
 pub record HasBegun (p : Basin) (epoch : ℕ) (c : Configuration) (now : ℕ) : Type 0 where
   pub made : (e : ℕ) → made_in p e ≡ made_if (e == epoch) now None
-  pub buckets : (e : ℕ) (s : Spot) → bucket_in p e s ≡ filled_if (e == epoch && is_aggregate (Some c) s) (opened_in c.initial 0 s) None
+  pub buckets : (e : ℕ) (s : BucketSpot)
+      → bucket_in p e s ≡ filled_if (e == epoch && is_aggregate (Some c) s)
+      (opened_in c.initial 0 s) None
   pub seats : p.seats ≡ []
   pub given : p.given ≡ 0
   pub newest : p.newest ≡ epoch
   pub latest : p.latest ≡ now
   pub granted : p.granted ≡ 0
 
--- after a generation was made: it is there, with its aggregate buckets; what is not needed any more has gone
+-- after a generation was made: it is there, with its aggregate buckets; what is not needed any more
+-- has gone
 pub record IsRenewed (old new : Basin) (epoch : ℕ) (c : Configuration) (now : ℕ) : Type 0 where
-  pub made : (e : ℕ) → made_in new e ≡ kept_if (stays new e) (made_if (e == epoch) now (made_in old e))
-  pub buckets : (e : ℕ) (s : Spot) → bucket_in new e s
-      ≡ kept_if (stays new e) (filled_if (e == epoch && is_aggregate (Some c) s) (opened_in c.initial 0 s) (bucket_in old e s))
+  pub made : (e : ℕ) → made_in new e
+      ≡ kept_if (stays new e) (made_if (e == epoch) now (made_in old e))
+  pub buckets : (e : ℕ) (s : BucketSpot) → bucket_in new e s
+      ≡ kept_if (stays new e) (filled_if (e == epoch && is_aggregate (Some c) s)
+      (opened_in c.initial 0 s) (bucket_in old e s))
   pub seats : new.seats ≡ old.seats
   pub given : new.given ≡ old.given
   pub newest : new.newest ≡ epoch
@@ -93,12 +100,17 @@ pub record IsRenewed (old new : Basin) (epoch : ℕ) (c : Configuration) (now : 
   pub granted : new.granted ≡ old.granted
 
 -- after a seat was given: its generation is there, and so is each bucket that it names
-pub record IsChosen (old new : Basin) (epoch : ℕ) (c : Configuration) (pool : ℕ) (a : Address) (now : ℕ) : Type 0 where
-  pub made : (e : ℕ) → made_in new e ≡ kept_if (stays new e) (made_if (e == epoch) now (made_in old e))
-  pub buckets : (e : ℕ) (s : Spot) → bucket_in new e s
-      ≡ kept_if (stays new e) (filled_if (e == epoch && (has_spot (spots_in (Some c) pool a) s || (is_none (made_in old e) && is_aggregate (Some c) s)))
+pub record IsChosen (old new : Basin) (epoch : ℕ) (c : Configuration) (pool : ℕ) (a : Address)
+    (now : ℕ) : Type 0 where
+  pub made : (e : ℕ) → made_in new e
+      ≡ kept_if (stays new e) (made_if (e == epoch) now (made_in old e))
+  pub buckets : (e : ℕ) (s : BucketSpot) → bucket_in new e s
+      ≡ kept_if (stays new e) (filled_if
+      (e == epoch && (has_spot (spots_in (Some c) pool a) s
+      || (is_none (made_in old e) && is_aggregate (Some c) s)))
       (opened_in c.initial (second_in new e now) s) (bucket_in old e s))
-  pub seats : (n : ℕ) → seat_in new n ≡ (if n == suc old.given then Some (sat_in epoch c pool a) else seat_in old n)
+  pub seats : (n : ℕ) → seat_in new n
+      ≡ (if n == suc old.given then Some (sat_in epoch c pool a) else seat_in old n)
   pub given : new.given ≡ suc old.given
   pub newest : new.newest ≡ max old.newest epoch
   pub latest : new.latest ≡ now
@@ -107,7 +119,9 @@ pub record IsChosen (old new : Basin) (epoch : ℕ) (c : Configuration) (pool : 
 -- after a grant of so much: each bucket of the seat has granted it, and nothing else has changed
 pub record IsGranted (old new : Basin) (now amount : ℕ) (sat : Option Sat) : Type 0 where
   pub made : (e : ℕ) → made_in new e ≡ made_in old e
-  pub buckets : (e : ℕ) (s : Spot) → bucket_in new e s ≡ option_map (granted_if (names_spot e s sat) (second_in old e now) amount) (bucket_in old e s)
+  pub buckets : (e : ℕ) (s : BucketSpot)
+      → bucket_in new e s ≡ option_map
+      (granted_if (names_spot e s sat) (second_in old e now) amount) (bucket_in old e s)
   pub seats : new.seats ≡ old.seats
   pub given : new.given ≡ old.given
   pub newest : new.newest ≡ old.newest
@@ -117,7 +131,8 @@ pub record IsGranted (old new : Basin) (now amount : ℕ) (sat : Option Sat) : T
 -- after a seat was given up: its generation goes where it is not the newest and has no other seat
 pub record HasLeft (old new : Basin) (n : ℕ) : Type 0 where
   pub made : (e : ℕ) → made_in new e ≡ kept_if (stays new e) (made_in old e)
-  pub buckets : (e : ℕ) (s : Spot) → bucket_in new e s ≡ kept_if (stays new e) (bucket_in old e s)
+  pub buckets : (e : ℕ) (s : BucketSpot)
+      → bucket_in new e s ≡ kept_if (stays new e) (bucket_in old e s)
   pub seats : (k : ℕ) → seat_in new k ≡ (if k == n then None else seat_in old k)
   pub given : new.given ≡ old.given
   pub newest : new.newest ≡ old.newest
@@ -125,7 +140,7 @@ pub record HasLeft (old new : Basin) (n : ℕ) : Type 0 where
   pub granted : new.granted ≡ old.granted
 
 -- the i-th bucket of a seat in use
-abbrev pub spot_at : Option Sat → ℕ → Option Spot
+abbrev pub spot_at : Option Sat → ℕ → Option BucketSpot
 spot_at None i = None
 spot_at (Some sat) i = slice_get sat.spots i
 
@@ -133,7 +148,7 @@ abbrev pub epoch_in : Option Sat → ℕ
 epoch_in None = 0
 epoch_in (Some sat) = sat.epoch
 
-abbrev pub tally_at : Basin → ℕ → Option Spot → Option Tally
+abbrev pub tally_at : Basin → ℕ → Option BucketSpot → Option Tally
 tally_at p e None = None
 tally_at p e (Some s) = tally_then p p.latest e s
 
@@ -141,16 +156,18 @@ tally_at p e (Some s) = tally_then p p.latest e s
 abbrev pub has_pool : Configuration → ℕ → Address → Bool
 has_pool c pool a = option_map_or (λ p. not (is_passed_over a p)) (slice_get c.pools pool) false
 
--- what holds of pools: seats in use have numbers that were given, each is counted by its generation and
--- names its buckets once, and these are open; a generation is the newest or has a seat in use; no bucket is
--- reckoned past the greatest moment
+-- what holds of pools: seats in use have numbers that were given, each is counted by its generation
+-- and names its buckets once, and these are open; a generation is the newest or has a seat in use;
+-- no bucket is reckoned past the greatest moment
 pub record IsBasin (p : Basin) : Type 0 where
   pub numbers : (n : ℕ) → is_some (seat_in p n) ≡ true → (0 < n) × (n ≤ p.given)
   pub counted : (e : ℕ) → held_at p.generations e ≡ seats_of p.seats e p.given
   pub lives : (e : ℕ) → is_some (made_in p e) ≡ true → stays p e ≡ true
-  pub opened : (n : ℕ) (sat : Sat) (s : Spot) → seat_in p n ≡ Some sat → has_spot sat.spots s ≡ true → is_some (bucket_in p sat.epoch s) ≡ true
+  pub opened : (n : ℕ) (sat : Sat) (s : BucketSpot) → seat_in p n ≡ Some sat
+      → has_spot sat.spots s ≡ true → is_some (bucket_in p sat.epoch s) ≡ true
   pub own : (n : ℕ) (sat : Sat) → seat_in p n ≡ Some sat → are_own sat.spots ≡ true
-  pub limits : (e : ℕ) (s : Spot) (f : Filled) → bucket_in p e s ≡ Some f → f.limit ≡ s.limit
-  pub reckoned : (e : ℕ) (s : Spot) (f : Filled) → bucket_in p e s ≡ Some f → f.second ≤ second_in p e p.latest
+  pub limits : (e : ℕ) (s : BucketSpot) (f : Filled) → bucket_in p e s ≡ Some f → f.limit ≡ s.limit
+  pub reckoned : (e : ℕ) (s : BucketSpot) (f : Filled) → bucket_in p e s ≡ Some f
+      → f.second ≤ second_in p e p.latest
   pub spare : suc p.given ≤ last_number
   pub few : p.granted ≤ granted_limit

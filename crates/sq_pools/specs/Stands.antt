@@ -2,7 +2,7 @@
 use Rattle.std.specs.Prelude.{◌≡◌, ℕ, ◌≤◌, List, Bool, true, false, min}
 use Rattle.sq_rules.specs.Configurations.{Configuration}
 use Rattle.sq_machine.specs.Entries.{History, Noted}
-use Rattle.sq_machine.specs.PoolReadings.{Spot, granted_of, in_use, kept_if, made_of, seat_count, seat_of, tally_of}
+use Rattle.sq_machine.specs.PoolReadings.{BucketSpot, granted_of, in_use, kept_if, made_of, seat_count, seat_of, tally_of}
 use Rattle.sq_machine.specs.Readings.{current, latest}
 use Rattle.sq_machine.specs.declared.entries.Event.{Event}
 use Rattle.sq_machine.specs.declared.entries.Event.TheVariants.{Begin, Reconfigure, Seat, Grant, Leave}
@@ -13,7 +13,7 @@ use Rattle.sq_pools.specs.Basins.{Basin, granted_limit, made_in, seat_in, tally_
 -- the pools stand for a history, whose moments may be later than theirs
 pub record PoolsStand (p : Basin) (configs : List Configuration) (h : History) : Type 0 where
   pub made_is : (e : ℕ) → made_in p e ≡ made_of configs h e
-  pub buckets_are : (e : ℕ) (s : Spot) → tally_then p (latest h) e s ≡ tally_of configs h e s
+  pub buckets_are : (e : ℕ) (s : BucketSpot) → tally_then p (latest h) e s ≡ tally_of configs h e s
   pub seats_are : (n : ℕ) → seat_in p n ≡ kept_if (in_use configs h n) (seat_of configs h n)
   pub given_is : p.given ≡ seat_count configs h
   pub newest_is : p.newest ≡ current h

@@ -23,11 +23,30 @@ impl Model for Bucket {
 
     ghost Value = { Tally };
 
-    ghost view = { λ b. record { level = b.level; opened = b.opened; restored = b.restored; spilled = b.spilled; granted = b.granted } };
+    ghost view = { λ b. record {
+      level = b.level;
+      opened = b.opened;
+      restored = b.restored;
+      spilled = b.spilled;
+      granted = b.granted;
+    } };
 
-    ghost invariant = { λ b. IsBalanced (record { level = b.level; opened = b.opened; restored = b.restored; spilled = b.spilled; granted = b.granted }) };
+    ghost invariant = { λ b. IsBalanced
+        (record {
+          level = b.level;
+          opened = b.opened;
+          restored = b.restored;
+          spilled = b.spilled;
+          granted = b.granted;
+        }) };
 
-    ghost inverse = { λ b. record { level = b.level; opened = b.opened; restored = b.restored; spilled = b.spilled; granted = b.granted } };
+    ghost inverse = { λ b. record {
+      level = b.level;
+      opened = b.opened;
+      restored = b.restored;
+      spilled = b.spilled;
+      granted = b.granted;
+    } };
 }
 
 // A bucket after so many seconds, reckoned at once.
@@ -64,7 +83,8 @@ impl Model for Filling {
 
     ghost view = { λ f. record { limit = f.limit; second = f.second; tally = f.bucket } };
 
-    ghost invariant = { λ f. IsFilled (record { limit = f.limit; second = f.second; tally = f.bucket }) };
+    ghost invariant = { λ f. IsFilled
+        (record { limit = f.limit; second = f.second; tally = f.bucket }) };
 
     ghost inverse = { λ f. record { limit = f.limit; second = f.second; bucket = f.tally } };
 }
@@ -74,7 +94,11 @@ impl Filling {
     pub(crate) fn open(limit: Limit, initial: u8, second: u64) -> Filling
         requires initial { initial ≤ initial_limit }
         requires second { second < 2 ^ 63 }
-        ensures { result ≡ record { limit = limit; second = second; tally = opened_at initial limit } }
+        ensures { result ≡ record {
+          limit = limit;
+          second = second;
+          tally = opened_at initial limit;
+        } }
     {
         let level = limit.max * initial as u64 / 100;
         Filling {

@@ -6,7 +6,7 @@ ghost use Rattle.sq_machine.specs.PoolReadings as readings;
 ghost use Rattle.sq_pools.specs.Grants.{are_own, are_there, bucket_at, filled_if, granted_if, least_at, level_or_none, opened_in, without_bucket};
 
 use crate::bucket::Filling;
-use crate::spots::Spot;
+use crate::spots::BucketSpot;
 use sq_base::WantOfMemory;
 use std::alloc::Global;
 use std::collections::BTreeMap;
@@ -15,7 +15,7 @@ use std::marker::Model;
 // Buckets by name, in an ordered map: a look-up costs a logarithm of the number of hosts.
 #[derive(Drop)]
 pub(crate) struct Buckets {
-    map: BTreeMap<Spot, Filling>,
+    map: BTreeMap<BucketSpot, Filling>,
 }
 
 impl Model for Buckets {
@@ -23,7 +23,7 @@ impl Model for Buckets {
     ghost use Rattle.sq_machine.specs.BucketLevels.{Filled};
     ghost use Rattle.sq_machine.specs.PoolReadings as named;
 
-    ghost Value = { List (named.Spot × Filled) };
+    ghost Value = { List (named.BucketSpot × Filled) };
 
     ghost view = { λ b. b.map.entries };
 }
@@ -38,16 +38,19 @@ impl Buckets {
     }
 
     // The bucket of a name.
-    pub(crate) fn get(&self, spot: Spot) -> Option<Filling>
+    pub(crate) fn get(&self, spot: BucketSpot) -> Option<Filling>
         ensures { result ≡ bucket_at self.now spot }
     {
         self.map.get(&spot).copied()
     }
 
     // Puts the bucket of a name that has none.
-    fn put(&mut self, spot: Spot, bucket: Filling) -> Result<(), WantOfMemory>
+    fn put(&mut self, spot: BucketSpot, bucket: Filling) -> Result<(), WantOfMemory>
         requires { bucket_at self.old spot ≡ None }
-        ensures ok { OnOk result ((s : readings.Spot) → bucket_at self.new s ≡ (if readings.is_spot s spot then Some bucket else bucket_at self.old s)) }
+        ensures ok { OnOk result
+            ((s : readings.BucketSpot)
+            → bucket_at self.new s ≡
+            (if readings.is_spot s spot then Some bucket else bucket_at self.old s)) }
         ensures undo { OnOk result (without_bucket spot self.new ≡ self.old) }
         ensures err { OnErr result (self.new ≡ self.old) }
     {
@@ -56,7 +59,7 @@ impl Buckets {
     }
 
     // Takes a bucket away.
-    fn remove(&mut self, spot: Spot)
+    fn remove(&mut self, spot: BucketSpot)
         ensures { self.new ≡ without_bucket spot self.old }
     {
         let _was = self.map.remove(&spot);
@@ -65,13 +68,16 @@ impl Buckets {
     // Opens the buckets of these names, where there are none, in this second and at this percentage.
     pub(crate) fn open(
         &mut self,
-        spots: &[Spot],
+        spots: &[BucketSpot],
         initial: u8,
         second: u64,
     ) -> Result<(), WantOfMemory>
         requires initial { initial ≤ initial_limit }
         requires second { second < 2 ^ 63 }
-        ensures ok { OnOk result ((s : readings.Spot) → bucket_at self.new s ≡ filled_if (readings.has_spot spots.now s) (opened_in initial second s) (bucket_at self.old s)) }
+        ensures ok { OnOk result
+            ((s : readings.BucketSpot)
+            → bucket_at self.new s ≡ filled_if (readings.has_spot spots.now s)
+            (opened_in initial second s) (bucket_at self.old s)) }
         ensures err { OnErr result (self.new ≡ self.old) }
     {
         let Some((first, rest)) = spots.split_first() else {
@@ -91,11 +97,13 @@ impl Buckets {
     }
 
     // Takes so much in this second from the bucket of a name.
-    fn draw(&mut self, spot: Spot, amount: u64, second: u64)
+    fn draw(&mut self, spot: BucketSpot, amount: u64, second: u64)
         requires there { is_some (bucket_at self.old spot) ≡ true }
         requires second { second < 2 ^ 63 }
         requires amount { amount ≤ level_or_none second (bucket_at self.old spot) }
-        ensures { (s : readings.Spot) → bucket_at self.new s ≡ option_map (granted_if (readings.is_spot spot s) second amount) (bucket_at self.old s) }
+        ensures { (s : readings.BucketSpot)
+            → bucket_at self.new s ≡ option_map (granted_if (readings.is_spot spot s) second amount)
+            (bucket_at self.old s) }
     {
         match self.map.get_mut(&spot) {
             Some(filling) => filling.grant(amount, second),
@@ -104,7 +112,7 @@ impl Buckets {
     }
 
     // The least of what is wanted and of the levels of the buckets of these names in this second.
-    fn least(&self, spots: &[Spot], wanted: u64, second: u64) -> u64
+    fn least(&self, spots: &[BucketSpot], wanted: u64, second: u64) -> u64
         requires there { are_there self.now spots.now ≡ true }
         requires second { second < 2 ^ 63 }
         ensures { result ≡ least_at second self.now spots.now wanted }
@@ -120,12 +128,14 @@ impl Buckets {
 
     // Grants the least of what is wanted and of the levels of the buckets of these names in this second, and
     // takes it from each of them.
-    pub(crate) fn grant(&mut self, spots: &[Spot], wanted: u64, second: u64) -> u64
+    pub(crate) fn grant(&mut self, spots: &[BucketSpot], wanted: u64, second: u64) -> u64
         requires there { are_there self.old spots.now ≡ true }
         requires own { are_own spots.now ≡ true }
         requires second { second < 2 ^ 63 }
         ensures amount { result ≡ least_at second self.old spots.now wanted }
-        ensures taken { (s : readings.Spot) → bucket_at self.new s ≡ option_map (granted_if (readings.has_spot spots.now s) second result) (bucket_at self.old s) }
+        ensures taken { (s : readings.BucketSpot)
+            → bucket_at self.new s ≡ option_map
+            (granted_if (readings.has_spot spots.now s) second result) (bucket_at self.old s) }
     {
         let amount = self.least(spots, wanted, second);
         for spot in spots {

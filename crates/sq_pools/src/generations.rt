@@ -10,7 +10,7 @@ ghost use Rattle.sq_pools.specs.Grants.{are_own, are_there, bucket_at, filled_if
 
 use crate::bucket::Bucket;
 use crate::buckets::Buckets;
-use crate::spots::{Spot, bucket_pairs};
+use crate::spots::{BucketSpot, bucket_pairs};
 use sq_base::{EpochNo, Moment, WantOfMemory};
 use sq_rules::{Config, Pool};
 use std::alloc::Global;
@@ -33,11 +33,15 @@ fn open_aggregate(
     initial: u8,
 ) -> Result<(), WantOfMemory>
     requires { initial ≤ initial_limit }
-    ensures { OnOk result ((s : readings.Spot) → bucket_at buckets.new s ≡ filled_if (is_aggregate_of place pool.now s) (opened_in initial 0 s) (bucket_at buckets.old s)) }
+    ensures { OnOk result
+        ((s : readings.BucketSpot)
+        → bucket_at buckets.new s
+        ≡ filled_if (is_aggregate_of place pool.now s) (opened_in initial 0 s)
+        (bucket_at buckets.old s)) }
 {
     match bucket_pairs(pool).first() {
         Some(Some(limit)) => {
-            buckets.open(&[Spot::new(place, 0, 0, *limit)], initial, 0)?;
+            buckets.open(&[BucketSpot::new(place, 0, 0, *limit)], initial, 0)?;
             Ok(())
         }
         Some(None) => Ok(()),
@@ -47,7 +51,10 @@ fn open_aggregate(
 
 // The aggregate buckets of all pools, as they open.
 fn aggregates(alloc: Global, config: &Config) -> Result<Buckets, WantOfMemory>
-    ensures { IfOk result (λ b. (s : readings.Spot) → bucket_at b s ≡ filled_if (is_aggregate (Some config.now) s) (opened_in config.now.initial 0 s) None) }
+    ensures { IfOk result
+        (λ b. (s : readings.BucketSpot)
+        → bucket_at b s ≡ filled_if (is_aggregate (Some config.now) s)
+        (opened_in config.now.initial 0 s) None) }
 {
     let mut buckets = Buckets::new(alloc);
     let percent = config.initial();
@@ -64,7 +71,10 @@ impl Generation {
     fn of_config(alloc: Global, config: &Config, now: Moment) -> Result<Generation, WantOfMemory>
         ensures made { IfOk result (λ g. g.made ≡ now) }
         ensures held { IfOk result (λ g. g.held ≡ 0) }
-        ensures buckets { IfOk result (λ g. (s : readings.Spot) → bucket_at g.buckets s ≡ filled_if (is_aggregate (Some config.now) s) (opened_in config.now.initial 0 s) None) }
+        ensures buckets { IfOk result
+            (λ g. (s : readings.BucketSpot)
+            → bucket_at g.buckets s ≡ filled_if (is_aggregate (Some config.now) s)
+            (opened_in config.now.initial 0 s) None) }
     {
         Ok(Generation {
             made: now,
@@ -82,12 +92,16 @@ impl Generation {
     }
 
     // Counts one seat more, and opens its buckets where there are none.
-    fn enter(&mut self, spots: &[Spot], initial: u8, now: Moment) -> Result<(), WantOfMemory>
+    fn enter(&mut self, spots: &[BucketSpot], initial: u8, now: Moment) -> Result<(), WantOfMemory>
         requires initial { initial ≤ initial_limit }
         requires held { self.old.held < 2 ^ 63 }
         ensures made { self.new.made ≡ self.old.made }
         ensures held { OnOk result (self.new.held ≡ suc self.old.held) }
-        ensures buckets { OnOk result ((s : readings.Spot) → bucket_at self.new.buckets s ≡ filled_if (has_spot spots.now s) (opened_in initial (second_of self.old.made now) s) (bucket_at self.old.buckets s)) }
+        ensures buckets { OnOk result
+            ((s : readings.BucketSpot)
+            → bucket_at self.new.buckets s
+            ≡ filled_if (has_spot spots.now s) (opened_in initial (second_of self.old.made now) s)
+            (bucket_at self.old.buckets s)) }
         ensures err { OnErr result (self.new ≡ self.old) }
     {
         let second = self.second(now);
@@ -97,13 +111,17 @@ impl Generation {
     }
 
     // Grants what is wanted at a moment, as far as each of these buckets has it.
-    fn grant(&mut self, spots: &[Spot], wanted: u64, now: Moment) -> u64
+    fn grant(&mut self, spots: &[BucketSpot], wanted: u64, now: Moment) -> u64
         requires there { are_there self.old.buckets spots.now ≡ true }
         requires own { are_own spots.now ≡ true }
         ensures made { self.new.made ≡ self.old.made }
         ensures held { self.new.held ≡ self.old.held }
-        ensures amount { result ≡ least_at (second_of self.old.made now) self.old.buckets spots.now wanted }
-        ensures taken { (s : readings.Spot) → bucket_at self.new.buckets s ≡ option_map (granted_if (has_spot spots.now s) (second_of self.old.made now) result) (bucket_at self.old.buckets s) }
+        ensures amount { result ≡ least_at (second_of self.old.made now) self.old.buckets spots.now
+            wanted }
+        ensures taken { (s : readings.BucketSpot)
+            → bucket_at self.new.buckets s
+            ≡ option_map (granted_if (has_spot spots.now s) (second_of self.old.made now) result)
+            (bucket_at self.old.buckets s) }
     {
         let second = self.second(now);
         self.buckets.grant(spots, wanted, second)
@@ -143,7 +161,9 @@ impl Generations {
 
     // Puts the generation of an epoch.
     fn put(&mut self, epoch: EpochNo, generation: Generation) -> Result<(), WantOfMemory>
-        ensures ok { OnOk result ((e : ℕ) → generation_at self.new e ≡ (if e == epoch then Some generation else generation_at self.old e)) }
+        ensures ok { OnOk result
+            ((e : ℕ) → generation_at self.new e
+            ≡ (if e == epoch then Some generation else generation_at self.old e)) }
         ensures err { OnErr result (self.new ≡ self.old) }
     {
         let _was = self.map.insert(epoch, generation)?;
@@ -151,8 +171,9 @@ impl Generations {
     }
 
     // The numbers of a bucket at a moment.
-    pub(crate) fn bucket(&self, epoch: EpochNo, spot: Spot, now: Moment) -> Option<Bucket>
-        ensures { result ≡ option_map (λ f. (filled_to (second_at self.now epoch now) f).tally) (filled_at self.now epoch spot) }
+    pub(crate) fn bucket(&self, epoch: EpochNo, spot: BucketSpot, now: Moment) -> Option<Bucket>
+        ensures { result ≡ option_map (λ f. (filled_to (second_at self.now epoch now) f).tally)
+            (filled_at self.now epoch spot) }
     {
         let generation = self.map.get(&epoch)?;
         let filling = generation.buckets.get(spot)?;
@@ -176,9 +197,14 @@ impl Generations {
         now: Moment,
     ) -> Result<(), WantOfMemory>
         requires { made_at self.old epoch ≡ None }
-        ensures made { OnOk result ((e : ℕ) → made_at self.new e ≡ made_if (e == epoch) now (made_at self.old e)) }
+        ensures made { OnOk result
+            ((e : ℕ) → made_at self.new e ≡ made_if (e == epoch) now (made_at self.old e)) }
         ensures held { OnOk result ((e : ℕ) → held_at self.new e ≡ held_at self.old e) }
-        ensures buckets { OnOk result ((e : ℕ) (s : readings.Spot) → filled_at self.new e s ≡ filled_if (e == epoch && is_aggregate (Some config.now) s) (opened_in config.now.initial 0 s) (filled_at self.old e s)) }
+        ensures buckets { OnOk result
+            ((e : ℕ) (s : readings.BucketSpot)
+            → filled_at self.new e s
+            ≡ filled_if (e == epoch && is_aggregate (Some config.now) s)
+            (opened_in config.now.initial 0 s) (filled_at self.old e s)) }
         ensures err { OnErr result (self.new ≡ self.old) }
     {
         let generation = Generation::of_config(alloc, config, now)?;
@@ -192,13 +218,22 @@ impl Generations {
         alloc: Global,
         epoch: EpochNo,
         config: &Config,
-        spots: &[Spot],
+        spots: &[BucketSpot],
         now: Moment,
     ) -> Result<(), WantOfMemory>
         requires { generation_at self.old epoch ≡ None }
-        ensures made { OnOk result ((e : ℕ) → made_at self.new e ≡ made_if (e == epoch) now (made_at self.old e)) }
-        ensures held { OnOk result ((e : ℕ) → held_at self.new e ≡ (if e == epoch then suc (held_at self.old e) else held_at self.old e)) }
-        ensures buckets { OnOk result ((e : ℕ) (s : readings.Spot) → filled_at self.new e s ≡ filled_if (e == epoch && (has_spot spots.now s || (is_none (made_at self.old e) && is_aggregate (Some config.now) s))) (opened_in config.now.initial (second_at self.new e now) s) (filled_at self.old e s)) }
+        ensures made { OnOk result
+            ((e : ℕ) → made_at self.new e ≡ made_if (e == epoch) now (made_at self.old e)) }
+        ensures held { OnOk result
+            ((e : ℕ) → held_at self.new e
+            ≡ (if e == epoch then suc (held_at self.old e) else held_at self.old e)) }
+        ensures buckets { OnOk result
+            ((e : ℕ) (s : readings.BucketSpot)
+            → filled_at self.new e s
+            ≡ filled_if (e == epoch &&
+            (has_spot spots.now s ||
+            (is_none (made_at self.old e) && is_aggregate (Some config.now) s)))
+            (opened_in config.now.initial (second_at self.new e now) s) (filled_at self.old e s)) }
         ensures err { OnErr result (self.new ≡ self.old) }
     {
         let mut generation = Generation::of_config(alloc, config, now)?;
@@ -214,13 +249,22 @@ impl Generations {
         alloc: Global,
         epoch: EpochNo,
         config: &Config,
-        spots: &[Spot],
+        spots: &[BucketSpot],
         now: Moment,
     ) -> Result<(), WantOfMemory>
         requires { held_at self.old epoch < 2 ^ 63 }
-        ensures made { OnOk result ((e : ℕ) → made_at self.new e ≡ made_if (e == epoch) now (made_at self.old e)) }
-        ensures held { OnOk result ((e : ℕ) → held_at self.new e ≡ (if e == epoch then suc (held_at self.old e) else held_at self.old e)) }
-        ensures buckets { OnOk result ((e : ℕ) (s : readings.Spot) → filled_at self.new e s ≡ filled_if (e == epoch && (has_spot spots.now s || (is_none (made_at self.old e) && is_aggregate (Some config.now) s))) (opened_in config.now.initial (second_at self.new e now) s) (filled_at self.old e s)) }
+        ensures made { OnOk result
+            ((e : ℕ) → made_at self.new e ≡ made_if (e == epoch) now (made_at self.old e)) }
+        ensures held { OnOk result
+            ((e : ℕ) → held_at self.new e
+            ≡ (if e == epoch then suc (held_at self.old e) else held_at self.old e)) }
+        ensures buckets { OnOk result
+            ((e : ℕ) (s : readings.BucketSpot)
+            → filled_at self.new e s
+            ≡ filled_if (e == epoch &&
+            (has_spot spots.now s ||
+            (is_none (made_at self.old e) && is_aggregate (Some config.now) s)))
+            (opened_in config.now.initial (second_at self.new e now) s) (filled_at self.old e s)) }
         ensures err { OnErr result (self.new ≡ self.old) }
     {
         match self.map.get_mut(&epoch) {
@@ -233,14 +277,24 @@ impl Generations {
     }
 
     // Grants what is wanted at a moment from these buckets of a generation. It takes no memory.
-    pub(crate) fn grant(&mut self, epoch: EpochNo, spots: &[Spot], wanted: u64, now: Moment) -> u64
+    pub(crate) fn grant(
+        &mut self,
+        epoch: EpochNo,
+        spots: &[BucketSpot],
+        wanted: u64,
+        now: Moment,
+    ) -> u64
         requires made { is_some (made_at self.old epoch) ≡ true }
         requires there { are_there (buckets_at self.old epoch) spots.now ≡ true }
         requires own { are_own spots.now ≡ true }
         ensures made { (e : ℕ) → made_at self.new e ≡ made_at self.old e }
         ensures held { (e : ℕ) → held_at self.new e ≡ held_at self.old e }
-        ensures amount { result ≡ least_at (second_at self.old epoch now) (buckets_at self.old epoch) spots.now wanted }
-        ensures taken { (e : ℕ) (s : readings.Spot) → filled_at self.new e s ≡ option_map (granted_if (epoch == e && has_spot spots.now s) (second_at self.old e now) result) (filled_at self.old e s) }
+        ensures amount { result ≡ least_at (second_at self.old epoch now)
+            (buckets_at self.old epoch) spots.now wanted }
+        ensures taken { (e : ℕ) (s : readings.BucketSpot)
+            → filled_at self.new e s
+            ≡ option_map (granted_if (epoch == e && has_spot spots.now s) (second_at self.old e now)
+            result) (filled_at self.old e s) }
     {
         match self.map.get_mut(&epoch) {
             Some(generation) => generation.grant(spots, wanted, now),
@@ -252,8 +306,10 @@ impl Generations {
     pub(crate) fn release(&mut self, epoch: EpochNo)
         requires { 0 < held_at self.old epoch }
         ensures made { (e : ℕ) → made_at self.new e ≡ made_at self.old e }
-        ensures held { (e : ℕ) → held_at self.new e ≡ (if e == epoch then held_at self.old e - 1 else held_at self.old e) }
-        ensures buckets { (e : ℕ) (s : readings.Spot) → filled_at self.new e s ≡ filled_at self.old e s }
+        ensures held { (e : ℕ) → held_at self.new e
+            ≡ (if e == epoch then held_at self.old e - 1 else held_at self.old e) }
+        ensures buckets { (e : ℕ) (s : readings.BucketSpot)
+            → filled_at self.new e s ≡ filled_at self.old e s }
     {
         match self.map.get_mut(&epoch) {
             Some(generation) => generation.held -= 1,
@@ -273,16 +329,20 @@ impl Generations {
 
     // Takes the generation of an epoch away.
     fn remove(&mut self, epoch: EpochNo)
-        ensures { (e : ℕ) → generation_at self.new e ≡ (if e == epoch then None else generation_at self.old e) }
+        ensures { (e : ℕ) → generation_at self.new e
+            ≡ (if e == epoch then None else generation_at self.old e) }
     {
         let _was = self.map.remove(&epoch);
     }
 
     // Lets the generation of an epoch go that is not the newest and has no seat in use. It takes no memory.
     pub(crate) fn retire(&mut self, idle: EpochNo, newest: EpochNo)
-        ensures made { (e : ℕ) → made_at self.new e ≡ kept_if (is_left self.old idle newest e) (made_at self.old e) }
+        ensures made { (e : ℕ) → made_at self.new e
+            ≡ kept_if (is_left self.old idle newest e) (made_at self.old e) }
         ensures held { (e : ℕ) → held_at self.new e ≡ held_at self.old e }
-        ensures buckets { (e : ℕ) (s : readings.Spot) → filled_at self.new e s ≡ kept_if (is_left self.old idle newest e) (filled_at self.old e s) }
+        ensures buckets { (e : ℕ) (s : readings.BucketSpot)
+            → filled_at self.new e s
+            ≡ kept_if (is_left self.old idle newest e) (filled_at self.old e s) }
     {
         if idle != newest && self.held(idle) == 0 {
             self.remove(idle);

@@ -12,7 +12,7 @@ ghost use Rattle.sq_pools.specs.Basins.{epoch_in, grant_in, has_pool, made_in, s
 use crate::bucket::Bucket;
 use crate::generations::Generations;
 use crate::seats::{Seat, Seated, Seats};
-use crate::spots::{Spot, spots_of};
+use crate::spots::{BucketSpot, spots_of};
 use sq_base::{Addr, EpochNo, Moment, SeatNo, WantOfMemory};
 use sq_machine::{LAST_NUMBER, later};
 use sq_rules::{Config, Pool};
@@ -75,9 +75,24 @@ impl Model for Pools {
 
     ghost Value = { Basin };
 
-    ghost view = { λ p. record { generations = p.generations; seats = p.seats; given = p.given; newest = p.newest; latest = p.latest; granted = p.granted } };
+    ghost view = { λ p. record {
+      generations = p.generations;
+      seats = p.seats;
+      given = p.given;
+      newest = p.newest;
+      latest = p.latest;
+      granted = p.granted;
+    } };
 
-    ghost invariant = { λ p. IsBasin (record { generations = p.generations; seats = p.seats; given = p.given; newest = p.newest; latest = p.latest; granted = p.granted }) };
+    ghost invariant = { λ p. IsBasin
+        (record {
+          generations = p.generations;
+          seats = p.seats;
+          given = p.given;
+          newest = p.newest;
+          latest = p.latest;
+          granted = p.granted;
+        }) };
 }
 
 // The later of two epochs.
@@ -119,10 +134,24 @@ fn seat_one(
 ) -> Result<(), WantOfMemory>
     requires free { seat_at seats.old number ≡ None }
     requires held { held_at generations.old seated.epoch < 2 ^ 63 }
-    ensures seats { OnOk result ((n : ℕ) → seat_at seats.new n ≡ (if n == number then Some seated else seat_at seats.old n)) }
-    ensures made { OnOk result ((e : ℕ) → made_at generations.new e ≡ made_if (e == seated.epoch) now (made_at generations.old e)) }
-    ensures held { OnOk result ((e : ℕ) → held_at generations.new e ≡ (if e == seated.epoch then suc (held_at generations.old e) else held_at generations.old e)) }
-    ensures buckets { OnOk result ((e : ℕ) (s : readings.Spot) → filled_at generations.new e s ≡ filled_if (e == seated.epoch && (has_spot seated.spots s || (is_none (made_at generations.old e) && is_aggregate (Some config.now) s))) (opened_in config.now.initial (second_at generations.new e now) s) (filled_at generations.old e s)) }
+    ensures seats { OnOk result
+        ((n : ℕ) → seat_at seats.new n
+        ≡ (if n == number then Some seated else seat_at seats.old n)) }
+    ensures made { OnOk result
+        ((e : ℕ) → made_at generations.new e
+        ≡ made_if (e == seated.epoch) now (made_at generations.old e)) }
+    ensures held { OnOk result
+        ((e : ℕ) → held_at generations.new e
+        ≡ (if e == seated.epoch then suc (held_at generations.old e)
+        else held_at generations.old e)) }
+    ensures buckets { OnOk result
+        ((e : ℕ) (s : readings.BucketSpot)
+        → filled_at generations.new e s
+        ≡ filled_if (e == seated.epoch
+        && (has_spot seated.spots s
+        || (is_none (made_at generations.old e) && is_aggregate (Some config.now) s)))
+        (opened_in config.now.initial (second_at generations.new e now) s)
+        (filled_at generations.old e s)) }
     ensures err_seats { OnErr result (seats.new ≡ seats.old) }
     ensures err { OnErr result (generations.new ≡ generations.old) }
 {
@@ -170,9 +199,13 @@ impl Pools {
         config: &Arc<Config>,
         now: Moment,
     ) -> Result<(), WantOfMemory>
-        ensures ok { OnOk result (cond (nat_lt epoch self.old.newest || is_some (made_in self.old epoch)) (self.new ≡ self.old) (IsRenewed self.old self.new epoch config.now.value (max now self.old.latest))) }
+        ensures ok { OnOk result
+            (cond (nat_lt epoch self.old.newest || is_some (made_in self.old epoch))
+            (self.new ≡ self.old) (IsRenewed self.old self.new epoch config.now.value
+            (max now self.old.latest))) }
         ensures err { OnErr result (self.new ≡ self.old) }
-        ensures needed { IfErr result (λ _. (nat_lt epoch self.old.newest || is_some (made_in self.old epoch)) ≡ false) }
+        ensures needed { IfErr result
+            (λ _. (nat_lt epoch self.old.newest || is_some (made_in self.old epoch)) ≡ false) }
     {
         let newest = self.newest;
         if epoch.0 < newest.0 || self.generations.has(epoch) {
@@ -199,9 +232,13 @@ impl Pools {
     ) -> Result<Seat, ChooseFault>
         requires { has_pool config.now.value pool addr ≡ true }
         ensures number { IfOk result (λ n. n ≡ suc self.old.given) }
-        ensures chosen { OnOk result (IsChosen self.old self.new epoch config.now.value pool addr (max now self.old.latest)) }
-        ensures spent { IfErr result (λ e. e ≡ ChooseFault.Spent → suc self.old.given ≡ last_number) }
-        ensures not_spent { IfErr result (λ e. e ≡ ChooseFault.WantOfMemory → suc self.old.given < last_number) }
+        ensures chosen { OnOk result
+            (IsChosen self.old self.new epoch config.now.value pool addr
+            (max now self.old.latest)) }
+        ensures spent { IfErr result
+            (λ e. e ≡ ChooseFault.Spent → suc self.old.given ≡ last_number) }
+        ensures not_spent { IfErr result
+            (λ e. e ≡ ChooseFault.WantOfMemory → suc self.old.given < last_number) }
         ensures err { OnErr result (self.new ≡ self.old) }
     {
         let given = self.given + 1;
@@ -236,10 +273,14 @@ impl Pools {
     /// seat that is not in use here is granted nothing, and neither is one with a bucket at level 0. It takes no
     /// memory.
     pub fn grant(&mut self, seat: &Seat, wanted: u64, now: Moment) -> u64
-        ensures amount { result ≡ grant_in self.old (max now self.old.latest) wanted (seat_in self.old seat.now) }
+        ensures amount { result ≡ grant_in self.old (max now self.old.latest) wanted
+            (seat_in self.old seat.now) }
         ensures within { result ≤ wanted }
-        ensures nothing { 0 < wanted → (result == 0) ≡ is_dry self.old (max now self.old.latest) (seat_in self.old seat.now) }
-        ensures taken { IsGranted self.old self.new (max now self.old.latest) result (seat_in self.old seat.now) }
+        ensures nothing { 0 < wanted
+            → (result == 0) ≡ is_dry self.old (max now self.old.latest)
+            (seat_in self.old seat.now) }
+        ensures taken { IsGranted self.old self.new (max now self.old.latest) result
+            (seat_in self.old seat.now) }
     {
         self.latest = later(now, self.latest);
         let Some(seated) = self.seats.get(seat.number()) else {
@@ -266,7 +307,8 @@ impl Pools {
     /// The numbers of a seat's bucket, the i-th from 0 in the order of the pairs, at the greatest moment so
     /// far; None exactly where the seat has no such bucket.
     pub fn bucket(&self, seat: &Seat, i: u32) -> Option<Bucket>
-        ensures value { result ≡ tally_at self.now (epoch_in (seat_in self.now seat.now)) (spot_at (seat_in self.now seat.now) i) }
+        ensures value { result ≡ tally_at self.now (epoch_in (seat_in self.now seat.now))
+            (spot_at (seat_in self.now seat.now) i) }
         ensures none { is_none result ≡ is_none (spot_at (seat_in self.now seat.now) i) }
     {
         let seated = self.seats.get(seat.number())?;
@@ -285,7 +327,7 @@ impl Pools {
     }
 
     // The bucket that holds a seat back at a moment: that of its buckets that holds the least, the first of several.
-    fn narrowest(&self, seated: &Seated, now: Moment) -> Option<Spot> {
+    fn narrowest(&self, seated: &Seated, now: Moment) -> Option<BucketSpot> {
         let mut narrowest = None;
         let mut least = u64::MAX;
         for spot in seated.spots.as_slice() {
@@ -300,7 +342,7 @@ impl Pools {
     }
 
     // How many of these seats this bucket of this epoch holds back at a moment.
-    fn held_back(&self, others: &[SeatNo], epoch: EpochNo, spot: Spot, now: Moment) -> u64 {
+    fn held_back(&self, others: &[SeatNo], epoch: EpochNo, spot: BucketSpot, now: Moment) -> u64 {
         let mut count = 0u64;
         for number in others {
             if let Some(seated) = self.seats.get(*number) {

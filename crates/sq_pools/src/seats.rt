@@ -3,7 +3,7 @@ ghost use Rattle.std.specs.Prelude.{◌≡◌, ◌==◌, [], ℕ, Some, None, if
 ghost use Rattle.std.specs.Option.{option_copied};
 ghost use Rattle.sq_pools.specs.Seats.{seat_at, without_seat};
 
-use crate::spots::Spot;
+use crate::spots::BucketSpot;
 use sq_base::{EpochNo, Listed, SeatNo, WantOfMemory};
 use std::alloc::Global;
 use std::collections::BTreeMap;
@@ -43,7 +43,7 @@ impl Seat {
 pub(crate) struct Seated {
     pub(crate) epoch: EpochNo,
     pub(crate) pool: u32,
-    pub(crate) spots: Listed<Spot>,
+    pub(crate) spots: Listed<BucketSpot>,
 }
 
 impl Model for Seated {
@@ -88,7 +88,9 @@ impl Seats {
     // Puts the seat of a number that has none.
     pub(crate) fn put(&mut self, number: SeatNo, seated: Seated) -> Result<(), WantOfMemory>
         requires { seat_at self.old number ≡ None }
-        ensures ok { OnOk result ((n : ℕ) → seat_at self.new n ≡ (if n == number then Some seated else seat_at self.old n)) }
+        ensures ok { OnOk result
+            ((n : ℕ) → seat_at self.new n
+            ≡ (if n == number then Some seated else seat_at self.old n)) }
         ensures undo { OnOk result (without_seat number self.new ≡ self.old) }
         ensures err { OnErr result (self.new ≡ self.old) }
     {
@@ -100,7 +102,8 @@ impl Seats {
     pub(crate) fn remove(&mut self, number: SeatNo) -> Option<Seated>
         ensures seat { result ≡ seat_at self.old number }
         ensures list { self.new ≡ without_seat number self.old }
-        ensures others { (n : ℕ) → seat_at self.new n ≡ (if n == number then None else seat_at self.old n) }
+        ensures others { (n : ℕ)
+            → seat_at self.new n ≡ (if n == number then None else seat_at self.old n) }
     {
         self.map.remove(&number)
     }

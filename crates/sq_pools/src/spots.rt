@@ -9,7 +9,7 @@ use std::marker::Model;
 
 // A bucket within its generation: its pool, the place of its pair, its host number, and its limit.
 #[derive(Clone, Copy, PartialEq, Eq, PartialOrd, Ord)]
-pub(crate) struct Spot {
+pub(crate) struct BucketSpot {
     pub(crate) pool: u32,
     pub(crate) place: u32,
     pub(crate) host: u32,
@@ -17,24 +17,35 @@ pub(crate) struct Spot {
     max: u64,
 }
 
-impl Model for Spot {
+impl Model for BucketSpot {
     ghost use Rattle.sq_machine.specs.PoolReadings as readings;
     ghost use Rattle.sq_rules.specs.Rates.{IsLimit};
 
-    ghost Value = { readings.Spot };
+    ghost Value = { readings.BucketSpot };
 
-    ghost view = { λ s. record { pool = s.pool; place = s.place; host = s.host; limit = record { restore = s.restore; max = s.max } } };
+    ghost view = { λ s. record {
+      pool = s.pool;
+      place = s.place;
+      host = s.host;
+      limit = record { restore = s.restore; max = s.max };
+    } };
 
     ghost invariant = { λ s. IsLimit (record { restore = s.restore; max = s.max }) };
 
-    ghost inverse = { λ s. record { pool = s.pool; place = s.place; host = s.host; restore = s.limit.restore; max = s.limit.max } };
+    ghost inverse = { λ s. record {
+      pool = s.pool;
+      place = s.place;
+      host = s.host;
+      restore = s.limit.restore;
+      max = s.limit.max;
+    } };
 }
 
-impl Spot {
-    pub(crate) fn new(pool: u32, place: u32, host: u32, limit: Limit) -> Spot
+impl BucketSpot {
+    pub(crate) fn new(pool: u32, place: u32, host: u32, limit: Limit) -> BucketSpot
         ensures { result ≡ record { pool = pool; place = place; host = host; limit = limit } }
     {
-        Spot {
+        BucketSpot {
             pool,
             place,
             host,
@@ -83,7 +94,7 @@ pub(crate) fn spots_of(
     place: u32,
     pool: &Pool,
     addr: Addr,
-) -> Result<Listed<Spot>, WantOfMemory>
+) -> Result<Listed<BucketSpot>, WantOfMemory>
     requires { length pool.now.pairs ≤ 3 }
     ensures { IfOk result (λ spots. spots ≡ readings.spots_of place pool.now addr) }
 {
@@ -92,7 +103,7 @@ pub(crate) fn spots_of(
     for pair in bucket_pairs(pool) {
         if let Some(limit) = pair {
             let host = host_of(pool.class, pair_place, addr.number);
-            spots.push(Spot::new(place, pair_place, host, *limit))?;
+            spots.push(BucketSpot::new(place, pair_place, host, *limit))?;
         }
         pair_place += 1;
     }

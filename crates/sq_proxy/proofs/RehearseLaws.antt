@@ -22,25 +22,33 @@ use Rattle.sq_proxy.proofs.OpenedLaws.{nothing_delivers, staged_ends}
 -- the line
 
 -- of a summary that was counted over the configuration that was read
-pub line_is : (count : ℕ) (config : Configuration) (s : Summary) (line : List ℕ) → conf_read (conf_result configuration_text) ≡ Ok config → s ≡ rehearsal config count → line ≡ summary_line s
+pub line_is : (count : ℕ) (config : Configuration) (s : Summary) (line : List ℕ)
+    → conf_read (conf_result configuration_text) ≡ Ok config → s ≡ rehearsal config count → line ≡ summary_line s
     → rehearsed_stage count ≡ Ok line
 unfolding rehearsed_stage
-line_is count config s line reads counts is = ap (rehearsed_by count) reads ∙ ap (λ (x : Summary). Ok (summary_line x)) (sym counts) ∙ ap (λ (x : List ℕ). Ok x) (sym is)
+line_is count config s line reads counts is = ap (rehearsed_by count) reads
+    ∙ ap (λ (x : Summary). Ok (summary_line x)) (sym counts) ∙ ap (λ (x : List ℕ). Ok x) (sym is)
 
 -- no configuration was read
-pub unread_comes : (count : ℕ) (end : Status) → Comes {A = Configuration} (Err end) (conf_read (conf_result configuration_text)) → Comes {A = List ℕ} (Err end) (rehearsed_stage count)
+pub unread_comes : (count : ℕ) (end : Status)
+    → Comes {A = Configuration} (Err end) (conf_read (conf_result configuration_text))
+    → Comes {A = List ℕ} (Err end) (rehearsed_stage count)
 unfolding rehearsed_stage
 unread_comes count end (inl e) = inl (ap (rehearsed_by count) e)
 unread_comes count end (inr fault) = inr fault
 
-pub written_delivers : (a b : Option (List ℕ)) (before now count : ℕ) (line : List ℕ) → rehearsed_stage count ≡ Ok line → Appends a b line → Delivers a b before now (rehearse_output count) ends.Ok
+pub written_delivers : (a b : Option (List ℕ)) (before now count : ℕ) (line : List ℕ) → rehearsed_stage count ≡ Ok line
+    → Appends a b line → Delivers a b before now (rehearse_output count) ends.Ok
 written_delivers a b before now count line is wrote =
-    subst (λ r. Delivers a b before now (staged r (λ l. record { text = l; end = ends.Ok })) ends.Ok) (sym is) (refl, wrote)
+    subst (λ r. Delivers a b before now (staged r (λ l. record { text = l; end = ends.Ok })) ends.Ok) (sym is)
+    (refl, wrote)
 
-pub broken_delivers : (a b : Option (List ℕ)) (before now count : ℕ) (line : List ℕ) → rehearsed_stage count ≡ Ok line → Grew a b (λ part. IsProperPrefix part line)
+pub broken_delivers : (a b : Option (List ℕ)) (before now count : ℕ) (line : List ℕ) → rehearsed_stage count ≡ Ok line
+    → Grew a b (λ part. IsProperPrefix part line)
     → Delivers a b before now (rehearse_output count) ends.WriteFault
 broken_delivers a b before now count line is wrote =
-    subst (λ r. Delivers a b before now (staged r (λ l. record { text = l; end = ends.Ok })) ends.WriteFault) (sym is) wrote
+    subst (λ r. Delivers a b before now (staged r (λ l. record { text = l; end = ends.Ok })) ends.WriteFault) (sym is)
+    wrote
 
 conf_no_write : (end : Status) → IsConfEnd end → end_of end ≡ Faulted Writing → ⊥
 conf_no_write (ends.Config line kind) is e = absurd (cc)
@@ -55,8 +63,10 @@ conf_no_write (ends.Missing name) is e = absurd is
 conf_no_write ends.JournalFault is e = absurd is
 conf_no_write ends.Net is e = absurd is
 
-pub unread_delivers : (a : Option (List ℕ)) (n count : ℕ) (end : Status) → IsConfEnd end → Comes {A = List ℕ} (Err end) (rehearsed_stage count) → Delivers a a n n (rehearse_output count) end
-unread_delivers a n count end is comes = nothing_delivers a n (rehearse_output count) end (conf_no_write end is) (staged_ends (rehearsed_stage count) _ end comes)
+pub unread_delivers : (a : Option (List ℕ)) (n count : ℕ) (end : Status) → IsConfEnd end
+    → Comes {A = List ℕ} (Err end) (rehearsed_stage count) → Delivers a a n n (rehearse_output count) end
+unread_delivers a n count end is comes = nothing_delivers a n (rehearse_output count) end (conf_no_write end is)
+    (staged_ends (rehearsed_stage count) _ end comes)
 
 -- how it ends
 
@@ -86,17 +96,24 @@ unread_causes files out end is = record {
 
 -- the command
 
-pub rehearse_told : (texts : Texts) (a b : Option (List ℕ)) (before now : ℕ) (words : List (List ℕ)) (count : ℕ) (result : Status) → command_of words ≡ Some (Rehearse count)
-    → Delivers a b before now (rehearse_output count) result → IfSome texts (λ disk. Delivers a b before now (output_of disk words) result)
+pub rehearse_told : (texts : Texts) (a b : Option (List ℕ)) (before now : ℕ) (words : List (List ℕ)) (count : ℕ)
+    (result : Status) → command_of words ≡ Some (Rehearse count)
+    → Delivers a b before now (rehearse_output count) result
+    → IfSome texts (λ disk. Delivers a b before now (output_of disk words) result)
 rehearse_told None a b before now words count result is d = tt
-rehearse_told (Some disk) a b before now words count result is d = subst (λ c. Delivers a b before now (command_output disk c) result) (sym is) d
+rehearse_told (Some disk) a b before now words count result is d =
+    subst (λ c. Delivers a b before now (command_output disk c) result) (sym is) d
 
-pub rehearse_opened : (old : Openings) (a b : Option (List ℕ)) (before now : ℕ) (words : List (List ℕ)) (count : ℕ) (result : Status) → command_of words ≡ Some (Rehearse count)
-    → Delivers a b before now (rehearse_output count) result → Added old old (CommandOpened (command_of words) a b before now result)
+pub rehearse_opened : (old : Openings) (a b : Option (List ℕ)) (before now : ℕ) (words : List (List ℕ)) (count : ℕ)
+    (result : Status) → command_of words ≡ Some (Rehearse count)
+    → Delivers a b before now (rehearse_output count) result
+    → Added old old (CommandOpened (command_of words) a b before now result)
 rehearse_opened old a b before now words count result is d =
-    subst (λ c. Added old old (CommandOpened c a b before now result)) (sym is) (Added_none old old (CommandOpened (Some (Rehearse count)) a b before now result) refl (refl, d))
+    subst (λ c. Added old old (CommandOpened c a b before now result)) (sym is)
+    (Added_none old old (CommandOpened (Some (Rehearse count)) a b before now result) refl (refl, d))
 
-pub rehearse_usage : (words : List (List ℕ)) (count : ℕ) (result : Status) → command_of words ≡ Some (Rehearse count) → IsRehearsedEnd result → (result ≡ ends.Usage) ↔ (command_of words ≡ None)
+pub rehearse_usage : (words : List (List ℕ)) (count : ℕ) (result : Status) → command_of words ≡ Some (Rehearse count)
+    → IsRehearsedEnd result → (result ≡ ends.Usage) ↔ (command_of words ≡ None)
 rehearse_usage words count result is end = (λ e. absurd (subst IsRehearsedEnd e end), λ e. absurd (cc))
 
 pub rehearse_missing : (P : List ℕ → Type 0) (result : Status) → IsRehearsedEnd result → IfMissing result P

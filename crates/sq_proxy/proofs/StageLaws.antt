@@ -12,7 +12,8 @@ use Rattle.sq_proxy.specs.Commands.{conf_read, conf_stage}
 use Rattle.sq_proxy.specs.Ends.{Comes}
 
 -- a text past its limit
-pub too_long : (bytes : List ℕ) → text_limit < length bytes → conf_result bytes ≡ Err (record { line = 0; kind = kind.TooMany })
+pub too_long : (bytes : List ℕ) → text_limit < length bytes
+    → conf_result bytes ≡ Err (record { line = 0; kind = kind.TooMany })
 unfolding conf_result
 too_long bytes l = let long : nat_lt text_limit (length bytes) ≡ true = grind (arith, nat_tests) in rw long refl
 

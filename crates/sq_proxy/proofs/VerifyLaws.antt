@@ -15,7 +15,7 @@ use Rattle.sq_verify.specs.declared.findings.Finding.{Finding}
 use Rattle.sq_verify.specs.declared.findings.Finding.TheVariants as finding
 use Rattle.sq_verify.specs.Judging.{Judged, judged}
 use Rattle.sq_verify.specs.Promised as promised
-use Rattle.sq_verify.specs.Telling.{finding_text}
+use Rattle.sq_verify.specs.FindingText.{finding_text}
 use Rattle.sq_verify.proofs.AuditLaws.{audited}
 use Rattle.sq_proxy.specs.declared.ends.Status.{Status}
 use Rattle.sq_proxy.specs.declared.ends.Status.TheVariants as ends
@@ -31,79 +31,111 @@ use Rattle.sq_proxy.proofs.ShelfLaws.{begins_is, behind_is, first_is}
 -- what was found
 
 -- the number of entries was written, or a part of its line
-pub count_written : (a b : Option (List ℕ)) (before now count : ℕ) (j : Judged) → Appends a b (finding_text (finding.Verified count)) → promised.Comes j (finding.Verified count)
+pub count_written : (a b : Option (List ℕ)) (before now count : ℕ) (j : Judged)
+    → Appends a b (finding_text (finding.Verified count)) → promised.Comes j (finding.Verified count)
     → Delivers a b before now (found_output j.found) ends.Ok
-count_written a b before now count j wrote is = subst (λ (f : Finding). Delivers a b before now (found_output f) ends.Ok) (sym is) (refl, wrote)
+count_written a b before now count j wrote is = subst (λ (f : Finding). Delivers a b before now (found_output f)
+    ends.Ok) (sym is) (refl, wrote)
 
-pub count_broken : (a b : Option (List ℕ)) (before now count : ℕ) (j : Judged) → Grew a b (λ part. IsProperPrefix part (finding_text (finding.Verified count))) → promised.Comes j (finding.Verified count)
+pub count_broken : (a b : Option (List ℕ)) (before now count : ℕ) (j : Judged)
+    → Grew a b (λ part. IsProperPrefix part (finding_text (finding.Verified count)))
+    → promised.Comes j (finding.Verified count)
     → Delivers a b before now (found_output j.found) ends.WriteFault
-count_broken a b before now count j grew is = subst (λ (f : Finding). Delivers a b before now (found_output f) ends.WriteFault) (sym is) grew
+count_broken a b before now count j grew is = subst (λ (f : Finding). Delivers a b before now (found_output f)
+    ends.WriteFault) (sym is) grew
 
 -- else nothing is written before the last line
-found_silent : (a : Option (List ℕ)) (n : ℕ) (j : Judged) (found : Finding) (end : Status) → j.found ≡ found → (end_of end ≡ Faulted Writing → ⊥) → found_output found ≡ silent end → Delivers a a n n (found_output j.found) end
-found_silent a n j found end is other out = nothing_delivers a n (found_output j.found) end other (inl (ap found_output is ∙ out))
+found_silent : (a : Option (List ℕ)) (n : ℕ) (j : Judged) (found : Finding) (end : Status) → j.found ≡ found
+    → (end_of end ≡ Faulted Writing → ⊥) → found_output found ≡ silent end → Delivers a a n n (found_output j.found) end
+found_silent a n j found end is other out = nothing_delivers a n (found_output j.found) end other
+    (inl (ap found_output is ∙ out))
 
-pub script_found : (a : Option (List ℕ)) (n line : ℕ) (j : Judged) → promised.Comes j (finding.Script line) → Delivers a a n n (found_output j.found) (ends.Script line)
+pub script_found : (a : Option (List ℕ)) (n line : ℕ) (j : Judged) → promised.Comes j (finding.Script line)
+    → Delivers a a n n (found_output j.found) (ends.Script line)
 script_found a n line j is = found_silent a n j (finding.Script line) (ends.Script line) is (λ e. absurd (cc)) refl
 
-pub differs_found : (a : Option (List ℕ)) (n line : ℕ) (machine journal : List ℕ) (j : Judged) → promised.Comes j (finding.Differs line machine journal)
+pub differs_found : (a : Option (List ℕ)) (n line : ℕ) (machine journal : List ℕ) (j : Judged)
+    → promised.Comes j (finding.Differs line machine journal)
     → Delivers a a n n (found_output j.found) (ends.Differs line machine journal)
-differs_found a n line machine journal j is = found_silent a n j (finding.Differs line machine journal) (ends.Differs line machine journal) is (λ e. absurd (cc)) refl
+differs_found a n line machine journal j is = found_silent a n j (finding.Differs line machine journal)
+    (ends.Differs line machine journal) is (λ e. absurd (cc)) refl
 
-pub fault_found : (a : Option (List ℕ)) (n : ℕ) (j : Judged) (end : Status) → (end_of end ≡ Faulted Writing → ⊥) → IsFault end → Delivers a a n n (found_output j.found) end
+pub fault_found : (a : Option (List ℕ)) (n : ℕ) (j : Judged) (end : Status) → (end_of end ≡ Faulted Writing → ⊥)
+    → IsFault end → Delivers a a n n (found_output j.found) end
 fault_found a n j end other fault = nothing_delivers a n (found_output j.found) end other (inr fault)
 
 -- a journal's file
 
 -- its text came to this
-pub journal_over : (texts : Texts) (left a b : Option (List ℕ)) (before now : ℕ) (name : List ℕ) (go : List ℕ → Output) (result : Status) → GivesText texts name left
-    → IfSome left (λ bytes. Delivers a b before now (go bytes) result) → IfSome texts (λ disk. Delivers a b before now (staged (script_stage name (disk name)) go) result)
+pub journal_over : (texts : Texts) (left a b : Option (List ℕ)) (before now : ℕ) (name : List ℕ) (go : List ℕ → Output)
+    (result : Status) → GivesText texts name left
+    → IfSome left (λ bytes. Delivers a b before now (go bytes) result)
+    → IfSome texts (λ disk. Delivers a b before now (staged (script_stage name (disk name)) go) result)
 journal_over None left a b before now name go result gives d = tt
 journal_over (Some disk) None a b before now name go result (e, some) d = absurd (cc)
 journal_over (Some disk) (Some bytes) a b before now name go result (e, some) d =
     subst (λ (f : Option (List ℕ)). Delivers a b before now (staged (script_stage name f) go) result) e d
 
-pub journal_opened : (old mid new : Openings) (left a b : Option (List ℕ)) (before now : ℕ) (name : List ℕ) (go : List ℕ → Output) (result : Status) → AddsOpening old mid name left → new ≡ mid
-    → IfSome left (λ bytes. Delivers a b before now (go bytes) result) → Added old new (JournalOpened name go a b before now result)
+pub journal_opened : (old mid new : Openings) (left a b : Option (List ℕ)) (before now : ℕ) (name : List ℕ)
+    (go : List ℕ → Output) (result : Status) → AddsOpening old mid name left → new ≡ mid
+    → IfSome left (λ bytes. Delivers a b before now (go bytes) result)
+    → Added old new (JournalOpened name go a b before now result)
 journal_opened None mid new left a b before now name go result adds same d = tt
 journal_opened (Some earlier) mid new None a b before now name go result adds same d = absurd adds
-journal_opened (Some earlier) mid new (Some text) a b before now name go result adds same d = (record { name = name; text = text } ∷ [], same ∙ adds, (refl, d))
+journal_opened (Some earlier) mid new (Some text) a b before now name go result adds same d =
+    (record { name = name; text = text } ∷ [], same ∙ adds, (refl, d))
 
-pub journal_missing : (old new : Openings) (a : Option (List ℕ)) (n : ℕ) (name : List ℕ) (go : List ℕ → Output) (end : Status) → new ≡ old → IsMissingOr name end
+pub journal_missing : (old new : Openings) (a : Option (List ℕ)) (n : ℕ) (name : List ℕ) (go : List ℕ → Output)
+    (end : Status) → new ≡ old → IsMissingOr name end
     → Added old new (JournalOpened name go a a n n end)
 journal_missing old new a n name go end same missing =
-    Added_none old new (JournalOpened name go a a n n end) same (tt, nothing_delivers a n (silent (ends.Missing name)) end (missing_no_write name end missing) (missing_silent name end missing))
+    Added_none old new (JournalOpened name go a a n n end) same (
+      tt,
+      nothing_delivers a n (silent (ends.Missing name)) end (missing_no_write name end missing)
+          (missing_silent name end missing),
+    )
 
-pub journal_fault : (old new : Openings) (a : Option (List ℕ)) (n : ℕ) (name : List ℕ) (go : List ℕ → Output) (end : Status) → new ≡ old → (end_of end ≡ Faulted Writing → ⊥) → IsFault end
+pub journal_fault : (old new : Openings) (a : Option (List ℕ)) (n : ℕ) (name : List ℕ) (go : List ℕ → Output)
+    (end : Status) → new ≡ old → (end_of end ≡ Faulted Writing → ⊥) → IsFault end
     → Added old new (JournalOpened name go a a n n end)
 journal_fault old new a n name go end same other fault =
-    Added_none old new (JournalOpened name go a a n n end) same (tt, nothing_delivers a n (silent (ends.Missing name)) end other (inr fault))
+    Added_none old new (JournalOpened name go a a n n end) same
+    (tt, nothing_delivers a n (silent (ends.Missing name)) end other (inr fault))
 
 -- what was found is delivered, whatever the source has left
-pub found_told : (left a b : Option (List ℕ)) (before now : ℕ) (config : Configuration) (found : Finding) (result : Status) → IfSome left (λ bytes. promised.Comes (judged config (lines bytes)) found)
-    → ((j : Judged) → promised.Comes j found → Delivers a b before now (found_output j.found) result) → IfSome left (λ bytes. Delivers a b before now (journal_output config bytes) result)
+pub found_told : (left a b : Option (List ℕ)) (before now : ℕ) (config : Configuration) (found : Finding)
+    (result : Status) → IfSome left (λ bytes. promised.Comes (judged config (lines bytes)) found)
+    → ((j : Judged) → promised.Comes j found → Delivers a b before now (found_output j.found) result)
+    → IfSome left (λ bytes. Delivers a b before now (journal_output config bytes) result)
 found_told None a b before now config found result comes settle = tt
 found_told (Some bytes) a b before now config found result comes settle = settle (judged config (lines bytes)) comes
 
 -- causes
 
-found_read : (found : Finding) (result : Status) → IsFoundEnd found result → result ≡ ends.ReadFault → found ≡ finding.ReadFault
+found_read : (found : Finding) (result : Status) → IsFoundEnd found result → result ≡ ends.ReadFault
+    → found ≡ finding.ReadFault
 found_read (finding.Verified n) result (inl x) e = absurd (let both : ends.Ok ≡ ends.ReadFault = sym x ∙ e in cc)
-found_read (finding.Verified n) result (inr x) e = absurd (let both : ends.WriteFault ≡ ends.ReadFault = sym x ∙ e in cc)
+found_read (finding.Verified n) result (inr x) e = absurd
+    (let both : ends.WriteFault ≡ ends.ReadFault = sym x ∙ e in cc)
 found_read (finding.Script n) result x e = absurd (let both : ends.Script n ≡ ends.ReadFault = sym x ∙ e in cc)
-found_read (finding.Differs l m j) result x e = absurd (let both : ends.Differs l m j ≡ ends.ReadFault = sym x ∙ e in cc)
+found_read (finding.Differs l m j) result x e = absurd
+    (let both : ends.Differs l m j ≡ ends.ReadFault = sym x ∙ e in cc)
 found_read finding.ReadFault result x e = refl
 found_read finding.WantOfMemory result x e = absurd (let both : ends.WantOfMemory ≡ ends.ReadFault = sym x ∙ e in cc)
 
-found_kept : (found : Finding) (result : Status) → IsFoundEnd found result → found ≡ finding.ReadFault → result ≡ ends.ReadFault
+found_kept : (found : Finding) (result : Status) → IsFoundEnd found result → found ≡ finding.ReadFault
+    → result ≡ ends.ReadFault
 found_kept found result x e = subst (λ (f : Finding). IsFoundEnd f result) e x
 
 rose_back : (f0 f1 f2 s0 s1 : ℕ) → f1 ≡ f0 → s0 ≡ 0 → (0 < s1 → Rose f1 f2) → Rose s0 s1 → Rose f0 f2
-rose_back f0 f1 f2 s0 s1 is none back rose = let up : Rose f1 f2 = back (omega (arith, rose, none)) in omega (arith, up, is)
+rose_back f0 f1 f2 s0 s1 is none back rose = let up : Rose f1 f2 = back (omega (arith, rose, none)) in
+    omega (arith, up, is)
 
 -- from the opening of the file on
-pub judge_causes : (f0 f1 f2 s0 s1 o0 o1 : ℕ) (found : Finding) (result : Status) → f1 ≡ f0 → s0 ≡ 0 → promised.JudgeHasCauses s0 s1 found → TakesBack f1 f2 s1 → IsFoundEnd found result
-    → o0 ≤ o1 → (result ≡ ends.WriteFault → Rose o0 o1) → (IsToldEnd (end_of result) → o1 ≡ o0) → HasCauses f0 f2 o0 o1 result
+pub judge_causes : (f0 f1 f2 s0 s1 o0 o1 : ℕ) (found : Finding) (result : Status) → f1 ≡ f0 → s0 ≡ 0
+    → promised.JudgeHasCauses s0 s1 found → TakesBack f1 f2 s1 → IsFoundEnd found result
+    → o0 ≤ o1 → (result ≡ ends.WriteFault → Rose o0 o1) → (IsToldEnd (end_of result) → o1 ≡ o0)
+    → HasCauses f0 f2 o0 o1 result
 judge_causes f0 f1 f2 s0 s1 o0 o1 found result is none ran back end later write quiet = record {
   files_later = let b = back.later in omega (arith, is, b);
   out_later = later;
@@ -114,7 +146,8 @@ judge_causes f0 f1 f2 s0 s1 o0 o1 found result is none ran back end later write 
 }
 
 -- how it ends
-pub found_played : (texts : Texts) (name : List ℕ) (found : Finding) (result : Status) → IsFoundEnd found result → IsPlayedEnd texts name result
+pub found_played : (texts : Texts) (name : List ℕ) (found : Finding) (result : Status) → IsFoundEnd found result
+    → IsPlayedEnd texts name result
 found_played texts name (finding.Verified n) result (inl e) = subst (IsPlayedEnd texts name) (sym e) tt
 found_played texts name (finding.Verified n) result (inr e) = subst (IsPlayedEnd texts name) (sym e) tt
 found_played texts name (finding.Script n) result e = subst (IsPlayedEnd texts name) (sym e) tt
@@ -124,32 +157,40 @@ found_played texts name finding.WantOfMemory result e = subst (IsPlayedEnd texts
 
 -- the command
 
-conf_once : (conf journal : List ℕ) (more : List Opening) → IsOnce conf more → BeginsWith conf more × IsOnce journal (behind_first more)
+conf_once : (conf journal : List ℕ) (more : List Opening) → IsOnce conf more
+    → BeginsWith conf more × IsOnce journal (behind_first more)
 conf_once conf journal [] once = (tt, tt)
 conf_once conf journal (o ∷ []) once = (once, tt)
 conf_once conf journal (o ∷ p ∷ more) once = absurd once
 
-pub verify_ends : (old new : Openings) (a : Option (List ℕ)) (n : ℕ) (conf journal : List ℕ) (end : Status) → (end_of end ≡ Faulted Writing → ⊥) → Added old new (ConfOpened conf (Err end))
+pub verify_ends : (old new : Openings) (a : Option (List ℕ)) (n : ℕ) (conf journal : List ℕ) (end : Status)
+    → (end_of end ≡ Faulted Writing → ⊥) → Added old new (ConfOpened conf (Err end))
     → Added old new (CommandOpened (Some (Verify conf journal)) a a n n end)
 verify_ends old new a n conf journal end other added =
     Added_map old new (ConfOpened conf (Err end)) (CommandOpened (Some (Verify conf journal)) a a n n end)
     (λ more p. (
       conf_once conf journal more p.0,
-      nothing_delivers a n (opened_output (Some (Verify conf journal)) more) end other (staged_ends (start_stage conf (first_text more)) _ end (start_ends conf (first_text more) end p.1)),
+      nothing_delivers a n (opened_output (Some (Verify conf journal)) more) end other
+          (staged_ends (start_stage conf (first_text more)) _ end (start_ends conf (first_text more) end p.1)),
     )) added
 
-pub verify_stops : (texts : Texts) (a : Option (List ℕ)) (n : ℕ) (conf journal : List ℕ) (end : Status) → (end_of end ≡ Faulted Writing → ⊥)
-    → IfSome texts (λ disk. Comes {A = Configuration} (Err end) (conf_stage conf (disk conf))) → IfSome texts (λ disk. Delivers a a n n (verify_output disk conf journal) end)
+pub verify_stops : (texts : Texts) (a : Option (List ℕ)) (n : ℕ) (conf journal : List ℕ) (end : Status)
+    → (end_of end ≡ Faulted Writing → ⊥)
+    → IfSome texts (λ disk. Comes {A = Configuration} (Err end) (conf_stage conf (disk conf)))
+    → IfSome texts (λ disk. Delivers a a n n (verify_output disk conf journal) end)
 verify_stops None a n conf journal end other comes = tt
 verify_stops (Some disk) a n conf journal end other comes =
-    nothing_delivers a n (verify_output disk conf journal) end other (staged_ends (start_stage conf (disk conf)) _ end (start_ends conf (disk conf) end comes))
+    nothing_delivers a n (verify_output disk conf journal) end other
+    (staged_ends (start_stage conf (disk conf)) _ end (start_ends conf (disk conf) end comes))
 
 -- the journal's text, over the configuration that was read
 abbrev journal_run : List ℕ → Option (List ℕ) → Configuration → Output
 journal_run journal text config = staged (script_stage journal text) (journal_output config)
 
-judged_opened : (a b : Option (List ℕ)) (before now : ℕ) (conf journal : List ℕ) (config : Configuration) (result : Status) → IsConfiguration config
-    → (first next : List Opening) → ConfOpened conf (Ok config) first → JournalOpened journal (journal_output config) a b before now result next
+judged_opened : (a b : Option (List ℕ)) (before now : ℕ) (conf journal : List ℕ) (config : Configuration)
+    (result : Status) → IsConfiguration config
+    → (first next : List Opening) → ConfOpened conf (Ok config) first
+    → JournalOpened journal (journal_output config) a b before now result next
     → CommandOpened (Some (Verify conf journal)) a b before now result (next ++ first)
 judged_opened a b before now conf journal config result good [] next p q = absurd (cc)
 judged_opened a b before now conf journal config result good (o ∷ []) next p q =
@@ -158,32 +199,43 @@ judged_opened a b before now conf journal config result good (o ∷ []) next p q
     let behind : next ≡ behind_first all = sym (behind_is next o) in
     let there : start_stage conf (first_text all) ≡ Ok config = ap (start_stage conf) (first_is next o) ∙ start in
     let run : Delivers a b before now (journal_run journal (first_text (behind_first all)) config) result =
-    subst (λ (l : List Opening). Delivers a b before now (journal_run journal (first_text l) config) result) behind q.1 in (
+    subst (λ (l : List Opening). Delivers a b before now (journal_run journal (first_text l) config) result) behind
+    q.1 in (
       (begins_is next o conf p.0, subst (IsOnce journal) behind q.0),
-      subst (λ r. Delivers a b before now (staged r (journal_run journal (first_text (behind_first all)))) result) (sym there) run,
+      subst (λ r. Delivers a b before now (staged r (journal_run journal (first_text (behind_first all)))) result)
+          (sym there) run,
     )
 judged_opened a b before now conf journal config result good (o ∷ u ∷ first) next p q = absurd p.0
 
-pub verify_opened : (old mid new : Openings) (a b : Option (List ℕ)) (before now : ℕ) (conf journal : List ℕ) (config : Configuration) (result : Status) → IsConfiguration config
-    → Added old mid (ConfOpened conf (Ok config)) → Added mid new (JournalOpened journal (journal_output config) a b before now result)
+pub verify_opened : (old mid new : Openings) (a b : Option (List ℕ)) (before now : ℕ) (conf journal : List ℕ)
+    (config : Configuration) (result : Status) → IsConfiguration config
+    → Added old mid (ConfOpened conf (Ok config))
+    → Added mid new (JournalOpened journal (journal_output config) a b before now result)
     → Added old new (CommandOpened (Some (Verify conf journal)) a b before now result)
 verify_opened old mid new a b before now conf journal config result good first next =
-    Added_then old mid new (ConfOpened conf (Ok config)) (JournalOpened journal (journal_output config) a b before now result)
-    (CommandOpened (Some (Verify conf journal)) a b before now result) first next (judged_opened a b before now conf journal config result good)
+    Added_then old mid new (ConfOpened conf (Ok config))
+    (JournalOpened journal (journal_output config) a b before now result)
+    (CommandOpened (Some (Verify conf journal)) a b before now result) first next
+    (judged_opened a b before now conf journal config result good)
 
 -- the same where texts are told
-pub verify_told : (texts same : Texts) (a b : Option (List ℕ)) (before now : ℕ) (conf journal : List ℕ) (config : Configuration) (result : Status) → same ≡ texts → IsConfiguration config
+pub verify_told : (texts same : Texts) (a b : Option (List ℕ)) (before now : ℕ) (conf journal : List ℕ)
+    (config : Configuration) (result : Status) → same ≡ texts → IsConfiguration config
     → IfSome texts (λ disk. Comes (Ok config) (conf_stage conf (disk conf)))
-    → IfSome same (λ disk. Delivers a b before now (staged (script_stage journal (disk journal)) (journal_output config)) result)
+    → IfSome same (λ disk. Delivers a b before now
+    (staged (script_stage journal (disk journal)) (journal_output config)) result)
     → IfSome texts (λ disk. Delivers a b before now (verify_output disk conf journal) result)
 verify_told None same a b before now conf journal config result is good comes runs = tt
 verify_told (Some disk) same a b before now conf journal config result is good comes runs =
-    subst (λ r. Delivers a b before now (staged r (λ c. staged (script_stage journal (disk journal)) (journal_output c))) result)
+    subst (λ r. Delivers a b before now
+    (staged r (λ c. staged (script_stage journal (disk journal)) (journal_output c))) result)
     (sym (start_is conf (disk conf) config comes good))
-    (subst (λ (t : Texts). IfSome t (λ d. Delivers a b before now (staged (script_stage journal (d journal)) (journal_output config)) result)) is runs)
+    (subst (λ (t : Texts). IfSome t
+    (λ d. Delivers a b before now (staged (script_stage journal (d journal)) (journal_output config)) result)) is runs)
 
 -- the end of the command, by the ends of its parts
-pub verify_played : (texts same : Texts) (conf journal : List ℕ) (result : Status) → same ≡ texts → IsPlayedEnd same journal result → IsVerifyEnd texts conf journal result
+pub verify_played : (texts same : Texts) (conf journal : List ℕ) (result : Status) → same ≡ texts
+    → IsPlayedEnd same journal result → IsVerifyEnd texts conf journal result
 verify_played texts same conf journal (ends.Missing name) is (e, told) =
     (inr e, subst (λ (n : List ℕ). IsNotTold texts n) (sym e) (subst (λ (t : Texts). IsNotTold t journal) is told))
 verify_played texts same conf journal ends.Usage is e = absurd e
@@ -214,7 +266,8 @@ verify_missing texts conf journal ends.WantOfMemory e = tt
 
 -- audits
 
-by_found : (text bytes : List ℕ) (config : Configuration) (found : Finding) → read_result text ≡ Ok config → (judged config (lines bytes)).found ≡ found → ends.Ok ≡ (found_output found).end
+by_found : (text bytes : List ℕ) (config : Configuration) (found : Finding) → read_result text ≡ Ok config
+    → (judged config (lines bytes)).found ≡ found → ends.Ok ≡ (found_output found).end
     → AuditedTexts (Some text) (Some bytes)
 by_found text bytes config (finding.Verified n) reads is e =
     record {
@@ -232,25 +285,33 @@ by_found text bytes config (finding.Differs l m j) reads is e = absurd (cc)
 by_found text bytes config finding.ReadFault reads is e = absurd (cc)
 by_found text bytes config finding.WantOfMemory reads is e = absurd (cc)
 
-by_journal : (journal text : List ℕ) (config : Configuration) (o : Option (List ℕ)) → read_result text ≡ Ok config → ends.Ok ≡ (staged (script_stage journal o) (journal_output config)).end
+by_journal : (journal text : List ℕ) (config : Configuration) (o : Option (List ℕ)) → read_result text ≡ Ok config
+    → ends.Ok ≡ (staged (script_stage journal o) (journal_output config)).end
     → AuditedTexts (Some text) o
 by_journal journal text config None reads e = absurd (cc)
-by_journal journal text config (Some bytes) reads e = by_found text bytes config (judged config (lines bytes)).found reads refl e
+by_journal journal text config (Some bytes) reads e = by_found text bytes config (judged config (lines bytes)).found
+    reads refl e
 
 by_read : (journal text : List ℕ) (r : Result Configuration ConfError) (o : Option (List ℕ)) → read_result text ≡ r
-    → ends.Ok ≡ (staged (conf_read r) (λ config. staged (script_stage journal o) (journal_output config))).end → AuditedTexts (Some text) o
+    → ends.Ok ≡ (staged (conf_read r) (λ config. staged (script_stage journal o) (journal_output config))).end
+    → AuditedTexts (Some text) o
 by_read journal text (Ok config) o reads e = by_journal journal text config o reads e
 by_read journal text (Err x) o reads e = absurd (cc)
 
 -- where `verify` ends well over two texts, they are audited
-pub texts_audited : (conf journal : List ℕ) (o p : Option (List ℕ)) → ends.Ok ≡ (verify_over o p conf journal).end → AuditedTexts o p
+pub texts_audited : (conf journal : List ℕ) (o p : Option (List ℕ)) → ends.Ok ≡ (verify_over o p conf journal).end
+    → AuditedTexts o p
 texts_audited conf journal None p e = absurd (cc)
 texts_audited conf journal (Some text) p e = by_read journal text (read_result text) p refl e
 
 -- where `verify` ends well, its journal is audited
-pub audits_told : (texts : Texts) (a b : Option (List ℕ)) (before now : ℕ) (words : List (List ℕ)) (s same : Status) → same ≡ s → same ≡ ends.Ok
-    → IfSome texts (λ disk. Delivers a b before now (output_of disk words) s) → IfSome texts (λ disk. AuditsFiles disk words)
+pub audits_told : (texts : Texts) (a b : Option (List ℕ)) (before now : ℕ) (words : List (List ℕ)) (s same : Status)
+    → same ≡ s → same ≡ ends.Ok
+    → IfSome texts (λ disk. Delivers a b before now (output_of disk words) s)
+    → IfSome texts (λ disk. AuditsFiles disk words)
 audits_told None a b before now words s same is ok d = tt
 audits_told (Some disk) a b before now words s same is ok d = λ conf journal command.
-    let done : Delivers a b before now (output_of disk words) ends.Ok = subst (λ (x : Status). Delivers a b before now (output_of disk words) x) (sym is ∙ ok) d in
-    texts_audited conf journal (disk conf) (disk journal) (done.0 ∙ ap (λ (c : Option Command). (command_output disk c).end) command)
+    let done : Delivers a b before now (output_of disk words) ends.Ok =
+    subst (λ (x : Status). Delivers a b before now (output_of disk words) x) (sym is ∙ ok) d in
+    texts_audited conf journal (disk conf) (disk journal)
+    (done.0 ∙ ap (λ (c : Option Command). (command_output disk c).end) command)

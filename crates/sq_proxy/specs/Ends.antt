@@ -1,4 +1,5 @@
--- How a command ends: its last line and its exit status, the causes of faults, and the ends that a command and each part of it may have.
+-- How a command ends: its last line and its exit status, the causes of faults, and the ends that a
+-- command and each part of it may have.
 use Rattle.std.specs.Prelude.{◌≡◌, ◌⊎◌, ℕ, ◌≤◌, List, [], ◌∷◌, ◌++◌, Bool, true, false, codes, decimal, Result}
 use Rattle.sq_verify.specs.declared.migrating.MigrateFault.{MigrateFault}
 use Rattle.sq_verify.specs.declared.migrating.MigrateFault.TheVariants as migrating
@@ -12,12 +13,14 @@ use Rattle.sq_replay.specs.declared.ends.RunEnd.TheVariants as ended
 use Rattle.sq_replay.specs.Ends.{End, Done, Refused, Faulted, Fault, Reading, Writing, Lacking}
 use Rattle.sq_verify.specs.declared.findings.Finding.{Finding}
 use Rattle.sq_verify.specs.declared.findings.Finding.TheVariants as finding
-use Rattle.sq_verify.specs.Telling.{differs_text}
+use Rattle.sq_verify.specs.FindingText.{differs_text}
 use Rattle.sq_proxy.specs.declared.ends.Status.{Status}
 use Rattle.sq_proxy.specs.declared.ends.Status.TheVariants.{Ok, Usage, Config, Script, ReadFault, WriteFault, Differs, JournalFault, Net, Missing, WantOfMemory}
 
 abbrev pub usage_line : List ℕ
-usage_line = codes "usage: aclproxy parse CONF | replay CONF SCRIPT | verify CONF JOURNAL | migrate JOURNAL | rehearse N | serve CONF [--port P] [--workers W] [--utc-offset M]" ++ 10 ∷ []
+usage_line = codes
+    "usage: aclproxy parse CONF | replay CONF SCRIPT | verify CONF JOURNAL | migrate JOURNAL | rehearse N | serve CONF [--port P] [--workers W] [--utc-offset M]"
+    ++ 10 ∷ []
 
 -- the line of a configuration's fault
 abbrev pub config_line : ℕ → ℕ → List ℕ
@@ -51,7 +54,8 @@ code_of (Differs line machine journal) = 8
 code_of Net = 9
 code_of WantOfMemory = 10
 
--- what kind of end each status is; the two that a server alone has count as refusals, since they have a last line
+-- what kind of end each status is; the two that a server alone has count as refusals, since they
+-- have a last line
 abbrev pub end_of : Status → End
 end_of Ok = Done
 end_of Usage = Refused
@@ -124,9 +128,10 @@ abbrev pub IfMissing : Status → (List ℕ → Type 0) → Type 0
 IfMissing (Missing name) P = P name
 IfMissing status P = Unit {0}
 
--- the counts of the files and of the sink never fall; a fault comes only where its count rose; the files' stays at any end
--- but a read fault, and the sink's where no fault came
-pub record HasCauses (files_before files_now out_before out_now : ℕ) (status : Status) : Type 0 where
+-- the counts of the files and of the sink never fall; a fault comes only where its count rose; the
+-- files' stays at any end but a read fault, and the sink's where no fault came
+pub record HasCauses (files_before files_now out_before out_now : ℕ)
+    (status : Status) : Type 0 where
   pub files_later : files_before ≤ files_now
   pub out_later : out_before ≤ out_now
   pub read : status ≡ ReadFault → Rose files_before files_now
@@ -134,7 +139,8 @@ pub record HasCauses (files_before files_now out_before out_now : ℕ) (status :
   pub files_quiet : (status ≡ ReadFault → ⊥) → files_now ≡ files_before
   pub out_quiet : IsToldEnd (end_of status) → out_now ≡ out_before
 
--- a configuration that cannot be had of its file ends a command by these alone, and misses only this name
+-- a configuration that cannot be had of its file ends a command by these alone, and misses only
+-- this name
 abbrev pub IsOpenEnd : Texts → List ℕ → Status → Type 0
 IsOpenEnd texts name ReadFault = Unit {0}
 IsOpenEnd texts name WantOfMemory = Unit {0}
@@ -179,7 +185,8 @@ IsReplayEnd texts Usage = ⊥
 IsReplayEnd texts (Missing other) = IsNotTold texts other
 IsReplayEnd texts status = Unit {0}
 
--- what was found of a journal ends a command by these alone; where the journal was verified, telling so may fail
+-- what was found of a journal ends a command by these alone; where the journal was verified,
+-- telling so may fail
 abbrev pub IsFoundEnd : Finding → Status → Type 0
 IsFoundEnd (finding.Verified count) status = (status ≡ Ok) ⊎ (status ≡ WriteFault)
 IsFoundEnd (finding.Script line) status = status ≡ Script line
@@ -190,5 +197,6 @@ IsFoundEnd finding.WantOfMemory status = status ≡ WantOfMemory
 -- a command over two files misses one of them that is told nowhere, and is no usage
 abbrev pub IsVerifyEnd : Texts → List ℕ → List ℕ → Status → Type 0
 IsVerifyEnd texts conf journal Usage = ⊥
-IsVerifyEnd texts conf journal (Missing other) = ((other ≡ conf) ⊎ (other ≡ journal)) × IsNotTold texts other
+IsVerifyEnd texts conf journal (Missing other) = ((other ≡ conf) ⊎ (other ≡ journal))
+    × IsNotTold texts other
 IsVerifyEnd texts conf journal status = Unit {0}

@@ -17,7 +17,8 @@ notice_line n = count (codes "notice ") n.line ++ 32 ∷ [] ++ n.directive ++ 10
 abbrev pub counts_line : Configuration → List ℕ
 counts_line c =
     count (codes "ok acls ") (stated c.acls) ++ count (codes " rules ") (length c.rules)
-    ++ count (codes " classes ") (stated_classes c.dst_lookup c.classes) ++ count (codes " pools ") (length c.pools) ++ 10 ∷ []
+    ++ count (codes " classes ") (stated_classes c.dst_lookup c.classes)
+    ++ count (codes " pools ") (length c.pools) ++ 10 ∷ []
 
 -- what `parse` writes
 abbrev pub parse_text : Configuration → List ℕ

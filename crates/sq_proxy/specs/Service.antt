@@ -14,9 +14,9 @@ use Rattle.sq_machine.specs.Readings.{current, offset_of}
 use Rattle.sq_calls.specs.Legality.{Beginning}
 use Rattle.sq_replay.specs.Headline.{IsTrue}
 use Rattle.sq_replay.specs.Openings.{Added}
-use Rattle.sq_panel.specs.declared.panel.PanelEnd.{PanelEnd}
-use Rattle.sq_panel.specs.declared.panel.PanelEnd.TheVariants as panel
-use Rattle.sq_panel.specs.Attending.{FilesSeen, Runs, Streams}
+use Rattle.sq_control.specs.declared.panel.PanelEnd.{PanelEnd}
+use Rattle.sq_control.specs.declared.panel.PanelEnd.TheVariants as panel
+use Rattle.sq_control.specs.Attending.{FilesSeen, Runs, Streams}
 use Rattle.sq_proxy.specs.Commands.{conf_stage}
 use Rattle.sq_proxy.specs.Ends.{EndsBy, IfMissing, last_line}
 use Rattle.sq_proxy.specs.Opened.{IsOnce, first_text}
@@ -24,8 +24,8 @@ use Rattle.sq_proxy.specs.Serving.{Server}
 use Rattle.sq_proxy.specs.declared.ends.Status.{Status}
 use Rattle.sq_proxy.specs.declared.ends.Status.TheVariants as ends
 
--- how a server ends whose panel ended so, by whether a note of its journal failed, and whether its listener did: of several faults by the one
--- with the least code
+-- how a server ends whose panel ended so, by whether a note of its journal failed, and whether its
+-- listener did: of several faults by the one with the least code
 abbrev pub ended_status : PanelEnd → Bool → Bool → Status
 ended_status panel.ReadFault stopped failed = ends.ReadFault
 ended_status panel.WriteFault stopped failed = ends.WriteFault
@@ -34,11 +34,13 @@ ended_status e false true = ends.Net
 ended_status panel.Ended false false = ends.Ok
 ended_status panel.Faulted false false = ends.WantOfMemory
 
--- the port at which a server of this configuration listens: the option's, or else the configuration's
+-- the port at which a server of this configuration listens: the option's, or else the
+-- configuration's
 abbrev pub port_of : Server → Configuration → ℕ
 port_of s config = unwrap_or s.options.port config.port
 
--- with what the machine of a server of this configuration begins: the offset of local time is the option's, or else 0
+-- with what the machine of a server of this configuration begins: the offset of local time is the
+-- option's, or else 0
 abbrev pub beginning_of : Server → Configuration → Beginning
 beginning_of s config = record { config = config; offset = unwrap_or s.options.offset (pos 0) }
 
@@ -56,7 +58,8 @@ IsServerEnd ends.Net = Unit {0}
 IsServerEnd ends.WantOfMemory = Unit {0}
 IsServerEnd status = ⊥
 
--- a server ends by these alone: by one of those, or since its configuration was refused, or is not there
+-- a server ends by these alone: by one of those, or since its configuration was refused, or is not
+-- there
 abbrev pub IsServiceEnd : Status → Type 0
 IsServiceEnd (ends.Config line kind) = Unit {0}
 IsServiceEnd (ends.Missing name) = Unit {0}
@@ -68,14 +71,17 @@ IsUnservedEnd ends.JournalFault = Unit {0}
 IsUnservedEnd ends.WantOfMemory = Unit {0}
 IsUnservedEnd status = ⊥
 
--- The configuration is that of the file of this name: where the files tell their texts, of the text that it has; where they tell their openings,
--- of the text that its one opening gave.
-pub record IsConf (texts : Texts) (name : List ℕ) (before now : Openings) (config : Configuration) : Type 0 where
+-- The configuration is that of the file of this name: where the files tell their texts, of the text
+-- that it has; where they tell their openings, of the text that its one opening gave.
+pub record IsConf (texts : Texts) (name : List ℕ) (before now : Openings)
+    (config : Configuration) : Type 0 where
   pub told : IfSome texts (λ disk. conf_stage name (disk name) ≡ result.Ok config)
-  pub opened : Added before now (λ more. IsOnce name more × (conf_stage name (first_text more) ≡ result.Ok config))
+  pub opened : Added before now
+      (λ more. IsOnce name more × (conf_stage name (first_text more) ≡ result.Ok config))
 
--- The history has the offset of this beginning, and is the machine's over the configuration of that and some others, which are those that the texts
--- of its reconfigurations give; and all is so of it that is so of every run.
+-- The history has the offset of this beginning, and is the machine's over the configuration of that
+-- and some others, which are those that the texts of its reconfigurations give; and all is so of it
+-- that is so of every run.
 pub record IsTrueFrom (first : Beginning) (h : History) : Type 0 where
   pub more : List Configuration
   pub offset_is : offset_of h ≡ first.offset
@@ -85,8 +91,10 @@ pub record IsTrueFrom (first : Beginning) (h : History) : Type 0 where
 abbrev pub IsTrueOrEmpty : Beginning → Option History → Type 0
 IsTrueOrEmpty first history = IfSome history (λ h. (h ≡ []) ⊎ IsTrueFrom first h)
 
--- A panel ran: how it ended, by which the server ended so, and by whether a note of its journal failed, and whether its listener did.
-pub record HasRun (texts : Texts) (name : List ℕ) (port : ℕ) (f g : FilesSeen) (v w : Streams) (status : Status) : Type 0 where
+-- A panel ran: how it ended, by which the server ended so, and by whether a note of its journal
+-- failed, and whether its listener did.
+pub record HasRun (texts : Texts) (name : List ℕ) (port : ℕ) (f g : FilesSeen) (v w : Streams)
+    (status : Status) : Type 0 where
   pub end : PanelEnd
   pub stopped : Bool
   pub failed : Bool
@@ -95,12 +103,19 @@ pub record HasRun (texts : Texts) (name : List ℕ) (port : ℕ) (f g : FilesSee
   pub ended : status ≡ ended_status end stopped failed
 
 -- the desk was not made, and files and streams are as they were; or a panel ran
-abbrev pub RunsOrNot : Texts → List ℕ → ℕ → FilesSeen → FilesSeen → Streams → Streams → Status → Type 0
-RunsOrNot texts name port f g v w status = ((g ≡ f) × (w ≡ v) × IsUnservedEnd status) ⊎ HasRun texts name port f g v w status
+abbrev pub RunsOrNot : Texts → List ℕ → ℕ → FilesSeen → FilesSeen → Streams → Streams → Status
+    → Type 0
+RunsOrNot texts name port f g v w status = ((g ≡ f) × (w ≡ v) × IsUnservedEnd status)
+    ⊎ HasRun texts name port f g v w status
 
--- what came of a server at a port; the numbers are the journal's counts of faults, and the listener's
-pub record IsServed (first : Beginning) (texts : Texts) (name : List ℕ) (port : ℕ) (f g : FilesSeen) (v w : Streams) (journal_before journal_now listener_now : ℕ) (history : Option History) (status : Status) : Type 0 where
-  pub ok : status ≡ ends.Ok → (made : ℕ) × Runs texts name port f g v w panel.Ended made × ForSome history (λ h. made + 1 ≡ current h)
+-- what came of a server at a port; the numbers are the journal's counts of faults, and the
+-- listener's
+pub record IsServed (first : Beginning) (texts : Texts) (name : List ℕ) (port : ℕ) (f g : FilesSeen)
+    (v w : Streams) (journal_before journal_now listener_now : ℕ) (history : Option History)
+    (status : Status) : Type 0 where
+  pub ok : status ≡ ends.Ok
+      → (made : ℕ) × Runs texts name port f g v w panel.Ended made
+      × ForSome history (λ h. made + 1 ≡ current h)
   pub is_true : IsTrueOrEmpty first history
   pub noted : status ≡ ends.Ok → IfSome history (IsTrueFrom first)
   pub read : status ≡ ends.ReadFault → Rose v.input_faults w.input_faults
@@ -114,9 +129,11 @@ pub record IsServed (first : Beginning) (texts : Texts) (name : List ℕ) (port 
   pub output_later : v.output_faults ≤ w.output_faults
   pub journal_later : min journal_before count_limit ≤ journal_now
 
--- A server that ended well: the configuration of its file; at which port it listened; what its panel did; that it wrote so at the end; that its
--- journal, where it tells, is true from that configuration and the stated offset on, with as many reconfigurations as were made.
-pub record EndsWell (s : Server) (texts : Texts) (f g : FilesSeen) (v w : Streams) (history : Option History) : Type 0 where
+-- A server that ended well: the configuration of its file; at which port it listened; what its
+-- panel did; that it wrote so at the end; that its journal, where it tells, is true from that
+-- configuration and the stated offset on, with as many reconfigurations as were made.
+pub record EndsWell (s : Server) (texts : Texts) (f g : FilesSeen) (v w : Streams)
+    (history : Option History) : Type 0 where
   pub config : Configuration
   pub begun : FilesSeen
   pub conf : IsConf texts s.conf f.opened begun.opened config
@@ -133,22 +150,26 @@ abbrev pub EndsOver : Result Configuration Status → Status → Type 0
 EndsOver (result.Err end) status = EndsBy end status
 EndsOver (result.Ok config) status = IsServerEnd status
 
--- The panel of a server did not run: the file of the configuration was opened once at most, the server ended by what its text comes to, and nothing
--- was written by then.
+-- The panel of a server did not run: the file of the configuration was opened once at most, the
+-- server ended by what its text comes to, and nothing was written by then.
 pub record IsUnrun (s : Server) (f g : FilesSeen) (v w : Streams) (status : Status) : Type 0 where
-  pub opened : Added f.opened g.opened (λ more. IsOnce s.conf more × EndsOver (conf_stage s.conf (first_text more)) status)
+  pub opened : Added f.opened g.opened
+      (λ more. IsOnce s.conf more × EndsOver (conf_stage s.conf (first_text more)) status)
   pub same : w ≡ v
   pub unwritten : status ≡ ends.WriteFault → ⊥
 
--- a server whose panel ended so ended by that, and wrote nothing behind what the panel wrote; or it would have ended well, but of the line `stopped`
--- it could write only a part
+-- a server whose panel ended so ended by that, and wrote nothing behind what the panel wrote; or it
+-- would have ended well, but of the line `stopped` it could write only a part
 abbrev pub EndsAfter : PanelEnd → Streams → Streams → Status → Type 0
 EndsAfter end ran w status =
     ((w ≡ ran) × (stopped : Bool) × (failed : Bool) × (status ≡ ended_status end stopped failed))
-    ⊎ ((end ≡ panel.Ended) × (status ≡ ends.WriteFault) × Grew ran.contents w.contents (λ part. IsProperPrefix part stopped_line))
+    ⊎ ((end ≡ panel.Ended) × (status ≡ ends.WriteFault)
+    × Grew ran.contents w.contents (λ part. IsProperPrefix part stopped_line))
 
--- The panel of a server ran: the configuration of its file; at which port it listened; what its panel did, and wrote; and how the server ended by that.
-pub record IsRun (s : Server) (texts : Texts) (f g : FilesSeen) (v w : Streams) (status : Status) : Type 0 where
+-- The panel of a server ran: the configuration of its file; at which port it listened; what its
+-- panel did, and wrote; and how the server ended by that.
+pub record IsRun (s : Server) (texts : Texts) (f g : FilesSeen) (v w : Streams)
+    (status : Status) : Type 0 where
   pub config : Configuration
   pub begun : FilesSeen
   pub conf : IsConf texts s.conf f.opened begun.opened config
@@ -158,8 +179,10 @@ pub record IsRun (s : Server) (texts : Texts) (f g : FilesSeen) (v w : Streams) 
   pub runs : Runs texts s.conf (port_of s config) begun g v ran end made
   pub after : EndsAfter end ran w status
 
--- What a server wrote: nothing, where its panel did not run, or what that wrote; and then this line, or a part of it where a write failed.
-pub record EndsByLine (line : List ℕ) (s : Server) (texts : Texts) (f g : FilesSeen) (v w : Streams) (status : Status) : Type 0 where
+-- What a server wrote: nothing, where its panel did not run, or what that wrote; and then this
+-- line, or a part of it where a write failed.
+pub record EndsByLine (line : List ℕ) (s : Server) (texts : Texts) (f g : FilesSeen) (v w : Streams)
+    (status : Status) : Type 0 where
   pub told : Streams
   pub came : IsUnrun s f g v told status ⊎ IsRun s texts f g v told status
   pub writes : Grew told.contents w.contents (IsWritten told.output_faults w.output_faults line)
@@ -171,9 +194,11 @@ pub record IsTrueOver (s : Server) (texts : Texts) (before : Openings) (h : Hist
   pub conf : IsConf texts s.conf before begun config
   pub is_true : IsTrueFrom (beginning_of s config) h
 
--- what came of a server by its words, which wrote this line last where it did not end well; the numbers are the journal's counts of faults, and the
--- net's
-pub record CameTo (line : List ℕ) (s : Server) (texts : Texts) (f g : FilesSeen) (v w : Streams) (journal_before journal_now net_before net_now : ℕ) (history : Option History) (status : Status) : Type 0 where
+-- what came of a server by its words, which wrote this line last where it did not end well; the
+-- numbers are the journal's counts of faults, and the net's
+pub record CameTo (line : List ℕ) (s : Server) (texts : Texts) (f g : FilesSeen) (v w : Streams)
+    (journal_before journal_now net_before net_now : ℕ) (history : Option History)
+    (status : Status) : Type 0 where
   pub ok : status ≡ ends.Ok → EndsWell s texts f g v w history
   pub bytes : (status ≡ ends.Ok → ⊥) → EndsByLine line s texts f g v w status
   pub is_true : IfSome history (λ h. (h ≡ []) ⊎ IsTrueOver s texts f.opened h)
@@ -191,6 +216,8 @@ pub record CameTo (line : List ℕ) (s : Server) (texts : Texts) (f g : FilesSee
   pub net_later : net_before ≤ net_now
 
 -- the same of one that wrote the last line of its status
-abbrev pub IsService : Server → Texts → FilesSeen → FilesSeen → Streams → Streams → ℕ → ℕ → ℕ → ℕ → Option History → Status → Type 0
+abbrev pub IsService : Server → Texts → FilesSeen → FilesSeen → Streams → Streams → ℕ → ℕ → ℕ → ℕ
+    → Option History → Status → Type 0
 IsService s texts f g v w journal_before journal_now net_before net_now history status =
-    CameTo (last_line status) s texts f g v w journal_before journal_now net_before net_now history status
+    CameTo (last_line status) s texts f g v w journal_before journal_now net_before net_now history
+    status

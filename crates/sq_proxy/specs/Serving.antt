@@ -29,16 +29,20 @@ first (Some a) value = None
 -- what is stated with one option more
 abbrev pub with_option : List ℕ → List ℕ → Options → Option Options
 with_option word value o =
-    if bytes_eq word (codes "--port") then option_map (λ n. record o { port = Some n }) (first o.port (positive_of port_limit value))
-    else (if bytes_eq word (codes "--workers") then option_map (λ n. record o { workers = Some n }) (first o.workers (positive_of worker_limit value))
-    else (if bytes_eq word (codes "--utc-offset") then option_map (λ z. record o { offset = Some z }) (first o.offset (offset_from value))
+    if bytes_eq word (codes "--port") then option_map (λ n. record o { port = Some n })
+    (first o.port (positive_of port_limit value))
+    else (if bytes_eq word (codes "--workers") then option_map (λ n. record o { workers = Some n })
+    (first o.workers (positive_of worker_limit value))
+    else (if bytes_eq word (codes "--utc-offset") then option_map
+    (λ z. record o { offset = Some z }) (first o.offset (offset_from value))
     else None))
 
 -- what pairs of an option and its value state behind others
 abbrev pub options_from : List (List ℕ) → Options → Option Options
 options_from [] o = Some o
 options_from (word ∷ []) o = None
-options_from (word ∷ value ∷ rest) o = option_and_then (options_from rest) (with_option word value o)
+options_from (word ∷ value ∷ rest) o = option_and_then (options_from rest)
+    (with_option word value o)
 
 -- a server by the file of its configuration, with what its options state
 pub record Server : Type 0 where
@@ -47,7 +51,8 @@ pub record Server : Type 0 where
 
 -- the server that the words name, the program's name left out
 abbrev pub service_of : List (List ℕ) → Option Server
-service_of (word ∷ conf ∷ rest) = if bytes_eq word (codes "serve") then option_map (λ o. record { conf = conf; options = o }) (options_from rest no_options) else None
+service_of (word ∷ conf ∷ rest) = if bytes_eq word (codes "serve") then option_map
+    (λ o. record { conf = conf; options = o }) (options_from rest no_options) else None
 service_of words = None
 
 -- the server that the code reads

@@ -24,7 +24,8 @@ pub enum Command<'a> {
 
 /// The command that these words are, the program's name left out.
 pub fn read_command(words: &[Text]) -> Option<Command<'_>>
-    ensures { MatchOption result (command_of words.now ≡ None) (λ c. command_of words.now ≡ Some (shown_command c)) }
+    ensures { MatchOption result (command_of words.now ≡ None)
+        (λ c. command_of words.now ≡ Some (shown_command c)) }
 {
     match words {
         [word, other] => read_single(word, other),
@@ -35,7 +36,8 @@ pub fn read_command(words: &[Text]) -> Option<Command<'_>>
 
 // The command of a word and a name or a number.
 fn read_single<'a>(word: &Text, file: &'a Text) -> Option<Command<'a>>
-    ensures { MatchOption result (single_command word.now file.now ≡ None) (λ c. single_command word.now file.now ≡ Some (shown_command c)) }
+    ensures { MatchOption result (single_command word.now file.now ≡ None)
+        (λ c. single_command word.now file.now ≡ Some (shown_command c)) }
 {
     if word.as_bytes() == b"parse".as_slice() {
         Some(Command::Parse { conf: file })
@@ -50,7 +52,8 @@ fn read_single<'a>(word: &Text, file: &'a Text) -> Option<Command<'a>>
 
 // A rehearsal of the number of requests that a word spells.
 fn read_rehearse<'a>(word: &'a Text) -> Option<Command<'a>>
-    ensures { MatchOption result (rehearse_command word.now ≡ None) (λ c. rehearse_command word.now ≡ Some (shown_command c)) }
+    ensures { MatchOption result (rehearse_command word.now ≡ None)
+        (λ c. rehearse_command word.now ≡ Some (shown_command c)) }
 {
     match number_of(word.as_bytes(), REHEARSE_LIMIT) {
         Some(count) => Some(Command::Rehearse {
@@ -62,7 +65,8 @@ fn read_rehearse<'a>(word: &'a Text) -> Option<Command<'a>>
 
 // The command of a word and two names.
 fn read_pair<'a>(word: &Text, conf: &'a Text, file: &'a Text) -> Option<Command<'a>>
-    ensures { MatchOption result (pair_command word.now conf.now file.now ≡ None) (λ c. pair_command word.now conf.now file.now ≡ Some (shown_command c)) }
+    ensures { MatchOption result (pair_command word.now conf.now file.now ≡ None)
+        (λ c. pair_command word.now conf.now file.now ≡ Some (shown_command c)) }
 {
     if word.as_bytes() == b"replay".as_slice() {
         Some(Command::Replay { conf, script: file })

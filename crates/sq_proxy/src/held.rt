@@ -5,9 +5,9 @@ ghost use Rattle.sq_proxy.specs.Service.{IsServed, IsUnservedEnd, ended_status};
 
 use crate::ends::Status;
 use sq_calls::DeskFault;
-use sq_note::Journal;
+use sq_control::{ControlPanel, PanelEnd};
+use sq_journal_writers::Journal;
 use sq_outside::{Files, Net, Parts, Sink, Source};
-use sq_panel::{ControlPanel, PanelEnd};
 use sq_server::{Served, Start, Unserved, serve};
 use std::alloc::Global;
 use std::sync::Wait;
@@ -79,12 +79,30 @@ pub(crate) fn run_panel<
     ensures files { result.panel.files.ghost_name ≡ panel.entry.files.ghost_name }
     ensures input { result.panel.input.ghost_name ≡ panel.entry.input.ghost_name }
     ensures out { result.panel.out.ghost_name ≡ panel.entry.out.ghost_name }
-    ensures served { IsServed (record { config = start.setup; offset = start.offset }) (F.texts panel.entry.files.now) panel.entry.conf.now panel.entry.port
-        (record { opened = F.opened panel.entry.files.now; faults = F.faults panel.entry.files.now })
-        (record { opened = F.opened result.panel.files.now; faults = F.faults result.panel.files.now })
-        (record { left = S.left panel.entry.input.now; input_faults = S.faults panel.entry.input.now; contents = O.contents panel.entry.out.now; output_faults = O.faults panel.entry.out.now })
-        (record { left = S.left result.panel.input.now; input_faults = S.faults result.panel.input.now; contents = O.contents result.panel.out.now; output_faults = O.faults result.panel.out.now })
-        (J.faults journal) (J.faults result.journal) (N.L.faults result.listener) (J.history result.journal) result.status }
+    ensures served { IsServed (record { config = start.setup; offset = start.offset })
+        (F.texts panel.entry.files.now) panel.entry.conf.now panel.entry.port
+        (record {
+          opened = F.opened panel.entry.files.now;
+          faults = F.faults panel.entry.files.now;
+        })
+        (record {
+          opened = F.opened result.panel.files.now;
+          faults = F.faults result.panel.files.now;
+        })
+        (record {
+          left = S.left panel.entry.input.now;
+          input_faults = S.faults panel.entry.input.now;
+          contents = O.contents panel.entry.out.now;
+          output_faults = O.faults panel.entry.out.now;
+        })
+        (record {
+          left = S.left result.panel.input.now;
+          input_faults = S.faults result.panel.input.now;
+          contents = O.contents result.panel.out.now;
+          output_faults = O.faults result.panel.out.now;
+        })
+        (J.faults journal) (J.faults result.journal) (N.L.faults result.listener)
+        (J.history result.journal) result.status }
     ensures texts { F.texts result.panel.files.now ≡ F.texts panel.entry.files.now }
 {
     match serve(rt, alloc, start, parts, journal, workers, panel) {

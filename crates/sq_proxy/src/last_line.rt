@@ -5,7 +5,7 @@ ghost use Rattle.sq_base.specs.Escapes.{escaped, text_word};
 ghost use Rattle.sq_outside.specs.Causes.{HasCause};
 ghost use Rattle.sq_outside.specs.Output.{Grew, IsPrefix, IsWritten};
 ghost use Rattle.sq_proxy.specs.Ends.{config_line, end_of, is_silent, last_line};
-ghost use Rattle.sq_verify.specs.Telling.{differs_text};
+ghost use Rattle.sq_verify.specs.FindingText.{differs_text};
 
 use crate::ends::Status;
 use itoa::Buffer;
@@ -20,8 +20,11 @@ const USAGE: &[u8] =
 
 // Writes bytes escaped, piece by piece.
 fn write_escaped<O: Sink>(out: &mut O, bytes: &[u8]) -> Result<(), Failed>
-    ensures ok { OnOk result (Appends (O.contents out.old) (O.contents out.new) (escaped bytes.now)) }
-    ensures err { OnErr result (Grew (O.contents out.old) (O.contents out.new) (λ part. IsPrefix part (escaped bytes.now))) }
+    ensures ok { OnOk result
+        (Appends (O.contents out.old) (O.contents out.new) (escaped bytes.now)) }
+    ensures err { OnErr result
+        (Grew (O.contents out.old) (O.contents out.new)
+        (λ part. IsPrefix part (escaped bytes.now))) }
     ensures cause { HasCause (O.faults out.old) (O.faults out.new) result }
 {
     for piece in percent_encode(bytes, ESCAPES) {
@@ -36,8 +39,11 @@ fn write_escaped<O: Sink>(out: &mut O, bytes: &[u8]) -> Result<(), Failed>
 // Writes the word of a text.
 #[tactic(auto, unfolding(sq_base::specs::Escapes::text_word))]
 fn write_text<O: Sink>(out: &mut O, bytes: &[u8]) -> Result<(), Failed>
-    ensures ok { OnOk result (Appends (O.contents out.old) (O.contents out.new) (text_word bytes.now)) }
-    ensures err { OnErr result (Grew (O.contents out.old) (O.contents out.new) (λ part. IsPrefix part (text_word bytes.now))) }
+    ensures ok { OnOk result
+        (Appends (O.contents out.old) (O.contents out.new) (text_word bytes.now)) }
+    ensures err { OnErr result
+        (Grew (O.contents out.old) (O.contents out.new)
+        (λ part. IsPrefix part (text_word bytes.now))) }
     ensures cause { HasCause (O.faults out.old) (O.faults out.new) result }
 {
     if bytes.is_empty() {
@@ -51,7 +57,9 @@ fn write_text<O: Sink>(out: &mut O, bytes: &[u8]) -> Result<(), Failed>
 
 // Writes a line that ends with the word of a text.
 fn write_text_line<O: Sink>(out: &mut O, head: &[u8], bytes: &[u8]) -> Result<(), Failed>
-    ensures ok { OnOk result (Appends (O.contents out.old) (O.contents out.new) (head.now ++ text_word bytes.now ++ 10 ∷ [])) }
+    ensures ok { OnOk result
+        (Appends (O.contents out.old) (O.contents out.new)
+        (head.now ++ text_word bytes.now ++ 10 ∷ [])) }
     ensures err { OnErr result (Grew (O.contents out.old) (O.contents out.new)
         (λ part. IsPrefix part (head.now ++ text_word bytes.now ++ 10 ∷ []))) }
     ensures cause { HasCause (O.faults out.old) (O.faults out.new) result }
@@ -72,7 +80,9 @@ fn write_text_line<O: Sink>(out: &mut O, head: &[u8], bytes: &[u8]) -> Result<()
 
 // Writes a line that ends with a number.
 fn write_number_line<O: Sink>(out: &mut O, head: &[u8], number: u64) -> Result<(), Failed>
-    ensures ok { OnOk result (Appends (O.contents out.old) (O.contents out.new) (head.now ++ decimal number ++ 10 ∷ [])) }
+    ensures ok { OnOk result
+        (Appends (O.contents out.old) (O.contents out.new)
+        (head.now ++ decimal number ++ 10 ∷ [])) }
     ensures err { OnErr result (Grew (O.contents out.old) (O.contents out.new)
         (λ part. IsPrefix part (head.now ++ decimal number ++ 10 ∷ []))) }
     ensures cause { HasCause (O.faults out.old) (O.faults out.new) result }
@@ -88,7 +98,9 @@ fn write_pair_line<O: Sink>(
     first: &[u8],
     second: &[u8],
 ) -> Result<(), Failed>
-    ensures ok { OnOk result (Appends (O.contents out.old) (O.contents out.new) (head.now ++ first.now ++ (32 ∷ (second.now ++ 10 ∷ [])))) }
+    ensures ok { OnOk result
+        (Appends (O.contents out.old) (O.contents out.new)
+        (head.now ++ first.now ++ (32 ∷ (second.now ++ 10 ∷ [])))) }
     ensures err { OnErr result (Grew (O.contents out.old) (O.contents out.new)
         (λ part. IsPrefix part (head.now ++ first.now ++ (32 ∷ (second.now ++ 10 ∷ []))))) }
     ensures cause { HasCause (O.faults out.old) (O.faults out.new) result }
@@ -109,8 +121,11 @@ fn write_pair_line<O: Sink>(
 
 // Writes the line of a configuration's fault.
 fn write_config_line<O: Sink>(out: &mut O, line: u32, kind: u8) -> Result<(), Failed>
-    ensures ok { OnOk result (Appends (O.contents out.old) (O.contents out.new) (config_line line kind)) }
-    ensures err { OnErr result (Grew (O.contents out.old) (O.contents out.new) (λ part. IsPrefix part (config_line line kind))) }
+    ensures ok { OnOk result
+        (Appends (O.contents out.old) (O.contents out.new) (config_line line kind)) }
+    ensures err { OnErr result
+        (Grew (O.contents out.old) (O.contents out.new)
+        (λ part. IsPrefix part (config_line line kind))) }
     ensures cause { HasCause (O.faults out.old) (O.faults out.new) result }
 {
     let mut first = Buffer::new();
@@ -127,8 +142,12 @@ fn write_differs_lines<O: Sink>(
     machine: &[u8],
     journal: &[u8],
 ) -> Result<(), Failed>
-    ensures ok { OnOk result (Appends (O.contents out.old) (O.contents out.new) (differs_text line machine.now journal.now)) }
-    ensures err { OnErr result (Grew (O.contents out.old) (O.contents out.new) (λ part. IsPrefix part (differs_text line machine.now journal.now))) }
+    ensures ok { OnOk result
+        (Appends (O.contents out.old) (O.contents out.new)
+        (differs_text line machine.now journal.now)) }
+    ensures err { OnErr result
+        (Grew (O.contents out.old) (O.contents out.new)
+        (λ part. IsPrefix part (differs_text line machine.now journal.now))) }
     ensures cause { HasCause (O.faults out.old) (O.faults out.new) result }
 {
     write_differs(out, line, machine, journal)
@@ -136,8 +155,11 @@ fn write_differs_lines<O: Sink>(
 
 // Writes the last line of a status.
 fn write_last_line<O: Sink>(out: &mut O, status: &Status) -> Result<(), Failed>
-    ensures ok { OnOk result (Appends (O.contents out.old) (O.contents out.new) (last_line status.now)) }
-    ensures err { OnErr result (Grew (O.contents out.old) (O.contents out.new) (λ part. IsPrefix part (last_line status.now))) }
+    ensures ok { OnOk result
+        (Appends (O.contents out.old) (O.contents out.new) (last_line status.now)) }
+    ensures err { OnErr result
+        (Grew (O.contents out.old) (O.contents out.new)
+        (λ part. IsPrefix part (last_line status.now))) }
     ensures cause { HasCause (O.faults out.old) (O.faults out.new) result }
     ensures silent { is_silent (end_of status.now) ≡ true → out.new ≡ out.old }
 {

@@ -54,12 +54,15 @@ fn failed_end(end: Status) -> Status
 
 // Writes what the page holds at the end of a migration.
 fn settle<O: Sink>(page: &mut Vec<u8>, out: &mut O, ended: Result<(), MigrateFault>) -> Status
-    ensures delivers { (base : Option (List ℕ)) (read : Reading) → Migrates base (O.contents out.old) page.old.items read ended
-        → Delivers base (O.contents out.new) (O.faults out.old) (O.faults out.new) (migrated read) result }
+    ensures delivers { (base : Option (List ℕ)) (read : Reading)
+        → Migrates base (O.contents out.old) page.old.items read ended
+        → Delivers base (O.contents out.new) (O.faults out.old) (O.faults out.new) (migrated read)
+        result }
     ensures same { IsSettled (migrate_status ended) result }
     ensures read { migrate_status ended ≡ ends.ReadFault → result ≡ ends.ReadFault }
     ensures later { O.faults out.old ≤ O.faults out.new }
-    ensures write { result ≡ ends.WriteFault → (migrate_status ended ≡ ends.WriteFault) ⊎ Rose (O.faults out.old) (O.faults out.new) }
+    ensures write { result ≡ ends.WriteFault
+        → (migrate_status ended ≡ ends.WriteFault) ⊎ Rose (O.faults out.old) (O.faults out.new) }
     ensures quiet { IsToldEnd (end_of result) → O.faults out.new ≡ O.faults out.old }
 {
     let end = migrate_status(ended);
@@ -79,12 +82,16 @@ pub fn migrate<F: Files, O: Sink>(
     files: &mut F,
     out: &mut O,
 ) -> Status
-    ensures delivers { IfSome (F.texts files.old) (λ disk. Delivers (O.contents out.old) (O.contents out.new) (O.faults out.old) (O.faults out.new)
+    ensures delivers { IfSome (F.texts files.old)
+        (λ disk. Delivers (O.contents out.old) (O.contents out.new) (O.faults out.old)
+        (O.faults out.new)
         (migrate_output disk journal.now) result) }
     ensures opened { Added (F.opened files.old) (F.opened files.new)
-        (CommandOpened (Some (Migrate journal.now)) (O.contents out.old) (O.contents out.new) (O.faults out.old) (O.faults out.new) result) }
+        (CommandOpened (Some (Migrate journal.now)) (O.contents out.old) (O.contents out.new)
+        (O.faults out.old) (O.faults out.new) result) }
     ensures end { IsPlayedEnd (F.texts files.old) journal.now result }
-    ensures causes { HasCauses (F.faults files.old) (F.faults files.new) (O.faults out.old) (O.faults out.new) result }
+    ensures causes { HasCauses (F.faults files.old) (F.faults files.new) (O.faults out.old)
+        (O.faults out.new) result }
 {
     let mut source = match files.open(alloc, journal) {
         Ok(source) => source,

@@ -100,7 +100,8 @@ fn options_from(words: &[Text], options: Options) -> Option<Options>
 
 /// The server that these words name, the program's name left out.
 pub fn read_service(words: &[Text]) -> Option<Service<'_>>
-    ensures { MatchOption result (service_of words.now ≡ None) (λ s. service_of words.now ≡ Some (shown_service s)) }
+    ensures { MatchOption result (service_of words.now ≡ None)
+        (λ s. service_of words.now ≡ Some (shown_service s)) }
 {
     match words {
         [word, conf, rest @ ..] => {

@@ -18,7 +18,7 @@ use crate::serving::serve_service;
 use crate::top::run_command;
 use sq_base::Text;
 use sq_cache::HashSeed;
-use sq_note::Journal;
+use sq_journal_writers::Journal;
 use sq_outside::{Files, Net, Sink, Source};
 use std::alloc::Global;
 use std::sync::Wait;
@@ -51,18 +51,22 @@ pub fn proxy<
 ) -> (Status, Option<J>)
     requires { IfSome (J.history journal) (λ h. h ≡ []) }
     // What a command writes, where the files and the sink tell: its text, and the last line.
-    ensures bytes { service_of words.now ≡ None → IfSome (F.texts files.old) (λ disk. Grew (O.contents out.old) (O.contents out.new)
+    ensures bytes { service_of words.now ≡ None
+        → IfSome (F.texts files.old) (λ disk. Grew (O.contents out.old) (O.contents out.new)
         (IsOutput (output_of disk words.now) (O.faults out.old) (O.faults out.new) result.0)) }
     // Where the files tell their openings: CONF is opened first, once, then JOURNAL, once, or SCRIPT, and then what its lines name, as
     // far as it was run, in their order, and nothing else. What is written, how it ends, and what is true of a run and of a journal
     // that was judged, comes of the texts that these openings gave.
     ensures opened { service_of words.now ≡ None → Added (F.opened files.old) (F.opened files.new)
-        (CameOf (command_of words.now) (O.contents out.old) (O.contents out.new) (O.faults out.old) (O.faults out.new) result.0) }
+        (CameOf (command_of words.now) (O.contents out.old) (O.contents out.new) (O.faults out.old)
+        (O.faults out.new) result.0) }
     // How it ends, where the files tell: so, or by a fault.
-    ensures ended { service_of words.now ≡ None → IfSome (F.texts files.old) (λ disk. EndsBy (output_of disk words.now).end result.0) }
+    ensures ended { service_of words.now ≡ None
+        → IfSome (F.texts files.old) (λ disk. EndsBy (output_of disk words.now).end result.0) }
     // How it ends, where the files tell and no count rises: so, or by want of memory.
     ensures complete { service_of words.now ≡ None → IfSome (F.texts files.old) (λ disk.
-        (Rose (F.faults files.old) (F.faults files.new) → ⊥) → (Rose (O.faults out.old) (O.faults out.new) → ⊥)
+        (Rose (F.faults files.old) (F.faults files.new) → ⊥)
+        → (Rose (O.faults out.old) (O.faults out.new) → ⊥)
         → EndsWithoutFault (output_of disk words.now).end result.0) }
     // The history of a run is legal; each verdict in it is that of the configuration current when its check began, over what the
     // check saw then and answers that have their sources; each reconfiguration's is the configuration of its text; and between any two
@@ -72,28 +76,48 @@ pub fn proxy<
     ensures migrates { IfSome (F.texts files.old) (λ disk. MigratesTruly disk words.now) }
     // After `Ok` a journal that was judged is, byte for byte, the text of a history over the configuration that CONF holds and those that
     // the journal's reconfigurations hold, and all holds of it that holds of every run.
-    ensures audits { service_of words.now ≡ None → result.0 ≡ ends.Ok → IfSome (F.texts files.old) (λ disk. AuditsFiles disk words.now) }
-    ensures usage { (result.0 ≡ ends.Usage) ↔ ((command_of words.now ≡ None) × (service_of words.now ≡ None)) }
-    ensures missing { service_of words.now ≡ None → IfMissing result.0 (λ name. IsNamed (F.texts files.old) (command_of words.now) name × IsNotTold (F.texts files.old) name) }
-    ensures read { service_of words.now ≡ None → result.0 ≡ ends.ReadFault → Rose (F.faults files.old) (F.faults files.new) }
+    ensures audits { service_of words.now ≡ None → result.0 ≡ ends.Ok
+        → IfSome (F.texts files.old) (λ disk. AuditsFiles disk words.now) }
+    ensures usage { (result.0 ≡ ends.Usage)
+        ↔ ((command_of words.now ≡ None) × (service_of words.now ≡ None)) }
+    ensures missing { service_of words.now ≡ None
+        → IfMissing result.0 (λ name. IsNamed (F.texts files.old) (command_of words.now) name
+        × IsNotTold (F.texts files.old) name) }
+    ensures read { service_of words.now ≡ None → result.0 ≡ ends.ReadFault
+        → Rose (F.faults files.old) (F.faults files.new) }
     ensures write { result.0 ≡ ends.WriteFault → Rose (O.faults out.old) (O.faults out.new) }
     // The first fault of a device ends the run: where it ended otherwise, no count rose.
-    ensures files_quiet { service_of words.now ≡ None → (result.0 ≡ ends.ReadFault → ⊥) → F.faults files.new ≡ F.faults files.old }
-    ensures out_quiet { service_of words.now ≡ None → result.0 ≡ ends.Ok → O.faults out.new ≡ O.faults out.old }
+    ensures files_quiet { service_of words.now ≡ None → (result.0 ≡ ends.ReadFault → ⊥)
+        → F.faults files.new ≡ F.faults files.old }
+    ensures out_quiet { service_of words.now ≡ None → result.0 ≡ ends.Ok
+        → O.faults out.new ≡ O.faults out.old }
     ensures files_later { service_of words.now ≡ None → F.faults files.old ≤ F.faults files.new }
     ensures out_later { service_of words.now ≡ None → O.faults out.old ≤ O.faults out.new }
     // A command leaves the journal, the control source and the net as they are.
-    ensures untouched { service_of words.now ≡ None → (result.1 ≡ Some journal) × (control.new ≡ control.old) × (net.new ≡ net.old) }
+    ensures untouched { service_of words.now ≡ None
+        → (result.1 ≡ Some journal) × (control.new ≡ control.old) × (net.new ≡ net.old) }
     // The journal is handed back.
     ensures journal { IsSome result.1 }
     // A server: its journal, where it tells, is legal; how it ends by its configuration's file, each fault with its cause; and where it ended well, what
     // it wrote and what it did at each order.
-    ensures serves { IfSome (service_of words.now) (λ s. IfSome result.1 (λ j. IsService s (F.texts files.old)
+    ensures serves { IfSome (service_of words.now)
+        (λ s. IfSome result.1 (λ j. IsService s (F.texts files.old)
         (record { opened = F.opened files.old; faults = F.faults files.old })
         (record { opened = F.opened files.new; faults = F.faults files.new })
-        (record { left = C.left control.old; input_faults = C.faults control.old; contents = O.contents out.old; output_faults = O.faults out.old })
-        (record { left = C.left control.new; input_faults = C.faults control.new; contents = O.contents out.new; output_faults = O.faults out.new })
-        (J.faults journal) (J.faults j) (N.faults net.old) (N.faults net.new) (J.history j) result.0)) }
+        (record {
+          left = C.left control.old;
+          input_faults = C.faults control.old;
+          contents = O.contents out.old;
+          output_faults = O.faults out.old;
+        })
+        (record {
+          left = C.left control.new;
+          input_faults = C.faults control.new;
+          contents = O.contents out.new;
+          output_faults = O.faults out.new;
+        })
+        (J.faults journal) (J.faults j) (N.faults net.old) (N.faults net.new) (J.history j)
+        result.0)) }
 {
     match read_service(words) {
         Some(service) => {

@@ -32,9 +32,11 @@ fn summed(alloc: Global, count: u32) -> Result<Text, Status>
 
 /// Rehearses so many requests, and writes the line that sums up what came of them.
 pub fn rehearse<O: Sink>(alloc: Global, count: u32, out: &mut O) -> Status
-    ensures delivers { Delivers (O.contents out.old) (O.contents out.new) (O.faults out.old) (O.faults out.new) (rehearse_output count) result }
+    ensures delivers { Delivers (O.contents out.old) (O.contents out.new) (O.faults out.old)
+        (O.faults out.new) (rehearse_output count) result }
     ensures end { IsRehearsedEnd result }
-    ensures causes { (files : ℕ) → HasCauses files files (O.faults out.old) (O.faults out.new) result }
+    ensures causes { (files : ℕ)
+        → HasCauses files files (O.faults out.old) (O.faults out.new) result }
 {
     let line = match summed(alloc, count) {
         Ok(line) => line,

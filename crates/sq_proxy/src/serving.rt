@@ -15,10 +15,10 @@ use crate::options::{Options, Service};
 use crate::stages::open_conf;
 use sq_base::Text;
 use sq_cache::HashSeed;
+use sq_control::{ControlPanel, take_back};
+use sq_journal_writers::Journal;
 use sq_machine::Offset;
-use sq_note::Journal;
 use sq_outside::{Failed, Files, Net, Parts, Sink, Source, write_line};
-use sq_panel::{ControlPanel, take_back};
 use sq_rules::Config;
 use sq_server::Start;
 use std::alloc::Global;
@@ -52,11 +52,22 @@ pub fn serve_at<
 ) -> (Status, J, N::L)
     requires empty { IfSome (J.history journal) (λ h. h ≡ []) }
     requires some { (0 < workers) × (workers ≤ 2 ^ 31) }
-    ensures served { IsServed (record { config = start.setup; offset = start.offset }) (F.texts files.old) conf.now port
+    ensures served { IsServed (record { config = start.setup; offset = start.offset })
+        (F.texts files.old) conf.now port
         (record { opened = F.opened files.old; faults = F.faults files.old })
         (record { opened = F.opened files.new; faults = F.faults files.new })
-        (record { left = C.left control.old; input_faults = C.faults control.old; contents = O.contents out.old; output_faults = O.faults out.old })
-        (record { left = C.left control.new; input_faults = C.faults control.new; contents = O.contents out.new; output_faults = O.faults out.new })
+        (record {
+          left = C.left control.old;
+          input_faults = C.faults control.old;
+          contents = O.contents out.old;
+          output_faults = O.faults out.old;
+        })
+        (record {
+          left = C.left control.new;
+          input_faults = C.faults control.new;
+          contents = O.contents out.new;
+          output_faults = O.faults out.new;
+        })
         (J.faults journal) (J.faults result.1) (N.L.faults result.2) (J.history result.1) result.0 }
     ensures texts { F.texts files.new ≡ F.texts files.old }
 {
@@ -118,12 +129,16 @@ fn workers_of(options: &Options) -> u32
 }
 
 // Says of a server that ended well that it stopped.
-fn tell_stopped<O: Sink>(out: &mut O, status: Status) -> Status
-    ensures ok { result ≡ ends.Ok → (status ≡ ends.Ok) × Appends (O.contents out.old) (O.contents out.new) stopped_line }
+fn write_stopped<O: Sink>(out: &mut O, status: Status) -> Status
+    ensures ok { result ≡ ends.Ok
+        → (status ≡ ends.Ok) × Appends (O.contents out.old) (O.contents out.new) stopped_line }
     ensures kept { (status ≡ ends.Ok → ⊥) → (result ≡ status) × (out.new ≡ out.old) }
-    ensures short { status ≡ ends.Ok → result ≡ ends.WriteFault → Grew (O.contents out.old) (O.contents out.new) (λ part. IsProperPrefix part stopped_line) }
+    ensures short { status ≡ ends.Ok → result ≡ ends.WriteFault
+        → Grew (O.contents out.old) (O.contents out.new)
+        (λ part. IsProperPrefix part stopped_line) }
     ensures same { IsSettled status result }
-    ensures write { result ≡ ends.WriteFault → (status ≡ ends.WriteFault) ⊎ Rose (O.faults out.old) (O.faults out.new) }
+    ensures write { result ≡ ends.WriteFault
+        → (status ≡ ends.WriteFault) ⊎ Rose (O.faults out.old) (O.faults out.new) }
     ensures later { O.faults out.old ≤ O.faults out.new }
 {
     match status {
@@ -159,9 +174,20 @@ pub fn serve_conf<
     ensures { CameTo [] (shown_service service.now) (F.texts files.old)
         (record { opened = F.opened files.old; faults = F.faults files.old })
         (record { opened = F.opened files.new; faults = F.faults files.new })
-        (record { left = C.left control.old; input_faults = C.faults control.old; contents = O.contents out.old; output_faults = O.faults out.old })
-        (record { left = C.left control.new; input_faults = C.faults control.new; contents = O.contents out.new; output_faults = O.faults out.new })
-        (J.faults journal) (J.faults result.1) (N.faults net.old) (N.faults net.new) (J.history result.1) result.0 }
+        (record {
+          left = C.left control.old;
+          input_faults = C.faults control.old;
+          contents = O.contents out.old;
+          output_faults = O.faults out.old;
+        })
+        (record {
+          left = C.left control.new;
+          input_faults = C.faults control.new;
+          contents = O.contents out.new;
+          output_faults = O.faults out.new;
+        })
+        (J.faults journal) (J.faults result.1) (N.faults net.old) (N.faults net.new)
+        (J.history result.1) result.0 }
 {
     let setup = match open_conf(alloc, service.conf, files) {
         Ok(setup) => setup,
@@ -192,7 +218,7 @@ pub fn serve_conf<
         journal,
     );
     net.give_back(listener);
-    (tell_stopped(out, status), journal)
+    (write_stopped(out, status), journal)
 }
 
 /// The same, and then the last line.
@@ -218,9 +244,20 @@ pub fn serve_service<
     ensures { IsService (shown_service service.now) (F.texts files.old)
         (record { opened = F.opened files.old; faults = F.faults files.old })
         (record { opened = F.opened files.new; faults = F.faults files.new })
-        (record { left = C.left control.old; input_faults = C.faults control.old; contents = O.contents out.old; output_faults = O.faults out.old })
-        (record { left = C.left control.new; input_faults = C.faults control.new; contents = O.contents out.new; output_faults = O.faults out.new })
-        (J.faults journal) (J.faults result.1) (N.faults net.old) (N.faults net.new) (J.history result.1) result.0 }
+        (record {
+          left = C.left control.old;
+          input_faults = C.faults control.old;
+          contents = O.contents out.old;
+          output_faults = O.faults out.old;
+        })
+        (record {
+          left = C.left control.new;
+          input_faults = C.faults control.new;
+          contents = O.contents out.new;
+          output_faults = O.faults out.new;
+        })
+        (J.faults journal) (J.faults result.1) (N.faults net.old) (N.faults net.new)
+        (J.history result.1) result.0 }
 {
     let (status, journal) = serve_conf(rt, alloc, service, seed, files, out, control, net, journal);
     (finish(out, status), journal)

@@ -49,11 +49,13 @@ pub fn judge_text(alloc: Global, text: &[u8]) -> Result<Setup, Status>
 
 /// Reads the configuration of the file of this name.
 pub fn open_conf<F: Files>(alloc: Global, name: &Text, files: &mut F) -> Result<Setup, Status>
-    ensures comes { IfSome (F.texts files.old) (λ disk. Comes result (conf_stage name.now (disk name.now))) }
+    ensures comes { IfSome (F.texts files.old)
+        (λ disk. Comes result (conf_stage name.now (disk name.now))) }
     ensures good { IfOk result IsConfiguration }
     ensures end { IfErr result (IsOpenEnd (F.texts files.old) name.now) }
     ensures later { F.faults files.old ≤ F.faults files.new }
-    ensures read { IfErr result (λ end. end ≡ ends.ReadFault → Rose (F.faults files.old) (F.faults files.new)) }
+    ensures read { IfErr result
+        (λ end. end ≡ ends.ReadFault → Rose (F.faults files.old) (F.faults files.new)) }
     ensures quiet { (IsErrOf result ends.ReadFault → ⊥) → F.faults files.new ≡ F.faults files.old }
     ensures texts { F.texts files.new ≡ F.texts files.old }
     // Where openings are told: the file was opened once at most, and this came of its text.

@@ -7,7 +7,7 @@ ghost use Rattle.sq_outside.specs.SourceLines.{lines};
 ghost use Rattle.sq_proxy.specs.declared.ends.Status.TheVariants as ends;
 ghost use Rattle.sq_proxy.specs.Commands.{command_of, output_of, parse_output, ran_output, replay_output, script_stage, shelf_of, staged, AuditsFiles, IsNamed, MigratesTruly, Parse, Replay, RunsTruly};
 ghost use Rattle.sq_proxy.specs.Ends.{EndsBy, EndsWithoutFault, HasCauses, IfMissing, IsPlayedEnd, IsReplayEnd, IsToldEnd, end_of, run_status};
-ghost use Rattle.sq_replay.specs.RunText.{Ran, run_script};
+ghost use Rattle.sq_replay.specs.RunText.{ScriptRun, run_script};
 ghost use Rattle.sq_replay.specs.Runs.{Reaches};
 ghost use Rattle.sq_proxy.specs.Opened.{CameOf, CommandOpened, PlayOpened};
 ghost use Rattle.sq_proxy.specs.Outputs.{Delivers, IsOutput, IsSettled, failed_end, is_write_fault};
@@ -51,12 +51,15 @@ fn failed_end(end: Status) -> Status
 
 // Writes what the page holds at the end of a run.
 fn settle<O: Sink>(page: &mut Vec<u8>, out: &mut O, end: RunEnd) -> Status
-    ensures delivers { (base : Option (List ℕ)) (ran : Ran) → Reaches base (O.contents out.old) page.old.items ran end
-        → Delivers base (O.contents out.new) (O.faults out.old) (O.faults out.new) (ran_output ran) result }
+    ensures delivers { (base : Option (List ℕ)) (ran : ScriptRun)
+        → Reaches base (O.contents out.old) page.old.items ran end
+        → Delivers base (O.contents out.new) (O.faults out.old) (O.faults out.new) (ran_output ran)
+        result }
     ensures same { IsSettled (run_status end) result }
     ensures read { run_status end ≡ ends.ReadFault → result ≡ ends.ReadFault }
     ensures later { O.faults out.old ≤ O.faults out.new }
-    ensures write { result ≡ ends.WriteFault → (run_status end ≡ ends.WriteFault) ⊎ Rose (O.faults out.old) (O.faults out.new) }
+    ensures write { result ≡ ends.WriteFault
+        → (run_status end ≡ ends.WriteFault) ⊎ Rose (O.faults out.old) (O.faults out.new) }
     ensures quiet { IsToldEnd (end_of result) → O.faults out.new ≡ O.faults out.old }
 {
     let end = status_of(end);
@@ -77,11 +80,17 @@ fn play<F: Files, O: Sink>(
     files: &mut F,
     out: &mut O,
 ) -> Status
-    ensures delivers { IfSome (F.texts files.old) (λ disk. Delivers (O.contents out.old) (O.contents out.new) (O.faults out.old) (O.faults out.new)
-        (staged (script_stage script.now (disk script.now)) (λ text. ran_output (run_script (shelf_of disk) setup (lines text)))) result) }
-    ensures opened { Added (F.opened files.old) (F.opened files.new) (PlayOpened script.now setup (O.contents out.old) (O.contents out.new) (O.faults out.old) (O.faults out.new) result) }
+    ensures delivers { IfSome (F.texts files.old)
+        (λ disk. Delivers (O.contents out.old) (O.contents out.new) (O.faults out.old)
+        (O.faults out.new)
+        (staged (script_stage script.now (disk script.now))
+        (λ text. ran_output (run_script (shelf_of disk) setup (lines text)))) result) }
+    ensures opened { Added (F.opened files.old) (F.opened files.new)
+        (PlayOpened script.now setup (O.contents out.old) (O.contents out.new) (O.faults out.old)
+        (O.faults out.new) result) }
     ensures end { IsReplayEnd (F.texts files.old) result }
-    ensures causes { HasCauses (F.faults files.old) (F.faults files.new) (O.faults out.old) (O.faults out.new) result }
+    ensures causes { HasCauses (F.faults files.old) (F.faults files.new) (O.faults out.old)
+        (O.faults out.new) result }
 {
     let mut source = match files.open(alloc, script) {
         Ok(source) => source,
@@ -103,12 +112,16 @@ fn replay<F: Files, O: Sink>(
     files: &mut F,
     out: &mut O,
 ) -> Status
-    ensures delivers { IfSome (F.texts files.old) (λ disk. Delivers (O.contents out.old) (O.contents out.new) (O.faults out.old) (O.faults out.new)
+    ensures delivers { IfSome (F.texts files.old)
+        (λ disk. Delivers (O.contents out.old) (O.contents out.new) (O.faults out.old)
+        (O.faults out.new)
         (replay_output disk conf.now script.now) result) }
     ensures opened { Added (F.opened files.old) (F.opened files.new)
-        (CommandOpened (Some (Replay conf.now script.now)) (O.contents out.old) (O.contents out.new) (O.faults out.old) (O.faults out.new) result) }
+        (CommandOpened (Some (Replay conf.now script.now)) (O.contents out.old) (O.contents out.new)
+        (O.faults out.old) (O.faults out.new) result) }
     ensures end { IsReplayEnd (F.texts files.old) result }
-    ensures causes { HasCauses (F.faults files.old) (F.faults files.new) (O.faults out.old) (O.faults out.new) result }
+    ensures causes { HasCauses (F.faults files.old) (F.faults files.new) (O.faults out.old)
+        (O.faults out.new) result }
 {
     match open_conf(alloc, conf, files) {
         Ok(setup) => play(alloc, setup, script, files, out),
@@ -118,12 +131,16 @@ fn replay<F: Files, O: Sink>(
 
 // Reads a configuration, and writes what it counts.
 fn parse<F: Files, O: Sink>(alloc: Global, conf: &Text, files: &mut F, out: &mut O) -> Status
-    ensures delivers { IfSome (F.texts files.old) (λ disk. Delivers (O.contents out.old) (O.contents out.new) (O.faults out.old) (O.faults out.new)
+    ensures delivers { IfSome (F.texts files.old)
+        (λ disk. Delivers (O.contents out.old) (O.contents out.new) (O.faults out.old)
+        (O.faults out.new)
         (parse_output disk conf.now) result) }
     ensures opened { Added (F.opened files.old) (F.opened files.new)
-        (CommandOpened (Some (Parse conf.now)) (O.contents out.old) (O.contents out.new) (O.faults out.old) (O.faults out.new) result) }
+        (CommandOpened (Some (Parse conf.now)) (O.contents out.old) (O.contents out.new)
+        (O.faults out.old) (O.faults out.new) result) }
     ensures end { IsPlayedEnd (F.texts files.old) conf.now result }
-    ensures causes { HasCauses (F.faults files.old) (F.faults files.new) (O.faults out.old) (O.faults out.new) result }
+    ensures causes { HasCauses (F.faults files.old) (F.faults files.new) (O.faults out.old)
+        (O.faults out.new) result }
 {
     let setup = match open_conf(alloc, conf, files) {
         Ok(setup) => setup,
@@ -141,13 +158,19 @@ fn parse<F: Files, O: Sink>(alloc: Global, conf: &Text, files: &mut F, out: &mut
 
 // Does what the words say, but for the last line.
 fn run_words<F: Files, O: Sink>(alloc: Global, words: &[Text], files: &mut F, out: &mut O) -> Status
-    ensures delivers { IfSome (F.texts files.old) (λ disk. Delivers (O.contents out.old) (O.contents out.new) (O.faults out.old) (O.faults out.new)
+    ensures delivers { IfSome (F.texts files.old)
+        (λ disk. Delivers (O.contents out.old) (O.contents out.new) (O.faults out.old)
+        (O.faults out.new)
         (output_of disk words.now) result) }
     ensures opened { Added (F.opened files.old) (F.opened files.new)
-        (CommandOpened (command_of words.now) (O.contents out.old) (O.contents out.new) (O.faults out.old) (O.faults out.new) result) }
+        (CommandOpened (command_of words.now) (O.contents out.old) (O.contents out.new)
+        (O.faults out.old) (O.faults out.new) result) }
     ensures usage { (result ≡ ends.Usage) ↔ (command_of words.now ≡ None) }
-    ensures missing { IfMissing result (λ name. IsNamed (F.texts files.old) (command_of words.now) name × IsNotTold (F.texts files.old) name) }
-    ensures causes { HasCauses (F.faults files.old) (F.faults files.new) (O.faults out.old) (O.faults out.new) result }
+    ensures missing { IfMissing result
+        (λ name. IsNamed (F.texts files.old) (command_of words.now) name
+        × IsNotTold (F.texts files.old) name) }
+    ensures causes { HasCauses (F.faults files.old) (F.faults files.new) (O.faults out.old)
+        (O.faults out.new) result }
 {
     match read_command(words) {
         Some(Command::Parse { conf }) => parse(alloc, conf, files, out),
@@ -172,18 +195,22 @@ pub fn run_command<F: Files, O: Sink>(
     out: &mut O,
 ) -> Status
     // What it writes, where the files and the sink tell: the command's text, and the last line.
-    ensures bytes { IfSome (F.texts files.old) (λ disk. Grew (O.contents out.old) (O.contents out.new)
+    ensures bytes { IfSome (F.texts files.old)
+        (λ disk. Grew (O.contents out.old) (O.contents out.new)
         (IsOutput (output_of disk words.now) (O.faults out.old) (O.faults out.new) result)) }
     // Where the files tell their openings: CONF is opened first, once, then JOURNAL, once, or SCRIPT, and then what its lines name, as
     // far as it was run, in their order, and nothing else; a rehearsal opens none. What is written, how it ends, and what is true of a
     // run and of a journal that was judged, comes of the texts that these openings gave.
     ensures opened { Added (F.opened files.old) (F.opened files.new)
-        (CameOf (command_of words.now) (O.contents out.old) (O.contents out.new) (O.faults out.old) (O.faults out.new) result) }
+        (CameOf (command_of words.now) (O.contents out.old) (O.contents out.new) (O.faults out.old)
+        (O.faults out.new) result) }
     // How it ends, where the files tell: so, or by a fault.
-    ensures ended { IfSome (F.texts files.old) (λ disk. EndsBy (output_of disk words.now).end result) }
+    ensures ended { IfSome (F.texts files.old)
+        (λ disk. EndsBy (output_of disk words.now).end result) }
     // How it ends, where the files tell and no count rises: so, or by want of memory.
     ensures complete { IfSome (F.texts files.old) (λ disk.
-        (Rose (F.faults files.old) (F.faults files.new) → ⊥) → (Rose (O.faults out.old) (O.faults out.new) → ⊥)
+        (Rose (F.faults files.old) (F.faults files.new) → ⊥)
+        → (Rose (O.faults out.old) (O.faults out.new) → ⊥)
         → EndsWithoutFault (output_of disk words.now).end result) }
     // The history of a run is legal; each verdict in it is that of the configuration current when its check began, over what the
     // check saw then and answers that have their sources; each reconfiguration's is the configuration of its text; and between any two
@@ -193,9 +220,12 @@ pub fn run_command<F: Files, O: Sink>(
     ensures migrates { IfSome (F.texts files.old) (λ disk. MigratesTruly disk words.now) }
     // After `Ok` a journal that was judged is, byte for byte, the text of a history over the configuration that CONF holds and those that
     // the journal's reconfigurations hold, and all holds of it that holds of every run.
-    ensures audits { result ≡ ends.Ok → IfSome (F.texts files.old) (λ disk. AuditsFiles disk words.now) }
+    ensures audits { result ≡ ends.Ok
+        → IfSome (F.texts files.old) (λ disk. AuditsFiles disk words.now) }
     ensures usage { (result ≡ ends.Usage) ↔ (command_of words.now ≡ None) }
-    ensures missing { IfMissing result (λ name. IsNamed (F.texts files.old) (command_of words.now) name × IsNotTold (F.texts files.old) name) }
+    ensures missing { IfMissing result
+        (λ name. IsNamed (F.texts files.old) (command_of words.now) name
+        × IsNotTold (F.texts files.old) name) }
     ensures read { result ≡ ends.ReadFault → Rose (F.faults files.old) (F.faults files.new) }
     ensures write { result ≡ ends.WriteFault → Rose (O.faults out.old) (O.faults out.new) }
     // The first fault of a device ends the run: where it ended otherwise, no count rose.

@@ -15,21 +15,22 @@ use crate::ends::Status;
 use crate::stages::{missing, open_conf};
 use sq_base::Text;
 use sq_outside::{Failed, Files, NoOpen, Sink};
-use sq_replay::Machine;
+use sq_replay::ScriptMachine;
 use sq_urlmatch::Setup;
-use sq_verify::{Finding, judge, tell};
+use sq_verify::{Finding, judge, write_finding};
 use std::alloc::Global;
 
 // Writes how many entries were verified.
-fn tell_count<O: Sink>(out: &mut O, count: u64) -> Status
+fn write_count<O: Sink>(out: &mut O, count: u64) -> Status
     ensures delivers { (judged : Judged) → Comes judged (finding.Verified count)
-        → Delivers (O.contents out.old) (O.contents out.new) (O.faults out.old) (O.faults out.new) (found_output judged.found) result }
+        → Delivers (O.contents out.old) (O.contents out.new) (O.faults out.old) (O.faults out.new)
+        (found_output judged.found) result }
     ensures end { IsFoundEnd (finding.Verified count) result }
     ensures later { O.faults out.old ≤ O.faults out.new }
     ensures write { result ≡ ends.WriteFault → Rose (O.faults out.old) (O.faults out.new) }
     ensures quiet { IsToldEnd (end_of result) → O.faults out.new ≡ O.faults out.old }
 {
-    match tell(out, &Finding::Verified(count)) {
+    match write_finding(out, &Finding::Verified(count)) {
         Ok(()) => Status::Ok,
         Err(Failed) => Status::WriteFault,
     }
@@ -38,14 +39,15 @@ fn tell_count<O: Sink>(out: &mut O, count: u64) -> Status
 // Ends the command by what was found of a journal.
 fn settle_finding<O: Sink>(out: &mut O, found: Finding) -> Status
     ensures delivers { (judged : Judged) → Comes judged found
-        → Delivers (O.contents out.old) (O.contents out.new) (O.faults out.old) (O.faults out.new) (found_output judged.found) result }
+        → Delivers (O.contents out.old) (O.contents out.new) (O.faults out.old) (O.faults out.new)
+        (found_output judged.found) result }
     ensures end { IsFoundEnd found result }
     ensures later { O.faults out.old ≤ O.faults out.new }
     ensures write { result ≡ ends.WriteFault → Rose (O.faults out.old) (O.faults out.new) }
     ensures quiet { IsToldEnd (end_of result) → O.faults out.new ≡ O.faults out.old }
 {
     match found {
-        Finding::Verified(count) => tell_count(out, count),
+        Finding::Verified(count) => write_count(out, count),
         Finding::Script(line) => Status::Script(line),
         Finding::Differs {
             line,
@@ -69,12 +71,16 @@ fn judge_file<F: Files, O: Sink>(
     files: &mut F,
     out: &mut O,
 ) -> Status
-    ensures delivers { IfSome (F.texts files.old) (λ disk. Delivers (O.contents out.old) (O.contents out.new) (O.faults out.old) (O.faults out.new)
+    ensures delivers { IfSome (F.texts files.old)
+        (λ disk. Delivers (O.contents out.old) (O.contents out.new) (O.faults out.old)
+        (O.faults out.new)
         (staged (script_stage journal.now (disk journal.now)) (journal_output setup)) result) }
     ensures opened { Added (F.opened files.old) (F.opened files.new)
-        (JournalOpened journal.now (journal_output setup) (O.contents out.old) (O.contents out.new) (O.faults out.old) (O.faults out.new) result) }
+        (JournalOpened journal.now (journal_output setup) (O.contents out.old) (O.contents out.new)
+        (O.faults out.old) (O.faults out.new) result) }
     ensures end { IsPlayedEnd (F.texts files.old) journal.now result }
-    ensures causes { HasCauses (F.faults files.old) (F.faults files.new) (O.faults out.old) (O.faults out.new) result }
+    ensures causes { HasCauses (F.faults files.old) (F.faults files.new) (O.faults out.old)
+        (O.faults out.new) result }
 {
     let mut source = match files.open(alloc, journal) {
         Ok(source) => source,
@@ -82,7 +88,7 @@ fn judge_file<F: Files, O: Sink>(
         Err(NoOpen::Failed) => return Status::ReadFault,
         Err(NoOpen::WantOfMemory) => return Status::WantOfMemory,
     };
-    let found = judge::<Machine, F::Src>(alloc, setup, &mut source);
+    let found = judge::<ScriptMachine, F::Src>(alloc, setup, &mut source);
     files.give_back(source);
     settle_finding(out, found)
 }
@@ -95,12 +101,16 @@ pub fn verify<F: Files, O: Sink>(
     files: &mut F,
     out: &mut O,
 ) -> Status
-    ensures delivers { IfSome (F.texts files.old) (λ disk. Delivers (O.contents out.old) (O.contents out.new) (O.faults out.old) (O.faults out.new)
+    ensures delivers { IfSome (F.texts files.old)
+        (λ disk. Delivers (O.contents out.old) (O.contents out.new) (O.faults out.old)
+        (O.faults out.new)
         (verify_output disk conf.now journal.now) result) }
     ensures opened { Added (F.opened files.old) (F.opened files.new)
-        (CommandOpened (Some (Verify conf.now journal.now)) (O.contents out.old) (O.contents out.new) (O.faults out.old) (O.faults out.new) result) }
+        (CommandOpened (Some (Verify conf.now journal.now)) (O.contents out.old)
+        (O.contents out.new) (O.faults out.old) (O.faults out.new) result) }
     ensures end { IsVerifyEnd (F.texts files.old) conf.now journal.now result }
-    ensures causes { HasCauses (F.faults files.old) (F.faults files.new) (O.faults out.old) (O.faults out.new) result }
+    ensures causes { HasCauses (F.faults files.old) (F.faults files.new) (O.faults out.old)
+        (O.faults out.new) result }
 {
     match open_conf(alloc, conf, files) {
         Ok(setup) => judge_file(alloc, setup, journal, files, out),

@@ -6,11 +6,11 @@ use Rattle.sq_machine.specs.declared.entries.Event.TheVariants as event
 use Rattle.sq_machine.specs.declared.entries.Told.{Told}
 use Rattle.sq_machine.specs.declared.entries.Told.TheVariants as told
 use Rattle.sq_rehearse.specs.declared.drivers.Driver.{Driver}
-use Rattle.sq_rehearse.specs.declared.stages.Said.{Said}
-use Rattle.sq_rehearse.specs.declared.stages.Said.TheVariants as said
-use Rattle.sq_rehearse.specs.declared.stages.Sent.{Sent}
-use Rattle.sq_rehearse.specs.declared.stages.Stage.{Stage}
-use Rattle.sq_rehearse.specs.declared.stages.Stage.TheVariants as stage
+use Rattle.sq_rehearse.specs.declared.stages.StepKind.{StepKind}
+use Rattle.sq_rehearse.specs.declared.stages.StepKind.TheVariants as said
+use Rattle.sq_rehearse.specs.declared.stages.SentQuestion.{SentQuestion}
+use Rattle.sq_rehearse.specs.declared.stages.DriverStage.{DriverStage}
+use Rattle.sq_rehearse.specs.declared.stages.DriverStage.TheVariants as stage
 use Rattle.sq_rehearse.specs.Going.{at_stage, next_request, onward, round_begun}
 use Rattle.sq_rehearse.specs.Requests.{client_of, is_even_key, reply_line, target_text}
 
@@ -34,7 +34,7 @@ abbrev pub moment_of : Driver → ℕ
 moment_of d = 100 * d.number
 
 -- it makes the acts that are due before it goes on
-abbrev pub is_acting : Stage → Bool
+abbrev pub is_acting : DriverStage → Bool
 is_acting stage.Acting = true
 is_acting s = false
 
@@ -43,12 +43,12 @@ abbrev pub request_event : Driver → Event
 request_event d = event.Ask d.number (codes "GET") (target_text d.x) []
 
 -- the reply to a question, if one was sent
-abbrev pub reply_event : Option Sent → Option Event
+abbrev pub reply_event : Option SentQuestion → Option Event
 reply_event None = None
 reply_event (Some s) = Some (event.Line s.proc (reply_line s.channel s.ok))
 
 -- the event that it wants at each stage
-abbrev pub event_at : Stage → Driver → Option Event
+abbrev pub event_at : DriverStage → Driver → Option Event
 event_at stage.Opening d = Some (event.Open d.number (client_of d.x) 4000)
 event_at stage.Asking d = Some (request_event d)
 event_at stage.Stepping d = Some (event.Step d.at.check)
@@ -64,11 +64,12 @@ event_of d = event_at d.stage d
 
 -- a request was asked: its check is driven
 abbrev pub asked : Told → Driver → Driver
-asked (told.Check n) d = record d { stage = stage.Stepping; at = record { check = n; conn = d.number } }
+asked (told.Check n) d = record d
+    { stage = stage.Stepping; at = record { check = n; conn = d.number } }
 asked answer d = at_stage stage.Over d
 
 -- what a step said
-abbrev pub said_by : Told → Said
+abbrev pub said_by : Told → StepKind
 said_by (told.Took class) = said.Took
 said_by (told.Waits question) = said.Waits
 said_by answer = said.Done
@@ -80,7 +81,8 @@ stepped answer d = record d { stage = stage.Acting; said = said_by answer }
 -- an act was made: a start is answered at once, and a question that was sent is noted
 abbrev pub act_made : Told → Driver → Driver
 act_made (told.Start epoch class) d = at_stage (stage.Starting epoch class) d
-act_made (told.Send proc question channel key) d = record d { sent = d.sent ++ (record { proc = proc; channel = channel; ok = is_even_key key }) ∷ [] }
+act_made (told.Send proc question channel key) d = record d
+    { sent = d.sent ++ (record { proc = proc; channel = channel; ok = is_even_key key }) ∷ [] }
 act_made answer d = d
 
 -- the first question that was sent is answered
@@ -88,7 +90,7 @@ abbrev pub replied : Driver → Driver
 replied d = round_begun (record d { sent = drop 1 d.sent })
 
 -- what the answer to its event makes of it, at each stage
-abbrev pub answered_at : Stage → Told → Driver → Driver
+abbrev pub answered_at : DriverStage → Told → Driver → Driver
 answered_at stage.Opening answer d = at_stage stage.Asking d
 answered_at stage.Asking answer d = asked answer d
 answered_at stage.Stepping answer d = stepped answer d

@@ -3,20 +3,21 @@ use Rattle.std.specs.Prelude.{ℕ, ◌+◌, ◌-◌, ◌%◌, suc, List, [], ◌
 use Rattle.std.specs.declared.option.Option.{Option}
 use Rattle.sq_rehearse.specs.declared.drivers.Driver.{Driver}
 use Rattle.sq_rehearse.specs.declared.stages.Pending.{Pending}
-use Rattle.sq_rehearse.specs.declared.stages.Said.{Said}
-use Rattle.sq_rehearse.specs.declared.stages.Said.TheVariants as said
-use Rattle.sq_rehearse.specs.declared.stages.Stage.{Stage}
-use Rattle.sq_rehearse.specs.declared.stages.Stage.TheVariants as stage
+use Rattle.sq_rehearse.specs.declared.stages.StepKind.{StepKind}
+use Rattle.sq_rehearse.specs.declared.stages.StepKind.TheVariants as said
+use Rattle.sq_rehearse.specs.declared.stages.DriverStage.{DriverStage}
+use Rattle.sq_rehearse.specs.declared.stages.DriverStage.TheVariants as stage
 use Rattle.sq_rehearse.specs.Requests.{number_after}
 
 -- the driver at this stage
-abbrev pub at_stage : Stage → Driver → Driver
+abbrev pub at_stage : DriverStage → Driver → Driver
 at_stage s d = record d { stage = s }
 
 -- the next request, if one is left
 abbrev pub next_request : Driver → Driver
 next_request d =
-    if nat_lt d.number d.last then record d { stage = stage.Opening; number = d.number + 1; x = number_after d.x; in_round = false }
+    if nat_lt d.number d.last then record d
+    { stage = stage.Opening; number = d.number + 1; x = number_after d.x; in_round = false }
     else record d { stage = stage.Over; in_round = false }
 
 -- a check is driven; without one the next request is asked
@@ -27,24 +28,29 @@ driven (Some check) d = record d { stage = stage.Stepping; at = check }
 -- the first open check is driven in this round, if there is one, and then those behind it
 abbrev pub first_driven : Option Pending → Driver → Driver
 first_driven None d = next_request d
-first_driven (Some check) d = record d { stage = stage.Stepping; at = check; left = length d.others }
+first_driven (Some check) d = record d
+    { stage = stage.Stepping; at = check; left = length d.others }
 
 abbrev pub checks_begun : Driver → Driver
 checks_begun d = first_driven (slice_get d.others 0) (record d { others = drop 1 d.others })
 
--- a round goes on: the questions that were sent and have no answer are answered, and then open checks go on
+-- a round goes on: the questions that were sent and have no answer are answered, and then open
+-- checks go on
 abbrev pub round_begun : Driver → Driver
 round_begun d = if length d.sent == 0 then checks_begun d else at_stage stage.Replying d
 
--- the next check of a round goes on; another round begins while a check is open; then the next request is asked
+-- the next check of a round goes on; another round begins while a check is open; then the next
+-- request is asked
 abbrev pub next_in_round : Driver → Driver
 next_in_round d =
     if length d.others == 0 then next_request d
-    else (if d.left == 0 then round_begun d else driven (slice_get d.others 0) (record d { left = d.left - 1; others = drop 1 d.others }))
+    else (if d.left == 0 then round_begun d
+    else driven (slice_get d.others 0) (record d { left = d.left - 1; others = drop 1 d.others }))
 
 -- behind every fourth request and the last rounds begin
 abbrev pub after_request : Driver → Driver
-after_request d = if d.number % 4 == 0 || d.number == d.last then round_begun (record d { in_round = true }) else next_request d
+after_request d = if d.number % 4 == 0 || d.number
+    == d.last then round_begun (record d { in_round = true }) else next_request d
 
 -- nothing is left to do for the check that was driven
 abbrev pub onward : Driver → Driver
@@ -54,8 +60,9 @@ onward d = if d.in_round then next_in_round d else after_request d
 abbrev pub put_back : Driver → Driver
 put_back d = onward (record d { others = d.others ++ d.at ∷ [] })
 
--- no act is due any more after a step that said so: the check goes on, or it is put back; an outcome is taken in rounds alone
-abbrev pub acted_by : Said → Driver → Driver
+-- no act is due any more after a step that said so: the check goes on, or it is put back; an
+-- outcome is taken in rounds alone
+abbrev pub acted_by : StepKind → Driver → Driver
 acted_by said.Took d = at_stage stage.Stepping d
 acted_by said.Waits d = put_back d
 acted_by said.Done d = if d.in_round then at_stage stage.Taking d else put_back d

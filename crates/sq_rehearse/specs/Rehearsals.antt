@@ -23,7 +23,9 @@ line text = text ++ 10 ∷ []
 -- the configuration that is rehearsed
 unfoldable pub configuration_text : List ℕ
 configuration_text =
-    line (codes "external_acl_type v ttl=5 negative_ttl=2 grace=50 children-max=2 concurrency=4 %>rd /bin/h")
+    line
+    (codes
+    "external_acl_type v ttl=5 negative_ttl=2 grace=50 children-max=2 concurrency=4 %>rd /bin/h")
     ++ line (codes "acl lan src 10.0.0.0/8")
     ++ line (codes "acl odd external v")
     ++ line (codes "acl web port 80")
@@ -33,21 +35,26 @@ configuration_text =
 -- the machine's next answer to an event, at the greatest moment so far; requests have version 1.1
 abbrev pub answer_to : List Configuration → History → ℕ → Event → Next
 answer_to configs h now (Ask conn method target fields) =
-    if is_some (made_request method target 1 fields) then next configs (marked configs h) (max now (latest h)) (Ask conn method target fields) else nothing
+    if is_some (made_request method target 1 fields) then next configs (marked configs h)
+    (max now (latest h)) (Ask conn method target fields) else nothing
 answer_to configs h now event = next configs (marked configs h) (max now (latest h)) event
 
--- the history goes on with an event's entry, and the driver by the answer; an event that is refused ends the rehearsal
+-- the history goes on with an event's entry, and the driver by the answer; an event that is refused
+-- ends the rehearsal
 abbrev pub made_on : (Driver → History → History) → Driver → History → Event → Next → History
-made_on go d h event (gives told) = go (answered told d) (entry_at (max (moment_of d) (latest h)) event told ∷ h)
+made_on go d h event (gives told) = go (answered told d)
+    (entry_at (max (moment_of d) (latest h)) event told ∷ h)
 made_on go d h event n = h
 
 -- the history goes on with the act that is due; where none is, the driver goes on
 abbrev pub acted_on : (Driver → History → History) → Driver → History → Next → History
-acted_on go d h (gives told) = go (answered told d) (entry_at (max (moment_of d) (latest h)) Act told ∷ h)
+acted_on go d h (gives told) = go (answered told d)
+    (entry_at (max (moment_of d) (latest h)) Act told ∷ h)
 acted_on go d h n = go (acted d) h
 
 -- a turn of a driver that wants this event, if any
-abbrev pub turned : (Driver → History → History) → List Configuration → Driver → History → Option Event → History
+abbrev pub turned : (Driver → History → History) → List Configuration → Driver → History
+    → Option Event → History
 turned go configs d h None = h
 turned go configs d h (Some event) = made_on go d h event (answer_to configs h (moment_of d) event)
 
@@ -55,16 +62,19 @@ turned go configs d h (Some event) = made_on go d h event (answer_to configs h (
 abbrev pub drive : List Configuration → ℕ → Driver → History → History
 drive configs zero d h = h
 drive configs (suc k) d h =
-    if is_acting d.stage then acted_on (drive configs k) d h (next configs (marked configs h) (max (moment_of d) (latest h)) Act)
+    if is_acting d.stage then acted_on (drive configs k) d h
+    (next configs (marked configs h) (max (moment_of d) (latest h)) Act)
     else turned (drive configs k) configs d h (event_of d)
 
 -- so many turns a rehearsal has at most: more than twice as many as its requests take
 abbrev pub turn_limit : ℕ → ℕ
 turn_limit count = 32 * count + 32
 
--- the history of a rehearsal of so many requests over a configuration, from moment 0 and offset 0 on
+-- the history of a rehearsal of so many requests over a configuration, from moment 0 and offset 0
+-- on
 abbrev pub rehearsed : Configuration → ℕ → History
-rehearsed config count = drive (config ∷ []) (turn_limit count) (first_driver count) (first_history 0 (pos 0))
+rehearsed config count = drive (config ∷ []) (turn_limit count) (first_driver count)
+    (first_history 0 (pos 0))
 
 -- what it came to
 unfoldable pub rehearsal : Configuration → ℕ → Summary

@@ -1,4 +1,5 @@
--- The requests of a rehearsal, each by a number of one sequence, and the replies to their questions.
+-- The requests of a rehearsal, each by a number of one sequence, and the replies to their
+-- questions.
 use Rattle.std.specs.Prelude.{ℕ, ◌+◌, ◌*◌, ◌/◌, ◌%◌, List, [], ◌∷◌, ◌++◌, Bool, true, false, ◌==◌, if◌then◌else◌, Some, None, codes, decimal}
 use Rattle.std.specs.declared.option.Option.{Option}
 use Rattle.sq_base.specs.Addresses.{Address}
@@ -22,9 +23,11 @@ client_of x = record { v6 = false; number = 167772161 + x % 4 }
 
 -- the target: `http://hK.example:PORT/`
 abbrev pub target_text : ℕ → List ℕ
-target_text x = codes "http://h" ++ decimal (host_number x) ++ codes ".example:" ++ decimal (port_of x) ++ codes "/"
+target_text x = codes "http://h" ++ decimal (host_number x) ++ codes ".example:"
+    ++ decimal (port_of x) ++ codes "/"
 
--- whether the last byte before the first `.` is even, where this is so of the byte before the first of these
+-- whether the last byte before the first `.` is even, where this is so of the byte before the first
+-- of these
 abbrev pub is_even_before : Bool → List ℕ → Bool
 is_even_before even [] = even
 is_even_before even (b ∷ bs) = if b == 46 then even else is_even_before (b % 2 == 0) bs

@@ -46,5 +46,6 @@ count word number = word ++ decimal number
 -- `asks N allowed A denied D faults F sends S`
 abbrev pub summary_line : Summary → List ℕ
 summary_line s =
-    count (codes "asks ") s.asks ++ count (codes " allowed ") s.allowed ++ count (codes " denied ") s.denied ++ count (codes " faults ") s.faults
+    count (codes "asks ") s.asks ++ count (codes " allowed ") s.allowed
+    ++ count (codes " denied ") s.denied ++ count (codes " faults ") s.faults
     ++ count (codes " sends ") s.sends ++ 10 ∷ []

@@ -4,7 +4,7 @@ ghost use Rattle.sq_rehearse.specs.Driving.{act_made, answered, asked, replied, 
 
 use crate::drivers::Driver;
 use crate::requests::is_even_key;
-use crate::stages::{Pending, Said, Sent, Stage};
+use crate::stages::{DriverStage, Pending, SentQuestion, StepKind};
 use sq_base::{ConnNo, WantOfMemory};
 use sq_machine::Told;
 
@@ -19,9 +19,9 @@ impl Driver {
                     check,
                     conn: ConnNo(self.number as u64),
                 };
-                self.stage = Stage::Stepping;
+                self.stage = DriverStage::Stepping;
             }
-            _ => self.stage = Stage::Over,
+            _ => self.stage = DriverStage::Over,
         }
     }
 
@@ -30,11 +30,11 @@ impl Driver {
         ensures { self.new ≡ stepped told self.old }
     {
         self.said = match told {
-            Told::Took(_) => Said::Took,
-            Told::Waits(_) => Said::Waits,
-            _ => Said::Done,
+            Told::Took(_) => StepKind::Took,
+            Told::Waits(_) => StepKind::Waits,
+            _ => StepKind::Done,
         };
-        self.stage = Stage::Acting;
+        self.stage = DriverStage::Acting;
     }
 
     // An act was made.
@@ -43,7 +43,7 @@ impl Driver {
     {
         match told {
             Told::Start { epoch, class } => {
-                self.stage = Stage::Starting { epoch, class };
+                self.stage = DriverStage::Starting { epoch, class };
                 Ok(())
             }
             Told::Send {
@@ -51,7 +51,7 @@ impl Driver {
                 question: _,
                 channel,
                 key,
-            } => self.sent.push(Sent {
+            } => self.sent.push(SentQuestion {
                 proc,
                 channel,
                 ok: is_even_key(key.as_bytes()),
@@ -73,15 +73,15 @@ impl Driver {
         ensures { OnOk result (self.new ≡ answered told self.old) }
     {
         match &self.stage {
-            Stage::Opening => self.stage = Stage::Asking,
-            Stage::Asking => self.asked(told),
-            Stage::Stepping => self.stepped(told),
-            Stage::Acting => return self.act_made(told),
-            Stage::Starting { epoch: _, class: _ } => self.stage = Stage::Acting,
-            Stage::Replying => self.replied(),
-            Stage::Taking => self.stage = Stage::Closing,
-            Stage::Closing => self.onward(),
-            Stage::Over => {}
+            DriverStage::Opening => self.stage = DriverStage::Asking,
+            DriverStage::Asking => self.asked(told),
+            DriverStage::Stepping => self.stepped(told),
+            DriverStage::Acting => return self.act_made(told),
+            DriverStage::Starting { epoch: _, class: _ } => self.stage = DriverStage::Acting,
+            DriverStage::Replying => self.replied(),
+            DriverStage::Taking => self.stage = DriverStage::Closing,
+            DriverStage::Closing => self.onward(),
+            DriverStage::Over => {}
         }
         Ok(())
     }

@@ -5,7 +5,7 @@ ghost use Rattle.sq_rehearse.specs.Going.{next_request};
 
 use crate::queues::Queue;
 use crate::requests::{client_of, number_after, reply_line, target_text};
-use crate::stages::{Pending, Said, Sent, Stage};
+use crate::stages::{DriverStage, Pending, SentQuestion, StepKind};
 use sq_base::{CheckNo, ConnNo, Copying, Fields, Moment, Text, WantOfMemory};
 use sq_machine::Event;
 use std::alloc::Global;
@@ -17,7 +17,7 @@ const CLIENT_PORT: u16 = 4000;
 #[derive(Drop)]
 pub struct Driver {
     /// What it does next.
-    pub stage: Stage,
+    pub stage: DriverStage,
     /// How many requests it asks.
     pub last: u32,
     /// The number of the request that it is at, from 1.
@@ -27,7 +27,7 @@ pub struct Driver {
     /// The check that it drives.
     pub at: Pending,
     /// What the last step said of that.
-    pub said: Said,
+    pub said: StepKind,
     /// Whether it is in a round, in which questions are answered and open checks go on.
     pub in_round: bool,
     /// How many open checks of this round were not driven yet.
@@ -35,7 +35,7 @@ pub struct Driver {
     /// The open checks that it does not drive: those of this round that were not driven yet, and then the others.
     pub others: Queue<Pending>,
     /// The questions that were sent and have no answer.
-    pub sent: Queue<Sent>,
+    pub sent: Queue<SentQuestion>,
 }
 
 impl Driver {
@@ -44,7 +44,7 @@ impl Driver {
         ensures { result ≡ first_driver last }
     {
         let mut driver = Driver {
-            stage: Stage::Over,
+            stage: DriverStage::Over,
             last,
             number: 0,
             x: 1,
@@ -52,7 +52,7 @@ impl Driver {
                 check: CheckNo(0),
                 conn: ConnNo(0),
             },
-            said: Said::Done,
+            said: StepKind::Done,
             in_round: false,
             left: 0,
             others: Queue::new(alloc),
@@ -73,7 +73,7 @@ impl Driver {
     pub fn is_acting(&self) -> bool
         ensures { result ≡ is_acting self.now.stage }
     {
-        matches!(&self.stage, Stage::Acting)
+        matches!(&self.stage, DriverStage::Acting)
     }
 
     /// Goes to the next request, if one is left.
@@ -84,9 +84,9 @@ impl Driver {
         if self.number < self.last {
             self.number += 1;
             self.x = number_after(self.x);
-            self.stage = Stage::Opening;
+            self.stage = DriverStage::Opening;
         } else {
-            self.stage = Stage::Over;
+            self.stage = DriverStage::Over;
         }
     }
 
@@ -109,32 +109,32 @@ impl Driver {
         ensures { IfOk result (λ event. event ≡ event_of self.now) }
     {
         match &self.stage {
-            Stage::Opening => Ok(Some(Event::Open {
+            DriverStage::Opening => Ok(Some(Event::Open {
                 conn: ConnNo(self.number as u64),
                 addr: client_of(self.x),
                 port: CLIENT_PORT,
             })),
-            Stage::Asking => Ok(Some(self.request(alloc)?)),
-            Stage::Stepping => Ok(Some(Event::Step {
+            DriverStage::Asking => Ok(Some(self.request(alloc)?)),
+            DriverStage::Stepping => Ok(Some(Event::Step {
                 check: self.at.check,
             })),
-            Stage::Acting => Ok(Some(Event::Act)),
-            Stage::Starting { epoch, class } => Ok(Some(Event::Started {
+            DriverStage::Acting => Ok(Some(Event::Act)),
+            DriverStage::Starting { epoch, class } => Ok(Some(Event::Started {
                 epoch: *epoch,
                 class: class.copy(alloc)?,
             })),
-            Stage::Replying => match self.sent.first() {
+            DriverStage::Replying => match self.sent.first() {
                 None => Ok(None),
                 Some(sent) => Ok(Some(Event::Line {
                     proc: sent.proc,
                     bytes: reply_line(alloc, sent.channel, sent.ok)?,
                 })),
             },
-            Stage::Taking => Ok(Some(Event::Take {
+            DriverStage::Taking => Ok(Some(Event::Take {
                 check: self.at.check,
             })),
-            Stage::Closing => Ok(Some(Event::Close { conn: self.at.conn })),
-            Stage::Over => Ok(None),
+            DriverStage::Closing => Ok(Some(Event::Close { conn: self.at.conn })),
+            DriverStage::Over => Ok(None),
         }
     }
 }

@@ -3,7 +3,7 @@ ghost use Rattle.std.specs.Prelude.{◌≡◌, OnOk};
 ghost use Rattle.sq_rehearse.specs.Going.{acted, after_request, checks_begun, next_in_round, onward, put_back, round_begun};
 
 use crate::drivers::Driver;
-use crate::stages::{Said, Stage};
+use crate::stages::{DriverStage, StepKind};
 use sq_base::WantOfMemory;
 
 impl Driver {
@@ -16,7 +16,7 @@ impl Driver {
             Some(check) => {
                 self.at = check;
                 self.left = self.others.len();
-                self.stage = Stage::Stepping;
+                self.stage = DriverStage::Stepping;
             }
         }
     }
@@ -28,7 +28,7 @@ impl Driver {
         if self.sent.is_empty() {
             self.begin_checks();
         } else {
-            self.stage = Stage::Replying;
+            self.stage = DriverStage::Replying;
         }
     }
 
@@ -49,7 +49,7 @@ impl Driver {
             None => self.next_request(),
             Some(check) => {
                 self.at = check;
-                self.stage = Stage::Stepping;
+                self.stage = DriverStage::Stepping;
             }
         }
     }
@@ -91,16 +91,16 @@ impl Driver {
         ensures { OnOk result (self.new ≡ acted self.old) }
     {
         match self.said {
-            Said::Took => {
-                self.stage = Stage::Stepping;
+            StepKind::Took => {
+                self.stage = DriverStage::Stepping;
                 Ok(())
             }
-            Said::Waits => self.put_back(),
-            Said::Done => {
+            StepKind::Waits => self.put_back(),
+            StepKind::Done => {
                 if !self.in_round {
                     return self.put_back();
                 }
-                self.stage = Stage::Taking;
+                self.stage = DriverStage::Taking;
                 Ok(())
             }
         }

@@ -13,7 +13,7 @@ use crate::drivers::Driver;
 use crate::summaries::Summary;
 use sq_base::{Moment, WantOfMemory};
 use sq_machine::{Event, Offset};
-use sq_replay::{Machine, Stop};
+use sq_replay::{ScriptMachine, Stop};
 use sq_urlmatch::Setup;
 use std::alloc::Global;
 
@@ -39,13 +39,15 @@ fn turn_limit(count: u32) -> u64
 // Makes the act that is due at the driver's moment, if one is.
 fn make_act(
     alloc: Global,
-    machine: &mut Machine,
+    machine: &mut ScriptMachine,
     driver: &mut Driver,
     summary: &mut Summary,
 ) -> Result<(), WantOfMemory>
     requires acting { is_acting driver.old.stage ≡ true }
     requires few { total summary.old < 2 ^ 63 }
-    ensures turns { OnOk result ((configs : List Configuration) (h : History) → Is (machine_of machine.old) configs h → summary.old ≡ counted h
+    ensures turns { OnOk result
+        ((configs : List Configuration) (h : History) → Is (machine_of machine.old) configs h
+        → summary.old ≡ counted h
         → TurnsTo configs h driver.old (machine_of machine.new) summary.new driver.new) }
     ensures few { OnOk result (total summary.new ≤ suc (total summary.old)) }
 {
@@ -62,14 +64,16 @@ fn make_act(
 fn make_event(
     alloc: Global,
     event: &Event,
-    machine: &mut Machine,
+    machine: &mut ScriptMachine,
     driver: &mut Driver,
     summary: &mut Summary,
 ) -> Result<bool, WantOfMemory>
     requires wanted { event_of driver.old ≡ Some event.now }
     requires acting { is_acting driver.old.stage ≡ false }
     requires few { total summary.old < 2 ^ 63 }
-    ensures turns { IfOk result (λ more. (configs : List Configuration) (h : History) → Is (machine_of machine.old) configs h → summary.old ≡ counted h
+    ensures turns { IfOk result
+        (λ more. (configs : List Configuration) (h : History)
+        → Is (machine_of machine.old) configs h → summary.old ≡ counted h
         → Turned configs h driver.old (machine_of machine.new) summary.new driver.new more) }
     ensures few { OnOk result (total summary.new ≤ suc (total summary.old)) }
 {
@@ -88,12 +92,14 @@ fn make_event(
 // One turn of the driver. False where it was the last.
 fn turn(
     alloc: Global,
-    machine: &mut Machine,
+    machine: &mut ScriptMachine,
     driver: &mut Driver,
     summary: &mut Summary,
 ) -> Result<bool, WantOfMemory>
     requires { total summary.old < 2 ^ 63 }
-    ensures turns { IfOk result (λ more. (configs : List Configuration) (h : History) → Is (machine_of machine.old) configs h → summary.old ≡ counted h
+    ensures turns { IfOk result
+        (λ more. (configs : List Configuration) (h : History)
+        → Is (machine_of machine.old) configs h → summary.old ≡ counted h
         → Turned configs h driver.old (machine_of machine.new) summary.new driver.new more) }
     ensures few { OnOk result (total summary.new ≤ suc (total summary.old)) }
 {
@@ -114,12 +120,14 @@ fn turn(
 fn drive(
     alloc: Global,
     turns: u64,
-    machine: &mut Machine,
+    machine: &mut ScriptMachine,
     driver: &mut Driver,
     summary: &mut Summary,
 ) -> Result<(), WantOfMemory>
     requires { total summary.old + turns < 2 ^ 63 }
-    ensures { OnOk result ((configs : List Configuration) (h : History) → Is (machine_of machine.old) configs h → summary.old ≡ counted h
+    ensures { OnOk result
+        ((configs : List Configuration) (h : History) → Is (machine_of machine.old) configs h
+        → summary.old ≡ counted h
         → summary.new ≡ counted (drive configs turns driver.old h)) }
 {
     let mut left = turns;
@@ -140,7 +148,7 @@ pub fn rehearse(alloc: Global, setup: Setup, count: u32) -> Result<Summary, Want
     requires { IsConfiguration setup }
     ensures { IfOk result (λ summary. summary ≡ rehearsal setup count) }
 {
-    let mut machine = Machine::begin(alloc, setup, Offset(0), Moment(0))?;
+    let mut machine = ScriptMachine::begin(alloc, setup, Offset(0), Moment(0))?;
     let mut driver = Driver::new(alloc, count);
     let mut summary = Summary::new();
     drive(

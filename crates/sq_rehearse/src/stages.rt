@@ -3,7 +3,7 @@ use sq_base::{CheckNo, ConnNo, EpochNo, ProcNo, Text};
 
 /// What a driver does next.
 #[derive(Drop)]
-pub enum Stage {
+pub enum DriverStage {
     /// The next request's connection opens.
     Opening,
     /// Its request arrives.
@@ -26,7 +26,7 @@ pub enum Stage {
 
 /// What the last step of a check said.
 #[derive(Clone, Copy)]
-pub enum Said {
+pub enum StepKind {
     /// An answer was taken: the check goes on.
     Took,
     /// The check waits for a question.
@@ -44,7 +44,7 @@ pub struct Pending {
 
 /// A question that was sent and has no answer: to which process, on which channel, and whether it is answered OK.
 #[derive(Clone, Copy, Drop)]
-pub struct Sent {
+pub struct SentQuestion {
     pub proc: ProcNo,
     pub channel: Option<u32>,
     pub ok: bool,

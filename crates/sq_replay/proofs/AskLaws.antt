@@ -21,7 +21,8 @@ pub record IsMadeOf (method target : List ℕ) (fields : List Field) (r : HttpRe
   pub request_is : r ≡ asked_request method target fields
   pub has_form : is_some (target_of method target) ≡ true
 
-with_target : (method target : List ℕ) (fields : List Field) (o : Option Target) (r : HttpRequest) → target_of method target ≡ o
+with_target : (method target : List ℕ) (fields : List Field) (o : Option Target) (r : HttpRequest)
+    → target_of method target ≡ o
     → option_map (at_target method target 1 fields) o ≡ Some r → IsMadeOf method target fields r
 with_target method target fields None r e f = absurd (none-some r f)
 with_target method target fields (Some t) r e f = record {
@@ -34,11 +35,13 @@ if_made : (method target : List ℕ) (fields : List Field) (b : Bool) (r : HttpR
 if_made method target fields true r e = with_target method target fields (target_of method target) r refl e
 if_made method target fields false r e = absurd (none-some r e)
 
-pub made_of : (method target : List ℕ) (fields : List Field) (r : HttpRequest) → made_request method target 1 fields ≡ Some r → IsMadeOf method target fields r
+pub made_of : (method target : List ℕ) (fields : List Field) (r : HttpRequest)
+    → made_request method target 1 fields ≡ Some r → IsMadeOf method target fields r
 made_of method target fields r e =
     if_made method target fields (is_written method target 1 fields && nat_le (length fields) most_fields) r e
 
 -- the machine begins once
-pub begin_refused : (configs : List Configuration) (h : History) (moment : ℕ) (offset : ℤ) → is_refused (next configs (marked configs h) moment (Begin offset)) ≡ true
+pub begin_refused : (configs : List Configuration) (h : History) (moment : ℕ) (offset : ℤ)
+    → is_refused (next configs (marked configs h) moment (Begin offset)) ≡ true
 unfolding next next_at
 begin_refused configs h moment offset = refl

@@ -22,7 +22,8 @@ found k [] = refl
 found k (e ∷ es) = rw (agrees k e.0) (ap (λ o. cond (k == e.0) (Some e.1) o) (found k es))
 
 -- a map after one number changed
-pub after : {X : Type 0} (n k : ℕ) (w : Option X) (es fs : List (ℕ × X)) → lookup (is_at (nat_cmp n)) fs ≡ cond (is_at (nat_cmp k) n) w (lookup (is_at (nat_cmp n)) es)
+pub after : {X : Type 0} (n k : ℕ) (w : Option X) (es fs : List (ℕ × X))
+    → lookup (is_at (nat_cmp n)) fs ≡ cond (is_at (nat_cmp k) n) w (lookup (is_at (nat_cmp n)) es)
     → lookup (λ m. n == m) fs ≡ cond (n == k) w (lookup (λ m. n == m) es)
 after n k w es fs h =
     found n fs ∙ h ∙ ap (λ b. cond b w (lookup (is_at (nat_cmp n)) es)) (agrees k n ∙ turned k n)
@@ -41,9 +42,11 @@ pub held_more : (es fs : List (ℕ × ℕ)) (p q : Basin) (k x g : ℕ) (s : Sat
     → ((n : ℕ) → lookup (is_at (nat_cmp n)) fs ≡ cond (is_at (nat_cmp k) n) (Some x) (lookup (is_at (nat_cmp n)) es))
     → ((n : ℕ) → seat_in q n ≡ cond (n == g) (Some s) (seat_in p n)) → AreHeld fs q
 held_more es fs p q k x g s held key own put seated n =
-    after n k (Some x) es fs (put n) ∙ ap (λ (m : ℕ). cond (n == m) (Some x) (held_seat es n)) key ∙ by (n == g) refl ∙ ap (option_map (λ _. n)) (sym (seated n))
+    after n k (Some x) es fs (put n) ∙ ap (λ (m : ℕ). cond (n == m) (Some x) (held_seat es n)) key ∙ by (n == g) refl
+    ∙ ap (option_map (λ _. n)) (sym (seated n))
   where
-    by : (b : Bool) → (n == g) ≡ b → cond b (Some x) (held_seat es n) ≡ option_map (λ _. n) (cond b (Some s) (seat_in p n))
+    by : (b : Bool) → (n == g) ≡ b
+        → cond b (Some x) (held_seat es n) ≡ option_map (λ _. n) (cond b (Some s) (seat_in p n))
     by true e = let same : g ≡ n = grind (arith, nat_tests) in ap (λ (m : ℕ). Some m) (own ∙ same)
     by false e = held n
 
@@ -52,7 +55,9 @@ pub held_less : (es fs : List (ℕ × ℕ)) (p q : Basin) (k x : ℕ) → AreHel
     → ((n : ℕ) → lookup (is_at (nat_cmp n)) fs ≡ cond (is_at (nat_cmp k) n) None (lookup (is_at (nat_cmp n)) es))
     → ((n : ℕ) → seat_in q n ≡ cond (n == x) None (seat_in p n)) → AreHeld fs q
 held_less es fs p q k x held own gone left n =
-    after n k None es fs (gone n) ∙ by (n == k) ∙ ap (λ (m : ℕ). option_map (λ _. n) (cond (n == m) None (seat_in p n))) (sym own) ∙ ap (option_map (λ _. n)) (sym (left n))
+    after n k None es fs (gone n) ∙ by (n == k)
+    ∙ ap (λ (m : ℕ). option_map (λ _. n) (cond (n == m) None (seat_in p n))) (sym own)
+    ∙ ap (option_map (λ _. n)) (sym (left n))
   where
     by : (b : Bool) → cond b None (held_seat es n) ≡ option_map (λ _. n) (cond b None (seat_in p n))
     by true = refl

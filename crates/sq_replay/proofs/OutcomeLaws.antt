@@ -24,17 +24,23 @@ default_sound [] = refl
 default_sound (r ∷ []) = refl
 default_sound (r ∷ q ∷ rules) = default_sound (q ∷ rules)
 
-decided_sound : (acls : List Acl) (number : ℕ) (r : Rule) (t : TermValue) (rest : Value) → IsSound rest → IsSound (decided acls number r t rest)
+decided_sound : (acls : List Acl) (number : ℕ) (r : Rule) (t : TermValue) (rest : Value) → IsSound rest
+    → IsSound (decided acls number r t rest)
 decided_sound acls number r term.Hit rest s = refl
 decided_sound acls number r term.Miss rest s = s
 decided_sound acls number r (term.Fault acl cause) rest s = refl
 decided_sound acls number r (term.Need acl key) rest s = tt
 
-rules_sound : (taken : ℕ → TermValue) (acls : List Acl) (default : Outcome) (number : ℕ) (rules : List Rule) → is_outcome default ≡ true → IsSound (rules_from taken acls default number rules)
+rules_sound : (taken : ℕ → TermValue) (acls : List Acl) (default : Outcome) (number : ℕ) (rules : List Rule)
+    → is_outcome default ≡ true → IsSound (rules_from taken acls default number rules)
 rules_sound taken acls default number [] d = d
 rules_sound taken acls default number (r ∷ rules) d =
-    decided_sound acls number r (rule_value taken acls r) (rules_from taken acls default (number + 1) rules) (rules_sound taken acls default (number + 1) rules d)
+    decided_sound acls number r (rule_value taken acls r) (rules_from taken acls default (number + 1) rules)
+    (rules_sound taken acls default (number + 1) rules d)
 
 -- what a check came to
-pub verdict_sound : (answers : List Answer) (config : Configuration) (sight : Sight) (o : Outcome) → verdict_over answers config sight ≡ value.Verdict o → is_outcome o ≡ true
-verdict_sound answers config sight o is = subst IsSound is (rules_sound (taken_at config sight answers) config.acls (default_of config.rules) 1 config.rules (default_sound config.rules))
+pub verdict_sound : (answers : List Answer) (config : Configuration) (sight : Sight) (o : Outcome)
+    → verdict_over answers config sight ≡ value.Verdict o → is_outcome o ≡ true
+verdict_sound answers config sight o is = subst IsSound is
+    (rules_sound (taken_at config sight answers) config.acls (default_of config.rules) 1 config.rules
+    (default_sound config.rules))

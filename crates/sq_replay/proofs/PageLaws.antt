@@ -8,7 +8,8 @@ use Rattle.sq_outside.proofs.Writing.{IsPrefix_after, IsProperPrefix_after}
 use Rattle.sq_replay.specs.Runs.{Wrote, WroteFront, WrotePart, HoldsFront}
 
 -- the page was written, and holds nothing
-pub page_written : (base a b : Option (List ℕ)) (page now text : List ℕ) → Wrote base a page text → Appends a b page → now ≡ [] → Wrote base b now text
+pub page_written : (base a b : Option (List ℕ)) (page now text : List ℕ) → Wrote base a page text → Appends a b page
+    → now ≡ [] → Wrote base b now text
 page_written base a b page now text w wrote none = record {
   done = w.done ++ page;
   appends = Appends-trans base a b w.done page w.appends wrote;
@@ -16,7 +17,8 @@ page_written base a b page now text w wrote none = record {
 }
 
 -- a part of the page was written
-pub page_failed : (base a b : Option (List ℕ)) (page text : List ℕ) → Wrote base a page text → Grew a b (λ part. IsProperPrefix part page) → WrotePart base b text
+pub page_failed : (base a b : Option (List ℕ)) (page text : List ℕ) → Wrote base a page text
+    → Grew a b (λ part. IsProperPrefix part page) → WrotePart base b text
 page_failed base a b page text w (part, wrote, short) = (
   w.done ++ part,
   Appends-trans base a b w.done part w.appends wrote,
@@ -24,7 +26,8 @@ page_failed base a b page text w (part, wrote, short) = (
 )
 
 -- the page holds a line more
-pub page_more : (base a : Option (List ℕ)) (page now line text : List ℕ) → Wrote base a page text → now ≡ page ++ line → Wrote base a now (text ++ line)
+pub page_more : (base a : Option (List ℕ)) (page now line text : List ℕ) → Wrote base a page text → now ≡ page ++ line
+    → Wrote base a now (text ++ line)
 page_more base a page now line text w e = record {
   done = w.done;
   appends = w.appends;
@@ -32,7 +35,8 @@ page_more base a page now line text w e = record {
 }
 
 -- or a front of it
-pub page_front : (base a : Option (List ℕ)) (page now line text : List ℕ) → Wrote base a page text → HoldsFront page now line → WroteFront base a now (text ++ line)
+pub page_front : (base a : Option (List ℕ)) (page now line text : List ℕ) → Wrote base a page text
+    → HoldsFront page now line → WroteFront base a now (text ++ line)
 page_front base a page now line text w h = record {
   front = text ++ h.front;
   begins = IsPrefix_after text h.front line h.begins;

@@ -4,7 +4,7 @@ use Rattle.std.specs.declared.option.Option.{Option}
 use Rattle.std.proofs.lemmas.Bool.{and_parts}
 use Rattle.std.proofs.lemmas.Bool.Decides.{nat_tests}
 use Rattle.sq_base.specs.Lines.{lexed}
-use Rattle.sq_outside.specs.SourceLines.{Line}
+use Rattle.sq_outside.specs.SourceLines.{SourceLine}
 use Rattle.sq_machine.specs.declared.entries.Event.{Event}
 use Rattle.sq_machine.specs.declared.entries.Event.TheVariants.{Reconfigure}
 use Rattle.sq_rules.specs.declared.kinds.ConfError.{ConfError}
@@ -16,7 +16,7 @@ use Rattle.sq_rules.specs.Drafts.{Drafts, are_complete, finished}
 use Rattle.sq_rules.specs.Limits.{acl_limit, header_limit, initial_limit, most_acls, pool_limit, rule_limit, text_limit}
 use Rattle.sq_rules.specs.Lookups as lookups
 use Rattle.sq_rules.specs.Lookups.{classes_within}
-use Rattle.sq_history.specs.Given.{EachOf}
+use Rattle.sq_model_laws.specs.Given.{EachOf}
 use Rattle.sq_replay.specs.ConfReading.{checked, is_configuration, no_configuration, read_result}
 use Rattle.sq_replay.specs.RunText.{Shelf, configs_of, named_by, named_from, named_in, stated, with_config, with_text}
 
@@ -83,22 +83,28 @@ is_tested c is =
     (both _ _ (is_most (length c.acls) most_acls is.all_acls)
     (both _ _ (is_most (length c.rules) rule_limit is.few_rules)
     (both _ _ (is_most (length c.pools) pool_limit is.few_pools)
-    (both _ _ (is_most (length c.headers) header_limit is.few_headers) (is_most c.initial initial_limit is.initial_is)))))))))))))))
+    (both _ _ (is_most (length c.headers) header_limit is.few_headers)
+    (is_most c.initial initial_limit is.initial_is)))))))))))))))
 
 -- what a text gives, where it is a configuration, is read
-pub read_is : (text : List ℕ) (config : Configuration) → conf_gives text config → IsConfiguration config → read_result text ≡ Ok config
-read_is text config gives is = ap checked gives ∙ ap (λ (b : Bool). if b then Ok config else Err no_configuration) (is_tested config is)
+pub read_is : (text : List ℕ) (config : Configuration) → conf_gives text config → IsConfiguration config
+    → read_result text ≡ Ok config
+read_is text config gives is = ap checked gives
+    ∙ ap (λ (b : Bool). if b then Ok config else Err no_configuration) (is_tested config is)
 
 -- a text that is refused is not
-pub read_refused : (text : List ℕ) (line : ℕ) (k : Kind) → conf_refuses text line k → read_result text ≡ Err (record { line = line; kind = k })
+pub read_refused : (text : List ℕ) (line : ℕ) (k : Kind) → conf_refuses text line k
+    → read_result text ≡ Err (record { line = line; kind = k })
 read_refused text line k refused = ap checked refused
 
 -- a text past its limit is
-pub too_long : (bytes : List ℕ) → text_limit < length bytes → conf_result bytes ≡ Err (record { line = 0; kind = kind.TooMany })
+pub too_long : (bytes : List ℕ) → text_limit < length bytes
+    → conf_result bytes ≡ Err (record { line = 0; kind = kind.TooMany })
 unfolding conf_result
 too_long bytes l = let long : nat_lt text_limit (length bytes) ≡ true = grind (arith, nat_tests) in rw long refl
 
-pub read_long : (bytes : List ℕ) → text_limit < length bytes → read_result bytes ≡ Err (record { line = 0; kind = kind.TooMany })
+pub read_long : (bytes : List ℕ) → text_limit < length bytes
+    → read_result bytes ≡ Err (record { line = 0; kind = kind.TooMany })
 read_long bytes l = read_refused bytes 0 kind.TooMany (too_long bytes l)
 
 -- what was read: the text gives it, and it is a configuration
@@ -106,14 +112,19 @@ pub record IsRead (text : List ℕ) (config : Configuration) : Type 0 where
   pub gives : conf_gives text config
   pub good : IsConfiguration config
 
-checked_is : (text : List ℕ) (r : Result Configuration ConfError) (config : Configuration) → conf_result text ≡ r → checked r ≡ Ok config → IsRead text config
+checked_is : (text : List ℕ) (r : Result Configuration ConfError) (config : Configuration) → conf_result text ≡ r
+    → checked r ≡ Ok config → IsRead text config
 checked_is text (Err e) config is read = absurd (cc)
 checked_is text (Ok c) config is read = by (is_configuration c) refl read
   where
-    by : (b : Bool) → is_configuration c ≡ b → (if b then Ok c else Err no_configuration) ≡ Ok config → IsRead text config
+    by : (b : Bool) → is_configuration c ≡ b → (if b then Ok c else Err no_configuration) ≡ Ok config
+        → IsRead text config
     by true test read =
         let same : c ≡ config = cc in
-        record { gives = is ∙ ap (λ (z : Configuration). Ok z) same; good = subst IsConfiguration same (tested_is c test) }
+        record {
+          gives = is ∙ ap (λ (z : Configuration). Ok z) same;
+          good = subst IsConfiguration same (tested_is c test);
+        }
     by false test read = absurd (cc)
 
 pub is_read : (text : List ℕ) (config : Configuration) → read_result text ≡ Ok config → IsRead text config
@@ -124,7 +135,8 @@ pub gives_source : (text : List ℕ) (config : Configuration) → conf_gives tex
 unfolding conf_result finished
 gives_source text config gives = by (nat_lt text_limit (length text)) gives
   where
-    ended : (d : Drafts) (b : Bool) → (if b then Ok (finished text d) else error_at 0 kind.PoolIncomplete) ≡ Ok config → config.source ≡ text
+    ended : (d : Drafts) (b : Bool) → (if b then Ok (finished text d) else error_at 0 kind.PoolIncomplete) ≡ Ok config
+        → config.source ≡ text
     ended d true e = let same : finished text d ≡ config = cc in ap (λ (c : Configuration). c.source) (sym same)
     ended d false e = absurd (cc)
 
@@ -132,37 +144,46 @@ gives_source text config gives = by (nat_lt text_limit (length text)) gives
     read (Ok d) e = ended d (are_complete d.pools) e
     read (Err x) e = absurd (cc)
 
-    whole : (r : Result Drafts ConfError) → and_then r (λ d. and_then (text_read d (lexed text).fault) (end_read text)) ≡ Ok config → config.source ≡ text
+    whole : (r : Result Drafts ConfError)
+        → and_then r (λ d. and_then (text_read d (lexed text).fault) (end_read text)) ≡ Ok config → config.source ≡ text
     whole (Ok d) e = read (text_read d (lexed text).fault) e
     whole (Err x) e = absurd (cc)
 
-    by : (b : Bool) → (if b then error_at 0 kind.TooMany else and_then (all_read (lexed text).lines) (λ d. and_then (text_read d (lexed text).fault) (end_read text))) ≡ Ok config
+    by : (b : Bool) →
+        (if b then error_at 0 kind.TooMany
+        else and_then (all_read (lexed text).lines) (λ d. and_then (text_read d (lexed text).fault) (end_read text)))
+        ≡ Ok config
         → config.source ≡ text
     by true e = absurd (cc)
     by false e = whole (all_read (lexed text).lines) e
 
 -- so each configuration that a script names is one
 
-config_good : (text : List ℕ) (r : Result Configuration ConfError) (more : List Configuration) → read_result text ≡ r → EachOf IsConfiguration more → EachOf IsConfiguration (with_config r more)
+config_good : (text : List ℕ) (r : Result Configuration ConfError) (more : List Configuration) → read_result text ≡ r
+    → EachOf IsConfiguration more → EachOf IsConfiguration (with_config r more)
 config_good text (Ok config) more is good = ((is_read text config is).good, good)
 config_good text (Err e) more is good = tt
 
-text_good : (o : Option (List ℕ)) (more : List Configuration) → EachOf IsConfiguration more → EachOf IsConfiguration (with_text o more)
+text_good : (o : Option (List ℕ)) (more : List Configuration) → EachOf IsConfiguration more
+    → EachOf IsConfiguration (with_text o more)
 text_good None more good = tt
 text_good (Some text) more good = config_good text (read_result text) more refl good
 
-by_good : (files : Shelf) (event : Event) (more : ℕ → List Configuration) (e : ℕ) → ((k : ℕ) → EachOf IsConfiguration (more k)) → EachOf IsConfiguration (named_by files event more e)
+by_good : (files : Shelf) (event : Event) (more : ℕ → List Configuration) (e : ℕ)
+    → ((k : ℕ) → EachOf IsConfiguration (more k)) → EachOf IsConfiguration (named_by files event more e)
 by_good files (Reconfigure name) more e good = text_good (files e name) (more (suc e)) (good (suc e))
 by_good files event more e good = good e
 
-in_good : (files : Shelf) (o : Option (ℕ × Event)) (more : ℕ → List Configuration) (e : ℕ) → ((k : ℕ) → EachOf IsConfiguration (more k)) → EachOf IsConfiguration (named_in files o more e)
+in_good : (files : Shelf) (o : Option (ℕ × Event)) (more : ℕ → List Configuration) (e : ℕ)
+    → ((k : ℕ) → EachOf IsConfiguration (more k)) → EachOf IsConfiguration (named_in files o more e)
 in_good files None more e good = good e
 in_good files (Some (now, event)) more e good = by_good files event more e good
 
-pub named_good : (files : Shelf) (ls : List Line) (e : ℕ) → EachOf IsConfiguration (named_from files ls e)
+pub named_good : (files : Shelf) (ls : List SourceLine) (e : ℕ) → EachOf IsConfiguration (named_from files ls e)
 named_good files [] e = tt
 named_good files (l ∷ ls) e = in_good files (stated l.bytes) (named_from files ls) e (λ k. named_good files ls k)
 
 -- and so are those of all epochs of a run that begins with one
-pub configs_good : (files : Shelf) (config : Configuration) (ls : List Line) → IsConfiguration config → EachOf IsConfiguration (configs_of files config ls)
+pub configs_good : (files : Shelf) (config : Configuration) (ls : List SourceLine) → IsConfiguration config
+    → EachOf IsConfiguration (configs_of files config ls)
 configs_good files config ls good = (good, named_good files ls 1)

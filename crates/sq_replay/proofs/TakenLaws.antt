@@ -14,25 +14,27 @@ use Rattle.sq_machine.specs.Marks.{entries}
 use Rattle.sq_machine.specs.Readings.{latest}
 use Rattle.sq_rules.specs.Verdicts.{pool_of}
 use Rattle.sq_machine.proofs.CheckLaws.{open_asked}
-use Rattle.sq_rows.specs.CheckRows.{Held, held_at, unasked}
-use Rattle.sq_history.proofs.LegalLaws.{marked_entries}
+use Rattle.sq_model_rows.specs.CheckRows.{Held, held_at, unasked}
+use Rattle.sq_model_laws.proofs.LegalLaws.{marked_entries}
 use Rattle.sq_pools.specs.Basins.{IsBasin}
-use Rattle.sq_state.specs.Answers.{close_answer, take_answer}
-use Rattle.sq_state.specs.Changes.{after_close, after_take}
-use Rattle.sq_state.specs.Promises.{StandsFor}
-use Rattle.sq_state.specs.States.{IsSame, State}
-use Rattle.sq_state.proofs.PromiseLaws.{answered_same, close_answered, take_answered}
-use Rattle.sq_state.proofs.StepStands.{found_held}
-use Rattle.sq_replay.specs.Runs.{Is, IsMade, IsRider, Machine, Rider}
+use Rattle.sq_model_state.specs.Answers.{close_answer, take_answer}
+use Rattle.sq_model_state.specs.Changes.{after_close, after_take}
+use Rattle.sq_model_state.specs.Promises.{StandsFor}
+use Rattle.sq_model_state.specs.States.{IsSame, State}
+use Rattle.sq_model_state.proofs.PromiseLaws.{answered_same, close_answered, take_answered}
+use Rattle.sq_model_state.proofs.StepStands.{found_held}
+use Rattle.sq_replay.specs.Runs.{Is, IsMade, IsRider, ScriptView, Rider}
 use Rattle.sq_replay.proofs.MakingLaws.{elsewhere_made, riders_closed, riders_taken}
 use Rattle.sq_replay.proofs.ToldLaws.{config_there}
 
 -- the check that the engine holds is that of the history
-pub held_ask : (configs : List Configuration) (h : History) (s : State) (n : ℕ) (k : Held) → StandsFor configs h s → held_at n s.checks ≡ Some k → ask_of h n ≡ Some k.asked
+pub held_ask : (configs : List Configuration) (h : History) (s : State) (n : ℕ) (k : Held) → StandsFor configs h s
+    → held_at n s.checks ≡ Some k → ask_of h n ≡ Some k.asked
 held_ask configs h s n k st found =
     let f = found_held configs (marked configs h) s n k st.stands found in
     let a = open_asked (entries (marked configs h)) n f.opened in
-    let own : k.asked ≡ a.asked = ap (λ (z : Held). z.asked) f.is ∙ ap (λ (o : Option Asked). unwrap_or o unasked) a.is in
+    let own : k.asked ≡ a.asked = ap (λ (z : Held). z.asked) f.is
+    ∙ ap (λ (o : Option Asked). unwrap_or o unasked) a.is in
     ap (λ (g : History). ask_of g n) (sym (marked_entries configs h)) ∙ a.is ∙ ap (λ (z : Asked). Some z) (sym own)
 
 -- a record of a check, as a seat needs it
@@ -43,13 +45,23 @@ pub record IsRecord (s : State) (a : Asked) (r : Rider) : Type 0 where
   pub addr_is : r.addr ≡ a.sight.addr
 
 -- the engine handed out a record, which is the last of its connection from here on, where it allows
-pub taken_made : (v : Machine) (configs : List Configuration) (h : History) (moment n epoch : ℕ) (o : Outcome) (k : Held) (r : Rider) (t : State) → Is v configs h → IsBasin v.pools → v.latest ≤ moment
-    → held_at n v.state.checks ≡ Some k → take_answer v.state n ≡ gives (told.Judged epoch o) → IsSame t (after_take n moment v.state) → (o.allow ≡ true → IsRecord v.state k.asked r)
-    → IsMade (record { state = t; pools = v.pools; latest = moment; riders = λ c. if c == k.asked.conn then (if o.allow then Some r else None) else v.riders c }) configs h moment (Take n) (told.Judged epoch o)
+pub taken_made : (v : ScriptView) (configs : List Configuration) (h : History) (moment n epoch : ℕ) (o : Outcome)
+    (k : Held) (r : Rider) (t : State) → Is v configs h → IsBasin v.pools → v.latest ≤ moment
+    → held_at n v.state.checks ≡ Some k → take_answer v.state n ≡ gives (told.Judged epoch o)
+    → IsSame t (after_take n moment v.state) → (o.allow ≡ true → IsRecord v.state k.asked r)
+    → IsMade (record {
+      state = t;
+      pools = v.pools;
+      latest = moment;
+      riders = λ c. if c == k.asked.conn then (if o.allow then Some r else None) else v.riders c;
+    }) configs h moment
+    (Take n) (told.Judged epoch o)
 taken_made v configs h moment n epoch o k r t is basin late found takes same own =
     let after : latest h ≤ moment = subst (λ (m : ℕ). m ≤ moment) is.latest_is late in
-    elsewhere_made v configs h moment (Take n) (told.Judged epoch o) t (λ c. if c == k.asked.conn then (if o.allow then Some r else None) else v.riders c) is basin late
-    (answered_same configs h (after_take n moment v.state) t moment (Take n) (told.Judged epoch o) same (take_answered configs h v.state moment n (told.Judged epoch o) is.engine after takes)) refl
+    elsewhere_made v configs h moment (Take n) (told.Judged epoch o) t
+    (λ c. if c == k.asked.conn then (if o.allow then Some r else None) else v.riders c) is basin late
+    (answered_same configs h (after_take n moment v.state) t moment (Take n) (told.Judged epoch o) same
+    (take_answered configs h v.state moment n (told.Judged epoch o) is.engine after takes)) refl
     (riders_taken v configs h moment n epoch o k.asked r is (held_ask configs h v.state n k is.engine found) rides)
   where
     rides : o.allow ≡ true → IsRider configs k.asked r
@@ -57,17 +69,21 @@ taken_made v configs h moment n epoch o k r t is basin late found takes same own
         let x = own allows in
         record {
           epoch_is = x.epoch_is;
-          config_is = config_there configs (marked configs h) v.state k.asked.epoch r.config is.engine.stands x.config_is;
+          config_is = config_there configs (marked configs h) v.state k.asked.epoch r.config is.engine.stands
+              x.config_is;
           pool_is = x.pool_is;
           addr_is = x.addr_is;
         }
 
 -- it closed a connection, whose record is forgotten
-pub closed_made : (v : Machine) (configs : List Configuration) (h : History) (moment d : ℕ) (answer : Told) (t : State) → Is v configs h → IsBasin v.pools → v.latest ≤ moment
+pub closed_made : (v : ScriptView) (configs : List Configuration) (h : History) (moment d : ℕ) (answer : Told)
+    (t : State) → Is v configs h → IsBasin v.pools → v.latest ≤ moment
     → close_answer v.state d ≡ gives answer → IsSame t (after_close d moment v.state)
-    → IsMade (record { state = t; pools = v.pools; latest = moment; riders = λ c. if d == c then None else v.riders c }) configs h moment (Close d) answer
+    → IsMade (record { state = t; pools = v.pools; latest = moment; riders = λ c. if d == c then None else v.riders c })
+    configs h moment (Close d) answer
 closed_made v configs h moment d answer t is basin late closes same =
     let after : latest h ≤ moment = subst (λ (m : ℕ). m ≤ moment) is.latest_is late in
     elsewhere_made v configs h moment (Close d) answer t (λ c. if d == c then None else v.riders c) is basin late
-    (answered_same configs h (after_close d moment v.state) t moment (Close d) answer same (close_answered configs h v.state moment d answer is.engine after closes)) refl
+    (answered_same configs h (after_close d moment v.state) t moment (Close d) answer same
+    (close_answered configs h v.state moment d answer is.engine after closes)) refl
     (riders_closed v configs h moment d answer is)

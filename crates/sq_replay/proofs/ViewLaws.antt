@@ -9,47 +9,58 @@ use Rattle.sq_machine.specs.declared.refusals.Refusal.{Refusal}
 use Rattle.sq_rules.specs.Configurations.{Configuration}
 use Rattle.sq_machine.specs.Entries.{History}
 use Rattle.sq_machine.specs.Readings.{latest}
-use Rattle.sq_rows.specs.CheckRows.{Held}
+use Rattle.sq_model_rows.specs.CheckRows.{Held}
 use Rattle.sq_pools.specs.Basins.{IsBasin}
 use Rattle.sq_pools.specs.Stands.{is_elsewhere}
-use Rattle.sq_state.specs.Promises.{IsAnswered, StandsFor}
-use Rattle.sq_state.specs.States.{State}
+use Rattle.sq_model_state.specs.Promises.{IsAnswered, StandsFor}
+use Rattle.sq_model_state.specs.States.{State}
 use Rattle.sq_engine.specs.EngineViews.{EngineView, state_of}
 use Rattle.sq_engine.specs.Promised.{IsPromised}
 use Rattle.sq_replay.specs.declared.stops.Stop.{Stop}
 use Rattle.sq_replay.specs.MachineViews.{MachineView, machine_of}
 use Rattle.sq_replay.specs.Making.{IsMaking, MayStand, stop_for}
-use Rattle.sq_replay.specs.Runs.{Machine}
+use Rattle.sq_replay.specs.Runs.{ScriptView}
 use Rattle.sq_replay.proofs.EngineLaws.{IsPlain, quiet_at, stops_at}
 use Rattle.sq_replay.proofs.MakingLaws.{keeps_riders}
 
 -- an event of the engine alone is made
-pub quiet_view : (m n : MachineView) (g : EngineView) (now u : ℕ) (event : Event) (answer : Told) → m ≡ n → u ≡ max now m.latest → IsBasin m.pools → is_elsewhere event answer ≡ true
+pub quiet_view : (m n : MachineView) (g : EngineView) (now u : ℕ) (event : Event) (answer : Told) → m ≡ n
+    → u ≡ max now m.latest → IsBasin m.pools → is_elsewhere event answer ≡ true
     → keeps_riders event ≡ true → MayStand event
-    → ((configs : List Configuration) (h : History) → StandsFor configs h (state_of m.engine) → latest h ≤ max u m.engine.latest → IsAnswered configs h (max u m.engine.latest) event answer (state_of g))
-    → IsMaking (machine_of n) (machine_of (record { engine = g; pools = m.pools; latest = u; riders = m.riders })) now event (Ok answer)
+    → ((configs : List Configuration) (h : History) → StandsFor configs h (state_of m.engine)
+    → latest h ≤ max u m.engine.latest → IsAnswered configs h (max u m.engine.latest) event answer (state_of g))
+    → IsMaking (machine_of n) (machine_of (record { engine = g; pools = m.pools; latest = u; riders = m.riders })) now
+    event (Ok answer)
 quiet_view m n g now u event answer same e basin other keeps stands promised =
-    subst (λ (z : MachineView). IsMaking (machine_of z) (machine_of (record { engine = g; pools = m.pools; latest = u; riders = m.riders })) now event (Ok answer)) same
+    subst (λ (z : MachineView). IsMaking (machine_of z)
+    (machine_of (record { engine = g; pools = m.pools; latest = u; riders = m.riders })) now event (Ok answer)) same
     (quiet_at (machine_of m) (state_of g) now u event answer e basin other keeps stands promised)
 
 -- or the engine refuses it, or wants memory
-pub stops_view : {A : Type 0} (tell : A → Told) (m n : MachineView) (w : Machine) (t : State) (now u : ℕ) (event : Event) (r : Refusal) (s : Stop) → m ≡ n → s ≡ stop_for r → u ≡ max now m.latest → IsPlain event
-    → IsPromised tell (state_of m.engine) (max u m.engine.latest) event (Err r) t → IsMaking (machine_of n) w now event (Err s)
+pub stops_view : {A : Type 0} (tell : A → Told) (m n : MachineView) (w : ScriptView) (t : State) (now u : ℕ)
+    (event : Event) (r : Refusal) (s : Stop) → m ≡ n → s ≡ stop_for r → u ≡ max now m.latest → IsPlain event
+    → IsPromised tell (state_of m.engine) (max u m.engine.latest) event (Err r) t
+    → IsMaking (machine_of n) w now event (Err s)
 stops_view tell m n w t now u event r s same by e plain p =
     subst (λ (z : MachineView). IsMaking (machine_of z) w now event (Err s)) same
-    (subst (λ (x : Stop). IsMaking (machine_of m) w now event (Err x)) (sym by) (stops_at tell (machine_of m) w t now u event r e plain p))
+    (subst (λ (x : Stop). IsMaking (machine_of m) w now event (Err x)) (sym by)
+    (stops_at tell (machine_of m) w t now u event r e plain p))
 
 -- the epoch of a check, as it is read
-pub epoch_some : (o : Option Held) (e : ℕ) → Some e ≡ option_map (λ (h : Held). h.asked.epoch) o → e ≡ option_map_or (λ (h : Held). h.asked.epoch) o 0
+pub epoch_some : (o : Option Held) (e : ℕ) → Some e ≡ option_map (λ (h : Held). h.asked.epoch) o
+    → e ≡ option_map_or (λ (h : Held). h.asked.epoch) o 0
 epoch_some None e is = absurd (none-some e (sym is))
 epoch_some (Some h) e is = same_Some _ _ is
 
-pub epoch_none : (o : Option Held) → None ≡ option_map (λ (h : Held). h.asked.epoch) o → 0 ≡ option_map_or (λ (h : Held). h.asked.epoch) o 0
+pub epoch_none : (o : Option Held) → None ≡ option_map (λ (h : Held). h.asked.epoch) o
+    → 0 ≡ option_map_or (λ (h : Held). h.asked.epoch) o 0
 epoch_none None is = refl
 epoch_none (Some h) is = absurd (none-some h.asked.epoch is)
 
 -- an act at the greatest moment leaves it
-pub act_latest : (old new : MachineView) (r : Result (Option Told) WantOfMemory) → IfOk r (λ told. IfSome told (λ _. new.latest ≡ max old.latest old.latest)) → IfOk r (λ told. IfNone told (new ≡ old))
+pub act_latest : (old new : MachineView) (r : Result (Option Told) WantOfMemory)
+    → IfOk r (λ told. IfSome told (λ _. new.latest ≡ max old.latest old.latest))
+    → IfOk r (λ told. IfNone told (new ≡ old))
     → OnOk r (new.latest ≡ old.latest)
 act_latest old new (Ok None) some none = ap (λ (z : MachineView). z.latest) none
 act_latest old new (Ok (Some told)) some none = some ∙ same_max old.latest

@@ -24,7 +24,8 @@ is_configuration c =
     && (nat_le (stated c.acls) acl_limit
     && (nat_le (length c.acls) most_acls
     && (nat_le (length c.rules) rule_limit
-    && (nat_le (length c.pools) pool_limit && (nat_le (length c.headers) header_limit && nat_le c.initial initial_limit))))))))))))))
+    && (nat_le (length c.pools) pool_limit
+    && (nat_le (length c.headers) header_limit && nat_le c.initial initial_limit))))))))))))))
 
 -- the fault of what is none
 abbrev pub no_configuration : ConfError
@@ -34,7 +35,8 @@ abbrev pub checked : Result Configuration ConfError → Result Configuration Con
 checked (Ok config) = if is_configuration config then Ok config else Err no_configuration
 checked (Err e) = Err e
 
--- the configuration of a text, or its first fault. The test never fails: the reader, which gives what the text states, gives a
--- configuration. It stands here so that what a run comes to is said of configurations alone
+-- the configuration of a text, or its first fault. The test never fails: the reader, which gives
+-- what the text states, gives a configuration. It stands here so that what a run comes to is said
+-- of configurations alone
 abbrev pub read_result : List ℕ → Result Configuration ConfError
 read_result text = checked (conf_result text)

@@ -1,12 +1,12 @@
--- The state that a history comes to, and how many acts are due of it at most: each act takes a due stop, a queued question, or a start
--- that `children-max` leaves.
+-- The state that a history comes to, and how many acts are due of it at most: each act takes a due
+-- stop, a queued question, or a start that `children-max` leaves.
 use Rattle.std.specs.Prelude.{◌≡◌, ℕ, ◌+◌, ◌-◌, List, [], ◌∷◌, length, if◌then◌else◌, Some, None}
 use Rattle.std.specs.declared.option.Option.{Option}
 use Rattle.sq_machine.specs.declared.entries.Event.TheVariants.{Act}
 use Rattle.sq_machine.specs.Checks.{ask_count}
 use Rattle.sq_rules.specs.Configurations.{Configuration}
 use Rattle.sq_machine.specs.Connections.{conns_of, open_count, peer_at}
-use Rattle.sq_machine.specs.DueActs.{Place}
+use Rattle.sq_machine.specs.DueActs.{ClassId}
 use Rattle.sq_machine.specs.Entries.{History}
 use Rattle.sq_machine.specs.Epochs.{is_live, config_of}
 use Rattle.sq_machine.specs.Farms.{Stock}
@@ -18,11 +18,11 @@ use Rattle.sq_machine.specs.Numbered.{picks}
 use Rattle.sq_machine.specs.Processes.{lives_on, proc_count, stop_due}
 use Rattle.sq_machine.specs.Questions.{put_count}
 use Rattle.sq_machine.specs.Readings.{current, latest, offset_of}
-use Rattle.sq_rows.specs.CheckRows.{held_checks}
-use Rattle.sq_rows.specs.ClassRows.{ClassRow, class_part}
-use Rattle.sq_state.specs.Acts.{Due, live_places_in, sends, starts, stops}
-use Rattle.sq_state.specs.Changes.{after_send_at, after_start_at, after_stop_of}
-use Rattle.sq_state.specs.States.{State, machine_moment, place_of}
+use Rattle.sq_model_rows.specs.CheckRows.{held_checks}
+use Rattle.sq_model_rows.specs.ClassRows.{ClassRow, class_part}
+use Rattle.sq_model_state.specs.Acts.{Due, live_places_in, sends, starts, stops}
+use Rattle.sq_model_state.specs.Changes.{after_send_at, after_start_at, after_stop_of}
+use Rattle.sq_model_state.specs.States.{State, machine_moment, place_of}
 
 -- the state that a history comes to: each part is its reading
 abbrev pub state_at : List Configuration → Past → State
@@ -43,7 +43,8 @@ state_at configs m = record {
   offset = offset_of (entries m);
 }
 
--- the queued questions of a class, and the starts that it may have beside its processes and open starts
+-- the queued questions of a class, and the starts that it may have beside its processes and open
+-- starts
 abbrev pub dues_of_stock : Stock → ℕ
 dues_of_stock v = length v.queue + (v.children_max - (length v.procs + v.starting))
 
@@ -52,7 +53,7 @@ dues_of_row None = 0
 dues_of_row (Some r) = dues_of_stock r.stock
 
 -- those of the class at a place
-abbrev pub dues_at : State → Place → ℕ
+abbrev pub dues_at : State → ClassId → ℕ
 dues_at s p = dues_of_row (s.row p.epoch p.class)
 
 -- the sum of a number over a list

@@ -1,6 +1,7 @@
--- What is so of the history of a run: of every list of requests, steps, lines of helpers, deaths, reconfigurations, moments and grants.
+-- What is so of the history of a run: of every list of requests, steps, lines of helpers, deaths,
+-- reconfigurations, moments and grants.
 use Rattle.std.specs.Prelude.{◌≡◌, ◌⊎◌, ℕ, suc, List, [], ◌∷◌, ◌++◌, length, Some}
-use Rattle.sq_outside.specs.SourceLines.{Line}
+use Rattle.sq_outside.specs.SourceLines.{SourceLine}
 use Rattle.sq_machine.specs.declared.entries.Event.{Event}
 use Rattle.sq_machine.specs.declared.entries.Event.TheVariants.{Reconfigure}
 use Rattle.sq_rules.specs.Configurations.{Configuration}
@@ -10,16 +11,17 @@ use Rattle.sq_machine.specs.Machine.{Legal}
 use Rattle.sq_machine.specs.BucketLevels.{IsBalanced, Tally}
 use Rattle.sq_machine.specs.Epochs.{config_of}
 use Rattle.sq_machine.specs.Marking.{marked}
-use Rattle.sq_machine.specs.PoolReadings.{Spot, tally_of}
+use Rattle.sq_machine.specs.PoolReadings.{BucketSpot, tally_of}
 use Rattle.sq_machine.specs.Readings.{current}
-use Rattle.sq_history.specs.Faithful.{IsFaithful}
+use Rattle.sq_model_laws.specs.Faithful.{IsFaithful}
 use Rattle.sq_pools.specs.Flows.{GrantsWithin, Lives}
-use Rattle.sq_state.specs.Sources.{AreSourced}
+use Rattle.sq_model_state.specs.Sources.{AreSourced}
 use Rattle.sq_replay.specs.RunText.{Shelf, named_from}
 
 -- the text of a reconfiguration gives the configuration of the epoch that it begins
 abbrev pub IsAccepted : List Configuration → History → Event → Type 0
-IsAccepted configs h (Reconfigure text) = (config : Configuration) × conf_gives text config × (config_of configs (suc (current h)) ≡ Some config)
+IsAccepted configs h (Reconfigure text) = (config : Configuration) × conf_gives text config
+    × (config_of configs (suc (current h)) ≡ Some config)
 IsAccepted configs h event = Unit {0}
 
 -- the configuration of each epoch but the first is the one that the text gives by which it began
@@ -27,14 +29,19 @@ abbrev pub AreAccepted : List Configuration → History → Type 0
 AreAccepted configs [] = Unit {0}
 AreAccepted configs (e ∷ h) = IsAccepted configs h e.event × AreAccepted configs h
 
--- between any two places from the one to the other of which a bucket lives, it grants at most its level at the first and what was restored
+-- between any two places from the one to the other of which a bucket lives, it grants at most its
+-- level at the first and what was restored
 abbrev pub AreWithinLevels : List Configuration → History → Type 0
 AreWithinLevels configs h =
-    (after later : List Noted) (before : History) (e : ℕ) (s : Spot) → after ++ (later ++ before) ≡ h → Lives configs later before e s → GrantsWithin configs later before e s
+    (after later : List Noted) (before : History) (e : ℕ) (s : BucketSpot)
+    → after ++ (later ++ before) ≡ h → Lives configs later before e s
+    → GrantsWithin configs later before e s
 
--- at each place the books of each bucket balance: what it opened with and what was restored is what it holds, granted and spilled
+-- at each place the books of each bucket balance: what it opened with and what was restored is what
+-- it holds, granted and spilled
 abbrev pub AreBalanced : List Configuration → History → Type 0
-AreBalanced configs h = (after : List Noted) (before : History) (e : ℕ) (s : Spot) (b : Tally) → after ++ before ≡ h → tally_of configs before e s ≡ Some b → IsBalanced b
+AreBalanced configs h = (after : List Noted) (before : History) (e : ℕ) (s : BucketSpot) (b : Tally)
+    → after ++ before ≡ h → tally_of configs before e s ≡ Some b → IsBalanced b
 
 -- what is so of the history of every run
 pub record IsTrue (configs : List Configuration) (h : History) : Type 0 where
@@ -44,7 +51,8 @@ pub record IsTrue (configs : List Configuration) (h : History) : Type 0 where
   pub sourced : AreSourced configs h
   -- which is the one that this text gives
   pub accepted : AreAccepted configs h
-  -- each outcome is the verdict of the configuration current when its check began, over what it saw and answers that have their sources
+  -- each outcome is the verdict of the configuration current when its check began, over what it saw
+  -- and answers that have their sources
   pub faithful : IsFaithful configs (marked configs h)
   -- between any two places no bucket grants more than its level and what was restored
   pub granted : AreWithinLevels configs h
@@ -56,7 +64,8 @@ abbrev pub IsTrueOrNone : List Configuration → History → Type 0
 IsTrueOrNone configs h = (h ≡ []) ⊎ IsTrue configs h
 
 -- behind the configurations of the epochs that have begun stand those that these lines name
-pub record IsAhead (files : Shelf) (configs : List Configuration) (h : History) (ls : List Line) : Type 0 where
+pub record IsAhead (files : Shelf) (configs : List Configuration) (h : History)
+    (ls : List SourceLine) : Type 0 where
   pub begun : List Configuration
   pub count_is : length begun ≡ current h
   pub configs_are : configs ≡ begun ++ named_from files ls (current h)

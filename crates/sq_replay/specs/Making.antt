@@ -17,7 +17,7 @@ use Rattle.sq_machine.specs.Marking.{marked}
 use Rattle.sq_machine.specs.Readings.{current}
 use Rattle.sq_replay.specs.declared.stops.Stop.{Stop}
 use Rattle.sq_replay.specs.declared.stops.Stop.TheVariants as stop
-use Rattle.sq_replay.specs.Runs.{Is, IsMade, Machine}
+use Rattle.sq_replay.specs.Runs.{Is, IsMade, ScriptView}
 
 -- the machine has no answer
 abbrev pub is_refused : Next → Bool
@@ -25,7 +25,8 @@ is_refused (gives answer) = false
 is_refused (refuses r) = true
 is_refused nothing = true
 
--- the event may stand in a line of a script behind the first: it is no `begin` and no `act`, and the request that asks can be made
+-- the event may stand in a line of a script behind the first: it is no `begin` and no `act`, and
+-- the request that asks can be made
 abbrev pub MayStand : Event → Type 0
 MayStand (Begin offset) = ⊥
 MayStand Act = ⊥
@@ -36,27 +37,38 @@ MayStand event = Unit {0}
 abbrev pub IsRefusal : List Configuration → History → ℕ → Event → Type 0
 IsRefusal configs h moment Act = Unit {0}
 IsRefusal configs h moment (Ask conn method target fields) =
-    (made_request method target 1 fields ≡ None) ⊎ (is_refused (next configs (marked configs h) moment (Ask conn method target fields)) ≡ true)
+    (made_request method target 1 fields ≡ None)
+    ⊎ (is_refused (next configs (marked configs h) moment (Ask conn method target fields)) ≡ true)
 IsRefusal configs h moment event = is_refused (next configs (marked configs h) moment event) ≡ true
 
--- the event is made at the greatest moment so far, or it is refused; where memory is wanting, nothing is said
-abbrev pub IsMaking : Machine → Machine → ℕ → Event → Result Told Stop → Type 0
-IsMaking old new now event (Ok told) = MayStand event × ((configs : List Configuration) (h : History) → Is old configs h → IsMade new configs h (max now old.latest) event told)
-IsMaking old new now event (Err stop.Refused) = (configs : List Configuration) (h : History) → Is old configs h → IsRefusal configs h (max now old.latest) event
+-- the event is made at the greatest moment so far, or it is refused; where memory is wanting,
+-- nothing is said
+abbrev pub IsMaking : ScriptView → ScriptView → ℕ → Event → Result Told Stop → Type 0
+IsMaking old new now event (Ok told) = MayStand event
+    × ((configs : List Configuration) (h : History) → Is old configs h
+    → IsMade new configs h (max now old.latest) event told)
+IsMaking old new now event (Err stop.Refused) = (configs : List Configuration) (h : History)
+    → Is old configs h → IsRefusal configs h (max now old.latest) event
 IsMaking old new now event (Err stop.WantOfMemory) = Unit {0}
 
 -- the same of a reconfiguration, where this is the configuration of the next epoch
-abbrev pub IsReconfiguring : Machine → Machine → ℕ → Configuration → Result Told Stop → Type 0
+abbrev pub IsReconfiguring : ScriptView → ScriptView → ℕ → Configuration → Result Told Stop → Type 0
 IsReconfiguring old new now config (Ok told) =
-    (configs : List Configuration) (h : History) → Is old configs h → config_of configs (suc (current h)) ≡ Some config → IsMade new configs h (max now old.latest) (Reconfigure config.source) told
+    (configs : List Configuration) (h : History) → Is old configs h
+    → config_of configs (suc (current h)) ≡ Some config
+    → IsMade new configs h (max now old.latest) (Reconfigure config.source) told
 IsReconfiguring old new now config (Err stop.Refused) =
-    (configs : List Configuration) (h : History) → Is old configs h → is_refused (next configs (marked configs h) (max now old.latest) (Reconfigure config.source)) ≡ true
+    (configs : List Configuration) (h : History) → Is old configs h
+    → is_refused (next configs (marked configs h) (max now old.latest) (Reconfigure config.source))
+    ≡ true
 IsReconfiguring old new now config (Err stop.WantOfMemory) = Unit {0}
 
 -- the act that is due at this moment is made; or none is due
-abbrev pub IsActing : Machine → Machine → ℕ → Result (Option Told) WantOfMemory → Type 0
-IsActing old new moment (Ok (Some told)) = (configs : List Configuration) (h : History) → Is old configs h → IsMade new configs h moment Act told
-IsActing old new moment (Ok None) = (configs : List Configuration) (h : History) → Is old configs h → next configs (marked configs h) moment Act ≡ nothing
+abbrev pub IsActing : ScriptView → ScriptView → ℕ → Result (Option Told) WantOfMemory → Type 0
+IsActing old new moment (Ok (Some told)) = (configs : List Configuration) (h : History)
+    → Is old configs h → IsMade new configs h moment Act told
+IsActing old new moment (Ok None) = (configs : List Configuration) (h : History) → Is old configs h
+    → next configs (marked configs h) moment Act ≡ nothing
 IsActing old new moment (Err e) = Unit {0}
 
 -- how a refusal of the engine stops the event

@@ -1,8 +1,9 @@
--- The openings of a run: of the files that its lines name, one for each line, in the order of the lines.
+-- The openings of a run: of the files that its lines name, one for each line, in the order of the
+-- lines.
 use Rattle.std.specs.Prelude.{◌≡◌, ℕ, ◌+◌, List, [], ◌∷◌, ◌++◌, length, Result, Ok, Err, Some, None, IfSome}
 use Rattle.std.specs.Io.KnownBytes.{IsAtEnd}
 use Rattle.std.specs.declared.option.Option.{Option}
-use Rattle.sq_outside.specs.SourceLines.{Line, lines}
+use Rattle.sq_outside.specs.SourceLines.{SourceLine, lines}
 use Rattle.sq_outside.specs.Told.{Opening, Openings}
 use Rattle.sq_machine.specs.declared.entries.Event.{Event}
 use Rattle.sq_machine.specs.declared.entries.Event.TheVariants.{Reconfigure}
@@ -14,7 +15,8 @@ use Rattle.sq_replay.specs.RunText.{stated}
 
 -- where openings are told, some were added, newest first, of which P holds
 abbrev pub Added : Openings → Openings → (List Opening → Type 0) → Type 0
-Added old new P = IfSome old (λ earlier. (more : List Opening) × (new ≡ Some (more ++ earlier)) × P more)
+Added old new P = IfSome old
+    (λ earlier. (more : List Opening) × (new ≡ Some (more ++ earlier)) × P more)
 
 -- names
 
@@ -28,7 +30,7 @@ name_in None = None
 name_in (Some (now, event)) = name_of event
 
 -- the file that a line names
-abbrev pub name_at : Line → Option (List ℕ)
+abbrev pub name_at : SourceLine → Option (List ℕ)
 name_at l = name_in (stated l.bytes)
 
 abbrev pub before_names : Option (List ℕ) → List (List ℕ) → List (List ℕ)
@@ -36,12 +38,12 @@ before_names None names = names
 before_names (Some name) names = name ∷ names
 
 -- the files that lines name, in their order
-abbrev pub names_in : List Line → List (List ℕ)
+abbrev pub names_in : List SourceLine → List (List ℕ)
 names_in [] = []
 names_in (l ∷ ls) = before_names (name_at l) (names_in ls)
 
 -- the file that the first of these lines names
-abbrev pub next_name : List Line → Option (List ℕ)
+abbrev pub next_name : List SourceLine → Option (List ℕ)
 next_name [] = None
 next_name (l ∷ ls) = name_at l
 
@@ -61,11 +63,12 @@ AllGive [] = Unit {0}
 AllGive (o ∷ more) = Gives o × AllGive more
 
 -- each file that these lines name was opened once, in their order, and gave a configuration
-pub record LinesOpened (ls : List Line) (more : List Opening) : Type 0 where
+pub record LinesOpened (ls : List SourceLine) (more : List Opening) : Type 0 where
   pub names : opened_names more ≡ names_in ls
   pub give : AllGive more
 
--- the file of this name was opened, if there is a name, and nothing else was, and it gave a configuration
+-- the file of this name was opened, if there is a name, and nothing else was, and it gave a
+-- configuration
 abbrev pub NameOpened : Option (List ℕ) → List Opening → Type 0
 NameOpened None more = more ≡ []
 NameOpened (Some name) more = (o : Opening) × (more ≡ o ∷ []) × (o.name ≡ name) × Gives o
@@ -76,12 +79,13 @@ MayOpen name [] = Unit {0}
 MayOpen name (o ∷ []) = name ≡ Some o.name
 MayOpen name (o ∷ p ∷ more) = ⊥
 
--- what a line with this number opened that names this file, if it names one, and ended its run so: a file with a fault was opened, and one that is
--- missed was not
+-- what a line with this number opened that names this file, if it names one, and ended its run so:
+-- a file with a fault was opened, and one that is missed was not
 abbrev pub StopOpened : ℕ → RunEnd → Option (List ℕ) → List Opening → Type 0
 StopOpened number ends.Ok name more = more ≡ []
 StopOpened number (ends.Script line) name more = (line ≡ number) × MayOpen name more
-StopOpened number (ends.Config e) name more = (o : Opening) × (more ≡ o ∷ []) × (name ≡ Some o.name) × (read_result o.text ≡ Err e)
+StopOpened number (ends.Config e) name more = (o : Opening) × (more ≡ o ∷ []) × (name ≡ Some o.name)
+    × (read_result o.text ≡ Err e)
 StopOpened number (ends.Missing missed) name more = (more ≡ []) × (name ≡ Some missed)
 StopOpened number end name more = MayOpen name more
 
@@ -90,11 +94,12 @@ abbrev pub StepOpened : {A : Type 0} → ℕ → Option (List ℕ) → Result A 
 StepOpened number name (Ok done) more = NameOpened name more
 StepOpened number name (Err end) more = StopOpened number end name more
 
--- The openings of a run of these lines, behind so many others: those of the lines that it ran, and what the line opened at which it ended; a run
--- that ended well ran all, and opened nothing more.
-pub record RunOpened (count : ℕ) (ls : List Line) (end : RunEnd) (more : List Opening) : Type 0 where
-  pub done : List Line
-  pub left : List Line
+-- The openings of a run of these lines, behind so many others: those of the lines that it ran, and
+-- what the line opened at which it ended; a run that ended well ran all, and opened nothing more.
+pub record RunOpened (count : ℕ) (ls : List SourceLine) (end : RunEnd)
+    (more : List Opening) : Type 0 where
+  pub done : List SourceLine
+  pub left : List SourceLine
   pub earlier : List Opening
   pub last : List Opening
   pub lines_are : ls ≡ done ++ left
@@ -103,9 +108,11 @@ pub record RunOpened (count : ℕ) (ls : List Line) (end : RunEnd) (more : List 
   pub stops : StopOpened (count + length done + 1) end (next_name left) last
   pub whole : end ≡ ends.Ok → left ≡ []
 
--- so it is under way, before the line with this number, which is the first of the bytes that are left
-pub record OpenedSoFar (count : ℕ) (ls : List Line) (old new : Openings) (left : Option (List ℕ)) (number : ℕ) : Type 0 where
-  pub done : List Line
+-- so it is under way, before the line with this number, which is the first of the bytes that are
+-- left
+pub record OpenedSoFar (count : ℕ) (ls : List SourceLine) (old new : Openings)
+    (left : Option (List ℕ)) (number : ℕ) : Type 0 where
+  pub done : List SourceLine
   pub bytes : List ℕ
   pub left_is : left ≡ Some bytes
   pub lines_are : ls ≡ done ++ lines bytes

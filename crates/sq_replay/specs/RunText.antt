@@ -1,8 +1,9 @@
--- What a run of a script over a configuration comes to: its history, whose lines are written, and its end.
+-- What a run of a script over a configuration comes to: its history, whose lines are written, and
+-- its end.
 use Rattle.std.specs.Prelude.{ℕ, ◌+◌, ℤ, List, [], ◌∷◌, ◌++◌, length, Result, Ok, Err, Some, None, is_some, max, pos, zero, suc, if◌then◌else◌}
 use Rattle.std.specs.declared.option.Option.{Option}
 use Rattle.sq_base.specs.declared.requests.Field.{Field}
-use Rattle.sq_outside.specs.SourceLines.{Line, is_readable}
+use Rattle.sq_outside.specs.SourceLines.{SourceLine, is_readable}
 use Rattle.sq_request.specs.Written.{made_request}
 use Rattle.sq_machine.specs.declared.entries.Event.{Event}
 use Rattle.sq_machine.specs.declared.entries.Event.TheVariants.{Begin, Ask, Act, Reconfigure}
@@ -23,15 +24,16 @@ use Rattle.sq_replay.specs.ConfReading.{read_result}
 use Rattle.sq_replay.specs.Dues.{dues}
 
 -- a history, the newest entry first, and how the run ends
-pub record Ran : Type 0 where
+pub record ScriptRun : Type 0 where
   pub history : History
   pub end : RunEnd
 
 -- a run that ends before the machine begins
-abbrev pub stopped : RunEnd → Ran
+abbrev pub stopped : RunEnd → ScriptRun
 stopped end = record { history = []; end = end }
 
--- the text that a name has where its file is opened in an epoch, if there is such a file; in an epoch one file is opened at most
+-- the text that a name has where its file is opened in an epoch, if there is such a file; in an
+-- epoch one file is opened at most
 abbrev pub Shelf : Type 0
 Shelf = ℕ → List ℕ → Option (List ℕ)
 
@@ -47,25 +49,31 @@ acted go h n = h
 -- the history with the acts that are due, up to so many
 abbrev pub acts_upto : List Configuration → ℕ → History → History
 acts_upto configs zero h = h
-acts_upto configs (suc k) h = acted (acts_upto configs k) h (next configs (marked configs h) (latest h) Act)
+acts_upto configs (suc k) h = acted (acts_upto configs k) h
+    (next configs (marked configs h) (latest h) Act)
 
 -- the history with the acts that are due, up to none
 abbrev pub acts : List Configuration → History → History
 acts configs h = acts_upto configs (dues configs h) h
 
--- an answer is an entry, and the acts follow that are due then; without one the run ends at this line
+-- an answer is an entry, and the acts follow that are due then; without one the run ends at this
+-- line
 abbrev pub answered : List Configuration → History → ℕ → ℕ → Event → Next → Result History RunEnd
-answered configs h number moment event (gives answer) = Ok (acts configs (entry_at moment event answer ∷ h))
+answered configs h number moment event (gives answer) = Ok
+    (acts configs (entry_at moment event answer ∷ h))
 answered configs h number moment event n = Err (ends.Script number)
 
 -- the event of line `number`, at the greatest moment so far
 abbrev pub asked_next : List Configuration → History → ℕ → ℕ → Event → Result History RunEnd
 asked_next configs h number now event =
-    answered configs h number (max now (latest h)) event (next configs (marked configs h) (max now (latest h)) event)
+    answered configs h number (max now (latest h)) event
+    (next configs (marked configs h) (max now (latest h)) event)
 
 -- requests of a script have version 1.1
-abbrev pub is_request : List ℕ → List ℕ → List Field → Result History RunEnd → ℕ → Result History RunEnd
-is_request method target fields step number = if is_some (made_request method target 1 fields) then step else Err (ends.Script number)
+abbrev pub is_request : List ℕ → List ℕ → List Field → Result History RunEnd → ℕ
+    → Result History RunEnd
+is_request method target fields step number = if is_some
+    (made_request method target 1 fields) then step else Err (ends.Script number)
 
 -- a fault of a configuration's text ends the run
 abbrev pub accepted : Result Configuration ConfError → Result History RunEnd → Result History RunEnd
@@ -73,37 +81,46 @@ accepted (Ok config) step = step
 accepted (Err e) step = Err (ends.Config e)
 
 -- a reconfiguration by the file of this name, where it has this text: the entry holds the text
-abbrev pub reconfigured : List Configuration → History → ℕ → ℕ → List ℕ → Option (List ℕ) → Result History RunEnd
+abbrev pub reconfigured : List Configuration → History → ℕ → ℕ → List ℕ → Option (List ℕ)
+    → Result History RunEnd
 reconfigured configs h number now name None = Err (ends.Missing name)
-reconfigured configs h number now name (Some text) = accepted (read_result text) (asked_next configs h number now (Reconfigure text))
+reconfigured configs h number now name (Some text) = accepted (read_result text)
+    (asked_next configs h number now (Reconfigure text))
 
--- the event of a line of the script, behind the first: `begin` may stand in the first alone, and `act` in none
+-- the event of a line of the script, behind the first: `begin` may stand in the first alone, and
+-- `act` in none
 abbrev pub event_step : Shelf → List Configuration → History → ℕ → ℕ → Event → Result History RunEnd
 event_step files configs h number now (Begin offset) = Err (ends.Script number)
 event_step files configs h number now Act = Err (ends.Script number)
 event_step files configs h number now (Ask conn method target fields) =
-    is_request method target fields (asked_next configs h number now (Ask conn method target fields)) number
-event_step files configs h number now (Reconfigure name) = reconfigured configs h number now name (files (current h) name)
+    is_request method target fields
+    (asked_next configs h number now (Ask conn method target fields)) number
+event_step files configs h number now (Reconfigure name) = reconfigured configs h number now name
+    (files (current h) name)
 event_step files configs h number now event = asked_next configs h number now event
 
-abbrev pub stated_step : Shelf → List Configuration → History → ℕ → Option (ℕ × Event) → Result History RunEnd
+abbrev pub stated_step : Shelf → List Configuration → History → ℕ → Option (ℕ × Event)
+    → Result History RunEnd
 stated_step files configs h number None = Err (ends.Script number)
 stated_step files configs h number (Some (now, event)) = event_step files configs h number now event
 
 -- line `number` of the script, which begins behind `place` bytes
-abbrev pub line_step : Shelf → List Configuration → History → ℕ → ℕ → Line → Result History RunEnd
+abbrev pub line_step : Shelf → List Configuration → History → ℕ → ℕ → SourceLine
+    → Result History RunEnd
 line_step files configs h number place l =
-    if is_readable place l then stated_step files configs h number (stated l.bytes) else Err (ends.Script number)
+    if is_readable place l then stated_step files configs h number (stated l.bytes)
+    else Err (ends.Script number)
 
-abbrev pub run_on : History → Result History RunEnd → (History → Ran) → Ran
+abbrev pub run_on : History → Result History RunEnd → (History → ScriptRun) → ScriptRun
 run_on h (Ok t) go = go t
 run_on h (Err end) go = record { history = h; end = end }
 
 -- the run of these lines, from a number and a place on
-abbrev pub run_lines : Shelf → List Configuration → History → ℕ → ℕ → List Line → Ran
+abbrev pub run_lines : Shelf → List Configuration → History → ℕ → ℕ → List SourceLine → ScriptRun
 run_lines files configs h number place [] = record { history = h; end = ends.Ok }
 run_lines files configs h number place (l ∷ ls) =
-    run_on h (line_step files configs h number place l) (λ t. run_lines files configs t (number + 1) (place + length l.bytes + 1) ls)
+    run_on h (line_step files configs h number place l)
+    (λ t. run_lines files configs t (number + 1) (place + length l.bytes + 1) ls)
 
 -- the entry by which the machine begins
 abbrev pub first_history : ℕ → ℤ → History
@@ -114,26 +131,31 @@ abbrev pub begun_history : List Configuration → ℕ → ℤ → History
 begun_history configs now offset = acts configs (first_history now offset)
 
 -- the first line is run by a machine that began at its moment, with offset 0
-abbrev pub run_from : Shelf → List Configuration → ℕ → List Line → ℕ → Event → Ran
+abbrev pub run_from : Shelf → List Configuration → ℕ → List SourceLine → ℕ → Event → ScriptRun
 run_from files configs place ls now event =
-    run_on (begun_history configs now (pos 0)) (event_step files configs (begun_history configs now (pos 0)) 1 now event)
+    run_on (begun_history configs now (pos 0))
+    (event_step files configs (begun_history configs now (pos 0)) 1 now event)
     (λ t. run_lines files configs t 2 place ls)
 
 -- the first line may say where the machine begins, and `act` is no line of a script
-abbrev pub run_first : Shelf → List Configuration → ℕ → List Line → ℕ → Event → Ran
-run_first files configs place ls now (Begin offset) = run_lines files configs (begun_history configs now offset) 2 place ls
+abbrev pub run_first : Shelf → List Configuration → ℕ → List SourceLine → ℕ → Event → ScriptRun
+run_first files configs place ls now (Begin offset) = run_lines files configs
+    (begun_history configs now offset) 2 place ls
 run_first files configs place ls now Act = stopped (ends.Script 1)
 run_first files configs place ls now event = run_from files configs place ls now event
 
-abbrev pub run_stated : Shelf → List Configuration → ℕ → List Line → Option (ℕ × Event) → Ran
+abbrev pub run_stated : Shelf → List Configuration → ℕ → List SourceLine → Option (ℕ × Event)
+    → ScriptRun
 run_stated files configs place ls None = stopped (ends.Script 1)
 run_stated files configs place ls (Some (now, event)) = run_first files configs place ls now event
 
--- the run of a script's lines over the configurations of its epochs; without lines the machine begins at 0
-abbrev pub run_over : Shelf → List Configuration → List Line → Ran
+-- the run of a script's lines over the configurations of its epochs; without lines the machine
+-- begins at 0
+abbrev pub run_over : Shelf → List Configuration → List SourceLine → ScriptRun
 run_over files configs [] = record { history = begun_history configs 0 (pos 0); end = ends.Ok }
 run_over files configs (l ∷ ls) =
-    if is_readable 0 l then run_stated files configs (length l.bytes + 1) ls (stated l.bytes) else stopped (ends.Script 1)
+    if is_readable 0 l then run_stated files configs (length l.bytes + 1) ls (stated l.bytes)
+    else stopped (ends.Script 1)
 
 -- a configuration that a text gives, and those that follow; none where the text gives none
 abbrev pub with_config : Result Configuration ConfError → List Configuration → List Configuration
@@ -152,15 +174,16 @@ abbrev pub named_in : Shelf → Option (ℕ × Event) → (ℕ → List Configur
 named_in files None more e = more e
 named_in files (Some (now, event)) more e = named_by files event more e
 
--- the configurations that the lines of a script name, in order, where its first line is run in this epoch; the run ends where a file gives none
-abbrev pub named_from : Shelf → List Line → ℕ → List Configuration
+-- the configurations that the lines of a script name, in order, where its first line is run in this
+-- epoch; the run ends where a file gives none
+abbrev pub named_from : Shelf → List SourceLine → ℕ → List Configuration
 named_from files [] e = []
 named_from files (l ∷ ls) e = named_in files (stated l.bytes) (named_from files ls) e
 
 -- the configurations of a script's epochs: the one that it begins with, and those that it names
-abbrev pub configs_of : Shelf → Configuration → List Line → List Configuration
+abbrev pub configs_of : Shelf → Configuration → List SourceLine → List Configuration
 configs_of files config ls = config ∷ named_from files ls 1
 
 -- the run of a script's lines
-abbrev pub run_script : Shelf → Configuration → List Line → Ran
+abbrev pub run_script : Shelf → Configuration → List SourceLine → ScriptRun
 run_script files config ls = run_over files (configs_of files config ls) ls

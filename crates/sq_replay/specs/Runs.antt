@@ -5,7 +5,7 @@ use Rattle.std.specs.declared.option.Option.{Option}
 use Rattle.sq_base.specs.Addresses.{Address}
 use Rattle.sq_outside.specs.Causes.{Rose}
 use Rattle.sq_outside.specs.Output.{Grew, IsPrefix, IsProperPrefix}
-use Rattle.sq_outside.specs.SourceLines.{Line, lines}
+use Rattle.sq_outside.specs.SourceLines.{SourceLine, lines}
 use Rattle.sq_outside.specs.Told.{Opening, Openings, Texts}
 use Rattle.sq_machine.specs.declared.entries.Event.{Event}
 use Rattle.sq_machine.specs.declared.entries.Event.TheVariants.{Reconfigure}
@@ -24,14 +24,14 @@ use Rattle.sq_rules.specs.Verdicts.{pool_of}
 use Rattle.sq_journal.specs.EntryText.{written}
 use Rattle.sq_pools.specs.Basins.{Basin}
 use Rattle.sq_pools.specs.Stands.{PoolsStand}
-use Rattle.sq_state.specs.Promises.{StandsFor}
-use Rattle.sq_state.specs.States.{State}
+use Rattle.sq_model_state.specs.Promises.{StandsFor}
+use Rattle.sq_model_state.specs.States.{State}
 use Rattle.sq_replay.specs.declared.ends.RunEnd.{RunEnd}
 use Rattle.sq_replay.specs.declared.ends.RunEnd.TheVariants as ends
 use Rattle.sq_replay.specs.ConfReading.{read_result}
 use Rattle.sq_replay.specs.Ends.{End, Done, Refused, Faulted, Reading, Writing, Lacking, end_of}
 use Rattle.sq_replay.specs.Headline.{IsAhead}
-use Rattle.sq_replay.specs.RunText.{Ran, Shelf, acts, begun_history, configs_of, run_lines, run_script, stated, stated_step}
+use Rattle.sq_replay.specs.RunText.{ScriptRun, Shelf, acts, begun_history, configs_of, run_lines, run_script, stated, stated_step}
 
 -- what was written
 
@@ -70,7 +70,8 @@ WrotePart base contents text = Grew base contents (λ part. IsProperPrefix part 
 
 -- the machine
 
--- a record that allows, as a seat needs it: its epoch with the configuration, its pool, and the client's address
+-- a record that allows, as a seat needs it: its epoch with the configuration, its pool, and the
+-- client's address
 pub record Rider : Type 0 where
   pub epoch : ℕ
   pub config : Configuration
@@ -91,35 +92,39 @@ Rides configs None (Some r) = ⊥
 Rides configs (Some a) None = ⊥
 Rides configs (Some a) (Some r) = IsRider configs a r
 
--- the machine that a script runs: the engine's state, the pools, the greatest moment of all entries, and the record last taken on each
--- connection, where it allows
-pub record Machine : Type 0 where
+-- the machine that a script runs: the engine's state, the pools, the greatest moment of all
+-- entries, and the record last taken on each connection, where it allows
+pub record ScriptView : Type 0 where
   pub state : State
   pub pools : Basin
   pub latest : ℕ
   pub riders : ℕ → Option Rider
 
 -- it stands for this history, which is legal over these configurations
-pub record Is (v : Machine) (configs : List Configuration) (h : History) : Type 0 where
+pub record Is (v : ScriptView) (configs : List Configuration) (h : History) : Type 0 where
   pub engine : StandsFor configs h v.state
   pub pools : PoolsStand v.pools configs h
   pub latest_is : v.latest ≡ latest h
   pub riders_are : (c : ℕ) → Rides configs (allowed_of h c) (v.riders c)
 
 -- and the lines of the history were written since `base`, but for what the page holds
-pub record At (v : Machine) (base contents : Option (List ℕ)) (page : List ℕ) (configs : List Configuration) (h : History) : Type 0 where
+pub record At (v : ScriptView) (base contents : Option (List ℕ)) (page : List ℕ)
+    (configs : List Configuration) (h : History) : Type 0 where
   pub is : Is v configs h
   pub wrote : Wrote base contents page (written h)
 
--- after this history the machine answers so to an event at this moment, and then stands for the history with the entry
-pub record IsMade (v : Machine) (configs : List Configuration) (h : History) (moment : ℕ) (event : Event) (answer : Told) : Type 0 where
+-- after this history the machine answers so to an event at this moment, and then stands for the
+-- history with the entry
+pub record IsMade (v : ScriptView) (configs : List Configuration) (h : History) (moment : ℕ)
+    (event : Event) (answer : Told) : Type 0 where
   pub next_is : next configs (marked configs h) moment event ≡ gives answer
   pub is : Is v configs (entry_at moment event answer ∷ h)
 
 -- the acts
 
 -- a history from which the acts go on to the same end, and whose lines were written
-pub record Reached (v : Machine) (base contents : Option (List ℕ)) (page : List ℕ) (configs : List Configuration) (h : History) : Type 0 where
+pub record Reached (v : ScriptView) (base contents : Option (List ℕ)) (page : List ℕ)
+    (configs : List Configuration) (h : History) : Type 0 where
   pub history : History
   pub same : acts configs history ≡ acts configs h
   pub at : At v base contents page configs history
@@ -131,7 +136,8 @@ abbrev pub IsShelf : Texts → Shelf → Type 0
 IsShelf None files = ⊥
 IsShelf (Some disk) files = (e : ℕ) (name : List ℕ) → files e name ≡ disk name
 
--- these openings, the newest first, gave what stands on the shelf, one in each epoch from this one on
+-- these openings, the newest first, gave what stands on the shelf, one in each epoch from this one
+-- on
 abbrev pub StandOn : Shelf → ℕ → List Opening → Type 0
 StandOn files e [] = Unit {0}
 StandOn files e (o ∷ more) = (files (e + length more) o.name ≡ Some o.text) × StandOn files e more
@@ -150,8 +156,10 @@ abbrev pub Lacks : Shelf → ℕ → Option (List ℕ) → Type 0
 Lacks files e None = Unit {0}
 Lacks files e (Some name) = files e name ≡ None
 
--- the openings that were added gave what stands on the shelf from this epoch on, and a file that was missed then does not stand there
-pub record Opened (old new : Openings) (files : Shelf) (e : ℕ) (missing : Option (List ℕ)) : Type 0 where
+-- the openings that were added gave what stands on the shelf from this epoch on, and a file that
+-- was missed then does not stand there
+pub record Opened (old new : Openings) (files : Shelf) (e : ℕ)
+    (missing : Option (List ℕ)) : Type 0 where
   pub earlier : List Opening
   pub more : List Opening
   pub old_is : old ≡ Some earlier
@@ -159,7 +167,8 @@ pub record Opened (old new : Openings) (files : Shelf) (e : ℕ) (missing : Opti
   pub stand : StandOn files e more
   pub lacks : Lacks files (e + length more) missing
 
--- the files tell what stands on the shelf: by the text of each name, or by their openings since this epoch
+-- the files tell what stands on the shelf: by the text of each name, or by their openings since
+-- this epoch
 abbrev pub Tells : Texts → Openings → Openings → Shelf → ℕ → Option (List ℕ) → Type 0
 Tells texts old new files e missing = IsShelf texts files ⊎ Opened old new files e missing
 
@@ -169,7 +178,8 @@ Adds old new = IfSome old (λ earlier. (more : List Opening) × (new ≡ Some (m
 
 -- so many of them
 abbrev pub AddsCount : Openings → Openings → ℕ → Type 0
-AddsCount old new n = IfSome old (λ earlier. (more : List Opening) × (new ≡ Some (more ++ earlier)) × (length more ≡ n))
+AddsCount old new n = IfSome old
+    (λ earlier. (more : List Opening) × (new ≡ Some (more ++ earlier)) × (length more ≡ n))
 
 -- the openings that an event of a line takes
 abbrev pub openings_of : Event → ℕ
@@ -182,7 +192,8 @@ openings_in (Some (now, event)) = openings_of event
 -- the configuration that a reconfiguration would read is that of the next epoch
 abbrev pub HasNext : Shelf → List Configuration → History → Event → Type 0
 HasNext files configs h (Reconfigure name) =
-    (text : List ℕ) (config : Configuration) → files (current h) name ≡ Some text → read_result text ≡ Ok config → config_of configs (suc (current h)) ≡ Some config
+    (text : List ℕ) (config : Configuration) → files (current h) name ≡ Some text
+    → read_result text ≡ Ok config → config_of configs (suc (current h)) ≡ Some config
 HasNext files configs h event = Unit {0}
 
 -- one step
@@ -192,55 +203,80 @@ abbrev pub step_text : History → Result History RunEnd → List ℕ
 step_text h (Ok t) = written t
 step_text h (Err end) = written h
 
-abbrev pub StopsAs : End → Option (List ℕ) → Option (List ℕ) → List ℕ → History → Result History RunEnd → RunEnd → Type 0
+abbrev pub StopsAs : End → Option (List ℕ) → Option (List ℕ) → List ℕ → History
+    → Result History RunEnd → RunEnd → Type 0
 StopsAs Done base contents page h step end = ⊥
-StopsAs Refused base contents page h step end = (step ≡ Err end) × Wrote base contents page (written h)
+StopsAs Refused base contents page h step end = (step ≡ Err end)
+    × Wrote base contents page (written h)
 StopsAs (Faulted Reading) base contents page h step end = Wrote base contents page (written h)
 StopsAs (Faulted Writing) base contents page h step end = WrotePart base contents (step_text h step)
-StopsAs (Faulted Lacking) base contents page h step end = WroteFront base contents page (step_text h step)
+StopsAs (Faulted Lacking) base contents page h step end = WroteFront base contents page
+    (step_text h step)
 
--- the run stops at this step: the step is refused, or a fault came; a file is read before the step's lines are written
-abbrev pub Stops : Option (List ℕ) → Option (List ℕ) → List ℕ → History → Result History RunEnd → RunEnd → Type 0
+-- the run stops at this step: the step is refused, or a fault came; a file is read before the
+-- step's lines are written
+abbrev pub Stops : Option (List ℕ) → Option (List ℕ) → List ℕ → History → Result History RunEnd
+    → RunEnd → Type 0
 Stops base contents page h step end = StopsAs (end_of end) base contents page h step end
 
 -- a step was made, and the run goes on; or it stops
-abbrev pub Goes : Machine → Option (List ℕ) → Option (List ℕ) → List ℕ → List Configuration → History → Result History RunEnd → Result (Unit {0}) RunEnd → Type 0
-Goes v base contents page configs h step (Ok done) = (t : History) × (step ≡ Ok t) × At v base contents page configs t
+abbrev pub Goes : ScriptView → Option (List ℕ) → Option (List ℕ) → List ℕ → List Configuration
+    → History → Result History RunEnd → Result (Unit {0}) RunEnd → Type 0
+Goes v base contents page configs h step (Ok done) = (t : History) × (step ≡ Ok t)
+    × At v base contents page configs t
 Goes v base contents page configs h step (Err end) = Stops base contents page h step end
 
--- a line of a script was run, where the files tell: over every history that the machine stood for, and configurations that go on as the line
--- and those behind it say
-abbrev pub LineGoes : Machine → Machine → Texts → Openings → Openings → Option (List ℕ) → Option (List ℕ) → Option (List ℕ) → List ℕ → List ℕ → List Configuration → ℕ → List ℕ → Result (Unit {0}) RunEnd → Type 0
+-- a line of a script was run, where the files tell: over every history that the machine stood for,
+-- and configurations that go on as the line and those behind it say
+abbrev pub LineGoes : ScriptView → ScriptView → Texts → Openings → Openings → Option (List ℕ)
+    → Option (List ℕ) → Option (List ℕ) → List ℕ → List ℕ → List Configuration → ℕ → List ℕ
+    → Result (Unit {0}) RunEnd → Type 0
 LineGoes v w texts old new base before contents old_page page configs number line result =
-    (h : History) (files : Shelf) (ls : List Line) → At v base before old_page configs h → Tells texts old new files (current h) (missed_by result)
-    → IsAhead files configs h (record { bytes = line; ended = true } ∷ ls) → Goes w base contents page configs h (stated_step files configs h number (stated line)) result
+    (h : History) (files : Shelf) (ls : List SourceLine) → At v base before old_page configs h
+    → Tells texts old new files (current h) (missed_by result)
+    → IsAhead files configs h (record { bytes = line; ended = true } ∷ ls)
+    → Goes w base contents page configs h (stated_step files configs h number (stated line)) result
 
 -- the run
 
-abbrev pub ReachesAs : End → Option (List ℕ) → Option (List ℕ) → List ℕ → Ran → RunEnd → Type 0
-ReachesAs Done base contents page ran end = (end ≡ ran.end) × Wrote base contents page (written ran.history)
-ReachesAs Refused base contents page ran end = (end ≡ ran.end) × Wrote base contents page (written ran.history)
-ReachesAs (Faulted Reading) base contents page ran end = WroteLines base contents page (written ran.history)
-ReachesAs (Faulted Writing) base contents page ran end = WrotePart base contents (written ran.history)
-ReachesAs (Faulted Lacking) base contents page ran end = WroteFront base contents page (written ran.history)
+abbrev pub ReachesAs : End → Option (List ℕ) → Option (List ℕ) → List ℕ → ScriptRun → RunEnd
+    → Type 0
+ReachesAs Done base contents page ran end = (end ≡ ran.end)
+    × Wrote base contents page (written ran.history)
+ReachesAs Refused base contents page ran end = (end ≡ ran.end)
+    × Wrote base contents page (written ran.history)
+ReachesAs (Faulted Reading) base contents page ran end = WroteLines base contents page
+    (written ran.history)
+ReachesAs (Faulted Writing) base contents page ran end = WrotePart base contents
+    (written ran.history)
+ReachesAs (Faulted Lacking) base contents page ran end = WroteFront base contents page
+    (written ran.history)
 
 -- the run came to its end, and the page holds what was not written; or a fault ended it before
-abbrev pub Reaches : Option (List ℕ) → Option (List ℕ) → List ℕ → Ran → RunEnd → Type 0
+abbrev pub Reaches : Option (List ℕ) → Option (List ℕ) → List ℕ → ScriptRun → RunEnd → Type 0
 Reaches base contents page ran end = ReachesAs (end_of end) base contents page ran end
 
--- where script and files tell, something holds over what stands on the shelf, and configurations that go on as the script's lines say
-abbrev pub WhereTold : Texts → Openings → Openings → Option (List ℕ) → Option (List ℕ) → List Configuration → History → (Shelf → List ℕ → Type 0) → Type 0
+-- where script and files tell, something holds over what stands on the shelf, and configurations
+-- that go on as the script's lines say
+abbrev pub WhereTold : Texts → Openings → Openings → Option (List ℕ) → Option (List ℕ)
+    → List Configuration → History → (Shelf → List ℕ → Type 0) → Type 0
 WhereTold texts old new missing left configs h P =
-    IfSome left (λ bytes. (files : Shelf) → Tells texts old new files (current h) missing → IsAhead files configs h (lines bytes) → P files bytes)
+    IfSome left (λ bytes. (files : Shelf) → Tells texts old new files (current h) missing
+    → IsAhead files configs h (lines bytes) → P files bytes)
 
 -- the run of what is left
-abbrev pub RunsOver : Texts → Openings → Openings → Option (List ℕ) → Option (List ℕ) → Option (List ℕ) → List ℕ → List Configuration → History → (Shelf → List ℕ → Ran) → RunEnd → Type 0
+abbrev pub RunsOver : Texts → Openings → Openings → Option (List ℕ) → Option (List ℕ)
+    → Option (List ℕ) → List ℕ → List Configuration → History → (Shelf → List ℕ → ScriptRun)
+    → RunEnd → Type 0
 RunsOver texts old new left base contents page configs h run end =
-    WhereTold texts old new (missed end) left configs h (λ files bytes. Reaches base contents page (run files bytes) end)
+    WhereTold texts old new (missed end) left configs h
+    (λ files bytes. Reaches base contents page (run files bytes) end)
 
--- the state that a run has come to: what the script has left runs, from this number and place on, to the whole; and each epoch since e took
--- an opening
-pub record GoesOn (v : Machine) (files : Shelf) (old new : Openings) (left base contents : Option (List ℕ)) (page : List ℕ) (configs : List Configuration) (run : Ran) (e number place : ℕ) : Type 0 where
+-- the state that a run has come to: what the script has left runs, from this number and place on,
+-- to the whole; and each epoch since e took an opening
+pub record GoesOn (v : ScriptView) (files : Shelf) (old new : Openings)
+    (left base contents : Option (List ℕ)) (page : List ℕ) (configs : List Configuration)
+    (run : ScriptRun) (e number place : ℕ) : Type 0 where
   pub history : History
   pub at : At v base contents page configs history
   pub bytes : List ℕ
@@ -252,9 +288,13 @@ pub record GoesOn (v : Machine) (files : Shelf) (old new : Openings) (left base 
   pub same : run_lines files configs history number place (lines bytes) ≡ run
 
 -- so it is in a loop over lines, where h, `old` and `first` are what there was before it
-abbrev pub Going : Machine → Texts → Openings → Openings → Option (List ℕ) → Option (List ℕ) → Option (List ℕ) → Option (List ℕ) → List ℕ → List Configuration → History → (Shelf → List ℕ → Ran) → ℕ → ℕ → Type 0
+abbrev pub Going : ScriptView → Texts → Openings → Openings → Option (List ℕ) → Option (List ℕ)
+    → Option (List ℕ) → Option (List ℕ) → List ℕ → List Configuration → History
+    → (Shelf → List ℕ → ScriptRun) → ℕ → ℕ → Type 0
 Going v texts old new first left base contents page configs h run number place =
-    WhereTold texts old new None first configs h (λ files bytes. GoesOn v files old new left base contents page configs (run files bytes) (current h) number place)
+    WhereTold texts old new None first configs h
+    (λ files bytes. GoesOn v files old new left base contents page configs (run files bytes)
+    (current h) number place)
 
 -- the beginning
 
@@ -266,23 +306,30 @@ BeginsAs (Faulted Writing) base contents page text = WrotePart base contents tex
 BeginsAs (Faulted Lacking) base contents page text = WroteFront base contents page text
 
 -- a line with its LF
-abbrev pub whole_line : List ℕ → Line
+abbrev pub whole_line : List ℕ → SourceLine
 whole_line bytes = record { bytes = bytes; ended = true }
 
--- the run of what is left behind the first line, over the configurations that this line and the others name
-abbrev pub FirstRuns : Texts → Openings → Openings → Option (List ℕ) → Option (List ℕ) → Option (List ℕ) → List ℕ → Configuration → Line → (Shelf → List Configuration → List ℕ → Ran) → RunEnd → Type 0
+-- the run of what is left behind the first line, over the configurations that this line and the
+-- others name
+abbrev pub FirstRuns : Texts → Openings → Openings → Option (List ℕ) → Option (List ℕ)
+    → Option (List ℕ) → List ℕ → Configuration → SourceLine
+    → (Shelf → List Configuration → List ℕ → ScriptRun) → RunEnd → Type 0
 FirstRuns texts old new left base contents page config l run end =
     IfSome left (λ bytes. (files : Shelf) → Tells texts old new files 1 (missed end)
     → Reaches base contents page (run files (configs_of files config (l ∷ lines bytes)) bytes) end)
 
 -- the run of a script from its first line on, where script and files tell
-abbrev pub ScriptRuns : Texts → Openings → Openings → Option (List ℕ) → Option (List ℕ) → Option (List ℕ) → List ℕ → Configuration → RunEnd → Type 0
+abbrev pub ScriptRuns : Texts → Openings → Openings → Option (List ℕ) → Option (List ℕ)
+    → Option (List ℕ) → List ℕ → Configuration → RunEnd → Type 0
 ScriptRuns texts old new left base contents page config end =
-    IfSome left (λ bytes. (files : Shelf) → Tells texts old new files 1 (missed end) → Reaches base contents page (run_script files config (lines bytes)) end)
+    IfSome left (λ bytes. (files : Shelf) → Tells texts old new files 1 (missed end)
+    → Reaches base contents page (run_script files config (lines bytes)) end)
 
--- the counts of the script, of the files and of the sink never fall; one of the first two rose where a read fault came, and the third where
--- a write fault did; and each stays where no such fault came
-pub record RunHasCauses (script_before script_now files_before files_now out_before out_now : ℕ) (end : RunEnd) : Type 0 where
+-- the counts of the script, of the files and of the sink never fall; one of the first two rose
+-- where a read fault came, and the third where a write fault did; and each stays where no such
+-- fault came
+pub record RunHasCauses (script_before script_now files_before files_now out_before out_now : ℕ)
+    (end : RunEnd) : Type 0 where
   pub script_later : script_before ≤ script_now
   pub files_later : files_before ≤ files_now
   pub out_later : out_before ≤ out_now

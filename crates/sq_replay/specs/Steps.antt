@@ -19,13 +19,17 @@ pub record IsNamed (files : Shelf) (e : ℕ) (name text : List ℕ) : Type 0 whe
   pub text_is : files e name ≡ Some text
   pub gives_it : read_result text ≡ Ok config
 
--- what is entered of an event of a script: of a reconfiguration the text of its file, and of every other the event
+-- what is entered of an event of a script: of a reconfiguration the text of its file, and of every
+-- other the event
 abbrev pub IsEntered : Shelf → ℕ → Event → Event → Type 0
-IsEntered files e (Reconfigure name) entered = (text : List ℕ) × (entered ≡ Reconfigure text) × IsNamed files e name text
+IsEntered files e (Reconfigure name) entered = (text : List ℕ) × (entered ≡ Reconfigure text)
+    × IsNamed files e name text
 IsEntered files e event entered = (entered ≡ event) × (begins_epoch event ≡ false)
 
--- the history goes on with the event's entry, whose answer is the machine's next, and with the acts that are due then
-pub record IsStep (files : Shelf) (configs : List Configuration) (h : History) (e : ℕ) (event : Event) (t : History) : Type 0 where
+-- the history goes on with the event's entry, whose answer is the machine's next, and with the acts
+-- that are due then
+pub record IsStep (files : Shelf) (configs : List Configuration) (h : History) (e : ℕ)
+    (event : Event) (t : History) : Type 0 where
   pub entered : Event
   pub moment : ℕ
   pub answer : Told

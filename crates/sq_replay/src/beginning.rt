@@ -2,13 +2,13 @@
 ghost use Rattle.std.specs.Prelude.{◌≡◌, ◌≤◌, ◌∷◌, [], ℕ, List, Option, true, Some, IfErr, IfSome, IsErrOf};
 ghost use Rattle.std.specs.Io.KnownBytes.{prepend_known};
 ghost use Rattle.sq_outside.specs.Causes.{Rose};
-ghost use Rattle.sq_outside.specs.SourceLines.{Line, lines, total_limit};
+ghost use Rattle.sq_outside.specs.SourceLines.{SourceLine, lines, total_limit};
 ghost use Rattle.sq_outside.specs.Told.{IsNotTold};
 ghost use Rattle.sq_rules.specs.Configurations.{Configuration, IsConfiguration};
 ghost use Rattle.sq_machine.specs.Entries.{is_event};
 ghost use Rattle.sq_machine.specs.Epochs.{config_of};
 ghost use Rattle.sq_machine.specs.declared.entries.Event.TheVariants as event;
-ghost use Rattle.sq_history.specs.Given.{EachOf};
+ghost use Rattle.sq_model_laws.specs.Given.{EachOf};
 ghost use Rattle.sq_replay.specs.Entering.{Begins, IfMissed, IsBeginEnd, IsEmptyEnd, first_kind};
 ghost use Rattle.sq_replay.specs.Openings.{Added, ReachesEnd, RunOpened};
 ghost use Rattle.sq_replay.specs.RunText.{Shelf, begun_history, run_first, run_from, run_lines, run_script, run_stated, stated};
@@ -18,12 +18,12 @@ ghost use Rattle.sq_replay.specs.declared.ends.RunEnd.TheVariants as ends;
 use crate::ends::RunEnd;
 use crate::entering::enter;
 use crate::lines::{run_event, run_rest};
-use crate::machines::Machine;
-use crate::page::Untold;
+use crate::machines::ScriptMachine;
+use crate::page::Unwritten;
 use sq_base::{EpochNo, Moment, WantOfMemory};
 use sq_journal::{EntryFault, read_event};
 use sq_machine::{Event, Offset, Told};
-use sq_outside::{Files, Found, Held, Sink, Source, Unread, next_line};
+use sq_outside::{Files, Held, LineFound, Sink, Source, Unread, next_line};
 use sq_urlmatch::Setup;
 use std::alloc::Global;
 
@@ -32,7 +32,7 @@ const CHUNK: usize = 65_536;
 
 /// What the first line of a script states.
 #[derive(Clone, Copy, Debug, PartialEq, Eq)]
-pub enum First {
+pub enum FirstEvent {
     /// Where the machine begins.
     Begin { offset: Offset },
     /// An act, which no line of a script states.
@@ -42,13 +42,13 @@ pub enum First {
 }
 
 // What an event is in the first line.
-fn first_kind(event: &Event) -> First
+fn first_kind(event: &Event) -> FirstEvent
     ensures { result ≡ first_kind event.now }
 {
     match event {
-        Event::Begin { offset } => First::Begin { offset: *offset },
-        Event::Act => First::Act,
-        _ => First::Other,
+        Event::Begin { offset } => FirstEvent::Begin { offset: *offset },
+        Event::Act => FirstEvent::Act,
+        _ => FirstEvent::Other,
     }
 }
 
@@ -60,15 +60,17 @@ fn begin<O: Sink>(
     offset: Offset,
     page: &mut Vec<u8>,
     out: &mut O,
-) -> Result<Machine, RunEnd>
-    ensures begins { (base : Option (List ℕ)) (configs : List Configuration) → EachOf IsConfiguration configs → config_of configs 1 ≡ Some setup
-        → Wrote base (O.contents out.old) page.old.items [] → Begins base (O.contents out.new) page.new.items configs now offset result }
+) -> Result<ScriptMachine, RunEnd>
+    ensures begins { (base : Option (List ℕ)) (configs : List Configuration)
+        → EachOf IsConfiguration configs → config_of configs 1 ≡ Some setup
+        → Wrote base (O.contents out.old) page.old.items []
+        → Begins base (O.contents out.new) page.new.items configs now offset result }
     ensures later { O.faults out.old ≤ O.faults out.new }
     ensures write { IsErrOf result ends.WriteFault → Rose (O.faults out.old) (O.faults out.new) }
     ensures quiet { (IsErrOf result ends.WriteFault → ⊥) → O.faults out.new ≡ O.faults out.old }
     ensures end { IfErr result IsBeginEnd }
 {
-    let mut machine = match Machine::begin(alloc, setup, offset, now) {
+    let mut machine = match ScriptMachine::begin(alloc, setup, offset, now) {
         Ok(machine) => machine,
         Err(WantOfMemory) => return Err(RunEnd::WantOfMemory),
     };
@@ -76,8 +78,8 @@ fn begin<O: Sink>(
     let answer = Told::Epoch(EpochNo(1));
     match enter(alloc, now, event, answer, &mut machine, page, out) {
         Ok(()) => Ok(machine),
-        Err(Untold::Failed) => Err(RunEnd::WriteFault),
-        Err(Untold::WantOfMemory) => Err(RunEnd::WantOfMemory),
+        Err(Unwritten::Failed) => Err(RunEnd::WriteFault),
+        Err(Unwritten::WantOfMemory) => Err(RunEnd::WantOfMemory),
     }
 }
 
@@ -97,15 +99,22 @@ fn run_from<S: Source, F: Files, O: Sink>(
     requires good { IsConfiguration setup }
     requires event { is_event event ≡ true }
     requires place { place ≤ total_limit }
-    ensures runs { (base : Option (List ℕ)) (l : Line) → stated l.bytes ≡ Some (now, event) → Wrote base (O.contents out.old) page.old.items []
-        → FirstRuns (F.texts files.old) (F.opened files.old) (F.opened files.new) (prepend_known held.old (S.left script.old)) base (O.contents out.new) page.new.items setup l
+    ensures runs { (base : Option (List ℕ)) (l : SourceLine) → stated l.bytes ≡ Some (now, event)
+        → Wrote base (O.contents out.old) page.old.items []
+        → FirstRuns (F.texts files.old) (F.opened files.old) (F.opened files.new)
+        (prepend_known held.old (S.left script.old)) base (O.contents out.new) page.new.items
+        setup l
         (λ shelf configs bytes. run_from shelf configs place (lines bytes) now event) result }
     ensures adds { Adds (F.opened files.old) (F.opened files.new) }
-    ensures opens { (l : Line) → stated l.bytes ≡ Some (now, event)
-        → IfSome (prepend_known held.old (S.left script.old)) (λ bytes. Added (F.opened files.old) (F.opened files.new) (RunOpened 0 (l ∷ lines bytes) result)) }
-    ensures reached { ReachesEnd result (prepend_known held.old (S.left script.old)) (S.left script.new) }
+    ensures opens { (l : SourceLine) → stated l.bytes ≡ Some (now, event)
+        → IfSome (prepend_known held.old (S.left script.old))
+        (λ bytes. Added (F.opened files.old) (F.opened files.new)
+        (RunOpened 0 (l ∷ lines bytes) result)) }
+    ensures reached { ReachesEnd result (prepend_known held.old (S.left script.old))
+        (S.left script.new) }
     ensures missing { IfMissed (missed result) (IsNotTold (F.texts files.old)) }
-    ensures causes { RunHasCauses (S.faults script.old) (S.faults script.new) (F.faults files.old) (F.faults files.new) (O.faults out.old) (O.faults out.new) result }
+    ensures causes { RunHasCauses (S.faults script.old) (S.faults script.new) (F.faults files.old)
+        (F.faults files.new) (O.faults out.old) (O.faults out.new) result }
     ensures texts { F.texts files.new ≡ F.texts files.old }
     ensures end { IsRunEnd result }
 {
@@ -135,15 +144,24 @@ fn run_begun<S: Source, F: Files, O: Sink>(
 ) -> RunEnd
     requires good { IsConfiguration setup }
     requires place { place ≤ total_limit }
-    ensures runs { (base : Option (List ℕ)) (l : Line) → stated l.bytes ≡ Some (now, event.Begin offset) → Wrote base (O.contents out.old) page.old.items []
-        → FirstRuns (F.texts files.old) (F.opened files.old) (F.opened files.new) (prepend_known held.old (S.left script.old)) base (O.contents out.new) page.new.items setup l
-        (λ shelf configs bytes. run_lines shelf configs (begun_history configs now offset) 2 place (lines bytes)) result }
+    ensures runs { (base : Option (List ℕ)) (l : SourceLine)
+        → stated l.bytes ≡ Some (now, event.Begin offset)
+        → Wrote base (O.contents out.old) page.old.items []
+        → FirstRuns (F.texts files.old) (F.opened files.old) (F.opened files.new)
+        (prepend_known held.old (S.left script.old)) base (O.contents out.new) page.new.items
+        setup l
+        (λ shelf configs bytes. run_lines shelf configs (begun_history configs now offset) 2 place
+        (lines bytes)) result }
     ensures adds { Adds (F.opened files.old) (F.opened files.new) }
-    ensures opens { (l : Line) → stated l.bytes ≡ Some (now, event.Begin offset)
-        → IfSome (prepend_known held.old (S.left script.old)) (λ bytes. Added (F.opened files.old) (F.opened files.new) (RunOpened 0 (l ∷ lines bytes) result)) }
-    ensures reached { ReachesEnd result (prepend_known held.old (S.left script.old)) (S.left script.new) }
+    ensures opens { (l : SourceLine) → stated l.bytes ≡ Some (now, event.Begin offset)
+        → IfSome (prepend_known held.old (S.left script.old))
+        (λ bytes. Added (F.opened files.old) (F.opened files.new)
+        (RunOpened 0 (l ∷ lines bytes) result)) }
+    ensures reached { ReachesEnd result (prepend_known held.old (S.left script.old))
+        (S.left script.new) }
     ensures missing { IfMissed (missed result) (IsNotTold (F.texts files.old)) }
-    ensures causes { RunHasCauses (S.faults script.old) (S.faults script.new) (F.faults files.old) (F.faults files.new) (O.faults out.old) (O.faults out.new) result }
+    ensures causes { RunHasCauses (S.faults script.old) (S.faults script.new) (F.faults files.old)
+        (F.faults files.new) (O.faults out.old) (O.faults out.new) result }
     ensures texts { F.texts files.new ≡ F.texts files.old }
     ensures end { IsRunEnd result }
 {
@@ -157,7 +175,8 @@ fn run_begun<S: Source, F: Files, O: Sink>(
 // Runs a script without a line.
 fn run_empty<O: Sink>(alloc: Global, setup: Setup, page: &mut Vec<u8>, out: &mut O) -> RunEnd
     requires { IsConfiguration setup }
-    ensures runs { (base : Option (List ℕ)) (shelf : Shelf) → Wrote base (O.contents out.old) page.old.items []
+    ensures runs { (base : Option (List ℕ)) (shelf : Shelf)
+        → Wrote base (O.contents out.old) page.old.items []
         → Reaches base (O.contents out.new) page.new.items (run_script shelf setup []) result }
     ensures later { O.faults out.old ≤ O.faults out.new }
     ensures write { result ≡ ends.WriteFault → Rose (O.faults out.old) (O.faults out.new) }
@@ -186,24 +205,31 @@ fn run_first<S: Source, F: Files, O: Sink>(
     requires good { IsConfiguration setup }
     requires event { is_event event ≡ true }
     requires place { place ≤ total_limit }
-    ensures runs { (base : Option (List ℕ)) (l : Line) → stated l.bytes ≡ Some (now, event) → Wrote base (O.contents out.old) page.old.items []
-        → FirstRuns (F.texts files.old) (F.opened files.old) (F.opened files.new) (prepend_known held.old (S.left script.old)) base (O.contents out.new) page.new.items setup l
+    ensures runs { (base : Option (List ℕ)) (l : SourceLine) → stated l.bytes ≡ Some (now, event)
+        → Wrote base (O.contents out.old) page.old.items []
+        → FirstRuns (F.texts files.old) (F.opened files.old) (F.opened files.new)
+        (prepend_known held.old (S.left script.old)) base (O.contents out.new) page.new.items
+        setup l
         (λ shelf configs bytes. run_first shelf configs place (lines bytes) now event) result }
     ensures adds { Adds (F.opened files.old) (F.opened files.new) }
-    ensures opens { (l : Line) → stated l.bytes ≡ Some (now, event)
-        → IfSome (prepend_known held.old (S.left script.old)) (λ bytes. Added (F.opened files.old) (F.opened files.new) (RunOpened 0 (l ∷ lines bytes) result)) }
-    ensures reached { ReachesEnd result (prepend_known held.old (S.left script.old)) (S.left script.new) }
+    ensures opens { (l : SourceLine) → stated l.bytes ≡ Some (now, event)
+        → IfSome (prepend_known held.old (S.left script.old))
+        (λ bytes. Added (F.opened files.old) (F.opened files.new)
+        (RunOpened 0 (l ∷ lines bytes) result)) }
+    ensures reached { ReachesEnd result (prepend_known held.old (S.left script.old))
+        (S.left script.new) }
     ensures missing { IfMissed (missed result) (IsNotTold (F.texts files.old)) }
-    ensures causes { RunHasCauses (S.faults script.old) (S.faults script.new) (F.faults files.old) (F.faults files.new) (O.faults out.old) (O.faults out.new) result }
+    ensures causes { RunHasCauses (S.faults script.old) (S.faults script.new) (F.faults files.old)
+        (F.faults files.new) (O.faults out.old) (O.faults out.new) result }
     ensures texts { F.texts files.new ≡ F.texts files.old }
     ensures end { IsRunEnd result }
 {
     match first_kind(&event) {
-        First::Begin { offset } => run_begun(
+        FirstEvent::Begin { offset } => run_begun(
             alloc, setup, now, offset, place, held, script, files, page, out,
         ),
-        First::Act => RunEnd::Script(1),
-        First::Other => run_from(
+        FirstEvent::Act => RunEnd::Script(1),
+        FirstEvent::Other => run_from(
             alloc, setup, now, event, place, held, script, files, page, out,
         ),
     }
@@ -224,13 +250,19 @@ fn run_stated<S: Source, F: Files, O: Sink>(
     requires good { IsConfiguration setup }
     requires place { place ≤ total_limit }
     ensures runs { (base : Option (List ℕ)) → Wrote base (O.contents out.old) page.old.items []
-        → FirstRuns (F.texts files.old) (F.opened files.old) (F.opened files.new) (prepend_known held.old (S.left script.old)) base (O.contents out.new) page.new.items setup
-        (whole_line line.now) (λ shelf configs bytes. run_stated shelf configs place (lines bytes) (stated line.now)) result }
+        → FirstRuns (F.texts files.old) (F.opened files.old) (F.opened files.new)
+        (prepend_known held.old (S.left script.old)) base (O.contents out.new) page.new.items setup
+        (whole_line line.now) (λ shelf configs bytes. run_stated shelf configs place (lines bytes)
+        (stated line.now)) result }
     ensures adds { Adds (F.opened files.old) (F.opened files.new) }
-    ensures opens { IfSome (prepend_known held.old (S.left script.old)) (λ bytes. Added (F.opened files.old) (F.opened files.new) (RunOpened 0 (whole_line line.now ∷ lines bytes) result)) }
-    ensures reached { ReachesEnd result (prepend_known held.old (S.left script.old)) (S.left script.new) }
+    ensures opens { IfSome (prepend_known held.old (S.left script.old))
+        (λ bytes. Added (F.opened files.old) (F.opened files.new)
+        (RunOpened 0 (whole_line line.now ∷ lines bytes) result)) }
+    ensures reached { ReachesEnd result (prepend_known held.old (S.left script.old))
+        (S.left script.new) }
     ensures missing { IfMissed (missed result) (IsNotTold (F.texts files.old)) }
-    ensures causes { RunHasCauses (S.faults script.old) (S.faults script.new) (F.faults files.old) (F.faults files.new) (O.faults out.old) (O.faults out.new) result }
+    ensures causes { RunHasCauses (S.faults script.old) (S.faults script.new) (F.faults files.old)
+        (F.faults files.new) (O.faults out.old) (O.faults out.new) result }
     ensures texts { F.texts files.new ≡ F.texts files.old }
     ensures end { IsRunEnd result }
 {
@@ -255,18 +287,22 @@ pub fn replay<S: Source, F: Files, O: Sink>(
 ) -> RunEnd
     // What it comes to, where the script and the files tell, by the texts of names or by openings: the run of the script's lines.
     ensures runs { (base : Option (List ℕ)) → Wrote base (O.contents out.old) page.old.items []
-        → ScriptRuns (F.texts files.old) (F.opened files.old) (F.opened files.new) (S.left script.old) base (O.contents out.new) page.new.items setup result }
+        → ScriptRuns (F.texts files.old) (F.opened files.old) (F.opened files.new)
+        (S.left script.old) base (O.contents out.new) page.new.items setup result }
     // Openings are added alone.
     ensures adds { Adds (F.opened files.old) (F.opened files.new) }
     // Where the script tells: each file that it names in a line which was run was opened once, in the order of the lines; and at the line at which
     // the run ended, the file that it names, at most.
-    ensures opens { IfSome (S.left script.old) (λ bytes. Added (F.opened files.old) (F.opened files.new) (RunOpened 0 (lines bytes) result)) }
+    ensures opens { IfSome (S.left script.old)
+        (λ bytes. Added (F.opened files.old) (F.opened files.new)
+        (RunOpened 0 (lines bytes) result)) }
     // After `Ok` nothing of the script is left to be read.
     ensures reached { ReachesEnd result (S.left script.old) (S.left script.new) }
     // A file that is missed is told nowhere.
     ensures missing { IfMissed (missed result) (IsNotTold (F.texts files.old)) }
     // A fault has its cause, and no fault leaves the counts.
-    ensures causes { RunHasCauses (S.faults script.old) (S.faults script.new) (F.faults files.old) (F.faults files.new) (O.faults out.old) (O.faults out.new) result }
+    ensures causes { RunHasCauses (S.faults script.old) (S.faults script.new) (F.faults files.old)
+        (F.faults files.new) (O.faults out.old) (O.faults out.new) result }
     ensures texts { F.texts files.new ≡ F.texts files.old }
     ensures end { IsRunEnd result }
 {
@@ -279,9 +315,9 @@ pub fn replay<S: Source, F: Files, O: Sink>(
     let mut place = 0;
     let mut line = Vec::new(alloc);
     match next_line(&mut held, script, &mut place, &mut line) {
-        Ok(Found::Whole) => {}
-        Ok(Found::End) => return run_empty(alloc, setup, page, out),
-        Ok(Found::Faulty) => return RunEnd::Script(1),
+        Ok(LineFound::Whole) => {}
+        Ok(LineFound::End) => return run_empty(alloc, setup, page, out),
+        Ok(LineFound::Faulty) => return RunEnd::Script(1),
         Err(Unread::Failed) => return RunEnd::ReadFault,
         Err(Unread::WantOfMemory) => return RunEnd::WantOfMemory,
     }

@@ -9,8 +9,8 @@ ghost use Rattle.sq_replay.specs.MachineViews.{machine_of};
 ghost use Rattle.sq_replay.specs.RunText.{acts};
 ghost use Rattle.sq_replay.specs.Runs.{At, Is, Wrote, WroteFront, WrotePart};
 
-use crate::machines::Machine;
-use crate::page::{Untold, put_line};
+use crate::machines::ScriptMachine;
+use crate::page::{Unwritten, put_line};
 use sq_base::{Moment, Text, WantOfMemory};
 use sq_journal::print_entry;
 use sq_machine::{Entry, Event, Told};
@@ -32,55 +32,64 @@ fn text_of(alloc: Global, moment: Moment, event: Event, answer: Told) -> Result<
 }
 
 // Puts the line of an entry on the page.
-fn tell<O: Sink>(
+fn page_entry<O: Sink>(
     alloc: Global,
     moment: Moment,
     event: Event,
     answer: Told,
     page: &mut Vec<u8>,
     out: &mut O,
-) -> Result<(), Untold>
+) -> Result<(), Unwritten>
     requires event { is_event event ≡ true }
     requires row { is_row event answer ≡ true }
-    ensures ok { OnOk result ((base : Option (List ℕ)) (text : List ℕ) → Wrote base (O.contents out.old) page.old.items text
-        → Wrote base (O.contents out.new) page.new.items (text ++ entry_line (entry_at moment event answer))) }
-    ensures failed { IsErrOf result Untold.Failed → (base : Option (List ℕ)) (text : List ℕ) → Wrote base (O.contents out.old) page.old.items text
+    ensures ok { OnOk result
+        ((base : Option (List ℕ)) (text : List ℕ)
+        → Wrote base (O.contents out.old) page.old.items text
+        → Wrote base (O.contents out.new) page.new.items
+        (text ++ entry_line (entry_at moment event answer))) }
+    ensures failed { IsErrOf result Unwritten.Failed → (base : Option (List ℕ)) (text : List ℕ)
+        → Wrote base (O.contents out.old) page.old.items text
         → WrotePart base (O.contents out.new) (text ++ entry_line (entry_at moment event answer)) }
-    ensures memory { IsErrOf result Untold.WantOfMemory → (base : Option (List ℕ)) (text : List ℕ) → Wrote base (O.contents out.old) page.old.items text
-        → WroteFront base (O.contents out.new) page.new.items (text ++ entry_line (entry_at moment event answer)) }
+    ensures memory { IsErrOf result Unwritten.WantOfMemory
+        → (base : Option (List ℕ)) (text : List ℕ)
+        → Wrote base (O.contents out.old) page.old.items text
+        → WroteFront base (O.contents out.new) page.new.items
+        (text ++ entry_line (entry_at moment event answer)) }
     ensures later { O.faults out.old ≤ O.faults out.new }
-    ensures cause { IsErrOf result Untold.Failed → Rose (O.faults out.old) (O.faults out.new) }
-    ensures quiet { (IsErrOf result Untold.Failed → ⊥) → O.faults out.new ≡ O.faults out.old }
+    ensures cause { IsErrOf result Unwritten.Failed → Rose (O.faults out.old) (O.faults out.new) }
+    ensures quiet { (IsErrOf result Unwritten.Failed → ⊥) → O.faults out.new ≡ O.faults out.old }
 {
     match text_of(alloc, moment, event, answer) {
         Ok(text) => put_line(text.as_bytes(), page, out),
-        Err(WantOfMemory) => Err(Untold::WantOfMemory),
+        Err(WantOfMemory) => Err(Unwritten::WantOfMemory),
     }
 }
 
 // Makes the acts that are due, one after another, and puts their lines on the page.
 fn write_acts<O: Sink>(
     alloc: Global,
-    machine: &mut Machine,
+    machine: &mut ScriptMachine,
     page: &mut Vec<u8>,
     out: &mut O,
-) -> Result<(), Untold>
-    ensures arrives { (base : Option (List ℕ)) (configs : List Configuration) (h : History) → At (machine_of machine.old) base (O.contents out.old) page.old.items configs h
-        → Arrives (machine_of machine.new) base (O.contents out.new) page.new.items configs (acts configs h) result }
+) -> Result<(), Unwritten>
+    ensures arrives { (base : Option (List ℕ)) (configs : List Configuration) (h : History)
+        → At (machine_of machine.old) base (O.contents out.old) page.old.items configs h
+        → Arrives (machine_of machine.new) base (O.contents out.new) page.new.items configs
+        (acts configs h) result }
     ensures later { O.faults out.old ≤ O.faults out.new }
-    ensures cause { IsErrOf result Untold.Failed → Rose (O.faults out.old) (O.faults out.new) }
-    ensures quiet { (IsErrOf result Untold.Failed → ⊥) → O.faults out.new ≡ O.faults out.old }
+    ensures cause { IsErrOf result Unwritten.Failed → Rose (O.faults out.old) (O.faults out.new) }
+    ensures quiet { (IsErrOf result Unwritten.Failed → ⊥) → O.faults out.new ≡ O.faults out.old }
 {
     'acts: loop {
         let answer = match machine.act(alloc) {
             Ok(Some(answer)) => answer,
             Ok(None) => return Ok(()),
-            Err(WantOfMemory) => return Err(Untold::WantOfMemory),
+            Err(WantOfMemory) => return Err(Unwritten::WantOfMemory),
         };
-        match tell(alloc, machine.latest(), Event::Act, answer, page, out) {
+        match page_entry(alloc, machine.latest(), Event::Act, answer, page, out) {
             Ok(()) => {}
-            Err(Untold::Failed) => return Err(Untold::Failed),
-            Err(Untold::WantOfMemory) => return Err(Untold::WantOfMemory),
+            Err(Unwritten::Failed) => return Err(Unwritten::Failed),
+            Err(Unwritten::WantOfMemory) => return Err(Unwritten::WantOfMemory),
         }
     }
 }
@@ -91,22 +100,24 @@ pub fn enter<O: Sink>(
     moment: Moment,
     event: Event,
     answer: Told,
-    machine: &mut Machine,
+    machine: &mut ScriptMachine,
     page: &mut Vec<u8>,
     out: &mut O,
-) -> Result<(), Untold>
+) -> Result<(), Unwritten>
     requires event { is_event event ≡ true }
     requires row { is_row event answer ≡ true }
-    ensures arrives { (base : Option (List ℕ)) (configs : List Configuration) (h : History) → Is (machine_of machine.old) configs (entry_at moment event answer ∷ h)
+    ensures arrives { (base : Option (List ℕ)) (configs : List Configuration) (h : History)
+        → Is (machine_of machine.old) configs (entry_at moment event answer ∷ h)
         → Wrote base (O.contents out.old) page.old.items (written h)
-        → Arrives (machine_of machine.new) base (O.contents out.new) page.new.items configs (acts configs (entry_at moment event answer ∷ h)) result }
+        → Arrives (machine_of machine.new) base (O.contents out.new) page.new.items configs
+        (acts configs (entry_at moment event answer ∷ h)) result }
     ensures later { O.faults out.old ≤ O.faults out.new }
-    ensures cause { IsErrOf result Untold.Failed → Rose (O.faults out.old) (O.faults out.new) }
-    ensures quiet { (IsErrOf result Untold.Failed → ⊥) → O.faults out.new ≡ O.faults out.old }
+    ensures cause { IsErrOf result Unwritten.Failed → Rose (O.faults out.old) (O.faults out.new) }
+    ensures quiet { (IsErrOf result Unwritten.Failed → ⊥) → O.faults out.new ≡ O.faults out.old }
 {
-    match tell(alloc, moment, event, answer, page, out) {
+    match page_entry(alloc, moment, event, answer, page, out) {
         Ok(()) => write_acts(alloc, machine, page, out),
-        Err(Untold::Failed) => Err(Untold::Failed),
-        Err(Untold::WantOfMemory) => Err(Untold::WantOfMemory),
+        Err(Unwritten::Failed) => Err(Unwritten::Failed),
+        Err(Unwritten::WantOfMemory) => Err(Unwritten::WantOfMemory),
     }
 }

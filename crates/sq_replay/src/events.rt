@@ -6,15 +6,15 @@ ghost use Rattle.sq_machine.specs.declared.entries.Event.TheVariants as event;
 ghost use Rattle.sq_replay.specs.MachineViews.{machine_of};
 ghost use Rattle.sq_replay.specs.Making.{IsMaking};
 
-use crate::machines::Machine;
+use crate::machines::ScriptMachine;
 use crate::stops::{Stop, stop_by};
 use sq_base::{Addr, CheckNo, ConnNo, Copying, Fields, Moment, ProcNo, Text, WantOfMemory};
 use sq_machine::{Event, Told, later};
+use sq_model_state::copy_outcome;
 use sq_request::{BadRequest, make_request};
-use sq_state::copy_outcome;
 use std::alloc::Global;
 
-impl Machine {
+impl ScriptMachine {
     /// Makes the event of a line, at the greatest moment so far, or says why not. `begin` stands in the first line
     /// alone, which is run without this call, and `act` in none; a reconfiguration is `reconfigure`. Where memory is
     /// wanting, the machine is not to be used any more.
@@ -51,7 +51,8 @@ impl Machine {
 
     // A client's connection opens.
     fn open(&mut self, conn: ConnNo, addr: Addr, port: u16, now: Moment) -> Result<Told, Stop>
-        ensures making { IsMaking (machine_of self.old) (machine_of self.new) now (event.Open conn addr port) result }
+        ensures making { IsMaking (machine_of self.old) (machine_of self.new) now
+            (event.Open conn addr port) result }
         ensures row { IfOk result (λ told. is_row (event.Open conn addr port) told ≡ true) }
         ensures latest { OnOk result (self.new.latest ≡ max now self.old.latest) }
     {
@@ -68,7 +69,8 @@ impl Machine {
 
     // A connection closes, and its record is forgotten.
     fn close(&mut self, conn: ConnNo, now: Moment) -> Result<Told, Stop>
-        ensures making { IsMaking (machine_of self.old) (machine_of self.new) now (event.Close conn) result }
+        ensures making { IsMaking (machine_of self.old) (machine_of self.new) now (event.Close conn)
+            result }
         ensures row { IfOk result (λ told. is_row (event.Close conn) told ≡ true) }
         ensures latest { OnOk result (self.new.latest ≡ max now self.old.latest) }
     {
@@ -94,8 +96,10 @@ impl Machine {
         fields: &Fields,
         now: Moment,
     ) -> Result<Told, Stop>
-        ensures making { IsMaking (machine_of self.old) (machine_of self.new) now (event.Ask conn method.now target.now fields.now) result }
-        ensures row { IfOk result (λ told. is_row (event.Ask conn method.now target.now fields.now) told ≡ true) }
+        ensures making { IsMaking (machine_of self.old) (machine_of self.new) now
+            (event.Ask conn method.now target.now fields.now) result }
+        ensures row { IfOk result
+            (λ told. is_row (event.Ask conn method.now target.now fields.now) told ≡ true) }
         ensures latest { OnOk result (self.new.latest ≡ max now self.old.latest) }
     {
         // For the proof: what holds of the pools.
@@ -120,7 +124,8 @@ impl Machine {
 
     // The outcome of a check is taken. Where it allows, its record is the one that seats of its connection need.
     fn take(&mut self, alloc: Global, check: CheckNo, now: Moment) -> Result<Told, Stop>
-        ensures making { IsMaking (machine_of self.old) (machine_of self.new) now (event.Take check) result }
+        ensures making { IsMaking (machine_of self.old) (machine_of self.new) now (event.Take check)
+            result }
         ensures row { IfOk result (λ told. is_row (event.Take check) told ≡ true) }
         ensures latest { OnOk result (self.new.latest ≡ max now self.old.latest) }
     {
@@ -154,7 +159,8 @@ impl Machine {
 
     // A process died.
     fn died(&mut self, proc: ProcNo, now: Moment) -> Result<Told, Stop>
-        ensures making { IsMaking (machine_of self.old) (machine_of self.new) now (event.Died proc) result }
+        ensures making { IsMaking (machine_of self.old) (machine_of self.new) now (event.Died proc)
+            result }
         ensures row { IfOk result (λ told. is_row (event.Died proc) told ≡ true) }
         ensures latest { OnOk result (self.new.latest ≡ max now self.old.latest) }
     {

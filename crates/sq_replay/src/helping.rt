@@ -8,14 +8,14 @@ ghost use Rattle.sq_engine.specs.Stepping.{stepped_told};
 ghost use Rattle.sq_replay.specs.MachineViews.{machine_of};
 ghost use Rattle.sq_replay.specs.Making.{IsMaking};
 
-use crate::machines::Machine;
+use crate::machines::ScriptMachine;
 use crate::names::place_of;
 use crate::stops::{Stop, stop_by};
 use sq_base::{CheckNo, EpochNo, Moment, ProcNo, Text, WantOfMemory};
 use sq_engine::Engine;
 use sq_farm::Got;
 use sq_machine::{Told, later};
-use sq_rows::Stepped;
+use sq_model_rows::Stepped;
 use std::alloc::Global;
 
 // What a step of a check of this epoch said, as it is told.
@@ -51,10 +51,11 @@ fn got_of(got: Got) -> Told
     }
 }
 
-impl Machine {
+impl ScriptMachine {
     // A check goes on.
     pub(crate) fn step(&mut self, alloc: Global, check: CheckNo, now: Moment) -> Result<Told, Stop>
-        ensures making { IsMaking (machine_of self.old) (machine_of self.new) now (event.Step check) result }
+        ensures making { IsMaking (machine_of self.old) (machine_of self.new) now (event.Step check)
+            result }
         ensures row { IfOk result (λ told. is_row (event.Step check) told ≡ true) }
         ensures latest { OnOk result (self.new.latest ≡ max now self.old.latest) }
     {
@@ -82,7 +83,8 @@ impl Machine {
         class: &Text,
         now: Moment,
     ) -> Result<Told, Stop>
-        ensures making { IsMaking (machine_of self.old) (machine_of self.new) now (event.Started epoch class.now) result }
+        ensures making { IsMaking (machine_of self.old) (machine_of self.new) now
+            (event.Started epoch class.now) result }
         ensures row { IfOk result (λ told. is_row (event.Started epoch class.now) told ≡ true) }
         ensures latest { OnOk result (self.new.latest ≡ max now self.old.latest) }
     {
@@ -107,7 +109,8 @@ impl Machine {
         class: &Text,
         now: Moment,
     ) -> Result<Told, Stop>
-        ensures making { IsMaking (machine_of self.old) (machine_of self.new) now (event.StartFail epoch class.now) result }
+        ensures making { IsMaking (machine_of self.old) (machine_of self.new) now
+            (event.StartFail epoch class.now) result }
         ensures row { IfOk result (λ told. is_row (event.StartFail epoch class.now) told ≡ true) }
         ensures latest { OnOk result (self.new.latest ≡ max now self.old.latest) }
     {
@@ -133,7 +136,8 @@ impl Machine {
         bytes: &Text,
         now: Moment,
     ) -> Result<Told, Stop>
-        ensures making { IsMaking (machine_of self.old) (machine_of self.new) now (event.Line proc bytes.now) result }
+        ensures making { IsMaking (machine_of self.old) (machine_of self.new) now
+            (event.Line proc bytes.now) result }
         ensures row { IfOk result (λ told. is_row (event.Line proc bytes.now) told ≡ true) }
         ensures latest { OnOk result (self.new.latest ≡ max now self.old.latest) }
     {

@@ -1,7 +1,7 @@
 //! What a run of a script comes to, on the machine with helpers, epochs and delay pools.
 //!
 //! `RunText` says what the text of a run is and how it ends; `Headline` what is so of the history of every run. The laws of
-//! `proofs/` show that it is so, that the acts after a line come to an end, and that a run only adds to its text. `Machine` is
+//! `proofs/` show that it is so, that the acts after a line come to an end, and that a run only adds to its text. `ScriptMachine` is
 //! the engine with its delay pools: each of its calls is one event, and what it answers and leaves is said over every history
 //! that it stands for.
 #![tactic(auto)]
@@ -23,6 +23,6 @@ mod stops;
 
 pub use beginning::replay;
 pub use ends::RunEnd;
-pub use machines::Machine;
-pub use page::{Untold, put_line, write_page};
+pub use machines::ScriptMachine;
+pub use page::{Unwritten, put_line, write_page};
 pub use stops::Stop;

@@ -18,14 +18,14 @@ ghost use Rattle.sq_replay.specs.declared.ends.RunEnd.TheVariants as ends;
 
 use crate::ends::RunEnd;
 use crate::entering::enter;
-use crate::machines::Machine;
+use crate::machines::ScriptMachine;
 use crate::named::read_named;
-use crate::page::Untold;
+use crate::page::Unwritten;
 use crate::stops::Stop;
 use sq_base::{Moment, Text};
 use sq_journal::{EntryFault, read_event};
 use sq_machine::Event;
-use sq_outside::{Files, Found, Held, Sink, Source, Unread, next_line};
+use sq_outside::{Files, Held, LineFound, Sink, Source, Unread, next_line};
 use std::alloc::Global;
 
 // The name of a reconfiguration's file, and any other event as it is.
@@ -47,14 +47,17 @@ fn run_plain<O: Sink>(
     number: u64,
     now: Moment,
     event: Event,
-    machine: &mut Machine,
+    machine: &mut ScriptMachine,
     page: &mut Vec<u8>,
     out: &mut O,
 ) -> Result<(), RunEnd>
     requires event { is_event event ≡ true }
     requires plain { begins_epoch event ≡ false }
-    ensures goes { (base : Option (List ℕ)) (configs : List Configuration) (h : History) (shelf : Shelf) → At (machine_of machine.old) base (O.contents out.old) page.old.items configs h
-        → Goes (machine_of machine.new) base (O.contents out.new) page.new.items configs h (event_step shelf configs h number now event) result }
+    ensures goes { (base : Option (List ℕ)) (configs : List Configuration) (h : History)
+        (shelf : Shelf) → At (machine_of machine.old) base (O.contents out.old) page.old.items
+        configs h
+        → Goes (machine_of machine.new) base (O.contents out.new) page.new.items configs h
+        (event_step shelf configs h number now event) result }
     ensures later { O.faults out.old ≤ O.faults out.new }
     ensures write { IsErrOf result ends.WriteFault → Rose (O.faults out.old) (O.faults out.new) }
     ensures quiet { (IsErrOf result ends.WriteFault → ⊥) → O.faults out.new ≡ O.faults out.old }
@@ -67,8 +70,8 @@ fn run_plain<O: Sink>(
     };
     match enter(alloc, machine.latest(), event, answer, machine, page, out) {
         Ok(()) => Ok(()),
-        Err(Untold::Failed) => Err(RunEnd::WriteFault),
-        Err(Untold::WantOfMemory) => Err(RunEnd::WantOfMemory),
+        Err(Unwritten::Failed) => Err(RunEnd::WriteFault),
+        Err(Unwritten::WantOfMemory) => Err(RunEnd::WantOfMemory),
     }
 }
 
@@ -78,19 +81,25 @@ fn run_named<F: Files, O: Sink>(
     number: u64,
     now: Moment,
     name: Text,
-    machine: &mut Machine,
+    machine: &mut ScriptMachine,
     files: &mut F,
     page: &mut Vec<u8>,
     out: &mut O,
 ) -> Result<(), RunEnd>
-    ensures goes { (base : Option (List ℕ)) (configs : List Configuration) (h : History) (shelf : Shelf) → At (machine_of machine.old) base (O.contents out.old) page.old.items configs h
-        → Tells (F.texts files.old) (F.opened files.old) (F.opened files.new) shelf (current h) (missed_by result) → HasNext shelf configs h (event.Reconfigure name)
-        → Goes (machine_of machine.new) base (O.contents out.new) page.new.items configs h (event_step shelf configs h number now (event.Reconfigure name)) result }
+    ensures goes { (base : Option (List ℕ)) (configs : List Configuration) (h : History)
+        (shelf : Shelf) → At (machine_of machine.old) base (O.contents out.old) page.old.items
+        configs h
+        → Tells (F.texts files.old) (F.opened files.old) (F.opened files.new) shelf (current h)
+        (missed_by result) → HasNext shelf configs h (event.Reconfigure name)
+        → Goes (machine_of machine.new) base (O.contents out.new) page.new.items configs h
+        (event_step shelf configs h number now (event.Reconfigure name)) result }
     ensures adds { Adds (F.opened files.old) (F.opened files.new) }
     ensures counts { OnOk result (AddsCount (F.opened files.old) (F.opened files.new) 1) }
-    ensures opens { Added (F.opened files.old) (F.opened files.new) (StepOpened number (Some name) result) }
+    ensures opens { Added (F.opened files.old) (F.opened files.new)
+        (StepOpened number (Some name) result) }
     ensures missing { IfMissed (missed_by result) (IsNotTold (F.texts files.old)) }
-    ensures causes { StepHasCauses (F.faults files.old) (F.faults files.new) (O.faults out.old) (O.faults out.new) result }
+    ensures causes { StepHasCauses (F.faults files.old) (F.faults files.new) (O.faults out.old)
+        (O.faults out.new) result }
     ensures texts { F.texts files.new ≡ F.texts files.old }
     ensures end { IfErr result IsStepEnd }
 {
@@ -106,8 +115,8 @@ fn run_named<F: Files, O: Sink>(
     let event = Event::Reconfigure { text };
     match enter(alloc, machine.latest(), event, answer, machine, page, out) {
         Ok(()) => Ok(()),
-        Err(Untold::Failed) => Err(RunEnd::WriteFault),
-        Err(Untold::WantOfMemory) => Err(RunEnd::WantOfMemory),
+        Err(Unwritten::Failed) => Err(RunEnd::WriteFault),
+        Err(Unwritten::WantOfMemory) => Err(RunEnd::WantOfMemory),
     }
 }
 
@@ -117,20 +126,27 @@ pub fn run_event<F: Files, O: Sink>(
     number: u64,
     now: Moment,
     event: Event,
-    machine: &mut Machine,
+    machine: &mut ScriptMachine,
     files: &mut F,
     page: &mut Vec<u8>,
     out: &mut O,
 ) -> Result<(), RunEnd>
     requires { is_event event ≡ true }
-    ensures goes { (base : Option (List ℕ)) (configs : List Configuration) (h : History) (shelf : Shelf) → At (machine_of machine.old) base (O.contents out.old) page.old.items configs h
-        → Tells (F.texts files.old) (F.opened files.old) (F.opened files.new) shelf (current h) (missed_by result) → HasNext shelf configs h event
-        → Goes (machine_of machine.new) base (O.contents out.new) page.new.items configs h (event_step shelf configs h number now event) result }
+    ensures goes { (base : Option (List ℕ)) (configs : List Configuration) (h : History)
+        (shelf : Shelf) → At (machine_of machine.old) base (O.contents out.old) page.old.items
+        configs h
+        → Tells (F.texts files.old) (F.opened files.old) (F.opened files.new) shelf (current h)
+        (missed_by result) → HasNext shelf configs h event
+        → Goes (machine_of machine.new) base (O.contents out.new) page.new.items configs h
+        (event_step shelf configs h number now event) result }
     ensures adds { Adds (F.opened files.old) (F.opened files.new) }
-    ensures counts { OnOk result (AddsCount (F.opened files.old) (F.opened files.new) (openings_of event)) }
-    ensures opens { Added (F.opened files.old) (F.opened files.new) (StepOpened number (name_of event) result) }
+    ensures counts { OnOk result
+        (AddsCount (F.opened files.old) (F.opened files.new) (openings_of event)) }
+    ensures opens { Added (F.opened files.old) (F.opened files.new)
+        (StepOpened number (name_of event) result) }
     ensures missing { IfMissed (missed_by result) (IsNotTold (F.texts files.old)) }
-    ensures causes { StepHasCauses (F.faults files.old) (F.faults files.new) (O.faults out.old) (O.faults out.new) result }
+    ensures causes { StepHasCauses (F.faults files.old) (F.faults files.new) (O.faults out.old)
+        (O.faults out.new) result }
     ensures texts { F.texts files.new ≡ F.texts files.old }
     ensures end { IfErr result IsStepEnd }
 {
@@ -145,18 +161,24 @@ fn run_line<F: Files, O: Sink>(
     alloc: Global,
     number: u64,
     line: &[u8],
-    machine: &mut Machine,
+    machine: &mut ScriptMachine,
     files: &mut F,
     page: &mut Vec<u8>,
     out: &mut O,
 ) -> Result<(), RunEnd>
-    ensures goes { (base : Option (List ℕ)) (configs : List Configuration) → LineGoes (machine_of machine.old) (machine_of machine.new) (F.texts files.old) (F.opened files.old) (F.opened files.new)
-        base (O.contents out.old) (O.contents out.new) page.old.items page.new.items configs number line.now result }
+    ensures goes { (base : Option (List ℕ)) (configs : List Configuration)
+        → LineGoes (machine_of machine.old) (machine_of machine.new) (F.texts files.old)
+        (F.opened files.old) (F.opened files.new)
+        base (O.contents out.old) (O.contents out.new) page.old.items page.new.items configs number
+        line.now result }
     ensures adds { Adds (F.opened files.old) (F.opened files.new) }
-    ensures counts { OnOk result (AddsCount (F.opened files.old) (F.opened files.new) (openings_in (stated line.now))) }
-    ensures opens { Added (F.opened files.old) (F.opened files.new) (StepOpened number (name_in (stated line.now)) result) }
+    ensures counts { OnOk result
+        (AddsCount (F.opened files.old) (F.opened files.new) (openings_in (stated line.now))) }
+    ensures opens { Added (F.opened files.old) (F.opened files.new)
+        (StepOpened number (name_in (stated line.now)) result) }
     ensures missing { IfMissed (missed_by result) (IsNotTold (F.texts files.old)) }
-    ensures causes { StepHasCauses (F.faults files.old) (F.faults files.new) (O.faults out.old) (O.faults out.new) result }
+    ensures causes { StepHasCauses (F.faults files.old) (F.faults files.new) (O.faults out.old)
+        (O.faults out.new) result }
     ensures texts { F.texts files.new ≡ F.texts files.old }
     ensures end { IfErr result IsStepEnd }
 {
@@ -171,7 +193,7 @@ fn run_line<F: Files, O: Sink>(
 pub fn run_rest<S: Source, F: Files, O: Sink>(
     alloc: Global,
     place: u64,
-    machine: &mut Machine,
+    machine: &mut ScriptMachine,
     held: &mut Held,
     script: &mut S,
     files: &mut F,
@@ -179,14 +201,21 @@ pub fn run_rest<S: Source, F: Files, O: Sink>(
     out: &mut O,
 ) -> RunEnd
     requires { place ≤ total_limit }
-    ensures runs { (base : Option (List ℕ)) (configs : List Configuration) (h : History) → At (machine_of machine.old) base (O.contents out.old) page.old.items configs h
-        → RunsOver (F.texts files.old) (F.opened files.old) (F.opened files.new) (prepend_known held.old (S.left script.old)) base (O.contents out.new) page.new.items configs h
+    ensures runs { (base : Option (List ℕ)) (configs : List Configuration) (h : History)
+        → At (machine_of machine.old) base (O.contents out.old) page.old.items configs h
+        → RunsOver (F.texts files.old) (F.opened files.old) (F.opened files.new)
+        (prepend_known held.old (S.left script.old)) base (O.contents out.new) page.new.items
+        configs h
         (λ shelf bytes. run_lines shelf configs h 2 place (lines bytes)) result }
     ensures adds { Adds (F.opened files.old) (F.opened files.new) }
-    ensures opens { IfSome (prepend_known held.old (S.left script.old)) (λ bytes. Added (F.opened files.old) (F.opened files.new) (RunOpened 1 (lines bytes) result)) }
-    ensures reached { ReachesEnd result (prepend_known held.old (S.left script.old)) (S.left script.new) }
+    ensures opens { IfSome (prepend_known held.old (S.left script.old))
+        (λ bytes. Added (F.opened files.old) (F.opened files.new)
+        (RunOpened 1 (lines bytes) result)) }
+    ensures reached { ReachesEnd result (prepend_known held.old (S.left script.old))
+        (S.left script.new) }
     ensures missing { IfMissed (missed result) (IsNotTold (F.texts files.old)) }
-    ensures causes { RunHasCauses (S.faults script.old) (S.faults script.new) (F.faults files.old) (F.faults files.new) (O.faults out.old) (O.faults out.new) result }
+    ensures causes { RunHasCauses (S.faults script.old) (S.faults script.new) (F.faults files.old)
+        (F.faults files.new) (O.faults out.old) (O.faults out.new) result }
     ensures texts { F.texts files.new ≡ F.texts files.old }
     ensures end { IsRunEnd result }
 {
@@ -195,9 +224,9 @@ pub fn run_rest<S: Source, F: Files, O: Sink>(
     let mut line = Vec::new(alloc);
     'lines: loop {
         match next_line(held, script, &mut place, &mut line) {
-            Ok(Found::Whole) => {}
-            Ok(Found::End) => return RunEnd::Ok,
-            Ok(Found::Faulty) => return RunEnd::Script(number),
+            Ok(LineFound::Whole) => {}
+            Ok(LineFound::End) => return RunEnd::Ok,
+            Ok(LineFound::Faulty) => return RunEnd::Script(number),
             Err(Unread::Failed) => return RunEnd::ReadFault,
             Err(Unread::WantOfMemory) => return RunEnd::WantOfMemory,
         }

@@ -4,7 +4,7 @@ ghost use Rattle.sq_rules.specs.Configurations.{Configuration, IsConfiguration};
 ghost use Rattle.sq_machine.specs.Entries.{is_row};
 ghost use Rattle.sq_machine.specs.Epochs.{config_of};
 ghost use Rattle.sq_machine.specs.declared.entries.Event.TheVariants as event;
-ghost use Rattle.sq_history.specs.Given.{EachOf};
+ghost use Rattle.sq_model_laws.specs.Given.{EachOf};
 ghost use Rattle.sq_engine.specs.EngineViews.{state_of};
 ghost use Rattle.sq_replay.specs.Dues.{dues_in};
 ghost use Rattle.sq_replay.specs.MachineViews.{machine_of};
@@ -27,22 +27,27 @@ use std::sync::Arc;
 /// The engine and its delay pools, at the greatest moment of all events so far, with the record last taken on each
 /// connection, where it allows. A contract sees these parts, and by `machine_of` the machine that stands for a history.
 #[derive(Drop)]
-pub struct Machine {
+pub struct ScriptMachine {
     pub(crate) engine: Engine,
     pub(crate) pools: SeatedPools,
     pub(crate) latest: Moment,
     pub(crate) riders: Riders,
 }
 
-impl Model for Machine {
+impl Model for ScriptMachine {
     ghost use Rattle.sq_replay.specs.MachineViews.{MachineView};
 
     ghost Value = { MachineView };
 
-    ghost view = { λ m. record { engine = m.engine; pools = m.pools; latest = m.latest; riders = m.riders } };
+    ghost view = { λ m. record {
+      engine = m.engine;
+      pools = m.pools;
+      latest = m.latest;
+      riders = m.riders;
+    } };
 }
 
-impl Machine {
+impl ScriptMachine {
     /// The machine that begins at this moment with epoch 1, at this offset of local time. Hashes have the same seed
     /// in each run.
     pub fn begin(
@@ -50,13 +55,16 @@ impl Machine {
         setup: Setup,
         offset: Offset,
         now: Moment,
-    ) -> Result<Machine, WantOfMemory>
-        ensures begun { IfOk result (λ m. (configs : List Configuration) → EachOf IsConfiguration configs → config_of configs 1 ≡ Some setup → Is (machine_of m) configs (first_history now offset)) }
+    ) -> Result<ScriptMachine, WantOfMemory>
+        ensures begun { IfOk result
+            (λ m. (configs : List Configuration) → EachOf IsConfiguration configs
+            → config_of configs 1 ≡ Some setup
+            → Is (machine_of m) configs (first_history now offset)) }
         ensures latest { IfOk result (λ m. m.latest ≡ now) }
     {
         let pools = SeatedPools::new(alloc, EpochNo(1), setup.config(), now)?;
         let engine = Engine::new(alloc, setup, offset, now, HashSeed::fixed())?;
-        Ok(Machine {
+        Ok(ScriptMachine {
             engine,
             pools,
             latest: now,
@@ -74,7 +82,8 @@ impl Machine {
     /// Another configuration is current from here on. Where memory is wanting, the machine is not to be used any
     /// more: its pools may lack the epoch that the engine has begun.
     pub fn reconfigure(&mut self, alloc: Global, setup: Setup, now: Moment) -> Result<Told, Stop>
-        ensures making { IsReconfiguring (machine_of self.old) (machine_of self.new) now setup result }
+        ensures making { IsReconfiguring (machine_of self.old) (machine_of self.new) now setup
+            result }
         ensures row { IfOk result (λ told. is_row (event.Reconfigure setup.source) told ≡ true) }
         ensures latest { OnOk result (self.new.latest ≡ max now self.old.latest) }
     {
@@ -100,8 +109,11 @@ impl Machine {
     /// Makes the act that is due at the greatest moment so far, and tells it; None where none is due. Each act leaves
     /// fewer to be due. Where memory is wanting, the machine is not to be used any more.
     pub fn act(&mut self, alloc: Global) -> Result<Option<Told>, WantOfMemory>
-        ensures acting { IsActing (machine_of self.old) (machine_of self.new) self.old.latest result }
-        ensures lowers { IfOk result (λ told. IfSome told (λ _. dues_in (state_of self.new.engine) < dues_in (state_of self.old.engine))) }
+        ensures acting { IsActing (machine_of self.old) (machine_of self.new) self.old.latest
+            result }
+        ensures lowers { IfOk result
+            (λ told. IfSome told (λ _. dues_in (state_of self.new.engine)
+            < dues_in (state_of self.old.engine))) }
         ensures row { IfOk result (λ told. IfSome told (λ t. is_row event.Act t ≡ true)) }
         ensures latest { OnOk result (self.new.latest ≡ self.old.latest) }
         ensures same { IfOk result (λ told. IfNone told (self.new ≡ self.old)) }
@@ -111,10 +123,14 @@ impl Machine {
 
     /// The same at this moment, or at the greatest so far where that is later.
     pub fn act_at(&mut self, alloc: Global, now: Moment) -> Result<Option<Told>, WantOfMemory>
-        ensures acting { IsActing (machine_of self.old) (machine_of self.new) (max now self.old.latest) result }
-        ensures lowers { IfOk result (λ told. IfSome told (λ _. dues_in (state_of self.new.engine) < dues_in (state_of self.old.engine))) }
+        ensures acting { IsActing (machine_of self.old) (machine_of self.new)
+            (max now self.old.latest) result }
+        ensures lowers { IfOk result
+            (λ told. IfSome told (λ _. dues_in (state_of self.new.engine)
+            < dues_in (state_of self.old.engine))) }
         ensures row { IfOk result (λ told. IfSome told (λ t. is_row event.Act t ≡ true)) }
-        ensures latest { IfOk result (λ told. IfSome told (λ _. self.new.latest ≡ max now self.old.latest)) }
+        ensures latest { IfOk result
+            (λ told. IfSome told (λ _. self.new.latest ≡ max now self.old.latest)) }
         ensures same { IfOk result (λ told. IfNone told (self.new ≡ self.old)) }
     {
         // For the proof: what holds of the pools.

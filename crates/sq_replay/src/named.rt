@@ -36,11 +36,14 @@ pub fn read_named<F: Files>(
     name: Text,
     files: &mut F,
 ) -> Result<(Text, Setup), RunEnd>
-    ensures reads { (shelf : Shelf) (e : ℕ) → Tells (F.texts files.old) (F.opened files.old) (F.opened files.new) shelf e (missed_by result)
+    ensures reads { (shelf : Shelf) (e : ℕ)
+        → Tells (F.texts files.old) (F.opened files.old) (F.opened files.new) shelf e
+        (missed_by result)
         → NamedReads name (shelf e name) result }
     ensures adds { Adds (F.opened files.old) (F.opened files.new) }
     ensures counts { OnOk result (AddsCount (F.opened files.old) (F.opened files.new) 1) }
-    ensures opens { (number : ℕ) → Added (F.opened files.old) (F.opened files.new) (StepOpened number (Some name) result) }
+    ensures opens { (number : ℕ)
+        → Added (F.opened files.old) (F.opened files.new) (StepOpened number (Some name) result) }
     ensures missing { IfMissed (missed_by result) (IsNotTold (F.texts files.old)) }
     ensures end { IfErr result IsNamingEnd }
     ensures causes { NamingHasCauses (F.faults files.old) (F.faults files.new) result }

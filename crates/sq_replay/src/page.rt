@@ -11,7 +11,7 @@ const PAGE: usize = 65_536;
 
 /// Why a line was not put on a page, or the page not written.
 #[derive(Clone, Copy, PartialEq, Eq, Debug)]
-pub enum Untold {
+pub enum Unwritten {
     Failed,
     WantOfMemory,
 }
@@ -19,9 +19,15 @@ pub enum Untold {
 /// Writes what a page holds, and empties it. Where that fails, the page stays, and it is not known which
 /// front of it was written.
 pub fn write_page<O: Sink>(page: &mut Vec<u8>, out: &mut O) -> Result<(), Failed>
-    ensures ok { OnOk result ((base : Option (List ℕ)) (text : List ℕ) → Wrote base (O.contents out.old) page.old.items text → Wrote base (O.contents out.new) page.new.items text) }
+    ensures ok { OnOk result
+        ((base : Option (List ℕ)) (text : List ℕ)
+        → Wrote base (O.contents out.old) page.old.items text
+        → Wrote base (O.contents out.new) page.new.items text) }
     ensures empty { OnOk result (page.new.items ≡ []) }
-    ensures err { OnErr result ((base : Option (List ℕ)) (text : List ℕ) → Wrote base (O.contents out.old) page.old.items text → WrotePart base (O.contents out.new) text) }
+    ensures err { OnErr result
+        ((base : Option (List ℕ)) (text : List ℕ)
+        → Wrote base (O.contents out.old) page.old.items text
+        → WrotePart base (O.contents out.new) text) }
     ensures cause { HasCause (O.faults out.old) (O.faults out.new) result }
 {
     match write_all(out, page.as_slice()) {
@@ -33,27 +39,32 @@ pub fn write_page<O: Sink>(page: &mut Vec<u8>, out: &mut O) -> Result<(), Failed
 }
 
 /// Puts a line on a page, without its LF, and writes the page where it is full.
-pub fn put_line<O: Sink>(line: &[u8], page: &mut Vec<u8>, out: &mut O) -> Result<(), Untold>
-    ensures ok { OnOk result ((base : Option (List ℕ)) (text : List ℕ) → Wrote base (O.contents out.old) page.old.items text
+pub fn put_line<O: Sink>(line: &[u8], page: &mut Vec<u8>, out: &mut O) -> Result<(), Unwritten>
+    ensures ok { OnOk result
+        ((base : Option (List ℕ)) (text : List ℕ)
+        → Wrote base (O.contents out.old) page.old.items text
         → Wrote base (O.contents out.new) page.new.items (text ++ (line.now ++ 10 ∷ []))) }
-    ensures failed { IsErrOf result Untold.Failed → (base : Option (List ℕ)) (text : List ℕ) → Wrote base (O.contents out.old) page.old.items text
+    ensures failed { IsErrOf result Unwritten.Failed → (base : Option (List ℕ)) (text : List ℕ)
+        → Wrote base (O.contents out.old) page.old.items text
         → WrotePart base (O.contents out.new) (text ++ (line.now ++ 10 ∷ [])) }
-    ensures memory { IsErrOf result Untold.WantOfMemory → (base : Option (List ℕ)) (text : List ℕ) → Wrote base (O.contents out.old) page.old.items text
+    ensures memory { IsErrOf result Unwritten.WantOfMemory
+        → (base : Option (List ℕ)) (text : List ℕ)
+        → Wrote base (O.contents out.old) page.old.items text
         → WroteFront base (O.contents out.new) page.new.items (text ++ (line.now ++ 10 ∷ [])) }
     ensures later { O.faults out.old ≤ O.faults out.new }
-    ensures cause { IsErrOf result Untold.Failed → Rose (O.faults out.old) (O.faults out.new) }
-    ensures quiet { (IsErrOf result Untold.Failed → ⊥) → O.faults out.new ≡ O.faults out.old }
+    ensures cause { IsErrOf result Unwritten.Failed → Rose (O.faults out.old) (O.faults out.new) }
+    ensures quiet { (IsErrOf result Unwritten.Failed → ⊥) → O.faults out.new ≡ O.faults out.old }
 {
     match add_line(line, page) {
         Ok(()) => {}
-        Err(WantOfMemory) => return Err(Untold::WantOfMemory),
+        Err(WantOfMemory) => return Err(Unwritten::WantOfMemory),
     }
     if page.len() < PAGE {
         return Ok(());
     }
     match write_page(page, out) {
         Ok(()) => Ok(()),
-        Err(Failed) => Err(Untold::Failed),
+        Err(Failed) => Err(Unwritten::Failed),
     }
 }
 

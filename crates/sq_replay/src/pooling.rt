@@ -5,17 +5,18 @@ ghost use Rattle.sq_machine.specs.declared.entries.Event.TheVariants as event;
 ghost use Rattle.sq_replay.specs.MachineViews.{machine_of};
 ghost use Rattle.sq_replay.specs.Making.{IsMaking};
 
-use crate::machines::Machine;
+use crate::machines::ScriptMachine;
 use crate::stops::Stop;
 use sq_base::{ConnNo, Moment, SeatNo};
 use sq_machine::{Told, later};
 use sq_pools::ChooseFault;
 use std::alloc::Global;
 
-impl Machine {
+impl ScriptMachine {
     // The connection asks for a seat in the pool of the record that was last taken on it, where that allows.
     pub(crate) fn seat(&mut self, alloc: Global, conn: ConnNo, now: Moment) -> Result<Told, Stop>
-        ensures making { IsMaking (machine_of self.old) (machine_of self.new) now (event.Seat conn) result }
+        ensures making { IsMaking (machine_of self.old) (machine_of self.new) now (event.Seat conn)
+            result }
         ensures row { IfOk result (λ told. is_row (event.Seat conn) told ≡ true) }
         ensures latest { OnOk result (self.new.latest ≡ max now self.old.latest) }
     {
@@ -44,7 +45,8 @@ impl Machine {
     // A seat in use wants so many bytes.
     pub(crate) fn grant(&mut self, seat: SeatNo, wanted: u64, now: Moment) -> Result<Told, Stop>
         requires { is_amount wanted ≡ true }
-        ensures making { IsMaking (machine_of self.old) (machine_of self.new) now (event.Grant seat wanted) result }
+        ensures making { IsMaking (machine_of self.old) (machine_of self.new) now
+            (event.Grant seat wanted) result }
         ensures row { IfOk result (λ told. is_row (event.Grant seat wanted) told ≡ true) }
         ensures latest { OnOk result (self.new.latest ≡ max now self.old.latest) }
     {
@@ -60,7 +62,8 @@ impl Machine {
 
     // A seat in use is given up.
     pub(crate) fn leave(&mut self, seat: SeatNo, now: Moment) -> Result<Told, Stop>
-        ensures making { IsMaking (machine_of self.old) (machine_of self.new) now (event.Leave seat) result }
+        ensures making { IsMaking (machine_of self.old) (machine_of self.new) now (event.Leave seat)
+            result }
         ensures row { IfOk result (λ told. is_row (event.Leave seat) told ≡ true) }
         ensures latest { OnOk result (self.new.latest ≡ max now self.old.latest) }
     {

@@ -27,9 +27,15 @@ impl Model for Ride {
 
     ghost Value = { Rider };
 
-    ghost view = { λ r. record { epoch = r.epoch; config = arc_value r.config; pool = r.pool; addr = r.addr } };
+    ghost view = { λ r. record {
+      epoch = r.epoch;
+      config = arc_value r.config;
+      pool = r.pool;
+      addr = r.addr;
+    } };
 
-    ghost invariant = { λ r. IsSeatable (record { epoch = r.epoch; config = arc_value r.config; pool = r.pool; addr = r.addr }) };
+    ghost invariant = { λ r. IsSeatable
+        (record { epoch = r.epoch; config = arc_value r.config; pool = r.pool; addr = r.addr }) };
 }
 
 // What a seat needs of a record.
@@ -78,7 +84,10 @@ impl Riders {
 
     // Notes the record that was last taken on a connection: one that denies has none.
     pub(crate) fn note(&mut self, conn: ConnNo, taken: &Record) -> Result<(), WantOfMemory>
-        ensures ok { OnOk result ((c : ℕ) → rider_at self.new c ≡ (if c == conn then (if taken.now.outcome.allow then Some (rider_of taken.now) else None) else rider_at self.old c)) }
+        ensures ok { OnOk result
+            ((c : ℕ) → rider_at self.new c
+            ≡ (if c == conn then (if taken.now.outcome.allow then Some (rider_of taken.now)
+            else None) else rider_at self.old c)) }
     {
         if !taken.outcome().allow {
             self.remove(conn);
@@ -90,7 +99,9 @@ impl Riders {
 
     // Puts the record of a connection in the place of the one before.
     fn put(&mut self, conn: ConnNo, ride: Ride) -> Result<(), WantOfMemory>
-        ensures ok { OnOk result ((c : ℕ) → rider_at self.new c ≡ (if c == conn then Some ride else rider_at self.old c)) }
+        ensures ok { OnOk result
+            ((c : ℕ) → rider_at self.new c
+            ≡ (if c == conn then Some ride else rider_at self.old c)) }
         ensures err { OnErr result (self.new ≡ self.old) }
     {
         let _was = self.map.insert(conn, ride)?;
@@ -99,7 +110,8 @@ impl Riders {
 
     // Forgets the record of a connection.
     pub(crate) fn remove(&mut self, conn: ConnNo)
-        ensures { (c : ℕ) → rider_at self.new c ≡ (if c == conn then None else rider_at self.old c) }
+        ensures { (c : ℕ) → rider_at self.new c
+            ≡ (if c == conn then None else rider_at self.old c) }
     {
         let _was = self.map.remove(&conn);
     }

@@ -54,7 +54,10 @@ impl SeatedPools {
         config: &Arc<Config>,
         now: Moment,
     ) -> Result<(), WantOfMemory>
-        ensures ok { OnOk result (cond (nat_lt epoch self.old.newest || is_some (made_in self.old epoch)) (self.new ≡ self.old) (IsRenewed self.old self.new epoch config.now.value (max now self.old.latest))) }
+        ensures ok { OnOk result
+            (cond (nat_lt epoch self.old.newest || is_some (made_in self.old epoch))
+            (self.new ≡ self.old) (IsRenewed self.old self.new epoch config.now.value
+            (max now self.old.latest))) }
     {
         self.pools.renew(alloc, epoch, config, now)
     }
@@ -72,8 +75,11 @@ impl SeatedPools {
         requires { has_pool config.now.value pool addr ≡ true }
         ensures number { IfOk result (λ n. n ≡ suc self.old.given) }
         ensures few { OnOk result (suc self.old.given < last_number) }
-        ensures chosen { OnOk result (IsChosen self.old self.new epoch config.now.value pool addr (max now self.old.latest)) }
-        ensures spent { IfErr result (λ e. e ≡ ChooseFault.Spent → suc self.old.given ≡ last_number) }
+        ensures chosen { OnOk result
+            (IsChosen self.old self.new epoch config.now.value pool addr
+            (max now self.old.latest)) }
+        ensures spent { IfErr result
+            (λ e. e ≡ ChooseFault.Spent → suc self.old.given ≡ last_number) }
     {
         let seat = self.pools.choose(alloc, epoch, config, pool, addr, now)?;
         // For the proof: what holds of the pools.
@@ -93,9 +99,13 @@ impl SeatedPools {
         ensures none { IfNone result (seat_in self.old number ≡ None) }
         ensures same { IfNone result (self.new ≡ self.old) }
         ensures there { IfSome result (λ _. is_some (seat_in self.old number) ≡ true) }
-        ensures amount { IfSome result (λ n. n ≡ grant_in self.old (max now self.old.latest) wanted (seat_in self.old number)) }
+        ensures amount { IfSome result
+            (λ n. n ≡ grant_in self.old (max now self.old.latest) wanted
+            (seat_in self.old number)) }
         ensures within { IfSome result (λ n. n ≤ wanted) }
-        ensures taken { IfSome result (λ n. IsGranted self.old self.new (max now self.old.latest) n (seat_in self.old number)) }
+        ensures taken { IfSome result
+            (λ n. IsGranted self.old self.new (max now self.old.latest) n
+            (seat_in self.old number)) }
     {
         let seat = self.seats.get(&number)?;
         Some(self.pools.grant(seat, wanted, now))

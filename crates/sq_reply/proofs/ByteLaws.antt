@@ -17,20 +17,26 @@ abbrev pub stops : (ℕ → Bool) → List ℕ → Bool
 stops p [] = true
 stops p (b ∷ bs) = not (p b)
 
-pub cut_len : (p : ℕ → Bool) (xs ys : List ℕ) → list_all p xs ≡ true → stops p ys ≡ true → prefix_len p (xs ++ ys) ≡ length xs
+pub cut_len : (p : ℕ → Bool) (xs ys : List ℕ) → list_all p xs ≡ true → stops p ys ≡ true
+    → prefix_len p (xs ++ ys) ≡ length xs
 cut_len p [] [] h k = refl
 cut_len p [] (y ∷ ys) h k = rw (not-true (p y) k) refl
-cut_len p (x ∷ xs) ys h k = let both = and_parts (p x) (list_all p xs) h in rw (both.0, cut_len p xs ys both.1 k) (omega arith)
+cut_len p (x ∷ xs) ys h k = let both = and_parts (p x) (list_all p xs) h in
+    rw (both.0, cut_len p xs ys both.1 k) (omega arith)
 
 -- where a front of one kind is written before another kind, it is cut there
-pub cut_front : (p : ℕ → Bool) (xs ys : List ℕ) → list_all p xs ≡ true → stops p ys ≡ true → take (prefix_len p (xs ++ ys)) (xs ++ ys) ≡ xs
+pub cut_front : (p : ℕ → Bool) (xs ys : List ℕ) → list_all p xs ≡ true → stops p ys ≡ true
+    → take (prefix_len p (xs ++ ys)) (xs ++ ys) ≡ xs
 cut_front p xs ys h k = ap (λ n. take n (xs ++ ys)) (cut_len p xs ys h k) ∙ take-append_seam xs ys
 
-pub cut_back : (p : ℕ → Bool) (xs ys : List ℕ) → list_all p xs ≡ true → stops p ys ≡ true → drop (prefix_len p (xs ++ ys)) (xs ++ ys) ≡ ys
+pub cut_back : (p : ℕ → Bool) (xs ys : List ℕ) → list_all p xs ≡ true → stops p ys ≡ true
+    → drop (prefix_len p (xs ++ ys)) (xs ++ ys) ≡ ys
 cut_back p xs ys h k = ap (λ n. drop n (xs ++ ys)) (cut_len p xs ys h k) ∙ drop-append_seam xs ys
 
-front_by : (t : Bool) (p : ℕ → Bool) (x n : ℕ) (xs : List ℕ) → p x ≡ t → list_all p (take n xs) ≡ true → list_all p (take (if t then 1 + n else 0) (x ∷ xs)) ≡ true
-front_by true p x n xs h k = let one : 1 + n ≡ suc n = omega arith in rw one (and_from (p x) (list_all p (take n xs)) h k)
+front_by : (t : Bool) (p : ℕ → Bool) (x n : ℕ) (xs : List ℕ) → p x ≡ t → list_all p (take n xs) ≡ true
+    → list_all p (take (if t then 1 + n else 0) (x ∷ xs)) ≡ true
+front_by true p x n xs h k = let one : 1 + n ≡ suc n = omega arith in
+    rw one (and_from (p x) (list_all p (take n xs)) h k)
 front_by false p x n xs h k = refl
 
 -- a front that was cut is of its kind
@@ -38,9 +44,11 @@ pub front_passes : (p : ℕ → Bool) (xs : List ℕ) → list_all p (take (pref
 front_passes p [] = refl
 front_passes p (x ∷ xs) = front_by (p x) p x (prefix_len p xs) xs refl (front_passes p xs)
 
-pub all_are : (p q : ℕ → Bool) → ((b : ℕ) → p b ≡ true → q b ≡ true) → (xs : List ℕ) → list_all p xs ≡ true → list_all q xs ≡ true
+pub all_are : (p q : ℕ → Bool) → ((b : ℕ) → p b ≡ true → q b ≡ true) → (xs : List ℕ) → list_all p xs ≡ true
+    → list_all q xs ≡ true
 all_are p q f [] h = refl
-all_are p q f (x ∷ xs) h = let both = and_parts (p x) (list_all p xs) h in and_from (q x) (list_all q xs) (f x both.0) (all_are p q f xs both.1)
+all_are p q f (x ∷ xs) h = let both = and_parts (p x) (list_all p xs) h in
+    and_from (q x) (list_all q xs) (f x both.0) (all_are p q f xs both.1)
 
 pub key_is_word : (b : ℕ) → is_key_byte b ≡ true → is_word_byte b ≡ true
 key_is_word b h = grind (arith, nat_tests)

@@ -20,11 +20,14 @@ words_keys [] h = refl
 words_keys (s ∷ words) h =
     let both = and_parts (is_reply_word s.word) (are_reply_words words) h in
     list_all-append (λ (p : Pair). is_key p.key) (word_pairs s.word) (words_pairs words)
-    ∙ and_from (have_keys (word_pairs s.word)) (have_keys (words_pairs words)) (word_keys s.word both.0) (words_keys words both.1)
+    ∙ and_from (have_keys (word_pairs s.word)) (have_keys (words_pairs words)) (word_keys s.word both.0)
+    (words_keys words both.1)
 
 said_keys : (with_channel : Bool) (line : List ℕ) (x : Answer) → Says with_channel line x → have_keys x.1.pairs ≡ true
-said_keys with_channel line x s = ap (λ (a : Answer). have_keys a.1.pairs) s.means ∙ words_keys s.line.words s.valid.words
+said_keys with_channel line x s = ap (λ (a : Answer). have_keys a.1.pairs) s.means
+    ∙ words_keys s.line.words s.valid.words
 
-pub keys_from : (with_channel : Bool) (line : List ℕ) (result : Result Answer ReplyFault) → ReadsAs result (reply_of with_channel line) → IfOk result (λ x. have_keys x.1.pairs ≡ true)
+pub keys_from : (with_channel : Bool) (line : List ℕ) (result : Result Answer ReplyFault)
+    → ReadsAs result (reply_of with_channel line) → IfOk result (λ x. have_keys x.1.pairs ≡ true)
 keys_from with_channel line (Ok x) h = said_keys with_channel line x (read_said with_channel line x h)
 keys_from with_channel line (Err e) h = tt

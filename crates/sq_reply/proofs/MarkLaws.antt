@@ -22,7 +22,8 @@ itself_mark : (b : ℕ) → is_mark (Itself b) ≡ true → (b == 92) ≡ false
 itself_mark b h = grind (arith, nat_tests)
 
 -- marks stand for their bytes
-pub marks_unquoted : (marks : List Mark) → list_all is_mark marks ≡ true → unquoted false (marks_text marks) ≡ map mark_byte marks
+pub marks_unquoted : (marks : List Mark) → list_all is_mark marks ≡ true
+    → unquoted false (marks_text marks) ≡ map mark_byte marks
 unfolding unquoted
 marks_unquoted [] h = refl
 marks_unquoted (Itself b ∷ ms) h =
@@ -36,7 +37,8 @@ some_more : (place : Option ℕ) (n k : ℕ) → place ≡ Some n → n + 1 ≡ 
 some_more place n k h e = ap (option_map (λ m. m + 1)) h ∙ ap (λ (m : ℕ). Some m) e
 
 -- the quote behind marks closes
-pub marks_len : (marks : List Mark) (rest : List ℕ) → list_all is_mark marks ≡ true → quoted_len false (marks_text marks ++ 34 ∷ rest) ≡ Some (length (marks_text marks))
+pub marks_len : (marks : List Mark) (rest : List ℕ) → list_all is_mark marks ≡ true
+    → quoted_len false (marks_text marks ++ 34 ∷ rest) ≡ Some (length (marks_text marks))
 unfolding quoted_len
 marks_len [] rest h = refl
 marks_len (Itself b ∷ ms) rest h =
@@ -46,7 +48,8 @@ marks_len (Itself b ∷ ms) rest h =
 marks_len (Escaped b ∷ ms) rest h =
     let both = and_parts (is_mark (Escaped b)) (list_all is_mark ms) h in
     rw (both.0)
-    (some_more _ (length (marks_text ms) + 1) _ (some_more _ (length (marks_text ms)) _ (marks_len ms rest both.1) refl) (omega arith))
+    (some_more _ (length (marks_text ms) + 1) _ (some_more _ (length (marks_text ms)) _ (marks_len ms rest both.1) refl)
+    (omega arith))
 
 -- the bytes, behind a `\` where one stands right before
 abbrev pub shown : Bool → List ℕ → List ℕ
@@ -68,15 +71,29 @@ pub record QuotedAt (after : Bool) (bs : List ℕ) (n : ℕ) : Type 0 where
 -- a bare quote
 closes_here : (b : ℕ) (bs : List ℕ) (n : ℕ) → (b == 34) ≡ true → Some 0 ≡ Some n → QuotedAt false (b ∷ bs) n
 closes_here b bs n h e =
-    record { marks = []; rest = bs; text = ap (λ c. c ∷ bs) (eqb-true b 34 h); len = let same : 0 ≡ n = cc in sym same; valid = refl }
+    record {
+      marks = [];
+      rest = bs;
+      text = ap (λ c. c ∷ bs) (eqb-true b 34 h);
+      len = let same : 0 ≡ n = cc in sym same;
+      valid = refl;
+    }
 
 -- a `\`
-begins_mark : (b : ℕ) (bs : List ℕ) (n m : ℕ) → (b == 92) ≡ true → n ≡ m + 1 → QuotedAt true bs m → QuotedAt false (b ∷ bs) n
+begins_mark : (b : ℕ) (bs : List ℕ) (n m : ℕ) → (b == 92) ≡ true → n ≡ m + 1 → QuotedAt true bs m
+    → QuotedAt false (b ∷ bs) n
 begins_mark b bs n m h e q =
-    record { marks = q.marks; rest = q.rest; text = ap (λ c. c ∷ bs) (eqb-true b 92 h) ∙ q.text; len = e ∙ q.len; valid = q.valid }
+    record {
+      marks = q.marks;
+      rest = q.rest;
+      text = ap (λ c. c ∷ bs) (eqb-true b 92 h) ∙ q.text;
+      len = e ∙ q.len;
+      valid = q.valid;
+    }
 
 -- a byte as itself
-is_itself : (b : ℕ) (bs : List ℕ) (n m : ℕ) → is_line_byte b ≡ true → (b == 34) ≡ false → (b == 92) ≡ false → n ≡ m + 1 → QuotedAt false bs m → QuotedAt false (b ∷ bs) n
+is_itself : (b : ℕ) (bs : List ℕ) (n m : ℕ) → is_line_byte b ≡ true → (b == 34) ≡ false → (b == 92) ≡ false → n ≡ m + 1
+    → QuotedAt false bs m → QuotedAt false (b ∷ bs) n
 is_itself b bs n m l h k e q =
     record {
       marks = Itself b ∷ q.marks;
@@ -87,7 +104,8 @@ is_itself b bs n m l h k e q =
     }
 
 -- a byte behind a `\`
-is_escaped : (b : ℕ) (bs : List ℕ) (n m : ℕ) → is_line_byte b ≡ true → n ≡ m + 1 → QuotedAt false bs m → QuotedAt true (b ∷ bs) n
+is_escaped : (b : ℕ) (bs : List ℕ) (n m : ℕ) → is_line_byte b ≡ true → n ≡ m + 1 → QuotedAt false bs m
+    → QuotedAt true (b ∷ bs) n
 is_escaped b bs n m l e q =
     record {
       marks = Escaped b ∷ q.marks;
@@ -98,7 +116,8 @@ is_escaped b bs n m l e q =
     }
 
 -- a byte that is no closing quote, and what the bytes behind it are
-byte_by : (t : Bool) (b : ℕ) (bs : List ℕ) (n m : ℕ) → (b == 92) ≡ t → is_line_byte b ≡ true → (b == 34) ≡ false → n ≡ m + 1 → QuotedAt t bs m → QuotedAt false (b ∷ bs) n
+byte_by : (t : Bool) (b : ℕ) (bs : List ℕ) (n m : ℕ) → (b == 92) ≡ t → is_line_byte b ≡ true → (b == 34) ≡ false
+    → n ≡ m + 1 → QuotedAt t bs m → QuotedAt false (b ∷ bs) n
 byte_by true b bs n m h l k e q = begins_mark b bs n m h e q
 byte_by false b bs n m h l k e q = is_itself b bs n m l k h e q
 

@@ -17,12 +17,14 @@ front_start None = refl
 front_start (Some n) = ap (λ (k : ℕ). Some k) (omega arith)
 
 -- the closing quote
-pub quote_here : (after : Bool) (b : ℕ) (bs : List ℕ) → (not after && b == 34) ≡ true → quoted_len after (b ∷ bs) ≡ Some 0
+pub quote_here : (after : Bool) (b : ℕ) (bs : List ℕ) → (not after && b == 34) ≡ true
+    → quoted_len after (b ∷ bs) ≡ Some 0
 unfolding quoted_len
 quote_here after b bs h = rw h refl
 
 -- a byte that may not stand there
-pub quote_fails : (after : Bool) (b : ℕ) (bs : List ℕ) → (not after && b == 34) ≡ false → is_line_byte b ≡ false → quoted_len after (b ∷ bs) ≡ None
+pub quote_fails : (after : Bool) (b : ℕ) (bs : List ℕ) → (not after && b == 34) ≡ false → is_line_byte b ≡ false
+    → quoted_len after (b ∷ bs) ≡ None
 unfolding quoted_len
 quote_fails after b bs h k = rw (h, k) refl
 
@@ -38,17 +40,20 @@ unfolding quoted_len
 quote_later i after b bs h k = rw (h, k) (front_one i (quoted_len (not after && b == 92) bs))
 
 -- the byte behind a `\`
-pub unquoted_meant : (front : List ℕ) (b : ℕ) (bs : List ℕ) → front ++ unquoted true (b ∷ bs) ≡ (front ++ meant b ∷ []) ++ unquoted false bs
+pub unquoted_meant : (front : List ℕ) (b : ℕ) (bs : List ℕ)
+    → front ++ unquoted true (b ∷ bs) ≡ (front ++ meant b ∷ []) ++ unquoted false bs
 unfolding unquoted
 unquoted_meant front b bs = sym (append_assoc front (meant b ∷ []) (unquoted false bs))
 
 -- a `\`
-pub unquoted_mark : (front : List ℕ) (b : ℕ) (bs : List ℕ) → b ≡ 92 → front ++ unquoted false (b ∷ bs) ≡ front ++ unquoted true bs
+pub unquoted_mark : (front : List ℕ) (b : ℕ) (bs : List ℕ) → b ≡ 92
+    → front ++ unquoted false (b ∷ bs) ≡ front ++ unquoted true bs
 unfolding unquoted
 unquoted_mark front b bs h = rw h refl
 
 -- another byte
-pub unquoted_itself : (front : List ℕ) (b : ℕ) (bs : List ℕ) → (b == 92) ≡ false → front ++ unquoted false (b ∷ bs) ≡ (front ++ b ∷ []) ++ unquoted false bs
+pub unquoted_itself : (front : List ℕ) (b : ℕ) (bs : List ℕ) → (b == 92) ≡ false
+    → front ++ unquoted false (b ∷ bs) ≡ (front ++ b ∷ []) ++ unquoted false bs
 unfolding unquoted
 unquoted_itself front b bs h = rw h (sym (append_assoc front (b ∷ []) (unquoted false bs)))
 

@@ -37,7 +37,8 @@ pub record ResultAt (bytes : List ℕ) (reply : Reply) : Type 0 where
   pub valid : are_reply_words words ≡ true
   pub means : reply ≡ record { word = result; pairs = words_pairs words }
 
-tail_result : (name rest : List ℕ) (r : Word) (reply : Reply) (ps : List Pair) → name ≡ result_text r → TailAt rest ps → reply ≡ record { word = r; pairs = ps } → ResultAt (name ++ rest) reply
+tail_result : (name rest : List ℕ) (r : Word) (reply : Reply) (ps : List Pair) → name ≡ result_text r → TailAt rest ps
+    → reply ≡ record { word = r; pairs = ps } → ResultAt (name ++ rest) reply
 tail_result name rest r reply ps e tail k =
     record {
       result = r;
@@ -48,20 +49,29 @@ tail_result name rest r reply ps e tail k =
       means = k ∙ ap (λ l. record { word = r; pairs = l }) tail.pairs;
     }
 
-after_result_sound : (name rest : List ℕ) (o : Option Word) (reply : Reply) → result_of name ≡ o → after_result o rest ≡ Some reply → ResultAt (name ++ rest) reply
+after_result_sound : (name rest : List ℕ) (o : Option Word) (reply : Reply) → result_of name ≡ o
+    → after_result o rest ≡ Some reply → ResultAt (name ++ rest) reply
 after_result_sound name rest None reply h e = absurd (cc)
 after_result_sound name rest (Some r) reply h e =
     let parts = if_some (ends_word rest) (with_pairs r (pairs_of rest)) reply e in
     let make : List Pair → Reply = λ ps. record { word = r; pairs = ps } in
     let more = map_some make (pairs_of rest) reply parts.1 in
-    tail_result name rest r reply more.0 (result_sound name r h) (tail_sound false (length rest) rest more.0 parts.0 more.1) more.2
+    tail_result name rest r reply more.0 (result_sound name r h)
+    (tail_sound false (length rest) rest more.0 parts.0 more.1) more.2
 
 reply_sound : (bytes : List ℕ) (reply : Reply) → result_in bytes ≡ Some reply → ResultAt bytes reply
 unfolding result_in
 reply_sound bytes reply e =
     let n = prefix_len is_word_byte bytes in
     let at = after_result_sound (take n bytes) (drop n bytes) (result_of (take n bytes)) reply refl e in
-    record { result = at.result; words = at.words; spaces = at.spaces; text = sym (take-append-drop n bytes) ∙ at.text; valid = at.valid; means = at.means }
+    record {
+      result = at.result;
+      words = at.words;
+      spaces = at.spaces;
+      text = sym (take-append-drop n bytes) ∙ at.text;
+      valid = at.valid;
+      means = at.means;
+    }
 
 -- a line without its CR
 pub record CoreAt (with_channel : Bool) (bytes : List ℕ) (answer : Answer) : Type 0 where
@@ -80,7 +90,8 @@ split n bytes = simp append_assoc
 channel_regroup : (n c : ℕ) (bytes : List ℕ) → c ≡ 32 → decimal n ++ c ∷ bytes ≡ (decimal n ++ 32 ∷ []) ++ bytes
 channel_regroup n c bytes e = ap (λ b. decimal n ++ b ∷ bytes) e ∙ split n bytes
 
-numbered_sound : (name rest : List ℕ) (o : Option ℕ) (answer : Answer) → number_of channel_limit name ≡ o → after_channel o rest ≡ Some answer → CoreAt true (name ++ rest) answer
+numbered_sound : (name rest : List ℕ) (o : Option ℕ) (answer : Answer) → number_of channel_limit name ≡ o
+    → after_channel o rest ≡ Some answer → CoreAt true (name ++ rest) answer
 numbered_sound name rest None answer h e = absurd (cc)
 numbered_sound name [] (Some n) answer h e = absurd (cc)
 numbered_sound name (c ∷ cs) (Some n) answer h e =
@@ -99,12 +110,22 @@ numbered_sound name (c ∷ cs) (Some n) answer h e =
       means = more.2;
     }
 
-line_sound : (with_channel : Bool) (bytes : List ℕ) (answer : Answer) → reply_line_in with_channel bytes ≡ Some answer → CoreAt with_channel bytes answer
+line_sound : (with_channel : Bool) (bytes : List ℕ) (answer : Answer) → reply_line_in with_channel bytes ≡ Some answer
+    → CoreAt with_channel bytes answer
 unfolding reply_line_in
 line_sound false bytes answer e =
     let make : Reply → Answer = λ r. (None, r) in
     let more = map_some make (result_in bytes) answer e in
-    record { channel = None; present = refl; number = tt; reply = more.0; rest = bytes; at = reply_sound bytes more.0 more.1; text = refl; means = more.2 }
+    record {
+      channel = None;
+      present = refl;
+      number = tt;
+      reply = more.0;
+      rest = bytes;
+      at = reply_sound bytes more.0 more.1;
+      text = refl;
+      means = more.2;
+    }
 line_sound true bytes answer e =
     let n = prefix_len is_word_byte bytes in
     let core = numbered_sound (take n bytes) (drop n bytes) (number_of channel_limit (take n bytes)) answer refl e in
@@ -138,16 +159,26 @@ cr_at [] = (false, refl)
 cr_at (b ∷ []) = cr_one (b == 13) b refl
 cr_at (b ∷ c ∷ bs) = let at = cr_at (c ∷ bs) in (at.0, ap (λ l. b ∷ l) at.1)
 
-line_regroup : (channel result words spaces cr : List ℕ) → (channel ++ (result ++ (words ++ spaces))) ++ cr ≡ channel ++ result ++ words ++ spaces ++ cr
+line_regroup : (channel result words spaces cr : List ℕ)
+    → (channel ++ (result ++ (words ++ spaces))) ++ cr ≡ channel ++ result ++ words ++ spaces ++ cr
 line_regroup channel result words spaces cr = simp append_assoc
 
-said_by : (with_channel : Bool) (line : List ℕ) (answer : Answer) (cr : Bool) → length line ≤ reply_limit → line ≡ without_last_cr line ++ cr_text cr → CoreAt with_channel (without_last_cr line) answer → Says with_channel line answer
+said_by : (with_channel : Bool) (line : List ℕ) (answer : Answer) (cr : Bool) → length line ≤ reply_limit
+    → line ≡ without_last_cr line ++ cr_text cr → CoreAt with_channel (without_last_cr line) answer
+    → Says with_channel line answer
 said_by with_channel line answer cr short e core =
     let at = core.at in
-    let tree : ReplyLine = record { channel = core.channel; result = at.result; words = at.words; spaces = at.spaces; cr = cr } in
+    let tree : ReplyLine = record {
+      channel = core.channel;
+      result = at.result;
+      words = at.words;
+      spaces = at.spaces;
+      cr = cr;
+    } in
     let text : line ≡ line_text tree =
     e ∙ ap (λ l. l ++ cr_text cr) (core.text ∙ ap (λ l. channel_text core.channel ++ l) at.text)
-    ∙ line_regroup (channel_text core.channel) (result_text at.result) (words_text at.words) (replicate at.spaces 32) (cr_text cr) in
+    ∙ line_regroup (channel_text core.channel) (result_text at.result) (words_text at.words) (replicate at.spaces 32)
+    (cr_text cr) in
     let P : List ℕ → Type 0 = λ l. length l ≤ reply_limit in
     record {
       line = tree;
@@ -157,9 +188,12 @@ said_by with_channel line answer cr short e core =
     }
 
 -- what is read is what the line says
-pub read_said : (with_channel : Bool) (line : List ℕ) (answer : Answer) → reply_of with_channel line ≡ Some answer → Says with_channel line answer
+pub read_said : (with_channel : Bool) (line : List ℕ) (answer : Answer) → reply_of with_channel line ≡ Some answer
+    → Says with_channel line answer
 unfolding reply_of
 read_said with_channel line answer e =
-    let parts = if_some (nat_le (length line) reply_limit) (reply_line_in with_channel (without_last_cr line)) answer e in
+    let parts = if_some (nat_le (length line) reply_limit) (reply_line_in with_channel (without_last_cr line)) answer
+    e in
     let at = cr_at line in
-    said_by with_channel line answer at.0 (leb-true (length line) reply_limit parts.0) at.1 (line_sound with_channel (without_last_cr line) answer parts.1)
+    said_by with_channel line answer at.0 (leb-true (length line) reply_limit parts.0) at.1
+    (line_sound with_channel (without_last_cr line) answer parts.1)

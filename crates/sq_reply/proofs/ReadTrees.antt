@@ -7,7 +7,7 @@ use Rattle.std.specs.List.{list_all, prefix_len}
 use Rattle.std.specs.declared.option.Option.{Option}
 use Rattle.percent_encoding.specs.Percent.{percent_decode}
 use Rattle.sq_base.specs.declared.helpers.Pair.{Pair}
-use Rattle.sq_base.specs.Replies.{Found, is_word_byte, is_value_byte, is_key, ends_word, quoted_len, unquoted, pair_before, quoted_in, plain_in, value_in, after_name, reply_word_in, piece_in, pairs_in, in_front}
+use Rattle.sq_base.specs.Replies.{PairsFound, is_word_byte, is_value_byte, is_key, ends_word, quoted_len, unquoted, pair_before, quoted_in, plain_in, value_in, after_name, reply_word_in, piece_in, pairs_in, in_front}
 use Rattle.sq_base.specs.ReplyGrammar.{ReplyWord, Bare, Plain, Quoted, SpacedWord, mark_byte, is_mark, word_text, word_pairs, is_bare, is_plain_value, is_reply_word, words_text, words_pairs, are_reply_words}
 use Rattle.sq_base.proofs.CommonLaws.{chosen, if_some, map_some, then_some}
 use Rattle.sq_reply.proofs.ByteLaws.{front_passes}
@@ -15,7 +15,7 @@ use Rattle.sq_reply.proofs.MarkLaws.{marks_text, marks_unquoted, QuotedAt, quote
 use Rattle.sq_reply.proofs.WordLaws.{no_word}
 
 -- the value behind a key's `=`, as a word with this key
-pub record ValueAt (key bytes : List ℕ) (w : Found) : Type 0 where
+pub record ValueAt (key bytes : List ℕ) (w : PairsFound) : Type 0 where
   pub word : ReplyWord
   pub valid : is_reply_word word ≡ true
   pub text : key ++ 61 ∷ bytes ≡ word_text word ++ w.1
@@ -23,23 +23,24 @@ pub record ValueAt (key bytes : List ℕ) (w : Found) : Type 0 where
   pub ends : ends_word w.1 ≡ true
 
 -- a pair that ends there
-pub record PairAt (key value bytes : List ℕ) (w : Found) : Type 0 where
+pub record PairAt (key value bytes : List ℕ) (w : PairsFound) : Type 0 where
   pub pairs : w.0 ≡ record { key = key; value = value } ∷ []
   pub rest : w.1 ≡ bytes
   pub ends : ends_word w.1 ≡ true
 
-pair_sound : (key value rest : List ℕ) (w : Found) → pair_before key value rest ≡ Some w → PairAt key value rest w
+pair_sound : (key value rest : List ℕ) (w : PairsFound) → pair_before key value rest ≡ Some w → PairAt key value rest w
 pair_sound key value rest w e =
     let pair : Pair = record { key = key; value = value } in
     let parts = if_some (ends_word rest) (Some (pair ∷ [], rest)) w e in
     let same : (pair ∷ [], rest) ≡ w = cc in
-    let left : w.1 ≡ rest = ap (λ (v : Found). v.1) (sym same) in
-    record { pairs = ap (λ (v : Found). v.0) (sym same); rest = left; ends = ap ends_word left ∙ parts.0 }
+    let left : w.1 ≡ rest = ap (λ (v : PairsFound). v.1) (sym same) in
+    record { pairs = ap (λ (v : PairsFound). v.0) (sym same); rest = left; ends = ap ends_word left ∙ parts.0 }
 
 plain_text : (key value rest : List ℕ) → key ++ 61 ∷ (value ++ rest) ≡ (key ++ 61 ∷ [] ++ value) ++ rest
 plain_text key value rest = simp append_assoc
 
-quoted_text : (key m rest : List ℕ) → key ++ 61 ∷ 34 ∷ (m ++ 34 ∷ rest) ≡ (key ++ 61 ∷ [] ++ 34 ∷ [] ++ m ++ 34 ∷ []) ++ rest
+quoted_text : (key m rest : List ℕ)
+    → key ++ 61 ∷ 34 ∷ (m ++ 34 ∷ rest) ≡ (key ++ 61 ∷ [] ++ 34 ∷ [] ++ m ++ 34 ∷ []) ++ rest
 quoted_text key m rest = simp append_assoc
 
 -- no quote stands first
@@ -47,12 +48,14 @@ abbrev not_quote : List ℕ → Bool
 not_quote [] = true
 not_quote (b ∷ bs) = not (b == 34)
 
-plain_front : (bytes : List ℕ) (n : ℕ) → list_all is_value_byte (take n bytes) ≡ true → not_quote bytes ≡ true → is_plain_value (take n bytes) ≡ true
+plain_front : (bytes : List ℕ) (n : ℕ) → list_all is_value_byte (take n bytes) ≡ true → not_quote bytes ≡ true
+    → is_plain_value (take n bytes) ≡ true
 plain_front bytes zero h k = refl
 plain_front [] (suc n) h k = refl
 plain_front (b ∷ bs) (suc n) h k = and_from (not (b == 34)) (list_all is_value_byte (b ∷ take n bs)) k h
 
-plain_sound : (key bytes : List ℕ) (w : Found) → is_key key ≡ true → not_quote bytes ≡ true → plain_in key bytes ≡ Some w → ValueAt key bytes w
+plain_sound : (key bytes : List ℕ) (w : PairsFound) → is_key key ≡ true → not_quote bytes ≡ true
+    → plain_in key bytes ≡ Some w → ValueAt key bytes w
 plain_sound key bytes w h k e =
     let n = prefix_len is_value_byte bytes in
     let value = take n bytes in
@@ -61,35 +64,50 @@ plain_sound key bytes w h k e =
     record {
       word = Plain key value;
       valid = and_from (is_key key) (is_plain_value value) h (plain_front bytes n (front_passes is_value_byte bytes) k);
-      text = ap (λ l. key ++ 61 ∷ l) (sym (take-append-drop n bytes)) ∙ plain_text key value rest ∙ ap (λ r. (key ++ 61 ∷ [] ++ value) ++ r) (sym p.rest);
+      text = ap (λ l. key ++ 61 ∷ l) (sym (take-append-drop n bytes)) ∙ plain_text key value rest
+          ∙ ap (λ r. (key ++ 61 ∷ [] ++ value) ++ r) (sym p.rest);
       pairs = p.pairs;
       ends = p.ends;
     }
 
-quoted_found : (key bytes : List ℕ) (n : ℕ) (w : Found) → is_key key ≡ true → QuotedAt false bytes n → quoted_in key bytes (Some n) ≡ Some w → ValueAt key (34 ∷ bytes) w
+quoted_found : (key bytes : List ℕ) (n : ℕ) (w : PairsFound) → is_key key ≡ true → QuotedAt false bytes n
+    → quoted_in key bytes (Some n) ≡ Some w → ValueAt key (34 ∷ bytes) w
 quoted_found key bytes n w h q e =
     let m = marks_text q.marks in
     let p = pair_sound key (unquoted false (take n bytes)) (drop (n + 1) bytes) w e in
-    let front : take n bytes ≡ m = ap (take n) q.text ∙ ap (λ k. take k (m ++ 34 ∷ q.rest)) q.len ∙ take-append_seam m (34 ∷ q.rest) in
-    let back : drop (n + 1) bytes ≡ q.rest = ap (drop (n + 1)) q.text ∙ ap (λ k. drop (k + 1) (m ++ 34 ∷ q.rest)) q.len ∙ drop-append-add m (34 ∷ q.rest) 1 in
-    let value : unquoted false (take n bytes) ≡ map mark_byte q.marks = ap (unquoted false) front ∙ marks_unquoted q.marks q.valid in
+    let front : take n bytes ≡ m = ap (take n) q.text ∙ ap (λ k. take k (m ++ 34 ∷ q.rest)) q.len
+    ∙ take-append_seam m (34 ∷ q.rest) in
+    let back : drop (n + 1) bytes ≡ q.rest = ap (drop (n + 1)) q.text ∙ ap (λ k. drop (k + 1) (m ++ 34 ∷ q.rest)) q.len
+    ∙ drop-append-add m (34 ∷ q.rest) 1 in
+    let value : unquoted false (take n bytes) ≡ map mark_byte q.marks = ap (unquoted false) front
+    ∙ marks_unquoted q.marks q.valid in
     record {
       word = Quoted key q.marks;
       valid = and_from (is_key key) (list_all is_mark q.marks) h q.valid;
-      text = ap (λ l. key ++ 61 ∷ 34 ∷ l) q.text ∙ quoted_text key m q.rest ∙ ap (λ r. (key ++ 61 ∷ [] ++ 34 ∷ [] ++ m ++ 34 ∷ []) ++ r) (sym (p.rest ∙ back));
+      text = ap (λ l. key ++ 61 ∷ 34 ∷ l) q.text ∙ quoted_text key m q.rest
+          ∙ ap (λ r. (key ++ 61 ∷ [] ++ 34 ∷ [] ++ m ++ 34 ∷ []) ++ r) (sym (p.rest ∙ back));
       pairs = p.pairs ∙ ap (λ v. record { key = key; value = v } ∷ []) value;
       ends = p.ends;
     }
 
-quoted_found_by : (key bytes : List ℕ) (place : Option ℕ) (w : Found) → is_key key ≡ true → quoted_len false bytes ≡ place → quoted_in key bytes place ≡ Some w → ValueAt key (34 ∷ bytes) w
+quoted_found_by : (key bytes : List ℕ) (place : Option ℕ) (w : PairsFound) → is_key key ≡ true
+    → quoted_len false bytes ≡ place → quoted_in key bytes place ≡ Some w → ValueAt key (34 ∷ bytes) w
 quoted_found_by key bytes None w h q e = absurd (cc)
 quoted_found_by key bytes (Some n) w h q e = quoted_found key bytes n w h (quoted_sound false bytes n q) e
 
-value_at_quote : (key : List ℕ) (b : ℕ) (bs : List ℕ) (w : Found) → b ≡ 34 → ValueAt key (34 ∷ bs) w → ValueAt key (b ∷ bs) w
+value_at_quote : (key : List ℕ) (b : ℕ) (bs : List ℕ) (w : PairsFound) → b ≡ 34 → ValueAt key (34 ∷ bs) w
+    → ValueAt key (b ∷ bs) w
 value_at_quote key b bs w e v =
-    record { word = v.word; valid = v.valid; text = ap (λ c. key ++ 61 ∷ c ∷ bs) e ∙ v.text; pairs = v.pairs; ends = v.ends }
+    record {
+      word = v.word;
+      valid = v.valid;
+      text = ap (λ c. key ++ 61 ∷ c ∷ bs) e ∙ v.text;
+      pairs = v.pairs;
+      ends = v.ends;
+    }
 
-value_sound : (key bytes : List ℕ) (w : Found) → is_key key ≡ true → value_in key bytes ≡ Some w → ValueAt key bytes w
+value_sound : (key bytes : List ℕ) (w : PairsFound) → is_key key ≡ true → value_in key bytes ≡ Some w
+    → ValueAt key bytes w
 unfolding value_in
 value_sound key [] w h e = plain_sound key [] w h refl e
 value_sound key (b ∷ bs) w h e =
@@ -99,24 +117,39 @@ value_sound key (b ∷ bs) w h e =
     (chosen (b == 34) _ _ (Some w) e)
 
 -- a word at the front
-pub record WordAt (bytes : List ℕ) (w : Found) : Type 0 where
+pub record WordAt (bytes : List ℕ) (w : PairsFound) : Type 0 where
   pub word : ReplyWord
   pub valid : is_reply_word word ≡ true
   pub text : bytes ≡ word_text word ++ w.1
   pub pairs : w.0 ≡ word_pairs word
   pub ends : ends_word w.1 ≡ true
 
-bare_at : (name rest : List ℕ) (w : Found) → is_bare name ≡ true → ends_word rest ≡ true → Some ([], rest) ≡ Some w → WordAt (name ++ rest) w
+bare_at : (name rest : List ℕ) (w : PairsFound) → is_bare name ≡ true → ends_word rest ≡ true → Some ([], rest) ≡ Some w
+    → WordAt (name ++ rest) w
 bare_at name rest w h k e =
     let same : ([], rest) ≡ w = cc in
-    let left : rest ≡ w.1 = ap (λ (v : Found). v.1) same in
-    record { word = Bare name; valid = h; text = ap (λ r. name ++ r) left; pairs = ap (λ (v : Found). v.0) (sym same); ends = sym (ap ends_word left) ∙ k }
+    let left : rest ≡ w.1 = ap (λ (v : PairsFound). v.1) same in
+    record {
+      word = Bare name;
+      valid = h;
+      text = ap (λ r. name ++ r) left;
+      pairs = ap (λ (v : PairsFound). v.0) (sym same);
+      ends = sym (ap ends_word left) ∙ k;
+    }
 
-valued_at : (name bytes : List ℕ) (c : ℕ) (w : Found) → c ≡ 61 → ValueAt name bytes w → WordAt (name ++ c ∷ bytes) w
+valued_at : (name bytes : List ℕ) (c : ℕ) (w : PairsFound) → c ≡ 61 → ValueAt name bytes w
+    → WordAt (name ++ c ∷ bytes) w
 valued_at name bytes c w e v =
-    record { word = v.word; valid = v.valid; text = ap (λ b. name ++ b ∷ bytes) e ∙ v.text; pairs = v.pairs; ends = v.ends }
+    record {
+      word = v.word;
+      valid = v.valid;
+      text = ap (λ b. name ++ b ∷ bytes) e ∙ v.text;
+      pairs = v.pairs;
+      ends = v.ends;
+    }
 
-after_sound : (name rest : List ℕ) (w : Found) → is_bare name ≡ true → after_name name rest ≡ Some w → WordAt (name ++ rest) w
+after_sound : (name rest : List ℕ) (w : PairsFound) → is_bare name ≡ true → after_name name rest ≡ Some w
+    → WordAt (name ++ rest) w
 after_sound name [] w h e = bare_at name [] w h refl e
 after_sound name (c ∷ cs) w h e =
     ⊎_elim
@@ -127,17 +160,26 @@ after_sound name (c ∷ cs) w h e =
     valued_at name cs c w (eqb-true c 61 both.0) (value_sound name cs w both.1 parts.1))
     (chosen (c == 32) _ _ (Some w) e)
 
-bare_take : (n b : ℕ) (bs : List ℕ) → 0 < n → list_all is_word_byte (take n (b ∷ bs)) ≡ true → is_bare (take n (b ∷ bs)) ≡ true
+bare_take : (n b : ℕ) (bs : List ℕ) → 0 < n → list_all is_word_byte (take n (b ∷ bs)) ≡ true
+    → is_bare (take n (b ∷ bs)) ≡ true
 bare_take zero b bs h k = absurd (omega arith)
 bare_take (suc n) b bs h k = k
 
-word_by : (t : Bool) (b : ℕ) (bs : List ℕ) (w : Found) → is_word_byte b ≡ t → (b == 32) ≡ false → reply_word_in (b ∷ bs) ≡ Some w → WordAt (b ∷ bs) w
+word_by : (t : Bool) (b : ℕ) (bs : List ℕ) (w : PairsFound) → is_word_byte b ≡ t → (b == 32) ≡ false
+    → reply_word_in (b ∷ bs) ≡ Some w → WordAt (b ∷ bs) w
 unfolding reply_word_in
 word_by true b bs w h sp e =
     let n = prefix_len is_word_byte (b ∷ bs) in
     let some : prefix_len is_word_byte (b ∷ bs) ≡ 1 + prefix_len is_word_byte bs = rw h refl in
-    let at = after_sound (take n (b ∷ bs)) (drop n (b ∷ bs)) w (bare_take n b bs (omega (arith, some)) (front_passes is_word_byte (b ∷ bs))) e in
-    record { word = at.word; valid = at.valid; text = sym (take-append-drop n (b ∷ bs)) ∙ at.text; pairs = at.pairs; ends = at.ends }
+    let at = after_sound (take n (b ∷ bs)) (drop n (b ∷ bs)) w
+    (bare_take n b bs (omega (arith, some)) (front_passes is_word_byte (b ∷ bs))) e in
+    record {
+      word = at.word;
+      valid = at.valid;
+      text = sym (take-append-drop n (b ∷ bs)) ∙ at.text;
+      pairs = at.pairs;
+      ends = at.ends;
+    }
 word_by false b bs w h sp e =
     let shape : reply_word_in (b ∷ bs) ≡ after_name [] (b ∷ bs) = rw h refl in
     absurd (no_word b bs w sp (sym shape ∙ e))
@@ -151,26 +193,45 @@ pub record TailAt (bytes : List ℕ) (ps : List Pair) : Type 0 where
   pub pairs : ps ≡ words_pairs words
 
 -- one more space in front
-add_space : (bytes : List ℕ) (ps : List Pair) (words : List SpacedWord) (n : ℕ) → bytes ≡ words_text words ++ replicate n 32 → are_reply_words words ≡ true → ps ≡ words_pairs words → TailAt (32 ∷ bytes) ps
-add_space bytes ps [] n e h k = record { words = []; spaces = suc n; text = ap (λ l. 32 ∷ l) e; valid = refl; pairs = k }
+add_space : (bytes : List ℕ) (ps : List Pair) (words : List SpacedWord) (n : ℕ)
+    → bytes ≡ words_text words ++ replicate n 32 → are_reply_words words ≡ true → ps ≡ words_pairs words
+    → TailAt (32 ∷ bytes) ps
+add_space bytes ps [] n e h k = record {
+  words = [];
+  spaces = suc n;
+  text = ap (λ l. 32 ∷ l) e;
+  valid = refl;
+  pairs = k;
+}
 add_space bytes ps (s ∷ words) n e h k =
-    record { words = record { more = suc s.more; word = s.word } ∷ words; spaces = n; text = ap (λ l. 32 ∷ l) e; valid = h; pairs = k }
+    record {
+      words = record { more = suc s.more; word = s.word } ∷ words;
+      spaces = n;
+      text = ap (λ l. 32 ∷ l) e;
+      valid = h;
+      pairs = k;
+    }
 
-word_regroup : (word : List ℕ) (words : List SpacedWord) (n : ℕ) → 32 ∷ (word ++ (words_text words ++ replicate n 32)) ≡ ((32 ∷ [] ++ replicate 0 32 ++ word) ++ words_text words) ++ replicate n 32
+word_regroup : (word : List ℕ) (words : List SpacedWord) (n : ℕ)
+    → 32 ∷ (word ++ (words_text words ++ replicate n 32)) ≡ ((32 ∷ [] ++ replicate 0 32 ++ word) ++ words_text words)
+    ++ replicate n 32
 word_regroup word words n = simp append_assoc
 
 -- one more word in front
-add_word : (bytes : List ℕ) (ps others : List Pair) (w : Found) → WordAt bytes w → TailAt w.1 others → ps ≡ w.0 ++ others → TailAt (32 ∷ bytes) ps
+add_word : (bytes : List ℕ) (ps others : List Pair) (w : PairsFound) → WordAt bytes w → TailAt w.1 others
+    → ps ≡ w.0 ++ others → TailAt (32 ∷ bytes) ps
 add_word bytes ps others w at tail e =
     record {
       words = record { more = 0; word = at.word } ∷ tail.words;
       spaces = tail.spaces;
-      text = ap (λ l. 32 ∷ l) at.text ∙ ap (λ l. 32 ∷ (word_text at.word ++ l)) tail.text ∙ word_regroup (word_text at.word) tail.words tail.spaces;
+      text = ap (λ l. 32 ∷ l) at.text ∙ ap (λ l. 32 ∷ (word_text at.word ++ l)) tail.text
+          ∙ word_regroup (word_text at.word) tail.words tail.spaces;
       valid = and_from (is_reply_word at.word) (are_reply_words tail.words) at.valid tail.valid;
       pairs = e ∙ ap (λ l. l ++ others) at.pairs ∙ ap (λ l. word_pairs at.word ++ l) tail.pairs;
     }
 
-space_piece : (b : ℕ) (bs : List ℕ) (o : Option Found) → (b == 32) ≡ true → piece_in (b ∷ bs) ≡ o → Some ([], bs) ≡ o
+space_piece : (b : ℕ) (bs : List ℕ) (o : Option PairsFound) → (b == 32) ≡ true → piece_in (b ∷ bs) ≡ o
+    → Some ([], bs) ≡ o
 space_piece b bs o h e = rw h at e
 
 -- the bytes, behind a space where one was read before
@@ -179,11 +240,12 @@ behind true bs = 32 ∷ bs
 behind false bs = bs
 
 -- a space stands first, and words and spaces behind it
-space_first : (b : ℕ) (bs : List ℕ) (ps others : List Pair) (w : Found) → (b == 32) ≡ true → Some ([], bs) ≡ Some w → ps ≡ w.0 ++ others → TailAt (32 ∷ w.1) others → TailAt (b ∷ bs) ps
+space_first : (b : ℕ) (bs : List ℕ) (ps others : List Pair) (w : PairsFound) → (b == 32) ≡ true → Some ([], bs) ≡ Some w
+    → ps ≡ w.0 ++ others → TailAt (32 ∷ w.1) others → TailAt (b ∷ bs) ps
 space_first b bs ps others w h e k tail =
     let same : ([], bs) ≡ w = cc in
-    let left : bs ≡ w.1 = ap (λ (v : Found). v.1) same in
-    let none : w.0 ≡ [] = ap (λ (v : Found). v.0) (sym same) in
+    let left : bs ≡ w.1 = ap (λ (v : PairsFound). v.1) same in
+    let none : w.0 ≡ [] = ap (λ (v : PairsFound). v.0) (sym same) in
     record {
       words = tail.words;
       spaces = tail.spaces;
@@ -195,12 +257,37 @@ space_first b bs ps others w h e k tail =
 wider : (bytes : List ℕ) (ps : List Pair) → TailAt bytes ps → TailAt (32 ∷ bytes) ps
 wider bytes ps tail = add_space bytes ps tail.words tail.spaces tail.text tail.valid tail.pairs
 
-pub tail_sound : (spaced : Bool) (n : ℕ) (bs : List ℕ) (ps : List Pair) → (spaced || ends_word bs) ≡ true → pairs_in n bs ≡ Some ps → TailAt (behind spaced bs) ps
+pub tail_sound : (spaced : Bool) (n : ℕ) (bs : List ℕ) (ps : List Pair) → (spaced || ends_word bs) ≡ true
+    → pairs_in n bs ≡ Some ps → TailAt (behind spaced bs) ps
 unfolding pairs_in
-tail_sound true zero [] ps h e = record { words = []; spaces = 1; text = refl; valid = refl; pairs = let same : [] ≡ ps = cc in sym same }
-tail_sound true (suc n) [] ps h e = record { words = []; spaces = 1; text = refl; valid = refl; pairs = let same : [] ≡ ps = cc in sym same }
-tail_sound false zero [] ps h e = record { words = []; spaces = 0; text = refl; valid = refl; pairs = let same : [] ≡ ps = cc in sym same }
-tail_sound false (suc n) [] ps h e = record { words = []; spaces = 0; text = refl; valid = refl; pairs = let same : [] ≡ ps = cc in sym same }
+tail_sound true zero [] ps h e = record {
+  words = [];
+  spaces = 1;
+  text = refl;
+  valid = refl;
+  pairs = let same : [] ≡ ps = cc in sym same;
+}
+tail_sound true (suc n) [] ps h e = record {
+  words = [];
+  spaces = 1;
+  text = refl;
+  valid = refl;
+  pairs = let same : [] ≡ ps = cc in sym same;
+}
+tail_sound false zero [] ps h e = record {
+  words = [];
+  spaces = 0;
+  text = refl;
+  valid = refl;
+  pairs = let same : [] ≡ ps = cc in sym same;
+}
+tail_sound false (suc n) [] ps h e = record {
+  words = [];
+  spaces = 0;
+  text = refl;
+  valid = refl;
+  pairs = let same : [] ≡ ps = cc in sym same;
+}
 tail_sound true zero (b ∷ bs) ps h e = absurd (cc)
 tail_sound false zero (b ∷ bs) ps h e = absurd (cc)
 tail_sound false (suc n) (b ∷ bs) ps h e =

@@ -24,7 +24,8 @@ both_lines xs ys h k = list_all-append is_line_byte xs ys ∙ and_from (are_line
 words_are_lines : (xs : List ℕ) → list_all is_word_byte xs ≡ true → are_line_bytes xs ≡ true
 words_are_lines xs h = all_are is_word_byte is_line_byte word_is_line xs h
 
-channel_line : (channel : Option ℕ) → IfSome channel (λ n. n < channel_limit) → are_line_bytes (channel_text channel) ≡ true
+channel_line : (channel : Option ℕ) → IfSome channel (λ n. n < channel_limit)
+    → are_line_bytes (channel_text channel) ≡ true
 channel_line None h = refl
 channel_line (Some n) h =
     let small : n < 2 ^ 64 = omega arith in
@@ -54,7 +55,8 @@ word_line : (word : ReplyWord) → is_reply_word word ≡ true → are_line_byte
 word_line (Bare name) h = words_are_lines name (bare_bytes name h)
 word_line (Plain key value) h =
     let both = and_parts (is_key key) (is_plain_value value) h in
-    both_lines (key ++ 61 ∷ []) value (key_line key both.0) (all_are is_value_byte is_line_byte value_is_line value (plain_bytes value both.1))
+    both_lines (key ++ 61 ∷ []) value (key_line key both.0)
+    (all_are is_value_byte is_line_byte value_is_line value (plain_bytes value both.1))
 word_line (Quoted key marks) h =
     let both = and_parts (is_key key) (list_all is_mark marks) h in
     let front = both_lines (key ++ 61 ∷ []) (34 ∷ []) (key_line key both.0) refl in
@@ -77,7 +79,8 @@ without_cr_same : (bytes : List ℕ) → are_line_bytes bytes ≡ true → witho
 unfolding without_last_cr
 without_cr_same [] h = refl
 without_cr_same (b ∷ []) h = let both = and_parts (is_line_byte b) true h in rw (line_no_cr b both.0) refl
-without_cr_same (b ∷ c ∷ bs) h = ap (λ l. b ∷ l) (without_cr_same (c ∷ bs) (and_parts (is_line_byte b) (are_line_bytes (c ∷ bs)) h).1)
+without_cr_same (b ∷ c ∷ bs) h = ap (λ l. b ∷ l)
+    (without_cr_same (c ∷ bs) (and_parts (is_line_byte b) (are_line_bytes (c ∷ bs)) h).1)
 
 cr_goes : (bytes : List ℕ) (cr : Bool) → are_line_bytes bytes ≡ true → without_last_cr (bytes ++ cr_text cr) ≡ bytes
 cr_goes bytes true h = without_cr_last bytes 13
@@ -87,7 +90,8 @@ cr_goes bytes false h = ap without_last_cr (append-nil bytes) ∙ without_cr_sam
 abbrev pub core_text : ReplyLine → List ℕ
 core_text l = channel_text l.channel ++ result_text l.result ++ words_text l.words ++ replicate l.spaces 32
 
-core_line : (l : ReplyLine) → IfSome l.channel (λ n. n < channel_limit) → are_reply_words l.words ≡ true → are_line_bytes (core_text l) ≡ true
+core_line : (l : ReplyLine) → IfSome l.channel (λ n. n < channel_limit) → are_reply_words l.words ≡ true
+    → are_line_bytes (core_text l) ≡ true
 core_line l h k =
     both_lines (channel_text l.channel ++ result_text l.result ++ words_text l.words) (replicate l.spaces 32)
     (both_lines (channel_text l.channel ++ result_text l.result) (words_text l.words)
@@ -95,23 +99,29 @@ core_line l h k =
     (words_line l.words k))
     (spaces_line l.spaces)
 
-core_regroup : (channel result words spaces : List ℕ) → channel ++ result ++ words ++ spaces ≡ channel ++ (result ++ (words ++ spaces))
+core_regroup : (channel result words spaces : List ℕ)
+    → channel ++ result ++ words ++ spaces ≡ channel ++ (result ++ (words ++ spaces))
 core_regroup channel result words spaces = simp append_assoc
 
-core_reads : (l : ReplyLine) → IfSome l.channel (λ n. n < channel_limit) → are_reply_words l.words ≡ true → reply_line_in (is_some l.channel) (core_text l) ≡ Some (line_answer l)
+core_reads : (l : ReplyLine) → IfSome l.channel (λ n. n < channel_limit) → are_reply_words l.words ≡ true
+    → reply_line_in (is_some l.channel) (core_text l) ≡ Some (line_answer l)
 core_reads l h k =
     let tail = tail_text l.words l.spaces in
     let reply : Reply = record { word = l.result; pairs = words_pairs l.words } in
-    ap (reply_line_in (is_some l.channel)) (core_regroup (channel_text l.channel) (result_text l.result) (words_text l.words) (replicate l.spaces 32))
+    ap (reply_line_in (is_some l.channel))
+    (core_regroup (channel_text l.channel) (result_text l.result) (words_text l.words) (replicate l.spaces 32))
     ∙ channel_reads l.channel (result_text l.result ++ tail) reply h
     (result_reads l.result tail (words_pairs l.words) (tail_ends l.words l.spaces) (tail_reads l.words l.spaces k))
 
-short_reads : (with_channel : Bool) (line : List ℕ) → length line ≤ reply_limit → reply_of with_channel line ≡ reply_line_in with_channel (without_last_cr line)
+short_reads : (with_channel : Bool) (line : List ℕ) → length line ≤ reply_limit
+    → reply_of with_channel line ≡ reply_line_in with_channel (without_last_cr line)
 unfolding reply_of
-short_reads with_channel line h = let short : nat_le (length line) reply_limit ≡ true = le-leb (length line) reply_limit h in rw short refl
+short_reads with_channel line h = let short : nat_le (length line) reply_limit ≡ true =
+    le-leb (length line) reply_limit h in rw short refl
 
 -- a line of the grammar is read
-pub line_reads : (with_channel : Bool) (l : ReplyLine) → IsReplyLine with_channel l → reply_of with_channel (line_text l) ≡ Some (line_answer l)
+pub line_reads : (with_channel : Bool) (l : ReplyLine) → IsReplyLine with_channel l
+    → reply_of with_channel (line_text l) ≡ Some (line_answer l)
 line_reads with_channel l v =
     short_reads with_channel (line_text l) v.size
     ∙ ap (reply_line_in with_channel) (cr_goes (core_text l) l.cr (core_line l v.number v.words))
@@ -119,6 +129,8 @@ line_reads with_channel l v =
     ∙ core_reads l v.number v.words
 
 -- what a line says is read
-pub said_reads : (with_channel : Bool) (bytes : List ℕ) (answer : Answer) → Says with_channel bytes answer → reply_of with_channel bytes ≡ Some answer
+pub said_reads : (with_channel : Bool) (bytes : List ℕ) (answer : Answer) → Says with_channel bytes answer
+    → reply_of with_channel bytes ≡ Some answer
 said_reads with_channel bytes answer s =
-    ap (reply_of with_channel) s.text ∙ line_reads with_channel s.line s.valid ∙ ap (λ (a : Answer). Some a) (sym s.means)
+    ap (reply_of with_channel) s.text ∙ line_reads with_channel s.line s.valid
+    ∙ ap (λ (a : Answer). Some a) (sym s.means)

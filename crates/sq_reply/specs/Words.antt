@@ -3,9 +3,9 @@ use Rattle.std.specs.Prelude.{ℕ, List, [], ◌∷◌, Bool, true, false, if◌
 use Rattle.std.specs.declared.option.Option.{Option}
 use Rattle.percent_encoding.specs.Percent.{percent_decode}
 use Rattle.sq_base.specs.declared.helpers.Pair.{Pair}
-use Rattle.sq_base.specs.Replies.{Found, unquoted}
+use Rattle.sq_base.specs.Replies.{PairsFound, unquoted}
 use Rattle.sq_reply.specs.declared.words.Written.{Written}
-use Rattle.sq_reply.specs.declared.words.Piece.{Piece}
+use Rattle.sq_reply.specs.declared.words.PairAndRest.{PairAndRest}
 
 -- the value of a pair as it is written
 abbrev pub value_of : Written → List ℕ
@@ -20,7 +20,7 @@ pairs_of_one None = []
 pairs_of_one (Some w) = written_pair w ∷ []
 
 -- a piece's pairs, and what stands behind it
-abbrev pub found : Piece → Found
+abbrev pub found : PairAndRest → PairsFound
 found p = (pairs_of_one p.pair, p.rest.now)
 
 -- there is a pair among these

@@ -114,7 +114,8 @@ fn written(alloc: Global, channel: Option<u32>, reply: &Reply) -> Result<Text, W
 pub fn print_reply(alloc: Global, channel: Option<u32>, reply: &Reply) -> Result<Text, WantOfMemory>
     requires { have_keys reply.now.pairs ≡ true }
     ensures text { IfOk result (λ t. t ≡ reply_text channel reply.now) }
-    ensures again { IfOk result (λ t. length t ≤ reply_limit → reply_of (is_some channel) t ≡ Some (channel, reply.now)) }
+    ensures again { IfOk result
+        (λ t. length t ≤ reply_limit → reply_of (is_some channel) t ≡ Some (channel, reply.now)) }
 {
     written(alloc, channel, reply)
 }

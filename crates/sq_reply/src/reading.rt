@@ -18,7 +18,7 @@ const LIMIT: usize = 65536;
 const CHANNELS: u64 = 1 << 32;
 
 /// What a reply line says: its channel, if it has one, and the reply.
-type Said = (Option<u32>, Reply);
+type ChannelReply = (Option<u32>, Reply);
 
 fn result_of(name: &[u8]) -> Option<Word>
     ensures { result ≡ result_of name.now }
@@ -51,7 +51,7 @@ fn reply(alloc: Global, bytes: &[u8]) -> Result<Reply, ReplyFault>
 }
 
 #[tactic(auto, unfolding(sq_base::specs::Replies::reply_line_in))]
-fn numbered(alloc: Global, line: &[u8]) -> Result<Said, ReplyFault>
+fn numbered(alloc: Global, line: &[u8]) -> Result<ChannelReply, ReplyFault>
     ensures { ReadsAs result (reply_line_in true line.now) }
 {
     let (name, rest) = line.split_at(word_len(line));
@@ -68,7 +68,7 @@ fn numbered(alloc: Global, line: &[u8]) -> Result<Said, ReplyFault>
 }
 
 #[tactic(auto, unfolding(sq_base::specs::Replies::reply_line_in))]
-fn said(alloc: Global, line: &[u8], with_channel: bool) -> Result<Said, ReplyFault>
+fn said(alloc: Global, line: &[u8], with_channel: bool) -> Result<ChannelReply, ReplyFault>
     ensures { ReadsAs result (reply_line_in with_channel line.now) }
 {
     if with_channel {
@@ -88,7 +88,7 @@ fn without_cr(line: &[u8]) -> &[u8]
 }
 
 #[tactic(auto, unfolding(sq_base::specs::Replies::reply_of))]
-fn read_line(alloc: Global, line: &[u8], with_channel: bool) -> Result<Said, ReplyFault>
+fn read_line(alloc: Global, line: &[u8], with_channel: bool) -> Result<ChannelReply, ReplyFault>
     ensures { ReadsAs result (reply_of with_channel line.now) }
 {
     if line.len() > LIMIT {
@@ -107,7 +107,8 @@ pub fn read_reply(
     // What is read is what the line says by the grammar.
     ensures found { IfOk result (λ x. Says with_channel line.now x) }
     // A line says one thing at most.
-    ensures one { (x y : Answer) → Says with_channel line.now x → Says with_channel line.now y → x ≡ y }
+    ensures one { (x y : Answer) → Says with_channel line.now x → Says with_channel line.now y
+        → x ≡ y }
     // What the line says by the grammar is read, unless memory runs out.
     ensures only { (x : Answer) → Says with_channel line.now x → ReadsAs result (Some x) }
     // So the reply can be printed.

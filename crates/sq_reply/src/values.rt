@@ -14,7 +14,9 @@ use std::alloc::Global;
 /// whether one stands right before the next byte.
 #[tactic(auto, unfolding(sq_base::specs::Replies::unquoted))]
 fn take_byte(text: &mut Text, after: bool, byte: u8) -> Result<bool, WantOfMemory>
-    ensures { IfOk result (λ next. (rest : List ℕ) → text.new ++ unquoted next rest ≡ text.old ++ unquoted after (byte ∷ rest)) }
+    ensures { IfOk result
+        (λ next. (rest : List ℕ)
+        → text.new ++ unquoted next rest ≡ text.old ++ unquoted after (byte ∷ rest)) }
 {
     if after {
         text.push(meant(byte))?;

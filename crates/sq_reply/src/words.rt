@@ -17,7 +17,7 @@ pub struct Written<'a> {
 
 /// A word or a space of a line: the pair that it is, if it is one, and what stands behind it.
 #[derive(Clone, Copy)]
-pub struct Piece<'a> {
+pub struct PairAndRest<'a> {
     pub pair: Option<Written<'a>>,
     pub rest: &'a [u8],
 }
@@ -64,11 +64,12 @@ fn quoted_len(bytes: &[u8]) -> Option<usize>
     None
 }
 
-fn pair_before<'a>(pair: Written<'a>, rest: &'a [u8]) -> Option<Piece<'a>>
-    ensures { option_map found result ≡ pair_before pair.entry.key.now (value_of pair.entry) rest.now }
+fn pair_before<'a>(pair: Written<'a>, rest: &'a [u8]) -> Option<PairAndRest<'a>>
+    ensures { option_map found result
+        ≡ pair_before pair.entry.key.now (value_of pair.entry) rest.now }
 {
     if ends_word(rest) {
-        Some(Piece {
+        Some(PairAndRest {
             pair: Some(pair),
             rest,
         })
@@ -77,7 +78,7 @@ fn pair_before<'a>(pair: Written<'a>, rest: &'a [u8]) -> Option<Piece<'a>>
     }
 }
 
-fn quoted<'a>(key: &'a [u8], bytes: &'a [u8]) -> Option<Piece<'a>>
+fn quoted<'a>(key: &'a [u8], bytes: &'a [u8]) -> Option<PairAndRest<'a>>
     ensures { option_map found result ≡ quoted_in key.now bytes.now (quoted_len false bytes.now) }
 {
     let n = quoted_len(bytes)?;
@@ -89,7 +90,7 @@ fn quoted<'a>(key: &'a [u8], bytes: &'a [u8]) -> Option<Piece<'a>>
     pair_before(pair, &bytes[n + 1..])
 }
 
-fn plain<'a>(key: &'a [u8], bytes: &'a [u8]) -> Option<Piece<'a>>
+fn plain<'a>(key: &'a [u8], bytes: &'a [u8]) -> Option<PairAndRest<'a>>
     ensures { option_map found result ≡ plain_in key.now bytes.now }
 {
     let (value, rest) = bytes.split_at(value_len(bytes));
@@ -102,7 +103,7 @@ fn plain<'a>(key: &'a [u8], bytes: &'a [u8]) -> Option<Piece<'a>>
 }
 
 #[tactic(auto, unfolding(sq_base::specs::Replies::value_in))]
-fn value<'a>(key: &'a [u8], bytes: &'a [u8]) -> Option<Piece<'a>>
+fn value<'a>(key: &'a [u8], bytes: &'a [u8]) -> Option<PairAndRest<'a>>
     ensures { option_map found result ≡ value_in key.now bytes.now }
 {
     match bytes.split_first() {
@@ -112,25 +113,25 @@ fn value<'a>(key: &'a [u8], bytes: &'a [u8]) -> Option<Piece<'a>>
 }
 
 #[tactic(auto, unfolding(sq_base::specs::Replies::reply_word_in))]
-fn word(bytes: &[u8]) -> Option<Piece<'_>>
+fn word(bytes: &[u8]) -> Option<PairAndRest<'_>>
     ensures { option_map found result ≡ reply_word_in bytes.now }
 {
     let (name, rest) = bytes.split_at(word_len(bytes));
     match rest.split_first() {
-        None => Some(Piece { pair: None, rest }),
-        Some((&b' ', _)) => Some(Piece { pair: None, rest }),
+        None => Some(PairAndRest { pair: None, rest }),
+        Some((&b' ', _)) => Some(PairAndRest { pair: None, rest }),
         Some((&b'=', after)) if is_key(name) => value(name, after),
         Some(_) => None,
     }
 }
 
 /// The space or the word at the front of these bytes.
-pub fn next_piece(bytes: &[u8]) -> Option<Piece<'_>>
+pub fn next_piece(bytes: &[u8]) -> Option<PairAndRest<'_>>
     ensures { option_map found result ≡ piece_in bytes.now }
 {
     match bytes.split_first() {
         None => None,
-        Some((&b' ', rest)) => Some(Piece { pair: None, rest }),
+        Some((&b' ', rest)) => Some(PairAndRest { pair: None, rest }),
         Some(_) => word(bytes),
     }
 }

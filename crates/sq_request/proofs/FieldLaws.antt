@@ -32,13 +32,21 @@ lines_count (f ∷ fs) =
 pub fields_counted : (head : List ℕ) (h : RequestHead) → IsHead head h → length h.fields ≤ count_by is_lf head
 unfolding print_request
 fields_counted head h whole =
-    let front = print_blank h.blank ++ h.method ++ space ∷ h.target ++ space ∷ print_version h.minor ++ print_end h.line_end in
+    let front = print_blank h.blank ++ h.method ++ space ∷ h.target ++ space ∷ print_version h.minor
+    ++ print_end h.line_end in
     let lines = flat_map print_field h.fields in
     let e : head ≡ (front ++ print_section h.fields h.last) ++ [] = whole.1 in
-    rw e (omega (arith, lines_count h.fields, count_append (front ++ print_section h.fields h.last) [], count_append front (print_section h.fields h.last), count_append lines (print_end h.last)))
+    rw e (omega (
+      arith,
+      lines_count h.fields,
+      count_append (front ++ print_section h.fields h.last) [],
+      count_append front (print_section h.fields h.last),
+      count_append lines (print_end h.last),
+    ))
 
 -- so there are as many fields as spans were written
-pub count_of : {A B C : Type 0} (f : A → C) (g : B → C) (n : ℕ) (xs : List A) (ys : List B) → map f (take n xs) ≡ map g ys → n ≤ 128 → length ys ≤ 128
+pub count_of : {A B C : Type 0} (f : A → C) (g : B → C) (n : ℕ) (xs : List A) (ys : List B)
+    → map f (take n xs) ≡ map g ys → n ≤ 128 → length ys ≤ 128
 count_of f g n xs ys e le =
     let same : length (map f (take n xs)) ≡ length (map g ys) = ap length e in
     omega (arith, length-map (take n xs) f, length-map ys g, length-take n xs, same, le)
@@ -58,4 +66,5 @@ no_colon (b ∷ bs) h = rw (token_no_colon b (h 0 0 (omega arith))) (no_colon bs
 -- the names of a head's fields have no `:`
 pub plain_names : (fields : List grammar.Field) → All IsField fields → have_plain_names (map field_of fields) ≡ true
 plain_names [] h = refl
-plain_names (f ∷ fs) h = rw (no_colon f.name (h 0 f (omega arith)).name.1) (plain_names fs (λ k d below. h (suc k) d (omega arith)))
+plain_names (f ∷ fs) h = rw (no_colon f.name (h 0 f (omega arith)).name.1)
+    (plain_names fs (λ k d below. h (suc k) d (omega arith)))

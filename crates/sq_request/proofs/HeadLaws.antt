@@ -17,22 +17,28 @@ use Rattle.sq_request.specs.Refusals.{RefusesHead, RefusesTarget}
 use Rattle.sq_request.specs.Spans.{field_pair, Covers, CoversHead, HasMoreThan}
 
 -- no head has more fields than lines
-pub no_head : (room : ℕ) (head : List ℕ) (h : RequestHead) → HasMoreThan room head → room ≡ count_by is_lf head → IsHead head h → ⊥
+pub no_head : (room : ℕ) (head : List ℕ) (h : RequestHead) → HasMoreThan room head → room ≡ count_by is_lf head
+    → IsHead head h → ⊥
 no_head room head h more e whole = omega (arith, more h whole, fields_counted head h whole)
 
 -- the fields that were copied are those of the head
-pub copied : (head : List ℕ) (headers : List HeaderSpan) (s : RequestSpans) (h : RequestHead) (fs : List Field) → Covers head headers s h
+pub copied : (head : List ℕ) (headers : List HeaderSpan) (s : RequestSpans) (h : RequestHead) (fs : List Field)
+    → Covers head headers s h
     → map field_pair fs ≡ map (header_bytes head) (take s.headers headers) → fs ≡ fields_of h
 copied head headers s h fs at e = fields_from_pairs fs h.fields (e ∙ at.fields)
 
 -- so their names have no `:`
-pub copied_plain : (head : List ℕ) (headers : List HeaderSpan) (s : RequestSpans) (fs : List Field) → CoversHead head headers s
+pub copied_plain : (head : List ℕ) (headers : List HeaderSpan) (s : RequestSpans) (fs : List Field)
+    → CoversHead head headers s
     → map field_pair fs ≡ map (header_bytes head) (take s.headers headers) → have_plain_names fs ≡ true
-copied_plain head headers s fs at e = ap have_plain_names (copied head headers s at.0 fs at.1 e) ∙ plain_names at.0.fields at.1.whole.0.fields
+copied_plain head headers s fs at e = ap have_plain_names (copied head headers s at.0 fs at.1 e)
+    ∙ plain_names at.0.fields at.1.whole.0.fields
 
 -- the request of what was read is that of the head
-same_request : (head : List ℕ) (headers : List HeaderSpan) (s : RequestSpans) (h : RequestHead) (method target : List ℕ) (fs : List Field) → Covers head headers s h
-    → method ≡ span_bytes head s.method → target ≡ span_bytes head s.path → map field_pair fs ≡ map (header_bytes head) (take s.headers headers)
+same_request : (head : List ℕ) (headers : List HeaderSpan) (s : RequestSpans) (h : RequestHead) (method target : List ℕ)
+    (fs : List Field) → Covers head headers s h
+    → method ≡ span_bytes head s.method → target ≡ span_bytes head s.path
+    → map field_pair fs ≡ map (header_bytes head) (take s.headers headers)
     → request_with method target s.version fs ≡ request_of h
 same_request head headers s h method target fs at m t e =
     let m' : method ≡ h.method = m ∙ at.method in
@@ -41,9 +47,11 @@ same_request head headers s h method target fs at m t e =
     rw (m', t', at.minor, f') refl
 
 -- the clause of what is read
-pub read_is : (head : List ℕ) (headers : List HeaderSpan) (s : RequestSpans) (method target : List ℕ) (fs : List Field) (result : Result HttpRequest BadRequest)
+pub read_is : (head : List ℕ) (headers : List HeaderSpan) (s : RequestSpans) (method target : List ℕ) (fs : List Field)
+    (result : Result HttpRequest BadRequest)
     → CoversHead head headers s → s.headers ≤ 128
-    → method ≡ span_bytes head s.method → target ≡ span_bytes head s.path → map field_pair fs ≡ map (header_bytes head) (take s.headers headers)
+    → method ≡ span_bytes head s.method → target ≡ span_bytes head s.path
+    → map field_pair fs ≡ map (header_bytes head) (take s.headers headers)
     → IfOk result (λ r. request_with method target s.version fs ≡ Some r) → IfOk result (HasRequest head)
 read_is head headers s method target fs (Ok r) at few m t e built = record {
   tree = at.0;
@@ -54,9 +62,11 @@ read_is head headers s method target fs (Ok r) at few m t e built = record {
 read_is head headers s method target fs (Err f) at few m t e built = tt
 
 -- the clause of what is refused
-pub refused_is : (head : List ℕ) (headers : List HeaderSpan) (s : RequestSpans) (method target : List ℕ) (fs : List Field) (result : Result HttpRequest BadRequest)
+pub refused_is : (head : List ℕ) (headers : List HeaderSpan) (s : RequestSpans) (method target : List ℕ)
+    (fs : List Field) (result : Result HttpRequest BadRequest)
     → CoversHead head headers s → s.headers ≤ 128
-    → method ≡ span_bytes head s.method → target ≡ span_bytes head s.path → map field_pair fs ≡ map (header_bytes head) (take s.headers headers)
+    → method ≡ span_bytes head s.method → target ≡ span_bytes head s.path
+    → map field_pair fs ≡ map (header_bytes head) (take s.headers headers)
     → IfErr result (RefusesTarget method target s.version fs) → IfErr result (RefusesHead head)
 refused_is head headers s method target fs (Ok r) at few m t e fault = tt
 refused_is head headers s method target fs (Err BadHead) at few m t e fault = absurd fault

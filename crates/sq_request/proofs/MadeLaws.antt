@@ -43,7 +43,8 @@ field_is f h =
     let parts = and_parts _ _ h in
     record {
       name = token_is f.name parts.0;
-      raw = All-cons (λ b. IsTrue (is_value_byte b)) 32 f.value refl (AllPass-from_list_all is_value_byte f.value (and_parts _ _ parts.1).0);
+      raw = All-cons (λ b. IsTrue (is_value_byte b)) 32 f.value refl
+          (AllPass-from_list_all is_value_byte f.value (and_parts _ _ parts.1).0);
     }
 
 field_back : (f : Field) → is_written_field f ≡ true → field_of (tree_of f) ≡ f
@@ -53,13 +54,15 @@ field_back f h = ap (λ (v : List ℕ). let g : Field = record { name = f.name; 
 field_written : (f : grammar.Field) → IsField f → is_written_field (field_of f) ≡ true
 field_written f h =
     and_from _ _ (token_tested f.name h.name)
-    (and_from _ _ (list_all-from_AllPass is_value_byte (trim_ows f.raw) (AllPass-trim_ows is_value_byte f.raw h.raw)) ((bytes_eq-Decides _ _).1 (trim_twice f.raw)))
+    (and_from _ _ (list_all-from_AllPass is_value_byte (trim_ows f.raw) (AllPass-trim_ows is_value_byte f.raw h.raw))
+    ((bytes_eq-Decides _ _).1 (trim_twice f.raw)))
 
 -- ---- all fields
 
 fields_are : (fs : List Field) → list_all is_written_field fs ≡ true → All IsField (map tree_of fs)
 fields_are [] h = All-nil IsField
-fields_are (f ∷ fs) h = let parts = and_parts _ _ h in All-cons IsField (tree_of f) (map tree_of fs) (field_is f parts.0) (fields_are fs parts.1)
+fields_are (f ∷ fs) h = let parts = and_parts _ _ h in
+    All-cons IsField (tree_of f) (map tree_of fs) (field_is f parts.0) (fields_are fs parts.1)
 
 fields_back : (fs : List Field) → list_all is_written_field fs ≡ true → map field_of (map tree_of fs) ≡ fs
 fields_back [] h = refl
@@ -70,22 +73,35 @@ unfolding tree_of
 lines_are [] = refl
 lines_are (f ∷ fs) = ap (λ l. field_line f ++ l) (lines_are fs)
 
-fields_written : (fields : List grammar.Field) → All IsField fields → list_all is_written_field (map field_of fields) ≡ true
+fields_written : (fields : List grammar.Field) → All IsField fields
+    → list_all is_written_field (map field_of fields) ≡ true
 fields_written [] h = refl
-fields_written (f ∷ fs) h = and_from _ _ (field_written f (All-head IsField f fs h)) (fields_written fs (All-tail IsField f fs h))
+fields_written (f ∷ fs) h = and_from _ _ (field_written f (All-head IsField f fs h))
+    (fields_written fs (All-tail IsField f fs h))
 
 -- ---- the head
 
 head_of : List ℕ → List ℕ → ℕ → List Field → RequestHead
-head_of m t n fs = record { blank = []; method = m; target = t; minor = n; line_end = crlf; fields = map tree_of fs; last = crlf }
+head_of m t n fs = record {
+  blank = [];
+  method = m;
+  target = t;
+  minor = n;
+  line_end = crlf;
+  fields = map tree_of fs;
+  last = crlf;
+}
 
-head_joined : (a v f e : List ℕ) (d : ℕ) → ((a ++ v) ++ (d ∷ 13 ∷ 10 ∷ f)) ++ e ≡ ((a ++ (v ++ d ∷ [])) ++ (13 ∷ 10 ∷ [])) ++ (f ++ e)
+head_joined : (a v f e : List ℕ) (d : ℕ)
+    → ((a ++ v) ++ (d ∷ 13 ∷ 10 ∷ f)) ++ e ≡ ((a ++ (v ++ d ∷ [])) ++ (13 ∷ 10 ∷ [])) ++ (f ++ e)
 head_joined a v f e d = simp append_assoc
 
 text_is : (m t : List ℕ) (n : ℕ) (fs : List Field) → head_text m t n fs ≡ print_request (head_of m t n fs) ++ []
 unfolding head_text print_request head_of
 text_is m t n fs =
-    let same : head_text m t n fs ≡ print_request (head_of m t n fs) = rw (lines_are fs) (head_joined (m ++ 32 ∷ t) (codes " HTTP/1.") (flat_map print_field (map tree_of fs)) (13 ∷ 10 ∷ []) (48 + n)) in
+    let same : head_text m t n fs ≡ print_request (head_of m t n fs) =
+    rw (lines_are fs) (head_joined (m ++ 32 ∷ t) (codes " HTTP/1.") (flat_map print_field (map tree_of fs))
+    (13 ∷ 10 ∷ []) (48 + n)) in
     same ∙ sym (append-nil (print_request (head_of m t n fs)))
 
 head_is : (m t : List ℕ) (n : ℕ) (fs : List Field) → is_written m t n fs ≡ true → IsRequestHead (head_of m t n fs)
@@ -120,7 +136,9 @@ unfolding is_written
 head_written h is =
     and_from _ _ (token_tested h.method is.method)
     (and_from _ _
-    (and_from _ _ (lt-ltb _ _ is.target.0) (and_from _ _ (list_all-from_AllPass is_uri_byte h.target is.target.1) (is_utf8-from_IsUtf8 h.target is.target_text)))
+    (and_from _ _ (lt-ltb _ _ is.target.0)
+    (and_from _ _ (list_all-from_AllPass is_uri_byte h.target is.target.1)
+    (is_utf8-from_IsUtf8 h.target is.target_text)))
     (and_from _ _ (le-leb _ _ is.minor) (fields_written h.fields is.fields)))
 
 tested : (m t : List ℕ) (n : ℕ) (fs : List Field) → IsWrittenHead m t n fs → is_written m t n fs ≡ true
@@ -128,7 +146,8 @@ tested m t n fs w =
     rw (← w.2.method, ← w.2.target, ← w.2.minor, ← w.2.fields) (head_written w.0 w.1.0)
 
 -- the test decides
-pub is_written_decides : (m t : List ℕ) (n : ℕ) (fs : List Field) → IsTrue (is_written m t n fs) ↔ IsWrittenHead m t n fs
+pub is_written_decides : (m t : List ℕ) (n : ℕ) (fs : List Field)
+    → IsTrue (is_written m t n fs) ↔ IsWrittenHead m t n fs
 is_written_decides m t n fs = (writes m t n fs, tested m t n fs)
 
 -- ---- the request that is made
@@ -138,8 +157,10 @@ made_by : (a b : Bool) (o : Option HttpRequest) → a ≡ true → b ≡ true �
 made_by a b o e f = rw (e, f) refl
 
 -- the request that is made of a written head is that of its parts
-pub made_is : (m t : List ℕ) (n : ℕ) (fs : List Field) → IsWrittenHead m t n fs → length fs ≤ most_fields → made_request m t n fs ≡ request_with m t n fs
-made_is m t n fs w few = made_by (is_written m t n fs) (nat_le (length fs) most_fields) (request_with m t n fs) (tested m t n fs w) (le-leb _ _ few)
+pub made_is : (m t : List ℕ) (n : ℕ) (fs : List Field) → IsWrittenHead m t n fs → length fs ≤ most_fields
+    → made_request m t n fs ≡ request_with m t n fs
+made_is m t n fs w few = made_by (is_written m t n fs) (nat_le (length fs) most_fields) (request_with m t n fs)
+    (tested m t n fs w) (le-leb _ _ few)
 
 unmade_by : (a b : Bool) (o : Option HttpRequest) → a ≡ false → (if a && b then o else None) ≡ None
 unmade_by a b o e = rw e refl
@@ -152,7 +173,8 @@ unmade_target : (a : Bool) (o : Option HttpRequest) → o ≡ None → (if a the
 unmade_target true o e = e
 unmade_target false o e = refl
 
-made_parts : (a b : Bool) (o : Option HttpRequest) (r : HttpRequest) → (if a && b then o else None) ≡ Some r → (a ≡ true) × (b ≡ true) × (o ≡ Some r)
+made_parts : (a b : Bool) (o : Option HttpRequest) (r : HttpRequest) → (if a && b then o else None) ≡ Some r
+    → (a ≡ true) × (b ≡ true) × (o ≡ Some r)
 made_parts true true o r e = (refl, refl, e)
 made_parts true false o r e = absurd (cc)
 made_parts false b o r e = absurd (cc)
@@ -165,11 +187,14 @@ made_says m t n fs r e =
     (writes m t n fs parts.0, leb-true _ _ parts.1, parts.2)
 
 -- there is none where the parts are refused
-pub unmade : (m t : List ℕ) (n : ℕ) (fs : List Field) (e : BadRequest) → RefusesParts m t n fs e → e ≢ WantOfMemory → made_request m t n fs ≡ None
+pub unmade : (m t : List ℕ) (n : ℕ) (fs : List Field) (e : BadRequest) → RefusesParts m t n fs e → e ≢ WantOfMemory
+    → made_request m t n fs ≡ None
 unmade m t n fs BadHead refused other =
-    unmade_by (is_written m t n fs) (nat_le (length fs) most_fields) (request_with m t n fs) (false_from_ne_true _ (λ h. refused (writes m t n fs h)))
+    unmade_by (is_written m t n fs) (nat_le (length fs) most_fields) (request_with m t n fs)
+    (false_from_ne_true _ (λ h. refused (writes m t n fs h)))
 unmade m t n fs TooManyFields refused other =
-    unmade_many (is_written m t n fs) (nat_le (length fs) most_fields) (request_with m t n fs) (grind (arith, nat_tests, refused.1))
+    unmade_many (is_written m t n fs) (nat_le (length fs) most_fields) (request_with m t n fs)
+    (grind (arith, nat_tests, refused.1))
 unmade m t n fs BadTarget refused other =
     unmade_target (is_written m t n fs && nat_le (length fs) most_fields) (request_with m t n fs) refused.2
 unmade m t n fs WantOfMemory refused other = absurd (other refl)

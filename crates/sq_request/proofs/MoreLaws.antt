@@ -14,17 +14,21 @@ position_more : (p : ℕ → Bool) (xs ys : List ℕ) (k : ℕ) → position p x
 position_more p [] ys k e = absurd (none-some k e)
 position_more p (x ∷ xs) ys k e =
     position_cons p x (xs ++ ys)
-    ∙ place_by_first (p x) (position p xs) (position p (xs ++ ys)) k (sym (position_cons p x xs) ∙ e) (λ m at is. position_more p xs ys m at)
+    ∙ place_by_first (p x) (position p xs) (position p (xs ++ ys)) k (sym (position_cons p x xs) ∙ e)
+    (λ m at is. position_more p xs ys m at)
 
 -- what a line comes to, where the lines behind it come to the same
-step_more : (b : Bool) (k n : ℕ) (o o' : Option ℕ) → step b k o ≡ Some n → ((m : ℕ) → o ≡ Some m → o' ≡ Some m) → step b k o' ≡ Some n
+step_more : (b : Bool) (k n : ℕ) (o o' : Option ℕ) → step b k o ≡ Some n → ((m : ℕ) → o ≡ Some m → o' ≡ Some m)
+    → step b k o' ≡ Some n
 step_more true k n o o' e more = e
 step_more false k n o o' e more =
     let rest = map_some (λ m. k + 1 + m) o n e in
     ap (option_map (λ m. k + 1 + m)) (more rest.0 rest.1) ∙ ap (λ m. Some m) (sym rest.2)
 
-more_by_place : (begun : Bool) (a b : List ℕ) (n : ℕ) (o : Option ℕ) → position is_lf a ≡ o → ends_from begun (ended_lines a) ≡ Some n
-    → ((k : ℕ) → k < length a → (m : ℕ) → lines_later begun (take k a) k a ≡ Some m → ends_from (begun || not (is_empty_line (take k a))) (ended_lines (drop (k + 1) a ++ b)) ≡ Some m)
+more_by_place : (begun : Bool) (a b : List ℕ) (n : ℕ) (o : Option ℕ) → position is_lf a ≡ o
+    → ends_from begun (ended_lines a) ≡ Some n
+    → ((k : ℕ) → k < length a → (m : ℕ) → lines_later begun (take k a) k a ≡ Some m
+    → ends_from (begun || not (is_empty_line (take k a))) (ended_lines (drop (k + 1) a ++ b)) ≡ Some m)
     → ends_from begun (ended_lines (a ++ b)) ≡ Some n
 more_by_place begun a b n None at e more = absurd (none-some n (sym (ap (ends_from begun) (lines_none a at)) ∙ e))
 more_by_place begun a b n (Some k) at e more =
@@ -35,15 +39,18 @@ more_by_place begun a b n (Some k) at e more =
     let behind = begun || not (is_empty_line (take k a)) in
     line_first begun k (a ++ b) (position_more is_lf a b k at) long
     ∙ ap (λ l. step (begun && is_empty_line l) k (lines_later begun l k (a ++ b))) line
-    ∙ step_more (begun && is_empty_line (take k a)) k n (lines_later begun (take k a) k a) (lines_later begun (take k a) k (a ++ b)) (sym (line_first begun k a at below) ∙ e)
+    ∙ step_more (begun && is_empty_line (take k a)) k n (lines_later begun (take k a) k a)
+    (lines_later begun (take k a) k (a ++ b)) (sym (line_first begun k a at below) ∙ e)
     (λ m h. ap (λ r. ends_from behind (ended_lines r)) rest ∙ more k below m h)
 
-more_ends : (most : ℕ) (begun : Bool) (a b : List ℕ) (n : ℕ) → length a ≤ most → ends_from begun (ended_lines a) ≡ Some n → ends_from begun (ended_lines (a ++ b)) ≡ Some n
+more_ends : (most : ℕ) (begun : Bool) (a b : List ℕ) (n : ℕ) → length a ≤ most
+    → ends_from begun (ended_lines a) ≡ Some n → ends_from begun (ended_lines (a ++ b)) ≡ Some n
 more_ends zero begun a b n room e =
     more_by_place begun a b n (position is_lf a) refl e (λ k below. absurd (omega arith))
 more_ends (suc most) begun a b n room e =
     more_by_place begun a b n (position is_lf a) refl e
-    (λ k below m rest. more_ends most (begun || not (is_empty_line (take k a))) (drop (k + 1) a) b m (omega (arith, length-drop (k + 1) a)) rest)
+    (λ k below m rest. more_ends most (begun || not (is_empty_line (take k a))) (drop (k + 1) a) b m
+    (omega (arith, length-drop (k + 1) a)) rest)
 
 -- a head that ends in the first bytes ends there
 pub head_end_more : (a b : List ℕ) (n : ℕ) → head_end a ≡ Some n → head_end (a ++ b) ≡ Some n
@@ -55,5 +62,6 @@ head_end_within a b n e within =
     let whole : IsWholeHead (take n (a ++ b)) = whole_front (a ++ b) (Some n) e in
     let front : take n (a ++ b) ≡ take n a = take-append-le n a b within in
     let count : length (take n a) ≡ n = omega (arith, length-take n a) in
-    let here : head_end (take n a) ≡ Some n = ap head_end (sym front) ∙ whole ∙ ap (λ l. Some (length l)) front ∙ ap (λ m. Some m) count in
+    let here : head_end (take n a) ≡ Some n = ap head_end (sym front) ∙ whole ∙ ap (λ l. Some (length l)) front
+    ∙ ap (λ m. Some m) count in
     ap head_end (sym (take-append-drop n a)) ∙ head_end_more (take n a) (drop n a) n here

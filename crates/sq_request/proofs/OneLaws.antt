@@ -18,7 +18,8 @@ two_requests head r s a b =
 
 request_not_many : (head : List ℕ) (r : HttpRequest) → HasRequest head r → HasTooManyFields head → ⊥
 request_not_many head r a b =
-    let count : length a.tree.fields ≡ length b.tree.fields = ap (λ h. length h.fields) (same_tree head a.tree b.tree a.whole b.whole) in
+    let count : length a.tree.fields ≡ length b.tree.fields =
+    ap (λ h. length h.fields) (same_tree head a.tree b.tree a.whole b.whole) in
     omega (arith, count, a.few, b.many)
 
 request_not_bad : (head : List ℕ) (r : HttpRequest) → HasRequest head r → HasBadTarget head → ⊥
@@ -27,7 +28,8 @@ request_not_bad head r a b =
 
 many_not_bad : (head : List ℕ) → HasTooManyFields head → HasBadTarget head → ⊥
 many_not_bad head a b =
-    let count : length a.tree.fields ≡ length b.tree.fields = ap (λ h. length h.fields) (same_tree head a.tree b.tree a.whole b.whole) in
+    let count : length a.tree.fields ≡ length b.tree.fields =
+    ap (λ h. length h.fields) (same_tree head a.tree b.tree a.whole b.whole) in
     omega (arith, count, a.many, b.few)
 
 -- no two of a request and the refusals hold of the same bytes

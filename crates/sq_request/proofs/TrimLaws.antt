@@ -7,7 +7,8 @@ skip_shorter : (xs : List ℕ) → length (skip_ows xs) ≤ length xs
 skip_shorter [] = omega arith
 skip_shorter (b ∷ bs) = by_test (skip_shorter bs) (is_ows b)
   where
-    by_test : length (skip_ows bs) ≤ length bs → (t : Bool) → length (if t then skip_ows bs else b ∷ bs) ≤ length (b ∷ bs)
+    by_test : length (skip_ows bs) ≤ length bs → (t : Bool)
+        → length (if t then skip_ows bs else b ∷ bs) ≤ length (b ∷ bs)
     by_test later true = omega arith
     by_test later false = omega arith
 
@@ -15,7 +16,8 @@ skip_twice : (xs : List ℕ) → skip_ows (skip_ows xs) ≡ skip_ows xs
 skip_twice [] = refl
 skip_twice (b ∷ bs) = by_test (skip_twice bs) (is_ows b) refl
   where
-    by_test : skip_ows (skip_ows bs) ≡ skip_ows bs → (t : Bool) → is_ows b ≡ t → skip_ows (skip_ows (b ∷ bs)) ≡ skip_ows (b ∷ bs)
+    by_test : skip_ows (skip_ows bs) ≡ skip_ows bs → (t : Bool) → is_ows b ≡ t
+        → skip_ows (skip_ows (b ∷ bs)) ≡ skip_ows (b ∷ bs)
     by_test later true blank = rw blank later
     by_test later false other = rw other (rw other refl)
 
@@ -24,7 +26,8 @@ skip_front : (xs : List ℕ) → (front : List ℕ) × (xs ≡ front ++ skip_ows
 skip_front [] = ([], refl)
 skip_front (b ∷ bs) = by_test (skip_front bs) (is_ows b)
   where
-    by_test : (front : List ℕ) × (bs ≡ front ++ skip_ows bs) → (t : Bool) → (front : List ℕ) × (b ∷ bs ≡ front ++ (if t then skip_ows bs else b ∷ bs))
+    by_test : (front : List ℕ) × (bs ≡ front ++ skip_ows bs) → (t : Bool)
+        → (front : List ℕ) × (b ∷ bs ≡ front ++ (if t then skip_ows bs else b ∷ bs))
     by_test later true = (b ∷ later.0, ap (λ l. b ∷ l) later.1)
     by_test later false = ([], refl)
 
@@ -46,6 +49,9 @@ trim_twice xs =
     let s = skip_ows xs in
     let t = skip_ows (reverse s) in
     let passed = skip_front (reverse s) in
-    let whole : s ≡ reverse t ++ reverse passed.0 = sym (reverse-reverse s) ∙ ap reverse passed.1 ∙ reverse-append passed.0 t in
-    let front : skip_ows (reverse t) ≡ reverse t = front_stays (reverse t) (reverse passed.0) (subst (λ l. skip_ows l ≡ l) whole (skip_twice xs)) in
-    ap (λ l. reverse (skip_ows (reverse l))) front ∙ ap (λ l. reverse (skip_ows l)) (reverse-reverse t) ∙ ap reverse (skip_twice (reverse s))
+    let whole : s ≡ reverse t ++ reverse passed.0 = sym (reverse-reverse s) ∙ ap reverse passed.1
+    ∙ reverse-append passed.0 t in
+    let front : skip_ows (reverse t) ≡ reverse t =
+    front_stays (reverse t) (reverse passed.0) (subst (λ l. skip_ows l ≡ l) whole (skip_twice xs)) in
+    ap (λ l. reverse (skip_ows (reverse l))) front ∙ ap (λ l. reverse (skip_ows l)) (reverse-reverse t)
+    ∙ ap reverse (skip_twice (reverse s))

@@ -21,13 +21,16 @@ bytes_of lines = sum_by (λ line. length line + 1) lines
 abbrev pub empty_front : List (List ℕ) → ℕ
 empty_front lines = prefix_len is_empty_line lines
 
--- how many lines there are up to the first empty one that follows a line with bytes, that one included
+-- how many lines there are up to the first empty one that follows a line with bytes, that one
+-- included
 abbrev pub head_lines : List (List ℕ) → Option ℕ
-head_lines lines = option_map (λ n. empty_front lines + n + 1) (position is_empty_line (drop (empty_front lines) lines))
+head_lines lines = option_map (λ n. empty_front lines + n + 1)
+    (position is_empty_line (drop (empty_front lines) lines))
 
 -- the place after the first empty line that follows a line with bytes
 unfoldable pub head_end : List ℕ → Option ℕ
-head_end bytes = option_map (λ n. bytes_of (take n (ended_lines bytes))) (head_lines (ended_lines bytes))
+head_end bytes = option_map (λ n. bytes_of (take n (ended_lines bytes)))
+    (head_lines (ended_lines bytes))
 
 -- the bytes end where a head at their front ends
 abbrev pub IsWholeHead : List ℕ → Type 0

@@ -27,11 +27,22 @@ fields_of h = map field_of h.fields
 
 abbrev pub at_target : List ℕ → List ℕ → ℕ → List Field → Target → HttpRequest
 at_target method target minor fields t =
-    record { method = method; target = target; scheme = t.scheme; host = t.host; literal = t.literal; port = t.port; path = t.path; minor = minor; fields = fields }
+    record {
+      method = method;
+      target = target;
+      scheme = t.scheme;
+      host = t.host;
+      literal = t.literal;
+      port = t.port;
+      path = t.path;
+      minor = minor;
+      fields = fields;
+    }
 
 -- the request of these parts, where the target has the form that the method takes
 abbrev pub request_with : List ℕ → List ℕ → ℕ → List Field → Option HttpRequest
-request_with method target minor fields = option_map (at_target method target minor fields) (target_of method target)
+request_with method target minor fields = option_map (at_target method target minor fields)
+    (target_of method target)
 
 -- the request with another target, and all else kept
 abbrev pub retargeted : HttpRequest → List ℕ → Option HttpRequest
@@ -68,7 +79,8 @@ field_line f = f.name ++ colon ∷ space ∷ f.value ++ cr ∷ lf ∷ []
 -- the head that is written of these parts
 unfoldable pub head_text : List ℕ → List ℕ → ℕ → List Field → List ℕ
 head_text method target minor fields =
-    method ++ space ∷ target ++ codes " HTTP/1." ++ (digit_zero + minor) ∷ cr ∷ lf ∷ flat_map field_line fields ++ cr ∷ lf ∷ []
+    method ++ space ∷ target ++ codes " HTTP/1." ++ (digit_zero + minor) ∷ cr ∷ lf
+    ∷ flat_map field_line fields ++ cr ∷ lf ∷ []
 
 -- the head has these parts
 pub record HasParts (h : RequestHead) (m t : List ℕ) (n : ℕ) (fs : List Field) : Type 0 where
@@ -80,4 +92,5 @@ pub record HasParts (h : RequestHead) (m t : List ℕ) (n : ℕ) (fs : List Fiel
 -- the head that is written of these parts is a head of the grammar, and reads as these parts
 abbrev pub IsWrittenHead : List ℕ → List ℕ → ℕ → List Field → Type 0
 IsWrittenHead method target minor fields =
-    (h : RequestHead) × IsHead (head_text method target minor fields) h × HasParts h method target minor fields
+    (h : RequestHead) × IsHead (head_text method target minor fields) h
+    × HasParts h method target minor fields

@@ -20,7 +20,8 @@ pub record FitsIn (n : ℕ) (headers : List HeaderSpan) (s : RequestSpans) : Typ
   pub fields : All (IsHeaderWithin n) (take s.headers headers)
 
 -- the bytes are the head h, and the spans cover its parts
-pub record Covers (head : List ℕ) (headers : List HeaderSpan) (s : RequestSpans) (h : RequestHead) : Type 0 where
+pub record Covers (head : List ℕ) (headers : List HeaderSpan) (s : RequestSpans)
+    (h : RequestHead) : Type 0 where
   pub whole : IsHead head h
   pub method : span_bytes head s.method ≡ h.method
   pub target : span_bytes head s.path ≡ h.target

@@ -10,7 +10,8 @@ use Rattle.sq_request.specs.Heads.{most_fields, request_with}
 
 -- UTF-8, not empty, each byte visible or past ASCII
 abbrev pub is_written_target : List ℕ → Bool
-is_written_target target = nat_lt 0 (length target) && (list_all is_uri_byte target && is_utf8 target)
+is_written_target target = nat_lt 0 (length target)
+    && (list_all is_uri_byte target && is_utf8 target)
 
 -- no control byte but the tab, and no white space at its ends
 abbrev pub is_written_value : List ℕ → Bool
@@ -21,10 +22,12 @@ is_written_field f = is_token f.name && is_written_value f.value
 
 -- the head that is written of these parts is in the grammar, and reads as these parts
 unfoldable pub is_written : List ℕ → List ℕ → ℕ → List Field → Bool
-is_written method target minor fields = is_token method && (is_written_target target && (nat_le minor 1 && list_all is_written_field fields))
+is_written method target minor fields = is_token method
+    && (is_written_target target && (nat_le minor 1 && list_all is_written_field fields))
 
--- the request that is made of these parts: none where no such head can be written of them, where they have
--- too many fields, or where the target has not the form that the method takes
+-- the request that is made of these parts: none where no such head can be written of them, where
+-- they have too many fields, or where the target has not the form that the method takes
 abbrev pub made_request : List ℕ → List ℕ → ℕ → List Field → Option HttpRequest
 made_request method target minor fields =
-    if is_written method target minor fields && nat_le (length fields) most_fields then request_with method target minor fields else None
+    if is_written method target minor fields
+    && nat_le (length fields) most_fields then request_with method target minor fields else None

@@ -6,7 +6,7 @@ ghost use Rattle.sq_request.specs.Heads.{request_with};
 ghost use Rattle.sq_request.specs.Refusals.{RefusesTarget};
 
 use crate::faults::BadRequest;
-use crate::targets::{Parts, read_target};
+use crate::targets::{TargetParts, read_target};
 use sq_base::{Fields, Request, Text, WantOfMemory};
 use std::alloc::Global;
 

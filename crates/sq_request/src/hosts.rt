@@ -42,7 +42,8 @@ fn name_len(text: &[u8]) -> usize
 
 // What stands behind `[`.
 fn in_brackets(inside: &[u8]) -> Option<Host<'_>>
-    ensures { option_map shown_host result ≡ in_brackets inside.now (position is_bracket inside.now) }
+    ensures { option_map shown_host result
+        ≡ in_brackets inside.now (position is_bracket inside.now) }
 {
     let end = bracket_place(inside)?;
     bracketed(&inside[..end], &inside[end + 1..])

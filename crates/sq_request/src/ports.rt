@@ -65,7 +65,8 @@ fn are_digits(word: &[u8]) -> bool
 
 // The value of digits, where it is below 65536.
 fn digits_value(digits: &[u8]) -> Option<u16>
-    ensures { result ≡ (if nat_lt (read_on 0 digits.now) 65536 then Some (read_on 0 digits.now) else None) }
+    ensures { result ≡ (if nat_lt (read_on 0 digits.now) 65536 then Some (read_on 0 digits.now)
+        else None) }
 {
     let mut number: u32 = 0;
     for &byte in digits {

@@ -22,7 +22,8 @@ pub fn read_request(alloc: Global, head: &[u8]) -> Result<Request, BadRequest>
     ensures read { IfOk result (HasRequest head.now) }
     ensures refused { IfErr result (RefusesHead head.now) }
     // The bytes are one request at most, and not refused as well, nor in two ways.
-    ensures one { (a b : Result HttpRequest BadRequest) → ComesTo head.now a → ComesTo head.now b → a ≡ b }
+    ensures one { (a b : Result HttpRequest BadRequest) → ComesTo head.now a → ComesTo head.now b
+        → a ≡ b }
 {
     let Ok(mut room) = vec![in alloc; EMPTY_HEADER_SPAN; line_count(head)] else {
         return Err(BadRequest::WantOfMemory);

@@ -13,7 +13,7 @@ use sq_base::Addr;
 
 /// The parts of a target as they are written, the host without brackets.
 #[derive(Clone, Copy)]
-pub struct Parts<'a> {
+pub struct TargetParts<'a> {
     pub scheme: &'a [u8],
     pub host: &'a [u8],
     pub literal: Option<Addr>,
@@ -23,7 +23,7 @@ pub struct Parts<'a> {
 
 /// The parts of a method's target, where it has the form that this method takes.
 #[tactic(auto, unfolding(sq_base::specs::Targets::target_of))]
-pub fn read_target<'a>(method: &[u8], target: &'a [u8]) -> Option<Parts<'a>>
+pub fn read_target<'a>(method: &[u8], target: &'a [u8]) -> Option<TargetParts<'a>>
     ensures { option_map shown_parts result ≡ target_of method.now target.now }
 {
     if method == b"CONNECT".as_slice() {
@@ -35,7 +35,7 @@ pub fn read_target<'a>(method: &[u8], target: &'a [u8]) -> Option<Parts<'a>>
 
 // Host, `:` and a port.
 #[tactic(auto, unfolding(sq_base::specs::Targets::authority_form))]
-fn authority_form(text: &[u8]) -> Option<Parts<'_>>
+fn authority_form(text: &[u8]) -> Option<TargetParts<'_>>
     ensures { option_map shown_parts result ≡ authority_form text.now }
 {
     if !are_target_bytes(text) {
@@ -45,7 +45,7 @@ fn authority_form(text: &[u8]) -> Option<Parts<'_>>
         return None;
     };
     let port = connect_port(host.rest)?;
-    Some(Parts {
+    Some(TargetParts {
         scheme: &[],
         host: host.name,
         literal: host.literal,
@@ -56,7 +56,7 @@ fn authority_form(text: &[u8]) -> Option<Parts<'_>>
 
 // Scheme, `://`, authority, and then nothing, a path or a query.
 #[tactic(auto, unfolding(sq_base::specs::Targets::absolute_form))]
-fn absolute_form(text: &[u8]) -> Option<Parts<'_>>
+fn absolute_form(text: &[u8]) -> Option<TargetParts<'_>>
     ensures { option_map shown_parts result ≡ absolute_form text.now }
 {
     if !are_target_bytes(text) {
@@ -85,7 +85,7 @@ fn behind_first(bytes: &[u8]) -> &[u8]
 }
 
 // What stands before and behind the first `:`.
-fn with_colon<'a>(scheme: &'a [u8], after: &'a [u8]) -> Option<Parts<'a>>
+fn with_colon<'a>(scheme: &'a [u8], after: &'a [u8]) -> Option<TargetParts<'a>>
     ensures { option_map shown_parts result ≡ with_colon scheme.now after.now }
 {
     if !is_scheme(scheme) {
@@ -97,15 +97,16 @@ fn with_colon<'a>(scheme: &'a [u8], after: &'a [u8]) -> Option<Parts<'a>>
 
 // A scheme and what stands behind `://`.
 #[tactic(auto, unfolding(sq_base::specs::Targets::with_scheme))]
-fn with_scheme<'a>(scheme: &'a [u8], rest: &'a [u8]) -> Option<Parts<'a>>
-    ensures { option_map shown_parts result ≡ with_scheme (str_to_ascii_lowercase scheme.now) rest.now }
+fn with_scheme<'a>(scheme: &'a [u8], rest: &'a [u8]) -> Option<TargetParts<'a>>
+    ensures { option_map shown_parts result
+        ≡ with_scheme (str_to_ascii_lowercase scheme.now) rest.now }
 {
     let (authority, path) = rest.split_at(authority_len(rest));
     let Some(host) = host_in(authority) else {
         return None;
     };
     let port = port_after(scheme_port(scheme), host.rest)?;
-    Some(Parts {
+    Some(TargetParts {
         scheme,
         host: host.name,
         literal: host.literal,

@@ -22,7 +22,7 @@ use Rattle.sq_rewrite.specs.Statuses.{Status, Unasked, Waits, IsAt, HasEnded, Is
 use Rattle.sq_rewrite.specs.declared.acts.RewriteAct.TheVariants as act
 use Rattle.sq_rewrite.specs.declared.rewritings.Rewriting.{Rewriting}
 use Rattle.sq_rewrite.specs.declared.rewritings.Rewriting.TheVariants as rewriting
-use Rattle.sq_rewrite.specs.declared.rows.Row.{Row}
+use Rattle.sq_rewrite.specs.declared.rows.QuestionRow.{QuestionRow}
 use Rattle.sq_rewrite.proofs.AgreeLaws.{Agrees, agree, is_at, reply_is, row_of, send_waits, take_is, texts_of, waiting_text}
 use Rattle.sq_rewrite.proofs.OpenLaws.{none_lives, open_nowhere}
 use Rattle.sq_rewrite.proofs.RowLaws.{equal}
@@ -31,10 +31,12 @@ use Rattle.sq_rewrite.proofs.RowLaws.{equal}
 pub taken_law : (c : Class) (h : Calls) (q : ℕ) (w : Rewriting) → IsRun c (Took q w ∷ h) → status c h q ≡ HasEnded w
 taken_law c h q w run = take_is (state_of c h) (status c h) q w (agree c h run.1) run.0
 
-pub replied_law : (c : Class) (h : Calls) (k q : ℕ) (line : List ℕ) (reply : Reply) → IsRun c (Wrote k line (got.Reply q reply) ∷ h) → IsAtProcess k (status c h q)
+pub replied_law : (c : Class) (h : Calls) (k q : ℕ) (line : List ℕ) (reply : Reply)
+    → IsRun c (Wrote k line (got.Reply q reply) ∷ h) → IsAtProcess k (status c h q)
 replied_law c h k q line reply run = reply_is (state_of c h) (status c h) k q reply line (agree c h run.1) run.0
 
-pub sent_law : (c : Class) (h : Calls) (k q : ℕ) (channel : Option ℕ) (text : List ℕ) → IsRun c (Acted (act.Send k q channel text) ∷ h) → WaitsWith text (status c h q)
+pub sent_law : (c : Class) (h : Calls) (k q : ℕ) (channel : Option ℕ) (text : List ℕ)
+    → IsRun c (Acted (act.Send k q channel text) ∷ h) → WaitsWith text (status c h q)
 sent_law c h k q channel text run = send_waits (state_of c h) (status c h) k q channel text (agree c h run.1) run.0
 
 -- how often a question of this status was sent, at most
@@ -68,14 +70,16 @@ less_if false x y l = less_not x
 less_lost : (k : ℕ) (c : Cause) (x : Status) → NoLess x (once_lost k c x)
 less_lost k c Unasked = less_not Unasked
 less_lost k c (Waits r addr) = less_not (Waits r addr)
-less_lost k c (IsAt r p) = less_if (k == p) (IsAt r p) (HasEnded (rewriting.Same (Some c))) (record { sent = omega arith; taken = omega arith })
+less_lost k c (IsAt r p) = less_if (k == p) (IsAt r p) (HasEnded (rewriting.Same (Some c)))
+    (record { sent = omega arith; taken = omega arith })
 less_lost k c (HasEnded w) = less_not (HasEnded w)
 less_lost k c IsTaken = less_not IsTaken
 
 less_replied : (k : ℕ) (reply : Reply) (x : Status) → NoLess x (once_replied k reply x)
 less_replied k reply Unasked = less_not Unasked
 less_replied k reply (Waits r addr) = less_not (Waits r addr)
-less_replied k reply (IsAt r p) = less_if (k == p) (IsAt r p) (HasEnded (rewriting_of reply r)) (record { sent = omega arith; taken = omega arith })
+less_replied k reply (IsAt r p) = less_if (k == p) (IsAt r p) (HasEnded (rewriting_of reply r))
+    (record { sent = omega arith; taken = omega arith })
 less_replied k reply (HasEnded w) = less_not (HasEnded w)
 less_replied k reply IsTaken = less_not IsTaken
 
@@ -86,7 +90,8 @@ less_written q k got.Stray x = less_lost k cause.Stray x
 
 less_failed : (b : Bool) (x : Status) → NoLess x (once_failed b x)
 less_failed b Unasked = less_not Unasked
-less_failed b (Waits r addr) = less_if b (Waits r addr) (HasEnded (rewriting.Same (Some cause.NoHelper))) (record { sent = omega arith; taken = omega arith })
+less_failed b (Waits r addr) = less_if b (Waits r addr) (HasEnded (rewriting.Same (Some cause.NoHelper)))
+    (record { sent = omega arith; taken = omega arith })
 less_failed b (IsAt r p) = less_not (IsAt r p)
 less_failed b (HasEnded w) = less_not (HasEnded w)
 less_failed b IsTaken = less_not IsTaken
@@ -96,19 +101,29 @@ record Counts (q : ℕ) (h : Calls) (x : Status) : Type 0 where
   sent : times_sent q h ≤ most_sent x
   taken : times_taken q h ≤ most_taken x
 
-count_more : (q : ℕ) (h h' : Calls) (x y : Status) → times_sent q h' ≡ times_sent q h → times_taken q h' ≡ times_taken q h → NoLess x y → Counts q h x → Counts q h' y
-count_more q h h' x y s t l n = record { sent = let a = n.sent in let b = l.sent in omega arith; taken = let a = n.taken in let b = l.taken in omega arith }
+count_more : (q : ℕ) (h h' : Calls) (x y : Status) → times_sent q h' ≡ times_sent q h
+    → times_taken q h' ≡ times_taken q h → NoLess x y → Counts q h x → Counts q h' y
+count_more q h h' x y s t l n = record {
+  sent = let a = n.sent in let b = l.sent in omega arith;
+  taken = let a = n.taken in let b = l.taken in omega arith;
+}
 
-count_asked : (q : ℕ) (h : Calls) (b : Bool) (r : HttpRequest) (addr : Address) (p : ℕ) (x : Status) → (b ≡ true → x ≡ Unasked) → Counts q h x → Counts q (Asked r addr p ∷ h) (if b then Waits r addr else x)
-count_asked q h true r addr p x new n = let a = ap most_sent (new refl) in let b = ap most_taken (new refl) in record { sent = let d = n.sent in omega arith; taken = let d = n.taken in omega arith }
+count_asked : (q : ℕ) (h : Calls) (b : Bool) (r : HttpRequest) (addr : Address) (p : ℕ) (x : Status)
+    → (b ≡ true → x ≡ Unasked) → Counts q h x → Counts q (Asked r addr p ∷ h) (if b then Waits r addr else x)
+count_asked q h true r addr p x new n = let a = ap most_sent (new refl) in let b = ap most_taken (new refl) in
+    record { sent = let d = n.sent in omega arith; taken = let d = n.taken in omega arith }
 count_asked q h false r addr p x new n = record { sent = n.sent; taken = n.taken }
 
-count_sent : (q : ℕ) (h : Calls) (k p : ℕ) (channel : Option ℕ) (text : List ℕ) (x : Status) → ((q == p) ≡ true → WaitsWith text x) → Counts q h x → Counts q (Acted (act.Send k p channel text) ∷ h) (once_acted q (act.Send k p channel text) x)
+count_sent : (q : ℕ) (h : Calls) (k p : ℕ) (channel : Option ℕ) (text : List ℕ) (x : Status)
+    → ((q == p) ≡ true → WaitsWith text x) → Counts q h x
+    → Counts q (Acted (act.Send k p channel text) ∷ h) (once_acted q (act.Send k p channel text) x)
 count_sent q h k p channel text x w n = record { sent = sent_by (q == p) w; taken = taken_by (q == p) x n.taken }
   where
-    sent_by : (b : Bool) → (b ≡ true → WaitsWith text x) → (if b then suc (times_sent q h) else times_sent q h) ≤ most_sent (if b then once_sent k x else x)
+    sent_by : (b : Bool) → (b ≡ true → WaitsWith text x)
+        → (if b then suc (times_sent q h) else times_sent q h) ≤ most_sent (if b then once_sent k x else x)
     sent_by true w =
-        let f = w refl in let a = ap most_sent f.waits in let b = ap (λ z. most_sent (once_sent k z)) f.waits in let d = n.sent in omega arith
+        let f = w refl in let a = ap most_sent f.waits in let b = ap (λ z. most_sent (once_sent k z)) f.waits in
+        let d = n.sent in omega arith
     sent_by false w = n.sent
 
     same_taken : (x : Status) → most_taken (once_sent k x) ≡ most_taken x
@@ -118,18 +133,21 @@ count_sent q h k p channel text x w n = record { sent = sent_by (q == p) w; take
     same_taken (HasEnded w) = refl
     same_taken IsTaken = refl
 
-    taken_by : (b : Bool) (x : Status) → times_taken q h ≤ most_taken x → times_taken q h ≤ most_taken (if b then once_sent k x else x)
+    taken_by : (b : Bool) (x : Status) → times_taken q h ≤ most_taken x
+        → times_taken q h ≤ most_taken (if b then once_sent k x else x)
     taken_by true x l = let e = same_taken x in omega arith
     taken_by false x l = l
 
-count_took : (q : ℕ) (h : Calls) (p : ℕ) (w : Rewriting) (x : Status) → ((q == p) ≡ true → x ≡ HasEnded w) → Counts q h x → Counts q (Took p w ∷ h) (if q == p then IsTaken else x)
+count_took : (q : ℕ) (h : Calls) (p : ℕ) (w : Rewriting) (x : Status) → ((q == p) ≡ true → x ≡ HasEnded w)
+    → Counts q h x → Counts q (Took p w ∷ h) (if q == p then IsTaken else x)
 count_took q h p w x e n = record { sent = sent_by (q == p) e; taken = taken_by (q == p) e }
   where
     sent_by : (b : Bool) → (b ≡ true → x ≡ HasEnded w) → times_sent q h ≤ most_sent (if b then IsTaken else x)
     sent_by true e = let a = ap most_sent (e refl) in let d = n.sent in omega arith
     sent_by false e = n.sent
 
-    taken_by : (b : Bool) → (b ≡ true → x ≡ HasEnded w) → (if b then suc (times_taken q h) else times_taken q h) ≤ most_taken (if b then IsTaken else x)
+    taken_by : (b : Bool) → (b ≡ true → x ≡ HasEnded w)
+        → (if b then suc (times_taken q h) else times_taken q h) ≤ most_taken (if b then IsTaken else x)
     taken_by true e = let a = ap most_taken (e refl) in let d = n.taken in omega arith
     taken_by false e = n.taken
 
@@ -139,17 +157,26 @@ asked_above s q p next t = let same = equal q p t in omega arith
 counts : (c : Class) (h : Calls) → IsRun c h → (q : ℕ) → Counts q h (status c h q)
 counts c [] run q = record { sent = omega arith; taken = omega arith }
 counts c (Asked r addr p ∷ h) run q =
-    count_asked q h (q == p) r addr p (status c h q) (λ t. (agree c h run.1).new_are q (asked_above (state_of c h) q p run.0.1 t)) (counts c h run.1 q)
-counts c (Acted (act.Stop k) ∷ h) run q = count_more q h (Acted (act.Stop k) ∷ h) (status c h q) (status c h q) refl refl (less_not (status c h q)) (counts c h run.1 q)
+    count_asked q h (q == p) r addr p (status c h q)
+    (λ t. (agree c h run.1).new_are q (asked_above (state_of c h) q p run.0.1 t)) (counts c h run.1 q)
+counts c (Acted (act.Stop k) ∷ h) run q = count_more q h (Acted (act.Stop k) ∷ h) (status c h q) (status c h q) refl
+    refl (less_not (status c h q)) (counts c h run.1 q)
 counts c (Acted (act.Send k p channel text) ∷ h) run q =
-    count_sent q h k p channel text (status c h q) (λ t. rw (equal q p t) (sent_law c h k p channel text run)) (counts c h run.1 q)
-counts c (Acted act.Start ∷ h) run q = count_more q h (Acted act.Start ∷ h) (status c h q) (status c h q) refl refl (less_not (status c h q)) (counts c h run.1 q)
-counts c (Started k ∷ h) run q = count_more q h (Started k ∷ h) (status c h q) (status c h q) refl refl (less_not (status c h q)) (counts c h run.1 q)
+    count_sent q h k p channel text (status c h q) (λ t. rw (equal q p t) (sent_law c h k p channel text run))
+    (counts c h run.1 q)
+counts c (Acted act.Start ∷ h) run q = count_more q h (Acted act.Start ∷ h) (status c h q) (status c h q) refl refl
+    (less_not (status c h q)) (counts c h run.1 q)
+counts c (Started k ∷ h) run q = count_more q h (Started k ∷ h) (status c h q) (status c h q) refl refl
+    (less_not (status c h q)) (counts c h run.1 q)
 counts c (StartFailed ∷ h) run q =
-    count_more q h (StartFailed ∷ h) (status c h q) (once_failed (is_last_start (state_of c h).stock) (status c h q)) refl refl (less_failed (is_last_start (state_of c h).stock) (status c h q)) (counts c h run.1 q)
-counts c (Wrote k line g ∷ h) run q = count_more q h (Wrote k line g ∷ h) (status c h q) (once_written q k g (status c h q)) refl refl (less_written q k g (status c h q)) (counts c h run.1 q)
-counts c (Died k ∷ h) run q = count_more q h (Died k ∷ h) (status c h q) (once_lost k cause.Died (status c h q)) refl refl (less_lost k cause.Died (status c h q)) (counts c h run.1 q)
-counts c (Took p w ∷ h) run q = count_took q h p w (status c h q) (λ t. rw (equal q p t) (taken_law c h p w run)) (counts c h run.1 q)
+    count_more q h (StartFailed ∷ h) (status c h q) (once_failed (is_last_start (state_of c h).stock) (status c h q))
+    refl refl (less_failed (is_last_start (state_of c h).stock) (status c h q)) (counts c h run.1 q)
+counts c (Wrote k line g ∷ h) run q = count_more q h (Wrote k line g ∷ h) (status c h q)
+    (once_written q k g (status c h q)) refl refl (less_written q k g (status c h q)) (counts c h run.1 q)
+counts c (Died k ∷ h) run q = count_more q h (Died k ∷ h) (status c h q) (once_lost k cause.Died (status c h q)) refl
+    refl (less_lost k cause.Died (status c h q)) (counts c h run.1 q)
+counts c (Took p w ∷ h) run q = count_took q h p w (status c h q) (λ t. rw (equal q p t) (taken_law c h p w run))
+    (counts c h run.1 q)
 
 few_sent : (x : Status) → most_sent x ≤ 1
 few_sent Unasked = omega arith
@@ -175,7 +202,8 @@ no_texts : (q : ℕ) (queue : List Waiting) → texts_of q queue ≡ [] → time
 no_texts q [] e = refl
 no_texts q (w ∷ queue) e = by_test (q == w.question) e (no_texts q queue)
   where
-    by_test : (b : Bool) → (if b then w.text ∷ texts_of q queue else texts_of q queue) ≡ [] → (texts_of q queue ≡ [] → times_waiting q queue ≡ 0)
+    by_test : (b : Bool) → (if b then w.text ∷ texts_of q queue else texts_of q queue) ≡ []
+        → (texts_of q queue ≡ [] → times_waiting q queue ≡ 0)
         → (if b then suc (times_waiting q queue) else times_waiting q queue) ≡ 0
     by_test true e more = absurd cc
     by_test false e more = more e
@@ -191,15 +219,19 @@ new_place s st a =
     omega arith
 
 pub reached_place : (s : RewriteState) → IsReached s → places (suc s.asked) s.stock ≡ 0
-reached_place s r = rw r.state_is (new_place (state_of r.class r.calls) (status r.class r.calls) (agree r.class r.calls r.run))
+reached_place s r = rw r.state_is
+    (new_place (state_of r.class r.calls) (status r.class r.calls) (agree r.class r.calls r.run))
 
 pub reached_row : (s : RewriteState) → IsReached s → row_at (suc s.asked) s.rows ≡ None
 reached_row s r =
     let a = agree r.class r.calls r.run in
-    rw r.state_is (a.rows_are (suc (state_of r.class r.calls).asked) ∙ ap row_of (a.new_are (suc (state_of r.class r.calls).asked) (omega arith)))
+    rw r.state_is (a.rows_are (suc (state_of r.class r.calls).asked)
+    ∙ ap row_of (a.new_are (suc (state_of r.class r.calls).asked) (omega arith)))
 
 pub reached_proc : (s : RewriteState) → IsReached s → lives (suc s.started) s.stock.procs ≡ false
-reached_proc s r = rw r.state_is (none_lives (suc (state_of r.class r.calls).started) (state_of r.class r.calls).stock.procs (agree r.class r.calls r.run).below)
+reached_proc s r = rw r.state_is
+    (none_lives (suc (state_of r.class r.calls).started) (state_of r.class r.calls).stock.procs
+    (agree r.class r.calls r.run).below)
 
 -- for a call that has its answer: its state is reached too
 pub reached_after : (e : Call) (s s' : RewriteState) → IsReached s → Answers e s → s' ≡ after e s → IsReached s'
@@ -214,7 +246,7 @@ pub reached_begun : (c : Class) → IsReached (state_of c [])
 reached_begun c = record { class = c; calls = []; run = tt; state_is = refl }
 
 -- for a question that has ended: what is taken of it
-pub taken_row : (o : Option Row) (w : Rewriting) → option_map taken_of o ≡ Some (Some w) → ended_in o ≡ Some w
+pub taken_row : (o : Option QuestionRow) (w : Rewriting) → option_map taken_of o ≡ Some (Some w) → ended_in o ≡ Some w
 taken_row None w e = absurd cc
 taken_row (Some r) w e = cc
 
@@ -238,29 +270,37 @@ reached_acted s r none = by_act (act_of s.stock) refl
   where
     by_act : (o : Option FarmAct) → act_of s.stock ≡ o → IsReached (record s { stock = after_act s.stock })
     by_act None e = subst (λ v. IsReached (record s { stock = v })) (sym (none_due s.stock e)) r
-    by_act (Some x) e = reached_after (Acted (as_act x)) s (record s { stock = after_act s.stock }) r (ap (λ z. due_by z (act_of s.stock)) none ∙ ap (option_map as_act) e) (sym (farm_acted x s))
+    by_act (Some x) e = reached_after (Acted (as_act x)) s (record s { stock = after_act s.stock }) r
+        (ap (λ z. due_by z (act_of s.stock)) none ∙ ap (option_map as_act) e) (sym (farm_acted x s))
 
 -- and what it leaves
-pub acted_some : (s : RewriteState) (o : Option FarmAct) → IfSome (option_map as_act o) (λ a. record s { stock = after_act s.stock } ≡ after_acted a s)
+pub acted_some : (s : RewriteState) (o : Option FarmAct)
+    → IfSome (option_map as_act o) (λ a. record s { stock = after_act s.stock } ≡ after_acted a s)
 acted_some s None = tt
 acted_some s (Some x) = sym (farm_acted x s)
 
 -- for a stop that is due: its state is reached too
-pub reached_stop : (s : RewriteState) (k : ℕ) (ks : List ℕ) → IsReached s → s.stops ≡ k ∷ ks → IsReached (record s { stops = ks })
-reached_stop s k ks r e = reached_after (Acted (act.Stop k)) s (record s { stops = ks }) r (ap (λ z. due_by z (act_of s.stock)) e) (ap (λ z. record s { stops = later_stops z }) (sym e))
+pub reached_stop : (s : RewriteState) (k : ℕ) (ks : List ℕ) → IsReached s → s.stops ≡ k ∷ ks
+    → IsReached (record s { stops = ks })
+reached_stop s k ks r e = reached_after (Acted (act.Stop k)) s (record s { stops = ks }) r
+    (ap (λ z. due_by z (act_of s.stock)) e) (ap (λ z. record s { stops = later_stops z }) (sym e))
 
 -- for what was taken: its state is reached too
-pub reached_took : (s : RewriteState) (q : ℕ) (w : Rewriting) (rows : Rows) → IsReached s → option_map taken_of (row_at q s.rows) ≡ Some (Some w) → rows ≡ without_row q s.rows
+pub reached_took : (s : RewriteState) (q : ℕ) (w : Rewriting) (rows : Rows) → IsReached s
+    → option_map taken_of (row_at q s.rows) ≡ Some (Some w) → rows ≡ without_row q s.rows
     → IsReached (record s { rows = rows })
-reached_took s q w rows r e i = reached_after (Took q w) s (record s { rows = rows }) r (taken_row (row_at q s.rows) w e) (ap (λ z. record s { rows = z }) i)
+reached_took s q w rows r e i = reached_after (Took q w) s (record s { rows = rows }) r
+    (taken_row (row_at q s.rows) w e) (ap (λ z. record s { rows = z }) i)
 
 -- for a process that lives: its death and its lines are noted
 pub not_refused : (k : ℕ) (s : RewriteState) → lives k s.stock.procs ≡ true → proc_refusal k s ≡ None
 not_refused k s e = rw e refl
 
 -- for what a question came to, if it has ended: the state that is left is reached
-pub reached_taking : (s : RewriteState) (q : ℕ) (o : Option (Option Rewriting)) (rows : Rows) → IsReached s → o ≡ option_map taken_of (row_at q s.rows)
-    → IfSome o (λ w. rows ≡ (if is_some w then without_row q s.rows else s.rows)) → IfNone o (rows ≡ s.rows) → IsReached (record s { rows = rows })
+pub reached_taking : (s : RewriteState) (q : ℕ) (o : Option (Option Rewriting)) (rows : Rows) → IsReached s
+    → o ≡ option_map taken_of (row_at q s.rows)
+    → IfSome o (λ w. rows ≡ (if is_some w then without_row q s.rows else s.rows)) → IfNone o (rows ≡ s.rows)
+    → IsReached (record s { rows = rows })
 reached_taking s q None rows r e t n = subst (λ z. IsReached (record s { rows = z })) (sym n) r
 reached_taking s q (Some None) rows r e t n = subst (λ z. IsReached (record s { rows = z })) (sym t) r
 reached_taking s q (Some (Some w)) rows r e t n = reached_took s q w rows r (sym e) t

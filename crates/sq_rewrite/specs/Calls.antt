@@ -1,4 +1,5 @@
--- The calls of a rewriter that were not refused, each with its answer. A call that answers none is no entry: it changes nothing.
+-- The calls of a rewriter that were not refused, each with its answer. A call that answers none is
+-- no entry: it changes nothing.
 use Rattle.std.specs.Prelude.{ℕ, List}
 use Rattle.sq_base.specs.Addresses.{Address}
 use Rattle.sq_base.specs.Requests.{HttpRequest}

@@ -1,4 +1,5 @@
--- The question to a redirector, and what its reply makes of the request (configuration reference, `url_rewrite_program`).
+-- The question to a redirector, and what its reply makes of the request (configuration reference,
+-- `url_rewrite_program`).
 use Rattle.std.specs.Prelude.{ℕ, List, ◌∷◌, ◌++◌, length, Bool, not, ◌&&◌, ◌==◌, if◌then◌else◌, Some, None, codes, bytes_eq}
 use Rattle.std.specs.List.{find, list_all}
 use Rattle.std.specs.Option.{option_map}
@@ -49,7 +50,8 @@ redirect_by (Some code) (Some url) = if is_url url then Some (code, url) else No
 
 -- the redirect of these pairs: its status and its URL
 unfoldable pub redirect_of : List Pair → Option (ℕ × List ℕ)
-redirect_of pairs = redirect_by (code_by (value_of (codes "status") pairs)) (value_of (codes "url") pairs)
+redirect_of pairs = redirect_by (code_by (value_of (codes "status") pairs))
+    (value_of (codes "url") pairs)
 
 -- a request of scheme http
 abbrev pub plain_only : Option HttpRequest → Option HttpRequest
@@ -60,9 +62,11 @@ abbrev pub request_by : HttpRequest → Option (List ℕ) → Option HttpRequest
 request_by r None = None
 request_by r (Some target) = plain_only (retargeted r target)
 
--- the request of these pairs in place of this one, which is not CONNECT: its method, version and fields, and the new target
+-- the request of these pairs in place of this one, which is not CONNECT: its method, version and
+-- fields, and the new target
 unfoldable pub new_request : HttpRequest → List Pair → Option HttpRequest
-new_request r pairs = if bytes_eq r.method (codes "CONNECT") then None else request_by r (value_of (codes "rewrite-url") pairs)
+new_request r pairs = if bytes_eq r.method (codes "CONNECT") then None
+    else request_by r (value_of (codes "rewrite-url") pairs)
 
 -- a redirect is before a new request
 abbrev pub chosen : Option (ℕ × List ℕ) → Option HttpRequest → Rewriting

@@ -1,4 +1,5 @@
--- The state of a rewriter: the farm of its class, its questions and the stops that are due, and what each call does to them.
+-- The state of a rewriter: the farm of its class, its questions and the stops that are due, and
+-- what each call does to them.
 use Rattle.std.specs.Prelude.{◌≡◌, ℕ, suc, List, [], ◌∷◌, Bool, not, if◌then◌else◌, ◌==◌, nat_le, filter, Some, None}
 use Rattle.std.specs.BTreeMap.{insert_entry, is_at}
 use Rattle.std.specs.BTreeSet.{insert_key}
@@ -27,14 +28,15 @@ use Rattle.sq_rewrite.specs.declared.faults.RewriteFault.{RewriteFault}
 use Rattle.sq_rewrite.specs.declared.faults.RewriteFault.TheVariants as fault
 use Rattle.sq_rewrite.specs.declared.rewritings.Rewriting.{Rewriting}
 use Rattle.sq_rewrite.specs.declared.rewritings.Rewriting.TheVariants as rewriting
-use Rattle.sq_rewrite.specs.declared.rows.Row.{Row}
-use Rattle.sq_rewrite.specs.declared.rows.Row.TheVariants as row
+use Rattle.sq_rewrite.specs.declared.rows.QuestionRow.{QuestionRow}
+use Rattle.sq_rewrite.specs.declared.rows.QuestionRow.TheVariants as row
 
 -- the questions that were asked and not taken, by number
 abbrev pub Rows : Type 0
-Rows = List (ℕ × Row)
+Rows = List (ℕ × QuestionRow)
 
--- the farm, the processes of which a stop is due, by number, how many questions and processes got a number, and the questions
+-- the farm, the processes of which a stop is due, by number, how many questions and processes got a
+-- number, and the questions
 pub record RewriteState : Type 0 where
   pub stock : Stock
   pub stops : List ℕ
@@ -47,11 +49,11 @@ abbrev pub begun : Class → RewriteState
 begun c = record { stock = stock_of c; stops = []; asked = 0; started = 0; rows = [] }
 
 -- what is known of a question
-abbrev pub row_at : ℕ → Rows → Option Row
+abbrev pub row_at : ℕ → Rows → Option QuestionRow
 row_at q rows = lookup (is_at (nat_cmp q)) rows
 
 -- the questions with one more
-abbrev pub with_row : ℕ → Row → Rows → Rows
+abbrev pub with_row : ℕ → QuestionRow → Rows → Rows
 with_row q r rows = insert_entry nat_cmp rows q r
 
 -- the questions once this one has ended
@@ -67,7 +69,7 @@ abbrev pub lost_rows : List Loss → Rows → Rows
 lost_rows [] rows = rows
 lost_rows (l ∷ ls) rows = lost_rows ls (ended_row l.question (rewriting.Same (Some l.cause)) rows)
 
-abbrev pub answered_by : ℕ → Reply → Option Row → Rows → Rows
+abbrev pub answered_by : ℕ → Reply → Option QuestionRow → Rows → Rows
 answered_by q reply None rows = rows
 answered_by q reply (Some (row.Open r)) rows = ended_row q (rewriting_of reply r) rows
 answered_by q reply (Some (row.Ended w)) rows = rows
@@ -101,7 +103,10 @@ after_acted act.Start s = record s { stock = after_act s.stock }
 
 -- the questions that an end or a failed start gave a fault have ended by it
 abbrev pub handed : RewriteState → RewriteState
-handed s = record s { stock = record s.stock { losses = [] }; rows = lost_rows s.stock.losses s.rows }
+handed s = record s {
+  stock = record s.stock { losses = [] };
+  rows = lost_rows s.stock.losses s.rows;
+}
 
 -- a line that is no reply ends its process, of which a stop is due then
 abbrev pub stops_after : ℕ → Got → List ℕ → List ℕ
@@ -117,12 +122,21 @@ rows_after got.Stray rows = rows
 
 -- after a line of process k
 abbrev pub after_line : ℕ → Got → RewriteState → RewriteState
-after_line k g s = handed (record s { stock = after_got k g s.stock; stops = stops_after k g s.stops; rows = rows_after g s.rows })
+after_line k g s = handed
+    (record s {
+      stock = after_got k g s.stock;
+      stops = stops_after k g s.stops;
+      rows = rows_after g s.rows;
+    })
 
 -- after a call
 abbrev pub after : Call → RewriteState → RewriteState
 after (Asked r addr q) s =
-    record s { stock = put_in (record { question = q; text = question_text r addr }) s.stock; asked = q; rows = with_row q (row.Open r) s.rows }
+    record s {
+      stock = put_in (record { question = q; text = question_text r addr }) s.stock;
+      asked = q;
+      rows = with_row q (row.Open r) s.rows;
+    }
 after (Acted a) s = after_acted a s
 after (Started k) s = record s { stock = started_in k s.stock; started = k }
 after StartFailed s = handed (record s { stock = failed s.stock })
@@ -136,7 +150,8 @@ is_spent n = nat_le last_number (suc n)
 
 -- why a question is not put
 abbrev pub ask_refusal : RewriteState → Option RewriteFault
-ask_refusal s = if is_spent s.asked then Some (fault.Spent last_number) else (if full s.stock then Some fault.Full else None)
+ask_refusal s = if is_spent s.asked then Some (fault.Spent last_number)
+    else (if full s.stock then Some fault.Full else None)
 
 -- why a failed start is not noted
 abbrev pub fail_refusal : RewriteState → Option RewriteFault
@@ -145,13 +160,14 @@ fail_refusal s = if s.stock.starting == 0 then Some fault.NoStartOpen else None
 -- why a started process is not noted
 abbrev pub start_refusal : RewriteState → Option RewriteFault
 start_refusal s =
-    if s.stock.starting == 0 then Some fault.NoStartOpen else (if is_spent s.started then Some (fault.Spent last_number) else None)
+    if s.stock.starting == 0 then Some fault.NoStartOpen
+    else (if is_spent s.started then Some (fault.Spent last_number) else None)
 
 -- why a line or the death of process k is not noted
 abbrev pub proc_refusal : ℕ → RewriteState → Option RewriteFault
 proc_refusal k s = if lives k s.stock.procs then None else Some (fault.UnknownProc k)
 
-abbrev pub refusal_at : ℕ → Option Row → Option RewriteFault
+abbrev pub refusal_at : ℕ → Option QuestionRow → Option RewriteFault
 refusal_at q None = Some (fault.UnknownQuestion q)
 refusal_at q (Some r) = None
 
@@ -165,15 +181,16 @@ Refuses None e = e ≡ fault.WantOfMemory
 Refuses (Some f) e = e ≡ f
 
 -- what a question came to, if it has ended
-abbrev pub taken_of : Row → Option Rewriting
+abbrev pub taken_of : QuestionRow → Option Rewriting
 taken_of (row.Open r) = None
 taken_of (row.Ended w) = Some w
 
-abbrev pub ended_in : Option Row → Option Rewriting
+abbrev pub ended_in : Option QuestionRow → Option Rewriting
 ended_in None = None
 ended_in (Some r) = taken_of r
 
--- the call has its answer: it is not refused, and answers what is due, what was written or how the question has ended
+-- the call has its answer: it is not refused, and answers what is due, what was written or how the
+-- question has ended
 abbrev pub Answers : Call → RewriteState → Type 0
 Answers (Asked r addr q) s = (ask_refusal s ≡ None) × (q ≡ suc s.asked)
 Answers (Acted a) s = act_due s ≡ Some a

@@ -1,5 +1,6 @@
--- What becomes of each question of a rewriter, told by the calls alone: it waits from its asking, it is at a process from its
--- send, it ends once, by the reply or by what took it its process, and then it is taken.
+-- What becomes of each question of a rewriter, told by the calls alone: it waits from its asking,
+-- it is at a process from its send, it ends once, by the reply or by what took it its process, and
+-- then it is taken.
 use Rattle.std.specs.Prelude.{◌≡◌, ℕ, suc, List, [], ◌∷◌, Bool, false, if◌then◌else◌, ◌==◌, Some}
 use Rattle.sq_base.specs.Addresses.{Address}
 use Rattle.sq_base.specs.Requests.{HttpRequest}
@@ -42,7 +43,8 @@ once_acted q (act.Send k p channel text) st = if q == p then once_sent k st else
 once_acted q (act.Stop k) st = st
 once_acted q act.Start st = st
 
--- a reply of process k ends a question that was sent to it: it comes to what the reply makes of its request
+-- a reply of process k ends a question that was sent to it: it comes to what the reply makes of its
+-- request
 abbrev pub once_replied : ℕ → Reply → Status → Status
 once_replied k reply Unasked = Unasked
 once_replied k reply (Waits r addr) = Waits r addr
@@ -66,12 +68,14 @@ once_written q k got.Stray st = once_lost k cause.Stray st
 -- a failed start, after which no process lives or starts, ends the questions that were not sent
 abbrev pub once_failed : Bool → Status → Status
 once_failed last Unasked = Unasked
-once_failed last (Waits r addr) = if last then HasEnded (rewriting.Same (Some cause.NoHelper)) else Waits r addr
+once_failed last (Waits r addr) = if last then HasEnded (rewriting.Same (Some cause.NoHelper))
+    else Waits r addr
 once_failed last (IsAt r p) = IsAt r p
 once_failed last (HasEnded w) = HasEnded w
 once_failed last IsTaken = IsTaken
 
--- the status of question q after a call; `last` says that no process lives, and that one start is open
+-- the status of question q after a call; `last` says that no process lives, and that one start is
+-- open
 abbrev pub once : Bool → ℕ → Call → Status → Status
 once last q (Asked r addr p) st = if q == p then Waits r addr else st
 once last q (Acted a) st = once_acted q a st

@@ -13,8 +13,8 @@ ghost use Rattle.sq_rewrite.specs.declared.faults.RewriteFault.TheVariants as fa
 use crate::acts::{RewriteAct, as_act};
 use crate::faults::RewriteFault;
 use crate::rewritings::{Rewriting, question_text, rewriting_of};
-use crate::rows::{Questions, Row};
-use crate::stops::Stops;
+use crate::rows::{QuestionRow, Questions};
+use crate::stops::RewriterStops;
 use sq_base::{Addr, Cause, Copying, ProcNo, QuestionNo, Reply, Request, WantOfMemory};
 use sq_farm::{Farm, FarmFault, Got};
 use sq_machine::LAST_NUMBER;
@@ -25,7 +25,7 @@ use std::marker::Model;
 /// The processes of a redirector, and the questions to them.
 pub struct Rewriter {
     farm: Farm,
-    stops: Stops,
+    stops: RewriterStops,
     // How many questions and how many processes have a number.
     asked: u64,
     started: u64,
@@ -50,9 +50,22 @@ impl Model for Rewriter {
 
     ghost Value = { RewriteState };
 
-    ghost view = { λ r. record { stock = r.farm; stops = r.stops; asked = r.asked; started = r.started; rows = r.questions } };
+    ghost view = { λ r. record {
+      stock = r.farm;
+      stops = r.stops;
+      asked = r.asked;
+      started = r.started;
+      rows = r.questions;
+    } };
 
-    ghost invariant = { λ r. IsReached (record { stock = r.farm; stops = r.stops; asked = r.asked; started = r.started; rows = r.questions }) };
+    ghost invariant = { λ r. IsReached
+        (record {
+          stock = r.farm;
+          stops = r.stops;
+          asked = r.asked;
+          started = r.started;
+          rows = r.questions;
+        }) };
 }
 
 // The number behind so many.
@@ -85,7 +98,8 @@ fn look(farm: &Farm, alloc: Global, proc: ProcNo, line: &[u8]) -> Result<Got, Re
     ensures alive { OnOk result (lives proc farm.now.procs ≡ true) }
     ensures value { IfOk result (λ g. got_of proc farm.now line.now ≡ Some g) }
     ensures opened { IfOk result (names_open (slots_in proc farm.now.procs)) }
-    ensures refused { IfErr result (Refuses (if lives proc farm.now.procs then None else Some (fault.UnknownProc proc))) }
+    ensures refused { IfErr result
+        (Refuses (if lives proc farm.now.procs then None else Some (fault.UnknownProc proc))) }
 {
     match farm.look(alloc, proc, line) {
         Ok(got) => Ok(got),
@@ -105,12 +119,12 @@ fn answer(
     ensures err { OnErr result (questions.new ≡ questions.old) }
 {
     match questions.row(question) {
-        Some(Row::Open(request)) => {
+        Some(QuestionRow::Open(request)) => {
             let rewriting = rewriting_of(alloc, reply, request)?;
             questions.end(question, rewriting);
             Ok(())
         }
-        Some(Row::Ended(_)) => Ok(()),
+        Some(QuestionRow::Ended(_)) => Ok(()),
         None => Ok(()),
     }
 }
@@ -118,7 +132,7 @@ fn answer(
 // What a line makes of the questions and of the stops that are due.
 fn note(
     alloc: Global,
-    stops: &mut Stops,
+    stops: &mut RewriterStops,
     questions: &mut Questions,
     proc: ProcNo,
     got: &Got,
@@ -141,7 +155,7 @@ impl Rewriter {
     {
         Rewriter {
             farm: Farm::new(alloc, class),
-            stops: Stops::new(alloc),
+            stops: RewriterStops::new(alloc),
             asked: 0,
             started: 0,
             questions: Questions::new(alloc),
@@ -270,9 +284,12 @@ impl Rewriter {
     /// What a question came to, which can be taken once; `None` where it has not ended. It takes no memory.
     pub fn take(&mut self, question: QuestionNo) -> Result<Option<Rewriting>, RewriteFault>
         ensures refused { IfErr result (λ e. take_refusal question self.old ≡ Some e) }
-        ensures row { IfOk result (λ o. option_map taken_of (row_at question self.old.rows) ≡ Some o) }
+        ensures row { IfOk result
+            (λ o. option_map taken_of (row_at question self.old.rows) ≡ Some o) }
         ensures answers { IfOk result (λ o. IfSome o (λ w. Answers (Took question w) self.old)) }
-        ensures ok { IfOk result (λ o. MatchOption o (self.new ≡ self.old) (λ w. self.new ≡ after (Took question w) self.old)) }
+        ensures ok { IfOk result
+            (λ o. MatchOption o (self.new ≡ self.old)
+            (λ w. self.new ≡ after (Took question w) self.old)) }
         ensures err { OnErr result (self.new ≡ self.old) }
     {
         match self.questions.take(question) {

@@ -127,7 +127,8 @@ fn new_request(
 
 // What the pairs of an `OK` make of a request.
 fn by_pairs(alloc: Global, request: &Request, pairs: &[Pair]) -> Result<Rewriting, WantOfMemory>
-    ensures { IfOk result (λ r. r ≡ chosen (redirect_of pairs.now) (new_request request.now pairs.now)) }
+    ensures { IfOk result
+        (λ r. r ≡ chosen (redirect_of pairs.now) (new_request request.now pairs.now)) }
 {
     if let Some((status, url)) = redirect_of(pairs) {
         let url = Text::from_slice(alloc, url)?;

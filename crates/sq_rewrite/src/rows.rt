@@ -1,7 +1,7 @@
 //! `Questions`: the questions that were asked and not taken.
 ghost use Rattle.std.specs.Prelude.{◌≡◌, [], None, Some, is_some, if◌then◌else◌, OnOk, OnErr, IfSome, IfNone};
 ghost use Rattle.std.specs.Option.{option_map};
-ghost use Rattle.sq_rewrite.specs.declared.rows.Row.TheVariants as rows;
+ghost use Rattle.sq_rewrite.specs.declared.rows.QuestionRow.TheVariants as rows;
 ghost use Rattle.sq_rewrite.specs.States.{ended_in, ended_row, row_at, taken_of, with_row, without_row};
 
 use crate::rewritings::Rewriting;
@@ -12,7 +12,7 @@ use std::marker::Model;
 
 /// What is known of a question.
 #[derive(Drop, Debug)]
-pub enum Row {
+pub enum QuestionRow {
     /// It is about this request, and has not ended.
     Open(Request),
     /// It came to this, which was not taken.
@@ -22,7 +22,7 @@ pub enum Row {
 /// Questions by number.
 #[derive(Drop)]
 pub struct Questions {
-    map: BTreeMap<QuestionNo, Row>,
+    map: BTreeMap<QuestionNo, QuestionRow>,
 }
 
 impl Model for Questions {
@@ -51,12 +51,12 @@ impl Questions {
         ensures undo { OnOk result (without_row question self.new ≡ self.old) }
         ensures err { OnErr result (self.new ≡ self.old) }
     {
-        let _was = self.map.insert(question, Row::Open(request))?;
+        let _was = self.map.insert(question, QuestionRow::Open(request))?;
         Ok(())
     }
 
     /// What is known of a question, lent.
-    pub fn row(&self, question: QuestionNo) -> Option<&Row>
+    pub fn row(&self, question: QuestionNo) -> Option<&QuestionRow>
         ensures { option_map (λ r. r.now) result ≡ row_at question self.now }
     {
         self.map.get(&question)
@@ -73,7 +73,7 @@ impl Questions {
     }
 
     /// Takes a question out. It takes no memory.
-    pub fn remove(&mut self, question: QuestionNo) -> Option<Row>
+    pub fn remove(&mut self, question: QuestionNo) -> Option<QuestionRow>
         ensures row { result ≡ row_at question self.old }
         ensures others { self.new ≡ without_row question self.old }
     {
@@ -85,28 +85,29 @@ impl Questions {
     /// What a question came to, which is taken out then; `Some(None)` where it has not ended. It takes no memory.
     pub fn take(&mut self, question: QuestionNo) -> Option<Option<Rewriting>>
         ensures row { result ≡ option_map taken_of (row_at question self.old) }
-        ensures taken { IfSome result (λ w. self.new ≡ (if is_some w then without_row question self.old else self.old)) }
+        ensures taken { IfSome result
+            (λ w. self.new ≡ (if is_some w then without_row question self.old else self.old)) }
         ensures none { IfNone result (self.new ≡ self.old) }
     {
         match self.row(question)? {
-            Row::Open(_) => Some(None),
-            Row::Ended(_) => Some(taken_of(self.remove(question))),
+            QuestionRow::Open(_) => Some(None),
+            QuestionRow::Ended(_) => Some(taken_of(self.remove(question))),
         }
     }
 }
 
-fn end_row(row: &mut Row, rewriting: Rewriting)
+fn end_row(row: &mut QuestionRow, rewriting: Rewriting)
     ensures { row.new ≡ rows.Ended rewriting }
 {
-    *row = Row::Ended(rewriting);
+    *row = QuestionRow::Ended(rewriting);
 }
 
-fn taken_of(row: Option<Row>) -> Option<Rewriting>
+fn taken_of(row: Option<QuestionRow>) -> Option<Rewriting>
     ensures { result ≡ ended_in row }
 {
     match row {
-        Some(Row::Ended(rewriting)) => Some(rewriting),
-        Some(Row::Open(_)) => None,
+        Some(QuestionRow::Ended(rewriting)) => Some(rewriting),
+        Some(QuestionRow::Open(_)) => None,
         None => None,
     }
 }

@@ -1,4 +1,4 @@
-//! `Stops`: the processes of which a stop is due.
+//! `RewriterStops`: the processes of which a stop is due.
 ghost use Rattle.std.specs.Prelude.{◌≡◌, ◌∷◌, [], MatchOption, IfNone, OnOk, OnErr};
 ghost use Rattle.std.specs.BTreeSet.{insert_key};
 ghost use Rattle.std.specs.Ordering.{nat_cmp};
@@ -10,11 +10,11 @@ use std::marker::Model;
 
 /// Processes by number.
 #[derive(Drop)]
-pub struct Stops {
+pub struct RewriterStops {
     procs: BTreeSet<ProcNo>,
 }
 
-impl Model for Stops {
+impl Model for RewriterStops {
     ghost use Rattle.std.specs.Prelude.{List, ℕ};
 
     ghost Value = { List ℕ };
@@ -22,12 +22,12 @@ impl Model for Stops {
     ghost view = { λ s. s.procs.keys };
 }
 
-impl Stops {
+impl RewriterStops {
     /// None. It takes no memory.
-    pub fn new(alloc: Global) -> Stops
+    pub fn new(alloc: Global) -> RewriterStops
         ensures { result ≡ [] }
     {
-        Stops {
+        RewriterStops {
             procs: BTreeSet::new(alloc),
         }
     }

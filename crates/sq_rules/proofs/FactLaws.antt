@@ -11,6 +11,10 @@ pub facts_count : (acls : List Acl) (s : Sight) → length (facts_of acls s) ≡
 facts_count acls s = length-map acls (acl_fact s)
 
 -- the fact at a place is that of the acl there
-pub fact_at : (acls : List Acl) (s : Sight) (place : ℕ) (a : Acl) → slice_get acls place ≡ Some a → get_or (facts_of acls s) place false ≡ acl_fact s a
+pub fact_at : (acls : List Acl) (s : Sight) (place : ℕ) (a : Acl) → slice_get acls place ≡ Some a
+    → get_or (facts_of acls s) place false ≡ acl_fact s a
 fact_at acls s place a here =
-    rw (get_or-map (acl_fact s) acls place a false (slice_get_within acls place a here), get_or_from_slice_get acls place a a here) refl
+    rw (
+      get_or-map (acl_fact s) acls place a false (slice_get_within acls place a here),
+      get_or_from_slice_get acls place a a here,
+    ) refl

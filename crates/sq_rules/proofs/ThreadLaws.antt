@@ -41,7 +41,37 @@ notice_send = search (sendable, crosses) depth 40 fits 20000
 
 inside_send : IsSend inside.the_row
 inside_send =
-    let parts : FieldsHave IsSend (inside.the_type).parts = (search (sendable, crosses) depth 40 fits 20000, (search (sendable, crosses) depth 40 fits 20000, (search (sendable, crosses, class_send) depth 40 fits 20000, (search (sendable, crosses, acl_send) depth 40 fits 20000, (search (sendable, crosses, rule_send) depth 40 fits 20000, (search (sendable, crosses, pool_send) depth 40 fits 20000, (search (sendable, crosses) depth 40 fits 20000, (search (sendable, crosses) depth 40 fits 20000, (search (sendable, crosses, class_send) depth 40 fits 20000, (search (sendable, crosses, header_send) depth 40 fits 20000, (search (sendable, crosses, notice_send) depth 40 fits 20000, tt))))))))))) in
+    let parts : FieldsHave IsSend (inside.the_type).parts = (
+      search (sendable, crosses) depth 40 fits 20000,
+      (
+        search (sendable, crosses) depth 40 fits 20000,
+        (
+          search (sendable, crosses, class_send) depth 40 fits 20000,
+          (
+            search (sendable, crosses, acl_send) depth 40 fits 20000,
+            (
+              search (sendable, crosses, rule_send) depth 40 fits 20000,
+              (
+                search (sendable, crosses, pool_send) depth 40 fits 20000,
+                (
+                  search (sendable, crosses) depth 40 fits 20000,
+                  (
+                    search (sendable, crosses) depth 40 fits 20000,
+                    (
+                      search (sendable, crosses, class_send) depth 40 fits 20000,
+                      (
+                        search (sendable, crosses, header_send) depth 40 fits 20000,
+                        (search (sendable, crosses, notice_send) depth 40 fits 20000, tt),
+                      ),
+                    ),
+                  ),
+                ),
+              ),
+            ),
+          ),
+        ),
+      ),
+    ) in
     declared_send inside.the_type parts
 
 -- a configuration may go to another thread, for structs that hold one
@@ -74,7 +104,37 @@ notice_sync = search (sendable, crosses) depth 40 fits 20000
 
 inside_sync : IsSync inside.the_row
 inside_sync =
-    let parts : FieldsHave IsSync (inside.the_type).parts = (search (sendable, crosses) depth 40 fits 20000, (search (sendable, crosses) depth 40 fits 20000, (search (sendable, crosses, class_sync) depth 40 fits 20000, (search (sendable, crosses, acl_sync) depth 40 fits 20000, (search (sendable, crosses, rule_sync) depth 40 fits 20000, (search (sendable, crosses, pool_sync) depth 40 fits 20000, (search (sendable, crosses) depth 40 fits 20000, (search (sendable, crosses) depth 40 fits 20000, (search (sendable, crosses, class_sync) depth 40 fits 20000, (search (sendable, crosses, header_sync) depth 40 fits 20000, (search (sendable, crosses, notice_sync) depth 40 fits 20000, tt))))))))))) in
+    let parts : FieldsHave IsSync (inside.the_type).parts = (
+      search (sendable, crosses) depth 40 fits 20000,
+      (
+        search (sendable, crosses) depth 40 fits 20000,
+        (
+          search (sendable, crosses, class_sync) depth 40 fits 20000,
+          (
+            search (sendable, crosses, acl_sync) depth 40 fits 20000,
+            (
+              search (sendable, crosses, rule_sync) depth 40 fits 20000,
+              (
+                search (sendable, crosses, pool_sync) depth 40 fits 20000,
+                (
+                  search (sendable, crosses) depth 40 fits 20000,
+                  (
+                    search (sendable, crosses) depth 40 fits 20000,
+                    (
+                      search (sendable, crosses, class_sync) depth 40 fits 20000,
+                      (
+                        search (sendable, crosses, header_sync) depth 40 fits 20000,
+                        (search (sendable, crosses, notice_sync) depth 40 fits 20000, tt),
+                      ),
+                    ),
+                  ),
+                ),
+              ),
+            ),
+          ),
+        ),
+      ),
+    ) in
     declared_sync inside.the_type parts
 
 -- a configuration may be read by several threads, for structs that hold one

@@ -13,7 +13,7 @@ use Rattle.sq_rules.specs.Configurations.{are_shallow}
 use Rattle.sq_rules.specs.Drafts.{Drafts, are_fast, with_acl_more, with_body, with_leaf, with_line, with_lookup, with_member}
 use Rattle.sq_rules.specs.Limits.{acl_limit, name_limit, rule_limit}
 use Rattle.sq_rules.specs.Lookups.{has_blank, literal_name, lookup_name, named_name, stated}
-use Rattle.sq_rules.specs.Steps.{Words, unless, needed, word, over, over_some, some_of, one_more, begins}
+use Rattle.sq_rules.specs.Steps.{WordList, unless, needed, word, over, over_some, some_of, one_more, begins}
 use Rattle.sq_rules.specs.declared.acl_types.AclType.{AclType}
 use Rattle.sq_rules.specs.declared.acl_types.AclType.TheVariants as type
 use Rattle.sq_rules.specs.declared.configs.Acl.{Acl}
@@ -32,7 +32,9 @@ is_name w = not (begins bang w) && (nat_le (length w) name_limit && not (has_bla
 -- the place of the acl of this name, or room for one more
 abbrev pub acl_named : List Acl → List ℕ → Result (Option ℕ) Kind
 acl_named acls w =
-    unless (is_name w) BadValue (unless (is_some (place_of acls w) || nat_lt (stated acls) acl_limit) TooMany (Ok (place_of acls w)))
+    unless (is_name w) BadValue
+    (unless (is_some (place_of acls w) || nat_lt (stated acls) acl_limit) TooMany
+    (Ok (place_of acls w)))
 
 -- the types by their names
 abbrev pub acl_types : List (List ℕ × AclType)
@@ -101,29 +103,33 @@ known_term acls w = term_from (is_negated w) (place_of acls (term_name w))
 
 -- a member of the group at a place: an acl whose first line stands before the group's
 abbrev pub earlier_term : ℕ → List Acl → List ℕ → Result Term Kind
-earlier_term place acls w = known_term acls w >>= λ t. unless (nat_lt t.acl place) UndefinedAcl (Ok t)
+earlier_term place acls w = known_term acls w >>= λ t. unless (nat_lt t.acl place) UndefinedAcl
+    (Ok t)
 
 -- the drafts, where no rule of a pool or for a field has become slow and no group nests too deep
 abbrev pub sound : Drafts → Result Drafts Kind
-sound d = unless (are_fast d.acls d.pools d.headers) SlowInFastList (unless (are_shallow d.acls) TooDeep (Ok d))
+sound d = unless (are_fast d.acls d.pools d.headers) SlowInFastList
+    (unless (are_shallow d.acls) TooDeep (Ok d))
 
 -- one member of the group at a place
 unfoldable pub member : ℕ → Drafts → List ℕ → Result Drafts Kind
 member place d w =
-    unless (is_unquoted w) BadValue (earlier_term place d.acls w >>= λ t. sound (with_body place (with_member t) d))
+    unless (is_unquoted w) BadValue
+    (earlier_term place d.acls w >>= λ t. sound (with_body place (with_member t) d))
 
 -- members of a group
-abbrev pub members : ℕ → Drafts → Words → Result Drafts Kind
+abbrev pub members : ℕ → Drafts → WordList → Result Drafts Kind
 members place d ws = over_some (member place) d ws
 
 -- the members of a line of any-of; one that stands gets more
-unfoldable pub any_of : List ℕ → Option ℕ → Drafts → Words → Result Drafts Kind
+unfoldable pub any_of : List ℕ → Option ℕ → Drafts → WordList → Result Drafts Kind
 any_of name None d ws = members (length d.acls) (with_acl_more name (body.AnyOf []) d) ws
 any_of name (Some place) d ws = members place d ws
 
 -- the members of a line of all-of, which stand by themselves
-unfoldable pub all_of : List ℕ → Option ℕ → Drafts → Words → Result Drafts Kind
-all_of name None d ws = members (length d.acls) (with_body (length d.acls) with_line (with_acl_more name (body.AllOf []) d)) ws
+unfoldable pub all_of : List ℕ → Option ℕ → Drafts → WordList → Result Drafts Kind
+all_of name None d ws = members (length d.acls)
+    (with_body (length d.acls) with_line (with_acl_more name (body.AllOf []) d)) ws
 all_of name (Some place) d ws = members place (with_body place with_line d) ws
 
 -- values of a leaf acl; one that stands gets more
@@ -134,28 +140,33 @@ with_values name (Some place) d l = with_body place (with_leaf l) d
 abbrev pub leaf_line : List ℕ → Option ℕ → Drafts → Result Leaf Kind → Result Drafts Kind
 leaf_line name place d values = values >>= λ l. Ok (with_values name place d l)
 
--- the names of what is made for an acl of type dst are free. No word holds a blank, so they are but for one name: that of
--- the values of an acl `dst` would be `dst literal`
+-- the names of what is made for an acl of type dst are free. No word holds a blank, so they are but
+-- for one name: that of the values of an acl `dst` would be `dst literal`
 abbrev pub are_free : List Acl → List ℕ → Bool
 are_free acls name =
-    is_none (place_of acls (literal_name name)) && (is_none (place_of acls (lookup_name name)) && is_none (place_of acls (named_name name)))
+    is_none (place_of acls (literal_name name))
+    && (is_none (place_of acls (lookup_name name)) && is_none (place_of acls (named_name name)))
 
--- values of an acl of type dst where names are looked up: a new one is four, and one that stands gets more
-unfoldable pub lookup_values : List ℕ → Option ℕ → Drafts → Words → Result Drafts Kind
-lookup_values name None d ws = unless (are_free d.acls name) BadValue (some_of range_value ws >>= λ v. Ok (with_lookup name v d))
-lookup_values name (Some place) d ws = some_of range_value ws >>= λ v. Ok (with_body (place - 3) (with_leaf (leaf.Dst v)) d)
+-- values of an acl of type dst where names are looked up: a new one is four, and one that stands
+-- gets more
+unfoldable pub lookup_values : List ℕ → Option ℕ → Drafts → WordList → Result Drafts Kind
+lookup_values name None d ws = unless (are_free d.acls name) BadValue
+    (some_of range_value ws >>= λ v. Ok (with_lookup name v d))
+lookup_values name (Some place) d ws = some_of range_value ws >>= λ v. Ok
+    (with_body (place - 3) (with_leaf (leaf.Dst v)) d)
 
 -- values of an acl of type dst
-abbrev pub dst_values : List ℕ → Option ℕ → Drafts → Words → Result Drafts Kind
+abbrev pub dst_values : List ℕ → Option ℕ → Drafts → WordList → Result Drafts Kind
 dst_values name place d ws =
-    if d.dst_lookup then lookup_values name place d ws else leaf_line name place d (some_of range_value ws >>= λ v. Ok (leaf.Dst v))
+    if d.dst_lookup then lookup_values name place d ws
+    else leaf_line name place d (some_of range_value ws >>= λ v. Ok (leaf.Dst v))
 
 -- a class that stands
 abbrev pub known_class : Drafts → List ℕ → Result ℕ Kind
 known_class d w = unless (is_unquoted w) BadValue (needed UndefinedClass (class_place d.classes w))
 
 -- CLASS and arguments
-unfoldable pub external_body : Drafts → Words → Result Body Kind
+unfoldable pub external_body : Drafts → WordList → Result Body Kind
 external_body d ws = do
   class ← word ws
   place ← known_class d class.0
@@ -163,26 +174,35 @@ external_body d ws = do
   Ok (body.External place arguments)
 
 -- an external acl has one line
-unfoldable pub external_line : List ℕ → Option ℕ → Drafts → Words → Result Drafts Kind
-external_line name place d ws = unless (is_none place) BadValue (external_body d ws >>= λ b. Ok (with_acl_more name b d))
+unfoldable pub external_line : List ℕ → Option ℕ → Drafts → WordList → Result Drafts Kind
+external_line name place d ws = unless (is_none place) BadValue
+    (external_body d ws >>= λ b. Ok (with_acl_more name b d))
 
 -- what a line of this type adds
-unfoldable pub acl_values : AclType → List ℕ → Option ℕ → Drafts → Words → Result Drafts Kind
-acl_values type.Src name place d ws = leaf_line name place d (some_of range_value ws >>= λ v. Ok (leaf.Src v))
+unfoldable pub acl_values : AclType → List ℕ → Option ℕ → Drafts → WordList → Result Drafts Kind
+acl_values type.Src name place d ws = leaf_line name place d
+    (some_of range_value ws >>= λ v. Ok (leaf.Src v))
 acl_values type.Dst name place d ws = dst_values name place d ws
-acl_values type.DstDomain name place d ws = leaf_line name place d (some_of plain_value ws >>= λ v. Ok (leaf.DstDomain v))
-acl_values type.Port name place d ws = leaf_line name place d (some_of port_value ws >>= λ v. Ok (leaf.Port v))
-acl_values type.Method name place d ws = leaf_line name place d (some_of method_value ws >>= λ v. Ok (leaf.Method v))
-acl_values type.Proto name place d ws = leaf_line name place d (some_of plain_value ws >>= λ v. Ok (leaf.Proto v))
-acl_values type.Time name place d ws = leaf_line name place d (time_values ws >>= λ v. Ok (leaf.Time v))
-acl_values type.UrlRegex name place d ws = leaf_line name place d (find_values ws >>= λ v. Ok (leaf.UrlRegex v))
-acl_values type.MaxConn name place d ws = leaf_line name place d (maxconn_values ws >>= λ v. Ok (leaf.MaxConn v))
+acl_values type.DstDomain name place d ws = leaf_line name place d
+    (some_of plain_value ws >>= λ v. Ok (leaf.DstDomain v))
+acl_values type.Port name place d ws = leaf_line name place d
+    (some_of port_value ws >>= λ v. Ok (leaf.Port v))
+acl_values type.Method name place d ws = leaf_line name place d
+    (some_of method_value ws >>= λ v. Ok (leaf.Method v))
+acl_values type.Proto name place d ws = leaf_line name place d
+    (some_of plain_value ws >>= λ v. Ok (leaf.Proto v))
+acl_values type.Time name place d ws = leaf_line name place d
+    (time_values ws >>= λ v. Ok (leaf.Time v))
+acl_values type.UrlRegex name place d ws = leaf_line name place d
+    (find_values ws >>= λ v. Ok (leaf.UrlRegex v))
+acl_values type.MaxConn name place d ws = leaf_line name place d
+    (maxconn_values ws >>= λ v. Ok (leaf.MaxConn v))
 acl_values type.External name place d ws = external_line name place d ws
 acl_values type.AnyOf name place d ws = any_of name place d ws
 acl_values type.AllOf name place d ws = all_of name place d ws
 
 -- acl NAME TYPE VALUE ...
-unfoldable pub acl_line : Drafts → Words → Result Drafts Kind
+unfoldable pub acl_line : Drafts → WordList → Result Drafts Kind
 acl_line d ws = do
   name ← word ws
   place ← acl_named d.acls name.0
@@ -199,11 +219,11 @@ unfoldable pub action : List ℕ → Result Bool Kind
 action w = needed BadValue (beside actions w)
 
 -- terms of acls that stand
-abbrev pub known_terms : List Acl → Words → Result (List Term) Kind
+abbrev pub known_terms : List Acl → WordList → Result (List Term) Kind
 known_terms acls ws = some_of (known_term acls) ws
 
 -- http_access allow|deny TERM ...
-unfoldable pub rule_line : Drafts → Words → Result Drafts Kind
+unfoldable pub rule_line : Drafts → WordList → Result Drafts Kind
 rule_line d ws = do
   first ← word ws
   allow ← action first.0

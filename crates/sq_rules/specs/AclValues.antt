@@ -15,7 +15,7 @@ use Rattle.sq_rules.specs.ConfNumbers.{digits_of}
 use Rattle.sq_rules.specs.Limits.{maxconn_limit}
 use Rattle.sq_rules.specs.Patterns.{is_pattern}
 use Rattle.sq_base.specs.Results.{◌>>=◌}
-use Rattle.sq_rules.specs.Steps.{Words, unless, needed, word, is_empty, no_more, over, begins}
+use Rattle.sq_rules.specs.Steps.{WordList, unless, needed, word, is_empty, no_more, over, begins}
 use Rattle.sq_rules.specs.Times.{Hour, day_minutes}
 use Rattle.sq_rules.specs.declared.kinds.Kind.{Kind}
 use Rattle.sq_rules.specs.declared.kinds.Kind.TheVariants.{BadValue, BadPattern, BadTime, MissingWord}
@@ -45,7 +45,8 @@ port_number w = number_of port_limit w
 
 unfoldable pub ports_of : List ℕ → Option PortRange
 ports_of w =
-    if list_any is_dash w then ports_from (port_number (before_first is_dash w)) (port_number (after_first is_dash w))
+    if list_any is_dash w then ports_from (port_number (before_first is_dash w))
+    (port_number (after_first is_dash w))
     else option_map (λ n. record { first = n; last = n }) (port_number w)
 
 -- port: PORT, or PORT-PORT
@@ -68,13 +69,14 @@ method_value w = unless (is_token w) BadValue (Ok w)
 abbrev pub maxconn_value : List ℕ → Result ℕ Kind
 maxconn_value w = needed BadValue (number_of maxconn_limit w)
 
-unfoldable pub maxconn_values : Words → Result (List ℕ) Kind
+unfoldable pub maxconn_values : WordList → Result (List ℕ) Kind
 maxconn_values ws = do
   first ← word ws
   number ← maxconn_value first.0
   no_more first.1 (number ∷ [])
 
--- the weekdays of each letter as the bits of a number, Sunday the lowest; D stands for Monday to Friday
+-- the weekdays of each letter as the bits of a number, Sunday the lowest; D stands for Monday to
+-- Friday
 abbrev pub day_letters : List (List ℕ × ℕ)
 day_letters =
     (codes "S", 1)
@@ -111,38 +113,41 @@ minute_at h m = None
 
 -- the minute of the day of `h:m`; 24:00 is the last
 unfoldable pub minute_of : List ℕ → Option ℕ
-minute_of w = minute_at (short_number 24 (before_first is_colon w)) (short_number 59 (after_first is_colon w))
+minute_of w = minute_at (short_number 24 (before_first is_colon w))
+    (short_number 59 (after_first is_colon w))
 
 -- from the first to the last minute, which is later
 abbrev pub period_at : ℕ → Option ℕ → Option ℕ → Option Hour
-period_at days (Some a) (Some b) = if nat_lt a b then Some (record { days = days; first = a; last = b }) else None
+period_at days (Some a) (Some b) = if nat_lt a b then Some
+    (record { days = days; first = a; last = b }) else None
 period_at days a b = None
 
 -- some weekdays, from minute to minute: `h1:m1-h2:m2`
 unfoldable pub period_of : ℕ → List ℕ → Option Hour
-period_of days w = period_at days (minute_of (before_first is_dash w)) (minute_of (after_first is_dash w))
+period_of days w = period_at days (minute_of (before_first is_dash w))
+    (minute_of (after_first is_dash w))
 
 -- hours of these weekdays
 abbrev pub hours_value : ℕ → List ℕ → Result Hour Kind
 hours_value days w = unless (is_unquoted w) BadValue (needed BadTime (period_of days w))
 
 -- behind day letters: nothing, and so the whole day, or hours
-abbrev pub behind_days : ℕ → Words → Result Hour Kind
+abbrev pub behind_days : ℕ → WordList → Result Hour Kind
 behind_days days [] = Ok (record { days = days; first = 0; last = day_minutes })
 behind_days days (w ∷ ws) = hours_value days w >>= λ p. no_more ws p
 
 -- the first word is day letters, or else hours of all days
-abbrev pub by_first : Option ℕ → List ℕ → Words → Result Hour Kind
+abbrev pub by_first : Option ℕ → List ℕ → WordList → Result Hour Kind
 by_first (Some days) w ws = behind_days days ws
 by_first None w ws = hours_value 127 w >>= λ p. no_more ws p
 
 -- time: day letters, hours, or both in this order
-unfoldable pub time_value : Words → Result Hour Kind
+unfoldable pub time_value : WordList → Result Hour Kind
 time_value ws = do
   first ← word ws
   by_first (days_of first.0) first.0 first.1
 
-abbrev pub time_values : Words → Result (List Hour) Kind
+abbrev pub time_values : WordList → Result (List Hour) Kind
 time_values ws = time_value ws >>= λ p. Ok (p ∷ [])
 
 -- the patterns of a line so far, and whether case is off for those that follow
@@ -168,5 +173,6 @@ unfoldable pub find_step : Finding → List ℕ → Result Finding Kind
 find_step s w = switched (beside case_switches w) s w
 
 -- url_regex: switches and one pattern or more; case is on at first
-unfoldable pub find_values : Words → Result (List Find) Kind
-find_values ws = over find_step (record { fold = false; finds = [] }) ws >>= λ s. unless (not (is_empty s.finds)) MissingWord (Ok s.finds)
+unfoldable pub find_values : WordList → Result (List Find) Kind
+find_values ws = over find_step (record { fold = false; finds = [] }) ws >>= λ s. unless
+    (not (is_empty s.finds)) MissingWord (Ok s.finds)

@@ -1,4 +1,4 @@
--- When two classes are alike, so that kept verdicts of one may be used by the other.
+-- When two classes are alike, so that cached replies of one may be used by the other.
 use Rattle.std.specs.Prelude.{Bool, true, false, ◌&&◌, ◌==◌, nat_eq}
 use Rattle.std.specs.Cmp.Lexicographic.{pointwise}
 use Rattle.sq_rules.specs.Classes.{Class}
@@ -21,14 +21,16 @@ same_token token.Arguments token.Arguments = true
 same_token token.Percent token.Percent = true
 same_token t u = false
 
--- what two classes say of kept verdicts is the same
+-- what two classes say of cached replies is the same
 abbrev pub same_times : Class → Class → Bool
-same_times c d = c.ttl == d.ttl && c.negative_ttl == d.negative_ttl && c.grace == d.grace && c.cache == d.cache
+same_times c d = c.ttl == d.ttl && c.negative_ttl == d.negative_ttl && c.grace == d.grace && c.cache
+    == d.cache
 
 -- what two classes say of processes is the same
 abbrev pub same_processes : Class → Class → Bool
 same_processes c d =
-    c.children_max == d.children_max && c.startup == d.startup && c.concurrency == d.concurrency && c.queue_size == d.queue_size
+    c.children_max == d.children_max && c.startup == d.startup && c.concurrency == d.concurrency
+    && c.queue_size == d.queue_size
 
 -- two classes are alike: all that they state is the same, the name too
 abbrev pub is_alike : Class → Class → Bool

@@ -1,7 +1,7 @@
--- The configuration that parts state, or their first fault: the parts in their order, and in each its
--- names from left to right; that an acl nests too deep comes after the names in it (configuration
--- reference, `acl`, `http_access`, `external_acl_type`, `delay_access`, `request_header_access`,
--- `reply_header_access`).
+-- The configuration that parts state, or their first fault: the parts in their order, and in each
+-- its names from left to right; that an acl nests too deep comes after the names in it
+-- (configuration reference, `acl`, `http_access`, `external_acl_type`, `delay_access`,
+-- `request_header_access`, `reply_header_access`).
 use Rattle.std.specs.Prelude.{◌≡◌, ◌≢◌, ℕ, ◌≤◌, List, [], ◌∷◌, ◌++◌, length, suc, Bool, false, if◌then◌else◌, nat_le, Some, None, Ok, Err, MatchResult, slice_index_or}
 use Rattle.std.specs.Str.{str_to_ascii_lowercase}
 use Rattle.std.specs.declared.option.Option.{Option}
@@ -31,10 +31,12 @@ use Rattle.sq_rules.specs.declared.pools.Pool.{Pool}
 
 -- what a call answered is what was made, unless memory ran out
 abbrev pub IsMade : {A : Type 0} → Result A BuildFault → Result A BuildFault → Type 0
-IsMade result made = MatchResult result (λ x. made ≡ Ok x) (λ e. e ≢ fault.WantOfMemory → made ≡ Err e)
+IsMade result made = MatchResult result (λ x. made ≡ Ok x)
+    (λ e. e ≢ fault.WantOfMemory → made ≡ Err e)
 
 -- what is made of each of some parts, or the fault of the first that has one
-abbrev pub each_made : {A B : Type 0} → (A → Result B BuildFault) → List A → Result (List B) BuildFault
+abbrev pub each_made : {A B : Type 0} → (A → Result B BuildFault) → List A
+    → Result (List B) BuildFault
 each_made make [] = Ok []
 each_made make (x ∷ xs) = make x >>= λ y. each_made make xs >>= λ ys. Ok (y ∷ ys)
 
@@ -64,28 +66,34 @@ external_at class arguments (Some place) = Ok (body.External place arguments)
 -- what an acl is, over these classes and the acls before it
 abbrev pub body_made : List Class → List Acl → BodyPart → Result Body BuildFault
 body_made classes acls (part.Leaf l) = Ok (body.Leaf l)
-body_made classes acls (part.External class arguments) = external_at class arguments (class_place classes class)
+body_made classes acls (part.External class arguments) = external_at class arguments
+    (class_place classes class)
 body_made classes acls (part.AnyOf terms) = terms_made acls terms >>= λ made. Ok (body.AnyOf made)
-body_made classes acls (part.AllOf lines) = each_made (terms_made acls) lines >>= λ made. Ok (body.AllOf made)
+body_made classes acls (part.AllOf lines) = each_made (terms_made acls) lines >>= λ made. Ok
+    (body.AllOf made)
 
 -- one acl more, where it doesn't nest too deep
 abbrev pub with_acl : List Acl → List ℕ → Body → Result (List Acl) BuildFault
 with_acl acls name b =
-    if nat_le (nesting_of (nestings acls) b) nesting_limit then Ok (acls ++ (record { name = name; body = b }) ∷ []) else Err (fault.TooDeep name)
+    if nat_le (nesting_of (nestings acls) b) nesting_limit then Ok
+    (acls ++ (record { name = name; body = b }) ∷ []) else Err (fault.TooDeep name)
 
 -- the next acl has a name of its own
 abbrev pub next_acl : List Class → List Acl → AclPart → Result (List Acl) BuildFault
 next_acl classes acls a =
-    if has_name acls a.name then Err (fault.Duplicate a.name) else (body_made classes acls a.body >>= with_acl acls a.name)
+    if has_name acls a.name then Err (fault.Duplicate a.name)
+    else (body_made classes acls a.body >>= with_acl acls a.name)
 
 -- some acls, behind those before them
 abbrev pub acls_made : List Class → List Acl → List AclPart → Result (List Acl) BuildFault
 acls_made classes acls [] = Ok acls
-acls_made classes acls (a ∷ parts) = next_acl classes acls a >>= λ more. acls_made classes more parts
+acls_made classes acls (a ∷ parts) = next_acl classes acls a >>= λ more. acls_made classes more
+    parts
 
 -- the acls, where each of type dst stands with its look-up if names are looked up
 abbrev pub unless_looked_up : Bool → List Class → List Acl → Result (List Acl) BuildFault
-unless_looked_up lookup classes acls = if are_looked_up lookup classes acls then Ok acls else Err fault.NoLookup
+unless_looked_up lookup classes acls = if are_looked_up lookup classes acls then Ok acls
+    else Err fault.NoLookup
 
 -- the class with `%DATA` in its format
 abbrev pub completed : Class → Class
@@ -93,7 +101,8 @@ completed c = record c { format = with_arguments c.format }
 
 -- the next class has a name of its own
 abbrev pub next_class : List Class → Class → Result (List Class) BuildFault
-next_class classes c = if has_class classes c.name then Err (fault.Duplicate c.name) else Ok (classes ++ completed c ∷ [])
+next_class classes c = if has_class classes c.name then Err (fault.Duplicate c.name)
+    else Ok (classes ++ completed c ∷ [])
 
 -- some classes, behind those before them
 abbrev pub classes_made : List Class → List Class → Result (List Class) BuildFault
@@ -105,29 +114,34 @@ rule_made acls r = terms_made acls r.terms >>= λ made. Ok (record { allow = r.a
 
 -- the term of a pool's rule names no slow acl
 abbrev pub unless_slow : List Acl → TermPart → Term → Result Term BuildFault
-unless_slow acls t made = if slice_index_or (slow_ones acls) made.acl false then Err (fault.SlowInFastList t.acl) else Ok made
+unless_slow acls t made = if slice_index_or (slow_ones acls) made.acl false then Err
+    (fault.SlowInFastList t.acl) else Ok made
 
 abbrev pub fast_term_made : List Acl → TermPart → Result Term BuildFault
 fast_term_made acls t = term_made acls t >>= unless_slow acls t
 
 abbrev pub fast_rule_made : List Acl → RulePart → Result Rule BuildFault
-fast_rule_made acls r = each_made (fast_term_made acls) r.terms >>= λ made. Ok (record { allow = r.allow; terms = made })
+fast_rule_made acls r = each_made (fast_term_made acls) r.terms >>= λ made. Ok
+    (record { allow = r.allow; terms = made })
 
 -- the pool at a place has its class and limits, and fast rules
 abbrev pub pool_made : List Acl → ℕ → PoolPart → Result Pool BuildFault
 pool_made acls place p =
     if has_buckets p.class (length p.pairs)
-    then (each_made (fast_rule_made acls) p.lists >>= λ made. Ok (record { class = p.class; pairs = p.pairs; lists = made }))
+    then (each_made (fast_rule_made acls) p.lists >>= λ made. Ok
+    (record { class = p.class; pairs = p.pairs; lists = made }))
     else Err (fault.PoolIncomplete place)
 
 -- the pools, the first of which stands at this place
 abbrev pub pools_made : List Acl → ℕ → List PoolPart → Result (List Pool) BuildFault
 pools_made acls place [] = Ok []
-pools_made acls place (p ∷ parts) = pool_made acls place p >>= λ made. pools_made acls (suc place) parts >>= λ others. Ok (made ∷ others)
+pools_made acls place (p ∷ parts) = pool_made acls place p >>= λ made. pools_made acls (suc place)
+    parts >>= λ others. Ok (made ∷ others)
 
 -- a rule for a field is fast; the field's name is kept in lower case
 abbrev pub header_made : List Acl → HeaderPart → Result HeaderRule BuildFault
-header_made acls h = fast_rule_made acls h.rule >>= λ made. Ok (record { reply = h.reply; name = str_to_ascii_lowercase h.name; rule = made })
+header_made acls h = fast_rule_made acls h.rule >>= λ made. Ok
+    (record { reply = h.reply; name = str_to_ascii_lowercase h.name; rule = made })
 
 -- the configuration that the parts state, or their first fault
 unfoldable pub built : Parts → Result Configuration BuildFault
@@ -151,7 +165,8 @@ built p = do
     notices = p.notices;
   })
 
--- the numbers and lengths of the parts lie within their limits; what is made for look-ups does not count
+-- the numbers and lengths of the parts lie within their limits; what is made for look-ups does not
+-- count
 pub record AreWithin (p : Parts) : Type 0 where
   pub short : length p.source ≤ text_limit
   pub few_classes : length p.classes ≤ classes_within p.dst_lookup

@@ -18,7 +18,8 @@ type_of_acl (Some a) = Some (type_of_body a.body)
 
 -- the type of the acl at a place; the last of four is the one that a file states as `dst`
 abbrev pub type_at : List Acl → ℕ → Option AclType
-type_at acls place = if is_last_of_four acls place then Some type.Dst else type_of_acl (slice_get acls place)
+type_at acls place = if is_last_of_four acls place then Some type.Dst
+    else type_of_acl (slice_get acls place)
 
 -- an acl that has members
 abbrev pub is_group : Body → Bool

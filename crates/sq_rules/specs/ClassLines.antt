@@ -16,7 +16,7 @@ use Rattle.sq_rules.specs.ConfNumbers.{number_between}
 use Rattle.sq_rules.specs.Drafts.{Drafts}
 use Rattle.sq_rules.specs.Limits.{cache_limit, children_limit, grace_limit, name_limit, queue_limit, seconds_limit, token_limit}
 use Rattle.sq_rules.specs.Lookups.{classes_within}
-use Rattle.sq_rules.specs.Steps.{Words, unless, needed, word, is_empty, over, begins}
+use Rattle.sq_rules.specs.Steps.{WordList, unless, needed, word, is_empty, over, begins}
 use Rattle.sq_rules.specs.declared.classes.Token.{Token}
 use Rattle.sq_rules.specs.declared.classes.Token.TheVariants as token
 use Rattle.sq_rules.specs.declared.directives.ClassOption.{ClassOption}
@@ -79,7 +79,8 @@ valued_options =
 -- the option of a word
 unfoldable pub option_of : List ℕ → Result ClassOption Kind
 option_of w =
-    if is_among whole_options w then Ok option.NoEffect else needed UnknownOption (beside valued_options (before_first is_equals w))
+    if is_among whole_options w then Ok option.NoEffect
+    else needed UnknownOption (beside valued_options (before_first is_equals w))
 
 -- a number up to the most
 abbrev pub up_to : ℕ → List ℕ → Result ℕ Kind
@@ -88,14 +89,19 @@ up_to most w = number_between 0 most w
 -- the option with its value; of several, the last counts
 unfoldable pub with_option : ClassOption → List ℕ → ClassDraft → Result ClassDraft Kind
 with_option option.Ttl w s = up_to seconds_limit w >>= λ n. Ok (record s { ttl = n })
-with_option option.NegativeTtl w s = up_to seconds_limit w >>= λ n. Ok (record s { negative_ttl = Some n })
+with_option option.NegativeTtl w s = up_to seconds_limit w >>= λ n. Ok
+    (record s { negative_ttl = Some n })
 with_option option.Grace w s = up_to grace_limit w >>= λ n. Ok (record s { grace = n })
 with_option option.Cache w s = up_to cache_limit w >>= λ n. Ok (record s { cache = n })
-with_option option.ChildrenMax w s = number_between 1 children_limit w >>= λ n. Ok (record s { children_max = n })
-with_option option.ChildrenStartup w s = up_to children_limit w >>= λ n. Ok (record s { startup = n })
+with_option option.ChildrenMax w s = number_between 1 children_limit w >>= λ n. Ok
+    (record s { children_max = n })
+with_option option.ChildrenStartup w s = up_to children_limit w >>= λ n. Ok
+    (record s { startup = n })
 with_option option.ChildrenIdle w s = up_to children_limit w >>= λ n. Ok (record s { noted = true })
-with_option option.Concurrency w s = up_to children_limit w >>= λ n. Ok (record s { concurrency = n })
-with_option option.QueueSize w s = up_to queue_limit w >>= λ n. Ok (record s { queue_size = Some n })
+with_option option.Concurrency w s = up_to children_limit w >>= λ n. Ok
+    (record s { concurrency = n })
+with_option option.QueueSize w s = up_to queue_limit w >>= λ n. Ok
+    (record s { queue_size = Some n })
 with_option option.NoEffect w s = Ok (record s { noted = true })
 
 -- an option and its value
@@ -146,7 +152,8 @@ token_of w = needed UnknownToken (option_or (beside whole_tokens w) (field_token
 unfoldable pub token_step : ClassDraft → List ℕ → Result ClassDraft Kind
 token_step s w = do
   token ← token_of w
-  unless (nat_lt (length s.format) token_limit) TooMany (Ok (record s { format = s.format ++ token ∷ [] }))
+  unless (nat_lt (length s.format) token_limit) TooMany
+      (Ok (record s { format = s.format ++ token ∷ [] }))
 
 abbrev pub has_equals : List ℕ → Bool
 has_equals w = list_any is_equals w
@@ -195,11 +202,13 @@ class_of name s = record {
 abbrev pub class_name : Drafts → List ℕ → Result (List ℕ) Kind
 class_name d w =
     unless (nat_le (length w) name_limit) BadValue
-    (unless (is_none (class_place d.classes w)) DuplicateClass (unless (nat_lt (length d.classes) (classes_within d.dst_lookup)) TooMany (Ok w)))
+    (unless (is_none (class_place d.classes w)) DuplicateClass
+    (unless (nat_lt (length d.classes) (classes_within d.dst_lookup)) TooMany (Ok w)))
 
 -- one notice more
 abbrev pub with_notice : ℕ → List ℕ → Drafts → Drafts
-with_notice line directive d = record d { notices = d.notices ++ (record { line = line; directive = directive }) ∷ [] }
+with_notice line directive d = record d
+    { notices = d.notices ++ (record { line = line; directive = directive }) ∷ [] }
 
 abbrev pub with_notice_if : Bool → ℕ → List ℕ → Drafts → Drafts
 with_notice_if true line directive d = with_notice line directive d
@@ -209,10 +218,11 @@ abbrev pub with_class : Class → Drafts → Drafts
 with_class c d = record d { classes = d.classes ++ c ∷ [] }
 
 -- external_acl_type NAME ...
-unfoldable pub class_line : ℕ → Drafts → Words → Result Drafts Kind
+unfoldable pub class_line : ℕ → Drafts → WordList → Result Drafts Kind
 class_line line d ws = do
   first ← word ws
   name ← class_name d first.0
   s ← over class_step default_class first.1
   unless (not (is_empty s.words)) MissingWord
-      (Ok (with_notice_if s.noted line (codes "external_acl_type") (with_class (class_of name s) d)))
+      (Ok (with_notice_if s.noted line (codes "external_acl_type")
+      (with_class (class_of name s) d)))

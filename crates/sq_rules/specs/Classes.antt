@@ -26,7 +26,8 @@ is_arguments t = false
 
 -- `%DATA` stands in each format: at its end, where none was written
 abbrev pub with_arguments : List Token → List Token
-with_arguments format = if list_any is_arguments format then format else format ++ token.Arguments ∷ []
+with_arguments format = if list_any is_arguments format then format else format ++ token.Arguments
+    ∷ []
 
 -- that token stands at the end alone, where it may have been added
 abbrev pub ends_in_arguments : List Token → Bool
@@ -36,7 +37,8 @@ ends_in_arguments (t ∷ u ∷ format) = not (is_arguments t) && ends_in_argumen
 
 -- the tokens that were written are few; one more may have been added
 abbrev pub has_few_tokens : List Token → Bool
-has_few_tokens format = nat_le (length format) token_limit || (nat_le (length format) (suc token_limit) && ends_in_arguments format)
+has_few_tokens format = nat_le (length format) token_limit
+    || (nat_le (length format) (suc token_limit) && ends_in_arguments format)
 
 -- each option lies in its range, the name is short, and the tokens are few
 pub record IsClass (c : Class) : Type 0 where

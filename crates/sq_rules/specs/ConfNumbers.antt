@@ -46,7 +46,8 @@ both_rates r m = None
 -- what stands before and behind the `/` of a pair: `-1` before it is no limit
 abbrev pub rate_of : List ℕ → List ℕ → Option (Option Limit)
 rate_of r m =
-    if bytes_eq r (codes "-1") then (if bytes_eq m (codes "-1") || is_some (digits_of delay_limit m) then Some None else None)
+    if bytes_eq r (codes "-1")
+    then (if bytes_eq m (codes "-1") || is_some (digits_of delay_limit m) then Some None else None)
     else both_rates (digits_of delay_limit r) (digits_of delay_limit m)
 
 -- a pair of `delay_parameters`: `none`, or RESTORE/MAX

@@ -1,6 +1,6 @@
 -- A configuration as a value, and what holds of every one (configuration reference, `acl`,
--- `http_access`, `external_acl_type`, `delay_pools`, `delay_class`, `delay_access`, `delay_parameters`,
--- `request_header_access`, `reply_header_access`, `url_rewrite_program`).
+-- `http_access`, `external_acl_type`, `delay_pools`, `delay_class`, `delay_access`,
+-- `delay_parameters`, `request_header_access`, `reply_header_access`, `url_rewrite_program`).
 use Rattle.std.specs.Prelude.{◌≡◌, ℕ, ◌≤◌, List, [], ◌∷◌, ◌++◌, length, Bool, true, false, not, ◌&&◌, ◌||◌, ◌==◌, nat_lt, nat_le, max, suc, bytes_eq, slice_index_or, if◌then◌else◌, Some, None}
 use Rattle.std.specs.declared.option.Option.{Option}
 use Rattle.std.specs.List.{list_all, list_any}
@@ -37,12 +37,14 @@ is_named name_of list name = list_any (λ a. bytes_eq (name_of a) name) list
 -- no two of these have one name
 abbrev pub have_own_names : {A : Type 0} → (A → List ℕ) → List A → Bool
 have_own_names name_of [] = true
-have_own_names name_of (a ∷ list) = not (is_named name_of list (name_of a)) && have_own_names name_of list
+have_own_names name_of (a ∷ list) = not (is_named name_of list (name_of a))
+    && have_own_names name_of list
 
 -- the place of the first with this name, where they stand from this place on
 abbrev pub place_from : {A : Type 0} → (A → List ℕ) → ℕ → List A → List ℕ → Option ℕ
 place_from name_of place [] name = None
-place_from name_of place (a ∷ list) name = if bytes_eq (name_of a) name then Some place else place_from name_of (suc place) list name
+place_from name_of place (a ∷ list) name = if bytes_eq (name_of a) name then Some place
+    else place_from name_of (suc place) list name
 
 -- an acl of this name is among these
 abbrev pub has_name : List Acl → List ℕ → Bool
@@ -88,7 +90,8 @@ is_leaf a = is_leaf_body a.body
 -- each of these acls, the first of which stands at this place, names only what there is before it
 abbrev pub are_known_bodies : ℕ → ℕ → List Acl → Bool
 are_known_bodies classes place [] = true
-are_known_bodies classes place (a ∷ acls) = is_known_body classes place a.body && are_known_bodies classes (suc place) acls
+are_known_bodies classes place (a ∷ acls) = is_known_body classes place a.body
+    && are_known_bodies classes (suc place) acls
 
 -- the greatest of the numbers that some things have; 0 where there is none
 abbrev pub greatest_of : {A : Type 0} → (A → ℕ) → List A → ℕ

@@ -1,7 +1,7 @@
 -- A configuration as far as some of its lines state it, and what a line changes (configuration
--- reference, `acl`, `http_access`, `external_acl_type`, `delay_pools`, `delay_class`, `delay_access`,
--- `delay_parameters`, `delay_initial_bucket_level`, `http_port`, `request_header_access`,
--- `reply_header_access`, `url_rewrite_program`, `url_rewrite_children`).
+-- reference, `acl`, `http_access`, `external_acl_type`, `delay_pools`, `delay_class`,
+-- `delay_access`, `delay_parameters`, `delay_initial_bucket_level`, `http_port`,
+-- `request_header_access`, `reply_header_access`, `url_rewrite_program`, `url_rewrite_children`).
 use Rattle.std.specs.Prelude.{ℕ, List, [], ◌∷◌, ◌++◌, map, length, codes, if◌then◌else◌, Bool, true, false, not, ◌&&◌, replicate, set, Some, None, is_some, slice_get, slice_index_or}
 use Rattle.std.specs.List.{list_all}
 use Rattle.std.specs.declared.option.Option.{Option}
@@ -33,8 +33,8 @@ pub record PoolDraft : Type 0 where
   pub pairs : Option (List (Option Limit))
   pub lists : List Rule
 
--- what the lines so far state; the pools are counted once `delay_pools` stands, and the class of the program that rewrites is its
--- numbers alone, without the program
+-- what the lines so far state; the pools are counted once `delay_pools` stands, and the class of
+-- the program that rewrites is its numbers alone, without the program
 pub record Drafts : Type 0 where
   pub dst_lookup : Bool
   pub classes : List Class
@@ -69,7 +69,8 @@ with_firsts acls (a ∷ more) = with_firsts (with_first a.body a.name acls) more
 
 -- the acls that stand before the first line
 abbrev pub first_acls : Bool → List Acl
-first_acls lookup = if lookup then with_firsts (literal_acl ∷ []) predefined_ones else predefined_ones
+first_acls lookup = if lookup then with_firsts (literal_acl ∷ []) predefined_ones
+    else predefined_ones
 
 -- the classes that do
 abbrev pub first_classes : Bool → List Class
@@ -175,9 +176,11 @@ are_patterns l = true
 abbrev pub is_fast : List Bool → Rule → Bool
 is_fast slow r = not (some_slow slow r.terms)
 
--- no rule of a pool or for a field asks a helper or reaches an acl that does, where these acls are slow
+-- no rule of a pool or for a field asks a helper or reaches an acl that does, where these acls are
+-- slow
 abbrev pub are_fast_where : List Bool → List PoolDraft → List HeaderRule → Bool
-are_fast_where slow pools headers = list_all (λ p. list_all (is_fast slow) p.lists) pools && list_all (λ h. is_fast slow h.rule) headers
+are_fast_where slow pools headers = list_all (λ p. list_all (is_fast slow) p.lists) pools
+    && list_all (λ h. is_fast slow h.rule) headers
 
 abbrev pub are_fast : List Acl → List PoolDraft → List HeaderRule → Bool
 are_fast acls pools headers = are_fast_where (slow_ones acls) pools headers
@@ -189,13 +192,15 @@ no_pool = record { class = None; pairs = None; lists = [] }
 abbrev pub with_pools : ℕ → Drafts → Drafts
 with_pools count d = record d { counted = true; pools = replicate count no_pool }
 
-abbrev pub changed_pool : (PoolDraft → PoolDraft) → Option PoolDraft → List PoolDraft → ℕ → List PoolDraft
+abbrev pub changed_pool : (PoolDraft → PoolDraft) → Option PoolDraft → List PoolDraft → ℕ
+    → List PoolDraft
 changed_pool change None pools place = pools
 changed_pool change (Some p) pools place = set pools place (change p)
 
 -- the drafts with the pool at a place, from 0, changed
 abbrev pub with_pool : ℕ → (PoolDraft → PoolDraft) → Drafts → Drafts
-with_pool place change d = record d { pools = changed_pool change (slice_get d.pools place) d.pools place }
+with_pool place change d = record d
+    { pools = changed_pool change (slice_get d.pools place) d.pools place }
 
 -- the pool at a place
 abbrev pub pool_at : List PoolDraft → ℕ → PoolDraft
@@ -225,7 +230,8 @@ abbrev pub port_or_default : Option ℕ → ℕ
 port_or_default None = 3128
 port_or_default (Some n) = n
 
--- the class of the program that rewrites, without its program: the defaults of `url_rewrite_children`
+-- the class of the program that rewrites, without its program: the defaults of
+-- `url_rewrite_children`
 abbrev pub rewriter_class : Class
 rewriter_class = record {
   name = codes "url rewrite";

@@ -1,4 +1,5 @@
--- The facts of a check: whether each leaf acl holds of what the check sees (configuration reference, `acl`).
+-- The facts of a check: whether each leaf acl holds of what the check sees (configuration
+-- reference, `acl`).
 use Rattle.std.specs.Prelude.{Bool, false, List, map}
 use Rattle.sq_rules.specs.Leaves.{holds}
 use Rattle.sq_rules.specs.declared.configs.Acl.{Acl}

@@ -18,7 +18,8 @@ use Rattle.sq_rules.specs.declared.sights.Sight.{Sight}
 
 -- a byte that is no visible ASCII, and `"`, `%`, `<`, `>` and `\`
 abbrev pub is_key_escaped : ℕ → Bool
-is_key_escaped b = nat_le b 32 || nat_le 127 b || b == 34 || b == 37 || b == 60 || b == 62 || b == 92
+is_key_escaped b = nat_le b 32 || nat_le 127 b || b == 34 || b == 37 || b == 60 || b == 62 || b
+    == 92
 
 -- each such byte becomes `%` and two upper-case hexadecimal digits
 abbrev pub key_escaped_byte : ℕ → List ℕ
@@ -40,14 +41,17 @@ values_text (v ∷ values) = key_escaped (join_by (λ w. w) (codes ", ") (v ∷ 
 
 -- the values of the fields of a name, without case
 abbrev pub field_values : List ℕ → List Field → List (List ℕ)
-field_values name fields = map (λ f. f.value) (filter (λ f. str_eq_ignore_ascii_case f.name name) fields)
+field_values name fields = map (λ f. f.value)
+    (filter (λ f. str_eq_ignore_ascii_case f.name name) fields)
 
--- the arguments of an acl, each escaped by itself, with a space between them; where there is none, `-`
+-- the arguments of an acl, each escaped by itself, with a space between them; where there is none,
+-- `-`
 abbrev pub arguments_text : List (List ℕ) → List ℕ
 arguments_text [] = codes "-"
 arguments_text (a ∷ arguments) = join_with_byte 32 (map key_escaped (a ∷ arguments))
 
--- what stands in the key for a token, over the acl's name and arguments; digits and addresses have no byte to escape
+-- what stands in the key for a token, over the acl's name and arguments; digits and addresses have
+-- no byte to escape
 abbrev pub token_text : List ℕ → List (List ℕ) → Sight → Token → List ℕ
 token_text name arguments s token.ClientAddr = address_text s.addr
 token_text name arguments s token.ClientPort = decimal s.port
@@ -65,11 +69,13 @@ token_text name arguments s token.Percent = codes "%"
 -- the texts of a class's tokens with a space between them
 abbrev pub format_text : List ℕ → List (List ℕ) → Sight → Option Class → List ℕ
 format_text name arguments s None = []
-format_text name arguments s (Some k) = join_with_byte 32 (map (token_text name arguments s) k.format)
+format_text name arguments s (Some k) = join_with_byte 32
+    (map (token_text name arguments s) k.format)
 
 abbrev pub body_key : Configuration → Sight → List ℕ → Body → List ℕ
 body_key c s name (body.Leaf l) = []
-body_key c s name (body.External class arguments) = format_text name arguments s (slice_get c.classes class)
+body_key c s name (body.External class arguments) = format_text name arguments s
+    (slice_get c.classes class)
 body_key c s name (body.AnyOf terms) = []
 body_key c s name (body.AllOf lines) = []
 

@@ -30,4 +30,5 @@ kind_number kind.BadTime = 20
 
 -- a fault as it is displayed: its line and its kind by their numbers
 abbrev pub fault_text : ConfError → List ℕ
-fault_text e = codes "line " ++ (decimal e.line ++ (codes ", kind " ++ decimal (kind_number e.kind)))
+fault_text e = codes "line "
+    ++ (decimal e.line ++ (codes ", kind " ++ decimal (kind_number e.kind)))

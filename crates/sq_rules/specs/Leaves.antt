@@ -1,4 +1,5 @@
--- Where a leaf acl holds: some value of its list meets its type's row (configuration reference, `acl`).
+-- Where a leaf acl holds: some value of its list meets its type's row (configuration reference,
+-- `acl`).
 use Rattle.std.specs.Prelude.{ℕ, List, [], ◌∷◌, Bool, false, ◌&&◌, nat_lt, nat_le, Some, None, bytes_eq}
 use Rattle.std.specs.List.{list_any}
 use Rattle.std.specs.Str.{str_to_ascii_lowercase, str_eq_ignore_ascii_case}
@@ -28,8 +29,10 @@ has_scheme names (b ∷ bs) = list_any (λ n. str_eq_ignore_ascii_case n (b ∷ 
 abbrev pub holds : Leaf → Sight → Bool
 holds (leaf.Src ranges) s = list_any (λ r. in_range r s.addr) ranges
 holds (leaf.Dst ranges) s = in_ranges ranges s.request.literal
-holds (leaf.DstDomain names) s = list_any (λ n. in_domain s.request.host (str_to_ascii_lowercase n)) names
-holds (leaf.Port ranges) s = list_any (λ r. nat_le r.first s.request.port && nat_le s.request.port r.last) ranges
+holds (leaf.DstDomain names) s = list_any (λ n. in_domain s.request.host (str_to_ascii_lowercase n))
+    names
+holds (leaf.Port ranges) s = list_any
+    (λ r. nat_le r.first s.request.port && nat_le s.request.port r.last) ranges
 holds (leaf.Method names) s = list_any (λ m. bytes_eq m s.request.method) names
 holds (leaf.Proto names) s = has_scheme names s.request.scheme
 holds (leaf.Time periods) s = list_any (λ p. in_hour p s.minute) periods

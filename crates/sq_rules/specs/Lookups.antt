@@ -1,6 +1,7 @@
--- Acls of type `dst` where the names of hosts are looked up. Each is four acls: its values, which a host that is an
--- address meets; an acl that asks for the look-up of a name; and two groups over these. No word of a file holds a
--- blank, so no name of a file is one of theirs (configuration reference, `acl`; `dst_lookup` is this program's own).
+-- Acls of type `dst` where the names of hosts are looked up. Each is four acls: its values, which a
+-- host that is an address meets; an acl that asks for the look-up of a name; and two groups over
+-- these. No word of a file holds a blank, so no name of a file is one of theirs (configuration
+-- reference, `acl`; `dst_lookup` is this program's own).
 use Rattle.std.specs.Prelude.{◌≡◌, ℕ, ◌-◌, ◌^◌, suc, List, [], ◌∷◌, ◌++◌, length, Bool, true, false, not, ◌&&◌, ◌||◌, ◌==◌, nat_le, bytes_eq, codes, if◌then◌else◌, Some, None, slice_get}
 use Rattle.std.specs.List.{list_any}
 use Rattle.std.specs.declared.option.Option.{Option}
@@ -25,7 +26,8 @@ has_blank name = list_any is_blank name
 -- how many of these have a name without a blank
 abbrev pub unmade : {A : Type 0} → (A → List ℕ) → List A → ℕ
 unmade name_of [] = 0
-unmade name_of (a ∷ list) = if has_blank (name_of a) then unmade name_of list else suc (unmade name_of list)
+unmade name_of (a ∷ list) = if has_blank (name_of a) then unmade name_of list
+    else suc (unmade name_of list)
 
 -- how many of some acls a file states
 abbrev pub stated : List Acl → ℕ
@@ -61,10 +63,13 @@ no_literal = record { acl = 0; negated = true }
 
 -- the acl that holds of each host that is an address
 abbrev pub literal_acl : Acl
-literal_acl = record { name = codes "dst literal"; body = body.Leaf (leaf.Dst (all_addresses ∷ [])) }
+literal_acl = record {
+  name = codes "dst literal";
+  body = body.Leaf (leaf.Dst (all_addresses ∷ []));
+}
 
--- the four acls of one of type dst, the first of which stands at this place: its values; the look-up, by the first class;
--- all-of `!dst literal` and the look-up; any-of the values and that
+-- the four acls of one of type dst, the first of which stands at this place: its values; the
+-- look-up, by the first class; all-of `!dst literal` and the look-up; any-of the values and that
 abbrev pub values_acl : List ℕ → List Range → Acl
 values_acl name values = record { name = literal_name name; body = body.Leaf (leaf.Dst values) }
 
@@ -72,13 +77,20 @@ abbrev pub asking_acl : List ℕ → Acl
 asking_acl name = record { name = lookup_name name; body = body.External 0 [] }
 
 abbrev pub named_acl : ℕ → List ℕ → Acl
-named_acl place name = record { name = named_name name; body = body.AllOf ((no_literal ∷ plain_term (suc place) ∷ []) ∷ []) }
+named_acl place name = record {
+  name = named_name name;
+  body = body.AllOf ((no_literal ∷ plain_term (suc place) ∷ []) ∷ []);
+}
 
 abbrev pub either_acl : ℕ → List ℕ → Acl
-either_acl place name = record { name = name; body = body.AnyOf (plain_term place ∷ plain_term (suc (suc place)) ∷ []) }
+either_acl place name = record {
+  name = name;
+  body = body.AnyOf (plain_term place ∷ plain_term (suc (suc place)) ∷ []);
+}
 
 abbrev pub looked_up : ℕ → List ℕ → List Range → List Acl
-looked_up place name values = values_acl name values ∷ asking_acl name ∷ named_acl place name ∷ either_acl place name ∷ []
+looked_up place name values = values_acl name values ∷ asking_acl name ∷ named_acl place name
+    ∷ either_acl place name ∷ []
 
 -- the class by which names are looked up
 abbrev pub lookup_class : Class
@@ -148,13 +160,16 @@ abbrev pub are_behind : ℕ → Acl → List Acl → Bool
 are_behind place a (b ∷ c ∷ d ∷ acls) =
     bytes_eq a.name (literal_name d.name)
     && (bytes_eq b.name (lookup_name d.name) && (is_asking b.body
-    && (bytes_eq c.name (named_name d.name) && (is_named_body place c.body && is_either_body place d.body))))
+    && (bytes_eq c.name (named_name d.name)
+    && (is_named_body place c.body && is_either_body place d.body))))
 are_behind place a acls = false
 
--- of some acls, the first of which stands at this place, each of type dst but the very first is the first of four
+-- of some acls, the first of which stands at this place, each of type dst but the very first is the
+-- first of four
 abbrev pub are_in_four : ℕ → List Acl → Bool
 are_in_four place [] = true
-are_in_four place (a ∷ acls) = (not (is_dst a.body) || place == 0 || are_behind place a acls) && are_in_four (suc place) acls
+are_in_four place (a ∷ acls) = (not (is_dst a.body) || place == 0 || are_behind place a acls)
+    && are_in_four (suc place) acls
 
 -- the first acl is `dst literal`
 abbrev pub begins_literal : List Acl → Bool
@@ -173,26 +188,33 @@ is_lookup_program words = false
 -- the first class is `dst lookup`
 abbrev pub begins_lookup : List Class → Bool
 begins_lookup [] = false
-begins_lookup (c ∷ classes) = bytes_eq c.name (codes "dst lookup") && (is_lookup_format c.format && is_lookup_program c.words)
+begins_lookup (c ∷ classes) = bytes_eq c.name (codes "dst lookup")
+    && (is_lookup_format c.format && is_lookup_program c.words)
 
--- where names are looked up, the class of look-ups and `dst literal` stand first, and each acl of type dst is four
+-- where names are looked up, the class of look-ups and `dst literal` stand first, and each acl of
+-- type dst is four
 abbrev pub are_looked_up : Bool → List Class → List Acl → Bool
 are_looked_up false classes acls = true
-are_looked_up true classes acls = begins_lookup classes && (begins_literal acls && are_in_four 0 acls)
+are_looked_up true classes acls = begins_lookup classes
+    && (begins_literal acls && are_in_four 0 acls)
 
 -- the first is the acl of values that is made for the second
 abbrev pub is_values_of : Option Acl → Option Acl → Bool
 is_values_of (Some l) (Some a) = is_dst l.body && bytes_eq l.name (literal_name a.name)
 is_values_of l a = false
 
--- the acl at the place is the last of four: three places before it, and behind `dst literal`, stands that of its values
+-- the acl at the place is the last of four: three places before it, and behind `dst literal`,
+-- stands that of its values
 abbrev pub is_last_of_four : List Acl → ℕ → Bool
-is_last_of_four acls place = nat_le 4 place && is_values_of (slice_get acls (place - 3)) (slice_get acls place)
+is_last_of_four acls place = nat_le 4 place
+    && is_values_of (slice_get acls (place - 3)) (slice_get acls place)
 
 abbrev pub name_at : Option Acl → List ℕ
 name_at None = []
 name_at (Some a) = a.name
 
--- the acl at the place may get members: where names are looked up, it is one that a file states, and not the last of four
+-- the acl at the place may get members: where names are looked up, it is one that a file states,
+-- and not the last of four
 abbrev pub takes_members : Bool → List Acl → ℕ → Bool
-takes_members lookup acls place = not lookup || (not (has_blank (name_at (slice_get acls place))) && not (is_last_of_four acls place))
+takes_members lookup acls place = not lookup
+    || (not (has_blank (name_at (slice_get acls place))) && not (is_last_of_four acls place))

@@ -12,4 +12,5 @@ place_at kept name = lookup (λ k. is_eq (slice_cmp nat_cmp name k)) kept
 
 -- the places that are kept are those of the list
 abbrev pub KnowsPlaces : {A : Type 0} → (A → List ℕ) → List (List ℕ × ℕ) → List A → Type 0
-KnowsPlaces name_of kept list = (name : List ℕ) → place_at kept name ≡ place_from name_of 0 list name
+KnowsPlaces name_of kept list = (name : List ℕ)
+    → place_at kept name ≡ place_from name_of 0 list name

@@ -20,7 +20,8 @@ abbrev pub why_words : Why → List (List ℕ)
 why_words (why.Rule number) = codes "rule" ∷ decimal number ∷ []
 why_words why.Default = codes "default" ∷ []
 why_words why.Empty = codes "empty" ∷ []
-why_words (why.Fault rule acl cause) = codes "fault" ∷ decimal rule ∷ text_word acl ∷ cause_word cause ∷ []
+why_words (why.Fault rule acl cause) = codes "fault" ∷ decimal rule ∷ text_word acl
+    ∷ cause_word cause ∷ []
 
 abbrev pub action_word : Bool → List ℕ
 action_word allow = if allow then codes "allowed" else codes "denied"

@@ -10,7 +10,8 @@ use Rattle.sq_rules.specs.declared.leaves.Find.{Find}
 
 -- the options with which a pattern is read: for bytes, and with case off where it is folded
 abbrev pub options : Bool → Config
-options fold = record default_config { flags = record default_config.flags { case_insensitive = fold }; utf8 = false }
+options fold = record default_config
+    { flags = record default_config.flags { case_insensitive = fold }; utf8 = false }
 
 -- what the grammar of patterns reads in the pattern
 unfoldable pub reading : Find → Option (Nested Re × Names)

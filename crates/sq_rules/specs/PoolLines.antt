@@ -13,7 +13,7 @@ use Rattle.sq_rules.specs.Configurations.{is_pool_class, pairs_of, slow_ones}
 use Rattle.sq_rules.specs.Drafts.{Drafts, PoolDraft, pool_at, with_pool, with_pools}
 use Rattle.sq_rules.specs.Limits.{initial_limit, pool_limit}
 use Rattle.sq_rules.specs.Rates.{Limit}
-use Rattle.sq_rules.specs.Steps.{Words, unless, needed, word, no_more, over, some_of}
+use Rattle.sq_rules.specs.Steps.{WordList, unless, needed, word, no_more, over, some_of}
 use Rattle.sq_rules.specs.declared.configs.Acl.{Acl}
 use Rattle.sq_rules.specs.declared.configs.Rule.{Rule}
 use Rattle.sq_rules.specs.declared.configs.Term.{Term}
@@ -25,7 +25,7 @@ unfoldable pub pool_number : List ℕ → Result ℕ Kind
 pool_number w = unless (is_digits w) BadNumber (needed TooMany (digits_of pool_limit w))
 
 -- delay_pools N
-unfoldable pub pools_line : Drafts → Words → Result Drafts Kind
+unfoldable pub pools_line : Drafts → WordList → Result Drafts Kind
 pools_line d ws = do
   first ← word ws
   count ← pool_number first.0
@@ -48,7 +48,7 @@ unfoldable pub pool_class : List ℕ → Result ℕ Kind
 pool_class w = number_between 1 5 w >>= λ class. unless (is_pool_class class) BadNumber (Ok class)
 
 -- delay_class POOL CLASS
-unfoldable pub pool_class_line : Drafts → Words → Result Drafts Kind
+unfoldable pub pool_class_line : Drafts → WordList → Result Drafts Kind
 pool_class_line d ws = do
   first ← word ws
   place ← pool_place (length d.pools) first.0
@@ -58,13 +58,14 @@ pool_class_line d ws = do
 
 -- TERM of a pool's rule: an acl that stands, asks no helper and reaches none that does
 unfoldable pub fast_term : List Acl → List ℕ → Result Term Kind
-fast_term acls w = known_term acls w >>= λ t. unless (not (slice_index_or (slow_ones acls) t.acl false)) SlowInFastList (Ok t)
+fast_term acls w = known_term acls w >>= λ t. unless
+    (not (slice_index_or (slow_ones acls) t.acl false)) SlowInFastList (Ok t)
 
 abbrev pub with_pool_rule : Rule → PoolDraft → PoolDraft
 with_pool_rule r p = record p { lists = p.lists ++ r ∷ [] }
 
 -- delay_access POOL allow|deny TERM ...
-unfoldable pub pool_access_line : Drafts → Words → Result Drafts Kind
+unfoldable pub pool_access_line : Drafts → WordList → Result Drafts Kind
 pool_access_line d ws = do
   first ← word ws
   place ← pool_place (length d.pools) first.0
@@ -84,17 +85,19 @@ class_for_pairs p = class_wanted p.class p.pairs
 
 -- a pair more, of so many
 abbrev pub pair_step : ℕ → List (Option Limit) → List ℕ → Result (List (Option Limit)) Kind
-pair_step count pairs w = unless (nat_lt (length pairs) count) BadValue (limit_pair_of w >>= λ p. Ok (pairs ++ p ∷ []))
+pair_step count pairs w = unless (nat_lt (length pairs) count) BadValue
+    (limit_pair_of w >>= λ p. Ok (pairs ++ p ∷ []))
 
 -- so many pairs
-unfoldable pub limit_pairs_of : ℕ → Words → Result (List (Option Limit)) Kind
-limit_pairs_of count ws = over (pair_step count) [] ws >>= λ pairs. unless (length pairs == count) MissingWord (Ok pairs)
+unfoldable pub limit_pairs_of : ℕ → WordList → Result (List (Option Limit)) Kind
+limit_pairs_of count ws = over (pair_step count) [] ws >>= λ pairs. unless (length pairs == count)
+    MissingWord (Ok pairs)
 
 abbrev pub with_limits : List (Option Limit) → PoolDraft → PoolDraft
 with_limits pairs p = record p { pairs = Some pairs }
 
 -- delay_parameters POOL PAIR ...
-unfoldable pub pool_pairs_line : Drafts → Words → Result Drafts Kind
+unfoldable pub pool_pairs_line : Drafts → WordList → Result Drafts Kind
 pool_pairs_line d ws = do
   first ← word ws
   place ← pool_place (length d.pools) first.0
@@ -106,13 +109,14 @@ abbrev pub with_initial : ℕ → Drafts → Drafts
 with_initial level d = record d { initial = level }
 
 -- delay_initial_bucket_level LEVEL; of several lines the last counts
-unfoldable pub initial_line : Drafts → Words → Result Drafts Kind
+unfoldable pub initial_line : Drafts → WordList → Result Drafts Kind
 initial_line d ws = do
   first ← word ws
   level ← number_between 0 initial_limit first.0
   no_more first.1 (with_initial level d)
 
--- modes of `http_port` that are refused: of interception, of a reverse proxy, and of TLS that is opened
+-- modes of `http_port` that are refused: of interception, of a reverse proxy, and of TLS that is
+-- opened
 abbrev pub refused_modes : List (List ℕ)
 refused_modes = codes "intercept" ∷ codes "tproxy" ∷ codes "accel" ∷ codes "ssl-bump" ∷ []
 
@@ -129,7 +133,7 @@ abbrev pub with_http_port : ℕ → Drafts → Drafts
 with_http_port port d = record d { port = first_port d.port port }
 
 -- http_port PORT|HOST:PORT ...; a host and further words have no effect
-unfoldable pub port_line : ℕ → Drafts → Words → Result Drafts Kind
+unfoldable pub port_line : ℕ → Drafts → WordList → Result Drafts Kind
 port_line line d ws = do
   first ← word ws
   port ← number_between 1 (port_limit - 1) (port_text first.0)

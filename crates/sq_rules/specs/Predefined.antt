@@ -17,7 +17,8 @@ all_part = leaf_part (codes "all") (leaf.Src (all_addresses ∷ []))
 
 -- src 127.0.0.1/32 ::1
 abbrev pub localhost_part : AclPart
-localhost_part = leaf_part (codes "localhost") (leaf.Src (single (v4 2130706433) ∷ single (v6 1) ∷ []))
+localhost_part = leaf_part (codes "localhost")
+    (leaf.Src (single (v4 2130706433) ∷ single (v6 1) ∷ []))
 
 -- method CONNECT
 abbrev pub connect_part : AclPart
@@ -35,12 +36,15 @@ manager_part =
 -- dst 127.0.0.0/8 0.0.0.0/32 ::1 ::
 abbrev pub to_localhost_part : AclPart
 to_localhost_part =
-    leaf_part (codes "to_localhost") (leaf.Dst (block (2 ^ 24) (v4 2130706432) ∷ single (v4 0) ∷ single (v6 1) ∷ single (v6 0) ∷ []))
+    leaf_part (codes "to_localhost")
+    (leaf.Dst (block (2 ^ 24) (v4 2130706432) ∷ single (v4 0) ∷ single (v6 1) ∷ single (v6 0) ∷ []))
 
 -- dst 169.254.0.0/16 fe80::/10
 abbrev pub to_linklocal_part : AclPart
-to_linklocal_part = leaf_part (codes "to_linklocal") (leaf.Dst (block (2 ^ 16) (v4 2851995648) ∷ block (2 ^ 118) (v6 (65152 * 2 ^ 112)) ∷ []))
+to_linklocal_part = leaf_part (codes "to_linklocal")
+    (leaf.Dst (block (2 ^ 16) (v4 2851995648) ∷ block (2 ^ 118) (v6 (65152 * 2 ^ 112)) ∷ []))
 
 -- all of them, in their order
 abbrev pub predefined : List AclPart
-predefined = all_part ∷ localhost_part ∷ connect_part ∷ manager_part ∷ to_localhost_part ∷ to_linklocal_part ∷ []
+predefined = all_part ∷ localhost_part ∷ connect_part ∷ manager_part ∷ to_localhost_part
+    ∷ to_linklocal_part ∷ []

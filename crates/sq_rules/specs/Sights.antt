@@ -11,9 +11,29 @@ use Rattle.sq_rules.specs.declared.sights.Sight.{Sight}
 -- a request of version 1.1 with the parts of its target; without parts where the target has no form
 abbrev pub asked_with : List ℕ → List ℕ → List Field → Option Target → HttpRequest
 asked_with method target fields None =
-    record { method = method; target = target; scheme = []; host = []; literal = None; port = 0; path = []; minor = 1; fields = fields }
+    record {
+      method = method;
+      target = target;
+      scheme = [];
+      host = [];
+      literal = None;
+      port = 0;
+      path = [];
+      minor = 1;
+      fields = fields;
+    }
 asked_with method target fields (Some t) =
-    record { method = method; target = target; scheme = t.scheme; host = t.host; literal = t.literal; port = t.port; path = t.path; minor = 1; fields = fields }
+    record {
+      method = method;
+      target = target;
+      scheme = t.scheme;
+      host = t.host;
+      literal = t.literal;
+      port = t.port;
+      path = t.path;
+      minor = 1;
+      fields = fields;
+    }
 
 -- the request of a method, a target and fields
 abbrev pub asked_request : List ℕ → List ℕ → List Field → HttpRequest
@@ -37,7 +57,8 @@ local_seconds moment offset = pos (moment / 1000) +ℤ (pos 60 *ℤ offset)
 
 -- the weekday, from Sunday as 0: 1970-01-01 was a Thursday
 abbrev pub weekday : ℤ → ℕ
-weekday seconds = unsigned_abs (int_rem_euclid (int_div_euclid seconds (pos 86400) +ℤ pos 4) (pos 7))
+weekday seconds = unsigned_abs
+    (int_rem_euclid (int_div_euclid seconds (pos 86400) +ℤ pos 4) (pos 7))
 
 -- the minute of the day
 abbrev pub minute_of_day : ℤ → ℕ
@@ -45,4 +66,5 @@ minute_of_day seconds = unsigned_abs (int_rem_euclid seconds (pos 86400)) / 60
 
 -- the local minute of the week, from Sunday 00:00 as 0
 abbrev pub minute_of_week : ℕ → ℤ → ℕ
-minute_of_week moment offset = weekday (local_seconds moment offset) * day_minutes + minute_of_day (local_seconds moment offset)
+minute_of_week moment offset = weekday (local_seconds moment offset) * day_minutes
+    + minute_of_day (local_seconds moment offset)

@@ -8,7 +8,8 @@ use Rattle.sq_rules.specs.Names.{KnowsPlaces}
 use Rattle.sq_rules.specs.declared.configs.Acl.{Acl}
 
 -- the acls have names of their own and nest no deeper than they may, and the rest is read from them
-pub record KnowsAcls (acls : List Acl) (places : List (List ℕ × ℕ)) (depths : List ℕ) (slow : List Bool) (count : ℕ) : Type 0 where
+pub record KnowsAcls (acls : List Acl) (places : List (List ℕ × ℕ)) (depths : List ℕ)
+    (slow : List Bool) (count : ℕ) : Type 0 where
   pub places_are : KnowsPlaces (λ a. a.name) places acls
   pub depths_are : depths ≡ nestings acls
   pub slow_are : slow ≡ slow_ones acls

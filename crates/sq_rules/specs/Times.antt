@@ -23,4 +23,5 @@ has_day days day = days / 2 ^ day % 2 == 1
 
 -- the minute of the week, from Sunday 00:00, lies in the period; both ends belong to it
 abbrev pub in_hour : Hour → ℕ → Bool
-in_hour p minute = has_day p.days (minute / day_minutes) && nat_le p.first (minute % day_minutes) && nat_le (minute % day_minutes) p.last
+in_hour p minute = has_day p.days (minute / day_minutes) && nat_le p.first (minute % day_minutes)
+    && nat_le (minute % day_minutes) p.last

@@ -1,5 +1,6 @@
--- The direct evaluation of a configuration over what a check sees and the answers of helpers that it has
--- (configuration reference, `http_access`, `delay_access`, `request_header_access` and `reply_header_access`).
+-- The direct evaluation of a configuration over what a check sees and the answers of helpers that
+-- it has (configuration reference, `http_access`, `delay_access`, `request_header_access` and
+-- `reply_header_access`).
 use Rattle.std.specs.Prelude.{ℕ, ◌+◌, suc, List, [], ◌∷◌, Bool, true, false, not, ◌&&◌, nat_le, if◌then◌else◌, Some, None, slice_get, codes}
 use Rattle.std.specs.Str.{str_eq_ignore_ascii_case}
 use Rattle.std.specs.declared.option.Option.{Option}
@@ -31,18 +32,21 @@ abbrev pub name_of : Option Acl → List ℕ
 name_of None = []
 name_of (Some a) = a.name
 
--- a rule that matches decides, one that does not leaves it to the rest, a fault denies, and a need is the whole answer
+-- a rule that matches decides, one that does not leaves it to the rest, a fault denies, and a need
+-- is the whole answer
 abbrev pub decided : List Acl → ℕ → Rule → TermValue → Value → Value
 decided acls number r Hit rest = value.Verdict (record { allow = r.allow; why = why.Rule number })
 decided acls number r Miss rest = rest
-decided acls number r (Fault acl cause) rest = value.Verdict (record { allow = false; why = why.Fault number (name_of (slice_get acls acl)) cause })
+decided acls number r (Fault acl cause) rest = value.Verdict
+    (record { allow = false; why = why.Fault number (name_of (slice_get acls acl)) cause })
 decided acls number r (Need acl key) rest = value.Need acl key
 
 -- what the rules from this number on come to, or the default
 abbrev pub rules_from : (ℕ → TermValue) → List Acl → Outcome → ℕ → List Rule → Value
 rules_from taken acls default number [] = value.Verdict default
 rules_from taken acls default number (r ∷ rules) =
-    decided acls number r (rule_value taken acls r) (rules_from taken acls default (number + 1) rules)
+    decided acls number r (rule_value taken acls r)
+    (rules_from taken acls default (number + 1) rules)
 
 -- what a configuration comes to over these answers: the first rule that matches decides
 abbrev pub verdict_over : List Answer → Configuration → Sight → Value
@@ -64,13 +68,15 @@ outcome_so_far (value.Need acl key) = record { allow = false; why = why.Empty }
 abbrev pub verdict : Configuration → Sight → Outcome
 verdict c s = outcome_so_far (verdict_over [] c s)
 
--- a client with an IPv6 address passes over pools of class 2 and 3, whose buckets are by parts of IPv4 addresses
+-- a client with an IPv6 address passes over pools of class 2 and 3, whose buckets are by parts of
+-- IPv4 addresses
 abbrev pub is_passed_over : Address → Pool → Bool
 is_passed_over a p = a.v6 && (nat_le 2 p.class && nat_le p.class 3)
 
 -- rules allow, without helpers
 abbrev pub rules_allow : (ℕ → TermValue) → List Acl → List Rule → Bool
-rules_allow taken acls rules = (outcome_so_far (rules_from taken acls (default_of rules) 1 rules)).allow
+rules_allow taken acls rules = (outcome_so_far
+    (rules_from taken acls (default_of rules) 1 rules)).allow
 
 -- the rules of a pool allow
 abbrev pub is_in_pool : (ℕ → TermValue) → List Acl → Pool → Bool
@@ -80,7 +86,8 @@ is_in_pool taken acls p = rules_allow taken acls p.lists
 abbrev pub pool_from : (ℕ → TermValue) → List Acl → Address → ℕ → List Pool → Option ℕ
 pool_from taken acls a place [] = None
 pool_from taken acls a place (p ∷ pools) =
-    if not (is_passed_over a p) && is_in_pool taken acls p then Some place else pool_from taken acls a (suc place) pools
+    if not (is_passed_over a p) && is_in_pool taken acls p then Some place
+    else pool_from taken acls a (suc place) pools
 
 -- the place of the pool of a check, if it has one
 abbrev pub pool_of : Configuration → Sight → Option ℕ
@@ -94,7 +101,8 @@ is_same_way false b = not b
 abbrev pub rules_for : Bool → List ℕ → List HeaderRule → List Rule
 rules_for reply name [] = []
 rules_for reply name (h ∷ headers) =
-    if is_same_way h.reply reply && str_eq_ignore_ascii_case h.name name then h.rule ∷ rules_for reply name headers else rules_for reply name headers
+    if is_same_way h.reply reply && str_eq_ignore_ascii_case h.name name then h.rule
+    ∷ rules_for reply name headers else rules_for reply name headers
 
 -- the rules that decide of a field: those for its name, or else those for `All`
 abbrev pub or_for_all : List Rule → List Rule → List Rule
@@ -107,7 +115,8 @@ field_allowed taken acls [] = true
 field_allowed taken acls (r ∷ rules) = rules_allow taken acls (r ∷ rules)
 
 abbrev pub name_allowed_over : (ℕ → TermValue) → List Acl → List HeaderRule → Bool → List ℕ → Bool
-name_allowed_over taken acls headers reply name = field_allowed taken acls (or_for_all (rules_for reply name headers) (rules_for reply (codes "all") headers))
+name_allowed_over taken acls headers reply name = field_allowed taken acls
+    (or_for_all (rules_for reply name headers) (rules_for reply (codes "all") headers))
 
 -- a field of this name is passed on, of a reply or of a request
 abbrev pub name_allowed : Configuration → Sight → Bool → List ℕ → Bool

@@ -1,4 +1,5 @@
--- The walk of a check: which leaf and external acls its verdict takes the values of, up to what decides.
+-- The walk of a check: which leaf and external acls its verdict takes the values of, up to what
+-- decides.
 use Rattle.std.specs.Prelude.{ℕ, zero, suc, List, [], ◌∷◌, ◌++◌, Bool, true, false, if◌then◌else◌, map, Some, None, slice_get}
 use Rattle.std.specs.declared.option.Option.{Option}
 use Rattle.sq_base.specs.declared.helpers.Answer.{Answer}
@@ -37,9 +38,13 @@ walk_while goes_on (x ∷ xs) = x.walk ++ (if goes_on x.value then walk_while go
 
 -- a line of all-of goes on behind each match
 abbrev pub line_seen : (Term → Seen) → List Term → Seen
-line_seen member terms = record { value = both (map (λ t. (member t).value) terms); walk = walk_while is_hit (map member terms) }
+line_seen member terms = record {
+  value = both (map (λ t. (member t).value) terms);
+  walk = walk_while is_hit (map member terms);
+}
 
--- the walk of an acl at a place; any-of goes on behind each mismatch, and so does all-of with its lines
+-- the walk of an acl at a place; any-of goes on behind each mismatch, and so does all-of with its
+-- lines
 abbrev pub body_walk : (Term → Seen) → ℕ → Body → List ℕ
 body_walk member place (body.Leaf l) = place ∷ []
 body_walk member place (body.External class arguments) = place ∷ []
@@ -54,20 +59,30 @@ acl_walk member place (Some a) = body_walk member place a.body
 abbrev pub member_walk : (ℕ → TermValue) → List Acl → ℕ → Term → List ℕ
 member_walk taken acls zero t = []
 member_walk taken acls (suc before) t =
-    acl_walk (λ m. record { value = member_value taken acls before m; walk = member_walk taken acls before m }) t.acl (slice_get acls t.acl)
+    acl_walk (λ m. record {
+      value = member_value taken acls before m;
+      walk = member_walk taken acls before m;
+    }) t.acl (slice_get acls t.acl)
 
 -- a term, whose acl has as many acls before it as its place says
 abbrev pub term_seen : (ℕ → TermValue) → List Acl → Term → Seen
-term_seen taken acls t = record { value = member_value taken acls (suc t.acl) t; walk = member_walk taken acls (suc t.acl) t }
+term_seen taken acls t = record {
+  value = member_value taken acls (suc t.acl) t;
+  walk = member_walk taken acls (suc t.acl) t;
+}
 
 -- a rule: its terms from left to right, up to the first that is no match
 abbrev pub rule_seen : (ℕ → TermValue) → List Acl → Rule → Seen
-rule_seen taken acls r = record { value = rule_value taken acls r; walk = walk_while is_hit (map (term_seen taken acls) r.terms) }
+rule_seen taken acls r = record {
+  value = rule_value taken acls r;
+  walk = walk_while is_hit (map (term_seen taken acls) r.terms);
+}
 
 -- the walk of rules, up to the first that decides
 abbrev pub rules_walk : (ℕ → TermValue) → List Acl → List Rule → List ℕ
 rules_walk taken acls rules = walk_while is_miss (map (rule_seen taken acls) rules)
 
--- the places of the leaf and external acls whose values the verdict over these answers takes, in order and with repeats
+-- the places of the leaf and external acls whose values the verdict over these answers takes, in
+-- order and with repeats
 abbrev pub walk_over : List Answer → Configuration → Sight → List ℕ
 walk_over answers c s = rules_walk (taken_at c s answers) c.acls c.rules

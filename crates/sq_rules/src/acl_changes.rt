@@ -67,7 +67,8 @@ impl Acl {
     /// Puts further values into a leaf.
     pub fn join(&mut self, alloc: Global, more: Leaf) -> Result<(), WantOfMemory>
         ensures named { self.new.name ≡ self.old.name }
-        ensures ok { OnOk result (self.new ≡ record self.old { body = with_leaf more self.old.body }) }
+        ensures ok { OnOk result
+            (self.new ≡ record self.old { body = with_leaf more self.old.body }) }
         ensures err { OnErr result (self.new ≡ self.old) }
     {
         match &mut self.body {
@@ -91,7 +92,8 @@ impl Acl {
     /// Puts a member into a group, and of `all-of` into its last line.
     pub fn add_member(&mut self, alloc: Global, term: Term) -> Result<(), WantOfMemory>
         ensures named { self.new.name ≡ self.old.name }
-        ensures ok { OnOk result (self.new ≡ record self.old { body = with_member term self.old.body }) }
+        ensures ok { OnOk result
+            (self.new ≡ record self.old { body = with_member term self.old.body }) }
         ensures err { OnErr result (self.new ≡ self.old) }
     {
         match &mut self.body {

@@ -50,7 +50,8 @@ impl Model for AclTable {
 
     ghost view = { λ t. t.acls.items };
 
-    ghost invariant = { λ t. KnowsAcls t.acls.items t.places t.nestings.items t.slow.items t.stated };
+    ghost invariant = { λ t. KnowsAcls t.acls.items t.places t.nestings.items t.slow.items
+        t.stated };
 }
 
 impl AclTable {
@@ -123,7 +124,8 @@ impl AclTable {
         requires few { length self.old < most_acls }
         requires free { place_of self.old name ≡ None }
         requires shallow { nat_le (nesting_of (nestings self.old) body) nesting_limit ≡ true }
-        ensures ok { OnOk result (self.new ≡ self.old ++ (record { name = name; body = body }) ∷ []) }
+        ensures ok { OnOk result
+            (self.new ≡ self.old ++ (record { name = name; body = body }) ∷ []) }
         ensures err { OnErr result (self.new ≡ self.old) }
     {
         let Some(nesting) = nesting_of(self.nestings.as_slice(), &body) else {
@@ -223,7 +225,8 @@ impl AclTable {
         term: Term,
     ) -> Result<Option<Listed<bool>>, WantOfMemory>
         requires { place < length self.now }
-        ensures { IfOk result (λ new. AreSlowOnes new self.now (with_member_at place term self.now)) }
+        ensures { IfOk result
+            (λ new. AreSlowOnes new self.now (with_member_at place term self.now)) }
     {
         slow_with(
             alloc,
@@ -248,7 +251,8 @@ impl AclTable {
         ensures ok { OnOk result (self.new ≡ with_member_at place term self.old) }
         ensures shallow { OnOk result (are_shallow (with_member_at place term self.old) ≡ true) }
         ensures not_slow { IfErr result (λ e. e ≢ MemberFault.Slow) }
-        ensures deep { IfErr result (λ e. e ≡ MemberFault.Deep → are_shallow (with_member_at place term self.old) ≡ false) }
+        ensures deep { IfErr result
+            (λ e. e ≡ MemberFault.Deep → are_shallow (with_member_at place term self.old) ≡ false) }
         ensures err { OnErr result (self.new ≡ self.old) }
     {
         let acls = self.acls.as_slice();

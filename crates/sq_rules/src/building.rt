@@ -63,7 +63,8 @@ fn body_of(
     part: BodyPart,
 ) -> Result<Body, BuildFault>
     ensures made { IsMade result (body_made classes.now acls.now part) }
-    ensures known { IfOk result (λ b. is_known_body (length classes.now) (length acls.now) b ≡ true) }
+    ensures known { IfOk result
+        (λ b. is_known_body (length classes.now) (length acls.now) b ≡ true) }
 {
     match part {
         BodyPart::Leaf(leaf) => Ok(Body::Leaf(leaf)),

@@ -27,7 +27,8 @@ impl Model for ClassTable {
 
     ghost view = { λ t. t.classes.items };
 
-    ghost invariant = { λ t. KnowsPlaces (λ c. c.name) t.places t.classes.items × (have_distinct_names t.classes.items ≡ true) };
+    ghost invariant = { λ t. KnowsPlaces (λ c. c.name) t.places t.classes.items
+        × (have_distinct_names t.classes.items ≡ true) };
 }
 
 impl ClassTable {

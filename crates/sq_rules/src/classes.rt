@@ -48,7 +48,7 @@ pub struct Class {
     pub negative_ttl: u32,
     /// Percentage remaining of the ttl in which a refresh begins without waiting.
     pub grace: u32,
-    /// Greatest number of kept verdicts; 0 keeps none.
+    /// Greatest number of cached replies; 0 keeps none.
     pub cache: u32,
     /// Greatest number of processes.
     pub children_max: u32,
@@ -68,13 +68,38 @@ impl Model for Class {
 
     ghost Value = { Class };
 
-    ghost view = { λ c. record { name = c.name; ttl = c.ttl; negative_ttl = c.negative_ttl; grace = c.grace; cache = c.cache; children_max = c.children_max; startup = c.startup; concurrency = c.concurrency; queue_size = c.queue_size; format = c.format; words = c.words } };
+    ghost view = { λ c. record {
+      name = c.name;
+      ttl = c.ttl;
+      negative_ttl = c.negative_ttl;
+      grace = c.grace;
+      cache = c.cache;
+      children_max = c.children_max;
+      startup = c.startup;
+      concurrency = c.concurrency;
+      queue_size = c.queue_size;
+      format = c.format;
+      words = c.words;
+    } };
 
-    ghost invariant = { λ c. IsClass (record { name = c.name; ttl = c.ttl; negative_ttl = c.negative_ttl; grace = c.grace; cache = c.cache; children_max = c.children_max; startup = c.startup; concurrency = c.concurrency; queue_size = c.queue_size; format = c.format; words = c.words }) };
+    ghost invariant = { λ c. IsClass
+        (record {
+          name = c.name;
+          ttl = c.ttl;
+          negative_ttl = c.negative_ttl;
+          grace = c.grace;
+          cache = c.cache;
+          children_max = c.children_max;
+          startup = c.startup;
+          concurrency = c.concurrency;
+          queue_size = c.queue_size;
+          format = c.format;
+          words = c.words;
+        }) };
 }
 
 impl Class {
-    /// Whether both state the same in each part, the name among them. Kept verdicts move to such a
+    /// Whether both state the same in each part, the name among them. Cached replies move to such a
     /// class when a configuration is read again. It takes no memory.
     pub fn alike(&self, other: &Class) -> bool
         ensures { result ≡ is_alike self.now other.now }
@@ -87,7 +112,7 @@ impl Class {
     }
 }
 
-// Whether both say the same of kept verdicts.
+// Whether both say the same of cached replies.
 fn same_times(class: &Class, other: &Class) -> bool
     ensures { result ≡ same_times class.now other.now }
 {

@@ -13,7 +13,7 @@ use crate::leaves::Leaf;
 use crate::lookups::are_looked_up;
 use crate::notices::{Notice, Notices};
 use crate::parts::{BuildFault, Parts};
-use crate::pools::{Pool, Pools};
+use crate::pools::{Pool, PoolList};
 use sq_base::{Listed, Text, Texts};
 use std::alloc::Global;
 use std::marker::Model;
@@ -74,7 +74,7 @@ pub struct Config {
     classes: Classes,
     acls: Acls,
     rules: Rules,
-    pools: Pools,
+    pools: PoolList,
     initial: u8,
     port: u16,
     rewriter: Option<Class>,
@@ -106,9 +106,34 @@ impl Model for Config {
 
     ghost Value = { Configuration };
 
-    ghost view = { λ c. record { source = c.source; dst_lookup = c.dst_lookup; classes = c.classes; acls = c.acls; rules = c.rules; pools = c.pools; initial = c.initial; port = c.port; rewriter = c.rewriter; headers = c.headers; notices = c.notices } };
+    ghost view = { λ c. record {
+      source = c.source;
+      dst_lookup = c.dst_lookup;
+      classes = c.classes;
+      acls = c.acls;
+      rules = c.rules;
+      pools = c.pools;
+      initial = c.initial;
+      port = c.port;
+      rewriter = c.rewriter;
+      headers = c.headers;
+      notices = c.notices;
+    } };
 
-    ghost invariant = { λ c. IsConfiguration (record { source = c.source; dst_lookup = c.dst_lookup; classes = c.classes; acls = c.acls; rules = c.rules; pools = c.pools; initial = c.initial; port = c.port; rewriter = c.rewriter; headers = c.headers; notices = c.notices }) };
+    ghost invariant = { λ c. IsConfiguration
+        (record {
+          source = c.source;
+          dst_lookup = c.dst_lookup;
+          classes = c.classes;
+          acls = c.acls;
+          rules = c.rules;
+          pools = c.pools;
+          initial = c.initial;
+          port = c.port;
+          rewriter = c.rewriter;
+          headers = c.headers;
+          notices = c.notices;
+        }) };
 }
 
 impl Config {
@@ -119,15 +144,40 @@ impl Config {
         classes: Classes,
         acls: Acls,
         rules: Rules,
-        pools: Pools,
+        pools: PoolList,
         initial: u8,
         port: u16,
         rewriter: Option<Class>,
         headers: HeaderRules,
         notices: Notices,
     ) -> Config
-        requires { IsConfiguration (record { source = source; dst_lookup = dst_lookup; classes = classes; acls = acls; rules = rules; pools = pools; initial = initial; port = port; rewriter = rewriter; headers = headers; notices = notices }) }
-        ensures { result ≡ record { source = source; dst_lookup = dst_lookup; classes = classes; acls = acls; rules = rules; pools = pools; initial = initial; port = port; rewriter = rewriter; headers = headers; notices = notices } }
+        requires { IsConfiguration
+            (record {
+              source = source;
+              dst_lookup = dst_lookup;
+              classes = classes;
+              acls = acls;
+              rules = rules;
+              pools = pools;
+              initial = initial;
+              port = port;
+              rewriter = rewriter;
+              headers = headers;
+              notices = notices;
+            }) }
+        ensures { result ≡ record {
+          source = source;
+          dst_lookup = dst_lookup;
+          classes = classes;
+          acls = acls;
+          rules = rules;
+          pools = pools;
+          initial = initial;
+          port = port;
+          rewriter = rewriter;
+          headers = headers;
+          notices = notices;
+        } }
     {
         Config {
             source,

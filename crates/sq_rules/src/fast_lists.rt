@@ -12,7 +12,7 @@ use crate::parts::{
     BuildFault, HeaderPart, HeaderParts, PoolPart, PoolParts, RulePart, RuleParts, TermPart,
     TermParts,
 };
-use crate::pools::{Pool, Pools};
+use crate::pools::{Pool, PoolList};
 use sq_base::Listed;
 use std::alloc::Global;
 
@@ -111,7 +111,7 @@ fn pool_of(alloc: Global, acls: &AclTable, place: u32, part: PoolPart) -> Result
 
 /// The pools over these acls, in the order of their numbers.
 #[tactic(auto, using(crate::proofs::MadeLaws::pools_first))]
-pub fn pools_of(alloc: Global, acls: &AclTable, parts: PoolParts) -> Result<Pools, BuildFault>
+pub fn pools_of(alloc: Global, acls: &AclTable, parts: PoolParts) -> Result<PoolList, BuildFault>
     requires { length parts ≤ pool_limit }
     ensures made { IsMade result (pools_made acls.now 0 parts) }
     ensures count { IfOk result (λ pools. length pools ≡ length parts) }

@@ -62,7 +62,7 @@ pub use parts::{
     AclPart, AclParts, BodyPart, BuildFault, HeaderPart, HeaderParts, LineParts, Parts, PoolPart,
     PoolParts, RulePart, RuleParts, TermPart, TermParts,
 };
-pub use pools::{Limit, Limits, Pool, Pools};
+pub use pools::{Limit, Limits, Pool, PoolList};
 pub use predefined::predefined_acls;
 pub use reaching::asks_nobody;
 pub use sights::{Peer, Sight};

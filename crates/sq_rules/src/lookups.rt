@@ -291,7 +291,8 @@ fn are_behind(place: u32, values: &Acl, others: &[Acl]) -> bool
 // Whether an acl is no acl of values but the very first, or has the three others of four behind it.
 fn is_in_four(place: u32, acl: &Acl, others: &[Acl]) -> bool
     requires { place < 2 ^ 31 }
-    ensures { result ≡ (not (is_dst acl.now.body) || place == 0 || are_behind place acl.now others.now) }
+    ensures { result ≡ (not (is_dst acl.now.body) || place == 0
+        || are_behind place acl.now others.now) }
 {
     !is_dst(&acl.body) || place == 0 || are_behind(place, acl, others)
 }

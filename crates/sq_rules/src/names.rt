@@ -40,7 +40,9 @@ impl Names {
 
     /// Puts the place of a name.
     pub fn put(&mut self, name: Text, place: u32) -> Result<(), WantOfMemory>
-        ensures ok { OnOk result ((q : List ℕ) → place_at self.new q ≡ cond (bytes_eq name q) (Some place) (place_at self.old q)) }
+        ensures ok { OnOk result
+            ((q : List ℕ) → place_at self.new q
+            ≡ cond (bytes_eq name q) (Some place) (place_at self.old q)) }
         ensures err { OnErr result (self.new ≡ self.old) }
     {
         match self.places.insert(name, place) {

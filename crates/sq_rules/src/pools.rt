@@ -35,4 +35,4 @@ pub struct Pool {
 }
 
 /// A list of pools.
-pub type Pools = Listed<Pool>;
+pub type PoolList = Listed<Pool>;

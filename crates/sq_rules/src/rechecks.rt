@@ -44,7 +44,8 @@ fn slow_after(
 ) -> Result<Listed<bool>, WantOfMemory>
     requires flags { place < length slow.now }
     requires acls { place < length acls.now }
-    ensures { IfOk result (λ all. all ≡ slow_on (take place slow.now ++ flag ∷ []) (drop (suc place) acls.now)) }
+    ensures { IfOk result
+        (λ all. all ≡ slow_on (take place slow.now ++ flag ∷ []) (drop (suc place) acls.now)) }
 {
     let mut all = listed(alloc, &slow[..place])?;
     all.push(flag)?;
@@ -89,10 +90,15 @@ fn depths_after(
     requires acls { place < length acls.now }
     requires depth { nat_le depth nesting_limit ≡ true }
     requires shallow { list_all (λ n. nat_le n nesting_limit) depths.now ≡ true }
-    ensures ok { IfOk result (λ all. all ≡ nestings_on (take place depths.now ++ depth ∷ []) (drop (suc place) acls.now)) }
+    ensures ok { IfOk result
+        (λ all. all ≡ nestings_on (take place depths.now ++ depth ∷ [])
+        (drop (suc place) acls.now)) }
     ensures shallow { IfOk result (λ all. list_all (λ n. nat_le n nesting_limit) all ≡ true) }
     ensures not_slow { IfErr result (λ e. e ≢ MemberFault.Slow) }
-    ensures deep { IfErr result (λ e. e ≡ MemberFault.Deep → list_all (λ n. nat_le n nesting_limit) (nestings_on (take place depths.now ++ depth ∷ []) (drop (suc place) acls.now)) ≡ false) }
+    ensures deep { IfErr result
+        (λ e. e ≡ MemberFault.Deep
+        → list_all (λ n. nat_le n nesting_limit)
+        (nestings_on (take place depths.now ++ depth ∷ []) (drop (suc place) acls.now)) ≡ false) }
 {
     let mut all = listed(alloc, &depths[..place])?;
     all.push(depth)?;
@@ -121,7 +127,8 @@ pub fn depths_with(
     ensures ok { IfOk result (λ new. AreDepths new acls.now (with_member_at place term acls.now)) }
     ensures shallow { IfOk result (λ new. are_shallow (with_member_at place term acls.now) ≡ true) }
     ensures not_slow { IfErr result (λ e. e ≢ MemberFault.Slow) }
-    ensures deep { IfErr result (λ e. e ≡ MemberFault.Deep → are_shallow (with_member_at place term acls.now) ≡ false) }
+    ensures deep { IfErr result
+        (λ e. e ≡ MemberFault.Deep → are_shallow (with_member_at place term acls.now) ≡ false) }
 {
     let grows = is_group(&acls[place].body);
     let below = nesting_at(&depths[..place], term);

@@ -8,17 +8,21 @@ use Rattle.sq_machine.specs.declared.entries.Event.TheVariants as event
 use Rattle.sq_machine.specs.declared.entries.Told.TheVariants as told
 use Rattle.sq_machine.specs.Entries.{History, entry_at}
 use Rattle.sq_machine.specs.Readings.{current}
-use Rattle.sq_note.specs.Noting.{with_entry}
-use Rattle.sq_room.specs.Books.{AreCounted, asks_in}
+use Rattle.sq_journal_writers.specs.Noting.{with_entry}
+use Rattle.sq_shared.specs.Books.{AreCounted, asks_in}
 use Rattle.sq_server.specs.Beginning.{HasCountedNone}
 
-counted_first : (h : History) (moment : ℕ) (offset : ℤ) → h ≡ [] → (0 ≡ asks_in (entry_at moment (event.Begin offset) (told.Epoch 1) ∷ h)) × (0 + 1 ≡ current (entry_at moment (event.Begin offset) (told.Epoch 1) ∷ h))
+counted_first : (h : History) (moment : ℕ) (offset : ℤ) → h ≡ []
+    → (0 ≡ asks_in (entry_at moment (event.Begin offset) (told.Epoch 1) ∷ h))
+    × (0 + 1 ≡ current (entry_at moment (event.Begin offset) (told.Epoch 1) ∷ h))
 counted_first h moment offset e =
-    subst (λ (k : History). (0 ≡ asks_in (entry_at moment (event.Begin offset) (told.Epoch 1) ∷ k)) × (0 + 1 ≡ current (entry_at moment (event.Begin offset) (told.Epoch 1) ∷ k)))
+    subst (λ (k : History). (0 ≡ asks_in (entry_at moment (event.Begin offset) (told.Epoch 1) ∷ k))
+    × (0 + 1 ≡ current (entry_at moment (event.Begin offset) (told.Epoch 1) ∷ k)))
     (sym e) (refl, refl)
 
 if_first : (before : Option History) (moment : ℕ) (offset : ℤ) → IfSome before (λ h. h ≡ [])
-    → IfSome (with_entry (entry_at moment (event.Begin offset) (told.Epoch 1)) before) (λ h. (0 ≡ asks_in h) × (0 + 1 ≡ current h))
+    → IfSome (with_entry (entry_at moment (event.Begin offset) (told.Epoch 1)) before)
+    (λ h. (0 ≡ asks_in h) × (0 + 1 ≡ current h))
 if_first None moment offset e = tt
 if_first (Some h) moment offset e = counted_first h moment offset e
 
@@ -27,10 +31,13 @@ for_if None P p x e = absurd (cc)
 for_if (Some y) P p x e = let same : y ≡ x = cc in subst P same p
 
 -- the first entry is neither a request nor a reconfiguration
-first_counted : (before now : Option History) (moment : ℕ) (offset : ℤ) → IfSome before (λ h. h ≡ []) → now ≡ with_entry (entry_at moment (event.Begin offset) (told.Epoch 1)) before → AreCounted 0 0 now
-first_counted before now moment offset none is = subst (AreCounted 0 0) (sym is) (for_if _ _ (if_first before moment offset none))
+first_counted : (before now : Option History) (moment : ℕ) (offset : ℤ) → IfSome before (λ h. h ≡ [])
+    → now ≡ with_entry (entry_at moment (event.Begin offset) (told.Epoch 1)) before → AreCounted 0 0 now
+first_counted before now moment offset none is = subst (AreCounted 0 0) (sym is)
+    (for_if _ _ (if_first before moment offset none))
 
-pub has_counted : (before now : Option History) (moment made refused granted : ℕ) (offset : ℤ) → IfSome before (λ h. h ≡ []) → now ≡ with_entry (entry_at moment (event.Begin offset) (told.Epoch 1)) before
+pub has_counted : (before now : Option History) (moment made refused granted : ℕ) (offset : ℤ)
+    → IfSome before (λ h. h ≡ []) → now ≡ with_entry (entry_at moment (event.Begin offset) (told.Epoch 1)) before
     → made ≡ 0 → refused ≡ 0 → granted ≡ 0 → HasCountedNone now (Some made) (min refused count_limit) granted
 has_counted before now moment made refused granted offset none is m r g = record {
   entries = first_counted before now moment offset none is;
@@ -40,8 +47,10 @@ has_counted before now moment made refused granted offset none is m r g = record
 }
 
 -- what books count that count nothing
-pub counted_none : (told : Option History) (asks makes : ℕ) → asks ≡ 0 → makes ≡ 0 → AreCounted 0 0 told → AreCounted asks makes told
-counted_none told asks makes a m c = subst (λ k. AreCounted k makes told) (sym a) (subst (λ k. AreCounted 0 k told) (sym m) c)
+pub counted_none : (told : Option History) (asks makes : ℕ) → asks ≡ 0 → makes ≡ 0 → AreCounted 0 0 told
+    → AreCounted asks makes told
+counted_none told asks makes a m c = subst (λ k. AreCounted k makes told) (sym a)
+    (subst (λ k. AreCounted 0 k told) (sym m) c)
 
 pub made_none : (made : Option ℕ) (total : ℕ) → total ≡ 0 → ForSome made (λ m. m ≡ 0) → ForSome made (λ m. m ≡ total)
 made_none made total t is m e = is m e ∙ sym t

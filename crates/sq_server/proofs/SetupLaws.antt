@@ -54,7 +54,25 @@ signs_send = search (sendable, crosses, caseless_send, hir_send) depth 40 fits 2
 
 program_send : IsSend program.the_row
 program_send =
-    let parts : FieldsHave IsSend (program.the_type).parts = (search (sendable, crosses, hir_send) depth 40 fits 20000, (search (sendable, crosses, dfa_send) depth 40 fits 20000, (search (sendable, crosses, plans_send) depth 40 fits 20000, (search (sendable, crosses, signs_send) depth 40 fits 20000, (search (sendable, crosses, byte_set_send) depth 40 fits 20000, (search (sendable, crosses) depth 40 fits 20000, (search (sendable, crosses) depth 40 fits 20000, (search (sendable, crosses) depth 40 fits 20000, tt)))))))) in
+    let parts : FieldsHave IsSend (program.the_type).parts = (
+      search (sendable, crosses, hir_send) depth 40 fits 20000,
+      (
+        search (sendable, crosses, dfa_send) depth 40 fits 20000,
+        (
+          search (sendable, crosses, plans_send) depth 40 fits 20000,
+          (
+            search (sendable, crosses, signs_send) depth 40 fits 20000,
+            (
+              search (sendable, crosses, byte_set_send) depth 40 fits 20000,
+              (
+                search (sendable, crosses) depth 40 fits 20000,
+                (search (sendable, crosses) depth 40 fits 20000, (search (sendable, crosses) depth 40 fits 20000, tt)),
+              ),
+            ),
+          ),
+        ),
+      ),
+    ) in
     declared_send program.the_type parts
 
 forward_send : IsSend forward.the_row
@@ -62,12 +80,14 @@ forward_send = search (sendable, crosses) depth 40 fits 20000
 
 matcher_send : IsSend matcher.the_row
 matcher_send =
-    let parts : FieldsHave IsSend (matcher.the_type).parts = (search (sendable, program_send), (search (sendable, forward_send), tt)) in
+    let parts : FieldsHave IsSend (matcher.the_type).parts =
+    (search (sendable, program_send), (search (sendable, forward_send), tt)) in
     declared_send matcher.the_type parts
 
 compiled_inside_send : IsSend compiled_inside.the_row
 compiled_inside_send =
-    let parts : FieldsHave IsSend (compiled_inside.the_type).parts = (search (sendable, crosses) depth 40 fits 20000, (search (sendable, Vec-send, matcher_send), tt)) in
+    let parts : FieldsHave IsSend (compiled_inside.the_type).parts =
+    (search (sendable, crosses) depth 40 fits 20000, (search (sendable, Vec-send, matcher_send), tt)) in
     declared_send compiled_inside.the_type parts
 
 compiled_send : IsSend compiled.the_row
@@ -83,12 +103,16 @@ patterns_send = view_send _ _ _ _ _ patterns_inside_send
 
 value_sets_send : IsSend value_sets.the_row
 value_sets_send =
-    let parts : FieldsHave IsSend (value_sets.the_type).parts = (search (sendable, addr_set_send), (search (sendable, domain_set_send), (search (sendable, spans_send), tt))) in
+    let parts : FieldsHave IsSend (value_sets.the_type).parts =
+    (search (sendable, addr_set_send), (search (sendable, domain_set_send), (search (sendable, spans_send), tt))) in
     declared_send value_sets.the_type parts
 
 setup_inside_send : IsSend setup_inside.the_row
 setup_inside_send =
-    let parts : FieldsHave IsSend (setup_inside.the_type).parts = (search (sendable, crosses, config_send, config_sync) depth 40 fits 20000, (search (sendable, patterns_send), (search (sendable, Vec-send, value_sets_send), tt))) in
+    let parts : FieldsHave IsSend (setup_inside.the_type).parts = (
+      search (sendable, crosses, config_send, config_sync) depth 40 fits 20000,
+      (search (sendable, patterns_send), (search (sendable, Vec-send, value_sets_send), tt)),
+    ) in
     declared_send setup_inside.the_type parts
 
 pub setup_send : IsSend setup.the_row

@@ -17,8 +17,8 @@ use Rattle.sq_lookup.specs.contracts.rows.Row as row
 use Rattle.sq_lookup.specs.contracts.rows.Rows as rows
 use Rattle.sq_lookup.specs.contracts.waiters.Waiters as waiters
 use Rattle.sq_lookup.specs.contracts.lookups.Lookups as lookups
-use Rattle.sq_part.specs.contracts.parts.Part as part
-use Rattle.sq_part.specs.contracts.parts.Part.TheInside as part_inside
+use Rattle.sq_class.specs.contracts.parts.Part as part
+use Rattle.sq_class.specs.contracts.parts.Part.TheInside as part_inside
 use Rattle.sq_epochs.specs.contracts.epoch.Epoch as epoch
 use Rattle.sq_epochs.specs.contracts.epoch.Epoch.TheInside as epoch_inside
 use Rattle.sq_epochs.specs.contracts.homes.Homes as homes
@@ -32,9 +32,9 @@ use Rattle.sq_frames.specs.contracts.positions.Position as position
 use Rattle.sq_frames.specs.contracts.frames.Frames as frames
 use Rattle.sq_frames.specs.contracts.frames.Frames.TheInside as frames_inside
 use Rattle.sq_checks.specs.contracts.conns.Link as link
-use Rattle.sq_checks.specs.contracts.counts.Counts as counts
+use Rattle.sq_checks.specs.contracts.counts.ConnCounts as counts
 use Rattle.sq_checks.specs.contracts.conns.Conns as conns
-use Rattle.sq_checks.specs.contracts.stages.Stage as stage
+use Rattle.sq_checks.specs.contracts.stages.CheckStage as stage
 use Rattle.sq_checks.specs.contracts.open_check.OpenCheck as open_check
 use Rattle.sq_checks.specs.contracts.open_check.OpenCheck.TheInside as open_check_inside
 use Rattle.sq_checks.specs.contracts.open_checks.OpenChecks as open_checks
@@ -42,10 +42,10 @@ use Rattle.sq_engine.specs.contracts.current.Current as current
 use Rattle.sq_engine.specs.contracts.current.Current.TheInside as current_inside
 use Rattle.sq_engine.specs.contracts.engines.Engine as engine
 use Rattle.sq_engine.specs.contracts.engines.Engine.TheInside as engine_inside
-use Rattle.sq_note.specs.declared.journal.Journal as journal
+use Rattle.sq_journal_writers.specs.declared.journal.Journal as journal
 use Rattle.sq_desk.specs.contracts.notes.Notes as notes
 use Rattle.sq_desk.specs.contracts.notes.Notes.TheInside as notes_inside
-use Rattle.sq_desk.specs.declared.desks.First as first
+use Rattle.sq_desk.specs.declared.desks.DeskStart as first
 use Rattle.sq_desk.specs.contracts.desks.Desk as desk
 use Rattle.sq_desk.specs.contracts.desks.Desk.TheInside as desk_inside
 use Rattle.sq_server.specs.declared.watched.Before as before
@@ -83,7 +83,8 @@ lookups_send = search (sendable, keys_send, rows_send, waiters_send) depth 40 fi
 
 part_inside_send : IsSend part_inside.the_row
 part_inside_send =
-    let parts : FieldsHave IsSend (part_inside.the_type).parts = (search (sendable, kept_send), (search (sendable, lookups_send), (search (sendable, farm_send), tt))) in
+    let parts : FieldsHave IsSend (part_inside.the_type).parts =
+    (search (sendable, kept_send), (search (sendable, lookups_send), (search (sendable, farm_send), tt))) in
     declared_send part_inside.the_type parts
 
 part_send : IsSend part.the_row
@@ -91,7 +92,16 @@ part_send = view_send _ _ _ _ _ part_inside_send
 
 epoch_inside_send : IsSend epoch_inside.the_row
 epoch_inside_send =
-    let parts : FieldsHave IsSend (epoch_inside.the_type).parts = (search (sendable, crosses) depth 40 fits 20000, (search (sendable, crosses, config_send, config_sync) depth 40 fits 20000, (search (sendable, crosses) depth 40 fits 20000, (search (sendable, Vec-send, part_send), (search (sendable, crosses) depth 40 fits 20000, tt))))) in
+    let parts : FieldsHave IsSend (epoch_inside.the_type).parts = (
+      search (sendable, crosses) depth 40 fits 20000,
+      (
+        search (sendable, crosses, config_send, config_sync) depth 40 fits 20000,
+        (
+          search (sendable, crosses) depth 40 fits 20000,
+          (search (sendable, Vec-send, part_send), (search (sendable, crosses) depth 40 fits 20000, tt)),
+        ),
+      ),
+    ) in
     declared_send epoch_inside.the_type parts
 
 epoch_send : IsSend epoch.the_row
@@ -102,7 +112,10 @@ homes_send = search (sendable, crosses) depth 40 fits 20000
 
 epochs_inside_send : IsSend epochs_inside.the_row
 epochs_inside_send =
-    let parts : FieldsHave IsSend (epochs_inside.the_type).parts = (search (sendable, crosses) depth 40 fits 20000, (search (sendable, Vec-send, epoch_send), (search (sendable, homes_send), tt))) in
+    let parts : FieldsHave IsSend (epochs_inside.the_type).parts = (
+      search (sendable, crosses) depth 40 fits 20000,
+      (search (sendable, Vec-send, epoch_send), (search (sendable, homes_send), tt)),
+    ) in
     declared_send epochs_inside.the_type parts
 
 epochs_send : IsSend epochs.the_row
@@ -110,7 +123,10 @@ epochs_send = view_send _ _ _ _ _ epochs_inside_send
 
 slots_inside_send : IsSend slots_inside.the_row
 slots_inside_send =
-    let parts : FieldsHave IsSend (slots_inside.the_type).parts = (search (sendable, crosses, config_send, config_sync) depth 40 fits 20000, (search (sendable, crosses) depth 40 fits 20000, (search (sendable, crosses) depth 40 fits 20000, tt))) in
+    let parts : FieldsHave IsSend (slots_inside.the_type).parts = (
+      search (sendable, crosses, config_send, config_sync) depth 40 fits 20000,
+      (search (sendable, crosses) depth 40 fits 20000, (search (sendable, crosses) depth 40 fits 20000, tt)),
+    ) in
     declared_send slots_inside.the_type parts
 
 slots_send : IsSend slots.the_row
@@ -118,7 +134,10 @@ slots_send = view_send _ _ _ _ _ slots_inside_send
 
 slots_inside_sync : IsSync slots_inside.the_row
 slots_inside_sync =
-    let parts : FieldsHave IsSync (slots_inside.the_type).parts = (search (sendable, crosses, config_send, config_sync) depth 40 fits 20000, (search (sendable, crosses) depth 40 fits 20000, (search (sendable, crosses) depth 40 fits 20000, tt))) in
+    let parts : FieldsHave IsSync (slots_inside.the_type).parts = (
+      search (sendable, crosses, config_send, config_sync) depth 40 fits 20000,
+      (search (sendable, crosses) depth 40 fits 20000, (search (sendable, crosses) depth 40 fits 20000, tt)),
+    ) in
     declared_sync slots_inside.the_type parts
 
 slots_sync : IsSync slots.the_row
@@ -135,7 +154,13 @@ position_send = search (sendable, crosses, spots_send) depth 40 fits 20000
 
 frames_inside_send : IsSend frames_inside.the_row
 frames_inside_send =
-    let parts : FieldsHave IsSend (frames_inside.the_type).parts = (search (sendable, crosses, slots_send, slots_sync) depth 40 fits 20000, (search (sendable, crosses) depth 40 fits 20000, (search (sendable, position_send), (search (sendable, crosses) depth 40 fits 20000, tt)))) in
+    let parts : FieldsHave IsSend (frames_inside.the_type).parts = (
+      search (sendable, crosses, slots_send, slots_sync) depth 40 fits 20000,
+      (
+        search (sendable, crosses) depth 40 fits 20000,
+        (search (sendable, position_send), (search (sendable, crosses) depth 40 fits 20000, tt)),
+      ),
+    ) in
     declared_send frames_inside.the_type parts
 
 frames_send : IsSend frames.the_row
@@ -155,7 +180,31 @@ stage_send = search (sendable, crosses) depth 40 fits 20000
 
 open_check_inside_send : IsSend open_check_inside.the_row
 open_check_inside_send =
-    let parts : FieldsHave IsSend (open_check_inside.the_type).parts = (search (sendable, crosses) depth 40 fits 20000, (search (sendable, crosses) depth 40 fits 20000, (search (sendable, crosses, config_send, config_sync) depth 40 fits 20000, (search (sendable, crosses) depth 40 fits 20000, (search (sendable, facts_send), (search (sendable, frames_send), (search (sendable, crosses) depth 40 fits 20000, (search (sendable, crosses) depth 40 fits 20000, (search (sendable, stage_send), (search (sendable, crosses) depth 40 fits 20000, tt)))))))))) in
+    let parts : FieldsHave IsSend (open_check_inside.the_type).parts = (
+      search (sendable, crosses) depth 40 fits 20000,
+      (
+        search (sendable, crosses) depth 40 fits 20000,
+        (
+          search (sendable, crosses, config_send, config_sync) depth 40 fits 20000,
+          (
+            search (sendable, crosses) depth 40 fits 20000,
+            (
+              search (sendable, facts_send),
+              (
+                search (sendable, frames_send),
+                (
+                  search (sendable, crosses) depth 40 fits 20000,
+                  (
+                    search (sendable, crosses) depth 40 fits 20000,
+                    (search (sendable, stage_send), (search (sendable, crosses) depth 40 fits 20000, tt)),
+                  ),
+                ),
+              ),
+            ),
+          ),
+        ),
+      ),
+    ) in
     declared_send open_check_inside.the_type parts
 
 open_check_send : IsSend open_check.the_row
@@ -166,7 +215,8 @@ open_checks_send = search (sendable, crosses, BTreeMap-send, open_check_send) de
 
 current_inside_send : IsSend current_inside.the_row
 current_inside_send =
-    let parts : FieldsHave IsSend (current_inside.the_type).parts = (search (sendable, setup_send), (search (sendable, crosses, slots_send, slots_sync) depth 40 fits 20000, tt)) in
+    let parts : FieldsHave IsSend (current_inside.the_type).parts =
+    (search (sendable, setup_send), (search (sendable, crosses, slots_send, slots_sync) depth 40 fits 20000, tt)) in
     declared_send current_inside.the_type parts
 
 current_send : IsSend current.the_row
@@ -174,7 +224,31 @@ current_send = view_send _ _ _ _ _ current_inside_send
 
 engine_inside_send : IsSend engine_inside.the_row
 engine_inside_send =
-    let parts : FieldsHave IsSend (engine_inside.the_type).parts = (search (sendable, conns_send), (search (sendable, open_checks_send), (search (sendable, crosses) depth 40 fits 20000, (search (sendable, crosses) depth 40 fits 20000, (search (sendable, epochs_send), (search (sendable, current_send), (search (sendable, crosses) depth 40 fits 20000, (search (sendable, crosses) depth 40 fits 20000, (search (sendable, crosses) depth 40 fits 20000, tt))))))))) in
+    let parts : FieldsHave IsSend (engine_inside.the_type).parts = (
+      search (sendable, conns_send),
+      (
+        search (sendable, open_checks_send),
+        (
+          search (sendable, crosses) depth 40 fits 20000,
+          (
+            search (sendable, crosses) depth 40 fits 20000,
+            (
+              search (sendable, epochs_send),
+              (
+                search (sendable, current_send),
+                (
+                  search (sendable, crosses) depth 40 fits 20000,
+                  (
+                    search (sendable, crosses) depth 40 fits 20000,
+                    (search (sendable, crosses) depth 40 fits 20000, tt),
+                  ),
+                ),
+              ),
+            ),
+          ),
+        ),
+      ),
+    ) in
     declared_send engine_inside.the_type parts
 
 engine_send : IsSend engine.the_row
@@ -182,23 +256,29 @@ engine_send = view_send _ _ _ _ _ engine_inside_send
 
 notes_inside_send : (J : RattleType) (j : journal.Ghosts J.Denot) → IsSend J → IsSend (notes_inside.the_row J j)
 notes_inside_send J j s =
-    let parts : FieldsHave IsSend (notes_inside.the_type J j).parts = (search (sendable, param_send), (search sendable, (search sendable, (search sendable, tt)))) in
+    let parts : FieldsHave IsSend (notes_inside.the_type J j).parts =
+    (search (sendable, param_send), (search sendable, (search sendable, (search sendable, tt)))) in
     declared_send (notes_inside.the_type J j) parts
 
 notes_send : (J : RattleType) (j : journal.Ghosts J.Denot) → IsSend J → IsSend (notes.the_row J j)
 notes_send J j s = view_send _ _ _ _ _ (notes_inside_send J j s)
 
-desk_inside_send : (J F : RattleType) (j : journal.Ghosts J.Denot) (f : first.Ghosts F.Denot) → IsSend J → IsSend F → IsSend (desk_inside.the_row J F j f)
+desk_inside_send : (J F : RattleType) (j : journal.Ghosts J.Denot) (f : first.Ghosts F.Denot) → IsSend J → IsSend F
+    → IsSend (desk_inside.the_row J F j f)
 desk_inside_send J F j f s t =
-    let parts : FieldsHave IsSend (desk_inside.the_type J F j f).parts = (search (sendable, engine_send), (search (sendable, notes_send), (search (sendable, crosses, param_send), tt))) in
+    let parts : FieldsHave IsSend (desk_inside.the_type J F j f).parts =
+    (search (sendable, engine_send), (search (sendable, notes_send), (search (sendable, crosses, param_send), tt))) in
     declared_send (desk_inside.the_type J F j f) parts
 
 -- a desk over a journal that crosses threads does so, too
-pub desk_send : (J F : RattleType) (j : journal.Ghosts J.Denot) (f : first.Ghosts F.Denot) → IsSend J → IsSend F → IsSend (desk.the_row J F j f)
+pub desk_send : (J F : RattleType) (j : journal.Ghosts J.Denot) (f : first.Ghosts F.Denot) → IsSend J → IsSend F
+    → IsSend (desk.the_row J F j f)
 desk_send J F j f s t = view_send _ _ _ _ _ (desk_inside_send J F j f s t)
 
 -- and so does a journal that remembers whether it failed
-pub watched_send : (J B : RattleType) (j : journal.Ghosts J.Denot) (b : before.Ghosts B.Denot) → IsSend J → IsSend B → IsSend (watched.the_row J B j b)
+pub watched_send : (J B : RattleType) (j : journal.Ghosts J.Denot) (b : before.Ghosts B.Denot) → IsSend J → IsSend B
+    → IsSend (watched.the_row J B j b)
 watched_send J B j b s t =
-    let parts : FieldsHave IsSend (watched.the_type J B j b).parts = (search (sendable, param_send), (search sendable, (search (sendable, crosses, param_send), tt))) in
+    let parts : FieldsHave IsSend (watched.the_type J B j b).parts =
+    (search (sendable, param_send), (search sendable, (search (sendable, crosses, param_send), tt))) in
     declared_send (watched.the_type J B j b) parts

@@ -7,13 +7,12 @@ ghost use Rattle.sq_server.specs.Beginning.{HasCountedNone};
 use crate::running::Wholes;
 use crate::starting::Start;
 use crate::watched::{Before, Watched};
-use sq_bank::Bank;
 use sq_base::{EpochNo, Moment, WantOfMemory};
 use sq_calls::{DeskCalls, DeskFault};
-use sq_desk::{Desk, First};
-use sq_note::Journal;
+use sq_desk::{Desk, DeskStart};
+use sq_journal_writers::Journal;
 use sq_pools::Pools;
-use sq_room::Hall;
+use sq_shared::{Bank, Hall};
 use std::alloc::Global;
 use std::sync::ledger::{Blank, Ledger};
 
@@ -28,23 +27,25 @@ pub(crate) struct Blanks {
 
 /// The machine with its journal, and the pools.
 #[derive(Drop)]
-pub(crate) struct Machine<J: Journal, B: Before, F: First> {
+pub(crate) struct DeskAndPools<J: Journal, B: Before, F: DeskStart> {
     pub desk: Desk<Watched<J, B>, F>,
     pub pools: Pools,
 }
 
 /// Makes the desk over this journal, and the pools of its first epoch. Where none is made the journal is handed back.
 #[tactic(auto, using(crate::proofs::BeginLaws::has_counted))]
-pub(crate) fn begin<J: Journal, B: Before, F: First>(
+pub(crate) fn begin<J: Journal, B: Before, F: DeskStart>(
     alloc: Global,
     start: Start,
     journal: J,
     now: Moment,
-) -> Result<Machine<J, B, F>, (DeskFault, J)>
+) -> Result<DeskAndPools<J, B, F>, (DeskFault, J)>
     requires first { F.first ≡ record { config = start.setup; offset = start.offset } }
     requires before { B.faults ≡ J.faults journal }
     requires empty { IfSome (J.history journal) (λ h. h ≡ []) }
-    ensures begun { IfOk result (λ m. HasCountedNone m.desk.notes.history (Some m.desk.notes.made) (min m.desk.notes.refusals count_limit) m.pools.granted) }
+    ensures begun { IfOk result
+        (λ m. HasCountedNone m.desk.notes.history (Some m.desk.notes.made)
+        (min m.desk.notes.refusals count_limit) m.pools.granted) }
     ensures unbegun { IfErr result (λ e. IsUnbegun e.0 (J.faults journal) (J.faults e.1)) }
     ensures history { IfErr result (λ e. J.history e.1 ≡ J.history journal) }
 {
@@ -59,7 +60,7 @@ pub(crate) fn begin<J: Journal, B: Before, F: First>(
     };
     let watched = Watched::<J, B>::new(journal);
     match Desk::new(alloc, setup, offset, watched, now, seed) {
-        Ok(desk) => Ok(Machine { desk, pools }),
+        Ok(desk) => Ok(DeskAndPools { desk, pools }),
         Err((fault, watched)) => {
             let (journal, _) = watched.finish();
             Err((fault, journal))

@@ -2,17 +2,16 @@
 ghost use Rattle.std.specs.Prelude.{◌≡◌, ◌+◌, ◌<◌, ◌≤◌, ◌^◌, ℕ, min, true};
 ghost use Rattle.std.specs.Option.{ForSome};
 ghost use Rattle.sq_outside.specs.Causes.{count_limit};
-ghost use Rattle.sq_room.specs.Books.{asks_in};
+ghost use Rattle.sq_shared.specs.Books.{asks_in};
 ghost use Rattle.sq_machine.specs.Readings.{current};
 
-use sq_bank::Bank;
 use sq_calls::DeskCalls;
-use sq_crew::{Shelf, pump_all};
+use sq_control::{Panel, PanelEnd};
+use sq_helper_threads::{Shelf, pump_all};
 use sq_outside::{Another, Clock, Dialer, Listener, Spawner, Stopper};
-use sq_panel::{Panel, PanelEnd};
 use sq_pools::Pools;
-use sq_room::{Door, Hall, Room, has_failed, set_done};
-use sq_work::{Sums, work_all};
+use sq_shared::{Bank, Door, Hall, Room, has_failed, set_done};
+use sq_workers::{Sums, work_all};
 use std::alloc::Global;
 use std::sync::ledger::{Ledger, Share};
 use std::sync::{Mutex, Wait};
@@ -38,7 +37,7 @@ pub(crate) struct Wholes<A: Ledger, M: Ledger, N: Ledger, G: Ledger> {
 
 /// What is handed back when all threads have returned.
 #[derive(Drop)]
-pub(crate) struct Ran<D, L, K> {
+pub(crate) struct ServerRun<D, L, K> {
     pub desk: D,
     pub pools: Pools,
     pub listener: L,
@@ -108,7 +107,8 @@ fn pump_beside<
                 × (asked.parts ≡ workers + workers) × (asked.amount ≡ 0)
                 × (theirs.parts ≡ workers + workers)
                 × (grants.parts ≡ workers + workers) × (grants.amount ≡ 0) }
-            ensures { (result.asked.parts ≡ workers + workers) × (result.grants.parts ≡ workers + workers) }
+            ensures { (result.asked.parts ≡ workers + workers)
+                × (result.grants.parts ≡ workers + workers) }
         {
             let sums = work_all(
                 rt, alloc, door, room, bank, dialer, clock, 1, workers, asked, theirs, grants,
@@ -181,7 +181,8 @@ fn beside<
     requires counting { D.is_counting ≡ true }
     requires some { (0 < workers) × (workers ≤ 2 ^ 31) }
     requires asked { (wholes.asked.parts ≡ workers + workers) × (wholes.asked.amount ≡ 0) }
-    requires made { (wholes.made.parts ≡ M.parts) × (0 < wholes.made.parts) × (wholes.made.amount ≡ 0) }
+    requires made { (wholes.made.parts ≡ M.parts) × (0 < wholes.made.parts)
+        × (wholes.made.amount ≡ 0) }
     requires refused { wholes.refused.parts ≡ REFUSALS }
     requires grants { (wholes.grants.parts ≡ workers + workers) × (wholes.grants.amount ≡ 0) }
     ensures asked { result.0.asked.parts ≡ workers + workers }
@@ -215,7 +216,8 @@ fn beside<
                 × (theirs.parts ≡ workers + workers)
                 × (grants.parts ≡ workers + workers) × (grants.amount ≡ 0)
                 × (0 < pumps.parts) × (refused.parts ≡ spare) }
-            ensures { (result.asked.parts ≡ workers + workers) × (result.grants.parts ≡ workers + workers) }
+            ensures { (result.asked.parts ≡ workers + workers)
+                × (result.grants.parts ≡ workers + workers) }
         {
             pump_beside(
                 rt, alloc, room, bank, door, shelf, dialer, spawner, clock, workers, asked, theirs,
@@ -223,7 +225,8 @@ fn beside<
             )
         },
         move || -> (K, PanelEnd, Share<M>)
-            requires { (D.is_counting ≡ true) × (made.parts ≡ M.parts) × (0 < made.parts) × (made.amount ≡ 0) × (0 < panels.parts) }
+            requires { (D.is_counting ≡ true) × (made.parts ≡ M.parts) × (0 < made.parts)
+                × (made.amount ≡ 0) × (0 < panels.parts) }
             ensures { K.gives panel result.0 result.1 result.2.amount × (result.2.parts ≡ M.parts) }
         {
             let back = run_panel(rt, panel, room, bank, door, panel_clock, made, panels);
@@ -259,16 +262,20 @@ pub(crate) fn run<
     workers: u32,
     panel: K,
     wholes: Wholes<A, M, N, G>,
-) -> Ran<D, L, K>
+) -> ServerRun<D, L, K>
     requires counting { D.is_counting ≡ true }
     requires some { (0 < workers) × (workers ≤ 2 ^ 31) }
-    requires asked { (wholes.asked.parts ≡ workers + workers) × (A.parts ≡ workers + workers) × (wholes.asked.amount ≡ 0) }
+    requires asked { (wholes.asked.parts ≡ workers + workers) × (A.parts ≡ workers + workers)
+        × (wholes.asked.amount ≡ 0) }
     requires made { (wholes.made.parts ≡ M.parts) × (0 < M.parts) × (wholes.made.amount ≡ 0) }
     requires refused { wholes.refused.parts ≡ REFUSALS }
-    requires grants { (wholes.grants.parts ≡ workers + workers) × (G.parts ≡ workers + workers) × (wholes.grants.amount ≡ 0) }
-    ensures asks { ForSome (D.told result.desk) (λ h. result.requests ≡ min (asks_in h) count_limit) }
+    requires grants { (wholes.grants.parts ≡ workers + workers) × (G.parts ≡ workers + workers)
+        × (wholes.grants.amount ≡ 0) }
+    ensures asks { ForSome (D.told result.desk)
+        (λ h. result.requests ≡ min (asks_in h) count_limit) }
     ensures grants { result.granted ≡ min result.pools.granted count_limit }
-    ensures panel { (n : ℕ) × K.gives panel result.panel result.end n × ForSome (D.told result.desk) (λ h. n + 1 ≡ current h) }
+    ensures panel { (n : ℕ) × K.gives panel result.panel result.end n
+        × ForSome (D.told result.desk) (λ h. n + 1 ≡ current h) }
     ensures failed { result.failed ≡ true → 0 < L.faults result.listener }
 {
     let room = Room::new(hall);
@@ -287,7 +294,7 @@ pub(crate) fn run<
     let desk = room.into_hall().end(asked, made);
     let pools = bank.into_inner().end(grants);
     let (listener, failed) = door.into_inner().into_listener();
-    Ran {
+    ServerRun {
         desk,
         pools,
         listener,

@@ -2,21 +2,21 @@
 ghost use Rattle.std.specs.Prelude.{◌≡◌, ◌+◌, ◌<◌, ◌≤◌, ◌^◌, ℕ, [], min, true, IfOk, IfErr, IfSome};
 ghost use Rattle.std.specs.Option.{ForSome};
 ghost use Rattle.sq_outside.specs.Causes.{Rose, count_limit};
-ghost use Rattle.sq_room.specs.Books.{asks_in};
+ghost use Rattle.sq_shared.specs.Books.{asks_in};
 ghost use Rattle.sq_machine.specs.Readings.{current};
 ghost use Rattle.sq_desk.specs.Calling.{IsUnbegun};
 ghost use Rattle.sq_calls.specs.Legality.{IsLegal};
 
-use crate::beginning::{Blanks, Machine, begin, open_books};
-use crate::running::{REFUSALS, Ran, Tools, run};
+use crate::beginning::{Blanks, DeskAndPools, begin, open_books};
+use crate::running::{REFUSALS, ServerRun, Tools, run};
 use crate::starting::{Served, Start, Unserved};
 use crate::threads::has_threads;
 use crate::watched::{Before, Watched};
 use sq_calls::DeskFault;
-use sq_desk::{Desk, First};
-use sq_note::Journal;
+use sq_control::Panel;
+use sq_desk::{Desk, DeskStart};
+use sq_journal_writers::Journal;
 use sq_outside::{Another, Clock, Dialer, Listener, Net, Parts, Spawner, Stopper};
-use sq_panel::Panel;
 use std::alloc::Global;
 use std::marker::Brand;
 use std::sync::Wait;
@@ -24,7 +24,7 @@ use std::sync::ledger::{Blank, Ledger};
 use std::thread::Threads;
 
 // The journal of a desk, and whether a note of it failed.
-fn journal_of<J: Journal, B: Before, F: First>(desk: Desk<Watched<J, B>, F>) -> (J, bool)
+fn journal_of<J: Journal, B: Before, F: DeskStart>(desk: Desk<Watched<J, B>, F>) -> (J, bool)
     ensures legal { IfSome (J.history result.0) (IsLegal F.first) }
     ensures history { J.history result.0 ≡ desk.notes.history }
     ensures later { B.faults ≤ J.faults result.0 }
@@ -45,7 +45,7 @@ fn serve_with<
     J: Journal + Send + Drop,
     K: Panel + Drop,
     B: Before + Send + Sync,
-    F: First + Send + Sync,
+    F: DeskStart + Send + Sync,
     A: Ledger + Send + Sync,
     M: Ledger + Send + Sync,
     N: Ledger + Send + Sync,
@@ -65,18 +65,28 @@ fn serve_with<
     requires first { F.first ≡ record { config = start.setup; offset = start.offset } }
     requires empty { IfSome (J.history journal) (λ h. h ≡ []) }
     requires some { (0 < workers) × (workers ≤ 2 ^ 31) }
-    requires asks { (blanks.asks.name ≡ A.name) × (blanks.asks.parts ≡ A.parts) × (A.parts ≡ workers + workers) }
+    requires asks { (blanks.asks.name ≡ A.name) × (blanks.asks.parts ≡ A.parts)
+        × (A.parts ≡ workers + workers) }
     requires makes { (blanks.makes.name ≡ M.name) × (blanks.makes.parts ≡ M.parts) × (M.parts ≡ 1) }
-    requires refusals { (blanks.refusals.name ≡ N.name) × (blanks.refusals.parts ≡ N.parts) × (N.parts ≡ REFUSALS) }
-    requires grants { (blanks.grants.name ≡ G.name) × (blanks.grants.parts ≡ G.parts) × (G.parts ≡ workers + workers) }
-    ensures legal { IfOk result (λ s. IfSome (J.history s.journal) (IsLegal (record { config = start.setup; offset = start.offset }))) }
-    ensures asks { IfOk result (λ s. ForSome (J.history s.journal) (λ h. s.requests ≡ min (asks_in h) count_limit)) }
+    requires refusals { (blanks.refusals.name ≡ N.name) × (blanks.refusals.parts ≡ N.parts)
+        × (N.parts ≡ REFUSALS) }
+    requires grants { (blanks.grants.name ≡ G.name) × (blanks.grants.parts ≡ G.parts)
+        × (G.parts ≡ workers + workers) }
+    ensures legal { IfOk result
+        (λ s. IfSome (J.history s.journal)
+        (IsLegal (record { config = start.setup; offset = start.offset }))) }
+    ensures asks { IfOk result
+        (λ s. ForSome (J.history s.journal) (λ h. s.requests ≡ min (asks_in h) count_limit)) }
     ensures grants { IfOk result (λ s. s.granted ≡ min s.pools.granted count_limit) }
-    ensures panel { IfOk result (λ s. (n : ℕ) × K.gives panel s.panel s.end n × ForSome (J.history s.journal) (λ h. n + 1 ≡ current h)) }
-    ensures stopped { IfOk result (λ s. s.stopped ≡ true → Rose (J.faults journal) (J.faults s.journal)) }
+    ensures panel { IfOk result
+        (λ s. (n : ℕ) × K.gives panel s.panel s.end n
+        × ForSome (J.history s.journal) (λ h. n + 1 ≡ current h)) }
+    ensures stopped { IfOk result
+        (λ s. s.stopped ≡ true → Rose (J.faults journal) (J.faults s.journal)) }
     ensures failed { IfOk result (λ s. s.failed ≡ true → 0 < L.faults s.listener) }
     ensures later { IfOk result (λ s. J.faults journal ≤ J.faults s.journal) }
-    ensures unserved { IfErr result (λ u. IsUnbegun u.fault (J.faults journal) (J.faults u.journal)) }
+    ensures unserved { IfErr result
+        (λ u. IsUnbegun u.fault (J.faults journal) (J.faults u.journal)) }
     ensures unwritten { IfErr result (λ u. J.history u.journal ≡ J.history journal) }
     ensures unrun { IfErr result (λ u. (u.panel ≡ panel) × (u.listener ≡ listener)) }
 {
@@ -92,11 +102,11 @@ fn serve_with<
             });
         }
     };
-    let Machine { desk, pools } = machine;
+    let DeskAndPools { desk, pools } = machine;
     let (hall, bank, wholes) = open_books::<Desk<Watched<J, B>, F>, A, M, N, G>(
         alloc, desk, pools, blanks,
     );
-    let Ran {
+    let ServerRun {
         desk,
         pools,
         listener,
@@ -138,17 +148,24 @@ pub fn serve<R: Threads + Wait + Sync, N: Net, J: Journal + Send + Drop, K: Pane
     requires some { (0 < workers) × (workers ≤ 2 ^ 31) }
     // A journal that tells has the offset of its beginning, and is legal over the configuration of that and those of its
     // reconfigurations, each of which its source states.
-    ensures legal { IfOk result (λ s. IfSome (J.history s.journal) (IsLegal (record { config = start.setup; offset = start.offset }))) }
+    ensures legal { IfOk result
+        (λ s. IfSome (J.history s.journal)
+        (IsLegal (record { config = start.setup; offset = start.offset }))) }
     // Its requests are the sum of those of all sessions, and what the pools granted is the sum of what sessions were.
-    ensures asks { IfOk result (λ s. ForSome (J.history s.journal) (λ h. s.requests ≡ min (asks_in h) count_limit)) }
+    ensures asks { IfOk result
+        (λ s. ForSome (J.history s.journal) (λ h. s.requests ≡ min (asks_in h) count_limit)) }
     ensures grants { IfOk result (λ s. s.granted ≡ min s.pools.granted count_limit) }
     // The panel ran, and the reconfigurations that it made are the journal's.
-    ensures panel { IfOk result (λ s. (n : ℕ) × K.gives panel s.panel s.end n × ForSome (J.history s.journal) (λ h. n + 1 ≡ current h)) }
-    ensures stopped { IfOk result (λ s. s.stopped ≡ true → Rose (J.faults journal) (J.faults s.journal)) }
+    ensures panel { IfOk result
+        (λ s. (n : ℕ) × K.gives panel s.panel s.end n
+        × ForSome (J.history s.journal) (λ h. n + 1 ≡ current h)) }
+    ensures stopped { IfOk result
+        (λ s. s.stopped ≡ true → Rose (J.faults journal) (J.faults s.journal)) }
     ensures failed { IfOk result (λ s. s.failed ≡ true → 0 < N.L.faults s.listener) }
     ensures later { IfOk result (λ s. J.faults journal ≤ J.faults s.journal) }
     // Why no desk was made.
-    ensures unserved { IfErr result (λ u. IsUnbegun u.fault (J.faults journal) (J.faults u.journal)) }
+    ensures unserved { IfErr result
+        (λ u. IsUnbegun u.fault (J.faults journal) (J.faults u.journal)) }
     ensures unwritten { IfErr result (λ u. J.history u.journal ≡ J.history journal) }
     ensures unrun { IfErr result (λ u. (u.panel ≡ panel) × (u.listener ≡ parts.listener)) }
 {

@@ -1,8 +1,8 @@
 //! What a server begins with, and what it hands back.
 use sq_cache::HashSeed;
 use sq_calls::DeskFault;
+use sq_control::PanelEnd;
 use sq_machine::Offset;
-use sq_panel::PanelEnd;
 use sq_pools::Pools;
 use sq_urlmatch::Setup;
 

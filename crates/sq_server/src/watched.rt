@@ -3,8 +3,8 @@ ghost use Rattle.std.specs.Prelude.{◌≡◌, ◌≤◌, ℕ, true, false};
 ghost use Rattle.sq_outside.specs.Causes.{Rose};
 
 use sq_base::WantOfMemory;
+use sq_journal_writers::Journal;
 use sq_machine::Entry;
-use sq_note::Journal;
 use sq_outside::Failed;
 use std::marker::{Brand, PhantomData};
 

@@ -13,10 +13,10 @@ use Rattle.sq_head.specs.declared.own.Own.{Own}
 use Rattle.sq_head.specs.declared.own.Own.TheVariants.{BadRequest, NotImplemented}
 use Rattle.sq_session.specs.Begins.{fits_hosts}
 use Rattle.sq_session.specs.Carrying.{sat}
-use Rattle.sq_session.specs.Fronts.{FrontTold, OfDecide, OfSit, Decides, SitsFor, SitsBehind, names_pool}
+use Rattle.sq_session.specs.Fronts.{FrontAnswer, OfDecide, OfSit, Decides, SitsFor, SitsBehind, names_pool}
 use Rattle.sq_session.specs.Sessions.{JudgesOf, held_seat}
 use Rattle.sq_session.specs.Steps.{Goes, EndHasCause}
-use Rattle.sq_session.specs.Telling.{IsTold}
+use Rattle.sq_session.specs.Written.{WritesReply}
 use Rattle.sq_session.specs.Told.{ReachesTold, CarriesTold, ObeysTold, AnswersTold}
 use Rattle.sq_session.specs.Turns.{Reply, NoOrigin, is_head, is_connect, is_served, dialled, seated, carried, denied_closes, stays_unless, recorded, body_own, judged, asked}
 use Rattle.sq_session.specs.declared.ends.Carried.{Carried}
@@ -31,8 +31,11 @@ and_true true = refl
 and_true false = refl
 
 -- a request that is not forwarded
-pub carries_unserved : {first : Option (List ℕ)} {d : Option Dialled} {stood : List FrontTold → Type 0} {left a b : Option (List ℕ)} {failed : Type 0} {g : ℕ} {ended : Carried} (r : HttpRequest) (addr : Address) (p : BodyPlan) (j : Judged)
-    → is_served r ≡ false → IsTold (error_text NotImplemented (is_head r)) Closes a b ended → g ≤ count_limit → CarriesTold r addr p j first d d stood stood left a b failed g g ended
+pub carries_unserved : {first : Option (List ℕ)} {d : Option Dialled} {stood : List FrontAnswer → Type 0}
+    {left a b : Option (List ℕ)} {failed : Type 0} {g : ℕ} {ended : Carried} (r : HttpRequest) (addr : Address)
+    (p : BodyPlan) (j : Judged)
+    → is_served r ≡ false → WritesReply (error_text NotImplemented (is_head r)) Closes a b ended → g ≤ count_limit
+    → CarriesTold r addr p j first d d stood stood left a b failed g g ended
 carries_unserved {first = None} r addr p j e w few = record { known = tt }
 carries_unserved {first = Some rest} {d = None} r addr p j e w few = record { known = tt }
 carries_unserved {first = Some rest} {d = Some now} {stood} r addr p j e w few = record {
@@ -40,48 +43,73 @@ carries_unserved {first = Some rest} {d = Some now} {stood} r addr p j e w few =
     answers = [];
     told = told_none stood;
     sits = tt;
-    goes = own_goes (carried r addr p rest []) (error_text NotImplemented (is_head r)) [] [] Closes (Some now) now (rw e refl) w few refl (λ s. absurd cc);
+    goes = own_goes (carried r addr p rest []) (error_text NotImplemented (is_head r)) [] [] Closes (Some now) now
+        (rw e refl) w few refl (λ s. absurd cc);
   };
 }
 
 -- a seat that was refused
-pub carries_unseated : {first : Option (List ℕ)} {d : Option Dialled} {stood stands : List FrontTold → Type 0} {left a b : Option (List ℕ)} {failed : Type 0} {g h : ℕ} {ended : Carried} (r : HttpRequest) (addr : Address) (p : BodyPlan) (j : Judged) (answers : List FrontTold) (own : Own)
-    → is_served r ≡ true → ((rest : List ℕ) → seated r addr p rest answers NoOrigin ≡ own_turn (error_text own (is_head r)) [] [] Closes) → SitsFor j answers → ((list : List FrontTold) → stood list → stands (list ++ answers))
-    → IsTold (error_text own (is_head r)) Closes a b ended → g ≤ count_limit → h ≡ g → CarriesTold r addr p j first d d stood stands left a b failed g h ended
+pub carries_unseated : {first : Option (List ℕ)} {d : Option Dialled} {stood stands : List FrontAnswer → Type 0}
+    {left a b : Option (List ℕ)} {failed : Type 0} {g h : ℕ} {ended : Carried} (r : HttpRequest) (addr : Address)
+    (p : BodyPlan) (j : Judged) (answers : List FrontAnswer) (own : Own)
+    → is_served r ≡ true → ((rest : List ℕ)
+    → seated r addr p rest answers NoOrigin ≡ own_turn (error_text own (is_head r)) [] [] Closes) → SitsFor j answers
+    → ((list : List FrontAnswer) → stood list → stands (list ++ answers))
+    → WritesReply (error_text own (is_head r)) Closes a b ended → g ≤ count_limit → h ≡ g
+    → CarriesTold r addr p j first d d stood stands left a b failed g h ended
 carries_unseated {first = None} r addr p j answers own e turn sits told w few same = record { known = tt }
-carries_unseated {first = Some rest} {d = None} r addr p j answers own e turn sits told w few same = record { known = tt }
-carries_unseated {first = Some rest} {d = Some now} {left} {a} {b} {failed} {g} {h} {ended} r addr p j answers own e turn sits told w few same = record {
-  known = record {
-    answers = answers;
-    told = told;
-    sits = sits;
-    goes = subst (λ n. Goes (is_connect r) (carried r addr p rest answers) [] (names_pool j && sat answers) left a b (Some now) now failed g n ended) (sym same)
-        (own_goes (carried r addr p rest answers) (error_text own (is_head r)) [] [] Closes (Some now) now (rw e (turn rest)) w few refl (λ s. absurd cc));
-  };
-}
+carries_unseated {first = Some rest} {d = None} r addr p j answers own e turn sits told w few same =
+    record { known = tt }
+carries_unseated {first = Some rest} {d = Some now} {left} {a} {b} {failed} {g} {h} {ended} r addr p j answers own e
+    turn sits told w few same = record {
+      known = record {
+        answers = answers;
+        told = told;
+        sits = sits;
+        goes = subst (λ n. Goes (is_connect r) (carried r addr p rest answers) [] (names_pool j && sat answers) left a b
+            (Some now) now failed g n ended) (sym same)
+            (own_goes (carried r addr p rest answers) (error_text own (is_head r)) [] [] Closes (Some now) now
+            (rw e (turn rest)) w few refl (λ s. absurd cc));
+      };
+    }
 
 -- a seat, if there is a pool, and the way to the origin
-pub carries_seated : {first : Option (List ℕ)} {before d : Option Dialled} {stood stands : List FrontTold → Type 0} {left a b : Option (List ℕ)} {failed : Type 0} {g h k n : ℕ} {seat : Bool} {ended : Carried} (r : HttpRequest) (addr : Address) (p : BodyPlan) (j : Judged) (u : Unit {0})
-    → is_served r ≡ true → seat ≡ names_pool j → g ≡ k → h ≡ n → ((list : List FrontTold) → stood list → stands (list ++ OfSit j (Ok u) ∷ []))
-    → ReachesTold r addr p first before d seat left a b failed g h ended → CarriesTold r addr p j first before d stood stands left a b failed k n ended
+pub carries_seated : {first : Option (List ℕ)} {before d : Option Dialled} {stood stands : List FrontAnswer → Type 0}
+    {left a b : Option (List ℕ)} {failed : Type 0} {g h k n : ℕ} {seat : Bool} {ended : Carried} (r : HttpRequest)
+    (addr : Address) (p : BodyPlan) (j : Judged) (u : Unit {0})
+    → is_served r ≡ true → seat ≡ names_pool j → g ≡ k → h ≡ n
+    → ((list : List FrontAnswer) → stood list → stands (list ++ OfSit j (Ok u) ∷ []))
+    → ReachesTold r addr p first before d seat left a b failed g h ended
+    → CarriesTold r addr p j first before d stood stands left a b failed k n ended
 carries_seated {first = None} r addr p j u e held same last told x = record { known = tt }
 carries_seated {first = Some rest} {d = None} r addr p j u e held same last told x = record { known = tt }
-carries_seated {first = Some rest} {before} {d = Some now} {left} {a} {b} {failed} {g} {h} {k} {n} {seat} {ended} r addr p j u e held same last told x = record {
-  known = record {
-    answers = OfSit j (Ok u) ∷ [];
-    told = told;
-    sits = refl;
-    goes =
-        subst (λ m. Goes (is_connect r) (carried r addr p rest (OfSit j (Ok u) ∷ [])) [] (names_pool j && true) left a b before now failed k m ended) last
-        (subst (λ m. Goes (is_connect r) (carried r addr p rest (OfSit j (Ok u) ∷ [])) [] (names_pool j && true) left a b before now failed m h ended) same
-        (subst (λ s. Goes (is_connect r) (carried r addr p rest (OfSit j (Ok u) ∷ [])) [] s left a b before now failed g h ended) (held ∙ and_true (names_pool j))
-        (goes_as (dialled r addr p rest []) (carried r addr p rest (OfSit j (Ok u) ∷ [])) (λ reply. rw e refl) (x.known []))));
-  };
-}
+carries_seated {first = Some rest} {before} {d = Some now} {left} {a} {b} {failed} {g} {h} {k} {n} {seat} {ended} r addr
+    p j u e held same last told x = record {
+      known = record {
+        answers = OfSit j (Ok u) ∷ [];
+        told = told;
+        sits = refl;
+        goes =
+            subst (λ m. Goes (is_connect r) (carried r addr p rest (OfSit j (Ok u) ∷ [])) [] (names_pool j && true) left
+            a b
+            before now failed k m ended) last
+            (subst (λ m. Goes (is_connect r) (carried r addr p rest (OfSit j (Ok u) ∷ [])) [] (names_pool j && true)
+            left a
+            b before now failed m h ended) same
+            (subst (λ s. Goes (is_connect r) (carried r addr p rest (OfSit j (Ok u) ∷ [])) [] s left a b before now
+            failed g
+            h ended) (held ∙ and_true (names_pool j))
+            (goes_as (dialled r addr p rest []) (carried r addr p rest (OfSit j (Ok u) ∷ [])) (λ reply. rw e refl)
+            (x.known []))));
+      };
+    }
 
 -- an allowed request
-pub obeys_allowed : {first : Option (List ℕ)} {before d : Option Dialled} {stood stands : List FrontTold → Type 0} {left a b : Option (List ℕ)} {failed : Type 0} {g h : ℕ} {ended : Carried} (r : HttpRequest) (addr : Address) (p : BodyPlan) (j : Judged)
-    → j.outcome.allow ≡ true → CarriesTold r addr p j first before d stood stands left a b failed g h ended → ObeysTold r addr p j first before d stood stands left a b failed g h ended
+pub obeys_allowed : {first : Option (List ℕ)} {before d : Option Dialled} {stood stands : List FrontAnswer → Type 0}
+    {left a b : Option (List ℕ)} {failed : Type 0} {g h : ℕ} {ended : Carried} (r : HttpRequest) (addr : Address)
+    (p : BodyPlan) (j : Judged)
+    → j.outcome.allow ≡ true → CarriesTold r addr p j first before d stood stands left a b failed g h ended
+    → ObeysTold r addr p j first before d stood stands left a b failed g h ended
 obeys_allowed {first = None} r addr p j e x = record { known = tt }
 obeys_allowed {first = Some rest} {d = None} r addr p j e x = record { known = tt }
 obeys_allowed {first = Some rest} {d = Some now} r addr p j e x =
@@ -91,13 +119,18 @@ obeys_allowed {first = Some rest} {d = Some now} r addr p j e x =
         answers = y.answers;
         told = y.told;
         sits = y.sits;
-        goes = goes_as (carried r addr p rest y.answers) (recorded r addr p rest j y.answers) (λ reply. rw e refl) y.goes;
+        goes = goes_as (carried r addr p rest y.answers) (recorded r addr p rest j y.answers) (λ reply. rw e refl)
+            y.goes;
       };
     }
 
 -- a denied one
-pub obeys_denied : {left : Option (List ℕ)} {d : Option Dialled} {stood : List FrontTold → Type 0} {a b : Option (List ℕ)} {failed : Type 0} {g : ℕ} {ended : Carried} (r : HttpRequest) (addr : Address) (p : BodyPlan) (j : Judged) (closes : Bool)
-    → j.outcome.allow ≡ false → closes ≡ denied_closes r p → IsTold (denial j.outcome (is_head r) closes) (stays_unless closes) a b ended → g ≤ count_limit → ObeysTold r addr p j left d d stood stood left a b failed g g ended
+pub obeys_denied : {left : Option (List ℕ)} {d : Option Dialled} {stood : List FrontAnswer → Type 0}
+    {a b : Option (List ℕ)} {failed : Type 0} {g : ℕ} {ended : Carried} (r : HttpRequest) (addr : Address)
+    (p : BodyPlan) (j : Judged) (closes : Bool)
+    → j.outcome.allow ≡ false → closes ≡ denied_closes r p
+    → WritesReply (denial j.outcome (is_head r) closes) (stays_unless closes) a b ended → g ≤ count_limit
+    → ObeysTold r addr p j left d d stood stood left a b failed g g ended
 obeys_denied {left = None} r addr p j closes e same w few = record { known = tt }
 obeys_denied {left = Some rest} {d = None} r addr p j closes e same w few = record { known = tt }
 obeys_denied {left = Some rest} {d = Some now} {stood} r addr p j closes e same w few = record {
@@ -105,38 +138,58 @@ obeys_denied {left = Some rest} {d = Some now} {stood} r addr p j closes e same 
     answers = [];
     told = told_none stood;
     sits = tt;
-    goes = own_goes (recorded r addr p rest j []) (denial j.outcome (is_head r) closes) rest [] (stays_unless closes) (Some now) now (rw (e, same) refl) w few refl (λ s. refl);
+    goes = own_goes (recorded r addr p rest j []) (denial j.outcome (is_head r) closes) rest [] (stays_unless closes)
+        (Some now) now (rw (e, same) refl) w few refl (λ s. refl);
   };
 }
 
 -- from the request on: to what is judged
-asked_judged : (r : HttpRequest) (addr : Address) (p : BodyPlan) (rest : List ℕ) (answers : List FrontTold) (reply : Reply) → fits_hosts r ≡ true → request_plan r ≡ Ok p → judged r addr p rest answers reply ≡ asked r addr rest answers reply
+asked_judged : (r : HttpRequest) (addr : Address) (p : BodyPlan) (rest : List ℕ) (answers : List FrontAnswer)
+    (reply : Reply) → fits_hosts r ≡ true → request_plan r ≡ Ok p
+    → judged r addr p rest answers reply ≡ asked r addr rest answers reply
 asked_judged r addr p rest answers reply e f = rw (e, f) refl
 
-answers_own : {first : Option (List ℕ)} {d : Option Dialled} {stood stands : List FrontTold → Type 0} {left a b : Option (List ℕ)} {failed : Type 0} {g h : ℕ} {ended : Carried} (r : HttpRequest) (addr : Address) (answers : List FrontTold) (own : Own)
-    → ((rest : List ℕ) → asked r addr rest answers NoOrigin ≡ own_turn (error_text own (is_head r)) [] [] Closes) → JudgesOf r answers → ((list : List FrontTold) → stood list → stands (list ++ answers))
-    → IsTold (error_text own (is_head r)) Closes a b ended → g ≤ count_limit → h ≡ g → AnswersTold r addr first d d stood stands left a b failed g h ended
+answers_own : {first : Option (List ℕ)} {d : Option Dialled} {stood stands : List FrontAnswer → Type 0}
+    {left a b : Option (List ℕ)} {failed : Type 0} {g h : ℕ} {ended : Carried} (r : HttpRequest) (addr : Address)
+    (answers : List FrontAnswer) (own : Own)
+    → ((rest : List ℕ) → asked r addr rest answers NoOrigin ≡ own_turn (error_text own (is_head r)) [] [] Closes)
+    → JudgesOf r answers → ((list : List FrontAnswer) → stood list → stands (list ++ answers))
+    → WritesReply (error_text own (is_head r)) Closes a b ended → g ≤ count_limit → h ≡ g
+    → AnswersTold r addr first d d stood stands left a b failed g h ended
 answers_own {first = None} r addr answers own turn judges told w few same = record { known = tt }
 answers_own {first = Some rest} {d = None} r addr answers own turn judges told w few same = record { known = tt }
-answers_own {first = Some rest} {d = Some now} {left} {a} {b} {failed} {g} {h} {ended} r addr answers own turn judges told w few same = record {
-  known = record {
-    answers = answers;
-    told = told;
-    judges = judges;
-    goes = subst (λ n. Goes (is_connect r) (asked r addr rest answers) [] (held_seat answers) left a b (Some now) now failed g n ended) (sym same)
-        (own_goes (asked r addr rest answers) (error_text own (is_head r)) [] [] Closes (Some now) now (turn rest) w few refl (λ s. absurd cc));
-  };
-}
+answers_own {first = Some rest} {d = Some now} {left} {a} {b} {failed} {g} {h} {ended} r addr answers own turn judges
+    told w few same = record {
+      known = record {
+        answers = answers;
+        told = told;
+        judges = judges;
+        goes = subst (λ n. Goes (is_connect r) (asked r addr rest answers) [] (held_seat answers) left a b (Some now)
+            now
+            failed g n ended) (sym same)
+            (own_goes (asked r addr rest answers) (error_text own (is_head r)) [] [] Closes (Some now) now (turn rest) w
+            few
+            refl (λ s. absurd cc));
+      };
+    }
 
 -- Host fields that are refused
-pub answers_hosts : {first : Option (List ℕ)} {d : Option Dialled} {stood : List FrontTold → Type 0} {left a b : Option (List ℕ)} {failed : Type 0} {g : ℕ} {ended : Carried} (r : HttpRequest) (addr : Address)
-    → fits_hosts r ≡ false → IsTold (error_text BadRequest (is_head r)) Closes a b ended → g ≤ count_limit → AnswersTold r addr first d d stood stood left a b failed g g ended
-answers_hosts {stood} r addr e w few = answers_own r addr [] BadRequest (λ rest. rw e refl) tt (told_none stood) w few refl
+pub answers_hosts : {first : Option (List ℕ)} {d : Option Dialled} {stood : List FrontAnswer → Type 0}
+    {left a b : Option (List ℕ)} {failed : Type 0} {g : ℕ} {ended : Carried} (r : HttpRequest) (addr : Address)
+    → fits_hosts r ≡ false → WritesReply (error_text BadRequest (is_head r)) Closes a b ended → g ≤ count_limit
+    → AnswersTold r addr first d d stood stood left a b failed g g ended
+answers_hosts {stood} r addr e w few = answers_own r addr [] BadRequest (λ rest. rw e refl) tt (told_none stood) w few
+    refl
 
 -- a body that is refused
-pub answers_body : {first : Option (List ℕ)} {d : Option Dialled} {stood : List FrontTold → Type 0} {left a b : Option (List ℕ)} {failed : Type 0} {g : ℕ} {ended : Carried} (r : HttpRequest) (addr : Address) (bad : BadBody) (own : Own)
-    → fits_hosts r ≡ true → request_plan r ≡ Err bad → own ≡ body_own bad → IsTold (error_text own (is_head r)) Closes a b ended → g ≤ count_limit → AnswersTold r addr first d d stood stood left a b failed g g ended
-answers_body {stood} r addr bad own e f same w few = answers_own r addr [] own (λ rest. rw (e, f, same) refl) tt (told_none stood) w few refl
+pub answers_body : {first : Option (List ℕ)} {d : Option Dialled} {stood : List FrontAnswer → Type 0}
+    {left a b : Option (List ℕ)} {failed : Type 0} {g : ℕ} {ended : Carried} (r : HttpRequest) (addr : Address)
+    (bad : BadBody) (own : Own)
+    → fits_hosts r ≡ true → request_plan r ≡ Err bad → own ≡ body_own bad
+    → WritesReply (error_text own (is_head r)) Closes a b ended → g ≤ count_limit
+    → AnswersTold r addr first d d stood stood left a b failed g g ended
+answers_body {stood} r addr bad own e f same w few = answers_own r addr [] own (λ rest. rw (e, f, same) refl) tt
+    (told_none stood) w few refl
 
 -- no seat was asked for
 none_behind : (said : Decided) → SitsBehind said []
@@ -147,28 +200,44 @@ none_behind decided.JournalFault = tt
 none_behind decided.WantOfMemory = tt
 
 -- an answer of the front without a record
-pub answers_unjudged : {first : Option (List ℕ)} {d : Option Dialled} {stood stands : List FrontTold → Type 0} {left a b : Option (List ℕ)} {failed : Type 0} {g h : ℕ} {ended : Carried} (r : HttpRequest) (addr : Address) (p : BodyPlan) (said : Decided) (own : Own)
-    → fits_hosts r ≡ true → request_plan r ≡ Ok p → ((rest : List ℕ) → judged r addr p rest (OfDecide r said ∷ []) NoOrigin ≡ own_turn (error_text own (is_head r)) [] [] Closes) → Decides r said
-    → ((list : List FrontTold) → stood list → stands (list ++ OfDecide r said ∷ [])) → IsTold (error_text own (is_head r)) Closes a b ended → g ≤ count_limit → h ≡ g → AnswersTold r addr first d d stood stands left a b failed g h ended
+pub answers_unjudged : {first : Option (List ℕ)} {d : Option Dialled} {stood stands : List FrontAnswer → Type 0}
+    {left a b : Option (List ℕ)} {failed : Type 0} {g h : ℕ} {ended : Carried} (r : HttpRequest) (addr : Address)
+    (p : BodyPlan) (said : Decided) (own : Own)
+    → fits_hosts r ≡ true → request_plan r ≡ Ok p
+    → ((rest : List ℕ) → judged r addr p rest (OfDecide r said ∷ []) NoOrigin
+    ≡ own_turn (error_text own (is_head r)) [] [] Closes) → Decides r said
+    → ((list : List FrontAnswer) → stood list → stands (list ++ OfDecide r said ∷ []))
+    → WritesReply (error_text own (is_head r)) Closes a b ended → g ≤ count_limit → h ≡ g
+    → AnswersTold r addr first d d stood stands left a b failed g h ended
 answers_unjudged r addr p said own e f turn judges told w few same =
-    answers_own r addr (OfDecide r said ∷ []) own (λ rest. sym (asked_judged r addr p rest (OfDecide r said ∷ []) NoOrigin e f) ∙ turn rest) (refl, judges, none_behind said) told w few same
+    answers_own r addr (OfDecide r said ∷ []) own
+    (λ rest. sym (asked_judged r addr p rest (OfDecide r said ∷ []) NoOrigin e f) ∙ turn rest)
+    (refl, judges, none_behind said) told w few same
 
 -- a record, and what follows it
-pub answers_judged : {first : Option (List ℕ)} {before d : Option Dialled} {stood mid stands : List FrontTold → Type 0} {left a b : Option (List ℕ)} {failed : Type 0} {g h k : ℕ} {ended : Carried} (r : HttpRequest) (addr : Address) (p : BodyPlan) (j : Judged)
-    → fits_hosts r ≡ true → request_plan r ≡ Ok p → g ≡ k → j.sight.request ≡ r → ((list : List FrontTold) → stood list → mid (list ++ OfDecide r (decided.Record j) ∷ []))
-    → ObeysTold r addr p j first before d mid stands left a b failed g h ended → AnswersTold r addr first before d stood stands left a b failed k h ended
+pub answers_judged : {first : Option (List ℕ)} {before d : Option Dialled}
+    {stood mid stands : List FrontAnswer → Type 0} {left a b : Option (List ℕ)} {failed : Type 0} {g h k : ℕ}
+    {ended : Carried} (r : HttpRequest) (addr : Address) (p : BodyPlan) (j : Judged)
+    → fits_hosts r ≡ true → request_plan r ≡ Ok p → g ≡ k → j.sight.request ≡ r
+    → ((list : List FrontAnswer) → stood list → mid (list ++ OfDecide r (decided.Record j) ∷ []))
+    → ObeysTold r addr p j first before d mid stands left a b failed g h ended
+    → AnswersTold r addr first before d stood stands left a b failed k h ended
 answers_judged {first = None} r addr p j e f same judges told x = record { known = tt }
 answers_judged {first = Some rest} {d = None} r addr p j e f same judges told x = record { known = tt }
-answers_judged {first = Some rest} {before} {d = Some now} {stands} {left} {a} {b} {failed} {g} {h} {k} {ended} r addr p j e f same judges told x =
+answers_judged {first = Some rest} {before} {d = Some now} {stands} {left} {a} {b} {failed} {g} {h} {k} {ended} r addr p
+    j e f same judges told x =
     let y = x.known in
     let all = OfDecide r (decided.Record j) ∷ y.answers in
     record {
       known = record {
         answers = all;
-        told = λ list s. subst stands (append_assoc list (OfDecide r (decided.Record j) ∷ []) y.answers) (y.told (list ++ OfDecide r (decided.Record j) ∷ []) (told list s));
+        told = λ list s. subst stands (append_assoc list (OfDecide r (decided.Record j) ∷ []) y.answers)
+            (y.told (list ++ OfDecide r (decided.Record j) ∷ []) (told list s));
         judges = (refl, judges, y.sits);
-        goes = subst (λ m. Goes (is_connect r) (asked r addr rest all) [] (names_pool j && sat y.answers) left a b before now failed m h ended) same
-            (goes_as (recorded r addr p rest j y.answers) (asked r addr rest all) (λ reply. asked_judged r addr p rest all reply e f) y.goes);
+        goes = subst (λ m. Goes (is_connect r) (asked r addr rest all) [] (names_pool j && sat y.answers) left a b
+            before now failed m h ended) same
+            (goes_as (recorded r addr p rest j y.answers) (asked r addr rest all)
+            (λ reply. asked_judged r addr p rest all reply e f) y.goes);
       };
     }
 
@@ -180,7 +249,8 @@ left_later : (B : Type 0) (a b c : ℕ) → a ≤ b → Rose b c ⊎ B → Rose 
 left_later B a b c h (inl r) = inl (rose_later a b c h r)
 left_later B a b c h (inr y) = inr y
 
-pub cause_later : (B C : Type 0) (a b c : ℕ) (ended : Carried) → a ≤ b → EndHasCause (Rose b c ⊎ B) C ended → EndHasCause (Rose a c ⊎ B) C ended
+pub cause_later : (B C : Type 0) (a b c : ℕ) (ended : Carried) → a ≤ b → EndHasCause (Rose b c ⊎ B) C ended
+    → EndHasCause (Rose a c ⊎ B) C ended
 cause_later B C a b c ended h x = cause_map ended (left_later B a b c h) (λ (y : C). y) x
 
 -- the client's link alone
@@ -194,17 +264,22 @@ pub cause_client : (A B C : Type 0) (ended : Carried) → EndHasCause B ⊥ ende
 cause_client A B C ended x = cause_map ended (right A B) (never C) x
 
 -- a reply of the proxy's own, said later
-pub cause_said : (A B : Type 0) (a b c : ℕ) (ended : Carried) → a ≤ b → EndHasCause (Rose b c) ⊥ ended → EndHasCause (A ⊎ Rose a c) B ended
-cause_said A B a b c ended h x = cause_map ended (λ (y : Rose b c). right A (Rose a c) (rose_later a b c h y)) (never B) x
+pub cause_said : (A B : Type 0) (a b c : ℕ) (ended : Carried) → a ≤ b → EndHasCause (Rose b c) ⊥ ended
+    → EndHasCause (A ⊎ Rose a c) B ended
+cause_said A B a b c ended h x = cause_map ended (λ (y : Rose b c). right A (Rose a c) (rose_later a b c h y))
+    (never B) x
 
 pub right_later : (A : Type 0) (a b c : ℕ) → a ≤ b → A ⊎ Rose b c → A ⊎ Rose a c
 right_later A a b c h (inl x) = inl x
 right_later A a b c h (inr r) = inr (rose_later a b c h r)
 
 -- the dialer's count rose where a half of its dial failed
-pub reached_rose : (in_old in_now out_old out_now before mid now : ℕ) → in_old ≡ 0 → out_old ≡ 0 → mid ≡ before → TakesBack mid now (in_now + out_now) → Rose in_old in_now ⊎ Rose out_old out_now → Rose before now
-reached_rose in_old in_now out_old out_now before mid now e f same t (inl r) = let k = t.rose (omega (arith, e, r)) in omega (arith, same, k)
-reached_rose in_old in_now out_old out_now before mid now e f same t (inr r) = let k = t.rose (omega (arith, f, r)) in omega (arith, same, k)
+pub reached_rose : (in_old in_now out_old out_now before mid now : ℕ) → in_old ≡ 0 → out_old ≡ 0 → mid ≡ before
+    → TakesBack mid now (in_now + out_now) → Rose in_old in_now ⊎ Rose out_old out_now → Rose before now
+reached_rose in_old in_now out_old out_now before mid now e f same t (inl r) = let k = t.rose (omega (arith, e, r)) in
+    omega (arith, same, k)
+reached_rose in_old in_now out_old out_now before mid now e f same t (inr r) = let k = t.rose (omega (arith, f, r)) in
+    omega (arith, same, k)
 
 pub cause_reached : (A B C : Type 0) (ended : Carried) → (B → C) → EndHasCause A B ended → EndHasCause A C ended
 cause_reached A B C ended f x = cause_map ended (λ (y : A). y) f x

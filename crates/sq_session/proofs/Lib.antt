@@ -5,5 +5,5 @@ mod GoesLaws
 mod PartLaws
 mod ServeLaws
 mod SessionLaws
-mod TellLaws
+mod OwnReplyLaws
 mod TurnLaws

@@ -7,7 +7,7 @@ use Rattle.sq_outside.specs.Causes.{count_limit}
 use Rattle.sq_outside.specs.Dials.{Dial, Dialled, Origin, DialsMore, DialReaches, GivesDial}
 use Rattle.std.specs.Io.KnownBytes.{Appends, prepend_known}
 use Rattle.sq_forward.specs.Replies.{Reading}
-use Rattle.sq_session.specs.Fronts.{FrontTold}
+use Rattle.sq_session.specs.Fronts.{FrontAnswer}
 use Rattle.sq_session.specs.Forwarding.{Forwards, given_by}
 use Rattle.sq_session.specs.Steps.{is_exact, WritesAs, FitsDial, WasTold, Goes}
 use Rattle.sq_session.specs.Told.{ForwardsTold, ReachesTold}
@@ -15,12 +15,13 @@ use Rattle.sq_session.specs.Turns.{Came, is_head, is_connect, dial_to, forwarded
 use Rattle.sq_session.specs.declared.ends.Carried.{Carried}
 use Rattle.sq_head.specs.OwnReplies.{error_text}
 use Rattle.sq_head.specs.declared.own.Own.TheVariants.{BadGateway}
-use Rattle.sq_session.specs.Telling.{IsTold}
+use Rattle.sq_session.specs.Written.{WritesReply}
 use Rattle.sq_session.specs.declared.ends.Carried.TheVariants.{Closes}
 use Rattle.sq_session.proofs.GoesLaws.{fault_goes}
 
 -- a dialer that told at a dial and at its return
-pub dialled_told : (before mid now : Option Dialled) (origin_back : Option Origin) (written_back : Option (List ℕ)) → DialsMore before mid → GivesDial mid now origin_back written_back → WasTold before now
+pub dialled_told : (before mid now : Option Dialled) (origin_back : Option Origin) (written_back : Option (List ℕ))
+    → DialsMore before mid → GivesDial mid now origin_back written_back → WasTold before now
 dialled_told before mid None o w m b = record { told = tt }
 dialled_told before None (Some now) o w m b = absurd (let e = b.1 in cc)
 dialled_told before (Some mid) (Some now) o w m b = record { told = (m.0, m.1) }
@@ -30,16 +31,21 @@ refused_told before None e = record { told = tt }
 refused_told before (Some now) e = record { told = (now, sym e) }
 
 -- the turn's dial is that of its request
-dial_of : (r : HttpRequest) (addr : Address) (p : BodyPlan) (rest bytes : List ℕ) (reading : Reading) (broke : Bool) (unasked : List FrontTold)
-    → (forwarded r addr p rest bytes reading broke unasked).dial ≡ Some (dial_to r bytes (given_by (forwarded r addr p rest bytes reading broke unasked).dial))
+dial_of : (r : HttpRequest) (addr : Address) (p : BodyPlan) (rest bytes : List ℕ) (reading : Reading) (broke : Bool)
+    (unasked : List FrontAnswer)
+    → (forwarded r addr p rest bytes reading broke unasked).dial
+    ≡ Some (dial_to r bytes (given_by (forwarded r addr p rest bytes reading broke unasked).dial))
 dial_of r addr p rest bytes reading broke unasked = by (is_connect r) refl
   where
-    by : (b : Bool) → is_connect r ≡ b → (forwarded r addr p rest bytes reading broke unasked).dial ≡ Some (dial_to r bytes (given_by (forwarded r addr p rest bytes reading broke unasked).dial))
+    by : (b : Bool) → is_connect r ≡ b
+        → (forwarded r addr p rest bytes reading broke unasked).dial
+        ≡ Some (dial_to r bytes (given_by (forwarded r addr p rest bytes reading broke unasked).dial))
     by true e = rw e refl
     by false e = rw e refl
 
 -- a turn of a link that failed
-faulted_of : (r : HttpRequest) (addr : Address) (p : BodyPlan) (rest bytes : List ℕ) (reading : Reading) (broke : Bool) (unasked : List FrontTold) → (forwarded r addr p rest bytes reading broke unasked).faulted ≡ true → broke ≡ true
+faulted_of : (r : HttpRequest) (addr : Address) (p : BodyPlan) (rest bytes : List ℕ) (reading : Reading) (broke : Bool)
+    (unasked : List FrontAnswer) → (forwarded r addr p rest bytes reading broke unasked).faulted ≡ true → broke ≡ true
 faulted_of r addr p rest bytes reading broke unasked h = by (is_connect r) refl
   where
     by : (b : Bool) → is_connect r ≡ b → broke ≡ true
@@ -47,26 +53,38 @@ faulted_of r addr p rest bytes reading broke unasked h = by (is_connect r) refl
     by false e = rw e at h
 
 -- the dial that came back fits it
-fits_dial : (whole : Bool) (t : Option Dial) (r : HttpRequest) (bytes given full : List ℕ) (d : Dial) → t ≡ Some (dial_to r bytes full) → d ≡ dial_to r bytes given → WritesAs whole given full → FitsDial whole t (Some d)
+fits_dial : (whole : Bool) (t : Option Dial) (r : HttpRequest) (bytes given full : List ℕ) (d : Dial)
+    → t ≡ Some (dial_to r bytes full) → d ≡ dial_to r bytes given → WritesAs whole given full
+    → FitsDial whole t (Some d)
 fits_dial whole t r bytes given full d e f w =
-    subst (λ u. FitsDial whole u (Some d)) (sym e) (subst (λ v. FitsDial whole (Some (dial_to r bytes full)) (Some v)) (sym f) (refl, w))
+    subst (λ u. FitsDial whole u (Some d)) (sym e)
+    (subst (λ v. FitsDial whole (Some (dial_to r bytes full)) (Some v)) (sym f) (refl, w))
 
 -- the way to an origin that was reached, whose halves came back
-pub reached : {seated : Bool} {left a b : Option (List ℕ)} {g h : ℕ} {fails failed : Type 0} {ended : Carried} (r : HttpRequest) (addr : Address) (p : BodyPlan) (rest : List ℕ) (unasked : List FrontTold)
-    (before mid : Option Dialled) (now : Dialled) (origin origin_back : Option Origin) (came written written_back : Option (List ℕ)) (first : Option (List ℕ))
-    → DialsMore before mid → DialReaches mid r.host r.port origin came written → origin_back ≡ origin → first ≡ prepend_known [] came → GivesDial mid (Some now) origin_back written_back
-    → IfSome first (λ bytes. Forwards r addr p rest bytes seated left a b written written_back fails g h ended) → (fails → failed)
+pub reached : {seated : Bool} {left a b : Option (List ℕ)} {g h : ℕ} {fails failed : Type 0} {ended : Carried}
+    (r : HttpRequest) (addr : Address) (p : BodyPlan) (rest : List ℕ) (unasked : List FrontAnswer)
+    (before mid : Option Dialled) (now : Dialled) (origin origin_back : Option Origin)
+    (came written written_back : Option (List ℕ)) (first : Option (List ℕ))
+    → DialsMore before mid → DialReaches mid r.host r.port origin came written → origin_back ≡ origin
+    → first ≡ prepend_known [] came → GivesDial mid (Some now) origin_back written_back
+    → IfSome first (λ bytes. Forwards r addr p rest bytes seated left a b written written_back fails g h ended)
+    → (fails → failed)
     → Goes (is_connect r) (dialled r addr p rest unasked) unasked seated left a b before now failed g h ended
-reached r addr p rest unasked before None now origin origin_back came written written_back first m reach same at back f fault = absurd (let e = back.1 in cc)
-reached {seated} {left} {a} {b} {g} {h} {fails} {failed} {ended} r addr p rest unasked before (Some mid) now origin origin_back came written written_back first m reach same at back f fault =
+reached r addr p rest unasked before None now origin origin_back came written written_back first m reach same
+    at back f fault = absurd (let e = back.1 in cc)
+reached {seated} {left} {a} {b} {g} {h} {fails} {failed} {ended} r addr p rest unasked before (Some mid) now origin
+    origin_back came written written_back first m reach same at back f fault =
     let bytes = reach.0 in
     let made_is : back.0 ≡ mid = let e : Some mid ≡ Some back.0 = back.1 in cc in
     let all : Forwards r addr p rest bytes seated left a b written written_back fails g h ended =
-    subst (λ o. IfSome o (λ bs. Forwards r addr p rest bs seated left a b written written_back fails g h ended)) (at ∙ ap (prepend_known []) reach.2) f in
+    subst (λ o. IfSome o (λ bs. Forwards r addr p rest bs seated left a b written written_back fails g h ended))
+    (at ∙ ap (prepend_known []) reach.2) f in
     let x = all.goes unasked in
     let t = forwarded r addr p rest bytes all.reading all.broke unasked in
     let wrote_all : written_back ≡ Some x.given = wrote_to written written_back x.given reach.3 x.gave in
-    let dial : now.back ≡ back.0.back ++ record { origin = record { host = r.host; port = r.port; bytes = bytes }; written = x.given } ∷ [] = one_back now back.0 origin_back written_back _ _ (same ∙ reach.1) wrote_all back.3 in
+    let dial : now.back ≡ back.0.back
+    ++ record { origin = record { host = r.host; port = r.port; bytes = bytes }; written = x.given } ∷ [] =
+    one_back now back.0 origin_back written_back _ _ (same ∙ reach.1) wrote_all back.3 in
     record {
       reply = Came bytes all.seen all.reading all.broke;
       written = x.written;
@@ -76,7 +94,8 @@ reached {seated} {left} {a} {b} {g} {h} {fails} {failed} {ended} r addr p rest u
       gives = record {
         exact = x.exact;
         front = x.front;
-        dial = fits_dial (is_exact ended && not all.broke) t.dial r bytes x.given (given_by t.dial) (dial_to r bytes x.given) (dial_of r addr p rest bytes all.reading all.broke unasked) refl x.gives;
+        dial = fits_dial (is_exact ended && not all.broke) t.dial r bytes x.given (given_by t.dial)
+            (dial_to r bytes x.given) (dial_of r addr p rest bytes all.reading all.broke unasked) refl x.gives;
       };
       wrote = x.wrote;
       pays = x.pays;
@@ -84,7 +103,8 @@ reached {seated} {left} {a} {b} {g} {h} {fails} {failed} {ended} r addr p rest u
         old = m.0;
         told = m.1;
         made = back.2 ∙ ap Dialled.made made_is ∙ m.2;
-        back = dial ∙ ap (λ o. Dialled.back o ++ dial_to r bytes x.given ∷ []) made_is ∙ ap (λ l. l ++ dial_to r bytes x.given ∷ []) m.3;
+        back = dial ∙ ap (λ o. Dialled.back o ++ dial_to r bytes x.given ∷ []) made_is
+            ∙ ap (λ l. l ++ dial_to r bytes x.given ∷ []) m.3;
       };
       rest = x.rest;
       spare = x.spare;
@@ -95,28 +115,48 @@ reached {seated} {left} {a} {b} {g} {h} {fails} {failed} {ended} r addr p rest u
     wrote_to (Some x) None given e w = absurd w
     wrote_to (Some x) (Some y) given e w = let none : x ≡ [] = cc in ap (λ l. Some l) (w ∙ ap (λ l. l ++ given) none)
 
-    one_back : (new old : Dialled) (o : Option Origin) (w : Option (List ℕ)) (origin : Origin) (given : List ℕ) → o ≡ Some origin → w ≡ Some given
-        → IfSome o (λ u. IfSome w (λ v. new.back ≡ old.back ++ record { origin = u; written = v } ∷ [])) → new.back ≡ old.back ++ record { origin = origin; written = given } ∷ []
+    one_back : (new old : Dialled) (o : Option Origin) (w : Option (List ℕ)) (origin : Origin) (given : List ℕ)
+        → o ≡ Some origin → w ≡ Some given
+        → IfSome o (λ u. IfSome w (λ v. new.back ≡ old.back ++ record { origin = u; written = v } ∷ []))
+        → new.back ≡ old.back ++ record { origin = origin; written = given } ∷ []
     one_back new old o w origin given e f h =
-        let k : IfSome (Some origin) (λ u. IfSome w (λ v. new.back ≡ old.back ++ record { origin = u; written = v } ∷ [])) = subst (λ z. IfSome z (λ u. IfSome w (λ v. new.back ≡ old.back ++ record { origin = u; written = v } ∷ []))) e h in
+        let k : IfSome (Some origin)
+        (λ u. IfSome w (λ v. new.back ≡ old.back ++ record { origin = u; written = v } ∷ [])) =
+        subst (λ z. IfSome z (λ u. IfSome w (λ v. new.back ≡ old.back ++ record { origin = u; written = v } ∷ []))) e
+        h in
         subst (λ z. IfSome z (λ v. new.back ≡ old.back ++ record { origin = origin; written = v } ∷ [])) f k
 
 -- an origin that was not reached
-pub unreached_told : {first : Option (List ℕ)} {before now : Option Dialled} {seat : Bool} {left a b : Option (List ℕ)} {failed : Type 0} {g : ℕ} {ended : Carried} (r : HttpRequest) (addr : Address) (p : BodyPlan)
-    → failed → IsTold (error_text BadGateway (is_head r)) Closes a b ended → g ≤ count_limit → now ≡ before → ReachesTold r addr p first before now seat left a b failed g g ended
+pub unreached_told : {first : Option (List ℕ)} {before now : Option Dialled} {seat : Bool} {left a b : Option (List ℕ)}
+    {failed : Type 0} {g : ℕ} {ended : Carried} (r : HttpRequest) (addr : Address) (p : BodyPlan)
+    → failed → WritesReply (error_text BadGateway (is_head r)) Closes a b ended → g ≤ count_limit → now ≡ before
+    → ReachesTold r addr p first before now seat left a b failed g g ended
 unreached_told {first = None} r addr p fault w few same = record { known = tt }
 unreached_told {first = Some rest} {now = None} r addr p fault w few same = record { known = tt }
 unreached_told {first = Some rest} {before} {now = Some d} r addr p fault w few same = record {
-  known = λ unasked. fault_goes (dialled r addr p rest unasked) (error_text BadGateway (is_head r)) [] unasked Closes before d fault refl w few (sym same) (λ s. absurd cc);
+  known = λ unasked. fault_goes (dialled r addr p rest unasked) (error_text BadGateway (is_head r)) [] unasked Closes
+      before d fault refl w few (sym same) (λ s. absurd cc);
 }
 
 -- an origin that was reached, and whose halves came back
-pub reaches : {first : Option (List ℕ)} {before now : Option Dialled} {seated : Bool} {left a b : Option (List ℕ)} {failed : Type 0} {g h : ℕ} {ended : Carried} {fails : Type 0} {written written_back bytes : Option (List ℕ)} (r : HttpRequest) (addr : Address) (p : BodyPlan)
+pub reaches : {first : Option (List ℕ)} {before now : Option Dialled} {seated : Bool} {left a b : Option (List ℕ)}
+    {failed : Type 0} {g h : ℕ} {ended : Carried} {fails : Type 0} {written written_back bytes : Option (List ℕ)}
+    (r : HttpRequest) (addr : Address) (p : BodyPlan)
     (host : List ℕ) (port : ℕ) (mid : Option Dialled) (origin origin_back : Option Origin) (came : Option (List ℕ))
-    → host ≡ r.host → port ≡ r.port → DialsMore before mid → DialReaches mid host port origin came written → origin_back ≡ origin → bytes ≡ prepend_known [] came → GivesDial mid now origin_back written_back
-    → ForwardsTold r addr p first bytes seated left a b written written_back fails g h ended → (fails → failed) → ReachesTold r addr p first before now seated left a b failed g h ended
-reaches {first = None} r addr p host port mid origin origin_back came e f0 m reach same at back f fault = record { known = tt }
-reaches {first = Some rest} {now = None} r addr p host port mid origin origin_back came e f0 m reach same at back f fault = record { known = tt }
-reaches {first = Some rest} {before} {now = Some d} {written} {written_back} {bytes} r addr p host port mid origin origin_back came e f0 m reach same at back f fault =
-    let there : DialReaches mid r.host r.port origin came written = subst (λ h. DialReaches mid h r.port origin came written) e (subst (λ q. DialReaches mid host q origin came written) f0 reach) in
-    record { known = λ unasked. reached r addr p rest unasked before mid d origin origin_back came written written_back bytes m there same at back f.known fault }
+    → host ≡ r.host → port ≡ r.port → DialsMore before mid → DialReaches mid host port origin came written
+    → origin_back ≡ origin → bytes ≡ prepend_known [] came → GivesDial mid now origin_back written_back
+    → ForwardsTold r addr p first bytes seated left a b written written_back fails g h ended → (fails → failed)
+    → ReachesTold r addr p first before now seated left a b failed g h ended
+reaches {first = None} r addr p host port mid origin origin_back came e f0 m reach same at back f fault =
+    record { known = tt }
+reaches {first = Some rest} {now = None} r addr p host port mid origin origin_back came e f0 m reach same
+    at back f fault = record { known = tt }
+reaches {first = Some rest} {before} {now = Some d} {written} {written_back} {bytes} r addr p host port mid origin
+    origin_back came e f0 m reach same at back f fault =
+    let there : DialReaches mid r.host r.port origin came written =
+    subst (λ h. DialReaches mid h r.port origin came written) e
+    (subst (λ q. DialReaches mid host q origin came written) f0 reach) in
+    record {
+      known = λ unasked. reached r addr p rest unasked before mid d origin origin_back came written written_back
+          bytes m there same at back f.known fault;
+    }

@@ -4,11 +4,11 @@ use Rattle.sq_base.specs.Addresses.{Address}
 use Rattle.sq_outside.specs.Causes.{count_limit, Rose}
 use Rattle.sq_outside.specs.Dials.{Dialled}
 use Rattle.sq_forward.specs.Meters.{granted_after}
-use Rattle.sq_session.specs.Fronts.{FrontTold, OfOpen, OfClose}
+use Rattle.sq_session.specs.Fronts.{FrontAnswer, OfOpen, OfClose}
 use Rattle.sq_session.specs.Sessions.{answers_of, client_of, granted_of, ServesOpened, ClosesOpened, TellsWhole, TellsAs, SessionHasCause, dry_after_session}
 use Rattle.sq_session.specs.Steps.{EndHasCause, dry_after}
 use Rattle.sq_session.specs.Told.{ServesTold, SessionTold}
-use Rattle.sq_session.specs.Telling.{IsTold}
+use Rattle.sq_session.specs.Written.{WritesReply}
 use Rattle.sq_session.specs.declared.ends.Carried.{Carried}
 use Rattle.sq_session.specs.declared.ends.Carried.TheVariants.{Stays, Closes, Over}
 use Rattle.sq_session.specs.declared.ends.End.{End}
@@ -20,7 +20,8 @@ use Rattle.sq_session.proofs.CarryLaws.{rose_later}
 use Rattle.sq_session.proofs.GoesLaws.{granted_none}
 
 -- the cause of the last turn's end, for the whole session
-pub over_cause : (a b c i j k x y z : ℕ) (end : End) → a ≤ b → i ≤ j → x ≤ y → EndHasCause (Rose b c ⊎ Rose j k) (Rose y z) (Over end) → SessionHasCause (Rose a c ⊎ Rose i k) (Rose x z) end
+pub over_cause : (a b c i j k x y z : ℕ) (end : End) → a ≤ b → i ≤ j → x ≤ y
+    → EndHasCause (Rose b c ⊎ Rose j k) (Rose y z) (Over end) → SessionHasCause (Rose a c ⊎ Rose i k) (Rose x z) end
 over_cause a b c i j k x y z ClientFault h l m (inl r) = inl (rose_later a b c h r)
 over_cause a b c i j k x y z ClientFault h l m (inr r) = inr (rose_later i j k l r)
 over_cause a b c i j k x y z OriginFault h l m r = rose_later x y z m r
@@ -40,9 +41,14 @@ over_dry Starved = refl
 over_dry WantOfMemory = refl
 
 -- a connection that was opened
-pub session_in : {addr : Address} {port : ℕ} {first : Option (List ℕ)} {before now : Option Dialled} {stood mid stands last : List FrontTold → Type 0} {a b : Option (List ℕ)} {failed : Type 0} {g h k n : ℕ} {end : End}
-    → (c : Result (Unit {0}) CloseFault) → ((list : List FrontTold) → stood list → mid (list ++ OfOpen addr port opened.In ∷ [])) → ((list : List FrontTold) → stands list → last (list ++ OfClose c ∷ [])) → g ≡ k → n ≡ h
-    → ServesTold addr first before now mid stands a b failed g h end → SessionTold addr port first before now stood last a b failed k n end
+pub session_in : {addr : Address} {port : ℕ} {first : Option (List ℕ)} {before now : Option Dialled}
+    {stood mid stands last : List FrontAnswer → Type 0} {a b : Option (List ℕ)} {failed : Type 0} {g h k n : ℕ}
+    {end : End}
+    → (c : Result (Unit {0}) CloseFault)
+    → ((list : List FrontAnswer) → stood list → mid (list ++ OfOpen addr port opened.In ∷ []))
+    → ((list : List FrontAnswer) → stands list → last (list ++ OfClose c ∷ [])) → g ≡ k → n ≡ h
+    → ServesTold addr first before now mid stands a b failed g h end
+    → SessionTold addr port first before now stood last a b failed k n end
 session_in {first = None} c told closed same after x = record { known = tt }
 session_in {first = Some input} {now = None} c told closed same after x = record { known = tt }
 session_in {addr} {port} {first = Some input} {now = Some o} {stands} {last} c told closed same after x =
@@ -57,7 +63,9 @@ session_in {addr} {port} {first = Some input} {now = Some o} {stands} {last} c t
         closing = OfClose c ∷ [];
         serves = (y.turns, refl);
         closes = (c, refl);
-        told = λ list s. subst last (append_assoc list (opening ∷ turns) (OfClose c ∷ [])) (closed (list ++ opening ∷ turns) (subst stands (append_assoc list (opening ∷ []) turns) (y.told (list ++ opening ∷ []) (told list s))));
+        told = λ list s. subst last (append_assoc list (opening ∷ turns) (OfClose c ∷ []))
+            (closed (list ++ opening ∷ turns)
+            (subst stands (append_assoc list (opening ∷ []) turns) (y.told (list ++ opening ∷ []) (told list s))));
         wrote = y.wrote;
         dials = y.dials;
         broken = y.broken;
@@ -66,8 +74,13 @@ session_in {addr} {port} {first = Some input} {now = Some o} {stands} {last} c t
     }
 
 -- one that was not
-pub session_not : {addr : Address} {port : ℕ} {first : Option (List ℕ)} {d : Option Dialled} {stood stands : List FrontTold → Type 0} {a b : Option (List ℕ)} {failed : Type 0} {g h : ℕ} {end : End} (opening : Opened) (words : List ℕ)
-    → ((input written : List ℕ) → TellsAs words written end → ServesOpened addr input opening [] written end) → ClosesOpened opening [] → ((list : List FrontTold) → stood list → stands (list ++ OfOpen addr port opening ∷ [])) → TellsWhole words a b end → g ≤ count_limit → h ≡ g
+pub session_not : {addr : Address} {port : ℕ} {first : Option (List ℕ)} {d : Option Dialled}
+    {stood stands : List FrontAnswer → Type 0} {a b : Option (List ℕ)} {failed : Type 0} {g h : ℕ} {end : End}
+    (opening : Opened) (words : List ℕ)
+    → ((input written : List ℕ) → TellsAs words written end → ServesOpened addr input opening [] written end)
+    → ClosesOpened opening []
+    → ((list : List FrontAnswer) → stood list → stands (list ++ OfOpen addr port opening ∷ []))
+    → TellsWhole words a b end → g ≤ count_limit → h ≡ g
     → SessionTold addr port first d d stood stands a b failed g h end
 session_not {first = None} opening words serves closes told w few same = record { known = tt }
 session_not {first = Some input} {d = None} opening words serves closes told w few same = record { known = tt }
@@ -88,11 +101,16 @@ session_not {first = Some input} {d = Some o} {g} opening words serves closes to
 }
 
 -- a reply, as the session's end
-pub tells_end : {a b : Option (List ℕ)} {words : List ℕ} (ended : Carried) (end : End) → (ended ≡ Closes → end ≡ Finished) → ((e : End) → ended ≡ Over e → end ≡ e) → IsTold words Closes a b ended → TellsWhole words a b end
+pub tells_end : {a b : Option (List ℕ)} {words : List ℕ} (ended : Carried) (end : End)
+    → (ended ≡ Closes → end ≡ Finished) → ((e : End) → ended ≡ Over e → end ≡ e) → WritesReply words Closes a b ended
+    → TellsWhole words a b end
 tells_end {a} {b} {words} Stays end f k w = absurd (let e = w.is.0 in cc)
-tells_end {a} {b} {words} Closes end f k w = subst (TellsWhole words a b) (sym (f refl)) (record { written = words; wrote = w.is.1; tells = refl })
-tells_end {a} {b} {words} (Over ClientFault) end f k w = subst (TellsWhole words a b) (sym (k ClientFault refl)) (record { written = w.is.0; wrote = w.is.1; tells = w.is.2 })
-tells_end {a} {b} {words} (Over WantOfMemory) end f k w = subst (TellsWhole words a b) (sym (k WantOfMemory refl)) (record { written = w.is.0; wrote = w.is.1; tells = w.is.2 })
+tells_end {a} {b} {words} Closes end f k w = subst (TellsWhole words a b) (sym (f refl))
+    (record { written = words; wrote = w.is.1; tells = refl })
+tells_end {a} {b} {words} (Over ClientFault) end f k w = subst (TellsWhole words a b) (sym (k ClientFault refl))
+    (record { written = w.is.0; wrote = w.is.1; tells = w.is.2 })
+tells_end {a} {b} {words} (Over WantOfMemory) end f k w = subst (TellsWhole words a b) (sym (k WantOfMemory refl))
+    (record { written = w.is.0; wrote = w.is.1; tells = w.is.2 })
 tells_end (Over Finished) end f k w = absurd w.is
 tells_end (Over Cut) end f k w = absurd w.is
 tells_end (Over OriginCut) end f k w = absurd w.is
@@ -108,7 +126,8 @@ refuse_cause A B OriginCut x = tt
 refuse_cause A B Starved x = tt
 refuse_cause A B WantOfMemory x = tt
 
-pub session_cause : {A B C D : Type 0} (end : End) → (A → C) → (B → D) → SessionHasCause A B end → SessionHasCause C D end
+pub session_cause : {A B C D : Type 0} (end : End) → (A → C) → (B → D) → SessionHasCause A B end
+    → SessionHasCause C D end
 session_cause ClientFault f k x = f x
 session_cause OriginFault f k x = k x
 session_cause Finished f k x = tt
@@ -128,6 +147,9 @@ session_said A B C Starved x = tt
 session_said A B C WantOfMemory x = tt
 
 -- the client's sink was closed behind it
-pub session_closed : {addr : Address} {port : ℕ} {first : Option (List ℕ)} {before now : Option Dialled} {stood stands : List FrontTold → Type 0} {a b c : Option (List ℕ)} {failed : Type 0} {g h : ℕ} {end : End}
-    → c ≡ b → SessionTold addr port first before now stood stands a b failed g h end → SessionTold addr port first before now stood stands a c failed g h end
-session_closed {addr} {port} {first} {before} {now} {stood} {stands} {a} {b} {c} {failed} {g} {h} {end} e x = subst (λ z. SessionTold addr port first before now stood stands a z failed g h end) (sym e) x
+pub session_closed : {addr : Address} {port : ℕ} {first : Option (List ℕ)} {before now : Option Dialled}
+    {stood stands : List FrontAnswer → Type 0} {a b c : Option (List ℕ)} {failed : Type 0} {g h : ℕ} {end : End}
+    → c ≡ b → SessionTold addr port first before now stood stands a b failed g h end
+    → SessionTold addr port first before now stood stands a c failed g h end
+session_closed {addr} {port} {first} {before} {now} {stood} {stands} {a} {b} {c} {failed} {g} {h} {end} e x =
+    subst (λ z. SessionTold addr port first before now stood stands a z failed g h end) (sym e) x

@@ -6,15 +6,15 @@ use Rattle.sq_outside.specs.Causes.{count_limit}
 use Rattle.sq_outside.specs.Dials.{Dialled}
 use Rattle.sq_forward.specs.Meters.{granted_after}
 use Rattle.sq_session.specs.Begins.{Begins}
-use Rattle.sq_session.specs.Fronts.{FrontTold}
+use Rattle.sq_session.specs.Fronts.{FrontAnswer}
 use Rattle.sq_session.specs.Sessions.{TakesTurn, JudgesBegun, IsGranted, held_seat, asks_tunnel}
 use Rattle.sq_session.specs.Steps.{Pays, Goes}
-use Rattle.sq_session.specs.Turns.{Turn, from_origin, turn}
+use Rattle.sq_session.specs.Turns.{ClientTurn, from_origin, turn}
 use Rattle.sq_session.specs.declared.beginning.Begun.{Begun}
 use Rattle.sq_session.specs.declared.ends.Carried.{Carried}
 use Rattle.std.proofs.KnownBytes.{Appends-nil}
 use Rattle.sq_session.specs.Sessions.{Answers}
-use Rattle.sq_session.specs.Telling.{IsTold}
+use Rattle.sq_session.specs.Written.{WritesReply}
 use Rattle.sq_session.specs.Told.{BeginsTold, AnswersTold, TurnTold}
 use Rattle.sq_session.specs.Turns.{NoOrigin}
 use Rattle.sq_session.specs.declared.beginning.Begun.TheVariants as begun
@@ -23,17 +23,26 @@ use Rattle.sq_session.specs.declared.ends.End.TheVariants.{OriginFault}
 use Rattle.sq_session.proofs.GoesLaws.{granted_none, own_goes, own_turn, silent_goes}
 
 -- what was granted in a turn
-pub record Counted (t : Turn) (seated : Bool) (written : List ℕ) (ended : Carried) (g h : ℕ) : Type 0 where
+pub record Counted (t : ClientTurn) (seated : Bool) (written : List ℕ) (ended : Carried) (g h : ℕ) : Type 0 where
   pub n : ℕ
   pub grants : IsGranted t seated (length written) ended n
   pub granted : h ≡ granted_after true g n
 
-counted : {t : Turn} {written : List ℕ} {ended : Carried} {g h : ℕ} (seated : Bool) → g ≤ count_limit → Pays t seated written ended g h → Counted t seated written ended g h
-counted {t} {written} {ended} {g} {h} true few p = record { n = from_origin t (length written) + p.more; grants = (p.more, p.close, refl); granted = p.granted }
-counted {t} {written} {ended} {g} {h} false few p = record { n = 0; grants = refl; granted = p.granted ∙ granted_none true g few }
+counted : {t : ClientTurn} {written : List ℕ} {ended : Carried} {g h : ℕ} (seated : Bool) → g ≤ count_limit
+    → Pays t seated written ended g h → Counted t seated written ended g h
+counted {t} {written} {ended} {g} {h} true few p = record {
+  n = from_origin t (length written) + p.more;
+  grants = (p.more, p.close, refl);
+  granted = p.granted;
+}
+counted {t} {written} {ended} {g} {h} false few p = record {
+  n = 0;
+  grants = refl;
+  granted = p.granted ∙ granted_none true g few;
+}
 
 -- the front's answers stand behind those before
-pub told_none : (stood : List FrontTold → Type 0) (list : List FrontTold) → stood list → stood (list ++ [])
+pub told_none : (stood : List FrontAnswer → Type 0) (list : List FrontAnswer) → stood list → stood (list ++ [])
 told_none stood list s = subst stood (sym (append-nil list)) s
 
 -- nothing was said
@@ -47,14 +56,35 @@ judges_none begun.Failed = tt
 judges_none begun.WantOfMemory = tt
 
 -- a turn that went so
-pub takes_turn : {stood stands : List FrontTold → Type 0} {left a b : Option (List ℕ)} {d : Option Dialled} {now : Dialled} {failed : Type 0} {g h : ℕ} {ended : Carried} (addr : Address) (input : List ℕ) (begun : Begun) (rest : List ℕ) (answers : List FrontTold)
-    → Begins input begun rest → ((list : List FrontTold) → stood list → stands (list ++ answers)) → g ≤ count_limit
-    → JudgesBegun begun answers → Goes (asks_tunnel begun) (turn addr begun rest answers) [] (held_seat answers) left a b d now failed g h ended → TakesTurn addr input stood stands left a b d now failed g h ended
-takes_turn {stood} {stands} {left} {a} {b} {d} {now} {failed} {g} {h} {ended} addr input begun rest answers begins told few judges x =
+pub takes_turn : {stood stands : List FrontAnswer → Type 0} {left a b : Option (List ℕ)} {d : Option Dialled}
+    {now : Dialled} {failed : Type 0} {g h : ℕ} {ended : Carried} (addr : Address) (input : List ℕ) (begun : Begun)
+    (rest : List ℕ) (answers : List FrontAnswer)
+    → Begins input begun rest → ((list : List FrontAnswer) → stood list → stands (list ++ answers)) → g ≤ count_limit
+    → JudgesBegun begun answers
+    → Goes (asks_tunnel begun) (turn addr begun rest answers) [] (held_seat answers) left a b d now failed g h ended
+    → TakesTurn addr input stood stands left a b d now failed g h ended
+takes_turn {stood} {stands} {left} {a} {b} {d} {now} {failed} {g} {h} {ended} addr input begun rest answers begins told
+    few judges x =
     let k = counted (held_seat answers) few x.pays in
     record {
-      step = record { begun = begun; rest = rest; answers = answers; reply = x.reply; written = x.written; dial = x.dial; granted = k.n; ended = ended };
-      is = record { begins = begins; fits = x.fits; asks = x.spare; judges = judges; gives = x.gives; grants = k.grants };
+      step = record {
+        begun = begun;
+        rest = rest;
+        answers = answers;
+        reply = x.reply;
+        written = x.written;
+        dial = x.dial;
+        granted = k.n;
+        ended = ended;
+      };
+      is = record {
+        begins = begins;
+        fits = x.fits;
+        asks = x.spare;
+        judges = judges;
+        gives = x.gives;
+        grants = k.grants;
+      };
       ended_is = refl;
       told = told;
       wrote = x.wrote;
@@ -65,30 +95,48 @@ takes_turn {stood} {stands} {left} {a} {b} {d} {now} {failed} {g} {h} {ended} ad
     }
 
 -- a request came, and was answered
-pub takes_request : {first : Option (List ℕ)} {before now : Option Dialled} {stood stands : List FrontTold → Type 0} {left mid a b : Option (List ℕ)} {failed : Type 0} {g h : ℕ} {ended : Carried} (addr : Address) (r : HttpRequest)
-    → g ≤ count_limit → BeginsTold first mid (begun.Asks r) → AnswersTold r addr mid before now stood stands left a b failed g h ended → TurnTold addr first before now stood stands left a b failed g h ended
+pub takes_request : {first : Option (List ℕ)} {before now : Option Dialled} {stood stands : List FrontAnswer → Type 0}
+    {left mid a b : Option (List ℕ)} {failed : Type 0} {g h : ℕ} {ended : Carried} (addr : Address) (r : HttpRequest)
+    → g ≤ count_limit → BeginsTold first mid (begun.Asks r)
+    → AnswersTold r addr mid before now stood stands left a b failed g h ended
+    → TurnTold addr first before now stood stands left a b failed g h ended
 takes_request {first = None} addr r few x y = record { known = tt }
 takes_request {first = Some input} {now = None} addr r few x y = record { known = tt }
-takes_request {first = Some input} {before} {now = Some o} {stood} {stands} {left} {mid} {a} {b} {failed} {g} {h} {ended} addr r few x y =
-    let z : Answers r addr x.known.rest stood stands left a b before o failed g h ended = subst (λ l. IfSome l (λ rest. Answers r addr rest stood stands left a b before o failed g h ended)) x.known.left_is y.known in
-    record { known = takes_turn addr input (begun.Asks r) x.known.rest z.answers x.known.begins z.told few z.judges z.goes }
+takes_request {first = Some input} {before} {now = Some o} {stood} {stands} {left} {mid} {a} {b} {failed} {g} {h}
+    {ended} addr r few x y =
+    let z : Answers r addr x.known.rest stood stands left a b before o failed g h ended =
+    subst (λ l. IfSome l (λ rest. Answers r addr rest stood stands left a b before o failed g h ended)) x.known.left_is
+    y.known in
+    record {
+      known = takes_turn addr input (begun.Asks r) x.known.rest z.answers x.known.begins z.told few z.judges
+          z.goes;
+    }
 
 -- something else came, of which the client was told
-pub takes_own : {first : Option (List ℕ)} {d : Option Dialled} {stood : List FrontTold → Type 0} {left mid a b : Option (List ℕ)} {failed : Type 0} {g : ℕ} {ended : Carried} (addr : Address) (begun : Begun) (words : List ℕ)
-    → ((rest : List ℕ) → turn addr begun rest [] NoOrigin ≡ own_turn words [] [] Closes) → g ≤ count_limit → BeginsTold first mid begun → IsTold words Closes a b ended → TurnTold addr first d d stood stood left a b failed g g ended
+pub takes_own : {first : Option (List ℕ)} {d : Option Dialled} {stood : List FrontAnswer → Type 0}
+    {left mid a b : Option (List ℕ)} {failed : Type 0} {g : ℕ} {ended : Carried} (addr : Address) (begun : Begun)
+    (words : List ℕ)
+    → ((rest : List ℕ) → turn addr begun rest [] NoOrigin ≡ own_turn words [] [] Closes) → g ≤ count_limit
+    → BeginsTold first mid begun → WritesReply words Closes a b ended
+    → TurnTold addr first d d stood stood left a b failed g g ended
 takes_own {first = None} addr begun words e few x w = record { known = tt }
 takes_own {first = Some input} {d = None} addr begun words e few x w = record { known = tt }
 takes_own {first = Some input} {d = Some o} {stood} addr begun words e few x w = record {
   known = takes_turn addr input begun x.known.rest [] x.known.begins (told_none stood) few (judges_none begun)
-      (own_goes (turn addr begun x.known.rest []) words [] [] Closes (Some o) o (e x.known.rest) w few refl (λ s. absurd cc));
+      (own_goes (turn addr begun x.known.rest []) words [] [] Closes (Some o) o (e x.known.rest) w few refl
+      (λ s. absurd cc));
 }
 
 -- the connection has nothing to answer
-pub takes_none : {first : Option (List ℕ)} {d : Option Dialled} {stood : List FrontTold → Type 0} {left mid a : Option (List ℕ)} {failed : Type 0} {g : ℕ} (addr : Address) (begun : Begun) (ended : Carried)
-    → ((rest : List ℕ) → turn addr begun rest [] NoOrigin ≡ own_turn [] [] [] ended) → (ended ≡ Stays → ⊥) → (ended ≡ Over OriginFault → ⊥) → g ≤ count_limit → BeginsTold first mid begun → TurnTold addr first d d stood stood left a a failed g g ended
+pub takes_none : {first : Option (List ℕ)} {d : Option Dialled} {stood : List FrontAnswer → Type 0}
+    {left mid a : Option (List ℕ)} {failed : Type 0} {g : ℕ} (addr : Address) (begun : Begun) (ended : Carried)
+    → ((rest : List ℕ) → turn addr begun rest [] NoOrigin ≡ own_turn [] [] [] ended) → (ended ≡ Stays → ⊥)
+    → (ended ≡ Over OriginFault → ⊥) → g ≤ count_limit → BeginsTold first mid begun
+    → TurnTold addr first d d stood stood left a a failed g g ended
 takes_none {first = None} addr begun ended e goes here few x = record { known = tt }
 takes_none {first = Some input} {d = None} addr begun ended e goes here few x = record { known = tt }
 takes_none {first = Some input} {d = Some o} {stood} {a} addr begun ended e goes here few x = record {
   known = takes_turn addr input begun x.known.rest [] x.known.begins (told_none stood) few (judges_none begun)
-      (silent_goes (turn addr begun x.known.rest []) [] (Some o) o ended (e x.known.rest) (Appends-nil a) goes here few refl);
+      (silent_goes (turn addr begun x.known.rest []) [] (Some o) o ended (e x.known.rest) (Appends-nil a) goes here few
+      refl);
 }

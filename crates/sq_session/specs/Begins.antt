@@ -1,4 +1,5 @@
--- What a client's input begins with: RFC 9112 sections 2.1 and 2.2 (empty lines before a head), 3.2 (Host).
+-- What a client's input begins with: RFC 9112 sections 2.1 and 2.2 (empty lines before a head), 3.2
+-- (Host).
 use Rattle.std.specs.Prelude.{◌≡◌, ◌⊎◌, ℕ, ◌<◌, ◌≤◌, List, [], ◌∷◌, ◌++◌, length, Bool, true, false, not, ◌&&◌, ◌||◌, ◌==◌, count_by, if◌then◌else◌, codes, Some, None, ⊤}
 use Rattle.std.specs.declared.option.Option.{Option}
 use Rattle.std.specs.Str.{str_eq_ignore_ascii_case}
@@ -17,7 +18,8 @@ use Rattle.sq_session.specs.declared.beginning.Begun.TheVariants.{Asks, Nothing,
 -- lines without a byte but one CR at most, each with its LF; the first bit says that a CR came
 abbrev pub is_blank_from : Bool → List ℕ → Bool
 is_blank_from after_cr [] = not after_cr
-is_blank_from after_cr (b ∷ bs) = if b == lf then is_blank_from false bs else (not after_cr && b == cr && is_blank_from true bs)
+is_blank_from after_cr (b ∷ bs) = if b == lf then is_blank_from false bs
+    else (not after_cr && b == cr && is_blank_from true bs)
 
 abbrev pub is_blank : List ℕ → Bool
 is_blank bytes = is_blank_from false bytes
@@ -54,8 +56,9 @@ pub record CutComes (input : List ℕ) : Type 0 where
   pub short : length input < most_bytes
   pub begun : is_blank input ≡ false
 
--- what the input begins with: a request and what follows its head; nothing but empty lines, of fewer bytes than
--- a head may have; a head that the end cuts off; one that is too large, or refused. That its link failed or that there was no memory says nothing of it
+-- what the input begins with: a request and what follows its head; nothing but empty lines, of
+-- fewer bytes than a head may have; a head that the end cuts off; one that is too large, or
+-- refused. That its link failed or that there was no memory says nothing of it
 abbrev pub Begins : List ℕ → Begun → List ℕ → Type 0
 Begins input (Asks r) rest = RequestComes input r rest
 Begins input Nothing rest = (is_blank input ≡ true) × (length input < most_bytes)

@@ -6,7 +6,7 @@ use Rattle.sq_base.specs.Requests.{HttpRequest}
 use Rattle.sq_base.specs.declared.plans.BodyPlan.{BodyPlan}
 use Rattle.sq_checks.specs.Records.{Judged}
 use Rattle.sq_outside.specs.Dials.{Dialled}
-use Rattle.sq_session.specs.Fronts.{FrontTold, OfOpen, OfDecide, OfSit, OfClose, SitsFor, names_pool}
+use Rattle.sq_session.specs.Fronts.{FrontAnswer, OfOpen, OfDecide, OfSit, OfClose, SitsFor, names_pool}
 use Rattle.sq_session.specs.Steps.{Goes}
 use Rattle.sq_session.specs.Turns.{is_connect, carried, recorded}
 use Rattle.sq_session.specs.declared.ends.Carried.{Carried}
@@ -18,7 +18,7 @@ pub record IsSameMessage (sent judged : HttpRequest) : Type 0 where
   pub fields : sent.fields ≡ judged.fields
 
 -- a seat was given, if there was a pool
-abbrev pub sat : List FrontTold → Bool
+abbrev pub sat : List FrontAnswer → Bool
 sat (OfSit k (Ok u) ∷ more) = true
 sat (OfSit k (Err e) ∷ more) = false
 sat (OfDecide r d ∷ more) = false
@@ -27,17 +27,23 @@ sat (OfClose c ∷ more) = false
 sat [] = false
 
 -- the part of a turn from the scheme on, with the answers that the front gave in it
-pub record Carries (r : HttpRequest) (addr : Address) (p : BodyPlan) (rest : List ℕ) (j : Judged) (stood stands : List FrontTold → Type 0) (left a b : Option (List ℕ))
-    (dialled_before : Option Dialled) (dialled_now : Dialled) (failed : Type 0) (g h : ℕ) (ended : Carried) : Type 0 where
-  pub answers : List FrontTold
-  pub told : (list : List FrontTold) → stood list → stands (list ++ answers)
+pub record Carries (r : HttpRequest) (addr : Address) (p : BodyPlan) (rest : List ℕ) (j : Judged)
+    (stood stands : List FrontAnswer → Type 0) (left a b : Option (List ℕ))
+    (dialled_before : Option Dialled) (dialled_now : Dialled) (failed : Type 0) (g h : ℕ)
+    (ended : Carried) : Type 0 where
+  pub answers : List FrontAnswer
+  pub told : (list : List FrontAnswer) → stood list → stands (list ++ answers)
   pub sits : SitsFor j answers
-  pub goes : Goes (is_connect r) (carried r addr p rest answers) [] (names_pool j && sat answers) left a b dialled_before dialled_now failed g h ended
+  pub goes : Goes (is_connect r) (carried r addr p rest answers) [] (names_pool j && sat answers)
+      left a b dialled_before dialled_now failed g h ended
 
 -- the part of a turn from the record on
-pub record Obeys (r : HttpRequest) (addr : Address) (p : BodyPlan) (rest : List ℕ) (j : Judged) (stood stands : List FrontTold → Type 0) (left a b : Option (List ℕ))
-    (dialled_before : Option Dialled) (dialled_now : Dialled) (failed : Type 0) (g h : ℕ) (ended : Carried) : Type 0 where
-  pub answers : List FrontTold
-  pub told : (list : List FrontTold) → stood list → stands (list ++ answers)
+pub record Obeys (r : HttpRequest) (addr : Address) (p : BodyPlan) (rest : List ℕ) (j : Judged)
+    (stood stands : List FrontAnswer → Type 0) (left a b : Option (List ℕ))
+    (dialled_before : Option Dialled) (dialled_now : Dialled) (failed : Type 0) (g h : ℕ)
+    (ended : Carried) : Type 0 where
+  pub answers : List FrontAnswer
+  pub told : (list : List FrontAnswer) → stood list → stands (list ++ answers)
   pub sits : SitsFor j answers
-  pub goes : Goes (is_connect r) (recorded r addr p rest j answers) [] (names_pool j && sat answers) left a b dialled_before dialled_now failed g h ended
+  pub goes : Goes (is_connect r) (recorded r addr p rest j answers) [] (names_pool j && sat answers)
+      left a b dialled_before dialled_now failed g h ended

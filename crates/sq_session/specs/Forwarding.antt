@@ -11,8 +11,8 @@ use Rattle.sq_forward.specs.Exchanges.{exchange}
 use Rattle.sq_forward.specs.Replies.{Reading}
 use Rattle.sq_forward.specs.declared.tunnels.Tunnelled.{Tunnelled}
 use Rattle.sq_forward.specs.declared.tunnels.Tunnelled.TheVariants as tunnelled
-use Rattle.sq_session.specs.Fronts.{FrontTold}
-use Rattle.sq_session.specs.Turns.{Turn, text, is_connect, forwarded, exchanged_turn, ends_exchange}
+use Rattle.sq_session.specs.Fronts.{FrontAnswer}
+use Rattle.sq_session.specs.Turns.{ClientTurn, text, is_connect, forwarded, exchanged_turn, ends_exchange}
 use Rattle.sq_session.specs.Steps.{is_exact, IsReply, Pays, WritesAs}
 use Rattle.sq_session.specs.declared.ends.Carried.{Carried}
 use Rattle.sq_session.specs.declared.ends.Carried.TheVariants.{Stays, Closes, Over}
@@ -24,7 +24,8 @@ given_by None = []
 given_by (Some d) = d.written
 
 -- a turn behind its dial: what was written to the client and to the origin
-pub record ForwardsAs (t : Turn) (unasked : List FrontTold) (broke seated : Bool) (left a b c d : Option (List ℕ)) (g h : ℕ) (ended : Carried) : Type 0 where
+pub record ForwardsAs (t : ClientTurn) (unasked : List FrontAnswer) (broke seated : Bool)
+    (left a b c d : Option (List ℕ)) (g h : ℕ) (ended : Carried) : Type 0 where
   pub written : List ℕ
   pub given : List ℕ
   pub exact : is_exact ended ≡ true → (t.ends ≡ ended) × (written ≡ text t)
@@ -37,22 +38,32 @@ pub record ForwardsAs (t : Turn) (unasked : List FrontTold) (broke seated : Bool
   pub spare : t.unasked ≡ unasked
 
 -- an exchange over these bytes of the origin
-pub record Trades (r : HttpRequest) (addr : Address) (p : BodyPlan) (rest bytes : List ℕ) (seated : Bool) (left a b c d : Option (List ℕ)) (failed : Type 0) (g h : ℕ) (ended : Carried) : Type 0 where
+pub record Trades (r : HttpRequest) (addr : Address) (p : BodyPlan) (rest bytes : List ℕ)
+    (seated : Bool) (left a b c d : Option (List ℕ)) (failed : Type 0) (g h : ℕ)
+    (ended : Carried) : Type 0 where
   pub seen : List ℕ
   pub reading : Reading
   pub broke : Bool
   pub fits : IsReply bytes seen reading broke ended
   pub broken : broke ≡ true → failed
-  pub goes : (unasked : List FrontTold) → ForwardsAs (exchanged_turn r bytes broke (ends_exchange broke (exchange r addr p rest reading)) (exchange r addr p rest reading) unasked) unasked broke seated left a b c d g h ended
+  pub goes : (unasked : List FrontAnswer)
+      → ForwardsAs (exchanged_turn r bytes broke
+      (ends_exchange broke (exchange r addr p rest reading)) (exchange r addr p rest reading)
+      unasked) unasked broke seated left a b c d g h ended
 
 -- an exchange or a tunnel, as the request asks
-pub record Forwards (r : HttpRequest) (addr : Address) (p : BodyPlan) (rest bytes : List ℕ) (seated : Bool) (left a b c d : Option (List ℕ)) (failed : Type 0) (g h : ℕ) (ended : Carried) : Type 0 where
+pub record Forwards (r : HttpRequest) (addr : Address) (p : BodyPlan) (rest bytes : List ℕ)
+    (seated : Bool) (left a b c d : Option (List ℕ)) (failed : Type 0) (g h : ℕ)
+    (ended : Carried) : Type 0 where
   pub seen : List ℕ
   pub reading : Reading
   pub broke : Bool
-  pub fits : (is_connect r ≡ false → IsReply bytes seen reading broke ended) × (is_connect r ≡ true → broke ≡ false)
+  pub fits : (is_connect r ≡ false → IsReply bytes seen reading broke ended)
+      × (is_connect r ≡ true → broke ≡ false)
   pub broken : broke ≡ true → failed
-  pub goes : (unasked : List FrontTold) → ForwardsAs (forwarded r addr p rest bytes reading broke unasked) unasked broke seated left a b c d g h ended
+  pub goes : (unasked : List FrontAnswer)
+      → ForwardsAs (forwarded r addr p rest bytes reading broke unasked) unasked broke seated left a
+      b c d g h ended
 
 -- how a turn ends by its tunnel
 abbrev pub tunnel_end : Tunnelled → Carried

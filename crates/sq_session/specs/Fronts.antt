@@ -13,12 +13,13 @@ use Rattle.sq_session.specs.declared.front.CloseFault.TheVariants as close
 use Rattle.sq_session.specs.declared.front.Decided.{Decided}
 use Rattle.sq_session.specs.declared.front.Decided.TheVariants.{Record, Mismatch, Refused, JournalFault, WantOfMemory}
 
--- an answer that a front gave: to the opening for this address and port, to a question about this request, to a call for a seat with this record, to the close
-pub data FrontTold : Type 0 where
-  OfOpen : Address → ℕ → Opened → FrontTold
-  OfDecide : HttpRequest → Decided → FrontTold
-  OfSit : Judged → Result (Unit {0}) SitFault → FrontTold
-  OfClose : Result (Unit {0}) CloseFault → FrontTold
+-- an answer that a front gave: to the opening for this address and port, to a question about this
+-- request, to a call for a seat with this record, to the close
+pub data FrontAnswer : Type 0 where
+  OfOpen : Address → ℕ → Opened → FrontAnswer
+  OfDecide : HttpRequest → Decided → FrontAnswer
+  OfSit : Judged → Result (Unit {0}) SitFault → FrontAnswer
+  OfClose : Result (Unit {0}) CloseFault → FrontAnswer
 
 -- a record has the request that was asked about; another that was judged is told
 abbrev pub Decides : HttpRequest → Decided → Type 0
@@ -29,7 +30,7 @@ Decides r JournalFault = ⊤
 Decides r WantOfMemory = ⊤
 
 -- where the next answer is to a call for a seat, that is with this record
-abbrev pub SitsFor : Judged → List FrontTold → Type 0
+abbrev pub SitsFor : Judged → List FrontAnswer → Type 0
 SitsFor j [] = ⊤
 SitsFor j (OfSit k s ∷ more) = k ≡ j
 SitsFor j (OfDecide r d ∷ more) = ⊤
@@ -37,7 +38,7 @@ SitsFor j (OfOpen a port o ∷ more) = ⊤
 SitsFor j (OfClose c ∷ more) = ⊤
 
 -- the same behind an answer that is a record
-abbrev pub SitsBehind : Decided → List FrontTold → Type 0
+abbrev pub SitsBehind : Decided → List FrontAnswer → Type 0
 SitsBehind (Record j) more = SitsFor j more
 SitsBehind (Mismatch other) more = ⊤
 SitsBehind (Refused why) more = ⊤

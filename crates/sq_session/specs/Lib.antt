@@ -4,6 +4,6 @@ pub mod Forwarding
 pub mod Fronts
 pub mod Sessions
 pub mod Steps
-pub mod Telling
+pub mod Written
 pub mod Told
 pub mod Turns

@@ -12,9 +12,9 @@ use Rattle.sq_head.specs.declared.own.Own.TheVariants.{Inner, Stopped, NoMemory,
 use Rattle.sq_forward.specs.Meters.{granted_after, dry_limit}
 use Rattle.sq_session.specs.Begins.{Begins}
 use Rattle.sq_session.specs.Carrying.{sat}
-use Rattle.sq_session.specs.Fronts.{FrontTold, OfOpen, OfDecide, OfSit, OfClose, Decides, SitsBehind, names_pool}
+use Rattle.sq_session.specs.Fronts.{FrontAnswer, OfOpen, OfDecide, OfSit, OfClose, Decides, SitsBehind, names_pool}
 use Rattle.sq_session.specs.Steps.{spare_of, FitsReply, Gives, DialsOn, Goes}
-use Rattle.sq_session.specs.Turns.{Turn, from_origin, Reply, is_broken, is_connect, asked, turn}
+use Rattle.sq_session.specs.Turns.{ClientTurn, from_origin, Reply, is_broken, is_connect, asked, turn}
 use Rattle.sq_session.specs.declared.beginning.Begun.{Begun}
 use Rattle.sq_session.specs.declared.beginning.Begun.TheVariants as begun
 use Rattle.sq_session.specs.declared.ends.Carried.{Carried}
@@ -27,7 +27,7 @@ use Rattle.sq_session.specs.declared.front.Opened.{Opened}
 use Rattle.sq_session.specs.declared.front.Opened.TheVariants as opened
 
 -- whether a seat was held in a turn with these answers of the front
-abbrev pub held_seat : List FrontTold → Bool
+abbrev pub held_seat : List FrontAnswer → Bool
 held_seat (OfDecide q (decided.Record j) ∷ more) = names_pool j && sat more
 held_seat (OfDecide q (decided.Mismatch other) ∷ more) = false
 held_seat (OfDecide q (decided.Refused why) ∷ more) = false
@@ -39,7 +39,7 @@ held_seat (OfClose c ∷ more) = false
 held_seat [] = false
 
 -- the front was asked about this request, what it said is of it, and a seat is one for its record
-abbrev pub JudgesOf : HttpRequest → List FrontTold → Type 0
+abbrev pub JudgesOf : HttpRequest → List FrontAnswer → Type 0
 JudgesOf r (OfDecide q d ∷ more) = (q ≡ r) × Decides r d × SitsBehind d more
 JudgesOf r (OfSit k s ∷ more) = ⊤
 JudgesOf r (OfOpen a port o ∷ more) = ⊤
@@ -47,26 +47,30 @@ JudgesOf r (OfClose c ∷ more) = ⊤
 JudgesOf r [] = ⊤
 
 -- the part of a turn from the request on, with the answers that the front gave in it
-pub record Answers (r : HttpRequest) (addr : Address) (rest : List ℕ) (stood stands : List FrontTold → Type 0) (left a b : Option (List ℕ))
-    (dialled_before : Option Dialled) (dialled_now : Dialled) (failed : Type 0) (g h : ℕ) (ended : Carried) : Type 0 where
-  pub answers : List FrontTold
-  pub told : (list : List FrontTold) → stood list → stands (list ++ answers)
+pub record Answers (r : HttpRequest) (addr : Address) (rest : List ℕ)
+    (stood stands : List FrontAnswer → Type 0) (left a b : Option (List ℕ))
+    (dialled_before : Option Dialled) (dialled_now : Dialled) (failed : Type 0) (g h : ℕ)
+    (ended : Carried) : Type 0 where
+  pub answers : List FrontAnswer
+  pub told : (list : List FrontAnswer) → stood list → stands (list ++ answers)
   pub judges : JudgesOf r answers
-  pub goes : Goes (is_connect r) (asked r addr rest answers) [] (held_seat answers) left a b dialled_before dialled_now failed g h ended
+  pub goes : Goes (is_connect r) (asked r addr rest answers) [] (held_seat answers) left a b
+      dialled_before dialled_now failed g h ended
 
--- a turn of a session: what its input begins with and what follows that, the answers that the front gave, the
--- origin's part, what was written to the client, the dial that came back, what was granted, and how it ended
-pub record Step : Type 0 where
+-- a turn of a session: what its input begins with and what follows that, the answers that the front
+-- gave, the origin's part, what was written to the client, the dial that came back, what was
+-- granted, and how it ended
+pub record SessionStep : Type 0 where
   pub begun : Begun
   pub rest : List ℕ
-  pub answers : List FrontTold
+  pub answers : List FrontAnswer
   pub reply : Reply
   pub written : List ℕ
   pub dial : Option Dial
   pub granted : ℕ
   pub ended : Carried
 
-abbrev pub turn_of : Address → Step → Turn
+abbrev pub turn_of : Address → SessionStep → ClientTurn
 turn_of addr s = turn addr s.begun s.rest s.answers s.reply
 
 -- whether it asks for a tunnel
@@ -80,7 +84,7 @@ asks_tunnel begun.Failed = false
 asks_tunnel begun.WantOfMemory = false
 
 -- the same of the request that came
-abbrev pub JudgesBegun : Begun → List FrontTold → Type 0
+abbrev pub JudgesBegun : Begun → List FrontAnswer → Type 0
 JudgesBegun (begun.Asks r) answers = JudgesOf r answers
 JudgesBegun begun.Nothing answers = ⊤
 JudgesBegun begun.Cut answers = ⊤
@@ -89,13 +93,15 @@ JudgesBegun begun.Bad answers = ⊤
 JudgesBegun begun.Failed answers = ⊤
 JudgesBegun begun.WantOfMemory answers = ⊤
 
--- with a seat what was written of the origin's bytes was granted, or up to a piece more; without one nothing is counted
-abbrev pub IsGranted : Turn → Bool → ℕ → Carried → ℕ → Type 0
-IsGranted t true written ended n = (more : ℕ) × (more ≤ spare_of ended) × (n ≡ from_origin t written + more)
+-- with a seat what was written of the origin's bytes was granted, or up to a piece more; without
+-- one nothing is counted
+abbrev pub IsGranted : ClientTurn → Bool → ℕ → Carried → ℕ → Type 0
+IsGranted t true written ended n = (more : ℕ) × (more ≤ spare_of ended)
+    × (n ≡ from_origin t written + more)
 IsGranted t false written ended n = n ≡ 0
 
 -- the step is the turn that the definition gives of its input
-pub record IsStep (addr : Address) (input : List ℕ) (s : Step) : Type 0 where
+pub record IsStep (addr : Address) (input : List ℕ) (s : SessionStep) : Type 0 where
   pub begins : Begins input s.begun s.rest
   pub fits : FitsReply (asks_tunnel s.begun) s.reply s.ended
   pub asks : (turn_of addr s).unasked ≡ []
@@ -104,12 +110,14 @@ pub record IsStep (addr : Address) (input : List ℕ) (s : Step) : Type 0 where
   pub grants : IsGranted (turn_of addr s) (held_seat s.answers) (length s.written) s.ended s.granted
 
 -- one turn was taken
-pub record TakesTurn (addr : Address) (input : List ℕ) (stood stands : List FrontTold → Type 0) (left a b : Option (List ℕ))
-    (dialled_before : Option Dialled) (dialled_now : Dialled) (failed : Type 0) (g h : ℕ) (ended : Carried) : Type 0 where
-  pub step : Step
+pub record TakesTurn (addr : Address) (input : List ℕ) (stood stands : List FrontAnswer → Type 0)
+    (left a b : Option (List ℕ))
+    (dialled_before : Option Dialled) (dialled_now : Dialled) (failed : Type 0) (g h : ℕ)
+    (ended : Carried) : Type 0 where
+  pub step : SessionStep
   pub is : IsStep addr input step
   pub ended_is : step.ended ≡ ended
-  pub told : (list : List FrontTold) → stood list → stands (list ++ step.answers)
+  pub told : (list : List FrontAnswer) → stood list → stands (list ++ step.answers)
   pub wrote : Appends a b step.written
   pub dials : DialsOn dialled_before dialled_now step.dial
   pub broken : (turn_of addr step).faulted ≡ true → failed
@@ -123,26 +131,27 @@ EndsSession Closes end = end ≡ Finished
 EndsSession (Over why) end = end ≡ why
 
 -- the steps are turns of the input, one after the other up to the last, which ends the session so
-abbrev pub Turns : Address → List ℕ → List Step → End → Type 0
+abbrev pub Turns : Address → List ℕ → List SessionStep → End → Type 0
 Turns addr input [] end = ⊥
 Turns addr input (s ∷ []) end = IsStep addr input s × EndsSession s.ended end
-Turns addr input (s ∷ (u ∷ us)) end = IsStep addr input s × (s.ended ≡ Stays) × Turns addr (turn_of addr s).rest (u ∷ us) end
+Turns addr input (s ∷ (u ∷ us)) end = IsStep addr input s × (s.ended ≡ Stays)
+    × Turns addr (turn_of addr s).rest (u ∷ us) end
 
 -- joined over the steps
-abbrev pub answers_of : List Step → List FrontTold
+abbrev pub answers_of : List SessionStep → List FrontAnswer
 answers_of steps = flat_map (λ s. s.answers) steps
 
-abbrev pub client_of : List Step → List ℕ
+abbrev pub client_of : List SessionStep → List ℕ
 client_of steps = flat_map (λ s. s.written) steps
 
-abbrev pub dials_of : List Step → List Dial
+abbrev pub dials_of : List SessionStep → List Dial
 dials_of steps = flat_map (λ s. option_to_list s.dial) steps
 
-abbrev pub granted_of : List Step → ℕ
+abbrev pub granted_of : List SessionStep → ℕ
 granted_of steps = sum_by (λ s. s.granted) steps
 
 -- an origin was not reached, or its link failed before the head of a reply
-abbrev pub HasFaulted : Address → List Step → Type 0
+abbrev pub HasFaulted : Address → List SessionStep → Type 0
 HasFaulted addr [] = ⊥
 HasFaulted addr (s ∷ ss) = ((turn_of addr s).faulted ≡ true) ⊎ HasFaulted addr ss
 
@@ -154,11 +163,13 @@ pub record DialsAll (before : Option Dialled) (now : Dialled) (dials : List Dial
   pub back : now.back ≡ old.back ++ dials
 
 -- what the steps of an open connection come to
-pub record Serves (addr : Address) (input : List ℕ) (stood stands : List FrontTold → Type 0) (a b : Option (List ℕ))
-    (dialled_before : Option Dialled) (dialled_now : Dialled) (failed : Type 0) (g h : ℕ) (end : End) : Type 0 where
-  pub steps : List Step
+pub record Serves (addr : Address) (input : List ℕ) (stood stands : List FrontAnswer → Type 0)
+    (a b : Option (List ℕ))
+    (dialled_before : Option Dialled) (dialled_now : Dialled) (failed : Type 0) (g h : ℕ)
+    (end : End) : Type 0 where
+  pub steps : List SessionStep
   pub turns : Turns addr input steps end
-  pub told : (list : List FrontTold) → stood list → stands (list ++ answers_of steps)
+  pub told : (list : List FrontAnswer) → stood list → stands (list ++ answers_of steps)
   pub wrote : Appends a b (client_of steps)
   pub dials : DialsAll dialled_before dialled_now (dials_of steps)
   pub broken : HasFaulted addr steps → failed
@@ -180,15 +191,20 @@ pub record TellsWhole (text : List ℕ) (a b : Option (List ℕ)) (end : End) : 
   pub tells : TellsAs text written end
 
 -- a connection that was opened has its turns, and any other none and one reply
-abbrev pub ServesOpened : Address → List ℕ → Opened → List Step → List ℕ → End → Type 0
-ServesOpened addr input opened.In steps written end = Turns addr input steps end × (written ≡ client_of steps)
-ServesOpened addr input opened.Full steps written end = (steps ≡ []) × TellsAs (error_text TooManyConns false) written end
-ServesOpened addr input (opened.Refused why) steps written end = (steps ≡ []) × TellsAs (error_text Inner false) written end
-ServesOpened addr input opened.JournalFault steps written end = (steps ≡ []) × TellsAs (error_text Stopped false) written end
-ServesOpened addr input opened.WantOfMemory steps written end = (steps ≡ []) × TellsAs (error_text NoMemory false) written end
+abbrev pub ServesOpened : Address → List ℕ → Opened → List SessionStep → List ℕ → End → Type 0
+ServesOpened addr input opened.In steps written end = Turns addr input steps end
+    × (written ≡ client_of steps)
+ServesOpened addr input opened.Full steps written end = (steps ≡ [])
+    × TellsAs (error_text TooManyConns false) written end
+ServesOpened addr input (opened.Refused why) steps written end = (steps ≡ [])
+    × TellsAs (error_text Inner false) written end
+ServesOpened addr input opened.JournalFault steps written end = (steps ≡ [])
+    × TellsAs (error_text Stopped false) written end
+ServesOpened addr input opened.WantOfMemory steps written end = (steps ≡ [])
+    × TellsAs (error_text NoMemory false) written end
 
 -- a connection that was opened is closed at the end, once, and any other is not
-abbrev pub ClosesOpened : Opened → List FrontTold → Type 0
+abbrev pub ClosesOpened : Opened → List FrontAnswer → Type 0
 ClosesOpened opened.In closing = (c : Result (Unit {0}) CloseFault) × (closing ≡ OfClose c ∷ [])
 ClosesOpened opened.Full closing = closing ≡ []
 ClosesOpened (opened.Refused why) closing = closing ≡ []
@@ -196,15 +212,18 @@ ClosesOpened opened.JournalFault closing = closing ≡ []
 ClosesOpened opened.WantOfMemory closing = closing ≡ []
 
 -- a session: its opening for the client's address and port, its turns, and its close
-pub record IsSession (addr : Address) (port : ℕ) (input : List ℕ) (stood stands : List FrontTold → Type 0) (a b : Option (List ℕ))
-    (dialled_before : Option Dialled) (dialled_now : Dialled) (failed : Type 0) (g h : ℕ) (end : End) : Type 0 where
+pub record IsSession (addr : Address) (port : ℕ) (input : List ℕ)
+    (stood stands : List FrontAnswer → Type 0) (a b : Option (List ℕ))
+    (dialled_before : Option Dialled) (dialled_now : Dialled) (failed : Type 0) (g h : ℕ)
+    (end : End) : Type 0 where
   pub opening : Opened
-  pub steps : List Step
+  pub steps : List SessionStep
   pub written : List ℕ
-  pub closing : List FrontTold
+  pub closing : List FrontAnswer
   pub serves : ServesOpened addr input opening steps written end
   pub closes : ClosesOpened opening closing
-  pub told : (list : List FrontTold) → stood list → stands (list ++ OfOpen addr port opening ∷ (answers_of steps ++ closing))
+  pub told : (list : List FrontAnswer) → stood list
+      → stands (list ++ OfOpen addr port opening ∷ (answers_of steps ++ closing))
   pub wrote : Appends a b written
   pub dials : DialsAll dialled_before dialled_now (dials_of steps)
   pub broken : HasFaulted addr steps → failed

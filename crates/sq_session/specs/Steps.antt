@@ -6,8 +6,8 @@ use Rattle.sq_outside.specs.Dials.{Dial, Dialled}
 use Rattle.sq_outside.specs.Output.{IsPrefix}
 use Rattle.sq_forward.specs.Meters.{granted_after, piece_limit, dry_limit}
 use Rattle.sq_forward.specs.Replies.{Reading, IsReading}
-use Rattle.sq_session.specs.Fronts.{FrontTold}
-use Rattle.sq_session.specs.Turns.{Turn, text, from_origin, Reply, NoOrigin, Came, is_broken}
+use Rattle.sq_session.specs.Fronts.{FrontAnswer}
+use Rattle.sq_session.specs.Turns.{ClientTurn, text, from_origin, Reply, NoOrigin, Came, is_broken}
 use Rattle.sq_session.specs.declared.ends.Carried.{Carried}
 use Rattle.sq_session.specs.declared.ends.Carried.TheVariants.{Stays, Closes, Over}
 use Rattle.sq_session.specs.declared.ends.End.TheVariants.{Finished, Cut, ClientFault, OriginCut, OriginFault, Starved, WantOfMemory}
@@ -60,19 +60,23 @@ dry_after (Over OriginFault) = 0
 dry_after (Over Starved) = dry_limit
 dry_after (Over WantOfMemory) = 0
 
--- the bytes that were looked at begin the origin's and read so; a reply that ended by them is of all of them; where
--- the link failed before it, there is none, and where it failed behind its head, there is that
-pub record IsReply (bytes seen : List ℕ) (reading : Reading) (broke : Bool) (ended : Carried) : Type 0 where
+-- the bytes that were looked at begin the origin's and read so; a reply that ended by them is of
+-- all of them; where the link failed before it, there is none, and where it failed behind its head,
+-- there is that
+pub record IsReply (bytes seen : List ℕ) (reading : Reading) (broke : Bool)
+    (ended : Carried) : Type 0 where
   pub front : IsPrefix seen bytes
   pub reads : IsReading seen reading
   pub whole : is_by_origin ended ≡ true → broke ≡ false → seen ≡ bytes
   pub none : broke ≡ true → reading.final ≡ None
   pub headed : ended ≡ Over OriginFault → reading.final ≡ None → ⊥
 
--- an origin's part; a tunnel reads no heads, and so none that its link failed before; where there is no origin its link ends nothing
+-- an origin's part; a tunnel reads no heads, and so none that its link failed before; where there
+-- is no origin its link ends nothing
 abbrev pub FitsReply : Bool → Reply → Carried → Type 0
 FitsReply tunnel NoOrigin ended = ended ≡ Over OriginFault → ⊥
-FitsReply tunnel (Came bytes seen reading broke) ended = (tunnel ≡ false → IsReply bytes seen reading broke ended) × (tunnel ≡ true → broke ≡ false)
+FitsReply tunnel (Came bytes seen reading broke) ended = (tunnel ≡ false
+    → IsReply bytes seen reading broke ended) × (tunnel ≡ true → broke ≡ false)
 
 -- all of the bytes, or a front of them
 abbrev pub WritesAs : Bool → List ℕ → List ℕ → Type 0
@@ -85,15 +89,17 @@ FitsDial whole None told = told ≡ None
 FitsDial whole (Some d) None = ⊥
 FitsDial whole (Some d) (Some t) = (t.origin ≡ d.origin) × WritesAs whole t.written d.written
 
--- what was written to the client and to the origin: the turn's text whole where it ended as the turn does, a front
--- of it otherwise; what the origin gets whole, or a front of it behind a fault
-pub record Gives (t : Turn) (broke : Bool) (written : List ℕ) (came : Option Dial) (ended : Carried) : Type 0 where
+-- what was written to the client and to the origin: the turn's text whole where it ended as the
+-- turn does, a front of it otherwise; what the origin gets whole, or a front of it behind a fault
+pub record Gives (t : ClientTurn) (broke : Bool) (written : List ℕ) (came : Option Dial)
+    (ended : Carried) : Type 0 where
   pub exact : is_exact ended ≡ true → (t.ends ≡ ended) × (written ≡ text t)
   pub front : IsPrefix written (text t)
   pub dial : FitsDial (is_exact ended && not broke) t.dial came
 
 -- so much was granted in a turn of which so many bytes were written
-pub record Pays (t : Turn) (seated : Bool) (written : List ℕ) (ended : Carried) (g h : ℕ) : Type 0 where
+pub record Pays (t : ClientTurn) (seated : Bool) (written : List ℕ) (ended : Carried)
+    (g h : ℕ) : Type 0 where
   pub more : ℕ
   pub close : more ≤ spare_of ended
   pub granted : h ≡ granted_after seated g (from_origin t (length written) + more)
@@ -109,8 +115,11 @@ pub record DialsOn (before : Option Dialled) (now : Dialled) (dial : Option Dial
   pub made : now.made ≡ old.made + length (option_to_list dial)
   pub back : now.back ≡ old.back ++ option_to_list dial
 
--- a part of a turn, which is t by what the origin had to say, and has these answers of the front to spare
-pub record Goes (tunnel : Bool) (t : Reply → Turn) (unasked : List FrontTold) (seated : Bool) (left before now : Option (List ℕ)) (dialled_before : Option Dialled) (dialled_now : Dialled) (failed : Type 0) (g h : ℕ) (ended : Carried) : Type 0 where
+-- a part of a turn, which is t by what the origin had to say, and has these answers of the front to
+-- spare
+pub record Goes (tunnel : Bool) (t : Reply → ClientTurn) (unasked : List FrontAnswer)
+    (seated : Bool) (left before now : Option (List ℕ)) (dialled_before : Option Dialled)
+    (dialled_now : Dialled) (failed : Type 0) (g h : ℕ) (ended : Carried) : Type 0 where
   pub reply : Reply
   pub written : List ℕ
   pub dial : Option Dial

@@ -9,7 +9,7 @@ use Rattle.sq_outside.specs.Dials.{Dialled}
 use Rattle.sq_session.specs.Begins.{BeginsSo}
 use Rattle.sq_session.specs.Carrying.{Carries, Obeys}
 use Rattle.sq_session.specs.Forwarding.{ForwardsAs, Trades, Forwards}
-use Rattle.sq_session.specs.Fronts.{FrontTold}
+use Rattle.sq_session.specs.Fronts.{FrontAnswer}
 use Rattle.sq_session.specs.Sessions.{Answers, TakesTurn, Serves, IsSession}
 use Rattle.sq_session.specs.Steps.{Goes}
 use Rattle.sq_session.specs.Turns.{is_connect, dialled, tunnelled_turn}
@@ -22,41 +22,83 @@ pub record BeginsTold (first left : Option (List ℕ)) (begun : Begun) : Type 0 
   pub known : IfSome first (λ input. BeginsSo input left begun)
 
 -- an exchange, of the client's input and the origin's bytes
-pub record TradesTold (r : HttpRequest) (addr : Address) (p : BodyPlan) (first told : Option (List ℕ)) (seated : Bool) (left a b c d : Option (List ℕ)) (failed : Type 0) (g h : ℕ) (ended : Carried) : Type 0 where
-  pub known : IfSome first (λ rest. IfSome told (λ bytes. Trades r addr p rest bytes seated left a b c d failed g h ended))
+pub record TradesTold (r : HttpRequest) (addr : Address) (p : BodyPlan)
+    (first told : Option (List ℕ)) (seated : Bool) (left a b c d : Option (List ℕ))
+    (failed : Type 0) (g h : ℕ) (ended : Carried) : Type 0 where
+  pub known : IfSome first
+      (λ rest. IfSome told (λ bytes. Trades r addr p rest bytes seated left a b c d failed g h
+      ended))
 
 -- a tunnel
-pub record ConnectsTold (first told : Option (List ℕ)) (seated : Bool) (left a b c d : Option (List ℕ)) (g h : ℕ) (ended : Carried) : Type 0 where
-  pub known : IfSome first (λ rest. IfSome told (λ bytes. (r : HttpRequest) (unasked : List FrontTold) → ForwardsAs (tunnelled_turn r bytes rest unasked) unasked false seated left a b c d g h ended))
+pub record ConnectsTold (first told : Option (List ℕ)) (seated : Bool)
+    (left a b c d : Option (List ℕ)) (g h : ℕ) (ended : Carried) : Type 0 where
+  pub known : IfSome first
+      (λ rest. IfSome told (λ bytes. (r : HttpRequest) (unasked : List FrontAnswer)
+      → ForwardsAs (tunnelled_turn r bytes rest unasked) unasked false seated left a b c d g h
+      ended))
 
 -- either, as the request asks
-pub record ForwardsTold (r : HttpRequest) (addr : Address) (p : BodyPlan) (first told : Option (List ℕ)) (seated : Bool) (left a b c d : Option (List ℕ)) (failed : Type 0) (g h : ℕ) (ended : Carried) : Type 0 where
-  pub known : IfSome first (λ rest. IfSome told (λ bytes. Forwards r addr p rest bytes seated left a b c d failed g h ended))
+pub record ForwardsTold (r : HttpRequest) (addr : Address) (p : BodyPlan)
+    (first told : Option (List ℕ)) (seated : Bool) (left a b c d : Option (List ℕ))
+    (failed : Type 0) (g h : ℕ) (ended : Carried) : Type 0 where
+  pub known : IfSome first
+      (λ rest. IfSome told (λ bytes. Forwards r addr p rest bytes seated left a b c d failed g h
+      ended))
 
 -- the part of a turn from the dial on, of the client's input and the dialer's word
-pub record ReachesTold (r : HttpRequest) (addr : Address) (p : BodyPlan) (first : Option (List ℕ)) (before now : Option Dialled) (seated : Bool) (left a b : Option (List ℕ)) (failed : Type 0) (g h : ℕ) (ended : Carried) : Type 0 where
-  pub known : IfSome first (λ rest. IfSome now (λ o. (unasked : List FrontTold) → Goes (is_connect r) (dialled r addr p rest unasked) unasked seated left a b before o failed g h ended))
+pub record ReachesTold (r : HttpRequest) (addr : Address) (p : BodyPlan) (first : Option (List ℕ))
+    (before now : Option Dialled) (seated : Bool) (left a b : Option (List ℕ)) (failed : Type 0)
+    (g h : ℕ) (ended : Carried) : Type 0 where
+  pub known : IfSome first
+      (λ rest. IfSome now (λ o. (unasked : List FrontAnswer)
+      → Goes (is_connect r) (dialled r addr p rest unasked) unasked seated left a b before o failed
+      g h ended))
 
 -- the part of a turn from the scheme on
-pub record CarriesTold (r : HttpRequest) (addr : Address) (p : BodyPlan) (j : Judged) (first : Option (List ℕ)) (before now : Option Dialled) (stood stands : List FrontTold → Type 0) (left a b : Option (List ℕ)) (failed : Type 0) (g h : ℕ) (ended : Carried) : Type 0 where
-  pub known : IfSome first (λ rest. IfSome now (λ o. Carries r addr p rest j stood stands left a b before o failed g h ended))
+pub record CarriesTold (r : HttpRequest) (addr : Address) (p : BodyPlan) (j : Judged)
+    (first : Option (List ℕ)) (before now : Option Dialled)
+    (stood stands : List FrontAnswer → Type 0) (left a b : Option (List ℕ)) (failed : Type 0)
+    (g h : ℕ) (ended : Carried) : Type 0 where
+  pub known : IfSome first
+      (λ rest. IfSome now (λ o. Carries r addr p rest j stood stands left a b before o failed g h
+      ended))
 
 -- the part of a turn from the record on
-pub record ObeysTold (r : HttpRequest) (addr : Address) (p : BodyPlan) (j : Judged) (first : Option (List ℕ)) (before now : Option Dialled) (stood stands : List FrontTold → Type 0) (left a b : Option (List ℕ)) (failed : Type 0) (g h : ℕ) (ended : Carried) : Type 0 where
-  pub known : IfSome first (λ rest. IfSome now (λ o. Obeys r addr p rest j stood stands left a b before o failed g h ended))
+pub record ObeysTold (r : HttpRequest) (addr : Address) (p : BodyPlan) (j : Judged)
+    (first : Option (List ℕ)) (before now : Option Dialled)
+    (stood stands : List FrontAnswer → Type 0) (left a b : Option (List ℕ)) (failed : Type 0)
+    (g h : ℕ) (ended : Carried) : Type 0 where
+  pub known : IfSome first
+      (λ rest. IfSome now (λ o. Obeys r addr p rest j stood stands left a b before o failed g h
+      ended))
 
 -- the part of a turn from the request on
-pub record AnswersTold (r : HttpRequest) (addr : Address) (first : Option (List ℕ)) (before now : Option Dialled) (stood stands : List FrontTold → Type 0) (left a b : Option (List ℕ)) (failed : Type 0) (g h : ℕ) (ended : Carried) : Type 0 where
-  pub known : IfSome first (λ rest. IfSome now (λ o. Answers r addr rest stood stands left a b before o failed g h ended))
+pub record AnswersTold (r : HttpRequest) (addr : Address) (first : Option (List ℕ))
+    (before now : Option Dialled) (stood stands : List FrontAnswer → Type 0)
+    (left a b : Option (List ℕ)) (failed : Type 0) (g h : ℕ) (ended : Carried) : Type 0 where
+  pub known : IfSome first
+      (λ rest. IfSome now (λ o. Answers r addr rest stood stands left a b before o failed g h
+      ended))
 
 -- a turn
-pub record TurnTold (addr : Address) (first : Option (List ℕ)) (before now : Option Dialled) (stood stands : List FrontTold → Type 0) (left a b : Option (List ℕ)) (failed : Type 0) (g h : ℕ) (ended : Carried) : Type 0 where
-  pub known : IfSome first (λ input. IfSome now (λ o. TakesTurn addr input stood stands left a b before o failed g h ended))
+pub record TurnTold (addr : Address) (first : Option (List ℕ)) (before now : Option Dialled)
+    (stood stands : List FrontAnswer → Type 0) (left a b : Option (List ℕ)) (failed : Type 0)
+    (g h : ℕ) (ended : Carried) : Type 0 where
+  pub known : IfSome first
+      (λ input. IfSome now (λ o. TakesTurn addr input stood stands left a b before o failed g h
+      ended))
 
 -- the turns of an open connection
-pub record ServesTold (addr : Address) (first : Option (List ℕ)) (before now : Option Dialled) (stood stands : List FrontTold → Type 0) (a b : Option (List ℕ)) (failed : Type 0) (g h : ℕ) (end : End) : Type 0 where
-  pub known : IfSome first (λ input. IfSome now (λ o. Serves addr input stood stands a b before o failed g h end))
+pub record ServesTold (addr : Address) (first : Option (List ℕ)) (before now : Option Dialled)
+    (stood stands : List FrontAnswer → Type 0) (a b : Option (List ℕ)) (failed : Type 0) (g h : ℕ)
+    (end : End) : Type 0 where
+  pub known : IfSome first
+      (λ input. IfSome now (λ o. Serves addr input stood stands a b before o failed g h end))
 
 -- a session
-pub record SessionTold (addr : Address) (port : ℕ) (first : Option (List ℕ)) (before now : Option Dialled) (stood stands : List FrontTold → Type 0) (a b : Option (List ℕ)) (failed : Type 0) (g h : ℕ) (end : End) : Type 0 where
-  pub known : IfSome first (λ input. IfSome now (λ o. IsSession addr port input stood stands a b before o failed g h end))
+pub record SessionTold (addr : Address) (port : ℕ) (first : Option (List ℕ))
+    (before now : Option Dialled) (stood stands : List FrontAnswer → Type 0) (a b : Option (List ℕ))
+    (failed : Type 0) (g h : ℕ) (end : End) : Type 0 where
+  pub known : IfSome first
+      (λ input. IfSome now (λ o. IsSession addr port input stood stands a b before o failed g h
+      end))

@@ -1,5 +1,5 @@
--- The turns of a session: RFC 9112 section 9.3 (persistence), RFC 9110 sections 7.6 (forwarding), 9.3.6
--- (CONNECT) and 10.1.1 (100-continue), and Squid's http_access.
+-- The turns of a session: RFC 9112 section 9.3 (persistence), RFC 9110 sections 7.6 (forwarding),
+-- 9.3.6 (CONNECT) and 10.1.1 (100-continue), and Squid's http_access.
 use Rattle.std.specs.Prelude.{ℕ, ◌-◌, List, [], ◌∷◌, ◌++◌, length, min, Bool, true, false, ◌||◌, if◌then◌else◌, bytes_eq, codes, Some, None, Ok, Err}
 use Rattle.std.specs.declared.option.Option.{Option}
 use Rattle.std.specs.declared.result.Result.{Result}
@@ -21,7 +21,7 @@ use Rattle.sq_forward.specs.Replies.{Reading}
 use Rattle.sq_forward.specs.declared.exchanging.Exchanged.{Exchanged}
 use Rattle.sq_forward.specs.declared.exchanging.Exchanged.TheVariants as exchanged
 use Rattle.sq_session.specs.Begins.{fits_hosts}
-use Rattle.sq_session.specs.Fronts.{FrontTold, OfOpen, OfDecide, OfSit, OfClose}
+use Rattle.sq_session.specs.Fronts.{FrontAnswer, OfOpen, OfDecide, OfSit, OfClose}
 use Rattle.sq_session.specs.declared.beginning.Begun.{Begun}
 use Rattle.sq_session.specs.declared.beginning.Begun.TheVariants as begun
 use Rattle.sq_session.specs.declared.ends.Carried.{Carried}
@@ -30,28 +30,28 @@ use Rattle.sq_session.specs.declared.ends.End.TheVariants as end
 use Rattle.sq_session.specs.declared.front.Decided.TheVariants as decided
 use Rattle.sq_session.specs.declared.front.SitFault.TheVariants as sit
 
--- what the client gets: the proxy's own line, what came from the origin, and the proxy's own reply; the dial that
--- is made; what is left of the input; answers of the front that were not asked for; how it ends; and whether it is
--- that of an origin that failed
-pub record Turn : Type 0 where
+-- what the client gets: the proxy's own line, what came from the origin, and the proxy's own reply;
+-- the dial that is made; what is left of the input; answers of the front that were not asked for;
+-- how it ends; and whether it is that of an origin that failed
+pub record ClientTurn : Type 0 where
   pub own : List ℕ
   pub client : List ℕ
   pub last : List ℕ
   pub dial : Option Dial
   pub rest : List ℕ
-  pub unasked : List FrontTold
+  pub unasked : List FrontAnswer
   pub ends : Carried
   pub faulted : Bool
 
-abbrev pub text : Turn → List ℕ
+abbrev pub text : ClientTurn → List ℕ
 text t = t.own ++ t.client ++ t.last
 
 -- how many of the first n bytes of the text came from the origin
-abbrev pub from_origin : Turn → ℕ → ℕ
+abbrev pub from_origin : ClientTurn → ℕ → ℕ
 from_origin t n = min (n - length t.own) (length t.client)
 
--- an origin's part in a turn: none was reached; or all its bytes, those that were looked at and how they read,
--- and whether its link failed before the head of its reply
+-- an origin's part in a turn: none was reached; or all its bytes, those that were looked at and how
+-- they read, and whether its link failed before the head of its reply
 pub data Reply : Type 0 where
   NoOrigin : Reply
   Came : List ℕ → List ℕ → Reading → Bool → Reply
@@ -61,12 +61,30 @@ is_broken NoOrigin = false
 is_broken (Came bytes seen reading broke) = broke
 
 -- no text
-abbrev pub silent : Carried → List FrontTold → Turn
-silent ends unasked = record { own = []; client = []; last = []; dial = None; rest = []; unasked = unasked; ends = ends; faulted = false }
+abbrev pub silent : Carried → List FrontAnswer → ClientTurn
+silent ends unasked = record {
+  own = [];
+  client = [];
+  last = [];
+  dial = None;
+  rest = [];
+  unasked = unasked;
+  ends = ends;
+  faulted = false;
+}
 
 -- a reply of the proxy's own, behind which the connection closes
-abbrev pub says : Own → Bool → List FrontTold → Turn
-says own no_body unasked = record { own = []; client = []; last = error_text own no_body; dial = None; rest = []; unasked = unasked; ends = Closes; faulted = false }
+abbrev pub says : Own → Bool → List FrontAnswer → ClientTurn
+says own no_body unasked = record {
+  own = [];
+  client = [];
+  last = error_text own no_body;
+  dial = None;
+  rest = [];
+  unasked = unasked;
+  ends = Closes;
+  faulted = false;
+}
 
 abbrev pub is_head : HttpRequest → Bool
 is_head r = bytes_eq r.method (codes "HEAD")
@@ -106,10 +124,14 @@ gateway_part exchanged.WantOfMemory no_body = []
 
 -- a dial of the request's host and port
 abbrev pub dial_to : HttpRequest → List ℕ → List ℕ → Dial
-dial_to r bytes written = record { origin = record { host = r.host; port = r.port; bytes = bytes }; written = written }
+dial_to r bytes written = record {
+  origin = record { host = r.host; port = r.port; bytes = bytes };
+  written = written;
+}
 
 -- an exchange that ends so
-abbrev pub exchanged_turn : HttpRequest → List ℕ → Bool → Exchanged → Exchange → List FrontTold → Turn
+abbrev pub exchanged_turn : HttpRequest → List ℕ → Bool → Exchanged → Exchange → List FrontAnswer
+    → ClientTurn
 exchanged_turn r bytes broke ends x unasked = record {
   own = x.own;
   client = x.client;
@@ -125,51 +147,79 @@ exchanged_turn r bytes broke ends x unasked = record {
 abbrev pub established_text : List ℕ
 established_text = codes "HTTP/1.1 200 Connection established" ++ crlf ++ crlf
 
-abbrev pub tunnelled_turn : HttpRequest → List ℕ → List ℕ → List FrontTold → Turn
+abbrev pub tunnelled_turn : HttpRequest → List ℕ → List ℕ → List FrontAnswer → ClientTurn
 tunnelled_turn r bytes rest unasked =
-    record { own = established_text; client = bytes; last = []; dial = Some (dial_to r bytes rest); rest = []; unasked = unasked; ends = Closes; faulted = false }
+    record {
+      own = established_text;
+      client = bytes;
+      last = [];
+      dial = Some (dial_to r bytes rest);
+      rest = [];
+      unasked = unasked;
+      ends = Closes;
+      faulted = false;
+    }
 
 -- an exchange whose link to the origin failed before the reply's head has no reply
 abbrev pub ends_exchange : Bool → Exchange → Exchanged
 ends_exchange broke x = if broke then exchanged.NoReply else x.end
 
 -- behind the dial: the tunnel, or the exchange
-abbrev pub forwarded : HttpRequest → Address → BodyPlan → List ℕ → List ℕ → Reading → Bool → List FrontTold → Turn
+abbrev pub forwarded : HttpRequest → Address → BodyPlan → List ℕ → List ℕ → Reading → Bool
+    → List FrontAnswer → ClientTurn
 forwarded r addr p rest bytes reading broke unasked =
     if is_connect r then tunnelled_turn r bytes rest unasked
-    else exchanged_turn r bytes broke (ends_exchange broke (exchange r addr p rest reading)) (exchange r addr p rest reading) unasked
+    else exchanged_turn r bytes broke (ends_exchange broke (exchange r addr p rest reading))
+    (exchange r addr p rest reading) unasked
 
 -- an origin that was not reached
-abbrev pub unreached : HttpRequest → List FrontTold → Turn
-unreached r unasked = record { own = []; client = []; last = error_text BadGateway (is_head r); dial = None; rest = []; unasked = unasked; ends = Closes; faulted = true }
+abbrev pub unreached : HttpRequest → List FrontAnswer → ClientTurn
+unreached r unasked = record {
+  own = [];
+  client = [];
+  last = error_text BadGateway (is_head r);
+  dial = None;
+  rest = [];
+  unasked = unasked;
+  ends = Closes;
+  faulted = true;
+}
 
 -- from the dial on
-abbrev pub dialled : HttpRequest → Address → BodyPlan → List ℕ → List FrontTold → Reply → Turn
+abbrev pub dialled : HttpRequest → Address → BodyPlan → List ℕ → List FrontAnswer → Reply
+    → ClientTurn
 dialled r addr p rest unasked NoOrigin = unreached r unasked
-dialled r addr p rest unasked (Came bytes seen reading broke) = forwarded r addr p rest bytes reading broke unasked
+dialled r addr p rest unasked (Came bytes seen reading broke) =
+    forwarded r addr p rest bytes reading broke unasked
 
 -- from the seat on
-abbrev pub seated : HttpRequest → Address → BodyPlan → List ℕ → List FrontTold → Reply → Turn
+abbrev pub seated : HttpRequest → Address → BodyPlan → List ℕ → List FrontAnswer → Reply
+    → ClientTurn
 seated r addr p rest (OfSit k (Ok u) ∷ more) reply = dialled r addr p rest more reply
 seated r addr p rest (OfSit k (Err sit.Spent) ∷ more) reply = says Inner (is_head r) more
 seated r addr p rest (OfSit k (Err sit.WantOfMemory) ∷ more) reply = says NoMemory (is_head r) more
-seated r addr p rest (OfDecide q d ∷ more) reply = silent (Over end.WantOfMemory) (OfDecide q d ∷ more)
-seated r addr p rest (OfOpen a port o ∷ more) reply = silent (Over end.WantOfMemory) (OfOpen a port o ∷ more)
+seated r addr p rest (OfDecide q d ∷ more) reply = silent (Over end.WantOfMemory)
+    (OfDecide q d ∷ more)
+seated r addr p rest (OfOpen a port o ∷ more) reply = silent (Over end.WantOfMemory)
+    (OfOpen a port o ∷ more)
 seated r addr p rest (OfClose c ∷ more) reply = silent (Over end.WantOfMemory) (OfClose c ∷ more)
 seated r addr p rest [] reply = silent (Over end.WantOfMemory) []
 
 -- from the scheme on: an allowed request, which goes on as this one
-abbrev pub carried : HttpRequest → Address → BodyPlan → List ℕ → List FrontTold → Reply → Turn
-carried r addr p rest answers reply = if is_served r then seated r addr p rest answers reply else says NotImplemented (is_head r) answers
+abbrev pub carried : HttpRequest → Address → BodyPlan → List ℕ → List FrontAnswer → Reply
+    → ClientTurn
+carried r addr p rest answers reply = if is_served r then seated r addr p rest answers reply
+    else says NotImplemented (is_head r) answers
 
--- a denial closes the connection but where the request has no body and the connection stays otherwise
+-- a denial closes the connection but where the request has no body and the connection stays
+-- otherwise
 abbrev pub denied_closes : HttpRequest → BodyPlan → Bool
 denied_closes r p = has_body p || wants_close r
 
 abbrev pub stays_unless : Bool → Carried
 stays_unless closes = if closes then Closes else Stays
 
-abbrev pub denied : HttpRequest → BodyPlan → List ℕ → Judged → List FrontTold → Turn
+abbrev pub denied : HttpRequest → BodyPlan → List ℕ → Judged → List FrontAnswer → ClientTurn
 denied r p rest j unasked = record {
   own = [];
   client = [];
@@ -182,18 +232,24 @@ denied r p rest j unasked = record {
 }
 
 -- the verdict of a record
-abbrev pub recorded : HttpRequest → Address → BodyPlan → List ℕ → Judged → List FrontTold → Reply → Turn
-recorded r addr p rest j answers reply = if j.outcome.allow then carried r addr p rest answers reply else denied r p rest j answers
+abbrev pub recorded : HttpRequest → Address → BodyPlan → List ℕ → Judged → List FrontAnswer → Reply
+    → ClientTurn
+recorded r addr p rest j answers reply = if j.outcome.allow then carried r addr p rest answers reply
+    else denied r p rest j answers
 
 -- from the verdict on
-abbrev pub judged : HttpRequest → Address → BodyPlan → List ℕ → List FrontTold → Reply → Turn
-judged r addr p rest (OfDecide q (decided.Record j) ∷ more) reply = recorded r addr p rest j more reply
-judged r addr p rest (OfDecide q (decided.Mismatch other) ∷ more) reply = says Inner (is_head r) more
+abbrev pub judged : HttpRequest → Address → BodyPlan → List ℕ → List FrontAnswer → Reply
+    → ClientTurn
+judged r addr p rest (OfDecide q (decided.Record j) ∷ more) reply =
+    recorded r addr p rest j more reply
+judged r addr p rest (OfDecide q (decided.Mismatch other) ∷ more) reply =
+    says Inner (is_head r) more
 judged r addr p rest (OfDecide q (decided.Refused why) ∷ more) reply = says Inner (is_head r) more
 judged r addr p rest (OfDecide q decided.JournalFault ∷ more) reply = says Stopped (is_head r) more
 judged r addr p rest (OfDecide q decided.WantOfMemory ∷ more) reply = says NoMemory (is_head r) more
 judged r addr p rest (OfSit k s ∷ more) reply = silent (Over end.WantOfMemory) (OfSit k s ∷ more)
-judged r addr p rest (OfOpen a port o ∷ more) reply = silent (Over end.WantOfMemory) (OfOpen a port o ∷ more)
+judged r addr p rest (OfOpen a port o ∷ more) reply = silent (Over end.WantOfMemory)
+    (OfOpen a port o ∷ more)
 judged r addr p rest (OfClose c ∷ more) reply = silent (Over end.WantOfMemory) (OfClose c ∷ more)
 judged r addr p rest [] reply = silent (Over end.WantOfMemory) []
 
@@ -204,16 +260,19 @@ body_own BadLength = BadRequest
 body_own BadCoding = NotImplemented
 
 -- from the body's plan on
-abbrev pub planned : HttpRequest → Address → Result BodyPlan body.BadBody → List ℕ → List FrontTold → Reply → Turn
+abbrev pub planned : HttpRequest → Address → Result BodyPlan body.BadBody → List ℕ
+    → List FrontAnswer → Reply → ClientTurn
 planned r addr (Err bad) rest answers reply = says (body_own bad) (is_head r) answers
 planned r addr (Ok p) rest answers reply = judged r addr p rest answers reply
 
 -- a request, with what follows its head
-abbrev pub asked : HttpRequest → Address → List ℕ → List FrontTold → Reply → Turn
-asked r addr rest answers reply = if fits_hosts r then planned r addr (request_plan r) rest answers reply else says BadRequest (is_head r) answers
+abbrev pub asked : HttpRequest → Address → List ℕ → List FrontAnswer → Reply → ClientTurn
+asked r addr rest answers reply = if fits_hosts r then planned r addr (request_plan r) rest answers
+    reply else says BadRequest (is_head r) answers
 
--- one turn: from what the input begins with and what follows that, the answers that the front gave, and the origin
-abbrev pub turn : Address → Begun → List ℕ → List FrontTold → Reply → Turn
+-- one turn: from what the input begins with and what follows that, the answers that the front gave,
+-- and the origin
+abbrev pub turn : Address → Begun → List ℕ → List FrontAnswer → Reply → ClientTurn
 turn addr (begun.Asks r) rest answers reply = asked r addr rest answers reply
 turn addr begun.Nothing rest answers reply = silent Closes answers
 turn addr begun.Cut rest answers reply = silent (Over end.Cut) answers

@@ -35,10 +35,12 @@ pub enum Begun {
 /// Reads the head of the next request. What follows it stays.
 pub(crate) fn next_request<R: Wait, S: Source>(rt: &R, alloc: Global, client: &mut Half<S>) -> Begun
     ensures begins { BeginsTold (to_come S.left client.old) (to_come S.left client.new) result }
-    ensures cause { result ≡ Begun.Failed → Rose (S.faults client.old.source) (S.faults client.new.source) }
+    ensures cause { result ≡ Begun.Failed
+        → Rose (S.faults client.old.source) (S.faults client.new.source) }
     ensures later { S.faults client.old.source ≤ S.faults client.new.source }
     ensures dialled { S.origin client.new.source ≡ S.origin client.old.source }
-    ensures few { length client.new.ahead ≤ max (length client.old.ahead) (most_bytes + read_limit) }
+    ensures few { length client.new.ahead
+        ≤ max (length client.old.ahead) (most_bytes + read_limit) }
 {
     let len = match find_head(rt, client) {
         HeadFound::Whole(len) => len,

@@ -10,7 +10,7 @@ ghost use Rattle.sq_session.specs.Told.{CarriesTold, ReachesTold};
 use crate::ends::Carried;
 use crate::forwarding::forward;
 use crate::front::{Front, SitFault};
-use crate::telling::{is_head, is_served, say};
+use crate::own_replies::{is_head, is_served, say};
 use sq_base::{Addr, BodyPlan, Request};
 use sq_checks::Record;
 use sq_forward::{Ahead, Half, Meter};
@@ -40,10 +40,15 @@ pub fn carry<R: Threads + Wait + Sync, I: Source + Send, O: Out, F: Front, D: Di
     requires same { IsSameMessage sent.now judged.now.sight.request }
     requires dry { F.Meter.dry front.old ≡ 0 }
     requires unseated { F.Meter.seated front.old ≡ false }
-    ensures told { CarriesTold sent.now addr plan judged.now (to_come I.left client.old) (D.dialled dialer.old) (D.dialled dialer.new)
-        (F.stands front.old) (F.stands front.new) (to_come I.left client.new) (O.Sink.contents to.old) (O.Sink.contents to.new) (Rose (D.faults dialer.old) (D.faults dialer.new))
+    ensures told { CarriesTold sent.now addr plan judged.now (to_come I.left client.old)
+        (D.dialled dialer.old) (D.dialled dialer.new)
+        (F.stands front.old) (F.stands front.new) (to_come I.left client.new)
+        (O.Sink.contents to.old) (O.Sink.contents to.new)
+        (Rose (D.faults dialer.old) (D.faults dialer.new))
         (F.Meter.granted front.old) (F.Meter.granted front.new) result }
-    ensures cause { EndHasCause (Rose (I.faults client.old.source) (I.faults client.new.source) ⊎ Rose (O.Sink.faults to.old) (O.Sink.faults to.new))
+    ensures cause { EndHasCause
+        (Rose (I.faults client.old.source) (I.faults client.new.source)
+        ⊎ Rose (O.Sink.faults to.old) (O.Sink.faults to.new))
         (Rose (D.faults dialer.old) (D.faults dialer.new)) result }
     ensures dry { F.Meter.dry front.new ≡ dry_after result }
     ensures unseated { F.Meter.seated front.new ≡ false }
@@ -79,10 +84,14 @@ fn reach<R: Threads + Wait + Sync, I: Source + Send, O: Out, M: Meter, D: Dialer
     dialer: &mut D,
 ) -> Carried
     requires dry { M.dry meter.old ≡ 0 }
-    ensures told { ReachesTold sent.now addr plan (to_come I.left client.old) (D.dialled dialer.old) (D.dialled dialer.new)
-        (M.seated meter.old) (to_come I.left client.new) (O.Sink.contents to.old) (O.Sink.contents to.new) (Rose (D.faults dialer.old) (D.faults dialer.new))
+    ensures told { ReachesTold sent.now addr plan (to_come I.left client.old) (D.dialled dialer.old)
+        (D.dialled dialer.new)
+        (M.seated meter.old) (to_come I.left client.new) (O.Sink.contents to.old)
+        (O.Sink.contents to.new) (Rose (D.faults dialer.old) (D.faults dialer.new))
         (M.granted meter.old) (M.granted meter.new) result }
-    ensures cause { EndHasCause (Rose (I.faults client.old.source) (I.faults client.new.source) ⊎ Rose (O.Sink.faults to.old) (O.Sink.faults to.new))
+    ensures cause { EndHasCause
+        (Rose (I.faults client.old.source) (I.faults client.new.source)
+        ⊎ Rose (O.Sink.faults to.old) (O.Sink.faults to.new))
         (Rose (D.faults dialer.old) (D.faults dialer.new)) result }
     ensures dry { M.dry meter.new ≡ dry_after result }
     ensures seated { M.seated meter.new ≡ M.seated meter.old }

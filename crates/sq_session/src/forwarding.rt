@@ -8,7 +8,7 @@ ghost use Rattle.sq_session.specs.Told.{ForwardsTold, TradesTold, ConnectsTold};
 ghost use Rattle.sq_session.specs.Turns.{carried_of};
 
 use crate::ends::{Carried, End};
-use crate::telling::{is_connect, is_head, say};
+use crate::own_replies::{is_connect, is_head, say};
 use sq_base::{Addr, BodyPlan, Request};
 use sq_forward::{Exchanged, Half, Meter, Tunnelled, exchange, tunnel};
 use sq_head::Own;
@@ -38,12 +38,18 @@ pub(crate) fn forward<
     plan: BodyPlan,
 ) -> Carried
     requires dry { M.dry meter.old ≡ 0 }
-    ensures told { ForwardsTold sent.now addr plan (to_come I.left client.old) (to_come P.left origin.old) (M.seated meter.old) (to_come I.left client.new) (O.Sink.contents to.old) (O.Sink.contents to.new)
+    ensures told { ForwardsTold sent.now addr plan (to_come I.left client.old)
+        (to_come P.left origin.old) (M.seated meter.old) (to_come I.left client.new)
+        (O.Sink.contents to.old) (O.Sink.contents to.new)
         (Q.Sink.contents to_origin.old) (Q.Sink.contents to_origin.new)
-        (Rose (P.faults origin.old.source) (P.faults origin.new.source) ⊎ Rose (Q.Sink.faults to_origin.old) (Q.Sink.faults to_origin.new))
+        (Rose (P.faults origin.old.source) (P.faults origin.new.source)
+        ⊎ Rose (Q.Sink.faults to_origin.old) (Q.Sink.faults to_origin.new))
         (M.granted meter.old) (M.granted meter.new) result }
-    ensures cause { EndHasCause (Rose (I.faults client.old.source) (I.faults client.new.source) ⊎ Rose (O.Sink.faults to.old) (O.Sink.faults to.new))
-        (Rose (P.faults origin.old.source) (P.faults origin.new.source) ⊎ Rose (Q.Sink.faults to_origin.old) (Q.Sink.faults to_origin.new)) result }
+    ensures cause { EndHasCause
+        (Rose (I.faults client.old.source) (I.faults client.new.source)
+        ⊎ Rose (O.Sink.faults to.old) (O.Sink.faults to.new))
+        (Rose (P.faults origin.old.source) (P.faults origin.new.source)
+        ⊎ Rose (Q.Sink.faults to_origin.old) (Q.Sink.faults to_origin.new)) result }
     ensures dry { M.dry meter.new ≡ dry_after result }
     ensures seated { M.seated meter.new ≡ M.seated meter.old }
     ensures besides { M.besides meter.new ≡ M.besides meter.old }
@@ -74,12 +80,18 @@ fn trade<R: Wait, I: Source, O: Out, P: Source, Q: Out, M: Meter>(
     plan: BodyPlan,
 ) -> Carried
     requires dry { M.dry meter.old ≡ 0 }
-    ensures told { TradesTold sent.now addr plan (to_come I.left client.old) (to_come P.left origin.old) (M.seated meter.old) (to_come I.left client.new) (O.Sink.contents to.old) (O.Sink.contents to.new)
+    ensures told { TradesTold sent.now addr plan (to_come I.left client.old)
+        (to_come P.left origin.old) (M.seated meter.old) (to_come I.left client.new)
+        (O.Sink.contents to.old) (O.Sink.contents to.new)
         (Q.Sink.contents to_origin.old) (Q.Sink.contents to_origin.new)
-        (Rose (P.faults origin.old.source) (P.faults origin.new.source) ⊎ Rose (Q.Sink.faults to_origin.old) (Q.Sink.faults to_origin.new))
+        (Rose (P.faults origin.old.source) (P.faults origin.new.source)
+        ⊎ Rose (Q.Sink.faults to_origin.old) (Q.Sink.faults to_origin.new))
         (M.granted meter.old) (M.granted meter.new) result }
-    ensures cause { EndHasCause (Rose (I.faults client.old.source) (I.faults client.new.source) ⊎ Rose (O.Sink.faults to.old) (O.Sink.faults to.new))
-        (Rose (P.faults origin.old.source) (P.faults origin.new.source) ⊎ Rose (Q.Sink.faults to_origin.old) (Q.Sink.faults to_origin.new)) result }
+    ensures cause { EndHasCause
+        (Rose (I.faults client.old.source) (I.faults client.new.source)
+        ⊎ Rose (O.Sink.faults to.old) (O.Sink.faults to.new))
+        (Rose (P.faults origin.old.source) (P.faults origin.new.source)
+        ⊎ Rose (Q.Sink.faults to_origin.old) (Q.Sink.faults to_origin.new)) result }
     ensures dry { M.dry meter.new ≡ dry_after result }
     ensures seated { M.seated meter.new ≡ M.seated meter.old }
     ensures besides { M.besides meter.new ≡ M.besides meter.old }
@@ -125,11 +137,16 @@ fn connect<R: Threads + Wait + Sync, I: Source + Send, O: Out, P: Source, Q: Out
     meter: &mut M,
 ) -> Carried
     requires dry { M.dry meter.old ≡ 0 }
-    ensures told { ConnectsTold (to_come I.left client.old) (to_come P.left origin.old) (M.seated meter.old) (to_come I.left client.new)
-        (O.Sink.contents to.old) (O.Sink.contents to.new) (Q.Sink.contents to_origin.old) (Q.Sink.contents to_origin.new)
+    ensures told { ConnectsTold (to_come I.left client.old) (to_come P.left origin.old)
+        (M.seated meter.old) (to_come I.left client.new)
+        (O.Sink.contents to.old) (O.Sink.contents to.new) (Q.Sink.contents to_origin.old)
+        (Q.Sink.contents to_origin.new)
         (M.granted meter.old) (M.granted meter.new) result }
-    ensures cause { EndHasCause (Rose (I.faults client.old.source) (I.faults client.new.source) ⊎ Rose (O.Sink.faults to.old) (O.Sink.faults to.new))
-        (Rose (P.faults origin.old.source) (P.faults origin.new.source) ⊎ Rose (Q.Sink.faults to_origin.old) (Q.Sink.faults to_origin.new)) result }
+    ensures cause { EndHasCause
+        (Rose (I.faults client.old.source) (I.faults client.new.source)
+        ⊎ Rose (O.Sink.faults to.old) (O.Sink.faults to.new))
+        (Rose (P.faults origin.old.source) (P.faults origin.new.source)
+        ⊎ Rose (Q.Sink.faults to_origin.old) (Q.Sink.faults to_origin.new)) result }
     ensures dry { M.dry meter.new ≡ dry_after result }
     ensures seated { M.seated meter.new ≡ M.seated meter.old }
     ensures besides { M.besides meter.new ≡ M.besides meter.old }

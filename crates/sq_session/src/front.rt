@@ -1,7 +1,7 @@
 //! `Front`: the engine and the pools as one connection sees them.
 ghost use Rattle.std.specs.Prelude.{◌≡◌, ℕ, ◌≤◌, ◌∷◌, ◌++◌, [], List, false, OnOk, OnErr};
 ghost use Rattle.sq_outside.specs.Causes.{count_limit};
-ghost use Rattle.sq_session.specs.Fronts.{FrontTold, OfOpen, OfDecide, OfSit, OfClose, Decides, Asks, OpenRefuses, DecideRefuses, CloseRefuses, names_pool};
+ghost use Rattle.sq_session.specs.Fronts.{FrontAnswer, OfOpen, OfDecide, OfSit, OfClose, Decides, Asks, OpenRefuses, DecideRefuses, CloseRefuses, names_pool};
 
 use sq_base::{Addr, Request};
 use sq_checks::Record;
@@ -70,7 +70,7 @@ pub struct Counts {
 /// What one connection sees of the engine and the pools.
 pub trait Front: Meter {
     /// It stands for this list of the answers that it gave so far, where it tells them.
-    ghost stands: { Self → List FrontTold → Type 0 };
+    ghost stands: { Self → List FrontAnswer → Type 0 };
 
     /// How many questions it asked. It never falls.
     ghost asked: { Self → ℕ };
@@ -80,7 +80,8 @@ pub trait Front: Meter {
 
     /// Opens the connection of a client.
     fn open(&mut self, alloc: Global, addr: Addr, port: u16) -> Opened
-        ensures told { (list : List FrontTold) → stands self.old list → stands self.new (list ++ OfOpen addr port result ∷ []) }
+        ensures told { (list : List FrontAnswer) → stands self.old list
+            → stands self.new (list ++ OfOpen addr port result ∷ []) }
         ensures asked { asked self.new ≡ asked self.old }
         ensures refused_later { refused self.old ≤ refused self.new }
         ensures refused { OpenRefuses (refused self.old) (refused self.new) result }
@@ -90,7 +91,8 @@ pub trait Front: Meter {
 
     /// Asks about a request, and waits until its check is over.
     fn decide(&mut self, alloc: Global, request: &Request) -> Decided
-        ensures told { (list : List FrontTold) → stands self.old list → stands self.new (list ++ OfDecide request.now result ∷ []) }
+        ensures told { (list : List FrontAnswer) → stands self.old list
+            → stands self.new (list ++ OfDecide request.now result ∷ []) }
         ensures record { Decides request.now result }
         ensures asked_later { asked self.old ≤ asked self.new }
         ensures asked { Asks (asked self.old) (asked self.new) result }
@@ -103,7 +105,8 @@ pub trait Front: Meter {
     /// Takes a seat in the pool of a record, if it has one.
     fn sit(&mut self, alloc: Global, judged: &Record) -> Result<(), SitFault>
         requires unseated { Self.Meter.seated self.old ≡ false }
-        ensures told { (list : List FrontTold) → stands self.old list → stands self.new (list ++ OfSit judged.now result ∷ []) }
+        ensures told { (list : List FrontAnswer) → stands self.old list
+            → stands self.new (list ++ OfSit judged.now result ∷ []) }
         ensures seated { OnOk result (Self.Meter.seated self.new ≡ names_pool judged.now) }
         ensures refused_seat { OnErr result (Self.Meter.seated self.new ≡ false) }
         ensures asked { asked self.new ≡ asked self.old }
@@ -113,7 +116,7 @@ pub trait Front: Meter {
 
     /// Gives its seat back, if it holds one.
     fn rise(&mut self)
-        ensures told { (list : List FrontTold) → stands self.old list → stands self.new list }
+        ensures told { (list : List FrontAnswer) → stands self.old list → stands self.new list }
         ensures seated { Self.Meter.seated self.new ≡ false }
         ensures asked { asked self.new ≡ asked self.old }
         ensures refused_later { refused self.old ≤ refused self.new }
@@ -122,7 +125,8 @@ pub trait Front: Meter {
 
     /// Closes the connection.
     fn close(&mut self) -> Result<(), CloseFault>
-        ensures told { (list : List FrontTold) → stands self.old list → stands self.new (list ++ OfClose result ∷ []) }
+        ensures told { (list : List FrontAnswer) → stands self.old list
+            → stands self.new (list ++ OfClose result ∷ []) }
         ensures asked { asked self.new ≡ asked self.old }
         ensures refused_later { refused self.old ≤ refused self.new }
         ensures refused { CloseRefuses (refused self.old) (refused self.new) result }
@@ -138,9 +142,12 @@ pub trait Front: Meter {
     ghost asked_capped: { (front : Self) → asked front ≤ count_limit };
 
     // Grants and pauses change none of what it tells.
-    ghost asked_besides: { (a b : Self) → Self.Meter.besides a ≡ Self.Meter.besides b → asked a ≡ asked b };
+    ghost asked_besides: { (a b : Self) → Self.Meter.besides a ≡ Self.Meter.besides b
+        → asked a ≡ asked b };
 
-    ghost refused_besides: { (a b : Self) → Self.Meter.besides a ≡ Self.Meter.besides b → refused a ≡ refused b };
+    ghost refused_besides: { (a b : Self) → Self.Meter.besides a ≡ Self.Meter.besides b
+        → refused a ≡ refused b };
 
-    ghost stands_besides: { (a b : Self) → Self.Meter.besides a ≡ Self.Meter.besides b → (list : List FrontTold) → stands a list → stands b list };
+    ghost stands_besides: { (a b : Self) → Self.Meter.besides a ≡ Self.Meter.besides b
+        → (list : List FrontAnswer) → stands a list → stands b list };
 }

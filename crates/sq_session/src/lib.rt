@@ -13,8 +13,8 @@ mod carrying;
 mod ends;
 mod forwarding;
 mod front;
+mod own_replies;
 mod sessions;
-mod telling;
 mod turning;
 
 pub use beginning::Begun;

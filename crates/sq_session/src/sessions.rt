@@ -9,7 +9,7 @@ ghost use Rattle.sq_session.specs.Sessions.{TellsWhole, SessionHasCause, dry_aft
 
 use crate::ends::{Carried, End};
 use crate::front::{Front, Opened};
-use crate::telling::say;
+use crate::own_replies::say;
 use crate::turning::turn;
 use sq_base::Addr;
 use sq_forward::{Half, Meter};
@@ -46,12 +46,16 @@ pub fn session<R: Threads + Wait + Sync, I: Source + Send, O: Out, F: Front, D: 
     requires unseated { F.Meter.seated front.old ≡ false }
     // The front is opened for this address and port, asked about each request that came, and closed where it was opened.
     // What was written is what the turns of the input give, with the front's answers and the origins' bytes.
-    ensures told { SessionTold addr port (to_come I.left client.old) (D.dialled dialer.old) (D.dialled dialer.new) (F.stands front.old) (F.stands front.new)
-        (O.Sink.contents to.old) (O.Sink.contents to.new) (Rose (D.faults dialer.old) (D.faults dialer.new))
+    ensures told { SessionTold addr port (to_come I.left client.old) (D.dialled dialer.old)
+        (D.dialled dialer.new) (F.stands front.old) (F.stands front.new)
+        (O.Sink.contents to.old) (O.Sink.contents to.new)
+        (Rose (D.faults dialer.old) (D.faults dialer.new))
         (F.Meter.granted front.old) (F.Meter.granted front.new) result.why }
     ensures requests { result.requests ≡ F.asked front.new - F.asked front.old }
     ensures granted { result.granted ≡ F.Meter.granted front.new - F.Meter.granted front.old }
-    ensures cause { SessionHasCause (Rose (I.faults client.old.source) (I.faults client.new.source) ⊎ Rose (O.Sink.faults to.old) (O.Sink.faults to.new))
+    ensures cause { SessionHasCause
+        (Rose (I.faults client.old.source) (I.faults client.new.source)
+        ⊎ Rose (O.Sink.faults to.old) (O.Sink.faults to.new))
         (Rose (D.faults dialer.old) (D.faults dialer.new)) result.why }
     // Starved exactly where the front is that dry.
     ensures dry { F.Meter.dry front.new ≡ dry_after_session result.why }
@@ -85,10 +89,14 @@ fn open<R: Threads + Wait + Sync, I: Source + Send, O: Out, F: Front, D: Dialer>
 ) -> End
     requires dry { F.Meter.dry front.old ≡ 0 }
     requires unseated { F.Meter.seated front.old ≡ false }
-    ensures told { SessionTold addr port (to_come I.left client.old) (D.dialled dialer.old) (D.dialled dialer.new) (F.stands front.old) (F.stands front.new)
-        (O.Sink.contents to.old) (O.Sink.contents to.new) (Rose (D.faults dialer.old) (D.faults dialer.new))
+    ensures told { SessionTold addr port (to_come I.left client.old) (D.dialled dialer.old)
+        (D.dialled dialer.new) (F.stands front.old) (F.stands front.new)
+        (O.Sink.contents to.old) (O.Sink.contents to.new)
+        (Rose (D.faults dialer.old) (D.faults dialer.new))
         (F.Meter.granted front.old) (F.Meter.granted front.new) result }
-    ensures cause { SessionHasCause (Rose (I.faults client.old.source) (I.faults client.new.source) ⊎ Rose (O.Sink.faults to.old) (O.Sink.faults to.new))
+    ensures cause { SessionHasCause
+        (Rose (I.faults client.old.source) (I.faults client.new.source)
+        ⊎ Rose (O.Sink.faults to.old) (O.Sink.faults to.new))
         (Rose (D.faults dialer.old) (D.faults dialer.new)) result }
     ensures dry { F.Meter.dry front.new ≡ dry_after_session result }
     ensures unseated { F.Meter.seated front.new ≡ false }
@@ -112,7 +120,8 @@ fn open<R: Threads + Wait + Sync, I: Source + Send, O: Out, F: Front, D: Dialer>
 
 // Says why the connection is not opened.
 fn refuse<O: Sink>(alloc: Global, to: &mut O, own: Own) -> End
-    ensures tells { TellsWhole (error_text own false) (O.contents to.old) (O.contents to.new) result }
+    ensures tells { TellsWhole (error_text own false) (O.contents to.old) (O.contents to.new)
+        result }
     ensures cause { SessionHasCause (Rose (O.faults to.old) (O.faults to.new)) ⊥ result }
     ensures later { O.faults to.old ≤ O.faults to.new }
     ensures dry { dry_after_session result ≡ 0 }
@@ -136,10 +145,14 @@ fn serve<R: Threads + Wait + Sync, I: Source + Send, O: Out, F: Front, D: Dialer
 ) -> End
     requires dry { F.Meter.dry front.old ≡ 0 }
     requires unseated { F.Meter.seated front.old ≡ false }
-    ensures told { ServesTold addr (to_come I.left client.old) (D.dialled dialer.old) (D.dialled dialer.new) (F.stands front.old) (F.stands front.new)
-        (O.Sink.contents to.old) (O.Sink.contents to.new) (Rose (D.faults dialer.old) (D.faults dialer.new))
+    ensures told { ServesTold addr (to_come I.left client.old) (D.dialled dialer.old)
+        (D.dialled dialer.new) (F.stands front.old) (F.stands front.new)
+        (O.Sink.contents to.old) (O.Sink.contents to.new)
+        (Rose (D.faults dialer.old) (D.faults dialer.new))
         (F.Meter.granted front.old) (F.Meter.granted front.new) result }
-    ensures cause { SessionHasCause (Rose (I.faults client.old.source) (I.faults client.new.source) ⊎ Rose (O.Sink.faults to.old) (O.Sink.faults to.new))
+    ensures cause { SessionHasCause
+        (Rose (I.faults client.old.source) (I.faults client.new.source)
+        ⊎ Rose (O.Sink.faults to.old) (O.Sink.faults to.new))
         (Rose (D.faults dialer.old) (D.faults dialer.new)) result }
     ensures dry { F.Meter.dry front.new ≡ dry_after_session result }
     ensures unseated { F.Meter.seated front.new ≡ false }

@@ -10,7 +10,7 @@ use crate::beginning::{Begun, fits_hosts, next_request};
 use crate::carrying::carry;
 use crate::ends::{Carried, End};
 use crate::front::{Decided, Front};
-use crate::telling::{body_own, denied_closes, deny, is_head, say};
+use crate::own_replies::{body_own, denied_closes, deny, is_head, say};
 use sq_base::{Addr, BodyPlan, Request};
 use sq_checks::Record;
 use sq_forward::{Half, Meter};
@@ -32,10 +32,14 @@ pub(crate) fn turn<R: Threads + Wait + Sync, I: Source + Send, O: Out, F: Front,
 ) -> Carried
     requires dry { F.Meter.dry front.old ≡ 0 }
     requires unseated { F.Meter.seated front.old ≡ false }
-    ensures told { TurnTold addr (to_come I.left client.old) (D.dialled dialer.old) (D.dialled dialer.new) (F.stands front.old) (F.stands front.new) (to_come I.left client.new)
-        (O.Sink.contents to.old) (O.Sink.contents to.new) (Rose (D.faults dialer.old) (D.faults dialer.new))
+    ensures told { TurnTold addr (to_come I.left client.old) (D.dialled dialer.old)
+        (D.dialled dialer.new) (F.stands front.old) (F.stands front.new) (to_come I.left client.new)
+        (O.Sink.contents to.old) (O.Sink.contents to.new)
+        (Rose (D.faults dialer.old) (D.faults dialer.new))
         (F.Meter.granted front.old) (F.Meter.granted front.new) result }
-    ensures cause { EndHasCause (Rose (I.faults client.old.source) (I.faults client.new.source) ⊎ Rose (O.Sink.faults to.old) (O.Sink.faults to.new))
+    ensures cause { EndHasCause
+        (Rose (I.faults client.old.source) (I.faults client.new.source)
+        ⊎ Rose (O.Sink.faults to.old) (O.Sink.faults to.new))
         (Rose (D.faults dialer.old) (D.faults dialer.new)) result }
     ensures dry { F.Meter.dry front.new ≡ dry_after result }
     ensures unseated { F.Meter.seated front.new ≡ false }
@@ -69,10 +73,14 @@ fn answer<R: Threads + Wait + Sync, I: Source + Send, O: Out, F: Front, D: Diale
 ) -> Carried
     requires dry { F.Meter.dry front.old ≡ 0 }
     requires unseated { F.Meter.seated front.old ≡ false }
-    ensures told { AnswersTold request.now addr (to_come I.left client.old) (D.dialled dialer.old) (D.dialled dialer.new) (F.stands front.old) (F.stands front.new) (to_come I.left client.new)
-        (O.Sink.contents to.old) (O.Sink.contents to.new) (Rose (D.faults dialer.old) (D.faults dialer.new))
+    ensures told { AnswersTold request.now addr (to_come I.left client.old) (D.dialled dialer.old)
+        (D.dialled dialer.new) (F.stands front.old) (F.stands front.new) (to_come I.left client.new)
+        (O.Sink.contents to.old) (O.Sink.contents to.new)
+        (Rose (D.faults dialer.old) (D.faults dialer.new))
         (F.Meter.granted front.old) (F.Meter.granted front.new) result }
-    ensures cause { EndHasCause (Rose (I.faults client.old.source) (I.faults client.new.source) ⊎ Rose (O.Sink.faults to.old) (O.Sink.faults to.new))
+    ensures cause { EndHasCause
+        (Rose (I.faults client.old.source) (I.faults client.new.source)
+        ⊎ Rose (O.Sink.faults to.old) (O.Sink.faults to.new))
         (Rose (D.faults dialer.old) (D.faults dialer.new)) result }
     ensures dry { F.Meter.dry front.new ≡ dry_after result }
     ensures unseated { F.Meter.seated front.new ≡ false }
@@ -117,10 +125,15 @@ fn obey<R: Threads + Wait + Sync, I: Source + Send, O: Out, F: Front, D: Dialer>
     requires planned { request_plan request.now ≡ Ok plan }
     requires dry { F.Meter.dry front.old ≡ 0 }
     requires unseated { F.Meter.seated front.old ≡ false }
-    ensures told { ObeysTold request.now addr plan judged.now (to_come I.left client.old) (D.dialled dialer.old) (D.dialled dialer.new) (F.stands front.old) (F.stands front.new) (to_come I.left client.new)
-        (O.Sink.contents to.old) (O.Sink.contents to.new) (Rose (D.faults dialer.old) (D.faults dialer.new))
+    ensures told { ObeysTold request.now addr plan judged.now (to_come I.left client.old)
+        (D.dialled dialer.old) (D.dialled dialer.new) (F.stands front.old) (F.stands front.new)
+        (to_come I.left client.new)
+        (O.Sink.contents to.old) (O.Sink.contents to.new)
+        (Rose (D.faults dialer.old) (D.faults dialer.new))
         (F.Meter.granted front.old) (F.Meter.granted front.new) result }
-    ensures cause { EndHasCause (Rose (I.faults client.old.source) (I.faults client.new.source) ⊎ Rose (O.Sink.faults to.old) (O.Sink.faults to.new))
+    ensures cause { EndHasCause
+        (Rose (I.faults client.old.source) (I.faults client.new.source)
+        ⊎ Rose (O.Sink.faults to.old) (O.Sink.faults to.new))
         (Rose (D.faults dialer.old) (D.faults dialer.new)) result }
     ensures dry { F.Meter.dry front.new ≡ dry_after result }
     ensures unseated { F.Meter.seated front.new ≡ false }

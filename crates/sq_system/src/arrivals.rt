@@ -26,20 +26,20 @@ pub(crate) struct Arrivals {
 
 // What has become of a link that waits.
 #[derive(Clone, Copy)]
-enum State {
+enum ArrivalState {
     Silent,
     Speaks,
     Gone,
 }
 
 // What can be read of a socket that does not block.
-fn state_of(stream: &TcpStream) -> State {
+fn state_of(stream: &TcpStream) -> ArrivalState {
     let mut byte = [0u8; 1];
     match stream.peek(&mut byte) {
-        Ok(0) => State::Gone,
-        Ok(_) => State::Speaks,
-        Err(e) if e.kind() == ErrorKind::WouldBlock => State::Silent,
-        Err(_) => State::Gone,
+        Ok(0) => ArrivalState::Gone,
+        Ok(_) => ArrivalState::Speaks,
+        Err(e) if e.kind() == ErrorKind::WouldBlock => ArrivalState::Silent,
+        Err(_) => ArrivalState::Gone,
     }
 }
 
@@ -72,9 +72,9 @@ impl Arrivals {
             return None;
         }
         match state_of(&arrival.stream) {
-            State::Speaks => return blocking(arrival),
-            State::Silent => {}
-            State::Gone => return None,
+            ArrivalState::Speaks => return blocking(arrival),
+            ArrivalState::Silent => {}
+            ArrivalState::Gone => return None,
         }
         if self.waiting.len() >= MOST {
             self.waiting.remove(0);
@@ -92,17 +92,17 @@ impl Arrivals {
             }
             let (time, arrival) = &self.waiting[place];
             let state = if *time < before {
-                State::Gone
+                ArrivalState::Gone
             } else {
                 state_of(&arrival.stream)
             };
             match state {
-                State::Silent => place += 1,
-                State::Speaks => {
+                ArrivalState::Silent => place += 1,
+                ArrivalState::Speaks => {
                     let (_, arrival) = self.waiting.remove(place);
                     return blocking(arrival);
                 }
-                State::Gone => drop(self.waiting.remove(place)),
+                ArrivalState::Gone => drop(self.waiting.remove(place)),
             }
         }
         None

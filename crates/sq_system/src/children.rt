@@ -8,9 +8,9 @@ ghost use Rattle.std.specs.Prelude.{◌≡◌, ◌≤◌, ◌-◌, ◌^◌, None
 
 use crate::again::raise;
 use crate::house::House;
-use crate::line::{copy_of, is_tick};
-use crate::owed::Front;
-use crate::process::Process;
+use crate::link_stream::{copy_of, is_tick};
+use crate::owed::LineNumber;
+use crate::process::ChildProcess;
 use crate::times::LinkTimes;
 use sq_base::Text;
 use sq_outside::{Another, Failed, Out, Sink, Source, Spawner};
@@ -35,7 +35,7 @@ const LINE: usize = 8192 + 16;
 /// for its end.
 pub struct RealChildIn<R: Wait, P: OpenProcess<Stdin = ChildStdin>> {
     rt: R,
-    process: Arc<Process<P>>,
+    process: Arc<ChildProcess<P>>,
     // The front of a line.
     line: Vec<u8>,
     faults: u64,
@@ -46,10 +46,10 @@ pub struct RealChildIn<R: Wait, P: OpenProcess<Stdin = ChildStdin>> {
 /// waited for, so that nothing of it is left.
 pub struct RealChildOut<R: Wait + Clock, P: OpenProcess<Stdin = ChildStdin>> {
     rt: R,
-    process: Arc<Process<P>>,
+    process: Arc<ChildProcess<P>>,
     times: LinkTimes,
     house: Option<Arc<House>>,
-    front: Front,
+    front: LineNumber,
     // When it was looked last how long answers are owed.
     looked: Duration,
     faults: u64,
@@ -279,14 +279,20 @@ fn begin<R: Processes + Net + Env + Files<File = File> + Wait>(
     rt: &R,
     words: &[Text],
     times: LinkTimes,
-) -> Option<(Arc<Process<R::Started>>, Arc<Process<R::Started>>, Vec<u8>)>
+) -> Option<
+    (
+        Arc<ChildProcess<R::Started>>,
+        Arc<ChildProcess<R::Started>>,
+        Vec<u8>,
+    ),
+>
 where
     R::Started: OpenProcess<Stdin = ChildStdin, Stdout = ChildStdout, Stderr = ChildStderr>,
 {
     let (said, theirs) = UnixStream::pair(rt).ok()?;
     said.set_read_timeout(Some(times.tick)).ok()?;
     let line = Vec::with_capacity(alloc, LINE).ok()?;
-    let process = Arc::new(alloc, Process::new(alloc, said)).ok()?;
+    let process = Arc::new(alloc, ChildProcess::new(alloc, said)).ok()?;
     let other = Arc::try_clone(&process).ok()?;
     let output = Stdio::from(OwnedFd::from(theirs));
     let mut child = command_of(alloc, words, output, errors_of(rt))?
@@ -344,7 +350,7 @@ where
             process,
             times: self.times,
             house: copy_of(&self.house),
-            front: Front::new(),
+            front: LineNumber::new(),
             looked: Duration::ZERO,
             faults: 0,
         };

@@ -4,7 +4,7 @@
 //! A worker is known by its thread, which Linux names in `/proc/thread-self`. Where that can't be read nothing is known of clients:
 //! their links then count as busy ones, and what was dialled for them does not end with them.
 
-use crate::line::Line;
+use crate::link_stream::LinkStream;
 use std::alloc::Global;
 use std::rt::Files;
 use std::sync::atomic::{AtomicU64, Ordering};
@@ -22,14 +22,14 @@ const TRIES: u32 = 1000;
 
 /// A worker, and the link of the client that it serves.
 #[derive(Drop)]
-pub(crate) struct Seat {
+pub(crate) struct ClientSlot {
     thread: u64,
-    client: Mutex<Option<Arc<Line>>>,
+    client: Mutex<Option<Arc<LinkStream>>>,
 }
 
-impl Seat {
+impl ClientSlot {
     /// Has this client's link, or none.
-    pub(crate) fn put(&self, line: Option<Arc<Line>>) {
+    pub(crate) fn put(&self, line: Option<Arc<LinkStream>>) {
         for _ in 0..TRIES {
             if let Some(mut client) = self.client.try_lock() {
                 *client = line;
@@ -39,7 +39,7 @@ impl Seat {
     }
 
     /// The link of its client.
-    pub(crate) fn client(&self) -> Option<Arc<Line>> {
+    pub(crate) fn client(&self) -> Option<Arc<LinkStream>> {
         let client = self.client.try_lock()?;
         let line = client.as_ref()?;
         Arc::try_clone(line).ok()
@@ -54,7 +54,7 @@ pub(crate) struct House {
     // The time when a link gave way last, and when the server was stopped; 0 is never.
     crowded: AtomicU64,
     stopped: AtomicU64,
-    seats: Mutex<Vec<Arc<Seat>>>,
+    seats: Mutex<Vec<Arc<ClientSlot>>>,
 }
 
 // The milliseconds that passed since some time before the program began, plus 1.
@@ -134,7 +134,7 @@ impl House {
     }
 
     /// The seat of the thread that calls, which is made where there is none.
-    pub(crate) fn seat(&self, rt: &impl Files, alloc: Global) -> Option<Arc<Seat>> {
+    pub(crate) fn seat(&self, rt: &impl Files, alloc: Global) -> Option<Arc<ClientSlot>> {
         let thread = thread(rt, alloc)?;
         for _ in 0..TRIES {
             if let Some(mut seats) = self.seats.try_lock() {
@@ -145,13 +145,17 @@ impl House {
     }
 }
 
-fn seat_of(alloc: Global, seats: &mut Vec<Arc<Seat>>, thread: u64) -> Option<Arc<Seat>> {
+fn seat_of(
+    alloc: Global,
+    seats: &mut Vec<Arc<ClientSlot>>,
+    thread: u64,
+) -> Option<Arc<ClientSlot>> {
     for seat in seats.iter() {
         if seat.thread == thread {
             return Arc::try_clone(seat).ok();
         }
     }
-    let seat = Seat {
+    let seat = ClientSlot {
         thread,
         client: Mutex::new(None),
     };

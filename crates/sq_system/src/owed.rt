@@ -5,23 +5,23 @@ use std::time::Duration;
 
 /// The number at the beginning of a line, as its bytes come.
 #[derive(Clone, Copy)]
-pub(crate) struct Front {
+pub(crate) struct LineNumber {
     pub(crate) number: Option<u64>,
     is_over: bool,
 }
 
-impl Front {
+impl LineNumber {
     /// Nothing of the line came yet.
-    pub(crate) fn new() -> Front {
-        Front {
+    pub(crate) fn new() -> LineNumber {
+        LineNumber {
             number: None,
             is_over: false,
         }
     }
 
     /// The front of this line.
-    pub(crate) fn of(line: &[u8]) -> Front {
-        let mut front = Front::new();
+    pub(crate) fn of(line: &[u8]) -> LineNumber {
+        let mut front = LineNumber::new();
         for &byte in line {
             front.take(byte);
             if front.is_over {
@@ -68,13 +68,13 @@ impl Owed {
     }
 
     /// A question is asked at this time. None where there is no memory.
-    pub(crate) fn ask(&mut self, front: Front, time: Duration) -> Option<()> {
+    pub(crate) fn ask(&mut self, front: LineNumber, time: Duration) -> Option<()> {
         let number = front.number;
         self.questions.push(Question { number, time }).ok()
     }
 
     // The place of the question that a line with this front answers.
-    fn place(&self, front: Front) -> Option<usize> {
+    fn place(&self, front: LineNumber) -> Option<usize> {
         if self.questions.len() == 1 {
             return Some(0);
         }
@@ -84,7 +84,7 @@ impl Owed {
     }
 
     /// A line with this front has come.
-    pub(crate) fn answer(&mut self, front: Front) {
+    pub(crate) fn answer(&mut self, front: LineNumber) {
         if let Some(place) = self.place(front) {
             if place < self.questions.len() {
                 self.questions.swap_remove(place);

@@ -6,7 +6,7 @@ ghost use Rattle.std.specs.Prelude.{◌≤◌, IfSome, length};
 ghost use Rattle.std.specs.Io.{ReadsAtMost};
 
 use crate::again::TRIES;
-use crate::owed::{Front, Owed};
+use crate::owed::{LineNumber, Owed};
 use std::alloc::Global;
 use std::io::{self, ErrorKind, Read, Write};
 use std::net::Shutdown;
@@ -24,14 +24,14 @@ const PAUSE: u64 = 1;
 
 /// A process.
 #[derive(Drop)]
-pub(crate) struct Process<P: OpenProcess<Stdin = ChildStdin>> {
+pub(crate) struct ChildProcess<P: OpenProcess<Stdin = ChildStdin>> {
     said: UnixStream,
-    state: Mutex<State<P>>,
+    state: Mutex<ChildState<P>>,
 }
 
 // What it reads from does not block. It has none before it was started, and none once it was stopped.
 #[derive(Drop)]
-struct State<P: OpenProcess<Stdin = ChildStdin>> {
+struct ChildState<P: OpenProcess<Stdin = ChildStdin>> {
     child: Option<Child<P>>,
     stdin: Option<ChildStdin>,
     stopped: bool,
@@ -55,7 +55,7 @@ fn put(stdin: &mut ChildStdin, bytes: &[u8]) -> Option<usize>
     None
 }
 
-impl<P: OpenProcess<Stdin = ChildStdin>> State<P> {
+impl<P: OpenProcess<Stdin = ChildStdin>> ChildState<P> {
     // Hands on what the pipe had no room for before.
     fn hand_on(&mut self) {
         if self.unwritten.is_empty() {
@@ -71,7 +71,7 @@ impl<P: OpenProcess<Stdin = ChildStdin>> State<P> {
     // Asks a question.
     fn ask(&mut self, line: &[u8], time: Duration) -> Option<()> {
         let stdin = self.stdin.as_mut()?;
-        self.owed.ask(Front::of(line), time)?;
+        self.owed.ask(LineNumber::of(line), time)?;
         let count = if self.unwritten.is_empty() {
             put(stdin, line)?
         } else {
@@ -81,11 +81,11 @@ impl<P: OpenProcess<Stdin = ChildStdin>> State<P> {
     }
 
     // Bytes of answers, behind this front of a line.
-    fn hear(&mut self, front: &mut Front, bytes: &[u8]) {
+    fn hear(&mut self, front: &mut LineNumber, bytes: &[u8]) {
         for &byte in bytes {
             if byte == b'\n' {
                 self.owed.answer(*front);
-                *front = Front::new();
+                *front = LineNumber::new();
             } else {
                 front.take(byte);
             }
@@ -93,12 +93,12 @@ impl<P: OpenProcess<Stdin = ChildStdin>> State<P> {
     }
 }
 
-impl<P: OpenProcess<Stdin = ChildStdin> + Drop> Process<P> {
+impl<P: OpenProcess<Stdin = ChildStdin> + Drop> ChildProcess<P> {
     /// One that is to be started. What it writes will come by this socket.
-    pub(crate) fn new(alloc: Global, said: UnixStream) -> Process<P> {
-        Process {
+    pub(crate) fn new(alloc: Global, said: UnixStream) -> ChildProcess<P> {
+        ChildProcess {
             said,
-            state: Mutex::new(State {
+            state: Mutex::new(ChildState {
                 child: None,
                 stdin: None,
                 stopped: false,
@@ -129,7 +129,7 @@ impl<P: OpenProcess<Stdin = ChildStdin> + Drop> Process<P> {
     }
 
     /// It wrote these bytes, behind this front of a line.
-    pub(crate) fn hear<R: Wait>(&self, rt: &R, front: &mut Front, bytes: &[u8]) {
+    pub(crate) fn hear<R: Wait>(&self, rt: &R, front: &mut LineNumber, bytes: &[u8]) {
         let mut state = self.state.lock(rt);
         state.hear(front, bytes);
         state.hand_on();

@@ -110,8 +110,10 @@ impl<'a, R: rt::Files> Files for RealFiles<'a, R> {
     ghost capped = { λ s. s.capped };
 
     fn open(&mut self, _alloc: Global, name: &Text) -> Result<RealSource<R::File>, NoOpen>
-        ensures opened { IfOk result (λ source. GivesText no_texts name.now (R.File.remaining (reader_of source))) }
-        ensures opened_list { Opens (λ source. R.File.remaining (reader_of source)) no_openings no_openings name.now result }
+        ensures opened { IfOk result
+            (λ source. GivesText no_texts name.now (R.File.remaining (reader_of source))) }
+        ensures opened_list { Opens (λ source. R.File.remaining (reader_of source)) no_openings
+            no_openings name.now result }
         ensures fresh { IfOk result (λ source. reader_faults source ≡ 0) }
         ensures missing { IsErrOf result NoOpen.Missing → IsNotTold no_texts name.now }
         ensures texts { no_texts ≡ no_texts }

@@ -3,8 +3,8 @@
 ghost use Rattle.std.specs.Prelude.{◌≡◌, ◌≤◌, ◌-◌, ◌^◌, nat_lt, None, IfSome};
 
 use crate::again::raise;
-use crate::house::{House, Seat};
-use crate::line::{Line, Side, Watch, is_tick};
+use crate::house::{ClientSlot, House};
+use crate::link_stream::{LinkStream, LinkWatch, Side, is_tick};
 use crate::times::LinkTimes;
 use sq_outside::{Failed, Out, Sink, Source};
 use std::alloc::Global;
@@ -16,8 +16,8 @@ use std::time::Clock;
 /// The half of a link that is read. Both halves hold one socket, which is closed when both are dropped.
 #[derive(Drop)]
 pub struct RealIn<R> {
-    watch: Watch<R>,
-    _seat: Taken,
+    watch: LinkWatch<R>,
+    _seat: SlotGuard,
     faults: u64,
     ghost capped: { faults ≤ 2 ^ 63 - 1 },
 }
@@ -25,18 +25,18 @@ pub struct RealIn<R> {
 /// The half of a link that is written. To close it shuts the socket's way out, once.
 #[derive(Drop)]
 pub struct RealOut<R> {
-    watch: Watch<R>,
+    watch: LinkWatch<R>,
     open: bool,
     faults: u64,
     ghost capped: { faults ≤ 2 ^ 63 - 1 },
 }
 
 // The seat of the worker that serves a client, which is empty when this is let go.
-struct Taken(Option<Arc<Seat>>);
+struct SlotGuard(Option<Arc<ClientSlot>>);
 
-impl Drop for Taken {
+impl Drop for SlotGuard {
     fn drop(self) {
-        let Taken(seat) = self;
+        let SlotGuard(seat) = self;
         if let Some(seat) = seat {
             seat.put(None);
         }
@@ -61,12 +61,12 @@ impl<R: Copy + Drop> RealIn<R> {
         stream: TcpStream,
         times: LinkTimes,
         house: Option<Arc<House>>,
-        client: Option<Arc<Line>>,
+        client: Option<Arc<LinkStream>>,
     ) -> Option<(RealIn<R>, RealOut<R>)>
         ensures fresh { IfSome result (λ h. (in_faults h.0 ≡ 0) × (out_faults h.1 ≡ 0)) }
     {
         set(&stream, times)?;
-        let line = Arc::new(alloc, Line::new(stream)).ok()?;
+        let line = Arc::new(alloc, LinkStream::new(stream)).ok()?;
         let side = match client {
             Some(client) => {
                 client.set_dialled(true);
@@ -74,7 +74,7 @@ impl<R: Copy + Drop> RealIn<R> {
             }
             None => Side::Unknown,
         };
-        RealIn::halves(Watch::new(rt, line, side, house, times), None)
+        RealIn::halves(LinkWatch::new(rt, line, side, house, times), None)
     }
 
     /// Both halves of a client's link, over a socket that has its settings from the listener's, which takes this seat.
@@ -84,11 +84,11 @@ impl<R: Copy + Drop> RealIn<R> {
         stream: TcpStream,
         times: LinkTimes,
         house: Arc<House>,
-        seat: Option<Arc<Seat>>,
+        seat: Option<Arc<ClientSlot>>,
     ) -> Option<(RealIn<R>, RealOut<R>)>
         ensures fresh { IfSome result (λ h. (in_faults h.0 ≡ 0) × (out_faults h.1 ≡ 0)) }
     {
-        let line = Arc::new(alloc, Line::new(stream)).ok()?;
+        let line = Arc::new(alloc, LinkStream::new(stream)).ok()?;
         let side = match &seat {
             Some(seat) => {
                 seat.put(Arc::try_clone(&line).ok());
@@ -96,10 +96,10 @@ impl<R: Copy + Drop> RealIn<R> {
             }
             None => Side::Unknown,
         };
-        RealIn::halves(Watch::new(rt, line, side, Some(house), times), seat)
+        RealIn::halves(LinkWatch::new(rt, line, side, Some(house), times), seat)
     }
 
-    fn halves(watch: Watch<R>, seat: Option<Arc<Seat>>) -> Option<(RealIn<R>, RealOut<R>)>
+    fn halves(watch: LinkWatch<R>, seat: Option<Arc<ClientSlot>>) -> Option<(RealIn<R>, RealOut<R>)>
         ensures fresh { IfSome result (λ h. (in_faults h.0 ≡ 0) × (out_faults h.1 ≡ 0)) }
     {
         let to = RealOut {
@@ -109,7 +109,7 @@ impl<R: Copy + Drop> RealIn<R> {
         };
         let from = RealIn {
             watch,
-            _seat: Taken(seat),
+            _seat: SlotGuard(seat),
             faults: 0,
         };
         Some((from, to))

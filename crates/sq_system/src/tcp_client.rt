@@ -4,8 +4,8 @@ ghost use Rattle.std.specs.Prelude.{◌≡◌, ◌≤◌, ◌-◌, ◌^◌, None
 
 use crate::again::raise;
 use crate::hosts::has_one_spelling;
-use crate::house::{House, Seat};
-use crate::line::{Line, copy_of};
+use crate::house::{ClientSlot, House};
+use crate::link_stream::{LinkStream, copy_of};
 use crate::tcp::{RealIn, RealOut};
 use crate::tcp_server::addr_of;
 use crate::times::LinkTimes;
@@ -26,7 +26,7 @@ pub struct RealDialer<R> {
     rt: R,
     times: LinkTimes,
     house: Option<Arc<House>>,
-    seat: Option<Arc<Seat>>,
+    seat: Option<Arc<ClientSlot>>,
     faults: u64,
     ghost capped: { faults ≤ 2 ^ 63 - 1 },
 }
@@ -69,7 +69,7 @@ impl<R: Copy> Another for RealDialer<R> {
 
 impl<R: Files> RealDialer<R> {
     // The link of the client that the calling thread serves.
-    fn client(&mut self, alloc: Global) -> Option<Arc<Line>>
+    fn client(&mut self, alloc: Global) -> Option<Arc<LinkStream>>
         ensures kept { self.new.faults ≡ self.old.faults }
     {
         let house = self.house.as_ref()?;

@@ -8,7 +8,7 @@ use crate::again::raise;
 use crate::arrivals::{Arrival, Arrivals};
 use crate::children::RealSpawner;
 use crate::house::House;
-use crate::line::is_tick;
+use crate::link_stream::is_tick;
 use crate::tcp::{RealIn, RealOut, set};
 use crate::tcp_client::RealDialer;
 use crate::times::LinkTimes;
@@ -145,7 +145,7 @@ impl<R: Net<Listener = TcpListener, Stream = TcpStream> + Copy + Drop> RealListe
 
 // What a call of the listener's socket came to.
 #[derive(Drop)]
-enum Found {
+enum NextLink {
     Link(Arrival),
     Nothing,
     Failed,
@@ -160,22 +160,22 @@ fn is_lasting(error: &io::Error) -> bool {
 
 impl<R: Clock> Entrance<R> {
     // The next link of the socket. It waits for one, for a tick at the most, or only a moment.
-    fn accept(&self, waits: bool) -> Found {
+    fn accept(&self, waits: bool) -> NextLink {
         if !waits && self.listener.set_nonblocking(true).is_err() {
-            return Found::Nothing;
+            return NextLink::Nothing;
         }
         let answer = self.listener.accept();
         if !waits {
             let _ = self.listener.set_nonblocking(false);
         }
         match answer {
-            Ok((stream, peer)) => Found::Link(Arrival { stream, peer }),
-            Err(e) if is_lasting(&e) => Found::Failed,
+            Ok((stream, peer)) => NextLink::Link(Arrival { stream, peer }),
+            Err(e) if is_lasting(&e) => NextLink::Failed,
             Err(e) => {
                 if !waits || !is_tick(e.kind()) {
                     thread::sleep(&self.rt, Duration::from_millis(PAUSE));
                 }
-                Found::Nothing
+                NextLink::Nothing
             }
         }
     }
@@ -189,25 +189,25 @@ impl<R: Clock> Entrance<R> {
     }
 
     // The next link. Where links gave way of late it is one that says something, and others wait.
-    fn find(&mut self, now: Duration) -> Found {
+    fn find(&mut self, now: Duration) -> NextLink {
         if self.arrivals.is_empty() && !self.is_crowded() {
             return self.accept(true);
         }
         let silent = self.times.tick.saturating_mul(self.times.silent);
         if let Some(arrival) = self.arrivals.take(now.saturating_sub(silent)) {
-            return Found::Link(arrival);
+            return NextLink::Link(arrival);
         }
         match self.accept(self.arrivals.is_empty()) {
-            Found::Link(arrival) => match self.arrivals.keep(now, arrival) {
-                Some(arrival) => Found::Link(arrival),
-                None => Found::Nothing,
+            NextLink::Link(arrival) => match self.arrivals.keep(now, arrival) {
+                Some(arrival) => NextLink::Link(arrival),
+                None => NextLink::Nothing,
             },
             found => found,
         }
     }
 
     // The same, and others see that this one waits.
-    fn seek(&mut self) -> Found {
+    fn seek(&mut self) -> NextLink {
         let begun = self.rt.monotonic().unwrap_or(Duration::ZERO);
         self.house.enter();
         let found = self.find(begun);
@@ -231,7 +231,8 @@ impl<R: Files + Clock + Copy + Drop> Entrance<R> {
 
     // The link that came, if there is memory for it.
     fn let_in(&self, alloc: Global, arrival: Arrival) -> Option<Accepted<RealIn<R>, RealOut<R>>>
-        ensures fresh { IfSome result (λ a. IfLink a (λ from to addr port. (in_faults from ≡ 0) × (out_faults to ≡ 0))) }
+        ensures fresh { IfSome result
+            (λ a. IfLink a (λ from to addr port. (in_faults from ≡ 0) × (out_faults to ≡ 0))) }
     {
         let Arrival { stream, peer } = arrival;
         let (from, to) = self.halves(alloc, stream)?;
@@ -245,7 +246,8 @@ impl<R: Files + Clock + Copy + Drop> Entrance<R> {
 
     // Waits for the next link.
     fn next(&mut self, alloc: Global) -> Accepted<RealIn<R>, RealOut<R>>
-        ensures fresh { IfLink result (λ from to addr port. (in_faults from ≡ 0) × (out_faults to ≡ 0)) }
+        ensures fresh { IfLink result
+            (λ from to addr port. (in_faults from ≡ 0) × (out_faults to ≡ 0)) }
     {
         for _ in 0..u64::MAX {
             let found = self.seek();
@@ -254,12 +256,12 @@ impl<R: Files + Clock + Copy + Drop> Entrance<R> {
                 return Accepted::Stopped;
             }
             match found {
-                Found::Link(arrival) => match self.let_in(alloc, arrival) {
+                NextLink::Link(arrival) => match self.let_in(alloc, arrival) {
                     Some(accepted) => return accepted,
                     None => thread::sleep(&self.rt, Duration::from_millis(PAUSE)),
                 },
-                Found::Nothing => {}
-                Found::Failed => return Accepted::Failed,
+                NextLink::Nothing => {}
+                NextLink::Failed => return Accepted::Failed,
             }
         }
         Accepted::Failed

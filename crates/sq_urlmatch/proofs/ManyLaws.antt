@@ -37,7 +37,8 @@ or_false true = refl
 or_false false = refl
 
 -- from each tree and its pattern to the program of all of them
-pub whole_finds : (finds : List Find) (trees : List Hir) (p : Program) → pattern_of p ≡ alt_all (map meaning trees) → AreFoundAlike finds trees → FindSome finds (p ∷ [])
+pub whole_finds : (finds : List Find) (trees : List Hir) (p : Program) → pattern_of p ≡ alt_all (map meaning trees)
+    → AreFoundAlike finds trees → FindSome finds (p ∷ [])
 whole_finds finds trees p e alike text bytes =
     or_false (program_found text p)
     ∙ any_tree trees (pattern_of p) e text (is_some (find (pattern_of p) text 0)) refl
@@ -45,20 +46,30 @@ whole_finds finds trees p e alike text bytes =
     ∙ list_any-map (λ b. b) (λ f. is_found f text) finds
 
 -- from a tree and its pattern to its program
-pub single_finds : (f : Find) (tree : Hir) (p : Program) → p.hir ≡ tree → IsFoundAlike f tree → FindSome (f ∷ []) (p ∷ [])
+pub single_finds : (f : Find) (tree : Hir) (p : Program) → p.hir ≡ tree → IsFoundAlike f tree
+    → FindSome (f ∷ []) (p ∷ [])
 single_finds f tree p e alike text bytes =
-    let same : program_found text p ≡ is_found f text = ap (tree_found text) e ∙ alike text bytes in ap (λ b. b || false) same
+    let same : program_found text p ≡ is_found f text = ap (tree_found text) e ∙ alike text bytes in
+    ap (λ b. b || false) same
 
 -- two lists of patterns, and their programs
-pub more_finds : (finds more : List Find) (programs others : List Program) → FindSome finds programs → FindSome more others → FindSome (finds ++ more) (programs ++ others)
+pub more_finds : (finds more : List Find) (programs others : List Program) → FindSome finds programs
+    → FindSome more others → FindSome (finds ++ more) (programs ++ others)
 more_finds finds more programs others found other text bytes =
-    rw (list_any-append (program_found text) programs others, list_any-append (λ f. is_found f text) finds more, found text bytes, other text bytes) refl
+    rw (
+      list_any-append (program_found text) programs others,
+      list_any-append (λ f. is_found f text) finds more,
+      found text bytes,
+      other text bytes,
+    ) refl
 
-both_true : (b : Bool) (o : Option ℕ) (n : ℕ) (all : Bool) → (if b then o else Some n) ≡ None → (o ≡ None → all ≡ true) → (b && all) ≡ true
+both_true : (b : Bool) (o : Option ℕ) (n : ℕ) (all : Bool) → (if b then o else Some n) ≡ None → (o ≡ None → all ≡ true)
+    → (b && all) ≡ true
 both_true true o n all e k = k e
 both_true false o n all e k = cc
 
 -- where none is bad, all are patterns
 pub all_good : (place : ℕ) (finds : List Find) → first_bad place finds ≡ None → list_all is_pattern finds ≡ true
 all_good place [] e = refl
-all_good place (f ∷ finds) e = both_true (is_pattern f) (first_bad (suc place) finds) place (list_all is_pattern finds) e (all_good (suc place) finds)
+all_good place (f ∷ finds) e = both_true (is_pattern f) (first_bad (suc place) finds) place (list_all is_pattern finds)
+    e (all_good (suc place) finds)

@@ -13,13 +13,15 @@ use Rattle.sq_rules.specs.declared.leaves.Leaf.TheVariants as leaf
 use Rattle.sq_urlmatch.specs.Found.{fault_at, fault_from, finds_in, finds_of_leaf, first_bad}
 use Rattle.sq_urlmatch.specs.declared.setup.SetupFault.{SetupFault}
 
-good_then : (a b : Bool) (n : ℕ) (o : Option ℕ) → (a && b) ≡ true → (b ≡ true → o ≡ None) → (if a then o else Some n) ≡ None
+good_then : (a b : Bool) (n : ℕ) (o : Option ℕ) → (a && b) ≡ true → (b ≡ true → o ≡ None)
+    → (if a then o else Some n) ≡ None
 good_then true b n o all none = none all
 good_then false b n o all none = cc
 
 none_bad : (place : ℕ) (finds : List Find) → list_all is_pattern finds ≡ true → first_bad place finds ≡ None
 none_bad place [] all = refl
-none_bad place (f ∷ finds) all = good_then (is_pattern f) (list_all is_pattern finds) place (first_bad (suc place) finds) all (none_bad (suc place) finds)
+none_bad place (f ∷ finds) all = good_then (is_pattern f) (list_all is_pattern finds) place
+    (first_bad (suc place) finds) all (none_bad (suc place) finds)
 
 leaf_good : (l : Leaf) → are_patterns l ≡ true → list_all is_pattern (finds_of_leaf l) ≡ true
 leaf_good (leaf.Src values) good = refl
@@ -38,7 +40,8 @@ body_good (body.External class arguments) good = refl
 body_good (body.AnyOf terms) good = refl
 body_good (body.AllOf lines) good = refl
 
-both_then : (a b : Bool) (acl : ℕ) (o : Option ℕ) (rest : Option SetupFault) → (a && b) ≡ true → (a ≡ true → o ≡ None) → (b ≡ true → rest ≡ None) → fault_at acl o rest ≡ None
+both_then : (a b : Bool) (acl : ℕ) (o : Option ℕ) (rest : Option SetupFault) → (a && b) ≡ true → (a ≡ true → o ≡ None)
+    → (b ≡ true → rest ≡ None) → fault_at acl o rest ≡ None
 both_then true b acl o rest all none no_more = rw (none refl) (no_more all)
 both_then false b acl o rest all none no_more = cc
 
@@ -46,6 +49,7 @@ both_then false b acl o rest all none no_more = cc
 pub no_fault : (place : ℕ) (acls : List Acl) → all_patterns acls ≡ true → fault_from place acls ≡ None
 no_fault place [] all = refl
 no_fault place (a ∷ acls) all =
-    both_then (has_patterns a.body) (all_patterns acls) place (first_bad 0 (finds_in a.body)) (fault_from (suc place) acls) all
+    both_then (has_patterns a.body) (all_patterns acls) place (first_bad 0 (finds_in a.body))
+    (fault_from (suc place) acls) all
     (λ good. none_bad 0 (finds_in a.body) (body_good a.body good))
     (no_fault (suc place) acls)

@@ -23,15 +23,18 @@ tree_found text tree = is_some (find (meaning tree) text 0)
 
 -- the tree is found in the same texts of bytes as the pattern
 abbrev pub IsFoundAlike : Find → Hir → Type 0
-IsFoundAlike f tree = (text : List ℕ) → All (λ b. b < 256) text → tree_found text tree ≡ is_found f text
+IsFoundAlike f tree = (text : List ℕ) → All (λ b. b < 256) text
+    → tree_found text tree ≡ is_found f text
 
 -- each tree is found in the same texts as the pattern in its place
 abbrev pub AreFoundAlike : List Find → List Hir → Type 0
-AreFoundAlike finds trees = (text : List ℕ) → All (λ b. b < 256) text → map (tree_found text) trees ≡ map (λ f. is_found f text) finds
+AreFoundAlike finds trees = (text : List ℕ) → All (λ b. b < 256) text
+    → map (tree_found text) trees ≡ map (λ f. is_found f text) finds
 
 -- some program is found in the same texts as some pattern
 abbrev pub FindSome : List Find → List Program → Type 0
-FindSome finds programs = (text : List ℕ) → All (λ b. b < 256) text → some_program text programs ≡ some_found finds text
+FindSome finds programs = (text : List ℕ) → All (λ b. b < 256) text
+    → some_program text programs ≡ some_found finds text
 
 -- the patterns of a leaf
 abbrev pub finds_of_leaf : Leaf → List Find
@@ -64,7 +67,9 @@ abbrev pub fault_at : ℕ → Option ℕ → Option SetupFault → Option SetupF
 fault_at acl None rest = rest
 fault_at acl (Some pattern) rest = Some (BadPattern acl pattern)
 
--- the first acl and its first pattern that is none, where the first of these acls stands at this place
+-- the first acl and its first pattern that is none, where the first of these acls stands at this
+-- place
 abbrev pub fault_from : ℕ → List Acl → Option SetupFault
 fault_from place [] = None
-fault_from place (a ∷ acls) = fault_at place (first_bad 0 (finds_in a.body)) (fault_from (suc place) acls)
+fault_from place (a ∷ acls) = fault_at place (first_bad 0 (finds_in a.body))
+    (fault_from (suc place) acls)

@@ -1,4 +1,5 @@
--- The values of acls that are kept sorted (configuration reference, `acl`, types src, dst, dstdomain and port).
+-- The values of acls that are kept sorted (configuration reference, `acl`, types src, dst,
+-- dstdomain and port).
 use Rattle.std.specs.Prelude.{◌≡◌, ℕ, List, [], Bool, ◌&&◌, nat_le, Some, None, length, slice_get}
 use Rattle.std.specs.List.{list_any}
 use Rattle.std.specs.declared.option.Option.{Option}
@@ -77,7 +78,8 @@ abbrev pub ports_at : List Acl → ℕ → List PortRange
 ports_at acls place = ports_of (slice_get acls place)
 
 -- the sets have what these ranges, domains and ranges of ports hold
-pub record HoldAlike (ranges : List Range) (domains : List (List ℕ)) (ports : List PortRange) (s : ValueSets) : Type 0 where
+pub record HoldAlike (ranges : List Range) (domains : List (List ℕ)) (ports : List PortRange)
+    (s : ValueSets) : Type 0 where
   pub addresses : (a : Address) → IsAddress a → has_address s.addresses a ≡ in_some_range ranges a
   pub hosts : (host : List ℕ) → has_host s.domains host ≡ in_some_domain domains host
   pub numbers : (n : ℕ) → in_spans s.ports n ≡ in_some_ports ports n
@@ -85,9 +87,11 @@ pub record HoldAlike (ranges : List Range) (domains : List (List ℕ)) (ports : 
 -- there are sets for each acl, and they have what its values hold
 pub record HoldValues (acls : List Acl) (sets : List ValueSets) : Type 0 where
   pub long : length sets ≡ length acls
-  pub each : (place : ℕ) (s : ValueSets) → slice_get sets place ≡ Some s → HoldAlike (ranges_at acls place) (domains_at acls place) (ports_at acls place) s
+  pub each : (place : ℕ) (s : ValueSets) → slice_get sets place ≡ Some s
+      → HoldAlike (ranges_at acls place) (domains_at acls place) (ports_at acls place) s
 
 -- what is kept beside acls: the patterns of each, and sets of the values of each
-pub record IsSetUp (acls : List Acl) (patterns : List (List Find)) (sets : List ValueSets) : Type 0 where
+pub record IsSetUp (acls : List Acl) (patterns : List (List Find))
+    (sets : List ValueSets) : Type 0 where
   pub found : patterns ≡ finds_of_each acls
   pub values : HoldValues acls sets

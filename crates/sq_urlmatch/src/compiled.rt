@@ -61,7 +61,8 @@ fn copies_of(alloc: Global, finds: &[Find]) -> Result<Finds, WantOfMemory>
 fn programs_at(alloc: Global, acl: u32, finds: &[Find]) -> Result<Vec<Program>, SetupFault>
     ensures found { IfOk result (λ p. FindSome finds.now p.items) }
     ensures good { IfOk result (λ _. first_bad 0 finds.now ≡ None) }
-    ensures bad { IfErr result (λ e. e ≢ SetupFault.WantOfMemory → fault_at acl (first_bad 0 finds.now) None ≡ Some e) }
+    ensures bad { IfErr result
+        (λ e. e ≢ SetupFault.WantOfMemory → fault_at acl (first_bad 0 finds.now) None ≡ Some e) }
 {
     match programs_of(alloc, finds) {
         Ok(programs) => Ok(programs),
@@ -113,7 +114,9 @@ impl Compiled {
     ) -> Result<Compiled, SetupFault>
         ensures ok { IfOk result (λ c. c ≡ finds.now) }
         ensures good { IfOk result (λ _. first_bad 0 finds.now ≡ None) }
-        ensures bad { IfErr result (λ e. e ≢ SetupFault.WantOfMemory → fault_at acl (first_bad 0 finds.now) None ≡ Some e) }
+        ensures bad { IfErr result
+            (λ e. e ≢ SetupFault.WantOfMemory
+            → fault_at acl (first_bad 0 finds.now) None ≡ Some e) }
     {
         let programs = programs_at(alloc, acl, finds)?;
         let matchers = matchers_of(alloc, programs, room)?;

@@ -51,7 +51,8 @@ fn room_of(acls: &[Acl]) -> usize {
 // Reads the patterns of the acl at a place, or names the first that is none.
 fn read_finds(alloc: Global, acl: u32, finds: &[Find]) -> Result<(), SetupFault>
     ensures good { IfOk result (λ _. first_bad 0 finds.now ≡ None) }
-    ensures bad { IfErr result (λ e. e ≢ SetupFault.WantOfMemory → fault_at acl (first_bad 0 finds.now) None ≡ Some e) }
+    ensures bad { IfErr result
+        (λ e. e ≢ SetupFault.WantOfMemory → fault_at acl (first_bad 0 finds.now) None ≡ Some e) }
 {
     for (place, find) in finds.iter().enumerate() {
         if !is_pattern(alloc, find.pattern.as_bytes(), find.fold)? {
@@ -83,7 +84,8 @@ impl Patterns {
         requires { length acls.now < 2 ^ 32 }
         ensures ok { IfOk result (λ p. p ≡ finds_of_each acls.now) }
         ensures good { IfOk result (λ _. fault_from 0 acls.now ≡ None) }
-        ensures bad { IfErr result (λ e. e ≢ SetupFault.WantOfMemory → fault_from 0 acls.now ≡ Some e) }
+        ensures bad { IfErr result
+            (λ e. e ≢ SetupFault.WantOfMemory → fault_from 0 acls.now ≡ Some e) }
     {
         read_all(alloc, acls)?;
         let room = room_of(acls);
@@ -105,7 +107,8 @@ impl Patterns {
         acl: u32,
         subject: &[u8],
     ) -> Result<bool, WantOfMemory>
-        ensures found { IfOk result (λ b. b ≡ some_found (slice_index_or self.old acl []) subject.now) }
+        ensures found { IfOk result
+            (λ b. b ≡ some_found (slice_index_or self.old acl []) subject.now) }
         ensures same { self.new ≡ self.old }
     {
         match self.lists.get_mut(acl as usize) {

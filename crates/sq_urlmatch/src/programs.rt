@@ -46,7 +46,8 @@ pub struct Trees {
 fn trees_of(alloc: Global, finds: &[Find]) -> Result<Trees, ListFault>
     ensures alike { IfOk result (λ t. AreFoundAlike finds.now t.trees.items) }
     ensures good { IfOk result (λ _. first_bad 0 finds.now ≡ None) }
-    ensures bad { IfErr result (λ e. (k : ℕ) → e ≡ ListFault.BadPattern k → first_bad 0 finds.now ≡ Some k) }
+    ensures bad { IfErr result
+        (λ e. (k : ℕ) → e ≡ ListFault.BadPattern k → first_bad 0 finds.now ≡ Some k) }
 {
     let mut trees = Vec::new(alloc);
     let mut groups = 1;
@@ -107,7 +108,9 @@ fn single_programs(alloc: Global, finds: &[Find]) -> Result<Vec<Program>, WantOf
 
 // One program for all patterns, or none where it would be too large.
 fn whole_program(alloc: Global, trees: Trees) -> Result<Option<Program>, WantOfMemory>
-    ensures { IfOk result (λ o. (finds : List Find) → AreFoundAlike finds trees.trees.items → IfSome o (λ p. FindSome finds (p ∷ []))) }
+    ensures { IfOk result
+        (λ o. (finds : List Find) → AreFoundAlike finds trees.trees.items
+        → IfSome o (λ p. FindSome finds (p ∷ []))) }
 {
     match program_of(alloc, Hir::Alternation(trees.trees), trees.groups) {
         Ok(program) => Ok(Some(program)),
@@ -120,7 +123,8 @@ fn whole_program(alloc: Global, trees: Trees) -> Result<Option<Program>, WantOfM
 pub fn programs_of(alloc: Global, finds: &[Find]) -> Result<Vec<Program>, ListFault>
     ensures found { IfOk result (λ p. FindSome finds.now p.items) }
     ensures good { IfOk result (λ _. first_bad 0 finds.now ≡ None) }
-    ensures bad { IfErr result (λ e. (k : ℕ) → e ≡ ListFault.BadPattern k → first_bad 0 finds.now ≡ Some k) }
+    ensures bad { IfErr result
+        (λ e. (k : ℕ) → e ≡ ListFault.BadPattern k → first_bad 0 finds.now ≡ Some k) }
 {
     if finds.is_empty() {
         return Ok(Vec::new(alloc));

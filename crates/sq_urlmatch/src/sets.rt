@@ -20,7 +20,9 @@ pub struct ValueSets {
 impl ValueSets {
     /// The values of an acl.
     pub fn of(alloc: Global, acl: &Acl) -> Result<ValueSets, WantOfMemory>
-        ensures { IfOk result (λ s. HoldAlike (ranges_in acl.now.body) (domains_in acl.now.body) (ports_in acl.now.body) s) }
+        ensures { IfOk result
+            (λ s. HoldAlike (ranges_in acl.now.body) (domains_in acl.now.body)
+            (ports_in acl.now.body) s) }
     {
         match &acl.body {
             Body::Leaf(Leaf::Src(values)) => sets_of(alloc, values, &Texts::new(alloc), &[]),

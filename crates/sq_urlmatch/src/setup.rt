@@ -74,7 +74,8 @@ impl Setup {
     pub fn make(alloc: Global, config: Config) -> Result<Setup, SetupFault>
         ensures ok { IfOk result (λ s. s ≡ config) }
         ensures good { IfOk result (λ _. fault_from 0 config.acls ≡ None) }
-        ensures bad { IfErr result (λ e. e ≢ SetupFault.WantOfMemory → fault_from 0 config.acls ≡ Some e) }
+        ensures bad { IfErr result
+            (λ e. e ≢ SetupFault.WantOfMemory → fault_from 0 config.acls ≡ Some e) }
     {
         let patterns = Patterns::of(alloc, config.acls())?;
         let sets = sets_of_each(alloc, config.acls())?;

@@ -29,9 +29,13 @@ impl From<WantOfMemory> for TreeFault {
 
 /// The tree of a pattern.
 pub fn tree_of(alloc: Global, pattern: &[u8], fold: bool) -> Result<Parsed, TreeFault>
-    ensures alike { IfOk result (λ p. IsFoundAlike (record { pattern = pattern.now; fold = fold }) p.hir) }
-    ensures good { IfOk result (λ _. is_pattern (record { pattern = pattern.now; fold = fold }) ≡ true) }
-    ensures bad { IfErr result (λ e. e ≡ TreeFault.BadPattern → is_pattern (record { pattern = pattern.now; fold = fold }) ≡ false) }
+    ensures alike { IfOk result
+        (λ p. IsFoundAlike (record { pattern = pattern.now; fold = fold }) p.hir) }
+    ensures good { IfOk result
+        (λ _. is_pattern (record { pattern = pattern.now; fold = fold }) ≡ true) }
+    ensures bad { IfErr result
+        (λ e. e ≡ TreeFault.BadPattern
+        → is_pattern (record { pattern = pattern.now; fold = fold }) ≡ false) }
 {
     let Ok(text) = str::from_utf8(pattern) else {
         return Err(TreeFault::BadPattern);

@@ -2,8 +2,8 @@
 use Rattle.std.proofs.Common.{◌≡◌, ℕ, ◌+◌, List, [], ◌∷◌, length, Bool, true, false, ◌&&◌, nat_le, if◌then◌else◌, bytes_eq, codes, Option, Some, None, IfSome, Result, Ok, Err, refl, sym, ap, subst, ◌∙◌, arith}
 use Rattle.std.specs.Io.KnownBytes.{IsAtEnd, prepend_known}
 use Rattle.std.proofs.lemmas.Bool.{and_parts}
-use Rattle.sq_outside.specs.SourceLines.{FindsWithin, Line, is_within, lines}
-use Rattle.sq_outside.specs.declared.lines.Found.TheVariants as found
+use Rattle.sq_outside.specs.SourceLines.{FindsWithin, SourceLine, is_within, lines}
+use Rattle.sq_outside.specs.declared.lines.LineFound.TheVariants as found
 use Rattle.sq_machine.specs.declared.entries.Event.{Event}
 use Rattle.sq_machine.specs.declared.entries.Event.TheVariants.{Begin}
 use Rattle.sq_machine.specs.declared.entries.Told.TheVariants as told
@@ -12,9 +12,9 @@ use Rattle.sq_machine.specs.Entries.{History, Noted, entry_at}
 use Rattle.sq_machine.specs.Epochs.{config_of}
 use Rattle.sq_machine.specs.Events.{is_begin}
 use Rattle.sq_machine.specs.Readings.{current}
-use Rattle.sq_history.specs.Given.{EachOf}
+use Rattle.sq_model_laws.specs.Given.{EachOf}
 use Rattle.sq_replay.specs.RunText.{first_history}
-use Rattle.sq_replay.specs.Runs.{Is, Machine}
+use Rattle.sq_replay.specs.Runs.{Is, ScriptView}
 use Rattle.sq_verify.specs.declared.findings.Finding.{Finding}
 use Rattle.sq_verify.specs.declared.findings.Finding.TheVariants as finding
 use Rattle.sq_verify.specs.declared.halts.Halt.{Halt}
@@ -30,9 +30,12 @@ use Rattle.sq_verify.proofs.TextLaws.{eq_of}
 -- the first entry
 
 -- the machine has begun, and the line is that of its entry
-pub begin_ok : {M : Type 0} (machine : M → Machine) (config : Configuration) (v : Version) (line : List ℕ) (now : ℕ) (offset : _) (m : M)
-    → ((configs : List Configuration) → EachOf IsConfiguration configs → config_of configs 1 ≡ Some config → Is (machine m) configs (first_history now offset))
-    → bytes_eq (text_in v 1 1 (entry_at now (Begin offset) (told.Epoch 1))) line ≡ true → BeginsLine machine config (begun_line v line now (Begin offset)) (Ok m)
+pub begin_ok : {M : Type 0} (machine : M → ScriptView) (config : Configuration) (v : Version) (line : List ℕ) (now : ℕ)
+    (offset : _) (m : M)
+    → ((configs : List Configuration) → EachOf IsConfiguration configs → config_of configs 1 ≡ Some config
+    → Is (machine m) configs (first_history now offset))
+    → bytes_eq (text_in v 1 1 (entry_at now (Begin offset) (told.Epoch 1))) line ≡ true
+    → BeginsLine machine config (begun_line v line now (Begin offset)) (Ok m)
 begin_ok machine config v line now offset m begun same =
     let e = entry_at now (Begin offset) (told.Epoch 1) in (
       e ∷ [],
@@ -41,106 +44,146 @@ begin_ok machine config v line now offset m begun same =
     )
 
 -- the line is another, or memory was wanting
-pub begin_err : {M : Type 0} (machine : M → Machine) (config : Configuration) (v : Version) (line : List ℕ) (now : ℕ) (offset : _) (stop : Halt)
-    → Compares (text_in v 1 1 (entry_at now (Begin offset) (told.Epoch 1))) line (Err stop) → BeginsLine machine config (begun_line v line now (Begin offset)) (Err stop)
+pub begin_err : {M : Type 0} (machine : M → ScriptView) (config : Configuration) (v : Version) (line : List ℕ) (now : ℕ)
+    (offset : _) (stop : Halt)
+    → Compares (text_in v 1 1 (entry_at now (Begin offset) (told.Epoch 1))) line (Err stop)
+    → BeginsLine machine config (begun_line v line now (Begin offset)) (Err stop)
 begin_err machine config v line now offset halt.NoLine c = absurd c
 begin_err machine config v line now offset (halt.Differs other) c =
     let e = entry_at now (Begin offset) (told.Epoch 1) in
-    ap (λ (b : Bool). if b then Ok (e ∷ []) else Err (halt.Differs (line_in v [] e))) c.1 ∙ ap (λ (t : List ℕ). Err (halt.Differs t)) (sym c.0)
+    ap (λ (b : Bool). if b then Ok (e ∷ []) else Err (halt.Differs (line_in v [] e))) c.1
+    ∙ ap (λ (t : List ℕ). Err (halt.Differs t)) (sym c.0)
 begin_err machine config v line now offset halt.WantOfMemory c = tt
 
 -- another event does not begin a journal
-pub begun_none : (v : Version) (line : List ℕ) (now : ℕ) (event : Event) → is_begin event ≡ false → begun_line v line now event ≡ Err halt.NoLine
+pub begun_none : (v : Version) (line : List ℕ) (now : ℕ) (event : Event) → is_begin event ≡ false
+    → begun_line v line now event ≡ Err halt.NoLine
 begun_none v line now (Begin offset) e = absurd (cc)
 begun_none v line now event e = refl
 
 -- what follows the first line
 
-first_ahead : (v : Version) (config : Configuration) (line : List ℕ) (t : History) (ls : List Line) → stated_first v line (noted_in v line) ≡ Ok t
+first_ahead : (v : Version) (config : Configuration) (line : List ℕ) (t : History) (ls : List SourceLine)
+    → stated_first v line (noted_in v line) ≡ Ok t
     → AreAhead v (epochs_of v config (record { bytes = line; ended = true } ∷ ls)) t ls
 first_ahead v config line t ls step =
     let i = stated_begins v line (noted_in v line) t refl step in
     record {
       begun = config ∷ [];
       count_is = sym (sym (ap current i.history_is) ∙ i.current_is);
-      configs_are = ap (λ (xs : List Configuration). config ∷ xs) (ap (λ (o : Option Noted). named_in o (named_from v ls)) i.noted_is ∙ i.begins (named_from v ls));
+      configs_are = ap (λ (xs : List Configuration). config ∷ xs)
+          (ap (λ (o : Option Noted). named_in o (named_from v ls)) i.noted_is ∙ i.begins (named_from v ls));
     }
 
 -- the machine has begun, and the rest was judged
-pub rest_judged : (w : Machine) (v : Version) (config : Configuration) (left : Option (List ℕ)) (line : List ℕ) (place : ℕ) (t : History) (result : Finding) → IsConfiguration config
+pub rest_judged : (w : ScriptView) (v : Version) (config : Configuration) (left : Option (List ℕ)) (line : List ℕ)
+    (place : ℕ) (t : History) (result : Finding) → IsConfiguration config
     → stated_first v line (noted_in v line) ≡ Ok t
-    → ((configs : List Configuration) → EachOf IsConfiguration configs → config_of configs 1 ≡ Some config → Stands w 1 1 configs t)
-    → ((configs : List Configuration) (h : History) → Stands w 1 1 configs h → JudgesOver left v configs h (λ bytes. judged_lines v configs h place (lines bytes)) result)
+    → ((configs : List Configuration) → EachOf IsConfiguration configs → config_of configs 1 ≡ Some config
+    → Stands w 1 1 configs t)
+    → ((configs : List Configuration) (h : History) → Stands w 1 1 configs h
+    → JudgesOver left v configs h (λ bytes. judged_lines v configs h place (lines bytes)) result)
     → IfSome left (λ bytes. Comes (judged_behind v config line place (lines bytes)) result)
 rest_judged w v config None line place t result good step stands rest = tt
 rest_judged w v config (Some bytes) line place t result good step stands rest =
-    let all : List Line = record { bytes = line; ended = true } ∷ lines bytes in
+    let all : List SourceLine = record { bytes = line; ended = true } ∷ lines bytes in
     let configs = epochs_of v config all in
     let comes : Comes (judged_lines v configs t place (lines bytes)) result =
-    rest configs t (stands configs (epochs_good v config all good) refl) (first_ahead v config line t (lines bytes) step) in
-    subst (λ (j : Judged). Comes j result) (sym (ap (λ (s : Result History Halt). go_on v [] line s (λ t. judged_lines v configs t place (lines bytes))) step)) comes
+    rest configs t (stands configs (epochs_good v config all good) refl)
+    (first_ahead v config line t (lines bytes) step) in
+    subst (λ (j : Judged). Comes j result)
+    (sym (ap (λ (s : Result History Halt). go_on v [] line s (λ t. judged_lines v configs t place (lines bytes))) step))
+    comes
 
-first_stop : {M : Type 0} (machine : M → Machine) (config : Configuration) (v : Version) (line : List ℕ) (step : Result History Halt) (go : History → Judged) (stop : Halt) → BeginsLine machine config step (Err stop)
+first_stop : {M : Type 0} (machine : M → ScriptView) (config : Configuration) (v : Version) (line : List ℕ)
+    (step : Result History Halt) (go : History → Judged) (stop : Halt) → BeginsLine machine config step (Err stop)
     → Comes (go_on v [] line step go) (found_at v 0 line stop)
-first_stop machine config v line step go halt.NoLine b = ap (λ (s : Result History Halt). (go_on v [] line s go).found) b
-first_stop machine config v line step go (halt.Differs text) b = ap (λ (s : Result History Halt). (go_on v [] line s go).found) b
+first_stop machine config v line step go halt.NoLine b = ap (λ (s : Result History Halt).
+    (go_on v [] line s go).found) b
+first_stop machine config v line step go (halt.Differs text) b =
+    ap (λ (s : Result History Halt). (go_on v [] line s go).found) b
 first_stop machine config v line step go halt.WantOfMemory b = tt
 
 -- the first line ends the journal
-pub first_halted : {M : Type 0} (machine : M → Machine) (config : Configuration) (v : Version) (left : Option (List ℕ)) (line : List ℕ) (place : ℕ) (stop : Halt) → BeginsLine machine config (stated_first v line (noted_in v line)) (Err stop)
+pub first_halted : {M : Type 0} (machine : M → ScriptView) (config : Configuration) (v : Version)
+    (left : Option (List ℕ)) (line : List ℕ) (place : ℕ) (stop : Halt)
+    → BeginsLine machine config (stated_first v line (noted_in v line)) (Err stop)
     → IfSome left (λ bytes. Comes (judged_behind v config line place (lines bytes)) (found_at v 0 line stop))
 first_halted machine config v None line place stop b = tt
 first_halted machine config v (Some bytes) line place stop b =
     first_stop machine config v line (stated_first v line (noted_in v line))
-    (λ t. judged_lines v (epochs_of v config (record { bytes = line; ended = true } ∷ lines bytes)) t place (lines bytes)) stop b
+    (λ t. judged_lines v (epochs_of v config (record { bytes = line; ended = true } ∷ lines bytes)) t place
+    (lines bytes)) stop b
 
 -- reading the first entry's line
 
 -- there is none
-pub first_missing : (v : Version) (config : Configuration) (left after : Option (List ℕ)) (line : List ℕ) (place : ℕ) → FindsWithin (line_limit v) place left after line found.End
-    → IfSome left (λ bytes. Comes (judged_first v (epochs_of v config (lines bytes)) place (lines bytes)) (finding.Script (line_number v 0)))
+pub first_missing : (v : Version) (config : Configuration) (left after : Option (List ℕ)) (line : List ℕ) (place : ℕ)
+    → FindsWithin (line_limit v) place left after line found.End
+    → IfSome left (λ bytes. Comes (judged_first v (epochs_of v config (lines bytes)) place (lines bytes))
+    (finding.Script (line_number v 0)))
 first_missing v config None after line place f = tt
 first_missing v config (Some bytes) after line place f =
-    subst (λ (b : List ℕ). Comes (judged_first v (epochs_of v config (lines b)) place (lines b)) (finding.Script (line_number v 0))) (sym f.0) refl
+    subst (λ (b : List ℕ). Comes (judged_first v (epochs_of v config (lines b)) place (lines b))
+    (finding.Script (line_number v 0))) (sym f.0) refl
 
 -- it cannot be read
-faulty_lines : (v : Version) (configs : List Configuration) (l : Line) (ls : List Line) (place : ℕ) → is_within (line_limit v) place l ≡ false → Comes (judged_first v configs place (l ∷ ls)) (finding.Script (line_number v 0))
+faulty_lines : (v : Version) (configs : List Configuration) (l : SourceLine) (ls : List SourceLine) (place : ℕ)
+    → is_within (line_limit v) place l ≡ false
+    → Comes (judged_first v configs place (l ∷ ls)) (finding.Script (line_number v 0))
 faulty_lines v configs l ls place faulty =
-    ap (λ b. (go_on v [] l.bytes (if b then stated_first v l.bytes (noted_in v l.bytes) else Err halt.NoLine) (λ t. judged_lines v configs t (place + length l.bytes + 1) ls)).found) faulty
+    ap (λ b. (go_on v [] l.bytes (if b then stated_first v l.bytes (noted_in v l.bytes) else Err halt.NoLine)
+    (λ t. judged_lines v configs t (place + length l.bytes + 1) ls)).found) faulty
 
-pub first_faulty : (v : Version) (config : Configuration) (left after : Option (List ℕ)) (line : List ℕ) (place : ℕ) → FindsWithin (line_limit v) place left after line found.Faulty
-    → IfSome left (λ bytes. Comes (judged_first v (epochs_of v config (lines bytes)) place (lines bytes)) (finding.Script (line_number v 0)))
+pub first_faulty : (v : Version) (config : Configuration) (left after : Option (List ℕ)) (line : List ℕ) (place : ℕ)
+    → FindsWithin (line_limit v) place left after line found.Faulty
+    → IfSome left (λ bytes. Comes (judged_first v (epochs_of v config (lines bytes)) place (lines bytes))
+    (finding.Script (line_number v 0)))
 first_faulty v config None after line place f = tt
 first_faulty v config (Some bytes) after line place f =
-    subst (λ (ls : List Line). Comes (judged_first v (epochs_of v config ls) place ls) (finding.Script (line_number v 0))) (sym f.first) (faulty_lines v (epochs_of v config (f.line ∷ f.rest)) f.line f.rest place f.faulty)
+    subst (λ (ls : List SourceLine). Comes (judged_first v (epochs_of v config ls) place ls)
+    (finding.Script (line_number v 0))) (sym f.first)
+    (faulty_lines v (epochs_of v config (f.line ∷ f.rest)) f.line f.rest place f.faulty)
 
 -- it can
-readable_line : (v : Version) (configs : List Configuration) (line : List ℕ) (ls : List Line) (place : ℕ) → is_within (line_limit v) place (record { bytes = line; ended = true }) ≡ true
-    → judged_first v configs place (record { bytes = line; ended = true } ∷ ls) ≡ go_on v [] line (stated_first v line (noted_in v line)) (λ t. judged_lines v configs t (place + length line + 1) ls)
+readable_line : (v : Version) (configs : List Configuration) (line : List ℕ) (ls : List SourceLine) (place : ℕ)
+    → is_within (line_limit v) place (record { bytes = line; ended = true }) ≡ true
+    → judged_first v configs place (record { bytes = line; ended = true } ∷ ls)
+    ≡ go_on v [] line (stated_first v line (noted_in v line))
+    (λ t. judged_lines v configs t (place + length line + 1) ls)
 readable_line v configs line ls place readable =
-    ap (λ b. go_on v [] line (if b then stated_first v line (noted_in v line) else Err halt.NoLine) (λ t. judged_lines v configs t (place + length line + 1) ls)) readable
+    ap (λ b. go_on v [] line (if b then stated_first v line (noted_in v line) else Err halt.NoLine)
+    (λ t. judged_lines v configs t (place + length line + 1) ls)) readable
 
-pub first_whole : (v : Version) (config : Configuration) (left after : Option (List ℕ)) (line : List ℕ) (place moved : ℕ) (result : Finding) → FindsWithin (line_limit v) place left after line found.Whole → moved ≡ place + length line + 1
+pub first_whole : (v : Version) (config : Configuration) (left after : Option (List ℕ)) (line : List ℕ)
+    (place moved : ℕ) (result : Finding) → FindsWithin (line_limit v) place left after line found.Whole
+    → moved ≡ place + length line + 1
     → IfSome after (λ bytes. Comes (judged_behind v config line moved (lines bytes)) result)
     → IfSome left (λ bytes. Comes (judged_first v (epochs_of v config (lines bytes)) place (lines bytes)) result)
 first_whole v config None after line place moved result f at comes = tt
 first_whole v config (Some bytes) after line place moved result f at comes =
-    let l : Line = record { bytes = line; ended = true } in
-    let behind : Comes (judged_behind v config line moved (lines f.rest)) result = subst (λ (o : Option (List ℕ)). IfSome o (λ bytes. Comes (judged_behind v config line moved (lines bytes)) result)) f.left comes in
-    let here : Comes (judged_behind v config line (place + length line + 1) (lines f.rest)) result = subst (λ (p : ℕ). Comes (judged_behind v config line p (lines f.rest)) result) at behind in
-    subst (λ (ls : List Line). Comes (judged_first v (epochs_of v config ls) place ls) result) (sym f.first)
-    (subst (λ (j : Judged). Comes j result) (sym (readable_line v (epochs_of v config (l ∷ lines f.rest)) line (lines f.rest) place f.readable)) here)
+    let l : SourceLine = record { bytes = line; ended = true } in
+    let behind : Comes (judged_behind v config line moved (lines f.rest)) result =
+    subst (λ (o : Option (List ℕ)). IfSome o (λ bytes. Comes (judged_behind v config line moved (lines bytes)) result))
+    f.left comes in
+    let here : Comes (judged_behind v config line (place + length line + 1) (lines f.rest)) result =
+    subst (λ (p : ℕ). Comes (judged_behind v config line p (lines f.rest)) result) at behind in
+    subst (λ (ls : List SourceLine). Comes (judged_first v (epochs_of v config ls) place ls) result) (sym f.first)
+    (subst (λ (j : Judged). Comes j result)
+    (sym (readable_line v (epochs_of v config (l ∷ lines f.rest)) line (lines f.rest) place f.readable)) here)
 
 -- the version
 
-version_readable : (l : Line) → is_version_line l ≡ true → is_within (line_limit version.One) 0 l ≡ true
+version_readable : (l : SourceLine) → is_version_line l ≡ true → is_within (line_limit version.One) 0 l ≡ true
 version_readable l e =
     let parts = and_parts l.ended (bytes_eq l.bytes (codes "journal 2")) e in
     ap (λ (b : Bool). b && (nat_le (length l.bytes) 4194304 && nat_le (0 + length l.bytes + 1) 1073741824)) parts.0
-    ∙ ap (λ (t : List ℕ). true && (nat_le (length t) 4194304 && nat_le (0 + length t + 1) 1073741824)) (eq_of l.bytes (codes "journal 2") parts.1)
+    ∙ ap (λ (t : List ℕ). true && (nat_le (length t) 4194304 && nat_le (0 + length t + 1) 1073741824))
+    (eq_of l.bytes (codes "journal 2") parts.1)
 
 -- a line that cannot be read tells no version
-no_version : (l : Line) (b : Bool) → is_version_line l ≡ b → is_within (line_limit version.One) 0 l ≡ false → b ≡ false
+no_version : (l : SourceLine) (b : Bool) → is_version_line l ≡ b → is_within (line_limit version.One) 0 l ≡ false
+    → b ≡ false
 no_version l true e faulty = absurd (true_false (sym (version_readable l e) ∙ faulty))
   where
     true_false : true ≡ false → ⊥
@@ -148,52 +191,79 @@ no_version l true e faulty = absurd (true_false (sym (version_readable l e) ∙ 
 no_version l false e faulty = refl
 
 -- without a version line the journal is of version 1
-one_is : (config : Configuration) (l : Line) (ls : List Line) (result : Finding) → is_version_line l ≡ false → Comes (judged_first version.One (epochs_of version.One config (l ∷ ls)) 0 (l ∷ ls)) result → Comes (judged config (l ∷ ls)) result
-one_is config l ls result e comes = subst (λ (b : Bool). Comes (if b then judged_two config l ls else judged_one config (l ∷ ls)) result) (sym e) comes
+one_is : (config : Configuration) (l : SourceLine) (ls : List SourceLine) (result : Finding) → is_version_line l ≡ false
+    → Comes (judged_first version.One (epochs_of version.One config (l ∷ ls)) 0 (l ∷ ls)) result
+    → Comes (judged config (l ∷ ls)) result
+one_is config l ls result e comes = subst (λ (b : Bool). Comes
+    (if b then judged_two config l ls else judged_one config (l ∷ ls)) result) (sym e) comes
 
-two_is : (config : Configuration) (l : Line) (ls : List Line) (result : Finding) → is_version_line l ≡ true → Comes (judged_first version.Two (epochs_of version.Two config ls) (length l.bytes + 1) ls) result → Comes (judged config (l ∷ ls)) result
-two_is config l ls result e comes = subst (λ (b : Bool). Comes (if b then judged_two config l ls else judged_one config (l ∷ ls)) result) (sym e) comes
+two_is : (config : Configuration) (l : SourceLine) (ls : List SourceLine) (result : Finding) → is_version_line l ≡ true
+    → Comes (judged_first version.Two (epochs_of version.Two config ls) (length l.bytes + 1) ls) result
+    → Comes (judged config (l ∷ ls)) result
+two_is config l ls result e comes = subst (λ (b : Bool). Comes
+    (if b then judged_two config l ls else judged_one config (l ∷ ls)) result) (sym e) comes
 
 -- a journal without a byte
-pub judged_missing : (config : Configuration) (left after : Option (List ℕ)) (line : List ℕ) → FindsWithin (line_limit version.One) 0 left after line found.End → IfSome left (λ bytes. Comes (judged config (lines bytes)) (finding.Script 1))
+pub judged_missing : (config : Configuration) (left after : Option (List ℕ)) (line : List ℕ)
+    → FindsWithin (line_limit version.One) 0 left after line found.End
+    → IfSome left (λ bytes. Comes (judged config (lines bytes)) (finding.Script 1))
 judged_missing config None after line f = tt
-judged_missing config (Some bytes) after line f = subst (λ (b : List ℕ). Comes (judged config (lines b)) (finding.Script 1)) (sym f.0) refl
+judged_missing config (Some bytes) after line f = subst (λ (b : List ℕ). Comes (judged config (lines b))
+    (finding.Script 1)) (sym f.0) refl
 
 -- one whose first line cannot be read
-pub judged_faulty : (config : Configuration) (left after : Option (List ℕ)) (line : List ℕ) → FindsWithin (line_limit version.One) 0 left after line found.Faulty → IfSome left (λ bytes. Comes (judged config (lines bytes)) (finding.Script 1))
+pub judged_faulty : (config : Configuration) (left after : Option (List ℕ)) (line : List ℕ)
+    → FindsWithin (line_limit version.One) 0 left after line found.Faulty
+    → IfSome left (λ bytes. Comes (judged config (lines bytes)) (finding.Script 1))
 judged_faulty config None after line f = tt
 judged_faulty config (Some bytes) after line f =
-    subst (λ (ls : List Line). Comes (judged config ls) (finding.Script 1)) (sym f.first)
+    subst (λ (ls : List SourceLine). Comes (judged config ls) (finding.Script 1)) (sym f.first)
     (one_is config f.line f.rest (finding.Script 1) (no_version f.line (is_version_line f.line) refl f.faulty)
     (faulty_lines version.One (epochs_of version.One config (f.line ∷ f.rest)) f.line f.rest 0 f.faulty))
 
 -- one of version 1
-pub judged_first_one : (config : Configuration) (left after : Option (List ℕ)) (line : List ℕ) (moved : ℕ) (result : Finding) → bytes_eq line (codes "journal 2") ≡ false → FindsWithin (line_limit version.One) 0 left after line found.Whole
-    → moved ≡ 0 + length line + 1 → IfSome after (λ bytes. Comes (judged_behind version.One config line moved (lines bytes)) result) → IfSome left (λ bytes. Comes (judged config (lines bytes)) result)
+pub judged_first_one : (config : Configuration) (left after : Option (List ℕ)) (line : List ℕ) (moved : ℕ)
+    (result : Finding) → bytes_eq line (codes "journal 2") ≡ false
+    → FindsWithin (line_limit version.One) 0 left after line found.Whole
+    → moved ≡ 0 + length line + 1
+    → IfSome after (λ bytes. Comes (judged_behind version.One config line moved (lines bytes)) result)
+    → IfSome left (λ bytes. Comes (judged config (lines bytes)) result)
 judged_first_one config None after line moved result e f at comes = tt
 judged_first_one config (Some bytes) after line moved result e f at comes =
-    subst (λ (ls : List Line). Comes (judged config ls) result) (sym f.first)
+    subst (λ (ls : List SourceLine). Comes (judged config ls) result) (sym f.first)
     (one_is config (record { bytes = line; ended = true }) (lines f.rest) result e
-    (subst (λ (ls : List Line). Comes (judged_first version.One (epochs_of version.One config ls) 0 ls) result) f.first
+    (subst (λ (ls : List SourceLine). Comes (judged_first version.One (epochs_of version.One config ls) 0 ls) result)
+    f.first
     (first_whole version.One config (Some bytes) after line 0 moved result f at comes)))
 
 -- one of version 2
-pub judged_first_two : (config : Configuration) (left after : Option (List ℕ)) (line : List ℕ) (moved : ℕ) (result : Finding) → bytes_eq line (codes "journal 2") ≡ true → FindsWithin (line_limit version.One) 0 left after line found.Whole
-    → moved ≡ 0 + length line + 1 → IfSome after (λ bytes. Comes (judged_first version.Two (epochs_of version.Two config (lines bytes)) moved (lines bytes)) result) → IfSome left (λ bytes. Comes (judged config (lines bytes)) result)
+pub judged_first_two : (config : Configuration) (left after : Option (List ℕ)) (line : List ℕ) (moved : ℕ)
+    (result : Finding) → bytes_eq line (codes "journal 2") ≡ true
+    → FindsWithin (line_limit version.One) 0 left after line found.Whole
+    → moved ≡ 0 + length line + 1
+    → IfSome after (λ bytes. Comes
+    (judged_first version.Two (epochs_of version.Two config (lines bytes)) moved (lines bytes)) result)
+    → IfSome left (λ bytes. Comes (judged config (lines bytes)) result)
 judged_first_two config None after line moved result e f at comes = tt
 judged_first_two config (Some bytes) after line moved result e f at comes =
-    let here : Comes (judged_first version.Two (epochs_of version.Two config (lines f.rest)) moved (lines f.rest)) result =
-    subst (λ (o : Option (List ℕ)). IfSome o (λ bytes. Comes (judged_first version.Two (epochs_of version.Two config (lines bytes)) moved (lines bytes)) result)) f.left comes in
-    subst (λ (ls : List Line). Comes (judged config ls) result) (sym f.first)
+    let here : Comes (judged_first version.Two (epochs_of version.Two config (lines f.rest)) moved (lines f.rest))
+    result =
+    subst (λ (o : Option (List ℕ)). IfSome o
+    (λ bytes. Comes (judged_first version.Two (epochs_of version.Two config (lines bytes)) moved (lines bytes)) result))
+    f.left comes in
+    subst (λ (ls : List SourceLine). Comes (judged config ls) result) (sym f.first)
     (two_is config (record { bytes = line; ended = true }) (lines f.rest) result e
-    (subst (λ (p : ℕ). Comes (judged_first version.Two (epochs_of version.Two config (lines f.rest)) p (lines f.rest)) result) (omega (arith, at)) here))
+    (subst (λ (p : ℕ). Comes (judged_first version.Two (epochs_of version.Two config (lines f.rest)) p (lines f.rest))
+    result) (omega (arith, at)) here))
 
 -- the end
 
 -- what is verified behind a line that was found is read to its end
-pub reaches_behind : (f : Finding) (left after last : Option (List ℕ)) (limit place : ℕ) (line : List ℕ) → FindsWithin limit place left after line found.Whole → ReachesEnd f after last → ReachesEnd f left last
+pub reaches_behind : (f : Finding) (left after last : Option (List ℕ)) (limit place : ℕ) (line : List ℕ)
+    → FindsWithin limit place left after line found.Whole → ReachesEnd f after last → ReachesEnd f left last
 reaches_behind (finding.Verified count) None after last limit place line f r = tt
-reaches_behind (finding.Verified count) (Some bytes) after last limit place line f r = subst (λ (o : Option (List ℕ)). IfSome o (λ bytes. IsAtEnd last)) f.left r
+reaches_behind (finding.Verified count) (Some bytes) after last limit place line f r =
+    subst (λ (o : Option (List ℕ)). IfSome o (λ bytes. IsAtEnd last)) f.left r
 reaches_behind (finding.Script n) left after last limit place line f r = tt
 reaches_behind (finding.Differs n machine journal) left after last limit place line f r = tt
 reaches_behind finding.ReadFault left after last limit place line f r = tt
@@ -204,12 +274,14 @@ held_at_end held None e = tt
 held_at_end [] (Some bytes) e = e
 held_at_end (b ∷ held) (Some bytes) e = absurd cc
 
-if_at_end : (o : Option (List ℕ)) (held : List ℕ) (left : Option (List ℕ)) → IfSome o (λ bytes. IsAtEnd (prepend_known held left)) → IfSome o (λ bytes. IsAtEnd left)
+if_at_end : (o : Option (List ℕ)) (held : List ℕ) (left : Option (List ℕ))
+    → IfSome o (λ bytes. IsAtEnd (prepend_known held left)) → IfSome o (λ bytes. IsAtEnd left)
 if_at_end None held left e = tt
 if_at_end (Some bytes) held left e = held_at_end held left e
 
 -- and what is held then is nothing
-pub reaches_source : (f : Finding) (first : Option (List ℕ)) (held : List ℕ) (left : Option (List ℕ)) → ReachesEnd f first (prepend_known held left) → ReachesEnd f first left
+pub reaches_source : (f : Finding) (first : Option (List ℕ)) (held : List ℕ) (left : Option (List ℕ))
+    → ReachesEnd f first (prepend_known held left) → ReachesEnd f first left
 reaches_source (finding.Verified count) first held left r = if_at_end first held left r
 reaches_source (finding.Script n) first held left r = tt
 reaches_source (finding.Differs n machine journal) first held left r = tt

@@ -30,7 +30,7 @@ use Rattle.sq_rules.specs.declared.outcomes.Why.{Why}
 use Rattle.sq_rules.specs.declared.outcomes.Why.TheVariants as why
 use Rattle.sq_machine.specs.Entries.{Noted}
 use Rattle.sq_rules.specs.OutcomeText.{action_word, cause_word, why_words}
-use Rattle.sq_rules.specs.Steps.{Words}
+use Rattle.sq_rules.specs.Steps.{WordList}
 use Rattle.sq_journal.specs.declared.escapes.TheConstants.{ESCAPES}
 use Rattle.sq_journal.specs.EntryText.{channel_word, entry_text, event_words, field_word, result_word, told_words}
 use Rattle.sq_journal.specs.Journals.{numbered_text}
@@ -41,11 +41,11 @@ use Rattle.sq_journal.proofs.EscapeLaws.{encodes, same_test}
 -- lines of words
 
 -- no word holds LF
-abbrev AreOpen : Words → Type 0
+abbrev AreOpen : WordList → Type 0
 AreOpen [] = Unit {0}
 AreOpen (w ∷ ws) = NoEnd w × AreOpen ws
 
-both_open : (xs ys : Words) → AreOpen xs → AreOpen ys → AreOpen (xs ++ ys)
+both_open : (xs ys : WordList) → AreOpen xs → AreOpen ys → AreOpen (xs ++ ys)
 both_open [] ys p q = q
 both_open (x ∷ xs) ys p q = (p.0, both_open xs ys p.1 q)
 
@@ -54,7 +54,7 @@ no_end_both [] b p q = q
 no_end_both (x ∷ a) b p q = (p.0, no_end_both a b p.1 q)
 
 -- words without LF, with one space between them
-line_open : (w : List ℕ) (ws : Words) → NoEnd w → AreOpen ws → NoEnd (line_of (w ∷ ws))
+line_open : (w : List ℕ) (ws : WordList) → NoEnd w → AreOpen ws → NoEnd (line_of (w ∷ ws))
 line_open w [] p q = p
 line_open w (v ∷ ws) p q = no_end_both w (32 ∷ line_of (v ∷ ws)) p (refl, line_open v ws q.0 q.1)
 
@@ -79,7 +79,9 @@ digit_open : (c : ℕ) → IsInRange 48 57 c → is_lf c ≡ false
 digit_open c h = grind (arith, nat_tests)
 
 decimal_open : (n : ℕ) → n < 2 ^ 64 → NoEnd (decimal n)
-decimal_open n h = all_open (decimal n) (All-from_get_or (λ b. is_lf b ≡ false) (decimal n) 0 (λ i l. digit_open _ (digit_at (decimal n) i (decimal_is_IsNumeral n h).0.1 l)))
+decimal_open n h = all_open (decimal n)
+    (All-from_get_or (λ b. is_lf b ≡ false) (decimal n) 0
+    (λ i l. digit_open _ (digit_at (decimal n) i (decimal_is_IsNumeral n h).0.1 l)))
 
 number_open : (n : ℕ) → IsNumber n → NoEnd (decimal n)
 number_open n h = decimal_open n (omega (arith, h))
@@ -96,12 +98,15 @@ colon_open : (b : ℕ) → IsHexOrColon b → is_lf b ≡ false
 colon_open b (inl r) = grind (arith, nat_tests)
 colon_open b (inr r) = grind (arith, nat_tests)
 
-address_open : (v6 : Bool) (n : ℕ) → IsAddress (record { v6 = v6; number = n }) → NoEnd (address_text (record { v6 = v6; number = n }))
+address_open : (v6 : Bool) (n : ℕ) → IsAddress (record { v6 = v6; number = n })
+    → NoEnd (address_text (record { v6 = v6; number = n }))
 unfolding v4_text v6_text
 address_open false n h =
-    all_open _ (All-weaker IsDigitOrDot (λ b. is_lf b ≡ false) dot_open _ (All-ipv4_text (four_octets n) (octets_fit n (ltb-true n (2 ^ 32) (h.0 refl)))))
+    all_open _ (All-weaker IsDigitOrDot (λ b. is_lf b ≡ false) dot_open _
+    (All-ipv4_text (four_octets n) (octets_fit n (ltb-true n (2 ^ 32) (h.0 refl)))))
 address_open true n h =
-    all_open _ (All-weaker IsHexOrColon (λ b. is_lf b ≡ false) colon_open _ (All-hex_groups_text (eight_groups n) (groups_fit n (ltb-true n (2 ^ 128) h.1))))
+    all_open _ (All-weaker IsHexOrColon (λ b. is_lf b ≡ false) colon_open _
+    (All-hex_groups_text (eight_groups n) (groups_fit n (ltb-true n (2 ^ 128) h.1))))
 
 kept_open : (b : ℕ) → should_percent_encode ESCAPES b ≡ false → is_lf b ≡ false
 kept_open b h = let kept : is_escaped b ≡ false = sym (same_test b) ∙ h in grind (arith, nat_tests, kept)
@@ -112,7 +117,8 @@ escape_open b (inr (inl r)) = grind (arith, nat_tests)
 escape_open b (inr (inr r)) = grind (arith, nat_tests)
 
 escaped_open : (bytes : List ℕ) → NoEnd (escaped bytes)
-escaped_open bytes = subst NoEnd (encodes bytes) (all_open _ (All-percent_encode (λ b. is_lf b ≡ false) ESCAPES bytes kept_open escape_open))
+escaped_open bytes = subst NoEnd (encodes bytes)
+    (all_open _ (All-percent_encode (λ b. is_lf b ≡ false) ESCAPES bytes kept_open escape_open))
 
 text_by : (bytes : List ℕ) (t : Bool) → NoEnd (if t then codes "%2D" else escaped bytes)
 text_by bytes true = word_open (codes "%2D") refl
@@ -131,9 +137,15 @@ fields_open (f ∷ fs) = (text_open (f.name ++ 58 ∷ f.value), fields_open fs)
 
 event_open : (e : Event) → HoldsValues e → AreOpen (event_words e)
 event_open (Begin z) h = (word_open (codes "begin") refl, (offset_open z h, tt))
-event_open (Open c a p) h = (word_open (codes "open") refl, (number_open c h.0, (address_open a.v6 a.number h.1, (decimal_open p (omega (arith, h.2)), tt))))
+event_open (Open c a p) h = (
+  word_open (codes "open") refl,
+  (number_open c h.0, (address_open a.v6 a.number h.1, (decimal_open p (omega (arith, h.2)), tt))),
+)
 event_open (Close c) h = (word_open (codes "close") refl, (number_open c h, tt))
-event_open (Ask c m t fs) h = (word_open (codes "ask") refl, (number_open c h.0, (text_open m, (text_open t, fields_open fs))))
+event_open (Ask c m t fs) h = (
+  word_open (codes "ask") refl,
+  (number_open c h.0, (text_open m, (text_open t, fields_open fs))),
+)
 event_open (Step n) h = (word_open (codes "step") refl, (number_open n h, tt))
 event_open (Take n) h = (word_open (codes "take") refl, (number_open n h, tt))
 event_open (Started e c) h = (word_open (codes "started") refl, (number_open e h.0, (text_open c, tt)))
@@ -165,7 +177,10 @@ why_open : (w : Why) → IsWhy w → AreOpen (why_words w)
 why_open (why.Rule n) h = (word_open (codes "rule") refl, (decimal_open n (omega (arith, h)), tt))
 why_open why.Default h = (word_open (codes "default") refl, tt)
 why_open why.Empty h = (word_open (codes "empty") refl, tt)
-why_open (why.Fault n acl c) h = (word_open (codes "fault") refl, (decimal_open n (omega (arith, h.0)), (text_open acl, (cause_open c, tt))))
+why_open (why.Fault n acl c) h = (
+  word_open (codes "fault") refl,
+  (decimal_open n (omega (arith, h.0)), (text_open acl, (cause_open c, tt))),
+)
 
 result_open : (x : Word) → NoEnd (result_word x)
 result_open reply.Yes = word_open (codes "ok") refl
@@ -183,28 +198,41 @@ told_open (told.Check n) h = (word_open (codes "check") refl, (number_open n h, 
 told_open (told.Took c) h = (word_open (codes "took") refl, (text_open c, tt))
 told_open (told.Waits q) h = (word_open (codes "waits") refl, (number_open q h, tt))
 told_open told.Done h = (word_open (codes "done") refl, tt)
-told_open (told.Judged e o) h = (word_open (codes "epoch") refl, (number_open e h.0, (action_open o.allow, why_open o.why h.1)))
+told_open (told.Judged e o) h = (
+  word_open (codes "epoch") refl,
+  (number_open e h.0, (action_open o.allow, why_open o.why h.1)),
+)
 told_open (told.Proc p) h = (word_open (codes "proc") refl, (number_open p h, tt))
 told_open (told.Reply q w) h = (word_open (codes "reply") refl, (number_open q h, (result_open w, tt)))
 told_open told.Bad h = (word_open (codes "bad") refl, tt)
 told_open told.Stray h = (word_open (codes "stray") refl, tt)
 told_open (told.Start e c) h = (word_open (codes "start") refl, (number_open e h.0, (text_open c, tt)))
-told_open (told.Send p q c k) h = (word_open (codes "send") refl, (number_open p h.0, (number_open q h.1, (channel_open c h.2, (text_open k, tt)))))
+told_open (told.Send p q c k) h = (
+  word_open (codes "send") refl,
+  (number_open p h.0, (number_open q h.1, (channel_open c h.2, (text_open k, tt)))),
+)
 told_open (told.Stop p) h = (word_open (codes "stop") refl, (number_open p h, tt))
-told_open (told.Seat s n) h = (word_open (codes "seat") refl, (number_open s h.0, (decimal_open (n + 1) (omega (arith, h.1)), tt)))
+told_open (told.Seat s n) h = (
+  word_open (codes "seat") refl,
+  (number_open s h.0, (decimal_open (n + 1) (omega (arith, h.1)), tt)),
+)
 told_open told.NoSeat h = (word_open (codes "none") refl, tt)
 told_open (told.Granted n) h = (word_open (codes "granted") refl, (number_open n h, tt))
 
 -- entries
 
 rest_open : (e : Noted) → IsNoted e → AreOpen (event_words e.event ++ codes "=>" ∷ told_words e.answer)
-rest_open e h = both_open (event_words e.event) (codes "=>" ∷ told_words e.answer) (event_open e.event h.event_is) (word_open (codes "=>") refl, told_open e.answer h.answer_is)
+rest_open e h = both_open (event_words e.event) (codes "=>" ∷ told_words e.answer) (event_open e.event h.event_is)
+    (word_open (codes "=>") refl, told_open e.answer h.answer_is)
 
 -- the text of an entry has no LF, in either version
 pub entry_open : (e : Noted) → IsNoted e → NoEnd (entry_text e)
-entry_open e h = line_open (decimal e.moment) (event_words e.event ++ codes "=>" ∷ told_words e.answer) (number_open e.moment h.moment_is) (rest_open e h)
+entry_open e h = line_open (decimal e.moment) (event_words e.event ++ codes "=>" ∷ told_words e.answer)
+    (number_open e.moment h.moment_is) (rest_open e h)
 
-pub numbered_open : (number epoch : ℕ) (e : Noted) → IsNumber number → IsNumber epoch → IsNoted e → NoEnd (numbered_text number epoch e)
+pub numbered_open : (number epoch : ℕ) (e : Noted) → IsNumber number → IsNumber epoch → IsNoted e
+    → NoEnd (numbered_text number epoch e)
 numbered_open number epoch e p q h =
-    line_open (decimal number) (decimal epoch ∷ decimal e.moment ∷ event_words e.event ++ codes "=>" ∷ told_words e.answer) (number_open number p)
+    line_open (decimal number)
+    (decimal epoch ∷ decimal e.moment ∷ event_words e.event ++ codes "=>" ∷ told_words e.answer) (number_open number p)
     (number_open epoch q, (number_open e.moment h.moment_is, rest_open e h))

@@ -1,6 +1,6 @@
 -- The line of a journal's first entry, and the configurations of its epochs.
 use Rattle.std.proofs.Common.{◌≡◌, ℕ, List, [], ◌∷◌, true, bytes_eq, Option, Some, None, Result, Ok, Err, refl, ap}
-use Rattle.sq_outside.specs.SourceLines.{Line, is_within}
+use Rattle.sq_outside.specs.SourceLines.{SourceLine, is_within}
 use Rattle.sq_machine.specs.declared.entries.Event.{Event}
 use Rattle.sq_machine.specs.declared.entries.Event.TheVariants.{Begin, Reconfigure}
 use Rattle.sq_machine.specs.declared.entries.Told.TheVariants as told
@@ -9,7 +9,7 @@ use Rattle.sq_rules.specs.Configurations.{Configuration, IsConfiguration}
 use Rattle.sq_machine.specs.Entries.{History, Noted, entry_at}
 use Rattle.sq_machine.specs.Events.{is_begin}
 use Rattle.sq_machine.specs.Readings.{current}
-use Rattle.sq_history.specs.Given.{EachOf}
+use Rattle.sq_model_laws.specs.Given.{EachOf}
 use Rattle.sq_replay.specs.ConfReading.{read_result}
 use Rattle.sq_replay.specs.Headline.{IsAccepted}
 use Rattle.sq_replay.specs.RunText.{with_config}
@@ -32,7 +32,8 @@ pub record IsFirst (v : Version) (line : List ℕ) (t : History) : Type 0 where
   pub text_is : bytes_eq (line_in v [] entry) line ≡ true
   pub history_is : entry ∷ [] ≡ t
 
-begun_ok : (v : Version) (line : List ℕ) (s : Noted) (event : Event) (t : History) → s.event ≡ event → noted_in v line ≡ Some s → begun_line v line s.moment event ≡ Ok t → IsFirst v line t
+begun_ok : (v : Version) (line : List ℕ) (s : Noted) (event : Event) (t : History) → s.event ≡ event
+    → noted_in v line ≡ Some s → begun_line v line s.moment event ≡ Ok t → IsFirst v line t
 begun_ok v line s (Begin offset) t same is e =
     let entry = entry_at s.moment (Begin offset) (told.Epoch 1) in
     let c = compared_ok v [] line entry t e in
@@ -50,33 +51,39 @@ begun_ok v line s (Begin offset) t same is e =
     }
 begun_ok v line s event t same is e = absurd (cc)
 
-pub stated_begins : (v : Version) (line : List ℕ) (o : Option Noted) (t : History) → noted_in v line ≡ o → stated_first v line o ≡ Ok t → IsFirst v line t
+pub stated_begins : (v : Version) (line : List ℕ) (o : Option Noted) (t : History) → noted_in v line ≡ o
+    → stated_first v line o ≡ Ok t → IsFirst v line t
 stated_begins v line None t is e = absurd (cc)
 stated_begins v line (Some s) t is e = begun_ok v line s s.event t refl is e
 
-pub first_ok : (v : Version) (place : ℕ) (l : Line) (t : History) → first_line v place l ≡ Ok t → (is_within (line_limit v) place l ≡ true) × IsFirst v l.bytes t
+pub first_ok : (v : Version) (place : ℕ) (l : SourceLine) (t : History) → first_line v place l ≡ Ok t
+    → (is_within (line_limit v) place l ≡ true) × IsFirst v l.bytes t
 first_ok v place l t e =
     let r = readable_ok (is_within (line_limit v) place l) (stated_first v l.bytes (noted_in v l.bytes)) t e in
     (r.0, stated_begins v l.bytes (noted_in v l.bytes) t refl r.1)
 
 -- configurations
 
-good_by : (r : Result Configuration ConfError) (text : List ℕ) (more : List Configuration) → read_result text ≡ r → EachOf IsConfiguration more → EachOf IsConfiguration (with_config r more)
+good_by : (r : Result Configuration ConfError) (text : List ℕ) (more : List Configuration) → read_result text ≡ r
+    → EachOf IsConfiguration more → EachOf IsConfiguration (with_config r more)
 good_by (Ok config) text more is good = ((is_read text config is).good, good)
 good_by (Err e) text more is good = tt
 
-good_event : (event : Event) (more : List Configuration) → EachOf IsConfiguration more → EachOf IsConfiguration (named_by event more)
+good_event : (event : Event) (more : List Configuration) → EachOf IsConfiguration more
+    → EachOf IsConfiguration (named_by event more)
 good_event (Reconfigure text) more good = good_by (read_result text) text more refl good
 good_event event more good = good
 
-good_noted : (o : Option Noted) (more : List Configuration) → EachOf IsConfiguration more → EachOf IsConfiguration (named_in o more)
+good_noted : (o : Option Noted) (more : List Configuration) → EachOf IsConfiguration more
+    → EachOf IsConfiguration (named_in o more)
 good_noted None more good = good
 good_noted (Some e) more good = good_event e.event more good
 
 -- each configuration that a journal holds is one
-pub named_good : (v : Version) (ls : List Line) → EachOf IsConfiguration (named_from v ls)
+pub named_good : (v : Version) (ls : List SourceLine) → EachOf IsConfiguration (named_from v ls)
 named_good v [] = tt
 named_good v (l ∷ ls) = good_noted (noted_in v l.bytes) (named_from v ls) (named_good v ls)
 
-pub epochs_good : (v : Version) (config : Configuration) (ls : List Line) → IsConfiguration config → EachOf IsConfiguration (epochs_of v config ls)
+pub epochs_good : (v : Version) (config : Configuration) (ls : List SourceLine) → IsConfiguration config
+    → EachOf IsConfiguration (epochs_of v config ls)
 epochs_good v config ls good = (good, named_good v ls)

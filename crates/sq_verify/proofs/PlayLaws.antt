@@ -12,7 +12,7 @@ use Rattle.sq_replay.specs.declared.stops.Stop.{Stop}
 use Rattle.sq_replay.specs.declared.stops.Stop.TheVariants as stop
 use Rattle.sq_replay.specs.ConfReading.{read_result}
 use Rattle.sq_replay.specs.Making.{IsActing, IsMaking, IsReconfiguring, IsRefusal, MayStand, is_refused}
-use Rattle.sq_replay.specs.Runs.{IsMade, Machine}
+use Rattle.sq_replay.specs.Runs.{IsMade, ScriptView}
 use Rattle.sq_conf.specs.declared.faults.ConfFault.{ConfFault}
 use Rattle.sq_conf.specs.declared.faults.ConfFault.TheVariants as conf
 use Rattle.sq_rules.specs.declared.kinds.Kind.{Kind}
@@ -27,7 +27,8 @@ may (Ask conn method target fields) e m = m
 may (Reconfigure text) e m = absurd (cc)
 may event e m = tt
 
-none : (configs : List Configuration) (h : History) (moment : ℕ) (event : Event) → begins_epoch event ≡ false → (event ≡ Act → ⊥) → IsRefusal configs h moment event → IsNone configs h moment event
+none : (configs : List Configuration) (h : History) (moment : ℕ) (event : Event) → begins_epoch event ≡ false
+    → (event ≡ Act → ⊥) → IsRefusal configs h moment event → IsNone configs h moment event
 none configs h moment (Begin offset) e other r = tt
 none configs h moment Act e other r = absurd (other refl)
 none configs h moment (Ask conn method target fields) e other r = r
@@ -35,32 +36,44 @@ none configs h moment (Reconfigure text) e other r = absurd (cc)
 none configs h moment event e other r = r
 
 -- an event that is made so
-pub make_plays : (old new : Machine) (now : ℕ) (event : Event) (r : Result Told Stop) → begins_epoch event ≡ false → (event ≡ Act → ⊥) → IsMaking old new now event r → Plays old new now event r
+pub make_plays : (old new : ScriptView) (now : ℕ) (event : Event) (r : Result Told Stop) → begins_epoch event ≡ false
+    → (event ≡ Act → ⊥) → IsMaking old new now event r → Plays old new now event r
 make_plays old new now event (Ok answer) e other m = (may event e m.0, λ configs h is next. m.1 configs h is)
-make_plays old new now event (Err stop.Refused) e other m = λ configs h is. none configs h (max now old.latest) event e other (m configs h is)
+make_plays old new now event (Err stop.Refused) e other m =
+    λ configs h is. none configs h (max now old.latest) event e other (m configs h is)
 make_plays old new now event (Err stop.WantOfMemory) e other m = tt
 
 -- the act that is due is made
-pub act_plays : (old new : Machine) (now : ℕ) (answer : Told) → IsActing old new (max now old.latest) (Ok (Some answer)) → Plays old new now Act (Ok answer)
+pub act_plays : (old new : ScriptView) (now : ℕ) (answer : Told)
+    → IsActing old new (max now old.latest) (Ok (Some answer)) → Plays old new now Act (Ok answer)
 act_plays old new now answer a = (tt, λ configs h is next. a configs h is)
 
 -- none is due
-pub act_none : (old new : Machine) (now : ℕ) → IsActing old new (max now old.latest) (Ok None) → Plays old new now Act (Err stop.Refused)
+pub act_none : (old new : ScriptView) (now : ℕ) → IsActing old new (max now old.latest) (Ok None)
+    → Plays old new now Act (Err stop.Refused)
 act_none old new now a = λ configs h is. ap is_refused (a configs h is)
 
 source_is : (text : List ℕ) (config : Configuration) → read_result text ≡ Ok config → config.source ≡ text
 source_is text config is = gives_source text config (is_read text config is).gives
 
 -- a reconfiguration by the text that gives its configuration
-pub reconfigure_plays : (old new : Machine) (now : ℕ) (text : List ℕ) (config : Configuration) (r : Result Told Stop) → read_result text ≡ Ok config → IsReconfiguring old new now config r
+pub reconfigure_plays : (old new : ScriptView) (now : ℕ) (text : List ℕ) (config : Configuration) (r : Result Told Stop)
+    → read_result text ≡ Ok config → IsReconfiguring old new now config r
     → Plays old new now (Reconfigure text) r
-reconfigure_plays old new now text config (Ok answer) read m =
-    ((config, read), λ configs h is said. subst (λ (t : List ℕ). IsMade new configs h (max now old.latest) (Reconfigure t) answer) (source_is text config read) (m configs h is (said config read)))
+reconfigure_plays old new now text config (Ok answer) read m = (
+  (config, read),
+  λ configs h is said.
+      subst (λ (t : List ℕ). IsMade new configs h (max now old.latest) (Reconfigure t) answer)
+      (source_is text config read) (m configs h is (said config read)),
+)
 reconfigure_plays old new now text config (Err stop.Refused) read m = λ configs h is.
-    inr (subst (λ (t : List ℕ). is_refused (next configs (marked configs h) (max now old.latest) (Reconfigure t)) ≡ true) (source_is text config read) (m configs h is))
+    inr (subst (λ (t : List ℕ). is_refused (next configs (marked configs h) (max now old.latest) (Reconfigure t))
+    ≡ true) (source_is text config read) (m configs h is))
 reconfigure_plays old new now text config (Err stop.WantOfMemory) read m = tt
 
 -- a text that gives no configuration
-pub accepts_none : (text : List ℕ) (fault : ConfFault) → ((line : ℕ) (kind : Kind) → fault ≡ conf.At (record { line = line; kind = kind }) → conf_refuses text line kind) → Accepts text (Err (stop_for fault))
+pub accepts_none : (text : List ℕ) (fault : ConfFault)
+    → ((line : ℕ) (kind : Kind) → fault ≡ conf.At (record { line = line; kind = kind }) → conf_refuses text line kind)
+    → Accepts text (Err (stop_for fault))
 accepts_none text (conf.At e) refused = (e, read_refused text e.line e.kind (refused e.line e.kind refl))
 accepts_none text conf.WantOfMemory refused = tt

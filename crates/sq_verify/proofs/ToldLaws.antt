@@ -37,7 +37,8 @@ pub record IsTold (v : Version) (h : History) (e : Noted) : Type 0 where
   pub one_line : NoEnd (line_in v h e)
   pub plain : bytes_eq (line_in v h e) (codes "journal 2") ≡ false
   pub read_back : noted_in v (line_in v h e) ≡ Some e
-  pub fits : is_within (line_limit v) (start_of v + length (lines_in v h)) (record { bytes = line_in v h e; ended = true }) ≡ true
+  pub fits : is_within (line_limit v) (start_of v + length (lines_in v h))
+      (record { bytes = line_in v h e; ended = true }) ≡ true
 
 -- so it is of each line, and behind the first entry each event may follow
 abbrev pub AreTold : Version → History → Type 0
@@ -57,10 +58,12 @@ epoch_fits h = omega arith
 
 pub open_line : (v : Version) (h : History) (e : Noted) → IsNoted e → NoEnd (line_in v h e)
 open_line version.One h e n = entry_open e n
-open_line version.Two h e n = numbered_open (number_at (e ∷ h)) (epoch_at (e ∷ h)) e (number_fits (e ∷ h)) (epoch_fits (e ∷ h)) n
+open_line version.Two h e n = numbered_open (number_at (e ∷ h)) (epoch_at (e ∷ h)) e (number_fits (e ∷ h))
+    (epoch_fits (e ∷ h)) n
 
 -- its first word is a number, and no word `journal`
-digits_first : (w rest : List ℕ) → All (λ b. IsInRange 48 57 b) w → 0 < length w → bytes_eq (w ++ rest) (codes "journal 2") ≡ false
+digits_first : (w rest : List ℕ) → All (λ b. IsInRange 48 57 b) w → 0 < length w
+    → bytes_eq (w ++ rest) (codes "journal 2") ≡ false
 digits_first [] rest h some = absurd (omega (arith, some))
 digits_first (b ∷ bs) rest h some =
     let head : IsInRange 48 57 b = All-head (λ c. IsInRange 48 57 c) b bs h in
@@ -71,49 +74,64 @@ no_version : (n : ℕ) (ws : _) → IsNumber n → bytes_eq (line_of (decimal n 
 no_version n ws h =
     let numeral = decimal_is_IsNumeral n (omega (arith, h)) in
     ap (λ (t : List ℕ). bytes_eq t (codes "journal 2")) (line_joined (decimal n) ws)
-    ∙ digits_first (decimal n) (after_spaces ws) (All-from_get_or (λ b. IsInRange 48 57 b) (decimal n) 0 (λ i l. digit_at (decimal n) i numeral.0.1 l)) (omega (arith, numeral.0.0))
+    ∙ digits_first (decimal n) (after_spaces ws)
+    (All-from_get_or (λ b. IsInRange 48 57 b) (decimal n) 0 (λ i l. digit_at (decimal n) i numeral.0.1 l))
+    (omega (arith, numeral.0.0))
 
-pub plain_line : (v : Version) (h : History) (e : Noted) → IsNoted e → bytes_eq (line_in v h e) (codes "journal 2") ≡ false
+pub plain_line : (v : Version) (h : History) (e : Noted) → IsNoted e
+    → bytes_eq (line_in v h e) (codes "journal 2") ≡ false
 plain_line version.One h e n = no_version e.moment (event_words e.event ++ codes "=>" ∷ told_words e.answer) n.moment_is
-plain_line version.Two h e n = no_version (number_at (e ∷ h)) (decimal (epoch_at (e ∷ h)) ∷ entry_words e) (number_fits (e ∷ h))
+plain_line version.Two h e n = no_version (number_at (e ∷ h)) (decimal (epoch_at (e ∷ h)) ∷ entry_words e)
+    (number_fits (e ∷ h))
 
 entry_back : (e : Noted) → IsNoted e → entry_of (spaced_words (entry_text e)) ≡ Some e
 entry_back e n =
     let plain = entry_plain e n in
-    ap entry_of (words_again (decimal e.moment) (event_words e.event ++ codes "=>" ∷ told_words e.answer) plain.0 plain.1) ∙ entry_again e n
+    ap entry_of (words_again (decimal e.moment) (event_words e.event ++ codes "=>" ∷ told_words e.answer) plain.0
+    plain.1) ∙ entry_again e n
 
-numbered_by : (number epoch : ℕ) (e : Noted) (o : Option (ℕ × ℕ × Noted)) → numbered_of (spaced_words (numbered_text number epoch e)) ≡ o → IsNumber number → IsNumber epoch → IsNoted e
+numbered_by : (number epoch : ℕ) (e : Noted) (o : Option (ℕ × ℕ × Noted))
+    → numbered_of (spaced_words (numbered_text number epoch e)) ≡ o → IsNumber number → IsNumber epoch → IsNoted e
     → option_map entry_in o ≡ Some e
-numbered_by number epoch e None is p q n = absurd (numbered_only (Err BadEntry) (numbered_text number epoch e) is number epoch e p q n refl)
+numbered_by number epoch e None is p q n = absurd
+    (numbered_only (Err BadEntry) (numbered_text number epoch e) is number epoch e p q n refl)
 numbered_by number epoch e (Some y) is p q n =
-    ap (λ (x : ℕ × ℕ × Noted). Some x.2) (numbered_only (Ok y) (numbered_text number epoch e) is number epoch e p q n refl)
+    ap (λ (x : ℕ × ℕ × Noted). Some x.2)
+    (numbered_only (Ok y) (numbered_text number epoch e) is number epoch e p q n refl)
 
 pub back_line : (v : Version) (h : History) (e : Noted) → IsNoted e → noted_in v (line_in v h e) ≡ Some e
 back_line version.One h e n = entry_back e n
 back_line version.Two h e n =
-    numbered_by (number_at (e ∷ h)) (epoch_at (e ∷ h)) e (numbered_of (spaced_words (numbered_text (number_at (e ∷ h)) (epoch_at (e ∷ h)) e))) refl (number_fits (e ∷ h)) (epoch_fits (e ∷ h)) n
+    numbered_by (number_at (e ∷ h)) (epoch_at (e ∷ h)) e
+    (numbered_of (spaced_words (numbered_text (number_at (e ∷ h)) (epoch_at (e ∷ h)) e))) refl (number_fits (e ∷ h))
+    (epoch_fits (e ∷ h)) n
 
 -- behind a line
-pub place_next : (v : Version) (h : History) (e : Noted) → start_of v + length (lines_in v h) + length (line_in v h e) + 1 ≡ start_of v + length (lines_in v (e ∷ h))
+pub place_next : (v : Version) (h : History) (e : Noted)
+    → start_of v + length (lines_in v h) + length (line_in v h e) + 1 ≡ start_of v + length (lines_in v (e ∷ h))
 place_next v h e =
     let same : length (lines_in v (e ∷ h)) ≡ length (lines_in v h) + (length (line_in v h e) + 1) =
-    ap (λ (x : List ℕ). length x) (more_is v h e) ∙ length-append (lines_in v h) (line_in v h e ++ 10 ∷ []) ∙ ap (λ (n : ℕ). length (lines_in v h) + n) (length-append (line_in v h e) (10 ∷ [])) in
+    ap (λ (x : List ℕ). length x) (more_is v h e) ∙ length-append (lines_in v h) (line_in v h e ++ 10 ∷ [])
+    ∙ ap (λ (n : ℕ). length (lines_in v h) + n) (length-append (line_in v h e) (10 ∷ [])) in
     omega (arith, same)
 
 within_by : (n limit end : ℕ) → n ≤ limit → end ≤ total_limit → nat_le n limit && nat_le end total_limit ≡ true
 within_by n limit end short fits = grind (arith, nat_tests)
 
-pub told_line : (v : Version) (h : History) (e : Noted) → IsNoted e → length (line_in v h e) ≤ line_limit v → start_of v + length (lines_in v (e ∷ h)) ≤ total_limit → IsTold v h e
+pub told_line : (v : Version) (h : History) (e : Noted) → IsNoted e → length (line_in v h e) ≤ line_limit v
+    → start_of v + length (lines_in v (e ∷ h)) ≤ total_limit → IsTold v h e
 told_line v h e n short fits = record {
   one_line = open_line v h e n;
   plain = plain_line v h e n;
   read_back = back_line v h e n;
-  fits = within_by (length (line_in v h e)) (line_limit v) (start_of v + length (lines_in v h) + length (line_in v h e) + 1) short (omega (arith, place_next v h e, fits));
+  fits = within_by (length (line_in v h e)) (line_limit v)
+      (start_of v + length (lines_in v h) + length (line_in v h e) + 1) short (omega (arith, place_next v h e, fits));
 }
 
 -- all lines
 
-told_lines : (v : Version) (h : History) → AreNoted h → MayStand h → AreShort v h → start_of v + length (lines_in v h) ≤ total_limit → AreTold v h
+told_lines : (v : Version) (h : History) → AreNoted h → MayStand h → AreShort v h
+    → start_of v + length (lines_in v h) ≤ total_limit → AreTold v h
 told_lines v [] noted may short fits = tt
 told_lines v (e ∷ []) noted may short fits = told_line v [] e noted.1 short.1 fits
 told_lines v (e ∷ f ∷ h) noted may short fits = (
@@ -122,11 +140,13 @@ told_lines v (e ∷ f ∷ h) noted may short fits = (
   may.1,
 )
 
-pub text_fits : (v : Version) (h : History) → length (text_of v h) ≤ total_limit → start_of v + length (lines_in v h) ≤ total_limit
+pub text_fits : (v : Version) (h : History) → length (text_of v h) ≤ total_limit
+    → start_of v + length (lines_in v h) ≤ total_limit
 text_fits version.One h fits = omega (arith, fits)
 text_fits version.Two [] fits = omega arith
 text_fits version.Two (e ∷ h) fits = omega (arith, length-append version_line (lines_in version.Two (e ∷ h)), fits)
 
 -- the lines of a history are told where its entries are values of their types and its text is within the limits
-pub told_of : (v : Version) (h : History) → AreNoted h → MayStand h → AreShort v h → length (text_of v h) ≤ total_limit → AreTold v h
+pub told_of : (v : Version) (h : History) → AreNoted h → MayStand h → AreShort v h → length (text_of v h) ≤ total_limit
+    → AreTold v h
 told_of v h noted may short fits = told_lines v h noted may short (text_fits v h fits)

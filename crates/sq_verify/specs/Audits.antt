@@ -1,7 +1,7 @@
 -- What a journal is that was verified.
 use Rattle.std.specs.Prelude.{◌≡◌, ℕ, List, [], ◌∷◌, ◌++◌, length, Bool, true, false, IfSome}
 use Rattle.std.specs.declared.option.Option.{Option}
-use Rattle.sq_outside.specs.SourceLines.{Line}
+use Rattle.sq_outside.specs.SourceLines.{SourceLine}
 use Rattle.sq_rules.specs.Configurations.{Configuration}
 use Rattle.sq_machine.specs.Entries.{History}
 use Rattle.sq_journal.specs.EntryText.{written}
@@ -22,8 +22,9 @@ abbrev pub lines_in : Version → History → List ℕ
 lines_in One h = written h
 lines_in Two h = numbered_lines h
 
--- The bytes are the text, in one of the versions, of a history with so many entries, over the configuration that it begins with and
--- those that its reconfigurations hold. Each answer in it is the machine's next, and all is so of it that is so of every run.
+-- The bytes are the text, in one of the versions, of a history with so many entries, over the
+-- configuration that it begins with and those that its reconfigurations hold. Each answer in it is
+-- the machine's next, and all is so of it that is so of every run.
 pub record IsAudited (config : Configuration) (bytes : List ℕ) (count : ℕ) : Type 0 where
   pub version : Version
   pub more : List Configuration
@@ -43,6 +44,6 @@ behind_end true rest = 10 ∷ rest
 behind_end false rest = rest
 
 -- the bytes of some lines
-abbrev pub bytes_of : List Line → List ℕ
+abbrev pub bytes_of : List SourceLine → List ℕ
 bytes_of [] = []
 bytes_of (l ∷ ls) = l.bytes ++ behind_end l.ended (bytes_of ls)

@@ -1,7 +1,8 @@
--- The lines of a journal of either version. In version 2 the entry's number and its epoch stand before the entry's text.
+-- The lines of a journal of either version. In version 2 the entry's number and its epoch stand
+-- before the entry's text.
 use Rattle.std.specs.Prelude.{ℕ, ◌+◌, List, ◌∷◌, Bool, ◌&&◌, bytes_eq, codes, option_map}
 use Rattle.std.specs.declared.option.Option.{Option}
-use Rattle.sq_outside.specs.SourceLines.{Line, script_line_limit}
+use Rattle.sq_outside.specs.SourceLines.{SourceLine, script_line_limit}
 use Rattle.sq_machine.specs.Entries.{History, Noted}
 use Rattle.sq_journal.specs.EntryText.{entry_text}
 use Rattle.sq_journal.specs.Journals.{epoch_at, number_at, numbered_text}
@@ -10,8 +11,8 @@ use Rattle.sq_journal.specs.ToldReading.{entry_of, numbered_of}
 use Rattle.sq_verify.specs.declared.versions.Version.{Version}
 use Rattle.sq_verify.specs.declared.versions.Version.TheVariants.{One, Two}
 
--- a line has so many bytes at most, without its LF: in version 2 a number and an epoch of 19 digits, each with a space, may stand before
--- a line of version 1
+-- a line has so many bytes at most, without its LF: in version 2 a number and an epoch of 19
+-- digits, each with a space, may stand before a line of version 1
 abbrev pub line_limit : Version → ℕ
 line_limit One = script_line_limit
 line_limit Two = script_line_limit + 40
@@ -35,5 +36,5 @@ abbrev pub line_in : Version → History → Noted → List ℕ
 line_in v h e = text_in v (number_at (e ∷ h)) (epoch_at (e ∷ h)) e
 
 -- the line tells version 2
-abbrev pub is_version_line : Line → Bool
+abbrev pub is_version_line : SourceLine → Bool
 is_version_line l = l.ended && bytes_eq l.bytes (codes "journal 2")

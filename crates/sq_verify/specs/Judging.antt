@@ -1,8 +1,9 @@
--- What a journal comes to: each line, one after another, against the line that the machine has for its event. The journal is
--- verified where each is the machine's and there is one; else it ends at the first line that is not.
+-- What a journal comes to: each line, one after another, against the line that the machine has for
+-- its event. The journal is verified where each is the machine's and there is one; else it ends at
+-- the first line that is not.
 use Rattle.std.specs.Prelude.{ℕ, ◌+◌, List, [], ◌∷◌, length, max, Bool, true, if◌then◌else◌, bytes_eq, is_some, Result, Ok, Err, Some, None}
 use Rattle.std.specs.declared.option.Option.{Option}
-use Rattle.sq_outside.specs.SourceLines.{Line, is_within}
+use Rattle.sq_outside.specs.SourceLines.{SourceLine, is_within}
 use Rattle.sq_request.specs.Written.{made_request}
 use Rattle.sq_machine.specs.declared.entries.Event.{Event}
 use Rattle.sq_machine.specs.declared.entries.Event.TheVariants.{Begin, Ask, Reconfigure}
@@ -28,7 +29,8 @@ use Rattle.sq_verify.specs.JournalLines.{is_version_line, line_in, line_limit, n
 
 -- the history goes on with the machine's entry, where the line is its text
 abbrev pub compared : Version → History → List ℕ → Noted → Result History Halt
-compared v h line e = if bytes_eq (line_in v h e) line then Ok (e ∷ h) else Err (halt.Differs (line_in v h e))
+compared v h line e = if bytes_eq (line_in v h e) line then Ok (e ∷ h)
+    else Err (halt.Differs (line_in v h e))
 
 -- what the machine answers is compared; where it answers nothing the line is none
 abbrev pub matched : Version → History → List ℕ → ℕ → Event → Next → Result History Halt
@@ -36,8 +38,10 @@ matched v h line moment event (gives answer) = compared v h line (entry_at momen
 matched v h line moment event n = Err halt.NoLine
 
 -- the event at its moment, or at the greatest so far
-abbrev pub asked_line : Version → List Configuration → History → List ℕ → ℕ → Event → Result History Halt
-asked_line v configs h line now event = matched v h line (max now (latest h)) event (next configs (marked configs h) (max now (latest h)) event)
+abbrev pub asked_line : Version → List Configuration → History → List ℕ → ℕ → Event
+    → Result History Halt
+asked_line v configs h line now event = matched v h line (max now (latest h)) event
+    (next configs (marked configs h) (max now (latest h)) event)
 
 -- a request has version 1.1
 abbrev pub if_request : Bool → Result History Halt → Result History Halt
@@ -49,24 +53,31 @@ if_read (Ok config) step = step
 if_read (Err e) step = Err halt.NoLine
 
 -- behind the first entry there is no `begin`
-abbrev pub event_line : Version → List Configuration → History → List ℕ → ℕ → Event → Result History Halt
+abbrev pub event_line : Version → List Configuration → History → List ℕ → ℕ → Event
+    → Result History Halt
 event_line v configs h line now (Begin offset) = Err halt.NoLine
 event_line v configs h line now (Ask conn method target fields) =
-    if_request (is_some (made_request method target 1 fields)) (asked_line v configs h line now (Ask conn method target fields))
-event_line v configs h line now (Reconfigure text) = if_read (read_result text) (asked_line v configs h line now (Reconfigure text))
+    if_request (is_some (made_request method target 1 fields))
+    (asked_line v configs h line now (Ask conn method target fields))
+event_line v configs h line now (Reconfigure text) = if_read (read_result text)
+    (asked_line v configs h line now (Reconfigure text))
 event_line v configs h line now event = asked_line v configs h line now event
 
-abbrev pub stated_line : Version → List Configuration → History → List ℕ → Option Noted → Result History Halt
+abbrev pub stated_line : Version → List Configuration → History → List ℕ → Option Noted
+    → Result History Halt
 stated_line v configs h line None = Err halt.NoLine
 stated_line v configs h line (Some e) = event_line v configs h line e.moment e.event
 
 -- a line behind the first entry, which begins behind `place` bytes
-abbrev pub later_line : Version → List Configuration → History → ℕ → Line → Result History Halt
-later_line v configs h place l = if is_within (line_limit v) place l then stated_line v configs h l.bytes (noted_in v l.bytes) else Err halt.NoLine
+abbrev pub later_line : Version → List Configuration → History → ℕ → SourceLine
+    → Result History Halt
+later_line v configs h place l = if is_within (line_limit v) place l then stated_line v configs h
+    l.bytes (noted_in v l.bytes) else Err halt.NoLine
 
 -- the first entry is `begin`
 abbrev pub begun_line : Version → List ℕ → ℕ → Event → Result History Halt
-begun_line v line now (Begin offset) = compared v [] line (entry_at now (Begin offset) (told.Epoch 1))
+begun_line v line now (Begin offset) = compared v [] line
+    (entry_at now (Begin offset) (told.Epoch 1))
 begun_line v line now event = Err halt.NoLine
 
 abbrev pub stated_first : Version → List ℕ → Option Noted → Result History Halt
@@ -74,8 +85,9 @@ stated_first v line None = Err halt.NoLine
 stated_first v line (Some e) = begun_line v line e.moment e.event
 
 -- the line of the first entry
-abbrev pub first_line : Version → ℕ → Line → Result History Halt
-first_line v place l = if is_within (line_limit v) place l then stated_first v l.bytes (noted_in v l.bytes) else Err halt.NoLine
+abbrev pub first_line : Version → ℕ → SourceLine → Result History Halt
+first_line v place l = if is_within (line_limit v) place l then stated_first v l.bytes
+    (noted_in v l.bytes) else Err halt.NoLine
 
 -- all lines
 
@@ -101,16 +113,18 @@ go_on v h line (Ok t) go = go t
 go_on v h line (Err stop) go = record { history = h; found = found_at v (length h) line stop }
 
 -- these lines behind a history, where so many bytes came before them
-abbrev pub judged_lines : Version → List Configuration → History → ℕ → List Line → Judged
+abbrev pub judged_lines : Version → List Configuration → History → ℕ → List SourceLine → Judged
 judged_lines v configs h place [] = record { history = h; found = finding.Verified (length h) }
 judged_lines v configs h place (l ∷ ls) =
-    go_on v h l.bytes (later_line v configs h place l) (λ t. judged_lines v configs t (place + length l.bytes + 1) ls)
+    go_on v h l.bytes (later_line v configs h place l)
+    (λ t. judged_lines v configs t (place + length l.bytes + 1) ls)
 
 -- these, from the first entry on; without one the line is missing where it would stand
-abbrev pub judged_first : Version → List Configuration → ℕ → List Line → Judged
+abbrev pub judged_first : Version → List Configuration → ℕ → List SourceLine → Judged
 judged_first v configs place [] = record { history = []; found = found_at v 0 [] halt.NoLine }
 judged_first v configs place (l ∷ ls) =
-    go_on v [] l.bytes (first_line v place l) (λ t. judged_lines v configs t (place + length l.bytes + 1) ls)
+    go_on v [] l.bytes (first_line v place l)
+    (λ t. judged_lines v configs t (place + length l.bytes + 1) ls)
 
 -- configurations
 
@@ -124,29 +138,33 @@ named_in None more = more
 named_in (Some e) more = named_by e.event more
 
 -- the configurations that the lines of a journal hold, in order, up to a text that gives none
-abbrev pub named_from : Version → List Line → List Configuration
+abbrev pub named_from : Version → List SourceLine → List Configuration
 named_from v [] = []
 named_from v (l ∷ ls) = named_in (noted_in v l.bytes) (named_from v ls)
 
 -- those of a journal's epochs: the one that it begins with, and those that it holds
-abbrev pub epochs_of : Version → Configuration → List Line → List Configuration
+abbrev pub epochs_of : Version → Configuration → List SourceLine → List Configuration
 epochs_of v config ls = config ∷ named_from v ls
 
 -- a journal
 
 -- behind the line of its first entry, which can be read
-abbrev pub judged_behind : Version → Configuration → List ℕ → ℕ → List Line → Judged
+abbrev pub judged_behind : Version → Configuration → List ℕ → ℕ → List SourceLine → Judged
 judged_behind v config line place ls =
-    go_on v [] line (stated_first v line (noted_in v line)) (λ t. judged_lines v (epochs_of v config (record { bytes = line; ended = true } ∷ ls)) t place ls)
+    go_on v [] line (stated_first v line (noted_in v line))
+    (λ t. judged_lines v (epochs_of v config (record { bytes = line; ended = true } ∷ ls)) t place
+    ls)
 
 -- of version 2, behind the line that tells it
-abbrev pub judged_two : Configuration → Line → List Line → Judged
-judged_two config l ls = judged_first version.Two (epochs_of version.Two config ls) (length l.bytes + 1) ls
+abbrev pub judged_two : Configuration → SourceLine → List SourceLine → Judged
+judged_two config l ls = judged_first version.Two (epochs_of version.Two config ls)
+    (length l.bytes + 1) ls
 
-abbrev pub judged_one : Configuration → List Line → Judged
+abbrev pub judged_one : Configuration → List SourceLine → Judged
 judged_one config ls = judged_first version.One (epochs_of version.One config ls) 0 ls
 
 -- what a journal comes to over the configuration that it begins with
-abbrev pub judged : Configuration → List Line → Judged
+abbrev pub judged : Configuration → List SourceLine → Judged
 judged config [] = judged_one config []
-judged config (l ∷ ls) = if is_version_line l then judged_two config l ls else judged_one config (l ∷ ls)
+judged config (l ∷ ls) = if is_version_line l then judged_two config l ls
+    else judged_one config (l ∷ ls)

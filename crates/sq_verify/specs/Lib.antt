@@ -5,4 +5,4 @@ pub mod JournalLines
 pub mod Judging
 pub mod Migrating
 pub mod Tellable
-pub mod Telling
+pub mod FindingText

@@ -3,7 +3,7 @@ use Rattle.std.specs.Prelude.{◌≡◌, ◌⊎◌, ℕ, ◌≤◌, suc, max, Li
 use Rattle.std.specs.Io.KnownBytes.{IsAtEnd}
 use Rattle.std.specs.declared.option.Option.{Option}
 use Rattle.sq_outside.specs.Causes.{Rose}
-use Rattle.sq_outside.specs.SourceLines.{Line, lines}
+use Rattle.sq_outside.specs.SourceLines.{SourceLine, lines}
 use Rattle.sq_request.specs.Written.{made_request}
 use Rattle.sq_machine.specs.declared.entries.Event.{Event}
 use Rattle.sq_machine.specs.declared.entries.Event.TheVariants.{Begin, Ask, Reconfigure}
@@ -15,7 +15,7 @@ use Rattle.sq_machine.specs.Machine.{next}
 use Rattle.sq_machine.specs.Epochs.{config_of}
 use Rattle.sq_machine.specs.Marking.{marked}
 use Rattle.sq_machine.specs.Readings.{current}
-use Rattle.sq_history.specs.Given.{EachOf}
+use Rattle.sq_model_laws.specs.Given.{EachOf}
 use Rattle.sq_journal.specs.Journals.{epoch_at}
 use Rattle.sq_conf.specs.declared.faults.ConfFault.{ConfFault}
 use Rattle.sq_conf.specs.declared.faults.ConfFault.TheVariants as conf
@@ -23,7 +23,7 @@ use Rattle.sq_replay.specs.declared.stops.Stop.{Stop}
 use Rattle.sq_replay.specs.declared.stops.Stop.TheVariants as stop
 use Rattle.sq_replay.specs.ConfReading.{read_result}
 use Rattle.sq_replay.specs.Making.{is_refused}
-use Rattle.sq_replay.specs.Runs.{Is, IsMade, Machine}
+use Rattle.sq_replay.specs.Runs.{Is, IsMade, ScriptView}
 use Rattle.sq_verify.specs.declared.findings.Finding.{Finding}
 use Rattle.sq_verify.specs.declared.findings.Finding.TheVariants as finding
 use Rattle.sq_verify.specs.declared.halts.Halt.{Halt}
@@ -53,14 +53,16 @@ Accepts text (Err stop.WantOfMemory) = Unit {0}
 
 -- the configuration that an event's text gives is that of the next epoch
 abbrev pub HasNext : List Configuration → History → Event → Type 0
-HasNext configs h (Reconfigure text) = (config : Configuration) → read_result text ≡ Ok config → config_of configs (suc (current h)) ≡ Some config
+HasNext configs h (Reconfigure text) = (config : Configuration) → read_result text ≡ Ok config
+    → config_of configs (suc (current h)) ≡ Some config
 HasNext configs h event = Unit {0}
 
 abbrev pub IsNext : List Configuration → History → Option Noted → Type 0
 IsNext configs h None = Unit {0}
 IsNext configs h (Some e) = HasNext configs h e.event
 
--- the event may stand behind the first: it is no `begin`, the request that asks can be made, and the text of a reconfiguration gives one
+-- the event may stand behind the first: it is no `begin`, the request that asks can be made, and
+-- the text of a reconfiguration gives one
 abbrev pub MayFollow : Event → Type 0
 MayFollow (Begin offset) = ⊥
 MayFollow (Ask conn method target fields) = is_some (made_request method target 1 fields) ≡ true
@@ -71,35 +73,46 @@ MayFollow event = Unit {0}
 abbrev pub IsNone : List Configuration → History → ℕ → Event → Type 0
 IsNone configs h moment (Begin offset) = Unit {0}
 IsNone configs h moment (Ask conn method target fields) =
-    (made_request method target 1 fields ≡ None) ⊎ (is_refused (next configs (marked configs h) moment (Ask conn method target fields)) ≡ true)
+    (made_request method target 1 fields ≡ None)
+    ⊎ (is_refused (next configs (marked configs h) moment (Ask conn method target fields)) ≡ true)
 IsNone configs h moment (Reconfigure text) =
-    ((e : ConfError) × (read_result text ≡ Err e)) ⊎ (is_refused (next configs (marked configs h) moment (Reconfigure text)) ≡ true)
+    ((e : ConfError) × (read_result text ≡ Err e))
+    ⊎ (is_refused (next configs (marked configs h) moment (Reconfigure text)) ≡ true)
 IsNone configs h moment event = is_refused (next configs (marked configs h) moment event) ≡ true
 
--- an event behind the first is made at the greatest moment so far, or refused; where memory is wanting, nothing is said
-abbrev pub Plays : Machine → Machine → ℕ → Event → Result Told Stop → Type 0
+-- an event behind the first is made at the greatest moment so far, or refused; where memory is
+-- wanting, nothing is said
+abbrev pub Plays : ScriptView → ScriptView → ℕ → Event → Result Told Stop → Type 0
 Plays old new now event (Ok told) =
-    MayFollow event × ((configs : List Configuration) (h : History) → Is old configs h → HasNext configs h event → IsMade new configs h (max now old.latest) event told)
-Plays old new now event (Err stop.Refused) = (configs : List Configuration) (h : History) → Is old configs h → IsNone configs h (max now old.latest) event
+    MayFollow event × ((configs : List Configuration) (h : History) → Is old configs h
+    → HasNext configs h event → IsMade new configs h (max now old.latest) event told)
+Plays old new now event (Err stop.Refused) = (configs : List Configuration) (h : History)
+    → Is old configs h → IsNone configs h (max now old.latest) event
 Plays old new now event (Err stop.WantOfMemory) = Unit {0}
 
 -- the machine stands for a history of so many entries, the newest of which has this epoch
-pub record Stands (v : Machine) (count epoch : ℕ) (configs : List Configuration) (h : History) : Type 0 where
+pub record Stands (v : ScriptView) (count epoch : ℕ) (configs : List Configuration)
+    (h : History) : Type 0 where
   pub is : Is v configs h
   pub count_is : count ≡ length h
   pub epoch_is : epoch ≡ epoch_at h
 
--- a line's entry is the machine's, which then stands for the history with it; or the line ends the journal
-abbrev pub Goes : Machine → ℕ → List Configuration → Result History Halt → Result ℕ Halt → Type 0
-Goes w count configs step (Ok epoch) = (t : History) × (step ≡ Ok t) × Stands w count epoch configs t
+-- a line's entry is the machine's, which then stands for the history with it; or the line ends the
+-- journal
+abbrev pub Goes : ScriptView → ℕ → List Configuration → Result History Halt → Result ℕ Halt → Type 0
+Goes w count configs step (Ok epoch) = (t : History) × (step ≡ Ok t)
+    × Stands w count epoch configs t
 Goes w count configs step (Err halt.NoLine) = step ≡ Err halt.NoLine
 Goes w count configs step (Err (halt.Differs text)) = step ≡ Err (halt.Differs text)
 Goes w count configs step (Err halt.WantOfMemory) = Unit {0}
 
 -- the same of the first, over all configurations that begin with this one
-abbrev pub BeginsLine : {M : Type 0} → (M → Machine) → Configuration → Result History Halt → Result M Halt → Type 0
+abbrev pub BeginsLine : {M : Type 0} → (M → ScriptView) → Configuration → Result History Halt
+    → Result M Halt → Type 0
 BeginsLine machine config step (Ok m) =
-    (t : History) × (step ≡ Ok t) × ((configs : List Configuration) → EachOf IsConfiguration configs → config_of configs 1 ≡ Some config → Stands (machine m) 1 1 configs t)
+    (t : History) × (step ≡ Ok t)
+    × ((configs : List Configuration) → EachOf IsConfiguration configs
+    → config_of configs 1 ≡ Some config → Stands (machine m) 1 1 configs t)
 BeginsLine machine config step (Err halt.NoLine) = step ≡ Err halt.NoLine
 BeginsLine machine config step (Err (halt.Differs text)) = step ≡ Err (halt.Differs text)
 BeginsLine machine config step (Err halt.WantOfMemory) = Unit {0}
@@ -107,7 +120,8 @@ BeginsLine machine config step (Err halt.WantOfMemory) = Unit {0}
 -- lines
 
 -- behind the configurations of the epochs that have begun stand those that these lines hold
-pub record AreAhead (v : Version) (configs : List Configuration) (h : History) (ls : List Line) : Type 0 where
+pub record AreAhead (v : Version) (configs : List Configuration) (h : History)
+    (ls : List SourceLine) : Type 0 where
   pub begun : List Configuration
   pub count_is : length begun ≡ current h
   pub configs_are : configs ≡ begun ++ named_from v ls
@@ -116,16 +130,22 @@ pub record AreAhead (v : Version) (configs : List Configuration) (h : History) (
 abbrev pub Comes : Judged → Finding → Type 0
 Comes judged (finding.Verified count) = judged.found ≡ finding.Verified count
 Comes judged (finding.Script line) = judged.found ≡ finding.Script line
-Comes judged (finding.Differs line machine journal) = judged.found ≡ finding.Differs line machine journal
+Comes judged (finding.Differs line machine journal) = judged.found
+    ≡ finding.Differs line machine journal
 Comes judged finding.ReadFault = Unit {0}
 Comes judged finding.WantOfMemory = Unit {0}
 
--- the same, of what a source has left, where it tells, and configurations that go on as its lines say
-abbrev pub JudgesOver : Option (List ℕ) → Version → List Configuration → History → (List ℕ → Judged) → Finding → Type 0
-JudgesOver left v configs h judged result = IfSome left (λ bytes. AreAhead v configs h (lines bytes) → Comes (judged bytes) result)
+-- the same, of what a source has left, where it tells, and configurations that go on as its lines
+-- say
+abbrev pub JudgesOver : Option (List ℕ) → Version → List Configuration → History → (List ℕ → Judged)
+    → Finding → Type 0
+JudgesOver left v configs h judged result = IfSome left
+    (λ bytes. AreAhead v configs h (lines bytes) → Comes (judged bytes) result)
 
--- the state that the judging has come to: what is left comes to the whole, behind so many entries and bytes
-pub record GoesOn (w : Machine) (v : Version) (left : Option (List ℕ)) (configs : List Configuration) (whole : Judged) (count epoch place : ℕ) : Type 0 where
+-- the state that the judging has come to: what is left comes to the whole, behind so many entries
+-- and bytes
+pub record GoesOn (w : ScriptView) (v : Version) (left : Option (List ℕ))
+    (configs : List Configuration) (whole : Judged) (count epoch place : ℕ) : Type 0 where
   pub history : History
   pub stands : Stands w count epoch configs history
   pub bytes : List ℕ
@@ -133,9 +153,11 @@ pub record GoesOn (w : Machine) (v : Version) (left : Option (List ℕ)) (config
   pub ahead : AreAhead v configs history (lines bytes)
   pub same : judged_lines v configs history place (lines bytes) ≡ whole
 
-abbrev pub Going : Machine → Version → Option (List ℕ) → Option (List ℕ) → List Configuration → History → (List ℕ → Judged) → ℕ → ℕ → ℕ → Type 0
+abbrev pub Going : ScriptView → Version → Option (List ℕ) → Option (List ℕ) → List Configuration
+    → History → (List ℕ → Judged) → ℕ → ℕ → ℕ → Type 0
 Going w v first left configs h judged count epoch place =
-    IfSome first (λ bytes. AreAhead v configs h (lines bytes) → GoesOn w v left configs (judged bytes) count epoch place)
+    IfSome first (λ bytes. AreAhead v configs h (lines bytes)
+    → GoesOn w v left configs (judged bytes) count epoch place)
 
 -- the bytes are known
 abbrev pub IsKnown : Option (List ℕ) → Type 0
@@ -150,7 +172,8 @@ abbrev pub ReachesEnd : Finding → Option (List ℕ) → Option (List ℕ) → 
 ReachesEnd (finding.Verified count) old new = IfSome old (λ bytes. IsAtEnd new)
 ReachesEnd found old new = Unit {0}
 
--- the source's count never falls; it rose where a read failed, and stayed where the judging ended otherwise
+-- the source's count never falls; it rose where a read failed, and stayed where the judging ended
+-- otherwise
 pub record JudgeHasCauses (before now : ℕ) (found : Finding) : Type 0 where
   pub later : before ≤ now
   pub read : found ≡ finding.ReadFault → Rose before now

@@ -42,8 +42,8 @@ abbrev pub AreShort : Version → History → Type 0
 AreShort v [] = Unit {0}
 AreShort v (e ∷ h) = AreShort v h × (length (line_in v h e) ≤ line_limit v)
 
--- each answer of the history is the machine's next over this configuration and those that its reconfigurations hold, and its text is within
--- the limits
+-- each answer of the history is the machine's next over this configuration and those that its
+-- reconfigurations hold, and its text is within the limits
 pub record IsTellable (config : Configuration) (v : Version) (h : History) : Type 0 where
   pub legal : Legal (config ∷ held_in h) h
   pub noted : AreNoted h

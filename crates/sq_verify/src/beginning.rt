@@ -23,7 +23,7 @@ use crate::versions::{Version, is_version_line};
 use sq_base::{EpochNo, Moment, WantOfMemory};
 use sq_journal::EntryFault;
 use sq_machine::{Entry, Event, Offset, Told};
-use sq_outside::{Found, Held, Source, Unread};
+use sq_outside::{Held, LineFound, Source, Unread};
 use sq_urlmatch::Setup;
 use std::alloc::Global;
 
@@ -39,7 +39,8 @@ fn begin<M: Player>(
     now: Moment,
     offset: Offset,
 ) -> Result<M, Halt>
-    ensures { BeginsLine M.machine setup (begun_line version line.now now (event.Begin offset)) result }
+    ensures { BeginsLine M.machine setup (begun_line version line.now now (event.Begin offset))
+        result }
 {
     let machine = match M::begin(alloc, setup, offset, now) {
         Ok(machine) => machine,
@@ -63,7 +64,8 @@ fn begin_line<M: Player>(
     setup: Setup,
     line: &[u8],
 ) -> Result<M, Halt>
-    ensures { BeginsLine M.machine setup (stated_first version line.now (noted_in version line.now)) result }
+    ensures { BeginsLine M.machine setup (stated_first version line.now (noted_in version line.now))
+        result }
 {
     let entry = match read_line(alloc, version, line) {
         Ok(entry) => entry,
@@ -87,8 +89,10 @@ fn judge_from<M: Player, S: Source>(
     journal: &mut S,
 ) -> Finding
     requires { place ≤ total_limit }
-    ensures judges { IfSome (prepend_known held.old (S.left journal.old)) (λ bytes. Comes (judged_behind version setup line.items place (lines bytes)) result) }
-    ensures end { ReachesEnd result (prepend_known held.old (S.left journal.old)) (prepend_known held.new (S.left journal.new)) }
+    ensures judges { IfSome (prepend_known held.old (S.left journal.old))
+        (λ bytes. Comes (judged_behind version setup line.items place (lines bytes)) result) }
+    ensures end { ReachesEnd result (prepend_known held.old (S.left journal.old))
+        (prepend_known held.new (S.left journal.new)) }
     ensures causes { JudgeHasCauses (S.faults journal.old) (S.faults journal.new) result }
 {
     configuration_facts(&setup);
@@ -108,16 +112,19 @@ fn judge_second<M: Player, S: Source>(
     journal: &mut S,
 ) -> Finding
     requires { place ≤ total_limit }
-    ensures judges { IfSome (prepend_known held.old (S.left journal.old)) (λ bytes. Comes (judged_first version.Two (epochs_of version.Two setup (lines bytes)) place (lines bytes)) result) }
-    ensures end { ReachesEnd result (prepend_known held.old (S.left journal.old)) (prepend_known held.new (S.left journal.new)) }
+    ensures judges { IfSome (prepend_known held.old (S.left journal.old))
+        (λ bytes. Comes (judged_first version.Two (epochs_of version.Two setup (lines bytes)) place
+        (lines bytes)) result) }
+    ensures end { ReachesEnd result (prepend_known held.old (S.left journal.old))
+        (prepend_known held.new (S.left journal.new)) }
     ensures causes { JudgeHasCauses (S.faults journal.old) (S.faults journal.new) result }
 {
     let mut place = place;
     let mut line = Vec::new(alloc);
     match journal_line(Version::Two, held, journal, &mut place, &mut line) {
-        Ok(Found::Whole) => {}
-        Ok(Found::End) => return Finding::Script(2),
-        Ok(Found::Faulty) => return Finding::Script(2),
+        Ok(LineFound::Whole) => {}
+        Ok(LineFound::End) => return Finding::Script(2),
+        Ok(LineFound::Faulty) => return Finding::Script(2),
         Err(Unread::Failed) => return Finding::ReadFault,
         Err(Unread::WantOfMemory) => return Finding::WantOfMemory,
     }
@@ -126,7 +133,8 @@ fn judge_second<M: Player, S: Source>(
 
 // Judges a journal from its first line on.
 fn judge_all<M: Player, S: Source>(alloc: Global, setup: Setup, journal: &mut S) -> Finding
-    ensures judges { IfSome (S.left journal.old) (λ bytes. Comes (judged setup (lines bytes)) result) }
+    ensures judges { IfSome (S.left journal.old)
+        (λ bytes. Comes (judged setup (lines bytes)) result) }
     ensures end { ReachesEnd result (S.left journal.old) (S.left journal.new) }
     ensures causes { JudgeHasCauses (S.faults journal.old) (S.faults journal.new) result }
 {
@@ -137,9 +145,9 @@ fn judge_all<M: Player, S: Source>(alloc: Global, setup: Setup, journal: &mut S)
     let mut place = 0;
     let mut line = Vec::new(alloc);
     match journal_line(Version::One, &mut held, journal, &mut place, &mut line) {
-        Ok(Found::Whole) => {}
-        Ok(Found::End) => return Finding::Script(1),
-        Ok(Found::Faulty) => return Finding::Script(1),
+        Ok(LineFound::Whole) => {}
+        Ok(LineFound::End) => return Finding::Script(1),
+        Ok(LineFound::Faulty) => return Finding::Script(1),
         Err(Unread::Failed) => return Finding::ReadFault,
         Err(Unread::WantOfMemory) => return Finding::WantOfMemory,
     }
@@ -154,10 +162,12 @@ fn judge_all<M: Player, S: Source>(alloc: Global, setup: Setup, journal: &mut S)
 /// that the machine has for its event. What is verified is, byte for byte, the text of a history of which all holds that
 /// holds of every run, and was read to its end.
 pub fn judge<M: Player, S: Source>(alloc: Global, setup: Setup, journal: &mut S) -> Finding
-    ensures judges { IfSome (S.left journal.old) (λ bytes. Comes (judged setup (lines bytes)) result) }
+    ensures judges { IfSome (S.left journal.old)
+        (λ bytes. Comes (judged setup (lines bytes)) result) }
     ensures audits { Audits setup (S.left journal.old) result }
     // A journal that tells a legal history is verified, unless a read fails or memory is wanting.
-    ensures complete { (v : Version) (h : History) → IsTellable setup v h → S.left journal.old ≡ Some (text_of v h) → Verifies result (length h) }
+    ensures complete { (v : Version) (h : History) → IsTellable setup v h
+        → S.left journal.old ≡ Some (text_of v h) → Verifies result (length h) }
     ensures end { ReachesEnd result (S.left journal.old) (S.left journal.new) }
     ensures causes { JudgeHasCauses (S.faults journal.old) (S.faults journal.new) result }
 {

@@ -18,7 +18,7 @@ use crate::versions::Version;
 use sq_base::{EpochNo, Moment, Text};
 use sq_journal::EntryFault;
 use sq_machine::{Entry, Event, later};
-use sq_outside::{Found, Held, Source, Unread};
+use sq_outside::{Held, LineFound, Source, Unread};
 use sq_replay::Stop;
 use std::alloc::Global;
 
@@ -35,8 +35,10 @@ fn judge_event<M: Player>(
 ) -> Result<EpochNo, Halt>
     requires event { is_event event ≡ true }
     requires count { count < 2 ^ 63 - 1 }
-    ensures goes { (configs : List Configuration) (h : History) → Stands (M.machine machine.old) count epoch configs h → HasNext configs h event
-        → Goes (M.machine machine.new) (count + 1) configs (event_line version configs h line.now now event) result }
+    ensures goes { (configs : List Configuration) (h : History)
+        → Stands (M.machine machine.old) count epoch configs h → HasNext configs h event
+        → Goes (M.machine machine.new) (count + 1) configs
+        (event_line version configs h line.now now event) result }
 {
     let moment = later(now, machine.latest());
     let answer = match play(alloc, machine, &event, now) {
@@ -66,8 +68,11 @@ fn judge_line<M: Player>(
     machine: &mut M,
 ) -> Result<EpochNo, Halt>
     requires { count < 2 ^ 63 - 1 }
-    ensures goes { (configs : List Configuration) (h : History) → Stands (M.machine machine.old) count epoch configs h → IsNext configs h (noted_in version line.now)
-        → Goes (M.machine machine.new) (count + 1) configs (stated_line version configs h line.now (noted_in version line.now)) result }
+    ensures goes { (configs : List Configuration) (h : History)
+        → Stands (M.machine machine.old) count epoch configs h
+        → IsNext configs h (noted_in version line.now)
+        → Goes (M.machine machine.new) (count + 1) configs
+        (stated_line version configs h line.now (noted_in version line.now)) result }
 {
     let entry = match read_line(alloc, version, line) {
         Ok(entry) => entry,
@@ -124,9 +129,12 @@ pub fn judge_rest<M: Player, S: Source>(
     journal: &mut S,
 ) -> Finding
     requires { place ≤ total_limit }
-    ensures judges { (configs : List Configuration) (h : History) → Stands (M.machine machine.old) 1 1 configs h
-        → JudgesOver (prepend_known held.old (S.left journal.old)) version configs h (λ bytes. judged_lines version configs h place (lines bytes)) result }
-    ensures end { ReachesEnd result (prepend_known held.old (S.left journal.old)) (prepend_known held.new (S.left journal.new)) }
+    ensures judges { (configs : List Configuration) (h : History)
+        → Stands (M.machine machine.old) 1 1 configs h
+        → JudgesOver (prepend_known held.old (S.left journal.old)) version configs h
+        (λ bytes. judged_lines version configs h place (lines bytes)) result }
+    ensures end { ReachesEnd result (prepend_known held.old (S.left journal.old))
+        (prepend_known held.new (S.left journal.new)) }
     ensures causes { JudgeHasCauses (S.faults journal.old) (S.faults journal.new) result }
 {
     let mut count = 1;
@@ -135,9 +143,9 @@ pub fn judge_rest<M: Player, S: Source>(
     let mut line = Vec::new(alloc);
     'lines: loop {
         match journal_line(version, held, journal, &mut place, &mut line) {
-            Ok(Found::Whole) => {}
-            Ok(Found::End) => return Finding::Verified(count),
-            Ok(Found::Faulty) => return halted(version, count, line, Halt::NoLine),
+            Ok(LineFound::Whole) => {}
+            Ok(LineFound::End) => return Finding::Verified(count),
+            Ok(LineFound::Faulty) => return halted(version, count, line, Halt::NoLine),
             Err(Unread::Failed) => return Finding::ReadFault,
             Err(Unread::WantOfMemory) => return Finding::WantOfMemory,
         }

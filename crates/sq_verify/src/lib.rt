@@ -2,7 +2,7 @@
 //! version 1 written as one of version 2.
 //!
 //! `Judging` says what a journal of either version comes to over a configuration. `judge` reads a journal line by line, plays
-//! each event and compares; `tell` writes what was found. `migrate` reads a journal of version 1 line by line, and writes
+//! each event and compares; `write_finding` writes what was found. `migrate` reads a journal of version 1 line by line, and writes
 //! version 2 in pages.
 #![tactic(auto)]
 
@@ -16,11 +16,11 @@ mod migrating;
 mod players;
 mod playing;
 mod taking;
-mod telling;
 mod versions;
+mod writing;
 
 pub use beginning::judge;
 pub use findings::Finding;
 pub use migrating::{MigrateFault, migrate};
 pub use players::Player;
-pub use telling::{tell, write_differs};
+pub use writing::{write_differs, write_finding};

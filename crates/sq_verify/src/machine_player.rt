@@ -2,11 +2,11 @@
 use crate::players::Player;
 use sq_base::{Moment, WantOfMemory};
 use sq_machine::{Event, Offset, Told};
-use sq_replay::{Machine, Stop};
+use sq_replay::{ScriptMachine, Stop};
 use sq_urlmatch::Setup;
 use std::alloc::Global;
 
-impl Player for Machine {
+impl Player for ScriptMachine {
     ghost use Rattle.sq_replay.specs.MachineViews.{machine_of};
 
     ghost machine = { machine_of };
@@ -16,23 +16,23 @@ impl Player for Machine {
         setup: Setup,
         offset: Offset,
         now: Moment,
-    ) -> Result<Machine, WantOfMemory> {
-        Machine::begin(alloc, setup, offset, now)
+    ) -> Result<ScriptMachine, WantOfMemory> {
+        ScriptMachine::begin(alloc, setup, offset, now)
     }
 
     fn latest(&self) -> Moment {
-        Machine::latest(self)
+        ScriptMachine::latest(self)
     }
 
     fn make(&mut self, alloc: Global, event: &Event, now: Moment) -> Result<Told, Stop> {
-        Machine::make(self, alloc, event, now)
+        ScriptMachine::make(self, alloc, event, now)
     }
 
     fn reconfigure(&mut self, alloc: Global, setup: Setup, now: Moment) -> Result<Told, Stop> {
-        Machine::reconfigure(self, alloc, setup, now)
+        ScriptMachine::reconfigure(self, alloc, setup, now)
     }
 
     fn act_at(&mut self, alloc: Global, now: Moment) -> Result<Option<Told>, WantOfMemory> {
-        Machine::act_at(self, alloc, now)
+        ScriptMachine::act_at(self, alloc, now)
     }
 }

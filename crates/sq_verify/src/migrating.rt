@@ -9,15 +9,15 @@ ghost use Rattle.sq_journal.specs.ToldReading.{entry_of};
 ghost use Rattle.sq_verify.specs.Migrating.{MigrateHasCauses, Migrates, MigratesLine, PutsEntry, PutsText, first_behind, is_in_place, placed, read_journal};
 ghost use Rattle.sq_journal.specs.Reading.{ReadsText};
 ghost use Rattle.sq_replay.specs.Runs.{Wrote};
-ghost use Rattle.sq_replay.specs.declared.page.Untold.TheVariants as untold;
+ghost use Rattle.sq_replay.specs.declared.page.Unwritten.TheVariants as untold;
 ghost use Rattle.sq_verify.specs.declared.migrating.MigrateFault.TheVariants as fault;
 
 use crate::comparing::epoch_behind;
 use sq_base::{EpochNo, WantOfMemory};
 use sq_journal::{EntryFault, print_numbered, read_entry};
 use sq_machine::{Entry, Event};
-use sq_outside::{Found, Held, Sink, Source, Unread, next_line};
-use sq_replay::{Untold, put_line};
+use sq_outside::{Held, LineFound, Sink, Source, Unread, next_line};
+use sq_replay::{Unwritten, put_line};
 use std::alloc::Global;
 use thiserror::Error;
 
@@ -77,8 +77,9 @@ fn is_begin(event: &Event) -> bool
 }
 
 // Puts a line on the page behind the version line.
-fn put_first<O: Sink>(text: &[u8], page: &mut Vec<u8>, out: &mut O) -> Result<(), Untold>
-    ensures puts { PutsText (O.contents out.old) (O.contents out.new) page.old.items page.new.items result (first_behind true (text.now ++ 10 ∷ [])) }
+fn put_first<O: Sink>(text: &[u8], page: &mut Vec<u8>, out: &mut O) -> Result<(), Unwritten>
+    ensures puts { PutsText (O.contents out.old) (O.contents out.new) page.old.items page.new.items
+        result (first_behind true (text.now ++ 10 ∷ [])) }
     ensures later { O.faults out.old ≤ O.faults out.new }
     ensures cause { IsErrOf result untold.Failed → Rose (O.faults out.old) (O.faults out.new) }
     ensures quiet { (IsErrOf result untold.Failed → ⊥) → O.faults out.new ≡ O.faults out.old }
@@ -96,8 +97,9 @@ fn put_next<O: Sink>(
     text: &[u8],
     page: &mut Vec<u8>,
     out: &mut O,
-) -> Result<(), Untold>
-    ensures puts { PutsText (O.contents out.old) (O.contents out.new) page.old.items page.new.items result (first_behind is_first (text.now ++ 10 ∷ [])) }
+) -> Result<(), Unwritten>
+    ensures puts { PutsText (O.contents out.old) (O.contents out.new) page.old.items page.new.items
+        result (first_behind is_first (text.now ++ 10 ∷ [])) }
     ensures later { O.faults out.old ≤ O.faults out.new }
     ensures cause { IsErrOf result untold.Failed → Rose (O.faults out.old) (O.faults out.new) }
     ensures quiet { (IsErrOf result untold.Failed → ⊥) → O.faults out.new ≡ O.faults out.old }
@@ -119,7 +121,8 @@ fn put_entry<O: Sink>(
     out: &mut O,
 ) -> Result<EpochNo, MigrateFault>
     requires { count < 2 ^ 63 - 1 }
-    ensures puts { PutsEntry (O.contents out.old) (O.contents out.new) page.old.items page.new.items count epoch entry.now result }
+    ensures puts { PutsEntry (O.contents out.old) (O.contents out.new) page.old.items page.new.items
+        count epoch entry.now result }
     ensures later { O.faults out.old ≤ O.faults out.new }
     ensures write { IsErrOf result fault.WriteFault → Rose (O.faults out.old) (O.faults out.new) }
     ensures quiet { (IsErrOf result fault.WriteFault → ⊥) → O.faults out.new ≡ O.faults out.old }
@@ -131,8 +134,8 @@ fn put_entry<O: Sink>(
     };
     match put_next(count == 0, text.as_bytes(), page, out) {
         Ok(()) => Ok(next),
-        Err(Untold::Failed) => Err(MigrateFault::WriteFault),
-        Err(Untold::WantOfMemory) => Err(MigrateFault::WantOfMemory),
+        Err(Unwritten::Failed) => Err(MigrateFault::WriteFault),
+        Err(Unwritten::WantOfMemory) => Err(MigrateFault::WantOfMemory),
     }
 }
 
@@ -146,7 +149,8 @@ fn migrate_line<O: Sink>(
     out: &mut O,
 ) -> Result<EpochNo, MigrateFault>
     requires { count < 2 ^ 63 - 1 }
-    ensures line { MigratesLine (O.contents out.old) (O.contents out.new) page.old.items page.new.items count epoch line.now result }
+    ensures line { MigratesLine (O.contents out.old) (O.contents out.new) page.old.items
+        page.new.items count epoch line.now result }
     ensures later { O.faults out.old ≤ O.faults out.new }
     ensures write { IsErrOf result fault.WriteFault → Rose (O.faults out.old) (O.faults out.new) }
     ensures quiet { (IsErrOf result fault.WriteFault → ⊥) → O.faults out.new ≡ O.faults out.old }
@@ -181,10 +185,13 @@ pub fn migrate<S: Source, O: Sink>(
     page: &mut Vec<u8>,
     out: &mut O,
 ) -> Result<(), MigrateFault>
-    ensures migrates { IfSome (S.left journal.old) (λ bytes. (base : Option (List ℕ)) → Wrote base (O.contents out.old) page.old.items []
+    ensures migrates { IfSome (S.left journal.old)
+        (λ bytes. (base : Option (List ℕ)) → Wrote base (O.contents out.old) page.old.items []
         → Migrates base (O.contents out.new) page.new.items (read_journal (lines bytes)) result) }
-    ensures end { OnOk result (IfSome (S.left journal.old) (λ bytes. IsAtEnd (S.left journal.new))) }
-    ensures causes { MigrateHasCauses (S.faults journal.old) (S.faults journal.new) (O.faults out.old) (O.faults out.new) result }
+    ensures end { OnOk result
+        (IfSome (S.left journal.old) (λ bytes. IsAtEnd (S.left journal.new))) }
+    ensures causes { MigrateHasCauses (S.faults journal.old) (S.faults journal.new)
+        (O.faults out.old) (O.faults out.new) result }
 {
     let mut held = match Held::new(alloc, CHUNK) {
         Ok(held) => held,
@@ -196,9 +203,9 @@ pub fn migrate<S: Source, O: Sink>(
     let mut epoch = EpochNo(1);
     'lines: loop {
         match next_line(&mut held, journal, &mut place, &mut line) {
-            Ok(Found::Whole) => {}
-            Ok(Found::End) => return ended(count),
-            Ok(Found::Faulty) => return Err(MigrateFault::Script(count + 1)),
+            Ok(LineFound::Whole) => {}
+            Ok(LineFound::End) => return ended(count),
+            Ok(LineFound::Faulty) => return Err(MigrateFault::Script(count + 1)),
             Err(Unread::Failed) => return Err(MigrateFault::ReadFault),
             Err(Unread::WantOfMemory) => return Err(MigrateFault::WantOfMemory),
         }

@@ -50,7 +50,8 @@ fn reconfigure<M: Player>(
     text: &Text,
     now: Moment,
 ) -> Result<Told, Stop>
-    ensures plays { Plays (M.machine machine.old) (M.machine machine.new) now (event.Reconfigure text.now) result }
+    ensures plays { Plays (M.machine machine.old) (M.machine machine.new) now
+        (event.Reconfigure text.now) result }
     ensures row { IfOk result (λ told. is_row (event.Reconfigure text.now) told ≡ true) }
 {
     let setup = match accept(alloc, text.as_bytes()) {

@@ -6,7 +6,7 @@ ghost use Rattle.sq_outside.specs.SourceLines.{FindsWithin, Moves, total_limit};
 ghost use Rattle.sq_verify.specs.JournalLines.{line_limit};
 
 use crate::versions::{Version, line_limit};
-use sq_outside::{Found, Held, Source, Unread, next_line_within};
+use sq_outside::{Held, LineFound, Source, Unread, next_line_within};
 
 /// Takes the next line of a journal of this version, without its LF, into `line`, which is cleared first. `place` is how many
 /// bytes came before, and moves behind a line that was found.
@@ -16,9 +16,11 @@ pub fn journal_line<S: Source>(
     journal: &mut S,
     place: &mut u64,
     line: &mut Vec<u8>,
-) -> Result<Found, Unread>
+) -> Result<LineFound, Unread>
     requires { place.old ≤ total_limit }
-    ensures found { IfOk result (λ found. FindsWithin (line_limit version) place.old (prepend_known held.old (S.left journal.old))
+    ensures found { IfOk result
+        (λ found. FindsWithin (line_limit version) place.old
+        (prepend_known held.old (S.left journal.old))
         (prepend_known held.new (S.left journal.new)) line.new.items found) }
     ensures place { IfOk result (λ found. Moves place.old place.new line.new.items found) }
     ensures cause { ReadHasCause (S.faults journal.old) (S.faults journal.new) result }

@@ -1,6 +1,6 @@
 //! The lines of a script, as a source gives them in pieces.
 use sq_base::{Text, WantOfMemory};
-use sq_outside::{Found, Held, MemSource, Unread, next_line};
+use sq_outside::{Held, LineFound, MemSource, Unread, next_line};
 use std::alloc::Global;
 use std::test::Fail;
 
@@ -151,16 +151,16 @@ fn put_next(
         return Ok(false);
     }
     match next_line(held, source, place, line) {
-        Ok(Found::Whole) => {
+        Ok(LineFound::Whole) => {
             shown.append(line.as_slice())?;
             shown.append(b"|")?;
             Ok(true)
         }
-        Ok(Found::End) => {
+        Ok(LineFound::End) => {
             shown.append(b"end")?;
             Ok(false)
         }
-        Ok(Found::Faulty) => {
+        Ok(LineFound::Faulty) => {
             shown.append(b"faulty")?;
             Ok(false)
         }

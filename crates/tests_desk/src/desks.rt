@@ -1,17 +1,17 @@
 //! A desk that runs a job, and what comes of it.
 ghost use Rattle.std.specs.Prelude.{◌≡◌, pos, []};
-ghost use Rattle.sq_note.specs.Memory.{mem_history};
+ghost use Rattle.sq_journal_writers.specs.Memory.{mem_history};
 
 use crate::calls::{Gave, call, call_hub, is_same, setup_of};
 use crate::jobs::{BEGIN, CONF, Job, lines_of};
 use sq_base::Moment;
 use sq_cache::HashSeed;
 use sq_calls::{DeskCalls, DeskFault};
-use sq_desk::{Desk, First};
-use sq_hub::Hub;
+use sq_conn_policy::Hub;
+use sq_desk::{Desk, DeskStart};
 use sq_journal::{print_entry, read_entry, read_event};
+use sq_journal_writers::{Journal, MemJournal};
 use sq_machine::{Entry, Offset, Told};
-use sq_note::{Journal, MemJournal};
 use sq_urlmatch::Setup;
 use std::alloc::Global;
 use std::marker::Brand;
@@ -121,7 +121,7 @@ fn run_lines<D: DeskCalls>(alloc: Global, desk: &mut D, lines: &str) -> Result<S
 }
 
 // A desk begins over the journal, and runs the job.
-fn run_job<F: First>(
+fn run_job<F: DeskStart>(
     alloc: Global,
     setup: Setup,
     journal: MemJournal,

@@ -2,26 +2,25 @@
 ghost use Rattle.std.specs.Prelude.{◌≡◌, ◌<◌, pos, true, IfOk};
 ghost use Rattle.std.specs.Option.{ForSome};
 ghost use Rattle.sq_calls.specs.Legality.{IsStated};
-ghost use Rattle.sq_room.specs.Books.{AreCounted};
+ghost use Rattle.sq_shared.specs.Books.{AreCounted};
 
 use crate::calls::setup_of;
 use crate::desks::{gave_mark, hub_mark, is_noted, mark};
 use crate::jobs::BEGIN;
 use crate::locks::{Blanks, CALLERS, Wholes, lock};
-use sq_bank::Bank;
 use sq_base::{EpochNo, Moment};
 use sq_cache::HashSeed;
 use sq_calls::{DeskCalls, DeskFault};
-use sq_desk::{Desk, First};
-use sq_hub::Hub;
+use sq_conn_policy::Hub;
+use sq_desk::{Desk, DeskStart};
 use sq_journal::{print_entry, read_entry};
+use sq_journal_writers::MemJournal;
 use sq_machine::{Entry, Event, Offset, Told};
-use sq_note::MemJournal;
 use sq_outside::MemClock;
 use sq_pools::Pools;
-use sq_room::{ControlDesk, LockDesk, Room};
+use sq_shared::{Bank, ControlDesk, LockDesk, Room};
 use sq_urlmatch::Setup;
-use sq_work::LockHub;
+use sq_workers::LockHub;
 use std::alloc::Global;
 use std::marker::Brand;
 use std::sync::ledger::{Ledger, Share};
@@ -306,8 +305,10 @@ fn run_locked<R: Wait, D: DeskCalls, A: Ledger, M: Ledger, N: Ledger, G: Ledger>
     requires counting { D.is_counting ≡ true }
     requires asks { (blanks.asks.name ≡ A.name) × (blanks.asks.parts ≡ A.parts) × (A.parts ≡ 1) }
     requires makes { (blanks.makes.name ≡ M.name) × (blanks.makes.parts ≡ M.parts) × (M.parts ≡ 1) }
-    requires refusals { (blanks.refusals.name ≡ N.name) × (blanks.refusals.parts ≡ N.parts) × (N.parts ≡ CALLERS) }
-    requires grants { (blanks.grants.name ≡ G.name) × (blanks.grants.parts ≡ G.parts) × (G.parts ≡ 1) }
+    requires refusals { (blanks.refusals.name ≡ N.name) × (blanks.refusals.parts ≡ N.parts)
+        × (N.parts ≡ CALLERS) }
+    requires grants { (blanks.grants.name ≡ G.name) × (blanks.grants.parts ≡ G.parts)
+        × (G.parts ≡ 1) }
     requires entries { AreCounted 0 0 (D.told desk) }
     requires made { ForSome (D.made desk) (λ m. m ≡ 0) }
     requires refused { D.refused desk ≡ 0 }
@@ -320,9 +321,10 @@ fn run_locked<R: Wait, D: DeskCalls, A: Ledger, M: Ledger, N: Ledger, G: Ledger>
 
 /// A desk of this configuration that has begun.
 #[tactic(auto, using(crate::proofs::BeginLaws::first_counted))]
-pub fn begin<F: First>(alloc: Global, setup: Setup) -> Result<Desk<MemJournal, F>, Fail>
+pub fn begin<F: DeskStart>(alloc: Global, setup: Setup) -> Result<Desk<MemJournal, F>, Fail>
     requires { F.first ≡ record { config = setup; offset = pos 0 } }
-    ensures { IfOk result (λ d. AreCounted 0 0 d.notes.history × (d.notes.made ≡ 0) × (d.notes.refusals ≡ 0)) }
+    ensures { IfOk result
+        (λ d. AreCounted 0 0 d.notes.history × (d.notes.made ≡ 0) × (d.notes.refusals ≡ 0)) }
 {
     let journal = MemJournal::new(alloc, ROOM, Vec::new(alloc), Vec::new(alloc))?;
     let seed = HashSeed::fixed();
@@ -346,7 +348,7 @@ fn told(alloc: Global, marks: &str, journal: &MemJournal) -> Result<String, Fail
 }
 
 // The journal, once all calls were made behind the lock.
-fn run_behind<R: Wait, F: First, A: Ledger, M: Ledger, N: Ledger, G: Ledger>(
+fn run_behind<R: Wait, F: DeskStart, A: Ledger, M: Ledger, N: Ledger, G: Ledger>(
     rt: &R,
     alloc: Global,
     setup: Setup,
@@ -357,8 +359,10 @@ fn run_behind<R: Wait, F: First, A: Ledger, M: Ledger, N: Ledger, G: Ledger>(
     requires first { F.first ≡ record { config = setup; offset = pos 0 } }
     requires asks { (blanks.asks.name ≡ A.name) × (blanks.asks.parts ≡ A.parts) × (A.parts ≡ 1) }
     requires makes { (blanks.makes.name ≡ M.name) × (blanks.makes.parts ≡ M.parts) × (M.parts ≡ 1) }
-    requires refusals { (blanks.refusals.name ≡ N.name) × (blanks.refusals.parts ≡ N.parts) × (N.parts ≡ CALLERS) }
-    requires grants { (blanks.grants.name ≡ G.name) × (blanks.grants.parts ≡ G.parts) × (G.parts ≡ 1) }
+    requires refusals { (blanks.refusals.name ≡ N.name) × (blanks.refusals.parts ≡ N.parts)
+        × (N.parts ≡ CALLERS) }
+    requires grants { (blanks.grants.name ≡ G.name) × (blanks.grants.parts ≡ G.parts)
+        × (G.parts ≡ 1) }
 {
     let clock = clock(alloc)?;
     let pools = Pools::new(alloc, EpochNo(1), setup.config(), Moment(0))?;
@@ -419,7 +423,7 @@ fn run_desk<D: DeskCalls>(
 }
 
 // The journal, once the same calls were made of the desk itself.
-fn run_plain<F: First>(
+fn run_plain<F: DeskStart>(
     alloc: Global,
     setup: Setup,
     case: &String,

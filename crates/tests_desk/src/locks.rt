@@ -1,12 +1,11 @@
 //! A desk and delay pools behind their locks, with the shares of who calls them.
 ghost use Rattle.std.specs.Prelude.{◌≡◌};
 ghost use Rattle.std.specs.Option.{ForSome};
-ghost use Rattle.sq_room.specs.Books.{AreCounted};
+ghost use Rattle.sq_shared.specs.Books.{AreCounted};
 
-use sq_bank::Bank;
 use sq_calls::DeskCalls;
 use sq_pools::Pools;
-use sq_room::{Hall, Room};
+use sq_shared::{Bank, Hall, Room};
 use std::alloc::Global;
 use std::sync::Mutex;
 use std::sync::ledger::{Blank, Book, Ledger, Share};

@@ -2,21 +2,21 @@
 ghost use Rattle.std.specs.Prelude.{◌≡◌, pos, true};
 ghost use Rattle.std.specs.Option.{ForSome};
 ghost use Rattle.sq_pools.specs.Basins.{has_pool};
-ghost use Rattle.sq_room.specs.Books.{AreCounted};
+ghost use Rattle.sq_shared.specs.Books.{AreCounted};
 
 use crate::calls::setup_of;
 use crate::locked::{begin, text_of};
 use crate::locks::{Blanks, CALLERS, Wholes, lock};
 use sq_base::{Addr, EpochNo, Moment};
 use sq_calls::DeskCalls;
-use sq_desk::{Desk, First};
-use sq_hub::Hub;
-use sq_note::MemJournal;
+use sq_conn_policy::Hub;
+use sq_desk::{Desk, DeskStart};
+use sq_journal_writers::MemJournal;
 use sq_outside::{Clock, MemClock};
 use sq_pools::{ChooseFault, Pools, Seat};
 use sq_rules::Config;
 use sq_urlmatch::Setup;
-use sq_work::LockHub;
+use sq_workers::LockHub;
 use std::alloc::Global;
 use std::marker::Brand;
 use std::sync::ledger::Ledger;
@@ -230,8 +230,10 @@ fn run_locked<R: Wait, D: DeskCalls + Drop, A: Ledger, M: Ledger, N: Ledger, G: 
 ) -> Result<String, Fail>
     requires asks { (blanks.asks.name ≡ A.name) × (blanks.asks.parts ≡ A.parts) × (A.parts ≡ 1) }
     requires makes { (blanks.makes.name ≡ M.name) × (blanks.makes.parts ≡ M.parts) }
-    requires refusals { (blanks.refusals.name ≡ N.name) × (blanks.refusals.parts ≡ N.parts) × (N.parts ≡ CALLERS) }
-    requires grants { (blanks.grants.name ≡ G.name) × (blanks.grants.parts ≡ G.parts) × (G.parts ≡ 1) }
+    requires refusals { (blanks.refusals.name ≡ N.name) × (blanks.refusals.parts ≡ N.parts)
+        × (N.parts ≡ CALLERS) }
+    requires grants { (blanks.grants.name ≡ G.name) × (blanks.grants.parts ≡ G.parts)
+        × (G.parts ≡ 1) }
     requires entries { AreCounted 0 0 (D.told desk) }
     requires made { ForSome (D.made desk) (λ m. m ≡ 0) }
     requires refused { D.refused desk ≡ 0 }
@@ -253,7 +255,7 @@ fn run_locked<R: Wait, D: DeskCalls + Drop, A: Ledger, M: Ledger, N: Ledger, G: 
 }
 
 // What is told of the calls of the pools behind their lock.
-fn run_behind<R: Wait, F: First, A: Ledger, M: Ledger, N: Ledger, G: Ledger>(
+fn run_behind<R: Wait, F: DeskStart, A: Ledger, M: Ledger, N: Ledger, G: Ledger>(
     rt: &R,
     alloc: Global,
     config: &Arc<Config>,
@@ -264,8 +266,10 @@ fn run_behind<R: Wait, F: First, A: Ledger, M: Ledger, N: Ledger, G: Ledger>(
     requires first { F.first ≡ record { config = setup; offset = pos 0 } }
     requires asks { (blanks.asks.name ≡ A.name) × (blanks.asks.parts ≡ A.parts) × (A.parts ≡ 1) }
     requires makes { (blanks.makes.name ≡ M.name) × (blanks.makes.parts ≡ M.parts) }
-    requires refusals { (blanks.refusals.name ≡ N.name) × (blanks.refusals.parts ≡ N.parts) × (N.parts ≡ CALLERS) }
-    requires grants { (blanks.grants.name ≡ G.name) × (blanks.grants.parts ≡ G.parts) × (G.parts ≡ 1) }
+    requires refusals { (blanks.refusals.name ≡ N.name) × (blanks.refusals.parts ≡ N.parts)
+        × (N.parts ≡ CALLERS) }
+    requires grants { (blanks.grants.name ≡ G.name) × (blanks.grants.parts ≡ G.parts)
+        × (G.parts ≡ 1) }
 {
     let clock = clock(alloc)?;
     let pools = Pools::new(alloc, EpochNo(1), config, Moment(0))?;

@@ -1,23 +1,22 @@
 //! Two connections behind one lock, of which each waits for a helper of its own.
 ghost use Rattle.std.specs.Prelude.{◌≡◌, pos};
 ghost use Rattle.std.specs.Option.{ForSome};
-ghost use Rattle.sq_room.specs.Books.{AreCounted};
+ghost use Rattle.sq_shared.specs.Books.{AreCounted};
 
 use crate::calls::setup_of;
 use crate::desks::{hub_mark, mark};
 use crate::locked::begin;
 use crate::locks::{Blanks, CALLERS, Wholes, lock};
-use sq_bank::Bank;
 use sq_base::{EpochNo, Moment, QuestionNo};
 use sq_calls::DeskCalls;
-use sq_desk::{Desk, First};
-use sq_hub::Hub;
-use sq_note::MemJournal;
+use sq_conn_policy::Hub;
+use sq_desk::{Desk, DeskStart};
+use sq_journal_writers::MemJournal;
 use sq_outside::MemClock;
 use sq_pools::Pools;
-use sq_room::{LockDesk, Room, is_awaited};
+use sq_shared::{Bank, LockDesk, Room, is_awaited};
 use sq_urlmatch::Setup;
-use sq_work::LockHub;
+use sq_workers::LockHub;
 use std::alloc::Global;
 use std::marker::Brand;
 use std::sync::ledger::{Blank, Ledger};
@@ -202,8 +201,10 @@ fn run_locked<R: Wait, D: DeskCalls + Drop, A: Ledger, M: Ledger, N: Ledger, G: 
 ) -> Result<String, Fail>
     requires asks { (blanks.asks.name ≡ A.name) × (blanks.asks.parts ≡ A.parts) × (A.parts ≡ 2) }
     requires makes { (blanks.makes.name ≡ M.name) × (blanks.makes.parts ≡ M.parts) }
-    requires refusals { (blanks.refusals.name ≡ N.name) × (blanks.refusals.parts ≡ N.parts) × (N.parts ≡ CALLERS) }
-    requires grants { (blanks.grants.name ≡ G.name) × (blanks.grants.parts ≡ G.parts) × (G.parts ≡ 2) }
+    requires refusals { (blanks.refusals.name ≡ N.name) × (blanks.refusals.parts ≡ N.parts)
+        × (N.parts ≡ CALLERS) }
+    requires grants { (blanks.grants.name ≡ G.name) × (blanks.grants.parts ≡ G.parts)
+        × (G.parts ≡ 2) }
     requires entries { AreCounted 0 0 (D.told desk) }
     requires made { ForSome (D.made desk) (λ m. m ≡ 0) }
     requires refused { D.refused desk ≡ 0 }
@@ -214,7 +215,7 @@ fn run_locked<R: Wait, D: DeskCalls + Drop, A: Ledger, M: Ledger, N: Ledger, G: 
 }
 
 // The marks of all rows behind the lock of a desk over this setup.
-fn run_behind<R: Wait, F: First, A: Ledger, M: Ledger, N: Ledger, G: Ledger>(
+fn run_behind<R: Wait, F: DeskStart, A: Ledger, M: Ledger, N: Ledger, G: Ledger>(
     rt: &R,
     alloc: Global,
     setup: Setup,
@@ -223,8 +224,10 @@ fn run_behind<R: Wait, F: First, A: Ledger, M: Ledger, N: Ledger, G: Ledger>(
     requires first { F.first ≡ record { config = setup; offset = pos 0 } }
     requires asks { (blanks.asks.name ≡ A.name) × (blanks.asks.parts ≡ A.parts) × (A.parts ≡ 2) }
     requires makes { (blanks.makes.name ≡ M.name) × (blanks.makes.parts ≡ M.parts) }
-    requires refusals { (blanks.refusals.name ≡ N.name) × (blanks.refusals.parts ≡ N.parts) × (N.parts ≡ CALLERS) }
-    requires grants { (blanks.grants.name ≡ G.name) × (blanks.grants.parts ≡ G.parts) × (G.parts ≡ 2) }
+    requires refusals { (blanks.refusals.name ≡ N.name) × (blanks.refusals.parts ≡ N.parts)
+        × (N.parts ≡ CALLERS) }
+    requires grants { (blanks.grants.name ≡ G.name) × (blanks.grants.parts ≡ G.parts)
+        × (G.parts ≡ 2) }
 {
     let pools = Pools::new(alloc, EpochNo(1), setup.config(), Moment(0))?;
     let desk = begin::<F>(alloc, setup)?;

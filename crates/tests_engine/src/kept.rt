@@ -1,4 +1,4 @@
-//! Verdicts that are kept: how long they are fresh, which goes first, and refreshes.
+//! Cached replies: how long they are fresh, which goes first, and refreshes.
 use crate::scripts::{Before, Case, differing};
 use std::test::Fail;
 

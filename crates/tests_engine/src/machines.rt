@@ -7,8 +7,8 @@ use sq_conf::read_config;
 use sq_engine::Engine;
 use sq_journal::read_event;
 use sq_machine::{Event, Offset, Refusal};
+use sq_model_rows::Stepped;
 use sq_request::make_request;
-use sq_rows::Stepped;
 use std::alloc::Global;
 use std::test::Fail;
 

@@ -132,7 +132,7 @@ end => 1 2 7000
 end => 1 1 9223372036854775807
 ",
     ),
-    // A verdict that is kept at the last moment stays fresh.
+    // A cached reply at the last moment stays fresh.
     (
         "unkept",
         Before::Nothing,

@@ -3,9 +3,9 @@ ghost use Rattle.std.specs.Prelude.{◌≡◌, ◌+◌, true, false, if◌then�
 
 use sq_base::{Addr, CheckNo, ConnNo, EpochNo, Request};
 use sq_checks::Record;
-use sq_hub::{Hub, HubFault};
+use sq_conn_policy::{Hub, HubFault};
+use sq_model_rows::Stepped;
 use sq_pools::{ChooseFault, Seat};
-use sq_rows::Stepped;
 use sq_rules::Config;
 use sq_session::Counts;
 use std::alloc::Global;

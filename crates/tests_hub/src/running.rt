@@ -2,8 +2,8 @@
 use crate::failing::Failing;
 use sq_base::{Addr, ConnNo, Copying, Moment, Text};
 use sq_conf::read_config;
+use sq_conn_policy::HubFront;
 use sq_forward::{Ahead, Half};
-use sq_hub::HubFront;
 use sq_mem_hub::MemHub;
 use sq_outside::{MemDialer, MemOrigin, MemOut, MemPair, MemShape, MemSink, MemSource, Wire};
 use sq_session::{SessionEnd, session};

@@ -2,8 +2,8 @@
 
 use sq_base::WantOfMemory;
 use sq_journal::{EntryFault, read_entry};
+use sq_journal_writers::{Journal, MemJournal, SinkJournal};
 use sq_machine::Entry;
-use sq_note::{Journal, MemJournal, SinkJournal};
 use sq_outside::{Failed, MemSink};
 use std::alloc::Global;
 use std::process::Abort;

@@ -1,4 +1,4 @@
-//! Verdicts that are kept, taken and let go.
+//! Cached replies, taken and let go.
 ghost use Rattle.std.specs.Prelude.{◌≡◌, ◌≤◌, ◌<◌, true};
 
 use sq_base::{Moment, Pair, Pairs, QuestionNo, Text, Texts, What};

@@ -1,4 +1,4 @@
-//! Tests of the parts of the machine: processes of helpers and the farm of a class, kept verdicts and open lookups, one
+//! Tests of the parts of the machine: processes of helpers and the farm of a class, cached replies and open lookups, one
 //! class of one epoch, and delay pools.
 //!
 //! It has no public call. Each test is one table or one run of calls, whose expected values come from Squid's

@@ -5,10 +5,10 @@ use sq_base::{
     Cause, CheckNo, Copying, Moment, ProcNo, QuestionNo, Reply, Text, Texts, What, Word,
 };
 use sq_cache::HashSeed;
+use sq_class::Part;
 use sq_farm::Got;
 use sq_lookup::Checks;
-use sq_part::Part;
-use sq_rows::{Said, Stepped};
+use sq_model_rows::{StepEffect, Stepped};
 use sq_rules::{Class, Token, Tokens};
 use std::alloc::Global;
 use std::marker::Model;
@@ -30,7 +30,8 @@ impl Model for Run {
 
     ghost view = { λ r. r.count };
 
-    ghost invariant = { λ r. (all_below (suc r.count) r.part.row.lookups ≡ true) × (r.part.limit ≡ r.class.cache) };
+    ghost invariant = { λ r. (all_below (suc r.count) r.part.row.lookups ≡ true)
+        × (r.part.limit ≡ r.class.cache) };
 }
 
 /// A class of one process at most, with one question at a time; its answers are fresh for ten seconds, and their
@@ -54,7 +55,7 @@ fn class(alloc: Global) -> Result<Class, Fail> {
 }
 
 /// What a step says.
-fn told(alloc: Global, said: &Said) -> Result<String, Fail> {
+fn told(alloc: Global, said: &StepEffect) -> Result<String, Fail> {
     match &said.stepped {
         Stepped::Waits(question) => {
             let number = question.0;

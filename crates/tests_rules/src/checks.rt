@@ -7,8 +7,8 @@ use sq_conf::read_config;
 use sq_eval::evaluate;
 use sq_facts::read_facts;
 use sq_frames::Slots;
+use sq_model_rows::{StepEffect, Stepped};
 use sq_request::make_request;
-use sq_rows::{Said, Stepped};
 use sq_rules::{Sight, Value};
 use std::alloc::Global;
 use std::sync::Arc;
@@ -74,7 +74,7 @@ fn step(
                 return Err(Fail::new("no class"));
             };
             let asked = key.copy(alloc)?;
-            let said = Said {
+            let said = StepEffect {
                 stepped: Stepped::Waits(question),
                 took: None,
                 put: true,

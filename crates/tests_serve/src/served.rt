@@ -4,7 +4,7 @@ use crate::nets::{Client, Origin, helpers, links, net, origins};
 use sq_base::{Text, WantOfMemory};
 use sq_cache::HashSeed;
 use sq_journal::print_entry;
-use sq_note::MemJournal;
+use sq_journal_writers::MemJournal;
 use sq_outside::{MemName, MemNet, MemSink, Wire};
 use sq_proxy::proxy;
 use std::alloc::Global;

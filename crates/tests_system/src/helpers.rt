@@ -2,7 +2,7 @@
 use crate::fixtures::{fails_to_write, words};
 use sq_base::{Text, WantOfMemory};
 use sq_outside::{
-    Another, Clock, Files, Found, Held, NoOpen, Out, Sink, Source, Spawner, Stopper, next_line,
+    Another, Clock, Files, Held, LineFound, NoOpen, Out, Sink, Source, Spawner, Stopper, next_line,
     write_all,
 };
 use sq_system::{LinkTimes, RealClock, RealFiles, RealListener, RealSpawner};
@@ -24,7 +24,7 @@ fn cat_answers_three_lines_and_is_closed(rt: HostRuntime) -> Result<(), Fail> {
         assert!(rt; write_all(&mut to, asked).is_ok());
         assert!(rt; write_all(&mut to, b"\n").is_ok());
         let found = next_line(&mut held, &mut said, &mut place, &mut line)?;
-        assert!(rt; matches!(found, Found::Whole));
+        assert!(rt; matches!(found, LineFound::Whole));
         assert!(rt; line.as_slice() == asked);
     }
     to.close();

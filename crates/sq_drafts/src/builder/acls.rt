@@ -78,7 +78,8 @@ impl Builder {
         requires room { nat_lt (stated self.old.acls) acl_limit ≡ true }
         requires word { has_blank name ≡ false }
         requires class { class < length self.old.classes }
-        ensures ok { OnOk result (self.new ≡ with_acl_more name (body.External class arguments) self.old) }
+        ensures ok { OnOk result
+            (self.new ≡ with_acl_more name (body.External class arguments) self.old) }
         ensures err { OnErr result (self.new ≡ self.old) }
     {
         self.acls
@@ -92,7 +93,8 @@ impl Builder {
         requires word { has_blank name ≡ false }
         ensures ok { OnOk result (self.new ≡ with_acl_more name (body.AnyOf []) self.old) }
         ensures err { OnErr result (self.new ≡ self.old) }
-        ensures group { OnOk result (takes_members self.new.dst_lookup self.new.acls (length self.old.acls) ≡ true) }
+        ensures group { OnOk result
+            (takes_members self.new.dst_lookup self.new.acls (length self.old.acls) ≡ true) }
     {
         self.acls.push(alloc, name, Body::AnyOf(Listed::new(alloc)))
     }
@@ -104,7 +106,8 @@ impl Builder {
         requires word { has_blank name ≡ false }
         ensures ok { OnOk result (self.new ≡ with_acl_more name (body.AllOf []) self.old) }
         ensures err { OnErr result (self.new ≡ self.old) }
-        ensures group { OnOk result (takes_members self.new.dst_lookup self.new.acls (length self.old.acls) ≡ true) }
+        ensures group { OnOk result
+            (takes_members self.new.dst_lookup self.new.acls (length self.old.acls) ≡ true) }
     {
         self.acls.push(alloc, name, Body::AllOf(Listed::new(alloc)))
     }
@@ -138,11 +141,22 @@ impl Builder {
         requires earlier { term.acl < place }
         requires group { takes_members self.old.dst_lookup self.old.acls place ≡ true }
         ensures ok { OnOk result (self.new ≡ with_body place (with_member term) self.old) }
-        ensures fast { OnOk result (are_fast (with_member_at place term self.old.acls) self.old.pools self.old.headers ≡ true) }
-        ensures shallow { OnOk result (are_shallow (with_member_at place term self.old.acls) ≡ true) }
-        ensures slow { IfErr result (λ e. e ≡ MemberFault.Slow → are_fast (with_member_at place term self.old.acls) self.old.pools self.old.headers ≡ false) }
-        ensures not_slow { IfErr result (λ e. e ≡ MemberFault.Deep → are_fast (with_member_at place term self.old.acls) self.old.pools self.old.headers ≡ true) }
-        ensures deep { IfErr result (λ e. e ≡ MemberFault.Deep → are_shallow (with_member_at place term self.old.acls) ≡ false) }
+        ensures fast { OnOk result
+            (are_fast (with_member_at place term self.old.acls) self.old.pools self.old.headers
+            ≡ true) }
+        ensures shallow { OnOk result
+            (are_shallow (with_member_at place term self.old.acls) ≡ true) }
+        ensures slow { IfErr result
+            (λ e. e ≡ MemberFault.Slow
+            → are_fast (with_member_at place term self.old.acls) self.old.pools self.old.headers
+            ≡ false) }
+        ensures not_slow { IfErr result
+            (λ e. e ≡ MemberFault.Deep
+            → are_fast (with_member_at place term self.old.acls) self.old.pools self.old.headers
+            ≡ true) }
+        ensures deep { IfErr result
+            (λ e. e ≡ MemberFault.Deep
+            → are_shallow (with_member_at place term self.old.acls) ≡ false) }
         ensures err { OnErr result (self.new ≡ self.old) }
         ensures count { length self.new.acls ≡ length self.old.acls }
         ensures group { takes_members self.new.dst_lookup self.new.acls place ≡ true }

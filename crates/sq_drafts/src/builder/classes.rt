@@ -28,8 +28,10 @@ impl Builder {
     /// One class more.
     pub fn push_class(&mut self, alloc: Global, class: Class) -> Result<(), WantOfMemory>
         requires free { class_place self.old.classes class.name ≡ None }
-        requires room { nat_lt (length self.old.classes) (classes_within self.old.dst_lookup) ≡ true }
-        ensures ok { OnOk result (self.new ≡ record self.old { classes = self.old.classes ++ class ∷ [] }) }
+        requires room { nat_lt (length self.old.classes) (classes_within self.old.dst_lookup)
+            ≡ true }
+        ensures ok { OnOk result
+            (self.new ≡ record self.old { classes = self.old.classes ++ class ∷ [] }) }
         ensures err { OnErr result (self.new ≡ self.old) }
     {
         self.classes.push(alloc, class)

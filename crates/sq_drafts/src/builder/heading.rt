@@ -19,7 +19,8 @@ impl Builder {
     pub fn push_header(&mut self, header: HeaderRule) -> Result<(), WantOfMemory>
         requires room { nat_lt (length self.old.headers) header_limit ≡ true }
         requires fast { is_header self.old.acls header ≡ true }
-        ensures ok { OnOk result (self.new ≡ record self.old { headers = self.old.headers ++ header ∷ [] }) }
+        ensures ok { OnOk result
+            (self.new ≡ record self.old { headers = self.old.headers ++ header ∷ [] }) }
         ensures err { OnErr result (self.new ≡ self.old) }
     {
         self.headers.push(header)

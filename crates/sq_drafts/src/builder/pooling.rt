@@ -68,7 +68,8 @@ impl Builder {
     /// Sets the parameters of the pool at a place, from 0: as many as its class has.
     pub fn set_pairs(&mut self, place: u8, pairs: Limits)
         requires within { place < length self.old.pools }
-        requires class { option_map pairs_of (pool_at self.old.pools place).class ≡ Some (length pairs) }
+        requires class { option_map pairs_of (pool_at self.old.pools place).class
+            ≡ Some (length pairs) }
         ensures { self.new ≡ with_pool place (λ p. record p { pairs = Some pairs }) self.old }
     {
         self.pools[place as usize].set_pairs(pairs);
@@ -79,7 +80,8 @@ impl Builder {
         requires within { place < length self.old.pools }
         requires known { is_known_rule (length self.old.acls) rule ≡ true }
         requires fast { is_fast (slow_ones self.old.acls) rule ≡ true }
-        ensures ok { OnOk result (self.new ≡ with_pool place (λ p. record p { lists = p.lists ++ rule ∷ [] }) self.old) }
+        ensures ok { OnOk result
+            (self.new ≡ with_pool place (λ p. record p { lists = p.lists ++ rule ∷ [] }) self.old) }
         ensures err { OnErr result (self.new ≡ self.old) }
     {
         self.pools[place as usize].push_rule(rule)

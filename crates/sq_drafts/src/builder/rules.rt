@@ -19,7 +19,8 @@ impl Builder {
     pub fn push_rule(&mut self, rule: Rule) -> Result<(), WantOfMemory>
         requires room { nat_lt (length self.old.rules) rule_limit ≡ true }
         requires known { is_known_rule (length self.old.acls) rule ≡ true }
-        ensures ok { OnOk result (self.new ≡ record self.old { rules = self.old.rules ++ rule ∷ [] }) }
+        ensures ok { OnOk result
+            (self.new ≡ record self.old { rules = self.old.rules ++ rule ∷ [] }) }
         ensures err { OnErr result (self.new ≡ self.old) }
     {
         self.rules.push(rule)

@@ -14,7 +14,8 @@ returns-then-next-limit-clause-read c =
     let cons : drop at word ≡ get_or word at 0 ∷ rest = rw (add-one) (drop-cons word at 0 c.loop-byte-test.true) in
     let step : read_on (number * 10 + c.saturating_sub.result) rest ≡ read_on 0 word =
     rw (c.saturating_sub.ensures) (ap (λ l. read_on number l) (sym cons) ∙ c.loop-byte.invariant) in
-    sym (number_past c.args.limit word (omega (arith, read_on_grows (number * 10 + c.saturating_sub.result) rest, step)))
+    sym (number_past c.args.limit word
+    (omega (arith, read_on_grows (number * 10 + c.saturating_sub.result) rest, step)))
 
 pub returns-then-number-limit-clause-read : goal.returns-then-number-limit-clause-read
 returns-then-number-limit-clause-read c =
@@ -27,14 +28,18 @@ pub returns-then-eq-clause-read : goal.returns-then-eq-clause-read
 returns-then-eq-clause-read c =
     let word = c.args.word.now in
     let value : read_on 0 word ≡ c.loop-byte.number =
-    sym (ap (read_on c.loop-byte.number) (sym (drop_of_length-le word c.loop-byte-test.false)) ∙ c.loop-byte.invariant) in
-    let text : bytes_eq (decimal c.loop-byte.number) word ≡ true = rw (← c.format.ensures.text, ← c.as_bytes.ensures.value) (sym c.if-eq.ensures) in
+    sym (ap (read_on c.loop-byte.number) (sym (drop_of_length-le word c.loop-byte-test.false))
+    ∙ c.loop-byte.invariant) in
+    let text : bytes_eq (decimal c.loop-byte.number) word ≡ true =
+    rw (← c.format.ensures.text, ← c.as_bytes.ensures.value) (sym c.if-eq.ensures) in
     sym (number_taken c.args.limit c.loop-byte.number word value c.if-number-limit.false text)
 
 pub returns-else-eq-clause-read : goal.returns-else-eq-clause-read
 returns-else-eq-clause-read c =
     let word = c.args.word.now in
     let value : read_on 0 word ≡ c.loop-byte.number =
-    sym (ap (read_on c.loop-byte.number) (sym (drop_of_length-le word c.loop-byte-test.false)) ∙ c.loop-byte.invariant) in
-    let text : bytes_eq (decimal c.loop-byte.number) word ≡ false = rw (← c.format.ensures.text, ← c.as_bytes.ensures.value) (sym c.if-eq.ensures) in
+    sym (ap (read_on c.loop-byte.number) (sym (drop_of_length-le word c.loop-byte-test.false))
+    ∙ c.loop-byte.invariant) in
+    let text : bytes_eq (decimal c.loop-byte.number) word ≡ false =
+    rw (← c.format.ensures.text, ← c.as_bytes.ensures.value) (sym c.if-eq.ensures) in
     sym (number_other c.args.limit c.loop-byte.number word value text)

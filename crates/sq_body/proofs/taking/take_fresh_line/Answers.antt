@@ -1,6 +1,6 @@
 use Rattle.std.proofs.Common.{◌≡◌, ◌-◌, ◌<◌, [], length, take, subst, sym, ◌∙◌, arith, length-take}
 use Rattle.sq_body.specs.declared.line.LineRead.TheVariants as read
-use Rattle.sq_body.specs.declared.place.Place.TheVariants.{Line}
+use Rattle.sq_body.specs.declared.body_state.BodyState.TheVariants.{Line}
 use Rattle.sq_body.specs.Feeding.{TakesFront}
 use Rattle.sq_body.specs.LineReads.{LineReads}
 use Rattle.sq_body.proofs.TakeLaws.{holds_fresh, line_whole_taken, whole_takes, line_takes, full_takes, never_takes}
@@ -13,7 +13,8 @@ returns-in_ok-place-in-Whole-clause-ok c =
     let len = c.in-Whole.len in
     let size = c.in-Whole.size in
     let says = subst (λ b. LineReads b (read.Whole len size)) c.split_at.ensures.front c.in-Whole.ensures in
-    let taken = line_whole_taken c.args.chunked [] rest count len size holds_fresh c.requires.some c.min-count.ensures says in
+    let taken = line_whole_taken c.args.chunked [] rest count len size holds_fresh c.requires.some c.min-count.ensures
+    says in
     let q = c.in_ok-place-in-Whole.place in
     let out = c.args.out.now in
     let ok = c.in_ok-place-in-Whole.ensures.ok in
@@ -27,7 +28,8 @@ returns-in_ok-text-in-NotYet-clause-ok c =
     let count = c.min-count.result in
     let says = subst (λ b. LineReads b read.NotYet) c.split_at.ensures.front c.in-NotYet.ensures in
     let room : length (take count rest) < 4096 = omega (arith, c.if-count-lt-LINE_LIMIT.true, length-take count rest) in
-    subst (λ t. TakesFront c.args.chunked (Line []) rest (Line t) count c.args.out.now c.args.out.now) (sym (c.in_ok-text-in-NotYet.ensures ∙ c.split_at.ensures.front))
+    subst (λ t. TakesFront c.args.chunked (Line []) rest (Line t) count c.args.out.now c.args.out.now)
+    (sym (c.in_ok-text-in-NotYet.ensures ∙ c.split_at.ensures.front))
     (line_takes c.args.chunked [] rest count c.args.out.now holds_fresh c.requires.some c.min-count.ensures says room)
 
 pub returns-else-count-lt-LINE_LIMIT-clause-ok : goal.returns-else-count-lt-LINE_LIMIT-clause-ok

@@ -11,4 +11,5 @@ returns-clause-place c =
     let ps = c.args.items.now.items in
     let l : c.partition_point.result ≤ length ps = grind (arith, common_steps, c.partition_point.ensures.bound) in
     place_found place_question q ps c.partition_point.result l
-    (IsPartitionPoint-from_clause (λ p. nat_lt (place_question p) q) ps c.partition_point.result c.partition_point.ensures.partitioned (rises_parts place_question q ps c.requires) (λ a r f k. search rules))
+    (IsPartitionPoint-from_clause (λ p. nat_lt (place_question p) q) ps c.partition_point.result
+    c.partition_point.ensures.partitioned (rises_parts place_question q ps c.requires) (λ a r f k. search rules))

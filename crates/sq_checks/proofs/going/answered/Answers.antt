@@ -12,6 +12,11 @@ returns-then-is_for c =
     let a = c.answer-item.result in
     let rest = drop (i + 1) c.args.answers.now in
     let key = c.args.key.now in
-    let here : drop i c.args.answers.now ≡ a ∷ rest = drop_more c.args.answers.now i a (omega (arith, c.loop-answer-test.true)) ∙ ap (λ b. b ∷ rest) (sym c.answer-item.is) in
+    let here : drop i c.args.answers.now ≡ a ∷ rest =
+    drop_more c.args.answers.now i a (omega (arith, c.loop-answer-test.true))
+    ∙ ap (λ b. b ∷ rest) (sym c.answer-item.is) in
     let is : (a.class == c.args.class && bytes_eq a.key key) ≡ true = sym c.is_for.ensures ∙ c.if-is_for.true in
-    ap Some c.given_by.ensures ∙ ap (option_map given_by) (sym (found_first a rest c.args.class key is) ∙ ap (λ l. answer_for l c.args.class key) (sym here) ∙ c.loop-answer.invariant)
+    ap Some c.given_by.ensures
+    ∙ ap (option_map given_by)
+    (sym (found_first a rest c.args.class key is) ∙ ap (λ l. answer_for l c.args.class key) (sym here)
+    ∙ c.loop-answer.invariant)

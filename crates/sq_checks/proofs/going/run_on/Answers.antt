@@ -20,10 +20,13 @@ returns-in-Verdict-clause-value g c =
     let sight = c.args.sight.now in
     let answers = c.args.answers.now in
     let f = c.run.new.self in
-    let are : AreFrames config sight answers facts f = frames_same config sight answers facts c.needs.frames f c.needs.invariant c.run.ensures.config c.run.ensures.given c.run.ensures.over in
+    let are : AreFrames config sight answers facts f =
+    frames_same config sight answers facts c.needs.frames f c.needs.invariant c.run.ensures.config c.run.ensures.given
+    c.run.ensures.over in
     let o : Outcome = record { allow = c.in-Verdict.allow; why = why_of config.acls c.in-Verdict.place } in
     let came : value.Verdict o ≡ value_of facts f =
-    ap (ran_value config.acls) (sym c.in-Verdict.is) ∙ ap (λ (d : Configuration). ran_value d.acls c.run.result) (sym are.config_is) ∙ c.run.ensures.value in
+    ap (ran_value config.acls) (sym c.in-Verdict.is)
+    ∙ ap (λ (d : Configuration). ran_value d.acls c.run.result) (sym are.config_is) ∙ c.run.ensures.value in
     subst (λ (x : Value). IfOk c.verdict.result (λ v. v ≡ x))
     (ap (λ (acls : List Acl). ran_value acls (ran.Verdict c.in-Verdict.allow c.in-Verdict.place)) c.acls.ensures.acls
     ∙ sym (decided_over config sight answers facts f (value.Verdict o) o c.requires.facts are came refl))
@@ -36,12 +39,17 @@ needs-preserved g c =
     let sight = c.args.sight.now in
     let answers = c.args.answers.now in
     let f = c.run.new.self in
-    let are : AreFrames config sight answers facts f = frames_same config sight answers facts c.needs.frames f c.needs.invariant c.run.ensures.config c.run.ensures.given c.run.ensures.over in
+    let are : AreFrames config sight answers facts f =
+    frames_same config sight answers facts c.needs.frames f c.needs.invariant c.run.ensures.config c.run.ensures.given
+    c.run.ensures.over in
     let need : f.need ≡ Some c.in-Need.acl = c.run.ensures.need ∙ ap needed_by c.in-Need.is in
     let over : IsOver facts c.give.new.self = (are.over.0, c.give.ensures.at facts are.over.0 are.over.1) in
-    let one : given_value c.in-Need.acl (Some c.in-Answered.value) ≡ found_value c.in-Need.acl c.in_ok-value-in-Need.field-0 = ap (found_value c.in-Need.acl) (sym c.in-Answered.is) in
-    let known : given_value c.in-Need.acl (Some c.in-Answered.value) ≡ taken_at config sight answers c.in-Need.acl = one ∙ c.in_ok-value-in-Need.ensures in
-    frames_given config sight answers facts f c.give.new.self c.in-Need.acl c.in-Answered.value are c.give.ensures.config over
+    let one : given_value c.in-Need.acl (Some c.in-Answered.value)
+    ≡ found_value c.in-Need.acl c.in_ok-value-in-Need.field-0 = ap (found_value c.in-Need.acl) (sym c.in-Answered.is) in
+    let known : given_value c.in-Need.acl (Some c.in-Answered.value) ≡ taken_at config sight answers c.in-Need.acl = one
+    ∙ c.in_ok-value-in-Need.ensures in
+    frames_given config sight answers facts f c.give.new.self c.in-Need.acl c.in-Answered.value are
+    c.give.ensures.config over
     (λ acl external. c.give.ensures.given c.in-Need.acl acl need external) known
 
 pub returns-in-Open-clause-value : goal.returns-in-Open-clause-value
@@ -51,8 +59,13 @@ returns-in-Open-clause-value g c =
     let sight = c.args.sight.now in
     let answers = c.args.answers.now in
     let f = c.run.new.self in
-    let are : AreFrames config sight answers facts f = frames_same config sight answers facts c.needs.frames f c.needs.invariant c.run.ensures.config c.run.ensures.given c.run.ensures.over in
-    let came : value.Need c.in-Need.acl [] ≡ value_of facts f = ap (ran_value f.config.acls) (sym c.in-Need.is) ∙ c.run.ensures.value in
-    let one : Need c.in-Need.acl c.in-Open.key ≡ found_value c.in-Need.acl c.in_ok-value-in-Need.field-0 = ap (found_value c.in-Need.acl) (sym c.in-Open.is) in
-    let known : Need c.in-Need.acl c.in-Open.key ≡ taken_at config sight answers c.in-Need.acl = one ∙ c.in_ok-value-in-Need.ensures in
+    let are : AreFrames config sight answers facts f =
+    frames_same config sight answers facts c.needs.frames f c.needs.invariant c.run.ensures.config c.run.ensures.given
+    c.run.ensures.over in
+    let came : value.Need c.in-Need.acl [] ≡ value_of facts f = ap (ran_value f.config.acls) (sym c.in-Need.is)
+    ∙ c.run.ensures.value in
+    let one : Need c.in-Need.acl c.in-Open.key ≡ found_value c.in-Need.acl c.in_ok-value-in-Need.field-0 =
+    ap (found_value c.in-Need.acl) (sym c.in-Open.is) in
+    let known : Need c.in-Need.acl c.in-Open.key ≡ taken_at config sight answers c.in-Need.acl = one
+    ∙ c.in_ok-value-in-Need.ensures in
     sym (needed_over config sight answers facts f c.in-Need.acl c.in-Open.key c.requires.facts are came known)

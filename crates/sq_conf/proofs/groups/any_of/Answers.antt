@@ -7,5 +7,6 @@ use Rattle.sq_conf.proofs.groups.any_of.Goals as goal
 pub members-requires-clause-group : goal.members-requires-clause-group
 members-requires-clause-group c =
     let d = c.args.builder.now in
-    takes_any d.dst_lookup d.acls c.args.name.now c.in-Some.place (sym c.in-Some.is ∙ c.requires.target.place_is) c.requires.target.word
+    takes_any d.dst_lookup d.acls c.args.name.now c.in-Some.place (sym c.in-Some.is ∙ c.requires.target.place_is)
+    c.requires.target.word
     (subst (λ o. has_type d.acls type.AnyOf o ≡ true) c.in-Some.is c.requires.kind)

@@ -7,5 +7,6 @@ use Rattle.sq_conf.proofs.terms.known_terms.Given as goal
 -- the terms so far, and those of the words that are left, are all
 abbrev pub invariant-loop-word : goal.invariant-loop-word
 invariant-loop-word l =
-    (over (one_more (known_term l.builder.acls)) l.terms (drop l.word-index l.words) ≡ known_terms l.builder.acls l.words)
+    (over (one_more (known_term l.builder.acls)) l.terms (drop l.word-index l.words)
+    ≡ known_terms l.builder.acls l.words)
     × (are_known (length l.builder.acls) l.terms ≡ true)

@@ -9,6 +9,7 @@ loop-letter-preserved c =
     let days = c.loop-letter.days in
     let more = c.in_ok-days.field-0 in
     let at = c.loop-letter.letter-index in (
-      days_step days more at (get_or word at 0) word c.loop-letter-test.true refl (sym c.in_ok-days.ensures.bits) c.loop-letter.invariant.0,
+      days_step days more at (get_or word at 0) word c.loop-letter-test.true refl (sym c.in_ok-days.ensures.bits)
+          c.loop-letter.invariant.0,
       seven_days days more c.loop-letter.invariant.1 c.in_ok-days.ensures.seven,
     )

@@ -8,5 +8,7 @@ use Rattle.sq_desk.proofs.taking.take.Goals as goal
 pub invariant_of-entry : goal.invariant_of-entry
 invariant_of-entry g c = record {
   event_is = refl;
-  row_is = ap is_outcome c.in-Ok-copy_outcome.ensures ∙ told_outcome (state_of c.args.engine.now) c.args.check (epoch_of (state_of c.args.engine.now) c.args.check) c.in-Ok-outcome.outcome.now c.in-Ok-outcome.ensures;
+  row_is = ap is_outcome c.in-Ok-copy_outcome.ensures
+      ∙ told_outcome (state_of c.args.engine.now) c.args.check (epoch_of (state_of c.args.engine.now) c.args.check)
+      c.in-Ok-outcome.outcome.now c.in-Ok-outcome.ensures;
 }

@@ -6,6 +6,8 @@ use Rattle.sq_drafts.proofs.builder.looked_up_acls.Given as goal
 
 abbrev pub invariant-loop-part : goal.invariant-loop-part
 invariant-loop-part l = record {
-  all : with_firsts l.acls (map (λ (a : AclPart). record { name = a.name; body = leaf_of a.body }) l.part-iterator.rest.items) ≡ with_firsts (literal_acl ∷ []) predefined_ones;
+  all : with_firsts l.acls
+      (map (λ (a : AclPart). record { name = a.name; body = leaf_of a.body }) l.part-iterator.rest.items)
+      ≡ with_firsts (literal_acl ∷ []) predefined_ones;
   first : begins_literal l.acls ≡ true;
 }

@@ -8,4 +8,5 @@ use Rattle.sq_epochs.proofs.acts.starting_epoch.Goals as goal
 pub returns-clause-first : goal.returns-clause-first
 returns-clause-first c =
     let xs = c.args.epochs.now in
-    position_from_yields_List (has_act owes_start) _ _ c.position.result c.position.ensures.ran (YieldsList-from_slice xs cc) (λ x b q k. search (rules, tests)) ∙ position_is (has_act owes_start) xs
+    position_from_yields_List (has_act owes_start) _ _ c.position.result c.position.ensures.ran
+    (YieldsList-from_slice xs cc) (λ x b q k. search (rules, tests)) ∙ position_is (has_act owes_start) xs

@@ -9,4 +9,5 @@ returns-clause-place c =
     let k = c.args.proc in
     let rows = c.args.homes.now in
     place_found home_number k rows c.partition_point.result c.partition_point.ensures.bound
-    (IsPartitionPoint-from_clause (λ r. nat_lt (home_number r) k) rows c.partition_point.result c.partition_point.ensures.partitioned (rises_parts home_number k rows c.requires) (λ a r f h. search rules))
+    (IsPartitionPoint-from_clause (λ r. nat_lt (home_number r) k) rows c.partition_point.result
+    c.partition_point.ensures.partitioned (rises_parts home_number k rows c.requires) (λ a r f h. search rules))

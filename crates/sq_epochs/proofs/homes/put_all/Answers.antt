@@ -19,11 +19,15 @@ loop-home-preserved c =
     let put : c.put_if.new.stops.numbers ≡ (if is_of_epoch e h then with_number h.proc ns else ns) =
     c.put_if.ensures.numbers ∙ ap (λ b. if b then with_number c.home.inside.proc ns else ns) c.is_of_epoch-due.ensures
     ∙ ap (λ z. if is_of_epoch e h then with_number z ns else ns) (ap home_number c.home.view_is) in
-    let rise : Rises (map home_number (h ∷ rest)) = subst (λ z. Rises (map home_number z)) all c.loop-home.invariant.rise in
-    let apart : (k : ℕ) → is_some (home_in k (h ∷ rest)) ≡ true → times_of k ns ≡ 0 = rw all at c.loop-home.invariant.apart in
+    let rise : Rises (map home_number (h ∷ rest)) =
+    subst (λ z. Rises (map home_number z)) all c.loop-home.invariant.rise in
+    let apart : (k : ℕ) → is_some (home_in k (h ∷ rest)) ≡ true
+    → times_of k ns ≡ 0 = rw all at c.loop-home.invariant.apart in
     record {
-      numbers = ap (with_numbers (procs_of e rest)) put ∙ sym (procs_step e h rest ns) ∙ ap (λ z. with_numbers (procs_of e z) ns) (sym all) ∙ c.loop-home.invariant.numbers;
-      room = let l = ap length all in let m = length_if (is_of_epoch e h) h.proc ns in let q = ap length put in let r = c.loop-home.invariant.room in let p = c.put_if.ensures.room in omega arith;
+      numbers = ap (with_numbers (procs_of e rest)) put ∙ sym (procs_step e h rest ns)
+          ∙ ap (λ z. with_numbers (procs_of e z) ns) (sym all) ∙ c.loop-home.invariant.numbers;
+      room = let l = ap length all in let m = length_if (is_of_epoch e h) h.proc ns in let q = ap length put in
+          let r = c.loop-home.invariant.room in let p = c.put_if.ensures.room in omega arith;
       more = let r = c.loop-home.invariant.more in let p = c.put_if.ensures.room in omega arith;
       rise = rise.1;
       apart = λ k is. ap (times_of k) put ∙ apart_step h rest ns (is_of_epoch e h) rise apart k is;
@@ -48,5 +52,6 @@ put_if-requires-clause-other c =
     let within : i < length hs = grind (arith, common_steps) in
     let all : drop i hs ≡ h ∷ rest = drop_more hs i h within ∙ ap (λ z. z ∷ rest) (sym c.home-item.is) in
     let ns = c.loop-home.stops.numbers in
-    let apart : (k : ℕ) → is_some (home_in k (h ∷ rest)) ≡ true → times_of k ns ≡ 0 = rw all at c.loop-home.invariant.apart in
+    let apart : (k : ℕ) → is_some (home_in k (h ∷ rest)) ≡ true
+    → times_of k ns ≡ 0 = rw all at c.loop-home.invariant.apart in
     ap (λ z. times_of z ns) (ap home_number c.home.view_is) ∙ apart h.proc (home_first h rest)

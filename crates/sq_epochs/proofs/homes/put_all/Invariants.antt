@@ -6,7 +6,8 @@ use Rattle.sq_epochs.proofs.homes.put_all.Given as goal
 -- what is left to do comes to the same; the processes behind have no stop yet
 abbrev pub invariant-loop-home : goal.invariant-loop-home
 invariant-loop-home l = record {
-  numbers : with_numbers (procs_of l.fn.epoch (drop l.home-index l.homes)) l.stops.numbers ≡ with_numbers (procs_of l.fn.epoch l.homes) l.fn.stops.numbers;
+  numbers : with_numbers (procs_of l.fn.epoch (drop l.home-index l.homes)) l.stops.numbers
+      ≡ with_numbers (procs_of l.fn.epoch l.homes) l.fn.stops.numbers;
   room : length (drop l.home-index l.homes) + length l.stops.numbers ≤ l.stops.room;
   more : l.fn.stops.room ≤ l.stops.room;
   rise : Rises (map home_number (drop l.home-index l.homes));

@@ -7,4 +7,5 @@ use Rattle.sq_epochs.proofs.lives.busy_among.Goals as goal
 pub returns : goal.returns
 returns c =
     count_from_yields_List c.filter.result c.count.result c.count.ensures.ran
-    (YieldsList-from_filter _ has_checks (YieldsList-from_slice c.args.epochs.now (cc)) c.filter.ensures.closure (λ x r q k. search (rules, tests)))
+    (YieldsList-from_filter _ has_checks (YieldsList-from_slice c.args.epochs.now (cc)) c.filter.ensures.closure
+    (λ x r q k. search (rules, tests)))

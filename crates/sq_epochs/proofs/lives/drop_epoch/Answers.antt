@@ -9,10 +9,13 @@ use Rattle.sq_epochs.proofs.lives.drop_epoch.Goals as goal
 
 pub remove-ended-requires : goal.remove-ended-requires
 remove-ended-requires c =
-    let w = place_within c.args.epoch c.place_of-place.result c.args.epochs.now.items c.requires.rise c.requires.there (c.place_of-place.ensures.place ∙ ap (λ z. place_among c.args.epoch (map epoch_number z)) c.deref.ensures.value) in
+    let w = place_within c.args.epoch c.place_of-place.result c.args.epochs.now.items c.requires.rise c.requires.there
+    (c.place_of-place.ensures.place ∙ ap (λ z. place_among c.args.epoch (map epoch_number z)) c.deref.ensures.value) in
     grind (arith, common_steps, w)
 
 pub returns-clause-epochs : goal.returns-clause-epochs
 returns-clause-epochs c =
-    c.remove-ended.ensures.items ∙ ap (remove c.args.epochs.now.items) (c.place_of-place.ensures.place ∙ ap (λ z. place_among c.args.epoch (map epoch_number z)) c.deref.ensures.value)
+    c.remove-ended.ensures.items
+    ∙ ap (remove c.args.epochs.now.items)
+    (c.place_of-place.ensures.place ∙ ap (λ z. place_among c.args.epoch (map epoch_number z)) c.deref.ensures.value)
     ∙ removed c.args.epoch c.args.epochs.now.items c.requires.rise c.requires.there

@@ -13,5 +13,6 @@ returns-clause-place c =
     let rises : Rises (map (λ (n : ℕ). n) ns) = subst Rises (sym (map-id ns)) c.requires in
     let l : c.partition_point.result ≤ length ns = grind (arith, common_steps, c.partition_point.ensures.bound) in
     place_found (λ n. n) k ns c.partition_point.result l
-    (IsPartitionPoint-from_clause (λ n. nat_lt n k) ns c.partition_point.result c.partition_point.ensures.partitioned (rises_parts (λ n. n) k ns rises) (λ a r f h. search rules))
+    (IsPartitionPoint-from_clause (λ n. nat_lt n k) ns c.partition_point.result c.partition_point.ensures.partitioned
+    (rises_parts (λ n. n) k ns rises) (λ a r f h. search rules))
     ∙ ap (place_among k) (map-id ns)

@@ -11,5 +11,7 @@ returns c =
     subst (λ x. IfOk c.value_of.result (λ v. v ≡ x))
     (ap (λ acls. ran_value acls c.in_ok-ran.ran) c.acls.ensures.acls
     ∙ c.in_ok-ran.ensures.ran
-    ∙ ap (λ t. rules_from t config.acls (default_of config.rules) 1 config.rules) (taken_is config c.args.facts.now c.args.sight.now (helpers.Answered c.args.alloc c.args.sight c.args.answers) c.args.answers.now c.requires (λ p class. refl)))
+    ∙ ap (λ t. rules_from t config.acls (default_of config.rules) 1 config.rules)
+    (taken_is config c.args.facts.now c.args.sight.now (helpers.Answered c.args.alloc c.args.sight c.args.answers)
+    c.args.answers.now c.requires (λ p class. refl)))
     c.value_of.ensures

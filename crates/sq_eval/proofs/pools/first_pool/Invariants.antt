@@ -8,7 +8,8 @@ use Rattle.sq_eval.proofs.pools.first_pool.Given as goal
 -- no pool so far is the check's
 abbrev pub invariant-loop-pool : goal.invariant-loop-pool
 invariant-loop-pool g l = record {
-  rest : pool_from (taken_in l.taking) (acls_in l.taking) l.addr l.place (drop l.pool-index l.taking.config.now.pools) ≡ pool_from (taken_in l.taking) (acls_in l.taking) l.addr 0 l.taking.config.now.pools;
+  rest : pool_from (taken_in l.taking) (acls_in l.taking) l.addr l.place (drop l.pool-index l.taking.config.now.pools)
+      ≡ pool_from (taken_in l.taking) (acls_in l.taking) l.addr 0 l.taking.config.now.pools;
   are : list_all (is_pool (acls_in l.taking)) (drop l.pool-index l.taking.config.now.pools) ≡ true;
   counted : l.place ≡ l.pool-index;
 }

@@ -10,7 +10,11 @@ returns-then-is_for c =
     let i = c.loop-answer.answer-index in
     let a = c.answer-item.result in
     let rest = drop (i + 1) c.args.answers.now in
-    let here : drop i c.args.answers.now ≡ a ∷ rest = drop_more c.args.answers.now i a (omega (arith, c.loop-answer-test.true)) ∙ ap (λ b. b ∷ rest) (sym c.answer-item.is) in
+    let here : drop i c.args.answers.now ≡ a ∷ rest =
+    drop_more c.args.answers.now i a (omega (arith, c.loop-answer-test.true))
+    ∙ ap (λ b. b ∷ rest) (sym c.answer-item.is) in
     let is : answers_for a c.args.class c.args.key ≡ true = sym c.is_for.ensures ∙ c.if-is_for.true in
     c.what_value.ensures c.args.key
-    ∙ ap (answer_value c.args.acl c.args.key) (sym (found_first a rest c.args.class c.args.key is) ∙ ap (λ l. answer_for l c.args.class c.args.key) (sym here) ∙ c.loop-answer.invariant)
+    ∙ ap (answer_value c.args.acl c.args.key)
+    (sym (found_first a rest c.args.class c.args.key is) ∙ ap (λ l. answer_for l c.args.class c.args.key) (sym here)
+    ∙ c.loop-answer.invariant)

@@ -4,4 +4,5 @@ use Rattle.sq_eval.proofs.taking.answered.Given as goal
 
 -- no answer so far is for the key
 abbrev pub invariant-loop-answer : goal.invariant-loop-answer
-invariant-loop-answer l = answer_for (drop l.answer-index l.answers) l.class l.fn.key ≡ answer_for l.answers l.class l.fn.key
+invariant-loop-answer l = answer_for (drop l.answer-index l.answers) l.class l.fn.key
+    ≡ answer_for l.answers l.class l.fn.key

@@ -24,7 +24,8 @@ decreases-every_term g l = 5 * l.before + 1
 -- the terms so far match, so the rest decides
 abbrev pub invariant-every_term-loop-term : goal.invariant-every_term-loop-term
 invariant-every_term-loop-term g l = record {
-  rest : both (map (term_value (taken_in l.taking) (acls_in l.taking)) (drop l.term-index l.terms)) ≡ both (map (term_value (taken_in l.taking) (acls_in l.taking)) l.terms);
+  rest : both (map (term_value (taken_in l.taking) (acls_in l.taking)) (drop l.term-index l.terms))
+      ≡ both (map (term_value (taken_in l.taking) (acls_in l.taking)) l.terms);
   known : are_known l.before (drop l.term-index l.terms) ≡ true;
 }
 
@@ -40,6 +41,7 @@ invariant-some_line-loop-line g l = record {
 -- the terms so far do not match, so the rest decides
 abbrev pub invariant-some_term-loop-term : goal.invariant-some_term-loop-term
 invariant-some_term-loop-term g l = record {
-  rest : either (map (term_value (taken_in l.taking) (acls_in l.taking)) (drop l.term-index l.terms)) ≡ either (map (term_value (taken_in l.taking) (acls_in l.taking)) l.terms);
+  rest : either (map (term_value (taken_in l.taking) (acls_in l.taking)) (drop l.term-index l.terms))
+      ≡ either (map (term_value (taken_in l.taking) (acls_in l.taking)) l.terms);
   known : are_known l.before (drop l.term-index l.terms) ≡ true;
 }

@@ -5,10 +5,12 @@ use Rattle.sq_rules.specs.Values.{acl_value}
 use Rattle.sq_eval.specs.Takings.{read_of_acl}
 use Rattle.sq_eval.proofs.terms.body_at.Goals as goal
 
-here : (c : goal.After-index-acls-acl) → slice_get c.args.config.now.acls c.args.acl ≡ Some (get_or c.acls.result.now c.args.acl c.index-acls-acl.result)
+here : (c : goal.After-index-acls-acl)
+    → slice_get c.args.config.now.acls c.args.acl ≡ Some (get_or c.acls.result.now c.args.acl c.index-acls-acl.result)
 here c =
     let within : c.args.acl < length c.acls.result.now = rw c.acls.ensures.acls c.requires in
-    ap (λ xs. slice_get xs c.args.acl) (sym c.acls.ensures.acls) ∙ slice_get-get_or c.acls.result.now c.args.acl c.index-acls-acl.result within
+    ap (λ xs. slice_get xs c.args.acl) (sym c.acls.ensures.acls)
+    ∙ slice_get-get_or c.acls.result.now c.args.acl c.index-acls-acl.result within
 
 pub returns-clause-value : goal.returns-clause-value
 returns-clause-value c = λ taken member. ap (acl_value taken member c.args.acl) (here c)
@@ -17,4 +19,5 @@ pub returns-clause-taken : goal.returns-clause-taken
 returns-clause-taken c = λ facts h. ap (read_of_acl c.args.config.now facts h c.args.acl) (here c)
 
 pub returns-clause-known : goal.returns-clause-known
-returns-clause-known c = known_here (length c.args.config.now.classes) c.args.config.now.acls c.args.acl _ c.facts.ensures.members (here c)
+returns-clause-known c = known_here (length c.args.config.now.classes) c.args.config.now.acls c.args.acl _
+    c.facts.ensures.members (here c)

@@ -10,7 +10,11 @@ returns-in-None-clause-fact c =
     let acls = c.args.setup.now.acls in
     let same : c.acls.result.now ≡ acls = cc in
     let a = c.index-acls-place.result in
-    let has = asks_patterns (acl_has_patterns a) (acl_fact c.args.sight.now a) (sym c.in-None.is ∙ c.plain_fact.ensures) in
-    let found : a ≡ get_or acls c.args.place a = subst (λ xs. a ≡ get_or xs c.args.place a) same c.index-acls-place.is in
+    let has = asks_patterns (acl_has_patterns a) (acl_fact c.args.sight.now a)
+    (sym c.in-None.is ∙ c.plain_fact.ensures) in
+    let found : a ≡ get_or acls c.args.place a =
+    subst (λ xs. a ≡ get_or xs c.args.place a) same c.index-acls-place.is in
     let here = slice_get-get_or acls c.args.place a c.requires.here ∙ ap Some (sym found) in
-    ok_then c.is_match.result c.is_match.ensures.found (λ b e. pattern_fact acls c.args.place a c.args.sight.now c.args.subject.now here has c.requires.decoded ∙ ap Some (sym e))
+    ok_then c.is_match.result c.is_match.ensures.found
+    (λ b e. pattern_fact acls c.args.place a c.args.sight.now c.args.subject.now here has c.requires.decoded
+    ∙ ap Some (sym e))

@@ -8,7 +8,8 @@ loop-place-preserved c =
     let facts = facts_of c.args.setup.now.acls c.args.sight.now in
     let here = rw c.loop-place.invariant.same at c.in_ok-fact_at.ensures.fact in
     record {
-      made = rw (c.in_ok-push.ensures.items, c.loop-place.invariant.made) (sym (take_more facts c.loop-place.place c.in_ok-fact_at.field-0 here));
+      made = rw (c.in_ok-push.ensures.items, c.loop-place.invariant.made)
+          (sym (take_more facts c.loop-place.place c.in_ok-fact_at.field-0 here));
       same = c.in_ok-fact_at.ensures.same ∙ c.loop-place.invariant.same;
       count = c.loop-place.invariant.count;
     }

@@ -11,10 +11,21 @@ loop-waiting-preserved c =
     let old = c.loop-waiting in
     let w : Waiting = record { question = c.waiting.inside.question; text = c.waiting.inside.text } in
     let rest = map waiting_number c.pop_front.new.self.items in
-    let all : map waiting_number old.queue.items ≡ w.question ∷ rest = ap (map waiting_number) (c.in-Some.ensures.items ∙ ap (λ z. z ∷ c.pop_front.new.self.items) (sym c.waiting.view_is)) in
+    let all : map waiting_number old.queue.items ≡ w.question ∷ rest =
+    ap (map waiting_number) (c.in-Some.ensures.items
+    ∙ ap (λ z. z ∷ c.pop_front.new.self.items) (sym c.waiting.view_is)) in
     record {
-      losses = ap (lose_all cause.NoHelper rest) c.lose.ensures.losses ∙ sym (ap (λ z. lose_all cause.NoHelper z old.losses.losses) all) ∙ old.invariant.losses;
-      room = grind (arith, ap length c.lose.ensures.losses, length_lose w.question cause.NoHelper old.losses.losses, ap length c.in-Some.ensures.items, old.invariant.room, c.lose.ensures.room);
+      losses = ap (lose_all cause.NoHelper rest) c.lose.ensures.losses
+          ∙ sym (ap (λ z. lose_all cause.NoHelper z old.losses.losses) all) ∙ old.invariant.losses;
+      room = grind (
+        arith,
+        ap length c.lose.ensures.losses,
+        length_lose w.question cause.NoHelper old.losses.losses,
+        ap length c.in-Some.ensures.items,
+        old.invariant.room,
+        c.lose.ensures.room,
+      );
       more = grind (arith, old.invariant.more, c.lose.ensures.room);
-      once = λ q. rw (c.lose.ensures.losses) (once_lose cause.NoHelper w.question rest old.losses.losses (rw all at old.invariant.once) q);
+      once = λ q. rw (c.lose.ensures.losses)
+          (once_lose cause.NoHelper w.question rest old.losses.losses (rw all at old.invariant.once) q);
     }

@@ -10,7 +10,8 @@ decreases-loop-waiting l = length l.queue.items
 
 abbrev pub invariant-loop-waiting : goal.invariant-loop-waiting
 invariant-loop-waiting l = record {
-  losses : lose_all cause.NoHelper (map waiting_number l.queue.items) l.losses.losses ≡ lose_all cause.NoHelper (map waiting_number l.fn.queue.items) l.fn.losses.losses;
+  losses : lose_all cause.NoHelper (map waiting_number l.queue.items) l.losses.losses
+      ≡ lose_all cause.NoHelper (map waiting_number l.fn.queue.items) l.fn.losses.losses;
   room : length l.losses.losses + length l.queue.items ≤ l.losses.room;
   more : l.fn.losses.room ≤ l.losses.room;
   once : (q : ℕ) → times_lost q l.losses.losses + times_of q (map waiting_number l.queue.items) ≤ 1;

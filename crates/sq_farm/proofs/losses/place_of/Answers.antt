@@ -11,4 +11,5 @@ returns-clause-place c =
     let ls = c.args.losses.now.items in
     let l : c.partition_point.result ≤ length ls = grind (arith, common_steps, c.partition_point.ensures.bound) in
     place_found loss_number q ls c.partition_point.result l
-    (IsPartitionPoint-from_clause (λ l. nat_lt (loss_number l) q) ls c.partition_point.result c.partition_point.ensures.partitioned (rises_parts loss_number q ls c.requires) (λ a r f k. search rules))
+    (IsPartitionPoint-from_clause (λ l. nat_lt (loss_number l) q) ls c.partition_point.result
+    c.partition_point.ensures.partitioned (rises_parts loss_number q ls c.requires) (λ a r f k. search rules))

@@ -9,4 +9,5 @@ returns-clause-place c =
     let k = c.args.proc in
     let rows = c.args.rows.now in
     place_found living_number k rows c.partition_point.result c.partition_point.ensures.bound
-    (IsPartitionPoint-from_clause (λ r. nat_lt (living_number r) k) rows c.partition_point.result c.partition_point.ensures.partitioned (rises_parts living_number k rows c.requires) (λ a r f h. search rules))
+    (IsPartitionPoint-from_clause (λ r. nat_lt (living_number r) k) rows c.partition_point.result
+    c.partition_point.ensures.partitioned (rises_parts living_number k rows c.requires) (λ a r f h. search rules))

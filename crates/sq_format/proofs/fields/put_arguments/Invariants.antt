@@ -6,4 +6,5 @@ use Rattle.sq_format.proofs.fields.put_arguments.Given as goal
 -- what was put and what is to come is the whole
 abbrev pub invariant-loop-argument : goal.invariant-loop-argument
 invariant-loop-argument l =
-    l.to ++ after_spaces (map key_escaped (drop l.argument-index l.rest)) ≡ l.initial.to ++ after_spaces (map key_escaped l.rest)
+    l.to ++ after_spaces (map key_escaped (drop l.argument-index l.rest)) ≡ l.initial.to
+    ++ after_spaces (map key_escaped l.rest)

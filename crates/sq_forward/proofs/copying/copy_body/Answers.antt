@@ -5,7 +5,8 @@ use Rattle.sq_forward.proofs.copying.copy_body.Goals as goal
 pub loop-init : goal.loop-init
 loop-init g c = record {
   chunked = c.new-cursor.ensures.chunked;
-  so_far = begins (g.M.Meter.seated c.args.meter.now) c.args.plan c.args.chunked_out c.new-cursor.result.place _ _ (g.M.Meter.granted c.args.meter.now) c.new-cursor.ensures.place (search (rules, g.M.laws));
+  so_far = begins (g.M.Meter.seated c.args.meter.now) c.args.plan c.args.chunked_out c.new-cursor.result.place _ _
+      (g.M.Meter.granted c.args.meter.now) c.new-cursor.ensures.place (search (rules, g.M.laws));
   dry = c.requires.dry;
   seated = refl;
   besides = refl;
@@ -33,4 +34,5 @@ loop-preserved g c =
 pub returns-in-Some-copy_piece-clause-copies : goal.returns-in-Some-copy_piece-clause-copies
 returns-in-Some-copy_piece-clause-copies g c =
     let inv = c.loop.invariant in
-    ends _ _ _ c.in-Some-copy_piece.copied inv.so_far (piece_as inv.seated inv.chunked c.in-Some-copy_piece.ensures.copies)
+    ends _ _ _ c.in-Some-copy_piece.copied inv.so_far
+    (piece_as inv.seated inv.chunked c.in-Some-copy_piece.ensures.copies)

@@ -10,8 +10,10 @@ invariant-loop g l =
     let left = g.S.Source.left in
     record {
       chunked : l.cursor.chunked ≡ l.fn.chunked_out;
-      so_far : SoFar (g.M.Meter.seated l.fn.meter) l.fn.plan l.fn.chunked_out l.cursor.place (prepend_known l.fn.from.ahead (left l.fn.from.source)) (prepend_known l.from.ahead (left l.from.source))
-          (g.O.Sink.contents l.fn.to) (g.O.Sink.contents l.to) (g.M.Meter.granted l.fn.meter) (g.M.Meter.granted l.meter);
+      so_far : SoFar (g.M.Meter.seated l.fn.meter) l.fn.plan l.fn.chunked_out l.cursor.place
+          (prepend_known l.fn.from.ahead (left l.fn.from.source)) (prepend_known l.from.ahead (left l.from.source))
+          (g.O.Sink.contents l.fn.to) (g.O.Sink.contents l.to) (g.M.Meter.granted l.fn.meter)
+          (g.M.Meter.granted l.meter);
       dry : g.M.Meter.dry l.meter ≡ 0;
       seated : g.M.Meter.seated l.meter ≡ g.M.Meter.seated l.fn.meter;
       besides : g.M.Meter.besides l.meter ≡ g.M.Meter.besides l.fn.meter;

@@ -4,26 +4,33 @@ use Rattle.sq_forward.proofs.CopyLaws.{fed_at, fed_so, unfed_at, piece_unfed, pi
 use Rattle.sq_forward.proofs.copying.copy_piece.Goals as goal
 
 pub returns-in-Err-clause-copies : goal.returns-in-Err-clause-copies
-returns-in-Err-clause-copies g c = piece_unfed _ c.args.from.now.ahead (g.S.Source.left c.args.from.now.source) _ c.in-Err.copied (unfed_at c.as_bytes.ensures.value c.in-Err.ensures.unfed)
+returns-in-Err-clause-copies g c = piece_unfed _ c.args.from.now.ahead (g.S.Source.left c.args.from.now.source) _
+    c.in-Err.copied (unfed_at c.as_bytes.ensures.value c.in-Err.ensures.unfed)
 
 pub returns-then-fed-clause-copies : goal.returns-then-fed-clause-copies
 returns-then-fed-clause-copies g c =
     let left = g.S.Source.left in
-    piece_whole c.args.from.now.ahead (left c.args.from.now.source) _ (passed left c.args.from.now.ahead c.in-Ok.fed.used c.drop_front.ensures.ahead c.drop_front.ensures.source)
+    piece_whole c.args.from.now.ahead (left c.args.from.now.source) _
+    (passed left c.args.from.now.ahead c.in-Ok.fed.used c.drop_front.ensures.ahead c.drop_front.ensures.source)
     (fed_at c.as_bytes.ensures.value (fed_so true c.if-fed.true c.in-Ok.ensures.fed))
 
 pub returns-in-Ok-true-clause-copies : goal.returns-in-Ok-true-clause-copies
 returns-in-Ok-true-clause-copies g c =
     let left = g.S.Source.left in
-    piece_goes c.args.from.now.ahead (left c.args.from.now.source) _ _ (passed left c.args.from.now.ahead c.in-Ok.fed.used c.drop_front.ensures.ahead c.drop_front.ensures.source) c.fill.ensures.kept
+    piece_goes c.args.from.now.ahead (left c.args.from.now.source) _ _
+    (passed left c.args.from.now.ahead c.in-Ok.fed.used c.drop_front.ensures.ahead c.drop_front.ensures.source)
+    c.fill.ensures.kept
     (fed_at c.as_bytes.ensures.value (fed_so false c.if-fed.false c.in-Ok.ensures.fed))
 
 pub returns-in-Ok-false-clause-copies : goal.returns-in-Ok-false-clause-copies
 returns-in-Ok-false-clause-copies g c =
     let left = g.S.Source.left in
     let filled : Filled c.drop_front.new.self.ahead c.fill.new.self.ahead (left c.fill.new.self.source) false =
-    subst (λ t. Filled c.drop_front.new.self.ahead c.fill.new.self.ahead (left c.fill.new.self.source) t) c.in-Ok-false.field-0-test c.in-Ok-false.ensures.filled in
-    piece_cut c.args.from.now.ahead c.fill.new.self.ahead (left c.args.from.now.source) _ (left c.fill.new.self.source) (passed left c.args.from.now.ahead c.in-Ok.fed.used c.drop_front.ensures.ahead c.drop_front.ensures.source) c.fill.ensures.kept
+    subst (λ t. Filled c.drop_front.new.self.ahead c.fill.new.self.ahead (left c.fill.new.self.source) t)
+    c.in-Ok-false.field-0-test c.in-Ok-false.ensures.filled in
+    piece_cut c.args.from.now.ahead c.fill.new.self.ahead (left c.args.from.now.source) _ (left c.fill.new.self.source)
+    (passed left c.args.from.now.ahead c.in-Ok.fed.used c.drop_front.ensures.ahead c.drop_front.ensures.source)
+    c.fill.ensures.kept
     (filled.0 ∙ c.drop_front.ensures.ahead) filled.1
     (fed_at c.as_bytes.ensures.value (fed_so false c.if-fed.false c.in-Ok.ensures.fed))
 
@@ -39,17 +46,20 @@ returns-in-Err-WantOfMemory-clause-copies g c =
 
 pub returns-in-Ok-true-clause-few : goal.returns-in-Ok-true-clause-few
 returns-in-Ok-true-clause-few g c =
-    let none = all_used c.args.from.now.ahead (fed_at c.as_bytes.ensures.value (fed_so false c.if-fed.false c.in-Ok.ensures.fed)) in
+    let none = all_used c.args.from.now.ahead
+    (fed_at c.as_bytes.ensures.value (fed_so false c.if-fed.false c.in-Ok.ensures.fed)) in
     omega (arith, c.fill.ensures.few, ap length (c.drop_front.ensures.ahead ∙ none))
 
 pub returns-in-Err-Failed-clause-few : goal.returns-in-Err-Failed-clause-few
 returns-in-Err-Failed-clause-few g c =
-    let none = all_used c.args.from.now.ahead (fed_at c.as_bytes.ensures.value (fed_so false c.if-fed.false c.in-Ok.ensures.fed)) in
+    let none = all_used c.args.from.now.ahead
+    (fed_at c.as_bytes.ensures.value (fed_so false c.if-fed.false c.in-Ok.ensures.fed)) in
     omega (arith, c.fill.ensures.few, ap length (c.drop_front.ensures.ahead ∙ none))
 
 pub returns-in-Err-WantOfMemory-clause-few : goal.returns-in-Err-WantOfMemory-clause-few
 returns-in-Err-WantOfMemory-clause-few g c =
-    let none = all_used c.args.from.now.ahead (fed_at c.as_bytes.ensures.value (fed_so false c.if-fed.false c.in-Ok.ensures.fed)) in
+    let none = all_used c.args.from.now.ahead
+    (fed_at c.as_bytes.ensures.value (fed_so false c.if-fed.false c.in-Ok.ensures.fed)) in
     omega (arith, c.fill.ensures.few, ap length (c.drop_front.ensures.ahead ∙ none))
 
 pub returns-in-Err-clause-cause : goal.returns-in-Err-clause-cause

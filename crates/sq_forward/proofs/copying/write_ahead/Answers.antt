@@ -7,8 +7,10 @@ returns-in-Ok-clause-fed g c = data_fed c.in-Some.ensures.fed c.split_at.ensures
 
 pub returns-in-Err-Failed-clause-unfed : goal.returns-in-Err-Failed-clause-unfed
 returns-in-Err-Failed-clause-unfed g c =
-    unfed_no_sink (data_part c.in-Some.ensures.fed c.split_at.ensures.front (c.in-Err-Failed.ensures.failed (ap Err c.in-Err-Failed.field-0-is)))
+    unfed_no_sink (data_part c.in-Some.ensures.fed c.split_at.ensures.front
+    (c.in-Err-Failed.ensures.failed (ap Err c.in-Err-Failed.field-0-is)))
 
 pub returns-in-Err-Starved-clause-unfed : goal.returns-in-Err-Starved-clause-unfed
 returns-in-Err-Starved-clause-unfed g c =
-    unfed_starved (data_part c.in-Some.ensures.fed c.split_at.ensures.front (c.in-Err-Starved.ensures.starved (ap Err c.in-Err-Starved.field-0-is)))
+    unfed_starved (data_part c.in-Some.ensures.fed c.split_at.ensures.front
+    (c.in-Err-Starved.ensures.starved (ap Err c.in-Err-Starved.field-0-is)))

@@ -10,7 +10,8 @@ abbrev pub invariant-loop : goal.invariant-loop
 invariant-loop g l =
     let left = g.S.Source.left in
     record {
-      kept : Keeps (prepend_known l.fn.from.ahead (left l.fn.from.source)) (prepend_known l.from.ahead (left l.from.source));
+      kept : Keeps (prepend_known l.fn.from.ahead (left l.fn.from.source))
+          (prepend_known l.from.ahead (left l.from.source));
       later : g.S.Source.faults l.fn.from.source ≤ g.S.Source.faults l.from.source;
       origin : g.S.Source.origin l.from.source ≡ g.S.Source.origin l.fn.from.source;
       few : length l.from.ahead ≤ max (length l.fn.from.ahead) (most_bytes + read_limit);

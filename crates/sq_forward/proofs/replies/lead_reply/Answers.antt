@@ -24,36 +24,46 @@ returns-in-Err-Missing-clause-leads g c =
     let left = g.P.Source.left in
     let told = prepend_known c.loop.origin.ahead (left c.loop.origin.source) in
     let next = prepend_known c.take_head.new.origin.ahead (left c.take_head.new.origin.source) in
-    leads_missing _ told next c.loop.invariant.leads (subst (λ e. IfSome told (λ bytes. TakesHead bytes next (Err e))) c.in-Err-Missing.field-0-is c.in-Err-Missing.ensures.takes) c.loop.invariant.room
+    leads_missing _ told next c.loop.invariant.leads
+    (subst (λ e. IfSome told (λ bytes. TakesHead bytes next (Err e))) c.in-Err-Missing.field-0-is
+    c.in-Err-Missing.ensures.takes) c.loop.invariant.room
 
 pub returns-in-Err-Failed-clause-leads : goal.returns-in-Err-Failed-clause-leads
 returns-in-Err-Failed-clause-leads g c =
     let left = g.P.Source.left in
     leads_failed _ (prepend_known c.loop.origin.ahead (left c.loop.origin.source)) _ c.loop.invariant.leads
-    (omega (arith, c.in-Err-Failed.ensures.cause (ap Err c.in-Err-Failed.field-0-is), c.loop.invariant.origin_later)) c.loop.invariant.room
+    (omega (arith, c.in-Err-Failed.ensures.cause (ap Err c.in-Err-Failed.field-0-is), c.loop.invariant.origin_later))
+    c.loop.invariant.room
 
 pub returns-in-Err-WantOfMemory-clause-leads : goal.returns-in-Err-WantOfMemory-clause-leads
 returns-in-Err-WantOfMemory-clause-leads g c =
-    leads_no_memory _ (prepend_known c.loop.origin.ahead (g.P.Source.left c.loop.origin.source)) _ c.loop.invariant.leads c.loop.invariant.room
+    leads_no_memory _ (prepend_known c.loop.origin.ahead (g.P.Source.left c.loop.origin.source)) _
+    c.loop.invariant.leads c.loop.invariant.room
 
 pub returns-then-not-is_interim-clause-leads : goal.returns-then-not-is_interim-clause-leads
 returns-then-not-is_interim-clause-leads g c =
     let left = g.P.Source.left in
-    leads_own _ _ (prepend_known c.loop.origin.ahead (left c.loop.origin.source)) _ c.in-Ok.head c.own_head.result c.loop.invariant.leads c.in-Ok.ensures.takes c.loop.invariant.room
+    leads_own _ _ (prepend_known c.loop.origin.ahead (left c.loop.origin.source)) _ c.in-Ok.head c.own_head.result
+    c.loop.invariant.leads c.in-Ok.ensures.takes c.loop.invariant.room
     (sym c.is_interim.ensures ∙ c.if-not-is_interim.true) c.own_head.ensures
 
 pub returns-then-passed-eq-INTERIM_LIMIT-clause-leads : goal.returns-then-passed-eq-INTERIM_LIMIT-clause-leads
 returns-then-passed-eq-INTERIM_LIMIT-clause-leads g c =
     let left = g.P.Source.left in
-    leads_refused _ (prepend_known c.loop.origin.ahead (left c.loop.origin.source)) _ c.in-Ok.head c.loop.invariant.leads c.in-Ok.ensures.takes c.loop.invariant.room
+    leads_refused _ (prepend_known c.loop.origin.ahead (left c.loop.origin.source)) _ c.in-Ok.head
+    c.loop.invariant.leads c.in-Ok.ensures.takes c.loop.invariant.room
     (inr (sym c.is_interim.ensures ∙ c.if-not-is_interim.false, c.if-passed-eq-INTERIM_LIMIT.true))
 
 pub returns-in-Err-clause-leads : goal.returns-in-Err-clause-leads
 returns-in-Err-clause-leads g c =
     let left = g.P.Source.left in
-    leads_part _ (prepend_known c.loop.origin.ahead (left c.loop.origin.source)) _ c.in-Ok.head c.in-Err.end c.loop.invariant.leads c.in-Ok.ensures.takes
-    (sym c.is_interim.ensures ∙ c.if-not-is_interim.false) (omega (arith, c.loop.invariant.room, c.if-passed-eq-INTERIM_LIMIT.false)) c.in-Err.ensures.other
-    (subst (λ s. PaysHeads (interim_text c.args.request.now c.in-Ok.head) s (g.O.Sink.contents c.loop.to_client) (g.O.Sink.contents c.pass_on.new.to_client) (g.M.Meter.granted c.loop.meter) (g.M.Meter.granted c.pass_on.new.meter) c.in-Err.end) c.loop.invariant.seated c.in-Err.ensures.sends)
+    leads_part _ (prepend_known c.loop.origin.ahead (left c.loop.origin.source)) _ c.in-Ok.head c.in-Err.end
+    c.loop.invariant.leads c.in-Ok.ensures.takes
+    (sym c.is_interim.ensures ∙ c.if-not-is_interim.false)
+    (omega (arith, c.loop.invariant.room, c.if-passed-eq-INTERIM_LIMIT.false)) c.in-Err.ensures.other
+    (subst (λ s. PaysHeads (interim_text c.args.request.now c.in-Ok.head) s (g.O.Sink.contents c.loop.to_client)
+    (g.O.Sink.contents c.pass_on.new.to_client) (g.M.Meter.granted c.loop.meter) (g.M.Meter.granted c.pass_on.new.meter)
+    c.in-Err.end) c.loop.invariant.seated c.in-Err.ensures.sends)
 
 pub loop-preserved : goal.loop-preserved
 loop-preserved g c =
@@ -61,8 +71,12 @@ loop-preserved g c =
     let inv = c.loop.invariant in
     record {
       leads =
-          leads_more _ (prepend_known c.loop.origin.ahead (left c.loop.origin.source)) _ c.in-Ok.head inv.leads c.in-Ok.ensures.takes
-          (sym c.is_interim.ensures ∙ c.if-not-is_interim.false) (subst (λ s. PaysAll s (interim_text c.args.request.now c.in-Ok.head) (g.O.Sink.contents c.loop.to_client) (g.O.Sink.contents c.pass_on.new.to_client) (g.M.Meter.granted c.loop.meter) (g.M.Meter.granted c.pass_on.new.meter)) inv.seated c.in-Ok-pass_on.ensures.sends);
+          leads_more _ (prepend_known c.loop.origin.ahead (left c.loop.origin.source)) _ c.in-Ok.head inv.leads
+          c.in-Ok.ensures.takes
+          (sym c.is_interim.ensures ∙ c.if-not-is_interim.false)
+          (subst (λ s. PaysAll s (interim_text c.args.request.now c.in-Ok.head) (g.O.Sink.contents c.loop.to_client)
+          (g.O.Sink.contents c.pass_on.new.to_client) (g.M.Meter.granted c.loop.meter)
+          (g.M.Meter.granted c.pass_on.new.meter)) inv.seated c.in-Ok-pass_on.ensures.sends);
       room = omega (arith, inv.room, c.if-passed-eq-INTERIM_LIMIT.false);
       dry = c.in-Ok-pass_on.ensures.dry;
       seated = c.pass_on.ensures.seated ∙ inv.seated;

@@ -11,8 +11,11 @@ abbrev pub invariant-loop : goal.invariant-loop
 invariant-loop g l =
     let left = g.P.Source.left in
     record {
-      leads : LeadingSo l.fn.request (g.M.Meter.seated l.fn.meter) l.passed (prepend_known l.fn.origin.ahead (left l.fn.origin.source)) (prepend_known l.origin.ahead (left l.origin.source))
-          (g.O.Sink.contents l.fn.to_client) (g.O.Sink.contents l.to_client) (g.M.Meter.granted l.fn.meter) (g.M.Meter.granted l.meter);
+      leads : LeadingSo l.fn.request (g.M.Meter.seated l.fn.meter) l.passed
+          (prepend_known l.fn.origin.ahead (left l.fn.origin.source))
+          (prepend_known l.origin.ahead (left l.origin.source))
+          (g.O.Sink.contents l.fn.to_client) (g.O.Sink.contents l.to_client) (g.M.Meter.granted l.fn.meter)
+          (g.M.Meter.granted l.meter);
       room : l.passed ≤ interim_limit;
       dry : g.M.Meter.dry l.meter ≡ 0;
       seated : g.M.Meter.seated l.meter ≡ g.M.Meter.seated l.fn.meter;

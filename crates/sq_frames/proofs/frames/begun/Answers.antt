@@ -7,4 +7,5 @@ pub returns-clause-at : goal.returns-clause-at
 returns-clause-at c = λ facts.
     let begun = c.in_ok-position.ensures.begun in
     placed_first facts c.args.slots.now c.in_ok-table.table.items c.in_ok-position.position
-    (ap (λ (p : Position). p.line) begun) (ap (λ (p : Position). p.term) begun) (ap (λ (p : Position). p.groups.list) begun) (ap (λ (p : Position). p.looks) begun)
+    (ap (λ (p : Position). p.line) begun) (ap (λ (p : Position). p.term) begun)
+    (ap (λ (p : Position). p.groups.list) begun) (ap (λ (p : Position). p.looks) begun)

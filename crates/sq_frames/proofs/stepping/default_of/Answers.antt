@@ -6,4 +6,5 @@ use Rattle.sq_frames.proofs.stepping.default_of.Goals as goal
 
 pub returns-in-Some-clause-default : goal.returns-in-Some-clause-default
 returns-in-Some-clause-default c = λ acls.
-    ap value.Verdict (sym (ap default_of c.in-Some.ensures.cases.0 ∙ default_of_last c.in-Some.field-0-1.now c.in-Some.last.now))
+    ap value.Verdict (sym (ap default_of c.in-Some.ensures.cases.0
+    ∙ default_of_last c.in-Some.field-0-1.now c.in-Some.last.now))

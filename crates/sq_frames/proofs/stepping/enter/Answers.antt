@@ -7,8 +7,10 @@ use Rattle.sq_frames.proofs.stepping.enter.Goals as goal
 pub open-requires : goal.open-requires
 open-requires c =
     let p = c.args.position.now in
-    let fits : slice_index_or (nestings c.args.config.now.acls) c.args.term.acl 0 + suc (length p.groups.list) ≤ p.groups.room = fits_within c.args.config.now p c.args.term c.requires.next in
+    let fits : slice_index_or (nestings c.args.config.now.acls) c.args.term.acl 0 + suc (length p.groups.list)
+    ≤ p.groups.room = fits_within c.args.config.now p c.args.term c.requires.next in
     omega (arith, fits)
 
 pub returns : goal.returns
-returns c = λ taken n. rw c.open.ensures (group_step taken c.args.config.now c.args.position.now c.args.term n c.requires.next c.requires.group)
+returns c = λ taken n. rw c.open.ensures
+    (group_step taken c.args.config.now c.args.position.now c.args.term n c.requires.next c.requires.group)

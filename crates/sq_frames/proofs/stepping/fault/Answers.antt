@@ -9,8 +9,10 @@ pub returns-clause-ran : goal.returns-clause-ran
 returns-clause-ran c =
     let t = c.args.taking.now in
     let taken : taken_in t c.args.term.acl ≡ Fault c.args.term.acl c.args.cause =
-    external_taken t.config.now.acls t.slots.now t.facts.now t.table.now c.args.term.acl c.requires.external ∙ ap (given_value c.args.term.acl) c.requires.given in
-    fault_stop (taken_in t) t.config.now c.args.position.now c.args.term c.args.cause c.requires.next c.requires.external taken
+    external_taken t.config.now.acls t.slots.now t.facts.now t.table.now c.args.term.acl c.requires.external
+    ∙ ap (given_value c.args.term.acl) c.requires.given in
+    fault_stop (taken_in t) t.config.now c.args.position.now c.args.term c.args.cause c.requires.next
+    c.requires.external taken
 
 pub returns-clause-asks : goal.returns-clause-asks
 returns-clause-asks c = λ slots table. nothing_asked c.args.taking.now.config.now.acls slots table _ refl

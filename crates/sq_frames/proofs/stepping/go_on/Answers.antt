@@ -14,5 +14,8 @@ pub returns : goal.returns
 returns c = λ n.
     let t = c.args.taking.now in
     let taken : taken_in t c.args.term.acl ≡ value_if c.args.hit =
-    external_taken t.config.now.acls t.slots.now t.facts.now t.table.now c.args.term.acl c.requires.external ∙ ap (given_value c.args.term.acl) c.requires.given ∙ of_hit c.args.term.acl c.args.hit in
-    rw (c.advance.ensures, c.turned.ensures) (given_step (taken_in t) t.config.now c.args.position.now c.args.term c.args.hit n c.requires.next c.requires.external taken)
+    external_taken t.config.now.acls t.slots.now t.facts.now t.table.now c.args.term.acl c.requires.external
+    ∙ ap (given_value c.args.term.acl) c.requires.given ∙ of_hit c.args.term.acl c.args.hit in
+    rw (c.advance.ensures, c.turned.ensures)
+    (given_step (taken_in t) t.config.now c.args.position.now c.args.term c.args.hit n c.requires.next
+    c.requires.external taken)

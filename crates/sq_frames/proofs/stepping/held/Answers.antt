@@ -6,7 +6,7 @@ use Rattle.sq_frames.specs.Courses.{Course, ahead}
 use Rattle.sq_frames.specs.Givens.{ran_value}
 use Rattle.sq_frames.specs.Groups.{line_on, lines_on, next_at, term_on}
 use Rattle.sq_frames.specs.declared.looking.Next.TheVariants as next
-use Rattle.sq_frames.specs.declared.spots.Spot.{Spot}
+use Rattle.sq_frames.specs.declared.spots.GroupSpot.{GroupSpot}
 use Rattle.sq_frames.proofs.StepLaws.{nothing_asked}
 use Rattle.sq_frames.proofs.stepping.held.Goals as goal
 
@@ -14,16 +14,22 @@ pub returns-clause-ran : goal.returns-clause-ran
 returns-clause-ran c = λ taken.
     let config = c.args.config.now in
     let p = c.args.position.now in
-    let ends : next_at (lines_on config []) p.line p.term ≡ next.Held = subst (λ (l : List Spot). next_at (lines_on config l) (line_on p.line l) (term_on p.term l) ≡ next.Held) c.requires.open c.requires.next in
+    let ends : next_at (lines_on config []) p.line p.term ≡ next.Held =
+    subst (λ (l : List GroupSpot). next_at (lines_on config l) (line_on p.line l) (term_on p.term l) ≡ next.Held)
+    c.requires.open c.requires.next in
     let d = rule_decides taken config p.line p.term ends in
-    ap (ran_value config.acls) (c.rule_at.ensures.rule d.0 (ap (λ rules. slice_get rules p.line) c.rules.ensures.rules ∙ d.1))
-    ∙ sym (ap (λ (l : List Spot). (ahead taken config p.line p.term l).value) c.requires.open ∙ ap (λ (x : Course). x.value) d.2)
+    ap (ran_value config.acls)
+    (c.rule_at.ensures.rule d.0 (ap (λ rules. slice_get rules p.line) c.rules.ensures.rules ∙ d.1))
+    ∙ sym (ap (λ (l : List GroupSpot). (ahead taken config p.line p.term l).value) c.requires.open
+    ∙ ap (λ (x : Course). x.value) d.2)
 
 pub rule_at-requires-clause-here : goal.rule_at-requires-clause-here
 rule_at-requires-clause-here c =
     let config = c.args.config.now in
     let p = c.args.position.now in
-    let ends : next_at (lines_on config []) p.line p.term ≡ next.Held = subst (λ (l : List Spot). next_at (lines_on config l) (line_on p.line l) (term_on p.term l) ≡ next.Held) c.requires.open c.requires.next in
+    let ends : next_at (lines_on config []) p.line p.term ≡ next.Held =
+    subst (λ (l : List GroupSpot). next_at (lines_on config l) (line_on p.line l) (term_on p.term l) ≡ next.Held)
+    c.requires.open c.requires.next in
     let d = rule_decides (λ _. Miss) config p.line p.term ends in
     let within : p.line < length config.rules = slice_get_within config.rules p.line d.0 d.1 in
     rw c.rules.ensures.rules within

@@ -9,7 +9,8 @@ pub returns-clause-ran : goal.returns-clause-ran
 returns-clause-ran c =
     let t = c.args.taking.now in
     let taken : taken_in t c.args.term.acl ≡ Need c.args.term.acl [] =
-    external_taken t.config.now.acls t.slots.now t.facts.now t.table.now c.args.term.acl c.requires.external ∙ ap (given_value c.args.term.acl) c.requires.none in
+    external_taken t.config.now.acls t.slots.now t.facts.now t.table.now c.args.term.acl c.requires.external
+    ∙ ap (given_value c.args.term.acl) c.requires.none in
     need_stop (taken_in t) t.config.now c.args.position.now c.args.term c.requires.next c.requires.external taken
 
 pub returns-clause-asks : goal.returns-clause-asks

@@ -7,5 +7,7 @@ use Rattle.sq_head.proofs.kept.put_unlisted.Given as goal
 -- what was put and what is to come is the whole
 abbrev pub invariant-loop-field : goal.invariant-loop-field
 invariant-loop-field g l =
-    l.to ++ flat_map field_line (filter (is_sent (g.T.NameTest.passes l.test) l.way (map (λ o. o.now) l.options)) (drop l.field-index l.fields))
-    ≡ l.initial.to ++ flat_map field_line (filter (is_sent (g.T.NameTest.passes l.test) l.way (map (λ o. o.now) l.options)) l.fields)
+    l.to ++ flat_map field_line
+    (filter (is_sent (g.T.NameTest.passes l.test) l.way (map (λ o. o.now) l.options)) (drop l.field-index l.fields))
+    ≡ l.initial.to ++ flat_map field_line
+    (filter (is_sent (g.T.NameTest.passes l.test) l.way (map (λ o. o.now) l.options)) l.fields)

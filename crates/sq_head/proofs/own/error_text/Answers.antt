@@ -7,9 +7,12 @@ use Rattle.sq_head.proofs.own.error_text.Goals as goal
 pub returns : goal.returns
 unfolding error_text
 returns c =
-    let status : status_words c.status_of.result ≡ own_status c.args.own = ap status_words c.status_of.ensures ∙ own_statuses c.args.own in
+    let status : status_words c.status_of.result ≡ own_status c.args.own = ap status_words c.status_of.ensures
+    ∙ own_statuses c.args.own in
     record {
       text =
-          subst (λ w. IfOk c.own_reply.result (λ t. t ≡ own_reply (own_status c.args.own) w c.args.no_body true)) c.words_of.ensures
-          (subst (λ s. IfOk c.own_reply.result (λ t. t ≡ own_reply s c.words_of.result.now c.args.no_body true)) status c.own_reply.ensures);
+          subst (λ w. IfOk c.own_reply.result (λ t. t ≡ own_reply (own_status c.args.own) w c.args.no_body true))
+          c.words_of.ensures
+          (subst (λ s. IfOk c.own_reply.result (λ t. t ≡ own_reply s c.words_of.result.now c.args.no_body true)) status
+          c.own_reply.ensures);
     }

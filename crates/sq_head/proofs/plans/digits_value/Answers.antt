@@ -13,4 +13,5 @@ returns-then-next c =
     let cons : drop at word ≡ get_or word at 0 ∷ rest = rw (add-one) (drop-cons word at 0 c.loop-byte-test.true) in
     let step : read_on (number * 10 + c.saturating_sub.result) rest ≡ read_on 0 word =
     rw (c.saturating_sub.ensures) (ap (λ l. read_on number l) (sym cons) ∙ c.loop-byte.invariant.0) in
-    too_great (read_on 0 word) (omega (arith, read_on_grows (number * 10 + c.saturating_sub.result) rest, step, c.if-next.true))
+    too_great (read_on 0 word)
+    (omega (arith, read_on_grows (number * 10 + c.saturating_sub.result) rest, step, c.if-next.true))

@@ -4,7 +4,8 @@ use Rattle.sq_head.proofs.reply_reading.read_reply_head.Goals as goal
 
 pub returns-clause-read : goal.returns-clause-read
 returns-clause-read c =
-    read_is c.args.head.now c.parse_whole.new.room c.in-Some.spans c.in_ok-reason.reason c.in_ok-fields.fields c.in-Some.ensures.found (omega arith) c.if-head-gt-MOST_BYTES.false
+    read_is c.args.head.now c.parse_whole.new.room c.in-Some.spans c.in_ok-reason.reason c.in_ok-fields.fields
+    c.in-Some.ensures.found (omega arith) c.if-head-gt-MOST_BYTES.false
     (c.in_ok-reason.ensures ∙ c.of.ensures) c.in_ok-fields.ensures
 
 pub returns-clause-one : goal.returns-clause-one

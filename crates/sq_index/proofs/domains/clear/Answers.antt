@@ -13,11 +13,13 @@ loop-name-preserved-in-Continue-1 c =
     let left : c.loop-name.name-iterator.rest.items ≡ n ∷ rest = search rules in
     let below = subst (λ l. All (λ m. All (λ o. IsUpTo m o) l) kept) left c.loop-name.invariant.below in
     let rises = subst (λ l. Rise l) left c.loop-name.invariant.rest in
-    let clear : last_shades kept n ≡ false = ap (λ l. last_shades l n) (sym c.as_slice.ensures.value) ∙ sym c.is_shaded.ensures ∙ c.if-not-is_shaded.true in
+    let clear : last_shades kept n ≡ false = ap (λ l. last_shades l n) (sym c.as_slice.ensures.value)
+    ∙ sym c.is_shaded.ensures ∙ c.if-not-is_shaded.true in
     record {
       same = λ bytes. ap (λ l. some_at l bytes || some_at rest bytes) items ∙ kept_same kept rest n bytes
           ∙ ap (λ l. some_at kept bytes || some_at l bytes) (sym left) ∙ c.loop-name.invariant.same bytes;
-      clear = subst (λ l. AreClear l) (sym items) (kept_clear kept n c.loop-name.invariant.clear (below_head kept n rest below) clear);
+      clear = subst (λ l. AreClear l) (sym items)
+          (kept_clear kept n c.loop-name.invariant.clear (below_head kept n rest below) clear);
       below = subst (λ l. All (λ m. All (λ o. IsUpTo m o) rest) l) (sym items) (below_push kept n rest below rises);
       rest = rise_tail n rest rises;
     }
@@ -30,9 +32,11 @@ loop-name-preserved c =
     let left : c.loop-name.name-iterator.rest.items ≡ n ∷ rest = search rules in
     let below = subst (λ l. All (λ m. All (λ o. IsUpTo m o) l) kept) left c.loop-name.invariant.below in
     let rises = subst (λ l. Rise l) left c.loop-name.invariant.rest in
-    let shaded : last_shades kept n ≡ true = ap (λ l. last_shades l n) (sym c.as_slice.ensures.value) ∙ sym c.is_shaded.ensures ∙ c.if-not-is_shaded.false in
+    let shaded : last_shades kept n ≡ true = ap (λ l. last_shades l n) (sym c.as_slice.ensures.value)
+    ∙ sym c.is_shaded.ensures ∙ c.if-not-is_shaded.false in
     record {
-      same = λ bytes. left_same kept rest n bytes shaded ∙ ap (λ l. some_at kept bytes || some_at l bytes) (sym left) ∙ c.loop-name.invariant.same bytes;
+      same = λ bytes. left_same kept rest n bytes shaded ∙ ap (λ l. some_at kept bytes || some_at l bytes) (sym left)
+          ∙ c.loop-name.invariant.same bytes;
       clear = c.loop-name.invariant.clear;
       below = below_tail kept n rest below;
       rest = rise_tail n rest rises;

@@ -5,4 +5,5 @@ use Rattle.sq_index.proofs.domains.names_of.Given as goal
 
 -- the names so far stand for the hosts of the domains so far
 abbrev pub invariant-loop-domain : goal.invariant-loop-domain
-invariant-loop-domain l = (host : List ℕ) → has_host l.names.items host ≡ in_some_domain (take l.domain-index l.domains) host
+invariant-loop-domain l = (host : List ℕ)
+    → has_host l.names.items host ≡ in_some_domain (take l.domain-index l.domains) host

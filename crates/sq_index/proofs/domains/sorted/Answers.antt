@@ -7,8 +7,10 @@ use Rattle.sq_index.specs.declared.names.Name.{Name}
 use Rattle.sq_index.proofs.domains.sorted.Goals as goal
 
 pub returns-clause-same : goal.returns-clause-same
-returns-clause-same c = λ bytes. sym (list_any-IsPermutation (λ n. is_at n bytes) _ _ c.in_ok-sort_by.ensures.permutation)
+returns-clause-same c = λ bytes. sym
+    (list_any-IsPermutation (λ n. is_at n bytes) _ _ c.in_ok-sort_by.ensures.permutation)
 
 pub returns-clause-rising : goal.returns-clause-rising
 returns-clause-rising c =
-    rise_from_sorted _ (c.in_ok-sort_by.ensures.sorted by_path (ranks_by nat_list_cmp_total (λ (n : Name). n.key)) (answers_always _ _ _ (λ f a r g h. search rules)))
+    rise_from_sorted _ (c.in_ok-sort_by.ensures.sorted by_path (ranks_by nat_list_cmp_total (λ (n : Name). n.key))
+    (answers_always _ _ _ (λ f a r g h. search rules)))

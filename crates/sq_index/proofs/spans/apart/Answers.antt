@@ -6,4 +6,5 @@ use Rattle.sq_index.proofs.spans.apart.Goals as goal
 
 pub apart_from-requires : goal.apart_from-requires
 apart_from-requires c =
-    subst (λ l. IsNonDecreasingBy (λ (s : Span). s.first) l) (sym (whole_again c.args.spans.now (record { first = 0; last = 0 }) c.in-len1-up.len_at_least)) c.requires
+    subst (λ l. IsNonDecreasingBy (λ (s : Span). s.first) l)
+    (sym (whole_again c.args.spans.now (record { first = 0; last = 0 }) c.in-len1-up.len_at_least)) c.requires

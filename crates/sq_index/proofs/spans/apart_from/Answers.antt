@@ -31,28 +31,40 @@ loop-span-preserved c =
     elim c.if-span-open.branch [
       | then-span-open w ↦
           let same : c.if-span-open.spans.items ≡ spans = ap (λ v. v.items) w.spans-is in
-          let wider : now ≡ record o { last = max o.last s.last } = w.open-is ∙ ap (λ n. record o { last = n }) w.max.ensures in
+          let wider : now ≡ record o { last = max o.last s.last } = w.open-is
+          ∙ ap (λ n. record o { last = n }) w.max.ensures in
           let begins : now.first ≡ o.first = ap (λ (t : Span). t.first) wider in
           record {
             same = λ n. ap (λ l. in_spans l n || in_span now n) same ∙ ap (λ t. in_spans spans n || in_span t n) wider
-                ∙ merge_same spans o c.args.first rest i n d within low w.if-span-open.true (c.loop-span.invariant.same n);
+                ∙ merge_same spans o c.args.first rest i n d within low w.if-span-open.true
+                (c.loop-span.invariant.same n);
             apart = subst (λ l. AreApart l) (sym same) c.loop-span.invariant.apart;
-            before = subst (λ l. All (λ t. IsBefore t now) l) (sym same) (before_same spans o now c.loop-span.invariant.before (sym begins));
-            low = λ k e after inside. subst (λ x. x ≤ (get_or rest k e).first) (sym begins) (c.loop-span.invariant.low k e (omega arith) inside);
+            before = subst (λ l. All (λ t. IsBefore t now) l) (sym same)
+                (before_same spans o now c.loop-span.invariant.before (sym begins));
+            low = λ k e after inside. subst (λ x. x ≤ (get_or rest k e).first) (sym begins)
+                (c.loop-span.invariant.low k e (omega arith) inside);
           }
       | else-span-open+in_ok-push w ↦
-          let more : c.if-span-open.spans.items ≡ spans ++ o ∷ [] = ap (λ v. v.items) w.spans-is ∙ w.in_ok-push.ensures.items in
+          let more : c.if-span-open.spans.items ≡ spans ++ o ∷ [] = ap (λ v. v.items) w.spans-is
+          ∙ w.in_ok-push.ensures.items in
           let next : now ≡ s = w.open-is in
           record {
-            same = λ n. ap (λ l. in_spans l n || in_span now n) more ∙ ap (λ t. in_spans (spans ++ o ∷ []) n || in_span t n) next
+            same = λ n. ap (λ l. in_spans l n || in_span now n) more
+                ∙ ap (λ t. in_spans (spans ++ o ∷ []) n || in_span t n) next
                 ∙ next_same spans o c.args.first rest i n d within (c.loop-span.invariant.same n);
-            apart = subst (λ l. AreApart l) (sym more) (pairs_push IsBefore spans o c.loop-span.invariant.apart c.loop-span.invariant.before);
+            apart = subst (λ l. AreApart l) (sym more)
+                (pairs_push IsBefore spans o c.loop-span.invariant.apart c.loop-span.invariant.before);
             before = subst (λ l. All (λ t. IsBefore t now) l) (sym more)
-                (subst (λ t. All (λ u. IsBefore u t) (spans ++ o ∷ [])) (sym next) (before_next spans o s c.loop-span.invariant.before low w.if-span-open.false));
-            low = λ k e after inside. subst (λ (t : Span). t.first ≤ (get_or rest k e).first) (get_or_default rest i e d within ∙ sym next) (c.requires (suc i) (suc k) e (omega arith) (omega arith));
+                (subst (λ t. All (λ u. IsBefore u t) (spans ++ o ∷ [])) (sym next)
+                (before_next spans o s c.loop-span.invariant.before low w.if-span-open.false));
+            low = λ k e after inside. subst (λ (t : Span). t.first ≤ (get_or rest k e).first)
+                (get_or_default rest i e d within ∙ sym next)
+                (c.requires (suc i) (suc k) e (omega arith) (omega arith));
           }
     ]
 
 pub returns-clause-apart : goal.returns-clause-apart
 returns-clause-apart c =
-    rw c.in_ok-push-2.ensures.items (pairs_push IsBefore c.loop-span.spans.items c.loop-span.open c.loop-span.invariant.apart c.loop-span.invariant.before)
+    rw c.in_ok-push-2.ensures.items
+    (pairs_push IsBefore c.loop-span.spans.items c.loop-span.open c.loop-span.invariant.apart
+    c.loop-span.invariant.before)

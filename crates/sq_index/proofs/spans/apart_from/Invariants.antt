@@ -8,7 +8,8 @@ use Rattle.sq_index.proofs.spans.apart_from.Given as goal
 -- later than what is left.
 abbrev pub invariant-loop-span : goal.invariant-loop-span
 invariant-loop-span l = record {
-  same : (n : ℕ) → (in_spans l.spans.items n || in_span l.open n) ≡ (in_span l.fn.first n || in_spans (take l.span-index l.rest) n);
+  same : (n : ℕ) → (in_spans l.spans.items n || in_span l.open n)
+      ≡ (in_span l.fn.first n || in_spans (take l.span-index l.rest) n);
   apart : AreApart l.spans.items;
   before : All (λ s. IsBefore s l.open) l.spans.items;
   low : (k : ℕ) (d : Span) → l.span-index ≤ k → k < length l.rest → l.open.first ≤ (get_or l.rest k d).first;

@@ -9,4 +9,5 @@ pub returns : goal.returns
 returns g c =
     let groups = c.args.groups.now in
     let some : 0 < length groups = grind arith in
-    puts_as _ _ _ _ _ _ _ (ap (λ l. hex (get_or groups 0 0) ++ flat_map (λ g. codes ":" ++ hex g) l) c.split_at.ensures.back ∙ groups_first groups some) c.put_joined.ensures
+    puts_as _ _ _ _ _ _ _ (ap (λ l. hex (get_or groups 0 0) ++ flat_map (λ g. codes ":" ++ hex g) l)
+    c.split_at.ensures.back ∙ groups_first groups some) c.put_joined.ensures

@@ -8,4 +8,5 @@ use Rattle.sq_journal.proofs.addresses.put_more_groups.Given as goal
 abbrev pub invariant-loop-group : goal.invariant-loop-group
 invariant-loop-group g l =
     Halfway (g.O.Sink.contents l.fn.to) (g.O.Sink.contents l.to) (g.O.Sink.faults l.fn.to) (g.O.Sink.faults l.to)
-    (flat_map (λ group. codes ":" ++ hex group) l.groups) (flat_map (λ group. codes ":" ++ hex group) (drop l.group-index l.groups))
+    (flat_map (λ group. codes ":" ++ hex group) l.groups)
+    (flat_map (λ group. codes ":" ++ hex group) (drop l.group-index l.groups))

@@ -4,7 +4,8 @@ use Rattle.sq_journal.proofs.PutLaws.{puts_then, puts_stop}
 use Rattle.sq_journal.proofs.addresses.put_parts.Goals as goal
 
 pub returns-in-Err : goal.returns-in-Err
-returns-in-Err g c = puts_stop _ _ _ _ _ _ (groups_text c.args.head.now) (codes "::" ++ groups_text c.args.tail.now) c.in-Err.ensures
+returns-in-Err g c = puts_stop _ _ _ _ _ _ (groups_text c.args.head.now) (codes "::" ++ groups_text c.args.tail.now)
+    c.in-Err.ensures
 
 pub returns-in-Err-put : goal.returns-in-Err-put
 returns-in-Err-put g c =

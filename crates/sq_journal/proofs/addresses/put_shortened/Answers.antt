@@ -12,6 +12,7 @@ returns g c =
     let head = c.split_at.ensures.front in
     let tail = c.split_at-2.ensures.back ∙ ap (drop run.1) c.split_at.ensures.back ∙ drop-drop run.1 run.0 groups in
     puts_as _ _ _ _ _ _ _
-    (ap (λ l. groups_text l ++ (codes "::" ++ groups_text c.split_at-2.result.1.now)) head ∙ ap (λ l. groups_text (take run.0 groups) ++ (codes "::" ++ groups_text l)) tail
+    (ap (λ l. groups_text l ++ (codes "::" ++ groups_text c.split_at-2.result.1.now)) head
+    ∙ ap (λ l. groups_text (take run.0 groups) ++ (codes "::" ++ groups_text l)) tail
     ∙ shortened groups run c.longest_zero_run-start.ensures.value c.if-len-le1.false)
     c.put_parts.ensures

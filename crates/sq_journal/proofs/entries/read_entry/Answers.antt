@@ -5,7 +5,8 @@ use Rattle.sq_journal.proofs.entries.read_entry.Goals as goal
 
 pub returns-clause-found : goal.returns-clause-found
 returns-clause-found c =
-    entry_found c.entry.result c.args.line.now (All-from_get_or (λ b. b < 256) c.args.line.now 0 (λ i within. omega (arith, c.type_inv.line i))) c.entry.ensures
+    entry_found c.entry.result c.args.line.now
+    (All-from_get_or (λ b. b < 256) c.args.line.now 0 (λ i within. omega (arith, c.type_inv.line i))) c.entry.ensures
 
 pub returns-clause-only : goal.returns-clause-only
 returns-clause-only c = entry_only c.entry.result c.args.line.now c.entry.ensures

@@ -14,7 +14,8 @@ loop-piece-preserved g c =
 pub returns-in-Err : goal.returns-in-Err
 returns-in-Err g c =
     let start : encoded_text c.into_iter-piece-iterator.result ≡ escaped c.args.bytes.now =
-    ap encoded_text c.into_iter-piece-iterator.ensures.into_iter_gives ∙ c.percent_encode-piece-items.ensures.text ∙ encodes c.args.bytes.now in
+    ap encoded_text c.into_iter-piece-iterator.ensures.into_iter_gives ∙ c.percent_encode-piece-items.ensures.text
+    ∙ encodes c.args.bytes.now in
     puts_as _ _ _ _ _ _ _ start
     (halfway_stop _ _ _ _ _ _ _ _ _ _ c.in-Some.piece.now _ c.loop-piece.invariant c.in-Some.ensures.steps
     (puts_as _ _ _ _ _ _ _ c.as_bytes.ensures.value c.in-Err.ensures))
@@ -22,5 +23,6 @@ returns-in-Err g c =
 pub returns : goal.returns
 returns g c =
     let start : encoded_text c.into_iter-piece-iterator.result ≡ escaped c.args.bytes.now =
-    ap encoded_text c.into_iter-piece-iterator.ensures.into_iter_gives ∙ c.percent_encode-piece-items.ensures.text ∙ encodes c.args.bytes.now in
+    ap encoded_text c.into_iter-piece-iterator.ensures.into_iter_gives ∙ c.percent_encode-piece-items.ensures.text
+    ∙ encodes c.args.bytes.now in
     puts_as _ _ _ _ _ _ _ start (halfway_done _ _ _ _ _ _ _ c.loop-piece.invariant c.in-None.ensures.steps)

@@ -5,7 +5,8 @@ use Rattle.sq_journal.proofs.numbered.read_numbered.Goals as goal
 
 pub returns-clause-found : goal.returns-clause-found
 returns-clause-found c =
-    numbered_found c.numbered.result c.args.line.now (All-from_get_or (λ b. b < 256) c.args.line.now 0 (λ i within. omega (arith, c.type_inv.line i))) c.numbered.ensures
+    numbered_found c.numbered.result c.args.line.now
+    (All-from_get_or (λ b. b < 256) c.args.line.now 0 (λ i within. omega (arith, c.type_inv.line i))) c.numbered.ensures
 
 pub returns-clause-only : goal.returns-clause-only
 returns-clause-only c = numbered_only c.numbered.result c.args.line.now c.numbered.ensures

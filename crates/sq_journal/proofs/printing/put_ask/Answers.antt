@@ -11,10 +11,12 @@ pub returns-in-Err : goal.returns-in-Err
 returns-in-Err g c =
     let head = event_words (Ask c.args.conn c.args.method.now c.args.target.now []) in
     let fields = map field_word c.args.fields.now in
-    puts_as _ _ _ _ _ _ _ (sym (both_after head fields)) (puts_stop _ _ _ _ _ _ (after_spaces head) (after_spaces fields) c.in-Err.ensures)
+    puts_as _ _ _ _ _ _ _ (sym (both_after head fields))
+    (puts_stop _ _ _ _ _ _ (after_spaces head) (after_spaces fields) c.in-Err.ensures)
 
 pub returns : goal.returns
 returns g c =
     let head = event_words (Ask c.args.conn c.args.method.now c.args.target.now []) in
     let fields = map field_word c.args.fields.now in
-    puts_as _ _ _ _ _ _ _ (sym (both_after head fields)) (puts_then _ _ _ _ _ _ _ _ (after_spaces head) (after_spaces fields) c.in-Ok.ensures c.put_fields.ensures)
+    puts_as _ _ _ _ _ _ _ (sym (both_after head fields))
+    (puts_then _ _ _ _ _ _ _ _ (after_spaces head) (after_spaces fields) c.in-Ok.ensures c.put_fields.ensures)

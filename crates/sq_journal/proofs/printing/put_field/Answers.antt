@@ -10,16 +10,20 @@ returns-in-Err-put_escaped g c =
     let f = c.args.field.now in
     let name = escaped f.name in
     let value = escaped f.value in
-    puts_as _ _ _ _ _ _ _ (field_text f) (puts_then _ _ _ _ _ _ _ _ (codes " ") (name ++ (codes ":" ++ value)) c.in-Ok.ensures
-    (puts_stop _ _ _ _ _ _ name (codes ":" ++ value) (puts_as _ _ _ _ _ _ _ (ap escaped c.as_bytes.ensures.value) c.in-Err-put_escaped.ensures)))
+    puts_as _ _ _ _ _ _ _ (field_text f)
+    (puts_then _ _ _ _ _ _ _ _ (codes " ") (name ++ (codes ":" ++ value)) c.in-Ok.ensures
+    (puts_stop _ _ _ _ _ _ name (codes ":" ++ value)
+    (puts_as _ _ _ _ _ _ _ (ap escaped c.as_bytes.ensures.value) c.in-Err-put_escaped.ensures)))
 
 pub returns-in-Err-put : goal.returns-in-Err-put
 returns-in-Err-put g c =
     let f = c.args.field.now in
     let name = escaped f.name in
     let value = escaped f.value in
-    puts_as _ _ _ _ _ _ _ (field_text f) (puts_then _ _ _ _ _ _ _ _ (codes " ") (name ++ (codes ":" ++ value)) c.in-Ok.ensures
-    (puts_then _ _ _ _ _ _ _ _ name (codes ":" ++ value) (puts_as _ _ _ _ _ _ _ (ap escaped c.as_bytes.ensures.value) c.in-Ok-put_escaped.ensures)
+    puts_as _ _ _ _ _ _ _ (field_text f)
+    (puts_then _ _ _ _ _ _ _ _ (codes " ") (name ++ (codes ":" ++ value)) c.in-Ok.ensures
+    (puts_then _ _ _ _ _ _ _ _ name (codes ":" ++ value)
+    (puts_as _ _ _ _ _ _ _ (ap escaped c.as_bytes.ensures.value) c.in-Ok-put_escaped.ensures)
     (puts_stop _ _ _ _ _ _ (codes ":") value c.in-Err-put.ensures)))
 
 pub returns : goal.returns
@@ -27,6 +31,9 @@ returns g c =
     let f = c.args.field.now in
     let name = escaped f.name in
     let value = escaped f.value in
-    puts_as _ _ _ _ _ _ _ (field_text f) (puts_then _ _ _ _ _ _ _ _ (codes " ") (name ++ (codes ":" ++ value)) c.in-Ok.ensures
-    (puts_then _ _ _ _ _ _ _ _ name (codes ":" ++ value) (puts_as _ _ _ _ _ _ _ (ap escaped c.as_bytes.ensures.value) c.in-Ok-put_escaped.ensures)
-    (puts_then _ _ _ _ _ _ _ _ (codes ":") value c.in-Ok-put.ensures (puts_as _ _ _ _ _ _ _ (ap escaped c.as_bytes-2.ensures.value) c.put_escaped-2.ensures))))
+    puts_as _ _ _ _ _ _ _ (field_text f)
+    (puts_then _ _ _ _ _ _ _ _ (codes " ") (name ++ (codes ":" ++ value)) c.in-Ok.ensures
+    (puts_then _ _ _ _ _ _ _ _ name (codes ":" ++ value)
+    (puts_as _ _ _ _ _ _ _ (ap escaped c.as_bytes.ensures.value) c.in-Ok-put_escaped.ensures)
+    (puts_then _ _ _ _ _ _ _ _ (codes ":") value c.in-Ok-put.ensures
+    (puts_as _ _ _ _ _ _ _ (ap escaped c.as_bytes-2.ensures.value) c.put_escaped-2.ensures))))

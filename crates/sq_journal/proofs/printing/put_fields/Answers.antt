@@ -8,14 +8,21 @@ pub loop-field-preserved : goal.loop-field-preserved
 loop-field-preserved g c =
     let f = c.field-item.result in
     halfway_more _ _ _ _ _ _ _ _ _ (32 ∷ field_word f) _ c.loop-field.invariant
-    (spaced_next field_word c.args.fields.now c.loop-field.field-index f c.loop-field-test.true ∙ ap (λ x. (32 ∷ field_word x) ++ after_spaces (map field_word (drop (c.loop-field.field-index + 1) c.args.fields.now))) (sym c.field-item.is)) c.in-Ok.ensures
+    (spaced_next field_word c.args.fields.now c.loop-field.field-index f c.loop-field-test.true
+    ∙ ap (λ x. (32 ∷ field_word x)
+    ++ after_spaces (map field_word (drop (c.loop-field.field-index + 1) c.args.fields.now))) (sym c.field-item.is))
+    c.in-Ok.ensures
 
 pub returns-in-Err : goal.returns-in-Err
 returns-in-Err g c =
     let f = c.field-item.result in
     halfway_stop _ _ _ _ _ _ _ _ _ _ (32 ∷ field_word f) _ c.loop-field.invariant
-    (spaced_next field_word c.args.fields.now c.loop-field.field-index f c.loop-field-test.true ∙ ap (λ x. (32 ∷ field_word x) ++ after_spaces (map field_word (drop (c.loop-field.field-index + 1) c.args.fields.now))) (sym c.field-item.is)) c.in-Err.ensures
+    (spaced_next field_word c.args.fields.now c.loop-field.field-index f c.loop-field-test.true
+    ∙ ap (λ x. (32 ∷ field_word x)
+    ++ after_spaces (map field_word (drop (c.loop-field.field-index + 1) c.args.fields.now))) (sym c.field-item.is))
+    c.in-Err.ensures
 
 pub returns : goal.returns
 returns g c =
-    halfway_done _ _ _ _ _ _ _ c.loop-field.invariant (spaced_end field_word c.args.fields.now c.loop-field.field-index c.loop-field-test.false)
+    halfway_done _ _ _ _ _ _ _ c.loop-field.invariant
+    (spaced_end field_word c.args.fields.now c.loop-field.field-index c.loop-field-test.false)

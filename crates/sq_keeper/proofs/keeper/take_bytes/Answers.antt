@@ -26,13 +26,15 @@ returns-then-not-take_byte-clause-walks g c =
     let new = g.K.LineDesk.handed c.take_byte.new.desk in
     let cons : drop i bytes ≡ b ∷ drop (i + 1) bytes = rw (add-one) (drop-cons bytes i 0 c.loop-byte-test.true) in
     let end : b ≡ 10 = c.if-not-take_byte.ensures.ended refl in
-    let all = adds_more old (g.K.LineDesk.handed c.loop-byte.desk) new _ _ c.loop-byte.invariant.adds c.if-not-take_byte.ensures.adds in
+    let all = adds_more old (g.K.LineDesk.handed c.loop-byte.desk) new _ _ c.loop-byte.invariant.adds
+    c.if-not-take_byte.ensures.adds in
     let shape = one_more_handed c.args.proc before c.loop-byte.line front b c.loop-byte.invariant.line in (
       front,
       drop (i + 1) bytes,
       sym (take-append-drop i bytes) ∙ ap (λ l. front ++ l) cons ∙ ap (λ x. front ++ x ∷ drop (i + 1) bytes) end,
       subst (λ x. Adds old new (walk_handed c.args.proc before (front ++ x ∷ []) ++ closing c.args.proc false)) end
-          (subst (Adds old new) (sym (append_assoc _ _ (closing c.args.proc false)) ∙ ap (λ l. l ++ closing c.args.proc false) shape) all),
+          (subst (Adds old new) (sym (append_assoc _ _ (closing c.args.proc false))
+          ∙ ap (λ l. l ++ closing c.args.proc false) shape) all),
     )
 
 pub loop-byte-preserved : goal.loop-byte-preserved
@@ -45,10 +47,14 @@ loop-byte-preserved g c =
     let old = g.K.LineDesk.handed c.args.desk.now in
     let new = g.K.LineDesk.handed c.take_byte.new.desk in
     let longer : front ++ b ∷ [] ≡ take (i + 1) bytes = rw (add-one) (sym (take-suc bytes i 0 c.loop-byte-test.true)) in
-    let all = adds_more old (g.K.LineDesk.handed c.loop-byte.desk) new _ _ c.loop-byte.invariant.adds c.if-not-take_byte.ensures.adds in
+    let all = adds_more old (g.K.LineDesk.handed c.loop-byte.desk) new _ _ c.loop-byte.invariant.adds
+    c.if-not-take_byte.ensures.adds in
     let shape = one_more_handed c.args.proc before c.loop-byte.line front b c.loop-byte.invariant.line in
     record {
-      adds = subst (Adds old new) (ap (λ l. walk_handed c.args.proc before front ++ l) (append-nil (step_handed c.args.proc c.loop-byte.line b)) ∙ shape ∙ ap (walk_handed c.args.proc before) longer) all;
-      line = c.take_byte.ensures.line ∙ one_more_line before c.loop-byte.line front b c.loop-byte.invariant.line ∙ ap (walk_line before) longer;
+      adds = subst (Adds old new)
+          (ap (λ l. walk_handed c.args.proc before front ++ l) (append-nil (step_handed c.args.proc c.loop-byte.line b))
+          ∙ shape ∙ ap (walk_handed c.args.proc before) longer) all;
+      line = c.take_byte.ensures.line ∙ one_more_line before c.loop-byte.line front b c.loop-byte.invariant.line
+          ∙ ap (walk_line before) longer;
       later = omega arith;
     }

@@ -5,11 +5,17 @@ use Rattle.sq_lex.proofs.LineLaws.{file_lines_count}
 use Rattle.sq_lex.proofs.lexing.lex.Goals as goal
 
 pub join-requires : goal.join-requires
-join-requires c = omega (arith, file_lines_count c.args.text.now, ap length c.as_slice.ensures, ap length c.in_ok-lines.ensures.lines)
+join-requires c = omega (
+  arith,
+  file_lines_count c.args.text.now,
+  ap length c.as_slice.ensures,
+  ap length c.in_ok-lines.ensures.lines,
+)
 
 pub returns : goal.returns
 unfolding lexed
 returns c =
     let lines : c.as_slice.result.now ≡ file_lines c.args.text.now = c.as_slice.ensures ∙ c.in_ok-lines.ensures.lines in
-    let text : c.as_slice-2.result.now ≡ joined 1 (file_lines c.args.text.now) = c.as_slice-2.ensures ∙ c.in_ok-joined.ensures ∙ ap (joined 1) lines in
+    let text : c.as_slice-2.result.now ≡ joined 1 (file_lines c.args.text.now) = c.as_slice-2.ensures
+    ∙ c.in_ok-joined.ensures ∙ ap (joined 1) lines in
     subst (λ (x : Lexed). IfOk c.lex_joined.result (λ l. l ≡ x)) (ap lexed_lines text) c.lex_joined.ensures

@@ -6,4 +6,5 @@ use Rattle.sq_lex.proofs.splitting.file_lines.Given as goal
 -- the lines so far, then those of the piece under way and the rest, are all; the piece has no LF
 abbrev pub invariant-loop-byte : goal.invariant-loop-byte
 invariant-loop-byte l =
-    (l.lines ++ trimmed_lines (slice_split is_lf (l.line ++ drop l.byte-index l.text)) ≡ trimmed_lines (slice_split is_lf l.text)) × All (λ b. is_lf b ≡ false) l.line
+    (l.lines ++ trimmed_lines (slice_split is_lf (l.line ++ drop l.byte-index l.text))
+    ≡ trimmed_lines (slice_split is_lf l.text)) × All (λ b. is_lf b ≡ false) l.line

@@ -1,16 +1,18 @@
 use Rattle.std.proofs.Common.{sym, subst}
-use Rattle.sq_hub.specs.Tellings.{Waited}
+use Rattle.sq_conn_policy.specs.Tellings.{Waited}
 use Rattle.sq_mem_hub.specs.MemHubs.{hub_state}
 use Rattle.sq_mem_hub.proofs.WaitLaws.{waited_act, waited_then}
 use Rattle.sq_mem_hub.proofs.acting.act_all.Goals as goal
 
 pub loop-preserved : goal.loop-preserved
 loop-preserved g c pools =
-    let acted = waited_act c.loop.engine c.act.new.self pools c.args.moment c.in-Some-act.act c.in-Some-act.ensures.checks c.in-Some-act.ensures.promised in
+    let acted = waited_act c.loop.engine c.act.new.self pools c.args.moment c.in-Some-act.act
+    c.in-Some-act.ensures.checks c.in-Some-act.ensures.promised in
     waited_then _ _ _ (waited_then _ _ _ (c.loop.invariant pools) acted) (c.perform.ensures.waited pools)
 
 pub returns-in-None-act : goal.returns-in-None-act
 returns-in-None-act g c = record {
   waited = λ pools.
-      subst (λ e. Waited (hub_state c.args.engine.now pools c.args.moment) (hub_state e pools c.args.moment)) (sym c.in-None-act.ensures.none) (c.loop.invariant pools);
+      subst (λ e. Waited (hub_state c.args.engine.now pools c.args.moment) (hub_state e pools c.args.moment))
+      (sym c.in-None-act.ensures.none) (c.loop.invariant pools);
 }

@@ -1,4 +1,4 @@
-use Rattle.sq_hub.specs.Tellings.{Waited}
+use Rattle.sq_conn_policy.specs.Tellings.{Waited}
 use Rattle.sq_pools.specs.Basins.{Basin}
 use Rattle.sq_mem_hub.specs.MemHubs.{hub_state}
 use Rattle.sq_mem_hub.proofs.acting.act_all.Given as goal

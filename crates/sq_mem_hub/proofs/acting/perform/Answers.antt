@@ -1,5 +1,5 @@
 use Rattle.std.proofs.Common.{sym, subst}
-use Rattle.sq_hub.specs.Tellings.{Waited}
+use Rattle.sq_conn_policy.specs.Tellings.{Waited}
 use Rattle.sq_mem_hub.specs.MemHubs.{hub_state}
 use Rattle.sq_mem_hub.proofs.WaitLaws.{waited_self}
 use Rattle.sq_mem_hub.proofs.acting.perform.Goals as goal
@@ -12,8 +12,11 @@ returns c =
     record {
       waited = λ pools.
           elim c.match-act.branch [
-            | in-Stop w ↦ subst (λ e. Waited (hub_state before pools now) (hub_state e pools now)) (sym w.engine-is) (waited_self (hub_state before pools now))
-            | in-Send w ↦ subst (λ e. Waited (hub_state before pools now) (hub_state e pools now)) (sym w.engine-is) (waited_self (hub_state before pools now))
-            | in-Start w ↦ subst (λ e. Waited (hub_state before pools now) (hub_state e pools now)) (sym w.engine-is) (w.start.ensures.waited pools)
+            | in-Stop w ↦ subst (λ e. Waited (hub_state before pools now) (hub_state e pools now)) (sym w.engine-is)
+                (waited_self (hub_state before pools now))
+            | in-Send w ↦ subst (λ e. Waited (hub_state before pools now) (hub_state e pools now)) (sym w.engine-is)
+                (waited_self (hub_state before pools now))
+            | in-Start w ↦ subst (λ e. Waited (hub_state before pools now) (hub_state e pools now)) (sym w.engine-is)
+                (w.start.ensures.waited pools)
           ];
     }

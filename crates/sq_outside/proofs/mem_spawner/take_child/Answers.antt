@@ -8,4 +8,5 @@ pub returns-clause-words : goal.returns-clause-words
 returns-clause-words c =
     let test = is_child c.args.words.now in
     let at = sym (c.in_ok-place.ensures ∙ ap (position test) c.as_slice.ensures.value) in
-    words_same _ _ (taken_passes test _ _ c.remove.result (c.in_ok-place.place, at, c.remove.ensures.value, c.remove.ensures.items))
+    words_same _ _ (taken_passes test _ _ c.remove.result
+    (c.in_ok-place.place, at, c.remove.ensures.value, c.remove.ensures.items))

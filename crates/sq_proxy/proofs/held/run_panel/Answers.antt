@@ -1,5 +1,5 @@
 use Rattle.std.proofs.Common.{sym, ap, ◌∙◌}
-use Rattle.sq_panel.specs.Attending.{FilesSeen, Streams}
+use Rattle.sq_control.specs.Attending.{FilesSeen, Streams}
 use Rattle.sq_proxy.proofs.ServiceLaws.{begun_fault, failed_is, served, stopped_is, unbegun_later, unserved_moved}
 use Rattle.sq_proxy.proofs.held.run_panel.Goals as goal
 
@@ -17,8 +17,14 @@ pub returns-in-Err-clause-served : goal.returns-in-Err-clause-served
 returns-in-Err-clause-served g c =
     let same = c.in-Err.ensures.unrun.0 in
     unserved_moved _ _ _ _ _ _ _ _ _ _ _ _ _ _
-    (ap {B = FilesSeen} (λ p. record { opened = g.F.Files.opened p.files.now; faults = g.F.Files.faults p.files.now }) same)
-    (ap {B = Streams} (λ p. record { left = g.S.Source.left p.input.now; input_faults = g.S.Source.faults p.input.now; contents = g.O.Sink.contents p.out.now; output_faults = g.O.Sink.faults p.out.now }) same)
+    (ap {B = FilesSeen} (λ p. record { opened = g.F.Files.opened p.files.now; faults = g.F.Files.faults p.files.now })
+    same)
+    (ap {B = Streams} (λ p. record {
+      left = g.S.Source.left p.input.now;
+      input_faults = g.S.Source.faults p.input.now;
+      contents = g.O.Sink.contents p.out.now;
+      output_faults = g.O.Sink.faults p.out.now;
+    }) same)
     c.unserved_status.ensures.end c.in-Err.ensures.unwritten c.requires.empty
     (λ e. begun_fault c.in-Err.unserved.fault _ _ (c.unserved_status.ensures.journal e) c.in-Err.ensures.unserved)
     (unbegun_later c.in-Err.unserved.fault _ _ c.in-Err.ensures.unserved)

@@ -9,6 +9,7 @@ invariant-loop-piece g l =
     let contents = g.O.Sink.contents in
     let faults = g.O.Sink.faults in
     record {
-      going : Halfway (contents l.fn.out) (contents l.out) (encoded_text l.initial.piece-iterator) (encoded_text l.piece-iterator);
+      going : Halfway (contents l.fn.out) (contents l.out) (encoded_text l.initial.piece-iterator)
+          (encoded_text l.piece-iterator);
       quiet : faults l.out ≡ faults l.fn.out;
     }

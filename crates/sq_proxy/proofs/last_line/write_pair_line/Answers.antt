@@ -18,7 +18,8 @@ returns-in-Err-write_all-clause-err g c =
     let d = g.O.Sink.contents c.write_all-2.new.out in
     let head = c.args.head.now in
     let first = c.args.first.now in
-    Grew_more a d (head ++ first) (32 ∷ (c.args.second.now ++ 10 ∷ [])) (Grew_after a b d head first c.in-Ok.ensures.ok c.in-Err-write_all.ensures.err)
+    Grew_more a d (head ++ first) (32 ∷ (c.args.second.now ++ 10 ∷ []))
+    (Grew_after a b d head first c.in-Ok.ensures.ok c.in-Err-write_all.ensures.err)
 
 pub returns-in-Err-write_line-clause-err : goal.returns-in-Err-write_line-clause-err
 returns-in-Err-write_line-clause-err g c =
@@ -28,4 +29,5 @@ returns-in-Err-write_line-clause-err g c =
     let e = g.O.Sink.contents c.write_line.new.out in
     let head = c.args.head.now in
     let first = c.args.first.now in
-    Grew_after a d e (head ++ first) (32 ∷ (c.args.second.now ++ 10 ∷ [])) (Appends-trans a b d head first c.in-Ok.ensures.ok c.in-Ok-write_all.ensures.ok) c.in-Err-write_line.ensures.err
+    Grew_after a d e (head ++ first) (32 ∷ (c.args.second.now ++ 10 ∷ []))
+    (Appends-trans a b d head first c.in-Ok.ensures.ok c.in-Ok-write_all.ensures.ok) c.in-Err-write_line.ensures.err

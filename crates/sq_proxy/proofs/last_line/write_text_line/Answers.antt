@@ -19,7 +19,8 @@ returns-in-Err-write_text-clause-err g c =
     let d = g.O.Sink.contents c.write_text.new.out in
     let head = c.args.head.now in
     let word = text_word c.args.bytes.now in
-    Grew_more a d (head ++ word) (10 ∷ []) (Grew_after a b d head word c.in-Ok.ensures.ok c.in-Err-write_text.ensures.err)
+    Grew_more a d (head ++ word) (10 ∷ [])
+    (Grew_after a b d head word c.in-Ok.ensures.ok c.in-Err-write_text.ensures.err)
 
 pub returns-in-Err-write_all-clause-err : goal.returns-in-Err-write_all-clause-err
 returns-in-Err-write_all-clause-err g c =
@@ -29,4 +30,5 @@ returns-in-Err-write_all-clause-err g c =
     let e = g.O.Sink.contents c.write_all-2.new.out in
     let head = c.args.head.now in
     let word = text_word c.args.bytes.now in
-    Grew_after a d e (head ++ word) (10 ∷ []) (Appends-trans a b d head word c.in-Ok.ensures.ok c.in-Ok-write_text.ensures.ok) c.in-Err-write_all.ensures.err
+    Grew_after a d e (head ++ word) (10 ∷ [])
+    (Appends-trans a b d head word c.in-Ok.ensures.ok c.in-Ok-write_text.ensures.ok) c.in-Err-write_all.ensures.err

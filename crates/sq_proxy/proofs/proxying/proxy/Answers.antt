@@ -11,5 +11,7 @@ pub returns-in-Some-clause-migrates : goal.returns-in-Some-clause-migrates
 returns-in-Some-clause-migrates g c = migrates_truly_told (g.F.Files.texts c.args.files.now) c.args.words.now
 
 pub returns-in-Some-clause-usage : goal.returns-in-Some-clause-usage
-returns-in-Some-clause-usage g c =
-    (λ e. absurd (subst IsServiceEnd e c.serve_service-status.ensures.end), λ p. absurd (none-some _ (sym p.1 ∙ c.in-Some.ensures)))
+returns-in-Some-clause-usage g c = (
+  λ e. absurd (subst IsServiceEnd e c.serve_service-status.ensures.end),
+  λ p. absurd (none-some _ (sym p.1 ∙ c.in-Some.ensures)),
+)

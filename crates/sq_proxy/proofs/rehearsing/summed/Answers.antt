@@ -8,10 +8,13 @@ use Rattle.sq_proxy.proofs.rehearsing.summed.Goals as goal
 
 pub returns-in-Err-clause-comes : goal.returns-in-Err-clause-comes
 returns-in-Err-clause-comes c =
-    unread_comes c.args.count c.in-Err.end (subst (λ (t : List ℕ). Comes {A = Configuration} (Err c.in-Err.end) (conf_read (conf_result t))) c.configuration.ensures c.in-Err.ensures.comes)
+    unread_comes c.args.count c.in-Err.end
+    (subst (λ (t : List ℕ). Comes {A = Configuration} (Err c.in-Err.end) (conf_read (conf_result t)))
+    c.configuration.ensures c.in-Err.ensures.comes)
 
 pub returns-in-Ok-line-clause-comes : goal.returns-in-Ok-line-clause-comes
 returns-in-Ok-line-clause-comes c =
     line_is c.args.count c.in-Ok.setup c.in-Ok-run.summary c.in-Ok-line.line
-    (subst (λ (t : List ℕ). Comes {A = Configuration} (Ok c.in-Ok.setup) (conf_read (conf_result t))) c.configuration.ensures c.in-Ok.ensures.comes)
+    (subst (λ (t : List ℕ). Comes {A = Configuration} (Ok c.in-Ok.setup) (conf_read (conf_result t)))
+    c.configuration.ensures c.in-Ok.ensures.comes)
     c.in-Ok-run.ensures c.in-Ok-line.ensures

@@ -11,7 +11,8 @@ use Rattle.sq_rehearse.proofs.rehearsing.drive.Given as goal
 abbrev pub invariant-turns : goal.invariant-turns
 invariant-turns l = record {
   room : total l.summary + l.left ≤ total l.fn.summary + l.fn.turns;
-  goes : (configs : List Configuration) (h : History) → Is (machine_of l.fn.machine) configs h → l.fn.summary ≡ counted h
+  goes : (configs : List Configuration) (h : History) → Is (machine_of l.fn.machine) configs h
+      → l.fn.summary ≡ counted h
       → Going configs h l.fn.turns l.fn.driver (machine_of l.machine) l.summary l.driver l.left;
 }
 

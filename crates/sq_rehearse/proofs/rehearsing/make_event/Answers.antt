@@ -11,7 +11,8 @@ returns-in-Err-Refused-clause-turns c = λ configs h is counts.
     let w = machine_of c.make.new.self in
     let d = c.args.driver.now in
     let event = c.args.event.now in
-    let making = subst (λ x. IsMaking v w c.moment.result event (Err x)) c.in-Err-Refused.field-0-is c.in-Err-Refused.ensures.making in (
+    let making = subst (λ x. IsMaking v w c.moment.result event (Err x)) c.in-Err-Refused.field-0-is
+    c.in-Err-Refused.ensures.making in (
       counts,
       event_refused v configs h d event c.requires.acting c.requires.wanted
           (subst (λ (m : ℕ). IsRefusal configs h (max m v.latest) event) c.moment.ensures (making configs h is)) is,
@@ -25,5 +26,7 @@ returns-in-Ok-answered-clause-turns c = λ configs h is counts.
     let event = c.args.event.now in
     let told = c.in-Ok.told in
     let making = c.in-Ok.ensures.making in
-    event_done v w configs h d c.answered.new.self c.args.summary.now c.count.new.self event told c.requires.acting c.requires.wanted c.in-Ok-answered.ensures c.count.ensures making.0
-    (subst (λ (m : ℕ). IsMade w configs h (max m v.latest) event told) c.moment.ensures (making.1 configs h is)) is counts
+    event_done v w configs h d c.answered.new.self c.args.summary.now c.count.new.self event told c.requires.acting
+    c.requires.wanted c.in-Ok-answered.ensures c.count.ensures making.0
+    (subst (λ (m : ℕ). IsMade w configs h (max m v.latest) event told) c.moment.ensures (making.1 configs h is)) is
+    counts

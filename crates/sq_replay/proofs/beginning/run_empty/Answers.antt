@@ -14,5 +14,6 @@ returns-in-Ok-clause-runs g c = λ base shelf w.
 pub returns-clause-runs : goal.returns-clause-runs
 returns-clause-runs g c = λ base shelf w.
     let configs = configs_of shelf c.args.setup [] in
-    begins_reach base _ _ (written (begun_history configs 0 (pos 0))) (run_script shelf c.args.setup []) c.in-Err.end (IsPrefix_refl (written (begun_history configs 0 (pos 0))))
+    begins_reach base _ _ (written (begun_history configs 0 (pos 0))) (run_script shelf c.args.setup []) c.in-Err.end
+    (IsPrefix_refl (written (begun_history configs 0 (pos 0))))
     (c.in-Err.ensures.begins base configs (configs_good shelf c.args.setup [] c.requires) refl w)

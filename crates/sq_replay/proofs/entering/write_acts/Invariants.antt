@@ -12,7 +12,8 @@ invariant-acts g l =
     let contents = g.O.Sink.contents in
     record {
       quiet : g.O.Sink.faults l.out ≡ g.O.Sink.faults l.fn.out;
-      reached : (base : Option (List ℕ)) (configs : List Configuration) (h : History) → At (machine_of l.fn.machine) base (contents l.fn.out) l.fn.page.items configs h
+      reached : (base : Option (List ℕ)) (configs : List Configuration) (h : History)
+          → At (machine_of l.fn.machine) base (contents l.fn.out) l.fn.page.items configs h
           → Reached (machine_of l.machine) base (contents l.out) l.page.items configs h;
     }
 

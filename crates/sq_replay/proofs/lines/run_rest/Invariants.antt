@@ -24,9 +24,15 @@ invariant-lines g l =
       out_quiet : g.O.Sink.faults l.out ≡ g.O.Sink.faults l.fn.out;
       texts_same : texts l.files ≡ texts l.fn.files;
       adds : Adds (opened l.fn.files) (opened l.files);
-      opens : IfSome (prepend_known l.fn.held (left l.fn.script)) (λ bytes. OpenedSoFar 1 (lines bytes) (opened l.fn.files) (opened l.files) (prepend_known l.held (left l.script)) l.number);
-      goes : (base : Option (List ℕ)) (configs : List Configuration) (h : History) → At (machine_of l.fn.machine) base (contents l.fn.out) l.fn.page.items configs h
-          → Going (machine_of l.machine) (texts l.fn.files) (opened l.fn.files) (opened l.files) (prepend_known l.fn.held (left l.fn.script)) (prepend_known l.held (left l.script)) base (contents l.out) l.page.items configs h
+      opens : IfSome (prepend_known l.fn.held (left l.fn.script))
+          (λ bytes. OpenedSoFar 1 (lines bytes) (opened l.fn.files) (opened l.files)
+          (prepend_known l.held (left l.script))
+          l.number);
+      goes : (base : Option (List ℕ)) (configs : List Configuration) (h : History)
+          → At (machine_of l.fn.machine) base (contents l.fn.out) l.fn.page.items configs h
+          → Going (machine_of l.machine) (texts l.fn.files) (opened l.fn.files) (opened l.files)
+          (prepend_known l.fn.held (left l.fn.script)) (prepend_known l.held (left l.script)) base (contents l.out)
+          l.page.items configs h
           (λ shelf bytes. run_lines shelf configs h 2 l.fn.place (lines bytes)) l.number l.place;
     }
 

@@ -5,4 +5,5 @@ use Rattle.sq_replay.proofs.names.place_of.Goals as goal
 
 pub returns-clause-some : goal.returns-clause-some
 returns-clause-some c =
-    searched_some (state_of c.args.engine.now) c.args.epoch c.args.name.now c.deref.result.now c.place_in.result (sym c.in-Some.ensures ∙ ap Some (sym c.deref.ensures)) c.place_in.ensures
+    searched_some (state_of c.args.engine.now) c.args.epoch c.args.name.now c.deref.result.now c.place_in.result
+    (sym c.in-Some.ensures ∙ ap Some (sym c.deref.ensures)) c.place_in.ensures

@@ -20,7 +20,8 @@ loop-rest-preserved c =
     let more = pairs_of next.rest.now in
     let step = pairs_next c.loop-rest.rest.now (found next) (sym c.in_ok-next.ensures) in
     let one = any_of_one next.pair ∙ sym c.is_some-any.ensures in
-    sym (ap (λ t. any_with (any || t) more) one) ∙ sym (any_with_in_front any (pairs_of_one next.pair) more) ∙ sym (ap (any_with any) step) ∙ c.loop-rest.invariant
+    sym (ap (λ t. any_with (any || t) more) one) ∙ sym (any_with_in_front any (pairs_of_one next.pair) more)
+    ∙ sym (ap (any_with any) step) ∙ c.loop-rest.invariant
 
 pub returns : goal.returns
 returns c =

@@ -18,7 +18,8 @@ loop-rest-preserved c =
     let next = c.in-Some.next in
     let more = pairs_of next.rest.now in
     let step = pairs_next c.loop-rest.rest.now (found next) (sym c.in-Some.ensures) in
-    ap (λ ps. in_front ps more) c.in_ok-put_pair.ensures ∙ sym (in_front_append c.loop-rest.pairs (pairs_of_one next.pair) more)
+    ap (λ ps. in_front ps more) c.in_ok-put_pair.ensures
+    ∙ sym (in_front_append c.loop-rest.pairs (pairs_of_one next.pair) more)
     ∙ sym (ap (in_front c.loop-rest.pairs) step) ∙ c.loop-rest.invariant
 
 pub returns : goal.returns

@@ -6,20 +6,24 @@ use Rattle.sq_request.proofs.reading.read_request.Goals as goal
 pub returns-in_default-parse_whole-clause-refused :
     goal.returns-in_default-parse_whole-clause-refused
 returns-in_default-parse_whole-clause-refused c =
-    λ h whole. no_head _ c.args.head.now h c.in_default-parse_whole.ensures.none (c.as_mut_slice-room.ensures.len ∙ c.in-Ok.ensures.len ∙ c.line_count.ensures) whole
+    λ h whole. no_head _ c.args.head.now h c.in_default-parse_whole.ensures.none
+    (c.as_mut_slice-room.ensures.len ∙ c.in-Ok.ensures.len ∙ c.line_count.ensures) whole
 
 pub build-requires : goal.build-requires
 build-requires c =
-    copied_plain c.args.head.now c.parse_whole.new.room c.in-Some.spans c.in_ok-fields.fields c.in-Some.ensures.found c.in_ok-fields.ensures
+    copied_plain c.args.head.now c.parse_whole.new.room c.in-Some.spans c.in_ok-fields.fields c.in-Some.ensures.found
+    c.in_ok-fields.ensures
 
 pub returns-clause-read : goal.returns-clause-read
 returns-clause-read c =
-    read_is c.args.head.now c.parse_whole.new.room c.in-Some.spans c.of-method.result.now c.of-target.result.now c.in_ok-fields.fields c.build.result c.in-Some.ensures.found c.if-spans-gt-MOST_FIELDS.false
+    read_is c.args.head.now c.parse_whole.new.room c.in-Some.spans c.of-method.result.now c.of-target.result.now
+    c.in_ok-fields.fields c.build.result c.in-Some.ensures.found c.if-spans-gt-MOST_FIELDS.false
     c.of-method.ensures c.of-target.ensures c.in_ok-fields.ensures c.build.ensures.built
 
 pub returns-clause-refused : goal.returns-clause-refused
 returns-clause-refused c =
-    refused_is c.args.head.now c.parse_whole.new.room c.in-Some.spans c.of-method.result.now c.of-target.result.now c.in_ok-fields.fields c.build.result c.in-Some.ensures.found c.if-spans-gt-MOST_FIELDS.false
+    refused_is c.args.head.now c.parse_whole.new.room c.in-Some.spans c.of-method.result.now c.of-target.result.now
+    c.in_ok-fields.fields c.build.result c.in-Some.ensures.found c.if-spans-gt-MOST_FIELDS.false
     c.of-method.ensures c.of-target.ensures c.in_ok-fields.ensures c.build.ensures.refused
 
 pub returns-clause-one : goal.returns-clause-one

@@ -9,8 +9,10 @@ pub loop-loss-preserved : goal.loop-loss-preserved
 loop-loss-preserved c =
     let old = c.loop-loss in
     record {
-      rows = ap (λ (v : Stock). lost_rows v.losses c.end.new.self) c.next_lost.ensures.value ∙ ap (lost_rows (later_lost old.farm.losses)) c.end.ensures
-          ∙ hand_step c.in-Some.loss.0 c.in-Some.loss.1 old.farm.losses old.questions (sym c.in-Some.ensures.lost) ∙ old.invariant.rows;
+      rows = ap (λ (v : Stock). lost_rows v.losses c.end.new.self) c.next_lost.ensures.value
+          ∙ ap (lost_rows (later_lost old.farm.losses)) c.end.ensures
+          ∙ hand_step c.in-Some.loss.0 c.in-Some.loss.1 old.farm.losses old.questions (sym c.in-Some.ensures.lost)
+          ∙ old.invariant.rows;
       stock = ap without_losses c.next_lost.ensures.value ∙ old.invariant.stock;
     }
 
@@ -22,8 +24,11 @@ loop-loss-smaller c =
 
 pub returns-clause-farm : goal.returns-clause-farm
 returns-clause-farm c =
-    c.next_lost.ensures.value ∙ ap (λ ls. let v : Stock = record c.loop-loss.farm { losses = later_lost ls } in v) (hand_end c.loop-loss.farm.losses (sym c.in_default.ensures.lost)) ∙ c.loop-loss.invariant.stock
+    c.next_lost.ensures.value
+    ∙ ap (λ ls. let v : Stock = record c.loop-loss.farm { losses = later_lost ls } in v)
+    (hand_end c.loop-loss.farm.losses (sym c.in_default.ensures.lost)) ∙ c.loop-loss.invariant.stock
 
 pub returns-clause-questions : goal.returns-clause-questions
 returns-clause-questions c =
-    sym (ap (λ ls. lost_rows ls c.loop-loss.questions) (hand_end c.loop-loss.farm.losses (sym c.in_default.ensures.lost))) ∙ c.loop-loss.invariant.rows
+    sym (ap (λ ls. lost_rows ls c.loop-loss.questions)
+    (hand_end c.loop-loss.farm.losses (sym c.in_default.ensures.lost))) ∙ c.loop-loss.invariant.rows

@@ -6,7 +6,8 @@ use Rattle.sq_rules.proofs.fast_lists.fast_terms_of.Given as goal
 
 abbrev pub invariant-loop-part : goal.invariant-loop-part
 invariant-loop-part l = record {
-  made : made_behind (fast_term_made l.acls) l.terms l.part-iterator.rest.items ≡ each_made (fast_term_made l.acls) l.fn.parts;
+  made : made_behind (fast_term_made l.acls) l.terms l.part-iterator.rest.items
+      ≡ each_made (fast_term_made l.acls) l.fn.parts;
   known : are_known (length l.acls) l.terms ≡ true;
   fast : some_slow (slow_ones l.acls) l.terms ≡ false;
 }

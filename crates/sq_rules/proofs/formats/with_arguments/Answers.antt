@@ -9,8 +9,11 @@ pub returns-clause-written : goal.returns-clause-written
 returns-clause-written c = λ few.
     elim c.if-not-has_arguments.branch [
       | then-not-has_arguments+in_ok-push w ↦
-          (let none : list_any is_arguments c.args.format ≡ false = subst (λ f. list_any is_arguments f ≡ false) c.as_slice.ensures (sym c.has_arguments.ensures ∙ w.if-not-has_arguments.true) in
-          subst (λ f. has_few_tokens f ≡ true) (sym (w.format-is ∙ w.in_ok-push.ensures.ok)) (few_added c.args.format none few))
+          (let none : list_any is_arguments c.args.format ≡ false =
+          subst (λ f. list_any is_arguments f ≡ false) c.as_slice.ensures
+          (sym c.has_arguments.ensures ∙ w.if-not-has_arguments.true) in
+          subst (λ f. has_few_tokens f ≡ true) (sym (w.format-is ∙ w.in_ok-push.ensures.ok))
+          (few_added c.args.format none few))
       | else-not-has_arguments w ↦ subst (λ f. has_few_tokens f ≡ true) (sym w.format-is) (few_kept c.args.format few)
     ]
 
@@ -18,7 +21,10 @@ pub returns-clause-few : goal.returns-clause-few
 returns-clause-few c = λ few.
     elim c.if-not-has_arguments.branch [
       | then-not-has_arguments+in_ok-push w ↦
-          (let none : list_any is_arguments c.args.format ≡ false = subst (λ f. list_any is_arguments f ≡ false) c.as_slice.ensures (sym c.has_arguments.ensures ∙ w.if-not-has_arguments.true) in
-          subst (λ f. has_few_tokens f ≡ true) (sym (w.format-is ∙ w.in_ok-push.ensures.ok)) (few_more c.args.format none few))
+          (let none : list_any is_arguments c.args.format ≡ false =
+          subst (λ f. list_any is_arguments f ≡ false) c.as_slice.ensures
+          (sym c.has_arguments.ensures ∙ w.if-not-has_arguments.true) in
+          subst (λ f. has_few_tokens f ≡ true) (sym (w.format-is ∙ w.in_ok-push.ensures.ok))
+          (few_more c.args.format none few))
       | else-not-has_arguments w ↦ subst (λ f. has_few_tokens f ≡ true) (sym w.format-is) few
     ]

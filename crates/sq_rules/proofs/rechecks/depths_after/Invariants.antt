@@ -6,6 +6,7 @@ use Rattle.sq_rules.proofs.rechecks.depths_after.Given as goal
 
 abbrev pub invariant-loop-acl : goal.invariant-loop-acl
 invariant-loop-acl l = record {
-  rest : nestings_on l.all (drop l.acl-index l.acl-items) ≡ nestings_on (take l.place l.depths ++ l.depth ∷ []) (drop (suc l.place) l.acls);
+  rest : nestings_on l.all (drop l.acl-index l.acl-items)
+      ≡ nestings_on (take l.place l.depths ++ l.depth ∷ []) (drop (suc l.place) l.acls);
   shallow : list_all (λ n. nat_le n nesting_limit) l.all ≡ true;
 }

@@ -16,5 +16,5 @@ ghosts-serve_with-G-Ledger g a = record { name = a.blanks.grants.name; parts = a
 abbrev pub ghosts-serve_with-B-Before : goal.ghosts-serve_with-B-Before
 ghosts-serve_with-B-Before g a = record { faults = g.J.Journal.faults a.journal }
 
-abbrev pub ghosts-serve_with-F-First : goal.ghosts-serve_with-F-First
-ghosts-serve_with-F-First g a = record { first = record { config = a.start.setup; offset = a.start.offset } }
+abbrev pub ghosts-serve_with-F-DeskStart : goal.ghosts-serve_with-F-DeskStart
+ghosts-serve_with-F-DeskStart g a = record { first = record { config = a.start.setup; offset = a.start.offset } }

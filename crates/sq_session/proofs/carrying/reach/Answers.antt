@@ -4,12 +4,14 @@ use Rattle.sq_base.specs.Requests.{HttpRequest}
 use Rattle.sq_head.specs.declared.own.Own.TheVariants.{BadGateway}
 use Rattle.sq_session.proofs.CarryLaws.{cause_client, cause_reached, reached_rose}
 use Rattle.sq_session.proofs.PartLaws.{unreached_told, reaches, dialled_told, refused_told}
-use Rattle.sq_session.proofs.TellLaws.{tells_as}
+use Rattle.sq_session.proofs.OwnReplyLaws.{tells_as}
 use Rattle.sq_session.proofs.carrying.reach.Goals as goal
 
 pub returns-in_default-clause-told : goal.returns-in_default-clause-told
 returns-in_default-clause-told g c =
-    unreached_told c.args.sent.now c.args.addr c.args.plan c.in_default.ensures.cause.failed (tells_as BadGateway c.is_head.result _ c.is_head.ensures c.say.ensures.tells) (g.met.M.Meter.capped c.args.meter.now) c.in_default.ensures.failed
+    unreached_told c.args.sent.now c.args.addr c.args.plan c.in_default.ensures.cause.failed
+    (tells_as BadGateway c.is_head.result _ c.is_head.ensures c.say.ensures.tells)
+    (g.met.M.Meter.capped c.args.meter.now) c.in_default.ensures.failed
 
 pub returns-in_default-clause-cause : goal.returns-in_default-clause-cause
 returns-in_default-clause-cause g c = cause_client _ _ _ c.say.result c.say.ensures.cause
@@ -19,12 +21,18 @@ returns-in_default-clause-dialled g c = refused_told _ _ c.in_default.ensures.fa
 
 pub returns-clause-told : goal.returns-clause-told
 returns-clause-told g c =
-    reaches c.args.sent.now c.args.addr c.args.plan _ _ _ _ _ _ (ap HttpRequest.host c.sent.view_is) (ap HttpRequest.port c.sent.view_is) c.in-Ok.ensures.made c.in-Ok.ensures.reaches c.forward-carried.ensures.origin_dialled
-    (ap (λ l. prepend_known l (g.D.In.Source.left c.in-Ok.from)) c.new.ensures) c.give_back.ensures.given c.forward-carried.ensures.told
-    (λ f. reached_rose _ _ _ _ _ _ _ c.in-Ok.ensures.fresh.0 c.in-Ok.ensures.fresh.1 c.in-Ok.ensures.cause.quiet c.give_back.ensures.cause f)
+    reaches c.args.sent.now c.args.addr c.args.plan _ _ _ _ _ _ (ap HttpRequest.host c.sent.view_is)
+    (ap HttpRequest.port c.sent.view_is) c.in-Ok.ensures.made c.in-Ok.ensures.reaches
+    c.forward-carried.ensures.origin_dialled
+    (ap (λ l. prepend_known l (g.D.In.Source.left c.in-Ok.from)) c.new.ensures) c.give_back.ensures.given
+    c.forward-carried.ensures.told
+    (λ f. reached_rose _ _ _ _ _ _ _ c.in-Ok.ensures.fresh.0 c.in-Ok.ensures.fresh.1 c.in-Ok.ensures.cause.quiet
+    c.give_back.ensures.cause f)
 
 pub returns-clause-cause : goal.returns-clause-cause
-returns-clause-cause g c = cause_reached _ _ _ c.forward-carried.result (λ f. reached_rose _ _ _ _ _ _ _ c.in-Ok.ensures.fresh.0 c.in-Ok.ensures.fresh.1 c.in-Ok.ensures.cause.quiet c.give_back.ensures.cause f) c.forward-carried.ensures.cause
+returns-clause-cause g c = cause_reached _ _ _ c.forward-carried.result
+    (λ f. reached_rose _ _ _ _ _ _ _ c.in-Ok.ensures.fresh.0 c.in-Ok.ensures.fresh.1 c.in-Ok.ensures.cause.quiet
+    c.give_back.ensures.cause f) c.forward-carried.ensures.cause
 
 pub returns-clause-dialled : goal.returns-clause-dialled
 returns-clause-dialled g c = dialled_told _ _ _ _ _ c.in-Ok.ensures.made c.give_back.ensures.given

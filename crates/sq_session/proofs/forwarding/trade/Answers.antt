@@ -6,19 +6,26 @@ use Rattle.sq_session.proofs.forwarding.trade.Goals as goal
 
 pub returns-in-NoReply-clause-told : goal.returns-in-NoReply-clause-told
 returns-in-NoReply-clause-told g c =
-    untraded_told (g.O.Sink.contents c.exchange-ended.new.to_client) c.args.sent.now c.args.addr c.args.plan c.exchange-ended.result c.is_head.result c.say.result c.in-NoReply.is c.is_head.ensures c.exchange-ended.ensures.told c.say.ensures.tells
+    untraded_told (g.O.Sink.contents c.exchange-ended.new.to_client) c.args.sent.now c.args.addr c.args.plan
+    c.exchange-ended.result c.is_head.result c.say.result c.in-NoReply.is c.is_head.ensures
+    c.exchange-ended.ensures.told c.say.ensures.tells
 
 pub returns-in-NoReply-clause-cause : goal.returns-in-NoReply-clause-cause
-returns-in-NoReply-clause-cause g c = cause_said _ _ _ _ _ c.say.result c.exchange-ended.ensures.to_client_later c.say.ensures.cause
+returns-in-NoReply-clause-cause g c = cause_said _ _ _ _ _ c.say.result c.exchange-ended.ensures.to_client_later
+    c.say.ensures.cause
 
 pub returns-in-NoReply-clause-dry : goal.returns-in-NoReply-clause-dry
-returns-in-NoReply-clause-dry g c = c.exchange-ended.ensures.dry ∙ ap dry_after_exchange c.in-NoReply.is ∙ sym c.say.ensures.dry
+returns-in-NoReply-clause-dry g c = c.exchange-ended.ensures.dry ∙ ap dry_after_exchange c.in-NoReply.is
+    ∙ sym c.say.ensures.dry
 
 pub returns-in_default-clause-told : goal.returns-in_default-clause-told
-returns-in_default-clause-told g c = traded_told c.args.sent.now c.args.addr c.args.plan c.exchange-ended.result c.carried_of.result c.carried_of.ensures c.in_default.not-NoReply c.exchange-ended.ensures.told
+returns-in_default-clause-told g c = traded_told c.args.sent.now c.args.addr c.args.plan c.exchange-ended.result
+    c.carried_of.result c.carried_of.ensures c.in_default.not-NoReply c.exchange-ended.ensures.told
 
 pub returns-in_default-clause-cause : goal.returns-in_default-clause-cause
-returns-in_default-clause-cause g c = traded_cause _ _ _ c.exchange-ended.result c.carried_of.result c.carried_of.ensures c.exchange-ended.ensures.cause
+returns-in_default-clause-cause g c = traded_cause _ _ _ c.exchange-ended.result c.carried_of.result
+    c.carried_of.ensures c.exchange-ended.ensures.cause
 
 pub returns-in_default-clause-dry : goal.returns-in_default-clause-dry
-returns-in_default-clause-dry g c = c.exchange-ended.ensures.dry ∙ traded_dry c.exchange-ended.result c.carried_of.result c.carried_of.ensures
+returns-in_default-clause-dry g c = c.exchange-ended.ensures.dry
+    ∙ traded_dry c.exchange-ended.result c.carried_of.result c.carried_of.ensures

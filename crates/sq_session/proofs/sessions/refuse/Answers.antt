@@ -11,7 +11,8 @@ pub returns-in-Closes-clause-tells : goal.returns-in-Closes-clause-tells
 returns-in-Closes-clause-tells g c = tells_end Closes Finished (λ _. refl) (λ e i. cc) c.in-Closes.ensures.tells
 
 pub returns-in-Over-clause-tells : goal.returns-in-Over-clause-tells
-returns-in-Over-clause-tells g c = tells_end (Over c.in-Over.end) c.in-Over.end (λ i. cc) (λ e i. cc) c.in-Over.ensures.tells
+returns-in-Over-clause-tells g c = tells_end (Over c.in-Over.end) c.in-Over.end (λ i. cc) (λ e i. cc)
+    c.in-Over.ensures.tells
 
 pub returns-in-Over-clause-cause : goal.returns-in-Over-clause-cause
 returns-in-Over-clause-cause g c = refuse_cause _ _ c.in-Over.end c.in-Over.ensures.cause

@@ -9,8 +9,11 @@ abbrev pub invariant-loop : goal.invariant-loop
 invariant-loop g l =
     let left = g.I.Source.left in
     record {
-      served : ServedSo l.fn.addr (g.F.Front.stands l.fn.front) (g.F.Front.stands l.front) (prepend_known l.fn.client.ahead (left l.fn.client.source)) (prepend_known l.client.ahead (left l.client.source))
-          (g.O.Sink.contents l.fn.to) (g.O.Sink.contents l.to) (g.D.Dialer.dialled l.fn.dialer) (g.D.Dialer.dialled l.dialer) (Rose (g.D.Dialer.faults l.fn.dialer) (g.D.Dialer.faults l.dialer))
+      served : ServedSo l.fn.addr (g.F.Front.stands l.fn.front) (g.F.Front.stands l.front)
+          (prepend_known l.fn.client.ahead (left l.fn.client.source))
+          (prepend_known l.client.ahead (left l.client.source))
+          (g.O.Sink.contents l.fn.to) (g.O.Sink.contents l.to) (g.D.Dialer.dialled l.fn.dialer)
+          (g.D.Dialer.dialled l.dialer) (Rose (g.D.Dialer.faults l.fn.dialer) (g.D.Dialer.faults l.dialer))
           (g.F.Meter.granted l.fn.front) (g.F.Meter.granted l.front);
       dry : g.F.Meter.dry l.front ≡ 0;
       unseated : g.F.Meter.seated l.front ≡ false;

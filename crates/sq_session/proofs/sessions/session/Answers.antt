@@ -6,4 +6,5 @@ pub returns-clause-told : goal.returns-clause-told
 returns-clause-told g c = session_closed c.close.ensures.contents c.open-why.ensures.told
 
 pub returns-clause-cause : goal.returns-clause-cause
-returns-clause-cause g c = session_cause c.open-why.result (right_earlier _ _ _ _ c.close.ensures.later) (λ x. x) c.open-why.ensures.cause
+returns-clause-cause g c = session_cause c.open-why.result (right_earlier _ _ _ _ c.close.ensures.later) (λ x. x)
+    c.open-why.ensures.cause

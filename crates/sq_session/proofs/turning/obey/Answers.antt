@@ -3,16 +3,21 @@ use Rattle.sq_rules.specs.declared.outcomes.Outcome.{Outcome}
 use Rattle.sq_head.specs.OwnReplies.{denial}
 use Rattle.sq_session.proofs.CarryLaws.{obeys_allowed, obeys_denied, cause_client}
 use Rattle.sq_session.proofs.GoesLaws.{was_told}
-use Rattle.sq_session.proofs.TellLaws.{tells_same}
+use Rattle.sq_session.proofs.OwnReplyLaws.{tells_same}
 use Rattle.sq_session.proofs.turning.obey.Goals as goal
 
 pub returns-then-outcome-clause-told : goal.returns-then-outcome-clause-told
-returns-then-outcome-clause-told g c = obeys_allowed c.args.request.now c.args.addr c.args.plan c.args.judged.now (sym (ap Outcome.allow c.outcome.ensures.value) ∙ c.if-outcome.true) c.carry.ensures.told
+returns-then-outcome-clause-told g c = obeys_allowed c.args.request.now c.args.addr c.args.plan c.args.judged.now
+    (sym (ap Outcome.allow c.outcome.ensures.value) ∙ c.if-outcome.true) c.carry.ensures.told
 
 pub returns-else-outcome-clause-told : goal.returns-else-outcome-clause-told
 returns-else-outcome-clause-told g c =
-    obeys_denied c.args.request.now c.args.addr c.args.plan c.args.judged.now c.denied_closes-closes.result (sym (ap Outcome.allow c.outcome.ensures.value) ∙ c.if-outcome.false) c.denied_closes-closes.ensures
-    (tells_same _ _ _ _ (ap (λ o. denial o c.is_head.result c.denied_closes-closes.result) c.outcome-else-outcome.ensures.value ∙ ap (λ b. denial c.args.judged.now.outcome b c.denied_closes-closes.result) c.is_head.ensures) refl c.deny.ensures.tells)
+    obeys_denied c.args.request.now c.args.addr c.args.plan c.args.judged.now c.denied_closes-closes.result
+    (sym (ap Outcome.allow c.outcome.ensures.value) ∙ c.if-outcome.false) c.denied_closes-closes.ensures
+    (tells_same _ _ _ _ (ap (λ o. denial o c.is_head.result c.denied_closes-closes.result)
+    c.outcome-else-outcome.ensures.value
+    ∙ ap (λ b. denial c.args.judged.now.outcome b c.denied_closes-closes.result) c.is_head.ensures) refl
+    c.deny.ensures.tells)
     (g.met.F.Meter.capped c.args.front.now)
 
 pub returns-else-outcome-clause-cause : goal.returns-else-outcome-clause-cause

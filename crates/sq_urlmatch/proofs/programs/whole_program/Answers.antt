@@ -7,5 +7,6 @@ use Rattle.sq_urlmatch.proofs.programs.whole_program.Goals as goal
 
 pub returns-in-Ok : goal.returns-in-Ok
 returns-in-Ok c finds alike =
-    let e : pattern_of c.in-Ok.program ≡ alt_all (map meaning c.args.trees.trees.items) = ap meaning c.in-Ok.ensures ∙ meaning-Alternation c.args.trees.trees in
+    let e : pattern_of c.in-Ok.program ≡ alt_all (map meaning c.args.trees.trees.items) = ap meaning c.in-Ok.ensures
+    ∙ meaning-Alternation c.args.trees.trees in
     whole_finds finds c.args.trees.trees.items c.in-Ok.program e alike

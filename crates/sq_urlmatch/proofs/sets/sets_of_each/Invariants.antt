@@ -8,5 +8,6 @@ use Rattle.sq_urlmatch.proofs.sets.sets_of_each.Given as goal
 abbrev pub invariant-loop-acl : goal.invariant-loop-acl
 invariant-loop-acl l = record {
   long : length l.sets.items ≡ l.acl-index;
-  each : (place : ℕ) (s : ValueSets) → slice_get l.sets.items place ≡ Some s → HoldAlike (ranges_at l.acls place) (domains_at l.acls place) (ports_at l.acls place) s;
+  each : (place : ℕ) (s : ValueSets) → slice_get l.sets.items place ≡ Some s
+      → HoldAlike (ranges_at l.acls place) (domains_at l.acls place) (ports_at l.acls place) s;
 }

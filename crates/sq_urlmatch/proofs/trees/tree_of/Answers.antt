@@ -5,7 +5,8 @@ use Rattle.sq_urlmatch.proofs.ReadLaws.{alike_of_Reads, bad_of_Refuses, bad_of_b
 use Rattle.sq_urlmatch.proofs.trees.tree_of.Goals as goal
 
 pub returns-in_default-clause-bad : goal.returns-in_default-clause-bad
-returns-in_default-clause-bad c = λ _. bad_of_bytes (record { pattern = c.args.pattern.now; fold = c.args.fold }) c.in_default.ensures.cases.0
+returns-in_default-clause-bad c = λ _. bad_of_bytes (record { pattern = c.args.pattern.now; fold = c.args.fold })
+    c.in_default.ensures.cases.0
 
 pub returns-in-Ok-parse-clause-alike : goal.returns-in-Ok-parse-clause-alike
 returns-in-Ok-parse-clause-alike c =
@@ -21,4 +22,9 @@ returns-in-Ok-parse-clause-good c =
 pub returns-in_default-kind : goal.returns-in_default-kind
 returns-in_default-kind c =
     let refused = rw (c.default-config.ensures, c.in-Ok.ensures.cases.0) at c.in-Err.ensures.err in
-    record { alike = tt; good = tt; bad = λ _. bad_of_Refuses (record { pattern = c.args.pattern.now; fold = c.args.fold }) _ c.in_default-kind.not-OutOfMemory refused }
+    record {
+      alike = tt;
+      good = tt;
+      bad = λ _. bad_of_Refuses (record { pattern = c.args.pattern.now; fold = c.args.fold }) _
+          c.in_default-kind.not-OutOfMemory refused;
+    }

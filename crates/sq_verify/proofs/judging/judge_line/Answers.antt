@@ -9,7 +9,9 @@ pub returns : goal.returns
 returns g c =
     let machine = g.M.Player.machine in
     record {
-      goes = subst (λ (o : Option Noted). (configs : List Configuration) (h : History) → Stands (machine c.args.machine.now) c.args.count c.args.epoch configs h → IsNext configs h o
-          → Goes (machine c.judge_event.new.machine) (c.args.count + 1) configs (stated_line c.args.version configs h c.args.line.now o) c.judge_event.result)
+      goes = subst (λ (o : Option Noted). (configs : List Configuration) (h : History)
+          → Stands (machine c.args.machine.now) c.args.count c.args.epoch configs h → IsNext configs h o
+          → Goes (machine c.judge_event.new.machine) (c.args.count + 1) configs
+          (stated_line c.args.version configs h c.args.line.now o) c.judge_event.result)
           (ap (λ (e : Noted). Some e) c.entry.view_is ∙ sym c.in-Ok.ensures) c.judge_event.ensures.goes;
     }

@@ -21,10 +21,14 @@ returns-in-Err-clause-judges g c = λ configs h s.
     let stop = c.in-Err.halt in
     let judged : List ℕ → _ = λ bytes. judged_lines v configs h c.args.place (lines bytes) in
     subst (λ (f : Finding). JudgesOver first v configs h judged f) (sym c.halted-in-Err.ensures)
-    (going_stop (machine c.lines.machine) (machine c.judge_line.new.machine) v first left after line configs h judged c.lines.count c.lines.epoch c.lines.place stop
-    (subst (FindsWithin (line_limit v) c.lines.place left after line) c.in-Ok-Whole.field-0-is c.in-Ok-Whole.ensures.found)
-    (subst (λ (l : List ℕ). (cs : List Configuration) (k : History) → Stands (machine c.lines.machine) c.lines.count c.lines.epoch cs k → IsNext cs k (noted_in v l)
-    → Goes (machine c.judge_line.new.machine) (c.lines.count + 1) cs (stated_line v cs k l (noted_in v l)) (Err stop)) c.as_slice.ensures.value c.in-Err.ensures.goes)
+    (going_stop (machine c.lines.machine) (machine c.judge_line.new.machine) v first left after line configs h judged
+    c.lines.count c.lines.epoch c.lines.place stop
+    (subst (FindsWithin (line_limit v) c.lines.place left after line) c.in-Ok-Whole.field-0-is
+    c.in-Ok-Whole.ensures.found)
+    (subst (λ (l : List ℕ). (cs : List Configuration) (k : History)
+    → Stands (machine c.lines.machine) c.lines.count c.lines.epoch cs k → IsNext cs k (noted_in v l)
+    → Goes (machine c.judge_line.new.machine) (c.lines.count + 1) cs (stated_line v cs k l (noted_in v l))
+    (Err stop)) c.as_slice.ensures.value c.in-Err.ensures.goes)
     (c.lines.invariant.goes configs h s))
 
 pub lines-preserved : goal.lines-preserved
@@ -35,17 +39,22 @@ lines-preserved g c =
     let after = prepend_known c.journal_line.new.held (g.S.Source.left c.journal_line.new.journal) in
     let line = c.journal_line.new.line.items in
     let v = c.args.version in
-    let found = subst (FindsWithin (line_limit v) c.lines.place left after line) c.in-Ok-Whole.field-0-is c.in-Ok-Whole.ensures.found in
-    let moved = subst (Moves c.lines.place c.journal_line.new.place line) c.in-Ok-Whole.field-0-is c.in-Ok-Whole.ensures.place in
+    let found = subst (FindsWithin (line_limit v) c.lines.place left after line) c.in-Ok-Whole.field-0-is
+    c.in-Ok-Whole.ensures.found in
+    let moved = subst (Moves c.lines.place c.journal_line.new.place line) c.in-Ok-Whole.field-0-is
+    c.in-Ok-Whole.ensures.place in
     record {
       place_fits = moved.1;
       count_fits = omega (arith, moved.0, c.lines.invariant.count_fits);
       quiet = c.in-Ok-Whole.ensures.cause.quiet ∙ c.lines.invariant.quiet;
       known = stays_known first left after (line_limit v) c.lines.place line found c.lines.invariant.known;
       goes = λ configs h s.
-          going_on (machine c.lines.machine) (machine c.judge_line.new.machine) v first left after line configs h (λ bytes. judged_lines v configs h c.args.place (lines bytes)) c.lines.count c.lines.epoch c.lines.place
+          going_on (machine c.lines.machine) (machine c.judge_line.new.machine) v first left after line configs h
+          (λ bytes. judged_lines v configs h c.args.place (lines bytes)) c.lines.count c.lines.epoch c.lines.place
           c.in-Ok.next c.journal_line.new.place found moved.0
-          (subst (λ (l : List ℕ). (cs : List Configuration) (k : History) → Stands (machine c.lines.machine) c.lines.count c.lines.epoch cs k → IsNext cs k (noted_in v l)
-          → Goes (machine c.judge_line.new.machine) (c.lines.count + 1) cs (stated_line v cs k l (noted_in v l)) (Ok c.in-Ok.next)) c.as_slice.ensures.value c.in-Ok.ensures.goes)
+          (subst (λ (l : List ℕ). (cs : List Configuration) (k : History)
+          → Stands (machine c.lines.machine) c.lines.count c.lines.epoch cs k → IsNext cs k (noted_in v l)
+          → Goes (machine c.judge_line.new.machine) (c.lines.count + 1) cs (stated_line v cs k l (noted_in v l))
+          (Ok c.in-Ok.next)) c.as_slice.ensures.value c.in-Ok.ensures.goes)
           (c.lines.invariant.goes configs h s);
     }

@@ -18,7 +18,8 @@ invariant-lines g l =
       quiet : g.S.Source.faults l.journal ≡ g.S.Source.faults l.fn.journal;
       known : StaysKnown (prepend_known l.fn.held (left l.fn.journal)) (prepend_known l.held (left l.journal));
       goes : (configs : List Configuration) (h : History) → Stands (machine l.fn.machine) 1 1 configs h
-          → Going (machine l.machine) l.fn.version (prepend_known l.fn.held (left l.fn.journal)) (prepend_known l.held (left l.journal)) configs h
+          → Going (machine l.machine) l.fn.version (prepend_known l.fn.held (left l.fn.journal))
+          (prepend_known l.held (left l.journal)) configs h
           (λ bytes. judged_lines l.fn.version configs h l.fn.place (lines bytes)) l.count l.epoch l.place;
     }
 

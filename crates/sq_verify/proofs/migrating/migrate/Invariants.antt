@@ -20,7 +20,8 @@ invariant-lines g l =
       known : StaysKnown (left l.fn.journal) (prepend_known l.held (left l.journal));
       going : IfSome (left l.fn.journal)
           (λ bytes. (base : Option (List ℕ)) → Wrote base (contents l.fn.out) l.fn.page.items []
-          → ReadSoFar base (prepend_known l.held (left l.journal)) (contents l.out) l.page.items l.count l.epoch l.place (read_journal (lines bytes)));
+          → ReadSoFar base (prepend_known l.held (left l.journal)) (contents l.out) l.page.items l.count l.epoch l.place
+          (read_journal (lines bytes)));
     }
 
 abbrev pub decreases-lines : goal.decreases-lines

@@ -9,4 +9,5 @@ pub returns-in-Ok : goal.returns-in-Ok
 returns-in-Ok c = read_is c.args.text.now c.in-Ok.setup c.in-Ok.ensures.ok c.configuration_facts.ensures
 
 pub returns-in-Err : goal.returns-in-Err
-returns-in-Err c = subst (λ (s : Stop). Accepts c.args.text.now (Err s)) (sym c.stop_by.ensures) (accepts_none c.args.text.now c.in-Err.fault c.in-Err.ensures.err)
+returns-in-Err c = subst (λ (s : Stop). Accepts c.args.text.now (Err s)) (sym c.stop_by.ensures)
+    (accepts_none c.args.text.now c.in-Err.fault c.in-Err.ensures.err)

@@ -1,4 +1,4 @@
-use Rattle.sq_reread.proofs.RereadLaws.{is_stated}
+use Rattle.sq_control_reread.proofs.RereadLaws.{is_stated}
 use Rattle.tests_desk.proofs.calls.setup_of.Goals as goal
 
 pub returns : goal.returns

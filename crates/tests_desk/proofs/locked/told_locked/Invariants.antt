@@ -14,5 +14,5 @@ ghosts-run_behind-N-Ledger g a = record { name = a.blanks.refusals.name; parts =
 abbrev pub ghosts-run_behind-G-Ledger : goal.ghosts-run_behind-G-Ledger
 ghosts-run_behind-G-Ledger g a = record { name = a.blanks.grants.name; parts = a.blanks.grants.parts }
 
-abbrev pub ghosts-run_behind-F-First : goal.ghosts-run_behind-F-First
-ghosts-run_behind-F-First g a = record { first = record { config = a.setup; offset = pos 0 } }
+abbrev pub ghosts-run_behind-F-DeskStart : goal.ghosts-run_behind-F-DeskStart
+ghosts-run_behind-F-DeskStart g a = record { first = record { config = a.setup; offset = pos 0 } }

@@ -2,7 +2,10 @@ use Rattle.std.proofs.Common.{◌∙◌}
 use Rattle.tests_rules.proofs.frames.come_to.Goals as goal
 
 pub needs-init : goal.needs-init
-needs-init g c = record { over = (0, c.in_ok-frames.ensures.at c.args.facts.now); config = c.in_ok-frames.ensures.config }
+needs-init g c = record {
+  over = (0, c.in_ok-frames.ensures.at c.args.facts.now);
+  config = c.in_ok-frames.ensures.config;
+}
 
 pub needs-preserved : goal.needs-preserved
 needs-preserved g c =

@@ -1,5 +1,5 @@
 use Rattle.std.proofs.Common.{ap, ◌∙◌}
-use Rattle.sq_body.specs.declared.place.Place.TheVariants.{Line}
+use Rattle.sq_body.specs.declared.body_state.BodyState.TheVariants.{Line}
 use Rattle.sq_body.specs.Feeding.{is_sound}
 use Rattle.sq_body.proofs.TakeLaws.{holds_fresh}
 use Rattle.sq_body.proofs.cursor.BodyCursor.new.Goals as goal

@@ -1,6 +1,6 @@
 use Rattle.std.proofs.Common.{sym, ap, subst, [], take}
 use Rattle.sq_body.specs.Cursors.{Cursor}
-use Rattle.sq_body.specs.declared.place.Place.{Place}
+use Rattle.sq_body.specs.declared.body_state.BodyState.{BodyState}
 use Rattle.sq_body.specs.Feeding.{Feeds}
 use Rattle.sq_body.proofs.cursor.BodyCursor.take_data.Goals as goal
 
@@ -9,5 +9,7 @@ returns-in-Some-clause-fed c =
     let input = c.args.input.now in
     let n = c.in-Some.used in
     let chunked = c.args.self.now.chunked in
-    subst (λ (p : Place). Feeds chunked p input c.in-Some.place n c.is_complete-done.result [] (take n input)) (ap Cursor.place c.self.view_is)
-    (subst (λ t. Feeds chunked c.self.inside.place input c.in-Some.place n t [] (take n input)) (sym c.is_complete-done.ensures) (c.in-Some.ensures.passes.fed chunked))
+    subst (λ (p : BodyState). Feeds chunked p input c.in-Some.place n c.is_complete-done.result [] (take n input))
+    (ap Cursor.place c.self.view_is)
+    (subst (λ t. Feeds chunked c.self.inside.place input c.in-Some.place n t [] (take n input))
+    (sym c.is_complete-done.ensures) (c.in-Some.ensures.passes.fed chunked))

@@ -7,5 +7,7 @@ pub invariant_of-self : goal.invariant_of-self
 invariant_of-self c =
     let ns = c.self.inside.items.items in
     let room = rw (← c.self.view_is) at c.requires.room in
-    let put = on_ok c.insert.result c.insert.ensures.items c.insert.ensures.full (λ full. grind (arith, common_steps, room, full)) in
-    rw (put, c.place_of-place.ensures.place) (rises_insert c.args.channel ns (rw (← c.self.view_is) at c.requires.other) c.self.invariant)
+    let put = on_ok c.insert.result c.insert.ensures.items c.insert.ensures.full
+    (λ full. grind (arith, common_steps, room, full)) in
+    rw (put, c.place_of-place.ensures.place)
+    (rises_insert c.args.channel ns (rw (← c.self.view_is) at c.requires.other) c.self.invariant)

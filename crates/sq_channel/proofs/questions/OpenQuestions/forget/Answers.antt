@@ -17,7 +17,11 @@ invariant_of-self c =
     let q = c.args.question in
     let at = found q ps c.self.invariant (rw (← c.self.view_is) at c.requires) in
     let within : c.place_of-place.result < length ps = rw (c.place_of-place.ensures.place) at.within in
-    rw (on_some c.remove.result c.remove.ensures.items (c.remove.ensures.variant.1 (grind (arith, common_steps, within))), c.place_of-place.ensures.place) at.rises
+    rw (
+      on_some c.remove.result c.remove.ensures.items
+          (c.remove.ensures.variant.1 (grind (arith, common_steps, within))),
+      c.place_of-place.ensures.place,
+    ) at.rises
 
 pub returns-clause-channel : goal.returns-clause-channel
 returns-clause-channel c =
@@ -25,7 +29,8 @@ returns-clause-channel c =
     let q = c.args.question in
     let at = found q ps c.self.invariant (rw (← c.self.view_is) at c.requires) in
     let p = c.index.result.now in
-    let read : p ≡ get_or ps (place_among q (map place_question ps)) p = c.index.ensures ∙ ap (λ i. get_or ps i p) c.place_of-place.ensures.place in
+    let read : p ≡ get_or ps (place_among q (map place_question ps)) p = c.index.ensures
+    ∙ ap (λ i. get_or ps i p) c.place_of-place.ensures.place in
     rw (← c.self.view_is) (ap (λ x. Some x.channel) read ∙ at.channel p)
 
 pub returns-clause-channels : goal.returns-clause-channels
@@ -34,7 +39,12 @@ returns-clause-channels c =
     let q = c.args.question in
     let at = found q ps c.self.invariant (rw (← c.self.view_is) at c.requires) in
     let within : c.place_of-place.result < length ps = rw (c.place_of-place.ensures.place) at.within in
-    rw (on_some c.remove.result c.remove.ensures.items (c.remove.ensures.variant.1 (grind (arith, common_steps, within))), c.place_of-place.ensures.place, ← c.self.view_is) at.left
+    rw (
+      on_some c.remove.result c.remove.ensures.items
+          (c.remove.ensures.variant.1 (grind (arith, common_steps, within))),
+      c.place_of-place.ensures.place,
+      ← c.self.view_is,
+    ) at.left
 
 pub returns-clause-count : goal.returns-clause-count
 returns-clause-count c =
@@ -42,5 +52,6 @@ returns-clause-count c =
     let q = c.args.question in
     let at = found q ps c.self.invariant (rw (← c.self.view_is) at c.requires) in
     let within : c.place_of-place.result < length ps = rw (c.place_of-place.ensures.place) at.within in
-    let gone = on_some c.remove.result c.remove.ensures.len (c.remove.ensures.variant.1 (grind (arith, common_steps, within))) in
+    let gone = on_some c.remove.result c.remove.ensures.len
+    (c.remove.ensures.variant.1 (grind (arith, common_steps, within))) in
     rw (← c.self.view_is) (grind (arith, common_steps, gone))

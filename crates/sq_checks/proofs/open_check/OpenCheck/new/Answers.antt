@@ -10,25 +10,34 @@ use Rattle.sq_checks.proofs.open_check.OpenCheck.new.Goals as goal
 
 pub invariant_of-result : goal.invariant_of-result
 invariant_of-result c =
-    let config : arc_value c.in_ok-config.config ≡ arc_value c.args.slots.now = c.in_ok-config.ensures ∙ c.config.ensures ∙ c.deref.ensures in
+    let config : arc_value c.in_ok-config.config ≡ arc_value c.args.slots.now = c.in_ok-config.ensures
+    ∙ c.config.ensures ∙ c.deref.ensures in
     let second : c.deref-2.result.now ≡ arc_value c.args.slots.now = c.deref-2.ensures ∙ config in
-    let facts : c.args.facts ≡ facts_of c.deref-2.result.now.acls c.args.sight = c.requires ∙ ap (λ d. facts_of d.acls c.args.sight) (sym second) in
-    let pool : c.pool_of-pool.result ≡ pool_of c.deref-2.result.now c.args.sight = c.pool_of-pool.ensures c.args.sight facts refl in
+    let facts : c.args.facts ≡ facts_of c.deref-2.result.now.acls c.args.sight = c.requires
+    ∙ ap (λ d. facts_of d.acls c.args.sight) (sym second) in
+    let pool : c.pool_of-pool.result ≡ pool_of c.deref-2.result.now c.args.sight =
+    c.pool_of-pool.ensures c.args.sight facts refl in
     let f = c.in_ok-frames.frames in
     record {
       facts_are = c.requires ∙ ap (λ d. facts_of d.acls c.args.sight) (sym config);
       pool_is = pool ∙ ap (λ d. pool_of d c.args.sight) c.deref-2.ensures;
       stage_is = tt;
-      frames_are = frames_first (arc_value c.in_ok-config.config) c.args.sight c.new.result c.args.facts f (c.in_ok-frames.ensures.config ∙ sym config) (0, c.in_ok-frames.ensures.at c.args.facts) c.in_ok-frames.ensures.given;
+      frames_are = frames_first (arc_value c.in_ok-config.config) c.args.sight c.new.result c.args.facts f
+          (c.in_ok-frames.ensures.config ∙ sym config) (0, c.in_ok-frames.ensures.at c.args.facts)
+          c.in_ok-frames.ensures.given;
     }
 
 pub returns : goal.returns
 returns c =
-    let config : arc_value c.in_ok-config.config ≡ arc_value c.args.slots.now = c.in_ok-config.ensures ∙ c.config.ensures ∙ c.deref.ensures in
+    let config : arc_value c.in_ok-config.config ≡ arc_value c.args.slots.now = c.in_ok-config.ensures
+    ∙ c.config.ensures ∙ c.deref.ensures in
     let second : c.deref-2.result.now ≡ arc_value c.args.slots.now = c.deref-2.ensures ∙ config in
-    let facts : c.args.facts ≡ facts_of c.deref-2.result.now.acls c.args.sight = c.requires ∙ ap (λ d. facts_of d.acls c.args.sight) (sym second) in
-    let pool : c.pool_of-pool.result ≡ pool_of c.deref-2.result.now c.args.sight = c.pool_of-pool.ensures c.args.sight facts refl in
+    let facts : c.args.facts ≡ facts_of c.deref-2.result.now.acls c.args.sight = c.requires
+    ∙ ap (λ d. facts_of d.acls c.args.sight) (sym second) in
+    let pool : c.pool_of-pool.result ≡ pool_of c.deref-2.result.now c.args.sight =
+    c.pool_of-pool.ensures c.args.sight facts refl in
     let f = c.in_ok-frames.frames in
     let first : looks_in f ≡ 0 = none_looked c.args.facts f (c.in_ok-frames.ensures.at c.args.facts) in
-    begun_is c.args.conn c.args.epoch (arc_value c.in_ok-config.config) (arc_value c.args.slots.now) c.args.sight c.pool_of-pool.result c.new.result (looks_in f) config
+    begun_is c.args.conn c.args.epoch (arc_value c.in_ok-config.config) (arc_value c.args.slots.now) c.args.sight
+    c.pool_of-pool.result c.new.result (looks_in f) config
     (pool ∙ ap (λ d. pool_of d c.args.sight) second) c.new.ensures first

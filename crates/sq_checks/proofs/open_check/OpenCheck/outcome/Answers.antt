@@ -7,4 +7,5 @@ use Rattle.sq_checks.proofs.open_check.OpenCheck.outcome.Goals as goal
 pub returns-clause-verdict : goal.returns-clause-verdict
 returns-clause-verdict c =
     let x = c.args.self.now in
-    decided_is x.config x.sight x.answers x.stage (subst (λ (y : CheckParts). IsStage y.config y.sight y.answers y.stage) c.self.view_is c.self.invariant.stage_is)
+    decided_is x.config x.sight x.answers x.stage
+    (subst (λ (y : CheckParts). IsStage y.config y.sight y.answers y.stage) c.self.view_is c.self.invariant.stage_is)

@@ -20,22 +20,34 @@ loop-check-preserved c =
     let x = c.in-Some-pop.what in
     let k = c.in-Some.check.now in
     record {
-      left = omega (arith, ap length items, length-append rest (x ∷ []), length-append c.loop-check.yielded (c.in-Some.check ∷ []), c.loop-check.invariant.left);
+      left = omega (
+        arith,
+        ap length items,
+        length-append rest (x ∷ []),
+        length-append c.loop-check.yielded (c.in-Some.check ∷ []),
+        c.loop-check.invariant.left,
+      );
       done = λ w all.
           let was = c.loop-check.invariant.done w all in
           let f = ended_by c.args.question w c.args.now in
           let cut : AllAre w (rest ++ x ∷ []) = subst (AllAre w) items was.0 in
           let one : x ≡ w = all_last w x rest cut in (
             all_front w x rest cut,
-            c.serve.ensures ∙ ap (λ v. change_at k (ended_by c.args.question v c.args.now) c.loop-check.self) one ∙ ap (change_at k f) was.1
+            c.serve.ensures ∙ ap (λ v. change_at k (ended_by c.args.question v c.args.now) c.loop-check.self) one
+                ∙ ap (change_at k f) was.1
                 ∙ listed_more (map deref c.loop-check.yielded) k f c.args.self.now (twice c.args.question w c.args.now)
-                ∙ ap (λ ns. listed_changed ns f c.args.self.now) (sym (map-append deref c.loop-check.yielded (c.in-Some.check ∷ []))),
+                ∙ ap (λ ns. listed_changed ns f c.args.self.now)
+                (sym (map-append deref c.loop-check.yielded (c.in-Some.check ∷ []))),
           );
     }
 
 pub returns : goal.returns
 returns c = λ w each.
-    let all = iter_end deref c.args.waiting.now c.loop-check.yielded _ _ _ _ (c.into_iter-check-iterator.ensures.into_iter_gives ∙ c.iter-check-items.ensures.rest) c.loop-check.yielded_by c.in-None.is c.next.ensures.steps in
-    let once : AreOnce c.args.self.now = subst AreOnce c.self.view_is (sorted_once c.self.inside.map.entries c.len-len.ensures.ordered) in
-    (c.loop-check.invariant.done w each).1 ∙ ap (λ ns. listed_changed ns (ended_by c.args.question w c.args.now) c.args.self.now) all.0
+    let all = iter_end deref c.args.waiting.now c.loop-check.yielded _ _ _ _
+    (c.into_iter-check-iterator.ensures.into_iter_gives ∙ c.iter-check-items.ensures.rest) c.loop-check.yielded_by
+    c.in-None.is c.next.ensures.steps in
+    let once : AreOnce c.args.self.now =
+    subst AreOnce c.self.view_is (sorted_once c.self.inside.map.entries c.len-len.ensures.ordered) in
+    (c.loop-check.invariant.done w each).1
+    ∙ ap (λ ns. listed_changed ns (ended_by c.args.question w c.args.now) c.args.self.now) all.0
     ∙ all_listed c.args.waiting.now c.args.question w c.args.now c.args.self.now once c.requires.waiting

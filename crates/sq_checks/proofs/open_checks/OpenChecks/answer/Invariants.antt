@@ -8,5 +8,7 @@ use Rattle.sq_checks.proofs.open_checks.OpenChecks.answer.Given as goal
 abbrev pub invariant-loop-check : goal.invariant-loop-check
 invariant-loop-check l = record {
   left : length l.yielded + length l.copies.items ≡ length l.initial.copies.items;
-  done : (what : What) → AllAre what l.initial.copies.items → AllAre what l.copies.items × (l.self ≡ listed_changed (map deref l.yielded) (ended_by l.question what l.now) l.initial.self);
+  done : (what : What) → AllAre what l.initial.copies.items
+      → AllAre what l.copies.items
+      × (l.self ≡ listed_changed (map deref l.yielded) (ended_by l.question what l.now) l.initial.self);
 }

@@ -11,7 +11,8 @@ use Rattle.sq_checks.proofs.open_checks.OpenChecks.come_to.Goals as goal
 
 pub come_to-requires : goal.come_to-requires
 come_to-requires c =
-    let here : value_at c.args.self.now c.args.number ≡ Some c.in-Some.check.now = rw (← c.self.view_is) (sym c.in-Some.ensures.value) in
+    let here : value_at c.args.self.now c.args.number ≡ Some c.in-Some.check.now =
+    rw (← c.self.view_is) (sym c.in-Some.ensures.value) in
     found_has (λ x. is_settled x.stage ≡ true) _ _ here c.requires.settled
 
 pub returns-clause-list : goal.returns-clause-list
@@ -20,8 +21,10 @@ returns-clause-list c =
     let here : value_at es c.args.number ≡ Some c.in-Some.check.now = sym c.in-Some.ensures.value in (
       c.come_to.new.self.looks,
       rw (← c.self.view_is)
-          ((c.get_mut.follows.holds c.come_to.new.self).0 ∙ ap (set_value (is_at (nat_cmp c.args.number)) es) c.come_to.ensures.same
-          ∙ set_changed c.args.number (looked c.come_to.new.self.looks) c.in-Some.check.now es (sorted_once es c.in-Some.ensures.ordered) here),
+          ((c.get_mut.follows.holds c.come_to.new.self).0
+          ∙ ap (set_value (is_at (nat_cmp c.args.number)) es) c.come_to.ensures.same
+          ∙ set_changed c.args.number (looked c.come_to.new.self.looks) c.in-Some.check.now es
+          (sorted_once es c.in-Some.ensures.ordered) here),
     )
 
 pub returns-clause-rows : goal.returns-clause-rows
@@ -29,8 +32,10 @@ returns-clause-rows c =
     let es = c.self.inside.map.entries in
     let here : value_at es c.args.number ≡ Some c.in-Some.check.now = sym c.in-Some.ensures.value in
     rw (← c.self.view_is)
-    (ap rows_of ((c.get_mut.follows.holds c.come_to.new.self).0 ∙ ap (set_value (is_at (nat_cmp c.args.number)) es) c.come_to.ensures.same
-    ∙ set_changed c.args.number (looked c.come_to.new.self.looks) c.in-Some.check.now es (sorted_once es c.in-Some.ensures.ordered) here)
+    (ap rows_of ((c.get_mut.follows.holds c.come_to.new.self).0
+    ∙ ap (set_value (is_at (nat_cmp c.args.number)) es) c.come_to.ensures.same
+    ∙ set_changed c.args.number (looked c.come_to.new.self.looks) c.in-Some.check.now es
+    (sorted_once es c.in-Some.ensures.ordered) here)
     ∙ rows_stay c.args.number (looked c.come_to.new.self.looks) es (λ n k. refl))
 
 pub returns-clause-come : goal.returns-clause-come
@@ -40,7 +45,9 @@ returns-clause-come c =
     let y = c.come_to.new.self in
     let here : value_at es c.args.number ≡ Some x = sym c.in-Some.ensures.value in
     let found =
-    ap (λ z. value_at z c.args.number) ((c.get_mut.follows.holds y).0 ∙ ap (set_value (is_at (nat_cmp c.args.number)) es) c.come_to.ensures.same
+    ap (λ z. value_at z c.args.number)
+    ((c.get_mut.follows.holds y).0 ∙ ap (set_value (is_at (nat_cmp c.args.number)) es) c.come_to.ensures.same
     ∙ set_changed c.args.number (looked y.looks) x es (sorted_once es c.in-Some.ensures.ordered) here)
     ∙ value_changed c.args.number (looked y.looks) x es here ∙ ap Some (sym c.come_to.ensures.same) in
-    ok_then c.come_to.result (HasCome y) (λ v. IfSome (value_at _ c.args.number) (λ k. HasCome k v)) (λ v h. subst (λ z. IfSome z (λ k. HasCome k v)) (sym found) h) c.come_to.ensures.come
+    ok_then c.come_to.result (HasCome y) (λ v. IfSome (value_at _ c.args.number) (λ k. HasCome k v))
+    (λ v h. subst (λ z. IfSome z (λ k. HasCome k v)) (sym found) h) c.come_to.ensures.come

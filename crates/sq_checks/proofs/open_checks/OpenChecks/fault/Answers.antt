@@ -18,12 +18,16 @@ loop-check-preserved c =
     let k = c.in-Some.check.now in
     c.serve.ensures ∙ ap (change_at k f) c.loop-check.invariant
     ∙ listed_more (map deref c.loop-check.yielded) k f c.args.self.now (twice c.args.question w c.args.now)
-    ∙ ap (λ ns. listed_changed ns f c.args.self.now) (sym (map-append deref c.loop-check.yielded (c.in-Some.check ∷ [])))
+    ∙ ap (λ ns. listed_changed ns f c.args.self.now)
+    (sym (map-append deref c.loop-check.yielded (c.in-Some.check ∷ [])))
 
 pub returns : goal.returns
 returns c =
     let w = what.Fault c.args.cause in
-    let all = iter_end deref c.args.waiting.now c.loop-check.yielded _ _ _ _ (c.into_iter-check-iterator.ensures.into_iter_gives ∙ c.iter-check-items.ensures.rest) c.loop-check.yielded_by c.in-None.is c.next.ensures.steps in
-    let once : AreOnce c.args.self.now = subst AreOnce c.self.view_is (sorted_once c.self.inside.map.entries c.len-len.ensures.ordered) in
+    let all = iter_end deref c.args.waiting.now c.loop-check.yielded _ _ _ _
+    (c.into_iter-check-iterator.ensures.into_iter_gives ∙ c.iter-check-items.ensures.rest) c.loop-check.yielded_by
+    c.in-None.is c.next.ensures.steps in
+    let once : AreOnce c.args.self.now =
+    subst AreOnce c.self.view_is (sorted_once c.self.inside.map.entries c.len-len.ensures.ordered) in
     c.loop-check.invariant ∙ ap (λ ns. listed_changed ns (ended_by c.args.question w c.args.now) c.args.self.now) all.0
     ∙ all_listed c.args.waiting.now c.args.question w c.args.now c.args.self.now once c.requires

@@ -6,4 +6,5 @@ use Rattle.sq_checks.proofs.EndLaws.{listed_changed}
 use Rattle.sq_checks.proofs.open_checks.OpenChecks.fault.Given as goal
 
 abbrev pub invariant-loop-check : goal.invariant-loop-check
-invariant-loop-check l = l.self ≡ listed_changed (map deref l.yielded) (ended_by l.question (what.Fault l.cause) l.now) l.initial.self
+invariant-loop-check l = l.self
+    ≡ listed_changed (map deref l.yielded) (ended_by l.question (what.Fault l.cause) l.now) l.initial.self

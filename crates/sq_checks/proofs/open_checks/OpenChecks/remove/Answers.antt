@@ -10,10 +10,12 @@ returns-clause-check c = c.remove.ensures.value ∙ ap (λ es. value_at es c.arg
 pub returns-clause-list : goal.returns-clause-list
 returns-clause-list c =
     let es = c.self.inside.map.entries in
-    rw (← c.self.view_is) (c.remove.ensures.entries ∙ removed_list c.args.number es (sorted_once es c.len-len.ensures.ordered))
+    rw (← c.self.view_is) (c.remove.ensures.entries
+    ∙ removed_list c.args.number es (sorted_once es c.len-len.ensures.ordered))
 
 pub returns-clause-rows : goal.returns-clause-rows
 returns-clause-rows c =
     let es = c.self.inside.map.entries in
     rw (← c.self.view_is)
-    (ap rows_of (c.remove.ensures.entries ∙ removed_list c.args.number es (sorted_once es c.len-len.ensures.ordered)) ∙ rows_without c.args.number es)
+    (ap rows_of (c.remove.ensures.entries ∙ removed_list c.args.number es (sorted_once es c.len-len.ensures.ordered))
+    ∙ rows_without c.args.number es)

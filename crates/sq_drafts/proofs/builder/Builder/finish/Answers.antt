@@ -6,7 +6,8 @@ use Rattle.sq_drafts.proofs.builder.Builder.finish.Goals as goal
 
 pub of_parts-requires : goal.of_parts-requires
 of_parts-requires c =
-    let long : length c.in_ok-pools.pools ≡ length c.self.inside.pools.items = ap length c.in_ok-pools.ensures.ok ∙ length-map c.self.inside.pools.items pool_of_draft in
+    let long : length c.in_ok-pools.pools ≡ length c.self.inside.pools.items = ap length c.in_ok-pools.ensures.ok
+    ∙ length-map c.self.inside.pools.items pool_of_draft in
     record {
       short = c.requires;
       class_names = c.into_classes.ensures.distinct;
@@ -14,7 +15,9 @@ of_parts-requires c =
       members = rw (c.into_classes.ensures.classes, c.into_acls.ensures.acls) c.self.invariant.members;
       shallow = c.into_acls.ensures.shallow;
       places = rw c.into_acls.ensures.acls c.self.invariant.places;
-      pools_are = rw (c.into_acls.ensures.acls, c.in_ok-pools.ensures.ok) (pools_finished c.self.inside.acls c.self.inside.pools.items c.self.invariant.pools_are c.in_ok-pools.ensures.complete);
+      pools_are = rw (c.into_acls.ensures.acls, c.in_ok-pools.ensures.ok)
+          (pools_finished c.self.inside.acls c.self.inside.pools.items c.self.invariant.pools_are
+          c.in_ok-pools.ensures.complete);
       headers_are = rw c.into_acls.ensures.acls c.self.invariant.headers_are;
       lookups_are = rw (c.into_classes.ensures.classes, c.into_acls.ensures.acls) c.self.invariant.lookups_are;
       few_classes = rw c.into_classes.ensures.classes c.self.invariant.few_classes;

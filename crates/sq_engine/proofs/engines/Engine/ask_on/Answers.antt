@@ -4,9 +4,9 @@ use Rattle.sq_rules.specs.declared.sights.Sight.{Sight}
 use Rattle.sq_checks.specs.Conns.{check_in}
 use Rattle.sq_checks.specs.OpenChecks.{all_before, begun_parts, row, rows_of}
 use Rattle.sq_epochs.specs.LiveEpochs.{after_began, checks_at}
-use Rattle.sq_state.specs.Answers.{asked_in}
-use Rattle.sq_state.specs.Changes.{after_ask}
-use Rattle.sq_state.specs.States.{IsSame}
+use Rattle.sq_model_state.specs.Answers.{asked_in}
+use Rattle.sq_model_state.specs.Changes.{after_ask}
+use Rattle.sq_model_state.specs.States.{IsSame}
 use Rattle.sq_engine.specs.Engines.{IsEngine}
 use Rattle.sq_engine.specs.EngineViews.{EngineView, state_of}
 use Rattle.sq_engine.proofs.AskLaws.{Begun, began_room, begun_engine, begun_same}
@@ -16,18 +16,44 @@ use Rattle.sq_engine.proofs.engines.Engine.ask_on.Goals as goal
 
 pub began-requires-clause-room : goal.began-requires-clause-room
 began-requires-clause-room c =
-    let v : EngineView = record { conns = c.self.inside.conns; checks = c.self.inside.checks; asks = c.self.inside.asks; puts = c.self.inside.puts; epochs = c.self.inside.epochs; setup = c.self.inside.setup; offset = c.self.inside.offset; latest = c.self.inside.latest } in
-    subst (λ z. suc (checks_at v.epochs z) < 2 ^ 64) (sym c.current-epoch.ensures) (began_room v c.self.invariant c.len-len.ensures.rise)
+    let v : EngineView = record {
+      conns = c.self.inside.conns;
+      checks = c.self.inside.checks;
+      asks = c.self.inside.asks;
+      puts = c.self.inside.puts;
+      epochs = c.self.inside.epochs;
+      setup = c.self.inside.setup;
+      offset = c.self.inside.offset;
+      latest = c.self.inside.latest;
+    } in
+    subst (λ z. suc (checks_at v.epochs z) < 2 ^ 64) (sym c.current-epoch.ensures)
+    (began_room v c.self.invariant c.len-len.ensures.rise)
 
 pub invariant_of-self-2 : goal.invariant_of-self-2
 invariant_of-self-2 c =
-    let v : EngineView = record { conns = c.self.inside.conns; checks = c.self.inside.checks; asks = c.self.inside.asks; puts = c.self.inside.puts; epochs = c.self.inside.epochs; setup = c.self.inside.setup; offset = c.self.inside.offset; latest = c.self.inside.latest } in
+    let v : EngineView = record {
+      conns = c.self.inside.conns;
+      checks = c.self.inside.checks;
+      asks = c.self.inside.asks;
+      puts = c.self.inside.puts;
+      epochs = c.self.inside.epochs;
+      setup = c.self.inside.setup;
+      offset = c.self.inside.offset;
+      latest = c.self.inside.latest;
+    } in
     let n = c.self.inside.asks + 1 in
     let one : n ≡ suc v.asks = omega arith in
     let few : n < last_number = omega arith in
     let free : check_in v.conns c.args.conn ≡ None = search rules in
-    let sight : Sight = record { request = c.args.request; addr = c.in-Some.peer.addr; port = c.in-Some.peer.port; minute = c.minute_of_week.result; conns = c.of.result } in
-    let parts : c.in-Ok.open ≡ begun_parts c.args.conn v.epochs.current v.setup sight = c.in-Ok.ensures.ok ∙ ap (λ e. begun_parts c.args.conn e v.setup sight) c.current-epoch.ensures in
+    let sight : Sight = record {
+      request = c.args.request;
+      addr = c.in-Some.peer.addr;
+      port = c.in-Some.peer.port;
+      minute = c.minute_of_week.result;
+      conns = c.of.result;
+    } in
+    let parts : c.in-Ok.open ≡ begun_parts c.args.conn v.epochs.current v.setup sight = c.in-Ok.ensures.ok
+    ∙ ap (λ e. begun_parts c.args.conn e v.setup sight) c.current-epoch.ensures in
     let k : Begun v c.args.conn n sight c.set_check.new.self c.begin.new.self = record {
       number_is = one;
       few = few;
@@ -36,19 +62,44 @@ invariant_of-self-2 c =
       rows = c.in-Ok-begin.ensures.rows ∙ ap (λ z. rows_of v.checks ++ row n z ∷ []) parts;
       marks = c.set_check.ensures.checks;
     } in
-    let is : c.began.new.self ≡ after_began v.epochs.current v.epochs = c.began.ensures ∙ ap (λ z. after_began z v.epochs) c.current-epoch.ensures in
-    subst (λ z. IsEngine (record v { conns = c.set_check.new.self; checks = c.begin.new.self; asks = n; epochs = c.began.new.self; setup = z; latest = c.later-moment.result })) (sym c.in-Ok.ensures.same)
-    (begun_engine v c.args.conn n c.later-moment.result sight c.set_check.new.self c.begin.new.self c.began.new.self c.self.invariant k is)
+    let is : c.began.new.self ≡ after_began v.epochs.current v.epochs = c.began.ensures
+    ∙ ap (λ z. after_began z v.epochs) c.current-epoch.ensures in
+    subst (λ z. IsEngine (record v {
+      conns = c.set_check.new.self;
+      checks = c.begin.new.self;
+      asks = n;
+      epochs = c.began.new.self;
+      setup = z;
+      latest = c.later-moment.result;
+    })) (sym c.in-Ok.ensures.same)
+    (begun_engine v c.args.conn n c.later-moment.result sight c.set_check.new.self c.begin.new.self c.began.new.self
+    c.self.invariant k is)
 
 pub returns-clause-ok : goal.returns-clause-ok
 returns-clause-ok c = λ method target fields e.
-    let v : EngineView = record { conns = c.self.inside.conns; checks = c.self.inside.checks; asks = c.self.inside.asks; puts = c.self.inside.puts; epochs = c.self.inside.epochs; setup = c.self.inside.setup; offset = c.self.inside.offset; latest = c.self.inside.latest } in
+    let v : EngineView = record {
+      conns = c.self.inside.conns;
+      checks = c.self.inside.checks;
+      asks = c.self.inside.asks;
+      puts = c.self.inside.puts;
+      epochs = c.self.inside.epochs;
+      setup = c.self.inside.setup;
+      offset = c.self.inside.offset;
+      latest = c.self.inside.latest;
+    } in
     let n = c.self.inside.asks + 1 in
     let one : n ≡ suc v.asks = omega arith in
     let few : n < last_number = omega arith in
     let free : check_in v.conns c.args.conn ≡ None = search rules in
-    let sight : Sight = record { request = c.args.request; addr = c.in-Some.peer.addr; port = c.in-Some.peer.port; minute = c.minute_of_week.result; conns = c.of.result } in
-    let parts : c.in-Ok.open ≡ begun_parts c.args.conn v.epochs.current v.setup sight = c.in-Ok.ensures.ok ∙ ap (λ e. begun_parts c.args.conn e v.setup sight) c.current-epoch.ensures in
+    let sight : Sight = record {
+      request = c.args.request;
+      addr = c.in-Some.peer.addr;
+      port = c.in-Some.peer.port;
+      minute = c.minute_of_week.result;
+      conns = c.of.result;
+    } in
+    let parts : c.in-Ok.open ≡ begun_parts c.args.conn v.epochs.current v.setup sight = c.in-Ok.ensures.ok
+    ∙ ap (λ e. begun_parts c.args.conn e v.setup sight) c.current-epoch.ensures in
     let k : Begun v c.args.conn n sight c.set_check.new.self c.begin.new.self = record {
       number_is = one;
       few = few;
@@ -57,22 +108,59 @@ returns-clause-ok c = λ method target fields e.
       rows = c.in-Ok-begin.ensures.rows ∙ ap (λ z. rows_of v.checks ++ row n z ∷ []) parts;
       marks = c.set_check.ensures.checks;
     } in
-    let is : c.began.new.self ≡ after_began v.epochs.current v.epochs = c.began.ensures ∙ ap (λ z. after_began z v.epochs) c.current-epoch.ensures in
-    subst (λ z. IsSame (state_of (record v { conns = c.set_check.new.self; checks = c.begin.new.self; asks = n; epochs = c.began.new.self; latest = c.later-moment.result }))
-    (after_ask (asked_in (state_of z) (max c.args.now z.latest) c.args.conn method target fields) (max c.args.now z.latest) (state_of z))) c.self.view_is
-    (subst (λ z. IsSame (state_of (record v { conns = c.set_check.new.self; checks = c.begin.new.self; asks = n; epochs = c.began.new.self; latest = c.later-moment.result }))
+    let is : c.began.new.self ≡ after_began v.epochs.current v.epochs = c.began.ensures
+    ∙ ap (λ z. after_began z v.epochs) c.current-epoch.ensures in
+    subst (λ z. IsSame (state_of
+    (record v {
+      conns = c.set_check.new.self;
+      checks = c.begin.new.self;
+      asks = n;
+      epochs = c.began.new.self;
+      latest = c.later-moment.result;
+    }))
+    (after_ask (asked_in (state_of z) (max c.args.now z.latest) c.args.conn method target fields)
+    (max c.args.now z.latest) (state_of z))) c.self.view_is
+    (subst (λ z. IsSame (state_of
+    (record v {
+      conns = c.set_check.new.self;
+      checks = c.begin.new.self;
+      asks = n;
+      epochs = c.began.new.self;
+      latest = c.later-moment.result;
+    }))
     (after_ask (asked_in (state_of v) z c.args.conn method target fields) z (state_of v))) c.later-moment.ensures
-    (begun_same v c.args.conn n c.later-moment.result method target fields c.in-Some.peer sight c.set_check.new.self c.begin.new.self c.began.new.self k is (sym c.in-Some.ensures) e refl refl
-    c.minute_of_week.ensures c.of.ensures c.set_check.ensures.clients c.set_check.ensures.len c.set_check.ensures.counts))
+    (begun_same v c.args.conn n c.later-moment.result method target fields c.in-Some.peer sight c.set_check.new.self
+    c.begin.new.self c.began.new.self k is (sym c.in-Some.ensures) e refl refl
+    c.minute_of_week.ensures c.of.ensures c.set_check.ensures.clients c.set_check.ensures.len
+    c.set_check.ensures.counts))
 
 pub returns-clause-begun : goal.returns-clause-begun
 returns-clause-begun c =
-    let v : EngineView = record { conns = c.self.inside.conns; checks = c.self.inside.checks; asks = c.self.inside.asks; puts = c.self.inside.puts; epochs = c.self.inside.epochs; setup = c.self.inside.setup; offset = c.self.inside.offset; latest = c.self.inside.latest } in
+    let v : EngineView = record {
+      conns = c.self.inside.conns;
+      checks = c.self.inside.checks;
+      asks = c.self.inside.asks;
+      puts = c.self.inside.puts;
+      epochs = c.self.inside.epochs;
+      setup = c.self.inside.setup;
+      offset = c.self.inside.offset;
+      latest = c.self.inside.latest;
+    } in
     let n = c.self.inside.asks + 1 in
-    let sight : Sight = record { request = c.args.request; addr = c.in-Some.peer.addr; port = c.in-Some.peer.port; minute = c.minute_of_week.result; conns = c.of.result } in
-    let parts : c.in-Ok.open ≡ begun_parts c.args.conn v.epochs.current v.setup sight = c.in-Ok.ensures.ok ∙ ap (λ e. begun_parts c.args.conn e v.setup sight) c.current-epoch.ensures in
-    let list : c.begin.new.self ≡ v.checks ++ (n, begun_parts c.args.conn v.epochs.current v.setup sight) ∷ [] = c.in-Ok-begin.ensures.list ∙ ap (λ z. v.checks ++ (n, z) ∷ []) parts in
+    let sight : Sight = record {
+      request = c.args.request;
+      addr = c.in-Some.peer.addr;
+      port = c.in-Some.peer.port;
+      minute = c.minute_of_week.result;
+      conns = c.of.result;
+    } in
+    let parts : c.in-Ok.open ≡ begun_parts c.args.conn v.epochs.current v.setup sight = c.in-Ok.ensures.ok
+    ∙ ap (λ e. begun_parts c.args.conn e v.setup sight) c.current-epoch.ensures in
+    let list : c.begin.new.self ≡ v.checks ++ (n, begun_parts c.args.conn v.epochs.current v.setup sight) ∷ [] =
+    c.in-Ok-begin.ensures.list ∙ ap (λ z. v.checks ++ (n, z) ∷ []) parts in
     let one : suc v.asks ≡ n = omega arith in
-    let above : all_before n (rows_of v.checks) ≡ true = subst (λ z. all_before z (rows_of v.checks) ≡ true) one c.self.invariant.asked.given in
+    let above : all_before n (rows_of v.checks) ≡ true =
+    subst (λ z. all_before z (rows_of v.checks) ≡ true) one c.self.invariant.asked.given in
     subst (λ z. HasBegun n z.setup c.args.request z.checks c.begin.new.self) c.self.view_is
-    (subst (HasBegun n v.setup c.args.request v.checks) (sym list) (has_begun n c.args.conn v.epochs.current v.setup sight c.args.request v.checks above refl))
+    (subst (HasBegun n v.setup c.args.request v.checks) (sym list)
+    (has_begun n c.args.conn v.epochs.current v.setup sight c.args.request v.checks above refl))

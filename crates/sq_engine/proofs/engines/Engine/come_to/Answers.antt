@@ -8,8 +8,18 @@ use Rattle.sq_engine.proofs.engines.Engine.come_to.Goals as goal
 
 pub invariant_of-self : goal.invariant_of-self
 invariant_of-self c =
-    let v : EngineView = record { conns = c.self.inside.conns; checks = c.self.inside.checks; asks = c.self.inside.asks; puts = c.self.inside.puts; epochs = c.self.inside.epochs; setup = c.self.inside.setup; offset = c.self.inside.offset; latest = c.self.inside.latest } in
-    looked_engine v c.come_to.new.self c.args.check c.come_to.ensures.list.0 c.self.invariant c.come_to.ensures.list.1 c.come_to.ensures.rows
+    let v : EngineView = record {
+      conns = c.self.inside.conns;
+      checks = c.self.inside.checks;
+      asks = c.self.inside.asks;
+      puts = c.self.inside.puts;
+      epochs = c.self.inside.epochs;
+      setup = c.self.inside.setup;
+      offset = c.self.inside.offset;
+      latest = c.self.inside.latest;
+    } in
+    looked_engine v c.come_to.new.self c.args.check c.come_to.ensures.list.0 c.self.invariant c.come_to.ensures.list.1
+    c.come_to.ensures.rows
 
 pub returns-clause-list : goal.returns-clause-list
 returns-clause-list c =
@@ -18,6 +28,16 @@ returns-clause-list c =
 
 pub returns-clause-kept : goal.returns-clause-kept
 returns-clause-kept c =
-    let v : EngineView = record { conns = c.self.inside.conns; checks = c.self.inside.checks; asks = c.self.inside.asks; puts = c.self.inside.puts; epochs = c.self.inside.epochs; setup = c.self.inside.setup; offset = c.self.inside.offset; latest = c.self.inside.latest } in
+    let v : EngineView = record {
+      conns = c.self.inside.conns;
+      checks = c.self.inside.checks;
+      asks = c.self.inside.asks;
+      puts = c.self.inside.puts;
+      epochs = c.self.inside.epochs;
+      setup = c.self.inside.setup;
+      offset = c.self.inside.offset;
+      latest = c.self.inside.latest;
+    } in
     let list = c.come_to.ensures.list in
-    subst (λ z. AreKept z.checks c.come_to.new.self) c.self.view_is (kept_change c.args.check (looked list.0) v.checks c.come_to.new.self list.1 (λ k. refl))
+    subst (λ z. AreKept z.checks c.come_to.new.self) c.self.view_is
+    (kept_change c.args.check (looked list.0) v.checks c.come_to.new.self list.1 (λ k. refl))

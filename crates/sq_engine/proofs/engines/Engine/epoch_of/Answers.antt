@@ -7,7 +7,8 @@ pub returns-in-Some : goal.returns-in-Some
 returns-in-Some c =
     let w = c.args.self.now in
     let k = c.in-Some.open.now in
-    let found : value_at w.checks c.args.check ≡ Some k = subst (λ z. value_at z.checks c.args.check ≡ Some k) c.self.view_is (sym c.in-Some.ensures) in
+    let found : value_at w.checks c.args.check ≡ Some k =
+    subst (λ z. value_at z.checks c.args.check ≡ Some k) c.self.view_is (sym c.in-Some.ensures) in
     c.epoch.ensures ∙ sym (epoch_found w c.args.check k found)
 
 pub returns-in-None : goal.returns-in-None

@@ -9,8 +9,8 @@ use Rattle.sq_checks.specs.OpenChecks.{HasCome, comes_to, is_need}
 use Rattle.sq_checks.specs.Stages.{is_idle, need_in}
 use Rattle.sq_checks.specs.Tables.{value_at}
 use Rattle.sq_epochs.specs.EpochStates.{part_at}
-use Rattle.sq_state.specs.Changes.{after_step_of}
-use Rattle.sq_state.specs.States.{IsSame}
+use Rattle.sq_model_state.specs.Changes.{after_step_of}
+use Rattle.sq_model_state.specs.States.{IsSame}
 use Rattle.sq_engine.specs.Engines.{IsEngine}
 use Rattle.sq_engine.specs.EngineViews.{state_of}
 use Rattle.sq_engine.specs.Stepping.{epoch_of, step_now, stepped_told}
@@ -24,8 +24,10 @@ pub needed_class-class-requires : goal.needed_class-class-requires
 needed_class-class-requires c =
     let w = c.args.self.now in
     let k = c.in-Some.open.now in
-    let found : value_at w.checks c.args.check ≡ Some k = subst (λ z. value_at z.checks c.args.check ≡ Some k) c.self.view_is (sym c.in-Some.ensures) in
-    let come : HasCome k c.args.value = some_has (λ z. HasCome z c.args.value) (value_at w.checks c.args.check) k c.requires.come found in
+    let found : value_at w.checks c.args.check ≡ Some k =
+    subst (λ z. value_at z.checks c.args.check ≡ Some k) c.self.view_is (sym c.in-Some.ensures) in
+    let come : HasCome k c.args.value =
+    some_has (λ z. HasCome z c.args.value) (value_at w.checks c.args.check) k c.requires.come found in
     let config : c.deref.result.now ≡ k.config = cc in
     needs_acl k _ c.in-Need.acl c.in-Need.key config (sym come.comes ∙ c.in-Need.is)
 
@@ -33,27 +35,36 @@ pub decide-requires-clause-verdict : goal.decide-requires-clause-verdict
 decide-requires-clause-verdict c =
     let w = c.args.self.now in
     let k = c.in-Some.open.now in
-    let found : value_at w.checks c.args.check ≡ Some k = subst (λ z. value_at z.checks c.args.check ≡ Some k) c.self.view_is (sym c.in-Some.ensures) in
-    let come : HasCome k c.args.value = some_has (λ z. HasCome z c.args.value) (value_at w.checks c.args.check) k c.requires.come found in
-    if_has (λ z. comes_to z ≡ value.Verdict c.in-Verdict.outcome) (value_at w.checks c.args.check) k found (sym come.comes ∙ c.in-Verdict.is)
+    let found : value_at w.checks c.args.check ≡ Some k =
+    subst (λ z. value_at z.checks c.args.check ≡ Some k) c.self.view_is (sym c.in-Some.ensures) in
+    let come : HasCome k c.args.value =
+    some_has (λ z. HasCome z c.args.value) (value_at w.checks c.args.check) k c.requires.come found in
+    if_has (λ z. comes_to z ≡ value.Verdict c.in-Verdict.outcome) (value_at w.checks c.args.check) k found
+    (sym come.comes ∙ c.in-Verdict.is)
 
 pub resolve-requires-clause-idle : goal.resolve-requires-clause-idle
 resolve-requires-clause-idle c =
     let w = c.args.self.now in
     let k = c.in-Some.open.now in
-    let found : value_at w.checks c.args.check ≡ Some k = subst (λ z. value_at z.checks c.args.check ≡ Some k) c.self.view_is (sym c.in-Some.ensures) in
-    let come : HasCome k c.args.value = some_has (λ z. HasCome z c.args.value) (value_at w.checks c.args.check) k c.requires.come found in
+    let found : value_at w.checks c.args.check ≡ Some k =
+    subst (λ z. value_at z.checks c.args.check ≡ Some k) c.self.view_is (sym c.in-Some.ensures) in
+    let come : HasCome k c.args.value =
+    some_has (λ z. HasCome z c.args.value) (value_at w.checks c.args.check) k c.requires.come found in
     if_has (λ z. is_idle z.stage ≡ true) (value_at w.checks c.args.check) k found (come.idle (ap is_need c.in-Need.is))
 
 pub resolve-requires-clause-other : goal.resolve-requires-clause-other
 resolve-requires-clause-other c =
     let w = c.args.self.now in
     let k = c.in-Some.open.now in
-    let found : value_at w.checks c.args.check ≡ Some k = subst (λ z. value_at z.checks c.args.check ≡ Some k) c.self.view_is (sym c.in-Some.ensures) in
-    let come : HasCome k c.args.value = some_has (λ z. HasCome z c.args.value) (value_at w.checks c.args.check) k c.requires.come found in
+    let found : value_at w.checks c.args.check ≡ Some k =
+    subst (λ z. value_at z.checks c.args.check ≡ Some k) c.self.view_is (sym c.in-Some.ensures) in
+    let come : HasCome k c.args.value =
+    some_has (λ z. HasCome z c.args.value) (value_at w.checks c.args.check) k c.requires.come found in
     let config : c.deref.result.now ≡ k.config = cc in
-    let of : class_of_acl k.config.acls c.in-Need.acl ≡ Some c.needed_class-class.result = ap (λ z. class_of_acl z.acls c.in-Need.acl) (sym config) ∙ c.needed_class-class.ensures.class in
-    if_has (λ z. has_answer z.answers c.needed_class-class.result c.in-Need.key ≡ false) (value_at w.checks c.args.check) k found
+    let of : class_of_acl k.config.acls c.in-Need.acl ≡ Some c.needed_class-class.result =
+    ap (λ z. class_of_acl z.acls c.in-Need.acl) (sym config) ∙ c.needed_class-class.ensures.class in
+    if_has (λ z. has_answer z.answers c.needed_class-class.result c.in-Need.key ≡ false)
+    (value_at w.checks c.args.check) k found
     (come.other c.in-Need.acl c.needed_class-class.result c.in-Need.key c.in-Need.is of)
 
 pub resolve-requires-clause-part : goal.resolve-requires-clause-part
@@ -61,32 +72,45 @@ resolve-requires-clause-part c =
     let w = c.args.self.now in
     let i : IsEngine w = subst IsEngine c.self.view_is c.self.invariant in
     let k = c.in-Some.open.now in
-    let found : value_at w.checks c.args.check ≡ Some k = subst (λ z. value_at z.checks c.args.check ≡ Some k) c.self.view_is (sym c.in-Some.ensures) in
+    let found : value_at w.checks c.args.check ≡ Some k =
+    subst (λ z. value_at z.checks c.args.check ≡ Some k) c.self.view_is (sym c.in-Some.ensures) in
     let config : c.deref.result.now ≡ k.config = cc in
-    let there = ap (λ z. is_some (slice_get z.classes c.needed_class-class.result)) (sym config) ∙ c.needed_class-class.ensures.there in
-    ap (λ e. is_some (part_at w.epochs e c.needed_class-class.result)) c.epoch-epoch.ensures ∙ part_needed w c.args.check c.needed_class-class.result k i found there
+    let there = ap (λ z. is_some (slice_get z.classes c.needed_class-class.result)) (sym config)
+    ∙ c.needed_class-class.ensures.there in
+    ap (λ e. is_some (part_at w.epochs e c.needed_class-class.result)) c.epoch-epoch.ensures
+    ∙ part_needed w c.args.check c.needed_class-class.result k i found there
 
 pub returns-in-Verdict-clause-told : goal.returns-in-Verdict-clause-told
 returns-in-Verdict-clause-told c =
     let w = c.args.self.now in
     let i : IsEngine w = subst IsEngine c.self.view_is c.self.invariant in
     let k = c.in-Some.open.now in
-    let found : value_at w.checks c.args.check ≡ Some k = subst (λ z. value_at z.checks c.args.check ≡ Some k) c.self.view_is (sym c.in-Some.ensures) in
+    let found : value_at w.checks c.args.check ≡ Some k =
+    subst (λ z. value_at z.checks c.args.check ≡ Some k) c.self.view_is (sym c.in-Some.ensures) in
     let none = some_has (λ z. need_in z.stage ≡ None) (value_at w.checks c.args.check) k c.requires.idle found in
-    let comes : comes_to k ≡ value.Verdict c.in-Verdict.outcome = sym (some_has (λ z. HasCome z c.args.value) (value_at w.checks c.args.check) k c.requires.come found).comes ∙ c.in-Verdict.is in
-    step_found w c.args.check c.args.moment k found ∙ ap (step_next w.puts) (says_decided w c.args.check c.args.moment k c.in-Verdict.outcome i found none comes)
+    let comes : comes_to k ≡ value.Verdict c.in-Verdict.outcome =
+    sym (some_has (λ z. HasCome z c.args.value) (value_at w.checks c.args.check) k c.requires.come found).comes
+    ∙ c.in-Verdict.is in
+    step_found w c.args.check c.args.moment k found
+    ∙ ap (step_next w.puts) (says_decided w c.args.check c.args.moment k c.in-Verdict.outcome i found none comes)
 
 pub returns-in-Verdict-clause-ok : goal.returns-in-Verdict-clause-ok
 returns-in-Verdict-clause-ok c =
     let w = c.args.self.now in
     let i : IsEngine w = subst IsEngine c.self.view_is c.self.invariant in
     let k = c.in-Some.open.now in
-    let found : value_at w.checks c.args.check ≡ Some k = subst (λ z. value_at z.checks c.args.check ≡ Some k) c.self.view_is (sym c.in-Some.ensures) in
+    let found : value_at w.checks c.args.check ≡ Some k =
+    subst (λ z. value_at z.checks c.args.check ≡ Some k) c.self.view_is (sym c.in-Some.ensures) in
     let none = some_has (λ z. need_in z.stage ≡ None) (value_at w.checks c.args.check) k c.requires.idle found in
-    let comes : comes_to k ≡ value.Verdict c.in-Verdict.outcome = sym (some_has (λ z. HasCome z c.args.value) (value_at w.checks c.args.check) k c.requires.come found).comes ∙ c.in-Verdict.is in
-    let after = after_found w c.args.check c.args.moment k found ∙ ap (λ z. after_step_of c.args.check k.epoch z c.args.moment (state_of w)) (says_decided w c.args.check c.args.moment k c.in-Verdict.outcome i found none comes) in
+    let comes : comes_to k ≡ value.Verdict c.in-Verdict.outcome =
+    sym (some_has (λ z. HasCome z c.args.value) (value_at w.checks c.args.check) k c.requires.come found).comes
+    ∙ c.in-Verdict.is in
+    let after = after_found w c.args.check c.args.moment k found
+    ∙ ap (λ z. after_step_of c.args.check k.epoch z c.args.moment (state_of w))
+    (says_decided w c.args.check c.args.moment k c.in-Verdict.outcome i found none comes) in
     subst (λ z. IsSame (state_of c.decide.new.self) z) (sym after)
-    (subst (λ z. IsSame (state_of z) (after_step_of c.args.check k.epoch says_done c.args.moment (state_of w))) (sym c.decide.ensures.value)
+    (subst (λ z. IsSame (state_of z) (after_step_of c.args.check k.epoch says_done c.args.moment (state_of w)))
+    (sym c.decide.ensures.value)
     (quiet_same w c.decide.new.self.checks c.args.moment c.args.check k.epoch told.Done c.decide.ensures.rows))
 
 pub returns-in-Need-clause-told : goal.returns-in-Need-clause-told
@@ -94,18 +118,25 @@ returns-in-Need-clause-told c =
     let w = c.args.self.now in
     let i : IsEngine w = subst IsEngine c.self.view_is c.self.invariant in
     let k = c.in-Some.open.now in
-    let found : value_at w.checks c.args.check ≡ Some k = subst (λ z. value_at z.checks c.args.check ≡ Some k) c.self.view_is (sym c.in-Some.ensures) in
+    let found : value_at w.checks c.args.check ≡ Some k =
+    subst (λ z. value_at z.checks c.args.check ≡ Some k) c.self.view_is (sym c.in-Some.ensures) in
     let none = some_has (λ z. need_in z.stage ≡ None) (value_at w.checks c.args.check) k c.requires.idle found in
     let config : c.deref.result.now ≡ k.config = cc in
-    let of : class_of_acl k.config.acls c.in-Need.acl ≡ Some c.needed_class-class.result = ap (λ z. class_of_acl z.acls c.in-Need.acl) (sym config) ∙ c.needed_class-class.ensures.class in
-    let comes : comes_to k ≡ value.Need c.in-Need.acl c.in-Need.key = sym (some_has (λ z. HasCome z c.args.value) (value_at w.checks c.args.check) k c.requires.come found).comes ∙ c.in-Need.is in
+    let of : class_of_acl k.config.acls c.in-Need.acl ≡ Some c.needed_class-class.result =
+    ap (λ z. class_of_acl z.acls c.in-Need.acl) (sym config) ∙ c.needed_class-class.ensures.class in
+    let comes : comes_to k ≡ value.Need c.in-Need.acl c.in-Need.key =
+    sym (some_has (λ z. HasCome z c.args.value) (value_at w.checks c.args.check) k c.requires.come found).comes
+    ∙ c.in-Need.is in
     let epoch = c.epoch-epoch.ensures in
-    told_by (stepped_told (state_of w) c.epoch-epoch.result) (stepped_told (state_of w) (epoch_of (state_of w) c.args.check)) (step_now (state_of w) c.args.check c.args.moment)
-    (step_next w.puts (says_here w c.args.moment c.epoch-epoch.result c.needed_class-class.result c.in-Need.key)) c.resolve.result
+    told_by (stepped_told (state_of w) c.epoch-epoch.result)
+    (stepped_told (state_of w) (epoch_of (state_of w) c.args.check)) (step_now (state_of w) c.args.check c.args.moment)
+    (step_next w.puts (says_here w c.args.moment c.epoch-epoch.result c.needed_class-class.result c.in-Need.key))
+    c.resolve.result
     (ap (stepped_told (state_of w)) (epoch ∙ sym (epoch_found w c.args.check k found)))
     (ap (λ e. step_next w.puts (says_here w c.args.moment e c.needed_class-class.result c.in-Need.key)) epoch
     ∙ sym (step_found w c.args.check c.args.moment k found
-    ∙ ap (step_next w.puts) (says_asks w c.args.check c.args.moment k c.in-Need.acl c.needed_class-class.result c.in-Need.key i found none comes of)))
+    ∙ ap (step_next w.puts) (says_asks w c.args.check c.args.moment k c.in-Need.acl c.needed_class-class.result
+    c.in-Need.key i found none comes of)))
     c.resolve.ensures.told
 
 pub returns-in-Need-clause-ok : goal.returns-in-Need-clause-ok
@@ -113,14 +144,21 @@ returns-in-Need-clause-ok c =
     let w = c.args.self.now in
     let i : IsEngine w = subst IsEngine c.self.view_is c.self.invariant in
     let k = c.in-Some.open.now in
-    let found : value_at w.checks c.args.check ≡ Some k = subst (λ z. value_at z.checks c.args.check ≡ Some k) c.self.view_is (sym c.in-Some.ensures) in
+    let found : value_at w.checks c.args.check ≡ Some k =
+    subst (λ z. value_at z.checks c.args.check ≡ Some k) c.self.view_is (sym c.in-Some.ensures) in
     let none = some_has (λ z. need_in z.stage ≡ None) (value_at w.checks c.args.check) k c.requires.idle found in
     let config : c.deref.result.now ≡ k.config = cc in
-    let of : class_of_acl k.config.acls c.in-Need.acl ≡ Some c.needed_class-class.result = ap (λ z. class_of_acl z.acls c.in-Need.acl) (sym config) ∙ c.needed_class-class.ensures.class in
-    let comes : comes_to k ≡ value.Need c.in-Need.acl c.in-Need.key = sym (some_has (λ z. HasCome z c.args.value) (value_at w.checks c.args.check) k c.requires.come found).comes ∙ c.in-Need.is in
+    let of : class_of_acl k.config.acls c.in-Need.acl ≡ Some c.needed_class-class.result =
+    ap (λ z. class_of_acl z.acls c.in-Need.acl) (sym config) ∙ c.needed_class-class.ensures.class in
+    let comes : comes_to k ≡ value.Need c.in-Need.acl c.in-Need.key =
+    sym (some_has (λ z. HasCome z c.args.value) (value_at w.checks c.args.check) k c.requires.come found).comes
+    ∙ c.in-Need.is in
     let epoch = c.epoch-epoch.ensures in
     let after =
-    ap (λ e. after_step_of c.args.check e (says_here w c.args.moment e c.needed_class-class.result c.in-Need.key) c.args.moment (state_of w)) epoch
+    ap (λ e. after_step_of c.args.check e (says_here w c.args.moment e c.needed_class-class.result c.in-Need.key)
+    c.args.moment (state_of w)) epoch
     ∙ sym (after_found w c.args.check c.args.moment k found
-    ∙ ap (λ z. after_step_of c.args.check k.epoch z c.args.moment (state_of w)) (says_asks w c.args.check c.args.moment k c.in-Need.acl c.needed_class-class.result c.in-Need.key i found none comes of)) in
+    ∙ ap (λ z. after_step_of c.args.check k.epoch z c.args.moment (state_of w))
+    (says_asks w c.args.check c.args.moment k c.in-Need.acl c.needed_class-class.result c.in-Need.key i found none comes
+    of)) in
     subst (λ z. OnOk c.resolve.result (IsSame (state_of c.resolve.new.self) z)) after c.resolve.ensures.ok

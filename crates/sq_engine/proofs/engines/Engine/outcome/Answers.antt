@@ -15,7 +15,8 @@ pub returns-in-None : goal.returns-in-None
 returns-in-None c =
     let w = c.args.self.now in
     let k = c.in-Some.open.now in
-    let found : value_at w.checks c.args.check ≡ Some k = subst (λ z. value_at z.checks c.args.check ≡ Some k) c.self.view_is (sym c.in-Some.ensures) in
+    let found : value_at w.checks c.args.check ≡ Some k =
+    subst (λ z. value_at z.checks c.args.check ≡ Some k) c.self.view_is (sym c.in-Some.ensures) in
     let none : decided_in k.stage ≡ None = search rules in
     take_early w c.args.check k found none
 
@@ -23,7 +24,8 @@ pub returns-in-Some-outcome : goal.returns-in-Some-outcome
 returns-in-Some-outcome c =
     let w = c.args.self.now in
     let k = c.in-Some.open.now in
-    let found : value_at w.checks c.args.check ≡ Some k = subst (λ z. value_at z.checks c.args.check ≡ Some k) c.self.view_is (sym c.in-Some.ensures) in
+    let found : value_at w.checks c.args.check ≡ Some k =
+    subst (λ z. value_at z.checks c.args.check ≡ Some k) c.self.view_is (sym c.in-Some.ensures) in
     let i : IsEngine w = subst IsEngine c.self.view_is c.self.invariant in
     let done : decided_in k.stage ≡ Some c.in-Some-outcome.outcome.now = search rules in
     outcome_told w c.args.check k c.in-Some-outcome.outcome.now i found done c.outcome.ensures.verdict

@@ -7,4 +7,5 @@ use Rattle.sq_engine.proofs.engines.Engine.step.Goals as goal
 pub returns-clause-promised : goal.returns-clause-promised
 returns-clause-promised c =
     let s = state_of c.args.self.now in
-    step_promised (stepped_told s (epoch_of s c.args.check)) s (state_of c.step_on.new.self) (max c.args.now c.args.self.now.latest) c.args.check c.step_on.result c.step_on.ensures.told c.step_on.ensures.ok
+    step_promised (stepped_told s (epoch_of s c.args.check)) s (state_of c.step_on.new.self)
+    (max c.args.now c.args.self.now.latest) c.args.check c.step_on.result c.step_on.ensures.told c.step_on.ensures.ok

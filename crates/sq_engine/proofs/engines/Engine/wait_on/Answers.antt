@@ -13,13 +13,37 @@ use Rattle.sq_engine.proofs.engines.Engine.wait_on.Goals as goal
 
 pub invariant_of-self : goal.invariant_of-self
 invariant_of-self c =
-    let v : EngineView = record { conns = c.self.inside.conns; checks = c.self.inside.checks; asks = c.self.inside.asks; puts = c.self.inside.puts; epochs = c.self.inside.epochs; setup = c.self.inside.setup; offset = c.self.inside.offset; latest = c.self.inside.latest } in
+    let v : EngineView = record {
+      conns = c.self.inside.conns;
+      checks = c.self.inside.checks;
+      asks = c.self.inside.asks;
+      puts = c.self.inside.puts;
+      epochs = c.self.inside.epochs;
+      setup = c.self.inside.setup;
+      offset = c.self.inside.offset;
+      latest = c.self.inside.latest;
+    } in
     changed_engine v c.note.new.self c.args.moment c.args.check _ c.self.invariant c.note.ensures.list
-    (asked_stepped c.args.check (says_waits c.args.question) (check_in v.conns) (rows_of v.checks) _ v.asks c.note.ensures.rows c.self.invariant.asked)
-    (counted_stepped c.args.check (says_waits c.args.question) v.epochs.current (epoch_at v.epochs) (rows_of v.checks) _ c.note.ensures.rows c.self.invariant.counted)
-    (λ m same j is. waited_keeps c.args.question c.args.class c.args.key false j (at_number (λ k. need_in k.stage ≡ Some (record { question = c.args.question; class = c.args.class; key = c.args.key })) v.checks c.args.check m same j is (rw (← c.self.view_is) at c.requires.waits)))
+    (asked_stepped c.args.check (says_waits c.args.question) (check_in v.conns) (rows_of v.checks) _ v.asks
+    c.note.ensures.rows c.self.invariant.asked)
+    (counted_stepped c.args.check (says_waits c.args.question) v.epochs.current (epoch_at v.epochs) (rows_of v.checks) _
+    c.note.ensures.rows c.self.invariant.counted)
+    (λ m same j is. waited_keeps c.args.question c.args.class c.args.key false j
+    (at_number (λ k. need_in k.stage
+    ≡ Some (record { question = c.args.question; class = c.args.class; key = c.args.key })) v.checks c.args.check m same
+    j is (rw (← c.self.view_is) at c.requires.waits)))
 
 pub returns-clause-kept : goal.returns-clause-kept
 returns-clause-kept c =
-    let v : EngineView = record { conns = c.self.inside.conns; checks = c.self.inside.checks; asks = c.self.inside.asks; puts = c.self.inside.puts; epochs = c.self.inside.epochs; setup = c.self.inside.setup; offset = c.self.inside.offset; latest = c.self.inside.latest } in
-    subst (λ z. AreKept z.checks c.note.new.self) c.self.view_is (kept_change c.args.check _ v.checks c.note.new.self c.note.ensures.list (λ k. refl))
+    let v : EngineView = record {
+      conns = c.self.inside.conns;
+      checks = c.self.inside.checks;
+      asks = c.self.inside.asks;
+      puts = c.self.inside.puts;
+      epochs = c.self.inside.epochs;
+      setup = c.self.inside.setup;
+      offset = c.self.inside.offset;
+      latest = c.self.inside.latest;
+    } in
+    subst (λ z. AreKept z.checks c.note.new.self) c.self.view_is
+    (kept_change c.args.check _ v.checks c.note.new.self c.note.ensures.list (λ k. refl))

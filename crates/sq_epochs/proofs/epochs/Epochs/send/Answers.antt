@@ -10,42 +10,85 @@ use Rattle.sq_epochs.proofs.epochs.Epochs.send.Goals as goal
 
 pub returns-in_err-place-clause-act : goal.returns-in_err-place-clause-act
 returns-in_err-place-clause-act c =
-    let v : EpochsState = record { current = c.self.inside.current; epochs = c.self.inside.epochs.items; procs = c.self.inside.homes.given; homes = c.self.inside.homes.homes; stops = c.self.inside.homes.stops } in
-    let none : first_place (has_act owes_send) v.epochs ≡ None = sym (c.in_err-place.ensures.first ∙ ap (first_place (has_act owes_send)) c.deref.ensures.value) in
-    let nothing = ap (λ z. first_made (act_at send_by z) (live_places z)) (sym c.self.view_is) ∙ all_nothing send_by owes_send send_agrees v c.self.invariant.live.rise none in
+    let v : EpochsState = record {
+      current = c.self.inside.current;
+      epochs = c.self.inside.epochs.items;
+      procs = c.self.inside.homes.given;
+      homes = c.self.inside.homes.homes;
+      stops = c.self.inside.homes.stops;
+    } in
+    let none : first_place (has_act owes_send) v.epochs ≡ None =
+    sym (c.in_err-place.ensures.first ∙ ap (first_place (has_act owes_send)) c.deref.ensures.value) in
+    let nothing = ap (λ z. first_made (act_at send_by z) (live_places z)) (sym c.self.view_is)
+    ∙ all_nothing send_by owes_send send_agrees v c.self.invariant.live.rise none in
     c.from_residual.ensures ∙ sym (ap told_due nothing)
 
 pub returns-in_err-place-clause-value : goal.returns-in_err-place-clause-value
 returns-in_err-place-clause-value c =
-    let v : EpochsState = record { current = c.self.inside.current; epochs = c.self.inside.epochs.items; procs = c.self.inside.homes.given; homes = c.self.inside.homes.homes; stops = c.self.inside.homes.stops } in
-    let none : first_place (has_act owes_send) v.epochs ≡ None = sym (c.in_err-place.ensures.first ∙ ap (first_place (has_act owes_send)) c.deref.ensures.value) in
-    let nothing = ap (λ z. first_made (act_at send_by z) (live_places z)) (sym c.self.view_is) ∙ all_nothing send_by owes_send send_agrees v c.self.invariant.live.rise none in
+    let v : EpochsState = record {
+      current = c.self.inside.current;
+      epochs = c.self.inside.epochs.items;
+      procs = c.self.inside.homes.given;
+      homes = c.self.inside.homes.homes;
+      stops = c.self.inside.homes.stops;
+    } in
+    let none : first_place (has_act owes_send) v.epochs ≡ None =
+    sym (c.in_err-place.ensures.first ∙ ap (first_place (has_act owes_send)) c.deref.ensures.value) in
+    let nothing = ap (λ z. first_made (act_at send_by z) (live_places z)) (sym c.self.view_is)
+    ∙ all_nothing send_by owes_send send_agrees v c.self.invariant.live.rise none in
     sym (ap (λ o. after_due o c.args.self.now) nothing)
 
 pub invariant_of-self : goal.invariant_of-self
 invariant_of-self c =
-    let v : EpochsState = record { current = c.self.inside.current; epochs = c.self.inside.epochs.items; procs = c.self.inside.homes.given; homes = c.self.inside.homes.homes; stops = c.self.inside.homes.stops } in
-    still_whole v c.in_ok-place.place c.index_mut-live.result.now c.send.new.self c.self.invariant c.index_mut-live.ensures.value c.send.ensures.number c.send.ensures.checks c.send.ensures.alive
+    let v : EpochsState = record {
+      current = c.self.inside.current;
+      epochs = c.self.inside.epochs.items;
+      procs = c.self.inside.homes.given;
+      homes = c.self.inside.homes.homes;
+      stops = c.self.inside.homes.stops;
+    } in
+    still_whole v c.in_ok-place.place c.index_mut-live.result.now c.send.new.self c.self.invariant
+    c.index_mut-live.ensures.value c.send.ensures.number c.send.ensures.checks c.send.ensures.alive
 
 pub returns-clause-act : goal.returns-clause-act
 returns-clause-act c =
-    let v : EpochsState = record { current = c.self.inside.current; epochs = c.self.inside.epochs.items; procs = c.self.inside.homes.given; homes = c.self.inside.homes.homes; stops = c.self.inside.homes.stops } in
+    let v : EpochsState = record {
+      current = c.self.inside.current;
+      epochs = c.self.inside.epochs.items;
+      procs = c.self.inside.homes.given;
+      homes = c.self.inside.homes.homes;
+      stops = c.self.inside.homes.stops;
+    } in
     let i = c.in_ok-place.place in
     let x = c.index_mut-live.result.now in
-    let first : first_place (has_act owes_send) v.epochs ≡ Some i = sym (c.in_ok-place.ensures.first ∙ ap (first_place (has_act owes_send)) c.deref.ensures.value) in
+    let first : first_place (has_act owes_send) v.epochs ≡ Some i =
+    sym (c.in_ok-place.ensures.first ∙ ap (first_place (has_act owes_send)) c.deref.ensures.value) in
     let f = first_is (has_act owes_send) v.epochs i first in
-    let at : slice_get v.epochs i ≡ Some x = slice_get_read v.epochs (length v.epochs) i x refl (slice_get_within v.epochs i f.it f.at) c.index_mut-live.ensures.value in
+    let at : slice_get v.epochs i ≡ Some x =
+    slice_get_read v.epochs (length v.epochs) i x refl (slice_get_within v.epochs i f.it f.at)
+    c.index_mut-live.ensures.value in
     let made = all_made send_by owes_send send_agrees v i x c.self.invariant.live.rise first at c.send.ensures.few in
     c.send.ensures.act ∙ ap told_due (sym made ∙ ap (λ z. first_made (act_at send_by z) (live_places z)) c.self.view_is)
 
 pub returns-clause-value : goal.returns-clause-value
 returns-clause-value c =
-    let v : EpochsState = record { current = c.self.inside.current; epochs = c.self.inside.epochs.items; procs = c.self.inside.homes.given; homes = c.self.inside.homes.homes; stops = c.self.inside.homes.stops } in
+    let v : EpochsState = record {
+      current = c.self.inside.current;
+      epochs = c.self.inside.epochs.items;
+      procs = c.self.inside.homes.given;
+      homes = c.self.inside.homes.homes;
+      stops = c.self.inside.homes.stops;
+    } in
     let i = c.in_ok-place.place in
     let x = c.index_mut-live.result.now in
-    let first : first_place (has_act owes_send) v.epochs ≡ Some i = sym (c.in_ok-place.ensures.first ∙ ap (first_place (has_act owes_send)) c.deref.ensures.value) in
+    let first : first_place (has_act owes_send) v.epochs ≡ Some i =
+    sym (c.in_ok-place.ensures.first ∙ ap (first_place (has_act owes_send)) c.deref.ensures.value) in
     let f = first_is (has_act owes_send) v.epochs i first in
-    let at : slice_get v.epochs i ≡ Some x = slice_get_read v.epochs (length v.epochs) i x refl (slice_get_within v.epochs i f.it f.at) c.index_mut-live.ensures.value in
+    let at : slice_get v.epochs i ≡ Some x =
+    slice_get_read v.epochs (length v.epochs) i x refl (slice_get_within v.epochs i f.it f.at)
+    c.index_mut-live.ensures.value in
     let made = all_made send_by owes_send send_agrees v i x c.self.invariant.live.rise first at c.send.ensures.few in
-    ap (λ z. record v { epochs = set v.epochs i z }) c.send.ensures.value ∙ act_lifted v i x (act_in send_by owes_send x) c.self.invariant.live.rise at (send_of_epoch x) ∙ ap (λ o. after_due o v) (sym made)
+    ap (λ z. record v { epochs = set v.epochs i z }) c.send.ensures.value
+    ∙ act_lifted v i x (act_in send_by owes_send x) c.self.invariant.live.rise at (send_of_epoch x)
+    ∙ ap (λ o. after_due o v) (sym made)
     ∙ ap (λ z. after_due (first_made (act_at send_by z) (live_places z)) z) c.self.view_is

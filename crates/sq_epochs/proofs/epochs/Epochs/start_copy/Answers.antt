@@ -9,18 +9,36 @@ use Rattle.sq_epochs.proofs.epochs.Epochs.start_copy.Goals as goal
 
 pub returns-in_err-place : goal.returns-in_err-place
 returns-in_err-place c =
-    let v : EpochsState = record { current = c.self.inside.current; epochs = c.self.inside.epochs.items; procs = c.self.inside.homes.given; homes = c.self.inside.homes.homes; stops = c.self.inside.homes.stops } in
-    let none : first_place (has_act owes_start) v.epochs ≡ None = sym (c.in_err-place.ensures.first ∙ ap (first_place (has_act owes_start)) c.deref.ensures.value) in
-    let nothing = ap (λ z. first_made (act_at start_by z) (live_places z)) (sym c.self.view_is) ∙ all_nothing start_by owes_start start_agrees v c.self.invariant.live.rise none in
+    let v : EpochsState = record {
+      current = c.self.inside.current;
+      epochs = c.self.inside.epochs.items;
+      procs = c.self.inside.homes.given;
+      homes = c.self.inside.homes.homes;
+      stops = c.self.inside.homes.stops;
+    } in
+    let none : first_place (has_act owes_start) v.epochs ≡ None =
+    sym (c.in_err-place.ensures.first ∙ ap (first_place (has_act owes_start)) c.deref.ensures.value) in
+    let nothing = ap (λ z. first_made (act_at start_by z) (live_places z)) (sym c.self.view_is)
+    ∙ all_nothing start_by owes_start start_agrees v c.self.invariant.live.rise none in
     c.from_residual.ensures ∙ sym (ap told_due nothing)
 
 pub returns : goal.returns
 returns c =
-    let v : EpochsState = record { current = c.self.inside.current; epochs = c.self.inside.epochs.items; procs = c.self.inside.homes.given; homes = c.self.inside.homes.homes; stops = c.self.inside.homes.stops } in
+    let v : EpochsState = record {
+      current = c.self.inside.current;
+      epochs = c.self.inside.epochs.items;
+      procs = c.self.inside.homes.given;
+      homes = c.self.inside.homes.homes;
+      stops = c.self.inside.homes.stops;
+    } in
     let i = c.in_ok-place.place in
     let x = c.index-live.result.now in
-    let first : first_place (has_act owes_start) v.epochs ≡ Some i = sym (c.in_ok-place.ensures.first ∙ ap (first_place (has_act owes_start)) c.deref.ensures.value) in
+    let first : first_place (has_act owes_start) v.epochs ≡ Some i =
+    sym (c.in_ok-place.ensures.first ∙ ap (first_place (has_act owes_start)) c.deref.ensures.value) in
     let f = first_is (has_act owes_start) v.epochs i first in
-    let at : slice_get v.epochs i ≡ Some x = slice_get_read v.epochs (length v.epochs) i x refl (slice_get_within v.epochs i f.it f.at) c.index-live.ensures in
-    let made = all_made start_by owes_start start_agrees v i x c.self.invariant.live.rise first at c.start_copy.ensures.few in
-    c.start_copy.ensures.act ∙ ap told_due (sym made ∙ ap (λ z. first_made (act_at start_by z) (live_places z)) c.self.view_is)
+    let at : slice_get v.epochs i ≡ Some x =
+    slice_get_read v.epochs (length v.epochs) i x refl (slice_get_within v.epochs i f.it f.at) c.index-live.ensures in
+    let made = all_made start_by owes_start start_agrees v i x c.self.invariant.live.rise first
+    at c.start_copy.ensures.few in
+    c.start_copy.ensures.act
+    ∙ ap told_due (sym made ∙ ap (λ z. first_made (act_at start_by z) (live_places z)) c.self.view_is)

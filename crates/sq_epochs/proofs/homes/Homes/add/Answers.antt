@@ -10,7 +10,9 @@ invariant_of-self c =
     let next : v.given + 1 ≡ suc v.given = omega arith in
     let room = rw (← c.self.view_is) at c.requires.room in
     let fits = rw (← c.self.view_is) at c.requires.fits in (
-      subst (λ z. AreHomes (v.given + 1) z v.stops.numbers) (sym c.push_reserved.ensures.items) (homes_more v.given (v.given + 1) v.homes.items v.stops.numbers (record { epoch = c.args.epoch; class = c.args.class }) next c.self.invariant.0),
+      subst (λ z. AreHomes (v.given + 1) z v.stops.numbers) (sym c.push_reserved.ensures.items)
+          (homes_more v.given (v.given + 1) v.homes.items v.stops.numbers
+          (record { epoch = c.args.epoch; class = c.args.class }) next c.self.invariant.0),
       omega (arith, fits),
       grind (arith, common_steps, room, c.push_reserved.ensures.len, c.self.invariant.2),
     )

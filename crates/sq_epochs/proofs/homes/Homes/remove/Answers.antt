@@ -12,7 +12,8 @@ remove-requires c =
     let k = c.args.proc in
     let is = rw (← c.self.view_is) at c.requires in
     let at = taken k hs c.self.invariant.0.rise is in
-    let place : c.place_of-place.result ≡ place_among k (map home_number hs) = c.place_of-place.ensures.place ∙ ap (λ z. place_among k (map home_number z)) c.deref.ensures.value in
+    let place : c.place_of-place.result ≡ place_among k (map home_number hs) = c.place_of-place.ensures.place
+    ∙ ap (λ z. place_among k (map home_number z)) c.deref.ensures.value in
     let w = at.within in
     grind (arith, common_steps, w, place)
 
@@ -33,8 +34,10 @@ invariant_of-self c =
     let k = c.args.proc in
     let is = rw (← c.self.view_is) at c.requires in
     let at = taken k hs c.self.invariant.0.rise is in
-    let place : c.place_of-place.result ≡ place_among k (map home_number hs) = c.place_of-place.ensures.place ∙ ap (λ z. place_among k (map home_number z)) c.deref.ensures.value in
-    let rows : c.remove.new.self.items ≡ without_home k hs = c.remove.ensures.items ∙ ap (remove hs) place ∙ at.rows_are in
+    let place : c.place_of-place.result ≡ place_among k (map home_number hs) = c.place_of-place.ensures.place
+    ∙ ap (λ z. place_among k (map home_number z)) c.deref.ensures.value in
+    let rows : c.remove.new.self.items ≡ without_home k hs = c.remove.ensures.items ∙ ap (remove hs) place
+    ∙ at.rows_are in
     let stops = c.put_if.ensures.numbers in
     let few = at.fewer in
     let most = length_if c.args.due k v.stops.numbers in
@@ -42,7 +45,9 @@ invariant_of-self c =
     let len_stops = ap length stops in
     let more = c.put_if.ensures.room in
     let room = c.self.invariant.2 in (
-      subst (λ z. AreHomes v.given z c.put_if.new.stops.numbers) (sym rows) (subst (AreHomes v.given (without_home k hs)) (sym stops) (homes_less v.given k hs v.stops.numbers c.args.due c.self.invariant.0 is)),
+      subst (λ z. AreHomes v.given z c.put_if.new.stops.numbers) (sym rows)
+          (subst (AreHomes v.given (without_home k hs)) (sym stops)
+          (homes_less v.given k hs v.stops.numbers c.args.due c.self.invariant.0 is)),
       c.self.invariant.1,
       omega arith,
     )
@@ -53,5 +58,6 @@ returns-clause-homes c =
     let k = c.args.proc in
     let is = rw (← c.self.view_is) at c.requires in
     let at = taken k hs c.self.invariant.0.rise is in
-    let place : c.place_of-place.result ≡ place_among k (map home_number hs) = c.place_of-place.ensures.place ∙ ap (λ z. place_among k (map home_number z)) c.deref.ensures.value in
+    let place : c.place_of-place.result ≡ place_among k (map home_number hs) = c.place_of-place.ensures.place
+    ∙ ap (λ z. place_among k (map home_number z)) c.deref.ensures.value in
     rw (← c.self.view_is) (c.remove.ensures.items ∙ ap (remove hs) place ∙ at.rows_are)

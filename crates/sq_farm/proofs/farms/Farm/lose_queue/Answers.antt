@@ -13,5 +13,8 @@ invariant_of-self c =
     let f = c.self.inside in
     let all = length_lose_all cause.NoHelper (map waiting_number f.queue.items) f.losses.losses in
     let n = length-map f.queue.items waiting_number in
-    rw (c.lose_waiting.ensures.queue, c.lose_waiting.ensures.losses)
-    (IsStock_emptied _ true c.self.invariant.0, c.self.invariant.1, grind (arith, all, n, c.lose_waiting.ensures.room, c.self.invariant.2))
+    rw (c.lose_waiting.ensures.queue, c.lose_waiting.ensures.losses) (
+      IsStock_emptied _ true c.self.invariant.0,
+      c.self.invariant.1,
+      grind (arith, all, n, c.lose_waiting.ensures.room, c.self.invariant.2),
+    )

@@ -10,7 +10,11 @@ overflow_sub-self c =
     let opened : is_open c.args.question (slots_in c.args.proc f.procs) ≡ true = rw (← c.self.view_is) at c.requires in
     let once = c.self.invariant.0.once c.args.question in
     let fewer : times_in c.args.question f.procs ≤ 1 = omega arith in
-    grind (arith, open_settled_law c.args.proc c.args.question f.procs c.self.invariant.0.rising opened fewer, c.self.invariant.1)
+    grind (
+      arith,
+      open_settled_law c.args.proc c.args.question f.procs c.self.invariant.0.rising opened fewer,
+      c.self.invariant.1,
+    )
 
 pub invariant_of-self : goal.invariant_of-self
 invariant_of-self c =
@@ -19,7 +23,11 @@ invariant_of-self c =
     let once = c.self.invariant.0.once c.args.question in
     let fewer : times_in c.args.question f.procs ≤ 1 = omega arith in
     let less = open_settled_law c.args.proc c.args.question f.procs c.self.invariant.0.rising opened fewer in
-    rw (c.settle.ensures) (IsStock_settled _ c.args.proc c.args.question c.self.invariant.0 opened, grind (arith, less, c.self.invariant.1), grind (arith, less, c.self.invariant.2))
+    rw (c.settle.ensures) (
+      IsStock_settled _ c.args.proc c.args.question c.self.invariant.0 opened,
+      grind (arith, less, c.self.invariant.1),
+      grind (arith, less, c.self.invariant.2),
+    )
 
 pub returns-clause-stay : goal.returns-clause-stay
 returns-clause-stay c =

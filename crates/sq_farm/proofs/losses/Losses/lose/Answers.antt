@@ -9,7 +9,8 @@ invariant_of-self c =
     let ls = c.self.inside.items.items in
     let q = c.args.question in
     let room = rw (← c.self.view_is) at c.requires.room in
-    let put = on_ok c.insert.result c.insert.ensures.items c.insert.ensures.full (λ full. grind (arith, common_steps, room, full)) in
+    let put = on_ok c.insert.result c.insert.ensures.items c.insert.ensures.full
+    (λ full. grind (arith, common_steps, room, full)) in
     rw (put, c.place_of-place.ensures.place, insert_lose q c.args.cause ls)
     (rises_lose q c.args.cause ls (rw (← c.self.view_is) at c.requires.other) c.self.invariant)
 
@@ -18,5 +19,6 @@ returns-clause-losses c =
     let ls = c.self.inside.items.items in
     let q = c.args.question in
     let room = rw (← c.self.view_is) at c.requires.room in
-    let put = on_ok c.insert.result c.insert.ensures.items c.insert.ensures.full (λ full. grind (arith, common_steps, room, full)) in
+    let put = on_ok c.insert.result c.insert.ensures.items c.insert.ensures.full
+    (λ full. grind (arith, common_steps, room, full)) in
     rw (← c.self.view_is, put, c.place_of-place.ensures.place) (insert_lose q c.args.cause ls)

@@ -8,5 +8,6 @@ use Rattle.sq_farm.proofs.procs.Procs.some_free.Goals as goal
 pub returns : goal.returns
 returns c =
     let rows = c.self.inside.rows.items in
-    let len : vec_len c.self.inside.free ≡ length (free_numbers rows) = grind (arith, common_steps, ap length c.self.invariant.1) in
+    let len : vec_len c.self.inside.free ≡ length (free_numbers rows) =
+    grind (arith, common_steps, ap length c.self.invariant.1) in
     rw (← c.self.view_is) (ap not (c.is_empty.ensures ∙ ap (λ n. n == 0) len) ∙ sym (some_free_law rows))

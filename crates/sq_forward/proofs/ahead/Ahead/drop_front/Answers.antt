@@ -6,4 +6,5 @@ pub returns-else-self-ge-READ : goal.returns-else-self-ge-READ
 returns-else-self-ge-READ c =
     let x = c.self.inside in
     dropped x.start x.end c.args.n x.bytes.items c.args.self.now c.self.invariant.ordered
-    (omega (arith, c.requires, ap length c.self.view_is, length-take (x.end - x.start) (drop x.start x.bytes.items))) c.self.view_is
+    (omega (arith, c.requires, ap length c.self.view_is, length-take (x.end - x.start) (drop x.start x.bytes.items)))
+    c.self.view_is

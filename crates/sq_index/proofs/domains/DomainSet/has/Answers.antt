@@ -13,9 +13,11 @@ returns-then-begun-gt0 c =
     let bytes = path c.as_bytes-host.result.now in
     let n = c.index-names-begun.result in
     let clear = subst (λ l. AreClear l) (sym c.as_slice-names.ensures.value) c.self.invariant in
-    let point = IsPartitionPoint-from_clause (λ (m : Name). is_up_to m.key bytes) names p c.partition_point-begun.ensures.partitioned (clear_parted names bytes clear) (λ a r q k. search rules) in
+    let point = IsPartitionPoint-from_clause (λ (m : Name). is_up_to m.key bytes) names p
+    c.partition_point-begun.ensures.partitioned (clear_parted names bytes clear) (λ a r q k. search rules) in
     let decides = name_decides names p bytes n clear c.partition_point-begun.ensures.bound point in
-    let found : some_at names bytes ≡ is_at (get_or names (p - 1) n) bytes = rw (lt-ltb 0 p c.if-begun-gt0.true) at decides in
+    let found : some_at names bytes ≡ is_at (get_or names (p - 1) n) bytes = rw (lt-ltb 0 p c.if-begun-gt0.true)
+    at decides in
     c.holds.ensures ∙ ap (λ m. is_at m bytes) c.index-names-begun.is ∙ sym found
     ∙ ap (λ l. some_at l bytes) (c.as_slice-names.ensures.value ∙ c.self.view_is)
     ∙ ap (λ h. some_at c.args.self.now (path h)) c.as_bytes-host.ensures.value
@@ -27,7 +29,8 @@ returns-else-begun-gt0 c =
     let bytes = path c.as_bytes-host.result.now in
     let n : Name = record { key = []; wide = false } in
     let clear = subst (λ l. AreClear l) (sym c.as_slice-names.ensures.value) c.self.invariant in
-    let point = IsPartitionPoint-from_clause (λ (m : Name). is_up_to m.key bytes) names p c.partition_point-begun.ensures.partitioned (clear_parted names bytes clear) (λ a r q k. search rules) in
+    let point = IsPartitionPoint-from_clause (λ (m : Name). is_up_to m.key bytes) names p
+    c.partition_point-begun.ensures.partitioned (clear_parted names bytes clear) (λ a r q k. search rules) in
     let decides = name_decides names p bytes n clear c.partition_point-begun.ensures.bound point in
     let none = le-ltb 0 p c.if-begun-gt0.false in
     none ∙ sym (decides ∙ and_left (ltb 0 p) (is_at (get_or names (p - 1) n) bytes) none)

@@ -13,10 +13,12 @@ returns-then-begun-gt0 c =
     let n = c.args.number in
     let d : Span = record { first = 0; last = 0 } in
     let apart = subst (λ l. AreApart l) (sym c.as_slice-spans.ensures.value) c.self.invariant in
-    let point = IsPartitionPoint-from_clause (λ (s : Span). leb s.first n) spans p c.partition_point-begun.ensures.partitioned (apart_parted spans n apart) (λ a r q k. search rules) in
+    let point = IsPartitionPoint-from_clause (λ (s : Span). leb s.first n) spans p
+    c.partition_point-begun.ensures.partitioned (apart_parted spans n apart) (λ a r q k. search rules) in
     let decides = span_decides spans p n d apart c.partition_point-begun.ensures.bound point in
     let begun = point.0 (p - 1) d (omega arith) (omega arith) in
-    let found : in_spans spans n ≡ leb n (get_or spans (p - 1) d).last = rw (lt-ltb 0 p c.if-begun-gt0.true, begun) at decides in
+    let found : in_spans spans n ≡ leb n (get_or spans (p - 1) d).last = rw (lt-ltb 0 p c.if-begun-gt0.true, begun)
+    at decides in
     sym found ∙ ap (λ l. in_spans l n) (c.as_slice-spans.ensures.value ∙ c.self.view_is)
 
 pub returns-else-begun-gt0 : goal.returns-else-begun-gt0
@@ -26,7 +28,9 @@ returns-else-begun-gt0 c =
     let n = c.args.number in
     let d : Span = record { first = 0; last = 0 } in
     let apart = subst (λ l. AreApart l) (sym c.as_slice-spans.ensures.value) c.self.invariant in
-    let point = IsPartitionPoint-from_clause (λ (s : Span). leb s.first n) spans p c.partition_point-begun.ensures.partitioned (apart_parted spans n apart) (λ a r q k. search rules) in
+    let point = IsPartitionPoint-from_clause (λ (s : Span). leb s.first n) spans p
+    c.partition_point-begun.ensures.partitioned (apart_parted spans n apart) (λ a r q k. search rules) in
     let decides = span_decides spans p n d apart c.partition_point-begun.ensures.bound point in
     let none = le-ltb 0 p c.if-begun-gt0.false in
-    none ∙ sym (decides ∙ and_left (ltb 0 p) (in_span (get_or spans (p - 1) d) n) none) ∙ ap (λ l. in_spans l n) (c.as_slice-spans.ensures.value ∙ c.self.view_is)
+    none ∙ sym (decides ∙ and_left (ltb 0 p) (in_span (get_or spans (p - 1) d) n) none)
+    ∙ ap (λ l. in_spans l n) (c.as_slice-spans.ensures.value ∙ c.self.view_is)

@@ -24,9 +24,12 @@ pub returns-clause-waiting : goal.returns-clause-waiting
 returns-clause-waiting c = λ n.
     let here : row_at c.self.inside.rows c.args.question ≡ Some c.in-Some.row = sym c.in-Some.ensures.row in
     rw (← c.self.view_is)
-    (c.remove_all.ensures n ∙ ap (λ b. cond b None (question_of n c.self.inside.waiters)) (sym (ap (λ o. listed_by o n) here) ∙ c.self.invariant.listed c.args.question n))
+    (c.remove_all.ensures n ∙ ap (λ b. cond b None (question_of n c.self.inside.waiters))
+    (sym (ap (λ o. listed_by o n) here) ∙ c.self.invariant.listed c.args.question n))
 
 pub invariant_of-self-2 : goal.invariant_of-self-2
 invariant_of-self-2 c =
-    removed c.self.inside.keys c.remove-2.new.self c.self.inside.rows c.remove.new.self c.self.inside.waiters c.remove_all.new.self c.args.question c.in-Some.row
-    c.self.invariant (sym c.in-Some.ensures.row) c.remove-2.ensures.question c.in-Some.ensures.rows c.in-Some.ensures.lists c.remove_all.ensures
+    removed c.self.inside.keys c.remove-2.new.self c.self.inside.rows c.remove.new.self c.self.inside.waiters
+    c.remove_all.new.self c.args.question c.in-Some.row
+    c.self.invariant (sym c.in-Some.ensures.row) c.remove-2.ensures.question c.in-Some.ensures.rows
+    c.in-Some.ensures.lists c.remove_all.ensures

@@ -7,5 +7,7 @@ use Rattle.sq_lookup.proofs.lookups.Lookups.join.Goals as goal
 
 pub add-requires : goal.add-requires
 add-requires c =
-    let pend : pending_in c.args.key.now (rows_of c.self.inside.rows) ≡ Some c.in-Some.question = sym (c.self.invariant.known c.args.key.now) ∙ sym c.in-Some.ensures in
-    sym (open_is c.in-Some.question c.self.inside.rows) ∙ pending_open c.in-Some.question c.args.key.now (rows_of c.self.inside.rows) pend
+    let pend : pending_in c.args.key.now (rows_of c.self.inside.rows) ≡ Some c.in-Some.question =
+    sym (c.self.invariant.known c.args.key.now) ∙ sym c.in-Some.ensures in
+    sym (open_is c.in-Some.question c.self.inside.rows)
+    ∙ pending_open c.in-Some.question c.args.key.now (rows_of c.self.inside.rows) pend

@@ -8,5 +8,6 @@ use Rattle.sq_lookup.proofs.lookups.Lookups.leave.Goals as goal
 pub drop_check-requires : goal.drop_check-requires
 drop_check-requires c =
     let listed : listed_in c.self.inside.rows c.in-Some.question c.args.check ≡ true =
-    c.self.invariant.listed c.in-Some.question c.args.check ∙ ap (is_number c.in-Some.question) (sym c.in-Some.ensures) ∙ self_number c.in-Some.question in
+    c.self.invariant.listed c.in-Some.question c.args.check ∙ ap (is_number c.in-Some.question) (sym c.in-Some.ensures)
+    ∙ self_number c.in-Some.question in
     listed_row c.in-Some.question c.args.check c.self.inside.rows listed

@@ -5,7 +5,9 @@ use Rattle.sq_lookup.proofs.MapLaws.{number_after, put_undone}
 use Rattle.sq_lookup.proofs.waiters.Waiters.put.Goals as goal
 
 pub returns-clause-ok : goal.returns-clause-ok
-returns-clause-ok c = λ n. rw (← c.self.view_is) (number_after n c.args.check (Some c.args.question) c.self.inside.map.entries c.insert.new.self.entries (c.in_ok-_was.ensures.updates.0 n))
+returns-clause-ok c = λ n. rw (← c.self.view_is)
+    (number_after n c.args.check (Some c.args.question) c.self.inside.map.entries c.insert.new.self.entries
+    (c.in_ok-_was.ensures.updates.0 n))
 
 pub returns-clause-undo : goal.returns-clause-undo
 returns-clause-undo c =

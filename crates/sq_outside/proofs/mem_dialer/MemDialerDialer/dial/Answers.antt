@@ -10,11 +10,14 @@ returns-in-Some-clause-link c = (c.in-Some.origin, c.in-Some.ensures.taken, refl
 pub returns-in-Some-clause-fails : goal.returns-in-Some-clause-fails
 returns-in-Some-clause-fails c =
     let self = c.args.self.now in
-    let listed : dialer_lists_next self ≡ false = sym (c.in_ok-next.ensures.listed ∙ ap (is_listed (dialer_fails self)) c.in_ok-next.ensures.made) in
+    let listed : dialer_lists_next self ≡ false =
+    sym (c.in_ok-next.ensures.listed ∙ ap (is_listed (dialer_fails self)) c.in_ok-next.ensures.made) in
     neither_fails _ _ listed (sym c.in-Some.ensures.found)
 
 pub returns-in-Some-clause-counts : goal.returns-in-Some-clause-counts
 returns-in-Some-clause-counts c =
     let self = c.args.self.now in
-    let listed : dialer_lists_next self ≡ false = sym (c.in_ok-next.ensures.listed ∙ ap (is_listed (dialer_fails self)) c.in_ok-next.ensures.made) in
-    c.in_ok-next.ensures.quiet ∙ ap (λ failed. counted failed (dialer_faults self)) (neither_fails _ _ listed (sym c.in-Some.ensures.found))
+    let listed : dialer_lists_next self ≡ false =
+    sym (c.in_ok-next.ensures.listed ∙ ap (is_listed (dialer_fails self)) c.in_ok-next.ensures.made) in
+    c.in_ok-next.ensures.quiet
+    ∙ ap (λ failed. counted failed (dialer_faults self)) (neither_fails _ _ listed (sym c.in-Some.ensures.found))

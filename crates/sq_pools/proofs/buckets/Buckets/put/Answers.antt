@@ -4,7 +4,9 @@ use Rattle.sq_pools.proofs.MapLaws.{after, put_undone, spot_key}
 use Rattle.sq_pools.proofs.buckets.Buckets.put.Goals as goal
 
 pub returns-clause-ok : goal.returns-clause-ok
-returns-clause-ok c = λ s. rw (← c.self.view_is) (after _ _ spot_key s c.args.spot (Some c.args.bucket) c.self.inside.map.entries c.insert.new.self.entries (c.in_ok-_was.ensures.updates.0 s))
+returns-clause-ok c = λ s. rw (← c.self.view_is)
+    (after _ _ spot_key s c.args.spot (Some c.args.bucket) c.self.inside.map.entries c.insert.new.self.entries
+    (c.in_ok-_was.ensures.updates.0 s))
 
 pub returns-clause-undo : goal.returns-clause-undo
 returns-clause-undo c =

@@ -15,7 +15,8 @@ pub enter-requires-clause-held : goal.enter-requires-clause-held
 enter-requires-clause-held c =
     let es = c.self.inside.map.entries in
     let g : Generation = c.in-Some.generation.now in
-    let here : generation_at es c.args.epoch ≡ Some g = found _ _ number_key c.args.epoch es ∙ sym c.in-Some.ensures.value in
+    let here : generation_at es c.args.epoch ≡ Some g = found _ _ number_key c.args.epoch es
+    ∙ sym c.in-Some.ensures.value in
     let held : held_at es c.args.epoch ≡ g.held = held_there es c.args.epoch g here in
     let few : held_at es c.args.epoch < 9223372036854775808 = rw c.self.view_is c.requires in
     rw held at few
@@ -28,7 +29,8 @@ returns-in_err-enter-in-Some-clause-err c =
     let same : w ≡ g = c.in_err-enter-in-Some.ensures.err in
     rw (p.1, ← c.self.view_is)
     ((c.get_mut.follows.holds w).0
-    ∙ set_value_same (is_at (nat_cmp c.args.epoch)) c.self.inside.map.entries w (sym c.in-Some.ensures.value ∙ ap (λ (x : Generation). Some x) (sym same)))
+    ∙ set_value_same (is_at (nat_cmp c.args.epoch)) c.self.inside.map.entries w
+    (sym c.in-Some.ensures.value ∙ ap (λ (x : Generation). Some x) (sym same)))
 
 pub returns-in_ok-enter-in-Some-clause-made : goal.returns-in_ok-enter-in-Some-clause-made
 returns-in_ok-enter-in-Some-clause-made c = λ e.
@@ -36,8 +38,10 @@ returns-in_ok-enter-in-Some-clause-made c = λ e.
     let g : Generation = c.in-Some.generation.now in
     let w : Generation = c.enter.new.self in
     let fs = (c.get_mut.follows.lender w).entries in
-    let here : generation_at es c.args.epoch ≡ Some g = found _ _ number_key c.args.epoch es ∙ sym c.in-Some.ensures.value in
-    let other : HasAnother c.args.epoch (Some w) es fs = λ q. after _ _ number_key q c.args.epoch (Some w) es fs (((c.get_mut.follows.holds w).3 (search rules)).0 q) in
+    let here : generation_at es c.args.epoch ≡ Some g = found _ _ number_key c.args.epoch es
+    ∙ sym c.in-Some.ensures.value in
+    let other : HasAnother c.args.epoch (Some w) es fs =
+    λ q. after _ _ number_key q c.args.epoch (Some w) es fs (((c.get_mut.follows.holds w).3 (search rules)).0 q) in
     rw (← c.self.view_is) (entered_made c.args.epoch c.args.now g w es fs here other c.enter.ensures.made e)
 
 pub returns-in_ok-enter-in-Some-clause-held : goal.returns-in_ok-enter-in-Some-clause-held
@@ -46,9 +50,12 @@ returns-in_ok-enter-in-Some-clause-held c = λ e.
     let g : Generation = c.in-Some.generation.now in
     let w : Generation = c.enter.new.self in
     let fs = (c.get_mut.follows.lender w).entries in
-    let here : generation_at es c.args.epoch ≡ Some g = found _ _ number_key c.args.epoch es ∙ sym c.in-Some.ensures.value in
-    let other : HasAnother c.args.epoch (Some w) es fs = λ q. after _ _ number_key q c.args.epoch (Some w) es fs (((c.get_mut.follows.holds w).3 (search rules)).0 q) in
-    rw (← c.self.view_is) (entered_held c.args.epoch w es fs other (c.in_ok-enter-in-Some.ensures.held ∙ ap suc (sym (held_there es c.args.epoch g here))) e)
+    let here : generation_at es c.args.epoch ≡ Some g = found _ _ number_key c.args.epoch es
+    ∙ sym c.in-Some.ensures.value in
+    let other : HasAnother c.args.epoch (Some w) es fs =
+    λ q. after _ _ number_key q c.args.epoch (Some w) es fs (((c.get_mut.follows.holds w).3 (search rules)).0 q) in
+    rw (← c.self.view_is) (entered_held c.args.epoch w es fs other
+    (c.in_ok-enter-in-Some.ensures.held ∙ ap suc (sym (held_there es c.args.epoch g here))) e)
 
 pub returns-in_ok-enter-in-Some-clause-buckets : goal.returns-in_ok-enter-in-Some-clause-buckets
 returns-in_ok-enter-in-Some-clause-buckets c = λ e s.
@@ -56,8 +63,13 @@ returns-in_ok-enter-in-Some-clause-buckets c = λ e s.
     let g : Generation = c.in-Some.generation.now in
     let w : Generation = c.enter.new.self in
     let fs = (c.get_mut.follows.lender w).entries in
-    let here : generation_at es c.args.epoch ≡ Some g = found _ _ number_key c.args.epoch es ∙ sym c.in-Some.ensures.value in
-    let other : HasAnother c.args.epoch (Some w) es fs = λ q. after _ _ number_key q c.args.epoch (Some w) es fs (((c.get_mut.follows.holds w).3 (search rules)).0 q) in
+    let here : generation_at es c.args.epoch ≡ Some g = found _ _ number_key c.args.epoch es
+    ∙ sym c.in-Some.ensures.value in
+    let other : HasAnother c.args.epoch (Some w) es fs =
+    λ q. after _ _ number_key q c.args.epoch (Some w) es fs (((c.get_mut.follows.holds w).3 (search rules)).0 q) in
     let start : c.initial.result ≡ c.args.config.now.initial = c.initial.ensures.value in
-    rw (← c.self.view_is) (entered_filled c.args.epoch c.args.config.now.initial c.args.now c.args.spots.now g w (is_aggregate (Some c.args.config.now)) es fs here other c.enter.ensures.made
-    (λ t. c.in_ok-enter-in-Some.ensures.buckets t ∙ ap (λ n. filled_if (has_spot c.args.spots.now t) (opened_in n (second_of g.made c.args.now) t) (bucket_at g.buckets t)) start) e s)
+    rw (← c.self.view_is) (entered_filled c.args.epoch c.args.config.now.initial c.args.now c.args.spots.now g w
+    (is_aggregate (Some c.args.config.now)) es fs here other c.enter.ensures.made
+    (λ t. c.in_ok-enter-in-Some.ensures.buckets t
+    ∙ ap (λ n. filled_if (has_spot c.args.spots.now t) (opened_in n (second_of g.made c.args.now) t)
+    (bucket_at g.buckets t)) start) e s)

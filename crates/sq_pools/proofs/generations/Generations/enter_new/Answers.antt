@@ -5,17 +5,21 @@ use Rattle.sq_pools.proofs.generations.Generations.enter_new.Goals as goal
 
 pub returns-clause-made : goal.returns-clause-made
 returns-clause-made c =
-    begun_made c.args.epoch c.args.now c.enter.new.self c.args.self.now c.put.new.self c.requires c.in_ok-put.ensures.ok (c.enter.ensures.made ∙ c.in_ok-generation.ensures.made)
+    begun_made c.args.epoch c.args.now c.enter.new.self c.args.self.now c.put.new.self c.requires c.in_ok-put.ensures.ok
+    (c.enter.ensures.made ∙ c.in_ok-generation.ensures.made)
 
 pub returns-clause-held : goal.returns-clause-held
 returns-clause-held c =
     entered_held c.args.epoch c.enter.new.self c.args.self.now c.put.new.self c.in_ok-put.ensures.ok
-    (c.in_ok-enter.ensures.held ∙ ap suc (c.in_ok-generation.ensures.held ∙ sym (held_absent c.args.self.now c.args.epoch c.requires)))
+    (c.in_ok-enter.ensures.held
+    ∙ ap suc (c.in_ok-generation.ensures.held ∙ sym (held_absent c.args.self.now c.args.epoch c.requires)))
 
 pub returns-clause-buckets : goal.returns-clause-buckets
 returns-clause-buckets c =
-    made_filled c.args.epoch c.args.config.now.initial c.args.now c.args.spots.now c.enter.new.self (is_aggregate (Some c.args.config.now)) c.args.self.now c.put.new.self
+    made_filled c.args.epoch c.args.config.now.initial c.args.now c.args.spots.now c.enter.new.self
+    (is_aggregate (Some c.args.config.now)) c.args.self.now c.put.new.self
     c.requires c.in_ok-put.ensures.ok (c.enter.ensures.made ∙ c.in_ok-generation.ensures.made)
     (λ s. c.in_ok-enter.ensures.buckets s
-    ∙ opened_alike (has_spot c.args.spots.now s) c.initial.result c.args.config.now.initial c.in_ok-generation.generation.made c.args.now s _ _
+    ∙ opened_alike (has_spot c.args.spots.now s) c.initial.result c.args.config.now.initial
+    c.in_ok-generation.generation.made c.args.now s _ _
     c.initial.ensures.value c.in_ok-generation.ensures.made (c.in_ok-generation.ensures.buckets s))

@@ -11,10 +11,13 @@ returns-clause-made c = λ e.
     let g : Generation = c.in-Some.generation.now in
     let w : Generation = c.grant.new.self in
     let fs = (c.get_mut.follows.lender w).entries in
-    let here : generation_at es c.args.epoch ≡ Some g = found _ _ number_key c.args.epoch es ∙ sym c.in-Some.ensures.value in
-    let other : HasAnother c.args.epoch (Some w) es fs = λ q. after _ _ number_key q c.args.epoch (Some w) es fs (((c.get_mut.follows.holds w).3 (search rules)).0 q) in
+    let here : generation_at es c.args.epoch ≡ Some g = found _ _ number_key c.args.epoch es
+    ∙ sym c.in-Some.ensures.value in
+    let other : HasAnother c.args.epoch (Some w) es fs =
+    λ q. after _ _ number_key q c.args.epoch (Some w) es fs (((c.get_mut.follows.holds w).3 (search rules)).0 q) in
     rw (← c.self.view_is) (made_then c.args.epoch (Some w) es fs other e
-    ∙ same_there e c.args.epoch (made_at es) (Some w.made) (ap (λ (m : ℕ). Some m) c.grant.ensures.made ∙ sym (made_there es c.args.epoch g here)))
+    ∙ same_there e c.args.epoch (made_at es) (Some w.made)
+    (ap (λ (m : ℕ). Some m) c.grant.ensures.made ∙ sym (made_there es c.args.epoch g here)))
 
 pub returns-clause-held : goal.returns-clause-held
 returns-clause-held c = λ e.
@@ -22,8 +25,10 @@ returns-clause-held c = λ e.
     let g : Generation = c.in-Some.generation.now in
     let w : Generation = c.grant.new.self in
     let fs = (c.get_mut.follows.lender w).entries in
-    let here : generation_at es c.args.epoch ≡ Some g = found _ _ number_key c.args.epoch es ∙ sym c.in-Some.ensures.value in
-    let other : HasAnother c.args.epoch (Some w) es fs = λ q. after _ _ number_key q c.args.epoch (Some w) es fs (((c.get_mut.follows.holds w).3 (search rules)).0 q) in
+    let here : generation_at es c.args.epoch ≡ Some g = found _ _ number_key c.args.epoch es
+    ∙ sym c.in-Some.ensures.value in
+    let other : HasAnother c.args.epoch (Some w) es fs =
+    λ q. after _ _ number_key q c.args.epoch (Some w) es fs (((c.get_mut.follows.holds w).3 (search rules)).0 q) in
     rw (← c.self.view_is) (held_then c.args.epoch (Some w) es fs other e
     ∙ same_there e c.args.epoch (held_at es) w.held (c.grant.ensures.held ∙ sym (held_there es c.args.epoch g here)))
 
@@ -33,6 +38,9 @@ returns-clause-taken c = λ e s.
     let g : Generation = c.in-Some.generation.now in
     let w : Generation = c.grant.new.self in
     let fs = (c.get_mut.follows.lender w).entries in
-    let here : generation_at es c.args.epoch ≡ Some g = found _ _ number_key c.args.epoch es ∙ sym c.in-Some.ensures.value in
-    let other : HasAnother c.args.epoch (Some w) es fs = λ q. after _ _ number_key q c.args.epoch (Some w) es fs (((c.get_mut.follows.holds w).3 (search rules)).0 q) in
-    rw (← c.self.view_is) (granted_then c.args.epoch c.args.now c.grant.result c.args.spots.now g w es fs here other c.grant.ensures.taken e s)
+    let here : generation_at es c.args.epoch ≡ Some g = found _ _ number_key c.args.epoch es
+    ∙ sym c.in-Some.ensures.value in
+    let other : HasAnother c.args.epoch (Some w) es fs =
+    λ q. after _ _ number_key q c.args.epoch (Some w) es fs (((c.get_mut.follows.holds w).3 (search rules)).0 q) in
+    rw (← c.self.view_is) (granted_then c.args.epoch c.args.now c.grant.result c.args.spots.now g w es fs here other
+    c.grant.ensures.taken e s)

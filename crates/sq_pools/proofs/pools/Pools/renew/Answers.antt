@@ -11,6 +11,8 @@ invariant_of-self-2 c =
     let u : ℕ = c.later-now.result in
     let later : p.latest ≤ u = let is : u ≡ max c.args.now p.latest = c.later-now.ensures in omega arith in
     let loose : IsLoose p.newest (basin c.begin.new.self p.seats p.given c.args.epoch u p.granted) =
-    renewed_loose p.generations c.begin.new.self p.seats p.given p.newest p.latest u p.granted c.args.epoch config.initial (is_aggregate (Some config)) c.self.invariant later
+    renewed_loose p.generations c.begin.new.self p.seats p.given p.newest p.latest u p.granted c.args.epoch
+    config.initial (is_aggregate (Some config)) c.self.invariant later
     c.in_ok-begin.ensures.made c.in_ok-begin.ensures.held c.in_ok-begin.ensures.buckets in
-    retired_basin p.newest c.begin.new.self c.retire.new.self p.seats p.given c.args.epoch u p.granted loose c.retire.ensures.made c.retire.ensures.held c.retire.ensures.buckets
+    retired_basin p.newest c.begin.new.self c.retire.new.self p.seats p.given c.args.epoch u p.granted loose
+    c.retire.ensures.made c.retire.ensures.held c.retire.ensures.buckets

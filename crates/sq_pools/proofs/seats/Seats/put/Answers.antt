@@ -4,7 +4,9 @@ use Rattle.sq_pools.proofs.MapLaws.{after, number_key, put_undone}
 use Rattle.sq_pools.proofs.seats.Seats.put.Goals as goal
 
 pub returns-clause-ok : goal.returns-clause-ok
-returns-clause-ok c = λ n. rw (← c.self.view_is) (after _ _ number_key n c.args.number (Some c.args.seated) c.self.inside.map.entries c.insert.new.self.entries (c.in_ok-_was.ensures.updates.0 n))
+returns-clause-ok c = λ n. rw (← c.self.view_is)
+    (after _ _ number_key n c.args.number (Some c.args.seated) c.self.inside.map.entries c.insert.new.self.entries
+    (c.in_ok-_was.ensures.updates.0 n))
 
 pub returns-clause-undo : goal.returns-clause-undo
 returns-clause-undo c =

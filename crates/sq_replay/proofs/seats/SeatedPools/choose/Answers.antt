@@ -7,8 +7,10 @@ use Rattle.sq_replay.proofs.seats.SeatedPools.choose.Goals as goal
 pub invariant_of-self-in-Ok : goal.invariant_of-self-in-Ok
 invariant_of-self-in-Ok c =
     let p = c.self.inside.pools in
-    held_more c.self.inside.seats.entries c.insert.new.self.entries p c.choose.new.self c.number-number.result c.in_ok-seat.seat (suc p.given)
-    (sat_in c.args.epoch c.args.config.now.value c.args.pool c.args.addr) c.self.invariant (c.number-number.ensures ∙ c.in_ok-seat.ensures.number) c.in_ok-seat.ensures.number
+    held_more c.self.inside.seats.entries c.insert.new.self.entries p c.choose.new.self c.number-number.result
+    c.in_ok-seat.seat (suc p.given)
+    (sat_in c.args.epoch c.args.config.now.value c.args.pool c.args.addr) c.self.invariant
+    (c.number-number.ensures ∙ c.in_ok-seat.ensures.number) c.in_ok-seat.ensures.number
     c.in-Ok.ensures.updates.0 c.in_ok-seat.ensures.chosen.seats
 
 pub returns-in-Ok-clause-few : goal.returns-in-Ok-clause-few

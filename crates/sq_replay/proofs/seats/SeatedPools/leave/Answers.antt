@@ -8,10 +8,13 @@ invariant_of-self-in-Some c =
     let p = c.self.inside.pools in
     let es = c.self.inside.seats.entries in
     let same = held_is es p c.args.number c.in-Some.seat c.self.invariant c.in-Some.ensures.value in
-    held_less es c.remove.new.self.entries p c.leave.new.self c.args.number c.in-Some.seat c.self.invariant same c.remove.ensures.updates.0 c.leave.ensures.seats
+    held_less es c.remove.new.self.entries p c.leave.new.self c.args.number c.in-Some.seat c.self.invariant same
+    c.remove.ensures.updates.0 c.leave.ensures.seats
 
 pub returns-in-Some-clause-left : goal.returns-in-Some-clause-left
 returns-in-Some-clause-left c = λ _.
     let p = c.self.inside.pools in
-    let same = held_is c.self.inside.seats.entries p c.args.number c.in-Some.seat c.self.invariant c.in-Some.ensures.value in
-    subst (λ (z : Basin). HasLeft z c.leave.new.self c.args.number) c.self.view_is (subst (λ (n : ℕ). HasLeft p c.leave.new.self n) same c.leave.ensures)
+    let same = held_is c.self.inside.seats.entries p c.args.number c.in-Some.seat c.self.invariant
+    c.in-Some.ensures.value in
+    subst (λ (z : Basin). HasLeft z c.leave.new.self c.args.number) c.self.view_is
+    (subst (λ (n : ℕ). HasLeft p c.leave.new.self n) same c.leave.ensures)

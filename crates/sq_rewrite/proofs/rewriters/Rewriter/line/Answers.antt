@@ -7,4 +7,5 @@ pub invariant_of-self : goal.invariant_of-self
 invariant_of-self c = rw (c.in_err-note.ensures.err.0, c.in_err-note.ensures.err.1) c.self.invariant
 
 pub invariant_of-self-2 : goal.invariant_of-self-2
-invariant_of-self-2 c = reached_after (Wrote c.args.proc c.args.bytes.now c.in_ok-got.got) _ _ c.self.invariant (search rules) (search rules)
+invariant_of-self-2 c = reached_after (Wrote c.args.proc c.args.bytes.now c.in_ok-got.got) _ _ c.self.invariant
+    (search rules) (search rules)

@@ -4,4 +4,5 @@ use Rattle.sq_rules.proofs.acl_table.AclTable.place.Goals as goal
 
 pub returns-clause-within : goal.returns-clause-within
 returns-clause-within c =
-    rw (← c.self.view_is, c.place.ensures, c.self.invariant.places_are c.args.name.now) (place_within (λ a. a.name) 0 _ c.self.inside.acls.items c.args.name.now (omega arith))
+    rw (← c.self.view_is, c.place.ensures, c.self.invariant.places_are c.args.name.now)
+    (place_within (λ a. a.name) 0 _ c.self.inside.acls.items c.args.name.now (omega arith))

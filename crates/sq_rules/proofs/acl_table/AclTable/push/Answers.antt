@@ -12,7 +12,9 @@ use Rattle.sq_rules.proofs.acl_table.AclTable.push.Goals as goal
 pub overflow_add-stated : goal.overflow_add-stated
 overflow_add-stated c =
     let old = c.self.inside.acls.items in
-    let most : c.self.inside.stated + c.counted.result ≤ suc (length old) = stated_most old c.args.name c.self.inside.stated c.counted.result c.self.invariant.count_is (grind (arith, common_steps, c.counted.ensures)) in
+    let most : c.self.inside.stated + c.counted.result ≤ suc (length old) =
+    stated_most old c.args.name c.self.inside.stated c.counted.result c.self.invariant.count_is
+    (grind (arith, common_steps, c.counted.ensures)) in
     let few : length old < most_acls = rw c.self.view_is c.requires.few in
     omega (arith, most, few)
 
@@ -21,14 +23,25 @@ invariant_of-self-2 c =
     let old = c.self.inside.acls.items in
     let new = c.push_reserved-3.new.self.items in
     let acl : Acl = record { name = c.args.name; body = c.args.body } in
-    let more : new ≡ old ++ acl ∷ [] = grind (arith, common_steps, c.push_reserved-3.ensures.items, c.reserve.ensures.items) in
+    let more : new ≡ old ++ acl ∷ [] =
+    grind (arith, common_steps, c.push_reserved-3.ensures.items, c.reserve.ensures.items) in
     let free : place_from (λ (a : Acl). a.name) 0 old acl.name ≡ None = rw c.self.view_is c.requires.free in
-    let deep : allowed (nesting_of c.self.inside.nestings.items acl.body) ≡ Some c.in-Some.nesting = grind (arith, common_steps, c.nesting_of.ensures, c.in-Some.is) in
+    let deep : allowed (nesting_of c.self.inside.nestings.items acl.body) ≡ Some c.in-Some.nesting =
+    grind (arith, common_steps, c.nesting_of.ensures, c.in-Some.is) in
     record {
-      places_are = known_push (λ a. a.name) c.self.inside.places c.put.new.self old new acl c.in_ok-key.key c.len-place.result c.self.invariant.places_are c.in_ok-put.ensures.ok free (grind (arith, common_steps)) (grind (arith, common_steps)) more;
-      depths_are = depths_push c.self.inside.nestings.items c.push_reserved.new.self.items old new acl c.in-Some.nesting c.self.invariant.depths_are (grind (arith, common_steps, c.push_reserved.ensures.items, c.reserve-2.ensures.items)) deep more;
-      slow_are = slow_push c.self.inside.slow.items c.push_reserved-2.new.self.items old new acl c.is_slow-asks.result c.self.invariant.slow_are (grind (arith, common_steps, c.push_reserved-2.ensures.items, c.reserve-3.ensures.items)) (grind (arith, common_steps, c.is_slow-asks.ensures)) more;
-      count_is = stated_push old new acl c.self.inside.stated c.counted.result (c.self.inside.stated + c.counted.result) c.self.invariant.count_is (grind (arith, common_steps, c.counted.ensures)) refl more;
+      places_are = known_push (λ a. a.name) c.self.inside.places c.put.new.self old new acl c.in_ok-key.key
+          c.len-place.result c.self.invariant.places_are c.in_ok-put.ensures.ok free (grind (arith, common_steps))
+          (grind (arith, common_steps)) more;
+      depths_are = depths_push c.self.inside.nestings.items c.push_reserved.new.self.items old new acl c.in-Some.nesting
+          c.self.invariant.depths_are
+          (grind (arith, common_steps, c.push_reserved.ensures.items, c.reserve-2.ensures.items)) deep more;
+      slow_are = slow_push c.self.inside.slow.items c.push_reserved-2.new.self.items old new acl c.is_slow-asks.result
+          c.self.invariant.slow_are
+          (grind (arith, common_steps, c.push_reserved-2.ensures.items, c.reserve-3.ensures.items))
+          (grind (arith, common_steps, c.is_slow-asks.ensures)) more;
+      count_is = stated_push old new acl c.self.inside.stated c.counted.result (c.self.inside.stated + c.counted.result)
+          c.self.invariant.count_is (grind (arith, common_steps, c.counted.ensures)) refl more;
       unique = own_push (λ a. a.name) old new acl c.self.invariant.unique free more;
-      shallow = shallow_push c.self.inside.nestings.items old new acl c.in-Some.nesting c.self.invariant.shallow c.self.invariant.depths_are deep more;
+      shallow = shallow_push c.self.inside.nestings.items old new acl c.in-Some.nesting c.self.invariant.shallow
+          c.self.invariant.depths_are deep more;
     }

@@ -12,7 +12,15 @@ invariant_of-result c = record {
   places = rw c.into_acls.ensures.acls c.in_ok-rules.ensures.known;
   pools_are = rw c.into_acls.ensures.acls c.in_ok-pools.ensures.are_pools;
   headers_are = rw c.into_acls.ensures.acls c.in_ok-headers.ensures.are_headers;
-  lookups_are = rw (c.into_classes.ensures.classes, c.into_acls.ensures.acls) (grind (arith, common_steps, c.are_looked_up.ensures, c.as_slice.ensures, c.as_slice-2.ensures, c.if-not-are_looked_up.false));
+  lookups_are = rw (c.into_classes.ensures.classes, c.into_acls.ensures.acls)
+      (grind (
+        arith,
+        common_steps,
+        c.are_looked_up.ensures,
+        c.as_slice.ensures,
+        c.as_slice-2.ensures,
+        c.if-not-are_looked_up.false,
+      ));
   few_classes = rw (c.into_classes.ensures.classes, c.in_ok-classes.ensures.count) c.requires.few_classes;
   few_acls = rw (c.into_acls.ensures.acls, c.in_ok-acls.ensures.stated) c.requires.few_acls;
   all_acls = rw (c.into_acls.ensures.acls, c.in_ok-acls.ensures.count) c.requires.all_acls;

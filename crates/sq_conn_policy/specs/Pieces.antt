@@ -1,0 +1,115 @@
+-- What a front over a hub that tells stands for: its answers are those of pieces of the machine's
+-- history.
+use Rattle.std.specs.Prelude.{◌≡◌, ℕ, List, [], ◌∷◌, ◌++◌, Bool, true, false, Ok, Err, Some, None, ⊤}
+use Rattle.std.specs.List.{list_all}
+use Rattle.std.specs.Option.{option_map}
+use Rattle.std.specs.declared.option.Option.{Option}
+use Rattle.std.specs.declared.result.Result.{Result}
+use Rattle.sq_base.specs.Addresses.{Address}
+use Rattle.sq_rules.specs.Configurations.{Configuration}
+use Rattle.sq_machine.specs.Entries.{History, entry_at}
+use Rattle.sq_machine.specs.declared.entries.Event.TheVariants as event
+use Rattle.sq_machine.specs.declared.entries.Told.TheVariants as told
+use Rattle.sq_base.specs.Requests.{HttpRequest}
+use Rattle.sq_session.specs.Fronts.{FrontAnswer, OfOpen, OfDecide, OfSit, OfClose}
+use Rattle.sq_session.specs.declared.front.CloseFault.{CloseFault}
+use Rattle.sq_session.specs.declared.front.CloseFault.TheVariants as close
+use Rattle.sq_session.specs.declared.front.Decided.{Decided}
+use Rattle.sq_session.specs.declared.front.Decided.TheVariants as decided
+use Rattle.sq_session.specs.declared.front.Opened.{Opened}
+use Rattle.sq_session.specs.declared.front.Opened.TheVariants as opened
+use Rattle.sq_model_state.specs.States.{State}
+use Rattle.sq_conn_policy.specs.Judging.{IsAttempt, IsDecision}
+use Rattle.sq_conn_policy.specs.Tellings.{HubState, StandsAt}
+
+-- an answer of a front, and the entries that its call added
+pub record HistoryPiece : Type 0 where
+  pub answer : FrontAnswer
+  pub entries : History
+
+-- the connection opened for a client of this address and port, or nothing came of it
+abbrev pub IsOpening : ℕ → Address → ℕ → Opened → History → Type 0
+IsOpening conn a port opened.In entries = (now : ℕ)
+    × (entries ≡ entry_at now (event.Open conn a port) told.Fine ∷ [])
+IsOpening conn a port opened.Full entries = entries ≡ []
+IsOpening conn a port (opened.Refused why) entries = entries ≡ []
+IsOpening conn a port opened.JournalFault entries = entries ≡ []
+IsOpening conn a port opened.WantOfMemory entries = entries ≡ []
+
+-- this request was asked about on the connection: with a record it is that of this check, and
+-- without one the check may have gone on
+abbrev pub IsQuestion : ℕ → HttpRequest → Decided → History → Type 0
+IsQuestion conn r (decided.Record j) entries = IsDecision conn r j entries
+IsQuestion conn r (decided.Mismatch other) entries = ⊥
+IsQuestion conn r (decided.Refused why) entries = IsAttempt conn r entries
+IsQuestion conn r decided.JournalFault entries = IsAttempt conn r entries
+IsQuestion conn r decided.WantOfMemory entries = IsAttempt conn r entries
+
+-- the connection closed, or nothing came of it
+abbrev pub IsClosing : ℕ → Result (Unit {0}) CloseFault → History → Type 0
+IsClosing conn (Ok u) entries = (now : ℕ)
+    × (entries ≡ entry_at now (event.Close conn) told.Fine ∷ [])
+IsClosing conn (Err fault) entries = entries ≡ []
+
+-- the entries are those of the answer
+abbrev pub FitsPiece : ℕ → FrontAnswer → History → Type 0
+FitsPiece conn (OfOpen a port o) entries = IsOpening conn a port o entries
+FitsPiece conn (OfDecide r d) entries = IsQuestion conn r d entries
+FitsPiece conn (OfSit j s) entries = entries ≡ []
+FitsPiece conn (OfClose c) entries = IsClosing conn c entries
+
+-- the newest piece first
+abbrev pub ArePieces : ℕ → List HistoryPiece → Type 0
+ArePieces conn [] = ⊤
+ArePieces conn (p ∷ ps) = FitsPiece conn p.answer p.entries × ArePieces conn ps
+
+-- the answers, the oldest first
+abbrev pub answers_of : List HistoryPiece → List FrontAnswer
+answers_of [] = []
+answers_of (p ∷ ps) = answers_of ps ++ p.answer ∷ []
+
+-- the entries, the newest first
+abbrev pub entries_of : List HistoryPiece → History
+entries_of [] = []
+entries_of (p ∷ ps) = p.entries ++ entries_of ps
+
+-- behind some history the machine's is that of pieces with these answers
+pub record IsFrontList (conn : ℕ) (s : State) (list : List FrontAnswer) : Type 0 where
+  pub configs : List Configuration
+  pub before : History
+  pub pieces : List HistoryPiece
+  pub fit : ArePieces conn pieces
+  pub same : list ≡ answers_of pieces
+  pub stands : StandsAt configs (entries_of pieces ++ before) s
+
+abbrev pub machine_told : Option HubState → Option State
+machine_told told = option_map (λ v. v.machine) told
+
+-- the answer is no refusal, tells of no journal that could not be written, and of no other request
+-- that was judged; of seats nothing is said
+abbrev pub is_unrefused : FrontAnswer → Bool
+is_unrefused (OfOpen a port opened.In) = true
+is_unrefused (OfOpen a port opened.Full) = false
+is_unrefused (OfOpen a port (opened.Refused why)) = false
+is_unrefused (OfOpen a port opened.JournalFault) = false
+is_unrefused (OfOpen a port opened.WantOfMemory) = true
+is_unrefused (OfDecide r (decided.Record j)) = true
+is_unrefused (OfDecide r (decided.Mismatch other)) = false
+is_unrefused (OfDecide r (decided.Refused why)) = false
+is_unrefused (OfDecide r decided.JournalFault) = false
+is_unrefused (OfDecide r decided.WantOfMemory) = true
+is_unrefused (OfSit j s) = true
+is_unrefused (OfClose (Ok u)) = true
+is_unrefused (OfClose (Err (close.Refused why))) = false
+is_unrefused (OfClose (Err close.JournalFault)) = false
+is_unrefused (OfClose (Err close.WantOfMemory)) = true
+
+-- they are so where no refusal was ever counted
+abbrev pub AreUnrefused : ℕ → List FrontAnswer → Type 0
+AreUnrefused refused list = refused ≡ 0 → list_all is_unrefused list ≡ true
+
+-- what a front stands for, by the machine where its hub tells that, and by the count of refusals;
+-- else it stands for no list
+abbrev pub FrontStands : ℕ → Option State → ℕ → List FrontAnswer → Type 0
+FrontStands conn None refused list = ⊥
+FrontStands conn (Some s) refused list = IsFrontList conn s list × AreUnrefused refused list

@@ -1,0 +1,331 @@
+//! `HubFront`: the front of one connection over a hub.
+ghost use Rattle.std.specs.Prelude.{◌≡◌, ◌≤◌, ◌-◌, ◌^◌, is_some, false};
+ghost use Rattle.sq_forward.specs.Meters.{granted_after};
+ghost use Rattle.std.specs.declared.option.Option.{Option};
+ghost use Rattle.sq_conn_policy.specs.Hubs.{opened_of, unclosed_of, OpenFails, CloseFails, DecideFails};
+ghost use Rattle.sq_conn_policy.specs.Judging.{GrantsOn};
+ghost use Rattle.sq_conn_policy.specs.Tellings.{Tells};
+
+use crate::hub::{Hub, HubFault};
+use crate::judging::judge;
+use sq_base::{Addr, ConnNo, Request};
+use sq_checks::Record;
+use sq_forward::Meter;
+use sq_machine::Refusal;
+use sq_outside::COUNT_LIMIT;
+use sq_pools::{ChooseFault, Seat};
+use sq_session::{CloseFault, Counts, Decided, Front, Opened, SitFault};
+use std::alloc::Global;
+use std::sync::Wait;
+
+/// What one connection sees of a hub: its questions, and the seat that it holds.
+#[derive(Drop)]
+pub struct HubFront<'a, R: Wait, H: Hub + Drop> {
+    rt: &'a R,
+    hub: H,
+    conn: ConnNo,
+    seat: Option<Seat>,
+    short: bool,
+    dry: u64,
+    ghost dry_capped: { dry ≤ 2 ^ 63 - 1 },
+}
+
+impl<'a, R: Wait, H: Hub + Drop> HubFront<'a, R, H> {
+    ghost use Rattle.std.specs.Prelude.{List, [], IfSome};
+    ghost use Rattle.sq_rules.specs.Configurations.{Configuration};
+    ghost use Rattle.sq_machine.specs.Entries.{History};
+    ghost use Rattle.sq_conn_policy.specs.Pieces.{FrontStands, machine_told};
+    ghost use Rattle.sq_conn_policy.specs.Tellings.{StandsAt};
+
+    /// The front of a connection of this number. It holds no seat. It takes no memory.
+    pub fn new(rt: &'a R, hub: H, conn: ConnNo) -> HubFront<'a, R, H>
+        ensures hub { result.hub ≡ hub }
+        ensures conn { result.conn ≡ conn }
+        ensures seat { is_some result.seat ≡ false }
+        ensures dry { result.dry ≡ 0 }
+        // Where the hub tells a state that stands for a history, the front stands for no answers so far.
+        ensures stands { IfSome (H.told hub)
+            (λ v. (configs : List Configuration) (h : History) → StandsAt configs h v.machine
+            → FrontStands conn (machine_told (H.told hub)) (H.refused hub) []) }
+    {
+        HubFront {
+            rt,
+            hub,
+            conn,
+            seat: None,
+            short: false,
+            dry: 0,
+        }
+    }
+
+    /// The hub, handed back. It takes no memory.
+    pub fn finish(self) -> H
+        requires unseated { is_some self.seat ≡ false }
+        ensures hub { result ≡ self.entry.hub }
+    {
+        self.hub
+    }
+}
+
+impl<'a, R: Wait, H: Hub + Drop> Meter for HubFront<'a, R, H> {
+    ghost use Rattle.std.specs.Prelude.{is_some};
+    ghost use Rattle.sq_conn_policy.specs.Hubs.{Counted};
+    ghost use Rattle.sq_conn_policy.specs.Pieces.{machine_told};
+    ghost use Rattle.sq_forward.specs.Meters.{is_short, Gives, granted_after, dry_after_grant};
+
+    ghost seated = { λ f. is_some f.seat };
+
+    ghost granted = { λ f. H.granted f.hub };
+
+    ghost short = { λ f. f.short };
+
+    ghost dry = { λ f. f.dry };
+
+    ghost Besides = { Counted };
+
+    ghost besides = { λ f. record {
+      conn = f.conn;
+      machine = machine_told (H.told f.hub);
+      asked = H.asked f.hub;
+      refused = H.refused f.hub;
+    } };
+
+    ghost capped = { λ f. H.granted_capped f.hub };
+
+    fn grant(&mut self, wanted: u64) -> u64
+        // It is the hub's grant on its seat, where it holds one.
+        ensures told { Tells (GrantsOn self.old.seat wanted result) (H.told self.old.hub)
+            (H.told self.new.hub) }
+        ensures gives { Gives (is_some self.old.seat) wanted result }
+        ensures seated { is_some self.new.seat ≡ is_some self.old.seat }
+        ensures besides { ◌≡◌ {A = Counted}
+            (record {
+              conn = self.new.conn;
+              machine = machine_told (H.told self.new.hub);
+              asked = H.asked self.new.hub;
+              refused = H.refused self.new.hub;
+            })
+            (record {
+              conn = self.old.conn;
+              machine = machine_told (H.told self.old.hub);
+              asked = H.asked self.old.hub;
+              refused = H.refused self.old.hub;
+            }) }
+        ensures granted { H.granted self.new.hub
+            ≡ granted_after (is_some self.old.seat) (H.granted self.old.hub) result }
+        ensures short { self.new.short ≡ is_short wanted result }
+        ensures dry { self.new.dry ≡ dry_after_grant result self.old.dry }
+        ensures conn { self.new.conn ≡ self.old.conn }
+        ensures seat { self.new.seat ≡ self.old.seat }
+    {
+        let given = granted(&mut self.hub, &self.seat, wanted);
+        self.short = wanted > 0 && given == 0;
+        if given > 0 {
+            self.dry = 0;
+        }
+        given
+    }
+
+    fn pause(&mut self) {
+        self.hub.pause();
+        if self.short {
+            self.dry = (self.dry + 1).min(COUNT_LIMIT);
+        }
+        self.short = false;
+    }
+}
+
+impl<'a, R: Wait, H: Hub + Drop> Front for HubFront<'a, R, H> {
+    ghost use Rattle.std.proofs.Common.{ap, subst};
+    ghost use Rattle.std.specs.Prelude.{List, ◌∷◌, ◌++◌, [], OnOk, OnErr};
+    ghost use Rattle.sq_session.specs.Fronts.{FrontAnswer, OfOpen, OfDecide, OfSit, OfClose, Decides, Asks, OpenRefuses, DecideRefuses, CloseRefuses, names_pool};
+    ghost use Rattle.sq_conn_policy.specs.Hubs.{Counted};
+    ghost use Rattle.sq_conn_policy.specs.Judging.{Closes, Judges, Opens, Rises, Sits};
+    ghost use Rattle.sq_conn_policy.specs.Pieces.{FrontStands, machine_told};
+
+    ghost stands = { λ f list. FrontStands f.conn (machine_told (H.told f.hub)) (H.refused f.hub)
+        list };
+
+    ghost asked = { λ f. H.asked f.hub };
+
+    ghost refused = { λ f. H.refused f.hub };
+
+    fn open(&mut self, alloc: Global, addr: Addr, port: u16) -> Opened
+        // It opens, or is full or refused, as the machine answers.
+        ensures opens { Tells (Opens self.old.conn addr port result) (H.told self.old.hub)
+            (H.told self.new.hub) }
+        ensures told { (list : List FrontAnswer)
+            → FrontStands self.old.conn (machine_told (H.told self.old.hub))
+            (H.refused self.old.hub) list
+            → FrontStands self.new.conn (machine_told (H.told self.new.hub))
+            (H.refused self.new.hub) (list ++ OfOpen addr port result ∷ []) }
+        ensures asked { H.asked self.new.hub ≡ H.asked self.old.hub }
+        ensures refused_later { H.refused self.old.hub ≤ H.refused self.new.hub }
+        ensures refused { OpenRefuses (H.refused self.old.hub) (H.refused self.new.hub) result }
+        ensures failed { OpenFails (H.faults self.old.hub) (H.faults self.new.hub) result }
+        ensures seated { is_some self.new.seat ≡ is_some self.old.seat }
+        ensures granted { H.granted self.new.hub ≡ H.granted self.old.hub }
+        ensures dry { self.new.dry ≡ self.old.dry }
+    {
+        match self.hub.open(alloc, self.conn, addr, port) {
+            Ok(()) => Opened::In,
+            Err(fault) => opened_of(fault),
+        }
+    }
+
+    fn decide(&mut self, alloc: Global, request: &Request) -> Decided
+        // Where the hub tells, the record is of the check of this very request, and is taken last; no other request is
+        // judged; and a refusal is the machine's, on a connection that was open without a check for a last number alone.
+        ensures judges { Tells (Judges self.old.conn request.now result) (H.told self.old.hub)
+            (H.told self.new.hub) }
+        ensures told { (list : List FrontAnswer)
+            → FrontStands self.old.conn (machine_told (H.told self.old.hub))
+            (H.refused self.old.hub) list
+            → FrontStands self.new.conn (machine_told (H.told self.new.hub))
+            (H.refused self.new.hub) (list ++ OfDecide request.now result ∷ []) }
+        ensures record { Decides request.now result }
+        ensures asked_later { H.asked self.old.hub ≤ H.asked self.new.hub }
+        ensures asked { Asks (H.asked self.old.hub) (H.asked self.new.hub) result }
+        ensures refused_later { H.refused self.old.hub ≤ H.refused self.new.hub }
+        ensures refused { DecideRefuses (H.refused self.old.hub) (H.refused self.new.hub) result }
+        ensures failed { DecideFails (H.faults self.old.hub) (H.faults self.new.hub) result }
+        ensures seated { is_some self.new.seat ≡ is_some self.old.seat }
+        ensures granted { H.granted self.new.hub ≡ H.granted self.old.hub }
+        ensures dry { self.new.dry ≡ self.old.dry }
+    {
+        judge(self.rt, alloc, &mut self.hub, self.conn, request)
+    }
+
+    fn sit(&mut self, alloc: Global, judged: &Record) -> Result<(), SitFault>
+        requires unseated { is_some self.old.seat ≡ false }
+        // It is the hub's choice of the record's pool, if that has one.
+        ensures sits { Tells (Sits judged.now result self.old.seat self.new.seat)
+            (H.told self.old.hub) (H.told self.new.hub) }
+        ensures told { (list : List FrontAnswer)
+            → FrontStands self.old.conn (machine_told (H.told self.old.hub))
+            (H.refused self.old.hub) list
+            → FrontStands self.new.conn (machine_told (H.told self.new.hub))
+            (H.refused self.new.hub) (list ++ OfSit judged.now result ∷ []) }
+        ensures seated { OnOk result (is_some self.new.seat ≡ names_pool judged.now) }
+        ensures refused_seat { OnErr result (is_some self.new.seat ≡ false) }
+        ensures asked { H.asked self.new.hub ≡ H.asked self.old.hub }
+        ensures refused_later { H.refused self.old.hub ≤ H.refused self.new.hub }
+        ensures granted { H.granted self.new.hub ≡ H.granted self.old.hub }
+        ensures dry { self.new.dry ≡ self.old.dry }
+    {
+        let Some(pool) = judged.pool() else {
+            return Ok(());
+        };
+        match self.hub.choose(
+            alloc,
+            judged.epoch(),
+            judged.config(),
+            pool,
+            judged.sight().addr,
+        ) {
+            Ok(seat) => {
+                self.seat = Some(seat);
+                Ok(())
+            }
+            Err(ChooseFault::Spent) => Err(SitFault::Spent),
+            Err(ChooseFault::WantOfMemory) => Err(SitFault::WantOfMemory),
+        }
+    }
+
+    fn rise(&mut self)
+        // It gives back the seat that it holds.
+        ensures rises { Tells (Rises self.old.seat) (H.told self.old.hub) (H.told self.new.hub) }
+        ensures told { (list : List FrontAnswer)
+            → FrontStands self.old.conn (machine_told (H.told self.old.hub))
+            (H.refused self.old.hub) list
+            → FrontStands self.new.conn (machine_told (H.told self.new.hub))
+            (H.refused self.new.hub) list }
+        ensures seated { is_some self.new.seat ≡ false }
+        ensures asked { H.asked self.new.hub ≡ H.asked self.old.hub }
+        ensures refused_later { H.refused self.old.hub ≤ H.refused self.new.hub }
+        ensures granted { H.granted self.new.hub ≡ H.granted self.old.hub }
+        ensures dry { self.new.dry ≡ self.old.dry }
+    {
+        match self.seat.take() {
+            Some(seat) => self.hub.leave(seat),
+            None => {}
+        }
+    }
+
+    fn close(&mut self) -> Result<(), CloseFault>
+        // It closes, or is refused, as the machine answers.
+        ensures closes { Tells (Closes self.old.conn result) (H.told self.old.hub)
+            (H.told self.new.hub) }
+        ensures told { (list : List FrontAnswer)
+            → FrontStands self.old.conn (machine_told (H.told self.old.hub))
+            (H.refused self.old.hub) list
+            → FrontStands self.new.conn (machine_told (H.told self.new.hub))
+            (H.refused self.new.hub) (list ++ OfClose result ∷ []) }
+        ensures asked { H.asked self.new.hub ≡ H.asked self.old.hub }
+        ensures refused_later { H.refused self.old.hub ≤ H.refused self.new.hub }
+        ensures refused { CloseRefuses (H.refused self.old.hub) (H.refused self.new.hub) result }
+        ensures failed { CloseFails (H.faults self.old.hub) (H.faults self.new.hub) result }
+        ensures seated { is_some self.new.seat ≡ is_some self.old.seat }
+        ensures granted { H.granted self.new.hub ≡ H.granted self.old.hub }
+        ensures dry { self.new.dry ≡ self.old.dry }
+    {
+        match self.hub.close(self.conn) {
+            Ok(()) => Ok(()),
+            Err(fault) => Err(unclosed_of(fault)),
+        }
+    }
+
+    fn counted(&self) -> Counts {
+        self.hub.counted()
+    }
+
+    ghost asked_capped = { λ f. H.asked_capped f.hub };
+
+    ghost asked_besides = { λ a b e. ap Counted.asked e };
+
+    ghost refused_besides = { λ a b e. ap Counted.refused e };
+
+    ghost stands_besides = { λ a b e list s.
+        subst (λ k. FrontStands k.conn k.machine k.refused list) e s };
+}
+
+// What the opening of a connection comes to that the hub did not open.
+fn opened_of(fault: HubFault) -> Opened
+    ensures { result ≡ opened_of fault }
+{
+    match fault {
+        HubFault::Refused(Refusal::TooManyConns(_)) => Opened::Full,
+        HubFault::Refused(Refusal::WantOfMemory) => Opened::WantOfMemory,
+        HubFault::Refused(why) => Opened::Refused(why),
+        HubFault::JournalFault => Opened::JournalFault,
+        HubFault::WantOfMemory => Opened::WantOfMemory,
+    }
+}
+
+// Why a connection was not closed that the hub did not close.
+fn unclosed_of(fault: HubFault) -> CloseFault
+    ensures { result ≡ unclosed_of fault }
+{
+    match fault {
+        HubFault::Refused(Refusal::WantOfMemory) => CloseFault::WantOfMemory,
+        HubFault::Refused(why) => CloseFault::Refused(why),
+        HubFault::JournalFault => CloseFault::JournalFault,
+        HubFault::WantOfMemory => CloseFault::WantOfMemory,
+    }
+}
+
+// What the hub grants on a seat; without one all that is wanted.
+fn granted<H: Hub>(hub: &mut H, seat: &Option<Seat>, wanted: u64) -> u64
+    ensures told { Tells (GrantsOn seat.now wanted result) (H.told hub.old) (H.told hub.new) }
+    ensures within { result ≤ wanted }
+    ensures all { is_some seat.now ≡ false → result ≡ wanted }
+    ensures granted { H.granted hub.new
+        ≡ granted_after (is_some seat.now) (H.granted hub.old) result }
+    ensures asked { H.asked hub.new ≡ H.asked hub.old }
+    ensures refused { H.refused hub.new ≡ H.refused hub.old }
+{
+    match seat {
+        Some(seat) => hub.grant(seat, wanted),
+        None => wanted,
+    }
+}

@@ -1,0 +1,3 @@
+mod AttendLaws
+mod OrderLaws
+mod ControlTextLaws

@@ -1,0 +1,3 @@
+pub mod Attending
+pub mod Orders
+pub mod ControlText

@@ -1,0 +1,118 @@
+-- A text that is read, and what it states.
+use Rattle.std.proofs.Common.{◌≡◌, ℕ, ◌<◌, List, length, Bool, true, false, if◌then◌else◌, nat_lt, Result, Ok, Err, Some, None, IfSome, refl, sym, ap, ◌∙◌, subst, arith}
+use Rattle.std.specs.declared.option.Option.{Option}
+use Rattle.std.proofs.lemmas.Bool.Decides.{nat_tests}
+use Rattle.sq_base.specs.Lines.{lexed}
+use Rattle.sq_outside.specs.Input.{IsWhole, ReadsFile, ReadsOpening}
+use Rattle.sq_outside.specs.Told.{AddsText, Openings, Texts}
+use Rattle.sq_rules.specs.Configurations.{Configuration}
+use Rattle.sq_calls.specs.Legality.{IsStated}
+use Rattle.sq_calls.specs.Telling.{IsReread, Notes}
+use Rattle.sq_calls.specs.declared.faults.DeskFault.{DeskFault}
+use Rattle.sq_calls.specs.declared.faults.DeskFault.TheVariants as desk
+use Rattle.sq_conf.specs.declared.faults.ConfFault.TheVariants as fault
+use Rattle.sq_machine.specs.Entries.{History}
+use Rattle.sq_machine.specs.declared.entries.Told.TheVariants as answer
+use Rattle.sq_rules.specs.declared.kinds.Kind.{Kind}
+use Rattle.sq_machine.specs.declared.refusals.Refusal.TheVariants as refusal
+use Rattle.sq_rules.specs.ConfText.{all_read, and_then, conf_gives, conf_refuses, conf_result, end_read, error_at, text_read}
+use Rattle.sq_rules.specs.Drafts.{Drafts, are_complete, finished}
+use Rattle.sq_rules.specs.Limits.{text_limit}
+use Rattle.sq_rules.specs.declared.kinds.ConfError.{ConfError}
+use Rattle.sq_rules.specs.declared.kinds.Kind.TheVariants as kind
+use Rattle.sq_control_reread.specs.Rereading.{Adds, OfFile, States, answers}
+
+-- a text past its limit
+pub too_long : (bytes : List ℕ) → text_limit < length bytes
+    → conf_result bytes ≡ Err (record { line = 0; kind = kind.TooMany })
+unfolding conf_result
+too_long bytes l = let long : nat_lt text_limit (length bytes) ≡ true = grind (arith, nat_tests) in rw long refl
+
+-- a configuration that a text gives has it as its source
+pub gives_source : (text : List ℕ) (config : Configuration) → conf_gives text config → config.source ≡ text
+unfolding conf_result finished
+gives_source text config gives = by (nat_lt text_limit (length text)) gives
+  where
+    ended : (d : Drafts) (b : Bool) → (if b then Ok (finished text d) else error_at 0 kind.PoolIncomplete) ≡ Ok config
+        → config.source ≡ text
+    ended d true e = let same : finished text d ≡ config = cc in ap (λ (c : Configuration). c.source) (sym same)
+    ended d false e = absurd (cc)
+
+    read : (r : Result Drafts ConfError) → and_then r (end_read text) ≡ Ok config → config.source ≡ text
+    read (Ok d) e = ended d (are_complete d.pools) e
+    read (Err x) e = absurd (cc)
+
+    whole : (r : Result Drafts ConfError)
+        → and_then r (λ d. and_then (text_read d (lexed text).fault) (end_read text)) ≡ Ok config → config.source ≡ text
+    whole (Ok d) e = read (text_read d (lexed text).fault) e
+    whole (Err x) e = absurd (cc)
+
+    by : (b : Bool) →
+        (if b then error_at 0 kind.TooMany
+        else and_then (all_read (lexed text).lines) (λ d. and_then (text_read d (lexed text).fault) (end_read text)))
+        ≡ Ok config
+        → config.source ≡ text
+    by true e = absurd (cc)
+    by false e = whole (all_read (lexed text).lines) e
+
+-- and it is the one that its source states
+pub is_stated : (text : List ℕ) (config : Configuration) → conf_gives text config → IsStated config
+is_stated text config gives = subst (λ t. conf_gives t config) (sym (gives_source text config gives)) gives
+
+file_of : (texts : Texts) (name : List ℕ) (text : Option (List ℕ)) (P : List ℕ → Type 0)
+    → ReadsFile text_limit texts name text
+    → ((bytes : List ℕ) → IsWhole text_limit bytes text → P bytes)
+    → IfSome texts (λ of. (bytes : List ℕ) × (of name ≡ Some bytes) × P bytes)
+file_of None name text P read f = tt
+file_of (Some of) name text P (bytes, there, whole) f = (bytes, there, f bytes whole)
+
+opening_of : (before now : Openings) (name : List ℕ) (text : Option (List ℕ)) (P : List ℕ → Type 0)
+    → ReadsOpening text_limit before now name text
+    → ((bytes : List ℕ) → IsWhole text_limit bytes text → P bytes) → AddsText before now name P
+opening_of None now name text P adds f = adds
+opening_of (Some earlier) now name text P (bytes, is, whole) f = (bytes, is, f bytes whole)
+
+-- what holds of each text that was read whole holds of the file's
+pub of_file : (texts : Texts) (before now : Openings) (name : List ℕ) (text : Option (List ℕ)) (P : List ℕ → Type 0)
+    → ReadsFile text_limit texts name text
+    → ReadsOpening text_limit before now name text → ((bytes : List ℕ) → IsWhole text_limit bytes text → P bytes)
+    → OfFile texts before now name P
+of_file texts before now name text P read adds f = record {
+  file = file_of texts name text P read f;
+  opening = opening_of before now name text P adds f;
+}
+
+-- a configuration that it gives is what it states
+pub states_of : (text : Option (List ℕ)) (config : Configuration)
+    → ((bytes : List ℕ) → IsWhole text_limit bytes text → conf_gives bytes config)
+    → (bytes : List ℕ) → IsWhole text_limit bytes text → States config bytes
+states_of text config f bytes whole = (f bytes whole, gives_source bytes config (f bytes whole))
+
+-- a text past its limit is refused so
+pub refused_long : (line : ℕ) (k : Kind) (text : Option (List ℕ)) (bytes : List ℕ)
+    → fault.At (record { line = 0; kind = kind.TooMany }) ≡ fault.At (record { line = line; kind = k })
+    → text ≡ None → IsWhole text_limit bytes text → conf_refuses bytes line k
+refused_long line k text bytes e none whole =
+    let same : record { line = 0; kind = kind.TooMany } ≡ record { line = line; kind = k } = cc in
+    too_long bytes (subst (IsWhole text_limit bytes) none whole) ∙ ap {B = Result Configuration ConfError} Err same
+
+-- what the desk's answer adds
+pub adds_of : (texts : Texts) (before now : Openings) (name : List ℕ) (old new : Option History)
+    (config : Configuration) (r : Result ℕ DeskFault)
+    → OfFile texts before now name (States config) → Notes answer.Epoch (IsReread config) old new r
+    → Adds texts before now name old new (answers r)
+adds_of texts before now name old new config (Ok epoch) file is = (config, file, is)
+adds_of texts before now name old new config (Err desk.Stopped) file is = is
+adds_of texts before now name old new config (Err desk.JournalFault) file is = is
+adds_of texts before now name old new config (Err desk.WantOfMemory) file is = is
+adds_of texts before now name old new config (Err (desk.Engine (refusal.ConnInUse n))) file is = is
+adds_of texts before now name old new config (Err (desk.Engine (refusal.UnknownConn n))) file is = is
+adds_of texts before now name old new config (Err (desk.Engine (refusal.TooManyConns n))) file is = is
+adds_of texts before now name old new config (Err (desk.Engine (refusal.CheckOpen n))) file is = is
+adds_of texts before now name old new config (Err (desk.Engine (refusal.UnknownCheck n))) file is = is
+adds_of texts before now name old new config (Err (desk.Engine (refusal.NotDone n))) file is = is
+adds_of texts before now name old new config (Err (desk.Engine (refusal.NoStartOpen n c))) file is = is
+adds_of texts before now name old new config (Err (desk.Engine (refusal.UnknownProc n))) file is = is
+adds_of texts before now name old new config (Err (desk.Engine (refusal.TooManyEpochs n))) file is = is
+adds_of texts before now name old new config (Err (desk.Engine (refusal.Spent n))) file is = is
+adds_of texts before now name old new config (Err (desk.Engine refusal.WantOfMemory)) file is = is

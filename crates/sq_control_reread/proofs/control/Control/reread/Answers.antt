@@ -1,0 +1,41 @@
+use Rattle.std.proofs.Common.{inl, sym, subst}
+use Rattle.sq_rules.specs.ConfText.{conf_refuses}
+use Rattle.sq_control_reread.specs.Rereading.{Adds, States}
+use Rattle.sq_control_reread.proofs.RereadLaws.{adds_of, of_file, states_of}
+use Rattle.sq_control_reread.proofs.control.Control.reread.Goals as goal
+
+pub returns-in-Err-At-clause-at : goal.returns-in-Err-At-clause-at
+returns-in-Err-At-clause-at g c e is =
+    of_file (g.F.Files.texts c.args.files.now) (g.F.Files.opened c.args.files.now)
+    (g.F.Files.opened c.read_file.new.files) c.args.conf.now c.in-Ok.text
+    (λ bytes. conf_refuses bytes e.line e.kind) c.in-Ok.ensures.text c.in-Ok.ensures.opened_list
+    (λ bytes whole. c.in-Err-At.ensures.err e.line e.kind (cc) bytes whole)
+
+pub returns-clause-adds : goal.returns-clause-adds
+returns-clause-adds g c =
+    let texts = g.F.Files.texts c.args.files.now in
+    let before = g.F.Files.opened c.args.files.now in
+    let now = g.F.Files.opened c.read_file.new.files in
+    let old = g.K.DeskCalls.told c.args.self.now.desk in
+    let new = g.K.DeskCalls.told c.reconfigure.new.self in
+    subst (Adds texts before now c.args.conf.now old new) (sym c.answer_of.ensures)
+    (adds_of texts before now c.args.conf.now old new c.in-Ok-set_up.setup c.reconfigure.result
+    (of_file texts before now c.args.conf.now c.in-Ok.text (States c.in-Ok-set_up.setup) c.in-Ok.ensures.text
+    c.in-Ok.ensures.opened_list
+    (states_of c.in-Ok.text c.in-Ok-set_up.setup c.in-Ok-set_up.ensures.ok))
+    c.reconfigure.ensures.told)
+
+pub returns-clause-asks : goal.returns-clause-asks
+returns-clause-asks g c =
+    let texts = g.F.Files.texts c.args.files.now in
+    let before = g.F.Files.opened c.args.files.now in
+    let now = g.F.Files.opened c.read_file.new.files in
+    inl (
+      c.in-Ok-set_up.setup,
+      c.reconfigure.result,
+      of_file texts before now c.args.conf.now c.in-Ok.text (States c.in-Ok-set_up.setup) c.in-Ok.ensures.text
+          c.in-Ok.ensures.opened_list
+          (states_of c.in-Ok.text c.in-Ok-set_up.setup c.in-Ok-set_up.ensures.ok),
+      (c.reconfigure.ensures.rereads, c.reconfigure.ensures.refused),
+      c.answer_of.ensures,
+    )

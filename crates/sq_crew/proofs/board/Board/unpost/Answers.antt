@@ -1,9 +1,0 @@
-use Rattle.sq_crew.proofs.BoardLaws.{removed_nowhere, removed_there}
-use Rattle.sq_crew.proofs.board.Board.unpost.Goals as goal
-
-pub returns-in-None-clause-posts : goal.returns-in-None-clause-posts
-returns-in-None-clause-posts g c = removed_nowhere c.args.proc c.args.self.now.posts.items c.place.result c.place.ensures c.in-None.is
-
-pub returns-in-Some-clause-posts : goal.returns-in-Some-clause-posts
-returns-in-Some-clause-posts g c =
-    removed_there c.args.proc c.args.self.now.posts.items c.remove-post.new.self.items c.place.result c.in-Some.place c.place.ensures c.in-Some.is c.remove-post.ensures.by_index.2

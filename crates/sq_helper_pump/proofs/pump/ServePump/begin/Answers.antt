@@ -1,0 +1,20 @@
+use Rattle.std.proofs.Common.{inr, rules}
+use Rattle.sq_helper_pump.proofs.pump.ServePump.begin.Goals as goal
+
+pub returns-in-Ok-Some-clause-begins : goal.returns-in-Ok-Some-clause-begins
+returns-in-Ok-Some-clause-begins g c =
+    inr (inr (inr (record {
+      act = c.in-Ok-Some.act;
+      mid = record c.args.self.now {
+        desk = c.act.new.self;
+        told = g.K.DeskCalls.told c.act.new.self;
+        refused = g.K.DeskCalls.refused c.act.new.self;
+        made = g.K.DeskCalls.made c.act.new.self;
+      };
+      noted = search rules;
+      next = search rules;
+      same = search rules;
+      later = search rules;
+      programs_stay = search rules;
+      performs = search rules;
+    })))

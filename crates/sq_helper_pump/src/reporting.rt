@@ -1,0 +1,101 @@
+//! The entries that a pump still owes the desk.
+ghost use Rattle.std.specs.Prelude.{◌≡◌, None};
+ghost use Rattle.sq_helper_pump.specs.Turning.{PumpCounts, IsAdmitted, Reports, SameHalves, SameSpawner};
+
+use crate::pump::ServePump;
+use crate::turns::{Left, Reader, Turn};
+use sq_base::{EpochNo, Moment, ProcNo};
+use sq_calls::{DeskCalls, DeskFault};
+use sq_epochs::Act;
+use sq_outside::{Out, Spawner};
+
+impl<S: Spawner, K: DeskCalls> ServePump<S, K> {
+    // The half of this process failed in this act.
+    pub(crate) fn report_died(&mut self, proc: ProcNo, act: Act, now: Moment) -> Turn
+        requires { self.old.left ≡ None }
+        ensures reports { Reports (Left.Died proc act) self.old.told self.old.refused result
+            self.new }
+        ensures spawner { SameSpawner self.old self.new }
+        ensures halves { SameHalves self.old self.new }
+        ensures counts { PumpCounts self.old self.new }
+    {
+        match self.desk.died(proc, now) {
+            Ok(()) | Err(DeskFault::Engine(_)) => Turn::Acted(act),
+            Err(DeskFault::WantOfMemory) => {
+                self.left = Some(Left::Died { proc, act });
+                Turn::WantOfMemory
+            }
+            Err(_) => Turn::Ended,
+        }
+    }
+
+    // The spawner failed this start.
+    pub(crate) fn report_failed(&mut self, epoch: EpochNo, class: u32, now: Moment) -> Turn
+        requires { self.old.left ≡ None }
+        ensures reports { Reports (Left.Failed epoch class) self.old.told self.old.refused result
+            self.new }
+        ensures spawner { SameSpawner self.old self.new }
+        ensures halves { SameHalves self.old self.new }
+        ensures counts { PumpCounts self.old self.new }
+    {
+        match self.desk.start_failed(self.alloc, epoch, class, now) {
+            Ok(()) | Err(DeskFault::Engine(_)) => Turn::Acted(Act::Start { epoch, class }),
+            Err(DeskFault::WantOfMemory) => {
+                self.left = Some(Left::Failed { epoch, class });
+                Turn::WantOfMemory
+            }
+            Err(_) => Turn::Ended,
+        }
+    }
+
+    // This process was started.
+    pub(crate) fn admit(
+        &mut self,
+        epoch: EpochNo,
+        class: u32,
+        from: S::ChildOut,
+        mut to: S::ChildIn,
+        now: Moment,
+    ) -> Turn
+        requires { self.old.left ≡ None }
+        ensures reports { Reports (Left.Started epoch class from to) self.old.told self.old.refused
+            result self.new }
+        ensures admitted { IsAdmitted epoch class from to self.old self.new }
+        ensures spawner { SameSpawner self.old self.new }
+        ensures counts { PumpCounts self.old self.new }
+    {
+        if self.pipes.reserve().is_err() || self.readers.reserve(1).is_err() {
+            self.left = Some(Left::Started {
+                epoch,
+                class,
+                from,
+                to,
+            });
+            return Turn::WantOfMemory;
+        }
+        match self.desk.started(self.alloc, epoch, class, now) {
+            Ok(proc) => {
+                self.pipes.put(proc, to);
+                self.readers.push_reserved(Reader { proc, from });
+                Turn::Acted(Act::Start { epoch, class })
+            }
+            Err(DeskFault::Engine(_)) => {
+                to.close();
+                Turn::Acted(Act::Start { epoch, class })
+            }
+            Err(DeskFault::WantOfMemory) => {
+                self.left = Some(Left::Started {
+                    epoch,
+                    class,
+                    from,
+                    to,
+                });
+                Turn::WantOfMemory
+            }
+            Err(_) => {
+                to.close();
+                Turn::Ended
+            }
+        }
+    }
+}

@@ -1,0 +1,37 @@
+//! Starts of processes.
+ghost use Rattle.std.specs.Prelude.{◌≡◌, None};
+ghost use Rattle.sq_helper_pump.specs.Turning.{PumpCounts, IsStarting};
+
+use crate::pump::ServePump;
+use crate::turns::{Left, Turn};
+use sq_base::{EpochNo, Moment, WantOfMemory};
+use sq_calls::DeskCalls;
+use sq_epochs::Act;
+use sq_outside::{Failed, Spawner};
+
+impl<S: Spawner, K: DeskCalls> ServePump<S, K>
+where
+    S::ChildIn: Drop,
+{
+    // Starts a process of a class. Halves that were closed are let go of.
+    pub(crate) fn start(&mut self, epoch: EpochNo, class: u32, now: Moment) -> Turn
+        requires { self.old.left ≡ None }
+        ensures starting { IsStarting K.programs S.ChildOut.faults S.ChildIn.contents
+            S.ChildIn.faults S.ChildIn.closed epoch class self.old result self.new }
+        ensures counts { PumpCounts self.old self.new }
+    {
+        let words = match self.desk.words(self.alloc, epoch, class) {
+            Ok(Some(words)) => words,
+            Ok(None) => return Turn::Acted(Act::Start { epoch, class }),
+            Err(WantOfMemory) => {
+                self.left = Some(Left::Whole(Act::Start { epoch, class }));
+                return Turn::WantOfMemory;
+            }
+        };
+        self.pipes.sweep();
+        match self.spawner.start(self.alloc, words.as_slice()) {
+            Ok((from, to)) => self.admit(epoch, class, from, to, now),
+            Err(Failed) => self.report_failed(epoch, class, now),
+        }
+    }
+}

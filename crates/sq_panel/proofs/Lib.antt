@@ -1,3 +1,0 @@
-mod AttendLaws
-mod OrderLaws
-mod TellLaws

@@ -1,3 +1,0 @@
-pub mod Attending
-pub mod Orders
-pub mod Telling

@@ -1,0 +1,31 @@
+use Rattle.std.proofs.Common.{refl}
+use Rattle.sq_machine.specs.declared.entries.Event.TheVariants as event
+use Rattle.sq_machine.specs.declared.entries.Told.TheVariants as told
+use Rattle.sq_engine.specs.EngineViews.{state_of}
+use Rattle.sq_replay.specs.MachineViews.{MachineView, machine_of}
+use Rattle.sq_replay.proofs.ViewLaws.{quiet_view, stops_view}
+use Rattle.sq_replay.proofs.machines.ScriptMachine.died.Goals as goal
+
+pub returns-in-Err-clause-making : goal.returns-in-Err-clause-making
+returns-in-Err-clause-making c =
+    let m : MachineView = record {
+      engine = c.self.inside.engine;
+      pools = c.self.inside.pools;
+      latest = c.self.inside.latest;
+      riders = c.self.inside.riders;
+    } in
+    stops_view {A = Unit {0}} (λ _. told.Fine) m c.args.self.now (machine_of (record m { engine = c.died.new.self }))
+    (state_of c.died.new.self) c.args.now c.later-moment.result (event.Died c.args.proc) c.in-Err.refusal
+    c.stop_by.result c.self.view_is c.stop_by.ensures c.later-moment.ensures
+    (λ configs h moment e. e) c.in-Err.ensures.promised
+
+pub returns-clause-making : goal.returns-clause-making
+returns-clause-making c =
+    let m : MachineView = record {
+      engine = c.self.inside.engine;
+      pools = c.self.inside.pools;
+      latest = c.self.inside.latest;
+      riders = c.self.inside.riders;
+    } in
+    quiet_view m c.args.self.now c.died.new.self c.args.now c.later-moment.result (event.Died c.args.proc) told.Fine
+    c.self.view_is c.later-moment.ensures c.facts.ensures refl refl tt c.in-Ok.ensures.promised

@@ -1,0 +1,3 @@
+pub mod BankViews
+pub mod Books
+pub mod Waking

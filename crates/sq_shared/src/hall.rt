@@ -1,0 +1,156 @@
+//! The desk, as it lies behind its lock, with its three books.
+ghost use Rattle.std.specs.Prelude.{◌≡◌, ◌+◌, ◌<◌, [], min, nat_lt, true, IfOk};
+ghost use Rattle.std.specs.Option.{ForSome};
+ghost use Rattle.sq_outside.specs.Causes.{count_limit};
+ghost use Rattle.sq_shared.specs.Books.{AreCounted, asks_in};
+ghost use Rattle.sq_shared.specs.Waking.{is_awaited, one_more};
+ghost use Rattle.sq_machine.specs.Readings.{current};
+
+use crate::awaited::Awaited;
+use crate::older::Older;
+use sq_base::{EpochNo, QuestionNo, Texts, WantOfMemory};
+use sq_calls::DeskCalls;
+use sq_rules::Config;
+use std::alloc::Global;
+use std::sync::Arc;
+use std::sync::ledger::{Book, Ledger, Share};
+
+/// A desk with the books of its requests, reconfigurations and refusals, how often an act may have become due, for which
+/// questions' answers sessions wait, and whether it was given up. A book goes on counting where the number that the desk tells stands
+/// at its limit.
+#[derive(Drop)]
+pub struct Hall<D: DeskCalls, A: Ledger, M: Ledger, N: Ledger> {
+    pub(crate) desk: D,
+    pub(crate) requests: Book<A>,
+    pub(crate) makes: Book<M>,
+    pub(crate) refusals: Book<N>,
+    pub(crate) changes: u64,
+    pub(crate) awaited: Awaited,
+    pub(crate) older: Older,
+    pub(crate) stopped: bool,
+    pub(crate) done: bool,
+    ghost entries_are: { AreCounted requests.total makes.total (D.told desk) },
+    ghost makes_are: { ForSome (D.made desk) (λ m. m ≡ makes.total) },
+    ghost refusals_are: { D.refused desk ≡ min refusals.total count_limit },
+}
+
+impl<D: DeskCalls, A: Ledger, M: Ledger, N: Ledger> Hall<D, A, M, N> {
+    /// A desk and its books.
+    pub fn new(
+        alloc: Global,
+        desk: D,
+        requests: Book<A>,
+        makes: Book<M>,
+        refusals: Book<N>,
+    ) -> Hall<D, A, M, N>
+        requires entries { AreCounted requests.total makes.total (D.told desk) }
+        requires makes { ForSome (D.made desk) (λ m. m ≡ makes.total) }
+        requires refusals { D.refused desk ≡ min refusals.total count_limit }
+        ensures desk { result.desk ≡ desk }
+        ensures awaited { result.awaited.questions.items ≡ [] }
+    {
+        Hall {
+            desk,
+            requests,
+            makes,
+            refusals,
+            changes: 0,
+            awaited: Awaited::new(alloc),
+            older: Older::new(),
+            stopped: false,
+            done: false,
+        }
+    }
+
+    /// A copy of the words of the program of a class.
+    pub fn words(
+        &self,
+        alloc: Global,
+        epoch: EpochNo,
+        class: u32,
+    ) -> Result<Option<Texts>, WantOfMemory> {
+        self.desk.words(alloc, epoch, class)
+    }
+
+    /// The configuration of a live epoch.
+    pub fn config(&self, epoch: EpochNo) -> Option<Arc<Config>> {
+        self.desk.config(epoch)
+    }
+
+    /// How often an act may have become due, or a keeper have ended.
+    pub fn changes(&self) -> u64
+        ensures { result ≡ self.now.changes }
+    {
+        self.changes
+    }
+
+    /// Whether a session was told to wait for this question, and its answer has not come since.
+    pub fn is_awaited(&self, question: QuestionNo) -> bool
+        ensures { result ≡ is_awaited question self.now.awaited.questions.items }
+    {
+        self.awaited.has(question)
+    }
+
+    /// Whether an epoch may live that is not current: where its last check goes, acts are due.
+    pub fn may_have_older(&self) -> bool
+        ensures { result ≡ nat_lt self.now.older.oldest self.now.older.current }
+    {
+        self.older.may_live()
+    }
+
+    /// Whether it was given up.
+    pub fn is_stopped(&self) -> bool
+        ensures { result ≡ self.now.stopped }
+    {
+        self.stopped
+    }
+
+    /// Gives it up: its journal failed, so no call of it is made any more. Who waits for it has to look again.
+    pub fn give_up(&mut self)
+        ensures stopped { self.new.stopped ≡ true }
+        ensures desk { self.new.desk ≡ self.old.desk }
+        ensures changes { self.new.changes ≡ one_more self.old.changes }
+        ensures awaited { self.new.awaited.questions.items ≡ [] }
+    {
+        self.changes = self.changes.wrapping_add(1);
+        self.awaited.clear();
+        self.stopped = true;
+    }
+
+    /// Whether no more is to be done.
+    pub fn is_done(&self) -> bool
+        ensures { result ≡ self.now.done }
+    {
+        self.done
+    }
+
+    /// No more is to be done from here on.
+    pub fn set_done(&mut self)
+        ensures done { self.new.done ≡ true }
+        ensures desk { self.new.desk ≡ self.old.desk }
+    {
+        self.done = true;
+    }
+
+    /// The desk, given back. Where it tells its journal, its requests are the whole share of their book, and so are its
+    /// reconfigurations.
+    pub fn end(self, asked: Share<A>, made: Share<M>) -> D
+        requires asked { asked.parts ≡ A.parts }
+        requires made { made.parts ≡ M.parts }
+        ensures desk { result ≡ self.desk }
+        ensures asks { ForSome (D.told result) (λ h. asked.amount ≡ asks_in h) }
+        ensures makes { ForSome (D.told result) (λ h. made.amount + 1 ≡ current h) }
+    {
+        let Hall {
+            desk,
+            mut requests,
+            mut makes,
+            ..
+        } = self;
+        let mut asked = asked;
+        let mut made = made;
+        requests.audit(&mut asked);
+        makes.audit(&mut made);
+        desk
+    }
+}

@@ -1,0 +1,384 @@
+//! The calls of the desk under its lock, each counted.
+ghost use Rattle.std.specs.Prelude.{◌≡◌, ◌+◌, ◌<◌, [], true, IfOk, IsErrOf, nat_lt};
+ghost use Rattle.sq_calls.specs.declared.faults.DeskFault.TheVariants as fault;
+ghost use Rattle.sq_calls.specs.Legality.{IsStated};
+ghost use Rattle.sq_calls.specs.Telling.{IsAsking, IsClosing, IsDead, IsFailed, IsLine, IsOpening, IsReread, IsStarted, IsStep, IsStepTold, IsTakeTold, IsTaking, MayAct, Notes, NotesAs, got_told};
+ghost use Rattle.sq_machine.specs.declared.entries.Told.TheVariants as answer;
+ghost use Rattle.sq_shared.specs.Books.{SharesLine, SharesMade, SharesRefusal};
+ghost use Rattle.sq_shared.specs.Waking.{after_line, after_step, may_ask, one_more, raised_if};
+
+use crate::counting::{count, count_line, count_made};
+use crate::hall::Hall;
+use crate::older::may_ask;
+use sq_base::{Addr, CheckNo, ConnNo, EpochNo, Moment, ProcNo, Request};
+use sq_calls::{DeskCalls, DeskFault};
+use sq_channel::Got;
+use sq_checks::Record;
+use sq_epochs::Act;
+use sq_model_rows::Stepped;
+use sq_urlmatch::Setup;
+use std::alloc::Global;
+use std::sync::ledger::{Ledger, Share};
+
+impl<D: DeskCalls, A: Ledger, M: Ledger, N: Ledger> Hall<D, A, M, N> {
+    /// A client's connection opens.
+    #[tactic(auto, using(crate::proofs::BookLaws::kept_open, crate::proofs::BookLaws::kept_refusal))]
+    pub fn open(
+        &mut self,
+        conn: ConnNo,
+        addr: Addr,
+        port: u16,
+        now: Moment,
+        refused: &mut Share<N>,
+    ) -> Result<(), DeskFault>
+        requires { 0 < refused.old.parts }
+        ensures noted { Notes (λ _. answer.Fine) (IsOpening conn addr port) (D.told self.old.desk)
+            (D.told self.new.desk) result }
+        ensures refused { SharesRefusal refused.old.amount refused.new.amount result }
+        ensures parts { refused.new.parts ≡ refused.old.parts }
+        ensures changes { self.new.changes ≡ self.old.changes }
+        ensures awaited { self.new.awaited ≡ self.old.awaited }
+    {
+        let Hall { desk, refusals, .. } = self;
+        let gave = desk.open(conn, addr, port, now);
+        count(refusals, refused, &gave);
+        gave
+    }
+
+    /// A connection closes.
+    #[tactic(auto, using(crate::proofs::BookLaws::kept_close, crate::proofs::BookLaws::kept_refusal))]
+    pub fn close(
+        &mut self,
+        conn: ConnNo,
+        now: Moment,
+        refused: &mut Share<N>,
+    ) -> Result<(), DeskFault>
+        requires { 0 < refused.old.parts }
+        ensures noted { Notes (λ _. answer.Fine) (IsClosing conn) (D.told self.old.desk)
+            (D.told self.new.desk) result }
+        ensures memory { IsErrOf result fault.WantOfMemory → ⊥ }
+        ensures refused { SharesRefusal refused.old.amount refused.new.amount result }
+        ensures parts { refused.new.parts ≡ refused.old.parts }
+        ensures changes { self.new.changes
+            ≡ raised_if (nat_lt self.old.older.oldest self.old.older.current) self.old.changes }
+        ensures awaited { self.new.awaited ≡ self.old.awaited }
+    {
+        let Hall {
+            desk,
+            refusals,
+            changes,
+            older,
+            ..
+        } = self;
+        if older.may_live() {
+            *changes = changes.wrapping_add(1);
+        }
+        let gave = desk.close(conn, now);
+        count(refusals, refused, &gave);
+        gave
+    }
+
+    /// A request arrives on a connection.
+    #[tactic(auto, using(crate::proofs::BookLaws::kept_ask, crate::proofs::BookLaws::kept_refusal))]
+    pub fn ask(
+        &mut self,
+        alloc: Global,
+        conn: ConnNo,
+        request: Request,
+        now: Moment,
+        asked: &mut Share<A>,
+        refused: &mut Share<N>,
+    ) -> Result<CheckNo, DeskFault>
+        requires asked { 0 < asked.old.parts }
+        requires refused { 0 < refused.old.parts }
+        ensures noted { Notes answer.Check (IsAsking conn request) (D.told self.old.desk)
+            (D.told self.new.desk) result }
+        ensures asked { SharesMade asked.old.amount asked.new.amount result }
+        ensures asked_parts { asked.new.parts ≡ asked.old.parts }
+        ensures refused { SharesRefusal refused.old.amount refused.new.amount result }
+        ensures parts { refused.new.parts ≡ refused.old.parts }
+        ensures changes { self.new.changes ≡ self.old.changes }
+        ensures awaited { self.new.awaited ≡ self.old.awaited }
+    {
+        let Hall {
+            desk,
+            requests,
+            refusals,
+            ..
+        } = self;
+        let gave = desk.ask(alloc, conn, request, now);
+        count_made(requests, asked, &gave);
+        count(refusals, refused, &gave);
+        gave
+    }
+
+    /// A check goes on.
+    #[tactic(auto, using(crate::proofs::BookLaws::kept_step, crate::proofs::BookLaws::kept_refusal))]
+    pub fn step(
+        &mut self,
+        alloc: Global,
+        check: CheckNo,
+        now: Moment,
+        refused: &mut Share<N>,
+    ) -> Result<Stepped, DeskFault>
+        requires { 0 < refused.old.parts }
+        ensures noted { NotesAs IsStepTold (IsStep check) (D.told self.old.desk)
+            (D.told self.new.desk) result }
+        ensures refused { SharesRefusal refused.old.amount refused.new.amount result }
+        ensures parts { refused.new.parts ≡ refused.old.parts }
+        ensures changes { self.new.changes ≡ raised_if (may_ask result) self.old.changes }
+        ensures awaited { self.new.awaited.questions.items
+            ≡ after_step result self.old.awaited.questions.items }
+    {
+        let Hall {
+            desk,
+            refusals,
+            changes,
+            awaited,
+            ..
+        } = self;
+        if awaited.reserve().is_err() {
+            return Err(DeskFault::WantOfMemory);
+        }
+        let gave = desk.step(alloc, check, now);
+        if may_ask(&gave) {
+            *changes = changes.wrapping_add(1);
+        }
+        awaited.begin(&gave);
+        count(refusals, refused, &gave);
+        gave
+    }
+
+    /// The outcome of a check is taken.
+    #[tactic(auto, using(crate::proofs::BookLaws::kept_take, crate::proofs::BookLaws::kept_refusal))]
+    pub fn take(
+        &mut self,
+        alloc: Global,
+        check: CheckNo,
+        now: Moment,
+        refused: &mut Share<N>,
+    ) -> Result<Record, DeskFault>
+        requires { 0 < refused.old.parts }
+        ensures noted { NotesAs IsTakeTold (IsTaking check) (D.told self.old.desk)
+            (D.told self.new.desk) result }
+        ensures refused { SharesRefusal refused.old.amount refused.new.amount result }
+        ensures parts { refused.new.parts ≡ refused.old.parts }
+        ensures changes { self.new.changes
+            ≡ raised_if (nat_lt self.old.older.oldest self.old.older.current) self.old.changes }
+        ensures awaited { self.new.awaited ≡ self.old.awaited }
+    {
+        let Hall {
+            desk,
+            refusals,
+            changes,
+            older,
+            ..
+        } = self;
+        if older.may_live() {
+            *changes = changes.wrapping_add(1);
+        }
+        let gave = desk.take(alloc, check, now);
+        count(refusals, refused, &gave);
+        gave
+    }
+
+    /// A process was started.
+    #[tactic(auto, using(crate::proofs::BookLaws::kept_started, crate::proofs::BookLaws::kept_refusal))]
+    pub fn started(
+        &mut self,
+        alloc: Global,
+        epoch: EpochNo,
+        class: u32,
+        now: Moment,
+        refused: &mut Share<N>,
+    ) -> Result<ProcNo, DeskFault>
+        requires { 0 < refused.old.parts }
+        ensures noted { Notes answer.Proc (IsStarted D.first (D.told self.old.desk) epoch class)
+            (D.told self.old.desk) (D.told self.new.desk) result }
+        ensures refused { SharesRefusal refused.old.amount refused.new.amount result }
+        ensures parts { refused.new.parts ≡ refused.old.parts }
+        ensures changes { self.new.changes ≡ one_more self.old.changes }
+        ensures awaited { self.new.awaited ≡ self.old.awaited }
+    {
+        let Hall {
+            desk,
+            refusals,
+            changes,
+            ..
+        } = self;
+        *changes = changes.wrapping_add(1);
+        let gave = desk.started(alloc, epoch, class, now);
+        count(refusals, refused, &gave);
+        gave
+    }
+
+    /// A start failed.
+    #[tactic(auto, using(crate::proofs::BookLaws::kept_failed, crate::proofs::BookLaws::kept_refusal))]
+    pub fn start_failed(
+        &mut self,
+        alloc: Global,
+        epoch: EpochNo,
+        class: u32,
+        now: Moment,
+        refused: &mut Share<N>,
+    ) -> Result<(), DeskFault>
+        requires { 0 < refused.old.parts }
+        ensures noted { Notes (λ _. answer.Fine)
+            (IsFailed D.first (D.told self.old.desk) epoch class) (D.told self.old.desk)
+            (D.told self.new.desk) result }
+        ensures refused { SharesRefusal refused.old.amount refused.new.amount result }
+        ensures parts { refused.new.parts ≡ refused.old.parts }
+        ensures changes { self.new.changes ≡ one_more self.old.changes }
+        ensures awaited { self.new.awaited.questions.items ≡ [] }
+    {
+        let Hall {
+            desk,
+            refusals,
+            changes,
+            awaited,
+            ..
+        } = self;
+        *changes = changes.wrapping_add(1);
+        awaited.clear();
+        let gave = desk.start_failed(alloc, epoch, class, now);
+        count(refusals, refused, &gave);
+        gave
+    }
+
+    /// A process wrote a line.
+    #[tactic(auto, using(crate::proofs::BookLaws::kept_line, crate::proofs::BookLaws::kept_line_refusal))]
+    pub fn line(
+        &mut self,
+        alloc: Global,
+        proc: ProcNo,
+        bytes: &[u8],
+        now: Moment,
+        refused: &mut Share<N>,
+    ) -> Result<Got, DeskFault>
+        requires { 0 < refused.old.parts }
+        ensures noted { Notes got_told (IsLine proc bytes.now) (D.told self.old.desk)
+            (D.told self.new.desk) result }
+        ensures refused { SharesLine refused.old.amount refused.new.amount result }
+        ensures parts { refused.new.parts ≡ refused.old.parts }
+        ensures changes { self.new.changes ≡ one_more self.old.changes }
+        ensures awaited { self.new.awaited.questions.items
+            ≡ after_line result self.old.awaited.questions.items }
+    {
+        let Hall {
+            desk,
+            refusals,
+            changes,
+            awaited,
+            ..
+        } = self;
+        *changes = changes.wrapping_add(1);
+        let gave = desk.line(alloc, proc, bytes, now);
+        awaited.end(&gave);
+        count_line(refusals, refused, &gave);
+        gave
+    }
+
+    /// A process died.
+    #[tactic(auto, using(crate::proofs::BookLaws::kept_died, crate::proofs::BookLaws::kept_refusal))]
+    pub fn died(
+        &mut self,
+        proc: ProcNo,
+        now: Moment,
+        refused: &mut Share<N>,
+    ) -> Result<(), DeskFault>
+        requires { 0 < refused.old.parts }
+        ensures noted { Notes (λ _. answer.Fine) (IsDead proc) (D.told self.old.desk)
+            (D.told self.new.desk) result }
+        ensures memory { IsErrOf result fault.WantOfMemory → ⊥ }
+        ensures refused { SharesRefusal refused.old.amount refused.new.amount result }
+        ensures parts { refused.new.parts ≡ refused.old.parts }
+        ensures changes { self.new.changes ≡ one_more self.old.changes }
+        ensures awaited { self.new.awaited.questions.items ≡ [] }
+    {
+        let Hall {
+            desk,
+            refusals,
+            changes,
+            awaited,
+            ..
+        } = self;
+        *changes = changes.wrapping_add(1);
+        awaited.clear();
+        let gave = desk.died(proc, now);
+        count(refusals, refused, &gave);
+        gave
+    }
+
+    /// The next act that is due.
+    #[tactic(auto, using(crate::proofs::BookLaws::counted_act, crate::proofs::BookLaws::kept_refusal))]
+    pub fn act(
+        &mut self,
+        alloc: Global,
+        now: Moment,
+        refused: &mut Share<N>,
+    ) -> Result<Option<Act>, DeskFault>
+        requires { 0 < refused.old.parts }
+        ensures noted { MayAct (D.told self.old.desk) (D.told self.new.desk) result }
+        ensures refused { SharesRefusal refused.old.amount refused.new.amount result }
+        ensures parts { refused.new.parts ≡ refused.old.parts }
+        ensures changes { self.new.changes ≡ self.old.changes }
+        ensures awaited { self.new.awaited ≡ self.old.awaited }
+    {
+        let Hall {
+            desk,
+            refusals,
+            older,
+            ..
+        } = self;
+        let gave = desk.act(alloc, now);
+        if let Ok(None) = gave {
+            older.forget(&*desk);
+        }
+        count(refusals, refused, &gave);
+        gave
+    }
+
+    /// Another configuration is current.
+    #[tactic(auto, using(crate::proofs::BookLaws::kept_reread, crate::proofs::BookLaws::kept_refusal, crate::proofs::BookLaws::kept_made, crate::proofs::BookLaws::epoch_whole))]
+    pub fn reconfigure(
+        &mut self,
+        alloc: Global,
+        setup: Setup,
+        now: Moment,
+        made: &mut Share<M>,
+        refused: &mut Share<N>,
+    ) -> Result<EpochNo, DeskFault>
+        requires stated { IsStated setup }
+        requires counting { D.is_counting ≡ true }
+        requires made { 0 < made.old.parts }
+        requires refused { 0 < refused.old.parts }
+        ensures noted { Notes answer.Epoch (IsReread setup) (D.told self.old.desk)
+            (D.told self.new.desk) result }
+        ensures made { SharesMade made.old.amount made.new.amount result }
+        ensures made_parts { made.new.parts ≡ made.old.parts }
+        // Where the share is the whole book's, it tells the number of the epoch.
+        ensures whole { made.old.parts ≡ M.parts → IfOk result (λ e. e ≡ made.new.amount + 1) }
+        ensures refused { SharesRefusal refused.old.amount refused.new.amount result }
+        ensures parts { refused.new.parts ≡ refused.old.parts }
+        ensures changes { self.new.changes ≡ one_more self.old.changes }
+        ensures awaited { self.new.awaited ≡ self.old.awaited }
+    {
+        let Hall {
+            desk,
+            makes,
+            refusals,
+            changes,
+            older,
+            ..
+        } = self;
+        *changes = changes.wrapping_add(1);
+        makes.audit(made);
+        let gave = desk.reconfigure(alloc, setup, now);
+        if let Ok(epoch) = gave {
+            older.begin(epoch);
+        }
+        count_made(makes, made, &gave);
+        count(refusals, refused, &gave);
+        gave
+    }
+}

@@ -1,0 +1,38 @@
+//! What the threads of a server share, each value behind a lock of its own.
+//!
+//! `Hall` is the desk with the books of its requests, reconfigurations and refusals; `Door` is the listener with the
+//! word whether it failed; `Bank` is the delay pools with the book of their grants: what the pools granted is what the
+//! book counts, or 2^127 where that is less. Their methods say what a call does to the value and to the shares that are
+//! handed in, and their types keep what their books count. `Room` is the desk's lock, and `LockDesk` the desk behind it,
+//! as one thread sees it; `ControlDesk` is the same with the right to make reconfigurations. The lines that take a lock
+//! stand in `holds`, `door_holds`, `bank_holds` and `waits`.
+#![tactic(auto)]
+
+mod awaited;
+mod bank;
+mod bank_holds;
+mod control_desk;
+mod counting;
+mod door;
+mod door_holds;
+mod hall;
+mod hall_calls;
+pub mod holds;
+mod lock_desk;
+mod older;
+mod room;
+mod turns;
+mod waits;
+
+pub use bank::Bank;
+pub use bank_holds::{choose, grant, leave, renew};
+pub use control_desk::ControlDesk;
+pub use door::Door;
+pub use door_holds::{accept, has_failed};
+pub use hall::Hall;
+pub use lock_desk::LockDesk;
+pub use room::Room;
+pub use waits::{
+    changes, is_awaited, is_stopped, number_told, set_done, wait_answered, wait_due,
+    wake_after_step, wake_if_stopped,
+};

@@ -1,0 +1,53 @@
+//! Whether a call may have made an act due, for which the pump is to be woken.
+ghost use Rattle.std.specs.Prelude.{◌≡◌, nat_lt};
+ghost use Rattle.sq_shared.specs.Waking.{may_ask};
+
+use sq_base::EpochNo;
+use sq_calls::{DeskCalls, DeskFault};
+use sq_model_rows::Stepped;
+
+/// Whether a step may have put a question, for a check or to refresh a kept answer.
+pub(crate) fn may_ask(gave: &Result<Stepped, DeskFault>) -> bool
+    ensures { result ≡ may_ask gave.now }
+{
+    match gave {
+        Ok(Stepped::Took(_)) | Ok(Stepped::Waits(_)) => true,
+        Ok(Stepped::Done) | Err(_) => false,
+    }
+}
+
+/// The epochs that may live: where the last check of an older one goes, the stops of its processes are due.
+#[derive(Clone, Copy)]
+pub(crate) struct Older {
+    oldest: EpochNo,
+    current: EpochNo,
+}
+
+impl Older {
+    // The first epoch lives alone.
+    pub(crate) fn new() -> Older {
+        Older {
+            oldest: EpochNo(1),
+            current: EpochNo(1),
+        }
+    }
+
+    // Whether an epoch may live that is not current.
+    pub(crate) fn may_live(&self) -> bool
+        ensures { result ≡ nat_lt self.now.oldest self.now.current }
+    {
+        self.oldest.0 < self.current.0
+    }
+
+    // This epoch is current.
+    pub(crate) fn begin(&mut self, epoch: EpochNo) {
+        self.current = epoch;
+    }
+
+    // Lets go of the oldest epoch where it lives no more. A pump that finds nothing due calls it each time.
+    pub(crate) fn forget<D: DeskCalls>(&mut self, desk: &D) {
+        if self.oldest.0 < self.current.0 && desk.config(self.oldest).is_none() {
+            self.oldest = EpochNo(self.oldest.0 + 1);
+        }
+    }
+}

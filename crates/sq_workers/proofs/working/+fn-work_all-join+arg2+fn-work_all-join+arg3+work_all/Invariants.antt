@@ -1,0 +1,11 @@
+use Rattle.sq_workers.proofs.working.+fn-work_all-join+arg2+fn-work_all-join+arg3+work_all.Given as goal
+
+-- the number of workers
+abbrev pub decreases-join+arg2 : goal.decreases-join+arg2
+decreases-join+arg2 g l = l.low
+
+abbrev pub decreases-join+arg3 : goal.decreases-join+arg3
+decreases-join+arg3 g l = l.high
+
+abbrev pub decreases-work_all : goal.decreases-work_all
+decreases-work_all g l = l.count

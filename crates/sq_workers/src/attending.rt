@@ -1,0 +1,134 @@
+//! One link, served by one session.
+ghost use Rattle.std.specs.Prelude.{◌≡◌, ◌+◌, min};
+ghost use Rattle.sq_outside.specs.Causes.{count_limit};
+
+use crate::lock_hub::{LockHub, Shares};
+use crate::sums::Sums;
+use sq_base::{Addr, ConnNo};
+use sq_calls::DeskCalls;
+use sq_conn_policy::HubFront;
+use sq_forward::{Ahead, Half};
+use sq_outside::{Clock, Dialer, Out, Source, raised_by};
+use sq_session::{SessionEnd, session};
+use sq_shared::{Bank, Room};
+use std::alloc::Global;
+use std::sync::ledger::{Ledger, Share};
+use std::sync::{Mutex, Wait};
+use std::thread::Threads;
+
+/// Serves a link as the connection of this number. Its session begins with shares of its own in which nothing is counted;
+/// what it asked and was granted is added to the sums.
+pub(crate) fn attend<
+    R: Threads + Wait + Sync,
+    I: Source + Send + Drop,
+    O: Out + Drop,
+    D: DeskCalls,
+    A: Ledger,
+    M: Ledger,
+    N: Ledger,
+    G: Ledger,
+    Q: Dialer,
+    C: Clock + Drop,
+>(
+    rt: &R,
+    alloc: Global,
+    room: &Room<D, A, M, N>,
+    bank: &Mutex<Bank<G>>,
+    conn: ConnNo,
+    from: I,
+    to: O,
+    addr: Addr,
+    port: u16,
+    dialer: &mut Q,
+    clock: C,
+    refused: &mut Share<N>,
+    sums: &mut Sums<A, G>,
+) -> SessionEnd
+    requires asked { sums.old.asked.parts ≡ 2 }
+    requires grants { sums.old.grants.parts ≡ 2 }
+    requires refused { refused.old.parts ≡ 2 }
+    ensures requests { sums.new.requests ≡ min (sums.old.requests + result.requests) count_limit }
+    ensures granted { sums.new.granted ≡ min (sums.old.granted + result.granted) count_limit }
+    ensures asked { sums.new.asked.parts ≡ 2 }
+    ensures grants { sums.new.grants.parts ≡ 2 }
+    ensures refused { refused.new.parts ≡ 2 }
+{
+    let Sums {
+        requests,
+        granted,
+        asked,
+        grants,
+    } = sums;
+    let theirs = Shares {
+        asked: asked.split_off(1, 0),
+        refused: refused.split_off(1, 0),
+        granted: grants.split_off(1, 0),
+    };
+    let (end, back) = serve_link(
+        rt, alloc, room, bank, conn, from, to, addr, port, dialer, clock, theirs,
+    );
+    asked.merge(back.asked);
+    refused.merge(back.refused);
+    grants.merge(back.granted);
+    *requests = raised_by(*requests, end.requests);
+    *granted = raised_by(*granted, end.granted);
+    end
+}
+
+// Serves a link with these shares, in which nothing is counted yet.
+fn serve_link<
+    R: Threads + Wait + Sync,
+    I: Source + Send + Drop,
+    O: Out + Drop,
+    D: DeskCalls,
+    A: Ledger,
+    M: Ledger,
+    N: Ledger,
+    G: Ledger,
+    Q: Dialer,
+    C: Clock + Drop,
+>(
+    rt: &R,
+    alloc: Global,
+    room: &Room<D, A, M, N>,
+    bank: &Mutex<Bank<G>>,
+    conn: ConnNo,
+    from: I,
+    mut to: O,
+    addr: Addr,
+    port: u16,
+    dialer: &mut Q,
+    clock: C,
+    shares: Shares<A, N, G>,
+) -> (SessionEnd, Shares<A, N, G>)
+    requires asked { (shares.asked.parts ≡ 1) × (shares.asked.amount ≡ 0) }
+    requires refused { shares.refused.parts ≡ 1 }
+    requires granted { (shares.granted.parts ≡ 1) × (shares.granted.amount ≡ 0) }
+    ensures requests { result.0.requests ≡ min result.1.asked.amount count_limit }
+    ensures granted { result.0.granted ≡ min result.1.granted.amount count_limit }
+    ensures parts { (result.1.asked.parts ≡ 1) × (result.1.refused.parts ≡ 1)
+        × (result.1.granted.parts ≡ 1) }
+{
+    let Shares {
+        asked,
+        refused,
+        granted,
+    } = shares;
+    let hub = LockHub::new(rt, room, bank, clock, asked, refused, granted);
+    let mut front = HubFront::new(rt, hub, conn);
+    let mut client = Half {
+        source: from,
+        ahead: Ahead::new(alloc),
+    };
+    let end = session(
+        rt,
+        alloc,
+        &mut client,
+        &mut to,
+        addr,
+        port,
+        &mut front,
+        dialer,
+    );
+    (end, front.finish().finish())
+}

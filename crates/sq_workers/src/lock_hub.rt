@@ -1,0 +1,279 @@
+//! `LockHub`: the engine and the pools behind their locks, as one connection sees them.
+ghost use Rattle.std.specs.Prelude.{◌≡◌, ◌≤◌, ◌<◌, ◌+◌, ◌-◌, ◌^◌, min, None};
+ghost use Rattle.sq_outside.specs.Causes.{count_limit, raised};
+ghost use Rattle.sq_workers.specs.HubFaults.{hub_fault, hub_gave};
+
+use sq_base::{Addr, CheckNo, ConnNo, EpochNo, QuestionNo, Request};
+use sq_calls::{DeskCalls, DeskFault};
+use sq_checks::Record;
+use sq_conn_policy::{Hub, HubFault};
+use sq_model_rows::Stepped;
+use sq_outside::{Clock, raised, raised_by};
+use sq_pools::{ChooseFault, Seat};
+use sq_rules::Config;
+use sq_session::Counts;
+use sq_shared::{Bank, Room, holds, number_told, wait_answered, wake_after_step, wake_if_stopped};
+use std::alloc::Global;
+use std::sync::ledger::{Ledger, Share};
+use std::sync::{Arc, Mutex, Wait};
+
+/// The shares of a hub.
+#[derive(Drop)]
+pub struct Shares<A: Ledger, N: Ledger, G: Ledger> {
+    /// Of the requests that it made.
+    pub asked: Share<A>,
+    /// Of the calls that were refused.
+    pub refused: Share<N>,
+    /// Of the bytes that it was granted.
+    pub granted: Share<G>,
+}
+
+/// The engine and the pools behind their locks. Each call that has the name of one of theirs is one hold, in which it
+/// makes that one call at the moment of its clock and adds to its shares. It tells how many requests it made and how many
+/// bytes it was granted, each up to 2^63 - 1, and remembers the number of the question for which its last step said to wait, or 0.
+#[derive(Drop)]
+pub struct LockHub<
+    'a,
+    R: Wait,
+    D: DeskCalls,
+    A: Ledger,
+    M: Ledger,
+    N: Ledger,
+    G: Ledger,
+    C: Clock + Drop,
+> {
+    rt: &'a R,
+    room: &'a Room<D, A, M, N>,
+    bank: &'a Mutex<Bank<G>>,
+    clock: C,
+    asks: u64,
+    grants: u64,
+    question: u64,
+    asked: Share<A>,
+    refused: Share<N>,
+    granted: Share<G>,
+    ghost asked_part: { asked.parts ≡ 1 },
+    ghost refused_part: { refused.parts ≡ 1 },
+    ghost granted_part: { granted.parts ≡ 1 },
+    ghost asks_are: { asks ≡ min asked.amount count_limit },
+    ghost grants_are: { grants ≡ min granted.amount count_limit },
+    ghost question_fits: { question < 2 ^ 63 },
+}
+
+// So many pauses of a clock, of 10 milliseconds, come to a second.
+const SECOND: u32 = 100;
+
+// Waits for a second, in which each bucket gains once.
+fn rest<C: Clock>(clock: &mut C) {
+    for _ in 0..SECOND {
+        clock.pause();
+    }
+}
+
+// The fault of a hub where the desk did not make a call. A desk that has stopped is a journal that failed.
+fn hub_fault(fault: DeskFault) -> HubFault
+    ensures { result ≡ hub_fault fault }
+{
+    match fault {
+        DeskFault::Engine(refusal) => HubFault::Refused(refusal),
+        DeskFault::Stopped | DeskFault::JournalFault => HubFault::JournalFault,
+        DeskFault::WantOfMemory => HubFault::WantOfMemory,
+    }
+}
+
+// What a hub gives for what the desk gave.
+fn hub_gave<T>(gave: Result<T, DeskFault>) -> Result<T, HubFault>
+    ensures { result ≡ hub_gave gave }
+{
+    match gave {
+        Ok(value) => Ok(value),
+        Err(fault) => Err(hub_fault(fault)),
+    }
+}
+
+impl<
+    'a,
+    R: Wait,
+    D: DeskCalls,
+    A: Ledger,
+    M: Ledger,
+    N: Ledger,
+    G: Ledger,
+    C: Clock + Drop,
+> LockHub<'a, R, D, A, M, N, G, C> {
+    /// A hub over these locks that asked nothing yet and was granted nothing.
+    pub fn new(
+        rt: &'a R,
+        room: &'a Room<D, A, M, N>,
+        bank: &'a Mutex<Bank<G>>,
+        clock: C,
+        asked: Share<A>,
+        refused: Share<N>,
+        granted: Share<G>,
+    ) -> LockHub<'a, R, D, A, M, N, G, C>
+        requires asked { (asked.parts ≡ 1) × (asked.amount ≡ 0) }
+        requires refused { refused.parts ≡ 1 }
+        requires granted { (granted.parts ≡ 1) × (granted.amount ≡ 0) }
+        ensures asked { result.asked ≡ asked }
+        ensures refused { result.refused ≡ refused }
+        ensures granted { result.granted ≡ granted }
+    {
+        LockHub {
+            rt,
+            room,
+            bank,
+            clock,
+            asks: 0,
+            grants: 0,
+            question: 0,
+            asked,
+            refused,
+            granted,
+        }
+    }
+
+    /// Its shares, given back.
+    pub fn finish(self) -> Shares<A, N, G>
+        ensures asked { result.asked ≡ self.entry.asked }
+        ensures refused { result.refused ≡ self.entry.refused }
+        ensures granted { result.granted ≡ self.entry.granted }
+        ensures parts { (result.asked.parts ≡ 1) × (result.refused.parts ≡ 1)
+            × (result.granted.parts ≡ 1) }
+    {
+        let LockHub {
+            asked,
+            refused,
+            granted,
+            ..
+        } = self;
+        Shares {
+            asked,
+            refused,
+            granted,
+        }
+    }
+}
+
+impl<'a, R: Wait, D: DeskCalls, A: Ledger, M: Ledger, N: Ledger, G: Ledger, C: Clock + Drop> Hub
+    for LockHub<'a, R, D, A, M, N, G, C> {
+    ghost use Rattle.std.proofs.Common.{arith};
+
+    ghost told = { λ _. None };
+
+    ghost asked = { λ s. min s.asked.amount count_limit };
+
+    ghost refused = { λ s. min s.refused.amount count_limit };
+
+    ghost granted = { λ s. min s.granted.amount count_limit };
+
+    // A journal that failed counts as a refusal.
+    ghost faults = { λ s. min s.refused.amount count_limit };
+
+    ghost asked_capped = { λ s. Prim.search arith };
+
+    ghost granted_capped = { λ s. Prim.search arith };
+
+    #[tactic(auto, using(crate::proofs::HubLaws::hub_refuses, crate::proofs::HubLaws::hub_fails, crate::proofs::HubLaws::share_rises))]
+    fn open(
+        &mut self,
+        _alloc: Global,
+        conn: ConnNo,
+        addr: Addr,
+        port: u16,
+    ) -> Result<(), HubFault> {
+        let now = self.clock.now();
+        let gave = holds::open(self.rt, self.room, conn, addr, port, now, &mut self.refused);
+        wake_if_stopped(self.rt, self.room, &gave);
+        hub_gave(gave)
+    }
+
+    #[tactic(auto, using(crate::proofs::HubLaws::hub_refuses, crate::proofs::HubLaws::hub_fails, crate::proofs::HubLaws::share_rises))]
+    fn close(&mut self, conn: ConnNo) -> Result<(), HubFault> {
+        let now = self.clock.now();
+        let gave = holds::close(self.rt, self.room, conn, now, &mut self.refused);
+        wake_if_stopped(self.rt, self.room, &gave);
+        hub_gave(gave)
+    }
+
+    #[tactic(auto, using(crate::proofs::HubLaws::hub_refuses, crate::proofs::HubLaws::hub_fails, crate::proofs::HubLaws::share_rises, crate::proofs::HubLaws::hub_asks))]
+    fn ask(&mut self, alloc: Global, conn: ConnNo, request: Request) -> Result<CheckNo, HubFault> {
+        let now = self.clock.now();
+        let LockHub {
+            rt,
+            room,
+            asks,
+            asked,
+            refused,
+            ..
+        } = self;
+        let gave = holds::ask(*rt, *room, alloc, conn, request, now, asked, refused);
+        wake_if_stopped(*rt, *room, &gave);
+        if gave.is_ok() {
+            *asks = raised(*asks);
+        }
+        hub_gave(gave)
+    }
+
+    #[tactic(auto, using(crate::proofs::HubLaws::hub_refuses, crate::proofs::HubLaws::hub_fails, crate::proofs::HubLaws::share_rises))]
+    fn step(&mut self, alloc: Global, check: CheckNo) -> Result<Stepped, HubFault> {
+        let now = self.clock.now();
+        let gave = holds::step(self.rt, self.room, alloc, check, now, &mut self.refused);
+        wake_after_step(self.rt, self.room, &gave);
+        self.question = number_told(&gave);
+        hub_gave(gave)
+    }
+
+    #[tactic(auto, using(crate::proofs::HubLaws::hub_refuses, crate::proofs::HubLaws::hub_fails, crate::proofs::HubLaws::share_rises))]
+    fn take(&mut self, alloc: Global, check: CheckNo) -> Result<Record, HubFault> {
+        let now = self.clock.now();
+        let gave = holds::take(self.rt, self.room, alloc, check, now, &mut self.refused);
+        wake_if_stopped(self.rt, self.room, &gave);
+        hub_gave(gave)
+    }
+
+    fn choose(
+        &mut self,
+        alloc: Global,
+        epoch: EpochNo,
+        config: &Arc<Config>,
+        pool: u32,
+        addr: Addr,
+    ) -> Result<Seat, ChooseFault> {
+        let now = self.clock.now();
+        sq_shared::choose(self.rt, alloc, self.bank, epoch, config, pool, addr, now)
+    }
+
+    #[tactic(auto, using(crate::proofs::HubLaws::hub_grants))]
+    fn grant(&mut self, seat: &Seat, wanted: u64) -> u64 {
+        let now = self.clock.now();
+        let LockHub {
+            rt,
+            bank,
+            grants,
+            granted,
+            ..
+        } = self;
+        let given = sq_shared::grant(*rt, *bank, seat, wanted, now, granted);
+        *grants = raised_by(*grants, given);
+        given
+    }
+
+    fn leave(&mut self, seat: Seat) {
+        sq_shared::leave(self.rt, self.bank, seat);
+    }
+
+    fn wait(&mut self) {
+        wait_answered(self.rt, self.room, QuestionNo(self.question));
+    }
+
+    fn pause(&mut self) {
+        rest(&mut self.clock);
+    }
+
+    fn counted(&self) -> Counts {
+        Counts {
+            asked: self.asks,
+            granted: self.grants,
+        }
+    }
+}
