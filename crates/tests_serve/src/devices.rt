@@ -8,7 +8,7 @@ use std::alloc::Global;
 use std::thread;
 
 /// For how many turns orders wait.
-const TURNS: u32 = 100_000;
+const TURNS: u32 = 20_000_000;
 
 /// The bytes that a source has left. It tells nothing, and never fails.
 #[derive(Drop)]

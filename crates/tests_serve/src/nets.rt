@@ -67,7 +67,7 @@ pub fn origins<'a>(
     Ok(origins)
 }
 
-/// A helper `/bin/h` that answers `OK` once a line was written to the last of the wires, or ends after 100,000 turns of
+/// A helper `/bin/h` that answers `OK` once a line was written to the last of the wires, or ends after 20,000,000 turns of
 /// waiting.
 pub fn helpers<'a>(alloc: Global, wires: &'a [Wire]) -> Result<Vec<MemChild<'a>>, WantOfMemory> {
     let mut words = Vec::new(alloc);
@@ -75,7 +75,7 @@ pub fn helpers<'a>(alloc: Global, wires: &'a [Wire]) -> Result<Vec<MemChild<'a>>
     let pair = pair(alloc, b"OK\n", None)?;
     let waits = wires.last().map(|wire| MemWait {
         wire,
-        turns: 100_000,
+        turns: 20_000_000,
     });
     let mut children = Vec::new(alloc);
     children.push(MemChild { words, pair, waits })?;
