@@ -13,7 +13,7 @@ invariant_of-self g c =
 
 pub returns-clause-next : goal.returns-clause-next
 returns-clause-next g c =
-    subst (λ (d : DeskView). IsNextAct (Some g.F.First.first) d.notes.history c.act.result) c.self.view_is
+    subst (λ (d : DeskView). IsNextAct (Some g.F.DeskStart.first) d.notes.history c.act.result) c.self.view_is
     (act_next (record { engine = c.self.inside.engine; notes = c.self.inside.notes })
     (record { engine = c.act.new.engine; notes = c.act.new.notes })
     c.args.now c.act.result c.self.invariant c.act.ensures.acts c.act.ensures.promised)

@@ -17,7 +17,7 @@ invariant_of-self g c =
 pub returns-clause-named : goal.returns-clause-named
 returns-clause-named g c =
     subst (λ (d : DeskView). OnOk c.start_failed.result
-    (IsNameOf (Some g.F.First.first) d.notes.history c.args.epoch c.args.class
+    (IsNameOf (Some g.F.DeskStart.first) d.notes.history c.args.epoch c.args.class
     (name_in (state_of d.engine) (record { epoch = c.args.epoch; class = c.args.class })))) c.self.view_is
     (failed_name (record { engine = c.self.inside.engine; notes = c.self.inside.notes })
     (record { engine = c.start_failed.new.engine; notes = c.start_failed.new.notes })
