@@ -470,7 +470,7 @@ fn takes(config: &Config, pool: u32, addr: Addr) -> bool
     ensures { result ≡ has_pool config.now pool addr }
 {
     match config.pools().get(pool as usize) {
-        Some(pool) => !(addr.v6 && pool.class >= 2),
+        Some(pool) => !(addr.v6 && pool.class >= 2 && pool.class <= 3),
         None => false,
     }
 }
