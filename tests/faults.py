@@ -424,7 +424,7 @@ def no_memory_while_it_runs(bench: Bench) -> None:
             odd.append(got[:200])
         link.close()
     bench.same("replies", odd, [])
-    denial = own("403 Forbidden", "denied fault 1 known NoHelper")
+    denials = {own("403 Forbidden", f"denied fault 1 known {cause}") for cause in ("NoHelper", "Died")}
     asking = bench.connect()
     asking.sendall(bench.request("/ask", "Connection: close"))
     acls = "".join(f"acl a{n} url_regex (x|y{n}){{20}}z\n" for n in range(2000))
@@ -432,8 +432,8 @@ def no_memory_while_it_runs(bench: Bench) -> None:
     server.order("reconfigure\n")
     bench.same("a large configuration", server.hear(PATIENCE), {"kept old memory", "reconfigured 2"})
     resource.prlimit(server.pid, resource.RLIMIT_AS, (resource.RLIM_INFINITY, resource.RLIM_INFINITY))
-    # The thread that hears a helper is made once there is memory for it: until then its checks wait.
-    bench.same("a helper", all_of(asking).removesuffix(b"<reset>"), {hello(), denial, NO_MEMORY, b""})
+    # Where the thread that hears a helper is not to be had, the helper is ended.
+    bench.same("a helper", all_of(asking).removesuffix(b"<reset>"), denials | {hello(), NO_MEMORY, b""})
     bench.same("later", bench.get("/"), hello())
     bench.same("a helper, later", bench.get("/ask/later"), hello())
     # A connection that could not be accepted is a fault of the listener, which may be told at the end.
@@ -660,7 +660,8 @@ def helpers_that_cannot_start(bench: Bench) -> None:
 
 
 def no_processes(bench: Bench) -> None:
-    """Where the system gives no further process, helpers are NoHelper, and other checks go on."""
+    """Where the system gives no further process, helpers are NoHelper; where it gives one, and no thread to hear it, Died. Other checks
+    go on."""
     if os.getuid() != 0:
         return bench.left("only root can be another user")
     os.chmod(".", 0o777)
@@ -678,15 +679,16 @@ def no_processes(bench: Bench) -> None:
 
     ours, bench.program = bench.program, os.path.abspath("program")
     try:
-        for turn in range(2):
+        for turn, cause in enumerate(("", "NoHelper", "Died")):
             try:
                 server = bench.start(ASKING, "--workers", "4", before=other)
             except (OSError, subprocess.SubprocessError) as fault:
                 return bench.left(f"it does not start as another user: {fault}")
             bench.same(f"{turn}, a request", bench.get("/"), hello())
-            denied = own("403 Forbidden", "denied fault 1 known NoHelper")
-            # It has as many threads as before, and no process more.
-            most = server.value("Threads")
+            denied = own("403 Forbidden", f"denied fault 1 known {cause}")
+            # It has as many threads as before (the first, four workers', the pump's), and no process more; and then one more.
+            until(5, lambda: server.value("Threads") == 6)
+            most = 6 + turn
             bench.same(f"{turn}, a helper", bench.get("/ask/a"), denied if turn else hello())
             bench.same(f"{turn}, another request", bench.get("/"), hello())
             bench.same(f"{turn}, its end", bench.ends(server), "stopped status 0")

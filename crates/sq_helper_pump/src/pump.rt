@@ -1,9 +1,10 @@
 //! `ServePump`: what performs the acts of a desk.
 ghost use Rattle.std.specs.Prelude.{◌≡◌, ◌++◌, ◌∷◌, ◌<◌, [], None, IfNone, IfSome};
+ghost use Rattle.sq_helper_pump.specs.Handing.{HandsDeath};
 ghost use Rattle.sq_helper_pump.specs.Turning.{LetsGo};
 
 use crate::turns::{Left, Reader};
-use sq_base::ProcNo;
+use sq_base::{Moment, ProcNo};
 use sq_calls::DeskCalls;
 use sq_helper_pipes::Pipes;
 use sq_outside::Spawner;
@@ -107,5 +108,25 @@ where
     {
         self.pipes.stop(proc);
         self.pipes.sweep();
+    }
+
+    /// No keeper is to be had for this process: the half of it that is written to is closed and let go of, with those that were
+    /// closed before, and the desk is told that it died. It takes no memory.
+    pub fn unkept(&mut self, proc: ProcNo, now: Moment)
+        ensures pipes { LetsGo S.ChildIn.contents S.ChildIn.faults S.ChildIn.closed proc
+            self.old.pipes self.new.pipes }
+        // The desk noted this death, or refused it.
+        ensures hands { HandsDeath self.old.told self.new.told self.old.refused self.new.refused
+            proc }
+        ensures same { self.new
+            ≡ record self.old {
+              pipes = self.new.pipes;
+              desk = self.new.desk;
+              told = self.new.told;
+              refused = self.new.refused;
+            } }
+    {
+        self.ended(proc);
+        let _gave = self.desk.died(proc, now);
     }
 }

@@ -1,19 +1,18 @@
 //! What a keeper thread does.
 use crate::board::Task;
 use crate::shelf::Shelf;
-use crate::watching::ProcessWatch;
 use sq_calls::DeskCalls;
 use sq_helper_pump::ServeLines;
 use sq_keeper::{KeeperEnd, read_lines};
 use sq_outside::{Clock, Source};
-use sq_shared::{LockDesk, Room};
+use sq_shared::{LockDesk, Room, tell_end};
 use std::alloc::Global;
 use std::sync::Wait;
 use std::sync::ledger::Ledger;
 use std::thread;
 
-/// Takes a half from the shelf, and hands its lines to the desk until the process ends or no more are wanted. The pump
-/// learns by the shelf that this keeper has ended.
+/// Takes a half from the shelf, and hands its lines to the desk until the process ends or no more are wanted. Whatever
+/// made it end, the pump learns by the shelf that this keeper has ended, and is woken for it.
 pub(crate) fn keep<
     R: Wait + Sync,
     P: Source + Drop,
@@ -31,16 +30,13 @@ pub(crate) fn keep<
         mut from,
         refused,
     } = task;
-    let lines = ServeLines::new(alloc, LockDesk::new(rt, room, refused), clock);
-    let mut watch = ProcessWatch::new(rt, shelf, lines);
+    let mut lines = ServeLines::new(alloc, LockDesk::new(rt, room, refused), clock);
     for _ in rt.forever() {
-        match read_lines(rt, alloc, &mut from, proc, &mut watch) {
+        match read_lines(rt, alloc, &mut from, proc, &mut lines) {
             KeeperEnd::WantOfMemory => thread::yield_now(),
-            KeeperEnd::Ended | KeeperEnd::ReadFault => return,
-            KeeperEnd::Told => {
-                shelf.end(rt, proc);
-                return;
-            }
+            KeeperEnd::Ended | KeeperEnd::ReadFault | KeeperEnd::Told => break,
         }
     }
+    shelf.end(rt, proc);
+    tell_end(rt, room);
 }

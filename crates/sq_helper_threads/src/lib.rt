@@ -2,7 +2,8 @@
 //!
 //! `pump_all` performs the acts of a desk behind its lock until no more is to be done, and has a keeper thread for each
 //! process that it started; it returns once every keeper has. Where a keeper has ended, the pump lets go of its process
-//! before its next turn; a keeper that could not be started is tried again after a pause. The two share a `Shelf`.
+//! before its next turn. A keeper that could not be started is tried again before each turn; where nothing else is due by then, the
+//! process is ended as if it had died. The two share a `Shelf`.
 //! It claims nothing of when a thread gets on.
 #![tactic(auto)]
 
@@ -10,7 +11,6 @@ mod board;
 mod keeping;
 mod pumping;
 mod shelf;
-mod watching;
 
 pub use pumping::pump_all;
 pub use shelf::Shelf;

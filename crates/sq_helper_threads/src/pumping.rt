@@ -46,8 +46,8 @@ fn begin<
     Err(shelf.take_back(rt))
 }
 
-// Starts a keeper for each half that the pump holds, as long as there are parts of the book for them. Answers whether the
-// pump still holds one whose keeper could not be started.
+// Starts a keeper for each half that the pump holds, as long as there are parts of the book for them, up to one whose keeper
+// could not be started: that is held on.
 fn hand_out<
     's,
     E,
@@ -68,16 +68,16 @@ fn hand_out<
     pump: &mut ServePump<S, LockDesk<'s, R, D, A, M, N>>,
     refused: &mut Share<N>,
     spare: &mut u64,
-) -> bool
+)
     requires { refused.old.parts ≡ spare.old }
     ensures { refused.new.parts ≡ spare.new }
 {
     for _ in rt.forever() {
         if *spare <= 1 {
-            return false;
+            return;
         }
         let Some((proc, from)) = pump.reader() else {
-            return false;
+            return;
         };
         let part = refused.split_off(1, 0);
         let task = Task::new(proc, from, part);
@@ -91,14 +91,28 @@ fn hand_out<
                 } = back;
                 refused.merge(part);
                 pump.unread(proc, from);
-                return true;
+                return;
             }
         }
     }
     unreachable!()
 }
 
-// Performs turns until no more is to be done, and starts a keeper for each process that was started.
+// Ends a process whose half the pump holds still, since no keeper is to be had: nobody would hear it, nor see that it owes an
+// answer. Answers whether there was one.
+fn end_unread<S: Spawner + Drop, K: DeskCalls, C: Clock>(
+    pump: &mut ServePump<S, K>,
+    clock: &mut C,
+) -> bool {
+    let Some((proc, _from)) = pump.reader() else {
+        return false;
+    };
+    pump.unkept(proc, clock.now());
+    true
+}
+
+// Performs turns until no more is to be done, and starts a keeper for each process that was started. A process without one is
+// ended where nothing else is due: by then it was asked what it can be asked, so each of these questions is answered by its end.
 fn turns<
     's,
     E,
@@ -131,7 +145,7 @@ fn turns<
             pump.ended(proc);
             continue;
         }
-        let held = hand_out(
+        hand_out(
             rt,
             alloc,
             scope,
@@ -145,13 +159,9 @@ fn turns<
         match pump.turn(clock.now()) {
             Turn::Acted(_) => {}
             Turn::Idle => {
-                let seen = if held {
-                    clock.pause();
-                    // With a count that has passed, it does not sleep.
-                    seen.wrapping_sub(1)
-                } else {
-                    seen
-                };
+                if end_unread(&mut pump, &mut clock) {
+                    continue;
+                }
                 if wait_due(rt, room, seen) {
                     return;
                 }
@@ -165,7 +175,8 @@ fn turns<
 /// Performs the acts of the desk behind its lock until no more is to be done or the desk has stopped, and returns once
 /// every keeper has. `own` is the pump's part of the book of refusals, and `refused` has `spare` further ones: all but one
 /// of them are for keepers. A keeper that was started has its part for good, so with `spare` parts at most `spare - 1`
-/// keepers are ever started; after that the lines of further processes are not read.
+/// keepers are ever started; after that no keeper is to be had. A process whose keeper is not to be had is ended as if it had
+/// died.
 pub fn pump_all<
     'x,
     R: Threads + Wait + Sync,

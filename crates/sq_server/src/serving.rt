@@ -1,5 +1,5 @@
 //! `serve`: a server from its beginning to its end.
-ghost use Rattle.std.specs.Prelude.{◌≡◌, ◌+◌, ◌<◌, ◌≤◌, ◌^◌, ℕ, [], min, true, IfOk, IfErr, IfSome};
+ghost use Rattle.std.specs.Prelude.{◌≡◌, ◌+◌, ◌<◌, ◌≤◌, ◌^◌, ℕ, [], min, true, false, IfOk, IfErr, IfSome};
 ghost use Rattle.std.specs.Option.{ForSome};
 ghost use Rattle.sq_outside.specs.Causes.{Rose, count_limit};
 ghost use Rattle.sq_shared.specs.Books.{asks_in};
@@ -29,6 +29,7 @@ fn journal_of<J: Journal, B: Before, F: DeskStart>(desk: Desk<Watched<J, B>, F>)
     ensures history { J.history result.0 ≡ desk.notes.history }
     ensures later { B.faults ≤ J.faults result.0 }
     ensures cause { result.1 ≡ true → Rose B.faults (J.faults result.0) }
+    ensures quiet { result.1 ≡ false → J.faults result.0 ≡ B.faults }
 {
     desk.facts();
     desk.finish().finish()
@@ -83,6 +84,8 @@ fn serve_with<
         × ForSome (J.history s.journal) (λ h. n + 1 ≡ current h)) }
     ensures stopped { IfOk result
         (λ s. s.stopped ≡ true → Rose (J.faults journal) (J.faults s.journal)) }
+    ensures quiet { IfOk result
+        (λ s. s.stopped ≡ false → J.faults s.journal ≡ J.faults journal) }
     ensures failed { IfOk result (λ s. s.failed ≡ true → 0 < L.faults s.listener) }
     ensures later { IfOk result (λ s. J.faults journal ≤ J.faults s.journal) }
     ensures unserved { IfErr result
@@ -161,6 +164,8 @@ pub fn serve<R: Threads + Wait + Sync, N: Net, J: Journal + Send + Drop, K: Pane
         × ForSome (J.history s.journal) (λ h. n + 1 ≡ current h)) }
     ensures stopped { IfOk result
         (λ s. s.stopped ≡ true → Rose (J.faults journal) (J.faults s.journal)) }
+    ensures quiet { IfOk result
+        (λ s. s.stopped ≡ false → J.faults s.journal ≡ J.faults journal) }
     ensures failed { IfOk result (λ s. s.failed ≡ true → 0 < N.L.faults s.listener) }
     ensures later { IfOk result (λ s. J.faults journal ≤ J.faults s.journal) }
     // Why no desk was made.

@@ -22,6 +22,20 @@ pub struct Bank<G: Ledger> {
     ghost grants_are: { pools.granted ≡ min (2 ^ 127) grants.total },
 }
 
+/// The parts of a number of milliseconds below 1,024.
+const PARTS: [u64; 10] = [512, 256, 128, 64, 32, 16, 8, 4, 2, 1];
+
+/// The last moment.
+const LAST: u64 = 0x7fff_ffff_ffff_ffff;
+
+// The moment so many milliseconds behind this one, or the last.
+fn behind(now: Moment, passed: u64) -> Moment
+    ensures later { now ≤ result }
+    ensures soon { result ≤ now + passed }
+{
+    Moment(now.0.saturating_add(passed).min(LAST))
+}
+
 impl<G: Ledger> Bank<G> {
     ghost use Rattle.sq_shared.specs.BankViews.{pools_of};
 
@@ -108,6 +122,22 @@ impl<G: Ledger> Bank<G> {
             self.turns.take(number, amount);
         }
         amount
+    }
+
+    /// The first moment behind this one at which the buckets of a seat gain, a second behind it at most.
+    pub fn gains_at(&self, seat: &Seat, now: Moment) -> Moment
+        ensures later { now ≤ result }
+        ensures soon { result ≤ now + 1000 }
+    {
+        let second = self.pools.second(seat, now);
+        let mut passed = 0u64;
+        for part in PARTS {
+            let more = passed.saturating_add(part);
+            if self.pools.second(seat, behind(now, more)) == second {
+                passed = more;
+            }
+        }
+        behind(now, passed.min(999) + 1)
     }
 
     /// Gives a seat up.

@@ -45,6 +45,19 @@ pub fn grant<R: Wait, G: Ledger>(
     bank.lock(rt).grant_in_turn(seat, wanted, now, share)
 }
 
+/// The first moment behind this one at which the buckets of a seat gain, a second behind it at most.
+pub fn gains_at<R: Wait, G: Ledger>(
+    rt: &R,
+    bank: &Mutex<Bank<G>>,
+    seat: &Seat,
+    now: Moment,
+) -> Moment
+    ensures later { now ≤ result }
+    ensures soon { result ≤ now + 1000 }
+{
+    bank.lock(rt).gains_at(seat, now)
+}
+
 /// Gives a seat up.
 pub fn leave<R: Wait, G: Ledger>(rt: &R, bank: &Mutex<Bank<G>>, seat: Seat) {
     bank.lock(rt).leave(seat);

@@ -84,6 +84,15 @@ impl<D: DeskCalls, A: Ledger, M: Ledger, N: Ledger> Hall<D, A, M, N> {
         self.changes
     }
 
+    /// A keeper has ended: the pump has to look.
+    pub fn note_end(&mut self)
+        ensures changes { self.new.changes ≡ one_more self.old.changes }
+        ensures desk { self.new.desk ≡ self.old.desk }
+        ensures awaited { self.new.awaited ≡ self.old.awaited }
+    {
+        self.changes = self.changes.wrapping_add(1);
+    }
+
     /// Whether a session was told to wait for this question, and its answer has not come since.
     pub fn is_awaited(&self, question: QuestionNo) -> bool
         ensures { result ≡ is_awaited question self.now.awaited.questions.items }

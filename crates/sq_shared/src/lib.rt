@@ -25,7 +25,7 @@ mod turns;
 mod waits;
 
 pub use bank::Bank;
-pub use bank_holds::{choose, grant, leave, renew};
+pub use bank_holds::{choose, gains_at, grant, leave, renew};
 pub use control_desk::ControlDesk;
 pub use door::Door;
 pub use door_holds::{accept, has_failed};
@@ -33,6 +33,6 @@ pub use hall::Hall;
 pub use lock_desk::LockDesk;
 pub use room::Room;
 pub use waits::{
-    changes, is_awaited, is_stopped, number_told, set_done, wait_answered, wait_due,
+    changes, is_awaited, is_stopped, number_told, set_done, tell_end, wait_answered, wait_due,
     wake_after_step, wake_if_stopped,
 };

@@ -13,7 +13,7 @@ use sq_model_rows::Stepped;
 use std::sync::Wait;
 use std::sync::ledger::Ledger;
 
-/// How often an act may have become due so far.
+/// How often an act may have become due, or a keeper have ended, so far.
 pub fn changes<R: Wait, D: DeskCalls, A: Ledger, M: Ledger, N: Ledger>(
     rt: &R,
     room: &Room<D, A, M, N>,
@@ -65,6 +65,15 @@ pub fn wait_due<R: Wait, D: DeskCalls, A: Ledger, M: Ledger, N: Ledger>(
         hall.changes() == seen && !hall.is_done()
     });
     guard.is_done()
+}
+
+/// A keeper has ended, and the pump learns it.
+pub fn tell_end<R: Wait, D: DeskCalls, A: Ledger, M: Ledger, N: Ledger>(
+    rt: &R,
+    room: &Room<D, A, M, N>,
+) {
+    room.hall.lock(rt).note_end();
+    room.wake_pump();
 }
 
 /// No more is to be done, and the pump learns it.

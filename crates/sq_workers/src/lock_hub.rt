@@ -3,7 +3,7 @@ ghost use Rattle.std.specs.Prelude.{◌≡◌, ◌≤◌, ◌<◌, ◌+◌, ◌-
 ghost use Rattle.sq_outside.specs.Causes.{count_limit, raised};
 ghost use Rattle.sq_workers.specs.HubFaults.{hub_fault, hub_gave};
 
-use sq_base::{Addr, CheckNo, ConnNo, EpochNo, QuestionNo, Request};
+use sq_base::{Addr, CheckNo, ConnNo, EpochNo, Moment, QuestionNo, Request};
 use sq_calls::{DeskCalls, DeskFault};
 use sq_checks::Record;
 use sq_conn_policy::{Hub, HubFault};
@@ -30,7 +30,8 @@ pub struct Shares<A: Ledger, N: Ledger, G: Ledger> {
 
 /// The engine and the pools behind their locks. Each call that has the name of one of theirs is one hold, in which it
 /// makes that one call at the moment of its clock and adds to its shares. It tells how many requests it made and how many
-/// bytes it was granted, each up to 2^63 - 1, and remembers the number of the question for which its last step said to wait, or 0.
+/// bytes it was granted, each up to 2^63 - 1, and remembers the number of the question for which its last step said to wait, or 0,
+/// and when the buckets gain of the seat that was granted nothing last.
 #[derive(Drop)]
 pub struct LockHub<
     'a,
@@ -49,6 +50,7 @@ pub struct LockHub<
     asks: u64,
     grants: u64,
     question: u64,
+    gains_at: Moment,
     asked: Share<A>,
     refused: Share<N>,
     granted: Share<G>,
@@ -63,10 +65,13 @@ pub struct LockHub<
 // So many pauses of a clock, of 10 milliseconds, come to a second.
 const SECOND: u32 = 100;
 
-// Waits for a second, in which each bucket gains once.
-fn rest<C: Clock>(clock: &mut C) {
+// Waits until this moment, a second at most. Pauses that take longer than they should move it by one of them, and not by all.
+fn rest<C: Clock>(clock: &mut C, until: Moment) {
     for _ in 0..SECOND {
         clock.pause();
+        if until <= clock.now() {
+            return;
+        }
     }
 }
 
@@ -126,6 +131,7 @@ impl<
             asks: 0,
             grants: 0,
             question: 0,
+            gains_at: Moment(0),
             asked,
             refused,
             granted,
@@ -251,10 +257,14 @@ impl<'a, R: Wait, D: DeskCalls, A: Ledger, M: Ledger, N: Ledger, G: Ledger, C: C
             bank,
             grants,
             granted,
+            gains_at,
             ..
         } = self;
         let given = sq_shared::grant(*rt, *bank, seat, wanted, now, granted);
         *grants = raised_by(*grants, given);
+        if given == 0 {
+            *gains_at = sq_shared::gains_at(*rt, *bank, seat, now);
+        }
         given
     }
 
@@ -267,7 +277,7 @@ impl<'a, R: Wait, D: DeskCalls, A: Ledger, M: Ledger, N: Ledger, G: Ledger, C: C
     }
 
     fn pause(&mut self) {
-        rest(&mut self.clock);
+        rest(&mut self.clock, self.gains_at);
     }
 
     fn counted(&self) -> Counts {

@@ -92,7 +92,9 @@ d 9 take 6 => epoch 2 denied rule 1
 d 9 started 2 w => proc 3
 d 9 startfail 2 w => ok
 d 9 line 2 OK => reply 2 ok
+d 9 line 9 OK => refused
 d 9 died 2 => ok
+d 9 died 9 => refused
 d 9 act => start 2 v
 d 9 ask 9 GET http://h.example/ => wanting
 d 9 reconfigure http_access%20deny%20all%0A => wanting
@@ -320,13 +322,26 @@ fn run_locked<R: Wait, D: DeskCalls, A: Ledger, M: Ledger, N: Ledger, G: Ledger>
 }
 
 /// A desk of this configuration that has begun.
-#[tactic(auto, using(crate::proofs::BeginLaws::first_counted))]
 pub fn begin<F: DeskStart>(alloc: Global, setup: Setup) -> Result<Desk<MemJournal, F>, Fail>
     requires { F.first ≡ record { config = setup; offset = pos 0 } }
     ensures { IfOk result
         (λ d. AreCounted 0 0 d.notes.history × (d.notes.made ≡ 0) × (d.notes.refusals ≡ 0)) }
 {
-    let journal = MemJournal::new(alloc, ROOM, Vec::new(alloc), Vec::new(alloc))?;
+    begin_failing::<F>(alloc, setup, Vec::new(alloc))
+}
+
+/// The same, where these notes of its journal fail.
+#[tactic(auto, using(crate::proofs::BeginLaws::first_counted))]
+pub fn begin_failing<F: DeskStart>(
+    alloc: Global,
+    setup: Setup,
+    fails: Vec<u64>,
+) -> Result<Desk<MemJournal, F>, Fail>
+    requires { F.first ≡ record { config = setup; offset = pos 0 } }
+    ensures { IfOk result
+        (λ d. AreCounted 0 0 d.notes.history × (d.notes.made ≡ 0) × (d.notes.refusals ≡ 0)) }
+{
+    let journal = MemJournal::new(alloc, ROOM, fails, Vec::new(alloc))?;
     let seed = HashSeed::fixed();
     match Desk::<MemJournal, F>::new(alloc, setup, Offset(0), journal, Moment(0), seed) {
         Ok(desk) => Ok(desk),
@@ -446,10 +461,13 @@ fn told_plain(alloc: Global, case: &String) -> Result<String, Fail> {
     told(alloc, marks.as_str(), &journal)
 }
 
-// The mark that the call of a line has to have.
+// The mark that the call of a line has to have: a refused one must not be told as one that wants memory, by which it would be
+// tried for good.
 fn wanted_mark(row: &str) -> char {
     if row.ends_with(" => wanting") {
         'M'
+    } else if row.ends_with(" => refused") {
+        'R'
     } else {
         '.'
     }

@@ -35,10 +35,12 @@ delay_initial_bucket_level 0
 /// A call that is made at 9 s, where a seat was given in the first pool at 2 s, of epoch 1, whose buckets are open since 0 s, and
 /// one in the second at 3 s, of epoch 2, whose buckets are open since then. Behind it stand what it answers, and the levels of
 /// the buckets of three seats: `-` is none. A seat is chosen in the second pool of epoch 2; 500 bytes are wanted on the second
-/// seat; and that is given up, at no moment.
+/// seat; that is given up, at no moment; and 500 bytes are wanted three times, with a rest before the third, behind which the clock
+/// is at 10.001 s: the rest ends where the clock is at 10 s, and the bucket gains.
 static CASES: &str = "choose => 3 900 60 60
 grant => 60 900 0 -
 leave => - 300 - -
+rest => 10 1000 0 -
 ";
 
 /// A client.
@@ -72,6 +74,8 @@ trait Giving {
     fn give_bytes(&mut self, seat: &Seat, wanted: u64) -> u64;
 
     fn take_seat(&mut self, seat: Seat);
+
+    fn rest(&mut self);
 }
 
 /// Pools, and a clock.
@@ -102,6 +106,13 @@ impl Giving for Timed {
     fn take_seat(&mut self, seat: Seat) {
         self.pools.leave(seat);
     }
+
+    // Three looks at the clock.
+    fn rest(&mut self) {
+        for _ in 0..3 {
+            let _ = self.clock.now();
+        }
+    }
 }
 
 /// A hub, and what lies behind it.
@@ -129,13 +140,27 @@ impl<H: Hub> Giving for Behind<H> {
     fn take_seat(&mut self, seat: Seat) {
         self.hub.leave(seat);
     }
+
+    fn rest(&mut self) {
+        self.hub.pause();
+    }
 }
+
+/// The moments of the clock behind 2 s.
+const REST: [Moment; 8] = [
+    Moment(3000),
+    Moment(9000),
+    Moment(9000),
+    Moment(9010),
+    Moment(9999),
+    Moment(10_000),
+    Moment(10_001),
+    Moment(13_000),
+];
 
 // The clock of the calls.
 fn clock(alloc: Global) -> Result<MemClock, Fail> {
-    let mut rest = Vec::new(alloc);
-    rest.push(Moment(3000))?;
-    rest.push(Moment(9000))?;
+    let rest = Vec::from_slice(alloc, REST.as_slice())?;
     Ok(MemClock::new(alloc, Moment(2000), rest))
 }
 
@@ -168,6 +193,12 @@ fn run_case<P: Giving>(
     match case {
         "choose" => Ok(Some(seat(alloc, pools, EpochNo(2), config, 1)?.number().0)),
         "grant" => Ok(Some(pools.give_bytes(&second, 500))),
+        "rest" => {
+            let _all = pools.give_bytes(&second, 500);
+            let _none = pools.give_bytes(&second, 500);
+            pools.rest();
+            Ok(Some(pools.give_bytes(&second, 500)))
+        }
         _ => {
             pools.take_seat(second);
             Ok(None)

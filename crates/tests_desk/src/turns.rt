@@ -1,4 +1,4 @@
-//! Seats of one bucket, each of which wants more than it gains.
+//! Seats of one bucket, each of which wants more than it gains; and the moments at which buckets begin and gain.
 ghost use Rattle.std.specs.Prelude.{◌≡◌, ◌<◌};
 
 use crate::calls::setup_of;
@@ -7,7 +7,7 @@ use crate::seats::{CLIENT, takes};
 use sq_base::{Addr, EpochNo, Moment};
 use sq_pools::{Pools, Seat};
 use sq_rules::Config;
-use sq_shared::{Bank, choose, grant};
+use sq_shared::{Bank, choose, gains_at, grant, renew};
 use std::alloc::Global;
 use std::marker::Brand;
 use std::sync::ledger::{Blank, Ledger, Share};
@@ -42,6 +42,64 @@ const MOMENTS: [Moment; 5] = [
     Moment(4000),
     Moment(5000),
 ];
+
+/// A bucket that begins empty, and which 10 bytes fill in a second.
+static SLOW: &str = "delay_pools 1
+delay_class 1 1
+delay_parameters 1 10/1000
+delay_initial_bucket_level 0
+";
+
+// Takes a seat of an epoch at a moment.
+fn seat_at<R: Wait, G: Ledger>(
+    rt: &R,
+    alloc: Global,
+    bank: &Mutex<Bank<G>>,
+    config: &Arc<Config>,
+    epoch: EpochNo,
+    now: Moment,
+) -> Result<Seat, Fail> {
+    if !takes(config, 0, CLIENT) {
+        return Err(Fail::new("no such pool"));
+    }
+    match choose(rt, alloc, bank, epoch, config, 0, CLIENT, now) {
+        Ok(seat) => Ok(seat),
+        Err(_) => Err(Fail::new("no seat is given")),
+    }
+}
+
+// When the buckets gain of a seat of the first epoch, which began at 0 s, behind 9.25 s and behind 10 s, and of one of the second,
+// which began at 3.3 s, behind 9.3 s; and what that one is granted then.
+fn run_epochs<R: Wait, G: Ledger>(
+    rt: &R,
+    alloc: Global,
+    config: &Arc<Config>,
+    pools: Pools,
+    blank: Blank,
+) -> Result<String, Fail>
+    requires blank { (blank.name ≡ G.name) × (blank.parts ≡ G.parts) × (G.parts ≡ 1) }
+    requires granted { pools.granted ≡ 0 }
+{
+    let (grants, mut share) = blank.open::<G>();
+    let bank = bank_of(pools, grants);
+    let first = seat_at(rt, alloc, &bank, config, EpochNo(1), Moment(2250))?;
+    renew(rt, alloc, &bank, EpochNo(2), config, Moment(3300))?;
+    let second = seat_at(rt, alloc, &bank, config, EpochNo(2), Moment(9000))?;
+    let early = gains_at(rt, &bank, &first, Moment(9250)).0;
+    let whole = gains_at(rt, &bank, &first, Moment(10_000)).0;
+    let late = gains_at(rt, &bank, &second, Moment(9300)).0;
+    let amount = grant(rt, &bank, &second, 500, Moment(9300), &mut share);
+    let mut text = String::new(alloc);
+    write!(text, "{early} {whole} {late} {amount}")?;
+    Ok(text)
+}
+
+// The same, by pools of their own.
+fn told_epochs<R: Wait>(rt: &R, alloc: Global) -> Result<String, Fail> {
+    let setup = setup_of(alloc, SLOW.as_bytes())?;
+    let pools = Pools::new(alloc, EpochNo(1), setup.config(), Moment(0))?;
+    run_epochs::<R, Brand>(rt, alloc, setup.config(), pools, Blank::new(1))
+}
 
 // Takes a seat.
 fn seat<R: Wait, G: Ledger>(
@@ -144,5 +202,15 @@ fn a_host_that_waits_at_its_own_bucket_takes_no_part_of_all_hosts(
     let told = told(&rt, rt.alloc(), HOSTS, &hosts)?;
     // In the first second the first seat of the busy host takes its 100 bytes, and later each of its 20 gets 5.
     assert!(rt; told.as_str() == "2 1 1 1 1 ", "{told}");
+    Ok(())
+}
+
+#[test]
+fn a_bucket_begins_with_its_epoch_and_gains_each_second_from_then_on(
+    rt: HostRuntime,
+) -> Result<(), Fail> {
+    let told = told_epochs(&rt, rt.alloc())?;
+    // From 3.3 s to 9.3 s it gains six times.
+    assert!(rt; told.as_str() == "10000 11000 10300 60", "{told}");
     Ok(())
 }

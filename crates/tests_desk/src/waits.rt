@@ -1,11 +1,12 @@
-//! Two connections behind one lock, of which each waits for a helper of its own.
+//! Two connections behind one lock, of which each waits for a helper of its own; and the pump, which is told of what may have
+//! become due.
 ghost use Rattle.std.specs.Prelude.{◌≡◌, pos};
 ghost use Rattle.std.specs.Option.{ForSome};
 ghost use Rattle.sq_shared.specs.Books.{AreCounted};
 
 use crate::calls::setup_of;
 use crate::desks::{hub_mark, mark};
-use crate::locked::begin;
+use crate::locked::{begin_failing, text_of};
 use crate::locks::{Blanks, CALLERS, Wholes, lock};
 use sq_base::{EpochNo, Moment, QuestionNo};
 use sq_calls::DeskCalls;
@@ -14,11 +15,12 @@ use sq_desk::{Desk, DeskStart};
 use sq_journal_writers::MemJournal;
 use sq_outside::MemClock;
 use sq_pools::Pools;
-use sq_shared::{Bank, LockDesk, Room, is_awaited};
+use sq_shared::{Bank, LockDesk, Room, changes, is_awaited, set_done, tell_end, wait_due};
 use sq_urlmatch::Setup;
 use sq_workers::LockHub;
 use std::alloc::Global;
 use std::marker::Brand;
+use std::process::Abort;
 use std::sync::ledger::{Blank, Ledger};
 use std::sync::{Mutex, Wait};
 use std::test::Fail;
@@ -85,6 +87,54 @@ d 5 died 2 => ok
 + 3
 ";
 
+/// The journal fails while a connection waits: its sixth note is the third opening. Who waits learns it.
+static STOPPED: &str = "d 5 open 1 10.0.0.1 4001 => ok
+d 5 open 2 10.0.0.2 4002 => ok
+1 5 ask 1 GET http://a.example/ => check 1
+1 5 step 1 => waits 1
++ 1
+d 5 open 3 10.0.0.3 4003 => ok
+- 1
+1 wait
+1 5 step 1 => done
+2 5 ask 2 GET http://b.example/ => check 2
+";
+
+/// The pump: it `looks` at what it was told, which stays `untold` or was `told` when it goes to sleep, so that it sleeps on.
+/// It was told of each thing here that came behind its look, as it does while it makes an act. At last it is `over`.
+static TOLD: &str = "d 5 open 1 10.0.0.1 4001 => ok
+1 5 ask 1 GET http://a.example/ => check 1
+p looks
+p untold
+1 5 step 1 => waits 1
+p told
+p looks
+d 5 act => start 1 v
+p untold
+d 5 started 1 v => proc 1
+p told
+d 5 act => send 1 1 - a.example%20-
+p looks
+d 5 act => none
+p untold
+d 5 line 9 OK => refused
+p told
+p looks
+d 5 line 1 OK => reply 1 ok
+p told
+p looks
+k end
+p told
+p looks
+d 5 died 1 => ok
+p told
+p looks
+1 5 step 1 => done
+p untold
+k done
+p over
+";
+
 // Blanks for two connections, and no control.
 fn blanks() -> Blanks
     ensures asks { result.asks.parts ≡ 2 }
@@ -121,6 +171,40 @@ fn awaited_mark<R: Wait, D: DeskCalls, A: Ledger, M: Ledger, N: Ledger>(
     }
 }
 
+// The mark of what the pump does, which looked last when it had been told so often. Where it would sleep it is not let.
+fn pump_mark<R: Wait, D: DeskCalls, A: Ledger, M: Ledger, N: Ledger>(
+    rt: &R,
+    room: &Room<D, A, M, N>,
+    seen: &mut u64,
+    line: &str,
+) -> &'static str {
+    let told = changes(rt, room) != *seen;
+    let as_wanted = match line {
+        "looks" => {
+            *seen = changes(rt, room);
+            true
+        }
+        "untold" => !told,
+        "told" => told && !wait_due(rt, room, *seen),
+        "over" => wait_due(rt, room, *seen),
+        _ => false,
+    };
+    if as_wanted { "." } else { "x" }
+}
+
+// The mark of what others tell the pump: a keeper has ended, or no more is to be done.
+fn tell_mark<R: Wait, D: DeskCalls, A: Ledger, M: Ledger, N: Ledger>(
+    rt: &R,
+    room: &Room<D, A, M, N>,
+    line: &str,
+) -> &'static str {
+    match line {
+        "end" => tell_end(rt, room),
+        _ => set_done(rt, room),
+    }
+    "."
+}
+
 // The mark of a row.
 fn row_mark<R: Wait, D: DeskCalls, A: Ledger, M: Ledger, N: Ledger, K: DeskCalls, H: Hub, I: Hub>(
     rt: &R,
@@ -129,6 +213,7 @@ fn row_mark<R: Wait, D: DeskCalls, A: Ledger, M: Ledger, N: Ledger, K: DeskCalls
     desk: &mut K,
     one: &mut H,
     two: &mut I,
+    seen: &mut u64,
     row: &str,
 ) -> Result<&'static str, Fail> {
     match row.split_at_checked(2) {
@@ -137,6 +222,8 @@ fn row_mark<R: Wait, D: DeskCalls, A: Ledger, M: Ledger, N: Ledger, K: DeskCalls
         Some(("2 ", line)) => session_mark(alloc, two, line),
         Some(("+ ", question)) => Ok(awaited_mark(rt, room, question, true)),
         Some(("- ", question)) => Ok(awaited_mark(rt, room, question, false)),
+        Some(("p ", line)) => Ok(pump_mark(rt, room, seen, line)),
+        Some(("k ", line)) => Ok(tell_mark(rt, room, line)),
         _ => Ok("?"),
     }
 }
@@ -149,10 +236,12 @@ fn run_rows<R: Wait, D: DeskCalls, A: Ledger, M: Ledger, N: Ledger, K: DeskCalls
     desk: &mut K,
     one: &mut H,
     two: &mut I,
+    rows: &str,
 ) -> Result<String, Fail> {
     let mut marks = String::new(alloc);
-    for row in ROWS.lines() {
-        let mark = row_mark(rt, alloc, room, desk, one, two, row)?;
+    let mut seen = 0u64;
+    for row in rows.lines() {
+        let mark = row_mark(rt, alloc, room, desk, one, two, &mut seen, row)?;
         marks.push_str(mark)?;
     }
     Ok(marks)
@@ -170,6 +259,7 @@ fn run_shared<R: Wait, D: DeskCalls, A: Ledger, M: Ledger, N: Ledger, G: Ledger>
     room: &Room<D, A, M, N>,
     bank: &Mutex<Bank<G>>,
     wholes: Wholes<A, M, N, G>,
+    rows: &str,
 ) -> Result<String, Fail>
     requires asked { (wholes.asked.parts ≡ 2) × (wholes.asked.amount ≡ 0) }
     requires refused { wholes.refused.parts ≡ CALLERS }
@@ -188,7 +278,7 @@ fn run_shared<R: Wait, D: DeskCalls, A: Ledger, M: Ledger, N: Ledger, G: Ledger>
     let mut one = LockHub::new(rt, room, bank, clock(alloc), asks, first, grants);
     let mut two = LockHub::new(rt, room, bank, clock(alloc), asked, second, granted);
     let mut desk = LockDesk::new(rt, room, refused);
-    run_rows(rt, alloc, room, &mut desk, &mut one, &mut two)
+    run_rows(rt, alloc, room, &mut desk, &mut one, &mut two, rows)
 }
 
 // The marks of all rows behind a lock.
@@ -198,6 +288,7 @@ fn run_locked<R: Wait, D: DeskCalls + Drop, A: Ledger, M: Ledger, N: Ledger, G: 
     desk: D,
     pools: Pools,
     blanks: Blanks,
+    rows: &str,
 ) -> Result<String, Fail>
     requires asks { (blanks.asks.name ≡ A.name) × (blanks.asks.parts ≡ A.parts) × (A.parts ≡ 2) }
     requires makes { (blanks.makes.name ≡ M.name) × (blanks.makes.parts ≡ M.parts) }
@@ -211,7 +302,7 @@ fn run_locked<R: Wait, D: DeskCalls + Drop, A: Ledger, M: Ledger, N: Ledger, G: 
     requires granted { pools.granted ≡ 0 }
 {
     let (room, bank, wholes) = lock::<D, A, M, N, G>(alloc, desk, pools, blanks);
-    run_shared(rt, alloc, &room, &bank, wholes)
+    run_shared(rt, alloc, &room, &bank, wholes, rows)
 }
 
 // The marks of all rows behind the lock of a desk over this setup.
@@ -220,6 +311,8 @@ fn run_behind<R: Wait, F: DeskStart, A: Ledger, M: Ledger, N: Ledger, G: Ledger>
     alloc: Global,
     setup: Setup,
     blanks: Blanks,
+    fails: Vec<u64>,
+    rows: &String,
 ) -> Result<String, Fail>
     requires first { F.first ≡ record { config = setup; offset = pos 0 } }
     requires asks { (blanks.asks.name ≡ A.name) × (blanks.asks.parts ≡ A.parts) × (A.parts ≡ 2) }
@@ -230,20 +323,52 @@ fn run_behind<R: Wait, F: DeskStart, A: Ledger, M: Ledger, N: Ledger, G: Ledger>
         × (G.parts ≡ 2) }
 {
     let pools = Pools::new(alloc, EpochNo(1), setup.config(), Moment(0))?;
-    let desk = begin::<F>(alloc, setup)?;
-    run_locked::<R, Desk<MemJournal, F>, A, M, N, G>(rt, alloc, desk, pools, blanks)
+    let desk = begin_failing::<F>(alloc, setup, fails)?;
+    run_locked::<R, Desk<MemJournal, F>, A, M, N, G>(rt, alloc, desk, pools, blanks, rows.as_str())
 }
 
-// The marks of all rows.
-fn marks<R: Wait>(rt: &R, alloc: Global) -> Result<String, Fail> {
+// The marks of all rows, where these notes of the journal fail.
+fn marks<R: Wait>(rt: &R, alloc: Global, fails: &[u64], rows: &String) -> Result<String, Fail> {
     let setup = setup_of(alloc, CONF.as_bytes())?;
-    run_behind::<R, Brand, Brand, Brand, Brand, Brand>(rt, alloc, setup, blanks())
+    let fails = Vec::from_slice(alloc, fails)?;
+    run_behind::<R, Brand, Brand, Brand, Brand, Brand>(rt, alloc, setup, blanks(), fails, rows)
+}
+
+// Ends the process unless these marks are told of these rows.
+fn check<R: Wait + Abort>(
+    rt: &R,
+    alloc: Global,
+    fails: &[u64],
+    rows: &str,
+    wanted: &str,
+) -> Result<(), Fail> {
+    let rows = text_of(alloc, rows)?;
+    let marks = marks(rt, alloc, fails, &rows)?;
+    assert!(rt; marks.as_str() == wanted, "{marks}");
+    Ok(())
 }
 
 #[test]
 fn an_answer_wakes_whom_it_concerns(rt: HostRuntime) -> Result<(), Fail> {
-    let marks = marks(&rt, rt.alloc())?;
+    let text = text_of(rt.alloc(), ROWS)?;
+    let marks = marks(&rt, rt.alloc(), &[], &text)?;
     assert!(rt; marks.as_str().len() == ROWS.lines().count());
     assert!(rt; marks.as_str().bytes().all(|mark| mark == b'.'), "{marks}");
     Ok(())
+}
+
+#[test]
+fn who_waits_learns_that_the_journal_failed(rt: HostRuntime) -> Result<(), Fail> {
+    check(&rt, rt.alloc(), &[6], STOPPED, ".....J..JJ")
+}
+
+#[test]
+fn a_pump_that_is_told_while_it_turns_does_not_sleep(rt: HostRuntime) -> Result<(), Fail> {
+    check(
+        &rt,
+        rt.alloc(),
+        &[],
+        TOLD,
+        ".............-.R...............",
+    )
 }

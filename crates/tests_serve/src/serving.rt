@@ -124,6 +124,28 @@ fn a_worker_serves_while_another_waits_for_a_helper(rt: HostRuntime) -> Result<(
     Ok(())
 }
 
+/// The reply where an entry could not be noted, and that of rule 2.
+const UNNOTED: &str =
+    "HTTP/1.1 500 Internal Server Error\r\nContent-Type: text/plain\r\nContent-Length: 16\r\nConnection: close\r\n\r\njournal stopped\nHTTP/1.1 403 Forbidden\r\nContent-Type: text/plain\r\nContent-Length: 14\r\n\r\ndenied rule 2\n";
+
+#[test]
+fn who_waits_for_a_helper_is_told_that_the_journal_failed(rt: HostRuntime) -> Result<(), Fail> {
+    // Eleven notes come before the helper's answer: the beginning, three until the one client waits, three of the pump, and
+    // four until the other has its reply. The next one fails, whosever it is.
+    let stopped = Job {
+        workers: b"2",
+        conf: &[GATE],
+        fails: &[12],
+        clients: &[(0x0a00_0001, REQUEST), (0x0a00_0002, REQUEST)],
+        ..job()
+    };
+    let came = run(&rt, rt.alloc(), &stopped)?;
+    assert!(rt; came.code == 6);
+    assert!(rt; came.out.as_str() == "listening 3128\nerror journal\n");
+    assert!(rt; came.got.as_str() == UNNOTED);
+    Ok(())
+}
+
 /// A request whose body's end is stated in two ways.
 const TWICE: &[u8] =
     b"POST http://a.example/ HTTP/1.1\r\nHost: a.example\r\nTransfer-Encoding: chunked\r\nContent-Length: 3\r\n\r\n";

@@ -79,9 +79,9 @@ pub fn words(alloc: Global, words: &[&[u8]]) -> Result<Vec<Text>, WantOfMemory> 
     Ok(made)
 }
 
-/// Writes bytes again and again, with pauses, until that fails. Whether it did within 2 seconds.
+/// Writes bytes again and again, with pauses, until that fails. Whether it did within 20 seconds.
 pub fn fails_to_write<O: Sink, C: Clock>(to: &mut O, clock: &mut C) -> bool {
-    for _ in 0..200 {
+    for _ in 0..2000 {
         if to.write(b"more\n").is_err() {
             return true;
         }

@@ -1,5 +1,6 @@
 //! Limits of time, with short ticks: links on which nothing passes, and those on which something does in one direction; links
-//! that give way where nobody waits for the next one; what ends with a client, and with a server.
+//! that give way where nobody waits for the next one; what ends with a client, and with a server. A limit that is shown lies far
+//! below the next one that could end the link, since a loaded machine may be late.
 use crate::fixtures::{accepts, dials};
 use sq_outside::{Accepted, Clock, Dialer, Listener, Out, Sink, Source, Stopper};
 use sq_system::{LinkTimes, RealClock, RealDialer, RealListener};
@@ -7,16 +8,25 @@ use std::test::Fail;
 use std::thread;
 use std::time::Duration;
 
-// Ticks of 20 milliseconds. A link may be silent for 50 of them; where it is wanted, for 3 if it is idle, and for 20 if not.
+// Ticks of 20 milliseconds. A link may be silent for 3,000 of them; where it is wanted, for 3 if it is idle, and for 100 if not.
 fn short() -> LinkTimes {
     LinkTimes {
         tick: Duration::from_millis(20),
-        silent: 50,
+        silent: 3000,
         spare: 3,
-        held: 20,
+        held: 100,
         ending: 4,
-        end: Duration::from_millis(600),
+        end: Duration::from_secs(3),
         ..LinkTimes::of_server()
+    }
+}
+
+// The same, but that a link may be silent for 50 ticks, and for 20 where it is wanted.
+fn silent() -> LinkTimes {
+    LinkTimes {
+        silent: 50,
+        held: 20,
+        ..short()
     }
 }
 
@@ -33,16 +43,16 @@ fn fails_after<S: Source, C: Clock>(from: &mut S, clock: &mut C) -> u64 {
 #[test]
 fn a_silent_link_fails_in_time(rt: HostRuntime) -> Result<(), Fail> {
     let alloc = rt.alloc();
-    let mut listener = RealListener::listen(alloc, rt, 0, short())
+    let mut listener = RealListener::listen(alloc, rt, 0, silent())
         .ok_or("no port")?
         .listener;
     let port = listener.port().ok_or("no port")?;
-    let mut dialer = RealDialer::new(rt, short());
+    let mut dialer = RealDialer::new(rt, silent());
     let (mut from, mut to) = dials(alloc, &mut dialer, b"127.0.0.1", port)?;
     let other = accepts(alloc, &mut listener).ok_or("no link")?;
     let time = fails_after(&mut from, &mut RealClock::new(rt));
     assert!(rt;
-        from.has_failed() && (950..2000).contains(&time),
+        from.has_failed() && (950..30_000).contains(&time),
         "after {time}"
     );
     // What its other side does not read piles up, until a write stands still for as long.
@@ -66,22 +76,16 @@ fn what_is_written_keeps_the_half_that_is_read(rt: HostRuntime) -> Result<(), Fa
         .ok_or("no port")?
         .listener;
     let port = listener.port().ok_or("no port")?;
-    let mut dialer = RealDialer::new(
-        rt,
-        LinkTimes {
-            silent: 8,
-            ..short()
-        },
-    );
+    let mut dialer = RealDialer::new(rt, silent());
     let (mut from, mut to) = dials(alloc, &mut dialer, b"127.0.0.1", port)?;
     let mut other = accepts(alloc, &mut listener).ok_or("no link")?;
     let reading = thread::spawn(&rt, move || {
         let mut chunk = [0u8; 16];
         from.read(&mut chunk)
     })?;
-    // Half a second, three times as long as the link may be silent.
+    // Three seconds, three times as long as the link may be silent.
     let mut clock = RealClock::new(rt);
-    for _ in 0..50 {
+    for _ in 0..300 {
         assert!(rt; to.write(b".").is_ok());
         clock.pause();
     }
@@ -100,7 +104,7 @@ fn a_link_gives_way_where_it_is_wanted(rt: HostRuntime) -> Result<(), Fail> {
     let first = dials(alloc, &mut clients, b"127.0.0.1", port)?;
     let (mut from, to) = accepts(alloc, &mut net.listener).ok_or("no link")?;
     let time = fails_after(&mut from, &mut clock);
-    assert!(rt; (40..300).contains(&time), "an idle one after {time}");
+    assert!(rt; (40..1900).contains(&time), "an idle one after {time}");
     drop((from, to));
     // From then on those that say nothing wait behind the one that does.
     let second = dials(alloc, &mut clients, b"127.0.0.1", port)?;
@@ -112,7 +116,7 @@ fn a_link_gives_way_where_it_is_wanted(rt: HostRuntime) -> Result<(), Fail> {
     // A link for which its worker has dialled is no idle one.
     let dialled = dials(alloc, &mut net.dialer, b"127.0.0.1", port)?;
     let time = fails_after(&mut from, &mut clock);
-    assert!(rt; (380..900).contains(&time), "a busy one after {time}");
+    assert!(rt; (1900..30_000).contains(&time), "a busy one after {time}");
     net.dialer.give_back(dialled.0, dialled.1);
     drop((first, second));
     Ok(())
@@ -121,7 +125,7 @@ fn a_link_gives_way_where_it_is_wanted(rt: HostRuntime) -> Result<(), Fail> {
 #[test]
 fn a_link_stays_where_somebody_waits_for_the_next(rt: HostRuntime) -> Result<(), Fail> {
     let alloc = rt.alloc();
-    let mut listener = RealListener::listen(alloc, rt, 0, short())
+    let mut listener = RealListener::listen(alloc, rt, 0, silent())
         .ok_or("no port")?
         .listener;
     let port = listener.port().ok_or("no port")?;
@@ -130,7 +134,7 @@ fn a_link_stays_where_somebody_waits_for_the_next(rt: HostRuntime) -> Result<(),
     let (mut from, _to) = accepts(alloc, &mut listener).ok_or("no link")?;
     let waiting = thread::spawn(&rt, move || accepts(alloc, &mut listener).is_some())?;
     let time = fails_after(&mut from, &mut RealClock::new(rt));
-    assert!(rt; (950..2000).contains(&time), "after {time}");
+    assert!(rt; (950..30_000).contains(&time), "after {time}");
     let _next = dials(alloc, &mut clients, b"127.0.0.1", port)?;
     assert!(rt; waiting.join(&rt));
     drop(client);
@@ -154,7 +158,7 @@ fn what_was_dialled_ends_with_its_client(rt: HostRuntime) -> Result<(), Fail> {
     client.1.close();
     let (mut silent, out) = dials(alloc, &mut net.dialer, b"127.0.0.1", theirs)?;
     let time = fails_after(&mut silent, &mut clock);
-    assert!(rt; time >= 380, "after {time}");
+    assert!(rt; time >= 1900, "after {time}");
     net.dialer.give_back(silent, out);
     // A socket that is closed before all was read resets its link.
     let (mut silent, _out) = dials(alloc, &mut net.dialer, b"127.0.0.1", theirs)?;
@@ -162,7 +166,7 @@ fn what_was_dialled_ends_with_its_client(rt: HostRuntime) -> Result<(), Fail> {
     clock.pause();
     drop(client);
     let time = fails_after(&mut silent, &mut clock);
-    assert!(rt; time < 300, "after {time}");
+    assert!(rt; time < 1900, "after {time}");
     Ok(())
 }
 
@@ -175,21 +179,21 @@ fn links_end_with_their_server(rt: HostRuntime) -> Result<(), Fail> {
     let mut clients = RealDialer::new(rt, LinkTimes::of_server());
     let _client = dials(alloc, &mut clients, b"127.0.0.1", port)?;
     let (mut from, mut to) = accepts(alloc, &mut net.listener).ok_or("no link")?;
-    net.stopper.stop();
     let stopped = clock.now();
+    net.stopper.stop();
     assert!(rt; matches!(net.listener.next(alloc), Accepted::Stopped));
     assert!(rt; dials(alloc, &mut clients, b"127.0.0.1", port).is_err());
     // The port is free, while its links go on.
     assert!(rt; RealListener::listen(alloc, rt, port, short()).is_some());
     let time = fails_after(&mut from, &mut clock);
-    assert!(rt; time < 300, "an idle one after {time}");
-    for _ in 0..200 {
+    assert!(rt; time < 2500, "an idle one after {time}");
+    for _ in 0..3000 {
         if to.write(b".").is_err() {
             break;
         }
         clock.pause();
     }
     let time = clock.now().0.saturating_sub(stopped.0);
-    assert!(rt; (550..1900).contains(&time), "a busy one after {time}");
+    assert!(rt; (2900..30_000).contains(&time), "a busy one after {time}");
     Ok(())
 }
