@@ -1,4 +1,4 @@
-mod AddLaws
+pub mod AddLaws
 mod CutLaws
-mod KeeperLaws
-mod WalkLaws
+pub mod KeeperLaws
+pub mod WalkLaws

@@ -30,8 +30,8 @@ pub enum KeeperEnd {
     WantOfMemory,
 }
 
-/// Hands a line on until the desk has memory for it. Answers whether it wants more lines.
-fn hand<R: Wait, K: LineDesk>(rt: &R, proc: ProcNo, line: &[u8], desk: &mut K) -> bool
+/// Hands a line on, again as long as the desk has no memory for it. Answers whether it wants more lines.
+pub fn hand<R: Wait, K: LineDesk>(rt: &R, proc: ProcNo, line: &[u8], desk: &mut K) -> bool
     ensures adds { Adds (K.handed desk.old) (K.handed desk.new)
         (handed.Line proc line.now ∷ closing proc result) }
     ensures later { K.refused desk.old ≤ K.refused desk.new }

@@ -13,5 +13,6 @@ mod line_buffer;
 mod mem_desk;
 
 pub use desk::{Handed, LineDesk, LineEnd};
-pub use keeper::{KeeperEnd, read_lines};
+pub use keeper::{KeeperEnd, hand, read_lines};
+pub use line_buffer::LineBuffer;
 pub use mem_desk::MemDesk;

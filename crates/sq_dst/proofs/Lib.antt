@@ -1,0 +1,5 @@
+mod AnswerLaws
+mod EscapeLaws
+mod HitLaws
+mod KeyLaws
+mod ReadLaws

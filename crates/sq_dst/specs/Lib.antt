@@ -1,0 +1,5 @@
+pub mod AnsweredLines
+pub mod LookupAcls
+pub mod LookupHits
+pub mod LookupKeys
+pub mod Rings
