@@ -1,5 +1,5 @@
 -- What each change of an open check makes of its row, and that its stage stays sound.
-use Rattle.std.proofs.Common.{◌≡◌, ◌∙◌, ◌==◌, ◌++◌, ◌∷◌, [], true, false, ℕ, List, Option, None, Some, IfSome, IfOk, Result, Ok, Err, refl, ap, sym, subst}
+use Rattle.std.proofs.Common.{◌≡◌, ◌∙◌, ◌+◌, ◌≤◌, ◌==◌, ◌++◌, ◌∷◌, [], true, false, ℕ, List, Option, None, Some, IfSome, IfOk, Result, Ok, Err, refl, ap, sym, subst, min, arith}
 use Rattle.std.proofs.lemmas.List.{append-nil}
 use Rattle.sq_base.specs.Distinct.{has_answer}
 use Rattle.sq_base.specs.declared.helpers.Answer.{Answer}
@@ -18,8 +18,10 @@ use Rattle.sq_model_rows.specs.declared.stepping.Stepped.{Stepped}
 use Rattle.sq_model_rows.specs.declared.stepping.Stepped.TheVariants as told
 use Rattle.sq_rules.specs.declared.values.Value.{Value}
 use Rattle.sq_rules.specs.declared.values.Value.TheVariants as value
+use Rattle.sq_frames.specs.Positions.{look_limit}
+use Rattle.sq_checks.specs.Givens.{leaves_over}
 use Rattle.sq_checks.specs.OpenChecks.{CheckParts, IsFit, answers_in, begun_parts, comes_to, ended_by, finished, is_need, noted, row, says_of, settled, step_more}
-use Rattle.sq_checks.specs.Stages.{IsStage, came_in, decided_in, ended_stage, given, is_done_in, is_idle, is_noted, is_settled, need_in, noted_stage}
+use Rattle.sq_checks.specs.Stages.{IsLooked, IsStage, came_in, decided_in, ended_stage, given, is_done_in, is_idle, is_noted, is_settled, need_in, noted_stage}
 use Rattle.sq_checks.specs.declared.stages.CheckStage.{CheckStage}
 use Rattle.sq_checks.specs.declared.stages.CheckStage.TheVariants as stage
 
@@ -72,6 +74,16 @@ need_idle c h i v is n = by c.stage refl i h
 pub ok_then : {A E : Type 0} (r : Result A E) (P Q : A → Type 0) → ((v : A) → P v → Q v) → IfOk r P → IfOk r Q
 ok_then (Ok v) P Q f h = f v h
 ok_then (Err e) P Q f h = tt
+
+pub ok_then_both : {A E : Type 0} (r : Result A E) (P Q R : A → Type 0) → ((v : A) → P v → Q v → R v) → IfOk r P
+    → IfOk r Q → IfOk r R
+ok_then_both (Ok v) P Q R f h k = f v h k
+ok_then_both (Err e) P Q R f h k = tt
+
+-- for what holds whatever the answer is
+pub always : {A E : Type 0} (r : Result A E) (P : Type 0) → P → IfOk r (λ v. P)
+always (Ok v) P h = h
+always (Err e) P h = tt
 
 -- for a check whose answer is put among the others: its row stays
 pub row_settled : (n : ℕ) (c : CheckParts) → row n (settled c) ≡ row n c
@@ -156,6 +168,40 @@ ended_sound config sight answers q w now (stage.Waits k) h =
       | false ↦ λ t. rw t h
     ]) refl
 ended_sound config sight answers q w now (stage.Done o) h = h
+
+-- for the looks of a check after a step that asked, which is not done
+pub noted_looked : (config : Configuration) (sight : Sight) (answers : List Answer) (looks : ℕ) (o : Option Answer)
+    (q : Option ℕ) (class : ℕ) (key : List ℕ)
+    → IsLooked config sight answers looks (noted_stage o q class key)
+noted_looked config sight answers looks None None class key = tt
+noted_looked config sight answers looks None (Some q) class key = tt
+noted_looked config sight answers looks (Some a) q class key = tt
+
+-- for the looks of a check after the end of a question
+pub ended_looked : (config : Configuration) (sight : Sight) (answers : List Answer) (looks q : ℕ) (w : What) (now : ℕ)
+    (s : CheckStage) → IsLooked config sight answers looks s
+    → IsLooked config sight answers looks (ended_stage q w now s)
+ended_looked config sight answers looks q w now stage.Ready h = h
+ended_looked config sight answers looks q w now (stage.Came a) h = h
+ended_looked config sight answers looks q w now (stage.Waits k) h =
+    (elim (k.question == q) as
+    (λ y. (k.question == q) ≡ y → IsLooked config sight answers looks (ended_stage q w now (stage.Waits k))) [
+      | true ↦ λ t. rw t tt
+      | false ↦ λ t. rw t tt
+    ]) refl
+ended_looked config sight answers looks q w now (stage.Done o) h = h
+
+-- for a check that is done and goes on: it looks at nothing
+pub looked_on : (config : Configuration) (sight : Sight) (answers : List Answer) (old new : ℕ) (s : CheckStage)
+    → IsLooked config sight answers old s → (k : ℕ) → new ≡ min look_limit (old + k)
+    → new ≤ leaves_over answers config sight
+    → IsLooked config sight answers new s
+looked_on config sight answers old new stage.Ready h k more few = tt
+looked_on config sight answers old new (stage.Came a) h k more few = tt
+looked_on config sight answers old new (stage.Waits n) h k more few = tt
+looked_on config sight answers old new (stage.Done o) h k more few =
+    let was : old ≡ min look_limit (leaves_over answers config sight) = h in
+    omega (arith, was, more, few)
 
 -- for an answer that came: it is new
 pub came_new : (config : Configuration) (sight : Sight) (answers : List Answer) (s : CheckStage) (a : Answer)

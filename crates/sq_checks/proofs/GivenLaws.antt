@@ -1,5 +1,5 @@
 -- The rules come to the same over what the frames of a check were given as over its answers, and what was given stays so as more answers come.
-use Rattle.std.proofs.Common.{◌≡◌, ◌≢◌, ◌≤◌, ℕ, ◌+◌, zero, suc, List, [], ◌∷◌, ◌++◌, Bool, true, false, ◌==◌, ◌&&◌, if◌then◌else◌, bytes_eq, Option, Some, None, refl, sym, ap, subst, ◌∙◌, map, slice_get, slice_index_or, arith}
+use Rattle.std.proofs.Common.{◌≡◌, ◌≢◌, ◌≤◌, ℕ, ◌+◌, zero, suc, List, [], ◌∷◌, ◌++◌, Bool, true, false, ◌==◌, ◌&&◌, if◌then◌else◌, bytes_eq, Option, Some, None, refl, sym, ap, subst, ◌∙◌, map, min, slice_get, slice_index_or, arith}
 use Rattle.std.proofs.lemmas.Bool.Decides.{nat_tests}
 use Rattle.std.proofs.lemmas.Option.{none-some, same_Some}
 use Rattle.sq_base.specs.declared.helpers.Answer.{Answer}
@@ -23,13 +23,14 @@ use Rattle.sq_rules.specs.declared.values.TermValue.TheVariants.{Hit, Miss, Faul
 use Rattle.sq_rules.specs.declared.values.Value.{Value}
 use Rattle.sq_rules.specs.declared.values.Value.TheVariants as value
 use Rattle.sq_frames.proofs.FrameLaws.{few_over}
-use Rattle.sq_frames.specs.Courses.{is_need}
+use Rattle.sq_frames.specs.Courses.{Extends, is_need, still_needed}
 use Rattle.sq_frames.specs.Givens as by
+use Rattle.sq_frames.specs.Positions.{look_limit}
 use Rattle.sq_frames.specs.Slots.{external_of, is_external, is_external_at, slots_of}
-use Rattle.sq_frames.specs.Standing.{IsOver, Standing, given_to, looks_in, taken_of, value_of}
+use Rattle.sq_frames.specs.Standing.{IsAt, IsOver, IsWhole, Standing, given_to, leaves_of, looks_in, taken_of, value_of}
 use Rattle.sq_frames.specs.declared.answers.Given.{Given}
 use Rattle.sq_frames.specs.declared.answers.Given.TheVariants as given
-use Rattle.sq_checks.specs.Givens.{AreFrames, AreGiven, leaves_over}
+use Rattle.sq_checks.specs.Givens.{AreCounted, AreFrames, AreGiven, leaves_over, looks_over}
 
 -- a value that is known stays, and one that is needed is needed where its acl is
 abbrev Follows : (ℕ → TermValue) → TermValue → TermValue → Type 0
@@ -178,13 +179,28 @@ over_here facts s answers f are all =
     rules_follow (taken_of facts f) (taken_at f.config s answers) f.config.acls (at_given facts s answers f are all)
     (default_of f.config.rules) 1 f.config.rules
 
+extends_here : (facts : List Bool) (s : Sight) (answers : List Answer) (f : Standing)
+    → facts ≡ facts_of f.config.acls s → AreGiven f.config s answers f
+    → Extends (taken_of facts f) (taken_at f.config s answers)
+extends_here facts s answers f are all = λ acl known.
+    follows_known (taken_at f.config s answers) (taken_of facts f acl) (taken_at f.config s answers acl)
+    (at_given facts s answers f are all acl) known
+
 few_here : (facts : List Bool) (s : Sight) (answers : List Answer) (f : Standing) → facts ≡ facts_of f.config.acls s
     → AreGiven f.config s answers f → IsOver facts f
     → looks_in f ≤ leaves_over answers f.config s
-few_here facts s answers f are all over =
-    few_over facts f (taken_at f.config s answers) over
-    (λ acl known. follows_known (taken_at f.config s answers) (taken_of facts f acl) (taken_at f.config s answers acl)
-    (at_given facts s answers f are all acl) known)
+few_here facts s answers f are all over = few_over facts f (taken_at f.config s answers) over
+    (extends_here facts s answers f are all)
+
+looks_here : (facts : List Bool) (s : Sight) (answers : List Answer) (f : Standing) (need : Option ℕ)
+    → facts ≡ facts_of f.config.acls s → AreGiven f.config s answers f
+    → IsAt facts f (leaves_of facts f) → IsWhole facts f.config f.table need
+    → still_needed (taken_at f.config s answers) need ≡ true
+    → looks_in f ≡ looks_over answers f.config s
+looks_here facts s answers f need are all at whole still =
+    let same : leaves_over answers f.config s ≡ leaves_of facts f =
+    whole (taken_at f.config s answers) (extends_here facts s answers f are all) still in
+    at.looks ∙ ap (min look_limit) (sym same)
 
 -- what the rules come to over the answers follows what they come to over what was given
 pub over_follows : (c : Configuration) (s : Sight) (answers : List Answer) (facts : List Bool) (f : Standing)
@@ -203,6 +219,42 @@ frames_few c s answers facts f are is =
     subst (λ d. facts ≡ facts_of d.acls s → AreGiven d s answers f → IsOver facts f
     → looks_in f ≤ leaves_over answers d s) is.config_is
     (few_here facts s answers f) are is.given is.over
+
+-- where a run is over and the need that it came to is none or has no answer, as many facts were looked at as the walk
+-- over the answers has leaf acls
+pub frames_looked : (c : Configuration) (s : Sight) (answers : List Answer) (facts : List Bool) (f : Standing)
+    (need : Option ℕ) → facts ≡ facts_of c.acls s → AreFrames c s answers facts f
+    → IsAt facts f (leaves_of facts f) → IsWhole facts f.config f.table need
+    → still_needed (taken_at c s answers) need ≡ true
+    → looks_in f ≡ looks_over answers c s
+frames_looked c s answers facts f need are is at whole =
+    subst (λ d. facts ≡ facts_of d.acls s → AreGiven d s answers f → still_needed (taken_at d s answers) need ≡ true
+    → looks_in f ≡ looks_over answers d s) is.config_is
+    (λ are all. looks_here facts s answers f need are all at whole) are is.given
+
+-- the looks of a run are counted
+pub counted_run : (facts : List Bool) (f g : Standing) (start before after looks : ℕ) → IsOver facts f
+    → ((n : ℕ) → IsAt facts f n → (k : ℕ) × (after ≡ before + k) × IsAt facts g (n + k))
+    → AreCounted start before looks (looks_in f)
+    → AreCounted start after looks (looks_in g)
+counted_run facts f g start before after looks over runs so_far =
+    let r = runs over.0 over.1 in
+    let old : f.position.looks ≡ min look_limit over.0 = over.1.looks in
+    let new : g.position.looks ≡ min look_limit (over.0 + r.0) = r.2.looks in
+    let steps : before ≡ start + so_far.looked = so_far.steps in
+    let was : f.position.looks ≡ min look_limit (looks + so_far.looked) = so_far.looks in
+    let more : after ≡ before + r.0 = r.1 in
+    record {
+      looked = so_far.looked + r.0;
+      steps = omega (arith, steps, more);
+      looks = omega (arith, old, new, was);
+    }
+
+-- no look yet
+pub counted_none : (facts : List Bool) (f : Standing) (n : ℕ) → IsOver facts f → AreCounted n n (looks_in f) (looks_in f)
+counted_none facts f n over =
+    let old : f.position.looks ≡ min look_limit over.0 = over.1.looks in
+    record { looked = 0; steps = omega arith; looks = omega (arith, old) }
 
 -- frames that were given the same
 pub frames_same : (c : Configuration) (s : Sight) (answers : List Answer) (facts : List Bool) (f g : Standing)

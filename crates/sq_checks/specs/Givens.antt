@@ -1,5 +1,5 @@
 -- The values that the frames of a check were given, by the answers that it has.
-use Rattle.std.specs.Prelude.{◌≡◌, ℕ, List, Bool, true, Some}
+use Rattle.std.specs.Prelude.{◌≡◌, ℕ, ◌+◌, List, Bool, true, min, Some}
 use Rattle.sq_base.specs.declared.helpers.Answer.{Answer}
 use Rattle.sq_base.specs.declared.helpers.What.{What}
 use Rattle.sq_base.specs.declared.helpers.What.TheVariants as what
@@ -11,6 +11,7 @@ use Rattle.sq_rules.specs.declared.values.TermValue.{TermValue}
 use Rattle.sq_rules.specs.declared.values.TermValue.TheVariants.{Need}
 use Rattle.sq_frames.specs.Courses.{leaves}
 use Rattle.sq_frames.specs.Givens.{given_value}
+use Rattle.sq_frames.specs.Positions.{look_limit}
 use Rattle.sq_frames.specs.Slots.{is_external_at}
 use Rattle.sq_frames.specs.Standing.{IsOver, Standing, given_to}
 use Rattle.sq_frames.specs.declared.answers.Given.{Given}
@@ -45,3 +46,13 @@ pub record AreFrames (config : Configuration) (sight : Sight) (answers : List An
 -- how many leaf acls the walk of the verdict over these answers has
 abbrev pub leaves_over : List Answer → Configuration → Sight → ℕ
 leaves_over answers c s = leaves c.acls (walk_over answers c s)
+
+-- and how many of them are counted
+abbrev pub looks_over : List Answer → Configuration → Sight → ℕ
+looks_over answers c s = min look_limit (leaves_over answers c s)
+
+-- so many looks by a counter, and as many more by the number that is kept of them
+pub record AreCounted (before after old new : ℕ) : Type 0 where
+  pub looked : ℕ
+  pub steps : after ≡ before + looked
+  pub looks : new ≡ min look_limit (old + looked)

@@ -1,5 +1,5 @@
 -- An open check as it is kept, the row that it is, and what each call makes of it.
-use Rattle.std.specs.Prelude.{◌≡◌, ℕ, suc, min, List, [], ◌∷◌, ◌++◌, Bool, true, false, not, ◌==◌, if◌then◌else◌, nat_lt, map, filter, Some, None, IfSome}
+use Rattle.std.specs.Prelude.{◌≡◌, ℕ, ◌+◌, suc, min, List, [], ◌∷◌, ◌++◌, Bool, true, false, not, ◌==◌, if◌then◌else◌, nat_lt, map, filter, Some, None, IfSome}
 use Rattle.std.specs.List.{list_all}
 use Rattle.std.specs.Option.{option_to_list, option_and_then, option_or}
 use Rattle.std.specs.declared.option.Option.{Option}
@@ -19,9 +19,10 @@ use Rattle.sq_rules.specs.declared.values.Value.TheVariants as value
 use Rattle.sq_model_rows.specs.CheckRows.{Ends, Held, held_on}
 use Rattle.sq_model_rows.specs.StepRows.{question_told, told_of}
 use Rattle.sq_model_rows.specs.declared.stepping.StepEffect.{StepEffect}
+use Rattle.sq_frames.specs.Positions.{look_limit}
 use Rattle.sq_frames.specs.Standing.{Standing}
-use Rattle.sq_checks.specs.Givens.{AreFrames}
-use Rattle.sq_checks.specs.Stages.{IsStage, came_in, ended_stage, given, is_done_in, is_idle, is_noted, noted_stage, question_in}
+use Rattle.sq_checks.specs.Givens.{AreFrames, looks_over}
+use Rattle.sq_checks.specs.Stages.{IsLooked, IsStage, came_in, ended_stage, given, is_done_in, is_idle, is_noted, noted_stage, question_in}
 use Rattle.sq_checks.specs.Tables.{value_at}
 use Rattle.sq_checks.specs.declared.stages.CheckStage.{CheckStage}
 use Rattle.sq_checks.specs.declared.stages.CheckStage.TheVariants as stage
@@ -54,12 +55,13 @@ begun_parts conn epoch config sight = record {
   steps = 0;
 }
 
--- its facts are those of what it saw, so is its pool, its stage is sound, and its frames were given
--- what its answers give
+-- its facts are those of what it saw, so is its pool, its stage is sound, and so are its looks, and
+-- its frames were given what its answers give
 pub record IsCheck (c : CheckParts) (facts : List Bool) (frames : Standing) : Type 0 where
   pub facts_are : facts ≡ facts_of c.config.acls c.sight
   pub pool_is : c.pool ≡ pool_of c.config c.sight
   pub stage_is : IsStage c.config c.sight c.answers c.stage
+  pub looks_are : IsLooked c.config c.sight c.answers c.looks c.stage
   pub frames_are : AreFrames c.config c.sight c.answers facts frames
 
 -- all answers that a check has
@@ -75,17 +77,18 @@ abbrev pub is_need : Value → Bool
 is_need (value.Verdict o) = false
 is_need (value.Need acl key) = true
 
--- this is what a check comes to; where it is a need, the check is not done, and has no answer of
--- that class and key
+-- this is what a check comes to, and it looked at as many facts as the walk over its answers has
+-- leaf acls; where it is a need, the check is not done, and has no answer of that class and key
 pub record HasCome (c : CheckParts) (v : Value) : Type 0 where
   pub comes : v ≡ comes_to c
+  pub looks : c.looks ≡ looks_over c.answers c.config c.sight
   pub idle : is_need v ≡ true → is_idle c.stage ≡ true
   pub other : (acl class : ℕ) (key : List ℕ) → v ≡ value.Need acl key
       → class_of_acl c.config.acls acl ≡ Some class → has_answer c.answers class key ≡ false
 
--- a check after so many looks
+-- a check after so many looks more
 abbrev pub looked : ℕ → CheckParts → CheckParts
-looked looks c = record c { looks = looks }
+looked k c = record c { looks = min look_limit (c.looks + k) }
 
 -- check n as a row
 abbrev pub row : ℕ → CheckParts → Held

@@ -1,5 +1,5 @@
 -- A check whose outcome was taken.
-use Rattle.std.specs.Prelude.{◌≡◌, ◌≤◌, ℕ, List, Bool, false, not, slice_get}
+use Rattle.std.specs.Prelude.{◌≡◌, ℕ, List, Bool, false, not, slice_get}
 use Rattle.std.specs.Option.{option_map_or}
 use Rattle.std.specs.declared.option.Option.{Option}
 use Rattle.sq_base.specs.Addresses.{Address}
@@ -11,7 +11,7 @@ use Rattle.sq_rules.specs.declared.outcomes.Outcome.{Outcome}
 use Rattle.sq_rules.specs.declared.pools.Pool.{Pool}
 use Rattle.sq_rules.specs.declared.sights.Sight.{Sight}
 use Rattle.sq_rules.specs.declared.values.Value.TheVariants as value
-use Rattle.sq_checks.specs.Givens.{leaves_over}
+use Rattle.sq_checks.specs.Givens.{looks_over}
 use Rattle.sq_checks.specs.OpenChecks.{CheckParts}
 
 -- a check that is over: its number, its epoch with the configuration, what it saw, its answers in
@@ -28,13 +28,13 @@ pub record Judged : Type 0 where
   pub steps : ℕ
 
 -- its facts are those of what was seen, the outcome is the verdict of the configuration over that
--- and the answers, the pool is theirs, and no more facts were looked at than the walk of that
--- verdict has leaf acls
+-- and the answers, the pool is theirs, and as many facts were looked at as the walk of that verdict
+-- has leaf acls
 pub record IsJudged (r : Judged) (facts : List Bool) : Type 0 where
   pub facts_are : facts ≡ facts_of r.config.acls r.sight
   pub verdict_is : verdict_over r.answers r.config r.sight ≡ value.Verdict r.outcome
   pub pool_is : r.pool ≡ pool_of r.config r.sight
-  pub looks_few : r.looks ≤ leaves_over r.answers r.config r.sight
+  pub looks_are : r.looks ≡ looks_over r.answers r.config r.sight
 
 -- what is left of an open check with this number and outcome
 abbrev pub judged_of : ℕ → Outcome → CheckParts → Judged

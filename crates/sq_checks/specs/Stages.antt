@@ -12,6 +12,7 @@ use Rattle.sq_rules.specs.declared.sights.Sight.{Sight}
 use Rattle.sq_rules.specs.declared.values.Value.TheVariants as value
 use Rattle.sq_model_rows.specs.declared.stepping.Stepped.{Stepped}
 use Rattle.sq_model_rows.specs.declared.stepping.Stepped.TheVariants as told
+use Rattle.sq_checks.specs.Givens.{looks_over}
 use Rattle.sq_checks.specs.declared.stages.Need.{Need}
 use Rattle.sq_checks.specs.declared.stages.CheckStage.{CheckStage}
 use Rattle.sq_checks.specs.declared.stages.CheckStage.TheVariants as stage
@@ -94,3 +95,10 @@ IsStage config sight answers (stage.Came a) = has_answer answers a.class a.key �
 IsStage config sight answers (stage.Waits n) = has_answer answers n.class n.key ≡ false
 IsStage config sight answers (stage.Done o) = verdict_over answers config (unversioned_sight sight)
     ≡ value.Verdict o
+
+-- a check that is done looked at as many facts as the walk of its verdict has leaf acls
+abbrev pub IsLooked : Configuration → Sight → List Answer → ℕ → CheckStage → Type 0
+IsLooked config sight answers looks stage.Ready = Unit {0}
+IsLooked config sight answers looks (stage.Came a) = Unit {0}
+IsLooked config sight answers looks (stage.Waits n) = Unit {0}
+IsLooked config sight answers looks (stage.Done o) = looks ≡ looks_over answers config sight

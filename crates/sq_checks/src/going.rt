@@ -8,17 +8,16 @@ ghost use Rattle.sq_rules.specs.declared.values.Value.TheVariants as value;
 ghost use Rattle.sq_machine.specs.StepRule.{class_of_acl};
 ghost use Rattle.sq_frames.specs.Givens.{ran_value, why_of};
 ghost use Rattle.sq_frames.specs.Slots.{is_external_at};
-ghost use Rattle.sq_frames.specs.Standing.{IsOver};
+ghost use Rattle.sq_frames.specs.Standing.{IsOver, looks_in};
 ghost use Rattle.sq_frames.specs.declared.answers.Ran.TheVariants as ran;
-ghost use Rattle.sq_checks.specs.Givens.{found_value, given_by, AreFrames};
+ghost use Rattle.sq_checks.specs.Givens.{found_value, given_by, looks_over, AreCounted, AreFrames};
 
 use sq_base::{Answer, Answers, Copying, Steps, Text, WantOfMemory, What};
 use sq_format::key;
 use sq_frames::{Frames, Given, Place, Ran};
 use sq_rules::{Acl, Body, Config, Facts, Outcome, Sight, Value, Why};
 use std::alloc::Global;
-use std::marker::Brand;
-use std::sync::ledger::{Blank, Ledger};
+use std::sync::ledger::Ledger;
 
 /// What there is for an external acl that is needed: the value by its answer, or its key, for which there is none.
 #[derive(Drop)]
@@ -124,28 +123,29 @@ fn verdict(alloc: Global, acls: &[Acl], allow: bool, place: Place) -> Result<Val
     Ok(Value::Verdict(Outcome { allow, why }))
 }
 
-// Goes on with the rules, and gives each external acl that is needed the value of its answer, up to a verdict, or to
-// one for which there is no answer.
-fn run_on<L: Ledger>(
+/// What the rules come to over the answers, from the place of the frames on: each external acl that is needed is
+/// given the value of its answer, up to one for which there is none. Then all runs of the frames have looked as often as
+/// the walk over the answers has leaf acls, and these runs as often as the counter rose. It takes memory for the key of
+/// each acl that is needed, and for the name of one with a fault.
+pub fn come_to<L: Ledger>(
     alloc: Global,
     frames: &mut Frames,
     config: &Config,
     facts: &Facts,
     sight: &Sight,
     answers: &Answers,
-    blank: Blank,
+    steps: &mut Steps<L>,
 ) -> Result<Value, WantOfMemory>
-    requires name { blank.name ≡ L.name }
-    requires parts { blank.parts ≡ L.parts }
-    requires whole { 0 < blank.parts }
     requires facts { facts.now ≡ facts_of config.now.acls sight.now }
     requires frames { AreFrames config.now sight.now answers.now facts.now frames.old }
     ensures frames { AreFrames config.now sight.now answers.now facts.now frames.new }
     ensures value { IfOk result (λ v. v ≡ verdict_over answers.now config.now sight.now) }
+    ensures looks { IfOk result
+        (λ v. looks_in frames.new ≡ looks_over answers.now config.now sight.now) }
+    ensures counted { AreCounted steps.old steps.new (looks_in frames.old) (looks_in frames.new) }
 {
-    let mut steps = Steps::<L>::open(blank);
     'needs: loop {
-        match frames.run(facts, &mut steps) {
+        match frames.run(facts, steps) {
             Ran::Verdict { allow, place } => {
                 return verdict(alloc, config.acls(), allow, place);
             }
@@ -155,23 +155,4 @@ fn run_on<L: Ledger>(
             },
         }
     }
-}
-
-/// What the rules come to over the answers, from the place of the frames on: each external acl that is needed is
-/// given the value of its answer, up to one for which there is none. It takes memory for the key of each that is
-/// needed, and for the name of one with a fault.
-pub fn come_to(
-    alloc: Global,
-    frames: &mut Frames,
-    config: &Config,
-    facts: &Facts,
-    sight: &Sight,
-    answers: &Answers,
-) -> Result<Value, WantOfMemory>
-    requires facts { facts.now ≡ facts_of config.now.acls sight.now }
-    requires frames { AreFrames config.now sight.now answers.now facts.now frames.old }
-    ensures frames { AreFrames config.now sight.now answers.now facts.now frames.new }
-    ensures value { IfOk result (λ v. v ≡ verdict_over answers.now config.now sight.now) }
-{
-    run_on::<Brand>(alloc, frames, config, facts, sight, answers, Blank::new(1))
 }

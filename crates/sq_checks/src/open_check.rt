@@ -1,5 +1,5 @@
 //! An open check.
-ghost use Rattle.std.specs.Prelude.{◌≡◌, true, false, suc, min, Some, IfOk, OnOk, OnErr, IfSome, is_some};
+ghost use Rattle.std.specs.Prelude.{◌≡◌, ◌+◌, ℕ, true, false, suc, min, Some, IfOk, OnOk, OnErr, IfSome, is_some};
 ghost use Rattle.std.specs.Arc.{arc_value};
 ghost use Rattle.std.specs.Option.{option_copied};
 ghost use Rattle.sq_base.specs.Distinct.{has_answer};
@@ -7,14 +7,16 @@ ghost use Rattle.sq_rules.specs.Facts.{facts_of};
 ghost use Rattle.sq_machine.specs.Limits.{last_number};
 ghost use Rattle.sq_rules.specs.Verdicts.{verdict_over};
 ghost use Rattle.sq_rules.specs.declared.values.Value.TheVariants as value;
-ghost use Rattle.sq_checks.specs.OpenChecks.{HasCome, IsNoted, begun_parts, comes_to, ended_by, finished, looked, noted, settled, step_more};
+ghost use Rattle.sq_checks.specs.OpenChecks.{HasCome, IsNoted, begun_parts, ended_by, finished, looked, noted, settled, step_more};
 ghost use Rattle.sq_checks.specs.Records.{judged_of};
 ghost use Rattle.sq_checks.specs.Stages.{decided_in, is_idle, is_settled, need_in, question_in};
 
 use crate::going::come_to;
 use crate::records::Record;
 use crate::stages::{CheckStage, Need, came, decided, ended, need_of, noted, question};
-use sq_base::{Answers, CheckNo, ConnNo, EpochNo, Moment, QuestionNo, Text, WantOfMemory, What};
+use sq_base::{
+    Answers, CheckNo, ConnNo, EpochNo, Moment, QuestionNo, Steps, Text, WantOfMemory, What,
+};
 use sq_eval::pool_of;
 use sq_frames::{Frames, Slots};
 use sq_machine::LAST_NUMBER;
@@ -24,6 +26,7 @@ use std::alloc::Global;
 use std::marker::Model;
 use std::mem;
 use std::sync::Arc;
+use std::sync::ledger::Ledger;
 
 /// A check from its request to its outcome. Its own number is its place among the open checks.
 #[derive(Drop)]
@@ -178,10 +181,15 @@ impl OpenCheck {
     }
 
     /// What it comes to over its answers: the verdict, or the need of an answer that it does not have. It goes on from
-    /// the place in its rules to which it came before, so no fact is looked at twice for one place.
-    pub fn come_to(&mut self, alloc: Global) -> Result<Value, WantOfMemory>
+    /// the place in its rules to which it came before: its looks rise by as many as the counter, and then they are as
+    /// many as the walk over its answers has leaf acls.
+    pub fn come_to<L: Ledger>(
+        &mut self,
+        alloc: Global,
+        steps: &mut Steps<L>,
+    ) -> Result<Value, WantOfMemory>
         requires { is_settled self.old.stage ≡ true }
-        ensures same { self.new ≡ looked self.new.looks self.old }
+        ensures same { (k : ℕ) × (steps.new ≡ steps.old + k) × (self.new ≡ looked k self.old) }
         ensures come { IfOk result (HasCome self.new) }
     {
         come_to(
@@ -191,6 +199,7 @@ impl OpenCheck {
             &self.facts,
             &self.sight,
             &self.answers,
+            steps,
         )
     }
 
@@ -228,7 +237,7 @@ impl OpenCheck {
     /// Takes the verdict to which a step came. It takes no memory.
     pub fn finish(&mut self, outcome: Outcome)
         requires settled { is_settled self.old.stage ≡ true }
-        requires verdict { comes_to self.old ≡ value.Verdict outcome }
+        requires verdict { HasCome self.old (value.Verdict outcome) }
         ensures { self.new ≡ finished outcome self.old }
     {
         self.stage = CheckStage::Done(outcome);

@@ -1,5 +1,5 @@
 //! The open checks by number.
-ghost use Rattle.std.specs.Prelude.{◌≡◌, ◌++◌, ◌∷◌, [], ℕ, true, false, length, map, is_some, IfSome, IfOk, IfErr, OnOk, OnErr, Some};
+ghost use Rattle.std.specs.Prelude.{◌≡◌, ◌<◌, ◌++◌, ◌∷◌, [], ℕ, true, false, length, map, is_some, IfSome, IfOk, IfErr, OnOk, OnErr, Some};
 ghost use Rattle.std.specs.Option.{option_copied};
 ghost use Rattle.sq_base.specs.Distinct.{has_answer};
 ghost use Rattle.sq_lookup.specs.Waits.{has_check};
@@ -8,18 +8,19 @@ ghost use Rattle.sq_machine.specs.Events.{is_number};
 ghost use Rattle.sq_machine.specs.Rising.{Rises};
 ghost use Rattle.sq_machine.specs.StepRule.{says_done};
 ghost use Rattle.sq_rules.specs.declared.values.Value.TheVariants as value;
-ghost use Rattle.sq_checks.specs.OpenChecks.{AllAre, HasCome, IsNoted, all_before, all_ended, change_at, comes_to, ended_by, finished, looked, noted, row, rows_of, says_of, settled, wait_at, without_entry};
+ghost use Rattle.sq_checks.specs.OpenChecks.{AllAre, HasCome, IsNoted, all_before, all_ended, change_at, ended_by, finished, looked, noted, row, rows_of, says_of, settled, wait_at, without_entry};
 ghost use Rattle.sq_checks.specs.Stages.{is_idle, is_settled};
 ghost use Rattle.sq_checks.specs.Tables.{value_at};
 
 use crate::open_check::OpenCheck;
-use sq_base::{Cause, CheckNo, Moment, QuestionNo, Text, WantOfMemory, What};
+use sq_base::{Cause, CheckNo, Moment, QuestionNo, Steps, Text, WantOfMemory, What};
 use sq_lookup::Checks;
 use sq_model_rows::StepEffect;
 use sq_rules::{Outcome, Value};
 use std::alloc::Global;
 use std::collections::BTreeMap;
-use std::marker::Model;
+use std::marker::{Brand, Model};
+use std::sync::ledger::{Blank, Ledger};
 
 /// The open checks. A contract sees each number with its check, in the order of the numbers.
 pub struct OpenChecks {
@@ -93,19 +94,39 @@ impl OpenChecks {
         Ok(())
     }
 
+    // The same, by a counter that is opened here.
+    fn come_on<L: Ledger>(
+        &mut self,
+        alloc: Global,
+        number: CheckNo,
+        blank: Blank,
+    ) -> Result<Value, WantOfMemory>
+        requires name { blank.name ≡ L.name }
+        requires parts { blank.parts ≡ L.parts }
+        requires whole { 0 < blank.parts }
+        requires there { is_some (value_at self.old number) ≡ true }
+        requires settled { IfSome (value_at self.old number) (λ c. is_settled c.stage ≡ true) }
+        ensures list { (k : ℕ) × (self.new ≡ change_at number (looked k) self.old) }
+        ensures rows { rows_of self.new ≡ rows_of self.old }
+        ensures come { IfOk result (λ v. IfSome (value_at self.new number) (λ c. HasCome c v)) }
+    {
+        let mut steps = Steps::<L>::open(blank);
+        match self.map.get_mut(&number) {
+            Some(check) => check.come_to(alloc, &mut steps),
+            None => unreachable!(),
+        }
+    }
+
     /// What a check comes to over its answers, from the place in its rules on to which it came before. As a row it
     /// stays as it is.
     pub fn come_to(&mut self, alloc: Global, number: CheckNo) -> Result<Value, WantOfMemory>
         requires there { is_some (value_at self.old number) ≡ true }
         requires settled { IfSome (value_at self.old number) (λ c. is_settled c.stage ≡ true) }
-        ensures list { (looks : ℕ) × (self.new ≡ change_at number (looked looks) self.old) }
+        ensures list { (k : ℕ) × (self.new ≡ change_at number (looked k) self.old) }
         ensures rows { rows_of self.new ≡ rows_of self.old }
         ensures come { IfOk result (λ v. IfSome (value_at self.new number) (λ c. HasCome c v)) }
     {
-        match self.map.get_mut(&number) {
-            Some(check) => check.come_to(alloc),
-            None => unreachable!(),
-        }
+        self.come_on::<Brand>(alloc, number, Blank::new(1))
     }
 
     /// Takes what a step of a check says that asked for this key of the class at this place. It takes no
@@ -130,7 +151,7 @@ impl OpenChecks {
         requires there { is_some (value_at self.old number) ≡ true }
         requires settled { IfSome (value_at self.old number) (λ c. is_settled c.stage ≡ true) }
         requires verdict { IfSome (value_at self.old number)
-            (λ c. comes_to c ≡ value.Verdict outcome) }
+            (λ c. HasCome c (value.Verdict outcome)) }
         ensures list { self.new ≡ change_at number (finished outcome) self.old }
         ensures rows { rows_of self.new ≡ after_step number says_done (rows_of self.old) }
     {

@@ -1,10 +1,10 @@
 //! Checks whose outcomes were taken.
-ghost use Rattle.std.specs.Prelude.{◌≡◌, ◌≤◌, true, IfSome};
+ghost use Rattle.std.specs.Prelude.{◌≡◌, true, IfSome};
 ghost use Rattle.std.specs.Arc.{arc_value};
 ghost use Rattle.sq_rules.specs.Facts.{facts_of};
 ghost use Rattle.sq_rules.specs.Verdicts.{pool_of, verdict_over};
 ghost use Rattle.sq_rules.specs.declared.values.Value.TheVariants as value;
-ghost use Rattle.sq_checks.specs.Givens.{leaves_over};
+ghost use Rattle.sq_checks.specs.Givens.{looks_over};
 
 use sq_base::{Answers, CheckNo, EpochNo};
 use sq_rules::{Config, Facts, Outcome, Sight};
@@ -79,7 +79,7 @@ impl Record {
         requires facts { facts ≡ facts_of (arc_value config).acls sight }
         requires verdict { verdict_over answers (arc_value config) sight ≡ value.Verdict outcome }
         requires pool { pool ≡ pool_of (arc_value config) sight }
-        requires looks { looks ≤ leaves_over answers (arc_value config) sight }
+        requires looks { looks ≡ looks_over answers (arc_value config) sight }
         ensures { result ≡ record {
           check = check;
           epoch = epoch;
@@ -167,11 +167,11 @@ impl Record {
         self.pool
     }
 
-    /// How many facts were looked at in all its steps: no more than the walk of its verdict has leaf acls, each
-    /// place counted once; 2^63 - 1 stands for more, too.
+    /// How many facts were looked at in all its steps: as many as the walk of its verdict has leaf acls, each place
+    /// counted once; 2^63 - 1 stands for more, too.
     pub fn looks(&self) -> u64
         ensures value { result ≡ self.now.looks }
-        ensures few { result ≤ leaves_over self.now.answers self.now.config self.now.sight }
+        ensures walk { result ≡ looks_over self.now.answers self.now.config self.now.sight }
     {
         self.looks
     }

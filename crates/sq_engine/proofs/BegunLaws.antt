@@ -1,6 +1,6 @@
 -- What open checks have from their beginning on stays as it is.
-use Rattle.std.proofs.Common.{◌≡◌, ◌∙◌, ◌==◌, ℕ, List, [], ◌∷◌, ◌++◌, Bool, true, false, Option, None, Some, Result, Ok, Err, OnOk, OnErr, refl, ap, sym, subst}
-use Rattle.std.proofs.lemmas.Option.{none-some}
+use Rattle.std.proofs.Common.{◌≡◌, ◌∙◌, ◌==◌, ℕ, List, [], ◌∷◌, ◌++◌, Bool, true, false, if◌then◌else◌, Option, None, Some, Result, Ok, Err, OnOk, OnErr, refl, ap, sym, subst}
+use Rattle.std.proofs.lemmas.Option.{none-some, same_Some}
 use Rattle.std.specs.Option.{option_map}
 use Rattle.sq_base.specs.declared.helpers.Answer.{Answer}
 use Rattle.sq_base.specs.declared.helpers.What.{What}
@@ -9,10 +9,10 @@ use Rattle.sq_base.specs.Requests.{HttpRequest}
 use Rattle.sq_rules.specs.Configurations.{Configuration}
 use Rattle.sq_machine.specs.Losses.{Loss}
 use Rattle.sq_rules.specs.declared.sights.Sight.{Sight}
-use Rattle.sq_checks.specs.OpenChecks.{CheckParts, all_before, all_ended, begun_parts, change_at, ended_by, rows_of, settled, settled_by, without_entry}
+use Rattle.sq_checks.specs.OpenChecks.{CheckParts, all_before, all_ended, begun_parts, change_at, ended_by, looked, rows_of, settled, settled_by, without_entry}
 use Rattle.sq_checks.specs.Stages.{came_in}
 use Rattle.sq_checks.specs.Tables.{value_at}
-use Rattle.sq_engine.specs.Begun.{AreKept, Begun, HasBegun, begun_of}
+use Rattle.sq_engine.specs.Begun.{AreKept, AreKeptBut, Begun, HasBegun, begun_of}
 use Rattle.sq_engine.specs.Handing.{all_lost}
 use Rattle.sq_engine.specs.Lines.{all_given}
 use Rattle.sq_engine.specs.declared.lines.Share.{Share}
@@ -23,6 +23,36 @@ kept_same es = λ n b h. h
 
 pub kept_then : (xs ys zs : List (ℕ × CheckParts)) → AreKept xs ys → AreKept ys zs → AreKept xs zs
 kept_then xs ys zs first second = λ n b h. first n b (second n b h)
+
+looks_if : (t : Bool) (b : Begun) → record b { looks = if t then b.looks else b.looks } ≡ b
+looks_if true b = refl
+looks_if false b = refl
+
+-- where no check looked at more facts
+pub kept_but : (m : ℕ) (xs ys : List (ℕ × CheckParts)) → AreKept xs ys → AreKeptBut m xs ys
+kept_but m xs ys all = λ n b h. (b.looks, all n b h ∙ ap Some (sym (looks_if (m == n) b)))
+
+-- and where one may have done so between
+pub kept_between : (m : ℕ) (ws xs ys zs : List (ℕ × CheckParts)) → AreKept ws xs → AreKeptBut m xs ys → AreKept ys zs
+    → AreKeptBut m ws zs
+kept_between m ws xs ys zs first second third = λ n b h.
+    let q = second n b (third n b h) in (q.0, first n (record b { looks = if m == n then q.0 else b.looks }) q.1)
+
+looked_begun : (t : Bool) (k : ℕ) (o : Option CheckParts) (b : Begun)
+    → option_map begun_of (mapped_if t (looked k) o) ≡ Some b
+    → (j : ℕ) × (option_map begun_of o ≡ Some (record b { looks = if t then j else b.looks }))
+looked_begun true k None b e = absurd (none-some b e)
+looked_begun true k (Some x) b e =
+    let same : begun_of (looked k x) ≡ b = same_Some _ _ e in
+    (x.looks, ap (λ (y : Begun). Some (record y { looks = x.looks })) same)
+looked_begun false k o b e = (b.looks, e)
+
+-- where a check looked at more facts
+pub kept_looked : (m k : ℕ) (old new : List (ℕ × CheckParts)) → new ≡ change_at m (looked k) old → AreKeptBut m old new
+kept_looked m k old new list = λ n b h.
+    looked_begun (m == n) k (value_at old n) b
+    (sym (ap (λ es. option_map begun_of (value_at es n)) list ∙ ap (option_map begun_of) (changed_at m n (looked k) old))
+    ∙ h)
 
 mapped_begun : (t : Bool) (f : CheckParts → CheckParts) (o : Option CheckParts)
     → ((k : CheckParts) → begun_of (f k) ≡ begun_of k) → option_map begun_of (mapped_if t f o) ≡ option_map begun_of o

@@ -1,5 +1,5 @@
--- What an open check has from its beginning on.
-use Rattle.std.specs.Prelude.{◌≡◌, ℕ, List, false, ◌==◌, Some}
+-- What an open check has from its beginning on, and how many facts it looked at.
+use Rattle.std.specs.Prelude.{◌≡◌, ℕ, List, false, if◌then◌else◌, ◌==◌, Some}
 use Rattle.std.specs.Option.{option_map}
 use Rattle.std.specs.declared.option.Option.{Option}
 use Rattle.sq_base.specs.Requests.{HttpRequest}
@@ -10,14 +10,15 @@ use Rattle.sq_checks.specs.OpenChecks.{CheckParts}
 use Rattle.sq_checks.specs.Tables.{value_at}
 
 -- the configuration of a check, what it sees, with the HTTP version of its request, of which no
--- history tells, and its pool
+-- history tells, its pool, and how many facts it looked at
 pub record Begun : Type 0 where
   pub config : Configuration
   pub sight : Sight
   pub pool : Option ℕ
+  pub looks : ℕ
 
 abbrev pub begun_of : CheckParts → Begun
-begun_of k = record { config = k.config; sight = k.sight; pool = k.pool }
+begun_of k = record { config = k.config; sight = k.sight; pool = k.pool; looks = k.looks }
 
 -- what check n has so, where it is open
 abbrev pub begun_at : List (ℕ × CheckParts) → ℕ → Option Begun
@@ -27,13 +28,20 @@ begun_at checks n = option_map begun_of (value_at checks n)
 abbrev pub AreKept : List (ℕ × CheckParts) → List (ℕ × CheckParts) → Type 0
 AreKept old new = (n : ℕ) (b : Begun) → begun_at new n ≡ Some b → begun_at old n ≡ Some b
 
--- check n began with this configuration and this very request, and has the pool of these; each
--- other check has what it had
+-- the same, but that check m may have looked at more facts
+abbrev pub AreKeptBut : ℕ → List (ℕ × CheckParts) → List (ℕ × CheckParts) → Type 0
+AreKeptBut m old new = (n : ℕ) (b : Begun) → begun_at new n ≡ Some b
+    → (looks : ℕ)
+    × (begun_at old n ≡ Some (record b { looks = if m == n then looks else b.looks }))
+
+-- check n began with this configuration and this very request, has the pool of these, and looked at
+-- nothing; each other check has what it had
 pub record HasBegun (n : ℕ) (config : Configuration) (request : HttpRequest)
     (old new : List (ℕ × CheckParts)) : Type 0 where
   pub sight : Sight
   pub request_is : sight.request ≡ request
   pub begun : begun_at new n
-      ≡ Some (record { config = config; sight = sight; pool = pool_of config sight })
+      ≡ Some
+      (record { config = config; sight = sight; pool = pool_of config sight; looks = 0 })
   pub others : (m : ℕ) (b : Begun) → (m == n) ≡ false → begun_at new m ≡ Some b
       → begun_at old m ≡ Some b

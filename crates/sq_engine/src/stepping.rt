@@ -6,14 +6,14 @@ ghost use Rattle.sq_machine.specs.declared.entries.Event.TheVariants as event;
 ghost use Rattle.sq_machine.specs.StepRule.{class_of_acl, says_done};
 ghost use Rattle.sq_rules.specs.declared.values.Value.TheVariants as value;
 ghost use Rattle.sq_model_rows.specs.CheckRows.{after_step};
-ghost use Rattle.sq_checks.specs.OpenChecks.{HasCome, change_at, comes_to, looked, rows_of, settled};
+ghost use Rattle.sq_checks.specs.OpenChecks.{HasCome, change_at, looked, rows_of, settled};
 ghost use Rattle.sq_checks.specs.Stages.{is_idle, is_settled, need_in};
 ghost use Rattle.sq_checks.specs.Tables.{value_at};
 ghost use Rattle.sq_epochs.specs.EpochStates.{part_at};
 ghost use Rattle.sq_model_state.specs.Changes.{after_step_of};
 ghost use Rattle.sq_model_state.specs.Says.{says_place_in};
 ghost use Rattle.sq_model_state.specs.States.{IsSame};
-ghost use Rattle.sq_engine.specs.Begun.{AreKept};
+ghost use Rattle.sq_engine.specs.Begun.{AreKept, AreKeptBut};
 ghost use Rattle.sq_engine.specs.EngineViews.{state_of};
 ghost use Rattle.sq_engine.specs.Promised.{IsPromised};
 ghost use Rattle.sq_engine.specs.Stepping.{NeedsAcl, after_step_now, epoch_of, says_waits, step_now, stepped_told};
@@ -96,7 +96,7 @@ impl Engine {
             (λ k. is_settled k.stage ≡ true) }
         requires idle { IfSome (value_at self.old.checks check) (λ k. need_in k.stage ≡ None) }
         requires verdict { IfSome (value_at self.old.checks check)
-            (λ k. comes_to k ≡ value.Verdict outcome) }
+            (λ k. HasCome k (value.Verdict outcome)) }
         ensures value { self.new ≡ record self.old { checks = self.new.checks; latest = moment } }
         ensures rows { rows_of self.new.checks
             ≡ after_step check says_done (rows_of self.old.checks) }
@@ -156,12 +156,12 @@ impl Engine {
         requires settled { IfSome (value_at self.old.checks check)
             (λ k. is_settled k.stage ≡ true) }
         ensures value { self.new ≡ record self.old { checks = self.new.checks } }
-        ensures list { (looks : ℕ)
-            × (self.new.checks ≡ change_at check (looked looks) self.old.checks) }
+        ensures list { (k : ℕ)
+            × (self.new.checks ≡ change_at check (looked k) self.old.checks) }
         ensures rows { rows_of self.new.checks ≡ rows_of self.old.checks }
         ensures come { IfOk result
             (λ v. IfSome (value_at self.new.checks check) (λ k. HasCome k v)) }
-        ensures kept { AreKept self.old.checks self.new.checks }
+        ensures kept { AreKeptBut check self.old.checks self.new.checks }
     {
         self.checks.come_to(alloc, check)
     }
@@ -212,7 +212,7 @@ impl Engine {
             (IsSame (state_of self.new)
             (after_step_now (state_of self.old) check (max now self.old.latest))) }
         ensures err { OnErr result (IsSame (state_of self.new) (state_of self.old)) }
-        ensures kept { AreKept self.old.checks self.new.checks }
+        ensures kept { AreKeptBut check self.old.checks self.new.checks }
     {
         let moment = later(now, self.latest);
         let Some(open) = self.checks.get(check) else {
@@ -248,7 +248,7 @@ impl Engine {
             (IsSame (state_of self.new)
             (after_step_now (state_of self.old) check (max now self.old.latest))) }
         ensures err { OnErr result (IsSame (state_of self.new) (state_of self.old)) }
-        ensures kept { AreKept self.old.checks self.new.checks }
+        ensures kept { AreKeptBut check self.old.checks self.new.checks }
         ensures promised { IsPromised
             (stepped_told (state_of self.old) (epoch_of (state_of self.old) check))
             (state_of self.old) (max now self.old.latest) (event.Step check) result

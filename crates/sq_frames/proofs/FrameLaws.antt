@@ -1,16 +1,17 @@
 -- Frames are at a place in the rules from their beginning on.
-use Rattle.std.proofs.Common.{◌≡◌, ℕ, ◌+◌, ◌≤◌, List, [], length, min, slice_index_or, set, Bool, true, Option, Some, None, refl, ap, ◌∙◌, arith}
+use Rattle.std.proofs.Common.{◌≡◌, ℕ, ◌+◌, ◌≤◌, List, [], length, min, slice_index_or, set, Bool, true, Option, Some, None, refl, sym, ap, subst, ◌∙◌, arith}
 use Rattle.sq_rules.specs.Configurations.{Configuration}
 use Rattle.sq_rules.specs.Verdicts.{default_of, rules_from}
 use Rattle.sq_rules.specs.Walks.{rules_walk}
 use Rattle.sq_rules.specs.declared.values.TermValue.{TermValue}
 use Rattle.sq_frames.proofs.CourseLaws.{rules_begun}
 use Rattle.sq_frames.proofs.SlotLaws.{extends_after}
-use Rattle.sq_frames.specs.Courses.{Course, Extends, leaves}
-use Rattle.sq_frames.specs.Givens.{given_at, taken_given}
-use Rattle.sq_frames.specs.Positions.{Goes, course_at, look_limit}
+use Rattle.sq_frames.proofs.StepLaws.{external_taken}
+use Rattle.sq_frames.specs.Courses.{Course, Extends, is_need, leaves, leaves_by, still_needed}
+use Rattle.sq_frames.specs.Givens.{given_at, given_value, taken_given}
+use Rattle.sq_frames.specs.Positions.{Asks, Goes, NoneLeft, course_at, look_limit}
 use Rattle.sq_frames.specs.Slots.{externals_on, is_external_at, slots_of}
-use Rattle.sq_frames.specs.Standing.{IsAt, IsOver, IsPlaced, Standing, looks_in, taken_of}
+use Rattle.sq_frames.specs.Standing.{IsAt, IsOver, IsPlaced, IsWhole, Standing, looks_in, taken_of}
 use Rattle.sq_frames.specs.declared.answers.Given.{Given}
 use Rattle.sq_frames.specs.declared.positions.Position.{Position}
 
@@ -59,6 +60,45 @@ pub placed_value : (facts : List Bool) (c : Configuration) (table : List (Option
     → (course_at (taken_given c.acls (slots_of c.acls) facts table) c p).value
     ≡ rules_from (taken_given c.acls (slots_of c.acls) facts table) c.acls (default_of c.rules) 1 c.rules
 placed_value facts c table p n is = is.value (taken_given c.acls (slots_of c.acls) facts table) (λ acl known. refl)
+
+-- where no leaf acl is left, as many looks were made as the walk has leaf acls, and the walk stays so
+whole : (facts : List Bool) (c : Configuration) (table : List (Option Given)) (p : Position) (n : ℕ) (need : Option ℕ)
+    (more : ℕ → TermValue) → IsPlaced facts c table p n
+    → NoneLeft (taken_given c.acls (slots_of c.acls) facts table) c p need
+    → Extends (taken_given c.acls (slots_of c.acls) facts table) more
+    → still_needed more need ≡ true → leaves_by more c ≡ n
+whole facts c table p n need more is none extends still =
+    let x : leaves_by more c ≡ n + leaves c.acls (course_at more c p).walk = is.leaves_are more extends in
+    let y : leaves c.acls (course_at more c p).walk ≡ 0 = none more extends still in
+    omega (arith, x, y)
+
+-- an acl that asks is needed
+asks_still : (facts : List Bool) (c : Configuration) (table : List (Option Given)) (need : Option ℕ)
+    → Asks c.acls (slots_of c.acls) table need
+    → still_needed (taken_given c.acls (slots_of c.acls) facts table) need ≡ true
+asks_still facts c table None asks = refl
+asks_still facts c table (Some acl) asks =
+    let it = asks acl refl in
+    ap is_need (external_taken c.acls (slots_of c.acls) facts table acl it.0 ∙ ap (given_value acl) it.1)
+
+pub placed_looked : (facts : List Bool) (c : Configuration) (table : List (Option Given)) (p : Position) (n : ℕ)
+    (need : Option ℕ) → IsPlaced facts c table p n
+    → NoneLeft (taken_given c.acls (slots_of c.acls) facts table) c p need
+    → Asks c.acls (slots_of c.acls) table need
+    → IsPlaced facts c table p (leaves_by (taken_given c.acls (slots_of c.acls) facts table) c)
+placed_looked facts c table p n need is none asks =
+    let taken = taken_given c.acls (slots_of c.acls) facts table in
+    subst (λ (k : ℕ). IsPlaced facts c table p k)
+    (sym (whole facts c table p n need taken is none (λ acl known. refl) (asks_still facts c table need asks))) is
+
+pub placed_whole : (facts : List Bool) (c : Configuration) (table : List (Option Given)) (p : Position) (n : ℕ)
+    (need : Option ℕ) → IsPlaced facts c table p n
+    → NoneLeft (taken_given c.acls (slots_of c.acls) facts table) c p need
+    → Asks c.acls (slots_of c.acls) table need → IsWhole facts c table need
+placed_whole facts c table p n need is none asks = λ more extends still.
+    whole facts c table p n need more is none extends still
+    ∙ sym (whole facts c table p n need (taken_given c.acls (slots_of c.acls) facts table) is none (λ acl known. refl)
+    (asks_still facts c table need asks))
 
 -- no more looks are counted than the walk has leaf acls
 pub placed_few : (facts : List Bool) (c : Configuration) (table : List (Option Given)) (p : Position) (n : ℕ)

@@ -1,5 +1,5 @@
 -- What is next is there, and there is room for it where it is a group.
-use Rattle.std.proofs.Common.{◌≡◌, ℕ, ◌+◌, ◌<◌, ◌≤◌, zero, suc, List, [], ◌∷◌, map, take, length, slice_get, slice_index_or, Bool, true, false, ◌&&◌, nat_lt, nat_le, Option, Some, None, refl, sym, ap, ◌∙◌, arith}
+use Rattle.std.proofs.Common.{◌≡◌, ℕ, ◌+◌, ◌<◌, ◌≤◌, zero, suc, List, [], ◌∷◌, map, take, length, slice_get, slice_index_or, Bool, true, false, ◌&&◌, nat_lt, Option, Some, None, refl, sym, ap, ◌∙◌, arith}
 use Rattle.std.proofs.lemmas.Bool.Decides.{nat_tests}
 use Rattle.std.proofs.lemmas.List.{get_or-take, length-map}
 use Rattle.std.proofs.lemmas.Option.{get_or_from_slice_get}
@@ -7,7 +7,6 @@ use Rattle.std.specs.List.{list_all}
 use Rattle.sq_rules.proofs.TableLaws.{nesting_at, nestings_length}
 use Rattle.sq_rules.proofs.ValueLaws.{known_here}
 use Rattle.sq_rules.specs.Configurations.{Configuration, IsConfiguration, are_known, are_known_bodies, deepest, greatest_of, is_known_body, is_known_rule, nesting_of, nestings}
-use Rattle.sq_rules.specs.Limits.{nesting_limit}
 use Rattle.sq_rules.specs.declared.configs.Acl.{Acl}
 use Rattle.sq_rules.specs.declared.configs.Body.{Body}
 use Rattle.sq_rules.specs.declared.configs.Body.TheVariants as body
@@ -15,6 +14,8 @@ use Rattle.sq_rules.specs.declared.configs.Rule.{Rule}
 use Rattle.sq_rules.specs.declared.configs.Term.{Term}
 use Rattle.sq_frames.proofs.CourseLaws.{in_line, within_some}
 use Rattle.sq_frames.specs.Groups.{AreOpen, bound_on, line_on, lines_at, lines_of, lines_of_body, lines_on, next_at, term_on}
+use Rattle.sq_frames.specs.Kinds.{group_body, group_of, is_group_at}
+use Rattle.sq_frames.specs.OpenGroups.{depth_of}
 use Rattle.sq_frames.specs.Positions.{IsNext}
 use Rattle.sq_frames.specs.declared.looking.Next.TheVariants as next
 use Rattle.sq_frames.specs.declared.positions.Position.{Position}
@@ -152,30 +153,47 @@ member_nests classes acls g line term t known e = at (slice_get acls g) refl e
 
 fits_in : (c : Configuration) (room line term : ℕ) (groups : List GroupSpot) (t : Term) → IsConfiguration c
     → AreOpen c room line term groups
-    → suc (slice_index_or (nestings c.acls) t.acl 0) ≤ room
+    → slice_index_or (nestings c.acls) t.acl 0 ≤ room
     → next_at (lines_on c groups) (line_on line groups) (term_on term groups) ≡ next.Term t
-    → slice_index_or (nestings c.acls) t.acl 0 + suc (length groups) ≤ room
+    → slice_index_or (nestings c.acls) t.acl 0 + length groups ≤ room
 fits_in c room line term [] t is are enough e = omega (arith, enough)
 fits_in c room line term (s ∷ groups) t is are enough e =
     let one : slice_index_or (nestings c.acls) t.acl 0 < slice_index_or (nestings c.acls) s.acl 0 =
     member_nests (length c.classes) c.acls s.acl s.line s.term t is.members e in
-    let two : slice_index_or (nestings c.acls) s.acl 0 + suc (length groups) ≤ room = are.0.fits in
+    let two : slice_index_or (nestings c.acls) s.acl 0 + length groups ≤ room = are.0.fits in
     omega (arith, one, two)
 
 -- there is room for the group that is next
 pub fits_within : (c : Configuration) (p : Position) (t : Term) → IsNext c p t
-    → slice_index_or (nestings c.acls) t.acl 0 + suc (length p.groups.list) ≤ p.groups.room
+    → slice_index_or (nestings c.acls) t.acl 0 + length p.groups.list ≤ p.groups.room
 fits_within c p t is = fits_in c p.groups.room p.line p.term p.groups.list t is.config is.position.groups
     (is.position.room t.acl is.there) is.next_is
 
--- groups nest less deep than there may be open
-pub room_enough : (c : Configuration) → IsConfiguration c → (acl : ℕ) → acl < length c.acls
-    → suc (slice_index_or (nestings c.acls) acl 0) ≤ nesting_limit + 1
-room_enough c is acl within =
-    let here : acl < length (nestings c.acls) = omega (arith, within, nestings_length c.acls) in
-    let at = within_some (nestings c.acls) acl here in
-    let least : nat_le at.0 nesting_limit ≡ true =
-    all_here (λ n. nat_le n nesting_limit) (nestings c.acls) acl at.0 is.shallow at.1 in
-    let same : slice_index_or (nestings c.acls) acl 0 ≡ at.0 =
-    get_or_from_slice_get (nestings c.acls) acl at.0 0 at.1 in
-    grind (arith, nat_tests, least, same)
+group_deep : (before : List ℕ) (b : Body) → group_body b ≡ true → 1 ≤ nesting_of before b
+group_deep before (body.Leaf l) e = absurd (cc)
+group_deep before (body.External class arguments) e = absurd (cc)
+group_deep before (body.AnyOf terms) e = omega arith
+group_deep before (body.AllOf lines) e = omega arith
+
+-- a group nests
+pub group_nests : (acls : List Acl) (g : ℕ) → is_group_at acls g ≡ true → 1 ≤ slice_index_or (nestings acls) g 0
+group_nests acls g group = at (slice_get acls g) refl group
+  where
+    at : (o : Option Acl) → slice_get acls g ≡ o → group_of o ≡ true → 1 ≤ slice_index_or (nestings acls) g 0
+    at None is e = absurd (cc)
+    at (Some a) is e =
+        let one : slice_index_or (nestings acls) g 0 ≡ nesting_of (take g (nestings acls)) a.body =
+        nesting_at acls g a is in
+        let two : 1 ≤ nesting_of (take g (nestings acls)) a.body = group_deep (take g (nestings acls)) a.body e in
+        omega (arith, one, two)
+
+-- no acl nests deeper than the deepest
+pub room_enough : (acls : List Acl) (acl : ℕ) → acl < length acls
+    → slice_index_or (nestings acls) acl 0 ≤ depth_of acls
+room_enough acls acl within =
+    let here : acl < length (nestings acls) = omega (arith, within, nestings_length acls) in
+    let at = within_some (nestings acls) acl here in
+    let least : at.0 ≤ depth_of acls = greatest_here (λ n. n) (nestings acls) acl at.0 at.1 in
+    let same : slice_index_or (nestings acls) acl 0 ≡ at.0 =
+    get_or_from_slice_get (nestings acls) acl at.0 0 at.1 in
+    omega (arith, least, same)

@@ -1,5 +1,5 @@
 -- Each step leads on.
-use Rattle.std.proofs.Common.{◌≡◌, ℕ, ◌+◌, ◌<◌, ◌≤◌, List, [], ◌∷◌, drop, length, min, slice_get, slice_index_or, Bool, true, false, if◌then◌else◌, Option, Some, None, refl, sym, ap, subst, ◌∙◌, arith}
+use Rattle.std.proofs.Common.{◌≡◌, ℕ, ◌+◌, ◌<◌, ◌≤◌, List, [], ◌∷◌, ◌++◌, drop, length, min, slice_get, slice_index_or, Bool, true, false, if◌then◌else◌, Option, Some, None, refl, sym, ap, subst, ◌∙◌, arith}
 use Rattle.std.proofs.lemmas.Option.{slice_get_within}
 use Rattle.sq_base.specs.declared.helpers.Cause.{Cause}
 use Rattle.sq_rules.specs.Configurations.{Configuration, is_leaf_body}
@@ -12,20 +12,23 @@ use Rattle.sq_rules.specs.declared.configs.Body.TheVariants as body
 use Rattle.sq_rules.specs.declared.configs.Term.{Term}
 use Rattle.sq_rules.specs.declared.outcomes.Why.TheVariants as why
 use Rattle.sq_rules.specs.declared.values.TermValue.{TermValue}
-use Rattle.sq_rules.specs.declared.values.TermValue.TheVariants.{Fault, Need}
+use Rattle.sq_rules.specs.declared.values.TermValue.TheVariants.{Hit, Miss, Fault, Need}
 use Rattle.sq_rules.specs.declared.values.Value.TheVariants as value
 use Rattle.sq_frames.proofs.CourseLaws.{ahead_at_term, ahead_failed, ahead_held, ahead_moved, fault_stops, in_line, lines_begun, need_stops, turned_fault, turned_need}
 use Rattle.sq_frames.proofs.MemberLaws.{term_of_group, term_of_plain}
 use Rattle.sq_frames.proofs.NestLaws.{fits_within}
 use Rattle.sq_frames.proofs.WeightLaws.{closed_weight, looked_weight, opened_weight}
 use Rattle.sq_frames.specs.Courses.{Course, Extends, ahead, behind, is_need, leaf_here, leaves, walked}
-use Rattle.sq_frames.specs.Givens.{given_at, given_value, taken_given, taken_of_acl, taken_of_body}
+use Rattle.sq_frames.specs.Givens.{given_at, given_value, ran_value, taken_given, taken_of_acl, taken_of_body}
 use Rattle.sq_frames.specs.Groups.{AreOpen, body_of, first_of, groups_moved, line_moved, line_on, lines_at, lines_on, next_at, term_moved, term_on, under_not}
 use Rattle.sq_frames.specs.Kinds.{group_body, is_group_at, is_leaf_at, leaf_of}
-use Rattle.sq_frames.specs.Positions.{Asks, Goes, IsNext, IsPosition, IsStep, course_at, look_limit, looked_more, next_of, position_moved}
+use Rattle.sq_frames.specs.Positions.{Asks, FaultIs, Goes, IsNext, IsPosition, IsStep, IsStop, acl_next, course_at, look_limit, looked_more, next_of, position_moved}
 use Rattle.sq_frames.specs.Slots.{external_of, is_external, is_external_at}
 use Rattle.sq_frames.specs.Weights.{ahead_weight}
 use Rattle.sq_frames.specs.declared.answers.Given.{Given}
+use Rattle.sq_frames.specs.declared.answers.Place.TheVariants as place
+use Rattle.sq_frames.specs.declared.answers.Ran.{Ran}
+use Rattle.sq_frames.specs.declared.answers.Ran.TheVariants as ran
 use Rattle.sq_frames.specs.declared.looking.Next.TheVariants as next
 use Rattle.sq_frames.specs.declared.positions.Position.{Position}
 use Rattle.sq_frames.specs.declared.spots.GroupSpot.{GroupSpot}
@@ -301,7 +304,7 @@ stops taken c p t v is external given same =
     ∙ ap (λ w. (behind taken c p.line p.term p.groups.list (turned t.negated w)).value) given
     ∙ ap (λ w. (behind taken c p.line p.term p.groups.list w).value) same
 
-pub need_stop : (taken : ℕ → TermValue) (c : Configuration) (p : Position) (t : Term) → IsNext c p t
+need_stop : (taken : ℕ → TermValue) (c : Configuration) (p : Position) (t : Term) → IsNext c p t
     → is_external_at c.acls t.acl ≡ true → taken t.acl ≡ Need t.acl []
     → value.Need t.acl [] ≡ (course_at taken c p).value
 need_stop taken c p t is external given =
@@ -310,7 +313,7 @@ need_stop taken c p t is external given =
     ∙ ap (λ (x : Course). x.value) (need_stops taken c p.line p.term p.groups.list t.acl [] is.rule)
     )
 
-pub fault_stop : (taken : ℕ → TermValue) (c : Configuration) (p : Position) (t : Term) (cause : Cause) → IsNext c p t
+fault_stop : (taken : ℕ → TermValue) (c : Configuration) (p : Position) (t : Term) (cause : Cause) → IsNext c p t
     → is_external_at c.acls t.acl ≡ true → taken t.acl ≡ Fault t.acl cause
     → value.Verdict (record { allow = false; why = why.Fault (p.line + 1) (name_of (slice_get c.acls t.acl)) cause })
     ≡ (course_at taken c p).value
@@ -319,6 +322,64 @@ fault_stop taken c p t cause is external given =
     stops taken c p t (Fault t.acl cause) is external given (turned_fault t.negated t.acl cause)
     ∙ ap (λ (x : Course). x.value) (fault_stops taken c p.line p.term p.groups.list t.acl cause is.rule)
     )
+
+-- and its acl is the last of their walk
+last : (taken : ℕ → TermValue) (c : Configuration) (p : Position) (t : Term) (v : TermValue) → IsNext c p t
+    → is_external_at c.acls t.acl ≡ true → taken t.acl ≡ v → turned t.negated v ≡ v
+    → (behind taken c p.line p.term p.groups.list v).walk ≡ []
+    → leaves c.acls (course_at taken c p).walk ≡ 0
+last taken c p t v is external given same none =
+    let b = external_some (slice_get c.acls t.acl) external in
+    let walk : (course_at taken c p).walk ≡ t.acl ∷ [] =
+    ap (λ (x : Course). x.walk) (ahead_at_term taken c p.line p.term p.groups.list t is.next_is)
+    ∙ ap (λ (x : Seen). x.walk ++ (behind taken c p.line p.term p.groups.list x.value).walk)
+    (term_of_plain taken c.acls t b.0 b.1 b.2)
+    ∙ ap (λ w. t.acl ∷ (behind taken c p.line p.term p.groups.list (turned t.negated w)).walk) given
+    ∙ ap (λ w. t.acl ∷ (behind taken c p.line p.term p.groups.list w).walk) same
+    ∙ ap (λ (l : List ℕ). t.acl ∷ l) none in
+    ap (leaves c.acls) walk ∙ ap (λ k. k + 0) b.3
+
+need_of : (v : TermValue) → is_need v ≡ true → (acl : ℕ) × (key : List ℕ) × (v ≡ Need acl key)
+need_of Hit e = absurd (cc)
+need_of Miss e = absurd (cc)
+need_of (Fault acl cause) e = absurd (cc)
+need_of (Need acl key) e = (acl, key, refl)
+
+-- at an acl that is needed a run is over
+pub stops_needed : (taken : ℕ → TermValue) (c : Configuration) (p : Position) (t : Term) → IsNext c p t
+    → is_external_at c.acls t.acl ≡ true → taken t.acl ≡ Need t.acl [] → IsStop taken c p (ran.Need t.acl)
+stops_needed taken c p t is external given = record {
+  ran = need_stop taken c p t is external given;
+  none_left = λ more extends still.
+      let n = need_of (more t.acl) still in
+      last more c p t (Need n.0 n.1) is external n.2 (turned_need t.negated n.0 n.1)
+      (ap (λ (x : Course). x.walk) (need_stops more c p.line p.term p.groups.list n.0 n.1 is.rule));
+  fault_is = tt;
+}
+
+-- at an acl that has a fault a run is over
+pub stops_faulty : (taken : ℕ → TermValue) (c : Configuration) (p : Position) (t : Term) (cause : Cause) → IsNext c p t
+    → is_external_at c.acls t.acl ≡ true → taken t.acl ≡ Fault t.acl cause
+    → IsStop taken c p (ran.Verdict false (place.Fault (p.line + 1) t.acl cause))
+stops_faulty taken c p t cause is external given = record {
+  ran = fault_stop taken c p t cause is external given;
+  none_left = λ more extends still.
+      let more_is : more t.acl ≡ Fault t.acl cause = extends t.acl (ap is_need given) ∙ given in
+      last more c p t (Fault t.acl cause) is external more_is (turned_fault t.negated t.acl cause)
+      (ap (λ (x : Course). x.walk) (fault_stops more c p.line p.term p.groups.list t.acl cause is.rule));
+  fault_is = (ap acl_next is.next_is, given);
+}
+
+-- where no leaf acl is left and no acl had a fault
+pub stops_decided : (taken : ℕ → TermValue) (c : Configuration) (p : Position) (r : Ran) (x : Course)
+    → course_at taken c p ≡ x → ran_value c.acls r ≡ x.value
+    → ((more : ℕ → TermValue) → leaves c.acls (course_at more c p).walk ≡ 0) → FaultIs taken c p r
+    → IsStop taken c p r
+stops_decided taken c p r x course value none faultless = record {
+  ran = value ∙ ap (λ (y : Course). y.value) (sym course);
+  none_left = λ more extends still. none more;
+  fault_is = faultless;
+}
 
 -- the first group stands in front of the others
 pub first_here : (groups : List GroupSpot) (s : GroupSpot) → first_of groups ≡ Some s → groups ≡ s ∷ drop 1 groups

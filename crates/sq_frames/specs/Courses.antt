@@ -121,6 +121,15 @@ is_need Miss = false
 is_need (Fault acl cause) = false
 is_need (Need acl key) = true
 
+-- nothing is given for the acl that is needed, if one is
+abbrev pub still_needed : (ℕ → TermValue) → Option ℕ → Bool
+still_needed more None = true
+still_needed more (Some acl) = is_need (more acl)
+
+-- how many leaf acls the walk of the rules has
+abbrev pub leaves_by : (ℕ → TermValue) → Configuration → ℕ
+leaves_by taken c = leaves c.acls (rules_walk taken c.acls c.rules)
+
 -- what was taken stays, and what was needed may be given
 abbrev pub Extends : (ℕ → TermValue) → (ℕ → TermValue) → Type 0
 Extends taken more = (acl : ℕ) → is_need (taken acl) ≡ false → more acl ≡ taken acl

@@ -1,6 +1,6 @@
 -- The place in a configuration's rules: which rule and term of it, and in each open group which
 -- line and term of it.
-use Rattle.std.specs.Prelude.{ℕ, ◌+◌, ◌<◌, ◌≤◌, ◌^◌, suc, List, [], ◌∷◌, length, map, Bool, true, false, not, Some, None, if◌then◌else◌, slice_get, slice_index_or}
+use Rattle.std.specs.Prelude.{ℕ, ◌+◌, ◌<◌, ◌≤◌, ◌^◌, List, [], ◌∷◌, length, map, Bool, true, false, not, Some, None, if◌then◌else◌, slice_get, slice_index_or}
 use Rattle.std.specs.declared.option.Option.{Option}
 use Rattle.sq_rules.specs.Configurations.{Configuration, nestings}
 use Rattle.sq_rules.specs.declared.configs.Acl.{Acl}
@@ -78,7 +78,7 @@ pub record IsOpen (c : Configuration) (room line term : ℕ) (s : GroupSpot)
   pub pointed : line_on line groups < length (lines_on c groups)
   pub small : (line_on line groups + 1 < 2 ^ 64) × (term_on term groups + 1 < 2 ^ 64)
   pub before : s.acl < bound_on c groups
-  pub fits : slice_index_or (nestings c.acls) s.acl 0 + suc (length groups) ≤ room
+  pub fits : slice_index_or (nestings c.acls) s.acl 0 + length groups ≤ room
 
 abbrev pub AreOpen : Configuration → ℕ → ℕ → ℕ → List GroupSpot → Type 0
 AreOpen c room line term [] = Unit {0}

@@ -1,17 +1,20 @@
 -- A place in the rules as a value, and what it is that steps lead from one to another.
-use Rattle.std.specs.Prelude.{◌≡◌, ℕ, ◌+◌, ◌-◌, ◌^◌, ◌≤◌, ◌<◌, List, Bool, true, length, min, suc, Some, None, slice_index_or}
+use Rattle.std.specs.Prelude.{◌≡◌, ℕ, ◌+◌, ◌-◌, ◌^◌, ◌≤◌, ◌<◌, List, Bool, true, length, min, Some, None, slice_index_or}
 use Rattle.std.specs.declared.option.Option.{Option}
 use Rattle.sq_rules.specs.Configurations.{Configuration, IsConfiguration, nestings}
 use Rattle.sq_rules.specs.declared.configs.Acl.{Acl}
 use Rattle.sq_rules.specs.declared.configs.Term.{Term}
 use Rattle.sq_rules.specs.declared.values.TermValue.{TermValue}
-use Rattle.sq_frames.specs.Courses.{Course, Extends, ahead, leaves}
-use Rattle.sq_frames.specs.Givens.{given_at, ran_value, taken_given}
+use Rattle.sq_rules.specs.declared.values.TermValue.TheVariants.{Fault}
+use Rattle.sq_frames.specs.Courses.{Course, Extends, ahead, leaves, still_needed}
+use Rattle.sq_frames.specs.Givens.{given_at, needed_by, ran_value, taken_given}
 use Rattle.sq_frames.specs.Groups.{AreOpen, bound_on, groups_moved, line_moved, line_on, lines_on, next_at, term_moved, term_on}
 use Rattle.sq_frames.specs.Slots.{is_external_at}
 use Rattle.sq_frames.specs.Weights.{weight_at}
 use Rattle.sq_frames.specs.declared.answers.Given.{Given}
+use Rattle.sq_frames.specs.declared.answers.Place.TheVariants as place
 use Rattle.sq_frames.specs.declared.answers.Ran.{Ran}
+use Rattle.sq_frames.specs.declared.answers.Ran.TheVariants as ran
 use Rattle.sq_frames.specs.declared.looking.Next.{Next}
 use Rattle.sq_frames.specs.declared.looking.Next.TheVariants as next
 use Rattle.sq_frames.specs.declared.positions.Position.{Position}
@@ -42,7 +45,7 @@ looked_more p = record p { looks = min look_limit (p.looks + 1) }
 pub record IsPosition (c : Configuration) (p : Position) : Type 0 where
   pub groups : AreOpen c p.groups.room p.line p.term p.groups.list
   pub room : (acl : ℕ) → acl < length c.acls
-      → suc (slice_index_or (nestings c.acls) acl 0) ≤ p.groups.room
+      → slice_index_or (nestings c.acls) acl 0 ≤ p.groups.room
   pub counted : p.looks ≤ look_limit
 
 -- what the rules come to from a place on
@@ -89,12 +92,40 @@ pub record IsStep (taken : ℕ → TermValue) (c : Configuration) (old new : Pos
   pub stands : IsPosition c new
   pub falls : weight_at c new < weight_at c old
 
--- what the rules come to is known, the place stays, and nothing is looked at
+-- the acl of the term that is next, if one is
+abbrev pub acl_next : Next → Option ℕ
+acl_next (next.Term t) = Some t.acl
+acl_next next.Held = None
+acl_next next.Failed = None
+
+-- from a place on no leaf acl is left in the walk, as long as nothing is given for the acl that is
+-- needed, if one is
+abbrev pub NoneLeft : (ℕ → TermValue) → Configuration → Position → Option ℕ → Type 0
+NoneLeft taken c p need = (more : ℕ → TermValue) → Extends taken more
+    → still_needed more need ≡ true → leaves c.acls (course_at more c p).walk ≡ 0
+
+-- the acl that had a fault, if that decided, is the next one at a place, and the fault is its value
+abbrev pub FaultIs : (ℕ → TermValue) → Configuration → Position → Ran → Type 0
+FaultIs taken c p (ran.Verdict allow (place.Fault rule acl cause)) =
+    (acl_next (next_of c p) ≡ Some acl) × (taken acl ≡ Fault acl cause)
+FaultIs taken c p (ran.Verdict allow (place.Rule rule)) = Unit {0}
+FaultIs taken c p (ran.Verdict allow place.Default) = Unit {0}
+FaultIs taken c p (ran.Verdict allow place.Empty) = Unit {0}
+FaultIs taken c p (ran.Need acl) = Unit {0}
+
+-- a run is over at a place: what the rules come to is known there
+pub record IsStop (taken : ℕ → TermValue) (c : Configuration) (p : Position) (r : Ran)
+    : Type 0 where
+  pub ran : ran_value c.acls r ≡ (course_at taken c p).value
+  pub none_left : NoneLeft taken c p (needed_by r)
+  pub fault_is : FaultIs taken c p r
+
+-- a run is over, the place stays, and nothing is looked at
 pub record Stops (taken : ℕ → TermValue) (c : Configuration) (old new : Position) (before after : ℕ)
     (r : Ran) : Type 0 where
   pub stays : new ≡ old
   pub quiet : after ≡ before
-  pub ran : ran_value c.acls r ≡ (course_at taken c old).value
+  pub is : IsStop taken c old r
 
 -- the acl that is needed asks a helper, and no value was given for it
 abbrev pub Asks : List Acl → List ℕ → List (Option Given) → Option ℕ → Type 0

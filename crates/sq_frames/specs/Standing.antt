@@ -1,12 +1,11 @@
 -- Frames as a value, and what it is for them to be at a place in the rules.
-use Rattle.std.specs.Prelude.{◌≡◌, ℕ, ◌+◌, List, Bool, length, min}
+use Rattle.std.specs.Prelude.{◌≡◌, ℕ, ◌+◌, List, Bool, true, length, min}
 use Rattle.std.specs.declared.option.Option.{Option}
 use Rattle.sq_rules.specs.Configurations.{Configuration}
 use Rattle.sq_rules.specs.Verdicts.{default_of, rules_from}
-use Rattle.sq_rules.specs.Walks.{rules_walk}
 use Rattle.sq_rules.specs.declared.values.TermValue.{TermValue}
 use Rattle.sq_rules.specs.declared.values.Value.{Value}
-use Rattle.sq_frames.specs.Courses.{Extends, leaves}
+use Rattle.sq_frames.specs.Courses.{Extends, leaves, leaves_by, still_needed}
 use Rattle.sq_frames.specs.Givens.{given_at, taken_given}
 use Rattle.sq_frames.specs.Positions.{Asks, IsPosition, course_at, look_limit}
 use Rattle.sq_frames.specs.Slots.{externals_on, slots_of}
@@ -54,8 +53,7 @@ pub record IsPlaced (facts : List Bool) (c : Configuration) (table : List (Optio
       → (course_at more c p).value ≡ rules_from more c.acls (default_of c.rules) 1 c.rules
   pub leaves_are : (more : ℕ → TermValue)
       → Extends (taken_given c.acls (slots_of c.acls) facts table) more
-      → leaves c.acls (rules_walk more c.acls c.rules) ≡ looked
-      + leaves c.acls (course_at more c p).walk
+      → leaves_by more c ≡ looked + leaves c.acls (course_at more c p).walk
 
 -- frames at a place in the rules, over these facts and after so many looks
 abbrev pub IsAt : List Bool → Standing → ℕ → Type 0
@@ -67,8 +65,15 @@ IsOver facts f = (looked : ℕ) × IsAt facts f looked
 
 -- how many leaf acls the walk of the rules has, over the values that were given
 abbrev pub leaves_of : List Bool → Standing → ℕ
-leaves_of facts f = leaves f.config.acls
-    (rules_walk (taken_of facts f) f.config.acls f.config.rules)
+leaves_of facts f = leaves_by (taken_of facts f) f.config
+
+-- the walk of the rules has the leaf acls that it has over the values that were given, whatever is
+-- given from now on, but for the acl that is needed, if one is
+abbrev pub IsWhole : List Bool → Configuration → List (Option Given) → Option ℕ → Type 0
+IsWhole facts c table need = (more : ℕ → TermValue)
+    → Extends (taken_given c.acls (slots_of c.acls) facts table) more
+    → still_needed more need ≡ true
+    → leaves_by more c ≡ leaves_by (taken_given c.acls (slots_of c.acls) facts table) c
 
 -- how many looks were counted
 abbrev pub looks_in : Standing → ℕ

@@ -1,10 +1,11 @@
 //! Rules that are evaluated by a stored place.
 ghost use Rattle.std.specs.Prelude.{◌≡◌, ◌+◌, ◌≤◌, ℕ, suc, List, Bool, true, length, if◌then◌else◌, ◌==◌, Some, None, is_some, IfOk};
 ghost use Rattle.std.specs.Arc.{arc_value};
-ghost use Rattle.sq_frames.specs.Givens.{given_at, left_in, needed_by, ran_value};
-ghost use Rattle.sq_frames.specs.Positions.{Asks, IsPosition};
+ghost use Rattle.sq_frames.specs.Courses.{leaves_by};
+ghost use Rattle.sq_frames.specs.Givens.{given_at, left_in, needed_by, ran_value, taken_given};
+ghost use Rattle.sq_frames.specs.Positions.{Asks, FaultIs, IsPosition};
 ghost use Rattle.sq_frames.specs.Slots.{externals_on, is_external_at, slots_of};
-ghost use Rattle.sq_frames.specs.Standing.{given_to, leaves_of, looks_in, value_of, value_over, IsAt, IsOver, IsPlaced};
+ghost use Rattle.sq_frames.specs.Standing.{given_to, leaves_of, looks_in, taken_of, value_of, value_over, IsAt, IsOver, IsPlaced, IsWhole};
 
 use crate::answers::{Given, Ran, needed_by};
 use crate::positions::{Position, begin};
@@ -76,6 +77,12 @@ fn run_over<L: Ledger>(
     ensures stands { IsPosition config.now position.new }
     ensures asks { Asks config.now.acls (slots_of config.now.acls) table.now (needed_by result) }
     ensures value { ran_value config.now.acls result ≡ value_over facts.now config.now table.now }
+    ensures fault { FaultIs (taken_given config.now.acls (slots_of config.now.acls) facts.now table.now)
+        config.now position.new result }
+    ensures looked { IsPlaced facts.now config.now table.now position.new
+        (leaves_by (taken_given config.now.acls (slots_of config.now.acls) facts.now table.now)
+        config.now) }
+    ensures whole { IsWhole facts.now config.now table.now (needed_by result) }
     ensures at { (n : ℕ) → IsPlaced facts.now config.now table.now position.old n
         → (k : ℕ) × (steps.new ≡ steps.old + k)
         × IsPlaced facts.now config.now table.now position.new (n + k) }
@@ -107,6 +114,16 @@ fn give_to(slots: &Slots, table: &mut Vec<Option<Given>>, acl: u32, value: Given
     give(slots.as_slice(), table, acl, value);
 }
 
+// A table in which nothing was given.
+fn nothing(alloc: Global, slots: &Slots) -> Result<Vec<Option<Given>>, WantOfMemory>
+    ensures counted { IfOk result (λ t. length t.items ≡ externals_on 0 slots.now.acls) }
+    ensures none { IfOk result
+        (λ t. (acl : ℕ) → given_at (slots_of slots.now.acls) t.items acl ≡ None) }
+{
+    let table = vec![in alloc; None; slots.count() as usize]?;
+    Ok(table)
+}
+
 // A table in which nothing was given, and the place before the first rule.
 fn begun(alloc: Global, slots: &Slots) -> Result<(Vec<Option<Given>>, Position), WantOfMemory>
     ensures counted { IfOk result (λ r. length r.0.items ≡ externals_on 0 slots.now.acls) }
@@ -115,8 +132,8 @@ fn begun(alloc: Global, slots: &Slots) -> Result<(Vec<Option<Given>>, Position),
     ensures stands { IfOk result (λ r. IsPosition slots.now r.1) }
     ensures at { IfOk result (λ r. (facts : List Bool) → IsPlaced facts slots.now r.0.items r.1 0) }
 {
-    let table = vec![in alloc; None; slots.count() as usize]?;
-    let position = begin(alloc, slots.config())?;
+    let table = nothing(alloc, slots)?;
+    let position = begin(alloc, slots.config(), slots.depth())?;
     Ok((table, position))
 }
 
@@ -139,8 +156,10 @@ impl Frames {
     }
 
     /// Goes on to a verdict, or to the first external acl for which no value was given. What it answers is what the
-    /// rules come to over the values that were given. Each leaf acl that it comes to is one look and one step of the
-    /// counter, and no place is looked at twice. It takes no memory.
+    /// rules come to over the values that were given. Then the looks of all runs are as many as the walk of the rules
+    /// over these values has leaf acls, and this run's, by which the counter rose, are those that were not among them
+    /// before it; where no acl is needed, or nothing is given for it, the walk has no others. An acl that had a fault is
+    /// the one at which it stopped. It takes no memory.
     pub fn run<L: Ledger>(&mut self, facts: &Facts, steps: &mut Steps<L>) -> Ran
         requires facts { length facts.now ≡ length self.old.config.acls }
         requires over { IsOver facts.now self.old }
@@ -150,7 +169,10 @@ impl Frames {
         ensures asks { Asks self.new.config.acls (slots_of self.new.config.acls) self.new.table
             (needed_by result) }
         ensures value { ran_value self.new.config.acls result ≡ value_of facts.now self.new }
-        ensures over { IsOver facts.now self.new }
+        ensures fault { FaultIs (taken_of facts.now self.new) self.new.config self.new.position
+            result }
+        ensures looked { IsAt facts.now self.new (leaves_of facts.now self.new) }
+        ensures whole { IsWhole facts.now self.new.config self.new.table (needed_by result) }
         ensures at { (looked : ℕ) → IsAt facts.now self.old looked
             → (k : ℕ) × (steps.new ≡ steps.old + k) × IsAt facts.now self.new (looked + k) }
     {
@@ -189,7 +211,7 @@ impl Frames {
         self.need = None;
     }
 
-    /// How many looks its runs made; it stays at 2^63 - 1 once it is there. It takes no memory.
+    /// How many looks its runs made, as the counters of these rose; it stays at 2^63 - 1 once it is there. It takes no memory.
     pub fn looks(&self) -> u64
         ensures looks { result ≡ looks_in self.now }
         ensures few { (facts : List Bool) → IsOver facts self.now

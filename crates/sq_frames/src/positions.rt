@@ -1,14 +1,14 @@
 //! A place in the rules of a configuration.
 ghost use Rattle.std.specs.Prelude.{[], true, false, Some, IfOk, ◌≡◌, ◌+◌, ◌<◌, ◌≤◌, ◌^◌, length, min};
-ghost use Rattle.sq_rules.specs.Limits.{nesting_limit};
 ghost use Rattle.sq_frames.specs.Groups.{first_of, line_on, lines_on, moved, next_at, term_on, AreOpen, FitsNext};
+ghost use Rattle.sq_frames.specs.OpenGroups.{depth_of};
 ghost use Rattle.sq_frames.specs.Positions.{look_limit, looked_more, position_moved, IsPosition};
 
 use crate::looking::{Next, next_of_body, next_of_rules};
 use crate::spots::{GroupSpot, Spots};
 use crate::tables::body_at;
 use sq_base::WantOfMemory;
-use sq_rules::{Config, NESTING_LIMIT};
+use sq_rules::Config;
 use std::alloc::Global;
 
 // The greatest number of looks that is counted.
@@ -116,19 +116,19 @@ pub fn count(position: &mut Position)
     }
 }
 
-/// The place before the first rule, with room for the groups of a configuration.
-pub fn begin(alloc: Global, config: &Config) -> Result<Position, WantOfMemory>
+/// The place before the first rule, with room for the groups of a configuration, which nest so deep.
+pub fn begin(alloc: Global, config: &Config, depth: u32) -> Result<Position, WantOfMemory>
+    requires { depth ≡ depth_of config.now.acls }
     ensures begun { IfOk result
         (λ p. p ≡ record {
           line = 0;
           term = 0;
-          groups = record { room = nesting_limit + 1; list = [] };
+          groups = record { room = depth_of config.now.acls; list = [] };
           looks = 0;
         }) }
     ensures stands { IfOk result (λ p. IsPosition config.now p) }
 {
-    config.facts();
-    let groups = Spots::new(alloc, NESTING_LIMIT as usize + 1)?;
+    let groups = Spots::new(alloc, depth as usize)?;
     Ok(Position {
         line: 0,
         term: 0,

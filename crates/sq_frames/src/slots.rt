@@ -2,8 +2,10 @@
 ghost use Rattle.std.specs.Prelude.{◌≡◌, ◌≤◌, length, IfOk, OnOk};
 ghost use Rattle.std.specs.Arc.{arc_value};
 ghost use Rattle.sq_rules.specs.Limits.{most_acls};
+ghost use Rattle.sq_frames.specs.OpenGroups.{depth_of};
 ghost use Rattle.sq_frames.specs.Slots.{externals_on, is_external, slots_of};
 
+use crate::depths::depth_of;
 use sq_base::WantOfMemory;
 use sq_rules::{Acl, Body, Config};
 use std::alloc::Global;
@@ -11,11 +13,12 @@ use std::marker::Model;
 use std::sync::Arc;
 
 /// A configuration, and the slot of each of its external acls in a table of given values: how many of them stand
-/// before it. It is made once for a configuration, and all checks over it share it.
+/// before it; and how deep its groups nest. It is made once for a configuration, and all checks over it share it.
 pub struct Slots {
     config: Arc<Config>,
     slots: Vec<u32>,
     count: u32,
+    depth: u32,
 }
 
 // Written out, so that the drops of its parts are proved here alone.
@@ -25,6 +28,7 @@ impl Drop for Slots {
             config: _,
             slots: _,
             count: _,
+            depth: _,
         } = self;
     }
 }
@@ -33,6 +37,7 @@ impl Model for Slots {
     ghost use Rattle.std.specs.Prelude.{◌≡◌};
     ghost use Rattle.std.specs.Arc.{arc_value};
     ghost use Rattle.sq_rules.specs.Configurations.{Configuration};
+    ghost use Rattle.sq_frames.specs.OpenGroups.{depth_of};
     ghost use Rattle.sq_frames.specs.Slots.{externals_on, slots_of};
 
     ghost Value = { Configuration };
@@ -40,7 +45,8 @@ impl Model for Slots {
     ghost view = { λ s. arc_value s.config };
 
     ghost invariant = { λ s. (s.slots.items ≡ slots_of (arc_value s.config).acls)
-        × (s.count ≡ externals_on 0 (arc_value s.config).acls) };
+        × (s.count ≡ externals_on 0 (arc_value s.config).acls)
+        × (s.depth ≡ depth_of (arc_value s.config).acls) };
 }
 
 // Whether an acl asks a helper.
@@ -79,10 +85,13 @@ impl Slots {
     {
         let config = Arc::try_clone(config)?;
         let (slots, count) = slots_of(alloc, config.acls())?;
+        config.facts();
+        let depth = depth_of(alloc, config.acls())?;
         Ok(Slots {
             config,
             slots,
             count,
+            depth,
         })
     }
 
@@ -98,6 +107,13 @@ impl Slots {
         ensures { result ≡ externals_on 0 self.now.acls }
     {
         self.count
+    }
+
+    /// How deep its groups nest: 0 where it has none.
+    pub fn depth(&self) -> u32
+        ensures { result ≡ depth_of self.now.acls }
+    {
+        self.depth
     }
 
     /// The slot of each acl; that of one that is not external says nothing.

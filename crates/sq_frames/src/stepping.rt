@@ -1,7 +1,7 @@
 //! One step in the rules, and steps up to where they stop.
 ghost use Rattle.std.specs.declared.option.Option.{Option};
 ghost use Rattle.std.specs.Prelude.{◌≡◌, ◌<◌, ◌≤◌, ◌+◌, ℕ, List, [], length, true, false, if◌then◌else◌, Some, None, slice_get, IfNone, IfSome};
-ghost use Rattle.sq_rules.specs.Configurations.{IsConfiguration};
+ghost use Rattle.sq_rules.specs.Configurations.{Configuration, IsConfiguration};
 ghost use Rattle.sq_rules.specs.Limits.{rule_limit};
 ghost use Rattle.sq_rules.specs.Verdicts.{default_of};
 ghost use Rattle.sq_rules.specs.declared.configs.Acl.{Acl};
@@ -11,7 +11,7 @@ ghost use Rattle.sq_rules.specs.declared.values.Value.TheVariants as value;
 ghost use Rattle.sq_frames.specs.Givens.{given_at, needed_by, ran_value};
 ghost use Rattle.sq_frames.specs.Groups.{first_of, under_not};
 ghost use Rattle.sq_frames.specs.Kinds.{is_group_at, is_leaf_at};
-ghost use Rattle.sq_frames.specs.Positions.{course_at, next_of, taken_in, Asks, Goes, IsNext, IsPosition, IsSmall, IsStep, Stops};
+ghost use Rattle.sq_frames.specs.Positions.{next_of, taken_in, Asks, FaultIs, Goes, IsNext, IsPosition, IsSmall, IsStep, IsStop, Stops};
 ghost use Rattle.sq_frames.specs.Slots.{is_external_at};
 ghost use Rattle.sq_frames.specs.declared.answers.Given.{Given};
 ghost use Rattle.sq_frames.specs.declared.answers.Given.TheVariants as given;
@@ -66,8 +66,7 @@ fn fault(taking: &WalkInputs, term: Term, position: &Position, cause: Cause) -> 
     requires external { is_external_at taking.now.config.now.acls term.acl ≡ true }
     requires given { given_at taking.now.slots.now taking.now.table.now term.acl
         ≡ Some (given.Fault cause) }
-    ensures ran { ran_value taking.now.config.now.acls result
-        ≡ (course_at (taken_in taking.now) taking.now.config.now position.now).value }
+    ensures stop { IsStop (taken_in taking.now) taking.now.config.now position.now result }
     ensures asks { (slots : List ℕ) (table : List (Option Given))
         → Asks taking.now.config.now.acls slots table (needed_by result) }
 {
@@ -86,8 +85,7 @@ fn need(taking: &WalkInputs, term: Term, position: &Position) -> Ran
     requires next { IsNext taking.now.config.now position.now term }
     requires external { is_external_at taking.now.config.now.acls term.acl ≡ true }
     requires none { given_at taking.now.slots.now taking.now.table.now term.acl ≡ None }
-    ensures ran { ran_value taking.now.config.now.acls result
-        ≡ (course_at (taken_in taking.now) taking.now.config.now position.now).value }
+    ensures stop { IsStop (taken_in taking.now) taking.now.config.now position.now result }
     ensures asks { Asks taking.now.config.now.acls taking.now.slots.now taking.now.table.now
         (needed_by result) }
 {
@@ -180,6 +178,8 @@ fn default_of(rules: &[Rule]) -> Ran
     ensures default { (acls : List Acl)
         → ran_value acls result ≡ value.Verdict (default_of rules.now) }
     ensures none { needed_by result ≡ None }
+    ensures no_fault { (taken : ℕ → TermValue) (c : Configuration) (p : Position)
+        → FaultIs taken c p result }
 {
     match rules.split_last() {
         None => Ran::Verdict {
@@ -200,6 +200,8 @@ fn rule_at(rules: &[Rule], line: usize) -> Ran
     ensures rule { (r : Rule) → slice_get rules.now line ≡ Some r
         → result ≡ ran.Verdict r.allow (place.Rule (line + 1)) }
     ensures none { needed_by result ≡ None }
+    ensures no_fault { (taken : ℕ → TermValue) (c : Configuration) (p : Position)
+        → FaultIs taken c p result }
 {
     Ran::Verdict {
         allow: rules[line].allow,
@@ -211,8 +213,7 @@ fn rule_at(rules: &[Rule], line: usize) -> Ran
 fn held(config: &Config, position: &Position) -> Ran
     requires open { position.now.groups.list ≡ [] }
     requires next { next_of config.now position.now ≡ next.Held }
-    ensures ran { (taken : ℕ → TermValue)
-        → ran_value config.now.acls result ≡ (course_at taken config.now position.now).value }
+    ensures stop { (taken : ℕ → TermValue) → IsStop taken config.now position.now result }
     ensures asks { (slots : List ℕ) (table : List (Option Given))
         → Asks config.now.acls slots table (needed_by result) }
 {
@@ -223,8 +224,7 @@ fn held(config: &Config, position: &Position) -> Ran
 fn failed(config: &Config, position: &Position) -> Ran
     requires open { position.now.groups.list ≡ [] }
     requires next { next_of config.now position.now ≡ next.Failed }
-    ensures ran { (taken : ℕ → TermValue)
-        → ran_value config.now.acls result ≡ (course_at taken config.now position.now).value }
+    ensures stop { (taken : ℕ → TermValue) → IsStop taken config.now position.now result }
     ensures asks { (slots : List ℕ) (table : List (Option Given))
         → Asks config.now.acls slots table (needed_by result) }
 {
@@ -235,8 +235,7 @@ fn failed(config: &Config, position: &Position) -> Ran
 fn decide(config: &Config, position: &Position, hit: bool) -> Ran
     requires open { position.now.groups.list ≡ [] }
     requires next { next_of config.now position.now ≡ (if hit then next.Held else next.Failed) }
-    ensures ran { (taken : ℕ → TermValue)
-        → ran_value config.now.acls result ≡ (course_at taken config.now position.now).value }
+    ensures stop { (taken : ℕ → TermValue) → IsStop taken config.now position.now result }
     ensures asks { (slots : List ℕ) (table : List (Option Given))
         → Asks config.now.acls slots table (needed_by result) }
 {
@@ -314,8 +313,7 @@ pub fn run_on<L: Ledger>(taking: &WalkInputs, position: &mut Position, steps: &m
     ensures goes { Goes (taken_in taking.now) taking.now.config.now position.old position.new
         steps.old steps.new }
     ensures stands { IsPosition taking.now.config.now position.new }
-    ensures ran { ran_value taking.now.config.now.acls result
-        ≡ (course_at (taken_in taking.now) taking.now.config.now position.new).value }
+    ensures stop { IsStop (taken_in taking.now) taking.now.config.now position.new result }
     ensures asks { Asks taking.now.config.now.acls taking.now.slots.now taking.now.table.now
         (needed_by result) }
 {

@@ -1,5 +1,5 @@
 -- Calls of a hub in memory, by those of its engine.
-use Rattle.std.proofs.Common.{◌≡◌, ℕ, ◌≤◌, List, [], ◌∷◌, Bool, true, false, if◌then◌else◌, max, Option, Some, None, option_map, Result, Ok, Err, OnErr, IfOk, refl, sym, subst, ap, ◌∙◌, arith}
+use Rattle.std.proofs.Common.{◌≡◌, ◌==◌, ℕ, ◌≤◌, List, [], ◌∷◌, Bool, true, false, if◌then◌else◌, max, Option, Some, None, option_map, Result, Ok, Err, OnErr, IfOk, refl, sym, subst, ap, ◌∙◌, arith}
 use Rattle.std.proofs.lemmas.Option.{none-some, same_Some}
 use Rattle.sq_base.specs.Requests.{HttpRequest}
 use Rattle.sq_model_rows.specs.CheckRows.{Held, held_at}
@@ -170,6 +170,18 @@ kept_one old (Some x) b kept e = ap (option_map check_of) (kept x refl) ∙ e
 pub kept_by : (old new : List (ℕ × CheckParts)) → engine.AreKept old new → AreKept (begun_in old) (begun_in new)
 kept_by old new kept = λ n b e. kept_one (begun_at old n) (begun_at new n) b (λ x is. kept n x is) e
 
+-- the same after a step, at which a check may have looked at more facts
+kept_one_but : (old new : Option Begun) (b : BegunCheck) (t : Bool)
+    → ((x : Begun) → new ≡ Some x → (looks : ℕ) × (old ≡ Some (record x { looks = if t then looks else x.looks })))
+    → option_map check_of new ≡ Some b → option_map check_of old ≡ Some b
+kept_one_but old None b t kept e = absurd (none-some b e)
+kept_one_but old (Some x) b t kept e = ap (option_map check_of) (kept x refl).1 ∙ e
+
+kept_by_but : (m : ℕ) (old new : List (ℕ × CheckParts)) → engine.AreKeptBut m old new
+    → AreKept (begun_in old) (begun_in new)
+kept_by_but m old new kept = λ n b e.
+    kept_one_but (begun_at old n) (begun_at new n) b (m == n) (λ x is. kept n x is) e
+
 pub kept_same : (old new : List (ℕ × CheckParts)) → new ≡ old → AreKept (begun_in old) (begun_in new)
 kept_same old new e = λ n b is. subst (λ checks. begun_in checks n ≡ Some b) e is
 
@@ -178,7 +190,7 @@ pub begins_by : (n : ℕ) (config : Configuration) (r : HttpRequest) (old : List
     (pools : Basin) (moment : ℕ) → HasBegun n config r old w.checks → BeginsCheck r (Ok n) (hub_state w pools moment)
 begins_by n config r old v w pools moment has = (
   check_of
-      (record { config = config; sight = has.sight; pool = pool_of config has.sight }),
+      (record { config = config; sight = has.sight; pool = pool_of config has.sight; looks = 0 }),
   ap (option_map check_of) has.begun,
   has.request_is,
 )
@@ -239,14 +251,14 @@ asks_by conn r x f v w pools moment is promised same has =
 pub steps_by : (n k : ℕ) (x : Result Stepped Refusal) (f : Result Stepped HubFault) (v w : EngineView) (pools : Basin)
     (moment : ℕ) → f ≡ hub_result x
     → IsPromised (stepped_told (state_of v) k) (state_of v) (max moment v.latest) (event.Step n) x (state_of w)
-    → OnErr x (IsSame (state_of w) (state_of v)) → engine.AreKept v.checks w.checks
+    → OnErr x (IsSame (state_of w) (state_of v)) → engine.AreKeptBut n v.checks w.checks
     → MakesOn IsStep (event.Step n) f (hub_state v pools moment) (hub_state w pools moment)
 steps_by n k x f v w pools moment is promised same kept =
     subst (λ y. MakesOn IsStep (event.Step n) y (hub_state v pools moment) (hub_state w pools moment)) (sym is)
     (record {
       makes = makes_by IsStep (stepped_told (state_of v) k) (event.Step n) x (hub_state v pools moment)
           (hub_state w pools moment) refl (step_tells (state_of v) k) promised same refl;
-      kept = kept_by v.checks w.checks kept;
+      kept = kept_by_but n v.checks w.checks kept;
     })
 
 -- the taking of a record

@@ -125,7 +125,10 @@ slots_inside_send : IsSend slots_inside.the_row
 slots_inside_send =
     let parts : FieldsHave IsSend (slots_inside.the_type).parts = (
       search (sendable, crosses, config_send, config_sync) depth 40 fits 20000,
-      (search (sendable, crosses) depth 40 fits 20000, (search (sendable, crosses) depth 40 fits 20000, tt)),
+      (
+        search (sendable, crosses) depth 40 fits 20000,
+        (search (sendable, crosses) depth 40 fits 20000, (search (sendable, crosses) depth 40 fits 20000, tt)),
+      ),
     ) in
     declared_send slots_inside.the_type parts
 
@@ -136,7 +139,10 @@ slots_inside_sync : IsSync slots_inside.the_row
 slots_inside_sync =
     let parts : FieldsHave IsSync (slots_inside.the_type).parts = (
       search (sendable, crosses, config_send, config_sync) depth 40 fits 20000,
-      (search (sendable, crosses) depth 40 fits 20000, (search (sendable, crosses) depth 40 fits 20000, tt)),
+      (
+        search (sendable, crosses) depth 40 fits 20000,
+        (search (sendable, crosses) depth 40 fits 20000, (search (sendable, crosses) depth 40 fits 20000, tt)),
+      ),
     ) in
     declared_sync slots_inside.the_type parts
 

@@ -1,8 +1,8 @@
 //! A front in memory: it judges each request by a configuration, and answers one call otherwise where it is told to.
-ghost use Rattle.std.specs.Prelude.{◌≡◌, ◌≤◌, ◌-◌, ◌^◌, false, IfSome};
+ghost use Rattle.std.specs.Prelude.{◌≡◌, ◌<◌, ◌≤◌, ◌-◌, ◌^◌, false, IfSome};
 ghost use Rattle.sq_outside.specs.Causes.{raised};
 
-use sq_base::{Addr, CheckNo, ConnNo, Copying, EpochNo, Request};
+use sq_base::{Addr, CheckNo, ConnNo, Copying, EpochNo, Request, Steps};
 use sq_checks::{OpenCheck, Record};
 use sq_conf::read_config;
 use sq_facts::read_facts;
@@ -13,7 +13,9 @@ use sq_outside::{raised, raised_by};
 use sq_rules::{Sight, Value};
 use sq_session::{CloseFault, Counts, Decided, Front, Opened, SitFault};
 use std::alloc::Global;
+use std::marker::Brand;
 use std::sync::Arc;
+use std::sync::ledger::{Blank, Ledger};
 
 /// The address of the client; requests to `denied.example` are denied by rule 1, those of others and to other ports
 /// by default, and what comes from `slow.example` is granted by a pool.
@@ -100,7 +102,7 @@ fn judge(alloc: Global, addr: Addr, request: &Request) -> Option<Record>
         return None;
     };
     match OpenCheck::new(alloc, ConnNo(1), EpochNo(1), &slots, sight, facts) {
-        Ok(check) => finished(alloc, check),
+        Ok(check) => finished::<Brand>(alloc, check, Blank::new(1)),
         Err(_) => None,
     }
 }
@@ -117,14 +119,18 @@ fn another(alloc: Global, request: &Request) -> Option<Request>
 }
 
 /// The record of a check that asks for nothing.
-fn finished(alloc: Global, begun: OpenCheck) -> Option<Record>
+fn finished<L: Ledger>(alloc: Global, begun: OpenCheck, blank: Blank) -> Option<Record>
+    requires name { blank.name ≡ L.name }
+    requires parts { blank.parts ≡ L.parts }
+    requires whole { 0 < blank.parts }
     ensures { IfSome result (λ j. j.sight ≡ begun.sight) }
 {
+    let mut steps = Steps::<L>::open(blank);
     let mut check = begun;
     if !check.is_settled() {
         return None;
     }
-    match check.come_to(alloc) {
+    match check.come_to(alloc, &mut steps) {
         Ok(Value::Verdict(outcome)) => {
             check.finish(outcome);
             Some(check.into_record(CheckNo(1)))

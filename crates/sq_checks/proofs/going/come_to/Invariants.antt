@@ -1,5 +1,14 @@
+use Rattle.sq_frames.specs.Givens.{left_in}
+use Rattle.sq_frames.specs.Standing.{looks_in}
+use Rattle.sq_checks.specs.Givens.{AreCounted, AreFrames}
 use Rattle.sq_checks.proofs.going.come_to.Given as goal
 
--- the ledger of the blank that was just made
-abbrev pub ghosts-run_on : goal.ghosts-run_on
-ghosts-run_on a = record { name = a.blank.name; parts = a.blank.parts }
+-- the frames were given what the answers give, and the looks so far are counted
+abbrev pub invariant-needs : goal.invariant-needs
+invariant-needs g l = record {
+  frames : AreFrames l.config l.sight l.answers l.facts l.frames;
+  counted : AreCounted l.fn.steps l.steps (looks_in l.fn.frames) (looks_in l.frames);
+}
+
+abbrev pub decreases-needs : goal.decreases-needs
+decreases-needs g l = left_in l.frames.table

@@ -9,8 +9,7 @@ needs-init g c = record {
 
 pub needs-preserved : goal.needs-preserved
 needs-preserved g c =
-    let over = c.run-ran.ensures.over in
     record {
-      over = (over.0, c.give.ensures.at c.args.facts.now over.0 over.1);
+      over = (_, c.give.ensures.at c.args.facts.now _ c.run-ran.ensures.looked);
       config = c.give.ensures.config ∙ c.run-ran.ensures.config ∙ c.needs.invariant.config;
     }

@@ -22,6 +22,7 @@ invariant_of-result c =
       facts_are = c.requires ∙ ap (λ d. facts_of d.acls c.args.sight) (sym config);
       pool_is = pool ∙ ap (λ d. pool_of d c.args.sight) c.deref-2.ensures;
       stage_is = tt;
+      looks_are = tt;
       frames_are = frames_first (arc_value c.in_ok-config.config) c.args.sight c.new.result c.args.facts f
           (c.in_ok-frames.ensures.config ∙ sym config) (0, c.in_ok-frames.ensures.at c.args.facts)
           c.in_ok-frames.ensures.given;

@@ -12,6 +12,7 @@ invariant_of-self-2 c =
       facts_are = c.self.invariant.facts_are;
       pool_is = c.self.invariant.pool_is;
       stage_is = tt;
+      looks_are = tt;
       frames_are = subst (λ (l : List Answer). AreFrames (arc_value k.config) k.sight l k.facts k.frames)
           (sym c.in_ok-push.ensures.ok)
           (frames_stay (arc_value k.config) k.sight k.answers (c.in-Some.answer ∷ []) k.facts k.frames

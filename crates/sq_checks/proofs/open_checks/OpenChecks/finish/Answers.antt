@@ -5,7 +5,7 @@ use Rattle.std.specs.Ordering.{nat_cmp}
 use Rattle.sq_model_rows.specs.CheckRows.{stepped}
 use Rattle.sq_machine.specs.StepRule.{says_done}
 use Rattle.sq_rules.specs.declared.values.Value.TheVariants as value
-use Rattle.sq_checks.specs.OpenChecks.{comes_to, finished, rows_of}
+use Rattle.sq_checks.specs.OpenChecks.{HasCome, finished, rows_of}
 use Rattle.sq_checks.specs.Stages.{is_settled}
 use Rattle.sq_checks.specs.Tables.{value_at}
 use Rattle.sq_checks.proofs.CheckLaws.{found_has, row_finished}
@@ -22,7 +22,7 @@ pub finish-requires-clause-verdict : goal.finish-requires-clause-verdict
 finish-requires-clause-verdict c =
     let here : value_at c.args.self.now c.args.number ≡ Some c.in-Some.check.now =
     rw (← c.self.view_is) (sym c.in-Some.ensures.value) in
-    found_has (λ x. comes_to x ≡ value.Verdict c.args.outcome) _ _ here c.requires.verdict
+    found_has (λ x. HasCome x (value.Verdict c.args.outcome)) _ _ here c.requires.verdict
 
 pub returns-clause-list : goal.returns-clause-list
 returns-clause-list c =

@@ -1,8 +1,8 @@
-use Rattle.std.proofs.Common.{◌≡◌, refl, subst}
+use Rattle.std.proofs.Common.{◌≡◌, subst}
 use Rattle.sq_checks.specs.OpenChecks.{change_at, looked}
-use Rattle.sq_engine.specs.Begun.{AreKept}
+use Rattle.sq_engine.specs.Begun.{AreKeptBut}
 use Rattle.sq_engine.specs.EngineViews.{EngineView}
-use Rattle.sq_engine.proofs.BegunLaws.{kept_change}
+use Rattle.sq_engine.proofs.BegunLaws.{kept_looked}
 use Rattle.sq_engine.proofs.ChangedLaws.{looked_engine}
 use Rattle.sq_engine.proofs.engines.Engine.come_to.Goals as goal
 
@@ -39,5 +39,5 @@ returns-clause-kept c =
       latest = c.self.inside.latest;
     } in
     let list = c.come_to.ensures.list in
-    subst (λ z. AreKept z.checks c.come_to.new.self) c.self.view_is
-    (kept_change c.args.check (looked list.0) v.checks c.come_to.new.self list.1 (λ k. refl))
+    subst (λ z. AreKeptBut c.args.check z.checks c.come_to.new.self) c.self.view_is
+    (kept_looked c.args.check list.0 v.checks c.come_to.new.self list.1)

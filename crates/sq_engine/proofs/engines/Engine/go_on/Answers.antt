@@ -39,8 +39,8 @@ decide-requires-clause-verdict c =
     subst (λ z. value_at z.checks c.args.check ≡ Some k) c.self.view_is (sym c.in-Some.ensures) in
     let come : HasCome k c.args.value =
     some_has (λ z. HasCome z c.args.value) (value_at w.checks c.args.check) k c.requires.come found in
-    if_has (λ z. comes_to z ≡ value.Verdict c.in-Verdict.outcome) (value_at w.checks c.args.check) k found
-    (sym come.comes ∙ c.in-Verdict.is)
+    if_has (λ z. HasCome z (value.Verdict c.in-Verdict.outcome)) (value_at w.checks c.args.check) k found
+    (subst (HasCome k) c.in-Verdict.is come)
 
 pub resolve-requires-clause-idle : goal.resolve-requires-clause-idle
 resolve-requires-clause-idle c =

@@ -9,7 +9,7 @@ use Rattle.sq_engine.specs.EngineViews.{state_of}
 use Rattle.sq_engine.specs.Stepping.{says_waits}
 use Rattle.sq_engine.proofs.NowLaws.{after_found, idle_looked, says_waiting, settled_looked, settled_settled, step_found, step_unknown, there_looked, there_settled}
 use Rattle.sq_engine.proofs.StepLaws.{quiet_same}
-use Rattle.sq_engine.proofs.BegunLaws.{kept_then}
+use Rattle.sq_engine.proofs.BegunLaws.{kept_between, kept_but, kept_same}
 use Rattle.sq_engine.proofs.engines.Engine.step_on.Goals as goal
 
 pub returns-in_default-clause-told : goal.returns-in_default-clause-told
@@ -99,6 +99,17 @@ go_on-requires-clause-idle c =
 
 pub returns-clause-kept : goal.returns-clause-kept
 returns-clause-kept c =
-    kept_then c.args.self.now.checks c.settle.new.self.checks c.go_on.new.self.checks c.settle.ensures.kept
-    (kept_then c.settle.new.self.checks c.come_to.new.self.checks c.go_on.new.self.checks c.come_to.ensures.kept
-    c.go_on.ensures.kept)
+    kept_between c.args.check c.args.self.now.checks c.settle.new.self.checks c.come_to.new.self.checks
+    c.go_on.new.self.checks c.settle.ensures.kept c.come_to.ensures.kept c.go_on.ensures.kept
+
+pub returns-in-Err-clause-kept : goal.returns-in-Err-clause-kept
+returns-in-Err-clause-kept c = kept_but c.args.check c.args.self.now.checks c.args.self.now.checks
+    (kept_same c.args.self.now.checks)
+
+pub returns-in-Some-need-clause-kept : goal.returns-in-Some-need-clause-kept
+returns-in-Some-need-clause-kept c = kept_but c.args.check c.args.self.now.checks c.wait_on.new.self.checks
+    c.wait_on.ensures.kept
+
+pub returns-in-Err-settle-clause-kept : goal.returns-in-Err-settle-clause-kept
+returns-in-Err-settle-clause-kept c = kept_but c.args.check c.args.self.now.checks c.settle.new.self.checks
+    c.settle.ensures.kept
