@@ -3,12 +3,12 @@ use crate::fixtures::setup_of;
 use sq_base::{Addr, Addrs, ProcNo, Text};
 use sq_dst::{PipeIn, PipeOut, answer_lines, pipe};
 use sq_keeper::{Handed, KeeperEnd, MemDesk};
-use sq_outside::{MemName, MemResolver, MemSource, Source, write_all};
+use sq_outside::{MemName, MemResolver, MemSource, Out, Source, write_all};
 use sq_rules::Config;
 use std::alloc::Global;
 use std::sync::Wait;
 use std::test::Fail;
-use std::thread::{Threads, join};
+use std::thread::{self, Threads, join};
 
 static CONF: &str = "dst_lookup on; acl lo dst 127.0.0.0/8; acl two dst 2001:db8::/32 10.0.0.1; \
     acl ours src 10.0.0.0/8; acl near any-of lo";
@@ -25,8 +25,7 @@ nobody.example lo%20lookup - => ERR\n\
 x%22y lo%20lookup - => OK\n\
 a.example to_localhost%20lookup - => OK\n\
 b.example to_localhost%20lookup - => ERR\n\
-127.0.0.1 lo%20lookup - => ERR\n\
- lo%20lookup - => ERR\n\
+127.0.0.1 lo%20lookup - => ERR\n lo%20lookup - => ERR\n\
 a.example lo - => BH\n\
 a.example lo%20literal - => BH\n\
 a.example lo%20named - => BH\n\
@@ -45,17 +44,17 @@ a.example lo%20lookup => BH\n\
 a.example lo%20lookup -- => BH\n\
 a.example lo%20lookup -  => BH\n\
 a.example lo%20lookup - - => BH\n\
- => BH\n\
-- => BH\n\
- - => BH\n\
-  - => BH\n\
+- => BH\n => BH\n - => BH\n  - => BH\n\
 ";
 
 fn addrs_of(alloc: Global, words: &str) -> Result<Addrs, Fail> {
     let mut addrs = Addrs::new(alloc);
     for word in words.split(' ') {
-        let number = word.parse().map_err(|_| "no number")?;
-        addrs.push(Addr { v6: false, number })?;
+        let number: u32 = word.parse().map_err(|_| "no number")?;
+        addrs.push(Addr {
+            v6: false,
+            number: u128::from(number),
+        })?;
     }
     Ok(addrs)
 }
@@ -128,17 +127,45 @@ fn answered<R: Wait + Sync>(
     Ok((end, text))
 }
 
-#[test]
-fn each_question_has_its_reply(rt: HostRuntime) -> Result<(), Fail> {
-    let alloc = rt.alloc();
+/// What the questions come to where these look-ups fail, with the end.
+fn all_answered<R: Wait + Sync>(rt: &R, alloc: Global, fails: Vec<u64>) -> Result<Text, Fail> {
     let setup = setup_of(alloc, "", CONF)?;
     let names = names_of(alloc)?;
     let asked = questions(alloc)?;
-    let none = Vec::new(alloc);
-    let (end, text) = answered(&rt, alloc, setup.config(), asked, names.as_slice(), none)?;
-    let mut wanted = Text::from_slice(alloc, QUESTIONS.as_bytes())?;
-    wanted.append(b"died")?;
-    assert!(rt; end == KeeperEnd::Ended && text == wanted, "{text}");
+    let (end, text) = answered(rt, alloc, setup.config(), asked, names.as_slice(), fails)?;
+    if end != KeeperEnd::Ended {
+        return Err(Fail::new("the questions did not end"));
+    }
+    Ok(text)
+}
+
+/// The questions with their replies, of which the first is another, and the end.
+fn wanted(alloc: Global, first: &[u8]) -> Result<Text, Fail> {
+    let (question, _reply) = QUESTIONS.split_once(" => OK\n").ok_or("no first question")?;
+    let rest = QUESTIONS.as_bytes().get(question.len()..).ok_or("no rest")?;
+    let rest = rest.get(b" => OK".len()..).ok_or("no rest")?;
+    let mut text = Text::from_slice(alloc, question.as_bytes())?;
+    text.append(b" => ")?;
+    text.append(first)?;
+    text.append(rest)?;
+    text.append(b"died")?;
+    Ok(text)
+}
+
+#[test]
+fn each_question_has_its_reply(rt: HostRuntime) -> Result<(), Fail> {
+    let text = all_answered(&rt, rt.alloc(), Vec::new(rt.alloc()))?;
+    let wanted = wanted(rt.alloc(), b"OK")?;
+    assert!(rt; text == wanted, "{text}");
+    Ok(())
+}
+
+#[test]
+fn a_look_up_that_fails_is_told_of_its_question_alone(rt: HostRuntime) -> Result<(), Fail> {
+    let fails = Vec::from_slice(rt.alloc(), &[1])?;
+    let text = all_answered(&rt, rt.alloc(), fails)?;
+    let wanted = wanted(rt.alloc(), b"BH")?;
+    assert!(rt; text == wanted, "{text}");
     Ok(())
 }
 
@@ -184,5 +211,41 @@ fn what_is_written_to_a_pipe_is_read_to_its_end(rt: HostRuntime) -> Result<(), F
     let (to, from) = pipe(&rt, rt.alloc())?;
     drop(from);
     assert!(rt; writes(to, 10_000));
+    Ok(())
+}
+
+/// Reads a few bytes, gives the writer time to fill the pipe, and lets the half go.
+fn leaves<R: Wait>(mut from: PipeOut<R>) -> bool {
+    let mut chunk = [0u8; 10];
+    let read = from.read(&mut chunk);
+    for _ in 0..10_000 {
+        thread::yield_now();
+    }
+    matches!(read, Ok(1..=10))
+}
+
+fn left<R: Threads + Wait + Sync>(rt: &R, to: PipeIn<R>, from: PipeOut<R>) -> (bool, bool) {
+    join(rt, move || writes(to, 2_000), move || leaves(from))
+}
+
+#[test]
+fn who_waits_for_room_in_a_pipe_goes_on_where_its_reader_goes(rt: HostRuntime) -> Result<(), Fail> {
+    let (to, from) = pipe(&rt, rt.alloc())?;
+    assert!(rt; left(&rt, to, from) == (true, true));
+    Ok(())
+}
+
+#[test]
+fn a_pipe_that_is_closed_has_what_was_written_and_then_its_end(
+    rt: HostRuntime,
+) -> Result<(), Fail> {
+    let (mut to, mut from) = pipe(&rt, rt.alloc())?;
+    let mut chunk = [0u8; 64];
+    assert!(rt; write_all(&mut to, b"0123456789").is_ok());
+    to.close();
+    assert!(rt; matches!(from.read(&mut chunk), Ok(10)));
+    assert!(rt; chunk.starts_with(b"0123456789"));
+    assert!(rt; write_all(&mut to, b"more").is_ok());
+    assert!(rt; matches!(from.read(&mut chunk), Ok(0)));
     Ok(())
 }
