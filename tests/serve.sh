@@ -486,6 +486,27 @@ same 'one worker, the journal' "$(written)" 'journal 2
 15 1 MOMENT take 3 => epoch 1 denied rule 1
 16 1 MOMENT close 1 => ok'
 
+# Names of hosts are looked up: one of this machine, one that is no name but to the system, and one that there is nowhere.
+printf '%s\n' 'dst_lookup on' 'http_access deny to_localhost' 'http_access allow localhost' >lookups.conf
+start lookups.conf --port "$port" --workers 2
+lines "GET http://localhost:$http/small HTTP/1.1" 'Host: a' '' >one
+lines "GET http://127.1:$http/small HTTP/1.1" 'Host: a' '' >two
+{ own 403 Forbidden 'denied rule 1' open && own 403 Forbidden 'denied rule 1' open; } >wanted
+perl "$here/client.pl" "$port" one two >got 3>&-
+same_file 'names of this machine that are looked up' got wanted
+lines 'GET http://none.invalid/ HTTP/1.1' 'Host: a' '' >request
+own 403 Forbidden 'denied fault 1 to_localhost%20lookup Bh' open >wanted
+ask 'a name that does not resolve'
+echo shutdown >&3
+ends 'an end after look-ups' "listening $port
+stopped" 0 100
+exec 3>&-
+same 'look-ups, the journal verified' "$(bounded "$program" verify lookups.conf journal; echo "status $?")" "verified $(($(wc -l <journal) - 1))
+status 0"
+same 'look-ups, what was answered' "$(sed -n 's/^[0-9]* [0-9]* [0-9]* line [0-9]* //p' journal)" 'OK => reply 1 ok
+OK => reply 2 ok
+BH => reply 3 bh'
+
 # Streams that are closed from the start: no socket and no file takes their numbers.
 same 'no standard input' "$(bounded "$program" serve small.conf --port "$port" 2>journal <&-; echo "status $?")" "listening $port
 stopped
@@ -517,6 +538,123 @@ same 'it took over two seconds' "$(($(date +%s%N) - began > 2000000000))" 1
 exec 3>&-
 ends 'an end of its orders; the port of the file' "listening $port
 stopped" 0 50
+
+# Two clients of one tag: the bucket is theirs together, whatever they ask for.
+cat >tagger <<'END'
+while read -r host rest; do echo 'OK tag=gold'; done
+END
+cat >tags.conf <<'END'
+external_acl_type customers ttl=60 children-max=1 %>rd /bin/sh tagger
+acl customer external customers
+delay_pools 1
+delay_class 1 5
+delay_parameters 1 20000/40000
+delay_access 1 allow localhost
+http_access allow localhost customer
+END
+start tags.conf --port "$port" --workers 2
+get /big >request
+began=$(date +%s%N)
+clients=
+for client in 1 2; do
+    perl "$here/client.pl" "$port" request >"got$client" 3>&- &
+    clients="$clients $!"
+done
+sleep 10
+together=$(($(wc -c <got1) + $(wc -c <got2)))
+passed=$((($(date +%s%N) - began) / 1000000000 + 1))
+for client in $clients; do
+    kill "$client"
+done
+same 'two clients of one tag get no more than its bucket had and gained' "$((together <= 20000 + 20000 * passed))" 1
+same 'they get most of it, and each gets its part' "$((together >= 160000)) $(($(wc -c <got1) >= 60000)) $(($(wc -c <got2) >= 60000))" '1 1 1'
+echo shutdown >&3
+ends 'two clients of one tag' "listening $port
+stopped" 0 50
+exec 3>&-
+
+# A program that rewrites: it sends one host's client elsewhere, puts another target in the place of one, and leaves the rest. Where it
+# dies, says that it is broken, or writes what is no answer, the request goes on as it came.
+cat >rewriter <<END
+echo \$\$ >>rewriters
+while read -r url rest; do
+    echo "\$url \$rest" >>rewritten
+    case \$url in
+    http://old.example/*) echo 'OK url="http://new.example/"' ;;
+    http://moved.example/*) echo 'OK status=308 url="http://new.example/"' ;;
+    http://site.example/*) echo 'OK rewrite-url="http://127.0.0.1:$http/raw"' ;;
+    */dies) exit ;;
+    */broken) echo 'BH message="no table"' ;;
+    */liar) echo 'it is known' ;;
+    *) echo ERR ;;
+    esac
+done
+END
+cat >rewriter.conf <<'END'
+url_rewrite_program /bin/sh rewriter
+url_rewrite_children 1
+acl refused url_regex /refused
+http_access deny refused
+http_access allow localhost
+END
+cp rewriter.conf squid.conf
+start squid.conf --port "$port" --workers 2
+lines 'GET http://old.example/x HTTP/1.1' 'Host: a' '' >request
+lines 'HTTP/1.1 302 Found' 'Location: http://new.example/' 'Content-Length: 0' 'Connection: close' '' >wanted
+ask 'a program that sends a client elsewhere'
+same 'what it is asked' "$(cat rewritten)" 'http://old.example/x 127.0.0.1/- - GET'
+lines 'GET http://moved.example/x HTTP/1.1' 'Host: a' '' >request
+lines 'HTTP/1.1 308 Permanent Redirect' 'Location: http://new.example/' 'Content-Length: 0' 'Connection: close' '' >wanted
+ask 'and says with which status'
+lines 'GET http://site.example/x HTTP/1.1' 'Host: site.example' 'X-Kept: a b' '' >request
+lines "GET /raw HTTP/1.1" "Host: 127.0.0.1:$http" 'X-Kept: a b' 'Via: 1.1 aclproxy' 'X-Forwarded-For: 127.0.0.1' 'Connection: close' '' >sent
+{
+    lines 'HTTP/1.1 201 Made it' 'X-Kept: a' 'Transfer-Encoding: chunked' 'Via: 1.1 aclproxy' ''
+    lines "$(printf %x "$(wc -c <sent)")"
+    cat sent
+    lines '' 0 ''
+} >wanted
+ask 'a program that puts another target in the place of one'
+printf %s "$hello" >wanted
+for path in small dies small broken liar small; do
+    get "/$path" >request
+    ask "a program that rewrites, and leaves /$path"
+done
+until_it 100 is_gone "$(head -n 1 rewriters)"
+same 'nothing is left of a program that died' "$?" 0
+same 'each that died was started again' "$(wc -l <rewriters)" 3
+asked=$(wc -l <rewritten)
+get /refused >request
+own 403 Forbidden 'denied rule 1' open >wanted
+ask 'a request that is denied'
+{ lines "CONNECT 127.0.0.1:$echo HTTP/1.1" 'Host: a' '' && echo there; } >request
+{ lines 'HTTP/1.1 200 Connection established' '' && echo there; } >wanted
+ask 'a tunnel'
+same 'of neither the program is asked' "$(wc -l <rewritten)" "$asked"
+echo 'http_access allow localhost' >squid.conf
+echo reconfigure >&3
+until_it 200 has_lines said 2
+lines 'GET http://old.example/x HTTP/1.1' 'Host: a' '' >request
+lines 'HTTP/1.1 302 Found' 'Location: http://new.example/' 'Content-Length: 0' 'Connection: close' '' >wanted
+ask 'a program that rewrites is that of the beginning'
+echo shutdown >&3
+ends 'a program that rewrites' "listening $port
+reconfigured 2
+stopped" 0 50
+exec 3>&-
+until_it 20 sh -c 'for program in $(cat rewriters); do kill -0 "$program" 2>/dev/null && exit 1; done; exit 0'
+same 'no program that rewrites is left' "$?" 0
+same 'the journal beside it, verified' "$(bounded "$program" verify rewriter.conf journal; echo "status $?")" "verified $(($(wc -l <journal) - 1))
+status 0"
+sed -i 's/^url_rewrite_program .*/url_rewrite_program .\/no-such-program/' rewriter.conf
+start rewriter.conf --port "$port"
+get /small >request
+printf %s "$hello" >wanted
+ask 'a program that rewrites, and is not there'
+echo shutdown >&3
+ends 'a program that is not there' "listening $port
+stopped" 0 50
+exec 3>&-
 
 # A journal that fails at once, and one that fails later.
 bounded "$program" serve first.conf --port "$port" </dev/null >said2 2>/dev/full

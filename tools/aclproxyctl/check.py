@@ -23,23 +23,6 @@ class Judged:
     fault: Optional[tuple[int, int]]
 
 
-def is_unheeded(line: Line) -> bool:
-    """Whether the program reads a line and does not act on it yet, though it gives no notice of it."""
-    directive = line.words[0]
-    return (
-        directive in words.UNHEEDED
-        or (directive == b"dst_lookup" and line.words[1:2] == [b"on"])
-        or (directive == b"delay_class" and line.words[2:3] == [b"5"])
-    )
-
-
-def with_unheeded(notices: list[tuple[int, str]], conf: Conf) -> list[tuple[int, str]]:
-    """These notices, and one for each other line that has no effect yet."""
-    noticed = {number for number, _ in notices}
-    unheeded = [line for line in conf.lines if line.words and line.number not in noticed and is_unheeded(line)]
-    return sorted(notices + [(line.number, line.words[0].decode()) for line in unheeded])
-
-
 def judge(program: str, path: str) -> Judged:
     """Asks the program for its judgement of a file."""
     answer = ask(program, ["parse", path])
@@ -47,7 +30,7 @@ def judge(program: str, path: str) -> Judged:
     try:
         if answer.status == 0 and last[0] == "ok":
             notices = [(int(line.split(" ")[1]), line.split(" ")[2]) for line in answer.lines[:-1]]
-            return Judged(with_unheeded(notices, Conf(read(path))), {last[i]: int(last[i + 1]) for i in range(1, len(last), 2)}, None)
+            return Judged(notices, {last[i]: int(last[i + 1]) for i in range(1, len(last), 2)}, None)
         if answer.status == 2 and last[:2] == ["error", "config"]:
             return Judged([], None, (int(last[2]), int(last[3])))
     except (IndexError, ValueError):

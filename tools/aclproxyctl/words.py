@@ -206,16 +206,7 @@ NOTICES = {
     "shutdown_lifetime": "open connections go on to their end; `aclproxyctl run --grace` sets an end to that",
     "strip_query_terms": "the journal has targets whole, with what stands behind `?`",
     "visible_hostname": "no page and no header names this host: Via says `aclproxy`",
-    "delay_class": "this version of the program has no bucket for a pool of class 5: its clients get what they want",
-    "dst_lookup": "this version of the program looks no names up: with this line a request whose host is a name is denied where a dst list is looked at",
-    "url_rewrite_program": "this version of the program asks no rewriter: requests go out as they came",
-    "url_rewrite_children": "this version of the program asks no rewriter",
-    "request_header_access": "this version of the program takes no header out for it",
-    "reply_header_access": "this version of the program takes no header out for it",
 }
-
-# What the program reads and does not act on yet, though it gives no notice of it.
-UNHEEDED = frozenset((b"request_header_access", b"reply_header_access", b"url_rewrite_program", b"url_rewrite_children"))
 
 
 def plural(count: int, one: str, more: Optional[str] = None) -> str:
@@ -239,7 +230,7 @@ def of_notice(line: Optional[Line], directive: str) -> str:
         return "; ".join(said) or "a part of it has no effect"
     idle = [word.decode("utf-8", "replace") for word in line.words if word.startswith(b"idle=")]
     if directive == "url_rewrite_children" and idle:
-        return f"{idle[0]} has no effect: processes are started as questions need them; a program that asks no rewriter passes over the whole line"
+        return f"{idle[0]} has no effect: processes are started as questions need them"
     if directive == "external_acl_type":
         without = [
             line.word(i)

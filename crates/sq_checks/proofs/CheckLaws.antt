@@ -19,9 +19,9 @@ use Rattle.sq_model_rows.specs.declared.stepping.Stepped.TheVariants as told
 use Rattle.sq_rules.specs.declared.values.Value.{Value}
 use Rattle.sq_rules.specs.declared.values.Value.TheVariants as value
 use Rattle.sq_frames.specs.Positions.{look_limit}
-use Rattle.sq_checks.specs.Givens.{leaves_over}
-use Rattle.sq_checks.specs.OpenChecks.{CheckParts, IsFit, answers_in, begun_parts, comes_to, ended_by, finished, is_need, noted, row, says_of, settled, step_more}
-use Rattle.sq_checks.specs.Stages.{IsLooked, IsStage, came_in, decided_in, ended_stage, given, is_done_in, is_idle, is_noted, is_settled, need_in, noted_stage}
+use Rattle.sq_checks.specs.Givens.{leaves_over, looks_over}
+use Rattle.sq_checks.specs.OpenChecks.{CheckParts, IsFit, answers_in, begun_parts, comes_to, ended_by, finished, is_need, noted, row, says_of, says_waits, settled, step_more, waited}
+use Rattle.sq_checks.specs.Stages.{HasAsked, IsLooked, IsOf, IsStage, came_in, decided_in, ended_stage, given, is_done_in, is_idle, is_noted, is_settled, need_in, noted_stage, question_in}
 use Rattle.sq_checks.specs.declared.stages.CheckStage.{CheckStage}
 use Rattle.sq_checks.specs.declared.stages.CheckStage.TheVariants as stage
 
@@ -112,6 +112,18 @@ pub row_noted : (n : ℕ) (c : CheckParts) (s : StepEffect) (class : ℕ) (key :
     → row n (noted s class key c) ≡ stepped (says_of s) (row n c)
 row_noted n c s class key i h = noted_by n c s.took s.stepped class key (idle_came c.stage i) (idle_done c.stage i) h
 
+-- for a check that waits, after a step in which it waited on
+pub row_waited : (n q : ℕ) (c : CheckParts) → question_in c.stage ≡ Some q
+    → row n (waited c) ≡ stepped (says_waits q) (row n c)
+row_waited n q c e = by c.stage refl e
+  where
+    by : (s : CheckStage) → c.stage ≡ s → question_in s ≡ Some q
+        → row n (waited c) ≡ stepped (says_waits q) (row n c)
+    by stage.Ready is f = absurd cc
+    by (stage.Came a) is f = absurd cc
+    by (stage.Waits k) is f = let same : k.question ≡ q = cc in rw (is, same) (simp append-nil)
+    by (stage.Done o) is f = absurd cc
+
 -- for a check after a step that came to a verdict
 pub row_finished : (n : ℕ) (c : CheckParts) (o : Outcome) → is_settled c.stage ≡ true
     → row n (finished o c) ≡ stepped says_done (row n c)
@@ -169,13 +181,24 @@ ended_sound config sight answers q w now (stage.Waits k) h =
     ]) refl
 ended_sound config sight answers q w now (stage.Done o) h = h
 
--- for the looks of a check after a step that asked, which is not done
+-- for an answer that came: it is of the acl for which was asked
+pub came_asked : (config : Configuration) (sight : Sight) (asks : Option ℕ) (s : CheckStage) (a : Answer)
+    → HasAsked config sight asks s → came_in s ≡ Some a
+    → IfSome asks (λ acl. IsOf config sight acl a.class a.key)
+came_asked config sight asks stage.Ready a h e = absurd cc
+came_asked config sight asks (stage.Came b) a h e =
+    let same : b ≡ a = cc in
+    subst (λ (x : Answer). IfSome asks (λ acl. IsOf config sight acl x.class x.key)) same h
+came_asked config sight asks (stage.Waits k) a h e = absurd cc
+came_asked config sight asks (stage.Done o) a h e = absurd cc
+
+-- for the looks of a check after a step that asked
 pub noted_looked : (config : Configuration) (sight : Sight) (answers : List Answer) (looks : ℕ) (o : Option Answer)
-    (q : Option ℕ) (class : ℕ) (key : List ℕ)
+    (q : Option ℕ) (class : ℕ) (key : List ℕ) → looks ≡ looks_over answers config sight
     → IsLooked config sight answers looks (noted_stage o q class key)
-noted_looked config sight answers looks None None class key = tt
-noted_looked config sight answers looks None (Some q) class key = tt
-noted_looked config sight answers looks (Some a) q class key = tt
+noted_looked config sight answers looks None None class key h = tt
+noted_looked config sight answers looks None (Some q) class key h = h
+noted_looked config sight answers looks (Some a) q class key h = h
 
 -- for the looks of a check after the end of a question
 pub ended_looked : (config : Configuration) (sight : Sight) (answers : List Answer) (looks q : ℕ) (w : What) (now : ℕ)
@@ -186,22 +209,38 @@ ended_looked config sight answers looks q w now (stage.Came a) h = h
 ended_looked config sight answers looks q w now (stage.Waits k) h =
     (elim (k.question == q) as
     (λ y. (k.question == q) ≡ y → IsLooked config sight answers looks (ended_stage q w now (stage.Waits k))) [
-      | true ↦ λ t. rw t tt
-      | false ↦ λ t. rw t tt
+      | true ↦ λ t. rw t h
+      | false ↦ λ t. rw t h
     ]) refl
 ended_looked config sight answers looks q w now (stage.Done o) h = h
 
--- for a check that is done and goes on: it looks at nothing
+-- where the looks are those over the answers, those of a run are none
+still_looked : (config : Configuration) (sight : Sight) (answers : List Answer) (old new : ℕ)
+    → old ≡ looks_over answers config sight → (k : ℕ) → new ≡ min look_limit (old + k)
+    → new ≤ leaves_over answers config sight
+    → new ≡ looks_over answers config sight
+still_looked config sight answers old new h k more few =
+    let was : old ≡ min look_limit (leaves_over answers config sight) = h in
+    omega (arith, was, more, few)
+
+-- for a check that is done, waits or was given an answer, and goes on: it looks at nothing
 pub looked_on : (config : Configuration) (sight : Sight) (answers : List Answer) (old new : ℕ) (s : CheckStage)
     → IsLooked config sight answers old s → (k : ℕ) → new ≡ min look_limit (old + k)
     → new ≤ leaves_over answers config sight
     → IsLooked config sight answers new s
 looked_on config sight answers old new stage.Ready h k more few = tt
-looked_on config sight answers old new (stage.Came a) h k more few = tt
-looked_on config sight answers old new (stage.Waits n) h k more few = tt
-looked_on config sight answers old new (stage.Done o) h k more few =
-    let was : old ≡ min look_limit (leaves_over answers config sight) = h in
-    omega (arith, was, more, few)
+looked_on config sight answers old new (stage.Came a) h k more few = still_looked config sight answers old new h k more few
+looked_on config sight answers old new (stage.Waits n) h k more few = still_looked config sight answers old new h k more few
+looked_on config sight answers old new (stage.Done o) h k more few = still_looked config sight answers old new h k more few
+
+-- for what is waited for: the looks are those over the answers
+pub need_looked : (config : Configuration) (sight : Sight) (answers : List Answer) (looks : ℕ) (s : CheckStage)
+    → IsLooked config sight answers looks s
+    → IfSome (need_in s) (λ n. looks ≡ looks_over answers config sight)
+need_looked config sight answers looks stage.Ready i = tt
+need_looked config sight answers looks (stage.Came a) i = tt
+need_looked config sight answers looks (stage.Waits n) i = i
+need_looked config sight answers looks (stage.Done o) i = tt
 
 -- for an answer that came: it is new
 pub came_new : (config : Configuration) (sight : Sight) (answers : List Answer) (s : CheckStage) (a : Answer)

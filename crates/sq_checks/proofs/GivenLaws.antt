@@ -1,9 +1,13 @@
 -- The rules come to the same over what the frames of a check were given as over its answers, and what was given stays so as more answers come.
-use Rattle.std.proofs.Common.{◌≡◌, ◌≢◌, ◌≤◌, ℕ, ◌+◌, zero, suc, List, [], ◌∷◌, ◌++◌, Bool, true, false, ◌==◌, ◌&&◌, if◌then◌else◌, bytes_eq, Option, Some, None, refl, sym, ap, subst, ◌∙◌, map, min, slice_get, slice_index_or, arith}
+use Rattle.std.proofs.Common.{◌≡◌, ◌≢◌, ◌≤◌, ℕ, ◌+◌, zero, suc, List, [], ◌∷◌, ◌++◌, Bool, true, false, ◌==◌, ◌&&◌, ◌||◌, if◌then◌else◌, bytes_eq, Option, Some, None, IfSome, refl, sym, ap, subst, ◌∙◌, map, min, slice_get, slice_index_or, arith}
 use Rattle.std.proofs.lemmas.Bool.Decides.{nat_tests}
 use Rattle.std.proofs.lemmas.Option.{none-some, same_Some}
+use Rattle.std.proofs.lemmas.Slice.Eq.{bytes_eq-Decides}
+use Rattle.std.specs.Option.{option_and_then}
+use Rattle.sq_base.specs.Distinct.{has_answer}
 use Rattle.sq_base.specs.declared.helpers.Answer.{Answer}
 use Rattle.sq_base.specs.declared.helpers.What.{What}
+use Rattle.sq_base.specs.declared.helpers.What.TheVariants as what
 use Rattle.sq_rules.proofs.FactLaws.{fact_at}
 use Rattle.sq_rules.specs.Configurations.{Configuration}
 use Rattle.sq_rules.specs.Facts.{body_fact, facts_of}
@@ -22,15 +26,18 @@ use Rattle.sq_rules.specs.declared.values.TermValue.{TermValue}
 use Rattle.sq_rules.specs.declared.values.TermValue.TheVariants.{Hit, Miss, Fault, Need}
 use Rattle.sq_rules.specs.declared.values.Value.{Value}
 use Rattle.sq_rules.specs.declared.values.Value.TheVariants as value
+use Rattle.sq_machine.specs.StepRule.{class_of_body}
 use Rattle.sq_frames.proofs.FrameLaws.{few_over}
-use Rattle.sq_frames.specs.Courses.{Extends, is_need, still_needed}
+use Rattle.sq_frames.specs.Courses.{Extends, is_need, leaves, still_needed}
 use Rattle.sq_frames.specs.Givens as by
-use Rattle.sq_frames.specs.Positions.{look_limit}
+use Rattle.sq_frames.specs.Positions.{course_at, look_limit}
 use Rattle.sq_frames.specs.Slots.{external_of, is_external, is_external_at, slots_of}
 use Rattle.sq_frames.specs.Standing.{IsAt, IsOver, IsWhole, Standing, given_to, leaves_of, looks_in, taken_of, value_of}
 use Rattle.sq_frames.specs.declared.answers.Given.{Given}
 use Rattle.sq_frames.specs.declared.answers.Given.TheVariants as given
-use Rattle.sq_checks.specs.Givens.{AreCounted, AreFrames, AreGiven, leaves_over, looks_over}
+use Rattle.sq_checks.specs.Givens.{AreCounted, AreFrames, AreGiven, given_by, leaves_over, looks_over}
+use Rattle.sq_checks.specs.Stages.{IsOf}
+use Rattle.sq_checks.proofs.MapLaws.{self_number}
 
 -- a value that is known stays, and one that is needed is needed where its acl is
 abbrev Follows : (ℕ → TermValue) → TermValue → TermValue → Type 0
@@ -192,6 +199,15 @@ few_here : (facts : List Bool) (s : Sight) (answers : List Answer) (f : Standing
 few_here facts s answers f are all over = few_over facts f (taken_at f.config s answers) over
     (extends_here facts s answers f are all)
 
+place_here : (facts : List Bool) (s : Sight) (answers : List Answer) (f : Standing) (n : ℕ)
+    → facts ≡ facts_of f.config.acls s → AreGiven f.config s answers f → IsAt facts f n
+    → n ≤ leaves_over answers f.config s
+place_here facts s answers f n are all at =
+    let y : leaves_over answers f.config s ≡ n
+    + leaves f.config.acls (course_at (taken_at f.config s answers) f.config f.position).walk =
+    at.leaves_are (taken_at f.config s answers) (extends_here facts s answers f are all) in
+    omega (arith, y)
+
 looks_here : (facts : List Bool) (s : Sight) (answers : List Answer) (f : Standing) (need : Option ℕ)
     → facts ≡ facts_of f.config.acls s → AreGiven f.config s answers f
     → IsAt facts f (leaves_of facts f) → IsWhole facts f.config f.table need
@@ -220,6 +236,16 @@ frames_few c s answers facts f are is =
     → looks_in f ≤ leaves_over answers d s) is.config_is
     (few_here facts s answers f) are is.given is.over
 
+-- nor did more lead to its place
+place_few : (c : Configuration) (s : Sight) (answers : List Answer) (facts : List Bool) (f : Standing) (n : ℕ)
+    → facts ≡ facts_of c.acls s → AreFrames c s answers facts f
+    → IsAt facts f n
+    → n ≤ leaves_over answers c s
+place_few c s answers facts f n are is =
+    subst (λ d. facts ≡ facts_of d.acls s → AreGiven d s answers f → IsAt facts f n
+    → n ≤ leaves_over answers d s) is.config_is
+    (place_here facts s answers f n) are is.given
+
 -- where a run is over and the need that it came to is none or has no answer, as many facts were looked at as the walk
 -- over the answers has leaf acls
 pub frames_looked : (c : Configuration) (s : Sight) (answers : List Answer) (facts : List Bool) (f : Standing)
@@ -232,29 +258,85 @@ frames_looked c s answers facts f need are is at whole =
     → looks_in f ≡ looks_over answers d s) is.config_is
     (λ are all. looks_here facts s answers f need are all at whole) are is.given
 
+-- Frames on the way: so many looks by a counter and by the number that is kept of them, and no more than led to the
+-- place.
+pub record AreGoing (facts : List Bool) (f : Standing) (before after old : ℕ) : Type 0 where
+  pub looked : ℕ
+  pub place : ℕ
+  pub at : IsAt facts f place
+  pub few : looked ≤ place
+  pub steps : after ≡ before + looked
+  pub looks : looks_in f ≡ min look_limit (old + looked)
+
 -- the looks of a run are counted
-pub counted_run : (facts : List Bool) (f g : Standing) (start before after looks : ℕ) → IsOver facts f
+pub going_run : (facts : List Bool) (f g : Standing) (start before after looks : ℕ)
     → ((n : ℕ) → IsAt facts f n → (k : ℕ) × (after ≡ before + k) × IsAt facts g (n + k))
-    → AreCounted start before looks (looks_in f)
-    → AreCounted start after looks (looks_in g)
-counted_run facts f g start before after looks over runs so_far =
-    let r = runs over.0 over.1 in
-    let old : f.position.looks ≡ min look_limit over.0 = over.1.looks in
-    let new : g.position.looks ≡ min look_limit (over.0 + r.0) = r.2.looks in
+    → AreGoing facts f start before looks
+    → AreGoing facts g start after looks
+going_run facts f g start before after looks runs so_far =
+    let r = runs so_far.place so_far.at in
+    let old : f.position.looks ≡ min look_limit so_far.place = so_far.at.looks in
+    let new : g.position.looks ≡ min look_limit (so_far.place + r.0) = r.2.looks in
     let steps : before ≡ start + so_far.looked = so_far.steps in
     let was : f.position.looks ≡ min look_limit (looks + so_far.looked) = so_far.looks in
+    let few : so_far.looked ≤ so_far.place = so_far.few in
     let more : after ≡ before + r.0 = r.1 in
     record {
       looked = so_far.looked + r.0;
+      place = so_far.place + r.0;
+      at = r.2;
+      few = omega (arith, few);
       steps = omega (arith, steps, more);
       looks = omega (arith, old, new, was);
     }
 
+-- and those of frames that were given a value stay
+pub going_given : (facts : List Bool) (f g : Standing) (before after looks : ℕ) → looks_in g ≡ looks_in f
+    → ((n : ℕ) → IsAt facts f n → IsAt facts g n)
+    → AreGoing facts f before after looks
+    → AreGoing facts g before after looks
+going_given facts f g before after looks same stays so_far = record {
+  looked = so_far.looked;
+  place = so_far.place;
+  at = stays so_far.place so_far.at;
+  few = so_far.few;
+  steps = so_far.steps;
+  looks = same ∙ so_far.looks;
+}
+
 -- no look yet
-pub counted_none : (facts : List Bool) (f : Standing) (n : ℕ) → IsOver facts f → AreCounted n n (looks_in f) (looks_in f)
-counted_none facts f n over =
+pub going_none : (facts : List Bool) (f : Standing) (n : ℕ) → IsOver facts f → AreGoing facts f n n (looks_in f)
+going_none facts f n over =
     let old : f.position.looks ≡ min look_limit over.0 = over.1.looks in
-    record { looked = 0; steps = omega arith; looks = omega (arith, old) }
+    record {
+      looked = 0;
+      place = over.0;
+      at = over.1;
+      few = omega arith;
+      steps = omega arith;
+      looks = omega (arith, old);
+    }
+
+-- no more looks led to a place than the walk over the answers has leaf acls
+pub going_counted : (c : Configuration) (s : Sight) (answers : List Answer) (facts : List Bool) (f : Standing)
+    (before after looks : ℕ) → facts ≡ facts_of c.acls s → AreFrames c s answers facts f
+    → AreGoing facts f before after looks
+    → AreCounted (leaves_over answers c s) before after looks (looks_in f)
+going_counted c s answers facts f before after looks are is so_far =
+    let most : so_far.place ≤ leaves_over answers c s = place_few c s answers facts f so_far.place are is so_far.at in
+    let few : so_far.looked ≤ so_far.place = so_far.few in
+    record {
+      looked = so_far.looked;
+      few = omega (arith, most, few);
+      steps = so_far.steps;
+      looks = so_far.looks;
+    }
+
+-- no more looks are counted than the greatest number of them
+pub limit_looks : (facts : List Bool) (f : Standing) → IsOver facts f → looks_in f ≤ look_limit
+limit_looks facts f over =
+    let old : f.position.looks ≡ min look_limit over.0 = over.1.looks in
+    omega (arith, old)
 
 -- frames that were given the same
 pub frames_same : (c : Configuration) (s : Sight) (answers : List Answer) (facts : List Bool) (f g : Standing)
@@ -376,3 +458,79 @@ needed_over c s answers facts f acl key are is ran found =
 pub found_first : (a : Answer) (rest : List Answer) (class : ℕ) (key : List ℕ)
     → (a.class == class && bytes_eq a.key key) ≡ true → answer_for (a ∷ rest) class key ≡ Some a.what
 found_first a rest class key e = rw e refl
+
+none_if : (b : Bool) (x : What) (o : Option What) (rest : Bool) → (b || rest) ≡ false → (rest ≡ false → o ≡ None)
+    → (if b then Some x else o) ≡ None
+none_if true x o rest e k = absurd cc
+none_if false x o rest e k = k e
+
+-- where there is no answer, none is found
+none_found : (answers : List Answer) (class : ℕ) (key : List ℕ) → has_answer answers class key ≡ false
+    → answer_for answers class key ≡ None
+none_found [] class key e = refl
+none_found (a ∷ answers) class key e =
+    none_if ((a.class == class) && bytes_eq a.key key) a.what (answer_for answers class key)
+    (has_answer answers class key) e (none_found answers class key)
+
+behind_if : (b : Bool) (x : What) (o p r : Option What) → (if b then Some x else o) ≡ None → (o ≡ None → p ≡ r)
+    → (if b then Some x else p) ≡ r
+behind_if true x o p r e k = absurd cc
+behind_if false x o p r e k = k e
+
+-- and then one behind is
+found_behind : (answers more : List Answer) (class : ℕ) (key : List ℕ) → answer_for answers class key ≡ None
+    → answer_for (answers ++ more) class key ≡ answer_for more class key
+found_behind [] more class key e = refl
+found_behind (a ∷ answers) more class key e =
+    behind_if ((a.class == class) && bytes_eq a.key key) a.what (answer_for answers class key)
+    (answer_for (answers ++ more) class key) (answer_for more class key) e (found_behind answers more class key)
+
+both_true : (a b : Bool) → a ≡ true → b ≡ true → (a && b) ≡ true
+both_true a b e f = rw (e, f) refl
+
+-- an answer that is new is found where it is put
+found_new : (answers : List Answer) (a : Answer) → has_answer answers a.class a.key ≡ false
+    → answer_for (answers ++ a ∷ []) a.class a.key ≡ Some a.what
+found_new answers a new =
+    found_behind answers (a ∷ []) a.class a.key (none_found answers a.class a.key new)
+    ∙ found_first a [] a.class a.key
+    (both_true (a.class == a.class) (bytes_eq a.key a.key) (self_number a.class)
+    ((bytes_eq-Decides a.key a.key).1 refl))
+
+what_given : (acl : ℕ) (key : List ℕ) (w : What) → answer_value acl key (Some w)
+    ≡ by.given_value acl (Some (given_by w))
+what_given acl key (what.Yes pairs) = refl
+what_given acl key (what.No pairs) = refl
+what_given acl key (what.Fault cause) = refl
+
+taken_new : (c : Configuration) (s : Sight) (answers : List Answer) (a : Answer) (acl : ℕ)
+    → has_answer answers a.class a.key ≡ false → IsOf c s acl a.class a.key
+    → taken_at c s (answers ++ a ∷ []) acl ≡ by.given_value acl (Some (given_by a.what))
+taken_new c s answers a acl new is = by_acl (slice_get c.acls acl) refl
+  where
+    by_body : (b : Body) → class_of_body b ≡ Some a.class
+        → taken_of_body c s (answers ++ a ∷ []) acl b ≡ by.given_value acl (Some (given_by a.what))
+    by_body (body.Leaf l) e = absurd (none-some a.class e)
+    by_body (body.External class arguments) e =
+        let same : class ≡ a.class = same_Some _ _ e in
+        let found : answer_for (answers ++ a ∷ []) class (key_text c acl s) ≡ Some a.what =
+        ap (answer_for (answers ++ a ∷ []) class) is.1 ∙ ap (λ n. answer_for (answers ++ a ∷ []) n a.key) same
+        ∙ found_new answers a new in
+        ap (answer_value acl (key_text c acl s)) found ∙ what_given acl (key_text c acl s) a.what
+    by_body (body.AnyOf terms) e = absurd (none-some a.class e)
+    by_body (body.AllOf lines) e = absurd (none-some a.class e)
+
+    by_acl : (o : Option Acl) → slice_get c.acls acl ≡ o
+        → taken_of_acl c s (answers ++ a ∷ []) acl o ≡ by.given_value acl (Some (given_by a.what))
+    by_acl None here =
+        absurd (none-some a.class (sym (ap (option_and_then (λ (x : Acl). class_of_body x.body)) here) ∙ is.0))
+    by_acl (Some x) here =
+        by_body x.body (sym (ap (option_and_then (λ (x : Acl). class_of_body x.body)) here) ∙ is.0)
+
+-- with an answer that is new, the acl for which was asked comes to its value
+pub asked_taken : (c : Configuration) (s : Sight) (answers : List Answer) (a : Answer) (asks : Option ℕ)
+    → has_answer answers a.class a.key ≡ false
+    → IfSome asks (λ acl. IsOf c s acl a.class a.key)
+    → IfSome asks (λ acl. taken_at c s (answers ++ a ∷ []) acl ≡ by.given_value acl (Some (given_by a.what)))
+asked_taken c s answers a None new is = tt
+asked_taken c s answers a (Some acl) new is = taken_new c s answers a acl new is

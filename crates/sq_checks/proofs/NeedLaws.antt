@@ -1,5 +1,6 @@
 -- What a check needs it does not have: a need that rules come to is of a class and key that have no answer.
 use Rattle.std.proofs.Common.{◌≡◌, ℕ, ◌+◌, zero, suc, List, [], ◌∷◌, Bool, true, false, ◌&&◌, ◌||◌, ◌==◌, if◌then◌else◌, not, Some, None, refl, sym, ap, ◌∙◌, map, slice_get}
+use Rattle.std.proofs.lemmas.Slice.Eq.{bytes_eq-Decides}
 use Rattle.std.specs.Option.{option_and_then}
 use Rattle.std.specs.Str.{bytes_eq}
 use Rattle.std.specs.declared.option.Option.{Option}
@@ -169,3 +170,32 @@ need_is_new answers c s acl class key e k =
     let one : lacks answers key (class_of_acl c.acls acl) ≡ true = ap (value_passes (unanswered c answers)) (sym e)
     ∙ all in
     not_true (has_answer answers class key) (ap (lacks answers key) (sym k) ∙ one)
+
+-- the key is that of the acl
+abbrev is_keyed : Configuration → Sight → ℕ → List ℕ → Bool
+is_keyed c s acl key = bytes_eq (key_text c acl s) key
+
+keyed_body : (c : Configuration) (s : Sight) (answers : List Answer) (place : ℕ) (b : Body)
+    → passes (is_keyed c s) (taken_of_body c s answers place b) ≡ true
+keyed_body c s answers place (body.Leaf l) = if_passes (is_keyed c s) (holds l s)
+keyed_body c s answers place (body.External class arguments) =
+    answer_passes (is_keyed c s) place (key_text c place s) (answer_for answers class (key_text c place s))
+    (λ e. (bytes_eq-Decides (key_text c place s) (key_text c place s)).1 refl)
+keyed_body c s answers place (body.AnyOf terms) = refl
+keyed_body c s answers place (body.AllOf lines) = refl
+
+keyed_acl : (c : Configuration) (s : Sight) (answers : List Answer) (place : ℕ) (o : Option Acl)
+    → passes (is_keyed c s) (taken_of_acl c s answers place o) ≡ true
+keyed_acl c s answers place None = refl
+keyed_acl c s answers place (Some a) = keyed_body c s answers place a.body
+
+-- a need that a configuration comes to over some answers is of the key of its acl
+pub need_is_keyed : (answers : List Answer) (c : Configuration) (s : Sight) (acl : ℕ) (key : List ℕ)
+    → verdict_over answers c s ≡ value.Need acl key
+    → key_text c acl s ≡ key
+need_is_keyed answers c s acl key e =
+    let all : value_passes (is_keyed c s) (verdict_over answers c s) ≡ true =
+    rules_pass (is_keyed c s) (taken_at c s answers) c.acls
+    (λ q. keyed_acl c s answers q (slice_get c.acls q)) (default_of c.rules) 1 c.rules in
+    let one : bytes_eq (key_text c acl s) key ≡ true = ap (value_passes (is_keyed c s)) (sym e) ∙ all in
+    (bytes_eq-Decides (key_text c acl s) key).0 one

@@ -1,5 +1,5 @@
 -- The values that the frames of a check were given, by the answers that it has.
-use Rattle.std.specs.Prelude.{◌≡◌, ℕ, ◌+◌, List, Bool, true, min, Some}
+use Rattle.std.specs.Prelude.{◌≡◌, ◌≤◌, ℕ, ◌+◌, List, Bool, true, min, Some}
 use Rattle.sq_base.specs.declared.helpers.Answer.{Answer}
 use Rattle.sq_base.specs.declared.helpers.What.{What}
 use Rattle.sq_base.specs.declared.helpers.What.TheVariants as what
@@ -51,8 +51,10 @@ leaves_over answers c s = leaves c.acls (walk_over answers c s)
 abbrev pub looks_over : List Answer → Configuration → Sight → ℕ
 looks_over answers c s = min look_limit (leaves_over answers c s)
 
--- so many looks by a counter, and as many more by the number that is kept of them
-pub record AreCounted (before after old new : ℕ) : Type 0 where
+-- so many looks by a counter, as many more by the number that is kept of them, and no more than the
+-- most
+pub record AreCounted (most before after old new : ℕ) : Type 0 where
   pub looked : ℕ
+  pub few : looked ≤ most
   pub steps : after ≡ before + looked
   pub looks : new ≡ min look_limit (old + looked)

@@ -11,6 +11,8 @@ use Rattle.sq_rules.specs.Facts.{facts_of}
 use Rattle.sq_machine.specs.Limits.{last_number}
 use Rattle.sq_rules.specs.Sights.{unversioned_sight}
 use Rattle.sq_machine.specs.StepRule.{StepSays, class_of_acl}
+use Rattle.sq_machine.specs.declared.entries.Told.TheVariants as told
+use Rattle.sq_rules.specs.Keys.{key_text}
 use Rattle.sq_rules.specs.Verdicts.{pool_of, verdict_over}
 use Rattle.sq_rules.specs.declared.outcomes.Outcome.{Outcome}
 use Rattle.sq_rules.specs.declared.sights.Sight.{Sight}
@@ -22,7 +24,7 @@ use Rattle.sq_model_rows.specs.declared.stepping.StepEffect.{StepEffect}
 use Rattle.sq_frames.specs.Positions.{look_limit}
 use Rattle.sq_frames.specs.Standing.{Standing}
 use Rattle.sq_checks.specs.Givens.{AreFrames, looks_over}
-use Rattle.sq_checks.specs.Stages.{IsLooked, IsStage, came_in, ended_stage, given, is_done_in, is_idle, is_noted, noted_stage, question_in}
+use Rattle.sq_checks.specs.Stages.{HasAsked, IsLooked, IsStage, came_in, ended_stage, given, is_done_in, is_idle, is_noted, noted_stage, question_in}
 use Rattle.sq_checks.specs.Tables.{value_at}
 use Rattle.sq_checks.specs.declared.stages.CheckStage.{CheckStage}
 use Rattle.sq_checks.specs.declared.stages.CheckStage.TheVariants as stage
@@ -55,14 +57,17 @@ begun_parts conn epoch config sight = record {
   steps = 0;
 }
 
--- its facts are those of what it saw, so is its pool, its stage is sound, and so are its looks, and
--- its frames were given what its answers give
-pub record IsCheck (c : CheckParts) (facts : List Bool) (frames : Standing) : Type 0 where
+-- its facts are those of what it saw, so is its pool, its stage is sound, and so are its looks, its
+-- frames were given what its answers give, and what it waits for, or what came, is of the acl for
+-- which it asked last
+pub record IsCheck (c : CheckParts) (facts : List Bool) (frames : Standing)
+    (asks : Option ℕ) : Type 0 where
   pub facts_are : facts ≡ facts_of c.config.acls c.sight
   pub pool_is : c.pool ≡ pool_of c.config c.sight
   pub stage_is : IsStage c.config c.sight c.answers c.stage
   pub looks_are : IsLooked c.config c.sight c.answers c.looks c.stage
   pub frames_are : AreFrames c.config c.sight c.answers facts frames
+  pub asks_are : HasAsked c.config c.sight asks c.stage
 
 -- all answers that a check has
 abbrev pub answers_in : CheckParts → List Answer
@@ -78,13 +83,15 @@ is_need (value.Verdict o) = false
 is_need (value.Need acl key) = true
 
 -- this is what a check comes to, and it looked at as many facts as the walk over its answers has
--- leaf acls; where it is a need, the check is not done, and has no answer of that class and key
+-- leaf acls; where it is a need, the check is not done, has no answer of that class and key, and the
+-- key is that of the acl
 pub record HasCome (c : CheckParts) (v : Value) : Type 0 where
   pub comes : v ≡ comes_to c
   pub looks : c.looks ≡ looks_over c.answers c.config c.sight
   pub idle : is_need v ≡ true → is_idle c.stage ≡ true
   pub other : (acl class : ℕ) (key : List ℕ) → v ≡ value.Need acl key
       → class_of_acl c.config.acls acl ≡ Some class → has_answer c.answers class key ≡ false
+  pub keyed : (acl : ℕ) (key : List ℕ) → v ≡ value.Need acl key → key_text c.config acl c.sight ≡ key
 
 -- a check after so many looks more
 abbrev pub looked : ℕ → CheckParts → CheckParts
@@ -125,6 +132,10 @@ abbrev pub noted : StepEffect → ℕ → List ℕ → CheckParts → CheckParts
 noted s class key c = record c
     { stage = noted_stage s.took (question_told s.stepped) class key; steps = step_more c.steps }
 
+-- a check after a step in which it waited on
+abbrev pub waited : CheckParts → CheckParts
+waited c = record c { steps = step_more c.steps }
+
 -- a check after a step that said that it is done
 abbrev pub finished : Outcome → CheckParts → CheckParts
 finished o c = record c { stage = stage.Done o; steps = step_more c.steps }
@@ -136,6 +147,10 @@ ended_by q w now c = record c { stage = ended_stage q w now c.stage }
 -- what a step says, as far as a check changes by it
 abbrev pub says_of : StepEffect → StepSays
 says_of s = record { answer = told_of [] s.stepped; put = None; took = s.took }
+
+-- what a step says of a check that waits for this question
+abbrev pub says_waits : ℕ → StepSays
+says_waits q = record { answer = told.Waits q; put = None; took = None }
 
 abbrev pub change_entry : ℕ → (CheckParts → CheckParts) → ℕ × CheckParts → ℕ × CheckParts
 change_entry n f e = if n == e.0 then (e.0, f e.1) else e

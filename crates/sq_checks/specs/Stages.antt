@@ -1,15 +1,17 @@
 -- How far an open check has come.
-use Rattle.std.specs.Prelude.{◌≡◌, ℕ, List, Bool, true, false, ◌==◌, if◌then◌else◌, Some, None}
+use Rattle.std.specs.Prelude.{◌≡◌, ℕ, List, Bool, true, false, ◌==◌, if◌then◌else◌, Some, None, IfSome}
 use Rattle.std.specs.declared.option.Option.{Option}
 use Rattle.sq_base.specs.Distinct.{has_answer}
 use Rattle.sq_base.specs.declared.helpers.Answer.{Answer}
 use Rattle.sq_base.specs.declared.helpers.What.{What}
 use Rattle.sq_rules.specs.Configurations.{Configuration}
+use Rattle.sq_rules.specs.Keys.{key_text}
 use Rattle.sq_rules.specs.Sights.{unversioned_sight}
 use Rattle.sq_rules.specs.Verdicts.{verdict_over}
 use Rattle.sq_rules.specs.declared.outcomes.Outcome.{Outcome}
 use Rattle.sq_rules.specs.declared.sights.Sight.{Sight}
 use Rattle.sq_rules.specs.declared.values.Value.TheVariants as value
+use Rattle.sq_machine.specs.StepRule.{class_of_acl}
 use Rattle.sq_model_rows.specs.declared.stepping.Stepped.{Stepped}
 use Rattle.sq_model_rows.specs.declared.stepping.Stepped.TheVariants as told
 use Rattle.sq_checks.specs.Givens.{looks_over}
@@ -96,9 +98,24 @@ IsStage config sight answers (stage.Waits n) = has_answer answers n.class n.key 
 IsStage config sight answers (stage.Done o) = verdict_over answers config (unversioned_sight sight)
     ≡ value.Verdict o
 
--- a check that is done looked at as many facts as the walk of its verdict has leaf acls
+-- a check that waits, was given an answer or is done looked at as many facts as the walk over its
+-- answers, without the one that came, has leaf acls
 abbrev pub IsLooked : Configuration → Sight → List Answer → ℕ → CheckStage → Type 0
 IsLooked config sight answers looks stage.Ready = Unit {0}
-IsLooked config sight answers looks (stage.Came a) = Unit {0}
-IsLooked config sight answers looks (stage.Waits n) = Unit {0}
+IsLooked config sight answers looks (stage.Came a) = looks ≡ looks_over answers config sight
+IsLooked config sight answers looks (stage.Waits n) = looks ≡ looks_over answers config sight
 IsLooked config sight answers looks (stage.Done o) = looks ≡ looks_over answers config sight
+
+-- the external acl at this place is of this class and key
+abbrev pub IsOf : Configuration → Sight → ℕ → ℕ → List ℕ → Type 0
+IsOf config sight acl class key = (class_of_acl config.acls acl ≡ Some class)
+    × (key_text config acl sight ≡ key)
+
+-- what is waited for, and the answer that came, is of the class and key of the acl for which was
+-- asked last, if it is known
+abbrev pub HasAsked : Configuration → Sight → Option ℕ → CheckStage → Type 0
+HasAsked config sight asks stage.Ready = Unit {0}
+HasAsked config sight asks (stage.Came a) = IfSome asks (λ acl. IsOf config sight acl a.class a.key)
+HasAsked config sight asks (stage.Waits n) = IfSome asks
+    (λ acl. IsOf config sight acl n.class n.key)
+HasAsked config sight asks (stage.Done o) = Unit {0}

@@ -1,16 +1,19 @@
 //! The rules of a check, gone on with over the answers that it has.
-ghost use Rattle.std.specs.Prelude.{◌≡◌, ◌<◌, ◌&&◌, ◌==◌, List, [], length, true, bytes_eq, slice_get, IfOk, Some, None};
+ghost use Rattle.std.specs.Prelude.{◌≡◌, ◌<◌, ◌&&◌, ◌==◌, Bool, List, [], length, true, bytes_eq, slice_get, IfOk, IfSome, Some, None};
 ghost use Rattle.std.specs.Option.{option_map};
+ghost use Rattle.sq_base.specs.declared.helpers.Answer.{Answer};
+ghost use Rattle.sq_rules.specs.Configurations.{Configuration};
+ghost use Rattle.sq_rules.specs.declared.sights.Sight.{Sight};
 ghost use Rattle.sq_rules.specs.Facts.{facts_of};
 ghost use Rattle.sq_rules.specs.Values.{answer_for, taken_at};
 ghost use Rattle.sq_rules.specs.Verdicts.{name_of, verdict_over};
 ghost use Rattle.sq_rules.specs.declared.values.Value.TheVariants as value;
 ghost use Rattle.sq_machine.specs.StepRule.{class_of_acl};
-ghost use Rattle.sq_frames.specs.Givens.{ran_value, why_of};
+ghost use Rattle.sq_frames.specs.Givens.{given_value, ran_value, why_of};
 ghost use Rattle.sq_frames.specs.Slots.{is_external_at};
 ghost use Rattle.sq_frames.specs.Standing.{IsOver, looks_in};
 ghost use Rattle.sq_frames.specs.declared.answers.Ran.TheVariants as ran;
-ghost use Rattle.sq_checks.specs.Givens.{found_value, given_by, looks_over, AreCounted, AreFrames};
+ghost use Rattle.sq_checks.specs.Givens.{found_value, given_by, leaves_over, looks_over, AreCounted, AreFrames};
 
 use sq_base::{Answer, Answers, Copying, Steps, Text, WantOfMemory, What};
 use sq_format::key;
@@ -46,8 +49,8 @@ fn is_for(answer: &Answer, class: u32, key: &Text) -> bool
     answer.class == class && answer.key == *key
 }
 
-// What an external acl is given by an answer.
-fn given_by(what: &What) -> Given
+/// What an external acl is given by an answer.
+pub(crate) fn given_by(what: &What) -> Given
     ensures { result ≡ given_by what.now }
 {
     match what {
@@ -123,10 +126,26 @@ fn verdict(alloc: Global, acls: &[Acl], allow: bool, place: Place) -> Result<Val
     Ok(Value::Verdict(Outcome { allow, why }))
 }
 
+/// Gives frames the value of an answer, where they need the acl for which was asked. It takes no memory.
+pub(crate) fn give_asked(frames: &mut Frames, asks: Option<u32>, value: Given)
+    ensures looks { looks_in frames.new ≡ looks_in frames.old }
+    ensures given { (config : Configuration) (sight : Sight) (answers : List Answer)
+        (facts : List Bool) → AreFrames config sight answers facts frames.old
+        → IfSome asks (λ acl. taken_at config sight answers acl ≡ given_value acl (Some value))
+        → AreFrames config sight answers facts frames.new }
+{
+    let (Some(acl), Some(need)) = (asks, frames.need()) else {
+        return;
+    };
+    if acl == need {
+        frames.give(value);
+    }
+}
+
 /// What the rules come to over the answers, from the place of the frames on: each external acl that is needed is
 /// given the value of its answer, up to one for which there is none. Then all runs of the frames have looked as often as
-/// the walk over the answers has leaf acls, and these runs as often as the counter rose. It takes memory for the key of
-/// each acl that is needed, and for the name of one with a fault.
+/// the walk over the answers has leaf acls, and these runs as often as the counter rose, which is no more. It takes
+/// memory for the key of each acl that is needed, and for the name of one with a fault.
 pub fn come_to<L: Ledger>(
     alloc: Global,
     frames: &mut Frames,
@@ -142,7 +161,8 @@ pub fn come_to<L: Ledger>(
     ensures value { IfOk result (λ v. v ≡ verdict_over answers.now config.now sight.now) }
     ensures looks { IfOk result
         (λ v. looks_in frames.new ≡ looks_over answers.now config.now sight.now) }
-    ensures counted { AreCounted steps.old steps.new (looks_in frames.old) (looks_in frames.new) }
+    ensures counted { AreCounted (leaves_over answers.now config.now sight.now) steps.old steps.new
+        (looks_in frames.old) (looks_in frames.new) }
 {
     'needs: loop {
         match frames.run(facts, steps) {

@@ -1,17 +1,21 @@
 //! An open check.
-ghost use Rattle.std.specs.Prelude.{◌≡◌, ◌+◌, ℕ, true, false, suc, min, Some, IfOk, OnOk, OnErr, IfSome, is_some};
+ghost use Rattle.std.specs.Prelude.{◌≡◌, ◌+◌, ◌≤◌, ℕ, true, false, suc, min, Some, IfOk, OnOk, OnErr, IfSome, is_some};
 ghost use Rattle.std.specs.Arc.{arc_value};
 ghost use Rattle.std.specs.Option.{option_copied};
 ghost use Rattle.sq_base.specs.Distinct.{has_answer};
 ghost use Rattle.sq_rules.specs.Facts.{facts_of};
 ghost use Rattle.sq_machine.specs.Limits.{last_number};
+ghost use Rattle.sq_machine.specs.StepRule.{class_of_acl};
+ghost use Rattle.sq_rules.specs.Keys.{key_text};
 ghost use Rattle.sq_rules.specs.Verdicts.{verdict_over};
 ghost use Rattle.sq_rules.specs.declared.values.Value.TheVariants as value;
-ghost use Rattle.sq_checks.specs.OpenChecks.{HasCome, IsNoted, begun_parts, ended_by, finished, looked, noted, settled, step_more};
+ghost use Rattle.sq_frames.specs.Positions.{look_limit};
+ghost use Rattle.sq_checks.specs.Givens.{leaves_over, looks_over};
+ghost use Rattle.sq_checks.specs.OpenChecks.{HasCome, IsNoted, begun_parts, ended_by, finished, looked, noted, settled, step_more, waited};
 ghost use Rattle.sq_checks.specs.Records.{judged_of};
 ghost use Rattle.sq_checks.specs.Stages.{decided_in, is_idle, is_settled, need_in, question_in};
 
-use crate::going::come_to;
+use crate::going::{come_to, give_asked, given_by};
 use crate::records::Record;
 use crate::stages::{CheckStage, Need, came, decided, ended, need_of, noted, question};
 use sq_base::{
@@ -41,6 +45,8 @@ pub struct OpenCheck {
     answers: Answers,
     stage: CheckStage,
     steps: u64,
+    // The external acl for which it asked last.
+    asks: Option<u32>,
 }
 
 impl Model for OpenCheck {
@@ -73,7 +79,7 @@ impl Model for OpenCheck {
           stage = c.stage;
           looks = looks_in c.frames;
           steps = c.steps;
-        }) c.facts c.frames };
+        }) c.facts c.frames c.asks };
 }
 
 // A step more.
@@ -115,6 +121,7 @@ impl OpenCheck {
             answers: Answers::new(alloc),
             stage: CheckStage::Ready,
             steps: 0,
+            asks: None,
         })
     }
 
@@ -154,11 +161,15 @@ impl OpenCheck {
     }
 
     /// What it waits for, if it waits: the question, and the class and key that it is for, of which it has no
-    /// answer.
+    /// answer. Then its rules were gone on with up to there: its looks are as many as the walk over its answers has
+    /// leaf acls. No check has more than the greatest number of them.
     pub fn need(&self) -> Option<&Need>
         ensures value { option_copied result ≡ need_in self.now.stage }
         ensures other { IfSome (need_in self.now.stage)
             (λ n. has_answer self.now.answers n.class n.key ≡ false) }
+        ensures looks { IfSome (need_in self.now.stage)
+            (λ n. self.now.looks ≡ looks_over self.now.answers self.now.config self.now.sight) }
+        ensures few { self.now.looks ≤ look_limit }
     {
         need_of(&self.stage)
     }
@@ -181,15 +192,17 @@ impl OpenCheck {
     }
 
     /// What it comes to over its answers: the verdict, or the need of an answer that it does not have. It goes on from
-    /// the place in its rules to which it came before: its looks rise by as many as the counter, and then they are as
-    /// many as the walk over its answers has leaf acls.
+    /// the place in its rules to which it came before: its looks rise by as many as the counter, by no more than the
+    /// walk over its answers has leaf acls, and then they are as many as that.
     pub fn come_to<L: Ledger>(
         &mut self,
         alloc: Global,
         steps: &mut Steps<L>,
     ) -> Result<Value, WantOfMemory>
         requires { is_settled self.old.stage ≡ true }
-        ensures same { (k : ℕ) × (steps.new ≡ steps.old + k) × (self.new ≡ looked k self.old) }
+        ensures same { (k : ℕ)
+            × (k ≤ leaves_over self.old.answers self.old.config self.old.sight)
+            × (steps.new ≡ steps.old + k) × (self.new ≡ looked k self.old) }
         ensures come { IfOk result (HasCome self.new) }
     {
         come_to(
@@ -204,7 +217,8 @@ impl OpenCheck {
     }
 
     /// Puts the answer that came among the others, if one did. It takes a copy, since a push that fails gives
-    /// nothing back.
+    /// nothing back. Where the rules stopped at the acl for which was asked, it is given the value of the answer, so
+    /// that they go on from there without its key.
     pub fn settle(&mut self, alloc: Global) -> Result<(), WantOfMemory>
         ensures ok { OnOk result (self.new ≡ settled self.old) }
         ensures err { OnErr result (self.new ≡ self.old) }
@@ -212,17 +226,24 @@ impl OpenCheck {
         let Some(answer) = came(alloc, &self.stage)? else {
             return Ok(());
         };
+        let value = given_by(&answer.what);
         self.answers.push(answer)?;
         self.stage = CheckStage::Ready;
+        give_asked(&mut self.frames, self.asks, value);
         Ok(())
     }
 
-    /// Takes what a step says that asked for this key of the class at this place: the answer that it took has
-    /// come, or the check waits for the question that it was told. It takes no memory.
-    pub fn note(&mut self, said: StepEffect, class: u32, key: Text)
+    /// Takes what a step says that asked for the external acl at this place, which is of this class and key: the
+    /// answer that it took has come, or the check waits for the question that it was told. Its rules must have been
+    /// gone on with up to this need. It takes no memory.
+    pub fn note(&mut self, said: StepEffect, acl: u32, class: u32, key: Text)
         requires idle { is_idle self.old.stage ≡ true }
         requires said { IsNoted class key said }
+        requires of_class { class_of_acl self.old.config.acls acl ≡ Some class }
+        requires of_key { key_text self.old.config acl self.old.sight ≡ key }
         requires other { has_answer self.old.answers class key ≡ false }
+        requires looks { self.old.looks
+            ≡ looks_over self.old.answers self.old.config self.old.sight }
         ensures { self.new ≡ noted said class key self.old }
     {
         let StepEffect {
@@ -230,7 +251,15 @@ impl OpenCheck {
             took,
             put: _,
         } = said;
+        self.asks = Some(acl);
         self.stage = noted(took, stepped.question(), class, key);
+        self.steps = step_more(self.steps);
+    }
+
+    /// Counts a step of a check that waits, and waits on. It takes no memory.
+    pub fn wait_on(&mut self)
+        ensures { self.new ≡ waited self.old }
+    {
         self.steps = step_more(self.steps);
     }
 
@@ -268,6 +297,7 @@ impl OpenCheck {
             answers,
             stage,
             steps,
+            asks: _,
         } = self;
         let looks = frames.looks();
         match stage {

@@ -6,10 +6,12 @@ ghost use Rattle.sq_lookup.specs.Waits.{has_check};
 ghost use Rattle.sq_model_rows.specs.CheckRows.{after_step, without_check};
 ghost use Rattle.sq_machine.specs.Events.{is_number};
 ghost use Rattle.sq_machine.specs.Rising.{Rises};
-ghost use Rattle.sq_machine.specs.StepRule.{says_done};
+ghost use Rattle.sq_machine.specs.StepRule.{class_of_acl, says_done};
+ghost use Rattle.sq_rules.specs.Keys.{key_text};
 ghost use Rattle.sq_rules.specs.declared.values.Value.TheVariants as value;
-ghost use Rattle.sq_checks.specs.OpenChecks.{AllAre, HasCome, IsNoted, all_before, all_ended, change_at, ended_by, finished, looked, noted, row, rows_of, says_of, settled, wait_at, without_entry};
-ghost use Rattle.sq_checks.specs.Stages.{is_idle, is_settled};
+ghost use Rattle.sq_checks.specs.Givens.{looks_over};
+ghost use Rattle.sq_checks.specs.OpenChecks.{AllAre, HasCome, IsNoted, all_before, all_ended, change_at, ended_by, finished, looked, noted, row, rows_of, says_of, says_waits, settled, wait_at, waited, without_entry};
+ghost use Rattle.sq_checks.specs.Stages.{is_idle, is_settled, question_in};
 ghost use Rattle.sq_checks.specs.Tables.{value_at};
 
 use crate::open_check::OpenCheck;
@@ -129,19 +131,39 @@ impl OpenChecks {
         self.come_on::<Brand>(alloc, number, Blank::new(1))
     }
 
-    /// Takes what a step of a check says that asked for this key of the class at this place. It takes no
-    /// memory.
-    pub fn note(&mut self, number: CheckNo, said: StepEffect, class: u32, key: Text)
+    /// Takes what a step of a check says that asked for the external acl at this place, which is of this class and
+    /// key, and up to which its rules were gone on with. It takes no memory.
+    pub fn note(&mut self, number: CheckNo, said: StepEffect, acl: u32, class: u32, key: Text)
         requires there { is_some (value_at self.old number) ≡ true }
         requires idle { IfSome (value_at self.old number) (λ c. is_idle c.stage ≡ true) }
         requires said { IsNoted class key said }
+        requires of_class { IfSome (value_at self.old number)
+            (λ c. class_of_acl c.config.acls acl ≡ Some class) }
+        requires of_key { IfSome (value_at self.old number)
+            (λ c. key_text c.config acl c.sight ≡ key) }
         requires other { IfSome (value_at self.old number)
             (λ c. has_answer c.answers class key ≡ false) }
+        requires looks { IfSome (value_at self.old number)
+            (λ c. c.looks ≡ looks_over c.answers c.config c.sight) }
         ensures list { self.new ≡ change_at number (noted said class key) self.old }
         ensures rows { rows_of self.new ≡ after_step number (says_of said) (rows_of self.old) }
     {
         match self.map.get_mut(&number) {
-            Some(check) => check.note(said, class, key),
+            Some(check) => check.note(said, acl, class, key),
+            None => unreachable!(),
+        }
+    }
+
+    /// Counts a step of a check that waits, and waits on. It takes no memory.
+    pub fn wait_on(&mut self, number: CheckNo)
+        requires there { is_some (value_at self.old number) ≡ true }
+        ensures list { self.new ≡ change_at number waited self.old }
+        ensures rows { (q : ℕ)
+            → IfSome (value_at self.old number) (λ c. question_in c.stage ≡ Some q)
+            → rows_of self.new ≡ after_step number (says_waits q) (rows_of self.old) }
+    {
+        match self.map.get_mut(&number) {
+            Some(check) => check.wait_on(),
             None => unreachable!(),
         }
     }

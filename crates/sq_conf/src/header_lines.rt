@@ -4,10 +4,10 @@ ghost use Rattle.sq_conf.specs.Forms.{Gives, Makes};
 ghost use Rattle.sq_rules.specs.HeaderLines.{header_line, header_name, is_field_name};
 
 use crate::faults::ReadFault;
-use crate::leaf_values::is_token;
 use crate::pool_lines::fast_terms;
 use crate::terms::action;
 use crate::words::ConfigWords;
+use httparse::is_token;
 use sq_base::Text;
 use sq_drafts::Builder;
 use sq_rules::{HeaderRule, Kind, Rule, lowered};

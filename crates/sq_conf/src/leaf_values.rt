@@ -1,13 +1,13 @@
 //! Values of leaf acls.
-ghost use Rattle.std.specs.Prelude.{◌≡◌, ◌==◌, [], codes};
-ghost use Rattle.std.specs.List.{list_all, list_any};
+ghost use Rattle.std.specs.Prelude.{◌≡◌, []};
 ghost use Rattle.sq_conf.specs.Forms.{Gives};
-ghost use Rattle.sq_rules.specs.AclValues.{is_unquoted, range_value, plain_value, port_number, ports_of, port_value, is_token_byte, is_token, method_value, maxconn_value, maxconn_values};
+ghost use Rattle.sq_rules.specs.AclValues.{is_unquoted, range_value, plain_value, port_number, ports_of, port_value, method_value, maxconn_value, maxconn_values};
 ghost use Rattle.sq_rules.specs.Steps.{some_of, over, one_more};
 
 use crate::cuts::{before, behind, holds};
 use crate::faults::ReadFault;
 use crate::words::{ConfigWords, begins};
+use httparse::is_token;
 use sq_addr::read_range;
 use sq_base::{Copying, Listed, PORT_LIMIT, Range, Ranges, Text, Texts, number_of};
 use sq_rules::{Kind, MAXCONN_LIMIT, Numbers, PortRange, PortRanges};
@@ -121,31 +121,6 @@ pub fn port_values(alloc: Global, words: &[Text]) -> Result<PortRanges, ReadFaul
         values.push(port_value(word.as_bytes())?)?;
     }
     Ok(values)
-}
-
-fn is_mark(byte: u8) -> bool
-    ensures { result ≡ list_any (λ c. c == byte) (codes "!#$%&'*+-.^_`|~") }
-{
-    b"!#$%&'*+-.^_`|~".iter().any(|&mark| mark == byte)
-}
-
-fn is_token_byte(byte: u8) -> bool
-    ensures { result ≡ is_token_byte byte }
-{
-    byte.is_ascii_alphanumeric() || is_mark(byte)
-}
-
-fn are_token_bytes(word: &[u8]) -> bool
-    ensures { result ≡ list_all is_token_byte word.now }
-{
-    word.iter().all(|&byte| is_token_byte(byte))
-}
-
-/// A token of HTTP.
-pub fn is_token(word: &[u8]) -> bool
-    ensures { result ≡ is_token word.now }
-{
-    1 <= word.len() && are_token_bytes(word)
 }
 
 fn method_value(alloc: Global, word: &Text) -> Result<Text, ReadFault>

@@ -8,7 +8,7 @@ ghost use Rattle.sq_rules.specs.ClassLines.{field_name, field_token, is_field, t
 ghost use Rattle.sq_rules.specs.Steps.{needed};
 
 use crate::faults::ReadFault;
-use crate::leaf_values::is_token;
+use httparse::is_token;
 use sq_base::Text;
 use sq_rules::{Kind, Token};
 use std::alloc::Global;

@@ -1,5 +1,5 @@
 -- Over a front that refuses nothing each request of a session gets its answer.
-use Rattle.std.proofs.Common.{◌≡◌, ℕ, List, [], ◌∷◌, ◌++◌, Bool, true, false, ◌&&◌, Option, Some, None, Result, Ok, Err, IfOk, refl, sym, ap, subst, ◌∙◌}
+use Rattle.std.proofs.Common.{◌≡◌, ℕ, List, [], ◌∷◌, ◌++◌, Bool, true, false, ◌&&◌, Option, Some, None, Result, Ok, Err, IfOk, bytes_eq, codes, refl, sym, ap, subst, ◌∙◌}
 use Rattle.std.proofs.lemmas.List.Folds.{list_all-append}
 use Rattle.std.specs.List.{list_all}
 use Rattle.sq_base.specs.Addresses.{Address}
@@ -9,20 +9,22 @@ use Rattle.sq_checks.specs.Records.{Judged}
 use Rattle.sq_head.specs.BodyPlans.{request_plan}
 use Rattle.sq_head.specs.declared.faults.BadBody.{BadBody}
 use Rattle.sq_head.specs.declared.own.Own.TheVariants.{NotImplemented, NoMemory}
+use Rattle.sq_headers.specs.Access.{HeaderAccess}
 use Rattle.sq_outside.specs.Dials.{Dialled}
 use Rattle.sq_session.specs.Begins.{fits_hosts}
-use Rattle.sq_session.specs.Fronts.{FrontAnswer, OfOpen, OfDecide, OfSit, OfClose}
+use Rattle.sq_session.specs.Fronts.{FrontAnswer, OfOpen, OfDecide, OfRewrite, OfSit, OfClose, SitsFor}
 use Rattle.sq_session.specs.Sessions.{IsSession, IsStep, JudgesBegun, JudgesOf, ServesOpened, SessionStep, Turns, answers_of, turn_of}
-use Rattle.sq_session.specs.Turns.{ClientTurn, Reply, NoOrigin, Came, asked, carried, denied, dialled, forwarded, is_connect, is_head, is_served, judged, recorded, says, seated, turn}
+use Rattle.sq_session.specs.Turns.{ClientTurn, Reply, NoOrigin, Came, access_of, allowed, asked, carried, denied, dialled, forwarded, is_connect, is_head, is_served, judged, recorded, redirected, rewritten_on, says, seated, turn}
 use Rattle.sq_session.specs.declared.beginning.Begun.{Begun}
 use Rattle.sq_session.specs.declared.beginning.Begun.TheVariants as begun
 use Rattle.sq_session.specs.declared.ends.End.{End}
 use Rattle.sq_session.specs.declared.front.Decided.TheVariants as decided
 use Rattle.sq_session.specs.declared.front.Opened.{Opened}
 use Rattle.sq_session.specs.declared.front.Opened.TheVariants as opened
+use Rattle.sq_session.specs.declared.front.Rewritten.TheVariants as rewritten
 use Rattle.sq_session.specs.declared.front.SitFault.TheVariants as sit
-use Rattle.sq_model_state.specs.States.{State}
-use Rattle.sq_conn_policy.specs.Completeness.{Completes, CompletesBegun, EachCompletes, GetsDenial, GetsUnserved, GetsReply, HasNoMemory, HasNone, is_unspent}
+use Rattle.sq_conn_policy.specs.Hubs.{Served}
+use Rattle.sq_conn_policy.specs.Completeness.{Completes, CompletesBegun, EachCompletes, GetsDenial, GetsRedirect, GetsUnserved, GetsReply, HasNoMemory, HasNone, is_unspent, sent_as}
 use Rattle.sq_conn_policy.specs.Pieces.{FrontStands, is_unrefused}
 
 both_left : (a b : Bool) → (a && b) ≡ true → a ≡ true
@@ -34,65 +36,129 @@ both_right true b e = e
 both_right false b e = absurd cc
 
 -- the answers that a dial leaves to spare
-spare_of : (r : HttpRequest) (addr : Address) (p : BodyPlan) (rest : List ℕ) (more : List FrontAnswer) (reply : Reply)
-    → (dialled r addr p rest more reply).unasked ≡ more
-spare_of r addr p rest more NoOrigin = refl
-spare_of r addr p rest more (Came bytes seen reading broke) = by (is_connect r) refl
+spare_of : (access : HeaderAccess) (r : HttpRequest) (addr : Address) (p : BodyPlan) (rest : List ℕ) (more : List FrontAnswer) (reply : Reply)
+    → (dialled access r addr p rest more reply).unasked ≡ more
+spare_of access r addr p rest more NoOrigin = refl
+spare_of access r addr p rest more (Came bytes seen reading broke) = by (is_connect r) refl
   where
-    by : (t : Bool) → is_connect r ≡ t → (forwarded r addr p rest bytes reading broke more).unasked ≡ more
+    by : (t : Bool) → is_connect r ≡ t → (forwarded access r addr p rest bytes reading broke more).unasked ≡ more
     by true e = rw e refl
     by false e = rw e refl
 
--- from the seat on
-seated_completes : (r : HttpRequest) (addr : Address) (p : BodyPlan) (rest : List ℕ) (j : Judged)
-    (all answers : List FrontAnswer) (reply : Reply) → all ≡ OfDecide r (decided.Record j) ∷ answers
+-- from the seat on: the request goes on as s
+seated_completes : (r s : HttpRequest) (addr : Address) (p : BodyPlan) (rest : List ℕ) (j : Judged)
+    (all more answers : List FrontAnswer) (reply : Reply) → all ≡ OfDecide r (decided.Record j) ∷ more
     → j.sight.request ≡ r
-    → j.outcome.allow ≡ true → is_served r ≡ true → list_all is_unspent answers ≡ true
-    → (seated r addr p rest answers reply).unasked ≡ []
-    → Completes r addr p rest all reply (seated r addr p rest answers reply)
-seated_completes r addr p rest j all [] reply front same allow served few none = HasNone refl
-seated_completes r addr p rest j all (OfSit k (Ok u) ∷ more) reply front same allow served few none =
-    GetsReply j (OfSit k (Ok u) ∷ more) front same allow served
-    (ap (λ l. dialled r addr p rest l reply) (sym (spare_of r addr p rest more reply) ∙ none))
-seated_completes r addr p rest j all (OfSit k (Err sit.Spent) ∷ more) reply front same allow served few none = absurd cc
-seated_completes r addr p rest j all (OfSit k (Err sit.WantOfMemory) ∷ more) reply front same allow served few none =
-    HasNoMemory (ap (says NoMemory (is_head r)) none)
-seated_completes r addr p rest j all (OfDecide q d ∷ more) reply front same allow served few none = absurd cc
-seated_completes r addr p rest j all (OfOpen a port o ∷ more) reply front same allow served few none = absurd cc
-seated_completes r addr p rest j all (OfClose c ∷ more) reply front same allow served few none = absurd cc
+    → j.outcome.allow ≡ true → s ≡ sent_as r more → is_head s ≡ is_head r → is_served s ≡ true
+    → list_all is_unspent answers ≡ true
+    → (seated (access_of j) s addr p rest answers reply).unasked ≡ []
+    → Completes r addr p rest all reply (seated (access_of j) s addr p rest answers reply)
+seated_completes r s addr p rest j all more [] reply front same allow sent head served few none = HasNone refl
+seated_completes r s addr p rest j all more (OfSit k (Ok u) ∷ behind) reply front same allow sent head served few none =
+    GetsReply j more front same allow (subst (λ x. is_served x ≡ true) sent served)
+    (ap (λ l. dialled (access_of j) s addr p rest l reply) (sym (spare_of (access_of j) s addr p rest behind reply) ∙ none)
+    ∙ ap (λ x. dialled (access_of j) x addr p rest [] reply) sent)
+seated_completes r s addr p rest j all more (OfSit k (Err sit.Spent) ∷ behind) reply front same allow sent head served
+    few none = absurd cc
+seated_completes r s addr p rest j all more (OfSit k (Err sit.WantOfMemory) ∷ behind) reply front same allow sent head
+    served few none = HasNoMemory (ap (says NoMemory (is_head s)) none ∙ ap (λ b. says NoMemory b []) head)
+seated_completes r s addr p rest j all more (OfDecide q d ∷ behind) reply front same allow sent head served few none =
+    absurd cc
+seated_completes r s addr p rest j all more (OfRewrite k said ∷ behind) reply front same allow sent head served few
+    none = absurd cc
+seated_completes r s addr p rest j all more (OfOpen a port o ∷ behind) reply front same allow sent head served few none =
+    absurd cc
+seated_completes r s addr p rest j all more (OfClose c ∷ behind) reply front same allow sent head served few none =
+    absurd cc
 
 -- from the scheme on
-carried_completes : (r : HttpRequest) (addr : Address) (p : BodyPlan) (rest : List ℕ) (j : Judged)
-    (all answers : List FrontAnswer) (reply : Reply) → all ≡ OfDecide r (decided.Record j) ∷ answers
+carried_completes : (r s : HttpRequest) (addr : Address) (p : BodyPlan) (rest : List ℕ) (j : Judged)
+    (all more answers : List FrontAnswer) (reply : Reply) → all ≡ OfDecide r (decided.Record j) ∷ more
     → j.sight.request ≡ r
-    → j.outcome.allow ≡ true → list_all is_unspent answers ≡ true → (carried r addr p rest answers reply).unasked ≡ []
-    → Completes r addr p rest all reply (carried r addr p rest answers reply)
-carried_completes r addr p rest j all answers reply front same allow few none = by (is_served r) refl
+    → j.outcome.allow ≡ true → s ≡ sent_as r more → is_head s ≡ is_head r → list_all is_unspent answers ≡ true
+    → (carried (access_of j) s addr p rest answers reply).unasked ≡ []
+    → Completes r addr p rest all reply (carried (access_of j) s addr p rest answers reply)
+carried_completes r s addr p rest j all more answers reply front same allow sent head few none = by (is_served s) refl
   where
-    by : (t : Bool) → is_served r ≡ t → Completes r addr p rest all reply (carried r addr p rest answers reply)
+    by : (t : Bool) → is_served s ≡ t → Completes r addr p rest all reply (carried (access_of j) s addr p rest answers reply)
     by true e =
-        let is : carried r addr p rest answers reply ≡ seated r addr p rest answers reply = rw e refl in
+        let is : carried (access_of j) s addr p rest answers reply ≡ seated (access_of j) s addr p rest answers reply = rw e refl in
         subst (Completes r addr p rest all reply) (sym is)
-        (seated_completes r addr p rest j all answers reply front same allow e few
+        (seated_completes r s addr p rest j all more answers reply front same allow sent head e few
         (sym (ap ClientTurn.unasked is) ∙ none))
     by false e =
-        let is : carried r addr p rest answers reply ≡ says NotImplemented (is_head r) answers = rw e refl in
-        GetsUnserved j answers front same allow e
-        (is ∙ ap (says NotImplemented (is_head r)) (sym (ap ClientTurn.unasked is) ∙ none))
+        let is : carried (access_of j) s addr p rest answers reply ≡ says NotImplemented (is_head s) answers = rw e refl in
+        GetsUnserved j more front same allow (subst (λ x. is_served x ≡ false) sent e)
+        (is ∙ ap (says NotImplemented (is_head s)) (sym (ap ClientTurn.unasked is) ∙ none)
+        ∙ ap (λ x. says NotImplemented (is_head x) []) sent)
+
+-- a request of the same method
+head_same : (s r : HttpRequest) → s.method ≡ r.method → is_head s ≡ is_head r
+head_same s r e = ap (λ m. bytes_eq m (codes "HEAD")) e
+
+-- from the rewriter on
+rewritten_completes : (r : HttpRequest) (addr : Address) (p : BodyPlan) (rest : List ℕ) (j : Judged)
+    (all more : List FrontAnswer) (reply : Reply) → all ≡ OfDecide r (decided.Record j) ∷ more
+    → j.sight.request ≡ r
+    → j.outcome.allow ≡ true → is_connect r ≡ false → SitsFor j more → list_all is_unspent more ≡ true
+    → (rewritten_on (access_of j) r addr p rest more reply).unasked ≡ []
+    → Completes r addr p rest all reply (rewritten_on (access_of j) r addr p rest more reply)
+rewritten_completes r addr p rest j all [] reply front same allow plain sits few none = HasNone refl
+rewritten_completes r addr p rest j all (OfRewrite k rewritten.Same ∷ more) reply front same allow plain sits few none =
+    carried_completes r r addr p rest j all (OfRewrite k rewritten.Same ∷ more) more reply front same allow
+    (rw plain refl) refl few none
+rewritten_completes r addr p rest j all (OfRewrite k (rewritten.New new) ∷ more) reply front same allow plain sits few
+    none =
+    carried_completes r new addr p rest j all (OfRewrite k (rewritten.New new) ∷ more) more reply front same allow
+    (rw plain refl) (head_same new r (sits.1.method ∙ ap HttpRequest.method same)) few none
+rewritten_completes r addr p rest j all (OfRewrite k (rewritten.Redirect code url) ∷ more) reply front same allow plain
+    sits few none =
+    GetsRedirect j code url
+    (front ∙ ap (λ l. OfDecide r (decided.Record j) ∷ (OfRewrite k (rewritten.Redirect code url) ∷ l)) none
+    ∙ ap (λ x. OfDecide r (decided.Record j) ∷ (OfRewrite x (rewritten.Redirect code url) ∷ [])) sits.0)
+    same allow plain (ap (redirected code url) none)
+rewritten_completes r addr p rest j all (OfRewrite k rewritten.WantOfMemory ∷ more) reply front same allow plain sits
+    few none = HasNoMemory (ap (says NoMemory (is_head r)) none)
+rewritten_completes r addr p rest j all (OfSit k s ∷ more) reply front same allow plain sits few none = absurd cc
+rewritten_completes r addr p rest j all (OfDecide q d ∷ more) reply front same allow plain sits few none = absurd cc
+rewritten_completes r addr p rest j all (OfOpen a port o ∷ more) reply front same allow plain sits few none = absurd cc
+rewritten_completes r addr p rest j all (OfClose c ∷ more) reply front same allow plain sits few none = absurd cc
+
+-- an allowed request
+allowed_completes : (r : HttpRequest) (addr : Address) (p : BodyPlan) (rest : List ℕ) (j : Judged)
+    (all more : List FrontAnswer) (reply : Reply) → all ≡ OfDecide r (decided.Record j) ∷ more
+    → j.sight.request ≡ r
+    → j.outcome.allow ≡ true → SitsFor j more → list_all is_unspent more ≡ true
+    → (allowed (access_of j) r addr p rest more reply).unasked ≡ []
+    → Completes r addr p rest all reply (allowed (access_of j) r addr p rest more reply)
+allowed_completes r addr p rest j all more reply front same allow sits few none = by (is_connect r) refl
+  where
+    by : (t : Bool) → is_connect r ≡ t → Completes r addr p rest all reply (allowed (access_of j) r addr p rest more reply)
+    by true e =
+        let is : allowed (access_of j) r addr p rest more reply ≡ carried (access_of j) r addr p rest more reply = rw e refl in
+        subst (Completes r addr p rest all reply) (sym is)
+        (carried_completes r r addr p rest j all more more reply front same allow (rw e refl) refl few
+        (sym (ap ClientTurn.unasked is) ∙ none))
+    by false e =
+        let is : allowed (access_of j) r addr p rest more reply ≡ rewritten_on (access_of j) r addr p rest more reply = rw e refl in
+        subst (Completes r addr p rest all reply) (sym is)
+        (rewritten_completes r addr p rest j all more reply front same allow e sits few
+        (sym (ap ClientTurn.unasked is) ∙ none))
 
 -- from the record on
 recorded_completes : (r : HttpRequest) (addr : Address) (p : BodyPlan) (rest : List ℕ) (j : Judged)
     (all answers : List FrontAnswer) (reply : Reply) → all ≡ OfDecide r (decided.Record j) ∷ answers
-    → j.sight.request ≡ r
+    → j.sight.request ≡ r → SitsFor j answers
     → list_all is_unspent answers ≡ true → (recorded r addr p rest j answers reply).unasked ≡ []
     → Completes r addr p rest all reply (recorded r addr p rest j answers reply)
-recorded_completes r addr p rest j all answers reply front same few none = by j.outcome.allow refl
+recorded_completes r addr p rest j all answers reply front same sits few none = by j.outcome.allow refl
   where
     by : (t : Bool) → j.outcome.allow ≡ t → Completes r addr p rest all reply (recorded r addr p rest j answers reply)
     by true e =
-        let is : recorded r addr p rest j answers reply ≡ carried r addr p rest answers reply = rw e refl in
+        let is : recorded r addr p rest j answers reply ≡ allowed (access_of j) r addr p rest answers reply = rw e refl in
         subst (Completes r addr p rest all reply) (sym is)
-        (carried_completes r addr p rest j all answers reply front same e few (sym (ap ClientTurn.unasked is) ∙ none))
+        (allowed_completes r addr p rest j all answers reply front same e sits few
+        (sym (ap ClientTurn.unasked is) ∙ none))
     by false e =
         let is : recorded r addr p rest j answers reply ≡ denied r p rest j answers = rw e refl in
         GetsDenial j answers front same e (is ∙ ap (denied r p rest j) (sym (ap ClientTurn.unasked is) ∙ none))
@@ -106,12 +172,13 @@ judged_completes : (r : HttpRequest) (addr : Address) (p : BodyPlan) (rest : Lis
 judged_completes r addr p rest [] reply j fine few none = HasNone refl
 judged_completes r addr p rest (OfDecide q (decided.Record k) ∷ more) reply j fine few none =
     recorded_completes r addr p rest k (OfDecide q (decided.Record k) ∷ more) more reply
-    (ap (λ x. OfDecide x (decided.Record k) ∷ more) j.0) j.1 few none
+    (ap (λ x. OfDecide x (decided.Record k) ∷ more) j.0) j.1 j.2 few none
 judged_completes r addr p rest (OfDecide q (decided.Mismatch other) ∷ more) reply j fine few none = absurd cc
 judged_completes r addr p rest (OfDecide q (decided.Refused why) ∷ more) reply j fine few none = absurd cc
 judged_completes r addr p rest (OfDecide q decided.JournalFault ∷ more) reply j fine few none = absurd cc
 judged_completes r addr p rest (OfDecide q decided.WantOfMemory ∷ more) reply j fine few none =
     HasNoMemory (ap (says NoMemory (is_head r)) none)
+judged_completes r addr p rest (OfRewrite k said ∷ more) reply j fine few none = absurd cc
 judged_completes r addr p rest (OfSit k s ∷ more) reply j fine few none = absurd cc
 judged_completes r addr p rest (OfOpen a port o ∷ more) reply j fine few none = absurd cc
 judged_completes r addr p rest (OfClose c ∷ more) reply j fine few none = absurd cc
@@ -192,7 +259,7 @@ turns_unrefused list behind x answers e =
     (sym (list_all-append is_unrefused answers behind) ∙ all)
 
 -- over a hub that tells, and that never counted a refusal, where no number of seats is used up
-pub session_completes : (conn refused : ℕ) (m n : Option State) (list : List FrontAnswer) {addr : Address} {port : ℕ}
+pub session_completes : (conn refused : ℕ) (m n : Option Served) (list : List FrontAnswer) {addr : Address} {port : ℕ}
     {input : List ℕ} {a b : Option (List ℕ)} {before : Option Dialled} {now : Dialled} {failed : Type 0} {g h : ℕ}
     {e : End}
     → FrontStands conn m refused list

@@ -20,6 +20,7 @@ use Rattle.sq_conn_policy.specs.Judging.{EndsSo, Finishes, FitsDecided, IsAttemp
 use Rattle.sq_conn_policy.specs.Tellings.{Asks, HubState, StandsAt, Tells, asks_for, machine_now}
 use Rattle.sq_conn_policy.specs.declared.hub.HubFault.{HubFault}
 use Rattle.sq_conn_policy.specs.declared.hub.HubFault.TheVariants.{Refused, JournalFault, WantOfMemory}
+use Rattle.sq_conn_policy.proofs.WorkLaws.{works_behind, works_same, works_self}
 use Rattle.sq_conn_policy.proofs.TellLaws.{tells_then, tells_as, tells_self, stands_at_same}
 
 -- the record is that of the very request
@@ -51,6 +52,7 @@ judges_record conn n r j v w x ask done = record {
             behind.stands;
       };
   own = tt;
+  works = works_behind v.rewriter w.rewriter x.rewriter ask.makes.rewriter done.works;
   pools = done.pools ∙ ask.makes.pools;
 }
 
@@ -146,6 +148,7 @@ judges_unasked conn r fault v w ask = record {
     stands = stands_at_same configs h v.machine w.machine ask.makes.unmade st;
   };
   own = own_fault fault;
+  works = works_same v.rewriter w.rewriter ask.makes.rewriter;
   pools = ask.makes.pools;
 }
 
@@ -215,6 +218,7 @@ judges_fault conn n r fault v w x ask done = record {
         stands = subst (λ l. StandsAt configs l x.machine) (sym joined) behind.stands;
       };
   own = own_fault fault;
+  works = works_behind v.rewriter w.rewriter x.rewriter ask.makes.rewriter done.works;
   pools = done.pools ∙ ask.makes.pools;
 }
 
@@ -224,6 +228,7 @@ judges_nothing conn r v = record {
   after =
       λ configs h st. record { more = []; fits = attempt_none conn r; stands = st };
   own = tt;
+  works = works_self v.rewriter;
   pools = refl;
 }
 

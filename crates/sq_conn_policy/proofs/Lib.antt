@@ -2,7 +2,11 @@ pub mod CompleteLaws
 mod HubLaws
 mod JudgeLaws
 mod OpenLaws
+mod RewriteLaws
 mod SameLaws
+mod SeatLaws
 mod SpentLaws
 mod StandLaws
 mod TellLaws
+-- of a rewriter that goes on
+pub mod WorkLaws

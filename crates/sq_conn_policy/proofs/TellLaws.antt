@@ -18,9 +18,10 @@ use Rattle.sq_machine.specs.declared.entries.Told.TheVariants as told
 use Rattle.sq_machine.specs.declared.refusals.Refusal.{Refusal}
 use Rattle.sq_model_state.proofs.Lawful.{stands_same}
 use Rattle.sq_model_state.specs.States.{IsSame, State}
+use Rattle.sq_conn_policy.proofs.WorkLaws.{works_before, works_self, works_then}
 use Rattle.sq_conn_policy.proofs.SpentLaws.{done_now, first_of, second_of, stays_open, step_spent, take_spent}
 use Rattle.sq_conn_policy.specs.Judging.{Finishes, GoesOn, IsForLastNumber, goes_on}
-use Rattle.sq_conn_policy.specs.Tellings.{AreKept, HubState, IsStep, IsTaken, Makes, MakesOn, StandsAt, Takes, Tells, Waited, begun_of, is_outside, machine_now}
+use Rattle.sq_conn_policy.specs.Tellings.{AreKept, HubState, IsStep, IsTaken, Makes, MakesOn, StandsAt, Takes, Tells, Waited, Works, begun_of, is_outside, machine_now}
 use Rattle.sq_conn_policy.specs.declared.hub.HubFault.{HubFault}
 use Rattle.sq_conn_policy.specs.declared.hub.HubFault.TheVariants.{Refused, JournalFault, WantOfMemory}
 
@@ -82,7 +83,7 @@ step_goes_on n now answer = grind arith
 
 -- a check that has not gone on
 pub goes_self : (n : ℕ) (v : HubState) → GoesOn n v v
-goes_self n v = record { adds = λ configs h st. ([], refl, st); kept = λ m b e. e; pools = refl }
+goes_self n v = record { adds = λ configs h st. ([], refl, st); kept = λ m b e. e; works = works_self v.rewriter; pools = refl }
 
 -- a step more
 pub goes_step : (n : ℕ) (s : Stepped) (v w x : HubState) → GoesOn n v w → MakesOn IsStep (event.Step n) (Ok s) w x
@@ -98,6 +99,7 @@ goes_step n s v w x go call = record {
         answer.2.stands configs (before.0 ++ h) before.2,
       );
   kept = λ m b e. go.kept m b (call.kept m b e);
+  works = works_before v.rewriter w.rewriter x.rewriter call.makes.rewriter go.works;
   pools = call.makes.pools ∙ go.pools;
 }
 
@@ -112,6 +114,7 @@ goes_wait n v w x go wait = record {
         subst (λ l. StandsAt configs l x.machine) (sym (append_assoc (more.0) (before.0) (h))) more.2,
       );
   kept = λ m b e. go.kept m b (wait.kept m b e);
+  works = works_then v.rewriter w.rewriter x.rewriter go.works wait.works;
   pools = wait.pools ∙ go.pools;
 }
 
@@ -121,12 +124,14 @@ pub record GoesDone (n : ℕ) (v w : HubState) : Type 0 where
       → (more : History) × (list_all (goes_on n) more ≡ true) × StandsAt configs (more ++ h) w.machine
       × (check_open h n ≡ true → is_done (more ++ h) n ≡ true)
   pub kept : AreKept v.begun w.begun
+  pub works : Works v.rewriter w.rewriter
   pub pools : w.pools ≡ v.pools
 
 goes_of : (n : ℕ) (v w : HubState) → GoesDone n v w → GoesOn n v w
 goes_of n v w go = record {
   adds = λ configs h st. let before = go.adds configs h st in (before.0, before.1, before.2);
   kept = go.kept;
+  works = go.works;
   pools = go.pools;
 }
 
@@ -145,6 +150,7 @@ goes_done n s v w x is go call = record {
         λ opened. done_now (machine_now w) n answer.0 (before.0 ++ h) done (stays_open n before.0 h before.1 opened),
       );
   kept = λ m b e. go.kept m b (call.kept m b e);
+  works = works_before v.rewriter w.rewriter x.rewriter call.makes.rewriter go.works;
   pools = call.makes.pools ∙ go.pools;
 }
 
@@ -165,6 +171,7 @@ goes_taken n j v w x go take = record {
         stands = answer.2.stands configs (before.0 ++ h) before.2;
       };
   of_check = (take.of_check.0, go.kept n (begun_of j) take.of_check.1);
+  works = works_before v.rewriter w.rewriter x.rewriter take.makes.makes.rewriter go.works;
   pools = take.makes.makes.pools ∙ go.pools;
 }
 
@@ -199,6 +206,7 @@ goes_fault R n e (Refused why) v w x of_check go call last = record {
         stands = stands_at_same configs (before.0 ++ h) w.machine x.machine call.unmade before.2;
       };
   of_check = tt;
+  works = works_before v.rewriter w.rewriter x.rewriter call.rewriter go.works;
   pools = call.pools ∙ go.pools;
 }
 goes_fault R n e JournalFault v w x of_check go call last = record {
@@ -210,6 +218,7 @@ goes_fault R n e JournalFault v w x of_check go call last = record {
         stands = stands_at_same configs (before.0 ++ h) w.machine x.machine call.unmade before.2;
       };
   of_check = tt;
+  works = works_before v.rewriter w.rewriter x.rewriter call.rewriter go.works;
   pools = call.pools ∙ go.pools;
 }
 goes_fault R n e WantOfMemory v w x of_check go call last = record {
@@ -221,6 +230,7 @@ goes_fault R n e WantOfMemory v w x of_check go call last = record {
         stands = stands_at_same configs (before.0 ++ h) w.machine x.machine call.unmade before.2;
       };
   of_check = tt;
+  works = works_before v.rewriter w.rewriter x.rewriter call.rewriter go.works;
   pools = call.pools ∙ go.pools;
 }
 

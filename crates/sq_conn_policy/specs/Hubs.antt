@@ -11,6 +11,7 @@ use Rattle.sq_session.specs.declared.front.Decided.TheVariants as decided
 use Rattle.sq_session.specs.declared.front.Opened.{Opened}
 use Rattle.sq_session.specs.declared.front.Opened.TheVariants as opened
 use Rattle.sq_model_state.specs.States.{State}
+use Rattle.sq_rewrite.specs.States.{RewriteState}
 use Rattle.sq_conn_policy.specs.declared.hub.HubFault.{HubFault}
 use Rattle.sq_conn_policy.specs.declared.hub.HubFault.TheVariants.{Refused, JournalFault, WantOfMemory}
 
@@ -64,11 +65,16 @@ asked_by before (Err fault) = before
 abbrev pub granted_by : ℕ → ℕ → ℕ
 granted_by before given = min (before + given) count_limit
 
--- what of a front no grant and no pause changes: its connection, the machine where the hub tells
--- it, and two counts
+-- the machine and the rewriter as a hub tells them
+pub record Served : Type 0 where
+  pub machine : State
+  pub rewriter : Option RewriteState
+
+-- what of a front no grant and no pause changes: its connection, the machine and the rewriter where
+-- the hub tells them, and two counts
 pub record Counted : Type 0 where
   pub conn : ℕ
-  pub machine : Option State
+  pub served : Option Served
   pub asked : ℕ
   pub refused : ℕ
 

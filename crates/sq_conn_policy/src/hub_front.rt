@@ -1,6 +1,5 @@
 //! `HubFront`: the front of one connection over a hub.
 ghost use Rattle.std.specs.Prelude.{◌≡◌, ◌≤◌, ◌-◌, ◌^◌, is_some, false};
-ghost use Rattle.sq_forward.specs.Meters.{granted_after};
 ghost use Rattle.std.specs.declared.option.Option.{Option};
 ghost use Rattle.sq_conn_policy.specs.Hubs.{opened_of, unclosed_of, OpenFails, CloseFails, DecideFails};
 ghost use Rattle.sq_conn_policy.specs.Judging.{GrantsOn};
@@ -8,13 +7,14 @@ ghost use Rattle.sq_conn_policy.specs.Tellings.{Tells};
 
 use crate::hub::{Hub, HubFault};
 use crate::judging::judge;
+use crate::rewriting::rewrite;
+use crate::seating::{HeldSeat, give_back, granted, take_seat};
 use sq_base::{Addr, ConnNo, Request};
 use sq_checks::Record;
 use sq_forward::Meter;
 use sq_machine::Refusal;
 use sq_outside::COUNT_LIMIT;
-use sq_pools::{ChooseFault, Seat};
-use sq_session::{CloseFault, Counts, Decided, Front, Opened, SitFault};
+use sq_session::{CloseFault, Counts, Decided, Front, Opened, Rewritten, SitFault};
 use std::alloc::Global;
 use std::sync::Wait;
 
@@ -24,7 +24,7 @@ pub struct HubFront<'a, R: Wait, H: Hub + Drop> {
     rt: &'a R,
     hub: H,
     conn: ConnNo,
-    seat: Option<Seat>,
+    seat: Option<HeldSeat>,
     short: bool,
     dry: u64,
     ghost dry_capped: { dry ≤ 2 ^ 63 - 1 },
@@ -34,8 +34,9 @@ impl<'a, R: Wait, H: Hub + Drop> HubFront<'a, R, H> {
     ghost use Rattle.std.specs.Prelude.{List, [], IfSome};
     ghost use Rattle.sq_rules.specs.Configurations.{Configuration};
     ghost use Rattle.sq_machine.specs.Entries.{History};
-    ghost use Rattle.sq_conn_policy.specs.Pieces.{FrontStands, machine_told};
+    ghost use Rattle.sq_conn_policy.specs.Pieces.{FrontStands, RunsTo, served_told};
     ghost use Rattle.sq_conn_policy.specs.Tellings.{StandsAt};
+    ghost use Rattle.sq_rewrite.specs.Calls.{Calls};
 
     /// The front of a connection of this number. It holds no seat. It takes no memory.
     pub fn new(rt: &'a R, hub: H, conn: ConnNo) -> HubFront<'a, R, H>
@@ -43,10 +44,12 @@ impl<'a, R: Wait, H: Hub + Drop> HubFront<'a, R, H> {
         ensures conn { result.conn ≡ conn }
         ensures seat { is_some result.seat ≡ false }
         ensures dry { result.dry ≡ 0 }
-        // Where the hub tells a state that stands for a history, the front stands for no answers so far.
+        // Where the hub tells a state that stands for a history, and one of a rewriter after some calls, the front
+        // stands for no answers so far.
         ensures stands { IfSome (H.told hub)
-            (λ v. (configs : List Configuration) (h : History) → StandsAt configs h v.machine
-            → FrontStands conn (machine_told (H.told hub)) (H.refused hub) []) }
+            (λ v. (configs : List Configuration) (h : History) (calls : Calls)
+            → StandsAt configs h v.machine → RunsTo v.rewriter calls
+            → FrontStands conn (served_told (H.told hub)) (H.refused hub) []) }
     {
         HubFront {
             rt,
@@ -70,7 +73,7 @@ impl<'a, R: Wait, H: Hub + Drop> HubFront<'a, R, H> {
 impl<'a, R: Wait, H: Hub + Drop> Meter for HubFront<'a, R, H> {
     ghost use Rattle.std.specs.Prelude.{is_some};
     ghost use Rattle.sq_conn_policy.specs.Hubs.{Counted};
-    ghost use Rattle.sq_conn_policy.specs.Pieces.{machine_told};
+    ghost use Rattle.sq_conn_policy.specs.Pieces.{served_told};
     ghost use Rattle.sq_forward.specs.Meters.{is_short, Gives, granted_after, dry_after_grant};
 
     ghost seated = { λ f. is_some f.seat };
@@ -85,7 +88,7 @@ impl<'a, R: Wait, H: Hub + Drop> Meter for HubFront<'a, R, H> {
 
     ghost besides = { λ f. record {
       conn = f.conn;
-      machine = machine_told (H.told f.hub);
+      served = served_told (H.told f.hub);
       asked = H.asked f.hub;
       refused = H.refused f.hub;
     } };
@@ -101,13 +104,13 @@ impl<'a, R: Wait, H: Hub + Drop> Meter for HubFront<'a, R, H> {
         ensures besides { ◌≡◌ {A = Counted}
             (record {
               conn = self.new.conn;
-              machine = machine_told (H.told self.new.hub);
+              served = served_told (H.told self.new.hub);
               asked = H.asked self.new.hub;
               refused = H.refused self.new.hub;
             })
             (record {
               conn = self.old.conn;
-              machine = machine_told (H.told self.old.hub);
+              served = served_told (H.told self.old.hub);
               asked = H.asked self.old.hub;
               refused = H.refused self.old.hub;
             }) }
@@ -138,12 +141,12 @@ impl<'a, R: Wait, H: Hub + Drop> Meter for HubFront<'a, R, H> {
 impl<'a, R: Wait, H: Hub + Drop> Front for HubFront<'a, R, H> {
     ghost use Rattle.std.proofs.Common.{ap, subst};
     ghost use Rattle.std.specs.Prelude.{List, ◌∷◌, ◌++◌, [], OnOk, OnErr};
-    ghost use Rattle.sq_session.specs.Fronts.{FrontAnswer, OfOpen, OfDecide, OfSit, OfClose, Decides, Asks, OpenRefuses, DecideRefuses, CloseRefuses, names_pool};
+    ghost use Rattle.sq_session.specs.Fronts.{FrontAnswer, OfOpen, OfDecide, OfRewrite, OfSit, OfClose, Decides, Rewrites, Asks, OpenRefuses, DecideRefuses, CloseRefuses, takes_seat};
     ghost use Rattle.sq_conn_policy.specs.Hubs.{Counted};
-    ghost use Rattle.sq_conn_policy.specs.Judging.{Closes, Judges, Opens, Rises, Sits};
-    ghost use Rattle.sq_conn_policy.specs.Pieces.{FrontStands, machine_told};
+    ghost use Rattle.sq_conn_policy.specs.Judging.{Closes, Judges, Opens, RewritesFor, Rises, Sits};
+    ghost use Rattle.sq_conn_policy.specs.Pieces.{FrontStands, served_told};
 
-    ghost stands = { λ f list. FrontStands f.conn (machine_told (H.told f.hub)) (H.refused f.hub)
+    ghost stands = { λ f list. FrontStands f.conn (served_told (H.told f.hub)) (H.refused f.hub)
         list };
 
     ghost asked = { λ f. H.asked f.hub };
@@ -155,9 +158,9 @@ impl<'a, R: Wait, H: Hub + Drop> Front for HubFront<'a, R, H> {
         ensures opens { Tells (Opens self.old.conn addr port result) (H.told self.old.hub)
             (H.told self.new.hub) }
         ensures told { (list : List FrontAnswer)
-            → FrontStands self.old.conn (machine_told (H.told self.old.hub))
+            → FrontStands self.old.conn (served_told (H.told self.old.hub))
             (H.refused self.old.hub) list
-            → FrontStands self.new.conn (machine_told (H.told self.new.hub))
+            → FrontStands self.new.conn (served_told (H.told self.new.hub))
             (H.refused self.new.hub) (list ++ OfOpen addr port result ∷ []) }
         ensures asked { H.asked self.new.hub ≡ H.asked self.old.hub }
         ensures refused_later { H.refused self.old.hub ≤ H.refused self.new.hub }
@@ -179,9 +182,9 @@ impl<'a, R: Wait, H: Hub + Drop> Front for HubFront<'a, R, H> {
         ensures judges { Tells (Judges self.old.conn request.now result) (H.told self.old.hub)
             (H.told self.new.hub) }
         ensures told { (list : List FrontAnswer)
-            → FrontStands self.old.conn (machine_told (H.told self.old.hub))
+            → FrontStands self.old.conn (served_told (H.told self.old.hub))
             (H.refused self.old.hub) list
-            → FrontStands self.new.conn (machine_told (H.told self.new.hub))
+            → FrontStands self.new.conn (served_told (H.told self.new.hub))
             (H.refused self.new.hub) (list ++ OfDecide request.now result ∷ []) }
         ensures record { Decides request.now result }
         ensures asked_later { H.asked self.old.hub ≤ H.asked self.new.hub }
@@ -196,39 +199,50 @@ impl<'a, R: Wait, H: Hub + Drop> Front for HubFront<'a, R, H> {
         judge(self.rt, alloc, &mut self.hub, self.conn, request)
     }
 
+    fn rewrite(&mut self, alloc: Global, judged: &Record) -> Rewritten
+        // Where the hub tells, it is what was taken of the question that was put for this record. Besides, the request
+        // stays the same only where there is no rewriter, or where it has no place or no number for the question.
+        ensures takes { Tells (RewritesFor judged.now result) (H.told self.old.hub)
+            (H.told self.new.hub) }
+        ensures told { (list : List FrontAnswer)
+            → FrontStands self.old.conn (served_told (H.told self.old.hub))
+            (H.refused self.old.hub) list
+            → FrontStands self.new.conn (served_told (H.told self.new.hub))
+            (H.refused self.new.hub) (list ++ OfRewrite judged.now result ∷ []) }
+        ensures rewrites { Rewrites judged.now.sight.request result }
+        ensures asked { H.asked self.new.hub ≡ H.asked self.old.hub }
+        ensures refused_later { H.refused self.old.hub ≤ H.refused self.new.hub }
+        ensures seated { is_some self.new.seat ≡ is_some self.old.seat }
+        ensures granted { H.granted self.new.hub ≡ H.granted self.old.hub }
+        ensures dry { self.new.dry ≡ self.old.dry }
+    {
+        rewrite(self.rt, alloc, &mut self.hub, judged)
+    }
+
     fn sit(&mut self, alloc: Global, judged: &Record) -> Result<(), SitFault>
         requires unseated { is_some self.old.seat ≡ false }
-        // It is the hub's choice of the record's pool, if that has one.
+        // It is the hub's choice of the record's pool, if that has one; where the buckets of that are by tags, for the
+        // tag of the record, if that has one.
         ensures sits { Tells (Sits judged.now result self.old.seat self.new.seat)
             (H.told self.old.hub) (H.told self.new.hub) }
         ensures told { (list : List FrontAnswer)
-            → FrontStands self.old.conn (machine_told (H.told self.old.hub))
+            → FrontStands self.old.conn (served_told (H.told self.old.hub))
             (H.refused self.old.hub) list
-            → FrontStands self.new.conn (machine_told (H.told self.new.hub))
+            → FrontStands self.new.conn (served_told (H.told self.new.hub))
             (H.refused self.new.hub) (list ++ OfSit judged.now result ∷ []) }
-        ensures seated { OnOk result (is_some self.new.seat ≡ names_pool judged.now) }
+        ensures seated { OnOk result (is_some self.new.seat ≡ takes_seat judged.now) }
         ensures refused_seat { OnErr result (is_some self.new.seat ≡ false) }
         ensures asked { H.asked self.new.hub ≡ H.asked self.old.hub }
         ensures refused_later { H.refused self.old.hub ≤ H.refused self.new.hub }
         ensures granted { H.granted self.new.hub ≡ H.granted self.old.hub }
         ensures dry { self.new.dry ≡ self.old.dry }
     {
-        let Some(pool) = judged.pool() else {
-            return Ok(());
-        };
-        match self.hub.choose(
-            alloc,
-            judged.epoch(),
-            judged.config(),
-            pool,
-            judged.sight().addr,
-        ) {
+        match take_seat(alloc, &mut self.hub, judged) {
             Ok(seat) => {
-                self.seat = Some(seat);
+                self.seat = seat;
                 Ok(())
             }
-            Err(ChooseFault::Spent) => Err(SitFault::Spent),
-            Err(ChooseFault::WantOfMemory) => Err(SitFault::WantOfMemory),
+            Err(fault) => Err(fault),
         }
     }
 
@@ -236,9 +250,9 @@ impl<'a, R: Wait, H: Hub + Drop> Front for HubFront<'a, R, H> {
         // It gives back the seat that it holds.
         ensures rises { Tells (Rises self.old.seat) (H.told self.old.hub) (H.told self.new.hub) }
         ensures told { (list : List FrontAnswer)
-            → FrontStands self.old.conn (machine_told (H.told self.old.hub))
+            → FrontStands self.old.conn (served_told (H.told self.old.hub))
             (H.refused self.old.hub) list
-            → FrontStands self.new.conn (machine_told (H.told self.new.hub))
+            → FrontStands self.new.conn (served_told (H.told self.new.hub))
             (H.refused self.new.hub) list }
         ensures seated { is_some self.new.seat ≡ false }
         ensures asked { H.asked self.new.hub ≡ H.asked self.old.hub }
@@ -247,7 +261,7 @@ impl<'a, R: Wait, H: Hub + Drop> Front for HubFront<'a, R, H> {
         ensures dry { self.new.dry ≡ self.old.dry }
     {
         match self.seat.take() {
-            Some(seat) => self.hub.leave(seat),
+            Some(seat) => give_back(&mut self.hub, seat),
             None => {}
         }
     }
@@ -257,9 +271,9 @@ impl<'a, R: Wait, H: Hub + Drop> Front for HubFront<'a, R, H> {
         ensures closes { Tells (Closes self.old.conn result) (H.told self.old.hub)
             (H.told self.new.hub) }
         ensures told { (list : List FrontAnswer)
-            → FrontStands self.old.conn (machine_told (H.told self.old.hub))
+            → FrontStands self.old.conn (served_told (H.told self.old.hub))
             (H.refused self.old.hub) list
-            → FrontStands self.new.conn (machine_told (H.told self.new.hub))
+            → FrontStands self.new.conn (served_told (H.told self.new.hub))
             (H.refused self.new.hub) (list ++ OfClose result ∷ []) }
         ensures asked { H.asked self.new.hub ≡ H.asked self.old.hub }
         ensures refused_later { H.refused self.old.hub ≤ H.refused self.new.hub }
@@ -286,7 +300,7 @@ impl<'a, R: Wait, H: Hub + Drop> Front for HubFront<'a, R, H> {
     ghost refused_besides = { λ a b e. ap Counted.refused e };
 
     ghost stands_besides = { λ a b e list s.
-        subst (λ k. FrontStands k.conn k.machine k.refused list) e s };
+        subst (λ k. FrontStands k.conn k.served k.refused list) e s };
 }
 
 // What the opening of a connection comes to that the hub did not open.
@@ -311,21 +325,5 @@ fn unclosed_of(fault: HubFault) -> CloseFault
         HubFault::Refused(why) => CloseFault::Refused(why),
         HubFault::JournalFault => CloseFault::JournalFault,
         HubFault::WantOfMemory => CloseFault::WantOfMemory,
-    }
-}
-
-// What the hub grants on a seat; without one all that is wanted.
-fn granted<H: Hub>(hub: &mut H, seat: &Option<Seat>, wanted: u64) -> u64
-    ensures told { Tells (GrantsOn seat.now wanted result) (H.told hub.old) (H.told hub.new) }
-    ensures within { result ≤ wanted }
-    ensures all { is_some seat.now ≡ false → result ≡ wanted }
-    ensures granted { H.granted hub.new
-        ≡ granted_after (is_some seat.now) (H.granted hub.old) result }
-    ensures asked { H.asked hub.new ≡ H.asked hub.old }
-    ensures refused { H.refused hub.new ≡ H.refused hub.old }
-{
-    match seat {
-        Some(seat) => hub.grant(seat, wanted),
-        None => wanted,
     }
 }

@@ -20,13 +20,15 @@ pub(crate) fn same_request(one: &Request, other: &Request) -> bool
     same_fields(&one.fields, &other.fields)
 }
 
-fn same_text(one: &Text, other: &Text) -> bool
+/// Whether both are one text.
+pub(crate) fn same_text(one: &Text, other: &Text) -> bool
     ensures { Decides result (one.now ≡ other.now) }
 {
     one.as_bytes() == other.as_bytes()
 }
 
-fn same_fields(one: &Fields, other: &Fields) -> bool
+/// Whether both are one list of fields.
+pub(crate) fn same_fields(one: &Fields, other: &Fields) -> bool
     ensures { Decides result (one.now ≡ other.now) }
 {
     same_list(one.as_slice(), other.as_slice())

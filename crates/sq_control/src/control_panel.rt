@@ -48,9 +48,10 @@ impl<'a, R: Wait, D: DeskCalls, A: Ledger, M: Ledger, N: Ledger, G: Ledger> Lock
 
 impl<'a, R: Wait, D: DeskCalls, A: Ledger, M: Ledger, N: Ledger, G: Ledger> Beside
     for Locks<'a, R, D, A, M, N, G> {
-    // Want of memory is passed over: the pools make the generation where a seat is chosen.
+    // Want of memory is passed over: pools of either kind make the generation where a seat is chosen.
     fn renew(&mut self, epoch: EpochNo, config: &Arc<Config>, now: Moment) {
         let _ = sq_shared::renew(self.rt, self.alloc, self.bank, epoch, config, now);
+        let _ = sq_shared::renew_tags(self.rt, self.alloc, self.bank, epoch, config, now);
     }
 
     fn has_stopped(&mut self) -> bool {

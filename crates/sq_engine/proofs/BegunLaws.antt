@@ -1,5 +1,5 @@
 -- What open checks have from their beginning on stays as it is.
-use Rattle.std.proofs.Common.{◌≡◌, ◌∙◌, ◌==◌, ℕ, List, [], ◌∷◌, ◌++◌, Bool, true, false, if◌then◌else◌, Option, None, Some, Result, Ok, Err, OnOk, OnErr, refl, ap, sym, subst}
+use Rattle.std.proofs.Common.{◌≡◌, ◌∙◌, ◌==◌, ◌+◌, ◌≤◌, ℕ, min, List, [], ◌∷◌, ◌++◌, Bool, true, false, if◌then◌else◌, Option, None, Some, Result, Ok, Err, OnOk, OnErr, refl, ap, sym, subst, arith}
 use Rattle.std.proofs.lemmas.Option.{none-some, same_Some}
 use Rattle.std.specs.Option.{option_map}
 use Rattle.sq_base.specs.declared.helpers.Answer.{Answer}
@@ -9,14 +9,15 @@ use Rattle.sq_base.specs.Requests.{HttpRequest}
 use Rattle.sq_rules.specs.Configurations.{Configuration}
 use Rattle.sq_machine.specs.Losses.{Loss}
 use Rattle.sq_rules.specs.declared.sights.Sight.{Sight}
+use Rattle.sq_frames.specs.Positions.{look_limit}
 use Rattle.sq_checks.specs.OpenChecks.{CheckParts, all_before, all_ended, begun_parts, change_at, ended_by, looked, rows_of, settled, settled_by, without_entry}
 use Rattle.sq_checks.specs.Stages.{came_in}
 use Rattle.sq_checks.specs.Tables.{value_at}
-use Rattle.sq_engine.specs.Begun.{AreKept, AreKeptBut, Begun, HasBegun, begun_of}
+use Rattle.sq_engine.specs.Begun.{AreKept, AreKeptBut, Begun, HasBegun, begun_at, begun_of, looked_more}
 use Rattle.sq_engine.specs.Handing.{all_lost}
 use Rattle.sq_engine.specs.Lines.{all_given}
 use Rattle.sq_engine.specs.declared.lines.Share.{Share}
-use Rattle.sq_engine.proofs.TableLaws.{added_at, changed_at, ended_at, mapped_if, none_above, none_if, number_self, or_this, removed_at, some_if}
+use Rattle.sq_engine.proofs.TableLaws.{added_at, changed_at, ended_at, mapped_if, none_above, none_if, number_is, number_self, or_this, removed_at, some_if}
 
 pub kept_same : (es : List (ℕ × CheckParts)) → AreKept es es
 kept_same es = λ n b h. h
@@ -24,28 +25,47 @@ kept_same es = λ n b h. h
 pub kept_then : (xs ys zs : List (ℕ × CheckParts)) → AreKept xs ys → AreKept ys zs → AreKept xs zs
 kept_then xs ys zs first second = λ n b h. first n b (second n b h)
 
-looks_if : (t : Bool) (b : Begun) → record b { looks = if t then b.looks else b.looks } ≡ b
-looks_if true b = refl
-looks_if false b = refl
+-- what check m has, where it is open, has no more looks than are counted
+abbrev pub IsFew : ℕ → List (ℕ × CheckParts) → Type 0
+IsFew m es = (b : Begun) → begun_at es m ≡ Some b → b.looks ≤ look_limit
+
+pub few_found : (m : ℕ) (es : List (ℕ × CheckParts)) (k : CheckParts) → value_at es m ≡ Some k → k.looks ≤ look_limit
+    → IsFew m es
+few_found m es k is few = λ b h.
+    subst (λ (z : Begun). z.looks ≤ look_limit) (same_Some _ _ (sym (ap (option_map begun_of) is) ∙ h)) few
+
+pub few_unknown : (m : ℕ) (es : List (ℕ × CheckParts)) → value_at es m ≡ None → IsFew m es
+few_unknown m es is = λ b h. absurd (none-some b (sym (ap (option_map begun_of) is) ∙ h))
+
+no_more : (b : Begun) → b.looks ≤ look_limit → b ≡ looked_more 0 b
+no_more b few =
+    let same : b.looks ≡ min look_limit (b.looks + 0) = omega (arith, few) in
+    ap (λ l. record b { looks = l }) same
+
+none_if_same : (m n : ℕ) (t : Bool) (b : Begun) (es : List (ℕ × CheckParts)) → (m == n) ≡ t → IsFew m es
+    → begun_at es n ≡ Some b
+    → b ≡ (if t then looked_more 0 b else b)
+none_if_same m n true b es same few h =
+    no_more b (few b (ap (begun_at es) (number_is m n same) ∙ h))
+none_if_same m n false b es same few h = refl
 
 -- where no check looked at more facts
-pub kept_but : (m : ℕ) (xs ys : List (ℕ × CheckParts)) → AreKept xs ys → AreKeptBut m xs ys
-kept_but m xs ys all = λ n b h. (b.looks, all n b h ∙ ap Some (sym (looks_if (m == n) b)))
+pub kept_but : (m : ℕ) (xs ys : List (ℕ × CheckParts)) → IsFew m xs → AreKept xs ys → AreKeptBut m xs ys
+kept_but m xs ys few all = λ n b h. (b, 0, all n b h, none_if_same m n (m == n) b xs refl few (all n b h))
 
 -- and where one may have done so between
 pub kept_between : (m : ℕ) (ws xs ys zs : List (ℕ × CheckParts)) → AreKept ws xs → AreKeptBut m xs ys → AreKept ys zs
     → AreKeptBut m ws zs
 kept_between m ws xs ys zs first second third = λ n b h.
-    let q = second n b (third n b h) in (q.0, first n (record b { looks = if m == n then q.0 else b.looks }) q.1)
+    let q = second n b (third n b h) in (q.0, q.1, first n q.0 q.2, q.3)
 
 looked_begun : (t : Bool) (k : ℕ) (o : Option CheckParts) (b : Begun)
     → option_map begun_of (mapped_if t (looked k) o) ≡ Some b
-    → (j : ℕ) × (option_map begun_of o ≡ Some (record b { looks = if t then j else b.looks }))
+    → (a : Begun) × (j : ℕ) × (option_map begun_of o ≡ Some a) × (b ≡ (if t then looked_more j a else a))
 looked_begun true k None b e = absurd (none-some b e)
 looked_begun true k (Some x) b e =
-    let same : begun_of (looked k x) ≡ b = same_Some _ _ e in
-    (x.looks, ap (λ (y : Begun). Some (record y { looks = x.looks })) same)
-looked_begun false k o b e = (b.looks, e)
+    let same : begun_of (looked k x) ≡ b = same_Some _ _ e in (begun_of x, k, refl, sym same)
+looked_begun false k o b e = (b, 0, e, refl)
 
 -- where a check looked at more facts
 pub kept_looked : (m k : ℕ) (old new : List (ℕ × CheckParts)) → new ≡ change_at m (looked k) old → AreKeptBut m old new

@@ -3,13 +3,12 @@ use Rattle.std.proofs.Common.{◌≡◌, ◌∙◌, ◌==◌, ℕ, List, Bool, t
 use Rattle.std.proofs.lemmas.Option.{none-some, same_Some}
 use Rattle.std.specs.declared.result.Result.{Result}
 use Rattle.sq_checks.specs.Conns.{check_in}
-use Rattle.sq_checks.specs.OpenChecks.{CheckParts, change_at, finished, looked, noted, rows_of, settled, settled_by}
+use Rattle.sq_checks.specs.OpenChecks.{CheckParts, change_at, finished, looked, rows_of, settled, settled_by, waited}
 use Rattle.sq_checks.specs.Stages.{came_in, need_in}
 use Rattle.sq_checks.specs.Tables.{value_at}
 use Rattle.sq_checks.specs.declared.stages.CheckStage.{CheckStage}
 use Rattle.sq_checks.specs.declared.stages.CheckStage.TheVariants as stage
 use Rattle.sq_rules.specs.declared.outcomes.Outcome.{Outcome}
-use Rattle.sq_model_rows.specs.declared.stepping.Stepped.TheVariants as told
 use Rattle.sq_epochs.specs.EpochStates.{EpochState, epoch_at, part_at}
 use Rattle.sq_class.specs.Parts.{PartState}
 use Rattle.sq_engine.proofs.KeyLaws.{keyed_from}
@@ -136,10 +135,8 @@ pub finished_keeps : (o : Outcome) (k : CheckParts) → need_in k.stage ≡ None
 finished_keeps o k e = record { epoch_is = refl; config_is = refl; need_is = sym e }
 
 -- a step of a check that waits on
-pub waited_keeps : (q class : ℕ) (key : List ℕ) (put : Bool) (k : CheckParts)
-    → need_in k.stage ≡ Some (record { question = q; class = class; key = key })
-    → Keeps k (noted (record { stepped = told.Waits q; took = None; put = put }) class key k)
-waited_keeps q class key put k e = record { epoch_is = refl; config_is = refl; need_is = sym e }
+pub waited_keeps : (k : CheckParts) → Keeps k (waited k)
+waited_keeps k = record { epoch_is = refl; config_is = refl; need_is = refl }
 
 -- the engine after such an answer was put among the others of a check, or was not
 pub settled_engine : {A E : Type 0} (v : EngineView) (cs : List (ℕ × CheckParts)) (n : ℕ) (r : Result A E) → IsEngine v

@@ -18,7 +18,7 @@ use Rattle.sq_rules.specs.Sights.{unversioned_sight}
 use Rattle.sq_rules.specs.Verdicts.{verdict_over}
 use Rattle.sq_model_rows.specs.CheckRows.{held_at}
 use Rattle.sq_model_laws.proofs.ConfigurationLaws.{NeedsClass, needs_class}
-use Rattle.sq_checks.specs.OpenChecks.{CheckParts, answers_in, change_at, comes_to, looked, row, rows_of, settled, settled_by}
+use Rattle.sq_checks.specs.OpenChecks.{CheckParts, answers_in, change_at, comes_to, looked, row, rows_of, says_waits, settled, settled_by}
 use Rattle.sq_checks.specs.Stages.{came_in, is_settled, need_in, question_in}
 use Rattle.sq_checks.specs.Tables.{value_at}
 use Rattle.sq_checks.specs.declared.stages.Need.{Need}
@@ -29,7 +29,7 @@ use Rattle.sq_model_state.specs.Changes.{after_step_of}
 use Rattle.sq_model_state.specs.Says.{says_in, says_place_in, says_value_in, value_in}
 use Rattle.sq_engine.specs.Engines.{IsEngine}
 use Rattle.sq_engine.specs.EngineViews.{EngineView, config_in, state_of}
-use Rattle.sq_engine.specs.Stepping.{NeedsAcl, after_step_held, after_step_now, epoch_of, says_now, says_of_wait, says_waits, step_now, step_of}
+use Rattle.sq_engine.specs.Stepping.{NeedsAcl, after_step_held, after_step_now, epoch_of, says_now, says_of_wait, step_now, step_of}
 use Rattle.sq_engine.specs.Tellings.{IsTold}
 use Rattle.sq_engine.proofs.AskingLaws.{part_of_class}
 use Rattle.sq_engine.proofs.ResolveLaws.{says_here}
@@ -65,6 +65,10 @@ question_by stage.Ready o e = ap (option_map (λ x. x.question)) e
 question_by (stage.Came a) o e = ap (option_map (λ x. x.question)) e
 question_by (stage.Waits n) o e = ap (option_map (λ x. x.question)) e
 question_by (stage.Done r) o e = ap (option_map (λ x. x.question)) e
+
+-- a check that waits waits for the question of what it needs
+pub waits_for_need : (k : CheckParts) (x : Need) → need_in k.stage ≡ Some x → question_in k.stage ≡ Some x.question
+waits_for_need k x is = question_by k.stage (Some x) is
 
 -- a check that waits waits on
 pub says_waiting : (v : EngineView) (n t : ℕ) (k : CheckParts) (x : Need) → need_in k.stage ≡ Some x

@@ -1,11 +1,12 @@
 -- What an open check has from its beginning on, and how many facts it looked at.
-use Rattle.std.specs.Prelude.{◌≡◌, ℕ, List, false, if◌then◌else◌, ◌==◌, Some}
+use Rattle.std.specs.Prelude.{◌≡◌, ℕ, ◌+◌, min, List, false, if◌then◌else◌, ◌==◌, Some}
 use Rattle.std.specs.Option.{option_map}
 use Rattle.std.specs.declared.option.Option.{Option}
 use Rattle.sq_base.specs.Requests.{HttpRequest}
 use Rattle.sq_rules.specs.Configurations.{Configuration}
 use Rattle.sq_rules.specs.Verdicts.{pool_of}
 use Rattle.sq_rules.specs.declared.sights.Sight.{Sight}
+use Rattle.sq_frames.specs.Positions.{look_limit}
 use Rattle.sq_checks.specs.OpenChecks.{CheckParts}
 use Rattle.sq_checks.specs.Tables.{value_at}
 
@@ -28,11 +29,15 @@ begun_at checks n = option_map begun_of (value_at checks n)
 abbrev pub AreKept : List (ℕ × CheckParts) → List (ℕ × CheckParts) → Type 0
 AreKept old new = (n : ℕ) (b : Begun) → begun_at new n ≡ Some b → begun_at old n ≡ Some b
 
+-- after so many looks more
+abbrev pub looked_more : ℕ → Begun → Begun
+looked_more k b = record b { looks = min look_limit (b.looks + k) }
+
 -- the same, but that check m may have looked at more facts
 abbrev pub AreKeptBut : ℕ → List (ℕ × CheckParts) → List (ℕ × CheckParts) → Type 0
 AreKeptBut m old new = (n : ℕ) (b : Begun) → begun_at new n ≡ Some b
-    → (looks : ℕ)
-    × (begun_at old n ≡ Some (record b { looks = if m == n then looks else b.looks }))
+    → (a : Begun) × (k : ℕ) × (begun_at old n ≡ Some a)
+    × (b ≡ (if m == n then looked_more k a else a))
 
 -- check n began with this configuration and this very request, has the pool of these, and looked at
 -- nothing; each other check has what it had

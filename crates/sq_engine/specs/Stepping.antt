@@ -14,6 +14,7 @@ use Rattle.sq_machine.specs.Next.{Next, refuses}
 use Rattle.sq_machine.specs.StepRule.{StepSays}
 use Rattle.sq_rules.specs.Verdicts.{verdict_over}
 use Rattle.sq_model_rows.specs.CheckRows.{Held, held_at}
+use Rattle.sq_checks.specs.OpenChecks.{says_waits}
 use Rattle.sq_model_rows.specs.declared.stepping.Stepped.{Stepped}
 use Rattle.sq_model_rows.specs.declared.stepping.Stepped.TheVariants as stepped
 use Rattle.sq_model_state.specs.Answers.{name_in}
@@ -21,10 +22,7 @@ use Rattle.sq_model_state.specs.Changes.{after_step_of}
 use Rattle.sq_model_state.specs.Says.{says_in}
 use Rattle.sq_model_state.specs.States.{State}
 
--- the check waits for this question
-abbrev pub says_waits : ℕ → StepSays
-says_waits q = record { answer = told.Waits q; put = None; took = None }
-
+-- a check that waits for a question waits on
 abbrev pub says_of_wait : Option ℕ → StepSays → StepSays
 says_of_wait None s = s
 says_of_wait (Some q) s = says_waits q

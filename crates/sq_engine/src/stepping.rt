@@ -4,10 +4,13 @@ ghost use Rattle.sq_base.specs.Distinct.{has_answer};
 ghost use Rattle.sq_machine.specs.Machine.{step_next};
 ghost use Rattle.sq_machine.specs.declared.entries.Event.TheVariants as event;
 ghost use Rattle.sq_machine.specs.StepRule.{class_of_acl, says_done};
+ghost use Rattle.sq_rules.specs.Keys.{key_text};
 ghost use Rattle.sq_rules.specs.declared.values.Value.TheVariants as value;
 ghost use Rattle.sq_model_rows.specs.CheckRows.{after_step};
-ghost use Rattle.sq_checks.specs.OpenChecks.{HasCome, change_at, looked, rows_of, settled};
-ghost use Rattle.sq_checks.specs.Stages.{is_idle, is_settled, need_in};
+ghost use Rattle.sq_model_rows.specs.declared.stepping.Stepped.TheVariants as stepped;
+ghost use Rattle.sq_checks.specs.Givens.{looks_over};
+ghost use Rattle.sq_checks.specs.OpenChecks.{HasCome, change_at, looked, rows_of, says_waits, settled};
+ghost use Rattle.sq_checks.specs.Stages.{is_idle, is_settled, need_in, question_in};
 ghost use Rattle.sq_checks.specs.Tables.{value_at};
 ghost use Rattle.sq_epochs.specs.EpochStates.{part_at};
 ghost use Rattle.sq_model_state.specs.Changes.{after_step_of};
@@ -16,15 +19,15 @@ ghost use Rattle.sq_model_state.specs.States.{IsSame};
 ghost use Rattle.sq_engine.specs.Begun.{AreKept, AreKeptBut};
 ghost use Rattle.sq_engine.specs.EngineViews.{state_of};
 ghost use Rattle.sq_engine.specs.Promised.{IsPromised};
-ghost use Rattle.sq_engine.specs.Stepping.{NeedsAcl, after_step_now, epoch_of, says_waits, step_now, stepped_told};
+ghost use Rattle.sq_engine.specs.Stepping.{NeedsAcl, after_step_now, epoch_of, step_now, stepped_told};
 ghost use Rattle.sq_engine.specs.Tellings.{IsTold};
 
 use crate::engines::Engine;
-use sq_base::{CheckNo, Copying, EpochNo, Moment, QuestionNo, Text, WantOfMemory};
+use sq_base::{CheckNo, EpochNo, Moment, QuestionNo, Text, WantOfMemory};
 use sq_checks::class_of;
 use sq_class::ResolveFault;
 use sq_machine::{Refusal, later};
-use sq_model_rows::{StepEffect, Stepped};
+use sq_model_rows::Stepped;
 use sq_rules::{Config, Outcome, Value};
 use std::alloc::Global;
 
@@ -50,33 +53,20 @@ fn puts_after(puts: u64, put: bool) -> u64
 }
 
 impl Engine {
-    // A step of a check that waits for this question, which is of this class and key.
-    fn wait_on(
-        &mut self,
-        check: CheckNo,
-        question: QuestionNo,
-        class: u32,
-        key: Text,
-        moment: Moment,
-    )
+    // A step of a check that waits for this question. It takes no memory.
+    fn wait_on(&mut self, check: CheckNo, question: QuestionNo, moment: Moment) -> Stepped
         requires there { is_some (value_at self.old.checks check) ≡ true }
         requires waits { IfSome (value_at self.old.checks check)
-            (λ k. need_in k.stage ≡ Some
-            (record { question = question; class = class; key = key })) }
-        requires other { IfSome (value_at self.old.checks check)
-            (λ k. has_answer k.answers class key ≡ false) }
+            (λ k. question_in k.stage ≡ Some question) }
+        ensures told { result ≡ stepped.Waits question }
         ensures value { self.new ≡ record self.old { checks = self.new.checks; latest = moment } }
         ensures rows { rows_of self.new.checks
             ≡ after_step check (says_waits question) (rows_of self.old.checks) }
         ensures kept { AreKept self.old.checks self.new.checks }
     {
-        let said = StepEffect {
-            stepped: Stepped::Waits(question),
-            took: None,
-            put: false,
-        };
-        self.checks.note(check, said, class, key);
+        self.checks.wait_on(check);
         self.latest = moment;
+        Stepped::Waits(question)
     }
 
     // Puts the answer that came to a check among its others, if one did.
@@ -106,12 +96,14 @@ impl Engine {
         self.latest = moment;
     }
 
-    // A step of a check that needs the answer of this key of the class at this place of its epoch.
+    // A step of a check that needs the answer of the external acl at this place, which is of this key of the class at
+    // this place of its epoch, and looked at as many facts as the walk over its answers has leaf acls.
     fn resolve(
         &mut self,
         alloc: Global,
         check: CheckNo,
         epoch: EpochNo,
+        acl: u32,
         class: u32,
         key: Text,
         moment: Moment,
@@ -122,8 +114,14 @@ impl Engine {
         requires idle { IfSome (value_at self.old.checks check) (λ k. is_idle k.stage ≡ true) }
         requires needs_none { IfSome (value_at self.old.checks check)
             (λ k. need_in k.stage ≡ None) }
+        requires of_class { IfSome (value_at self.old.checks check)
+            (λ k. class_of_acl k.config.acls acl ≡ Some class) }
+        requires of_key { IfSome (value_at self.old.checks check)
+            (λ k. key_text k.config acl k.sight ≡ key) }
         requires other { IfSome (value_at self.old.checks check)
             (λ k. has_answer k.answers class key ≡ false) }
+        requires looks { IfSome (value_at self.old.checks check)
+            (λ k. k.looks ≡ looks_over k.answers k.config k.sight) }
         ensures told { IsTold (stepped_told (state_of self.old) epoch)
             (step_next self.old.puts
             (says_place_in (state_of self.old) moment epoch key (Some class))) result }
@@ -145,7 +143,7 @@ impl Engine {
         };
         let stepped = said.stepped;
         self.puts = puts_after(self.puts, said.put);
-        self.checks.note(check, said, class, key);
+        self.checks.note(check, said, acl, class, key);
         self.latest = moment;
         Ok(stepped)
     }
@@ -198,7 +196,7 @@ impl Engine {
             }
             Value::Need { acl, key } => {
                 let class = needed_class(open.config(), acl);
-                self.resolve(alloc, check, epoch, class, key, moment)
+                self.resolve(alloc, check, epoch, acl, class, key, moment)
             }
         }
     }
@@ -212,6 +210,7 @@ impl Engine {
             (IsSame (state_of self.new)
             (after_step_now (state_of self.old) check (max now self.old.latest))) }
         ensures err { OnErr result (IsSame (state_of self.new) (state_of self.old)) }
+        ensures unknown { value_at self.old.checks check ≡ None → self.new ≡ self.old }
         ensures kept { AreKeptBut check self.old.checks self.new.checks }
     {
         let moment = later(now, self.latest);
@@ -220,13 +219,7 @@ impl Engine {
         };
         if let Some(need) = open.need() {
             let question = need.question;
-            let class = need.class;
-            let key = match need.key.copy(alloc) {
-                Ok(key) => key,
-                Err(WantOfMemory) => return Err(Refusal::WantOfMemory),
-            };
-            self.wait_on(check, question, class, key, moment);
-            return Ok(Stepped::Waits(question));
+            return Ok(self.wait_on(check, question, moment));
         }
         match self.settle(alloc, check) {
             Ok(()) => {}
@@ -239,7 +232,8 @@ impl Engine {
         self.go_on(alloc, check, value, moment)
     }
 
-    /// A check goes on: it takes an answer, waits for one, or has its outcome.
+    /// A check goes on: it takes an answer, waits for one, or has its outcome. A step of a check that is not open
+    /// changes nothing.
     pub fn step(&mut self, alloc: Global, check: CheckNo, now: Moment) -> Result<Stepped, Refusal>
         ensures told { IsTold (stepped_told (state_of self.old)
             (epoch_of (state_of self.old) check))
@@ -248,6 +242,7 @@ impl Engine {
             (IsSame (state_of self.new)
             (after_step_now (state_of self.old) check (max now self.old.latest))) }
         ensures err { OnErr result (IsSame (state_of self.new) (state_of self.old)) }
+        ensures unknown { value_at self.old.checks check ≡ None → self.new ≡ self.old }
         ensures kept { AreKeptBut check self.old.checks self.new.checks }
         ensures promised { IsPromised
             (stepped_told (state_of self.old) (epoch_of (state_of self.old) check))

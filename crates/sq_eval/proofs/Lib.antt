@@ -1,3 +1,6 @@
+mod DecideLaws
 mod Defaults
 mod PoolLaws
+mod SeenLaws
+mod TagLaws
 mod TakingLaws

@@ -4,7 +4,7 @@ use Rattle.std.specs.List.{list_all}
 use Rattle.sq_base.specs.Addresses.{Address}
 use Rattle.sq_rules.proofs.FactLaws as fact_laws
 use Rattle.sq_rules.proofs.ValueLaws.{AgreeOnLeaves, fast_rules}
-use Rattle.sq_rules.specs.Configurations.{Configuration, are_known_bodies, has_buckets, is_fast_rule, is_known_rule, is_leaf_body, is_pool, slow_ones, some_slow}
+use Rattle.sq_rules.specs.Configurations.{Configuration, are_known, are_known_bodies, has_buckets, is_fast_rule, is_known_rule, is_leaf_body, is_pool, slow_ones, some_slow}
 use Rattle.sq_rules.specs.Facts.{body_fact, facts_of}
 use Rattle.sq_rules.specs.Values.{taken_at, taken_of_acl, taken_of_body, value_if}
 use Rattle.sq_rules.specs.Verdicts.{default_of, is_in_pool, is_passed_over, outcome_so_far, pool_from}
@@ -36,6 +36,11 @@ rules_known acls (r ∷ rules) fast =
     (left (is_known_rule (length acls) r) (not (some_slow (slow_ones acls) r.terms))
     (left (is_fast_rule acls r) (list_all (is_fast_rule acls) rules) fast))
     (rules_known acls rules (right (is_fast_rule acls r) (list_all (is_fast_rule acls) rules) fast))
+
+-- a rule of which no term asks a helper names acls that are there
+pub fast_known : (acls : List Acl) (r : Rule) → is_fast_rule acls r ≡ true
+    → are_known (length acls) r.terms ≡ true
+fast_known acls r fast = left (is_known_rule (length acls) r) (not (some_slow (slow_ones acls) r.terms)) fast
 
 pool_fast : (acls : List Acl) (p : Pool) → is_pool acls p ≡ true → list_all (is_fast_rule acls) p.lists ≡ true
 pool_fast acls p is = right (has_buckets p.class (length p.pairs)) (list_all (is_fast_rule acls) p.lists) is

@@ -1,2 +1,3 @@
 pub mod Rans
 pub mod Takings
+pub mod Traces

@@ -1,9 +1,12 @@
 -- What rules came to, before names and texts are copied.
-use Rattle.std.specs.Prelude.{ℕ, List, false, Some, None, slice_get}
+use Rattle.std.specs.Prelude.{ℕ, List, Bool, false, Some, None, slice_get}
 use Rattle.std.specs.declared.option.Option.{Option}
 use Rattle.sq_rules.specs.Verdicts.{name_of}
 use Rattle.sq_rules.specs.declared.configs.Acl.{Acl}
+use Rattle.sq_rules.specs.declared.configs.Rule.{Rule}
 use Rattle.sq_rules.specs.declared.outcomes.Why.TheVariants as why
+use Rattle.sq_rules.specs.declared.values.TermValue.{TermValue}
+use Rattle.sq_rules.specs.declared.values.TermValue.TheVariants.{Hit, Miss, Fault, Need}
 use Rattle.sq_rules.specs.declared.values.Value.{Value}
 use Rattle.sq_rules.specs.declared.values.Value.TheVariants as value
 use Rattle.sq_eval.specs.declared.rules.RulesResult.{RulesResult}
@@ -30,3 +33,10 @@ rule_of (ran.Fault rule acl cause) = rule
 rule_of (ran.Default allow) = 0
 rule_of ran.Empty = 0
 rule_of (ran.Need acl key) = 0
+
+-- whether a rule with this value allows, if it decides
+abbrev pub shown_as : Rule → TermValue → Option Bool
+shown_as r Hit = Some r.allow
+shown_as r Miss = None
+shown_as r (Fault acl cause) = Some false
+shown_as r (Need acl key) = Some false

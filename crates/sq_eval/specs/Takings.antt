@@ -51,3 +51,7 @@ taken_in t = taken_by t.config.now t.facts.now t.helpers
 
 abbrev pub acls_in : EvalInputs → List Acl
 acls_in t = t.config.now.acls
+
+-- what is taken at a place where the facts alone are looked at
+abbrev pub fact_taken : List Bool → ℕ → TermValue
+fact_taken facts place = value_if (slice_index_or facts place false)

@@ -9,9 +9,10 @@ use Rattle.sq_body.specs.Bodies.{Walk, body_of, is_whole_body, is_refused}
 use Rattle.sq_outside.specs.Causes.{count_limit}
 use Rattle.sq_outside.specs.Output.{IsPrefix, Grew}
 use Rattle.sq_outside.proofs.Writing.{IsPrefix_refl, IsPrefix_nil, IsPrefix_after, IsPrefix_more, Grew_whole}
-use Rattle.sq_head.specs.ReplyHeads.{reply_head_out}
-use Rattle.sq_head.specs.RequestHeads.{head_out, is_chunked}
+use Rattle.sq_head.specs.ReplyHeads.{reply_head_out_where}
+use Rattle.sq_head.specs.RequestHeads.{head_out_where, is_chunked}
 use Rattle.sq_head.specs.declared.replies.ReplyHead.{ReplyHead}
+use Rattle.sq_headers.specs.Access.{HeaderAccess}
 use Rattle.sq_forward.specs.Exchanges.{shape_of, answered, continue_part, interim_texts, replied, replied_if, Fronts, EndsExchange, Exchanges, ExchangeHasCause}
 use Rattle.sq_forward.specs.Leading.{LeadsReply, LeadHasCause, PaysHeads, SentReply, SendsReply}
 use Rattle.sq_forward.specs.Meters.{granted_after, PaysAll, PaysPart, piece_limit}
@@ -30,22 +31,22 @@ reads_nothing : IsReading [] nothing
 reads_nothing = heads_alone [] [] refl (omega arith)
 
 -- the request went out whole
-answered_whole : (r : HttpRequest) (own origin : List ℕ) (body : Walk) (reading : Reading)
+answered_whole : (access : HeaderAccess) (r : HttpRequest) (own origin : List ℕ) (body : Walk) (reading : Reading)
     → is_whole_body body.place ≡ true
-    → answered r own origin body reading
+    → answered access r own origin body reading
     ≡ record {
       own = own;
-      client = interim_texts r reading.interim ++ (replied_if r reading.final reading.rest).text;
+      client = interim_texts access r reading.interim ++ (replied_if access r reading.final reading.rest).text;
       origin = origin;
       rest = body.rest;
-      end = (replied_if r reading.final reading.rest).end;
+      end = (replied_if access r reading.final reading.rest).end;
     }
-answered_whole r own origin body reading e = rw e refl
+answered_whole access r own origin body reading e = rw e refl
 
 -- or not
-answered_short : (r : HttpRequest) (own origin : List ℕ) (body : Walk) (reading : Reading)
+answered_short : (access : HeaderAccess) (r : HttpRequest) (own origin : List ℕ) (body : Walk) (reading : Reading)
     → is_whole_body body.place ≡ false
-    → answered r own origin body reading
+    → answered access r own origin body reading
     ≡ record {
       own = own;
       client = [];
@@ -53,7 +54,7 @@ answered_short : (r : HttpRequest) (own origin : List ℕ) (body : Walk) (readin
       rest = [];
       end = if is_refused body.place then BadBody else Cut;
     }
-answered_short r own origin body reading e = rw e refl
+answered_short access r own origin body reading e = rw e refl
 
 -- fronts of what goes out before the reply
 fronts_own : (own origin rest : List ℕ) (xend : Exchanged) (seated : Bool) (a b c d : Option (List ℕ)) (g spare : ℕ)
@@ -89,13 +90,13 @@ fronts_after own text origin rest xend seated a b e c d g h spare w p v =
     }
 
 -- a fault before the reply
-fault_ends : (r : HttpRequest) (own origin rest : List ℕ) (xend : Exchanged) (body : Walk) (reply : List ℕ)
+fault_ends : (access : HeaderAccess) (r : HttpRequest) (own origin rest : List ℕ) (xend : Exchanged) (body : Walk) (reply : List ℕ)
     (seated : Bool) (left a b c d : Option (List ℕ)) (g : ℕ) (failed : Type 0) (end : Exchanged)
     → g ≤ count_limit → SentSo own origin body left a b c d (Some end) → (end ≡ NoReply → failed) → (end ≡ Cut → ⊥)
     → (end ≡ BadBody → ⊥)
-    → EndsExchange r nothing (record { own = own; client = []; origin = origin; rest = rest; end = xend }) [] reply
+    → EndsExchange access r nothing (record { own = own; client = []; origin = origin; rest = rest; end = xend }) [] reply
     seated left a b c d g g failed end
-fault_ends r own origin rest xend body reply seated left a b c d g failed NoReply few s f i j =
+fault_ends access r own origin rest xend body reply seated left a b c d g failed NoReply few s f i j =
     inr (
       f refl,
       record {
@@ -105,101 +106,101 @@ fault_ends r own origin rest xend body reply seated left a b c d g failed NoRepl
         origin = s.1;
       },
     )
-fault_ends r own origin rest xend body reply seated left a b c d g failed ClientFault few s f i j =
+fault_ends access r own origin rest xend body reply seated left a b c d g failed ClientFault few s f i j =
     fronts_own own origin rest xend seated a b c d g piece_limit few s.0 s.1
-fault_ends r own origin rest xend body reply seated left a b c d g failed WantOfMemory few s f i j =
+fault_ends access r own origin rest xend body reply seated left a b c d g failed WantOfMemory few s f i j =
     fronts_own own origin rest xend seated a b c d g 0 few s.0 s.1
-fault_ends r own origin rest xend body reply seated left a b c d g failed Cut few s f i j = absurd (i refl)
-fault_ends r own origin rest xend body reply seated left a b c d g failed BadBody few s f i j = absurd (j refl)
-fault_ends r own origin rest xend body reply seated left a b c d g failed Kept few s f i j = absurd s
-fault_ends r own origin rest xend body reply seated left a b c d g failed Closed few s f i j = absurd s
-fault_ends r own origin rest xend body reply seated left a b c d g failed OriginCut few s f i j = absurd s
-fault_ends r own origin rest xend body reply seated left a b c d g failed OriginFault few s f i j = absurd s
-fault_ends r own origin rest xend body reply seated left a b c d g failed Starved few s f i j = absurd s
+fault_ends access r own origin rest xend body reply seated left a b c d g failed Cut few s f i j = absurd (i refl)
+fault_ends access r own origin rest xend body reply seated left a b c d g failed BadBody few s f i j = absurd (j refl)
+fault_ends access r own origin rest xend body reply seated left a b c d g failed Kept few s f i j = absurd s
+fault_ends access r own origin rest xend body reply seated left a b c d g failed Closed few s f i j = absurd s
+fault_ends access r own origin rest xend body reply seated left a b c d g failed OriginCut few s f i j = absurd s
+fault_ends access r own origin rest xend body reply seated left a b c d g failed OriginFault few s f i j = absurd s
+fault_ends access r own origin rest xend body reply seated left a b c d g failed Starved few s f i j = absurd s
 
 -- whether its body is complete or not
-by_whole : (r : HttpRequest) (own origin : List ℕ) (body : Walk) (reply : List ℕ) (seated : Bool)
+by_whole : (access : HeaderAccess) (r : HttpRequest) (own origin : List ℕ) (body : Walk) (reply : List ℕ) (seated : Bool)
     (left a b c d : Option (List ℕ)) (g : ℕ) (failed : Type 0) (end : Exchanged)
     → g ≤ count_limit → SentSo own origin body left a b c d (Some end) → (end ≡ NoReply → failed) → (end ≡ Cut → ⊥)
-    → (end ≡ BadBody → ⊥) → EndsExchange r nothing (answered r own origin body nothing) [] reply seated left a b c d g g
+    → (end ≡ BadBody → ⊥) → EndsExchange access r nothing (answered access r own origin body nothing) [] reply seated left a b c d g g
     failed end
-by_whole r own origin body reply seated left a b c d g failed end few s f i j = by (is_whole_body body.place) refl
+by_whole access r own origin body reply seated left a b c d g failed end few s f i j = by (is_whole_body body.place) refl
   where
     by : (t : Bool) → is_whole_body body.place ≡ t
-        → EndsExchange r nothing (answered r own origin body nothing) [] reply seated left a b c d g g failed end
+        → EndsExchange access r nothing (answered access r own origin body nothing) [] reply seated left a b c d g g failed end
     by true e =
-        subst (λ x. EndsExchange r nothing x [] reply seated left a b c d g g failed end)
-        (sym (answered_whole r own origin body nothing e))
-        (fault_ends r own origin body.rest NoReply body reply seated left a b c d g failed end few s f i j)
+        subst (λ x. EndsExchange access r nothing x [] reply seated left a b c d g g failed end)
+        (sym (answered_whole access r own origin body nothing e))
+        (fault_ends access r own origin body.rest NoReply body reply seated left a b c d g failed end few s f i j)
     by false e =
-        subst (λ x. EndsExchange r nothing x [] reply seated left a b c d g g failed end)
-        (sym (answered_short r own origin body nothing e))
-        (fault_ends r own origin [] (if is_refused body.place then BadBody else Cut) body reply seated left a b c d g
+        subst (λ x. EndsExchange access r nothing x [] reply seated left a b c d g g failed end)
+        (sym (answered_short access r own origin body nothing e))
+        (fault_ends access r own origin [] (if is_refused body.place then BadBody else Cut) body reply seated left a b c d g
         failed end few s f i j)
 
 -- the request did not go out whole
-unsent_ends : (r : HttpRequest) (own origin : List ℕ) (body : Walk) (reply : List ℕ) (seated : Bool)
+unsent_ends : (access : HeaderAccess) (r : HttpRequest) (own origin : List ℕ) (body : Walk) (reply : List ℕ) (seated : Bool)
     (left a b c d : Option (List ℕ)) (g : ℕ) (failed : Type 0) (end : Exchanged)
     → g ≤ count_limit → SentSo own origin body left a b c d (Some end) → (end ≡ NoReply → failed)
-    → EndsExchange r nothing (answered r own origin body nothing) [] reply seated left a b c d g g failed end
-unsent_ends r own origin body reply seated left a b c d g failed Cut few s f =
-    subst (λ x. EndsExchange r nothing x [] reply seated left a b c d g g failed Cut)
-    (sym (answered_short r own origin body nothing s.0)) (record {
+    → EndsExchange access r nothing (answered access r own origin body nothing) [] reply seated left a b c d g g failed end
+unsent_ends access r own origin body reply seated left a b c d g failed Cut few s f =
+    subst (λ x. EndsExchange access r nothing x [] reply seated left a b c d g g failed Cut)
+    (sym (answered_short access r own origin body nothing s.0)) (record {
       client = subst (Appends a b) (sym (append-nil own)) s.2;
       granted = granted_none seated g few;
       origin = s.3;
       rest = λ e. absurd cc;
       ends = rw s.1 refl;
     })
-unsent_ends r own origin body reply seated left a b c d g failed BadBody few s f =
-    subst (λ x. EndsExchange r nothing x [] reply seated left a b c d g g failed BadBody)
-    (sym (answered_short r own origin body nothing s.0)) (record {
+unsent_ends access r own origin body reply seated left a b c d g failed BadBody few s f =
+    subst (λ x. EndsExchange access r nothing x [] reply seated left a b c d g g failed BadBody)
+    (sym (answered_short access r own origin body nothing s.0)) (record {
       client = subst (Appends a b) (sym (append-nil own)) s.2;
       granted = granted_none seated g few;
       origin = s.3;
       rest = λ e. absurd cc;
       ends = rw s.1 refl;
     })
-unsent_ends r own origin body reply seated left a b c d g failed NoReply few s f =
-    by_whole r own origin body reply seated left a b c d g failed NoReply few s f (λ e. cc) (λ e. cc)
-unsent_ends r own origin body reply seated left a b c d g failed ClientFault few s f =
-    by_whole r own origin body reply seated left a b c d g failed ClientFault few s f (λ e. cc) (λ e. cc)
-unsent_ends r own origin body reply seated left a b c d g failed WantOfMemory few s f =
-    by_whole r own origin body reply seated left a b c d g failed WantOfMemory few s f (λ e. cc) (λ e. cc)
-unsent_ends r own origin body reply seated left a b c d g failed Kept few s f = absurd s
-unsent_ends r own origin body reply seated left a b c d g failed Closed few s f = absurd s
-unsent_ends r own origin body reply seated left a b c d g failed OriginCut few s f = absurd s
-unsent_ends r own origin body reply seated left a b c d g failed OriginFault few s f = absurd s
-unsent_ends r own origin body reply seated left a b c d g failed Starved few s f = absurd s
+unsent_ends access r own origin body reply seated left a b c d g failed NoReply few s f =
+    by_whole access r own origin body reply seated left a b c d g failed NoReply few s f (λ e. cc) (λ e. cc)
+unsent_ends access r own origin body reply seated left a b c d g failed ClientFault few s f =
+    by_whole access r own origin body reply seated left a b c d g failed ClientFault few s f (λ e. cc) (λ e. cc)
+unsent_ends access r own origin body reply seated left a b c d g failed WantOfMemory few s f =
+    by_whole access r own origin body reply seated left a b c d g failed WantOfMemory few s f (λ e. cc) (λ e. cc)
+unsent_ends access r own origin body reply seated left a b c d g failed Kept few s f = absurd s
+unsent_ends access r own origin body reply seated left a b c d g failed Closed few s f = absurd s
+unsent_ends access r own origin body reply seated left a b c d g failed OriginCut few s f = absurd s
+unsent_ends access r own origin body reply seated left a b c d g failed OriginFault few s f = absurd s
+unsent_ends access r own origin body reply seated left a b c d g failed Starved few s f = absurd s
 
-pub exchange_unsent : (r : HttpRequest) (addr : Address) (p : BodyPlan) (first told left a b c d : Option (List ℕ))
+pub exchange_unsent : (access : HeaderAccess) (r : HttpRequest) (addr : Address) (p : BodyPlan) (first told left a b c d : Option (List ℕ))
     (seated : Bool) (g : ℕ) (failed : Type 0) (end : Exchanged)
-    → g ≤ count_limit → SendsRequest r addr p first left a b c d (Some end) → (end ≡ NoReply → failed)
-    → IfSome first (λ input. IfSome told (λ reply. Exchanges r addr p input reply seated left a b c d g g failed end))
-exchange_unsent r addr p None told left a b c d seated g failed end few s f = tt
-exchange_unsent r addr p (Some input) None left a b c d seated g failed end few s f = tt
-exchange_unsent r addr p (Some input) (Some reply) left a b c d seated g failed end few s f =
+    → g ≤ count_limit → SendsRequest access r addr p first left a b c d (Some end) → (end ≡ NoReply → failed)
+    → IfSome first (λ input. IfSome told (λ reply. Exchanges access r addr p input reply seated left a b c d g g failed end))
+exchange_unsent access r addr p None told left a b c d seated g failed end few s f = tt
+exchange_unsent access r addr p (Some input) None left a b c d seated g failed end few s f = tt
+exchange_unsent access r addr p (Some input) (Some reply) left a b c d seated g failed end few s f =
     let body = body_of p (is_chunked p) input in
     record {
       seen = [];
       reading = nothing;
       front = IsPrefix_nil reply;
       reads = reads_nothing;
-      ends = unsent_ends r (continue_part r p) (head_out r addr p ++ body.out) body reply seated left a b c d g failed
+      ends = unsent_ends access r (continue_part r p) (head_out_where access.request r addr p ++ body.out) body reply seated left a b c d g failed
           end few s.known f;
     }
 
 -- no reply's own head was reached
-led_ends : (r : HttpRequest) (reading : Reading) (own text origin : List ℕ) (rest seen reply : List ℕ) (seated : Bool)
+led_ends : (access : HeaderAccess) (r : HttpRequest) (reading : Reading) (own text origin : List ℕ) (rest seen reply : List ℕ) (seated : Bool)
     (left a b e c d : Option (List ℕ)) (g h : ℕ) (failed : Type 0) (end : Exchanged)
     → reading.final ≡ None → Appends a b own → Appends c d origin → PaysHeads text seated b e g h end
     → (end ≡ NoReply → (seen ≡ reply) ⊎ failed)
-    → EndsExchange r reading (record { own = own; client = text; origin = origin; rest = rest; end = NoReply }) seen
+    → EndsExchange access r reading (record { own = own; client = text; origin = origin; rest = rest; end = NoReply }) seen
     reply seated left a e c d g h failed end
-led_ends r reading own text origin rest seen reply seated left a b e c d g h failed NoReply n w v p all = by (all refl)
+led_ends access r reading own text origin rest seen reply seated left a b e c d g h failed NoReply n w v p all = by (all refl)
   where
     by : (seen ≡ reply) ⊎ failed
-        → EndsExchange r reading (record { own = own; client = text; origin = origin; rest = rest; end = NoReply }) seen
+        → EndsExchange access r reading (record { own = own; client = text; origin = origin; rest = rest; end = NoReply }) seen
         reply seated left a e c d g h failed NoReply
     by (inl i) = inl (
       i,
@@ -220,36 +221,36 @@ led_ends r reading own text origin rest seen reply seated left a b e c d g h fai
         origin = Grew_whole c d origin v;
       },
     )
-led_ends r reading own text origin rest seen reply seated left a b e c d g h failed ClientFault n w v p all =
+led_ends access r reading own text origin rest seen reply seated left a b e c d g h failed ClientFault n w v p all =
     fronts_after own text origin rest NoReply seated a b e c d g h piece_limit w p v
-led_ends r reading own text origin rest seen reply seated left a b e c d g h failed Starved n w v p all =
+led_ends access r reading own text origin rest seen reply seated left a b e c d g h failed Starved n w v p all =
     fronts_after own text origin rest NoReply seated a b e c d g h 0 w p v
-led_ends r reading own text origin rest seen reply seated left a b e c d g h failed WantOfMemory n w v p all =
+led_ends access r reading own text origin rest seen reply seated left a b e c d g h failed WantOfMemory n w v p all =
     fronts_after own text origin rest NoReply seated a b e c d g h 0 w p v
-led_ends r reading own text origin rest seen reply seated left a b e c d g h failed Kept n w v p all = absurd p
-led_ends r reading own text origin rest seen reply seated left a b e c d g h failed Closed n w v p all = absurd p
-led_ends r reading own text origin rest seen reply seated left a b e c d g h failed Cut n w v p all = absurd p
-led_ends r reading own text origin rest seen reply seated left a b e c d g h failed BadBody n w v p all = absurd p
-led_ends r reading own text origin rest seen reply seated left a b e c d g h failed OriginCut n w v p all = absurd p
-led_ends r reading own text origin rest seen reply seated left a b e c d g h failed OriginFault n w v p all = absurd p
+led_ends access r reading own text origin rest seen reply seated left a b e c d g h failed Kept n w v p all = absurd p
+led_ends access r reading own text origin rest seen reply seated left a b e c d g h failed Closed n w v p all = absurd p
+led_ends access r reading own text origin rest seen reply seated left a b e c d g h failed Cut n w v p all = absurd p
+led_ends access r reading own text origin rest seen reply seated left a b e c d g h failed BadBody n w v p all = absurd p
+led_ends access r reading own text origin rest seen reply seated left a b e c d g h failed OriginCut n w v p all = absurd p
+led_ends access r reading own text origin rest seen reply seated left a b e c d g h failed OriginFault n w v p all = absurd p
 
-pub exchange_led : (r : HttpRequest) (addr : Address) (p : BodyPlan) (first told left next a b e c d : Option (List ℕ))
+pub exchange_led : (access : HeaderAccess) (r : HttpRequest) (addr : Address) (p : BodyPlan) (first told left next a b e c d : Option (List ℕ))
     (seated : Bool) (g h : ℕ) (source failed : Type 0) (end : Exchanged)
-    → SendsRequest r addr p first left a b c d None → LeadsReply r seated told next b e g h source (Err end)
+    → SendsRequest access r addr p first left a b c d None → LeadsReply access r seated told next b e g h source (Err end)
     → (source → failed)
-    → IfSome first (λ input. IfSome told (λ reply. Exchanges r addr p input reply seated left a e c d g h failed end))
-exchange_led r addr p None told left next a b e c d seated g h source failed end s l f = tt
-exchange_led r addr p (Some input) None left next a b e c d seated g h source failed end s l f = tt
-exchange_led r addr p (Some input) (Some reply) left next a b e c d seated g h source failed end s l f =
+    → IfSome first (λ input. IfSome told (λ reply. Exchanges access r addr p input reply seated left a e c d g h failed end))
+exchange_led access r addr p None told left next a b e c d seated g h source failed end s l f = tt
+exchange_led access r addr p (Some input) None left next a b e c d seated g h source failed end s l f = tt
+exchange_led access r addr p (Some input) (Some reply) left next a b e c d seated g h source failed end s l f =
     let body = body_of p (is_chunked p) input in
     let own = continue_part r p in
-    let origin = head_out r addr p ++ body.out in
+    let origin = head_out_where access.request r addr p ++ body.out in
     let y = l.known in
-    let text = interim_texts r y.interim in
+    let text = interim_texts access r y.interim in
     let reading : Reading = record { interim = y.interim; final = None; rest = [] } in
-    let whole : answered r own origin body reading
+    let whole : answered access r own origin body reading
     ≡ record { own = own; client = text; origin = origin; rest = body.rest; end = NoReply } =
-    answered_whole r own origin body reading s.known.0
+    answered_whole access r own origin body reading s.known.0
     ∙ ap (λ t. record { own = own; client = t; origin = origin; rest = body.rest; end = NoReply }) (append-nil text) in
     record {
       seen = y.seen;
@@ -257,8 +258,8 @@ exchange_led r addr p (Some input) (Some reply) left next a b e c d seated g h s
       front = y.front;
       reads = y.reads;
       ends =
-          subst (λ x. EndsExchange r reading x y.seen reply seated left a e c d g h failed end) (sym whole)
-          (led_ends r reading own text origin body.rest y.seen reply seated left a b e c d g h failed end refl s.known.2
+          subst (λ x. EndsExchange access r reading x y.seen reply seated left a e c d g h failed end) (sym whole)
+          (led_ends access r reading own text origin body.rest y.seen reply seated left a b e c d g h failed end refl s.known.2
           s.known.3 y.pays (λ i. or_failed (y.all i)));
     }
   where
@@ -267,71 +268,71 @@ exchange_led r addr p (Some input) (Some reply) left next a b e c d seated g h s
     or_failed (inr x) = inr (f x)
 
 -- the reply was sent, as far as it goes
-sent_ends : (r : HttpRequest) (reading : Reading) (final : ReplyHead) (own text origin rest reply : List ℕ)
+sent_ends : (access : HeaderAccess) (r : HttpRequest) (reading : Reading) (final : ReplyHead) (own text origin rest reply : List ℕ)
     (xend : Exchanged) (seated : Bool) (left a b e m c d : Option (List ℕ)) (g h i : ℕ) (failed : Type 0)
     (end : Exchanged)
     → reading.final ≡ Some final → left ≡ Some rest → Appends a b own → Appends c d origin
-    → PaysAll seated (interim_texts r reading.interim) b e g h → SentReply r final text xend seated e m h i end
-    → EndsExchange r reading
-    (record { own = own; client = interim_texts r reading.interim ++ text; origin = origin; rest = rest; end = xend })
+    → PaysAll seated (interim_texts access r reading.interim) b e g h → SentReply access r final text xend seated e m h i end
+    → EndsExchange access r reading
+    (record { own = own; client = interim_texts access r reading.interim ++ text; origin = origin; rest = rest; end = xend })
     reply reply seated left a m c d g i failed end
 unfolding fronts_after pays_part_after
-sent_ends r reading final own text origin rest reply xend seated left a b e m c d g h i failed Kept n
+sent_ends access r reading final own text origin rest reply xend seated left a b e m c d g h i failed Kept n
     at w v p (x, same) =
     let all = pays_after p x in (
       refl,
       record {
-        client = Appends-trans a b m own (interim_texts r reading.interim ++ text) w all.wrote;
+        client = Appends-trans a b m own (interim_texts access r reading.interim ++ text) w all.wrote;
         granted = all.granted;
         origin = v;
         rest = λ _. at;
         ends = same;
       },
     )
-sent_ends r reading final own text origin rest reply xend seated left a b e m c d g h i failed Closed n
+sent_ends access r reading final own text origin rest reply xend seated left a b e m c d g h i failed Closed n
     at w v p (x, same) =
     let all = pays_after p x in (
       refl,
       record {
-        client = Appends-trans a b m own (interim_texts r reading.interim ++ text) w all.wrote;
+        client = Appends-trans a b m own (interim_texts access r reading.interim ++ text) w all.wrote;
         granted = all.granted;
         origin = v;
         rest = λ _. at;
         ends = same;
       },
     )
-sent_ends r reading final own text origin rest reply xend seated left a b e m c d g h i failed OriginCut n
+sent_ends access r reading final own text origin rest reply xend seated left a b e m c d g h i failed OriginCut n
     at w v p (x, same) =
     let all = pays_after p x in (
       refl,
       record {
-        client = Appends-trans a b m own (interim_texts r reading.interim ++ text) w all.wrote;
+        client = Appends-trans a b m own (interim_texts access r reading.interim ++ text) w all.wrote;
         granted = all.granted;
         origin = v;
         rest = λ _. at;
         ends = same;
       },
     )
-sent_ends r reading final own text origin rest reply xend seated left a b e m c d g h i failed NoReply n
+sent_ends access r reading final own text origin rest reply xend seated left a b e m c d g h i failed NoReply n
     at w v p (x, same) =
     let all = pays_after p x in
     inl (
       refl,
       record {
-        client = Appends-trans a b m own (interim_texts r reading.interim ++ text) w all.wrote;
+        client = Appends-trans a b m own (interim_texts access r reading.interim ++ text) w all.wrote;
         granted = all.granted;
         origin = v;
         rest = λ _. at;
         ends = same;
       },
     )
-sent_ends r reading final own text origin rest reply xend seated left a b e m c d g h i failed ClientFault n
-    at w v p x = fronts_after own (interim_texts r reading.interim ++ text) origin rest xend seated a b m c d g i
+sent_ends access r reading final own text origin rest reply xend seated left a b e m c d g h i failed ClientFault n
+    at w v p x = fronts_after own (interim_texts access r reading.interim ++ text) origin rest xend seated a b m c d g i
     piece_limit w (pays_part_after p x) v
-sent_ends r reading final own text origin rest reply xend seated left a b e m c d g h i failed OriginFault n
+sent_ends access r reading final own text origin rest reply xend seated left a b e m c d g h i failed OriginFault n
     at w v p x =
-    let front = interim_texts r reading.interim in
-    let text_of = reply_head_out final (shape_of r x.plan) in
+    let front = interim_texts access r reading.interim in
+    let text_of = reply_head_out_where access.reply final (shape_of r x.plan) in
     record {
       head = final;
       plan = x.plan;
@@ -341,40 +342,40 @@ sent_ends r reading final own text origin rest reply xend seated left a b e m c 
       sent = IsPrefix_after own (front ++ text_of) (front ++ x.pays.part)
           (IsPrefix_after front text_of x.pays.part x.sent);
     }
-sent_ends r reading final own text origin rest reply xend seated left a b e m c d g h i failed Starved n at w v p x =
-    fronts_after own (interim_texts r reading.interim ++ text) origin rest xend seated a b m c d g i 0 w
+sent_ends access r reading final own text origin rest reply xend seated left a b e m c d g h i failed Starved n at w v p x =
+    fronts_after own (interim_texts access r reading.interim ++ text) origin rest xend seated a b m c d g i 0 w
     (pays_part_after p x) v
-sent_ends r reading final own text origin rest reply xend seated left a b e m c d g h i failed WantOfMemory n
-    at w v p x = fronts_after own (interim_texts r reading.interim ++ text) origin rest xend seated a b m c d g i 0 w
+sent_ends access r reading final own text origin rest reply xend seated left a b e m c d g h i failed WantOfMemory n
+    at w v p x = fronts_after own (interim_texts access r reading.interim ++ text) origin rest xend seated a b m c d g i 0 w
     (pays_part_after p x) v
-sent_ends r reading final own text origin rest reply xend seated left a b e m c d g h i failed Cut n at w v p x =
+sent_ends access r reading final own text origin rest reply xend seated left a b e m c d g h i failed Cut n at w v p x =
     absurd x
-sent_ends r reading final own text origin rest reply xend seated left a b e m c d g h i failed BadBody n at w v p x =
+sent_ends access r reading final own text origin rest reply xend seated left a b e m c d g h i failed BadBody n at w v p x =
     absurd x
 
 -- the reply with its own head, where what comes behind the head is told
-sent_known : {r : HttpRequest} {head : ReplyHead} {seated : Bool} {a b : Option (List ℕ)} {g h : ℕ} {end : Exchanged}
-    (next : Option (List ℕ)) (rest : List ℕ) → next ≡ Some rest → SendsReply r head seated next a b g h end
-    → SentReply r head (replied r head rest).text (replied r head rest).end seated a b g h end
-sent_known {r} {head} {seated} {a} {b} {g} {h} {end} None rest e x = absurd cc
-sent_known {r} {head} {seated} {a} {b} {g} {h} {end} (Some bytes) rest e x =
+sent_known : {access : HeaderAccess} {r : HttpRequest} {head : ReplyHead} {seated : Bool} {a b : Option (List ℕ)} {g h : ℕ} {end : Exchanged}
+    (next : Option (List ℕ)) (rest : List ℕ) → next ≡ Some rest → SendsReply access r head seated next a b g h end
+    → SentReply access r head (replied access r head rest).text (replied access r head rest).end seated a b g h end
+sent_known {access} {r} {head} {seated} {a} {b} {g} {h} {end} None rest e x = absurd cc
+sent_known {access} {r} {head} {seated} {a} {b} {g} {h} {end} (Some bytes) rest e x =
     let same : bytes ≡ rest = cc in
-    subst (λ l. SentReply r head (replied r head l).text (replied r head l).end seated a b g h end) same x.known
+    subst (λ l. SentReply access r head (replied access r head l).text (replied access r head l).end seated a b g h end) same x.known
 
-pub exchange_sent : (r : HttpRequest) (addr : Address) (p : BodyPlan)
+pub exchange_sent : (access : HeaderAccess) (r : HttpRequest) (addr : Address) (p : BodyPlan)
     (first told left next a b e m c d : Option (List ℕ)) (seated now_seated : Bool) (g h i : ℕ) (source failed : Type 0)
     (head : ReplyHead) (end : Exchanged)
-    → SendsRequest r addr p first left a b c d None → LeadsReply r seated told next b e g h source (Ok head)
-    → now_seated ≡ seated → SendsReply r head now_seated next e m h i end
-    → IfSome first (λ input. IfSome told (λ reply. Exchanges r addr p input reply seated left a m c d g i failed end))
-exchange_sent r addr p None told left next a b e m c d seated now_seated g h i source failed head end s l same x = tt
-exchange_sent r addr p (Some input) None left next a b e m c d seated now_seated g h i source failed head end s l same
+    → SendsRequest access r addr p first left a b c d None → LeadsReply access r seated told next b e g h source (Ok head)
+    → now_seated ≡ seated → SendsReply access r head now_seated next e m h i end
+    → IfSome first (λ input. IfSome told (λ reply. Exchanges access r addr p input reply seated left a m c d g i failed end))
+exchange_sent access r addr p None told left next a b e m c d seated now_seated g h i source failed head end s l same x = tt
+exchange_sent access r addr p (Some input) None left next a b e m c d seated now_seated g h i source failed head end s l same
     x = tt
-exchange_sent r addr p (Some input) (Some reply) left next a b e m c d seated now_seated g h i source failed head end s
+exchange_sent access r addr p (Some input) (Some reply) left next a b e m c d seated now_seated g h i source failed head end s
     l same x =
     let body = body_of p (is_chunked p) input in
     let own = continue_part r p in
-    let origin = head_out r addr p ++ body.out in
+    let origin = head_out_where access.request r addr p ++ body.out in
     let y = l.known in
     let reading : Reading = record { interim = y.interim; final = Some head; rest = y.rest } in
     record {
@@ -390,12 +391,12 @@ exchange_sent r addr p (Some input) (Some reply) left next a b e m c d seated no
         final = (y.begins, y.own, y.goes);
       };
       ends =
-          subst (λ x. EndsExchange r reading x reply reply seated left a m c d g i failed end)
-          (sym (answered_whole r own origin body reading s.known.0))
-          (sent_ends r reading head own (replied r head y.rest).text origin body.rest reply (replied r head y.rest).end
+          subst (λ x. EndsExchange access r reading x reply reply seated left a m c d g i failed end)
+          (sym (answered_whole access r own origin body reading s.known.0))
+          (sent_ends access r reading head own (replied access r head y.rest).text origin body.rest reply (replied access r head y.rest).end
           seated left a b e m c d g h i failed end
           refl s.known.1 s.known.2 s.known.3 y.pays
-          (sent_known next y.rest y.left_is (subst (λ t. SendsReply r head t next e m h i end) same x)));
+          (sent_known next y.rest y.left_is (subst (λ t. SendsReply access r head t next e m h i end) same x)));
     }
 
 -- the link that failed in sending the request

@@ -11,7 +11,8 @@ use Rattle.sq_body.specs.Bodies.{Walk, body_of, is_whole_body, is_refused}
 use Rattle.sq_outside.specs.Causes.{Rose}
 use Rattle.sq_outside.specs.Output.{IsPrefix, Grew}
 use Rattle.sq_outside.proofs.Writing.{IsPrefix_nil, Grew_none, Grew_whole, Grew_more, Grew_after}
-use Rattle.sq_head.specs.RequestHeads.{head_out, is_chunked}
+use Rattle.sq_head.specs.RequestHeads.{head_out_where, is_chunked}
+use Rattle.sq_headers.specs.Access.{HeaderAccess}
 use Rattle.sq_forward.specs.Copying.{CopiesBody, Copies, CopyHasCause, dry_after_copy}
 use Rattle.sq_forward.specs.Exchanges.{continue_part, dry_after_exchange}
 use Rattle.sq_forward.specs.Meters.{PaysPart}
@@ -22,34 +23,34 @@ use Rattle.sq_forward.specs.declared.exchanging.Exchanged.{Exchanged}
 use Rattle.sq_forward.specs.declared.exchanging.Exchanged.TheVariants.{ClientFault, NoReply, WantOfMemory}
 
 -- nothing was sent
-pub request_no_memory : (r : HttpRequest) (addr : Address) (p : BodyPlan) (first left a c : Option (List ℕ))
-    → SendsRequest r addr p first left a a c c (Some WantOfMemory)
-request_no_memory r addr p None left a c = record { known = tt }
-request_no_memory r addr p (Some input) left a c = record {
+pub request_no_memory : (access : HeaderAccess) (r : HttpRequest) (addr : Address) (p : BodyPlan) (first left a c : Option (List ℕ))
+    → SendsRequest access r addr p first left a a c c (Some WantOfMemory)
+request_no_memory access r addr p None left a c = record { known = tt }
+request_no_memory access r addr p (Some input) left a c = record {
   known =
       (Grew_none a _ (IsPrefix_nil _), Grew_none c _ (IsPrefix_nil _));
 }
 
 -- the client did not hear that its body may come
-pub request_unheard : (r : HttpRequest) (addr : Address) (p : BodyPlan) (first left a b c : Option (List ℕ))
+pub request_unheard : (access : HeaderAccess) (r : HttpRequest) (addr : Address) (p : BodyPlan) (first left a b c : Option (List ℕ))
     (own : List ℕ) → own ≡ continue_part r p → Grew a b (λ part. IsPrefix part own)
-    → SendsRequest r addr p first left a b c c (Some ClientFault)
-request_unheard r addr p None left a b c own e w = record { known = tt }
-request_unheard r addr p (Some input) left a b c own e w = record {
+    → SendsRequest access r addr p first left a b c c (Some ClientFault)
+request_unheard access r addr p None left a b c own e w = record { known = tt }
+request_unheard access r addr p (Some input) left a b c own e w = record {
   known =
       (subst (λ l. Grew a b (λ part. IsPrefix part l)) e w, Grew_none c _ (IsPrefix_nil _));
 }
 
 -- the head was not sent
-pub request_unsent : (r : HttpRequest) (addr : Address) (p : BodyPlan) (first left a b c d : Option (List ℕ))
+pub request_unsent : (access : HeaderAccess) (r : HttpRequest) (addr : Address) (p : BodyPlan) (first left a b c d : Option (List ℕ))
     (own head : List ℕ) → own ≡ continue_part r p → Appends a b own
-    → head ≡ head_out r addr p → Grew c d (λ part. IsPrefix part head)
-    → SendsRequest r addr p first left a b c d (Some NoReply)
-request_unsent r addr p None left a b c d own head e w f v = record { known = tt }
-request_unsent r addr p (Some input) left a b c d own head e w f v = record {
+    → head ≡ head_out_where access.request r addr p → Grew c d (λ part. IsPrefix part head)
+    → SendsRequest access r addr p first left a b c d (Some NoReply)
+request_unsent access r addr p None left a b c d own head e w f v = record { known = tt }
+request_unsent access r addr p (Some input) left a b c d own head e w f v = record {
   known = (
     subst (Appends a b) e w,
-    Grew_more c d (head_out r addr p) (body_of p (is_chunked p) input).out
+    Grew_more c d (head_out_where access.request r addr p) (body_of p (is_chunked p) input).out
         (subst (λ l. Grew c d (λ part. IsPrefix part l)) f v),
   );
 }
@@ -86,20 +87,20 @@ by_copied own head body left a b c m d copied.WantOfMemory w v x h =
     (Grew_whole a b own w, Grew_after c m d head body.out v (front_of x))
 
 -- the body was sent as its copying says
-pub request_sent : (r : HttpRequest) (addr : Address) (p : BodyPlan) (chunked : Bool)
+pub request_sent : (access : HeaderAccess) (r : HttpRequest) (addr : Address) (p : BodyPlan) (chunked : Bool)
     (first left a b c m d : Option (List ℕ)) (own head : List ℕ) (k : Copied) (ended : Option Exchanged)
-    → own ≡ continue_part r p → Appends a b own → head ≡ head_out r addr p → Appends c m head → chunked ≡ is_chunked p
+    → own ≡ continue_part r p → Appends a b own → head ≡ head_out_where access.request r addr p → Appends c m head → chunked ≡ is_chunked p
     → Copies false p chunked first left m d 0 0 k → 0 ≡ dry_after_copy k → ended ≡ sent k
-    → SendsRequest r addr p first left a b c d ended
-request_sent r addr p chunked None left a b c m d own head k ended e w f v i x h s = record { known = tt }
-request_sent r addr p chunked (Some input) left a b c m d own head k ended e w f v i x h s =
+    → SendsRequest access r addr p first left a b c d ended
+request_sent access r addr p chunked None left a b c m d own head k ended e w f v i x h s = record { known = tt }
+request_sent access r addr p chunked (Some input) left a b c m d own head k ended e w f v i x h s =
     let body = body_of p (is_chunked p) input in
     let copies : CopiesBody false body left m d 0 0 k =
     subst (λ t. CopiesBody false (body_of p t input) left m d 0 0 k) i x.body in
     record {
       known =
-          subst (SentSo (continue_part r p) (head_out r addr p ++ body.out) body left a b c d) (sym s)
-          (by_copied (continue_part r p) (head_out r addr p) body left a b c m d k (subst (Appends a b) e w)
+          subst (SentSo (continue_part r p) (head_out_where access.request r addr p ++ body.out) body left a b c d) (sym s)
+          (by_copied (continue_part r p) (head_out_where access.request r addr p) body left a b c m d k (subst (Appends a b) e w)
           (subst (Appends c m) f v) copies h);
     }
 

@@ -11,11 +11,12 @@ use Rattle.sq_base.specs.declared.plans.BodyPlan.TheVariants as plan
 use Rattle.sq_body.specs.Bodies.{Walk, body_of, is_whole_body, is_refused}
 use Rattle.sq_outside.specs.Output.{IsPrefix, Grew}
 use Rattle.sq_head.specs.BodyPlans.{reply_plan}
-use Rattle.sq_head.specs.ReplyHeads.{reply_head_out}
-use Rattle.sq_head.specs.RequestHeads.{crlf, head_out, is_chunked}
+use Rattle.sq_head.specs.ReplyHeads.{reply_head_out_where}
+use Rattle.sq_head.specs.RequestHeads.{crlf, head_out_where, is_chunked}
 use Rattle.sq_head.specs.Wishes.{wants_close, wants_continue}
 use Rattle.sq_head.specs.declared.faults.BadBody as bad
 use Rattle.sq_head.specs.declared.replies.ReplyHead.{ReplyHead}
+use Rattle.sq_headers.specs.Access.{HeaderAccess}
 use Rattle.sq_head.specs.declared.replies.Shape.{Shape}
 use Rattle.sq_forward.specs.Meters.{granted_after, dry_limit, piece_limit}
 use Rattle.sq_forward.specs.Replies.{Reading, IsReading}
@@ -45,12 +46,12 @@ shape_of r p = record {
 }
 
 -- a head that is not the reply's own: clients of version 1.0 do not know them
-abbrev pub interim_text : HttpRequest → ReplyHead → List ℕ
-interim_text r h = if r.minor == 0 then []
-    else reply_head_out h (record { chunked = false; closes = false })
+abbrev pub interim_text : HeaderAccess → HttpRequest → ReplyHead → List ℕ
+interim_text access r h = if r.minor == 0 then []
+    else reply_head_out_where access.reply h (record { chunked = false; closes = false })
 
-abbrev pub interim_texts : HttpRequest → List ReplyHead → List ℕ
-interim_texts r hs = flat_map (interim_text r) hs
+abbrev pub interim_texts : HeaderAccess → HttpRequest → List ReplyHead → List ℕ
+interim_texts access r hs = flat_map (interim_text access r) hs
 
 -- what the client gets from a reply, and how the exchange ends
 pub record Replied : Type 0 where
@@ -68,22 +69,22 @@ body_end to_close closes body =
     || (to_close && not (is_refused body.place)) then (if closes then Closed else Kept)
     else OriginCut
 
-abbrev pub replied_by : HttpRequest → ReplyHead → Result BodyPlan bad.BadBody → List ℕ → Replied
-replied_by r h (Err fault) bytes = no_reply
-replied_by r h (Ok p) bytes =
+abbrev pub replied_by : HeaderAccess → HttpRequest → ReplyHead → Result BodyPlan bad.BadBody → List ℕ → Replied
+replied_by access r h (Err fault) bytes = no_reply
+replied_by access r h (Ok p) bytes =
     let body = body_of p (shape_of r p).chunked bytes in
     record {
-      text = reply_head_out h (shape_of r p) ++ body.out;
+      text = reply_head_out_where access.reply h (shape_of r p) ++ body.out;
       end = body_end (is_to_close p) (shape_of r p).closes body;
     }
 
 -- a reply with this head, and its body at the front of these bytes
-abbrev pub replied : HttpRequest → ReplyHead → List ℕ → Replied
-replied r h bytes = replied_by r h (reply_plan r.method h) bytes
+abbrev pub replied : HeaderAccess → HttpRequest → ReplyHead → List ℕ → Replied
+replied access r h bytes = replied_by access r h (reply_plan r.method h) bytes
 
-abbrev pub replied_if : HttpRequest → Option ReplyHead → List ℕ → Replied
-replied_if r None bytes = no_reply
-replied_if r (Some h) bytes = replied r h bytes
+abbrev pub replied_if : HeaderAccess → HttpRequest → Option ReplyHead → List ℕ → Replied
+replied_if access r None bytes = no_reply
+replied_if access r (Some h) bytes = replied access r h bytes
 
 -- what the client gets, of which `client` came from the origin; what the origin gets; what is left
 -- of the client's input; and how it ends
@@ -95,13 +96,13 @@ pub record Exchange : Type 0 where
   pub end : Exchanged
 
 -- the request went out whole, or its body ended early or is refused
-abbrev pub answered : HttpRequest → List ℕ → List ℕ → Walk → Reading → Exchange
-answered r own origin body reading =
-    let reply = replied_if r reading.final reading.rest in
+abbrev pub answered : HeaderAccess → HttpRequest → List ℕ → List ℕ → Walk → Reading → Exchange
+answered access r own origin body reading =
+    let reply = replied_if access r reading.final reading.rest in
     if is_whole_body body.place
     then record {
       own = own;
-      client = interim_texts r reading.interim ++ reply.text;
+      client = interim_texts access r reading.interim ++ reply.text;
       origin = origin;
       rest = body.rest;
       end = reply.end;
@@ -116,10 +117,10 @@ answered r own origin body reading =
 
 -- the exchange of a request from this address, whose body begins the input, with an origin whose
 -- bytes read so
-abbrev pub exchange : HttpRequest → Address → BodyPlan → List ℕ → Reading → Exchange
-exchange r addr p input reading =
+abbrev pub exchange : HeaderAccess → HttpRequest → Address → BodyPlan → List ℕ → Reading → Exchange
+exchange access r addr p input reading =
     let body = body_of p (is_chunked p) input in
-    answered r (continue_part r p) (head_out r addr p ++ body.out) body reading
+    answered access r (continue_part r p) (head_out_where access.request r addr p ++ body.out) body reading
 
 -- both texts were written, and what came from the origin was granted; a kept connection stands
 -- behind the body
@@ -146,7 +147,7 @@ pub record Fronts (x : Exchange) (seated : Bool)
 
 -- behind the reply's head: all up to that head was written to the client, and a front of what
 -- follows; nothing more was granted
-pub record Broken (r : HttpRequest) (reading : Reading) (x : Exchange) (seated : Bool)
+pub record Broken (access : HeaderAccess) (r : HttpRequest) (reading : Reading) (x : Exchange) (seated : Bool)
     (client_before client_now origin_before origin_now : Option (List ℕ)) (g h : ℕ) : Type 0 where
   pub head : ReplyHead
   pub plan : BodyPlan
@@ -154,7 +155,7 @@ pub record Broken (r : HttpRequest) (reading : Reading) (x : Exchange) (seated :
   pub planned : reply_plan r.method head ≡ Ok plan
   pub fronts : Fronts x seated client_before client_now origin_before origin_now g h 0
   pub sent : IsPrefix (x.own
-      ++ (interim_texts r reading.interim ++ reply_head_out head (shape_of r plan))) fronts.part
+      ++ (interim_texts access r reading.interim ++ reply_head_out_where access.reply head (shape_of r plan))) fronts.part
 
 -- no head of the reply's own was reached: all that the client gets without a reply was written, and
 -- a front of what the origin gets
@@ -167,41 +168,41 @@ pub record Unreached (reading : Reading) (x : Exchange) (seated : Bool)
 
 -- what an exchange comes to by its answer, where the origin's bytes are this reply, and it looked
 -- at these of them
-abbrev pub EndsExchange : HttpRequest → Reading → Exchange → List ℕ → List ℕ → Bool
+abbrev pub EndsExchange : HeaderAccess → HttpRequest → Reading → Exchange → List ℕ → List ℕ → Bool
     → Option (List ℕ) → Option (List ℕ) → Option (List ℕ) → Option (List ℕ) → Option (List ℕ) → ℕ
     → ℕ → Type 0 → Exchanged → Type 0
-EndsExchange r reading x seen reply seated left a b c d g h failed ClientFault =
+EndsExchange access r reading x seen reply seated left a b c d g h failed ClientFault =
     Fronts x seated a b c d g h piece_limit
-EndsExchange r reading x seen reply seated left a b c d g h failed OriginFault =
-    Broken r reading x seated a b c d g h
-EndsExchange r reading x seen reply seated left a b c d g h failed Starved =
+EndsExchange access r reading x seen reply seated left a b c d g h failed OriginFault =
+    Broken access r reading x seated a b c d g h
+EndsExchange access r reading x seen reply seated left a b c d g h failed Starved =
     Fronts x seated a b c d g h 0
-EndsExchange r reading x seen reply seated left a b c d g h failed WantOfMemory =
+EndsExchange access r reading x seen reply seated left a b c d g h failed WantOfMemory =
     Fronts x seated a b c d g h 0
-EndsExchange r reading x seen reply seated left a b c d g h failed NoReply =
+EndsExchange access r reading x seen reply seated left a b c d g h failed NoReply =
     ((seen ≡ reply) × Exact x seated left a b c d g h NoReply)
     ⊎ (failed × Unreached reading x seated a b c d g h)
-EndsExchange r reading x seen reply seated left a b c d g h failed Kept = (seen ≡ reply)
+EndsExchange access r reading x seen reply seated left a b c d g h failed Kept = (seen ≡ reply)
     × Exact x seated left a b c d g h Kept
-EndsExchange r reading x seen reply seated left a b c d g h failed Closed = (seen ≡ reply)
+EndsExchange access r reading x seen reply seated left a b c d g h failed Closed = (seen ≡ reply)
     × Exact x seated left a b c d g h Closed
-EndsExchange r reading x seen reply seated left a b c d g h failed OriginCut = (seen ≡ reply)
+EndsExchange access r reading x seen reply seated left a b c d g h failed OriginCut = (seen ≡ reply)
     × Exact x seated left a b c d g h OriginCut
-EndsExchange r reading x seen reply seated left a b c d g h failed Cut =
+EndsExchange access r reading x seen reply seated left a b c d g h failed Cut =
     Exact x seated left a b c d g h Cut
-EndsExchange r reading x seen reply seated left a b c d g h failed BadBody =
+EndsExchange access r reading x seen reply seated left a b c d g h failed BadBody =
     Exact x seated left a b c d g h BadBody
 
 -- the exchange of this request: over a front of the origin's bytes that it looked at, by how these
 -- read
-pub record Exchanges (r : HttpRequest) (addr : Address) (p : BodyPlan) (input reply : List ℕ)
+pub record Exchanges (access : HeaderAccess) (r : HttpRequest) (addr : Address) (p : BodyPlan) (input reply : List ℕ)
     (seated : Bool)
     (left a b c d : Option (List ℕ)) (g h : ℕ) (failed : Type 0) (end : Exchanged) : Type 0 where
   pub seen : List ℕ
   pub reading : Reading
   pub front : IsPrefix seen reply
   pub reads : IsReading seen reading
-  pub ends : EndsExchange r reading (exchange r addr p input reading) seen reply seated left a b c d
+  pub ends : EndsExchange access r reading (exchange access r addr p input reading) seen reply seated left a b c d
       g h failed end
 
 -- the count of the link that failed rose

@@ -6,8 +6,9 @@ use Rattle.sq_base.specs.Requests.{HttpRequest}
 use Rattle.sq_base.specs.declared.plans.BodyPlan.{BodyPlan}
 use Rattle.sq_outside.specs.Output.{IsPrefix}
 use Rattle.sq_head.specs.BodyPlans.{reply_plan}
-use Rattle.sq_head.specs.ReplyHeads.{reply_head_out}
+use Rattle.sq_head.specs.ReplyHeads.{reply_head_out_where}
 use Rattle.sq_head.specs.declared.replies.ReplyHead.{ReplyHead}
+use Rattle.sq_headers.specs.Access.{HeaderAccess}
 use Rattle.sq_forward.specs.Exchanges.{shape_of, interim_texts, replied, dry_after_exchange}
 use Rattle.sq_forward.specs.Meters.{PaysAll, PaysPart, piece_limit}
 use Rattle.sq_forward.specs.Replies.{BeginsHead, AreInterim, IsReading, is_interim, interim_limit}
@@ -34,7 +35,7 @@ TakesHead bytes left (Err none.Failed) = ⊤
 TakesHead bytes left (Err none.WantOfMemory) = ⊤
 
 -- behind heads that are not the reply's own, which were passed on, stands its own, and it was taken
-pub record LedTo (r : HttpRequest) (bytes : List ℕ) (seated : Bool)
+pub record LedTo (access : HeaderAccess) (r : HttpRequest) (bytes : List ℕ) (seated : Bool)
     (left before now : Option (List ℕ)) (g h : ℕ) (final : ReplyHead) : Type 0 where
   pub heads : List ℕ
   pub more : List ℕ
@@ -47,7 +48,7 @@ pub record LedTo (r : HttpRequest) (bytes : List ℕ) (seated : Bool)
   pub own : is_interim final ≡ false
   pub goes : final.status ≡ 101 → ⊥
   pub left_is : left ≡ Some rest
-  pub pays : PaysAll seated (interim_texts r interim) before now g h
+  pub pays : PaysAll seated (interim_texts access r interim) before now g h
 
 -- how much of the heads that were looked at went to the client
 abbrev pub PaysHeads : List ℕ → Bool → Option (List ℕ) → Option (List ℕ) → ℕ → ℕ → Exchanged
@@ -78,60 +79,60 @@ LeadHasCause client OriginFault = ⊥
 
 -- no reply's own head was reached: a front of the bytes was looked at, which is all of them where
 -- no link failed
-pub record LedNowhere (r : HttpRequest) (bytes : List ℕ) (seated : Bool)
+pub record LedNowhere (access : HeaderAccess) (r : HttpRequest) (bytes : List ℕ) (seated : Bool)
     (before now : Option (List ℕ)) (g h : ℕ) (failed : Type 0) (end : Exchanged) : Type 0 where
   pub seen : List ℕ
   pub interim : List ReplyHead
   pub front : IsPrefix seen bytes
   pub reads : IsReading seen (record { interim = interim; final = None; rest = [] })
   pub all : end ≡ NoReply → (seen ≡ bytes) ⊎ failed
-  pub pays : PaysHeads (interim_texts r interim) seated before now g h end
+  pub pays : PaysHeads (interim_texts access r interim) seated before now g h end
 
-abbrev pub Leads : HttpRequest → List ℕ → Bool → Option (List ℕ) → Option (List ℕ) → Option (List ℕ)
+abbrev pub Leads : HeaderAccess → HttpRequest → List ℕ → Bool → Option (List ℕ) → Option (List ℕ) → Option (List ℕ)
     → ℕ → ℕ → Type 0 → Result ReplyHead Exchanged → Type 0
-Leads r bytes seated left before now g h failed (Ok final) =
-    LedTo r bytes seated left before now g h final
-Leads r bytes seated left before now g h failed (Err end) =
-    LedNowhere r bytes seated before now g h failed end
+Leads access r bytes seated left before now g h failed (Ok final) =
+    LedTo access r bytes seated left before now g h final
+Leads access r bytes seated left before now g h failed (Err end) =
+    LedNowhere access r bytes seated before now g h failed end
 
 -- the same of what is to come, where that is told
-pub record LeadsReply (r : HttpRequest) (seated : Bool) (first left before now : Option (List ℕ))
+pub record LeadsReply (access : HeaderAccess) (r : HttpRequest) (seated : Bool) (first left before now : Option (List ℕ))
     (g h : ℕ) (failed : Type 0) (led : Result ReplyHead Exchanged) : Type 0 where
-  pub known : IfSome first (λ bytes. Leads r bytes seated left before now g h failed led)
+  pub known : IfSome first (λ bytes. Leads access r bytes seated left before now g h failed led)
 
 -- the reply's head went to the client, and a front of its body
-pub record SentHead (r : HttpRequest) (head : ReplyHead) (text : List ℕ) (seated : Bool)
+pub record SentHead (access : HeaderAccess) (r : HttpRequest) (head : ReplyHead) (text : List ℕ) (seated : Bool)
     (before now : Option (List ℕ)) (g h : ℕ) : Type 0 where
   pub plan : BodyPlan
   pub planned : reply_plan r.method head ≡ Ok plan
   pub pays : PaysPart seated text before now g h 0
-  pub sent : IsPrefix (reply_head_out head (shape_of r plan)) pays.part
+  pub sent : IsPrefix (reply_head_out_where access.reply head (shape_of r plan)) pays.part
 
 -- how much of the reply went to the client
-abbrev pub SentReply : HttpRequest → ReplyHead → List ℕ → Exchanged → Bool → Option (List ℕ)
+abbrev pub SentReply : HeaderAccess → HttpRequest → ReplyHead → List ℕ → Exchanged → Bool → Option (List ℕ)
     → Option (List ℕ) → ℕ → ℕ → Exchanged → Type 0
-SentReply r head text end seated before now g h ClientFault =
+SentReply access r head text end seated before now g h ClientFault =
     PaysPart seated text before now g h piece_limit
-SentReply r head text end seated before now g h OriginFault =
-    SentHead r head text seated before now g h
-SentReply r head text end seated before now g h Starved = PaysPart seated text before now g h 0
-SentReply r head text end seated before now g h WantOfMemory = PaysPart seated text before now g h 0
-SentReply r head text end seated before now g h Kept = PaysAll seated text before now g h
+SentReply access r head text end seated before now g h OriginFault =
+    SentHead access r head text seated before now g h
+SentReply access r head text end seated before now g h Starved = PaysPart seated text before now g h 0
+SentReply access r head text end seated before now g h WantOfMemory = PaysPart seated text before now g h 0
+SentReply access r head text end seated before now g h Kept = PaysAll seated text before now g h
     × (Kept ≡ end)
-SentReply r head text end seated before now g h Closed = PaysAll seated text before now g h
+SentReply access r head text end seated before now g h Closed = PaysAll seated text before now g h
     × (Closed ≡ end)
-SentReply r head text end seated before now g h OriginCut = PaysAll seated text before now g h
+SentReply access r head text end seated before now g h OriginCut = PaysAll seated text before now g h
     × (OriginCut ≡ end)
-SentReply r head text end seated before now g h NoReply = PaysAll seated text before now g h
+SentReply access r head text end seated before now g h NoReply = PaysAll seated text before now g h
     × (NoReply ≡ end)
-SentReply r head text end seated before now g h Cut = ⊥
-SentReply r head text end seated before now g h BadBody = ⊥
+SentReply access r head text end seated before now g h Cut = ⊥
+SentReply access r head text end seated before now g h BadBody = ⊥
 
 -- the reply with this head, whose body begins what is to come, where that is told
-pub record SendsReply (r : HttpRequest) (head : ReplyHead) (seated : Bool)
+pub record SendsReply (access : HeaderAccess) (r : HttpRequest) (head : ReplyHead) (seated : Bool)
     (first before now : Option (List ℕ)) (g h : ℕ) (end : Exchanged) : Type 0 where
   pub known : IfSome first
-      (λ bytes. SentReply r head (replied r head bytes).text (replied r head bytes).end seated
+      (λ bytes. SentReply access r head (replied access r head bytes).text (replied access r head bytes).end seated
       before now g h end)
 
 -- the reply's own head may not be 101

@@ -7,7 +7,8 @@ use Rattle.sq_base.specs.Requests.{HttpRequest}
 use Rattle.sq_base.specs.declared.plans.BodyPlan.{BodyPlan}
 use Rattle.sq_body.specs.Bodies.{Walk, body_of, is_whole_body, is_refused}
 use Rattle.sq_outside.specs.Output.{IsPrefix, Grew}
-use Rattle.sq_head.specs.RequestHeads.{head_out, is_chunked}
+use Rattle.sq_head.specs.RequestHeads.{head_out_where, is_chunked}
+use Rattle.sq_headers.specs.Access.{HeaderAccess}
 use Rattle.sq_forward.specs.Exchanges.{continue_part}
 use Rattle.sq_forward.specs.declared.copying.Copied.{Copied}
 use Rattle.sq_forward.specs.declared.copying.Copied.TheVariants as copied
@@ -46,10 +47,10 @@ SentSo own origin body left a b c d (Some WantOfMemory) = Grew a b (λ part. IsP
     × Grew c d (λ part. IsPrefix part origin)
 
 -- the same of the request whose body begins what is to come, where that is told
-pub record SendsRequest (r : HttpRequest) (addr : Address) (p : BodyPlan)
+pub record SendsRequest (access : HeaderAccess) (r : HttpRequest) (addr : Address) (p : BodyPlan)
     (first left a b c d : Option (List ℕ)) (ended : Option Exchanged) : Type 0 where
   pub known : IfSome first (λ input.
-      SentSo (continue_part r p) (head_out r addr p ++ (body_of p (is_chunked p) input).out)
+      SentSo (continue_part r p) (head_out_where access.request r addr p ++ (body_of p (is_chunked p) input).out)
       (body_of p (is_chunked p) input) left a b c d ended)
 
 -- the count of the link that failed rose

@@ -2,6 +2,7 @@
 ghost use Rattle.std.specs.Prelude.{◌≡◌, ◌≤◌, ◌+◌, length, max, IfSome, IfErr, IsErrOf};
 ghost use Rattle.sq_head.specs.BodyPlans.{reply_plan};
 ghost use Rattle.sq_head.specs.ReplyHeads.{most_bytes};
+ghost use Rattle.sq_headers.specs.Access.{access_by};
 ghost use Rattle.sq_outside.specs.Causes.{Rose};
 ghost use Rattle.sq_forward.specs.Exchanges.{shape_of, is_to_close, interim_text, ExchangeHasCause, dry_after_exchange};
 ghost use Rattle.sq_forward.specs.Halves.{to_come, read_limit};
@@ -16,10 +17,11 @@ use crate::meter::Meter;
 use crate::paying::{Unpaid, pay};
 use sq_base::{BodyPlan, Request};
 use sq_head::{
-    BadBody, ReplyHead, ReplyHeadFault, Shape, read_reply_head, reply_head_out, reply_plan,
-    wants_close,
+    BadBody, ReplyHead, ReplyHeadFault, Shape, read_reply_head, reply_plan, wants_close,
 };
+use sq_headers::reply_head;
 use sq_outside::{Sink, Source};
+use sq_rules::{Config, Facts};
 use std::alloc::Global;
 use std::sync::Wait;
 
@@ -112,9 +114,12 @@ pub(crate) fn lead_reply<R: Wait, P: Source, O: Sink, M: Meter>(
     to_client: &mut O,
     meter: &mut M,
     request: &Request,
+    config: &Config,
+    facts: &Facts,
 ) -> Result<ReplyHead, Exchanged>
     requires dry { M.dry meter.old ≡ 0 }
-    ensures leads { LeadsReply request.now (M.seated meter.old) (to_come P.left origin.old)
+    requires facts { length facts.now ≡ length config.now.acls }
+    ensures leads { LeadsReply (access_by config.now facts.now) request.now (M.seated meter.old) (to_come P.left origin.old)
         (to_come P.left origin.new)
         (O.contents to_client.old) (O.contents to_client.new) (M.granted meter.old)
         (M.granted meter.new)
@@ -145,7 +150,7 @@ pub(crate) fn lead_reply<R: Wait, P: Source, O: Sink, M: Meter>(
             return Err(Exchanged::NoReply);
         }
         passed += 1;
-        match pass_on(alloc, to_client, meter, request, &head) {
+        match pass_on(alloc, to_client, meter, request, &head, config, facts) {
             Ok(()) => {}
             Err(end) => return Err(end),
         }
@@ -170,9 +175,12 @@ fn pass_on<O: Sink, M: Meter>(
     meter: &mut M,
     request: &Request,
     head: &ReplyHead,
+    config: &Config,
+    facts: &Facts,
 ) -> Result<(), Exchanged>
     requires dry { M.dry meter.old ≡ 0 }
-    ensures sends { SendsText (interim_text request.now head.now) (M.seated meter.old)
+    requires facts { length facts.now ≡ length config.now.acls }
+    ensures sends { SendsText (interim_text (access_by config.now facts.now) request.now head.now) (M.seated meter.old)
         (O.contents to_client.old) (O.contents to_client.new) (M.granted meter.old)
         (M.granted meter.new) result }
     ensures cause { IfErr result
@@ -190,7 +198,7 @@ fn pass_on<O: Sink, M: Meter>(
         chunked: false,
         closes: false,
     };
-    let Ok(text) = reply_head_out(alloc, head, shape) else {
+    let Ok(text) = reply_head(alloc, config, facts, head, shape) else {
         return Err(Exchanged::WantOfMemory);
     };
     match pay(meter, to_client, text.as_bytes()) {
@@ -209,9 +217,12 @@ pub(crate) fn send_reply<R: Wait, P: Source, O: Sink, M: Meter>(
     meter: &mut M,
     request: &Request,
     head: &ReplyHead,
+    config: &Config,
+    facts: &Facts,
 ) -> Exchanged
     requires dry { M.dry meter.old ≡ 0 }
-    ensures sends { SendsReply request.now head.now (M.seated meter.old) (to_come P.left origin.old)
+    requires facts { length facts.now ≡ length config.now.acls }
+    ensures sends { SendsReply (access_by config.now facts.now) request.now head.now (M.seated meter.old) (to_come P.left origin.old)
         (O.contents to_client.old) (O.contents to_client.new) (M.granted meter.old)
         (M.granted meter.new) result }
     ensures cause { ExchangeHasCause (Rose (O.faults to_client.old) (O.faults to_client.new))
@@ -229,7 +240,7 @@ pub(crate) fn send_reply<R: Wait, P: Source, O: Sink, M: Meter>(
         Err(_) => return Exchanged::NoReply,
     };
     let shape = shape_of(request, plan);
-    let Ok(text) = reply_head_out(alloc, head, shape) else {
+    let Ok(text) = reply_head(alloc, config, facts, head, shape) else {
         return Exchanged::WantOfMemory;
     };
     match pay(meter, to_client, text.as_bytes()) {

@@ -1,6 +1,7 @@
 //! The request of an exchange, on its way to the origin.
 ghost use Rattle.std.specs.Prelude.{◌≡◌, ◌≤◌, ◌⊎◌, length, max, IfSome};
 ghost use Rattle.sq_head.specs.RequestHeads.{is_chunked};
+ghost use Rattle.sq_headers.specs.Access.{access_by};
 ghost use Rattle.sq_outside.specs.Causes.{Rose};
 ghost use Rattle.sq_forward.specs.Exchanges.{continue_part, dry_after_exchange};
 ghost use Rattle.sq_forward.specs.Halves.{to_come, read_limit};
@@ -11,8 +12,10 @@ use crate::exchanging::Exchanged;
 use crate::free::Free;
 use crate::half::Half;
 use sq_base::{Addr, BodyPlan, Request};
-use sq_head::{head_out, wants_continue};
+use sq_head::wants_continue;
+use sq_headers::request_head;
 use sq_outside::{Failed, Sink, Source, write_all};
+use sq_rules::{Config, Facts};
 use std::alloc::Global;
 use std::sync::Wait;
 
@@ -26,8 +29,11 @@ pub(crate) fn send_request<R: Wait, I: Source, O: Sink, Q: Sink>(
     request: &Request,
     addr: Addr,
     plan: BodyPlan,
+    config: &Config,
+    facts: &Facts,
 ) -> Option<Exchanged>
-    ensures sends { SendsRequest request.now addr plan (to_come I.left client.old)
+    requires { length facts.now ≡ length config.now.acls }
+    ensures sends { SendsRequest (access_by config.now facts.now) request.now addr plan (to_come I.left client.old)
         (to_come I.left client.new)
         (O.contents to_client.old) (O.contents to_client.new) (Q.contents to_origin.old)
         (Q.contents to_origin.new) result }
@@ -42,7 +48,7 @@ pub(crate) fn send_request<R: Wait, I: Source, O: Sink, Q: Sink>(
     ensures dialled { I.origin client.new.source ≡ I.origin client.old.source }
     ensures few { length client.new.ahead ≤ max (length client.old.ahead) read_limit }
 {
-    let Ok(head) = head_out(alloc, request, addr, plan) else {
+    let Ok(head) = request_head(alloc, config, facts, request, addr, plan) else {
         return Some(Exchanged::WantOfMemory);
     };
     match write_all(to_client, continue_part(request, plan)) {

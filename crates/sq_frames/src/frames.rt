@@ -211,6 +211,14 @@ impl Frames {
         self.need = None;
     }
 
+    /// The external acl that is needed, if the last run answered that one is and nothing was given for it yet. It takes
+    /// no memory.
+    pub fn need(&self) -> Option<u32>
+        ensures { result ≡ self.now.need }
+    {
+        self.need
+    }
+
     /// How many looks its runs made, as the counters of these rose; it stays at 2^63 - 1 once it is there. It takes no memory.
     pub fn looks(&self) -> u64
         ensures looks { result ≡ looks_in self.now }

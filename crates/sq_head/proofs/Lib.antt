@@ -2,6 +2,7 @@ mod ElementLaws
 mod EscapeLaws
 mod FieldLaws
 mod LengthLaws
+mod MarkLaws
 mod NameLaws
 mod ReplyLaws
 mod SchemeLaws

@@ -1,5 +1,6 @@
 pub mod BodyPlans
 pub mod FieldNames
+pub mod Marks
 pub mod OwnReplies
 pub mod ReplyHeads
 pub mod RequestHeads

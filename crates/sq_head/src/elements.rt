@@ -6,6 +6,7 @@ ghost use Rattle.sq_head.specs.FieldNames.{elements, connection_options};
 ghost use Rattle.sq_head.specs.Values.{elements_left};
 
 use crate::names::is_alike;
+use http_header::CONNECTION;
 use httparse::is_space_or_tab;
 use sq_base::{Field, WantOfMemory};
 use std::alloc::Global;
@@ -94,7 +95,7 @@ pub(crate) fn connection_options(
 {
     let mut options = Vec::new(alloc);
     for field in fields {
-        if is_alike(field.name.as_bytes(), b"connection") {
+        if is_alike(field.name.as_bytes(), CONNECTION.as_bytes()) {
             put_elements(&mut options, field.value.as_bytes())?;
         }
     }

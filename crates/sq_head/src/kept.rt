@@ -5,13 +5,15 @@ ghost use Rattle.sq_request.specs.Heads.{field_line};
 ghost use Rattle.sq_head.specs.FieldNames.{is_kept, is_listed, is_sent, kept_lines};
 
 use crate::elements::connection_options;
+use crate::listing::telling;
 use crate::name_test::{NameTest, goes_out};
-use crate::names::{Direction, is_alike, is_dropped, is_one_of};
+use crate::names::{Direction, is_dropped, is_named, is_one_of};
+use http_header::CONTENT_LENGTH;
 use sq_base::{Field, Text, WantOfMemory};
 use std::alloc::Global;
 
-/// Puts the lines of the fields that are passed on that way, where names are tested. Each of them, at most
-/// 128 in a head, is compared with each option that Connection lists.
+/// Puts the lines of the fields that are passed on that way, where names are tested. Of many options that
+/// Connection lists each is looked up once, so a head takes a time that grows as its length.
 pub(crate) fn put_kept_fields<T: NameTest>(
     alloc: Global,
     to: &mut Text,
@@ -22,7 +24,7 @@ pub(crate) fn put_kept_fields<T: NameTest>(
     requires { T.IsReady test.now }
     ensures { OnOk result (to.new ≡ to.old ++ kept_lines (T.passes test.now) way fields.now) }
 {
-    let options = connection_options(alloc, fields)?;
+    let options = telling(alloc, fields, connection_options(alloc, fields)?)?;
     put_unlisted(to, test, way, fields, options.as_slice())
 }
 
@@ -64,7 +66,7 @@ fn is_kept(way: Direction, options: &[&[u8]], field: &Field) -> bool
 fn is_listed(options: &[&[u8]], name: &[u8]) -> bool
     ensures { result ≡ is_listed (map (λ o. o.now) options.now) name.now }
 {
-    is_one_of(options, name) && !is_alike(b"content-length", name)
+    is_one_of(options, name) && !is_named(&CONTENT_LENGTH, name)
 }
 
 fn put_field(to: &mut Text, field: &Field) -> Result<(), WantOfMemory>

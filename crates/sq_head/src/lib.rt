@@ -14,6 +14,7 @@ mod escaping;
 mod faults;
 mod kept;
 mod lines;
+mod listing;
 mod name_test;
 mod names;
 mod outcomes;

@@ -2,7 +2,8 @@
 ghost use Rattle.std.specs.Prelude.{◌≡◌, ℕ, List, Bool, ⊤};
 ghost use Rattle.sq_head.specs.FieldNames.{always_there, each_name, goes_out, is_one_of};
 
-use crate::names::is_one_of;
+use crate::names::is_named;
+use http_header::{CONNECTION, CONTENT_LENGTH, HOST, TRANSFER_ENCODING};
 
 /// A test of names of fields.
 pub trait NameTest {
@@ -30,17 +31,13 @@ impl NameTest for EachName {
     }
 }
 
-const ALWAYS_THERE: [&[u8]; 4] = [
-    b"host",
-    b"content-length",
-    b"transfer-encoding",
-    b"connection",
-];
-
 fn is_always_there(name: &[u8]) -> bool
     ensures { result ≡ is_one_of always_there name.now }
 {
-    is_one_of(&ALWAYS_THERE, name)
+    is_named(&HOST, name)
+        || is_named(&CONTENT_LENGTH, name)
+        || is_named(&TRANSFER_ENCODING, name)
+        || is_named(&CONNECTION, name)
 }
 
 /// Whether a line of this name goes out.

@@ -9,6 +9,8 @@ use crate::faults::BadBody;
 use crate::names::is_alike;
 use crate::replies::ReplyHead;
 use crate::values::{Values, values_of};
+use http::StatusCode;
+use http_header::{CONTENT_LENGTH, TRANSFER_ENCODING};
 use sq_base::{BodyPlan, Field, Request, Text};
 
 // A length has so many digits at most, and is below this.
@@ -42,15 +44,22 @@ pub fn reply_plan(method: &Text, head: &ReplyHead) -> Result<BodyPlan, BadBody>
 fn is_bodiless(status: u16) -> bool
     ensures { result ≡ is_bodiless status }
 {
-    (100 <= status && status < 200) || status == 204 || status == 304
+    match StatusCode::from_u16(status) {
+        Ok(code) => {
+            code.is_informational()
+                || code == StatusCode::NO_CONTENT
+                || code == StatusCode::NOT_MODIFIED
+        }
+        Err(_) => false,
+    }
 }
 
 // The plan by these fields, and where none of them says so, the other one.
 fn fields_plan(otherwise: BodyPlan, minor: u8, fields: &[Field]) -> Result<BodyPlan, BadBody>
     ensures { result ≡ fields_plan otherwise minor fields.now }
 {
-    let coding = values_of(fields, b"transfer-encoding");
-    let length = values_of(fields, b"content-length");
+    let coding = values_of(fields, &TRANSFER_ENCODING);
+    let length = values_of(fields, &CONTENT_LENGTH);
     match (coding, length) {
         (Values::Absent, Values::Absent) => Ok(otherwise),
         (Values::Absent, Values::One(value)) => length_plan(value),

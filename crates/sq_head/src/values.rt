@@ -5,6 +5,7 @@ ghost use Rattle.sq_rules.specs.Keys.{field_values};
 ghost use Rattle.sq_head.specs.Values.{AreValues};
 
 use crate::names::is_alike;
+use http_header::HeaderName;
 use sq_base::Field;
 
 /// The values of the fields of a name.
@@ -16,9 +17,10 @@ pub(crate) enum Values<'a> {
 }
 
 /// The values of the fields of this name, without case.
-pub(crate) fn values_of<'a>(fields: &'a [Field], name: &[u8]) -> Values<'a>
+pub(crate) fn values_of<'a>(fields: &'a [Field], name: &HeaderName) -> Values<'a>
     ensures { AreValues result (field_values name.now fields.now) }
 {
+    let name = name.as_bytes();
     let Some(place) = place_of(fields, name) else {
         return Values::Absent;
     };

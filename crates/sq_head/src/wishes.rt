@@ -6,6 +6,7 @@ ghost use Rattle.sq_head.specs.Wishes.{wants_close, wants_continue, lists_close,
 
 use crate::elements::Elements;
 use crate::names::is_alike;
+use http_header::{CONNECTION, EXPECT};
 use sq_base::{BodyPlan, Field, Request};
 
 /// Whether the connection closes behind the reply to this request. It takes no memory.
@@ -25,7 +26,8 @@ fn any_lists_close(fields: &[Field]) -> bool
 fn lists_close(field: &Field) -> bool
     ensures { result ≡ lists_close field.now }
 {
-    is_alike(field.name.as_bytes(), b"connection") && has_element(field.value.as_bytes(), b"close")
+    is_alike(field.name.as_bytes(), CONNECTION.as_bytes())
+        && has_element(field.value.as_bytes(), b"close")
 }
 
 fn has_element(value: &[u8], name: &[u8]) -> bool
@@ -66,5 +68,6 @@ fn has_body(plan: BodyPlan) -> bool
 fn expects_continue(field: &Field) -> bool
     ensures { result ≡ expects_continue field.now }
 {
-    is_alike(field.name.as_bytes(), b"expect") && is_alike(field.value.as_bytes(), b"100-continue")
+    is_alike(field.name.as_bytes(), EXPECT.as_bytes())
+        && is_alike(field.value.as_bytes(), b"100-continue")
 }

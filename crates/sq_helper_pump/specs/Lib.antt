@@ -1,4 +1,5 @@
 pub mod Entries
+pub mod Halves
 pub mod Handing
 pub mod LineViews
 pub mod Pumps

@@ -1,6 +1,8 @@
 //! The parts of a server that call a desk.
 #![tactic(auto)]
 
+mod asking;
+mod halves;
 mod lines;
 mod pump;
 mod reporting;
@@ -8,6 +10,7 @@ mod starting;
 mod turning;
 mod turns;
 
+pub use halves::{AskerOut, ProcIn};
 pub use lines::ServeLines;
 pub use pump::ServePump;
 pub use turns::{Left, Reader, Turn};

@@ -1,34 +1,43 @@
 //! `ServePump`: what performs the acts of a desk.
-ghost use Rattle.std.specs.Prelude.{◌≡◌, ◌++◌, ◌∷◌, ◌<◌, [], None, IfNone, IfSome};
+ghost use Rattle.std.specs.Prelude.{◌≡◌, ◌++◌, ◌∷◌, ◌<◌, [], None, IfNone, IfSome, OnOk};
+ghost use Rattle.sq_helper_pump.specs.Halves.{in_closed, in_contents, in_faults};
 ghost use Rattle.sq_helper_pump.specs.Handing.{HandsDeath};
 ghost use Rattle.sq_helper_pump.specs.Turning.{LetsGo};
 
+use crate::halves::{AskerOut, ProcIn};
 use crate::turns::{Left, Reader};
-use sq_base::{Moment, ProcNo};
+use sq_base::{Moment, ProcNo, WantOfMemory};
 use sq_calls::DeskCalls;
+use sq_dst::PipeOut;
 use sq_helper_pipes::Pipes;
 use sq_outside::Spawner;
+use sq_rules::Config;
 use std::alloc::Global;
 use std::marker::Model;
+use std::sync::{Arc, Wait};
 
-/// What performs the acts of a desk: it starts processes, writes questions to them and stops them. A contract sees what
-/// its desk and its spawner tell, the halves of processes, and what a turn left.
+/// What performs the acts of a desk: it starts processes, writes questions to them and stops them. For the class by which
+/// names are looked up it spawns nothing: a process of that class is a thread, which reads from a pipe. A contract sees
+/// what its desk and its spawner tell, the halves of processes, and what a turn left.
 #[derive(Drop)]
-pub struct ServePump<S: Spawner, K: DeskCalls> {
+pub struct ServePump<'a, S: Spawner, K: DeskCalls, R: Wait> {
+    pub(crate) rt: &'a R,
     pub(crate) alloc: Global,
     pub(crate) spawner: S,
     pub(crate) desk: K,
-    pub(crate) pipes: Pipes<S::ChildIn>,
+    pub(crate) pipes: Pipes<ProcIn<'a, S::ChildIn, R>>,
     pub(crate) readers: Vec<Reader<S::ChildOut>>,
-    pub(crate) left: Option<Left<S::ChildOut, S::ChildIn>>,
+    pub(crate) asking: Vec<Reader<AskerOut<'a, R>>>,
+    pub(crate) left: Option<Left<S::ChildOut, ProcIn<'a, S::ChildIn, R>, AskerOut<'a, R>>>,
 }
 
-impl<S: Spawner, K: DeskCalls> Model for ServePump<S, K> {
+impl<'a, S: Spawner, K: DeskCalls, R: Wait> Model for ServePump<'a, S, K, R> {
     ghost use Rattle.std.specs.Prelude.{◌-◌, vec_capacity, vec_len};
     ghost use Rattle.sq_helper_pipes.specs.PipeViews.{pipes_of};
     ghost use Rattle.sq_helper_pump.specs.Pumps.{PumpView};
+    ghost use Rattle.sq_helper_pump.specs.declared.halves.ProcIn.{ProcIn};
 
-    ghost Value = { PumpView S.ChildOut S.ChildIn K };
+    ghost Value = { PumpView S.ChildOut (ProcIn S.ChildIn R) R K };
 
     ghost view = { λ p. record {
       desk = p.desk;
@@ -41,13 +50,15 @@ impl<S: Spawner, K: DeskCalls> Model for ServePump<S, K> {
       pipes = pipes_of p.pipes;
       readers = p.readers.items;
       room = vec_capacity p.readers - vec_len p.readers;
+      asking = p.asking.items;
+      asking_room = vec_capacity p.asking - vec_len p.asking;
       left = p.left;
     } };
 }
 
-impl<S: Spawner, K: DeskCalls> ServePump<S, K> {
+impl<'a, S: Spawner, K: DeskCalls, R: Wait> ServePump<'a, S, K, R> {
     /// A pump over this spawner and this desk, which holds nothing.
-    pub fn new(alloc: Global, spawner: S, desk: K) -> ServePump<S, K>
+    pub fn new(rt: &'a R, alloc: Global, spawner: S, desk: K) -> ServePump<'a, S, K, R>
         ensures desk { result.desk ≡ desk }
         ensures first { result.first ≡ K.first }
         ensures told { result.told ≡ K.told desk }
@@ -57,19 +68,22 @@ impl<S: Spawner, K: DeskCalls> ServePump<S, K> {
         ensures faults { result.faults ≡ S.faults spawner }
         ensures pipes { result.pipes ≡ [] }
         ensures readers { result.readers ≡ [] }
+        ensures asking { result.asking ≡ [] }
         ensures left { result.left ≡ None }
     {
         ServePump {
+            rt,
             alloc,
             spawner,
             desk,
             pipes: Pipes::new(alloc),
             readers: Vec::new(alloc),
+            asking: Vec::new(alloc),
             left: None,
         }
     }
 
-    /// Hands out the half of a process that is to be read, the one that was taken up last, for a keeper. None where it
+    /// Hands out the half of a program that is to be read, the one that was taken up last, for a keeper. None where it
     /// holds none. It takes no memory.
     pub fn reader(&mut self) -> Option<(ProcNo, S::ChildOut)>
         ensures some { IfSome result
@@ -93,17 +107,62 @@ impl<S: Spawner, K: DeskCalls> ServePump<S, K> {
     {
         self.readers.push_reserved(Reader { proc, from });
     }
+
+    /// Makes room for one half of each kind to be taken back.
+    pub fn reserve(&mut self) -> Result<(), WantOfMemory>
+        ensures room { OnOk result (0 < self.new.room) }
+        ensures asking_room { OnOk result (0 < self.new.asking_room) }
+        ensures same { self.new ≡ record self.old
+            { room = self.new.room; asking_room = self.new.asking_room } }
+    {
+        self.readers.reserve(1)?;
+        self.asking.reserve(1)?;
+        Ok(())
+    }
+
+    /// Hands out a process of the class by which names are looked up, the one that was taken up last, for a thread that
+    /// answers its questions by this configuration, which is that of its epoch. None where it holds none. It takes no
+    /// memory.
+    pub fn asker(&mut self) -> Option<(ProcNo, PipeOut<'a, R>, Arc<Config>)>
+        ensures some { IfSome result
+            (λ r. self.old.asking ≡ self.new.asking
+            ++ record { proc = r.0; from = record { from = r.1; config = r.2 } } ∷ []) }
+        ensures room { IfSome result (λ r. 0 < self.new.asking_room) }
+        ensures none { IfNone result ((self.old.asking ≡ []) × (self.new ≡ self.old)) }
+        ensures same { self.new ≡ record self.old
+            { asking = self.new.asking; asking_room = self.new.asking_room } }
+    {
+        let Reader {
+            proc,
+            from: AskerOut { from, config },
+        } = self.asking.pop()?;
+        Some((proc, from, config))
+    }
+
+    /// Takes back one that was handed out since the last turn, where its thread could not be started. It takes no memory.
+    pub fn unasked(&mut self, proc: ProcNo, from: PipeOut<'a, R>, config: Arc<Config>)
+        requires { 0 < self.old.asking_room }
+        ensures asking { self.new.asking ≡ self.old.asking
+            ++ record { proc = proc; from = record { from = from.entry; config = config } } ∷ [] }
+        ensures same { self.new ≡ record self.old
+            { asking = self.new.asking; asking_room = self.new.asking_room } }
+    {
+        self.asking.push_reserved(Reader {
+            proc,
+            from: AskerOut { from, config },
+        });
+    }
 }
 
-impl<S: Spawner, K: DeskCalls> ServePump<S, K>
+impl<'a, S: Spawner, K: DeskCalls, R: Wait> ServePump<'a, S, K, R>
 where
     S::ChildIn: Drop,
 {
     /// This process ended by itself, or its lines are no more read: the half of it that is written to is closed and let go
     /// of, with those that were closed before. Nothing is noted.
     pub fn ended(&mut self, proc: ProcNo)
-        ensures pipes { LetsGo S.ChildIn.contents S.ChildIn.faults S.ChildIn.closed proc
-            self.old.pipes self.new.pipes }
+        ensures pipes { LetsGo (in_contents S.ChildIn.contents) (in_faults S.ChildIn.faults)
+            (in_closed S.ChildIn.closed) proc self.old.pipes self.new.pipes }
         ensures same { self.new ≡ record self.old { pipes = self.new.pipes } }
     {
         self.pipes.stop(proc);
@@ -113,8 +172,8 @@ where
     /// No keeper is to be had for this process: the half of it that is written to is closed and let go of, with those that were
     /// closed before, and the desk is told that it died. It takes no memory.
     pub fn unkept(&mut self, proc: ProcNo, now: Moment)
-        ensures pipes { LetsGo S.ChildIn.contents S.ChildIn.faults S.ChildIn.closed proc
-            self.old.pipes self.new.pipes }
+        ensures pipes { LetsGo (in_contents S.ChildIn.contents) (in_faults S.ChildIn.faults)
+            (in_closed S.ChildIn.closed) proc self.old.pipes self.new.pipes }
         // The desk noted this death, or refused it.
         ensures hands { HandsDeath self.old.told self.new.told self.old.refused self.new.refused
             proc }

@@ -1,15 +1,17 @@
 //! The entries that a pump still owes the desk.
 ghost use Rattle.std.specs.Prelude.{◌≡◌, None};
-ghost use Rattle.sq_helper_pump.specs.Turning.{PumpCounts, IsAdmitted, Reports, SameHalves, SameSpawner};
+ghost use Rattle.sq_helper_pump.specs.Turning.{PumpCounts, IsAdmitted, IsTakenUp, Reports, SameHalves, SameSpawner};
 
+use crate::halves::{AskerOut, ProcIn};
 use crate::pump::ServePump;
 use crate::turns::{Left, Reader, Turn};
 use sq_base::{EpochNo, Moment, ProcNo};
 use sq_calls::{DeskCalls, DeskFault};
 use sq_epochs::Act;
 use sq_outside::{Out, Spawner};
+use std::sync::Wait;
 
-impl<S: Spawner, K: DeskCalls> ServePump<S, K> {
+impl<'a, S: Spawner, K: DeskCalls, R: Wait> ServePump<'a, S, K, R> {
     // The half of this process failed in this act.
     pub(crate) fn report_died(&mut self, proc: ProcNo, act: Act, now: Moment) -> Turn
         requires { self.old.left ≡ None }
@@ -54,13 +56,13 @@ impl<S: Spawner, K: DeskCalls> ServePump<S, K> {
         epoch: EpochNo,
         class: u32,
         from: S::ChildOut,
-        mut to: S::ChildIn,
+        mut to: ProcIn<'a, S::ChildIn, R>,
         now: Moment,
     ) -> Turn
         requires { self.old.left ≡ None }
-        ensures reports { Reports (Left.Started epoch class from to) self.old.told self.old.refused
+        ensures reports { Reports (Left.Started epoch class from to.entry) self.old.told self.old.refused
             result self.new }
-        ensures admitted { IsAdmitted epoch class from to self.old self.new }
+        ensures admitted { IsAdmitted epoch class from to.entry self.old self.new }
         ensures spawner { SameSpawner self.old self.new }
         ensures counts { PumpCounts self.old self.new }
     {
@@ -85,6 +87,57 @@ impl<S: Spawner, K: DeskCalls> ServePump<S, K> {
             }
             Err(DeskFault::WantOfMemory) => {
                 self.left = Some(Left::Started {
+                    epoch,
+                    class,
+                    from,
+                    to,
+                });
+                Turn::WantOfMemory
+            }
+            Err(_) => {
+                to.close();
+                Turn::Ended
+            }
+        }
+    }
+
+    // A thread is to answer look-ups through these halves.
+    pub(crate) fn take_up(
+        &mut self,
+        epoch: EpochNo,
+        class: u32,
+        from: AskerOut<'a, R>,
+        mut to: ProcIn<'a, S::ChildIn, R>,
+        now: Moment,
+    ) -> Turn
+        requires { self.old.left ≡ None }
+        ensures reports { Reports (Left.Asked epoch class from.entry to.entry) self.old.told self.old.refused
+            result self.new }
+        ensures taken { IsTakenUp epoch class from.entry to.entry self.old self.new }
+        ensures spawner { SameSpawner self.old self.new }
+        ensures counts { PumpCounts self.old self.new }
+    {
+        if self.pipes.reserve().is_err() || self.asking.reserve(1).is_err() {
+            self.left = Some(Left::Asked {
+                epoch,
+                class,
+                from,
+                to,
+            });
+            return Turn::WantOfMemory;
+        }
+        match self.desk.started(self.alloc, epoch, class, now) {
+            Ok(proc) => {
+                self.pipes.put(proc, to);
+                self.asking.push_reserved(Reader { proc, from });
+                Turn::Acted(Act::Start { epoch, class })
+            }
+            Err(DeskFault::Engine(_)) => {
+                to.close();
+                Turn::Acted(Act::Start { epoch, class })
+            }
+            Err(DeskFault::WantOfMemory) => {
+                self.left = Some(Left::Asked {
                     epoch,
                     class,
                     from,

@@ -1,23 +1,28 @@
 //! Starts of processes.
 ghost use Rattle.std.specs.Prelude.{◌≡◌, None};
+ghost use Rattle.sq_helper_pump.specs.Halves.{in_closed, in_contents, in_faults};
 ghost use Rattle.sq_helper_pump.specs.Turning.{PumpCounts, IsStarting};
 
+use crate::asking::is_lookup_program;
+use crate::halves::ProcIn;
 use crate::pump::ServePump;
 use crate::turns::{Left, Turn};
 use sq_base::{EpochNo, Moment, WantOfMemory};
 use sq_calls::DeskCalls;
 use sq_epochs::Act;
 use sq_outside::{Failed, Spawner};
+use std::sync::Wait;
 
-impl<S: Spawner, K: DeskCalls> ServePump<S, K>
+impl<'a, S: Spawner, K: DeskCalls, R: Wait> ServePump<'a, S, K, R>
 where
     S::ChildIn: Drop,
 {
     // Starts a process of a class. Halves that were closed are let go of.
     pub(crate) fn start(&mut self, epoch: EpochNo, class: u32, now: Moment) -> Turn
         requires { self.old.left ≡ None }
-        ensures starting { IsStarting K.programs S.ChildOut.faults S.ChildIn.contents
-            S.ChildIn.faults S.ChildIn.closed epoch class self.old result self.new }
+        ensures starting { IsStarting K.programs K.configs S.ChildOut.faults
+            (in_contents S.ChildIn.contents) (in_faults S.ChildIn.faults)
+            (in_closed S.ChildIn.closed) epoch class self.old result self.new }
         ensures counts { PumpCounts self.old self.new }
     {
         let words = match self.desk.words(self.alloc, epoch, class) {
@@ -28,9 +33,12 @@ where
                 return Turn::WantOfMemory;
             }
         };
+        if is_lookup_program(words.as_slice()) {
+            return self.start_asker(epoch, class, now);
+        }
         self.pipes.sweep();
         match self.spawner.start(self.alloc, words.as_slice()) {
-            Ok((from, to)) => self.admit(epoch, class, from, to, now),
+            Ok((from, to)) => self.admit(epoch, class, from, ProcIn::Child(to), now),
             Err(Failed) => self.report_failed(epoch, class, now),
         }
     }

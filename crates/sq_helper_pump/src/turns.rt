@@ -16,9 +16,10 @@ pub enum Turn {
 }
 
 /// What a turn left: an act that the desk gave and that is to be performed, or the entry that it still needs. `P` is
-/// the half of a process that is read, `Q` the one that is written to.
+/// the half of a program that is read, `A` that of a thread that answers look-ups, and `Q` the one of either that is
+/// written to.
 #[derive(Drop)]
-pub enum Left<P, Q> {
+pub enum Left<P, Q, A> {
     /// The whole act.
     Whole(Act),
     /// The entry of a start that the spawner failed.
@@ -31,6 +32,13 @@ pub enum Left<P, Q> {
         epoch: EpochNo,
         class: u32,
         from: P,
+        to: Q,
+    },
+    /// The entry of a thread that is to answer look-ups of names.
+    Asked {
+        epoch: EpochNo,
+        class: u32,
+        from: A,
         to: Q,
     },
     /// The entry of a process whose half failed in this act.

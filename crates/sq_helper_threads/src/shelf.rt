@@ -1,22 +1,28 @@
-//! The shelf: what the pump and the keepers share. Each call is one hold of its lock, in which it makes the one call of its
-//! name. Nothing is proved here of what lies under the lock.
+//! The shelf: what the pump and the keepers share. Each call of `LockedBoard` is one hold of its lock, in which it makes the one
+//! call of its name. Nothing is proved here of what lies under the lock.
 use crate::board::{Board, Task};
+use crate::halves::ProcOut;
 use sq_base::ProcNo;
 use std::alloc::Global;
 use std::sync::ledger::Ledger;
 use std::sync::{Mutex, Wait};
 
-/// The halves of processes that keepers are to take up, and which keepers have ended. A thread that could not be started
-/// hands back no half, so they lie here meanwhile, each with the part of the book of refusals that its keeper needs.
-#[derive(Drop)]
-pub struct Shelf<P, N: Ledger> {
+/// Tasks and posts, behind their lock.
+pub(crate) struct LockedBoard<P, N: Ledger> {
     board: Mutex<Board<P, N>>,
 }
 
-impl<P: Drop, N: Ledger> Shelf<P, N> {
-    /// Nothing lies there yet.
-    pub fn new(alloc: Global) -> Shelf<P, N> {
-        Shelf {
+// Written out, so that the drops of its parts are proved here alone, whatever a half borrows.
+impl<P: Drop, N: Ledger> Drop for LockedBoard<P, N> {
+    fn drop(self) {
+        let LockedBoard { board: _ } = self;
+    }
+}
+
+impl<P: Drop, N: Ledger> LockedBoard<P, N> {
+    // Nothing lies there yet.
+    fn new(alloc: Global) -> LockedBoard<P, N> {
+        LockedBoard {
             board: Mutex::new(Board::new(alloc)),
         }
     }
@@ -44,5 +50,24 @@ impl<P: Drop, N: Ledger> Shelf<P, N> {
     // A process whose keeper has ended.
     pub(crate) fn ended<R: Wait>(&self, rt: &R) -> Option<ProcNo> {
         self.board.lock(rt).ended()
+    }
+}
+
+/// The halves of processes that keepers are to take up, and which keepers have ended. A thread that could not be started
+/// hands back no half, so they lie here meanwhile, each with the part of the book of refusals that its keeper needs. It has
+/// the runtime by which the pipes of look-ups wait.
+#[derive(Drop)]
+pub struct Shelf<'r, P, R: Wait, N: Ledger> {
+    pub(crate) rt: &'r R,
+    pub(crate) board: LockedBoard<ProcOut<'r, P, R>, N>,
+}
+
+impl<'r, P: Drop, R: Wait, N: Ledger> Shelf<'r, P, R, N> {
+    /// Nothing lies there yet.
+    pub fn new(rt: &'r R, alloc: Global) -> Shelf<'r, P, R, N> {
+        Shelf {
+            rt,
+            board: LockedBoard::new(alloc),
+        }
     }
 }

@@ -4,3 +4,4 @@ pub mod EventLaws
 mod MachineRows
 pub mod OpenCheckLaws
 pub mod ReadingLaws
+pub mod TakenLaws

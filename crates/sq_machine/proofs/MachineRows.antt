@@ -294,3 +294,47 @@ unfolding next next_at ask_count ask_of check_open open_among is_done peer_at op
     v6_of address_of reply_of reply_line_in result_in pairs_in reply_word_in value_in without_last_cr number_of unquoted
     quoted_len
 three_buckets = refl
+
+-- a helper allows, and one pool has buckets by tags
+abbrev by_tags : Configuration
+by_tags = record (config_with class_v) {
+  acls = record { name = codes "x"; body = body.External 0 [] }
+      ∷ record { name = codes "all"; body = body.Leaf (leaf.Src (record { first = v4 0; last = v4 4294967295 } ∷ [])) }
+      ∷ [];
+  pools = record {
+    class = 5;
+    pairs = Some (record { restore = 100; max = 1000 }) ∷ [];
+    lists = record { allow = true; terms = record { acl = 1; negated = false } ∷ [] } ∷ [];
+  } ∷ [];
+}
+
+-- two clients from two addresses wait for one line of the helper, and are taken
+abbrev two_taken : List ℕ → List Happening
+two_taken line =
+    at 0 (Open 1 (v4 167838211) 4000) ∷ asks_a 0 1 ∷ at 0 (Open 2 (v4 168364297) 4001) ∷ asks_a 0 2 ∷ at 0 (Step 1)
+    ∷ at 0 (Step 2) ∷ first_sent 0 ++ at 0 (Line 1 line) ∷ at 0 (Step 1) ∷ at 0 (Take 1) ∷ at 0 (Step 2) ∷ at 0 (Take 2)
+    ∷ []
+
+abbrev two_told : Told → List Told
+two_told reply =
+    told.Fine ∷ told.Check 1 ∷ told.Fine ∷ told.Check 2 ∷ told.Waits 1 ∷ told.Waits 1 ∷ told.Start 1 (codes "v")
+    ∷ told.Proc 1 ∷ told.Send 1 1 None (codes "a.example -") ∷ reply ∷ told.Done ∷ allowed ∷ told.Done ∷ allowed ∷ []
+
+-- two connections of one tag share its bucket
+pub one_tag : runs_with (by_tags ∷ [])
+    (two_taken (codes "OK tag=" ++ 34 ∷ codes "gold" ++ 34 ∷ []) ++ at 0 (Seat 1) ∷ at 0 (Grant 1 5000) ∷ at 0 (Seat 2) ∷ at 1000 (Grant 2 5000) ∷ [])
+    ≡ two_told (told.Reply 1 word.Yes) ++ told.Seat 1 0 ∷ told.Granted 500 ∷ told.Seat 2 0 ∷ told.Granted 100 ∷ []
+unfolding next next_at ask_count ask_of check_open open_among is_done peer_at open_besides open_count conns_of offset_of
+    full start_due line_is key_text key_escaped target_of absolute_form host_in port_of with_scheme authority_form v4_of
+    v6_of address_of reply_of reply_line_in result_in pairs_in reply_word_in value_in without_last_cr number_of unquoted
+    quoted_len
+one_tag = refl
+
+-- without a tag there is no seat
+pub no_tag : runs_with (by_tags ∷ []) (two_taken (codes "OK") ++ at 0 (Seat 1) ∷ [])
+    ≡ two_told (told.Reply 1 word.Yes) ++ told.NoSeat ∷ []
+unfolding next next_at ask_count ask_of check_open open_among is_done peer_at open_besides open_count conns_of offset_of
+    full start_due line_is key_text key_escaped target_of absolute_form host_in port_of with_scheme authority_form v4_of
+    v6_of address_of reply_of reply_line_in result_in pairs_in reply_word_in value_in without_last_cr number_of unquoted
+    quoted_len
+no_tag = refl

@@ -21,10 +21,14 @@ pub mod Marks
 pub mod Next
 pub mod Numbered
 pub mod OpenLookups
+pub mod PoolHistories
 pub mod PoolReadings
 pub mod Processes
 pub mod Questions
 pub mod Readings
 pub mod Rising
+pub mod SeatPlaces
 pub mod StepRule
+pub mod Tags
+pub mod TakenRecords
 pub mod Transcripts

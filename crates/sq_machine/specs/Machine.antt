@@ -1,7 +1,8 @@
 -- What the machine answers next, and which of its histories are legal.
 use Rattle.std.specs.Prelude.{◌≡◌, ℕ, ◌≤◌, suc, List, [], ◌∷◌, Bool, true, false, not, ◌&&◌, ◌==◌, nat_le, Some, None, is_some, is_none, if◌then◌else◌}
-use Rattle.std.specs.Option.{option_map_or, option_and_then}
+use Rattle.std.specs.Option.{option_map_or}
 use Rattle.std.specs.declared.option.Option.{Option}
+use Rattle.sq_base.specs.declared.helpers.Answer.{Answer}
 use Rattle.sq_machine.specs.declared.entries.Event.{Event}
 use Rattle.sq_machine.specs.declared.entries.Event.TheVariants.{Open, Close, Ask, Step, Take, Started, StartFail, Line, Died, Act, Reconfigure, Seat, Grant, Leave}
 use Rattle.sq_machine.specs.declared.entries.Told.{Told}
@@ -21,13 +22,16 @@ use Rattle.sq_machine.specs.Events.{is_begin, has_target}
 use Rattle.sq_machine.specs.Next.{Next, gives, nothing, refuse_if, refuse_open}
 use Rattle.sq_machine.specs.Marking.{marked}
 use Rattle.sq_machine.specs.Marks.{Past, entries}
-use Rattle.sq_machine.specs.PoolReadings.{allowed_of, grant_of, in_use, seat_count, seat_of}
+use Rattle.sq_machine.specs.PoolHistories.{Addressed, Tagged, pool_history, record_place}
+use Rattle.sq_machine.specs.PoolReadings.{PoolHistory, grant_of, in_use, seat_count, seat_of}
 use Rattle.sq_machine.specs.Processes.{home_of, lives_on, proc_count, starting}
 use Rattle.sq_machine.specs.Questions.{put_count}
 use Rattle.sq_machine.specs.Readings.{counted_moment, current}
 use Rattle.sq_machine.specs.StepRule.{StepSays, step_says, value_over}
 use Rattle.sq_machine.specs.Transcripts.{channels_of, line_is, line_told}
-use Rattle.sq_rules.specs.Verdicts.{outcome_so_far, pool_of}
+use Rattle.sq_machine.specs.SeatPlaces.{pool_at}
+use Rattle.sq_machine.specs.TakenRecords.{allowed_of, taken_answers}
+use Rattle.sq_rules.specs.Verdicts.{outcome_so_far}
 
 -- the outcome of a check: the verdict of its epoch's configuration over what it saw and the answers
 -- that it took
@@ -59,17 +63,27 @@ abbrev pub act_next : Option Told → Next
 act_next None = nothing
 act_next (Some t) = gives t
 
--- the seat of a record: in its pool, or none where it has none
+-- the seat of a record: in its pool, or none where it is seated nowhere
 abbrev pub seat_next : ℕ → Option ℕ → Next
 seat_next count None = gives told.NoSeat
 seat_next count (Some pool) = refuse_if (nat_le last_number (suc count)) (refusal.Spent (suc count))
     (gives (told.Seat (suc count) pool))
 
--- a seat is for the record that was last taken on the connection, where it allows
-abbrev pub seat_for : List Configuration → ℕ → Option Asked → Next
-seat_for configs count None = nothing
-seat_for configs count (Some a) = seat_next count
-    (option_and_then (λ config. pool_of config a.sight) (config_of configs a.epoch))
+-- a seat is for the record that was last taken on the connection, where it allows; it had these
+-- answers
+abbrev pub seat_for : List Configuration → ℕ → List Answer → Option Asked → Next
+seat_for configs count answers None = nothing
+seat_for configs count answers (Some a) = seat_next count
+    (pool_at (record_place answers a (config_of configs a.epoch)))
+
+-- what a seat of pools of this history is granted, if it is in use there, or else what comes of the
+-- rest
+abbrev pub grant_next : PoolHistory → ℕ → ℕ → ℕ → Next → Next
+grant_next h now n wanted rest = if in_use h n then gives
+    (told.Granted (grant_of h now wanted (seat_of h n))) else rest
+
+abbrev pub leave_next : PoolHistory → ℕ → Next → Next
+leave_next h n rest = if in_use h n then gives told.Fine else rest
 
 -- what the machine answers to an event at a moment that is none of the past
 unfoldable pub next_at : List Configuration → Past → ℕ → Event → Next
@@ -116,13 +130,13 @@ next_at configs m now (Reconfigure text) =
     (refusal.Spent (suc (current (entries m))))
     (refuse_if (nat_le epoch_limit (busy_epochs (entries m))) (refusal.TooManyEpochs epoch_limit)
     (gives (told.Epoch (suc (current (entries m))))))
-next_at configs m now (Seat c) = seat_for configs (seat_count configs (entries m))
-    (allowed_of (entries m) c)
+next_at configs m now (Seat c) = seat_for configs (seat_count (pool_history Addressed configs m))
+    (taken_answers configs m c) (allowed_of (entries m) c)
 next_at configs m now (Grant n wanted) =
-    if in_use configs (entries m) n then gives
-    (told.Granted (grant_of configs (entries m) now wanted (seat_of configs (entries m) n)))
-    else nothing
-next_at configs m now (Leave n) = if in_use configs (entries m) n then gives told.Fine else nothing
+    grant_next (pool_history Addressed configs m) now n wanted
+    (grant_next (pool_history Tagged configs m) now n wanted nothing)
+next_at configs m now (Leave n) = leave_next (pool_history Addressed configs m) n
+    (leave_next (pool_history Tagged configs m) n nothing)
 next_at configs m now event = nothing
 
 -- what the machine answers to an event after this history; the moment counts as the greatest so far

@@ -12,10 +12,12 @@ mod entries;
 mod kept;
 mod limits;
 mod moments;
+mod places;
 mod refusals;
 
 pub use entries::{Entry, Event, Offset, Told};
 pub use kept::CachedReply;
 pub use limits::{CONN_LIMIT, EPOCH_LIMIT, LAST_NUMBER};
 pub use moments::later;
+pub use places::SeatPlace;
 pub use refusals::Refusal;

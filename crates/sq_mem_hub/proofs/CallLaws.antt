@@ -22,13 +22,14 @@ use Rattle.sq_machine.specs.declared.refusals.Refusal.TheVariants as refusal
 use Rattle.sq_checks.specs.OpenChecks.{CheckParts, row, rows_of}
 use Rattle.sq_checks.specs.Records.{Judged, judged_of}
 use Rattle.sq_checks.specs.Tables.{value_at}
-use Rattle.sq_pools.specs.Basins.{Basin}
+use Rattle.sq_rewrite.specs.States.{RewriteState}
+use Rattle.sq_conn_policy.specs.Tellings.{DelayPools}
 use Rattle.sq_model_state.specs.Answers.{take_answer, take_of_held}
 use Rattle.sq_model_state.specs.Promises.{IsAnswered, StandsFor}
 use Rattle.sq_model_state.specs.States.{IsSame, State, is_of_pools, machine_moment}
 use Rattle.sq_engine.proofs.TableLaws.{row_at_number}
 use Rattle.sq_engine.specs.Begun as engine
-use Rattle.sq_engine.specs.Begun.{Begun, HasBegun, begun_at}
+use Rattle.sq_engine.specs.Begun.{Begun, HasBegun, begun_at, looked_more}
 use Rattle.sq_engine.specs.Begun.{begun_of as begun_parts}
 use Rattle.sq_engine.specs.EngineViews.{EngineView, state_of}
 use Rattle.sq_engine.specs.Promised.{IsPromised}
@@ -94,72 +95,82 @@ refused_by s moment e why promised = λ configs h st. promised configs h st.stan
 -- a call of the machine, by what the engine promises
 pub makes_by : {A : Type 0} (R : A → Told → Type 0) (tell : A → Told) (e : Event) (r : Result A Refusal)
     (v w : HubState) → is_of_pools e ≡ false → ((a : A) → R a (tell a))
-    → IsPromised tell v.machine (machine_now v) e r w.machine → OnErr r (IsSame w.machine v.machine) → w.pools ≡ v.pools
-    → Makes R e (hub_result r) v w
-makes_by R tell e (Ok a) v w other tells promised same pools =
+    → IsPromised tell v.machine (machine_now v) e r w.machine → OnErr r (IsSame w.machine v.machine)
+    → w.rewriter ≡ v.rewriter → w.pools ≡ v.pools → Makes R e (hub_result r) v w
+makes_by R tell e (Ok a) v w other tells promised same left pools =
     record {
       answers = (tell a, tells a, next_by v.machine w.machine v.moment e (tell a) other promised);
       unmade = tt;
+      rewriter = left;
       pools = pools;
     }
-makes_by R tell e (Err (refusal.ConnInUse n)) v w other tells promised same pools =
+makes_by R tell e (Err (refusal.ConnInUse n)) v w other tells promised same left pools =
     record {
       answers = λ no. refused_by v.machine v.moment e (refusal.ConnInUse n) promised;
       unmade = same;
+      rewriter = left;
       pools = pools;
     }
-makes_by R tell e (Err (refusal.UnknownConn n)) v w other tells promised same pools =
+makes_by R tell e (Err (refusal.UnknownConn n)) v w other tells promised same left pools =
     record {
       answers = λ no. refused_by v.machine v.moment e (refusal.UnknownConn n) promised;
       unmade = same;
+      rewriter = left;
       pools = pools;
     }
-makes_by R tell e (Err (refusal.TooManyConns n)) v w other tells promised same pools =
+makes_by R tell e (Err (refusal.TooManyConns n)) v w other tells promised same left pools =
     record {
       answers = λ no. refused_by v.machine v.moment e (refusal.TooManyConns n) promised;
       unmade = same;
+      rewriter = left;
       pools = pools;
     }
-makes_by R tell e (Err (refusal.CheckOpen n)) v w other tells promised same pools =
+makes_by R tell e (Err (refusal.CheckOpen n)) v w other tells promised same left pools =
     record {
       answers = λ no. refused_by v.machine v.moment e (refusal.CheckOpen n) promised;
       unmade = same;
+      rewriter = left;
       pools = pools;
     }
-makes_by R tell e (Err (refusal.UnknownCheck n)) v w other tells promised same pools =
+makes_by R tell e (Err (refusal.UnknownCheck n)) v w other tells promised same left pools =
     record {
       answers = λ no. refused_by v.machine v.moment e (refusal.UnknownCheck n) promised;
       unmade = same;
+      rewriter = left;
       pools = pools;
     }
-makes_by R tell e (Err (refusal.NotDone n)) v w other tells promised same pools =
+makes_by R tell e (Err (refusal.NotDone n)) v w other tells promised same left pools =
     record {
       answers = λ no. refused_by v.machine v.moment e (refusal.NotDone n) promised;
       unmade = same;
+      rewriter = left;
       pools = pools;
     }
-makes_by R tell e (Err (refusal.NoStartOpen k n)) v w other tells promised same pools =
+makes_by R tell e (Err (refusal.NoStartOpen k n)) v w other tells promised same left pools =
     record {
       answers = λ no. refused_by v.machine v.moment e (refusal.NoStartOpen k n) promised;
       unmade = same;
+      rewriter = left;
       pools = pools;
     }
-makes_by R tell e (Err (refusal.UnknownProc n)) v w other tells promised same pools =
+makes_by R tell e (Err (refusal.UnknownProc n)) v w other tells promised same left pools =
     record {
       answers = λ no. refused_by v.machine v.moment e (refusal.UnknownProc n) promised;
       unmade = same;
+      rewriter = left;
       pools = pools;
     }
-makes_by R tell e (Err (refusal.TooManyEpochs n)) v w other tells promised same pools =
+makes_by R tell e (Err (refusal.TooManyEpochs n)) v w other tells promised same left pools =
     record {
       answers = λ no. refused_by v.machine v.moment e (refusal.TooManyEpochs n) promised;
       unmade = same;
+      rewriter = left;
       pools = pools;
     }
-makes_by R tell e (Err (refusal.Spent n)) v w other tells promised same pools =
-    record { answers = λ no. refused_by v.machine v.moment e (refusal.Spent n) promised; unmade = same; pools = pools }
-makes_by R tell e (Err refusal.WantOfMemory) v w other tells promised same pools =
-    record { answers = tt; unmade = same; pools = pools }
+makes_by R tell e (Err (refusal.Spent n)) v w other tells promised same left pools =
+    record { answers = λ no. refused_by v.machine v.moment e (refusal.Spent n) promised; unmade = same; rewriter = left; pools = pools }
+makes_by R tell e (Err refusal.WantOfMemory) v w other tells promised same left pools =
+    record { answers = tt; unmade = same; rewriter = left; pools = pools }
 
 -- what checks began with
 kept_one : (old new : Option Begun) (b : BegunCheck) → ((x : Begun) → new ≡ Some x → old ≡ Some x)
@@ -171,11 +182,18 @@ pub kept_by : (old new : List (ℕ × CheckParts)) → engine.AreKept old new �
 kept_by old new kept = λ n b e. kept_one (begun_at old n) (begun_at new n) b (λ x is. kept n x is) e
 
 -- the same after a step, at which a check may have looked at more facts
+looked_same : (a : Begun) (k : ℕ) (t : Bool) → check_of (if t then looked_more k a else a) ≡ check_of a
+looked_same a k true = refl
+looked_same a k false = refl
+
 kept_one_but : (old new : Option Begun) (b : BegunCheck) (t : Bool)
-    → ((x : Begun) → new ≡ Some x → (looks : ℕ) × (old ≡ Some (record x { looks = if t then looks else x.looks })))
-    → option_map check_of new ≡ Some b → option_map check_of old ≡ Some b
+    → ((x : Begun) → new ≡ Some x → (a : Begun) × (k : ℕ) × (old ≡ Some a)
+    × (x ≡ (if t then looked_more k a else a))) → option_map check_of new ≡ Some b → option_map check_of old ≡ Some b
 kept_one_but old None b t kept e = absurd (none-some b e)
-kept_one_but old (Some x) b t kept e = ap (option_map check_of) (kept x refl).1 ∙ e
+kept_one_but old (Some x) b t kept e =
+    let had = kept x refl in
+    ap (option_map check_of) had.2 ∙ ap (λ c. Some c) (sym (looked_same had.0 had.1 t))
+    ∙ ap (λ y. Some (check_of y)) (sym had.3) ∙ e
 
 kept_by_but : (m : ℕ) (old new : List (ℕ × CheckParts)) → engine.AreKeptBut m old new
     → AreKept (begun_in old) (begun_in new)
@@ -187,8 +205,8 @@ kept_same old new e = λ n b is. subst (λ checks. begun_in checks n ≡ Some b)
 
 -- a check that begins
 pub begins_by : (n : ℕ) (config : Configuration) (r : HttpRequest) (old : List (ℕ × CheckParts)) (v w : EngineView)
-    (pools : Basin) (moment : ℕ) → HasBegun n config r old w.checks → BeginsCheck r (Ok n) (hub_state w pools moment)
-begins_by n config r old v w pools moment has = (
+    (rewriter : Option RewriteState) (pools : DelayPools) (moment : ℕ) → HasBegun n config r old w.checks → BeginsCheck r (Ok n) (hub_state w rewriter pools moment)
+begins_by n config r old v w rewriter pools moment has = (
   check_of
       (record { config = config; sight = has.sight; pool = pool_of config has.sight; looks = 0 }),
   ap (option_map check_of) has.begun,
@@ -214,12 +232,12 @@ taken_from v n j (Some k) at told_is rec =
       ap (λ o. option_map check_of (option_map begun_parts o)) at ∙ ap (λ (x : Judged). Some (begun_of x)) (sym is),
     )
 
-pub taken_by : (v : EngineView) (n : ℕ) (pools : Basin) (moment : ℕ) (r : Result Judged Refusal)
+pub taken_by : (v : EngineView) (n : ℕ) (rewriter : Option RewriteState) (pools : DelayPools) (moment : ℕ) (r : Result Judged Refusal)
     → IsAlwaysTold (λ j. told.Judged j.epoch j.outcome) (take_answer (state_of v) n) r
     → IfOk r (λ j. (k : CheckParts) → value_at v.checks n ≡ Some k → j ≡ judged_of n j.outcome k)
-    → IsOfCheck n (hub_result r) (hub_state v pools moment)
-taken_by v n pools moment (Ok j) told_is rec = taken_from v n j (value_at v.checks n) refl told_is rec
-taken_by v n pools moment (Err why) told_is rec = tt
+    → IsOfCheck n (hub_result r) (hub_state v rewriter pools moment)
+taken_by v n rewriter pools moment (Ok j) told_is rec = taken_from v n j (value_at v.checks n) refl told_is rec
+taken_by v n rewriter pools moment (Err why) told_is rec = tt
 
 -- how a step is told
 pub step_tells : (s : State) (e : ℕ) (a : Stepped) → IsStep a (stepped_told s e a)
@@ -229,53 +247,53 @@ step_tells s e stepped.Done = refl
 
 -- a question
 begins_so : (x : Result ℕ Refusal) (config : Configuration) (r : HttpRequest) (old : List (ℕ × CheckParts))
-    (v w : EngineView) (pools : Basin) (moment : ℕ) → IfOk x (λ n. HasBegun n config r old w.checks)
-    → BeginsCheck r (hub_result x) (hub_state w pools moment)
-begins_so (Ok n) config r old v w pools moment has = begins_by n config r old v w pools moment has
-begins_so (Err why) config r old v w pools moment has = tt
+    (v w : EngineView) (rewriter : Option RewriteState) (pools : DelayPools) (moment : ℕ) → IfOk x (λ n. HasBegun n config r old w.checks)
+    → BeginsCheck r (hub_result x) (hub_state w rewriter pools moment)
+begins_so (Ok n) config r old v w rewriter pools moment has = begins_by n config r old v w rewriter pools moment has
+begins_so (Err why) config r old v w rewriter pools moment has = tt
 
 pub asks_by : (conn : ℕ) (r : HttpRequest) (x : Result ℕ Refusal) (f : Result ℕ HubFault) (v w : EngineView)
-    (pools : Basin) (moment : ℕ) → f ≡ hub_result x
+    (rewriter : Option RewriteState) (pools : DelayPools) (moment : ℕ) → f ≡ hub_result x
     → IsPromised (λ n. told.Check n) (state_of v) (max moment v.latest) (asks_for conn r) x (state_of w)
     → OnErr x (w ≡ v) → IfOk x (λ n. HasBegun n v.setup r v.checks w.checks)
-    → Asks conn r f (hub_state v pools moment) (hub_state w pools moment)
-asks_by conn r x f v w pools moment is promised same has =
-    subst (λ y. Asks conn r y (hub_state v pools moment) (hub_state w pools moment)) (sym is)
+    → Asks conn r f (hub_state v rewriter pools moment) (hub_state w rewriter pools moment)
+asks_by conn r x f v w rewriter pools moment is promised same has =
+    subst (λ y. Asks conn r y (hub_state v rewriter pools moment) (hub_state w rewriter pools moment)) (sym is)
     (record {
-      makes = makes_by IsCheck (λ n. told.Check n) (asks_for conn r) x (hub_state v pools moment)
-          (hub_state w pools moment) refl (λ n. refl) promised (unmade x v w same) refl;
-      begins = begins_so x v.setup r v.checks v w pools moment has;
+      makes = makes_by IsCheck (λ n. told.Check n) (asks_for conn r) x (hub_state v rewriter pools moment)
+          (hub_state w rewriter pools moment) refl (λ n. refl) promised (unmade x v w same) refl refl;
+      begins = begins_so x v.setup r v.checks v w rewriter pools moment has;
     })
 
 -- a step
-pub steps_by : (n k : ℕ) (x : Result Stepped Refusal) (f : Result Stepped HubFault) (v w : EngineView) (pools : Basin)
+pub steps_by : (n k : ℕ) (x : Result Stepped Refusal) (f : Result Stepped HubFault) (v w : EngineView) (rewriter : Option RewriteState) (pools : DelayPools)
     (moment : ℕ) → f ≡ hub_result x
     → IsPromised (stepped_told (state_of v) k) (state_of v) (max moment v.latest) (event.Step n) x (state_of w)
     → OnErr x (IsSame (state_of w) (state_of v)) → engine.AreKeptBut n v.checks w.checks
-    → MakesOn IsStep (event.Step n) f (hub_state v pools moment) (hub_state w pools moment)
-steps_by n k x f v w pools moment is promised same kept =
-    subst (λ y. MakesOn IsStep (event.Step n) y (hub_state v pools moment) (hub_state w pools moment)) (sym is)
+    → MakesOn IsStep (event.Step n) f (hub_state v rewriter pools moment) (hub_state w rewriter pools moment)
+steps_by n k x f v w rewriter pools moment is promised same kept =
+    subst (λ y. MakesOn IsStep (event.Step n) y (hub_state v rewriter pools moment) (hub_state w rewriter pools moment)) (sym is)
     (record {
-      makes = makes_by IsStep (stepped_told (state_of v) k) (event.Step n) x (hub_state v pools moment)
-          (hub_state w pools moment) refl (step_tells (state_of v) k) promised same refl;
+      makes = makes_by IsStep (stepped_told (state_of v) k) (event.Step n) x (hub_state v rewriter pools moment)
+          (hub_state w rewriter pools moment) refl (step_tells (state_of v) k) promised same refl refl;
       kept = kept_by_but n v.checks w.checks kept;
     })
 
 -- the taking of a record
-pub takes_by : (n : ℕ) (x : Result Judged Refusal) (f : Result Judged HubFault) (v w : EngineView) (pools : Basin)
+pub takes_by : (n : ℕ) (x : Result Judged Refusal) (f : Result Judged HubFault) (v w : EngineView) (rewriter : Option RewriteState) (pools : DelayPools)
     (moment : ℕ) → f ≡ hub_result x
     → IsAlwaysTold (λ j. told.Judged j.epoch j.outcome) (take_answer (state_of v) n) x
     → IfOk x (λ j. (k : CheckParts) → value_at v.checks n ≡ Some k → j ≡ judged_of n j.outcome k)
     → IsPromised (λ j. told.Judged j.epoch j.outcome) (state_of v) (max moment v.latest) (event.Take n) x (state_of w)
     → OnErr x (w ≡ v) → engine.AreKept v.checks w.checks
-    → Takes n f (hub_state v pools moment) (hub_state w pools moment)
-takes_by n x f v w pools moment is told_is rec promised same kept =
-    subst (λ y. Takes n y (hub_state v pools moment) (hub_state w pools moment)) (sym is)
+    → Takes n f (hub_state v rewriter pools moment) (hub_state w rewriter pools moment)
+takes_by n x f v w rewriter pools moment is told_is rec promised same kept =
+    subst (λ y. Takes n y (hub_state v rewriter pools moment) (hub_state w rewriter pools moment)) (sym is)
     (record {
       makes = record {
-        makes = makes_by IsTaken (λ j. told.Judged j.epoch j.outcome) (event.Take n) x (hub_state v pools moment)
-            (hub_state w pools moment) refl (λ j. refl) promised (unmade x v w same) refl;
+        makes = makes_by IsTaken (λ j. told.Judged j.epoch j.outcome) (event.Take n) x (hub_state v rewriter pools moment)
+            (hub_state w rewriter pools moment) refl (λ j. refl) promised (unmade x v w same) refl refl;
         kept = kept_by v.checks w.checks kept;
       };
-      of_check = taken_by v n pools moment x told_is rec;
+      of_check = taken_by v n rewriter pools moment x told_is rec;
     })

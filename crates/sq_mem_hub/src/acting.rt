@@ -1,7 +1,8 @@
 //! What comes to the machine while a check waits.
-ghost use Rattle.sq_conn_policy.specs.Tellings.{Waited};
+ghost use Rattle.sq_conn_policy.specs.Tellings.{DelayPools, Waited};
 ghost use Rattle.sq_mem_hub.specs.MemHubs.{hub_state};
-ghost use Rattle.sq_pools.specs.Basins.{Basin};
+ghost use Rattle.sq_rewrite.specs.States.{RewriteState};
+ghost use Rattle.std.specs.declared.option.Option.{Option};
 
 use sq_base::{EpochNo, Moment, ProcNo, Text};
 use sq_engine::Engine;
@@ -24,8 +25,9 @@ pub(crate) fn act_all<R: Wait>(
     asked: &mut Asked,
     moment: Moment,
 )
-    ensures waited { (pools : Basin)
-        → Waited (hub_state engine.old pools moment) (hub_state engine.new pools moment) }
+    ensures waited { (rewriter : Option RewriteState) (pools : DelayPools)
+        → Waited (hub_state engine.old rewriter pools moment)
+        (hub_state engine.new rewriter pools moment) }
 {
     for _ in rt.forever() {
         match engine.act(moment) {
@@ -38,8 +40,9 @@ pub(crate) fn act_all<R: Wait>(
 
 // Notes which process is asked by an act, or says that the one is there which it starts.
 fn perform(alloc: Global, engine: &mut Engine, asked: &mut Asked, act: Act, moment: Moment)
-    ensures waited { (pools : Basin)
-        → Waited (hub_state engine.old pools moment) (hub_state engine.new pools moment) }
+    ensures waited { (rewriter : Option RewriteState) (pools : DelayPools)
+        → Waited (hub_state engine.old rewriter pools moment)
+        (hub_state engine.new rewriter pools moment) }
 {
     match act {
         Act::Stop(_) => {}
@@ -55,8 +58,9 @@ fn perform(alloc: Global, engine: &mut Engine, asked: &mut Asked, act: Act, mome
 
 // Says that a process of this class is there.
 fn start(alloc: Global, engine: &mut Engine, epoch: EpochNo, class: u32, moment: Moment)
-    ensures waited { (pools : Basin)
-        → Waited (hub_state engine.old pools moment) (hub_state engine.new pools moment) }
+    ensures waited { (rewriter : Option RewriteState) (pools : DelayPools)
+        → Waited (hub_state engine.old rewriter pools moment)
+        (hub_state engine.new rewriter pools moment) }
 {
     let _proc = engine.started(alloc, epoch, class, moment);
 }
@@ -69,8 +73,9 @@ pub(crate) fn hear(
     asked: Asked,
     moment: Moment,
 )
-    ensures waited { (pools : Basin)
-        → Waited (hub_state engine.old pools moment) (hub_state engine.new pools moment) }
+    ensures waited { (rewriter : Option RewriteState) (pools : DelayPools)
+        → Waited (hub_state engine.old rewriter pools moment)
+        (hub_state engine.new rewriter pools moment) }
 {
     match asked {
         Asked::Nobody => {}
@@ -80,8 +85,9 @@ pub(crate) fn hear(
 
 // Gives the process a line, or says that it died where there is none.
 fn give_line(alloc: Global, engine: &mut Engine, proc: ProcNo, line: Option<Text>, moment: Moment)
-    ensures waited { (pools : Basin)
-        → Waited (hub_state engine.old pools moment) (hub_state engine.new pools moment) }
+    ensures waited { (rewriter : Option RewriteState) (pools : DelayPools)
+        → Waited (hub_state engine.old rewriter pools moment)
+        (hub_state engine.new rewriter pools moment) }
 {
     match line {
         Some(line) => {

@@ -1,6 +1,6 @@
 -- Every legal history is faithful: its outcomes, its questions and their sends have their sources.
 use Rattle.std.proofs.Common.{Bool, List, None, Option, Some, ℕ, [], ap, arith, false, if◌then◌else◌, is_some, le_refl, length, max, nat_le, not, refl, slice_get, subst, suc, sym, true, zero, ◌<◌, ◌==◌, ◌∙◌, ◌∷◌, ◌≡◌, ◌≤◌}
-use Rattle.std.specs.Option.{option_and_then, option_map, option_or}
+use Rattle.std.specs.Option.{option_map, option_or}
 use Rattle.std.proofs.lemmas.Bool.{lt-ltb}
 use Rattle.std.proofs.lemmas.Option.{none-some, same_Some}
 use Rattle.sq_machine.specs.declared.entries.Event.{Event}
@@ -22,11 +22,14 @@ use Rattle.sq_machine.specs.Epochs.{config_of}
 use Rattle.sq_machine.specs.Next.{gives, refuse_if}
 use Rattle.sq_machine.specs.Marking.{mark, marked, says_at}
 use Rattle.sq_machine.specs.Marks.{Past, entries}
-use Rattle.sq_machine.specs.PoolReadings.{TakenCheck, allowed_of, if_allowed, seat_count, taken_after, taken_of, taking}
+use Rattle.sq_machine.specs.PoolHistories.{Addressed, pool_history, record_place}
+use Rattle.sq_machine.specs.PoolReadings.{seat_count}
+use Rattle.sq_machine.specs.SeatPlaces.{pool_at}
+use Rattle.sq_machine.specs.TakenRecords.{TakenCheck, allowed_of, if_allowed, taken_after, taken_answers, taken_of, taking}
 use Rattle.sq_machine.specs.Questions.{sent_to}
 use Rattle.sq_machine.specs.Readings.{counted_moment, current, epoch_after}
 use Rattle.sq_machine.specs.StepRule.{value_over}
-use Rattle.sq_rules.specs.Verdicts.{outcome_so_far, pool_of}
+use Rattle.sq_rules.specs.Verdicts.{outcome_so_far}
 use Rattle.sq_machine.proofs.CheckLaws.{IsAsked, open_asked}
 use Rattle.sq_machine.proofs.EventLaws.{begin_judges, judged_event}
 use Rattle.sq_model_laws.specs.Carried.{NamesOnce}
@@ -249,22 +252,22 @@ seat_tells count (Some pool) answer e = by (nat_le last_number (suc count)) e
     by true e = absurd (cc)
     by false e = let is : told.Seat (suc count) pool ≡ answer = cc in ap seat_pool is
 
-seated_by : (configs : List Configuration) (h : History) (c : ℕ) (answer : Told) (o : Option Asked)
+seated_by : (configs : List Configuration) (h : History) (c count : ℕ) (answer : Told) (o : Option Asked)
     → current h ≤ length configs → allowed_of (entries (marked configs h)) c ≡ o
-    → seat_for configs (seat_count configs (entries (marked configs h))) o ≡ gives answer
+    → seat_for configs count (taken_answers configs (marked configs h) c) o ≡ gives answer
     → IsSeatedSo configs (marked configs h) (record { conn = c; pool = seat_pool answer })
-seated_by configs h c answer None few at e = absurd (cc)
-seated_by configs h c answer (Some a) few at e =
+seated_by configs h c count answer None few at e = absurd (cc)
+seated_by configs h c count answer (Some a) few at e =
     let b = allowed_begun h c a (ap (λ (k : History). allowed_of k c) (sym (marked_entries configs h)) ∙ at) in
     let there = config_there configs a.epoch (current h) b.low b.high few in
+    let answers = taken_answers configs (marked configs h) c in
     record {
       asked = a;
       config = there.0;
       allowed_is = at;
       config_is = there.1;
-      pool_is = sym (seat_tells (seat_count configs (entries (marked configs h)))
-          (option_and_then (λ config. pool_of config a.sight) (config_of configs a.epoch)) answer e)
-          ∙ ap (option_and_then (λ (config : Configuration). pool_of config a.sight)) there.1;
+      pool_is = sym (seat_tells count (pool_at (record_place answers a (config_of configs a.epoch))) answer e)
+          ∙ ap (λ (o : Option Configuration). pool_at (record_place answers a o)) there.1;
     }
 
 seated_at : (configs : List Configuration) (h : History) (now : ℕ) (event : Event) (answer : Told)
@@ -272,8 +275,10 @@ seated_at : (configs : List Configuration) (h : History) (now : ℕ) (event : Ev
     → SeatedSo configs (marked configs h) (seating_of event answer)
 unfolding next next_at seat_pool
 seated_at configs h now (Seat c) (told.Seat n pool) few e =
-    seated_by configs h c (told.Seat n pool) (allowed_of (entries (marked configs h)) c) few refl e
-seated_at configs h now (Seat c) told.NoSeat few e = seated_by configs h c told.NoSeat
+    seated_by configs h c (seat_count (pool_history Addressed configs (marked configs h))) (told.Seat n pool)
+    (allowed_of (entries (marked configs h)) c) few refl e
+seated_at configs h now (Seat c) told.NoSeat few e =
+    seated_by configs h c (seat_count (pool_history Addressed configs (marked configs h))) told.NoSeat
     (allowed_of (entries (marked configs h)) c) few refl e
 seated_at configs h now (Seat c) answer few e = tt
 seated_at configs h now event answer few e = tt

@@ -25,11 +25,12 @@ use Rattle.sq_machine.specs.KeptReadings.{kept}
 use Rattle.sq_machine.specs.Limits.{key_limit}
 use Rattle.sq_machine.specs.Living.{has_free}
 use Rattle.sq_machine.specs.Marks.{Marked, Past, Put, entries}
-use Rattle.sq_machine.specs.PoolReadings.{allowed_of}
 use Rattle.sq_machine.specs.Processes.{runs_at}
 use Rattle.sq_machine.specs.Questions.{has_ended, pending, put_is, put_of, sent_to}
+use Rattle.sq_machine.specs.SeatPlaces.{pool_at, seat_place}
 use Rattle.sq_machine.specs.StepRule.{value_over}
-use Rattle.sq_rules.specs.Verdicts.{pool_of, verdict_over}
+use Rattle.sq_machine.specs.TakenRecords.{allowed_of, taken_answers}
+use Rattle.sq_rules.specs.Verdicts.{verdict_over}
 use Rattle.sq_model_laws.specs.Given.{EachOf, FindsNoRoom, IsSound, IsTooLong, fault_for, times_sent}
 use Rattle.sq_model_laws.specs.Waits.{IsNeeded, WaitsSo}
 use Rattle.sq_model_laws.specs.Walked.{AreWalked, FewTaken}
@@ -91,13 +92,14 @@ seating_of (Seat c) told.NoSeat = Some (record { conn = c; pool = None })
 seating_of event answer = None
 
 -- a seat is for the outcome that was last taken on its connection, which allows: in the pool that
--- the configuration of its epoch has for what the check saw, or in none where it has none
+-- the configuration of its epoch has for what the check saw, or in none where it has none, or where
+-- that pool has buckets by tags and the answers of the check have no tag
 pub record IsSeatedSo (configs : List Configuration) (m : Past) (s : Seating) : Type 0 where
   pub asked : Asked
   pub config : Configuration
   pub allowed_is : allowed_of (entries m) s.conn ≡ Some asked
   pub config_is : config_of configs asked.epoch ≡ Some config
-  pub pool_is : s.pool ≡ pool_of config asked.sight
+  pub pool_is : s.pool ≡ pool_at (seat_place config asked.sight (taken_answers configs m s.conn))
 
 -- so it is of a seat that is given, if one is
 abbrev pub SeatedSo : List Configuration → Past → Option Seating → Type 0

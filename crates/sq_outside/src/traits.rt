@@ -9,19 +9,24 @@ ghost use Rattle.sq_outside.specs.Told.{Texts, GivesText, IsNotTold, Openings, O
 
 use sq_base::{Text, WantOfMemory};
 use std::alloc::Global;
+use thiserror::Error;
 
 /// A call of the object failed.
-#[derive(Clone, Copy, Debug, PartialEq, Eq)]
+#[derive(Clone, Copy, Debug, PartialEq, Eq, Error)]
+#[error("the call failed")]
 pub struct Failed;
 
 /// Why a file was not opened.
-#[derive(Clone, Copy, Debug, PartialEq, Eq)]
+#[derive(Clone, Copy, Debug, PartialEq, Eq, Error)]
 pub enum NoOpen {
     /// There is no file of this name.
+    #[error("there is no file of this name")]
     Missing,
     /// The opening failed, and was counted.
+    #[error("the opening failed")]
     Failed,
     /// There was no memory.
+    #[error("out of memory")]
     WantOfMemory,
 }
 

@@ -9,6 +9,7 @@ use crate::links::Out;
 use crate::traits::{Failed, Source};
 use sq_base::{Addrs, Moment, Text, WantOfMemory};
 use std::alloc::Global;
+use thiserror::Error;
 
 /// A value of which a copy can be had. A copy takes no memory, and counts its own faults.
 pub trait Another {
@@ -67,11 +68,13 @@ pub trait Clock {
 }
 
 /// Why the addresses of a host were not found.
-#[derive(Clone, Copy, Debug, PartialEq, Eq)]
+#[derive(Clone, Copy, Debug, PartialEq, Eq, Error)]
 pub enum LookFault {
     /// The look-up failed, and was counted.
+    #[error("the look-up failed")]
     Failed,
     /// There was no memory.
+    #[error("out of memory")]
     WantOfMemory,
 }
 

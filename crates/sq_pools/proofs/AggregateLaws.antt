@@ -2,8 +2,7 @@
 use Rattle.std.proofs.Common.{◌≡◌, ◌∙◌, ◌==◌, ◌&&◌, ◌||◌, ◌≤◌, nat_lt, Bool, true, false, ℕ, List, [], ◌∷◌, Option, None, Some, length, refl, ap, sym, arith, suc, zero, slice_get, ◌+◌, add-one}
 use Rattle.std.specs.Option.{option_map_or}
 use Rattle.std.proofs.lemmas.Bool.Decides.{nat_tests}
-use Rattle.sq_rules.specs.Configurations.{Configuration}
-use Rattle.sq_machine.specs.PoolReadings.{BucketSpot, bucket_pairs, has_spot, is_aggregate, is_spot, spots_from, spots_of}
+use Rattle.sq_machine.specs.PoolReadings.{Beginning, BucketSpot, bucket_pairs, has_spot, is_aggregate, is_spot, spots_from, spots_of}
 use Rattle.sq_rules.specs.Rates.{Limit}
 use Rattle.sq_rules.specs.declared.pools.Pool.{Pool}
 use Rattle.sq_pools.specs.Grants.{filled_if, is_aggregate_of, opened_in}
@@ -12,7 +11,7 @@ use Rattle.sq_pools.proofs.BucketLaws.{opened_more}
 use Rattle.sq_pools.proofs.SpotLaws.{both_first, spot_same, spots_past}
 
 abbrev named : ℕ → Limit → BucketSpot
-named place r = record { pool = place; place = 0; host = 0; limit = r }
+named place r = record { pool = place; place = 0; host = 0; limit = r; tag = [] }
 
 first_by : (place class number : ℕ) (limits : List (Option Limit)) (r : Limit) (s : BucketSpot) (b c : Bool)
     → is_spot (named place r) s ≡ b
@@ -92,24 +91,24 @@ or_no true = refl
 or_no false = refl
 
 -- for one pool more: an aggregate bucket of the pools so far
-pub aggregates_more : (c : Configuration) (i : ℕ) (p : Pool) (s : BucketSpot) → slice_get c.pools i ≡ Some p
-    → ((nat_lt s.pool i && is_aggregate (Some c) s) || is_aggregate_of i p s)
-    ≡ (nat_lt s.pool (suc i) && is_aggregate (Some c) s)
+pub aggregates_more : (c : Beginning) (i : ℕ) (p : Pool) (s : BucketSpot) → slice_get c.pools i ≡ Some p
+    → ((nat_lt s.pool i && is_aggregate c.pools s) || is_aggregate_of i p s)
+    ≡ (nat_lt s.pool (suc i) && is_aggregate c.pools s)
 aggregates_more c i p s e = (elim (s.pool == i) as
-    (λ y. (s.pool == i) ≡ y → ((nat_lt s.pool i && is_aggregate (Some c) s) || is_aggregate_of i p s)
-    ≡ (nat_lt s.pool (suc i) && is_aggregate (Some c) s)) [
+    (λ y. (s.pool == i) ≡ y → ((nat_lt s.pool i && is_aggregate c.pools s) || is_aggregate_of i p s)
+    ≡ (nat_lt s.pool (suc i) && is_aggregate c.pools s)) [
       | true ↦ λ t.
           let is : s.pool ≡ i = grind (arith, nat_tests, t) in
           let no : nat_lt s.pool i ≡ false = grind (arith, nat_tests) in
           let yes : nat_lt s.pool (suc i) ≡ true = grind (arith, nat_tests) in
-          let here : is_aggregate (Some c) s ≡ is_aggregate_of i p s = ap (aggregate_at c.pools s) is
+          let here : is_aggregate c.pools s ≡ is_aggregate_of i p s = ap (aggregate_at c.pools s) is
           ∙ ap (λ o. has_spot (option_map_or (λ q. spots_of i q (record { v6 = false; number = 0 })) o []) s && s.place
           == 0) e in
           rw (no, yes) (sym here)
       | false ↦ λ t.
           let none : is_aggregate_of i p s ≡ false = other_pool i p s (is_aggregate_of i p s) refl t in
           let same : nat_lt s.pool (suc i) ≡ nat_lt s.pool i = grind (arith, nat_tests, t) in
-          rw (none, same) (or_no (nat_lt s.pool i && is_aggregate (Some c) s))
+          rw (none, same) (or_no (nat_lt s.pool i && is_aggregate c.pools s))
     ]) refl
 
 past_end : {A : Type 0} (xs : List A) (k : ℕ) → length xs ≤ k → slice_get xs k ≡ None
@@ -118,11 +117,11 @@ past_end (x ∷ xs) zero h = absurd (omega arith)
 past_end (x ∷ xs) (suc k) h = past_end xs k (omega arith)
 
 -- for all pools: an aggregate bucket is of one of them
-pub aggregates_all : (c : Configuration) (s : BucketSpot)
-    → (nat_lt s.pool (length c.pools) && is_aggregate (Some c) s) ≡ is_aggregate (Some c) s
+pub aggregates_all : (c : Beginning) (s : BucketSpot)
+    → (nat_lt s.pool (length c.pools) && is_aggregate c.pools s) ≡ is_aggregate c.pools s
 aggregates_all c s = (elim (nat_lt s.pool (length c.pools)) as
     (λ y. nat_lt s.pool (length c.pools) ≡ y
-    → (nat_lt s.pool (length c.pools) && is_aggregate (Some c) s) ≡ is_aggregate (Some c) s) [
+    → (nat_lt s.pool (length c.pools) && is_aggregate c.pools s) ≡ is_aggregate c.pools s) [
       | true ↦ λ t. rw t refl
       | false ↦ λ t.
           let far : length c.pools ≤ s.pool = grind (arith, nat_tests, t) in
@@ -130,18 +129,18 @@ aggregates_all c s = (elim (nat_lt s.pool (length c.pools)) as
     ]) refl
 
 -- for one pool more: the aggregate buckets of the pools so far are open
-pub aggregates_step : (c : Configuration) (i place percent : ℕ) (p : Pool) (s : BucketSpot) (old new : Option Filled)
+pub aggregates_step : (c : Beginning) (i place percent : ℕ) (p : Pool) (s : BucketSpot) (old new : Option Filled)
     → slice_get c.pools i ≡ Some p → place ≡ i → percent ≡ c.initial
-    → old ≡ filled_if (nat_lt s.pool i && is_aggregate (Some c) s) (opened_in c.initial 0 s) None
+    → old ≡ filled_if (nat_lt s.pool i && is_aggregate c.pools s) (opened_in c.initial 0 s) None
     → new ≡ filled_if (is_aggregate_of place p s) (opened_in percent 0 s) old
-    → new ≡ filled_if (nat_lt s.pool (i + 1) && is_aggregate (Some c) s) (opened_in c.initial 0 s) None
+    → new ≡ filled_if (nat_lt s.pool (i + 1) && is_aggregate c.pools s) (opened_in c.initial 0 s) None
 aggregates_step c i place percent p s old new at here start was is =
     is ∙ rw (was, here, start, add-one)
-    (opened_more (nat_lt s.pool i && is_aggregate (Some c) s) (is_aggregate_of i p s) (opened_in c.initial 0 s) None
+    (opened_more (nat_lt s.pool i && is_aggregate c.pools s) (is_aggregate_of i p s) (opened_in c.initial 0 s) None
     ∙ ap (λ b. filled_if b (opened_in c.initial 0 s) None) (aggregates_more c i p s at))
 
 -- for all pools: their aggregate buckets are open
-pub aggregates_end : (c : Configuration) (i : ℕ) (s : BucketSpot) (o : Option Filled) → length c.pools ≡ i
-    → o ≡ filled_if (nat_lt s.pool i && is_aggregate (Some c) s) (opened_in c.initial 0 s) None
-    → o ≡ filled_if (is_aggregate (Some c) s) (opened_in c.initial 0 s) None
+pub aggregates_end : (c : Beginning) (i : ℕ) (s : BucketSpot) (o : Option Filled) → length c.pools ≡ i
+    → o ≡ filled_if (nat_lt s.pool i && is_aggregate c.pools s) (opened_in c.initial 0 s) None
+    → o ≡ filled_if (is_aggregate c.pools s) (opened_in c.initial 0 s) None
 aggregates_end c i s o end is = is ∙ rw (← end, aggregates_all c s) refl

@@ -4,10 +4,8 @@ use Rattle.std.specs.Option.{option_map, option_map_or}
 use Rattle.std.proofs.lemmas.Bool.Decides.{nat_tests}
 use Rattle.sq_machine.specs.BucketLevels.{Filled}
 use Rattle.sq_machine.specs.Limits.{last_number}
-use Rattle.sq_base.specs.Addresses.{Address}
-use Rattle.sq_rules.specs.Configurations.{Configuration}
-use Rattle.sq_machine.specs.PoolReadings.{Sat, BucketSpot, has_spot, is_aggregate, is_spot, kept_if, made_if, second_of, spots_in}
-use Rattle.sq_pools.specs.Basins.{Basin, HasLeft, IsBasin, IsChosen, IsRenewed, bucket_in, granted_limit, made_in, sat_in, seat_in, second_in, stays}
+use Rattle.sq_machine.specs.PoolReadings.{Beginning, Sat, BucketSpot, has_spot, is_aggregate, is_spot, kept_if, made_if, second_of}
+use Rattle.sq_pools.specs.Basins.{Basin, HasLeft, IsBasin, IsBegun, IsSeated, bucket_in, granted_limit, made_in, seat_in, second_in, stays}
 use Rattle.sq_pools.specs.Generations.{buckets_at, filled_at, generation_at, held_at, is_left, made_at, second_at}
 use Rattle.sq_pools.specs.Grants.{are_own, are_there, bucket_at, filled_if, granted_if, opened_in}
 use Rattle.sq_pools.specs.Seats.{seat_at, seats_of}
@@ -490,15 +488,15 @@ has_left g k j s r n w t a m sat is rest made filled gone emptied = record {
 }
 
 -- for a generation that was made: what it changes
-pub is_renewed : (g k j : List (ℕ × Generation)) (s : List (ℕ × Sat)) (n w t u a epoch : ℕ) (c : Configuration)
+pub is_renewed : (g k j : List (ℕ × Generation)) (s : List (ℕ × Sat)) (n w t u a epoch : ℕ) (b : Beginning)
     → IsLoose w (basin k s n epoch u a)
     → ((e : ℕ) → made_at k e ≡ made_if (e == epoch) u (made_at g e))
     → ((e : ℕ) (x : BucketSpot)
-    → filled_at k e x ≡ filled_if (e == epoch && is_aggregate (Some c) x) (opened_in c.initial 0 x) (filled_at g e x))
+    → filled_at k e x ≡ filled_if (e == epoch && is_aggregate b.pools x) (opened_in b.initial 0 x) (filled_at g e x))
     → ((e : ℕ) → made_at j e ≡ kept_if (is_left k w epoch e) (made_at k e))
     → ((e : ℕ) (x : BucketSpot) → filled_at j e x ≡ kept_if (is_left k w epoch e) (filled_at k e x))
-    → IsRenewed (basin g s n w t a) (basin j s n epoch u a) epoch c u
-is_renewed g k j s n w t u a epoch c is made filled gone emptied = record {
+    → IsBegun (basin g s n w t a) (basin j s n epoch u a) epoch b u
+is_renewed g k j s n w t u a epoch b is made filled gone emptied = record {
   made = λ e. retired_made w k j s n epoch u a is gone e ∙ ap (kept_if (stays (basin k s n epoch u a) e)) (made e);
   buckets = λ e x. retired_filled w k j s n epoch u a is emptied e x
       ∙ ap (kept_if (stays (basin k s n epoch u a) e)) (filled e x);
@@ -515,29 +513,56 @@ kept_inside true c initial p q x o h = rw (h refl) refl
 kept_inside false c initial p q x o h = refl
 
 -- for a seat that was given: what it changes
-pub is_chosen : (g k j : List (ℕ × Generation)) (s r : List (ℕ × Sat)) (n w t u a epoch pool : ℕ) (c : Configuration)
-    (addr : Address) → IsLoose w (basin k r (suc n) (max w epoch) u a)
-    → ((i : ℕ) → seat_at r i ≡ cond (i == suc n) (Some (sat_in epoch c pool addr)) (seat_at s i))
-    → ((e : ℕ) → made_at k e ≡ made_if (e == epoch) u (made_at g e))
+pub is_seated : (g k j : List (ℕ × Generation)) (s r : List (ℕ × Sat)) (n w t u a : ℕ) (sat : Sat) (b : Beginning)
+    → IsLoose w (basin k r (suc n) (max w sat.epoch) u a)
+    → ((i : ℕ) → seat_at r i ≡ cond (i == suc n) (Some sat) (seat_at s i))
+    → ((e : ℕ) → made_at k e ≡ made_if (e == sat.epoch) u (made_at g e))
     → ((e : ℕ) (x : BucketSpot) → filled_at k e x
-    ≡ filled_if (e == epoch &&
-    (has_spot (spots_in (Some c) pool addr) x || (is_none (made_at g e) && is_aggregate (Some c) x)))
-    (opened_in c.initial (second_at k e u) x) (filled_at g e x))
-    → ((e : ℕ) → made_at j e ≡ kept_if (is_left k w (max w epoch) e) (made_at k e))
-    → ((e : ℕ) (x : BucketSpot) → filled_at j e x ≡ kept_if (is_left k w (max w epoch) e) (filled_at k e x))
-    → IsChosen (basin g s n w t a) (basin j r (suc n) (max w epoch) u a) epoch c pool addr u
-is_chosen g k j s r n w t u a epoch pool c addr is rest made filled gone emptied = record {
-  made = λ e. left e ∙ ap (kept_if (stays (basin k r (suc n) (max w epoch) u a) e)) (made e);
-  buckets = λ e x. retired_filled w k j r (suc n) (max w epoch) u a is emptied e x
-      ∙ ap (kept_if (stays (basin k r (suc n) (max w epoch) u a) e)) (filled e x)
-      ∙ kept_inside (stays (basin k r (suc n) (max w epoch) u a) e) _ c.initial (second_at k e u) (second_at j e u) x
+    ≡ filled_if (e == sat.epoch &&
+    (has_spot sat.spots x || (is_none (made_at g e) && is_aggregate b.pools x)))
+    (opened_in b.initial (second_at k e u) x) (filled_at g e x))
+    → ((e : ℕ) → made_at j e ≡ kept_if (is_left k w (max w sat.epoch) e) (made_at k e))
+    → ((e : ℕ) (x : BucketSpot) → filled_at j e x ≡ kept_if (is_left k w (max w sat.epoch) e) (filled_at k e x))
+    → IsSeated (basin g s n w t a) (basin j r (suc n) (max w sat.epoch) u a) sat b u
+is_seated g k j s r n w t u a sat b is rest made filled gone emptied = record {
+  made = λ e. left e ∙ ap (kept_if (stays (basin k r (suc n) (max w sat.epoch) u a) e)) (made e);
+  buckets = λ e x. retired_filled w k j r (suc n) (max w sat.epoch) u a is emptied e x
+      ∙ ap (kept_if (stays (basin k r (suc n) (max w sat.epoch) u a) e)) (filled e x)
+      ∙ kept_inside (stays (basin k r (suc n) (max w sat.epoch) u a) e) _ b.initial (second_at k e u) (second_at j e u) x
       (filled_at g e x)
-      (λ stay. sym (second_same k j e u (left e ∙ ap (λ b. kept_if b (made_at k e)) stay)));
+      (λ stay. sym (second_same k j e u (left e ∙ ap (λ t. kept_if t (made_at k e)) stay)));
   seats = rest;
   given = refl;
   newest = refl;
   latest = refl;
   granted = refl;
 } where
-  left : (e : ℕ) → made_at j e ≡ kept_if (stays (basin k r (suc n) (max w epoch) u a) e) (made_at k e)
-  left e = retired_made w k j r (suc n) (max w epoch) u a is gone e
+  left : (e : ℕ) → made_at j e ≡ kept_if (stays (basin k r (suc n) (max w sat.epoch) u a) e) (made_at k e)
+  left e = retired_made w k j r (suc n) (max w sat.epoch) u a is gone e
+
+count_none : (s : List (ℕ × Sat)) (e n : ℕ) → seat_at s (suc n) ≡ None → seats_of s e (suc n) ≡ seats_of s e n
+count_none s e n none = rw none refl
+
+none_past : (s : List (ℕ × Sat)) (n : ℕ) → ((m : ℕ) → is_some (seat_at s m) ≡ true → (0 < m) × (m ≤ n))
+    → seat_at s (suc n) ≡ None
+none_past s n numbers = by (seat_at s (suc n)) refl where
+  by : (o : Option Sat) → seat_at s (suc n) ≡ o → o ≡ None
+  by None is = refl
+  by (Some sat) is = let high = (numbers (suc n) (some_is (seat_at s (suc n)) sat is)).1 in absurd (omega arith)
+
+-- for a number that was given elsewhere
+pub passed_basin : (g : List (ℕ × Generation)) (s : List (ℕ × Sat)) (n w t a : ℕ) → IsBasin (basin g s n w t a)
+    → suc n < last_number → IsBasin (basin g s (suc n) w t a)
+passed_basin g s n w t a is left = record {
+  numbers = λ m there. let at = is.numbers m there in (at.0, omega arith);
+  counted = λ e. is.counted e ∙ sym (same e);
+  lives = λ e there. rw (same e) (is.lives e there);
+  opened = is.opened;
+  own = is.own;
+  limits = is.limits;
+  reckoned = is.reckoned;
+  spare = omega arith;
+  few = is.few;
+} where
+  same : (e : ℕ) → seats_of s e (suc n) ≡ seats_of s e n
+  same e = count_none s e n (none_past s n is.numbers)

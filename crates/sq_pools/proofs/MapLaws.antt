@@ -1,11 +1,13 @@
 -- Ordered maps by keys whose order and whose test tell the same keys apart.
-use Rattle.std.proofs.Common.{◌≡◌, ◌∙◌, ◌==◌, cond, Bool, true, false, ℕ, List, [], ◌∷◌, Option, None, Some, refl, ap, sym, arith}
+use Rattle.std.proofs.Common.{◌≡◌, ◌∙◌, ◌==◌, cond, Bool, true, false, ℕ, List, [], ◌∷◌, Option, None, Some, bytes_eq, refl, ap, sym, arith}
 use Rattle.std.specs.BTreeMap.{is_at, insert_entry}
 use Rattle.std.specs.Map.{lookup, remove_entry}
 use Rattle.std.specs.Ordering.{nat_cmp, is_eq}
 use Rattle.std.specs.declared.cmp.Ordering.{Ordering}
 use Rattle.std.specs.declared.cmp.Ordering.TheVariants.{Less, Equal, Greater}
+use Rattle.std.specs.Cmp.Lexicographic.{slice_cmp}
 use Rattle.std.proofs.lemmas.Bool.Decides.{nat_tests}
+use Rattle.std.proofs.lemmas.Map.Text.{is_eq-slice_cmp}
 use Rattle.sq_machine.specs.PoolReadings.{BucketSpot, is_spot}
 use Rattle.sq_pools.specs.contracts.spots.BucketSpotOrd as ord
 
@@ -19,12 +21,26 @@ pub record IsKey (K : Type 0) (cmp : K → K → Ordering) (same : K → K → B
 pub number_key : IsKey ℕ nat_cmp (λ a b. a == b)
 number_key = record { agrees = λ a b. grind arith; itself = λ a. grind arith; turned = λ a b. grind (arith, nat_tests) }
 
+same_bytes : (a : List ℕ) → bytes_eq a a ≡ true
+same_bytes [] = refl
+same_bytes (x ∷ xs) = let one : (x == x) ≡ true = grind arith in rw (one, same_bytes xs) refl
+
+turned_bytes : (a b : List ℕ) → bytes_eq a b ≡ bytes_eq b a
+turned_bytes [] [] = refl
+turned_bytes [] (y ∷ ys) = refl
+turned_bytes (x ∷ xs) [] = refl
+turned_bytes (x ∷ xs) (y ∷ ys) =
+    let one : (x == y) ≡ (y == x) = grind (arith, nat_tests) in rw (one, turned_bytes xs ys) refl
+
 -- for maps by the names of buckets
 pub spot_key : IsKey BucketSpot ord.TheImpl.cmp-value.it is_spot
 spot_key = record {
-  agrees = λ a b. grind (arith, nat_tests);
-  itself = λ a. grind (arith, nat_tests);
-  turned = λ a b. grind (arith, nat_tests);
+  agrees = λ a b.
+      let tags : is_eq (slice_cmp nat_cmp a.tag b.tag) ≡ bytes_eq a.tag b.tag = is_eq-slice_cmp a.tag b.tag in
+      grind (arith, nat_tests, tags);
+  itself = λ a. let tags : bytes_eq a.tag a.tag ≡ true = same_bytes a.tag in grind (arith, nat_tests, tags);
+  turned = λ a b. let tags : bytes_eq a.tag b.tag ≡ bytes_eq b.tag a.tag = turned_bytes a.tag b.tag in
+      grind (arith, nat_tests, tags);
 }
 
 -- for a look-up: the map's, with the plain test

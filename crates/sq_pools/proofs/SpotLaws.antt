@@ -1,17 +1,19 @@
 -- Names of buckets: their test is equality, and which stand in a list.
-use Rattle.std.proofs.Common.{◌≡◌, ◌∙◌, ◌&&◌, ◌||◌, ◌≤◌, ◌<◌, not, Bool, true, false, ℕ, List, [], ◌∷◌, ◌++◌, Option, None, Some, length, take, get_or, refl, ap, sym, arith, suc, zero}
+use Rattle.std.proofs.Common.{◌≡◌, ◌∙◌, ◌&&◌, ◌||◌, ◌≤◌, ◌<◌, not, Bool, true, false, ℕ, List, [], ◌∷◌, ◌++◌, Option, None, Some, length, take, get_or, bytes_eq, refl, ap, sym, arith, suc, zero}
 use Rattle.std.proofs.lemmas.Bool.Decides.{nat_tests}
+use Rattle.std.proofs.lemmas.Slice.Eq.{bytes_eq-Decides}
 use Rattle.std.proofs.lemmas.List.Folds.{list_any-append}
 use Rattle.sq_machine.specs.PoolReadings.{BucketSpot, has_spot, host_of, is_spot, spots_from}
 use Rattle.sq_rules.specs.Rates.{Limit}
 use Rattle.sq_pools.specs.Grants.{are_own}
 use Rattle.sq_pools.proofs.MapLaws.{spot_key}
 
-abbrev spot : ℕ → ℕ → ℕ → ℕ → ℕ → BucketSpot
-spot p l h r m = record { pool = p; place = l; host = h; limit = record { restore = r; max = m } }
+abbrev spot : ℕ → ℕ → ℕ → ℕ → ℕ → List ℕ → BucketSpot
+spot p l h r m t = record { pool = p; place = l; host = h; limit = record { restore = r; max = m }; tag = t }
 
-spot_by : (p q l k h g r t m n : ℕ) → p ≡ q → l ≡ k → h ≡ g → r ≡ t → m ≡ n → spot p l h r m ≡ spot q k g t n
-spot_by p q l k h g r t m n a b c d e = rw (a, b, c, d, e) refl
+spot_by : (p q l k h g r t m n : ℕ) (u v : List ℕ) → p ≡ q → l ≡ k → h ≡ g → r ≡ t → m ≡ n → u ≡ v
+    → spot p l h r m u ≡ spot q k g t n v
+spot_by p q l k h g r t m n u v a b c d e f = rw (a, b, c, d, e, f) refl
 
 -- for equal names: their test tells it
 pub spot_same : (a b : BucketSpot) → is_spot a b ≡ true → a ≡ b
@@ -21,8 +23,9 @@ spot_same a b e =
     let host : a.host ≡ b.host = grind (arith, nat_tests) in
     let restore : a.limit.restore ≡ b.limit.restore = grind (arith, nat_tests) in
     let top : a.limit.max ≡ b.limit.max = grind (arith, nat_tests) in
-    spot_by a.pool b.pool a.place b.place a.host b.host a.limit.restore b.limit.restore a.limit.max b.limit.max pool
-    place host restore top
+    let tags : bytes_eq a.tag b.tag ≡ true = grind (arith, nat_tests) in
+    spot_by a.pool b.pool a.place b.place a.host b.host a.limit.restore b.limit.restore a.limit.max b.limit.max a.tag
+    b.tag pool place host restore top ((bytes_eq-Decides a.tag b.tag).0 tags)
 
 or_later : (a b : Bool) → (a || b) ≡ false → b ≡ false
 or_later true b e = cc
@@ -104,7 +107,9 @@ spots_past pool class number k (None ∷ limits) s e =
     let place = more.place_is in
     record { pool_is = more.pool_is; place_is = omega arith }
 spots_past pool class number k (Some r ∷ limits) s e =
-    past_by pool class number k limits _ s _ refl refl refl e (spots_past pool class number (suc k) limits s)
+    past_by pool class number k limits
+    (record { pool = pool; place = k; host = host_of class k number; limit = r; tag = [] }) s _ refl refl refl e
+    (spots_past pool class number (suc k) limits s)
 
 above : (pool class number k : ℕ) (limits : List (Option Limit)) (s : BucketSpot) (b : Bool)
     → has_spot (spots_from pool class number (suc k) limits) s ≡ b → s.place ≡ k → b ≡ false
@@ -118,7 +123,7 @@ pub own_spots : (pool class number k : ℕ) (limits : List (Option Limit))
 own_spots pool class number k [] = refl
 own_spots pool class number k (None ∷ limits) = own_spots pool class number (suc k) limits
 own_spots pool class number k (Some r ∷ limits) =
-    let x : BucketSpot = record { pool = pool; place = k; host = host_of class k number; limit = r } in
+    let x : BucketSpot = record { pool = pool; place = k; host = host_of class k number; limit = r; tag = [] } in
     let apart : has_spot (spots_from pool class number (suc k) limits) x ≡ false =
     above pool class number k limits x (has_spot (spots_from pool class number (suc k) limits) x) refl refl in
     rw apart (own_spots pool class number (suc k) limits)

@@ -1,26 +1,18 @@
 -- What each call, and each entry, does to pools that stand for a history.
-use Rattle.std.proofs.Common.{◌≡◌, ◌∙◌, ◌==◌, ◌&&◌, ◌||◌, ◌≤◌, ◌<◌, ◌+◌, ◌-◌, not, cond, if◌then◌else◌, Bool, true, false, ℕ, List, [], ◌∷◌, Option, None, Some, is_some, is_none, refl, ap, sym, arith, min, max, suc, zero, zero-add, ℤ}
+use Rattle.std.proofs.Common.{◌≡◌, ◌∙◌, ◌==◌, ◌&&◌, ◌||◌, ◌≤◌, ◌<◌, ◌+◌, ◌-◌, not, cond, if◌then◌else◌, Bool, true, false, ℕ, List, [], ◌∷◌, Option, None, Some, is_some, is_none, refl, ap, sym, subst, arith, min, max, suc, zero, zero-add}
 use Rattle.std.specs.Option.{option_map, option_map_or, option_or}
 use Rattle.std.proofs.lemmas.Bool.Decides.{nat_tests}
 use Rattle.sq_machine.specs.BucketLevels.{Filled, Tally, a_second, drawn, filled_to, opened_at, seconds}
-use Rattle.sq_machine.specs.Checks.{Asked, ask_count, ask_of, asked_by, conn_of, numbered}
-use Rattle.sq_rules.specs.Configurations.{Configuration}
-use Rattle.sq_machine.specs.Entries.{History, Noted}
-use Rattle.sq_machine.specs.Events.{Asking, asking, begins_epoch, is_number}
-use Rattle.sq_machine.specs.Epochs.{config_of}
-use Rattle.sq_machine.specs.PoolReadings.{Sat, BucketSpot, TakenCheck, allowed_of, count_if, grant_of, least_level, level_of, if_allowed, sat_of, spots_in, taken_after, taken_of, taking, granted_by, granted_of, has_spot, in_use, in_use_after, initial_in, is_aggregate, is_needed, is_of_epoch, kept_if, made_if, made_of, makes, names_spot, opened_if, sat_at, seat_count, seat_of, second_of, seconds_between, some_in_use, takes_at, tally_of, until}
+use Rattle.sq_machine.specs.Checks.{numbered}
+use Rattle.sq_machine.specs.Limits.{last_number}
+use Rattle.sq_machine.specs.PoolReadings.{Beginning, PoolEntry, PoolHistory, Begins, Sits, Passes, Grants, Leaves, Rests, Sat, BucketSpot, beginning_by, count_if, current_in, grant_of, granted_of, has_spot, in_use, is_aggregate, is_needed, is_of_epoch, kept_if, latest_in, least_level, level_of, made_if, made_of, makes, names_spot, opened_if, sat_at, seat_count, seat_of, second_of, seconds_between, some_in_use, takes_at, tally_of, until}
 use Rattle.sq_rules.specs.Rates.{Limit}
-use Rattle.sq_machine.specs.Readings.{current, epoch_after, latest}
-use Rattle.sq_machine.specs.declared.entries.Event.{Event}
-use Rattle.sq_machine.specs.declared.entries.Event.TheVariants.{Begin, Open, Close, Ask, Step, Take, Started, StartFail, Line, Died, Act, Reconfigure, Seat, Grant, Leave}
-use Rattle.sq_machine.specs.declared.entries.Told.{Told}
-use Rattle.sq_machine.specs.declared.entries.Told.TheVariants as told
-use Rattle.sq_pools.specs.Basins.{Basin, HasBegun, HasLeft, IsBasin, IsChosen, IsGranted, IsRenewed, bucket_in, grant_in, granted_limit, made_in, sat_in, seat_in, second_in, stays, tally_then}
+use Rattle.sq_pools.specs.Basins.{Basin, HasLeft, HasPassed, IsBasin, IsBegun, IsFirst, IsGranted, IsSeated, bucket_in, grant_in, granted_limit, made_in, seat_in, second_in, stays, tally_then}
 use Rattle.sq_pools.specs.Generations.{buckets_at}
 use Rattle.sq_pools.specs.Grants.{filled_if, granted_if, least_at, level_or_none, opened_in}
 use Rattle.sq_pools.specs.Seats.{seat_at, seats_of}
-use Rattle.sq_pools.specs.Stands.{PoolsStand, entry, is_elsewhere}
-use Rattle.sq_pools.proofs.BasinLaws.{filled_made}
+use Rattle.sq_pools.specs.Stands.{PoolsStand, entry}
+use Rattle.sq_pools.proofs.BasinLaws.{filled_made, passed_basin}
 use Rattle.sq_pools.proofs.GenerationLaws.{filled_other, made_other}
 use Rattle.sq_pools.proofs.MapLaws.{number_key}
 
@@ -57,12 +49,12 @@ until_by (Some f) (Some made) s first last now there limits low h i =
     (ap (λ (t : Tally). Some t) (later_tally f (second_of made last) (second_of made now) (omega arith) two))
 
 -- for pools that stand for a history: a bucket at a later moment
-pub until_then : (p : Basin) (configs : List Configuration) (h : History) (now e : ℕ) (s : BucketSpot) → IsBasin p
-    → PoolsStand p configs h → latest h ≤ now
-    → until configs h e s now (tally_of configs h e s) ≡ tally_then p now e s
-until_then p configs h now e s is stand i =
+pub until_then : (p : Basin) (h : PoolHistory) (now e : ℕ) (s : BucketSpot) → IsBasin p
+    → PoolsStand p h → latest_in h ≤ now
+    → until h e s now (tally_of h e s) ≡ tally_then p now e s
+until_then p h now e s is stand i =
     rw (sym (stand.buckets_are e s), sym (stand.made_is e))
-    (until_by (bucket_in p e s) (made_in p e) s p.latest (latest h) now (filled_made p.generations e s) (is.limits e s)
+    (until_by (bucket_in p e s) (made_in p e) s p.latest (latest_in h) now (filled_made p.generations e s) (is.limits e s)
     (is.reckoned e s) stand.latest_is i)
 
 -- seats and generations
@@ -76,43 +68,43 @@ not_none true k = grind (arith, nat_tests)
 not_none false k = refl
 
 -- for seats that are those of a history: some are in use where they are counted
-used_is : (p : Basin) (configs : List Configuration) (h : History) (e n : ℕ)
-    → ((m : ℕ) → seat_in p m ≡ kept_if (in_use configs h m) (seat_of configs h m))
-    → some_in_use configs h e n ≡ not (seats_of p.seats e n == 0)
-used_is p configs h e zero seats = refl
-used_is p configs h e (suc n) seats =
-    ap (λ b. b || some_in_use configs h e n)
-    (sym (ap (is_of_epoch e) (seats (suc n)) ∙ of_kept e (in_use configs h (suc n)) (seat_of configs h (suc n))))
-    ∙ ap (λ b. is_of_epoch e (seat_at p.seats (suc n)) || b) (used_is p configs h e n seats)
+used_is : (p : Basin) (h : PoolHistory) (e n : ℕ)
+    → ((m : ℕ) → seat_in p m ≡ kept_if (in_use h m) (seat_of h m))
+    → some_in_use h e n ≡ not (seats_of p.seats e n == 0)
+used_is p h e zero seats = refl
+used_is p h e (suc n) seats =
+    ap (λ b. b || some_in_use h e n)
+    (sym (ap (is_of_epoch e) (seats (suc n)) ∙ of_kept e (in_use h (suc n)) (seat_of h (suc n))))
+    ∙ ap (λ b. is_of_epoch e (seat_at p.seats (suc n)) || b) (used_is p h e n seats)
     ∙ sym (not_none (is_of_epoch e (seat_at p.seats (suc n))) (seats_of p.seats e n))
 
 -- for pools whose seats are those of a history: a generation is needed where it stays
-needed_is : (p : Basin) (configs : List Configuration) (h : History) (e : ℕ)
-    → ((m : ℕ) → seat_in p m ≡ kept_if (in_use configs h m) (seat_of configs h m))
-    → p.given ≡ seat_count configs h → p.newest ≡ current h → is_needed configs h e ≡ stays p e
-needed_is p configs h e seats given newest =
+needed_is : (p : Basin) (h : PoolHistory) (e : ℕ)
+    → ((m : ℕ) → seat_in p m ≡ kept_if (in_use h m) (seat_of h m))
+    → p.given ≡ seat_count h → p.newest ≡ current_in h → is_needed h e ≡ stays p e
+needed_is p h e seats given newest =
     rw (sym given, sym newest, number_key.turned p.newest e)
-    (ap (λ b. e == p.newest || b) (used_is p configs h e p.given seats))
+    (ap (λ b. e == p.newest || b) (used_is p h e p.given seats))
 
 -- for one entry more: when each generation was made
-made_next : (p q : Basin) (configs : List Configuration) (x : Noted) (h : History) (e : ℕ) → PoolsStand p configs h
-    → is_needed configs (x ∷ h) e ≡ stays q e
-    → made_of configs (x ∷ h) e
-    ≡ kept_if (stays q e) (made_if (makes configs h e x.event x.answer) x.moment (made_in p e))
-made_next p q configs x h e stand needed =
-    ap (λ b. kept_if b (made_if (makes configs h e x.event x.answer) x.moment (made_of configs h e))) needed
-    ∙ ap (λ m. kept_if (stays q e) (made_if (makes configs h e x.event x.answer) x.moment m)) (sym (stand.made_is e))
+made_next : (p q : Basin) (x : PoolEntry) (h : PoolHistory) (e : ℕ) → PoolsStand p h
+    → is_needed (x ∷ h) e ≡ stays q e
+    → made_of (x ∷ h) e
+    ≡ kept_if (stays q e) (made_if (makes e x.event) x.moment (made_in p e))
+made_next p q x h e stand needed =
+    ap (λ b. kept_if b (made_if (makes e x.event) x.moment (made_of h e))) needed
+    ∙ ap (λ m. kept_if (stays q e) (made_if (makes e x.event) x.moment m)) (sym (stand.made_is e))
 
 -- for one entry more: the numbers of each bucket
-tally_next : (p : Basin) (configs : List Configuration) (x : Noted) (h : History) (e : ℕ) (s : BucketSpot)
-    (m : Option ℕ) → IsBasin p → PoolsStand p configs h → latest h ≤ x.moment
-    → made_of configs (x ∷ h) e ≡ m
-    → tally_of configs (x ∷ h) e s ≡ kept_if (is_some m) (option_map (drawn (takes_at configs h e s x.event x.answer))
-    (opened_if ((is_none (made_in p e) && is_aggregate (config_of configs e) s)
-    || names_spot e s (sat_at configs h x.event x.answer)) (opened_at (initial_in (config_of configs e)) s.limit)
+tally_next : (p : Basin) (x : PoolEntry) (h : PoolHistory) (e : ℕ) (s : BucketSpot)
+    (m : Option ℕ) → IsBasin p → PoolsStand p h → latest_in h ≤ x.moment
+    → made_of (x ∷ h) e ≡ m
+    → tally_of (x ∷ h) e s ≡ kept_if (is_some m) (option_map (drawn (takes_at h e s x.event))
+    (opened_if ((is_none (made_in p e) && is_aggregate (beginning_by x.event).pools s)
+    || names_spot e s (sat_at x.event)) (opened_at (beginning_by x.event).initial s.limit)
     (tally_then p x.moment e s)))
-tally_next p configs x h e s m is stand i made =
-    rw (sym (until_then p configs h x.moment e s is stand i), stand.made_is e, sym made) refl
+tally_next p x h e s m is stand i made =
+    rw (sym (until_then p h x.moment e s is stand i), stand.made_is e, sym made) refl
 
 abbrev tally : ℕ → ℕ → ℕ → ℕ → ℕ → Tally
 tally l o r s g = record { level = l; opened = o; restored = r; spilled = s; granted = g }
@@ -141,148 +133,66 @@ kept_all true o h = refl
 kept_all false None h = refl
 kept_all false (Some a) h = absurd (let no : false ≡ true = h refl in cc)
 
--- for what the pools are not told of: it changes no reading of them
-record IsQuiet (configs : List Configuration) (h : History) (event : Event) (answer : Told) : Type 0 where
-  sat : sat_at configs h event answer ≡ None
-  uses : (n : ℕ) (b : Bool) → in_use_after n event false b ≡ b
-  takes : (e : ℕ) (s : BucketSpot) → takes_at configs h e s event answer ≡ 0
-  makes_none : (e : ℕ) → makes configs h e event answer ≡ false
-  begins : begins_epoch event ≡ false
-  grants_none : (k : ℕ) → granted_by event answer k ≡ k
-
-quiet : (configs : List Configuration) (h : History) (event : Event) (answer : Told) → is_elsewhere event answer ≡ true
-    → IsQuiet configs h event answer
-quiet configs h (Begin a) answer e = absurd (cc)
-quiet configs h (Reconfigure a) answer e = absurd (cc)
-quiet configs h (Seat c) (told.Seat n pool) e = absurd (cc)
-quiet configs h (Seat c) answer e = record {
-  sat = refl;
-  uses = λ n b. refl;
-  takes = λ k s. refl;
-  makes_none = λ k. refl;
-  begins = refl;
-  grants_none = λ k. refl;
-}
-quiet configs h (Grant a b) answer e = absurd (cc)
-quiet configs h (Leave a) answer e = absurd (cc)
-quiet configs h (Open a b c) answer e = record {
-  sat = refl;
-  uses = λ n b. refl;
-  takes = λ k s. refl;
-  makes_none = λ k. refl;
-  begins = refl;
-  grants_none = λ k. refl;
-}
-quiet configs h (Close a) answer e = record {
-  sat = refl;
-  uses = λ n b. refl;
-  takes = λ k s. refl;
-  makes_none = λ k. refl;
-  begins = refl;
-  grants_none = λ k. refl;
-}
-quiet configs h (Ask a b c d) answer e = record {
-  sat = refl;
-  uses = λ n b. refl;
-  takes = λ k s. refl;
-  makes_none = λ k. refl;
-  begins = refl;
-  grants_none = λ k. refl;
-}
-quiet configs h (Step a) answer e = record {
-  sat = refl;
-  uses = λ n b. refl;
-  takes = λ k s. refl;
-  makes_none = λ k. refl;
-  begins = refl;
-  grants_none = λ k. refl;
-}
-quiet configs h (Take a) answer e = record {
-  sat = refl;
-  uses = λ n b. refl;
-  takes = λ k s. refl;
-  makes_none = λ k. refl;
-  begins = refl;
-  grants_none = λ k. refl;
-}
-quiet configs h (Started a b) answer e = record {
-  sat = refl;
-  uses = λ n b. refl;
-  takes = λ k s. refl;
-  makes_none = λ k. refl;
-  begins = refl;
-  grants_none = λ k. refl;
-}
-quiet configs h (StartFail a b) answer e = record {
-  sat = refl;
-  uses = λ n b. refl;
-  takes = λ k s. refl;
-  makes_none = λ k. refl;
-  begins = refl;
-  grants_none = λ k. refl;
-}
-quiet configs h (Line a b) answer e = record {
-  sat = refl;
-  uses = λ n b. refl;
-  takes = λ k s. refl;
-  makes_none = λ k. refl;
-  begins = refl;
-  grants_none = λ k. refl;
-}
-quiet configs h (Died a) answer e = record {
-  sat = refl;
-  uses = λ n b. refl;
-  takes = λ k s. refl;
-  makes_none = λ k. refl;
-  begins = refl;
-  grants_none = λ k. refl;
-}
-quiet configs h Act answer e = record {
-  sat = refl;
-  uses = λ n b. refl;
-  takes = λ k s. refl;
-  makes_none = λ k. refl;
-  begins = refl;
-  grants_none = λ k. refl;
-}
-
--- for an entry of which the pools are not told: they stand for the history with it added
-pub elsewhere_stands : (p : Basin) (configs : List Configuration) (x : Noted) (h : History) → IsBasin p
-    → PoolsStand p configs h → latest h ≤ x.moment → is_elsewhere x.event x.answer ≡ true
-    → PoolsStand p configs (x ∷ h)
-elsewhere_stands p configs x h is stand i away = record {
+-- for an entry that says nothing to the pools: they stand for the history with it added
+pub rest_stands : (p : Basin) (h : PoolHistory) (now : ℕ) → IsBasin p → PoolsStand p h → latest_in h ≤ now
+    → PoolsStand p (entry now Rests ∷ h)
+rest_stands p h now is stand i = record {
   made_is = made;
   buckets_are = λ e s.
-      let there : is_some (tally_then p x.moment e s) ≡ true
-      → is_some (made_in p e) ≡ true =
-      λ t. filled_made p.generations e s (shown_some (second_in p e x.moment) (bucket_in p e s) t) in
-      tally_quiet (made_in p e) (tally_then p x.moment e s) (is_aggregate (config_of configs e) s)
-      (opened_at (initial_in (config_of configs e)) s.limit) there
-      ∙ sym (tally_next p configs x h e s (made_in p e) is stand i (sym (made e)) ∙ rw (q.takes e s, q.sat) refl);
-  seats_are = seats;
-  given_is = given;
-  newest_is = newest;
+      let there : is_some (tally_then p now e s) ≡ true → is_some (made_in p e) ≡ true =
+      λ t. filled_made p.generations e s (shown_some (second_in p e now) (bucket_in p e s) t) in
+      tally_quiet (made_in p e) (tally_then p now e s) (is_aggregate [] s) (opened_at 0 s.limit) there
+      ∙ sym (tally_next p (entry now Rests) h e s (made_in p e) is stand i (sym (made e)));
+  seats_are = stand.seats_are;
+  given_is = stand.given_is;
+  newest_is = stand.newest_is;
   latest_is = let low = stand.latest_is in omega arith;
-  granted_is = stand.granted_is ∙ ap (min granted_limit) (sym (q.grants_none (granted_of h)));
+  granted_is = stand.granted_is;
+  begun_are = stand.begun_are;
 } where
-  q : IsQuiet configs h x.event x.answer
-  q = quiet configs h x.event x.answer away
-
-  seats : (n : ℕ) → seat_in p n ≡ kept_if (in_use configs (x ∷ h) n) (seat_of configs (x ∷ h) n)
-  seats n = stand.seats_are n
-      ∙ sym (rw (q.sat) (ap (λ b. kept_if b (seat_of configs h n)) (q.uses n (in_use configs h n))))
-
-  given : p.given ≡ seat_count configs (x ∷ h)
-  given = stand.given_is ∙ rw q.sat refl
-
-  newest : p.newest ≡ current (x ∷ h)
-  newest = stand.newest_is ∙ rw q.begins refl
-
-  made : (e : ℕ) → made_in p e ≡ made_of configs (x ∷ h) e
-  made e = sym (made_next p p configs x h e stand (needed_is p configs (x ∷ h) e seats given newest)
-      ∙ ap (λ b. kept_if (stays p e) (made_if b x.moment (made_in p e))) (q.makes_none e)
-      ∙ ap (kept_if (stays p e)) (sym (made_other x.moment (made_in p e)))
+  made : (e : ℕ) → made_in p e ≡ made_of (entry now Rests ∷ h) e
+  made e = sym (made_next p p (entry now Rests) h e stand
+      (needed_is p (entry now Rests ∷ h) e stand.seats_are stand.given_is stand.newest_is)
+      ∙ ap (kept_if (stays p e)) (sym (made_other now (made_in p e)))
       ∙ kept_all (stays p e) (made_in p e) (is.lives e))
+
+-- for a seat of the other kind: the pools that pass its number stand for the history with it added
+pub pass_stands : (p q : Basin) (h : PoolHistory) (now : ℕ) → IsBasin p → suc p.given < last_number → PoolsStand p h
+    → latest_in h ≤ now → HasPassed p q → PoolsStand q (entry now Passes ∷ h)
+pass_stands p q h now is few stand i passed =
+    subst (λ (k : Basin). PoolsStand k (entry now Passes ∷ h)) (sym passed) record {
+      made_is = made;
+      buckets_are = λ e s.
+          let there : is_some (tally_then p now e s) ≡ true → is_some (made_in p e) ≡ true =
+          λ t. filled_made p.generations e s (shown_some (second_in p e now) (bucket_in p e s) t) in
+          tally_quiet (made_in p e) (tally_then p now e s) (is_aggregate [] s) (opened_at 0 s.limit) there
+          ∙ sym (tally_next p (entry now Passes) h e s (made_in p e) is stand i (sym (made e)));
+      seats_are = stand.seats_are;
+      given_is = ap suc stand.given_is;
+      newest_is = stand.newest_is;
+      latest_is = let low = stand.latest_is in omega arith;
+      granted_is = stand.granted_is;
+      begun_are = stand.begun_are;
+    }
+  where
+    next : Basin
+    next = record {
+      generations = p.generations;
+      seats = p.seats;
+      given = suc p.given;
+      newest = p.newest;
+      latest = p.latest;
+      granted = p.granted;
+    }
+
+    holds : IsBasin next
+    holds = passed_basin p.generations p.seats p.given p.newest p.latest p.granted is few
+
+    made : (e : ℕ) → made_in p e ≡ made_of (entry now Passes ∷ h) e
+    made e = sym (made_next p next (entry now Passes) h e stand
+        (needed_is next (entry now Passes ∷ h) e stand.seats_are (ap suc stand.given_is) stand.newest_is)
+        ∙ ap (kept_if (stays next e)) (sym (made_other now (made_in p e)))
+        ∙ kept_all (stays next e) (made_in p e) (holds.lives e))
 
 tally_left : (b : Bool) (m : Option ℕ) (o : Option Filled) (now : ℕ) (c : Bool) (new : Tally)
     → (is_some o ≡ true → is_some m ≡ true)
@@ -300,39 +210,57 @@ left_seat true u o = refl
 left_seat false u o = refl
 
 -- for a `leave` of a seat: the pools after it stand for the history with it added
-pub leave_stands : (p q : Basin) (configs : List Configuration) (h : History) (now n : ℕ) → IsBasin p
-    → PoolsStand p configs h → latest h ≤ now → HasLeft p q n
-    → PoolsStand q configs (entry now (Leave n) told.Fine ∷ h)
-leave_stands p q configs h now n is stand i left = record {
+pub leave_stands : (p q : Basin) (h : PoolHistory) (now n : ℕ) → IsBasin p → PoolsStand p h → latest_in h ≤ now
+    → HasLeft p q n → PoolsStand q (entry now (Leaves n) ∷ h)
+leave_stands p q h now n is stand i left = record {
   made_is = λ e. left.made e ∙ ap (kept_if (stays q e)) (made_other now (made_in p e)) ∙ sym (made e);
   buckets_are = λ e s.
-      let m : made_of configs (x ∷ h) e ≡ kept_if (stays q e) (made_in p e) = made e
+      let m : made_of (x ∷ h) e ≡ kept_if (stays q e) (made_in p e) = made e
       ∙ ap (kept_if (stays q e)) (sym (made_other now (made_in p e))) in
       ap (λ o. shown (second_in q e now) o) (left.buckets e s)
       ∙ ap (λ k. shown (at k now) (kept_if (stays q e) (bucket_in p e s))) (left.made e)
-      ∙ tally_left (stays q e) (made_in p e) (bucket_in p e s) now (is_aggregate (config_of configs e) s)
-      (opened_at (initial_in (config_of configs e)) s.limit) (filled_made p.generations e s)
-      ∙ sym (tally_next p configs x h e s (kept_if (stays q e) (made_in p e)) is stand i m);
+      ∙ tally_left (stays q e) (made_in p e) (bucket_in p e s) now (is_aggregate [] s) (opened_at 0 s.limit)
+      (filled_made p.generations e s)
+      ∙ sym (tally_next p x h e s (kept_if (stays q e) (made_in p e)) is stand i m);
   seats_are = seats;
   given_is = left.given ∙ stand.given_is;
   newest_is = left.newest ∙ stand.newest_is;
   latest_is = let low = stand.latest_is in let same = left.latest in omega arith;
   granted_is = left.granted ∙ stand.granted_is;
+  begun_are = λ k sat there. stand.begun_are k sat (stayed (k == n) (seat_in p k) sat (sym (left.seats k) ∙ there));
 } where
-  x : Noted
-  x = entry now (Leave n) told.Fine
+  x : PoolEntry
+  x = entry now (Leaves n)
+
+  stayed : (b : Bool) (o : Option Sat) (sat : Sat) → cond b None o ≡ Some sat → o ≡ Some sat
+  stayed true o sat e = absurd (cc)
+  stayed false o sat e = e
 
   seats : (k : ℕ) → seat_in q k
-      ≡ kept_if (in_use configs (entry now (Leave n) told.Fine ∷ h) k)
-      (seat_of configs (entry now (Leave n) told.Fine ∷ h) k)
+      ≡ kept_if (in_use (entry now (Leaves n) ∷ h) k) (seat_of (entry now (Leaves n) ∷ h) k)
   seats k = left.seats k ∙ turned_cond k n None (seat_in p k) ∙ ap (cond (n == k) None) (stand.seats_are k)
-      ∙ left_seat (n == k) (in_use configs h k) (seat_of configs h k)
+      ∙ left_seat (n == k) (in_use h k) (seat_of h k)
 
-  made : (e : ℕ) → made_of configs (entry now (Leave n) told.Fine ∷ h) e
-      ≡ kept_if (stays q e) (made_if false now (made_in p e))
-  made e = made_next p q configs (entry now (Leave n) told.Fine) h e stand
-      (needed_is q configs (entry now (Leave n) told.Fine ∷ h) e seats (left.given ∙ stand.given_is)
-      (left.newest ∙ stand.newest_is))
+  made : (e : ℕ) → made_of (entry now (Leaves n) ∷ h) e ≡ kept_if (stays q e) (made_if false now (made_in p e))
+  made e = made_next p q (entry now (Leaves n)) h e stand
+      (needed_is q (entry now (Leaves n) ∷ h) e seats (left.given ∙ stand.given_is) (left.newest ∙ stand.newest_is))
+
+-- for a `leave` of a seat that is not in use here: nothing changes
+pub leave_elsewhere : (p : Basin) (h : PoolHistory) (now n : ℕ) → IsBasin p → PoolsStand p h → latest_in h ≤ now
+    → seat_in p n ≡ None → PoolsStand p (entry now (Leaves n) ∷ h)
+leave_elsewhere p h now n is stand i none = leave_stands p p h now n is stand i record {
+  made = λ e. sym (kept_all (stays p e) (made_in p e) (is.lives e));
+  buckets = λ e s. sym (kept_all (stays p e) (bucket_in p e s)
+      (λ there. is.lives e (filled_made p.generations e s there)));
+  seats = λ k. same k (k == n) refl;
+  given = refl;
+  newest = refl;
+  latest = refl;
+  granted = refl;
+} where
+  same : (k : ℕ) (b : Bool) → (k == n) ≡ b → seat_in p k ≡ cond b None (seat_in p k)
+  same k true e = let it : k ≡ n = grind (arith, nat_tests) in ap (seat_in p) it ∙ none
+  same k false e = refl
 
 granted_tally : (c : Bool) (t amount : ℕ) (f : Filled)
     → (filled_to t (granted_if c t amount f)).tally ≡ drawn (if c then amount else 0) (filled_to t f).tally
@@ -353,108 +281,69 @@ min_twice : (m a b : ℕ) → min m (min m a + b) ≡ min m (a + b)
 min_twice m a b = omega arith
 
 -- for a `grant` to a seat in use: the pools after it stand for the history with it added
-pub grant_stands : (p q : Basin) (configs : List Configuration) (h : History) (now n wanted amount : ℕ) → IsBasin p
-    → PoolsStand p configs h → latest h ≤ now → in_use configs h n ≡ true
-    → IsGranted p q now amount (seat_in p n)
-    → PoolsStand q configs (entry now (Grant n wanted) (told.Granted amount) ∷ h)
-grant_stands p q configs h now n wanted amount is stand i used granted = record {
+pub grant_stands : (p q : Basin) (h : PoolHistory) (now n wanted amount : ℕ) → IsBasin p → PoolsStand p h
+    → latest_in h ≤ now → in_use h n ≡ true → IsGranted p q now amount (seat_in p n)
+    → PoolsStand q (entry now (Grants n wanted amount) ∷ h)
+grant_stands p q h now n wanted amount is stand i used granted = record {
   made_is = λ e. granted.made e ∙ sym (made e);
   buckets_are = λ e s.
       ap (λ o. shown (second_in q e now) o) (granted.buckets e s)
       ∙ ap (λ k. shown (at k now)
       (option_map (granted_if (names_spot e s (seat_in p n)) (second_in p e now) amount) (bucket_in p e s)))
       (granted.made e)
-      ∙ tally_granted (made_in p e) (bucket_in p e s) (second_in p e now) amount (is_aggregate (config_of configs e) s)
-      (names_spot e s (seat_in p n))
-      (opened_at (initial_in (config_of configs e)) s.limit) (filled_made p.generations e s)
-      ∙ sym (tally_next p configs (entry now (Grant n wanted) (told.Granted amount)) h e s (made_in p e) is stand i
-      (made e)
+      ∙ tally_granted (made_in p e) (bucket_in p e s) (second_in p e now) amount (is_aggregate [] s)
+      (names_spot e s (seat_in p n)) (opened_at 0 s.limit) (filled_made p.generations e s)
+      ∙ sym (tally_next p (entry now (Grants n wanted amount)) h e s (made_in p e) is stand i (made e)
       ∙ rw (used, sym seat) refl);
   seats_are = seats;
   given_is = granted.given ∙ stand.given_is;
   newest_is = granted.newest ∙ stand.newest_is;
   latest_is = let same = granted.latest in omega arith;
   granted_is = granted.granted ∙ ap (λ k. min granted_limit (k + amount)) stand.granted_is
-      ∙ min_twice granted_limit (granted_of h) amount;
+      ∙ min_twice granted_limit (granted_of h) amount
+      ∙ ap (λ b. min granted_limit (cond b (granted_of h + amount) (granted_of h))) (sym used);
+  begun_are = λ k sat there. stand.begun_are k sat (ap (λ l. seat_at l k) (sym granted.seats) ∙ there);
 } where
-  seat : seat_in p n ≡ seat_of configs h n
-  seat = stand.seats_are n ∙ ap (λ b. kept_if b (seat_of configs h n)) used
+  seat : seat_in p n ≡ seat_of h n
+  seat = stand.seats_are n ∙ ap (λ b. kept_if b (seat_of h n)) used
 
   seats : (k : ℕ) → seat_in q k
-      ≡ kept_if (in_use configs (entry now (Grant n wanted) (told.Granted amount) ∷ h) k)
-      (seat_of configs (entry now (Grant n wanted) (told.Granted amount) ∷ h) k)
+      ≡ kept_if (in_use (entry now (Grants n wanted amount) ∷ h) k) (seat_of (entry now (Grants n wanted amount) ∷ h) k)
   seats k = ap (λ l. seat_at l k) granted.seats ∙ stand.seats_are k
 
-  made : (e : ℕ) → made_of configs (entry now (Grant n wanted) (told.Granted amount) ∷ h) e ≡ made_in p e
-  made e = made_next p q configs (entry now (Grant n wanted) (told.Granted amount)) h e stand
-      (needed_is q configs (entry now (Grant n wanted) (told.Granted amount) ∷ h) e seats
+  made : (e : ℕ) → made_of (entry now (Grants n wanted amount) ∷ h) e ≡ made_in p e
+  made e = made_next p q (entry now (Grants n wanted amount)) h e stand
+      (needed_is q (entry now (Grants n wanted amount) ∷ h) e seats
       (granted.given ∙ stand.given_is) (granted.newest ∙ stand.newest_is))
       ∙ ap (kept_if (stays q e)) (sym (made_other now (made_in p e)))
       ∙ ap (λ b. kept_if b (made_in p e)) same ∙ kept_all (stays p e) (made_in p e) (is.lives e) where
         same : stays q e ≡ stays p e
         same = rw (granted.newest, granted.seats, granted.given) refl
 
--- epochs of seats
-
-epoch_rises : (b : Bool) (e : ℕ) → e ≤ epoch_after b e
-epoch_rises true e = omega arith
-epoch_rises false e = omega arith
-
-asked_by_epoch : (o : Option Asking) (h : History) (moment e : ℕ) (before : Option Asked) (a : Asked) → current h ≤ e
-    → ((b : Asked) → before ≡ Some b → b.epoch ≤ e)
-    → option_or (option_map (asked_by h moment) o) before ≡ Some a → a.epoch ≤ e
-asked_by_epoch None h moment e before a low old is = old a is
-asked_by_epoch (Some x) h moment e before a low old is =
-    let same : asked_by h moment x ≡ a = cc in
-    let epoch : current h ≡ a.epoch = ap (λ (y : Asked). y.epoch) same in
-    omega arith
-
--- for a check: its epoch has begun
-ask_epoch : (h : History) (n : ℕ) (a : Asked) → ask_of h n ≡ Some a → a.epoch ≤ current h
-unfolding ask_of
-ask_epoch [] n a is = absurd (cc)
-ask_epoch (x ∷ h) n a is =
-    let more = epoch_rises (begins_epoch x.event) (current h) in
-    asked_by_epoch (numbered n (ask_count h) (asking x.event)) h x.moment (current (x ∷ h)) (ask_of h n) a more
-    (λ b was. let low = ask_epoch h n b was in omega arith) is
-
-taking_epoch : (answer : Told) (o : Option Asked) (t : TakenCheck) (e : ℕ) → ((a : Asked) → o ≡ Some a → a.epoch ≤ e)
-    → taking answer o ≡ Some t → t.asked.epoch ≤ e
-taking_epoch (told.Judged k out) (Some a) t e low is =
-    let same : a ≡ t.asked = cc in
-    rw (sym same) (low a refl)
-taking_epoch answer o t e low is = absurd (cc)
-
-taken_by_epoch : (h : History) (c : ℕ) (event : Event) (answer : Told) (before : Option TakenCheck) (t : TakenCheck)
-    (e : ℕ) → current h ≤ e → ((b : TakenCheck) → before ≡ Some b → b.asked.epoch ≤ e)
-    → taken_after h c event answer before ≡ Some t → t.asked.epoch ≤ e
-taken_by_epoch h c (Take n) answer before t e low old is = by_test (is_number c (conn_of h n)) is where
-  by_test : (b : Bool) → (if b then taking answer (ask_of h n) else before) ≡ Some t → t.asked.epoch ≤ e
-  by_test true is = taking_epoch answer (ask_of h n) t e (λ a was. let low_now = ask_epoch h n a was in omega arith) is
-  by_test false is = old t is
-taken_by_epoch h c (Close d) answer before t e low old is = by_test (d == c) is where
-  by_test : (b : Bool) → (if b then None else before) ≡ Some t → t.asked.epoch ≤ e
-  by_test true is = absurd (cc)
-  by_test false is = old t is
-taken_by_epoch h c event answer before t e low old is = old t is
-
--- for a record that was taken: its epoch has begun
-taken_epoch : (h : History) (c : ℕ) (t : TakenCheck) → taken_of h c ≡ Some t → t.asked.epoch ≤ current h
-taken_epoch [] c t is = absurd (cc)
-taken_epoch (x ∷ h) c t is =
-    let more = epoch_rises (begins_epoch x.event) (current h) in
-    taken_by_epoch h c x.event x.answer (taken_of h c) t (current (x ∷ h)) more
-    (λ b was. let low = taken_epoch h c b was in omega arith) is
-
--- for a record that allows: its epoch has begun
-pub allowed_epoch : (h : History) (c : ℕ) (a : Asked) → allowed_of h c ≡ Some a → a.epoch ≤ current h
-allowed_epoch h c a is = by_taken (taken_of h c) refl is where
-  by_taken : (o : Option TakenCheck) → taken_of h c ≡ o → if_allowed o ≡ Some a → a.epoch ≤ current h
-  by_taken None was is = absurd (cc)
-  by_taken (Some t) was is = by_test t.allows is where
-    by_test : (b : Bool) → (if b then Some t.asked else None) ≡ Some a → a.epoch ≤ current h
-    by_test true is = let same : t.asked ≡ a = cc in rw (sym same) (taken_epoch h c t was)
-    by_test false is = absurd (cc)
+-- for a `grant` to a seat that is not in use here: nothing changes
+pub grant_elsewhere : (p : Basin) (h : PoolHistory) (now n wanted amount : ℕ) → IsBasin p → PoolsStand p h
+    → latest_in h ≤ now → in_use h n ≡ false → PoolsStand p (entry now (Grants n wanted amount) ∷ h)
+grant_elsewhere p h now n wanted amount is stand i used = record {
+  made_is = made;
+  buckets_are = λ e s.
+      let there : is_some (tally_then p now e s) ≡ true → is_some (made_in p e) ≡ true =
+      λ t. filled_made p.generations e s (shown_some (second_in p e now) (bucket_in p e s) t) in
+      tally_quiet (made_in p e) (tally_then p now e s) (is_aggregate [] s) (opened_at 0 s.limit) there
+      ∙ sym (tally_next p (entry now (Grants n wanted amount)) h e s (made_in p e) is stand i (sym (made e))
+      ∙ rw used refl);
+  seats_are = stand.seats_are;
+  given_is = stand.given_is;
+  newest_is = stand.newest_is;
+  latest_is = let low = stand.latest_is in omega arith;
+  granted_is = stand.granted_is
+      ∙ ap (λ b. min granted_limit (cond b (granted_of h + amount) (granted_of h))) (sym used);
+  begun_are = stand.begun_are;
+} where
+  made : (e : ℕ) → made_in p e ≡ made_of (entry now (Grants n wanted amount) ∷ h) e
+  made e = sym (made_next p p (entry now (Grants n wanted amount)) h e stand
+      (needed_is p (entry now (Grants n wanted amount) ∷ h) e stand.seats_are stand.given_is stand.newest_is)
+      ∙ ap (kept_if (stays p e)) (sym (made_other now (made_in p e)))
+      ∙ kept_all (stays p e) (made_in p e) (is.lives e))
 
 -- seats that are given
 
@@ -522,179 +411,123 @@ quiet_here m o now a f new there =
     (tally_quiet m (shown (at m now) o) a new (λ t. there (shown_some (at m now) o t)))
 
 -- for pools that stand for a history: a moment after it is the greatest so far
-pub moment_is : (p : Basin) (configs : List Configuration) (h : History) (now : ℕ) → PoolsStand p configs h
-    → latest h ≤ now → max now p.latest ≡ now
-moment_is p configs h now stand i = let low = stand.latest_is in omega arith
+pub moment_is : (p : Basin) (h : PoolHistory) (now : ℕ) → PoolsStand p h
+    → latest_in h ≤ now → max now p.latest ≡ now
+moment_is p h now stand i = let low = stand.latest_is in omega arith
 
-chosen_by : (configs : List Configuration) (c : Configuration) (epoch e now : ℕ) (s : BucketSpot) (b t h : Bool)
-    (m : Option ℕ) (o : Option Filled) → (e == epoch) ≡ t → config_of configs epoch ≡ Some c
+chosen_by : (initial epoch e now : ℕ) (s : BucketSpot) (b t h a : Bool) (m : Option ℕ) (o : Option Filled)
     → (is_some o ≡ true → is_some m ≡ true)
     → shown (at (kept_if b (made_if t now m)) now)
-    (kept_if b (filled_if (t && (h || (is_none m && is_aggregate (Some c) s)))
-    (opened_in c.initial (at (kept_if b (made_if t now m)) now) s) o))
+    (kept_if b (filled_if (t && (h || (is_none m && a))) (opened_in initial (at (kept_if b (made_if t now m)) now) s) o))
     ≡ kept_if (is_some (kept_if b (made_if t now m))) (option_map (drawn 0)
-    (opened_if ((is_none m && is_aggregate (config_of configs e) s) || (t && h))
-    (opened_at (initial_in (config_of configs e)) s.limit) (shown (at m now) o)))
-chosen_by configs c epoch e now s false t h m o same is there = refl
-chosen_by configs c epoch e now s true true h m o same is there =
-    let it : e ≡ epoch = grind (arith, nat_tests) in
-    let here : config_of configs e ≡ Some c = ap (config_of configs) it ∙ is in
-    rw here (chosen_here m o now c.initial s h (is_aggregate (Some c) s) there)
-chosen_by configs c epoch e now s true false h m o same is there =
-    quiet_here m o now (is_aggregate (config_of configs e) s) (opened_in c.initial (at (made_if false now m) now) s)
-    (opened_at (initial_in (config_of configs e)) s.limit) there
+    (opened_if ((is_none m && a) || (t && h)) (opened_at initial s.limit) (shown (at m now) o)))
+chosen_by initial epoch e now s false t h a m o there = refl
+chosen_by initial epoch e now s true true h a m o there = chosen_here m o now initial s h a there
+chosen_by initial epoch e now s true false h a m o there =
+    quiet_here m o now a (opened_in initial (at (made_if false now m) now) s) (opened_at initial s.limit) there
 
--- for a `seat` of a record whose pool is that: the pools after `choose` stand for the history with it added
-pub choose_stands : (p q : Basin) (configs : List Configuration) (h : History) (now c n pool : ℕ) (a : Asked)
-    (config : Configuration) → IsBasin p → PoolsStand p configs h → latest h ≤ now
-    → allowed_of h c ≡ Some a → config_of configs a.epoch ≡ Some config
-    → IsChosen p q a.epoch config pool a.sight.addr now
-    → PoolsStand q configs (entry now (Seat c) (told.Seat n pool) ∷ h)
-choose_stands p q configs h now c n pool a config is stand i allowed known chosen = record {
+-- for a seat that is given: the pools after it stand for the history with it added
+pub sit_stands : (p q : Basin) (h : PoolHistory) (now : ℕ) (sat : Sat) (b : Beginning) → IsBasin p → PoolsStand p h
+    → latest_in h ≤ now → sat.epoch ≤ current_in h → IsSeated p q sat b now
+    → PoolsStand q (entry now (Sits sat b) ∷ h)
+sit_stands p q h now sat b is stand i low chosen = record {
   made_is = λ e. chosen.made e ∙ sym (made e);
   buckets_are = λ e s.
-      let b = stays q e in
+      let k = stays q e in
       let m = made_in p e in
       let o = bucket_in p e s in
-      let has = has_spot (spots_in (Some config) pool a.sight.addr) s in
+      let has = has_spot sat.spots s in
       ap (λ f. shown (second_in q e now) f) (chosen.buckets e s)
-      ∙ ap (λ k. shown (at k now)
-      (kept_if b (filled_if (e == a.epoch && (has || (is_none m && is_aggregate (Some config) s)))
-      (opened_in config.initial (at k now) s) o))) (chosen.made e)
-      ∙ chosen_by configs config a.epoch e now s b (e == a.epoch) has m o refl known (filled_made p.generations e s)
-      ∙ ap (λ t. kept_if (is_some (kept_if b (made_if (e == a.epoch) now m))) (option_map (drawn 0)
-      (opened_if ((is_none m && is_aggregate (config_of configs e) s) || (t && has))
-      (opened_at (initial_in (config_of configs e)) s.limit) (shown (at m now) o)))) (number_key.turned e a.epoch)
-      ∙ ap (λ z. kept_if (is_some (kept_if b (made_if (e == a.epoch) now m))) (option_map (drawn 0)
-      (opened_if ((is_none m && is_aggregate (config_of configs e) s) || names_spot e s z)
-      (opened_at (initial_in (config_of configs e)) s.limit) (shown (at m now) o)))) (sym seat)
-      ∙ sym (tally_next p configs (entry now (Seat c) (told.Seat n pool)) h e s
-      (kept_if b (made_if (e == a.epoch) now m)) is stand i (made e));
+      ∙ ap (λ j. shown (at j now)
+      (kept_if k (filled_if (e == sat.epoch && (has || (is_none m && is_aggregate b.pools s)))
+      (opened_in b.initial (at j now) s) o))) (chosen.made e)
+      ∙ chosen_by b.initial sat.epoch e now s k (e == sat.epoch) has (is_aggregate b.pools s) m o
+      (filled_made p.generations e s)
+      ∙ ap (λ t. kept_if (is_some (kept_if k (made_if (e == sat.epoch) now m))) (option_map (drawn 0)
+      (opened_if ((is_none m && is_aggregate b.pools s) || (t && has))
+      (opened_at b.initial s.limit) (shown (at m now) o)))) (number_key.turned e sat.epoch)
+      ∙ sym (tally_next p x h e s (kept_if k (made_if (e == sat.epoch) now m)) is stand i (made e));
   seats_are = seats;
   given_is = given;
   newest_is = newest;
   latest_is = let same = chosen.latest in omega arith;
   granted_is = chosen.granted ∙ stand.granted_is;
+  begun_are = λ n one there. begun n one (n == suc p.given) (sym (chosen.seats n) ∙ there);
 } where
-  seat : sat_at configs h (Seat c) (told.Seat n pool) ≡ Some (sat_in a.epoch config pool a.sight.addr)
-  seat = ap (option_map (sat_of configs pool)) allowed
-      ∙ ap (λ k. Some (record { epoch = a.epoch; pool = pool; spots = spots_in k pool a.sight.addr })) known
+  x : PoolEntry
+  x = entry now (Sits sat b)
+
+  begun : (n : ℕ) (one : Sat) (t : Bool) → cond t (Some sat) (seat_in p n) ≡ Some one → one.epoch ≤ current_in h
+  begun n one true e = let same : sat ≡ one = cc in rw (sym same) low
+  begun n one false e = stand.begun_are n one e
 
   seats : (k : ℕ) → seat_in q k
-      ≡ kept_if (in_use configs (entry now (Seat c) (told.Seat n pool) ∷ h) k)
-      (seat_of configs (entry now (Seat c) (told.Seat n pool) ∷ h) k)
+      ≡ kept_if (in_use (entry now (Sits sat b) ∷ h) k) (seat_of (entry now (Sits sat b) ∷ h) k)
   seats k =
-      chosen.seats k ∙ ap (λ o. cond (k == suc p.given) (Some (sat_in a.epoch config pool a.sight.addr)) o)
-      (stand.seats_are k)
-      ∙ ap (λ g. cond (k == suc g) (Some (sat_in a.epoch config pool a.sight.addr))
-      (kept_if (in_use configs h k) (seat_of configs h k))) stand.given_is
-      ∙ numbered_seat k (seat_count configs h) (sat_in a.epoch config pool a.sight.addr) (in_use configs h k)
-      (seat_of configs h k)
-      ∙ ap (λ o. kept_if (is_some (numbered k (seat_count configs h) o) || in_use configs h k)
-      (option_or (numbered k (seat_count configs h) o) (seat_of configs h k))) (sym seat)
+      chosen.seats k ∙ ap (λ o. cond (k == suc p.given) (Some sat) o) (stand.seats_are k)
+      ∙ ap (λ g. cond (k == suc g) (Some sat) (kept_if (in_use h k) (seat_of h k))) stand.given_is
+      ∙ numbered_seat k (seat_count h) sat (in_use h k) (seat_of h k)
 
-  given : q.given ≡ seat_count configs (entry now (Seat c) (told.Seat n pool) ∷ h)
-  given = chosen.given ∙ ap suc stand.given_is ∙ ap (λ o. count_if (is_some o) (seat_count configs h)) (sym seat)
+  given : q.given ≡ seat_count (entry now (Sits sat b) ∷ h)
+  given = chosen.given ∙ ap suc stand.given_is
 
-  newest : q.newest ≡ current (entry now (Seat c) (told.Seat n pool) ∷ h)
+  newest : q.newest ≡ current_in h
   newest =
       let one = chosen.newest in
       let two = stand.newest_is in
-      let low = allowed_epoch h c a allowed in
-      let same : q.newest ≡ current h = omega arith in
-      same
+      omega arith
 
-  made : (e : ℕ) → made_of configs (entry now (Seat c) (told.Seat n pool) ∷ h) e
-      ≡ kept_if (stays q e) (made_if (e == a.epoch) now (made_in p e))
-  made e = made_next p q configs (entry now (Seat c) (told.Seat n pool)) h e stand
-      (needed_is q configs (entry now (Seat c) (told.Seat n pool) ∷ h) e seats given newest)
-      ∙ ap (λ o. kept_if (stays q e) (made_if (is_of_epoch e o) now (made_in p e))) seat
-      ∙ ap (λ b. kept_if (stays q e) (made_if b now (made_in p e))) (number_key.turned a.epoch e)
+  made : (e : ℕ) → made_of (entry now (Sits sat b) ∷ h) e
+      ≡ kept_if (stays q e) (made_if (e == sat.epoch) now (made_in p e))
+  made e = made_next p q x h e stand (needed_is q (x ∷ h) e seats given newest)
+      ∙ ap (λ t. kept_if (stays q e) (made_if t now (made_in p e))) (number_key.turned sat.epoch e)
 
 level_shown : (t : ℕ) (o : Option Filled) → level_or_none t o ≡ level_of (shown t o)
 level_shown t None = refl
 level_shown t (Some f) = refl
 
-least_is : (p : Basin) (configs : List Configuration) (h : History) (now e : ℕ) (spots : List BucketSpot) (wanted : ℕ)
-    → IsBasin p → PoolsStand p configs h → latest h ≤ now
-    → least_at (second_in p e now) (buckets_at p.generations e) spots wanted ≡ least_level configs h e now spots wanted
-least_is p configs h now e [] wanted is stand i = refl
-least_is p configs h now e (s ∷ spots) wanted is stand i =
+least_is : (p : Basin) (h : PoolHistory) (now e : ℕ) (spots : List BucketSpot) (wanted : ℕ)
+    → IsBasin p → PoolsStand p h → latest_in h ≤ now
+    → least_at (second_in p e now) (buckets_at p.generations e) spots wanted ≡ least_level h e now spots wanted
+least_is p h now e [] wanted is stand i = refl
+least_is p h now e (s ∷ spots) wanted is stand i =
     let level : level_or_none (second_in p e now) (bucket_in p e s)
-    ≡ level_of (until configs h e s now (tally_of configs h e s)) =
-    level_shown (second_in p e now) (bucket_in p e s) ∙ ap level_of (sym (until_then p configs h now e s is stand i)) in
+    ≡ level_of (until h e s now (tally_of h e s)) =
+    level_shown (second_in p e now) (bucket_in p e s) ∙ ap level_of (sym (until_then p h now e s is stand i)) in
     ap (λ k. least_at (second_in p e now) (buckets_at p.generations e) spots (min wanted k)) level
-    ∙ least_is p configs h now e spots (min wanted (level_of (until configs h e s now (tally_of configs h e s)))) is
+    ∙ least_is p h now e spots (min wanted (level_of (until h e s now (tally_of h e s)))) is
     stand i
 
 -- for a seat in use: it is granted what the history says
-pub grant_is : (p : Basin) (configs : List Configuration) (h : History) (now n wanted : ℕ) → IsBasin p
-    → PoolsStand p configs h → latest h ≤ now → in_use configs h n ≡ true
-    → grant_in p now wanted (seat_in p n) ≡ grant_of configs h now wanted (seat_of configs h n)
-grant_is p configs h now n wanted is stand i used =
-    ap (grant_in p now wanted) (stand.seats_are n ∙ ap (λ b. kept_if b (seat_of configs h n)) used)
-    ∙ by_seat (seat_of configs h n) where
-      by_seat : (o : Option Sat) → grant_in p now wanted o ≡ grant_of configs h now wanted o
+pub grant_is : (p : Basin) (h : PoolHistory) (now n wanted : ℕ) → IsBasin p
+    → PoolsStand p h → latest_in h ≤ now → in_use h n ≡ true
+    → grant_in p now wanted (seat_in p n) ≡ grant_of h now wanted (seat_of h n)
+grant_is p h now n wanted is stand i used =
+    ap (grant_in p now wanted) (stand.seats_are n ∙ ap (λ b. kept_if b (seat_of h n)) used)
+    ∙ by_seat (seat_of h n) where
+      by_seat : (o : Option Sat) → grant_in p now wanted o ≡ grant_of h now wanted o
       by_seat None = refl
-      by_seat (Some sat) = least_is p configs h now sat.epoch sat.spots wanted is stand i
+      by_seat (Some sat) = least_is p h now sat.epoch sat.spots wanted is stand i
 
 -- a generation that begins
 
-begun_by : (configs : List Configuration) (c : Configuration) (epoch e now : ℕ) (s : BucketSpot) (b t : Bool)
-    (m : Option ℕ) (o : Option Filled) → (e == epoch) ≡ t → config_of configs epoch ≡ Some c
+begun_by : (initial now : ℕ) (s : BucketSpot) (b t a : Bool) (m : Option ℕ) (o : Option Filled)
     → (t ≡ true → m ≡ None) → (is_some o ≡ true → is_some m ≡ true)
-    → shown (at (kept_if b (made_if t now m)) now)
-    (kept_if b (filled_if (t && is_aggregate (Some c) s) (opened_in c.initial 0 s) o))
+    → shown (at (kept_if b (made_if t now m)) now) (kept_if b (filled_if (t && a) (opened_in initial 0 s) o))
     ≡ kept_if (is_some (kept_if b (made_if t now m))) (option_map (drawn 0)
-    (opened_if ((is_none m && is_aggregate (config_of configs e) s) || false)
-    (opened_at (initial_in (config_of configs e)) s.limit) (shown (at m now) o)))
-begun_by configs c epoch e now s false t m o same is free there = refl
-begun_by configs c epoch e now s true false m o same is free there =
-    quiet_here m o now (is_aggregate (config_of configs e) s) (opened_in c.initial 0 s)
-    (opened_at (initial_in (config_of configs e)) s.limit) there
-begun_by configs c epoch e now s true true (Some m) o same is free there =
-    absurd (let no : Some m ≡ None = free refl in cc)
-begun_by configs c epoch e now s true true None (Some f) same is free there =
-    absurd (let no : false ≡ true = there refl in cc)
-begun_by configs c epoch e now s true true None None same is free there =
-    let it : e ≡ epoch = grind (arith, nat_tests) in
-    let here : config_of configs e ≡ Some c = ap (config_of configs) it ∙ is in
-    rw (here, or_no (is_aggregate (Some c) s)) (by_test (is_aggregate (Some c) s)) where
-      by_test : (a : Bool) → shown (second_of now now) (filled_if a (opened_in c.initial 0 s) None)
-          ≡ option_map (drawn 0) (opened_if a (opened_at c.initial s.limit) None)
-      by_test true =
-          let first : second_of now now ≡ 0 = omega arith in
-          rw first (ap (λ (x : Tally). Some x) (sym (drawn_none (opened_at c.initial s.limit))))
-      by_test false = refl
-
-sat_epoch : (configs : List Configuration) (h : History) (event : Event) (answer : Told) (sat : Sat)
-    → sat_at configs h event answer ≡ Some sat → sat.epoch ≤ current h
-sat_epoch configs h (Seat c) (told.Seat n pool) sat is = by_allowed (allowed_of h c) refl is where
-  by_allowed : (o : Option Asked) → allowed_of h c ≡ o → option_map (sat_of configs pool) o ≡ Some sat
-      → sat.epoch ≤ current h
-  by_allowed None was is = absurd (cc)
-  by_allowed (Some a) was is =
-      let same : sat_of configs pool a ≡ sat = cc in
-      rw (sym same) (allowed_epoch h c a was)
-sat_epoch configs h event answer sat is = absurd (cc)
-
-seat_by : (n k e : ℕ) (o before : Option Sat) (sat : Sat) → ((x : Sat) → o ≡ Some x → x.epoch ≤ e)
-    → (before ≡ Some sat → sat.epoch ≤ e) → option_or (numbered n k o) before ≡ Some sat → sat.epoch ≤ e
-seat_by n k e None before sat new old is = old is
-seat_by n k e (Some x) before sat new old is = by_test (n == suc k) is where
-  by_test : (b : Bool) → option_or (if b then Some x else None) before ≡ Some sat → sat.epoch ≤ e
-  by_test true is = let same : x ≡ sat = cc in rw (sym same) (new x refl)
-  by_test false is = old is
-
--- for a seat: its epoch has begun
-seat_epoch : (configs : List Configuration) (h : History) (n : ℕ) (sat : Sat) → seat_of configs h n ≡ Some sat
-    → sat.epoch ≤ current h
-seat_epoch configs [] n sat is = absurd (cc)
-seat_epoch configs (x ∷ h) n sat is =
-    let more = epoch_rises (begins_epoch x.event) (current h) in
-    seat_by n (seat_count configs h) (current (x ∷ h)) (sat_at configs h x.event x.answer) (seat_of configs h n) sat
-    (λ y was. let low = sat_epoch configs h x.event x.answer y was in omega arith)
-    (λ was. let low = seat_epoch configs h n sat was in omega arith) is
+    (opened_if ((is_none m && a) || false) (opened_at initial s.limit) (shown (at m now) o)))
+begun_by initial now s false t a m o free there = refl
+begun_by initial now s true false a m o free there =
+    quiet_here m o now a (opened_in initial 0 s) (opened_at initial s.limit) there
+begun_by initial now s true true a (Some m) o free there = absurd (let no : Some m ≡ None = free refl in cc)
+begun_by initial now s true true a None (Some f) free there = absurd (let no : false ≡ true = there refl in cc)
+begun_by initial now s true true a None None free there = rw (or_no a) (by_test a) where
+  by_test : (c : Bool) → shown (second_of now now) (filled_if c (opened_in initial 0 s) None)
+      ≡ option_map (drawn 0) (opened_if c (opened_at initial s.limit) None)
+  by_test true =
+      let first : second_of now now ≡ 0 = omega arith in
+      rw first (ap (λ (x : Tally). Some x) (sym (drawn_none (opened_at initial s.limit))))
+  by_test false = refl
 
 no_seats : (seats : List (ℕ × Sat)) (e k n : ℕ) → ((m : ℕ) (sat : Sat) → seat_at seats m ≡ Some sat → sat.epoch ≤ k)
     → k < e → seats_of seats e n ≡ 0
@@ -708,88 +541,79 @@ no_seats seats e k (suc n) low h = by_seat (seat_at seats (suc n)) refl (no_seat
       let other : (sat.epoch == e) ≡ false = grind (arith, nat_tests) in
       rw other rest
 
-kept_seat : (u : Bool) (o : Option Sat) (sat : Sat) → kept_if u o ≡ Some sat → o ≡ Some sat
-kept_seat true o sat is = is
-kept_seat false o sat is = absurd (cc)
-
 -- for pools that stand for a history: there is no generation of an epoch that has not begun
-pub none_ahead : (p : Basin) (configs : List Configuration) (h : History) (e : ℕ) → IsBasin p → PoolsStand p configs h
-    → current h < e → made_in p e ≡ None
-none_ahead p configs h e is stand ahead = by_made (made_in p e) refl where
+pub none_ahead : (p : Basin) (h : PoolHistory) (e : ℕ) → IsBasin p → PoolsStand p h → current_in h < e
+    → made_in p e ≡ None
+none_ahead p h e is stand ahead = by_made (made_in p e) refl where
   by_made : (o : Option ℕ) → made_in p e ≡ o → o ≡ None
   by_made None was = refl
   by_made (Some m) was =
       let stay : stays p e ≡ true = is.lives e (rw was refl) in
       let newest = stand.newest_is in
       let other : (e == p.newest) ≡ false = grind (arith, nat_tests) in
-      let count : seats_of p.seats e p.given ≡ 0 =
-      no_seats p.seats e (current h) p.given
-      (λ k sat seat. seat_epoch configs h k sat
-      (kept_seat (in_use configs h k) (seat_of configs h k) sat (sym (stand.seats_are k) ∙ seat))) ahead in
+      let count : seats_of p.seats e p.given ≡ 0 = no_seats p.seats e (current_in h) p.given stand.begun_are ahead in
       let no : stays p e ≡ false = rw (other, count) refl in
       absurd (let bad : true ≡ false = sym stay ∙ no in cc)
 
--- for a `reconfigure`: the pools after `renew` stand for the history with it added
-pub renew_stands : (p q : Basin) (configs : List Configuration) (h : History) (now : ℕ) (text : List ℕ)
-    (config : Configuration) → IsBasin p → PoolsStand p configs h → latest h ≤ now
-    → config_of configs (suc (current h)) ≡ Some config → IsRenewed p q (suc (current h)) config now
-    → PoolsStand q configs (entry now (Reconfigure text) (told.Epoch (suc (current h))) ∷ h)
-renew_stands p q configs h now text config is stand i known renewed = record {
+-- for an epoch that begins: the pools after `renew` stand for the history with it added
+pub renew_stands : (p q : Basin) (h : PoolHistory) (now epoch : ℕ) (b : Beginning) → IsBasin p → PoolsStand p h
+    → latest_in h ≤ now → epoch ≡ suc (current_in h) → IsBegun p q epoch b now
+    → PoolsStand q (entry now (Begins epoch b) ∷ h)
+renew_stands p q h now epoch b is stand i next renewed = record {
   made_is = λ e. renewed.made e ∙ sym (made e);
   buckets_are = λ e s.
-      let b = stays q e in
+      let k = stays q e in
       let m = made_in p e in
       let o = bucket_in p e s in
       ap (λ f. shown (second_in q e now) f) (renewed.buckets e s)
-      ∙ ap (λ k. shown (at k now)
-      (kept_if b (filled_if (e == suc (current h) && is_aggregate (Some config) s) (opened_in config.initial 0 s) o)))
-      (renewed.made e)
-      ∙ begun_by configs config (suc (current h)) e now s b (e == suc (current h)) m o refl known (free e)
-      (filled_made p.generations e s)
-      ∙ sym (tally_next p configs (entry now (Reconfigure text) (told.Epoch (suc (current h)))) h e s
-      (kept_if b (made_if (e == suc (current h)) now m)) is stand i (made e));
+      ∙ ap (λ j. shown (at j now)
+      (kept_if k (filled_if (e == epoch && is_aggregate b.pools s) (opened_in b.initial 0 s) o))) (renewed.made e)
+      ∙ begun_by b.initial now s k (e == epoch) (is_aggregate b.pools s) m o (free e) (filled_made p.generations e s)
+      ∙ sym (tally_next p x h e s (kept_if k (made_if (e == epoch) now m)) is stand i (made e));
   seats_are = seats;
   given_is = renewed.given ∙ stand.given_is;
   newest_is = renewed.newest;
   latest_is = let same = renewed.latest in omega arith;
   granted_is = renewed.granted ∙ stand.granted_is;
+  begun_are = λ n sat there.
+      let low = stand.begun_are n sat (ap (λ l. seat_at l n) (sym renewed.seats) ∙ there) in omega arith;
 } where
+  x : PoolEntry
+  x = entry now (Begins epoch b)
+
   seats : (k : ℕ) → seat_in q k
-      ≡ kept_if (in_use configs (entry now (Reconfigure text) (told.Epoch (suc (current h))) ∷ h) k)
-      (seat_of configs (entry now (Reconfigure text) (told.Epoch (suc (current h))) ∷ h) k)
+      ≡ kept_if (in_use (entry now (Begins epoch b) ∷ h) k) (seat_of (entry now (Begins epoch b) ∷ h) k)
   seats k = ap (λ l. seat_at l k) renewed.seats ∙ stand.seats_are k
 
-  made : (e : ℕ) → made_of configs (entry now (Reconfigure text) (told.Epoch (suc (current h))) ∷ h) e
-      ≡ kept_if (stays q e) (made_if (e == suc (current h)) now (made_in p e))
-  made e = made_next p q configs (entry now (Reconfigure text) (told.Epoch (suc (current h)))) h e stand
-      (needed_is q configs (entry now (Reconfigure text) (told.Epoch (suc (current h))) ∷ h) e seats
-      (renewed.given ∙ stand.given_is) renewed.newest)
+  made : (e : ℕ) → made_of (entry now (Begins epoch b) ∷ h) e
+      ≡ kept_if (stays q e) (made_if (e == epoch) now (made_in p e))
+  made e = made_next p q x h e stand
+      (needed_is q (x ∷ h) e seats (renewed.given ∙ stand.given_is) renewed.newest)
 
-  free : (e : ℕ) → (e == suc (current h)) ≡ true → made_in p e ≡ None
-  free e t = let it : e ≡ suc (current h) = grind (arith, nat_tests) in none_ahead p configs h e is stand (omega arith)
+  free : (e : ℕ) → (e == epoch) ≡ true → made_in p e ≡ None
+  free e t = let it : e ≡ epoch = grind (arith, nat_tests) in none_ahead p h e is stand (omega arith)
 
--- for a `begin`: the pools that `new` makes stand for the history of it alone
-pub new_stands : (p : Basin) (configs : List Configuration) (now : ℕ) (offset : ℤ) (config : Configuration)
-    → config_of configs 1 ≡ Some config → HasBegun p 1 config now
-    → PoolsStand p configs (entry now (Begin offset) (told.Epoch 1) ∷ [])
-new_stands p configs now offset config known begun = record {
+-- for the first epoch: the pools that `new` makes stand for the history of it alone
+pub new_stands : (p : Basin) (now : ℕ) (b : Beginning) → IsFirst p 1 b now
+    → PoolsStand p (entry now (Begins 1 b) ∷ [])
+new_stands p now b begun = record {
   made_is = λ e. begun.made e ∙ sym (made e);
   buckets_are = λ e s.
       ap (λ f. shown (second_in p e now) f) (begun.buckets e s)
       ∙ ap (λ k. shown (at k now)
-      (filled_if (e == 1 && is_aggregate (Some config) s) (opened_in config.initial 0 s) None)) (begun.made e)
-      ∙ begun_by configs config 1 e now s true (e == 1) None None refl known (λ t. refl) (λ t. t)
-      ∙ ap (λ k. kept_if (is_some k)
-      (option_map (drawn 0) (opened_if ((true && is_aggregate (config_of configs e) s) || false)
-      (opened_at (initial_in (config_of configs e)) s.limit) None))) (sym (made e));
+      (filled_if (e == 1 && is_aggregate b.pools s) (opened_in b.initial 0 s) None)) (begun.made e)
+      ∙ begun_by b.initial now s true (e == 1) (is_aggregate b.pools s) None None (λ t. refl) (λ t. t)
+      ∙ ap (λ k. kept_if (is_some k) (option_map (drawn 0)
+      (opened_if ((true && is_aggregate b.pools s) || false) (opened_at b.initial s.limit) None))) (sym (made e));
   seats_are = λ k. ap (λ l. seat_at l k) begun.seats;
   given_is = begun.given;
   newest_is = begun.newest;
   latest_is = let same = begun.latest in omega arith;
   granted_is = begun.granted;
+  begun_are = λ n sat there. absurd (let no : None ≡ Some sat = sym (ap (λ l. seat_at l n) begun.seats) ∙ there in cc);
 } where
-  made : (e : ℕ) → made_of configs (entry now (Begin offset) (told.Epoch 1) ∷ []) e ≡ made_if (e == 1) now None
-  made e = ap (λ b. kept_if (b || false) (made_if (e == 1) now None)) (number_key.turned 1 e) ∙ by_test (e == 1) where
-    by_test : (b : Bool) → kept_if (b || false) (made_if b now None) ≡ made_if b now None
+  made : (e : ℕ) → made_of (entry now (Begins 1 b) ∷ []) e ≡ made_if (e == 1) now None
+  made e = ap (λ t. kept_if (t || false) (made_if (e == 1) now None)) (number_key.turned 1 e) ∙ by_test (e == 1) where
+    by_test : (t : Bool) → kept_if (t || false) (made_if t now None) ≡ made_if t now None
     by_test true = refl
     by_test false = refl

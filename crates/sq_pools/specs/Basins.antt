@@ -8,7 +8,8 @@ use Rattle.sq_base.specs.Addresses.{Address}
 use Rattle.sq_machine.specs.BucketLevels.{Filled, Tally, filled_to}
 use Rattle.sq_rules.specs.Configurations.{Configuration}
 use Rattle.sq_machine.specs.Limits.{last_number}
-use Rattle.sq_machine.specs.PoolReadings.{Sat, BucketSpot, has_spot, is_aggregate, kept_if, made_if, names_spot, spots_in}
+use Rattle.sq_machine.specs.PoolReadings.{Beginning, Sat, BucketSpot, beginning_of, has_spot, is_aggregate, kept_if, made_if, names_spot, sat_in, tag_beginning_of, tag_sat_in}
+use Rattle.sq_machine.specs.SeatPlaces.{has_tags}
 use Rattle.sq_rules.specs.Verdicts.{is_passed_over}
 use Rattle.sq_pools.specs.Generations.{buckets_at, filled_at, held_at, made_at, second_at}
 use Rattle.sq_pools.specs.Grants.{are_own, filled_if, granted_if, least_at, opened_in}
@@ -69,16 +70,12 @@ is_dry p now None = true
 is_dry p now (Some sat) = list_any
     (λ s. option_map_or (λ t. t.level == 0) (tally_then p now sat.epoch s) false) sat.spots
 
--- the seat that a client gets in a pool of this configuration
-abbrev pub sat_in : ℕ → Configuration → ℕ → Address → Sat
-sat_in epoch c pool a = record { epoch = epoch; pool = pool; spots = spots_in (Some c) pool a }
-
 -- pools with the one generation of this epoch and no seat
-pub record HasBegun (p : Basin) (epoch : ℕ) (c : Configuration) (now : ℕ) : Type 0 where
+pub record IsFirst (p : Basin) (epoch : ℕ) (b : Beginning) (now : ℕ) : Type 0 where
   pub made : (e : ℕ) → made_in p e ≡ made_if (e == epoch) now None
   pub buckets : (e : ℕ) (s : BucketSpot)
-      → bucket_in p e s ≡ filled_if (e == epoch && is_aggregate (Some c) s)
-      (opened_in c.initial 0 s) None
+      → bucket_in p e s ≡ filled_if (e == epoch && is_aggregate b.pools s)
+      (opened_in b.initial 0 s) None
   pub seats : p.seats ≡ []
   pub given : p.given ≡ 0
   pub newest : p.newest ≡ epoch
@@ -87,12 +84,12 @@ pub record HasBegun (p : Basin) (epoch : ℕ) (c : Configuration) (now : ℕ) : 
 
 -- after a generation was made: it is there, with its aggregate buckets; what is not needed any more
 -- has gone
-pub record IsRenewed (old new : Basin) (epoch : ℕ) (c : Configuration) (now : ℕ) : Type 0 where
+pub record IsBegun (old new : Basin) (epoch : ℕ) (b : Beginning) (now : ℕ) : Type 0 where
   pub made : (e : ℕ) → made_in new e
       ≡ kept_if (stays new e) (made_if (e == epoch) now (made_in old e))
   pub buckets : (e : ℕ) (s : BucketSpot) → bucket_in new e s
-      ≡ kept_if (stays new e) (filled_if (e == epoch && is_aggregate (Some c) s)
-      (opened_in c.initial 0 s) (bucket_in old e s))
+      ≡ kept_if (stays new e) (filled_if (e == epoch && is_aggregate b.pools s)
+      (opened_in b.initial 0 s) (bucket_in old e s))
   pub seats : new.seats ≡ old.seats
   pub given : new.given ≡ old.given
   pub newest : new.newest ≡ epoch
@@ -100,21 +97,51 @@ pub record IsRenewed (old new : Basin) (epoch : ℕ) (c : Configuration) (now : 
   pub granted : new.granted ≡ old.granted
 
 -- after a seat was given: its generation is there, and so is each bucket that it names
-pub record IsChosen (old new : Basin) (epoch : ℕ) (c : Configuration) (pool : ℕ) (a : Address)
-    (now : ℕ) : Type 0 where
+pub record IsSeated (old new : Basin) (sat : Sat) (b : Beginning) (now : ℕ) : Type 0 where
   pub made : (e : ℕ) → made_in new e
-      ≡ kept_if (stays new e) (made_if (e == epoch) now (made_in old e))
+      ≡ kept_if (stays new e) (made_if (e == sat.epoch) now (made_in old e))
   pub buckets : (e : ℕ) (s : BucketSpot) → bucket_in new e s
       ≡ kept_if (stays new e) (filled_if
-      (e == epoch && (has_spot (spots_in (Some c) pool a) s
-      || (is_none (made_in old e) && is_aggregate (Some c) s)))
-      (opened_in c.initial (second_in new e now) s) (bucket_in old e s))
-  pub seats : (n : ℕ) → seat_in new n
-      ≡ (if n == suc old.given then Some (sat_in epoch c pool a) else seat_in old n)
+      (e == sat.epoch && (has_spot sat.spots s
+      || (is_none (made_in old e) && is_aggregate b.pools s)))
+      (opened_in b.initial (second_in new e now) s) (bucket_in old e s))
+  pub seats : (n : ℕ) → seat_in new n ≡ (if n == suc old.given then Some sat else seat_in old n)
   pub given : new.given ≡ suc old.given
-  pub newest : new.newest ≡ max old.newest epoch
+  pub newest : new.newest ≡ max old.newest sat.epoch
   pub latest : new.latest ≡ now
   pub granted : new.granted ≡ old.granted
+
+-- the same for pools with buckets by addresses
+abbrev pub HasBegun : Basin → ℕ → Configuration → ℕ → Type 0
+HasBegun p epoch c now = IsFirst p epoch (beginning_of c) now
+
+abbrev pub IsRenewed : Basin → Basin → ℕ → Configuration → ℕ → Type 0
+IsRenewed old new epoch c now = IsBegun old new epoch (beginning_of c) now
+
+abbrev pub IsChosen : Basin → Basin → ℕ → Configuration → ℕ → Address → ℕ → Type 0
+IsChosen old new epoch c pool a now = IsSeated old new (sat_in epoch c pool a) (beginning_of c) now
+
+-- and for those with buckets by tags
+abbrev pub HasBegunTags : Basin → ℕ → Configuration → ℕ → Type 0
+HasBegunTags p epoch c now = IsFirst p epoch (tag_beginning_of c) now
+
+abbrev pub IsTagRenewed : Basin → Basin → ℕ → Configuration → ℕ → Type 0
+IsTagRenewed old new epoch c now = IsBegun old new epoch (tag_beginning_of c) now
+
+abbrev pub IsTagChosen : Basin → Basin → ℕ → Configuration → ℕ → List ℕ → ℕ → Type 0
+IsTagChosen old new epoch c pool tag now = IsSeated old new (tag_sat_in epoch c pool tag)
+    (tag_beginning_of c) now
+
+-- after a number was given to a seat elsewhere
+abbrev pub HasPassed : Basin → Basin → Type 0
+HasPassed old new = new ≡ record {
+  generations = old.generations;
+  seats = old.seats;
+  given = suc old.given;
+  newest = old.newest;
+  latest = old.latest;
+  granted = old.granted;
+}
 
 -- after a grant of so much: each bucket of the seat has granted it, and nothing else has changed
 pub record IsGranted (old new : Basin) (now amount : ℕ) (sat : Option Sat) : Type 0 where
@@ -152,9 +179,16 @@ abbrev pub tally_at : Basin → ℕ → Option BucketSpot → Option Tally
 tally_at p e None = None
 tally_at p e (Some s) = tally_then p p.latest e s
 
--- a pool of this configuration takes the address: it is there, and does not pass over it
+-- the pool at this place has buckets by tags
+abbrev pub has_tag_pool : Configuration → ℕ → Bool
+has_tag_pool c pool = has_tags c.pools pool
+
+-- a pool of this configuration takes the address: it is there, does not pass over it, and has
+-- buckets by addresses
 abbrev pub has_pool : Configuration → ℕ → Address → Bool
-has_pool c pool a = option_map_or (λ p. not (is_passed_over a p)) (slice_get c.pools pool) false
+has_pool c pool a =
+    option_map_or (λ p. not (is_passed_over a p)) (slice_get c.pools pool) false
+    && not (has_tag_pool c pool)
 
 -- what holds of pools: seats in use have numbers that were given, each is counted by its generation
 -- and names its buckets once, and these are open; a generation is the newest or has a seat in use;

@@ -7,7 +7,7 @@ ghost use Rattle.sq_pools.specs.Grants.{are_own, are_there, bucket_at, filled_if
 
 use crate::bucket::Filling;
 use crate::spots::BucketSpot;
-use sq_base::WantOfMemory;
+use sq_base::{Copying, WantOfMemory};
 use std::alloc::Global;
 use std::collections::BTreeMap;
 use std::marker::Model;
@@ -38,36 +38,38 @@ impl Buckets {
     }
 
     // The bucket of a name.
-    pub(crate) fn get(&self, spot: BucketSpot) -> Option<Filling>
-        ensures { result ≡ bucket_at self.now spot }
+    pub(crate) fn get(&self, spot: &BucketSpot) -> Option<Filling>
+        ensures { result ≡ bucket_at self.now spot.now }
     {
-        self.map.get(&spot).copied()
+        self.map.get(spot).copied()
     }
 
     // Puts the bucket of a name that has none.
-    fn put(&mut self, spot: BucketSpot, bucket: Filling) -> Result<(), WantOfMemory>
-        requires { bucket_at self.old spot ≡ None }
+    fn put(&mut self, alloc: Global, spot: &BucketSpot, bucket: Filling) -> Result<(), WantOfMemory>
+        requires { bucket_at self.old spot.now ≡ None }
         ensures ok { OnOk result
             ((s : readings.BucketSpot)
             → bucket_at self.new s ≡
-            (if readings.is_spot s spot then Some bucket else bucket_at self.old s)) }
-        ensures undo { OnOk result (without_bucket spot self.new ≡ self.old) }
+            (if readings.is_spot s spot.now then Some bucket else bucket_at self.old s)) }
+        ensures undo { OnOk result (without_bucket spot.now self.new ≡ self.old) }
         ensures err { OnErr result (self.new ≡ self.old) }
     {
-        let _was = self.map.insert(spot, bucket)?;
+        let name = spot.copy(alloc)?;
+        let _was = self.map.insert(name, bucket)?;
         Ok(())
     }
 
     // Takes a bucket away.
-    fn remove(&mut self, spot: BucketSpot)
-        ensures { self.new ≡ without_bucket spot self.old }
+    fn remove(&mut self, spot: &BucketSpot)
+        ensures { self.new ≡ without_bucket spot.now self.old }
     {
-        let _was = self.map.remove(&spot);
+        let _was = self.map.remove(spot);
     }
 
     // Opens the buckets of these names, where there are none, in this second and at this percentage.
     pub(crate) fn open(
         &mut self,
+        alloc: Global,
         spots: &[BucketSpot],
         initial: u8,
         second: u64,
@@ -83,29 +85,29 @@ impl Buckets {
         let Some((first, rest)) = spots.split_first() else {
             return Ok(());
         };
-        if self.get(*first).is_some() {
-            return self.open(rest, initial, second);
+        if self.get(first).is_some() {
+            return self.open(alloc, rest, initial, second);
         }
-        self.put(*first, Filling::open(first.limit(), initial, second))?;
-        match self.open(rest, initial, second) {
+        self.put(alloc, first, Filling::open(first.limit(), initial, second))?;
+        match self.open(alloc, rest, initial, second) {
             Ok(()) => Ok(()),
             Err(error) => {
-                self.remove(*first);
+                self.remove(first);
                 Err(error)
             }
         }
     }
 
     // Takes so much in this second from the bucket of a name.
-    fn draw(&mut self, spot: BucketSpot, amount: u64, second: u64)
-        requires there { is_some (bucket_at self.old spot) ≡ true }
+    fn draw(&mut self, spot: &BucketSpot, amount: u64, second: u64)
+        requires there { is_some (bucket_at self.old spot.now) ≡ true }
         requires second { second < 2 ^ 63 }
-        requires amount { amount ≤ level_or_none second (bucket_at self.old spot) }
+        requires amount { amount ≤ level_or_none second (bucket_at self.old spot.now) }
         ensures { (s : readings.BucketSpot)
-            → bucket_at self.new s ≡ option_map (granted_if (readings.is_spot spot s) second amount)
-            (bucket_at self.old s) }
+            → bucket_at self.new s ≡ option_map
+            (granted_if (readings.is_spot spot.now s) second amount) (bucket_at self.old s) }
     {
-        match self.map.get_mut(&spot) {
+        match self.map.get_mut(spot) {
             Some(filling) => filling.grant(amount, second),
             None => unreachable!(),
         }
@@ -119,7 +121,7 @@ impl Buckets {
     {
         let mut least = wanted;
         for spot in spots {
-            if let Some(filling) = self.get(*spot) {
+            if let Some(filling) = self.get(spot) {
                 least = least.min(filling.bucket_in(second).level);
             }
         }
@@ -139,7 +141,7 @@ impl Buckets {
     {
         let amount = self.least(spots, wanted, second);
         for spot in spots {
-            self.draw(*spot, amount, second);
+            self.draw(spot, amount, second);
         }
         amount
     }

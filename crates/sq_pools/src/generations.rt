@@ -2,7 +2,7 @@
 ghost use Rattle.std.specs.Prelude.{◌≡◌, ◌≤◌, ◌<◌, ◌^◌, ◌-◌, ◌==◌, ◌&&◌, ◌||◌, ◌∷◌, [], ℕ, suc, if◌then◌else◌, Some, None, true, is_none, is_some, nat_lt, length, slice_get, OnOk, OnErr, IfOk};
 ghost use Rattle.std.specs.Option.{option_map};
 ghost use Rattle.sq_machine.specs.BucketLevels.{filled_to};
-ghost use Rattle.sq_rules.specs.Limits.{initial_limit};
+ghost use Rattle.sq_rules.specs.Limits.{initial_limit, pool_limit};
 ghost use Rattle.sq_machine.specs.PoolReadings as readings;
 ghost use Rattle.sq_machine.specs.PoolReadings.{has_spot, is_aggregate, kept_if, made_if, second_of};
 ghost use Rattle.sq_pools.specs.Generations.{buckets_at, filled_at, generation_at, held_at, is_left, made_at, second_at};
@@ -12,7 +12,7 @@ use crate::bucket::Bucket;
 use crate::buckets::Buckets;
 use crate::spots::{BucketSpot, bucket_pairs};
 use sq_base::{EpochNo, Moment, WantOfMemory};
-use sq_rules::{Config, Pool};
+use sq_rules::Pool;
 use std::alloc::Global;
 use std::collections::BTreeMap;
 use std::marker::Model;
@@ -27,6 +27,7 @@ pub(crate) struct Generation {
 
 // Opens the aggregate bucket of a pool, where it has a limit and there is none, in the first second.
 fn open_aggregate(
+    alloc: Global,
     buckets: &mut Buckets,
     place: u32,
     pool: &Pool,
@@ -41,7 +42,8 @@ fn open_aggregate(
 {
     match bucket_pairs(pool).first() {
         Some(Some(limit)) => {
-            buckets.open(&[BucketSpot::new(place, 0, 0, *limit)], initial, 0)?;
+            let spot = BucketSpot::of_host(alloc, place, 0, 0, *limit);
+            buckets.open(alloc, &[spot], initial, 0)?;
             Ok(())
         }
         Some(None) => Ok(()),
@@ -49,37 +51,44 @@ fn open_aggregate(
     }
 }
 
-// The aggregate buckets of all pools, as they open.
-fn aggregates(alloc: Global, config: &Config) -> Result<Buckets, WantOfMemory>
+// The aggregate buckets of these pools, as they open.
+fn aggregates(alloc: Global, pools: &[Pool], initial: u8) -> Result<Buckets, WantOfMemory>
+    requires initial { initial ≤ initial_limit }
+    requires few { length pools.now ≤ pool_limit }
     ensures { IfOk result
         (λ b. (s : readings.BucketSpot)
-        → bucket_at b s ≡ filled_if (is_aggregate (Some config.now) s)
-        (opened_in config.now.initial 0 s) None) }
+        → bucket_at b s ≡ filled_if (is_aggregate pools.now s) (opened_in initial 0 s) None) }
 {
     let mut buckets = Buckets::new(alloc);
-    let percent = config.initial();
     let mut place = 0;
-    for pool in config.pools() {
-        open_aggregate(&mut buckets, place, pool, percent)?;
+    for pool in pools {
+        open_aggregate(alloc, &mut buckets, place, pool, initial)?;
         place += 1;
     }
     Ok(buckets)
 }
 
 impl Generation {
-    // The generation of a configuration that is made at this moment.
-    fn of_config(alloc: Global, config: &Config, now: Moment) -> Result<Generation, WantOfMemory>
+    // The generation that is made at this moment, with the aggregate buckets of these pools.
+    fn begun(
+        alloc: Global,
+        pools: &[Pool],
+        initial: u8,
+        now: Moment,
+    ) -> Result<Generation, WantOfMemory>
+        requires initial { initial ≤ initial_limit }
+        requires few { length pools.now ≤ pool_limit }
         ensures made { IfOk result (λ g. g.made ≡ now) }
         ensures held { IfOk result (λ g. g.held ≡ 0) }
         ensures buckets { IfOk result
             (λ g. (s : readings.BucketSpot)
-            → bucket_at g.buckets s ≡ filled_if (is_aggregate (Some config.now) s)
-            (opened_in config.now.initial 0 s) None) }
+            → bucket_at g.buckets s ≡ filled_if (is_aggregate pools.now s)
+            (opened_in initial 0 s) None) }
     {
         Ok(Generation {
             made: now,
             held: 0,
-            buckets: aggregates(alloc, config)?,
+            buckets: aggregates(alloc, pools, initial)?,
         })
     }
 
@@ -92,7 +101,13 @@ impl Generation {
     }
 
     // Counts one seat more, and opens its buckets where there are none.
-    fn enter(&mut self, spots: &[BucketSpot], initial: u8, now: Moment) -> Result<(), WantOfMemory>
+    fn enter(
+        &mut self,
+        alloc: Global,
+        spots: &[BucketSpot],
+        initial: u8,
+        now: Moment,
+    ) -> Result<(), WantOfMemory>
         requires initial { initial ≤ initial_limit }
         requires held { self.old.held < 2 ^ 63 }
         ensures made { self.new.made ≡ self.old.made }
@@ -105,7 +120,7 @@ impl Generation {
         ensures err { OnErr result (self.new ≡ self.old) }
     {
         let second = self.second(now);
-        self.buckets.open(spots, initial, second)?;
+        self.buckets.open(alloc, spots, initial, second)?;
         self.held += 1;
         Ok(())
     }
@@ -171,9 +186,9 @@ impl Generations {
     }
 
     // The numbers of a bucket at a moment.
-    pub(crate) fn bucket(&self, epoch: EpochNo, spot: BucketSpot, now: Moment) -> Option<Bucket>
+    pub(crate) fn bucket(&self, epoch: EpochNo, spot: &BucketSpot, now: Moment) -> Option<Bucket>
         ensures { result ≡ option_map (λ f. (filled_to (second_at self.now epoch now) f).tally)
-            (filled_at self.now epoch spot) }
+            (filled_at self.now epoch spot.now) }
     {
         let generation = self.map.get(&epoch)?;
         let filling = generation.buckets.get(spot)?;
@@ -193,21 +208,24 @@ impl Generations {
         &mut self,
         alloc: Global,
         epoch: EpochNo,
-        config: &Config,
+        pools: &[Pool],
+        initial: u8,
         now: Moment,
     ) -> Result<(), WantOfMemory>
-        requires { made_at self.old epoch ≡ None }
+        requires free { made_at self.old epoch ≡ None }
+        requires initial { initial ≤ initial_limit }
+        requires few { length pools.now ≤ pool_limit }
         ensures made { OnOk result
             ((e : ℕ) → made_at self.new e ≡ made_if (e == epoch) now (made_at self.old e)) }
         ensures held { OnOk result ((e : ℕ) → held_at self.new e ≡ held_at self.old e) }
         ensures buckets { OnOk result
             ((e : ℕ) (s : readings.BucketSpot)
             → filled_at self.new e s
-            ≡ filled_if (e == epoch && is_aggregate (Some config.now) s)
-            (opened_in config.now.initial 0 s) (filled_at self.old e s)) }
+            ≡ filled_if (e == epoch && is_aggregate pools.now s) (opened_in initial 0 s)
+            (filled_at self.old e s)) }
         ensures err { OnErr result (self.new ≡ self.old) }
     {
-        let generation = Generation::of_config(alloc, config, now)?;
+        let generation = Generation::begun(alloc, pools, initial, now)?;
         self.put(epoch, generation)?;
         Ok(())
     }
@@ -217,11 +235,14 @@ impl Generations {
         &mut self,
         alloc: Global,
         epoch: EpochNo,
-        config: &Config,
         spots: &[BucketSpot],
+        pools: &[Pool],
+        initial: u8,
         now: Moment,
     ) -> Result<(), WantOfMemory>
-        requires { generation_at self.old epoch ≡ None }
+        requires free { generation_at self.old epoch ≡ None }
+        requires initial { initial ≤ initial_limit }
+        requires few { length pools.now ≤ pool_limit }
         ensures made { OnOk result
             ((e : ℕ) → made_at self.new e ≡ made_if (e == epoch) now (made_at self.old e)) }
         ensures held { OnOk result
@@ -232,12 +253,12 @@ impl Generations {
             → filled_at self.new e s
             ≡ filled_if (e == epoch &&
             (has_spot spots.now s ||
-            (is_none (made_at self.old e) && is_aggregate (Some config.now) s)))
-            (opened_in config.now.initial (second_at self.new e now) s) (filled_at self.old e s)) }
+            (is_none (made_at self.old e) && is_aggregate pools.now s)))
+            (opened_in initial (second_at self.new e now) s) (filled_at self.old e s)) }
         ensures err { OnErr result (self.new ≡ self.old) }
     {
-        let mut generation = Generation::of_config(alloc, config, now)?;
-        generation.enter(spots, config.initial(), now)?;
+        let mut generation = Generation::begun(alloc, pools, initial, now)?;
+        generation.enter(alloc, spots, initial, now)?;
         self.put(epoch, generation)?;
         Ok(())
     }
@@ -248,11 +269,14 @@ impl Generations {
         &mut self,
         alloc: Global,
         epoch: EpochNo,
-        config: &Config,
         spots: &[BucketSpot],
+        pools: &[Pool],
+        initial: u8,
         now: Moment,
     ) -> Result<(), WantOfMemory>
-        requires { held_at self.old epoch < 2 ^ 63 }
+        requires held { held_at self.old epoch < 2 ^ 63 }
+        requires initial { initial ≤ initial_limit }
+        requires few { length pools.now ≤ pool_limit }
         ensures made { OnOk result
             ((e : ℕ) → made_at self.new e ≡ made_if (e == epoch) now (made_at self.old e)) }
         ensures held { OnOk result
@@ -263,16 +287,16 @@ impl Generations {
             → filled_at self.new e s
             ≡ filled_if (e == epoch &&
             (has_spot spots.now s ||
-            (is_none (made_at self.old e) && is_aggregate (Some config.now) s)))
-            (opened_in config.now.initial (second_at self.new e now) s) (filled_at self.old e s)) }
+            (is_none (made_at self.old e) && is_aggregate pools.now s)))
+            (opened_in initial (second_at self.new e now) s) (filled_at self.old e s)) }
         ensures err { OnErr result (self.new ≡ self.old) }
     {
         match self.map.get_mut(&epoch) {
             Some(generation) => {
-                generation.enter(spots, config.initial(), now)?;
+                generation.enter(alloc, spots, initial, now)?;
                 Ok(())
             }
-            None => self.enter_new(alloc, epoch, config, spots, now),
+            None => self.enter_new(alloc, epoch, spots, pools, initial, now),
         }
     }
 

@@ -3,7 +3,9 @@
 //! `Pools` has a generation of buckets for each epoch that is the newest or has a seat in use. `choose` gives a
 //! seat in a pool, `grant` takes bytes from the seat's buckets, `leave` gives it up, and `renew` makes the
 //! generation of a new epoch. `bucket` and `granted` show the numbers. A grant is reckoned at once, however many
-//! seconds have gone, and costs a logarithm in the number of hosts; it and `leave` take no memory.
+//! seconds have gone, and costs a logarithm in the number of hosts; it and `leave` take no memory. `TagPools` is the same
+//! for pools of class 5, with a bucket for each tag, and generations and seats of its own. With `pass` the two give their
+//! seats numbers that stand in neither twice.
 #![tactic(auto)]
 
 mod bucket;
@@ -12,7 +14,9 @@ mod generations;
 mod pools;
 mod seats;
 mod spots;
+mod tag_pools;
 
 pub use bucket::Bucket;
 pub use pools::{ChooseFault, Pools};
 pub use seats::Seat;
+pub use tag_pools::{TagPools, TagSeat};

@@ -2,12 +2,13 @@
 ghost use Rattle.std.specs.Prelude.{◌≡◌, ◌<◌, ◌≤◌, ◌^◌, ◌==◌, ◌&&◌, ◌||◌, ℕ, cond, if◌then◌else◌, max, suc, true, false, Some, None, is_none, is_some, nat_lt, length, slice_get, IfSome, IfOk, IfErr, OnOk, OnErr};
 ghost use Rattle.std.specs.Option.{option_copied};
 ghost use Rattle.sq_machine.specs.Limits.{last_number};
+ghost use Rattle.sq_rules.specs.Limits.{initial_limit, pool_limit};
 ghost use Rattle.sq_machine.specs.PoolReadings as readings;
 ghost use Rattle.sq_machine.specs.PoolReadings.{has_spot, is_aggregate, made_if};
 ghost use Rattle.sq_pools.specs.Generations.{filled_at, held_at, made_at, second_at};
-ghost use Rattle.sq_pools.specs.Grants.{filled_if, opened_in};
+ghost use Rattle.sq_pools.specs.Grants.{are_own, filled_if, opened_in};
 ghost use Rattle.sq_pools.specs.Seats.{seat_at};
-ghost use Rattle.sq_pools.specs.Basins.{epoch_in, grant_in, has_pool, made_in, seat_in, spot_at, tally_at, is_dry, HasBegun, HasLeft, IsBasin, IsChosen, IsGranted, IsRenewed};
+ghost use Rattle.sq_pools.specs.Basins.{epoch_in, grant_in, has_pool, made_in, seat_in, spot_at, tally_at, is_dry, HasBegun, HasLeft, HasPassed, IsBasin, IsBegun, IsChosen, IsFirst, IsGranted, IsRenewed, IsSeated};
 
 use crate::bucket::Bucket;
 use crate::generations::Generations;
@@ -114,7 +115,7 @@ fn divided(level: u64, others: u64) -> u64 {
 }
 
 // The pool at a place.
-fn pool_at(config: &Config, place: u32) -> Option<&Pool>
+pub(crate) fn pool_at(config: &Config, place: u32) -> Option<&Pool>
     ensures pool { option_copied result ≡ slice_get config.now.pools place }
     ensures few { IfSome result (λ p. length p.now.pairs ≤ 3) }
 {
@@ -129,11 +130,14 @@ fn seat_one(
     generations: &mut Generations,
     number: SeatNo,
     seated: Seated,
-    config: &Config,
+    pools: &[Pool],
+    initial: u8,
     now: Moment,
 ) -> Result<(), WantOfMemory>
     requires free { seat_at seats.old number ≡ None }
     requires held { held_at generations.old seated.epoch < 2 ^ 63 }
+    requires initial { initial ≤ initial_limit }
+    requires few { length pools.now ≤ pool_limit }
     ensures seats { OnOk result
         ((n : ℕ) → seat_at seats.new n
         ≡ (if n == number then Some seated else seat_at seats.old n)) }
@@ -149,8 +153,8 @@ fn seat_one(
         → filled_at generations.new e s
         ≡ filled_if (e == seated.epoch
         && (has_spot seated.spots s
-        || (is_none (made_at generations.old e) && is_aggregate (Some config.now) s)))
-        (opened_in config.now.initial (second_at generations.new e now) s)
+        || (is_none (made_at generations.old e) && is_aggregate pools.now s)))
+        (opened_in initial (second_at generations.new e now) s)
         (filled_at generations.old e s)) }
     ensures err_seats { OnErr result (seats.new ≡ seats.old) }
     ensures err { OnErr result (generations.new ≡ generations.old) }
@@ -160,7 +164,7 @@ fn seat_one(
     let Some(entered) = seats.get(number) else {
         unreachable!();
     };
-    match generations.enter(alloc, epoch, config, entered.spots.as_slice(), now) {
+    match generations.enter(alloc, epoch, entered.spots.as_slice(), pools, initial, now) {
         Ok(()) => Ok(()),
         Err(error) => {
             let _seated = seats.remove(number);
@@ -170,6 +174,31 @@ fn seat_one(
 }
 
 impl Pools {
+    // The pools with the generation of this epoch, made at this moment, with the aggregate buckets of these pools.
+    pub(crate) fn begun(
+        alloc: Global,
+        epoch: EpochNo,
+        pools: &[Pool],
+        initial: u8,
+        now: Moment,
+    ) -> Result<Pools, WantOfMemory>
+        requires initial { initial ≤ initial_limit }
+        requires few { length pools.now ≤ pool_limit }
+        ensures { IfOk result
+            (λ p. IsFirst p epoch (record { initial = initial; pools = pools.now }) now) }
+    {
+        let mut generations = Generations::new(alloc);
+        generations.begin(alloc, epoch, pools, initial, now)?;
+        Ok(Pools {
+            generations,
+            seats: Seats::new(alloc),
+            given: 0,
+            newest: epoch,
+            latest: now,
+            granted: 0,
+        })
+    }
+
     /// The pools with the generation of this epoch, made at this moment.
     pub fn new(
         alloc: Global,
@@ -179,16 +208,39 @@ impl Pools {
     ) -> Result<Pools, WantOfMemory>
         ensures { IfOk result (λ p. HasBegun p epoch config.now.value now) }
     {
-        let mut generations = Generations::new(alloc);
-        generations.begin(alloc, epoch, config, now)?;
-        Ok(Pools {
-            generations,
-            seats: Seats::new(alloc),
-            given: 0,
-            newest: epoch,
-            latest: now,
-            granted: 0,
-        })
+        Pools::begun(alloc, epoch, config.pools(), config.initial(), now)
+    }
+
+    // Makes the generation of this epoch with the aggregate buckets of these pools, unless it is there or the epoch is
+    // before the newest.
+    pub(crate) fn renew_with(
+        &mut self,
+        alloc: Global,
+        epoch: EpochNo,
+        pools: &[Pool],
+        initial: u8,
+        now: Moment,
+    ) -> Result<(), WantOfMemory>
+        requires initial { initial ≤ initial_limit }
+        requires few { length pools.now ≤ pool_limit }
+        ensures ok { OnOk result
+            (cond (nat_lt epoch self.old.newest || is_some (made_in self.old epoch))
+            (self.new ≡ self.old) (IsBegun self.old self.new epoch
+            (record { initial = initial; pools = pools.now }) (max now self.old.latest))) }
+        ensures err { OnErr result (self.new ≡ self.old) }
+        ensures needed { IfErr result
+            (λ _. (nat_lt epoch self.old.newest || is_some (made_in self.old epoch)) ≡ false) }
+    {
+        let newest = self.newest;
+        if epoch.0 < newest.0 || self.generations.has(epoch) {
+            return Ok(());
+        }
+        let now = later(now, self.latest);
+        self.generations.begin(alloc, epoch, pools, initial, now)?;
+        self.generations.retire(newest, epoch);
+        self.newest = epoch;
+        self.latest = now;
+        Ok(())
     }
 
     /// Makes the generation of this epoch, unless it is there or the epoch is before the newest.
@@ -207,20 +259,60 @@ impl Pools {
         ensures needed { IfErr result
             (λ _. (nat_lt epoch self.old.newest || is_some (made_in self.old epoch)) ≡ false) }
     {
-        let newest = self.newest;
-        if epoch.0 < newest.0 || self.generations.has(epoch) {
-            return Ok(());
-        }
-        let now = later(now, self.latest);
-        self.generations.begin(alloc, epoch, config, now)?;
-        self.generations.retire(newest, epoch);
-        self.newest = epoch;
-        self.latest = now;
-        Ok(())
+        self.renew_with(alloc, epoch, config.pools(), config.initial(), now)
     }
 
-    /// Gives a seat in a pool of the configuration of this epoch that takes the client. The generation of the
-    /// epoch and the buckets of the client are made where there are none.
+    // Whether the numbers of seats are used up.
+    pub(crate) fn is_spent(&self) -> bool
+        ensures spent { result ≡ true → suc self.now.given ≡ last_number }
+        ensures left { result ≡ false → suc self.now.given < last_number }
+    {
+        self.given + 1 >= LAST_NUMBER
+    }
+
+    // Gives this seat. Its generation, with the aggregate buckets of these pools, and its buckets are made where there
+    // are none.
+    pub(crate) fn sit(
+        &mut self,
+        alloc: Global,
+        seated: Seated,
+        pools: &[Pool],
+        initial: u8,
+        now: Moment,
+    ) -> Result<Seat, WantOfMemory>
+        requires spare { suc self.old.given < last_number }
+        requires own { are_own seated.spots ≡ true }
+        requires initial { initial ≤ initial_limit }
+        requires few { length pools.now ≤ pool_limit }
+        ensures number { IfOk result (λ n. n ≡ suc self.old.given) }
+        ensures seated { OnOk result
+            (IsSeated self.old self.new seated (record { initial = initial; pools = pools.now })
+            (max now self.old.latest)) }
+        ensures err { OnErr result (self.new ≡ self.old) }
+    {
+        let given = self.given + 1;
+        let now = later(now, self.latest);
+        let newest = newer(self.newest, seated.epoch);
+        let number = SeatNo(given);
+        seat_one(
+            alloc,
+            &mut self.seats,
+            &mut self.generations,
+            number,
+            seated,
+            pools,
+            initial,
+            now,
+        )?;
+        self.generations.retire(self.newest, newest);
+        self.given = given;
+        self.newest = newest;
+        self.latest = now;
+        Ok(Seat::new(number))
+    }
+
+    /// Gives a seat in a pool of the configuration of this epoch that takes the client and is none of class 5. The
+    /// generation of the epoch and the buckets of the client are made where there are none.
     pub fn choose(
         &mut self,
         alloc: Global,
@@ -241,32 +333,31 @@ impl Pools {
             (λ e. e ≡ ChooseFault.WantOfMemory → suc self.old.given < last_number) }
         ensures err { OnErr result (self.new ≡ self.old) }
     {
-        let given = self.given + 1;
-        if given >= LAST_NUMBER {
+        if self.is_spent() {
             return Err(ChooseFault::Spent);
         }
         let Some(taken) = pool_at(config, pool) else {
             unreachable!();
         };
-        let now = later(now, self.latest);
-        let newest = newer(self.newest, epoch);
-        let number = SeatNo(given);
         let spots = spots_of(alloc, pool, taken, addr)?;
         let seated = Seated { epoch, pool, spots };
-        seat_one(
-            alloc,
-            &mut self.seats,
-            &mut self.generations,
-            number,
-            seated,
-            config,
-            now,
-        )?;
-        self.generations.retire(self.newest, newest);
-        self.given = given;
-        self.newest = newest;
-        self.latest = now;
-        Ok(Seat::new(number))
+        let seat = self.sit(alloc, seated, config.pools(), config.initial(), now)?;
+        Ok(seat)
+    }
+
+    /// Lets the next number go to a seat of other pools, so that both number their seats together. It is false, and
+    /// changes nothing, exactly where the numbers are used up. It takes no memory.
+    pub fn pass(&mut self) -> bool
+        ensures passed { result ≡ true → HasPassed self.old self.new }
+        ensures kept { result ≡ false → self.new ≡ self.old }
+        ensures spent { result ≡ false → suc self.old.given ≡ last_number }
+        ensures left { result ≡ true → suc self.old.given < last_number }
+    {
+        if self.is_spent() {
+            return false;
+        }
+        self.given += 1;
+        true
     }
 
     /// Grants what the seat wants, in bytes, as far as each of its buckets has it, and takes it from each. A
@@ -313,7 +404,7 @@ impl Pools {
     {
         let seated = self.seats.get(seat.number())?;
         let spot = seated.spots.as_slice().get(i as usize)?;
-        self.generations.bucket(seated.epoch, *spot, self.latest)
+        self.generations.bucket(seated.epoch, spot, self.latest)
     }
 
     /// The second of its generation in which a seat is at a moment: its buckets gain as the next one begins.
@@ -326,27 +417,41 @@ impl Pools {
         }
     }
 
-    // The bucket that holds a seat back at a moment: that of its buckets that holds the least, the first of several.
-    fn narrowest(&self, seated: &Seated, now: Moment) -> Option<BucketSpot> {
+    // The place of the bucket that holds a seat back at a moment: that of its buckets that holds the least, the first of
+    // several.
+    fn narrowest(&self, seated: &Seated, now: Moment) -> Option<usize> {
         let mut narrowest = None;
         let mut least = u64::MAX;
+        let mut place = 0usize;
         for spot in seated.spots.as_slice() {
-            if let Some(bucket) = self.generations.bucket(seated.epoch, *spot, now) {
+            if let Some(bucket) = self.generations.bucket(seated.epoch, spot, now) {
                 if narrowest.is_none() || bucket.level < least {
-                    narrowest = Some(*spot);
+                    narrowest = Some(place);
                     least = bucket.level;
                 }
             }
+            place = place.saturating_add(1);
         }
         narrowest
     }
 
+    // Whether this bucket holds a seat back at a moment.
+    fn is_narrowest(&self, seated: &Seated, spot: &BucketSpot, now: Moment) -> bool {
+        let Some(place) = self.narrowest(seated, now) else {
+            return false;
+        };
+        match seated.spots.as_slice().get(place) {
+            Some(own) => *own == *spot,
+            None => false,
+        }
+    }
+
     // How many of these seats this bucket of this epoch holds back at a moment.
-    fn held_back(&self, others: &[SeatNo], epoch: EpochNo, spot: BucketSpot, now: Moment) -> u64 {
+    fn held_back(&self, others: &[SeatNo], epoch: EpochNo, spot: &BucketSpot, now: Moment) -> u64 {
         let mut count = 0u64;
         for number in others {
             if let Some(seated) = self.seats.get(*number) {
-                if seated.epoch == epoch && self.narrowest(seated, now) == Some(spot) {
+                if seated.epoch == epoch && self.is_narrowest(seated, spot, now) {
                     count = count.saturating_add(1);
                 }
             }
@@ -363,8 +468,8 @@ impl Pools {
         let now = later(now, self.latest);
         let mut least = u64::MAX;
         for spot in seated.spots.as_slice() {
-            if let Some(bucket) = self.generations.bucket(seated.epoch, *spot, now) {
-                let count = self.held_back(others, seated.epoch, *spot, now);
+            if let Some(bucket) = self.generations.bucket(seated.epoch, spot, now) {
+                let count = self.held_back(others, seated.epoch, spot, now);
                 least = least.min(divided(bucket.level, count));
             }
         }

@@ -1,20 +1,21 @@
 //! The names of buckets, and which of them a client has.
-ghost use Rattle.std.specs.Prelude.{◌≡◌, ◌≤◌, length, IfOk};
+ghost use Rattle.std.specs.Prelude.{◌≡◌, ◌≤◌, [], length, IfOk};
 ghost use Rattle.sq_machine.specs.PoolReadings as readings;
 
-use sq_base::{Addr, Listed, WantOfMemory};
+use sq_base::{Addr, Copying, Listed, Text, WantOfMemory};
 use sq_rules::{Limit, Pool};
 use std::alloc::Global;
 use std::marker::Model;
 
-// A bucket within its generation: its pool, the place of its pair, its host number, and its limit.
-#[derive(Clone, Copy, PartialEq, Eq, PartialOrd, Ord)]
+// A bucket within its generation: its pool, the place of its pair, its host number or its tag, and its limit.
+#[derive(Drop, PartialEq, Eq, PartialOrd, Ord)]
 pub(crate) struct BucketSpot {
-    pub(crate) pool: u32,
+    pool: u32,
     pub(crate) place: u32,
-    pub(crate) host: u32,
+    host: u32,
     restore: u64,
     max: u64,
+    tag: Text,
 }
 
 impl Model for BucketSpot {
@@ -28,6 +29,7 @@ impl Model for BucketSpot {
       place = s.place;
       host = s.host;
       limit = record { restore = s.restore; max = s.max };
+      tag = s.tag;
     } };
 
     ghost invariant = { λ s. IsLimit (record { restore = s.restore; max = s.max }) };
@@ -38,12 +40,40 @@ impl Model for BucketSpot {
       host = s.host;
       restore = s.limit.restore;
       max = s.limit.max;
+      tag = s.tag;
     } };
 }
 
+impl Copying for BucketSpot {
+    fn copy(&self, alloc: Global) -> Result<BucketSpot, WantOfMemory> {
+        let tag = self.tag.copy(alloc)?;
+        Ok(BucketSpot {
+            pool: self.pool,
+            place: self.place,
+            host: self.host,
+            restore: self.restore,
+            max: self.max,
+            tag,
+        })
+    }
+}
+
 impl BucketSpot {
-    pub(crate) fn new(pool: u32, place: u32, host: u32, limit: Limit) -> BucketSpot
-        ensures { result ≡ record { pool = pool; place = place; host = host; limit = limit } }
+    // The bucket of a host number.
+    pub(crate) fn of_host(
+        alloc: Global,
+        pool: u32,
+        place: u32,
+        host: u32,
+        limit: Limit,
+    ) -> BucketSpot
+        ensures { result ≡ record {
+          pool = pool;
+          place = place;
+          host = host;
+          limit = limit;
+          tag = [];
+        } }
     {
         BucketSpot {
             pool,
@@ -51,6 +81,27 @@ impl BucketSpot {
             host,
             restore: limit.restore,
             max: limit.max,
+            tag: Text::new(alloc),
+        }
+    }
+
+    // The bucket of a tag.
+    fn of_tag(pool: u32, tag: Text, limit: Limit) -> BucketSpot
+        ensures { result ≡ record {
+          pool = pool;
+          place = 0;
+          host = 0;
+          limit = limit;
+          tag = tag;
+        } }
+    {
+        BucketSpot {
+            pool,
+            place: 0,
+            host: 0,
+            restore: limit.restore,
+            max: limit.max,
+            tag,
         }
     }
 
@@ -80,7 +131,7 @@ fn host_of(class: u8, place: u32, number: u128) -> u32
     host as u32
 }
 
-// The pairs of a pool that are buckets: a pool of class 5 has none, and grants what is wanted.
+// The pairs of a pool that are buckets by addresses: a pool of class 5 has none.
 pub(crate) fn bucket_pairs(pool: &Pool) -> &[Option<Limit>]
     ensures { result.now ≡ readings.bucket_pairs pool.now }
 {
@@ -103,9 +154,26 @@ pub(crate) fn spots_of(
     for pair in bucket_pairs(pool) {
         if let Some(limit) = pair {
             let host = host_of(pool.class, pair_place, addr.number);
-            spots.push(BucketSpot::new(place, pair_place, host, *limit))?;
+            spots.push(BucketSpot::of_host(alloc, place, pair_place, host, *limit))?;
         }
         pair_place += 1;
+    }
+    Ok(spots)
+}
+
+// The bucket of a tag in the pool at this place, where its one pair has a limit.
+pub(crate) fn tag_spots_of(
+    alloc: Global,
+    place: u32,
+    pool: &Pool,
+    tag: &Text,
+) -> Result<Listed<BucketSpot>, WantOfMemory>
+    ensures { IfOk result (λ spots. spots ≡ readings.tag_spots_of place pool.now tag.now) }
+{
+    let mut spots = Listed::new(alloc);
+    if let Some(Some(limit)) = pool.pairs.as_slice().first() {
+        let tag = tag.copy(alloc)?;
+        spots.push(BucketSpot::of_tag(place, tag, *limit))?;
     }
     Ok(spots)
 }

@@ -2,4 +2,5 @@
 mod CountLaws
 mod TurnLaws
 mod LoopLaws
+mod AskLaws
 pub mod LegalLaws

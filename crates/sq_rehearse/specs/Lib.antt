@@ -5,3 +5,4 @@ pub mod Driving
 pub mod Summaries
 pub mod Rehearsals
 pub mod Turns
+pub mod Asking

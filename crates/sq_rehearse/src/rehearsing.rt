@@ -4,6 +4,7 @@ ghost use Rattle.sq_rules.specs.Configurations.{Configuration, IsConfiguration};
 ghost use Rattle.sq_machine.specs.Entries.{History};
 ghost use Rattle.sq_replay.specs.MachineViews.{machine_of};
 ghost use Rattle.sq_replay.specs.Runs.{Is};
+ghost use Rattle.sq_rehearse.specs.Asking.{is_whole};
 ghost use Rattle.sq_rehearse.specs.Driving.{event_of, is_acting};
 ghost use Rattle.sq_rehearse.specs.Rehearsals.{configuration_text, drive, rehearsal, turn_limit};
 ghost use Rattle.sq_rehearse.specs.Summaries.{counted, total};
@@ -142,9 +143,9 @@ fn drive(
     Ok(())
 }
 
-/// Rehearses so many requests on the machine over a configuration, and counts what came of them. The history is not kept.
+// Rehearses so many requests, and counts what came of them.
 #[tactic(auto, unfolding(crate::specs::Rehearsals::rehearsal))]
-pub fn rehearse(alloc: Global, setup: Setup, count: u32) -> Result<Summary, WantOfMemory>
+fn count_up(alloc: Global, setup: Setup, count: u32) -> Result<Summary, WantOfMemory>
     requires { IsConfiguration setup }
     ensures { IfOk result (λ summary. summary ≡ rehearsal setup count) }
 {
@@ -158,5 +159,17 @@ pub fn rehearse(alloc: Global, setup: Setup, count: u32) -> Result<Summary, Want
         &mut driver,
         &mut summary,
     )?;
+    Ok(summary)
+}
+
+/// Rehearses so many requests on the machine over a configuration, and counts what came of them. The history is not kept.
+/// It asks no more requests than these, and all of them where the rehearsal is whole.
+pub fn rehearse(alloc: Global, setup: Setup, count: u32) -> Result<Summary, WantOfMemory>
+    requires { IsConfiguration setup }
+    ensures counts { IfOk result (λ summary. summary ≡ rehearsal setup count) }
+    ensures asks { IfOk result
+        (λ summary. (summary.asks ≤ count) × (is_whole setup count ≡ true → summary.asks ≡ count)) }
+{
+    let summary = count_up(alloc, setup, count)?;
     Ok(summary)
 }

@@ -7,11 +7,11 @@ use Rattle.sq_machine.specs.Machine.{next}
 use Rattle.sq_machine.specs.Next.{nothing}
 use Rattle.sq_machine.specs.Marking.{marked}
 use Rattle.sq_epochs.specs.declared.acts.Act.{Act}
-use Rattle.sq_pools.specs.Basins.{IsBasin}
-use Rattle.sq_pools.specs.Stands.{is_elsewhere}
 use Rattle.sq_model_state.specs.Acts.{Due, due_in, sends, starts, stops}
 use Rattle.sq_model_state.specs.States.{IsSame, State}
 use Rattle.sq_engine.specs.Acting.{IsActPromised, act_told, after_act, told_of_act}
+use Rattle.sq_replay.specs.Riding.{AreBasins}
+use Rattle.sq_replay.proofs.PairLaws.{is_elsewhere}
 use Rattle.sq_replay.specs.Dues.{dues_in}
 use Rattle.sq_replay.specs.Making.{IsActing}
 use Rattle.sq_replay.specs.Runs.{ScriptView}
@@ -23,7 +23,7 @@ act_elsewhere : (s : State) (a : Act) → is_elsewhere event.Act (told_of_act s 
 act_elsewhere s a = refl
 
 -- the engine's act is the machine's
-pub act_making : (v : ScriptView) (t : State) (now : ℕ) (a : Act) → IsBasin v.pools
+pub act_making : (v : ScriptView) (t : State) (now : ℕ) (a : Act) → AreBasins v.pools
     → IsActPromised v.state (max (max now v.latest) v.state.latest) (Some a) t
     → IsActing v (record { state = t; pools = v.pools; latest = max now v.latest; riders = v.riders })
     (max now v.latest) (Ok (Some (told_of_act v.state a)))
@@ -39,7 +39,7 @@ act_none v w t now promised configs h is =
     (promised configs h is.engine (late_by v configs h now is))
 
 -- the same at a moment that is the greatest
-pub act_at_moment : (v : ScriptView) (t : State) (now u : ℕ) (a : Act) → u ≡ max now v.latest → IsBasin v.pools
+pub act_at_moment : (v : ScriptView) (t : State) (now u : ℕ) (a : Act) → u ≡ max now v.latest → AreBasins v.pools
     → IsActPromised v.state (max u v.state.latest) (Some a) t
     → IsActing v (record { state = t; pools = v.pools; latest = u; riders = v.riders }) (max now v.latest)
     (Ok (Some (told_of_act v.state a)))

@@ -1,21 +1,18 @@
 -- From what was made and written to the step of a line.
-use Rattle.std.proofs.Common.{◌≡◌, inl, inr, ℕ, suc, max, List, [], ◌∷◌, ◌++◌, Bool, true, false, if◌then◌else◌, Option, Some, None, Ok, Err, Result, is_some, refl, sym, ap, subst, ◌∙◌}
+use Rattle.std.proofs.Common.{◌≡◌, inl, inr, ℕ, max, List, ◌∷◌, ◌++◌, Bool, true, false, if◌then◌else◌, Option, Some, None, Ok, Err, Result, is_some, refl, sym, ap, subst, ◌∙◌}
 use Rattle.sq_base.specs.declared.requests.Field.{Field}
-use Rattle.sq_outside.specs.Output.{IsPrefix}
 use Rattle.sq_outside.specs.Told.{Openings, Texts}
 use Rattle.sq_outside.specs.Input.{IsWhole, ReadsFile, ReadsOpening}
 use Rattle.sq_request.specs.Written.{made_request}
 use Rattle.sq_machine.specs.declared.entries.Event.{Event}
 use Rattle.sq_machine.specs.declared.entries.Event.TheVariants.{Begin, Open, Close, Ask, Step, Take, Started, StartFail, Line as HelperLine, Died, Act, Reconfigure, Seat, Grant, Leave}
 use Rattle.sq_machine.specs.declared.entries.Told.{Told}
-use Rattle.sq_rules.specs.declared.kinds.ConfError.{ConfError}
 use Rattle.sq_rules.specs.declared.kinds.Kind.TheVariants as kind
 use Rattle.sq_rules.specs.Configurations.{Configuration}
 use Rattle.sq_machine.specs.Entries.{History, entry_at}
 use Rattle.sq_machine.specs.Events.{begins_epoch}
 use Rattle.sq_machine.specs.Machine.{next}
 use Rattle.sq_rules.specs.Limits.{text_limit}
-use Rattle.sq_machine.specs.Epochs.{config_of}
 use Rattle.sq_machine.specs.Next.{gives, nothing}
 use Rattle.sq_machine.specs.Marking.{marked}
 use Rattle.sq_machine.specs.Readings.{current, latest}
@@ -27,7 +24,7 @@ use Rattle.sq_replay.specs.ConfReading.{read_result}
 use Rattle.sq_replay.specs.Entering.{Arrives, IsJudgeEnd, Judges, NamedReads, named_of}
 use Rattle.sq_replay.specs.Making.{IsRefusal, MayStand, is_refused}
 use Rattle.sq_replay.specs.RunText.{Shelf, accepted, acts, asked_next, event_step, reconfigured}
-use Rattle.sq_replay.specs.Runs.{At, HasNext, Is, IsMade, ScriptView, Reached, Stops, Tells, Wrote, WroteFront, WrotePart, step_text}
+use Rattle.sq_replay.specs.Runs.{At, Is, IsMade, ScriptView, Reached, Stops, Tells, Wrote, WroteFront, WrotePart, step_text}
 use Rattle.sq_replay.proofs.ActLaws.{acts_none, acts_some}
 use Rattle.sq_replay.proofs.GrowthLaws.{acts_grow, event_grows}
 use Rattle.sq_replay.proofs.LoopLaws.{front_more, part_more}

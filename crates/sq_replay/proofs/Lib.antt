@@ -27,3 +27,5 @@ mod ViewLaws
 mod AskLaws
 pub mod MadeLaws
 mod RunRows
+mod PairLaws
+mod KindLaws

@@ -22,8 +22,6 @@ use Rattle.sq_model_rows.specs.declared.stepping.Stepped.{Stepped}
 use Rattle.sq_model_rows.specs.declared.stepping.Stepped.TheVariants as stepped
 use Rattle.sq_epochs.specs.declared.acts.Act.{Act}
 use Rattle.sq_epochs.specs.declared.acts.Act.TheVariants as act
-use Rattle.sq_pools.specs.Basins.{IsBasin}
-use Rattle.sq_pools.specs.Stands.{is_elsewhere}
 use Rattle.sq_model_state.specs.Acts.{Due, sends, starts, stops}
 use Rattle.sq_model_state.specs.Answers.{name_in}
 use Rattle.sq_model_state.specs.Promises.{IsAnswered, StandsFor}
@@ -31,6 +29,8 @@ use Rattle.sq_model_state.specs.States.{IsSame, State}
 use Rattle.sq_engine.specs.Acting.{after_act, told_of_act}
 use Rattle.sq_engine.specs.Promised.{IsPromisedAt}
 use Rattle.sq_engine.specs.Stepping.{after_step_held, after_step_now, stepped_told}
+use Rattle.sq_replay.specs.Riding.{AreBasins}
+use Rattle.sq_replay.proofs.PairLaws.{is_elsewhere}
 use Rattle.sq_replay.specs.declared.stops.Stop.TheVariants as stop
 use Rattle.sq_replay.specs.Making.{IsMaking, MayStand, stop_for}
 use Rattle.sq_replay.specs.Naming.{IsNamed, IsNowhere}
@@ -85,7 +85,7 @@ named_is s e c name i = ap (λ (o : Option Class). option_map_or (λ (class : Cl
 
 -- an event that names the class at a place is made
 pub named_making : (v : ScriptView) (t : State) (now : ℕ) (event : ℕ → List ℕ → Event) (answer : Told) (e c : ℕ)
-    (name : List ℕ) → IsBasin v.pools → IsNamed v.state e c name
+    (name : List ℕ) → AreBasins v.pools → IsNamed v.state e c name
     → is_elsewhere (event e name) answer ≡ true → keeps_riders (event e name) ≡ true → MayStand (event e name)
     → ((configs : List Configuration) (h : History) → StandsFor configs h v.state
     → latest h ≤ max (max now v.latest) v.state.latest
@@ -129,7 +129,7 @@ failed_stops v w now e name (inr x) = λ configs h is. failed_unnamed configs h 
 
 -- the same at a moment that is the greatest
 pub named_at : (v : ScriptView) (t : State) (now u : ℕ) (event : ℕ → List ℕ → Event) (answer : Told) (e c : ℕ)
-    (name : List ℕ) → u ≡ max now v.latest → IsBasin v.pools → IsNamed v.state e c name
+    (name : List ℕ) → u ≡ max now v.latest → AreBasins v.pools → IsNamed v.state e c name
     → is_elsewhere (event e name) answer ≡ true → keeps_riders (event e name) ≡ true → MayStand (event e name)
     → ((configs : List Configuration) (h : History) → StandsFor configs h v.state → latest h ≤ max u v.state.latest
     → IsAnswered configs h (max u v.state.latest) (event e (name_in v.state (record { epoch = e; class = c })))

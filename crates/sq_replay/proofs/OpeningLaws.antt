@@ -4,9 +4,9 @@ use Rattle.std.specs.declared.option.Option.{Option}
 use Rattle.std.proofs.lemmas.List.{append_cancel_right}
 use Rattle.std.proofs.lemmas.Option.{none-some, same_Some}
 use Rattle.sq_outside.specs.Told.{AddsText, Opening, Openings, Texts}
-use Rattle.sq_outside.specs.Input.{IsWhole, OpensAtMost}
+use Rattle.sq_outside.specs.Input.{OpensAtMost}
 use Rattle.sq_replay.specs.RunText.{Shelf}
-use Rattle.sq_replay.specs.Runs.{Adds, AddsCount, IsShelf, Lacks, Opened, StandOn, Tells}
+use Rattle.sq_replay.specs.Runs.{Adds, AddsCount, Lacks, Opened, StandOn, Tells}
 
 -- no opening was added
 pub adds_none : (old new : Openings) → new ≡ old → Adds old new

@@ -10,12 +10,12 @@ use Rattle.sq_rules.specs.Configurations.{Configuration}
 use Rattle.sq_machine.specs.Entries.{History}
 use Rattle.sq_machine.specs.Readings.{latest}
 use Rattle.sq_model_rows.specs.CheckRows.{Held}
-use Rattle.sq_pools.specs.Basins.{IsBasin}
-use Rattle.sq_pools.specs.Stands.{is_elsewhere}
 use Rattle.sq_model_state.specs.Promises.{IsAnswered, StandsFor}
 use Rattle.sq_model_state.specs.States.{State}
 use Rattle.sq_engine.specs.EngineViews.{EngineView, state_of}
 use Rattle.sq_engine.specs.Promised.{IsPromised}
+use Rattle.sq_replay.specs.Riding.{AreBasins}
+use Rattle.sq_replay.proofs.PairLaws.{is_elsewhere}
 use Rattle.sq_replay.specs.declared.stops.Stop.{Stop}
 use Rattle.sq_replay.specs.MachineViews.{MachineView, machine_of}
 use Rattle.sq_replay.specs.Making.{IsMaking, MayStand, stop_for}
@@ -25,7 +25,7 @@ use Rattle.sq_replay.proofs.MakingLaws.{keeps_riders}
 
 -- an event of the engine alone is made
 pub quiet_view : (m n : MachineView) (g : EngineView) (now u : ℕ) (event : Event) (answer : Told) → m ≡ n
-    → u ≡ max now m.latest → IsBasin m.pools → is_elsewhere event answer ≡ true
+    → u ≡ max now m.latest → AreBasins m.pools → is_elsewhere event answer ≡ true
     → keeps_riders event ≡ true → MayStand event
     → ((configs : List Configuration) (h : History) → StandsFor configs h (state_of m.engine)
     → latest h ≤ max u m.engine.latest → IsAnswered configs h (max u m.engine.latest) event answer (state_of g))

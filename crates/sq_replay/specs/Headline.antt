@@ -6,12 +6,13 @@ use Rattle.sq_machine.specs.declared.entries.Event.{Event}
 use Rattle.sq_machine.specs.declared.entries.Event.TheVariants.{Reconfigure}
 use Rattle.sq_rules.specs.Configurations.{Configuration}
 use Rattle.sq_rules.specs.ConfText.{conf_gives}
-use Rattle.sq_machine.specs.Entries.{History, Noted}
+use Rattle.sq_machine.specs.Entries.{History}
 use Rattle.sq_machine.specs.Machine.{Legal}
 use Rattle.sq_machine.specs.BucketLevels.{IsBalanced, Tally}
 use Rattle.sq_machine.specs.Epochs.{config_of}
 use Rattle.sq_machine.specs.Marking.{marked}
-use Rattle.sq_machine.specs.PoolReadings.{BucketSpot, tally_of}
+use Rattle.sq_machine.specs.PoolHistories.{PoolKind, pool_history}
+use Rattle.sq_machine.specs.PoolReadings.{BucketSpot, PoolEntry, PoolHistory, tally_of}
 use Rattle.sq_machine.specs.Readings.{current}
 use Rattle.sq_model_laws.specs.Faithful.{IsFaithful}
 use Rattle.sq_pools.specs.Flows.{GrantsWithin, Lives}
@@ -31,17 +32,16 @@ AreAccepted configs (e ∷ h) = IsAccepted configs h e.event × AreAccepted conf
 
 -- between any two places from the one to the other of which a bucket lives, it grants at most its
 -- level at the first and what was restored
-abbrev pub AreWithinLevels : List Configuration → History → Type 0
-AreWithinLevels configs h =
-    (after later : List Noted) (before : History) (e : ℕ) (s : BucketSpot)
-    → after ++ (later ++ before) ≡ h → Lives configs later before e s
-    → GrantsWithin configs later before e s
+abbrev pub AreWithinLevels : PoolHistory → Type 0
+AreWithinLevels h =
+    (after later : List PoolEntry) (before : PoolHistory) (e : ℕ) (s : BucketSpot)
+    → after ++ (later ++ before) ≡ h → Lives later before e s → GrantsWithin later before e s
 
 -- at each place the books of each bucket balance: what it opened with and what was restored is what
 -- it holds, granted and spilled
-abbrev pub AreBalanced : List Configuration → History → Type 0
-AreBalanced configs h = (after : List Noted) (before : History) (e : ℕ) (s : BucketSpot) (b : Tally)
-    → after ++ before ≡ h → tally_of configs before e s ≡ Some b → IsBalanced b
+abbrev pub AreBalanced : PoolHistory → Type 0
+AreBalanced h = (after : List PoolEntry) (before : PoolHistory) (e : ℕ) (s : BucketSpot) (b : Tally)
+    → after ++ before ≡ h → tally_of before e s ≡ Some b → IsBalanced b
 
 -- what is so of the history of every run
 pub record IsTrue (configs : List Configuration) (h : History) : Type 0 where
@@ -54,10 +54,11 @@ pub record IsTrue (configs : List Configuration) (h : History) : Type 0 where
   -- each outcome is the verdict of the configuration current when its check began, over what it saw
   -- and answers that have their sources
   pub faithful : IsFaithful configs (marked configs h)
-  -- between any two places no bucket grants more than its level and what was restored
-  pub granted : AreWithinLevels configs h
+  -- of pools of either kind, between any two places no bucket grants more than its level and what
+  -- was restored
+  pub granted : (kind : PoolKind) → AreWithinLevels (pool_history kind configs (marked configs h))
   -- and at each place the books balance
-  pub balanced : AreBalanced configs h
+  pub balanced : (kind : PoolKind) → AreBalanced (pool_history kind configs (marked configs h))
 
 -- or nothing was run
 abbrev pub IsTrueOrNone : List Configuration → History → Type 0

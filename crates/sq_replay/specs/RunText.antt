@@ -1,6 +1,6 @@
 -- What a run of a script over a configuration comes to: its history, whose lines are written, and
 -- its end.
-use Rattle.std.specs.Prelude.{ℕ, ◌+◌, ℤ, List, [], ◌∷◌, ◌++◌, length, Result, Ok, Err, Some, None, is_some, max, pos, zero, suc, if◌then◌else◌}
+use Rattle.std.specs.Prelude.{ℕ, ◌+◌, ℤ, List, [], ◌∷◌, length, Result, Ok, Err, Some, None, is_some, max, pos, zero, suc, if◌then◌else◌}
 use Rattle.std.specs.declared.option.Option.{Option}
 use Rattle.sq_base.specs.declared.requests.Field.{Field}
 use Rattle.sq_outside.specs.SourceLines.{SourceLine, is_readable}
@@ -15,7 +15,6 @@ use Rattle.sq_machine.specs.Machine.{next}
 use Rattle.sq_machine.specs.Next.{Next, gives}
 use Rattle.sq_machine.specs.Marking.{marked}
 use Rattle.sq_machine.specs.Readings.{current, latest}
-use Rattle.sq_journal.specs.EntryText.{written}
 use Rattle.sq_journal.specs.Lines.{spaced_words}
 use Rattle.sq_journal.specs.Reading.{dated_of}
 use Rattle.sq_replay.specs.declared.ends.RunEnd.{RunEnd}

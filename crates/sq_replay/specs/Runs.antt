@@ -1,8 +1,9 @@
 -- A run under way: the machine with its pools, what was written, and what the script has left.
-use Rattle.std.specs.Prelude.{◌≡◌, ◌⊎◌, ℕ, ◌+◌, ℤ, ◌≤◌, suc, List, [], ◌∷◌, ◌++◌, length, Bool, if◌then◌else◌, true, Result, Ok, Err, Some, None, IfSome}
+use Rattle.std.specs.Prelude.{◌≡◌, ◌⊎◌, ℕ, ◌+◌, ◌≤◌, suc, List, [], ◌∷◌, ◌++◌, length, if◌then◌else◌, true, Result, Ok, Err, Some, None, IfSome}
 use Rattle.std.specs.Io.KnownBytes.{Appends}
 use Rattle.std.specs.declared.option.Option.{Option}
 use Rattle.sq_base.specs.Addresses.{Address}
+use Rattle.sq_base.specs.declared.helpers.Answer.{Answer}
 use Rattle.sq_outside.specs.Causes.{Rose}
 use Rattle.sq_outside.specs.Output.{Grew, IsPrefix, IsProperPrefix}
 use Rattle.sq_outside.specs.SourceLines.{SourceLine, lines}
@@ -18,9 +19,12 @@ use Rattle.sq_machine.specs.Machine.{next}
 use Rattle.sq_machine.specs.Epochs.{config_of}
 use Rattle.sq_machine.specs.Next.{gives}
 use Rattle.sq_machine.specs.Marking.{marked}
-use Rattle.sq_machine.specs.PoolReadings.{allowed_of}
+use Rattle.sq_machine.specs.Marks.{Past}
+use Rattle.sq_machine.specs.PoolHistories.{Addressed, Tagged, pool_history}
 use Rattle.sq_machine.specs.Readings.{current, latest}
-use Rattle.sq_rules.specs.Verdicts.{pool_of}
+use Rattle.sq_machine.specs.SeatPlaces.{seat_place}
+use Rattle.sq_machine.specs.TakenRecords.{allowed_of, taken_answers}
+use Rattle.sq_machine.specs.declared.places.SeatPlace.{SeatPlace}
 use Rattle.sq_journal.specs.EntryText.{written}
 use Rattle.sq_pools.specs.Basins.{Basin}
 use Rattle.sq_pools.specs.Stands.{PoolsStand}
@@ -31,7 +35,7 @@ use Rattle.sq_replay.specs.declared.ends.RunEnd.TheVariants as ends
 use Rattle.sq_replay.specs.ConfReading.{read_result}
 use Rattle.sq_replay.specs.Ends.{End, Done, Refused, Faulted, Reading, Writing, Lacking, end_of}
 use Rattle.sq_replay.specs.Headline.{IsAhead}
-use Rattle.sq_replay.specs.RunText.{ScriptRun, Shelf, acts, begun_history, configs_of, run_lines, run_script, stated, stated_step}
+use Rattle.sq_replay.specs.RunText.{ScriptRun, Shelf, acts, configs_of, run_lines, run_script, stated, stated_step}
 
 -- what was written
 
@@ -70,42 +74,54 @@ WrotePart base contents text = Grew base contents (λ part. IsProperPrefix part 
 
 -- the machine
 
--- a record that allows, as a seat needs it: its epoch with the configuration, its pool, and the
--- client's address
+-- a record that allows, as a seat needs it: its epoch with the configuration, where it is seated,
+-- and the client's address
 pub record Rider : Type 0 where
   pub epoch : ℕ
   pub config : Configuration
-  pub pool : Option ℕ
+  pub place : SeatPlace
   pub addr : Address
 
--- the record is of this check
-pub record IsRider (configs : List Configuration) (a : Asked) (r : Rider) : Type 0 where
+-- the record is of this check, which had these answers
+pub record IsRider (configs : List Configuration) (a : Asked) (answers : List Answer)
+    (r : Rider) : Type 0 where
   pub epoch_is : r.epoch ≡ a.epoch
   pub config_is : config_of configs a.epoch ≡ Some r.config
-  pub pool_is : r.pool ≡ pool_of r.config a.sight
+  pub place_is : r.place ≡ seat_place r.config a.sight answers
   pub addr_is : r.addr ≡ a.sight.addr
 
 -- there is such a record exactly where there is a check
-abbrev pub Rides : List Configuration → Option Asked → Option Rider → Type 0
-Rides configs None None = Unit {0}
-Rides configs None (Some r) = ⊥
-Rides configs (Some a) None = ⊥
-Rides configs (Some a) (Some r) = IsRider configs a r
+abbrev pub Rides : List Configuration → Option Asked → List Answer → Option Rider → Type 0
+Rides configs None answers None = Unit {0}
+Rides configs None answers (Some r) = ⊥
+Rides configs (Some a) answers None = ⊥
+Rides configs (Some a) answers (Some r) = IsRider configs a answers r
+
+-- the pools with buckets by addresses, and those with buckets by tags
+pub record BothPools : Type 0 where
+  pub addressed : Basin
+  pub tagged : Basin
 
 -- the machine that a script runs: the engine's state, the pools, the greatest moment of all
 -- entries, and the record last taken on each connection, where it allows
 pub record ScriptView : Type 0 where
   pub state : State
-  pub pools : Basin
+  pub pools : BothPools
   pub latest : ℕ
   pub riders : ℕ → Option Rider
+
+-- pools of both kinds stand for what this past says to each
+pub record BothStand (p : BothPools) (configs : List Configuration) (m : Past) : Type 0 where
+  pub addressed : PoolsStand p.addressed (pool_history Addressed configs m)
+  pub tagged : PoolsStand p.tagged (pool_history Tagged configs m)
 
 -- it stands for this history, which is legal over these configurations
 pub record Is (v : ScriptView) (configs : List Configuration) (h : History) : Type 0 where
   pub engine : StandsFor configs h v.state
-  pub pools : PoolsStand v.pools configs h
+  pub pools : BothStand v.pools configs (marked configs h)
   pub latest_is : v.latest ≡ latest h
-  pub riders_are : (c : ℕ) → Rides configs (allowed_of h c) (v.riders c)
+  pub riders_are : (c : ℕ)
+      → Rides configs (allowed_of h c) (taken_answers configs (marked configs h) c) (v.riders c)
 
 -- and the lines of the history were written since `base`, but for what the page holds
 pub record At (v : ScriptView) (base contents : Option (List ℕ)) (page : List ℕ)

@@ -142,7 +142,7 @@ impl ScriptMachine {
         };
         // For the proof: the pool is that of its configuration.
         let _pool = taken.pool();
-        match self.riders.note(conn, &taken) {
+        match self.riders.note(alloc, conn, &taken) {
             Ok(()) => {}
             Err(WantOfMemory) => return Err(Stop::WantOfMemory),
         }

@@ -8,7 +8,7 @@ ghost use Rattle.sq_replay.specs.Making.{IsMaking};
 use crate::machines::ScriptMachine;
 use crate::stops::Stop;
 use sq_base::{ConnNo, Moment, SeatNo};
-use sq_machine::{Told, later};
+use sq_machine::{SeatPlace, Told, later};
 use sq_pools::ChooseFault;
 use std::alloc::Global;
 
@@ -26,20 +26,38 @@ impl ScriptMachine {
         let Some(ride) = self.riders.get(conn) else {
             return Err(Stop::Refused);
         };
-        let Some(pool) = ride.pool else {
-            self.latest = moment;
-            return Ok(Told::NoSeat);
-        };
-        let seat = match self
-            .pools
-            .choose(alloc, ride.epoch, &ride.config, pool, ride.addr, moment)
-        {
-            Ok(seat) => seat,
-            Err(ChooseFault::Spent) => return Err(Stop::Refused),
-            Err(ChooseFault::WantOfMemory) => return Err(Stop::WantOfMemory),
-        };
-        self.latest = moment;
-        Ok(Told::Seat { seat, pool })
+        match &ride.place {
+            SeatPlace::Nowhere => {
+                self.latest = moment;
+                Ok(Told::NoSeat)
+            }
+            SeatPlace::ByAddress(pool) => {
+                let pool = *pool;
+                let seat = match self
+                    .pools
+                    .choose(alloc, ride.epoch, &ride.config, pool, ride.addr, moment)
+                {
+                    Ok(seat) => seat,
+                    Err(ChooseFault::Spent) => return Err(Stop::Refused),
+                    Err(ChooseFault::WantOfMemory) => return Err(Stop::WantOfMemory),
+                };
+                self.latest = moment;
+                Ok(Told::Seat { seat, pool })
+            }
+            SeatPlace::ByTag(pool, tag) => {
+                let pool = *pool;
+                let seat = match self
+                    .pools
+                    .choose_tag(alloc, ride.epoch, &ride.config, pool, tag, moment)
+                {
+                    Ok(seat) => seat,
+                    Err(ChooseFault::Spent) => return Err(Stop::Refused),
+                    Err(ChooseFault::WantOfMemory) => return Err(Stop::WantOfMemory),
+                };
+                self.latest = moment;
+                Ok(Told::Seat { seat, pool })
+            }
+        }
     }
 
     // A seat in use wants so many bytes.

@@ -1,22 +1,25 @@
 //! The records last taken on connections, as seats need them.
 ghost use Rattle.std.specs.Prelude.{◌≡◌, ◌==◌, [], ℕ, Some, None, if◌then◌else◌, IfOk, OnOk, OnErr};
 ghost use Rattle.std.specs.Option.{option_copied};
-ghost use Rattle.sq_replay.specs.Riding.{rider_at, rider_of};
+ghost use Rattle.sq_machine.specs.SeatPlaces.{has_tags, seat_place};
+ghost use Rattle.sq_replay.specs.Riding.{IsSeatableAt, rider_at, rider_of};
 
 use sq_base::{Addr, ConnNo, EpochNo, WantOfMemory};
 use sq_checks::Record;
-use sq_rules::Config;
+use sq_eval::tag_of;
+use sq_machine::SeatPlace;
+use sq_rules::{Config, Pool};
 use std::alloc::Global;
 use std::collections::BTreeMap;
 use std::marker::Model;
 use std::sync::Arc;
 
-// A record that allows, as a seat needs it. Its pool takes its client.
+// A record that allows, as a seat needs it. Its pool takes its client, or has buckets by tags.
 #[derive(Drop)]
 pub(crate) struct Ride {
     pub(crate) epoch: EpochNo,
     pub(crate) config: Arc<Config>,
-    pub(crate) pool: Option<u32>,
+    pub(crate) place: SeatPlace,
     pub(crate) addr: Addr,
 }
 
@@ -30,23 +33,54 @@ impl Model for Ride {
     ghost view = { λ r. record {
       epoch = r.epoch;
       config = arc_value r.config;
-      pool = r.pool;
+      place = r.place;
       addr = r.addr;
     } };
 
     ghost invariant = { λ r. IsSeatable
-        (record { epoch = r.epoch; config = arc_value r.config; pool = r.pool; addr = r.addr }) };
+        (record { epoch = r.epoch; config = arc_value r.config; place = r.place; addr = r.addr }) };
+}
+
+// Whether the buckets of a pool are by tags.
+fn has_tags(pools: &[Pool], pool: u32) -> bool
+    ensures { result ≡ has_tags pools.now pool }
+{
+    match pools.get(pool as usize) {
+        Some(taken) => taken.class == 5,
+        None => false,
+    }
+}
+
+// Where a record is seated. It takes memory where its pool has buckets by tags.
+fn place_of(alloc: Global, taken: &Record) -> Result<SeatPlace, WantOfMemory>
+    ensures value { IfOk result
+        (λ p. p ≡ seat_place taken.now.config taken.now.sight taken.now.answers) }
+    ensures seatable { IfOk result (λ p. IsSeatableAt (rider_of taken.now) p) }
+{
+    let Some(pool) = taken.pool() else {
+        return Ok(SeatPlace::Nowhere);
+    };
+    let config = taken.config();
+    if !has_tags(config.pools(), pool) {
+        return Ok(SeatPlace::ByAddress(pool));
+    }
+    let tag = tag_of(alloc, config, taken.facts(), taken.sight(), taken.answers())?;
+    Ok(match tag {
+        Some(tag) => SeatPlace::ByTag(pool, tag),
+        None => SeatPlace::Nowhere,
+    })
 }
 
 // What a seat needs of a record.
-fn ride_of(taken: &Record) -> Result<Ride, WantOfMemory>
+fn ride_of(alloc: Global, taken: &Record) -> Result<Ride, WantOfMemory>
     ensures { IfOk result (λ r. r ≡ rider_of taken.now) }
 {
     let config = Arc::try_clone(taken.config())?;
+    let place = place_of(alloc, taken)?;
     Ok(Ride {
         epoch: taken.epoch(),
         config,
-        pool: taken.pool(),
+        place,
         addr: taken.sight().addr,
     })
 }
@@ -83,7 +117,12 @@ impl Riders {
     }
 
     // Notes the record that was last taken on a connection: one that denies has none.
-    pub(crate) fn note(&mut self, conn: ConnNo, taken: &Record) -> Result<(), WantOfMemory>
+    pub(crate) fn note(
+        &mut self,
+        alloc: Global,
+        conn: ConnNo,
+        taken: &Record,
+    ) -> Result<(), WantOfMemory>
         ensures ok { OnOk result
             ((c : ℕ) → rider_at self.new c
             ≡ (if c == conn then (if taken.now.outcome.allow then Some (rider_of taken.now)
@@ -93,7 +132,7 @@ impl Riders {
             self.remove(conn);
             return Ok(());
         }
-        let ride = ride_of(taken)?;
+        let ride = ride_of(alloc, taken)?;
         self.put(conn, ride)
     }
 

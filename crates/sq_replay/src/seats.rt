@@ -1,52 +1,64 @@
-//! Delay pools whose seats are held by number.
-ghost use Rattle.std.specs.Prelude.{◌≡◌, ◌<◌, ◌≤◌, ◌||◌, cond, max, suc, true, is_some, is_none, nat_lt, None, IfOk, IfErr, IfNone, IfSome, OnOk, OnErr};
+//! Delay pools of both kinds, whose seats are held by number.
+ghost use Rattle.std.specs.Prelude.{◌≡◌, ◌<◌, ◌≤◌, ◌||◌, max, suc, true, false, is_some, nat_lt, IfOk, IfErr, IfNone, IfSome, OnOk};
 ghost use Rattle.sq_machine.specs.Limits.{last_number};
-ghost use Rattle.sq_pools.specs.Basins.{HasBegun, HasLeft, IsBasin, IsChosen, IsGranted, IsRenewed, grant_in, has_pool, made_in, seat_in};
+ghost use Rattle.sq_pools.specs.Basins.{HasPassed, IsChosen, IsTagChosen, has_pool, has_tag_pool, made_in};
+ghost use Rattle.sq_replay.specs.Riding.{AreBasins, AreRenewed, HasLeftOf, HaveBegun, IsGrantedOf, IsHeldNowhere};
 
-use sq_base::{Addr, EpochNo, Moment, SeatNo, WantOfMemory};
-use sq_pools::{ChooseFault, Pools, Seat};
+use sq_base::{Addr, EpochNo, Moment, SeatNo, Text, WantOfMemory};
+use sq_pools::{ChooseFault, Pools, Seat, TagPools, TagSeat};
 use sq_rules::Config;
 use std::alloc::Global;
 use std::collections::BTreeMap;
 use std::marker::Model;
 use std::sync::Arc;
 
-// Delay pools, with each seat in use under its number. A contract sees the pools.
+// A seat in use, of the one pools or of the others.
+#[derive(Drop)]
+pub(crate) enum SeatInUse {
+    ByAddress(Seat),
+    ByTag(TagSeat),
+}
+
+// Delay pools of both kinds, with each seat in use under its number. A contract sees the pools.
 #[derive(Drop)]
 pub(crate) struct SeatedPools {
     pools: Pools,
-    seats: BTreeMap<SeatNo, Seat>,
+    tags: TagPools,
+    seats: BTreeMap<SeatNo, SeatInUse>,
 }
 
 impl Model for SeatedPools {
-    ghost use Rattle.sq_pools.specs.Basins.{Basin};
+    ghost use Rattle.sq_replay.specs.Runs.{BothPools};
     ghost use Rattle.sq_replay.specs.Riding.{AreHeld};
 
-    ghost Value = { Basin };
+    ghost Value = { BothPools };
 
-    ghost view = { λ p. p.pools };
+    ghost view = { λ p. record { addressed = p.pools; tagged = p.tags } };
 
-    ghost invariant = { λ p. AreHeld p.seats.entries p.pools };
+    ghost invariant = { λ p. AreHeld p.seats.entries
+        (record { addressed = p.pools; tagged = p.tags }) };
 }
 
 impl SeatedPools {
-    // The pools with the generation of this epoch, made at this moment.
+    // The pools with the generations of this epoch, made at this moment.
     pub(crate) fn new(
         alloc: Global,
         epoch: EpochNo,
         config: &Arc<Config>,
         now: Moment,
     ) -> Result<SeatedPools, WantOfMemory>
-        ensures { IfOk result (λ p. HasBegun p epoch config.now.value now) }
+        ensures { IfOk result (λ p. HaveBegun p epoch config.now.value now) }
     {
         let pools = Pools::new(alloc, epoch, config, now)?;
+        let tags = TagPools::new(alloc, epoch, config, now)?;
         Ok(SeatedPools {
             pools,
+            tags,
             seats: BTreeMap::new(alloc),
         })
     }
 
-    // Makes the generation of this epoch, unless it is there or the epoch is before the newest.
+    // Makes the generations of this epoch, which is none before the newest and has none yet.
     pub(crate) fn renew(
         &mut self,
         alloc: Global,
@@ -54,12 +66,13 @@ impl SeatedPools {
         config: &Arc<Config>,
         now: Moment,
     ) -> Result<(), WantOfMemory>
-        ensures ok { OnOk result
-            (cond (nat_lt epoch self.old.newest || is_some (made_in self.old epoch))
-            (self.new ≡ self.old) (IsRenewed self.old self.new epoch config.now.value
-            (max now self.old.latest))) }
+        ensures { (nat_lt epoch self.old.addressed.newest
+            || is_some (made_in self.old.addressed epoch)) ≡ false
+            → (nat_lt epoch self.old.tagged.newest || is_some (made_in self.old.tagged epoch)) ≡ false
+            → OnOk result (AreRenewed self.old self.new epoch config.now.value now) }
     {
-        self.pools.renew(alloc, epoch, config, now)
+        self.pools.renew(alloc, epoch, config, now)?;
+        self.tags.renew(alloc, epoch, config, now)
     }
 
     // Gives a seat in a pool of the configuration of this epoch that takes the client, and holds it: its number.
@@ -73,22 +86,66 @@ impl SeatedPools {
         now: Moment,
     ) -> Result<SeatNo, ChooseFault>
         requires { has_pool config.now.value pool addr ≡ true }
-        ensures number { IfOk result (λ n. n ≡ suc self.old.given) }
-        ensures few { OnOk result (suc self.old.given < last_number) }
+        ensures number { IfOk result (λ n. n ≡ suc self.old.addressed.given) }
+        ensures few { OnOk result (suc self.old.addressed.given < last_number) }
         ensures chosen { OnOk result
-            (IsChosen self.old self.new epoch config.now.value pool addr
-            (max now self.old.latest)) }
+            (IsChosen self.old.addressed self.new.addressed epoch config.now.value pool addr
+            (max now self.old.addressed.latest)) }
+        ensures passed { OnOk result (HasPassed self.old.tagged self.new.tagged) }
         ensures spent { IfErr result
-            (λ e. e ≡ ChooseFault.Spent → suc self.old.given ≡ last_number) }
+            (λ e. e ≡ ChooseFault.Spent → suc self.old.addressed.given ≡ last_number) }
     {
-        let seat = self.pools.choose(alloc, epoch, config, pool, addr, now)?;
         // For the proof: what holds of the pools.
+        self.tags.facts();
+        let seat = self.pools.choose(alloc, epoch, config, pool, addr, now)?;
         self.pools.facts();
+        let _passed = self.tags.pass();
         let number = seat.number();
-        match self.seats.insert(number, seat) {
+        match self.seats.insert(number, SeatInUse::ByAddress(seat)) {
             Ok(_) => Ok(number),
             Err(back) => {
-                self.pools.leave(back.value.1);
+                match back.value.1 {
+                    SeatInUse::ByAddress(seat) => self.pools.leave(seat),
+                    SeatInUse::ByTag(_) => unreachable!(),
+                }
+                Err(ChooseFault::WantOfMemory)
+            }
+        }
+    }
+
+    // Gives a seat for a tag in a pool of class 5 of the configuration of this epoch, and holds it: its number.
+    pub(crate) fn choose_tag(
+        &mut self,
+        alloc: Global,
+        epoch: EpochNo,
+        config: &Arc<Config>,
+        pool: u32,
+        tag: &Text,
+        now: Moment,
+    ) -> Result<SeatNo, ChooseFault>
+        requires { has_tag_pool config.now.value pool ≡ true }
+        ensures number { IfOk result (λ n. n ≡ suc self.old.addressed.given) }
+        ensures few { OnOk result (suc self.old.addressed.given < last_number) }
+        ensures chosen { OnOk result
+            (IsTagChosen self.old.tagged self.new.tagged epoch config.now.value pool tag.now
+            (max now self.old.tagged.latest)) }
+        ensures passed { OnOk result (HasPassed self.old.addressed self.new.addressed) }
+        ensures spent { IfErr result
+            (λ e. e ≡ ChooseFault.Spent → suc self.old.addressed.given ≡ last_number) }
+    {
+        // For the proof: what holds of the pools.
+        self.pools.facts();
+        let seat = self.tags.choose(alloc, epoch, config, pool, tag, now)?;
+        self.tags.facts();
+        let _passed = self.pools.pass();
+        let number = seat.number();
+        match self.seats.insert(number, SeatInUse::ByTag(seat)) {
+            Ok(_) => Ok(number),
+            Err(back) => {
+                match back.value.1 {
+                    SeatInUse::ByTag(seat) => self.tags.leave(seat),
+                    SeatInUse::ByAddress(_) => unreachable!(),
+                }
                 Err(ChooseFault::WantOfMemory)
             }
         }
@@ -96,30 +153,30 @@ impl SeatedPools {
 
     // Grants what a seat wants, in bytes, as far as each of its buckets has it; none where it is not in use.
     pub(crate) fn grant(&mut self, number: SeatNo, wanted: u64, now: Moment) -> Option<u64>
-        ensures none { IfNone result (seat_in self.old number ≡ None) }
+        ensures none { IfNone result (IsHeldNowhere self.old number) }
         ensures same { IfNone result (self.new ≡ self.old) }
-        ensures there { IfSome result (λ _. is_some (seat_in self.old number) ≡ true) }
-        ensures amount { IfSome result
-            (λ n. n ≡ grant_in self.old (max now self.old.latest) wanted
-            (seat_in self.old number)) }
         ensures within { IfSome result (λ n. n ≤ wanted) }
-        ensures taken { IfSome result
-            (λ n. IsGranted self.old self.new (max now self.old.latest) n
-            (seat_in self.old number)) }
+        ensures granted { IfSome result (λ n. IsGrantedOf self.old self.new now number wanted n) }
     {
-        let seat = self.seats.get(&number)?;
-        Some(self.pools.grant(seat, wanted, now))
+        match self.seats.get(&number)? {
+            SeatInUse::ByAddress(seat) => Some(self.pools.grant(seat, wanted, now)),
+            SeatInUse::ByTag(seat) => Some(self.tags.grant(seat, wanted, now)),
+        }
     }
 
     // Gives a seat up, where it is in use.
     pub(crate) fn leave(&mut self, number: SeatNo) -> bool
-        ensures there { result ≡ is_some (seat_in self.old number) }
-        ensures left { result ≡ true → HasLeft self.old self.new number }
+        ensures none { result ≡ false → IsHeldNowhere self.old number }
+        ensures left { result ≡ true → HasLeftOf self.old self.new number }
     {
         match self.seats.remove(&number) {
             None => false,
-            Some(seat) => {
+            Some(SeatInUse::ByAddress(seat)) => {
                 self.pools.leave(seat);
+                true
+            }
+            Some(SeatInUse::ByTag(seat)) => {
+                self.tags.leave(seat);
                 true
             }
         }
@@ -127,8 +184,9 @@ impl SeatedPools {
 
     // What holds of the pools: it changes nothing, and its contract says it to a proof.
     pub(crate) fn facts(&self)
-        ensures { IsBasin self.now }
+        ensures { AreBasins self.now }
     {
         self.pools.facts();
+        self.tags.facts();
     }
 }

@@ -1,7 +1,7 @@
 -- What the spans of a head say of its request.
-use Rattle.std.proofs.Common.{◌≡◌, ℕ, ◌≤◌, List, true, take, map, Some, Result, Ok, Err, IfOk, IfErr, refl, sym, ap, ◌∙◌, arith}
+use Rattle.std.proofs.Common.{◌≡◌, ℕ, ◌≤◌, List, true, take, map, Some, Result, Ok, Err, IfOk, IfErr, refl, sym, subst, ap, ◌∙◌, arith}
 use Rattle.std.specs.List.{count_by}
-use Rattle.httparse.specs.Grammar.{RequestHead}
+use Rattle.httparse.specs.Grammar.{RequestHead, IsToken}
 use Rattle.httparse.specs.Spans.{span_bytes, header_bytes}
 use Rattle.httparse.specs.declared.spans.HeaderSpan.{HeaderSpan}
 use Rattle.httparse.specs.declared.spans.RequestSpans.{RequestSpans}
@@ -33,6 +33,11 @@ pub copied_plain : (head : List ℕ) (headers : List HeaderSpan) (s : RequestSpa
     → map field_pair fs ≡ map (header_bytes head) (take s.headers headers) → have_plain_names fs ≡ true
 copied_plain head headers s fs at e = ap have_plain_names (copied head headers s at.0 fs at.1 e)
     ∙ plain_names at.0.fields at.1.whole.0.fields
+
+-- the method of the head is a token
+pub spans_method : (head : List ℕ) (headers : List HeaderSpan) (s : RequestSpans) (m : List ℕ)
+    → CoversHead head headers s → m ≡ span_bytes head s.method → IsToken m
+spans_method head headers s m at e = subst IsToken (sym (e ∙ at.1.method)) at.1.whole.0.method
 
 -- the request of what was read is that of the head
 same_request : (head : List ℕ) (headers : List HeaderSpan) (s : RequestSpans) (h : RequestHead) (method target : List ℕ)

@@ -2,6 +2,7 @@ pub mod EndLaws
 mod FieldLaws
 mod HeadLaws
 mod MadeLaws
+mod MethodLaws
 pub mod MoreLaws
 mod OneLaws
 pub mod PairLaws

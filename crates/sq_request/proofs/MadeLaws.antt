@@ -7,12 +7,13 @@ use Rattle.std.proofs.lemmas.List.Sums.{AllPass-from_list_all, list_all-from_All
 use Rattle.std.proofs.lemmas.Slice.Eq.{bytes_eq-Decides}
 use Rattle.std.proofs.lemmas.Str.{IsUtf8-from_is_utf8, is_utf8-from_IsUtf8}
 use Rattle.std.specs.List.{flat_map, list_all}
-use Rattle.httparse.specs.Grammar.{crlf, print_request, print_field, RequestHead, IsRequestHead, IsField, IsToken, AllPass, is_token, is_token_byte, is_uri_byte, is_value_byte, is_ows, skip_ows, trim_ows}
+use Rattle.httparse.specs.Grammar.{crlf, print_request, print_field, RequestHead, IsRequestHead, IsField, AllPass, is_token, is_uri_byte, is_value_byte, is_ows, skip_ows, trim_ows}
 use Rattle.httparse.specs.Grammar as grammar
 use Rattle.httparse.proofs.TrimLemmas.{AllPass-trim_ows}
 use Rattle.sq_base.specs.declared.requests.Field.{Field}
 use Rattle.std.specs.declared.option.Option.{Option}
 use Rattle.sq_base.specs.Requests.{HttpRequest}
+use Rattle.sq_request.proofs.MethodLaws.{token_is, token_tested}
 use Rattle.sq_request.proofs.TrimLaws.{trim_twice}
 use Rattle.sq_request.specs.declared.faults.BadRequest.{BadRequest}
 use Rattle.sq_request.specs.declared.faults.BadRequest.TheVariants.{BadHead, TooManyFields, BadTarget, WantOfMemory}
@@ -25,14 +26,6 @@ use Rattle.sq_request.specs.Written.{made_request, is_written, is_written_target
 -- the line of a field, as it is written
 tree_of : Field → grammar.Field
 tree_of f = record { name = f.name; raw = 32 ∷ f.value; end = crlf }
-
-token_is : (bytes : List ℕ) → is_token bytes ≡ true → IsToken bytes
-token_is bytes h =
-    let parts = and_parts _ _ h in
-    (ltb-true _ _ parts.0, AllPass-from_list_all is_token_byte bytes parts.1)
-
-token_tested : (bytes : List ℕ) → IsToken bytes → is_token bytes ≡ true
-token_tested bytes h = and_from _ _ (lt-ltb _ _ h.0) (list_all-from_AllPass is_token_byte bytes h.1)
 
 value_trimmed : (f : Field) → is_written_field f ≡ true → trim_ows f.value ≡ f.value
 value_trimmed f h = (bytes_eq-Decides _ _).0 (and_parts _ _ (and_parts _ _ h).1).1

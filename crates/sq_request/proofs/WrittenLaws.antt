@@ -1,8 +1,7 @@
 -- When the head that is written of some parts reads as these parts.
 use Rattle.std.proofs.Common.{◌≡◌, ◌↔◌, ℕ, ◌<◌, List, [], Bool, true, false, IsTrue, length, take, map, get_or, sym, subst, ap, ◌∙◌}
 use Rattle.std.proofs.lemmas.List.{get_or-map}
-use Rattle.http_header.specs.Token as http
-use Rattle.httparse.specs.Grammar.{is_token_byte, IsToken}
+use Rattle.httparse.specs.Grammar.{IsToken}
 use Rattle.httparse.specs.Spans.{header_bytes, name_and_value}
 use Rattle.httparse.specs.declared.spans.HeaderSpan.{HeaderSpan}
 use Rattle.httparse.specs.declared.spans.RequestSpans.{RequestSpans}
@@ -14,13 +13,9 @@ use Rattle.sq_request.proofs.PairLaws.{fields_from_pairs, pairs_from_fields}
 use Rattle.sq_request.specs.Heads.{IsHead, head_text, IsWrittenHead}
 use Rattle.sq_request.specs.Spans.{field_pair, CoversHead, CoversLine}
 
-same_token : (bytes : List ℕ) → IsToken bytes → http.IsToken bytes
-unfolding is_token_byte http.is_token_byte
-same_token bytes h = h
-
 -- its method is one
-pub written_method : (m t : List ℕ) (n : ℕ) (fs : List Field) → IsWrittenHead m t n fs → http.IsToken m
-written_method m t n fs w = subst http.IsToken w.2.method (same_token w.0.method w.1.0.method)
+pub written_method : (m t : List ℕ) (n : ℕ) (fs : List Field) → IsWrittenHead m t n fs → IsToken m
+written_method m t n fs w = subst IsToken w.2.method w.1.0.method
 
 -- its fields have plain names
 pub written_names : (m t : List ℕ) (n : ℕ) (fs : List Field) → IsWrittenHead m t n fs → have_plain_names fs ≡ true

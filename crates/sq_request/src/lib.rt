@@ -14,6 +14,7 @@ mod ending;
 mod faults;
 mod hosts;
 mod making;
+mod methods;
 mod ports;
 mod reading;
 mod retargeting;

@@ -1,7 +1,6 @@
 //! Requests made of their parts.
 ghost use Rattle.std.specs.Prelude.{◌≡◌, ◌≢◌, ◌↔◌, ◌≤◌, ◌++◌, length, map, take, All, Some, None, IsTrue, IfOk, IfErr, OnOk};
 ghost use Rattle.std.specs.List.{flat_map};
-ghost use Rattle.http_header.specs.Token.{IsToken};
 ghost use Rattle.httparse.specs.Spans.{header_bytes, IsWithin, IsHeaderWithin};
 ghost use Rattle.sq_request.specs.Heads.{most_fields, IsWrittenHead, HasRequest, request_with, head_text, field_line};
 ghost use Rattle.sq_request.specs.Refusals.{RefusesParts};
@@ -10,10 +9,9 @@ ghost use Rattle.sq_request.specs.Written.{made_request};
 
 use crate::building::build;
 use crate::faults::BadRequest;
+use crate::methods::read_method;
 use crate::reading::MOST_FIELDS;
 use crate::spanning::parse_whole;
-use http::Method;
-use http::method::MethodError;
 use httparse::spans::{EMPTY_HEADER_SPAN, HeaderSpan, RequestSpans};
 use sq_base::{Field, Fields, Request, Text, WantOfMemory};
 use std::alloc::Global;
@@ -57,7 +55,7 @@ fn is_written(
     requires { minor ≤ 1 }
     ensures { IfOk result (λ b. IsTrue b ↔ IsWrittenHead method.now target.now minor fields.now) }
 {
-    if !is_method(alloc, method)? {
+    if read_method(alloc, method)?.is_none() {
         return Ok(false);
     }
     let head = write_head(alloc, method, target, minor, fields)?;
@@ -82,17 +80,6 @@ fn has_line(head: &[u8], spans: RequestSpans, method: &[u8], target: &[u8], mino
     ensures { IsTrue result ↔ CoversLine head.now spans method.now target.now minor }
 {
     spans.method.of(head) == method && spans.path.of(head) == target && spans.version == minor
-}
-
-// Whether the bytes are a method.
-fn is_method(alloc: Global, bytes: &[u8]) -> Result<bool, WantOfMemory>
-    ensures { IfOk result (λ b. IsTrue b ↔ IsToken bytes.now) }
-{
-    match Method::from_bytes(alloc, bytes) {
-        Ok(_) => Ok(true),
-        Err(MethodError::Invalid) => Ok(false),
-        Err(MethodError::OutOfMemory) => Err(WantOfMemory),
-    }
 }
 
 // Whether the spans cover the names and values of these fields.

@@ -8,6 +8,7 @@ ghost use Rattle.sq_base.specs.Requests.{HttpRequest};
 
 use crate::building::build;
 use crate::faults::BadRequest;
+use crate::methods::read_method;
 use crate::spanning::{copy_fields, line_count, parse_whole};
 use httparse::spans::EMPTY_HEADER_SPAN;
 use sq_base::Request;
@@ -32,11 +33,19 @@ pub fn read_request(alloc: Global, head: &[u8]) -> Result<Request, BadRequest>
     let Some(spans) = parse_whole(head, room) else {
         return Err(BadRequest::BadHead);
     };
+    let Some(method) = read_method(alloc, spans.method.of(head))? else {
+        unreachable!()
+    };
     if spans.headers > MOST_FIELDS {
         return Err(BadRequest::TooManyFields);
     }
     let fields = copy_fields(alloc, head, &room[..spans.headers])?;
-    let method = spans.method.of(head);
     let target = spans.path.of(head);
-    build(alloc, method, target, spans.version, fields)
+    build(
+        alloc,
+        method.as_str().as_bytes(),
+        target,
+        spans.version,
+        fields,
+    )
 }

@@ -28,6 +28,8 @@ use Rattle.sq_rewrite.specs.declared.rewritings.Rewriting.{Rewriting}
 use Rattle.sq_rewrite.specs.declared.rewritings.Rewriting.TheVariants as rewriting
 use Rattle.sq_rewrite.specs.declared.rows.QuestionRow.{QuestionRow}
 use Rattle.sq_rewrite.specs.declared.rows.QuestionRow.TheVariants as row
+use Rattle.sq_rewrite.proofs.ActLaws.{SendIs, after_sent, due_send, due_start, start_kept}
+use Rattle.sq_rewrite.proofs.FarmLaws.{last_start}
 use Rattle.sq_rewrite.proofs.LostLaws.{cause_all, is_lost, lost_all, opened_any, row_lost}
 use Rattle.sq_rewrite.proofs.OpenLaws.{below_more, below_started, below_without, numbers_replied, numbers_sent, open_replied, open_sent, open_started, open_without, replied_open, rises_started, rises_without}
 use Rattle.sq_rewrite.proofs.RowLaws.{equal, itself, now_ended, row_ended, row_with, row_without}
@@ -158,50 +160,6 @@ front_waits text l (IsAt r k) e = absurd cc
 front_waits text l (HasEnded w) e = absurd cc
 front_waits text l IsTaken e = absurd cc
 
--- a send: the question at the front of the queue, to the process that gets it
-record SendIs (v : Stock) (k q : ℕ) (channel : Option ℕ) (text : List ℕ) : Type 0 where
-  rest : List Waiting
-  queue_is : v.queue ≡ record { question = q; text = text } ∷ rest
-  target_is : target v.procs ≡ Some (k, channel)
-
-sending_inside : (x y : Sending) → Some x ≡ Some y → x ≡ y
-sending_inside x y e = cc
-
-send_is : (v : Stock) (k q : ℕ) (channel : Option ℕ) (text : List ℕ)
-    → send_of v ≡ Some (record { proc = k; question = q; channel = channel; text = text }) → SendIs v k q channel text
-send_is v k q channel text e = by_parts v.queue (target v.procs) refl refl e
-  where
-    by_parts : (queue : List Waiting) (t : Option (ℕ × Option ℕ)) → v.queue ≡ queue → target v.procs ≡ t
-        → send_by queue t ≡ Some (record { proc = k; question = q; channel = channel; text = text })
-        → SendIs v k q channel text
-    by_parts [] t e f g = absurd cc
-    by_parts (w ∷ queue) None e f g = absurd cc
-    by_parts (w ∷ queue) (Some t) e f g =
-        let s = sending_inside (record { proc = t.0; question = w.question; channel = t.1; text = w.text })
-        (record { proc = k; question = q; channel = channel; text = text }) g in
-        record {
-          rest = queue;
-          queue_is = e ∙ ap (λ (x : Sending). let y : Waiting = record { question = x.question; text = x.text } in
-              y ∷ queue) s;
-          target_is = f ∙ ap (λ (x : Sending). Some (x.proc, x.channel)) s;
-        }
-
-target_free : (rows : List Living) (t : ℕ × Option ℕ) → target rows ≡ Some t → some_free rows ≡ true
-target_free [] t e = absurd cc
-target_free (r ∷ rows) t e = by_test (has_free r) (channel_name r.process.numbered (least_free r.process.slots)) e
-    (target_free rows t)
-  where
-    by_test : (b : Bool) (c : Option ℕ) → (if b then Some (r.number, c) else target rows) ≡ Some t
-        → (target rows ≡ Some t → some_free rows ≡ true) → (if b then true else some_free rows) ≡ true
-    by_test true c e more = refl
-    by_test false c e more = more e
-
-after_sent : (v : Stock) (k q : ℕ) (channel : Option ℕ) (text : List ℕ) (s : SendIs v k q channel text)
-    → after_act v ≡ record v { queue = s.rest; procs = sent q v.procs }
-after_sent v k q channel text s =
-    let free = target_free v.procs (k, channel) s.target_is in
-    rw (s.queue_is, s.target_is, free) refl
-
 same_row : (k : ℕ) (x : Status) → row_of x ≡ row_of (once_sent k x)
 same_row k Unasked = refl
 same_row k (Waits r addr) = refl
@@ -267,65 +225,6 @@ agrees_sent s st k q channel text a t = record {
     new_by : (b : Bool) (y : Status) → y ≡ Unasked → (if b then once_sent k y else y) ≡ Unasked
     new_by true y e = ap (once_sent k) e
     new_by false y e = e
-
--- after an act
-act_inside : (x y : RewriteAct) → Some x ≡ Some y → x ≡ y
-act_inside x y e = cc
-
-send_parts : (x : Sending) (k q : ℕ) (channel : Option ℕ) (text : List ℕ)
-    → act.Send x.proc x.question x.channel x.text ≡ act.Send k q channel text
-    → x ≡ record { proc = k; question = q; channel = channel; text = text }
-send_parts x k q channel text g =
-    let a : x.proc ≡ k = cc in let b : x.question ≡ q = cc in let c : x.channel ≡ channel = cc in
-    let d : x.text ≡ text = cc in
-    rw (← a, ← b, ← c, ← d) refl
-
-send_of_act : (v : Stock) (k q : ℕ) (channel : Option ℕ) (text : List ℕ)
-    → option_map as_act (act_of v) ≡ Some (act.Send k q channel text)
-    → send_of v ≡ Some (record { proc = k; question = q; channel = channel; text = text })
-send_of_act v k q channel text e = by_parts (send_of v) (start_due v) e
-  where
-    by_parts : (o : Option Sending) (b : Bool) → option_map as_act (act_by o b) ≡ Some (act.Send k q channel text)
-        → o ≡ Some (record { proc = k; question = q; channel = channel; text = text })
-    by_parts None true f = let g = act_inside act.Start (act.Send k q channel text) f in absurd cc
-    by_parts None false f = absurd cc
-    by_parts (Some x) b f = ap Some
-        (send_parts x k q channel text
-        (act_inside (act.Send x.proc x.question x.channel x.text) (act.Send k q channel text) f))
-
--- a farm has the queue, the processes and the losses of another
-abbrev SameFarm : Stock → Stock → Type 0
-SameFarm u v = (u.queue ≡ v.queue) × (u.procs ≡ v.procs) × (u.losses ≡ v.losses)
-
-start_kept : (v : Stock) → option_map as_act (act_of v) ≡ Some act.Start → SameFarm (after_act v) v
-start_kept v e = by_send (send_of v) e
-  where
-    started : (b : Bool) → SameFarm (if b then record v { owed = v.owed - 1; starting = suc v.starting } else v) v
-    started true = (refl, refl, refl)
-    started false = (refl, refl, refl)
-
-    by_send : (o : Option Sending) → option_map as_act (act_by o (start_due v)) ≡ Some act.Start
-        → SameFarm (if is_some o then after_send v else after_start v) v
-    by_send None f = started (start_due v)
-    by_send (Some x) f = let g = act_inside (act.Send x.proc x.question x.channel x.text) act.Start f in absurd cc
-
--- for an act of the farm: no stop is due
-due_send : (s : RewriteState) (k q : ℕ) (channel : Option ℕ) (text : List ℕ)
-    → act_due s ≡ Some (act.Send k q channel text) → SendIs s.stock k q channel text
-due_send s k q channel text e = by_stops s.stops e
-  where
-    by_stops : (stops : List ℕ) → due_by stops (act_of s.stock) ≡ Some (act.Send k q channel text)
-        → SendIs s.stock k q channel text
-    by_stops [] f = send_is s.stock k q channel text (send_of_act s.stock k q channel text f)
-    by_stops (p ∷ ps) f = absurd cc
-
-due_start : (s : RewriteState) → act_due s ≡ Some act.Start → option_map as_act (act_of s.stock) ≡ Some act.Start
-due_start s e = by_stops s.stops e
-  where
-    by_stops : (stops : List ℕ) → due_by stops (act_of s.stock) ≡ Some act.Start
-        → option_map as_act (act_of s.stock) ≡ Some act.Start
-    by_stops [] f = f
-    by_stops (p ∷ ps) f = absurd cc
 
 agrees_acted : (s : RewriteState) (st : ℕ → Status) (a : RewriteAct) → Agrees s st → act_due s ≡ Some a
     → Agrees (after_acted a s) (λ q. once_acted q a (st q))
@@ -691,6 +590,7 @@ agrees_after s st (Died k) a i = agrees_ended s s.stops st cause.Died k a
 agrees_after s st (Took q w) a i = agrees_took s st q w a (take_is s st q w a i)
 
 -- for every list of calls: state and statuses agree
-pub agree : (c : Class) (h : Calls) → IsRun c h → Agrees (state_of c h) (status c h)
+pub agree : (c : Class) (h : Calls) → IsRun c h → Agrees (state_of c h) (status h)
 agree c [] run = agrees_begun c
-agree c (e ∷ h) run = agrees_after (state_of c h) (status c h) e (agree c h run.1) run.0
+agree c (e ∷ h) run = subst (λ b. Agrees (after e (state_of c h)) (λ q. once b q e (status h q)))
+    (last_start c h run.1) (agrees_after (state_of c h) (status h) e (agree c h run.1) run.0)

@@ -1,6 +1,11 @@
 -- Lemmas that the proofs use.
+mod ActLaws
 mod AgreeLaws
+mod FarmLaws
+mod FindLaws
 mod LostLaws
 mod OpenLaws
 mod RowLaws
 mod RunLaws
+-- of calls behind a state
+pub mod WorkLaws

@@ -60,7 +60,7 @@ open_settled p q (Some n ∷ slots) = (elim (q == n) as
     ]) refl
 
 -- for a process below all others: it gets no question while one of them has a free channel
-low_target : (k : ℕ) (rows : List Living) → AreAbove k (map living_number rows) → is_target k (target rows) ≡ false
+pub low_target : (k : ℕ) (rows : List Living) → AreAbove k (map living_number rows) → is_target k (target rows) ≡ false
 low_target k [] a = refl
 low_target k (r ∷ rows) a = by_test (has_free r) (channel_name r.process.numbered (least_free r.process.slots))
     (low_target k rows a.1)

@@ -11,15 +11,16 @@ use Rattle.sq_channel.specs.declared.replies.Got.TheVariants as got
 use Rattle.sq_farm.specs.Acts.{act_by, act_of}
 use Rattle.sq_farm.specs.declared.acts.FarmAct.{FarmAct}
 use Rattle.sq_farm.specs.declared.acts.FarmAct.TheVariants as farm
-use Rattle.sq_machine.specs.Farms.{Sending, Stock, Waiting, after_act, is_last_start, places, send_of, start_due, times_waiting}
+use Rattle.sq_machine.specs.Farms.{Sending, Stock, Waiting, after_act, places, send_of, start_due, times_waiting}
 use Rattle.sq_machine.specs.Living.{lives}
 use Rattle.sq_machine.specs.Losses.{times_lost}
 use Rattle.sq_rules.specs.Classes.{Class}
 use Rattle.sq_rewrite.specs.Calls.{Call, Calls, Asked, Acted, Started, StartFailed, Wrote, Died, Took}
 use Rattle.sq_rewrite.specs.Rewritings.{rewriting_of}
-use Rattle.sq_rewrite.specs.States.{Answers, IsReached, IsRun, RewriteState, Rows, after, after_acted, as_act, due_by, ended_in, later_stops, proc_refusal, row_at, state_of, taken_of, without_row}
-use Rattle.sq_rewrite.specs.Statuses.{Status, Unasked, Waits, IsAt, HasEnded, IsTaken, IsAtProcess, WaitsWith, once_acted, once_failed, once_lost, once_replied, once_sent, once_written, status, times_sent, times_taken}
+use Rattle.sq_rewrite.specs.States.{Answers, IsReached, IsRun, RewriteState, Rows, after, after_acted, as_act, due_by, ended_in, later_stops, proc_refusal, refusal_at, row_at, state_of, take_refusal, taken_of, without_row}
+use Rattle.sq_rewrite.specs.Statuses.{Status, Unasked, Waits, IsAt, HasEnded, IsTaken, IsAtProcess, WaitsWith, is_known, is_last_open, once_acted, once_failed, once_lost, once_replied, once_sent, once_written, status, times_sent, times_taken}
 use Rattle.sq_rewrite.specs.declared.acts.RewriteAct.TheVariants as act
+use Rattle.sq_rewrite.specs.declared.faults.RewriteFault.TheVariants as fault
 use Rattle.sq_rewrite.specs.declared.rewritings.Rewriting.{Rewriting}
 use Rattle.sq_rewrite.specs.declared.rewritings.Rewriting.TheVariants as rewriting
 use Rattle.sq_rewrite.specs.declared.rows.QuestionRow.{QuestionRow}
@@ -28,16 +29,29 @@ use Rattle.sq_rewrite.proofs.OpenLaws.{none_lives, open_nowhere}
 use Rattle.sq_rewrite.proofs.RowLaws.{equal}
 
 -- what is taken is what the question came to
-pub taken_law : (c : Class) (h : Calls) (q : ℕ) (w : Rewriting) → IsRun c (Took q w ∷ h) → status c h q ≡ HasEnded w
-taken_law c h q w run = take_is (state_of c h) (status c h) q w (agree c h run.1) run.0
+pub taken_law : (c : Class) (h : Calls) (q : ℕ) (w : Rewriting) → IsRun c (Took q w ∷ h) → status h q ≡ HasEnded w
+taken_law c h q w run = take_is (state_of c h) (status h) q w (agree c h run.1) run.0
+
+-- a question is known where it was asked and was not taken
+pub known_law : (c : Class) (h : Calls) → IsRun c h → (q : ℕ)
+    → take_refusal q (state_of c h) ≡ (if is_known (status h q) then None else Some (fault.UnknownQuestion q))
+known_law c h run q = ap (refusal_at q) ((agree c h run).rows_are q) ∙ by_status (status h q)
+  where
+    by_status : (x : Status)
+        → refusal_at q (row_of x) ≡ (if is_known x then None else Some (fault.UnknownQuestion q))
+    by_status Unasked = refl
+    by_status (Waits r addr) = refl
+    by_status (IsAt r k) = refl
+    by_status (HasEnded w) = refl
+    by_status IsTaken = refl
 
 pub replied_law : (c : Class) (h : Calls) (k q : ℕ) (line : List ℕ) (reply : Reply)
-    → IsRun c (Wrote k line (got.Reply q reply) ∷ h) → IsAtProcess k (status c h q)
-replied_law c h k q line reply run = reply_is (state_of c h) (status c h) k q reply line (agree c h run.1) run.0
+    → IsRun c (Wrote k line (got.Reply q reply) ∷ h) → IsAtProcess k (status h q)
+replied_law c h k q line reply run = reply_is (state_of c h) (status h) k q reply line (agree c h run.1) run.0
 
 pub sent_law : (c : Class) (h : Calls) (k q : ℕ) (channel : Option ℕ) (text : List ℕ)
-    → IsRun c (Acted (act.Send k q channel text) ∷ h) → WaitsWith text (status c h q)
-sent_law c h k q channel text run = send_waits (state_of c h) (status c h) k q channel text (agree c h run.1) run.0
+    → IsRun c (Acted (act.Send k q channel text) ∷ h) → WaitsWith text (status h q)
+sent_law c h k q channel text run = send_waits (state_of c h) (status h) k q channel text (agree c h run.1) run.0
 
 -- how often a question of this status was sent, at most
 abbrev most_sent : Status → ℕ
@@ -154,28 +168,28 @@ count_took q h p w x e n = record { sent = sent_by (q == p) e; taken = taken_by 
 asked_above : (s : RewriteState) (q p : ℕ) → p ≡ suc s.asked → (q == p) ≡ true → s.asked < q
 asked_above s q p next t = let same = equal q p t in omega arith
 
-counts : (c : Class) (h : Calls) → IsRun c h → (q : ℕ) → Counts q h (status c h q)
+counts : (c : Class) (h : Calls) → IsRun c h → (q : ℕ) → Counts q h (status h q)
 counts c [] run q = record { sent = omega arith; taken = omega arith }
 counts c (Asked r addr p ∷ h) run q =
-    count_asked q h (q == p) r addr p (status c h q)
+    count_asked q h (q == p) r addr p (status h q)
     (λ t. (agree c h run.1).new_are q (asked_above (state_of c h) q p run.0.1 t)) (counts c h run.1 q)
-counts c (Acted (act.Stop k) ∷ h) run q = count_more q h (Acted (act.Stop k) ∷ h) (status c h q) (status c h q) refl
-    refl (less_not (status c h q)) (counts c h run.1 q)
+counts c (Acted (act.Stop k) ∷ h) run q = count_more q h (Acted (act.Stop k) ∷ h) (status h q) (status h q) refl
+    refl (less_not (status h q)) (counts c h run.1 q)
 counts c (Acted (act.Send k p channel text) ∷ h) run q =
-    count_sent q h k p channel text (status c h q) (λ t. rw (equal q p t) (sent_law c h k p channel text run))
+    count_sent q h k p channel text (status h q) (λ t. rw (equal q p t) (sent_law c h k p channel text run))
     (counts c h run.1 q)
-counts c (Acted act.Start ∷ h) run q = count_more q h (Acted act.Start ∷ h) (status c h q) (status c h q) refl refl
-    (less_not (status c h q)) (counts c h run.1 q)
-counts c (Started k ∷ h) run q = count_more q h (Started k ∷ h) (status c h q) (status c h q) refl refl
-    (less_not (status c h q)) (counts c h run.1 q)
+counts c (Acted act.Start ∷ h) run q = count_more q h (Acted act.Start ∷ h) (status h q) (status h q) refl refl
+    (less_not (status h q)) (counts c h run.1 q)
+counts c (Started k ∷ h) run q = count_more q h (Started k ∷ h) (status h q) (status h q) refl refl
+    (less_not (status h q)) (counts c h run.1 q)
 counts c (StartFailed ∷ h) run q =
-    count_more q h (StartFailed ∷ h) (status c h q) (once_failed (is_last_start (state_of c h).stock) (status c h q))
-    refl refl (less_failed (is_last_start (state_of c h).stock) (status c h q)) (counts c h run.1 q)
-counts c (Wrote k line g ∷ h) run q = count_more q h (Wrote k line g ∷ h) (status c h q)
-    (once_written q k g (status c h q)) refl refl (less_written q k g (status c h q)) (counts c h run.1 q)
-counts c (Died k ∷ h) run q = count_more q h (Died k ∷ h) (status c h q) (once_lost k cause.Died (status c h q)) refl
-    refl (less_lost k cause.Died (status c h q)) (counts c h run.1 q)
-counts c (Took p w ∷ h) run q = count_took q h p w (status c h q) (λ t. rw (equal q p t) (taken_law c h p w run))
+    count_more q h (StartFailed ∷ h) (status h q) (once_failed (is_last_open h) (status h q))
+    refl refl (less_failed (is_last_open h) (status h q)) (counts c h run.1 q)
+counts c (Wrote k line g ∷ h) run q = count_more q h (Wrote k line g ∷ h) (status h q)
+    (once_written q k g (status h q)) refl refl (less_written q k g (status h q)) (counts c h run.1 q)
+counts c (Died k ∷ h) run q = count_more q h (Died k ∷ h) (status h q) (once_lost k cause.Died (status h q)) refl
+    refl (less_lost k cause.Died (status h q)) (counts c h run.1 q)
+counts c (Took p w ∷ h) run q = count_took q h p w (status h q) (λ t. rw (equal q p t) (taken_law c h p w run))
     (counts c h run.1 q)
 
 few_sent : (x : Status) → most_sent x ≤ 1
@@ -193,10 +207,10 @@ few_taken (HasEnded w) = omega arith
 few_taken IsTaken = omega arith
 
 pub sent_once_law : (c : Class) (h : Calls) → IsRun c h → (q : ℕ) → times_sent q h ≤ 1
-sent_once_law c h run q = let n = (counts c h run q).sent in let f = few_sent (status c h q) in omega arith
+sent_once_law c h run q = let n = (counts c h run q).sent in let f = few_sent (status h q) in omega arith
 
 pub taken_once_law : (c : Class) (h : Calls) → IsRun c h → (q : ℕ) → times_taken q h ≤ 1
-taken_once_law c h run q = let n = (counts c h run q).taken in let f = few_taken (status c h q) in omega arith
+taken_once_law c h run q = let n = (counts c h run q).taken in let f = few_taken (status h q) in omega arith
 
 no_texts : (q : ℕ) (queue : List Waiting) → texts_of q queue ≡ [] → times_waiting q queue ≡ 0
 no_texts q [] e = refl
@@ -220,7 +234,7 @@ new_place s st a =
 
 pub reached_place : (s : RewriteState) → IsReached s → places (suc s.asked) s.stock ≡ 0
 reached_place s r = rw r.state_is
-    (new_place (state_of r.class r.calls) (status r.class r.calls) (agree r.class r.calls r.run))
+    (new_place (state_of r.class r.calls) (status r.calls) (agree r.class r.calls r.run))
 
 pub reached_row : (s : RewriteState) → IsReached s → row_at (suc s.asked) s.rows ≡ None
 reached_row s r =

@@ -3,3 +3,4 @@ pub mod Calls
 pub mod Rewritings
 pub mod States
 pub mod Statuses
+pub mod Transcripts

@@ -1,6 +1,6 @@
 -- The question to a redirector, and what its reply makes of the request (configuration reference,
 -- `url_rewrite_program`).
-use Rattle.std.specs.Prelude.{ℕ, List, ◌∷◌, ◌++◌, length, Bool, not, ◌&&◌, ◌==◌, if◌then◌else◌, Some, None, codes, bytes_eq}
+use Rattle.std.specs.Prelude.{◌≡◌, ℕ, List, ◌∷◌, ◌++◌, length, Bool, true, not, ◌&&◌, ◌||◌, ◌==◌, if◌then◌else◌, Some, None, codes, bytes_eq, ⊤}
 use Rattle.std.specs.List.{find, list_all}
 use Rattle.std.specs.Option.{option_map}
 use Rattle.std.specs.Char.{is_ascii_graphic}
@@ -82,3 +82,25 @@ rewriting_by word.Broken pairs r = rewriting.Same (Some cause.Bh)
 -- what a reply makes of the request that was asked
 abbrev pub rewriting_of : Reply → HttpRequest → Rewriting
 rewriting_of reply r = rewriting_by reply.word reply.pairs r
+
+-- a status of a redirect
+abbrev pub is_redirect_code : ℕ → Bool
+is_redirect_code n = n == 301 || n == 302 || n == 303 || n == 307 || n == 308
+
+-- a client is sent to a URL of visible ASCII, with a status of a redirect
+pub record IsRedirect (code : ℕ) (url : List ℕ) : Type 0 where
+  pub code_is : is_redirect_code code ≡ true
+  pub url_is : is_url url ≡ true
+
+-- a request in place of another: its method, version and fields, and the scheme http
+pub record IsInPlaceOf (r new : HttpRequest) : Type 0 where
+  pub method : new.method ≡ r.method
+  pub minor : new.minor ≡ r.minor
+  pub fields : new.fields ≡ r.fields
+  pub scheme : new.scheme ≡ codes "http"
+
+-- what may become of this request
+abbrev pub MayBecome : HttpRequest → Rewriting → Type 0
+MayBecome r (rewriting.Same cause) = ⊤
+MayBecome r (rewriting.New new) = IsInPlaceOf r new
+MayBecome r (rewriting.Redirect code url) = IsRedirect code url

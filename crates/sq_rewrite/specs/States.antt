@@ -1,6 +1,6 @@
 -- The state of a rewriter: the farm of its class, its questions and the stops that are due, and
 -- what each call does to them.
-use Rattle.std.specs.Prelude.{◌≡◌, ℕ, suc, List, [], ◌∷◌, Bool, not, if◌then◌else◌, ◌==◌, nat_le, filter, Some, None}
+use Rattle.std.specs.Prelude.{◌≡◌, ℕ, suc, List, [], ◌∷◌, Bool, true, false, not, if◌then◌else◌, ◌==◌, nat_le, filter, Some, None}
 use Rattle.std.specs.BTreeMap.{insert_entry, is_at}
 use Rattle.std.specs.BTreeSet.{insert_key}
 use Rattle.std.specs.Map.{lookup, set_value}
@@ -216,3 +216,23 @@ pub record IsReached (s : RewriteState) : Type 0 where
   pub calls : Calls
   pub run : IsRun class calls
   pub state_is : s ≡ state_of class calls
+
+-- a call that no question makes: an act, the end of a start, a line or a death
+abbrev pub is_of_processes : Call → Bool
+is_of_processes (Asked r addr q) = false
+is_of_processes (Acted a) = true
+is_of_processes (Started k) = true
+is_of_processes StartFailed = true
+is_of_processes (Wrote k line g) = true
+is_of_processes (Died k) = true
+is_of_processes (Took q w) = false
+
+-- the state after these calls more
+abbrev pub after_calls : Calls → RewriteState → RewriteState
+after_calls [] s = s
+after_calls (e ∷ more) s = after e (after_calls more s)
+
+-- each of these calls has its answer, from this state on
+abbrev pub RunsOn : Calls → RewriteState → Type 0
+RunsOn [] s = Unit {0}
+RunsOn (e ∷ more) s = Answers e (after_calls more s) × RunsOn more s

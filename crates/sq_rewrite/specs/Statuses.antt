@@ -1,7 +1,7 @@
 -- What becomes of each question of a rewriter, told by the calls alone: it waits from its asking,
 -- it is at a process from its send, it ends once, by the reply or by what took it its process, and
 -- then it is taken.
-use Rattle.std.specs.Prelude.{◌≡◌, ℕ, suc, List, [], ◌∷◌, Bool, false, if◌then◌else◌, ◌==◌, Some}
+use Rattle.std.specs.Prelude.{◌≡◌, ℕ, suc, ◌-◌, List, [], ◌∷◌, Bool, true, false, ◌&&◌, if◌then◌else◌, ◌==◌, Some}
 use Rattle.sq_base.specs.Addresses.{Address}
 use Rattle.sq_base.specs.Requests.{HttpRequest}
 use Rattle.sq_base.specs.declared.helpers.Cause.{Cause}
@@ -9,11 +9,8 @@ use Rattle.sq_base.specs.declared.helpers.Cause.TheVariants as cause
 use Rattle.sq_base.specs.declared.helpers.Reply.{Reply}
 use Rattle.sq_channel.specs.declared.replies.Got.{Got}
 use Rattle.sq_channel.specs.declared.replies.Got.TheVariants as got
-use Rattle.sq_machine.specs.Farms.{is_last_start}
-use Rattle.sq_rules.specs.Classes.{Class}
 use Rattle.sq_rewrite.specs.Calls.{Call, Calls, Asked, Acted, Started, StartFailed, Wrote, Died, Took}
 use Rattle.sq_rewrite.specs.Rewritings.{question_text, rewriting_of}
-use Rattle.sq_rewrite.specs.States.{state_of}
 use Rattle.sq_rewrite.specs.declared.acts.RewriteAct.{RewriteAct}
 use Rattle.sq_rewrite.specs.declared.acts.RewriteAct.TheVariants as act
 use Rattle.sq_rewrite.specs.declared.rewritings.Rewriting.{Rewriting}
@@ -74,6 +71,36 @@ once_failed last (IsAt r p) = IsAt r p
 once_failed last (HasEnded w) = HasEnded w
 once_failed last IsTaken = IsTaken
 
+-- how many processes live
+abbrev pub living_count : Calls → ℕ
+living_count [] = 0
+living_count (Asked r addr q ∷ h) = living_count h
+living_count (Acted a ∷ h) = living_count h
+living_count (Started k ∷ h) = suc (living_count h)
+living_count (StartFailed ∷ h) = living_count h
+living_count (Wrote k line (got.Reply q reply) ∷ h) = living_count h
+living_count (Wrote k line got.Bad ∷ h) = living_count h - 1
+living_count (Wrote k line got.Stray ∷ h) = living_count h - 1
+living_count (Died k ∷ h) = living_count h - 1
+living_count (Took q w ∷ h) = living_count h
+
+-- how many starts are open
+abbrev pub starts_open : Calls → ℕ
+starts_open [] = 0
+starts_open (Asked r addr q ∷ h) = starts_open h
+starts_open (Acted act.Start ∷ h) = suc (starts_open h)
+starts_open (Acted (act.Stop k) ∷ h) = starts_open h
+starts_open (Acted (act.Send k q channel text) ∷ h) = starts_open h
+starts_open (Started k ∷ h) = starts_open h - 1
+starts_open (StartFailed ∷ h) = starts_open h - 1
+starts_open (Wrote k line g ∷ h) = starts_open h
+starts_open (Died k ∷ h) = starts_open h
+starts_open (Took q w ∷ h) = starts_open h
+
+-- no process lives, and one start is open
+abbrev pub is_last_open : Calls → Bool
+is_last_open h = living_count h == 0 && starts_open h == 1
+
 -- the status of question q after a call; `last` says that no process lives, and that one start is
 -- open
 abbrev pub once : Bool → ℕ → Call → Status → Status
@@ -86,9 +113,17 @@ once last q (Died k) st = once_lost k cause.Died st
 once last q (Took p w) st = if q == p then IsTaken else st
 
 -- the status of a question after some calls
-abbrev pub status : Class → Calls → ℕ → Status
-status c [] q = Unasked
-status c (e ∷ h) q = once (is_last_start (state_of c h).stock) q e (status c h q)
+abbrev pub status : Calls → ℕ → Status
+status [] q = Unasked
+status (e ∷ h) q = once (is_last_open h) q e (status h q)
+
+-- the question was asked, and was not taken
+abbrev pub is_known : Status → Bool
+is_known Unasked = false
+is_known (Waits r addr) = true
+is_known (IsAt r k) = true
+is_known (HasEnded w) = true
+is_known IsTaken = false
 
 -- a question waits, and this is its text
 pub record WaitsWith (text : List ℕ) (st : Status) : Type 0 where

@@ -4,8 +4,9 @@
 //! `Rewriter::ask` puts the question about a request, and `take` hands out what it came to, once. `act` says what is to
 //! be done next: a process to be stopped, a question to be written, a process to be started. `started` and
 //! `start_failed` tell how a start ended, `line` what a process wrote, and `died` that it ended. Questions and processes
-//! have numbers of its own, from 1. `rewriting_of` says what a reply makes of a request. `rewriting_laws` has as its clauses
-//! what every list of these calls keeps.
+//! have numbers of its own, from 1. `rewriting_of` says what a reply makes of a request, and `is_redirect` whether a
+//! client may be sent elsewhere with a status and a URL. `rewriting_laws` has as its clauses what every list of these
+//! calls keeps.
 #![tactic(auto)]
 
 mod acts;
@@ -20,5 +21,5 @@ pub use acts::RewriteAct;
 pub use faults::RewriteFault;
 pub use laws::rewriting_laws;
 pub use rewriters::Rewriter;
-pub use rewritings::{Rewriting, question_text, rewriting_of};
+pub use rewritings::{Rewriting, is_redirect, question_text, rewriting_of};
 pub use sq_farm::Got;

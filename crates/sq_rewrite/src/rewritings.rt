@@ -1,9 +1,9 @@
 //! What the reply of a redirector makes of a request.
-ghost use Rattle.std.specs.Prelude.{◌≡◌, IfOk, bytes_eq, codes};
+ghost use Rattle.std.specs.Prelude.{◌≡◌, ◌&&◌, IfOk, bytes_eq, codes};
 ghost use Rattle.std.specs.Char.{is_ascii_graphic};
 ghost use Rattle.std.specs.List.{find, list_all};
 ghost use Rattle.std.specs.Option.{option_copied, option_map};
-ghost use Rattle.sq_rewrite.specs.Rewritings.{chosen, code_by, code_named, is_url, new_request, plain_only, question_text, redirect_by, redirect_of, request_by, rewriting_of, value_of};
+ghost use Rattle.sq_rewrite.specs.Rewritings.{MayBecome, chosen, code_by, code_named, is_redirect_code, is_url, new_request, plain_only, question_text, redirect_by, redirect_of, request_by, rewriting_of, value_of};
 
 use sq_addr::print_addr;
 use sq_base::{Addr, Cause, Copying, Pair, Reply, Request, Text, WantOfMemory, Word};
@@ -85,6 +85,19 @@ fn is_url(text: &[u8]) -> bool
     !text.is_empty() && are_visible(text)
 }
 
+fn is_redirect_code(code: u16) -> bool
+    ensures { result ≡ is_redirect_code code }
+{
+    code == 301 || code == 302 || code == 303 || code == 307 || code == 308
+}
+
+/// Whether a client may be sent to this URL with this status. It takes no memory.
+pub fn is_redirect(code: u16, url: &[u8]) -> bool
+    ensures { result ≡ (is_redirect_code code && is_url url.now) }
+{
+    is_redirect_code(code) && is_url(url)
+}
+
 // The status and the URL of a redirect.
 #[tactic(auto, unfolding(crate::specs::Rewritings::redirect_of))]
 fn redirect_of(pairs: &[Pair]) -> Option<(u16, &[u8])>
@@ -140,13 +153,8 @@ fn by_pairs(alloc: Global, request: &Request, pairs: &[Pair]) -> Result<Rewritin
     }
 }
 
-/// What a reply makes of the request that was asked: a redirect, a new request, or nothing. The first pair of
-/// a name counts, and a redirect is before a new request.
-pub fn rewriting_of(
-    alloc: Global,
-    reply: &Reply,
-    request: &Request,
-) -> Result<Rewriting, WantOfMemory>
+// By the word of the reply.
+fn by_word(alloc: Global, reply: &Reply, request: &Request) -> Result<Rewriting, WantOfMemory>
     ensures { IfOk result (λ r. r ≡ rewriting_of reply.now request.now) }
 {
     match reply.word {
@@ -154,4 +162,20 @@ pub fn rewriting_of(
         Word::No => Ok(Rewriting::Same(None)),
         Word::Broken => Ok(Rewriting::Same(Some(Cause::Bh))),
     }
+}
+
+/// What a reply makes of the request that was asked: a redirect, a new request, or nothing. The first pair of
+/// a name counts, and a redirect is before a new request.
+pub fn rewriting_of(
+    alloc: Global,
+    reply: &Reply,
+    request: &Request,
+) -> Result<Rewriting, WantOfMemory>
+    ensures value { IfOk result (λ r. r ≡ rewriting_of reply.now request.now) }
+    // A new request has the method, version and fields of the one that was asked, and the scheme http. A redirect has a
+    // status of a redirect and a URL.
+    ensures fits { IfOk result (λ r. MayBecome request.now r) }
+{
+    let rewriting = by_word(alloc, reply, request)?;
+    Ok(rewriting)
 }

@@ -1,10 +1,10 @@
 -- Values of leaf acls (configuration reference, `acl`).
-use Rattle.std.specs.Prelude.{ℕ, ◌+◌, ◌*◌, List, [], ◌∷◌, ◌++◌, length, Bool, true, false, not, if◌then◌else◌, ◌&&◌, ◌||◌, ◌==◌, nat_lt, nat_le, Some, None, Ok, codes, bit_or}
-use Rattle.std.specs.Char.{is_ascii_alphanumeric}
-use Rattle.std.specs.List.{list_all, list_any, before_first, after_first}
+use Rattle.std.specs.Prelude.{ℕ, ◌+◌, ◌*◌, List, [], ◌∷◌, ◌++◌, length, Bool, true, false, not, if◌then◌else◌, nat_lt, nat_le, Some, None, Ok, codes, bit_or}
+use Rattle.std.specs.List.{list_any, before_first, after_first}
 use Rattle.std.specs.Option.{option_map, option_and_then}
 use Rattle.std.specs.declared.option.Option.{Option}
 use Rattle.std.specs.declared.result.Result.{Result}
+pub use Rattle.httparse.specs.Grammar.{is_token}
 use Rattle.sq_base.specs.Addresses.{is_colon}
 use Rattle.sq_base.specs.Bytes.{quote}
 use Rattle.sq_base.specs.Decimals.{number_of, port_limit}
@@ -53,15 +53,7 @@ ports_of w =
 abbrev pub port_value : List ℕ → Result PortRange Kind
 port_value w = needed BadValue (ports_of w)
 
--- a byte of a token of HTTP (RFC 9110 section 5.6.2)
-abbrev pub is_token_byte : ℕ → Bool
-is_token_byte b = is_ascii_alphanumeric b || list_any (λ c. c == b) (codes "!#$%&'*+-.^_`|~")
-
--- one such byte or more
-abbrev pub is_token : List ℕ → Bool
-is_token w = nat_le 1 (length w) && list_all is_token_byte w
-
--- method: a token
+-- method: a token of HTTP (RFC 9110 section 5.6.2)
 abbrev pub method_value : List ℕ → Result (List ℕ) Kind
 method_value w = unless (is_token w) BadValue (Ok w)
 

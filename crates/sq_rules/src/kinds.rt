@@ -3,6 +3,7 @@ ghost use Rattle.std.specs.Prelude.{◌≡◌};
 ghost use Rattle.sq_rules.specs.Kinds.{kind_number};
 
 use std::fmt;
+use thiserror::Error;
 
 /// What is wrong with a line of a configuration, in the order of their numbers.
 #[derive(Clone, Copy, Debug, PartialEq, Eq)]
@@ -83,7 +84,7 @@ impl Kind {
 
 /// A fault of a configuration's text: the number of its line, from 1, or 0 where it is of the whole
 /// text, and what is wrong.
-#[derive(Clone, Copy, Debug, PartialEq, Eq)]
+#[derive(Clone, Copy, Debug, PartialEq, Eq, Error)]
 pub struct ConfError {
     pub line: u32,
     pub kind: Kind,

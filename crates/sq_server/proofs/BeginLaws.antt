@@ -36,14 +36,15 @@ first_counted : (before now : Option History) (moment : ℕ) (offset : ℤ) → 
 first_counted before now moment offset none is = subst (AreCounted 0 0) (sym is)
     (for_if _ _ (if_first before moment offset none))
 
-pub has_counted : (before now : Option History) (moment made refused granted : ℕ) (offset : ℤ)
+pub has_counted : (before now : Option History) (moment made refused pools tags : ℕ) (offset : ℤ)
     → IfSome before (λ h. h ≡ []) → now ≡ with_entry (entry_at moment (event.Begin offset) (told.Epoch 1)) before
-    → made ≡ 0 → refused ≡ 0 → granted ≡ 0 → HasCountedNone now (Some made) (min refused count_limit) granted
-has_counted before now moment made refused granted offset none is m r g = record {
+    → made ≡ 0 → refused ≡ 0 → pools ≡ 0 → tags ≡ 0
+    → HasCountedNone now (Some made) (min refused count_limit) (min (2 ^ 127) (pools + tags))
+has_counted before now moment made refused pools tags offset none is m r g k = record {
   entries = first_counted before now moment offset none is;
   makes = for_if (Some made) (λ n. n ≡ 0) m;
   refusals = grind arith;
-  grants = g;
+  grants = grind arith;
 }
 
 -- what books count that count nothing
@@ -58,5 +59,6 @@ made_none made total t is m e = is m e ∙ sym t
 pub refused_none : (refused total : ℕ) → refused ≡ 0 → total ≡ 0 → refused ≡ min total count_limit
 refused_none refused total r t = grind arith
 
-pub granted_none : (granted total : ℕ) → granted ≡ 0 → total ≡ 0 → granted ≡ min (2 ^ 127) total
-granted_none granted total g t = grind arith
+pub granted_none : (pools tags total : ℕ) → min (2 ^ 127) (pools + tags) ≡ 0 → total ≡ 0
+    → min (2 ^ 127) (pools + tags) ≡ min (2 ^ 127) total
+granted_none pools tags total g t = grind arith

@@ -1,5 +1,5 @@
 -- What the sums of the workers say of the journal and of the pools.
-use Rattle.std.proofs.Common.{◌≡◌, ℕ, ◌^◌, min, ap, ◌∙◌, arith}
+use Rattle.std.proofs.Common.{◌≡◌, ℕ, ◌+◌, ◌^◌, min, ap, ◌∙◌, arith}
 use Rattle.std.specs.Option.{ForSome}
 use Rattle.std.specs.declared.option.Option.{Option}
 use Rattle.sq_outside.specs.Causes.{count_limit}
@@ -11,6 +11,6 @@ pub asks_summed : (told : Option History) (amount requests : ℕ) → ForSome to
     → ForSome told (λ h. requests ≡ min (asks_in h) count_limit)
 asks_summed told amount requests are is h e = is ∙ ap (λ n. min n count_limit) (are h e)
 
-pub grants_summed : (pools amount granted : ℕ) → pools ≡ min (2 ^ 127) amount → granted ≡ min amount count_limit
-    → granted ≡ min pools count_limit
-grants_summed pools amount granted is are = grind arith
+pub grants_summed : (pools tags amount granted : ℕ) → min (2 ^ 127) (pools + tags) ≡ min (2 ^ 127) amount
+    → granted ≡ min amount count_limit → granted ≡ min (min (2 ^ 127) (pools + tags)) count_limit
+grants_summed pools tags amount granted is are = grind arith

@@ -202,7 +202,13 @@ open_check_inside_send =
                   search (sendable, crosses) depth 40 fits 20000,
                   (
                     search (sendable, crosses) depth 40 fits 20000,
-                    (search (sendable, stage_send), (search (sendable, crosses) depth 40 fits 20000, tt)),
+                    (
+                      search (sendable, stage_send),
+                      (
+                        search (sendable, crosses) depth 40 fits 20000,
+                        (search (sendable, crosses) depth 40 fits 20000, tt),
+                      ),
+                    ),
                   ),
                 ),
               ),

@@ -1,18 +1,22 @@
-//! The desk, the pools and their books, as a server begins with them.
+//! The desk, the rewriter, the pools and the books, as a server begins with them.
 ghost use Rattle.std.specs.Prelude.{◌≡◌, [], IfOk, IfErr, IfSome, Some, min};
+ghost use Rattle.std.specs.Option.{option_map};
 ghost use Rattle.sq_desk.specs.Calling.{IsUnbegun};
 ghost use Rattle.sq_outside.specs.Causes.{count_limit};
+ghost use Rattle.sq_shared.specs.Granting.{granted_together};
 ghost use Rattle.sq_server.specs.Beginning.{HasCountedNone};
 
 use crate::running::Wholes;
 use crate::starting::Start;
 use crate::watched::{Before, Watched};
-use sq_base::{EpochNo, Moment, WantOfMemory};
+use sq_base::{Copying, EpochNo, Moment, Texts, WantOfMemory};
 use sq_calls::{DeskCalls, DeskFault};
 use sq_desk::{Desk, DeskStart};
 use sq_journal_writers::Journal;
-use sq_pools::Pools;
-use sq_shared::{Bank, Hall};
+use sq_pools::{Pools, TagPools};
+use sq_rewrite::Rewriter;
+use sq_rules::Config;
+use sq_shared::{Bank, Hall, RewriterHall, RewriterRoom};
 use std::alloc::Global;
 use std::sync::ledger::{Blank, Ledger};
 
@@ -25,14 +29,38 @@ pub(crate) struct Blanks {
     pub grants: Blank,
 }
 
-/// The machine with its journal, and the pools.
+/// The machine with its journal, and the pools of both kinds.
 #[derive(Drop)]
 pub(crate) struct DeskAndPools<J: Journal, B: Before, F: DeskStart> {
     pub desk: Desk<Watched<J, B>, F>,
     pub pools: Pools,
+    pub tags: TagPools,
 }
 
-/// Makes the desk over this journal, and the pools of its first epoch. Where none is made the journal is handed back.
+/// A rewriter behind its lock, and the words of its program.
+#[derive(Drop)]
+pub(crate) struct RewriterStart {
+    pub room: RewriterRoom,
+    pub words: Texts,
+}
+
+/// The rewriter of a configuration behind its lock, if it states one.
+pub(crate) fn rewriter_of(
+    alloc: Global,
+    config: &Config,
+) -> Result<Option<RewriterStart>, WantOfMemory>
+    ensures { IfOk result
+        (λ o. option_map (λ r. r.words) o ≡ option_map (λ c. c.words) config.now.rewriter) }
+{
+    let Some(class) = config.rewriter() else {
+        return Ok(None);
+    };
+    let words = class.words.copy(alloc)?;
+    let room = RewriterRoom::new(RewriterHall::new(Rewriter::new(alloc, class)));
+    Ok(Some(RewriterStart { room, words }))
+}
+
+/// Makes the desk over this journal, and the pools of both kinds of its first epoch. Where none is made the journal is handed back.
 #[tactic(auto, using(crate::proofs::BeginLaws::has_counted))]
 pub(crate) fn begin<J: Journal, B: Before, F: DeskStart>(
     alloc: Global,
@@ -45,7 +73,7 @@ pub(crate) fn begin<J: Journal, B: Before, F: DeskStart>(
     requires empty { IfSome (J.history journal) (λ h. h ≡ []) }
     ensures begun { IfOk result
         (λ m. HasCountedNone m.desk.notes.history (Some m.desk.notes.made)
-        (min m.desk.notes.refusals count_limit) m.pools.granted) }
+        (min m.desk.notes.refusals count_limit) (granted_together m.pools m.tags)) }
     ensures unbegun { IfErr result (λ e. IsUnbegun e.0 (J.faults journal) (J.faults e.1)) }
     ensures history { IfErr result (λ e. J.history e.1 ≡ J.history journal) }
 {
@@ -58,9 +86,13 @@ pub(crate) fn begin<J: Journal, B: Before, F: DeskStart>(
         Ok(pools) => pools,
         Err(WantOfMemory) => return Err((DeskFault::WantOfMemory, journal)),
     };
+    let tags = match TagPools::new(alloc, EpochNo(1), setup.config(), now) {
+        Ok(tags) => tags,
+        Err(WantOfMemory) => return Err((DeskFault::WantOfMemory, journal)),
+    };
     let watched = Watched::<J, B>::new(journal);
     match Desk::new(alloc, setup, offset, watched, now, seed) {
-        Ok(desk) => Ok(DeskAndPools { desk, pools }),
+        Ok(desk) => Ok(DeskAndPools { desk, pools, tags }),
         Err((fault, watched)) => {
             let (journal, _) = watched.finish();
             Err((fault, journal))
@@ -74,13 +106,15 @@ pub(crate) fn open_books<D: DeskCalls, A: Ledger, M: Ledger, N: Ledger, G: Ledge
     alloc: Global,
     desk: D,
     pools: Pools,
+    tags: TagPools,
     blanks: Blanks,
 ) -> (Hall<D, A, M, N>, Bank<G>, Wholes<A, M, N, G>)
     requires asks { (blanks.asks.name ≡ A.name) × (blanks.asks.parts ≡ A.parts) }
     requires makes { (blanks.makes.name ≡ M.name) × (blanks.makes.parts ≡ M.parts) }
     requires refusals { (blanks.refusals.name ≡ N.name) × (blanks.refusals.parts ≡ N.parts) }
     requires grants { (blanks.grants.name ≡ G.name) × (blanks.grants.parts ≡ G.parts) }
-    requires begun { HasCountedNone (D.told desk) (D.made desk) (D.refused desk) pools.granted }
+    requires begun { HasCountedNone (D.told desk) (D.made desk) (D.refused desk)
+        (granted_together pools tags) }
     ensures asked { (result.2.asked.parts ≡ A.parts) × (result.2.asked.amount ≡ 0) }
     ensures made { (result.2.made.parts ≡ M.parts) × (result.2.made.amount ≡ 0) }
     ensures refused { result.2.refused.parts ≡ N.parts }
@@ -104,7 +138,7 @@ pub(crate) fn open_books<D: DeskCalls, A: Ledger, M: Ledger, N: Ledger, G: Ledge
     };
     (
         Hall::new(alloc, desk, asks, makes, refusals),
-        Bank::new(pools, grants),
+        Bank::new(pools, tags, grants),
         wholes,
     )
 }

@@ -1,16 +1,20 @@
 //! The threads of a server, begun and joined.
 ghost use Rattle.std.specs.Prelude.{◌≡◌, ◌+◌, ◌<◌, ◌≤◌, ◌^◌, ℕ, min, true};
-ghost use Rattle.std.specs.Option.{ForSome};
+ghost use Rattle.std.specs.Option.{ForSome, option_map};
 ghost use Rattle.sq_outside.specs.Causes.{count_limit};
 ghost use Rattle.sq_shared.specs.Books.{asks_in};
+ghost use Rattle.sq_shared.specs.Granting.{granted_together};
 ghost use Rattle.sq_machine.specs.Readings.{current};
 
+use crate::beginning::RewriterStart;
+use sq_base::Texts;
 use sq_calls::DeskCalls;
 use sq_control::{Panel, PanelEnd};
 use sq_helper_threads::{Shelf, pump_all};
-use sq_outside::{Another, Clock, Dialer, Listener, Spawner, Stopper};
-use sq_pools::Pools;
-use sq_shared::{Bank, Door, Hall, Room, has_failed, set_done};
+use sq_outside::{Another, Clock, Dialer, Listener, Resolver, Spawner, Stopper};
+use sq_pools::{Pools, TagPools};
+use sq_rewrite_pump::{RewriterShelf, rewrite_all};
+use sq_shared::{Bank, Door, Hall, RewriterRoom, Room, has_failed, set_done};
 use sq_workers::{Sums, work_all};
 use std::alloc::Global;
 use std::sync::ledger::{Ledger, Share};
@@ -19,10 +23,11 @@ use std::thread::{Threads, join};
 
 /// What the threads work with: the parts of an opened net but the listener.
 #[derive(Drop)]
-pub(crate) struct Tools<T, Q, S, C> {
+pub(crate) struct Tools<T, Q, S, V, C> {
     pub stopper: T,
     pub dialer: Q,
     pub spawner: S,
+    pub resolver: V,
     pub clock: C,
 }
 
@@ -40,6 +45,7 @@ pub(crate) struct Wholes<A: Ledger, M: Ledger, N: Ledger, G: Ledger> {
 pub(crate) struct ServerRun<D, L, K> {
     pub desk: D,
     pub pools: Pools,
+    pub tags: TagPools,
     pub listener: L,
     pub failed: bool,
     pub panel: K,
@@ -52,8 +58,35 @@ pub(crate) struct ServerRun<D, L, K> {
 /// will ever be started.
 pub(crate) const REFUSALS: u64 = 0x8000_0000_0000_0000;
 
-// The pump beside the workers. Once these have returned, no more is to be done.
-fn pump_beside<
+// The pump of the rewriter, if there is one.
+fn rewrite<R: Threads + Wait + Sync, S: Spawner + Send + Drop, C: Clock + Another + Send + Drop>(
+    rt: &R,
+    alloc: Global,
+    rewriter: Option<&RewriterRoom>,
+    rewriter_shelf: &RewriterShelf<S::ChildOut>,
+    words: Option<Texts>,
+    spawner: S,
+    clock: C,
+) {
+    if let (Some(room), Some(words)) = (rewriter, words) {
+        rewrite_all(rt, alloc, room, rewriter_shelf, spawner, clock, words);
+    }
+}
+
+// No more is to be done.
+fn end_all<R: Wait, D: DeskCalls, A: Ledger, M: Ledger, N: Ledger>(
+    rt: &R,
+    room: &Room<D, A, M, N>,
+    rewriter: Option<&RewriterRoom>,
+) {
+    set_done(rt, room);
+    if let Some(rewriter) = rewriter {
+        rewriter.set_done(rt);
+    }
+}
+
+// The pump of the rewriter beside the workers. Once these have returned, no more is to be done.
+fn rewriter_beside<
     R: Threads + Wait + Sync,
     L: Listener + Send + Drop,
     Q: Dialer + Another + Send + Drop,
@@ -70,9 +103,83 @@ fn pump_beside<
     room: &Room<D, A, M, N>,
     bank: &Mutex<Bank<G>>,
     door: &Mutex<Door<L>>,
-    shelf: &Shelf<S::ChildOut, N>,
+    rewriter: Option<&RewriterRoom>,
+    rewriter_shelf: &RewriterShelf<S::ChildOut>,
+    words: Option<Texts>,
     dialer: Q,
     spawner: S,
+    clock: C,
+    workers: u32,
+    asked: Share<A>,
+    theirs: Share<N>,
+    grants: Share<G>,
+) -> Sums<A, G>
+    requires some { (0 < workers) × (workers ≤ 2 ^ 31) }
+    requires asked { (asked.parts ≡ workers + workers) × (asked.amount ≡ 0) }
+    requires theirs { theirs.parts ≡ workers + workers }
+    requires grants { (grants.parts ≡ workers + workers) × (grants.amount ≡ 0) }
+    ensures asked { result.asked.parts ≡ workers + workers }
+    ensures grants { result.grants.parts ≡ workers + workers }
+{
+    let rewriting = clock.another();
+    let (_, sums) = join(
+        rt,
+        move || {
+            rewrite(
+                rt,
+                alloc,
+                rewriter,
+                rewriter_shelf,
+                words,
+                spawner,
+                rewriting,
+            )
+        },
+        move || -> Sums<A, G>
+            requires { (0 < workers) × (workers ≤ 2 ^ 31)
+                × (asked.parts ≡ workers + workers) × (asked.amount ≡ 0)
+                × (theirs.parts ≡ workers + workers)
+                × (grants.parts ≡ workers + workers) × (grants.amount ≡ 0) }
+            ensures { (result.asked.parts ≡ workers + workers)
+                × (result.grants.parts ≡ workers + workers) }
+        {
+            let sums = work_all(
+                rt, alloc, door, room, bank, rewriter, dialer, clock, 1, workers, asked, theirs,
+                grants,
+            );
+            end_all(rt, room, rewriter);
+            sums
+        },
+    );
+    sums
+}
+
+// The pump beside the rewriter's pump and the workers.
+fn pump_beside<
+    R: Threads + Wait + Sync,
+    L: Listener + Send + Drop,
+    Q: Dialer + Another + Send + Drop,
+    S: Spawner + Another + Send + Drop,
+    V: Resolver + Another + Send + Drop,
+    C: Clock + Another + Send + Drop,
+    D: DeskCalls + Send,
+    A: Ledger + Send + Sync,
+    M: Ledger + Send + Sync,
+    N: Ledger + Send + Sync,
+    G: Ledger + Send + Sync,
+>(
+    rt: &R,
+    alloc: Global,
+    room: &Room<D, A, M, N>,
+    bank: &Mutex<Bank<G>>,
+    door: &Mutex<Door<L>>,
+    shelf: &Shelf<'_, S::ChildOut, R, N>,
+    rewriter: Option<&RewriterRoom>,
+    rewriter_shelf: &RewriterShelf<S::ChildOut>,
+    words: Option<Texts>,
+    dialer: Q,
+    spawner: S,
+    resolver: V,
     clock: C,
     workers: u32,
     asked: Share<A>,
@@ -92,6 +199,7 @@ fn pump_beside<
     ensures grants { result.grants.parts ≡ workers + workers }
 {
     let pumping = clock.another();
+    let rewriters = spawner.another();
     let (_, sums) = join(
         rt,
         move ||
@@ -99,7 +207,7 @@ fn pump_beside<
             requires spare { refused.parts ≡ spare }
         {
             pump_all(
-                rt, alloc, room, shelf, spawner, pumping, own, refused, spare,
+                rt, alloc, room, shelf, spawner, resolver, pumping, own, refused, spare,
             )
         },
         move || -> Sums<A, G>
@@ -110,11 +218,23 @@ fn pump_beside<
             ensures { (result.asked.parts ≡ workers + workers)
                 × (result.grants.parts ≡ workers + workers) }
         {
-            let sums = work_all(
-                rt, alloc, door, room, bank, dialer, clock, 1, workers, asked, theirs, grants,
-            );
-            set_done(rt, room);
-            sums
+            rewriter_beside(
+                rt,
+                alloc,
+                room,
+                bank,
+                door,
+                rewriter,
+                rewriter_shelf,
+                words,
+                dialer,
+                rewriters,
+                clock,
+                workers,
+                asked,
+                theirs,
+                grants,
+            )
         },
     );
     sums
@@ -158,7 +278,8 @@ fn beside<
     L: Listener + Send + Drop,
     T: Stopper + Drop,
     Q: Dialer + Another + Send + Drop,
-    S: Spawner + Send + Drop,
+    S: Spawner + Another + Send + Drop,
+    V: Resolver + Another + Send + Drop,
     C: Clock + Another + Send + Drop,
     D: DeskCalls + Send,
     K: Panel + Drop,
@@ -172,8 +293,11 @@ fn beside<
     room: &Room<D, A, M, N>,
     bank: &Mutex<Bank<G>>,
     door: &Mutex<Door<L>>,
-    shelf: &Shelf<S::ChildOut, N>,
-    tools: Tools<T, Q, S, C>,
+    shelf: &Shelf<'_, S::ChildOut, R, N>,
+    rewriter: Option<&RewriterRoom>,
+    rewriter_shelf: &RewriterShelf<S::ChildOut>,
+    words: Option<Texts>,
+    tools: Tools<T, Q, S, V, C>,
     workers: u32,
     panel: K,
     wholes: Wholes<A, M, N, G>,
@@ -194,6 +318,7 @@ fn beside<
         stopper,
         dialer,
         spawner,
+        resolver,
         clock,
     } = tools;
     let Wholes {
@@ -220,8 +345,26 @@ fn beside<
                 × (result.grants.parts ≡ workers + workers) }
         {
             pump_beside(
-                rt, alloc, room, bank, door, shelf, dialer, spawner, clock, workers, asked, theirs,
-                grants, pumps, refused, spare,
+                rt,
+                alloc,
+                room,
+                bank,
+                door,
+                shelf,
+                rewriter,
+                rewriter_shelf,
+                words,
+                dialer,
+                spawner,
+                resolver,
+                clock,
+                workers,
+                asked,
+                theirs,
+                grants,
+                pumps,
+                refused,
+                spare,
             )
         },
         move || -> (K, PanelEnd, Share<M>)
@@ -236,15 +379,27 @@ fn beside<
     )
 }
 
-/// Runs a server over a desk and pools that are in their locks, until the panel's run has ended and all threads have
-/// returned.
+// A rewriter's lock, and the words of its program.
+fn parted(rewriter: Option<RewriterStart>) -> (Option<RewriterRoom>, Option<Texts>)
+    ensures room { result.0 ≡ option_map (λ r. r.room) rewriter }
+    ensures words { result.1 ≡ option_map (λ r. r.words) rewriter }
+{
+    match rewriter {
+        Some(RewriterStart { room, words }) => (Some(room), Some(words)),
+        None => (None, None),
+    }
+}
+
+/// Runs a server over a desk, a rewriter, if there is one, and pools that are in their locks, until the panel's run has ended
+/// and all threads have returned.
 #[tactic(auto, using(crate::proofs::EndLaws::asks_summed, crate::proofs::EndLaws::grants_summed))]
 pub(crate) fn run<
     R: Threads + Wait + Sync,
     L: Listener + Send + Drop,
     T: Stopper + Drop,
     Q: Dialer + Another + Send + Drop,
-    S: Spawner + Send + Drop,
+    S: Spawner + Another + Send + Drop,
+    V: Resolver + Another + Send + Drop,
     C: Clock + Another + Send + Drop,
     D: DeskCalls + Send + Drop,
     K: Panel + Drop,
@@ -257,8 +412,9 @@ pub(crate) fn run<
     alloc: Global,
     hall: Hall<D, A, M, N>,
     bank: Bank<G>,
+    rewriter: Option<RewriterStart>,
     listener: L,
-    tools: Tools<T, Q, S, C>,
+    tools: Tools<T, Q, S, V, C>,
     workers: u32,
     panel: K,
     wholes: Wholes<A, M, N, G>,
@@ -273,7 +429,8 @@ pub(crate) fn run<
         × (wholes.grants.amount ≡ 0) }
     ensures asks { ForSome (D.told result.desk)
         (λ h. result.requests ≡ min (asks_in h) count_limit) }
-    ensures grants { result.granted ≡ min result.pools.granted count_limit }
+    ensures grants { result.granted
+        ≡ min (granted_together result.pools result.tags) count_limit }
     ensures panel { (n : ℕ) × K.gives panel result.panel result.end n
         × ForSome (D.told result.desk) (λ h. n + 1 ≡ current h) }
     ensures failed { result.failed ≡ true → 0 < L.faults result.listener }
@@ -281,9 +438,23 @@ pub(crate) fn run<
     let room = Room::new(hall);
     let bank = Mutex::new(bank);
     let door = Mutex::new(Door::new(listener));
-    let shelf: Shelf<S::ChildOut, N> = Shelf::new(alloc);
+    let shelf: Shelf<'_, S::ChildOut, R, N> = Shelf::new(rt, alloc);
+    let rewriter_shelf: RewriterShelf<S::ChildOut> = RewriterShelf::new(alloc);
+    let (rewriter, words) = parted(rewriter);
     let (sums, (panel, end, made)) = beside(
-        rt, alloc, &room, &bank, &door, &shelf, tools, workers, panel, wholes,
+        rt,
+        alloc,
+        &room,
+        &bank,
+        &door,
+        &shelf,
+        rewriter.as_ref(),
+        &rewriter_shelf,
+        words,
+        tools,
+        workers,
+        panel,
+        wholes,
     );
     let Sums {
         requests,
@@ -292,11 +463,12 @@ pub(crate) fn run<
         grants,
     } = sums;
     let desk = room.into_hall().end(asked, made);
-    let pools = bank.into_inner().end(grants);
+    let (pools, tags) = bank.into_inner().end(grants);
     let (listener, failed) = door.into_inner().into_listener();
     ServerRun {
         desk,
         pools,
+        tags,
         listener,
         failed,
         panel,

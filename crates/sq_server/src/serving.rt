@@ -3,20 +3,23 @@ ghost use Rattle.std.specs.Prelude.{◌≡◌, ◌+◌, ◌<◌, ◌≤◌, ◌^
 ghost use Rattle.std.specs.Option.{ForSome};
 ghost use Rattle.sq_outside.specs.Causes.{Rose, count_limit};
 ghost use Rattle.sq_shared.specs.Books.{asks_in};
+ghost use Rattle.sq_shared.specs.Granting.{granted_together};
 ghost use Rattle.sq_machine.specs.Readings.{current};
 ghost use Rattle.sq_desk.specs.Calling.{IsUnbegun};
 ghost use Rattle.sq_calls.specs.Legality.{IsLegal};
 
-use crate::beginning::{Blanks, DeskAndPools, begin, open_books};
+use crate::beginning::{Blanks, DeskAndPools, begin, open_books, rewriter_of};
 use crate::running::{REFUSALS, ServerRun, Tools, run};
 use crate::starting::{Served, Start, Unserved};
 use crate::threads::has_threads;
 use crate::watched::{Before, Watched};
+use sq_base::WantOfMemory;
 use sq_calls::DeskFault;
 use sq_control::Panel;
 use sq_desk::{Desk, DeskStart};
 use sq_journal_writers::Journal;
-use sq_outside::{Another, Clock, Dialer, Listener, Net, Parts, Spawner, Stopper};
+use sq_outside::{Another, Clock, Dialer, Listener, Net, Parts, Resolver, Spawner, Stopper};
+use sq_rules::Config;
 use std::alloc::Global;
 use std::marker::Brand;
 use std::sync::Wait;
@@ -35,13 +38,21 @@ fn journal_of<J: Journal, B: Before, F: DeskStart>(desk: Desk<Watched<J, B>, F>)
     desk.finish().finish()
 }
 
-// Makes the desk and the pools, and runs the server.
+// How many pumps there are.
+fn pump_count(config: &Config) -> u32
+    ensures { result ≤ 2 }
+{
+    if config.rewriter().is_some() { 2 } else { 1 }
+}
+
+// Makes the desk, the rewriter and the pools, and runs the server.
 fn serve_with<
     R: Threads + Wait + Sync,
     L: Listener + Send + Drop,
     T: Stopper + Drop,
     Q: Dialer + Another + Send + Drop,
-    S: Spawner + Send + Drop,
+    S: Spawner + Another + Send + Drop,
+    V: Resolver + Another + Send + Drop,
     C: Clock + Another + Send + Drop,
     J: Journal + Send + Drop,
     K: Panel + Drop,
@@ -56,7 +67,7 @@ fn serve_with<
     alloc: Global,
     start: Start,
     listener: L,
-    mut tools: Tools<T, Q, S, C>,
+    mut tools: Tools<T, Q, S, V, C>,
     journal: J,
     workers: u32,
     panel: K,
@@ -78,7 +89,8 @@ fn serve_with<
         (IsLegal (record { config = start.setup; offset = start.offset }))) }
     ensures asks { IfOk result
         (λ s. ForSome (J.history s.journal) (λ h. s.requests ≡ min (asks_in h) count_limit)) }
-    ensures grants { IfOk result (λ s. s.granted ≡ min s.pools.granted count_limit) }
+    ensures grants { IfOk result
+        (λ s. s.granted ≡ min (granted_together s.pools s.tags) count_limit) }
     ensures panel { IfOk result
         (λ s. (n : ℕ) × K.gives panel s.panel s.end n
         × ForSome (J.history s.journal) (λ h. n + 1 ≡ current h)) }
@@ -93,6 +105,17 @@ fn serve_with<
     ensures unwritten { IfErr result (λ u. J.history u.journal ≡ J.history journal) }
     ensures unrun { IfErr result (λ u. (u.panel ≡ panel) × (u.listener ≡ listener)) }
 {
+    let rewriter = match rewriter_of(alloc, start.setup.config()) {
+        Ok(rewriter) => rewriter,
+        Err(WantOfMemory) => {
+            return Err(Unserved {
+                fault: DeskFault::WantOfMemory,
+                listener,
+                journal,
+                panel,
+            });
+        }
+    };
     let now = tools.clock.now();
     let machine = match begin::<J, B, F>(alloc, start, journal, now) {
         Ok(machine) => machine,
@@ -105,13 +128,14 @@ fn serve_with<
             });
         }
     };
-    let DeskAndPools { desk, pools } = machine;
+    let DeskAndPools { desk, pools, tags } = machine;
     let (hall, bank, wholes) = open_books::<Desk<Watched<J, B>, F>, A, M, N, G>(
-        alloc, desk, pools, blanks,
+        alloc, desk, pools, tags, blanks,
     );
     let ServerRun {
         desk,
         pools,
+        tags,
         listener,
         failed,
         panel,
@@ -119,7 +143,7 @@ fn serve_with<
         requests,
         granted,
     } = run(
-        rt, alloc, hall, bank, listener, tools, workers, panel, wholes,
+        rt, alloc, hall, bank, rewriter, listener, tools, workers, panel, wholes,
     );
     let (journal, stopped) = journal_of(desk);
     Ok(Served {
@@ -128,6 +152,7 @@ fn serve_with<
         panel,
         end,
         pools,
+        tags,
         stopped,
         failed,
         requests,
@@ -136,8 +161,9 @@ fn serve_with<
 }
 
 /// Makes the desk of a configuration over a journal without an entry, and serves the links that come to the parts of an
-/// opened net with so many workers, until the run of the panel has ended. Then the listener is stopped; the open sessions
-/// go on to their end, every process is stopped, and all threads return. Where no desk is made all is handed back.
+/// opened net with so many workers, until the run of the panel has ended. The rewriter is that of this configuration for the
+/// whole run. Then the listener is stopped; the open sessions go on to their end, every process is stopped, and all threads
+/// return. Where no desk is made all is handed back.
 pub fn serve<R: Threads + Wait + Sync, N: Net, J: Journal + Send + Drop, K: Panel + Drop>(
     rt: &R,
     alloc: Global,
@@ -154,10 +180,12 @@ pub fn serve<R: Threads + Wait + Sync, N: Net, J: Journal + Send + Drop, K: Pane
     ensures legal { IfOk result
         (λ s. IfSome (J.history s.journal)
         (IsLegal (record { config = start.setup; offset = start.offset }))) }
-    // Its requests are the sum of those of all sessions, and what the pools granted is the sum of what sessions were.
+    // Its requests are the sum of those of all sessions, and what the pools of both kinds granted is the sum of what sessions
+    // were.
     ensures asks { IfOk result
         (λ s. ForSome (J.history s.journal) (λ h. s.requests ≡ min (asks_in h) count_limit)) }
-    ensures grants { IfOk result (λ s. s.granted ≡ min s.pools.granted count_limit) }
+    ensures grants { IfOk result
+        (λ s. s.granted ≡ min (granted_together s.pools s.tags) count_limit) }
     // The panel ran, and the reconfigurations that it made are the journal's.
     ensures panel { IfOk result
         (λ s. (n : ℕ) × K.gives panel s.panel s.end n
@@ -174,8 +202,8 @@ pub fn serve<R: Threads + Wait + Sync, N: Net, J: Journal + Send + Drop, K: Pane
     ensures unwritten { IfErr result (λ u. J.history u.journal ≡ J.history journal) }
     ensures unrun { IfErr result (λ u. (u.panel ≡ panel) × (u.listener ≡ parts.listener)) }
 {
-    // Those of the workers and of the pump, beside the panel's, which is this one.
-    if !has_threads(rt, workers + 1) {
+    // Those of the workers and of the pumps, beside the panel's, which is this one.
+    if !has_threads(rt, workers + pump_count(start.setup.config())) {
         return Err(Unserved {
             fault: DeskFault::WantOfMemory,
             listener: parts.listener,
@@ -189,12 +217,13 @@ pub fn serve<R: Threads + Wait + Sync, N: Net, J: Journal + Send + Drop, K: Pane
         dialer,
         spawner,
         clock,
-        resolver: _,
+        resolver,
     } = parts;
     let tools = Tools {
         stopper,
         dialer,
         spawner,
+        resolver,
         clock,
     };
     let both = u64::from(workers) + u64::from(workers);
@@ -204,7 +233,23 @@ pub fn serve<R: Threads + Wait + Sync, N: Net, J: Journal + Send + Drop, K: Pane
         refusals: Blank::new(REFUSALS),
         grants: Blank::new(both),
     };
-    serve_with::<R, N::L, N::T, N::D, N::S, N::C, J, K, Brand, Brand, Brand, Brand, Brand, Brand>(
+    serve_with::<
+        R,
+        N::L,
+        N::T,
+        N::D,
+        N::S,
+        N::Q,
+        N::C,
+        J,
+        K,
+        Brand,
+        Brand,
+        Brand,
+        Brand,
+        Brand,
+        Brand,
+    >(
         rt, alloc, start, listener, tools, journal, workers, panel, blanks,
     )
 }

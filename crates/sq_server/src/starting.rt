@@ -3,7 +3,7 @@ use sq_cache::HashSeed;
 use sq_calls::DeskFault;
 use sq_control::PanelEnd;
 use sq_machine::Offset;
-use sq_pools::Pools;
+use sq_pools::{Pools, TagPools};
 use sq_urlmatch::Setup;
 
 /// What the machine begins with.
@@ -25,7 +25,10 @@ pub struct Served<L, J, K> {
     pub panel: K,
     /// Why the panel came to its end.
     pub end: PanelEnd,
+    /// The delay pools with buckets by addresses.
     pub pools: Pools,
+    /// The delay pools with buckets by tags.
+    pub tags: TagPools,
     /// Whether a note of the journal failed.
     pub stopped: bool,
     /// Whether a call of the listener failed.

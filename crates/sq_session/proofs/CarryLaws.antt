@@ -1,5 +1,5 @@
 -- What follows a verdict, put together.
-use Rattle.std.proofs.Common.{◌≡◌, ◌⊎◌, inl, inr, ℕ, ◌+◌, ◌≤◌, List, [], ◌∷◌, ◌++◌, Bool, true, false, ◌&&◌, Option, Some, None, Ok, Err, refl, sym, subst, ◌∙◌, arith, append_assoc}
+use Rattle.std.proofs.Common.{◌≡◌, ◌⊎◌, inl, inr, ℕ, ◌+◌, ◌≤◌, List, [], ◌∷◌, ◌++◌, Bool, true, false, ◌&&◌, Option, Some, None, Ok, Err, bytes_eq, codes, refl, sym, ap, subst, ◌∙◌, arith, append_assoc}
 use Rattle.sq_base.specs.Addresses.{Address}
 use Rattle.sq_base.specs.Requests.{HttpRequest}
 use Rattle.sq_base.specs.declared.plans.BodyPlan.{BodyPlan}
@@ -7,22 +7,25 @@ use Rattle.sq_checks.specs.Records.{Judged}
 use Rattle.sq_outside.specs.Causes.{count_limit, Rose, TakesBack}
 use Rattle.sq_outside.specs.Dials.{Dialled}
 use Rattle.sq_head.specs.BodyPlans.{request_plan}
-use Rattle.sq_head.specs.OwnReplies.{error_text, denial}
+use Rattle.sq_head.specs.OwnReplies.{error_text, denial, redirect_text}
 use Rattle.sq_head.specs.declared.faults.BadBody.{BadBody}
 use Rattle.sq_head.specs.declared.own.Own.{Own}
-use Rattle.sq_head.specs.declared.own.Own.TheVariants.{BadRequest, NotImplemented}
+use Rattle.sq_head.specs.declared.own.Own.TheVariants.{BadRequest, NoMemory, NotImplemented}
+use Rattle.sq_rewrite.specs.Rewritings.{IsInPlaceOf}
 use Rattle.sq_session.specs.Begins.{fits_hosts}
 use Rattle.sq_session.specs.Carrying.{sat}
-use Rattle.sq_session.specs.Fronts.{FrontAnswer, OfDecide, OfSit, Decides, SitsFor, SitsBehind, names_pool}
+use Rattle.sq_session.specs.Fronts.{FrontAnswer, OfDecide, OfRewrite, OfSit, Decides, Rewrites, SitsFor, SitsBehind, takes_seat}
 use Rattle.sq_session.specs.Sessions.{JudgesOf, held_seat}
 use Rattle.sq_session.specs.Steps.{Goes, EndHasCause}
 use Rattle.sq_session.specs.Written.{WritesReply}
 use Rattle.sq_session.specs.Told.{ReachesTold, CarriesTold, ObeysTold, AnswersTold}
-use Rattle.sq_session.specs.Turns.{Reply, NoOrigin, is_head, is_connect, is_served, dialled, seated, carried, denied_closes, stays_unless, recorded, body_own, judged, asked}
+use Rattle.sq_session.specs.Turns.{Reply, NoOrigin, access_of, is_head, is_connect, is_served, dialled, seated, carried, rewritten_on, denied_closes, stays_unless, recorded, body_own, judged, asked}
 use Rattle.sq_session.specs.declared.ends.Carried.{Carried}
 use Rattle.sq_session.specs.declared.ends.Carried.TheVariants.{Closes}
 use Rattle.sq_session.specs.declared.front.Decided.{Decided}
 use Rattle.sq_session.specs.declared.front.Decided.TheVariants as decided
+use Rattle.sq_session.specs.declared.front.Rewritten.{Rewritten}
+use Rattle.sq_session.specs.declared.front.Rewritten.TheVariants as rewritten
 use Rattle.sq_session.proofs.GoesLaws.{goes_as, own_goes, own_turn, cause_map}
 use Rattle.sq_session.proofs.TurnLaws.{told_none}
 
@@ -43,7 +46,7 @@ carries_unserved {first = Some rest} {d = Some now} {stood} r addr p j e w few =
     answers = [];
     told = told_none stood;
     sits = tt;
-    goes = own_goes (carried r addr p rest []) (error_text NotImplemented (is_head r)) [] [] Closes (Some now) now
+    goes = own_goes (carried (access_of j) r addr p rest []) (error_text NotImplemented (is_head r)) [] [] Closes (Some now) now
         (rw e refl) w few refl (λ s. absurd cc);
   };
 }
@@ -53,7 +56,7 @@ pub carries_unseated : {first : Option (List ℕ)} {d : Option Dialled} {stood s
     {left a b : Option (List ℕ)} {failed : Type 0} {g h : ℕ} {ended : Carried} (r : HttpRequest) (addr : Address)
     (p : BodyPlan) (j : Judged) (answers : List FrontAnswer) (own : Own)
     → is_served r ≡ true → ((rest : List ℕ)
-    → seated r addr p rest answers NoOrigin ≡ own_turn (error_text own (is_head r)) [] [] Closes) → SitsFor j answers
+    → seated (access_of j) r addr p rest answers NoOrigin ≡ own_turn (error_text own (is_head r)) [] [] Closes) → SitsFor j answers
     → ((list : List FrontAnswer) → stood list → stands (list ++ answers))
     → WritesReply (error_text own (is_head r)) Closes a b ended → g ≤ count_limit → h ≡ g
     → CarriesTold r addr p j first d d stood stands left a b failed g h ended
@@ -66,9 +69,9 @@ carries_unseated {first = Some rest} {d = Some now} {left} {a} {b} {failed} {g} 
         answers = answers;
         told = told;
         sits = sits;
-        goes = subst (λ n. Goes (is_connect r) (carried r addr p rest answers) [] (names_pool j && sat answers) left a b
+        goes = subst (λ n. Goes (is_connect r) (carried (access_of j) r addr p rest answers) [] (takes_seat j && sat answers) left a b
             (Some now) now failed g n ended) (sym same)
-            (own_goes (carried r addr p rest answers) (error_text own (is_head r)) [] [] Closes (Some now) now
+            (own_goes (carried (access_of j) r addr p rest answers) (error_text own (is_head r)) [] [] Closes (Some now) now
             (rw e (turn rest)) w few refl (λ s. absurd cc));
       };
     }
@@ -77,9 +80,9 @@ carries_unseated {first = Some rest} {d = Some now} {left} {a} {b} {failed} {g} 
 pub carries_seated : {first : Option (List ℕ)} {before d : Option Dialled} {stood stands : List FrontAnswer → Type 0}
     {left a b : Option (List ℕ)} {failed : Type 0} {g h k n : ℕ} {seat : Bool} {ended : Carried} (r : HttpRequest)
     (addr : Address) (p : BodyPlan) (j : Judged) (u : Unit {0})
-    → is_served r ≡ true → seat ≡ names_pool j → g ≡ k → h ≡ n
+    → is_served r ≡ true → seat ≡ takes_seat j → g ≡ k → h ≡ n
     → ((list : List FrontAnswer) → stood list → stands (list ++ OfSit j (Ok u) ∷ []))
-    → ReachesTold r addr p first before d seat left a b failed g h ended
+    → ReachesTold (access_of j) r addr p first before d seat left a b failed g h ended
     → CarriesTold r addr p j first before d stood stands left a b failed k n ended
 carries_seated {first = None} r addr p j u e held same last told x = record { known = tt }
 carries_seated {first = Some rest} {d = None} r addr p j u e held same last told x = record { known = tt }
@@ -90,37 +93,98 @@ carries_seated {first = Some rest} {before} {d = Some now} {left} {a} {b} {faile
         told = told;
         sits = refl;
         goes =
-            subst (λ m. Goes (is_connect r) (carried r addr p rest (OfSit j (Ok u) ∷ [])) [] (names_pool j && true) left
+            subst (λ m. Goes (is_connect r) (carried (access_of j) r addr p rest (OfSit j (Ok u) ∷ [])) [] (takes_seat j && true) left
             a b
             before now failed k m ended) last
-            (subst (λ m. Goes (is_connect r) (carried r addr p rest (OfSit j (Ok u) ∷ [])) [] (names_pool j && true)
+            (subst (λ m. Goes (is_connect r) (carried (access_of j) r addr p rest (OfSit j (Ok u) ∷ [])) [] (takes_seat j && true)
             left a
             b before now failed m h ended) same
-            (subst (λ s. Goes (is_connect r) (carried r addr p rest (OfSit j (Ok u) ∷ [])) [] s left a b before now
+            (subst (λ s. Goes (is_connect r) (carried (access_of j) r addr p rest (OfSit j (Ok u) ∷ [])) [] s left a b before now
             failed g
-            h ended) (held ∙ and_true (names_pool j))
-            (goes_as (dialled r addr p rest []) (carried r addr p rest (OfSit j (Ok u) ∷ [])) (λ reply. rw e refl)
+            h ended) (held ∙ and_true (takes_seat j))
+            (goes_as (dialled (access_of j) r addr p rest []) (carried (access_of j) r addr p rest (OfSit j (Ok u) ∷ [])) (λ reply. rw e refl)
             (x.known []))));
       };
     }
 
--- an allowed request
-pub obeys_allowed : {first : Option (List ℕ)} {before d : Option Dialled} {stood stands : List FrontAnswer → Type 0}
+-- a request for a tunnel
+pub obeys_tunnel : {first : Option (List ℕ)} {before d : Option Dialled} {stood stands : List FrontAnswer → Type 0}
     {left a b : Option (List ℕ)} {failed : Type 0} {g h : ℕ} {ended : Carried} (r : HttpRequest) (addr : Address)
     (p : BodyPlan) (j : Judged)
-    → j.outcome.allow ≡ true → CarriesTold r addr p j first before d stood stands left a b failed g h ended
+    → j.outcome.allow ≡ true → is_connect r ≡ true
+    → CarriesTold r addr p j first before d stood stands left a b failed g h ended
     → ObeysTold r addr p j first before d stood stands left a b failed g h ended
-obeys_allowed {first = None} r addr p j e x = record { known = tt }
-obeys_allowed {first = Some rest} {d = None} r addr p j e x = record { known = tt }
-obeys_allowed {first = Some rest} {d = Some now} r addr p j e x =
+obeys_tunnel {first = None} r addr p j e f x = record { known = tt }
+obeys_tunnel {first = Some rest} {d = None} r addr p j e f x = record { known = tt }
+obeys_tunnel {first = Some rest} {d = Some now} r addr p j e f x =
     let y = x.known in
     record {
       known = record {
         answers = y.answers;
         told = y.told;
         sits = y.sits;
-        goes = goes_as (carried r addr p rest y.answers) (recorded r addr p rest j y.answers) (λ reply. rw e refl)
+        goes = goes_as (carried (access_of j) r addr p rest y.answers) (recorded r addr p rest j y.answers) (λ reply. rw (e, f) refl)
             y.goes;
+      };
+    }
+
+-- a request goes on as the rewriter left it
+pub obeys_sent : {first : Option (List ℕ)} {before d : Option Dialled} {stood mid stands : List FrontAnswer → Type 0}
+    {left a b : Option (List ℕ)} {failed : Type 0} {g h k : ℕ} {ended : Carried} (r sent : HttpRequest)
+    (addr : Address) (p : BodyPlan) (j : Judged) (said : Rewritten)
+    → j.outcome.allow ≡ true → is_connect r ≡ false → sent.method ≡ r.method
+    → ((rest : List ℕ) (more : List FrontAnswer) (reply : Reply)
+    → carried (access_of j) sent addr p rest more reply ≡ rewritten_on (access_of j) r addr p rest (OfRewrite j said ∷ more) reply)
+    → Rewrites j.sight.request said → g ≡ k
+    → ((list : List FrontAnswer) → stood list → mid (list ++ OfRewrite j said ∷ []))
+    → CarriesTold sent addr p j first before d mid stands left a b failed g h ended
+    → ObeysTold r addr p j first before d stood stands left a b failed k h ended
+obeys_sent {first = None} r sent addr p j said e f m goes_on is same told x = record { known = tt }
+obeys_sent {first = Some rest} {d = None} r sent addr p j said e f m goes_on is same told x = record { known = tt }
+obeys_sent {first = Some rest} {before} {d = Some now} {stands} {left} {a} {b} {failed} {g} {h} {k} {ended} r sent addr p
+    j said e f m goes_on is same told x =
+    let y = x.known in
+    let all = OfRewrite j said ∷ y.answers in
+    let seat = takes_seat j && sat y.answers in
+    let went : Goes (is_connect sent) (recorded r addr p rest j all) [] seat left a b before now failed g h ended =
+    goes_as (carried (access_of j) sent addr p rest y.answers) (recorded r addr p rest j all)
+    (λ reply. rw (e, f) (goes_on rest y.answers reply)) y.goes in
+    record {
+      known = record {
+        answers = all;
+        told = λ list s. subst stands (append_assoc list (OfRewrite j said ∷ []) y.answers)
+            (y.told (list ++ OfRewrite j said ∷ []) (told list s));
+        sits = (refl, is, y.sits);
+        goes = subst (λ n. Goes (is_connect r) (recorded r addr p rest j all) [] seat left a b before now failed n h
+            ended) same
+            (subst (λ c. Goes c (recorded r addr p rest j all) [] seat left a b before now failed g h ended)
+            (ap (λ w. bytes_eq w (codes "CONNECT")) m) went);
+      };
+    }
+
+-- its client hears this of the proxy instead
+pub obeys_told : {first : Option (List ℕ)} {d : Option Dialled} {stood stands : List FrontAnswer → Type 0}
+    {left a b : Option (List ℕ)} {failed : Type 0} {g h : ℕ} {ended : Carried} (r : HttpRequest) (addr : Address)
+    (p : BodyPlan) (j : Judged) (said : Rewritten) (words : List ℕ)
+    → j.outcome.allow ≡ true → is_connect r ≡ false
+    → ((rest : List ℕ) → rewritten_on (access_of j) r addr p rest (OfRewrite j said ∷ []) NoOrigin ≡ own_turn words [] [] Closes)
+    → Rewrites j.sight.request said → ((list : List FrontAnswer) → stood list → stands (list ++ OfRewrite j said ∷ []))
+    → WritesReply words Closes a b ended → g ≤ count_limit → h ≡ g
+    → ObeysTold r addr p j first d d stood stands left a b failed g h ended
+obeys_told {first = None} r addr p j said words e f turn is told w few same = record { known = tt }
+obeys_told {first = Some rest} {d = None} r addr p j said words e f turn is told w few same = record { known = tt }
+obeys_told {first = Some rest} {d = Some now} {left} {a} {b} {failed} {g} {h} {ended} r addr p j said words e f turn is
+    told w few same =
+    let all = OfRewrite j said ∷ [] in
+    record {
+      known = record {
+        answers = all;
+        told = told;
+        sits = (refl, is, tt);
+        goes = subst (λ n. Goes (is_connect r) (recorded r addr p rest j all) [] (takes_seat j && false) left a b
+            (Some now) now failed g n ended) (sym same)
+            (own_goes (recorded r addr p rest j all) words [] [] Closes (Some now) now (rw (e, f) (turn rest)) w few
+            refl (λ s. absurd cc));
       };
     }
 
@@ -234,7 +298,7 @@ answers_judged {first = Some rest} {before} {d = Some now} {stands} {left} {a} {
         told = λ list s. subst stands (append_assoc list (OfDecide r (decided.Record j) ∷ []) y.answers)
             (y.told (list ++ OfDecide r (decided.Record j) ∷ []) (told list s));
         judges = (refl, judges, y.sits);
-        goes = subst (λ m. Goes (is_connect r) (asked r addr rest all) [] (names_pool j && sat y.answers) left a b
+        goes = subst (λ m. Goes (is_connect r) (asked r addr rest all) [] (takes_seat j && sat y.answers) left a b
             before now failed m h ended) same
             (goes_as (recorded r addr p rest j y.answers) (asked r addr rest all)
             (λ reply. asked_judged r addr p rest all reply e f) y.goes);

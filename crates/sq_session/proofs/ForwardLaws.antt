@@ -9,6 +9,11 @@ use Rattle.sq_outside.specs.Output.{IsPrefix, Grew}
 use Rattle.sq_outside.proofs.Writing.{IsPrefix_refl, IsPrefix_more, IsPrefix_after}
 use Rattle.sq_head.specs.OwnReplies.{error_text}
 use Rattle.sq_head.specs.declared.own.Own.TheVariants.{BadGateway}
+use Rattle.sq_headers.specs.Access.{HeaderAccess, header_access}
+use Rattle.sq_checks.specs.Records.{Judged}
+use Rattle.sq_rules.specs.Configurations.{Configuration}
+use Rattle.sq_rules.specs.Facts.{facts_of}
+use Rattle.sq_rules.specs.declared.sights.Sight.{Sight}
 use Rattle.sq_forward.specs.Exchanges.{Exchange, exchange, Exact, Fronts, EndsExchange, Exchanges, ExchangeHasCause, dry_after_exchange}
 use Rattle.sq_forward.specs.Meters.{granted_after, piece_limit, PaysPart, PaysAll}
 use Rattle.sq_forward.specs.Tunnels.{spare_of_tunnel, dry_after_tunnel, GoesInPart, GoesWhole, GoesPaid, GoesGranted}
@@ -21,7 +26,7 @@ use Rattle.sq_session.specs.Fronts.{FrontAnswer}
 use Rattle.sq_session.specs.Steps.{is_exact, is_by_origin, spare_of, WritesAs, EndHasCause, dry_after}
 use Rattle.sq_session.specs.Written.{Tells, WritesReply}
 use Rattle.sq_session.specs.Told.{TradesTold, ConnectsTold, ForwardsTold}
-use Rattle.sq_session.specs.Turns.{is_head, is_connect, gateway_part, carried_of, exchanged_turn, tunnelled_turn, established_text}
+use Rattle.sq_session.specs.Turns.{access_of, is_head, is_connect, gateway_part, carried_of, exchanged_turn, tunnelled_turn, established_text}
 use Rattle.sq_session.specs.declared.ends.Carried.{Carried}
 use Rattle.sq_session.specs.declared.ends.Carried.TheVariants.{Stays, Closes, Over}
 use Rattle.sq_session.specs.declared.ends.End.TheVariants.{Finished, Cut, ClientFault, OriginCut, OriginFault, Starved, WantOfMemory}
@@ -152,15 +157,15 @@ gateway_told mid r bytes x unasked broke given (Over OriginFault) client w grant
 gateway_told mid r bytes x unasked broke given (Over Starved) client w granted gave gives front = absurd w
 
 -- an exchange that ended as the origin's bytes say
-trades_exact : {seated : Bool} {left a b c d : Option (List ℕ)} {g h : ℕ} {failed : Type 0} (r : HttpRequest)
+trades_exact : {seated : Bool} {left a b c d : Option (List ℕ)} {g h : ℕ} {failed : Type 0} (access : HeaderAccess) (r : HttpRequest)
     (addr : Address) (p : BodyPlan) (rest bytes : List ℕ) (e : Exchanged)
-    → (x : Exchanges r addr p rest bytes seated left a b c d g h failed e) → gateway_part e (is_head r) ≡ []
+    → (x : Exchanges access r addr p rest bytes seated left a b c d g h failed e) → gateway_part e (is_head r) ≡ []
     → (carried_of e ≡ Stays → e ≡ exchanged.Kept) → (is_by_origin (carried_of e) ≡ true → x.seen ≡ bytes)
     → (carried_of e ≡ Over OriginFault → ⊥)
-    → Exact (exchange r addr p rest x.reading) seated left a b c d g h e
-    → Trades r addr p rest bytes seated left a b c d failed g h (carried_of e)
-trades_exact {seated} {left} {a} {b} {c} {d} {g} {h} {failed} r addr p rest bytes e x none kept whole other exact =
-    let y = exchange r addr p rest x.reading in
+    → Exact (exchange access r addr p rest x.reading) seated left a b c d g h e
+    → Trades access r addr p rest bytes seated left a b c d failed g h (carried_of e)
+trades_exact {seated} {left} {a} {b} {c} {d} {g} {h} {failed} access r addr p rest bytes e x none kept whole other exact =
+    let y = exchange access r addr p rest x.reading in
     record {
       seen = x.seen;
       reading = x.reading;
@@ -180,15 +185,15 @@ trades_exact {seated} {left} {a} {b} {c} {d} {g} {h} {failed} r addr p rest byte
     }
 
 -- an exchange that a fault ended
-trades_part : {seated : Bool} {left a b c d : Option (List ℕ)} {g h : ℕ} {failed : Type 0} (r : HttpRequest)
+trades_part : {seated : Bool} {left a b c d : Option (List ℕ)} {g h : ℕ} {failed : Type 0} (access : HeaderAccess) (r : HttpRequest)
     (addr : Address) (p : BodyPlan) (rest bytes : List ℕ) (e : Exchanged) (spare : ℕ)
-    → (x : Exchanges r addr p rest bytes seated left a b c d g h failed e) → is_exact (carried_of e) ≡ false
+    → (x : Exchanges access r addr p rest bytes seated left a b c d g h failed e) → is_exact (carried_of e) ≡ false
     → is_by_origin (carried_of e) ≡ false → spare ≤ spare_of (carried_of e)
     → (carried_of e ≡ Over OriginFault → x.reading.final ≡ None → ⊥)
-    → Fronts (exchange r addr p rest x.reading) seated a b c d g h spare
-    → Trades r addr p rest bytes seated left a b c d failed g h (carried_of e)
-trades_part {seated} {left} {a} {b} {c} {d} {g} {h} {failed} r addr p rest bytes e spare x fault other few headed f =
-    let y = exchange r addr p rest x.reading in
+    → Fronts (exchange access r addr p rest x.reading) seated a b c d g h spare
+    → Trades access r addr p rest bytes seated left a b c d failed g h (carried_of e)
+trades_part {seated} {left} {a} {b} {c} {d} {g} {h} {failed} access r addr p rest bytes e spare x fault other few headed f =
+    let y = exchange access r addr p rest x.reading in
     record {
       seen = x.seen;
       reading = x.reading;
@@ -205,40 +210,40 @@ trades_part {seated} {left} {a} {b} {c} {d} {g} {h} {failed} r addr p rest bytes
     }
 
 -- an exchange with a reply, or none that the client hears of
-pub traded : {seated : Bool} {left a b c d : Option (List ℕ)} {g h : ℕ} {failed : Type 0} (r : HttpRequest)
+pub traded : {seated : Bool} {left a b c d : Option (List ℕ)} {g h : ℕ} {failed : Type 0} (access : HeaderAccess) (r : HttpRequest)
     (addr : Address) (p : BodyPlan) (rest bytes : List ℕ) (e : Exchanged)
-    → (e ≡ exchanged.NoReply → ⊥) → Exchanges r addr p rest bytes seated left a b c d g h failed e
-    → Trades r addr p rest bytes seated left a b c d failed g h (carried_of e)
-traded r addr p rest bytes exchanged.Kept n x = trades_exact r addr p rest bytes exchanged.Kept x refl (λ _. refl)
+    → (e ≡ exchanged.NoReply → ⊥) → Exchanges access r addr p rest bytes seated left a b c d g h failed e
+    → Trades access r addr p rest bytes seated left a b c d failed g h (carried_of e)
+traded access r addr p rest bytes exchanged.Kept n x = trades_exact access r addr p rest bytes exchanged.Kept x refl (λ _. refl)
     (λ _. x.ends.0) (λ s. cc) x.ends.1
-traded r addr p rest bytes exchanged.Closed n x = trades_exact r addr p rest bytes exchanged.Closed x refl
+traded access r addr p rest bytes exchanged.Closed n x = trades_exact access r addr p rest bytes exchanged.Closed x refl
     (λ s. absurd cc) (λ _. x.ends.0) (λ s. cc) x.ends.1
-traded r addr p rest bytes exchanged.OriginCut n x = trades_exact r addr p rest bytes exchanged.OriginCut x refl
+traded access r addr p rest bytes exchanged.OriginCut n x = trades_exact access r addr p rest bytes exchanged.OriginCut x refl
     (λ s. absurd cc) (λ _. x.ends.0) (λ s. cc) x.ends.1
-traded r addr p rest bytes exchanged.Cut n x = trades_exact r addr p rest bytes exchanged.Cut x refl (λ s. absurd cc)
+traded access r addr p rest bytes exchanged.Cut n x = trades_exact access r addr p rest bytes exchanged.Cut x refl (λ s. absurd cc)
     (λ s. absurd cc) (λ s. cc) x.ends
-traded r addr p rest bytes exchanged.BadBody n x = trades_exact r addr p rest bytes exchanged.BadBody x refl
+traded access r addr p rest bytes exchanged.BadBody n x = trades_exact access r addr p rest bytes exchanged.BadBody x refl
     (λ s. absurd cc) (λ s. absurd cc) (λ s. cc) x.ends
-traded r addr p rest bytes exchanged.ClientFault n x = trades_part r addr p rest bytes exchanged.ClientFault piece_limit
+traded access r addr p rest bytes exchanged.ClientFault n x = trades_part access r addr p rest bytes exchanged.ClientFault piece_limit
     x refl refl (omega arith) (λ s. absurd cc) x.ends
-traded r addr p rest bytes exchanged.OriginFault n x = trades_part r addr p rest bytes exchanged.OriginFault 0 x refl
+traded access r addr p rest bytes exchanged.OriginFault n x = trades_part access r addr p rest bytes exchanged.OriginFault 0 x refl
     refl (omega arith) (λ _ n. let q = sym x.ends.final ∙ n in cc) x.ends.fronts
-traded r addr p rest bytes exchanged.Starved n x = trades_part r addr p rest bytes exchanged.Starved 0 x refl refl
+traded access r addr p rest bytes exchanged.Starved n x = trades_part access r addr p rest bytes exchanged.Starved 0 x refl refl
     (omega arith) (λ s. absurd cc) x.ends
-traded r addr p rest bytes exchanged.WantOfMemory n x = trades_part r addr p rest bytes exchanged.WantOfMemory 0 x refl
+traded access r addr p rest bytes exchanged.WantOfMemory n x = trades_part access r addr p rest bytes exchanged.WantOfMemory 0 x refl
     refl (omega arith) (λ s. absurd cc) x.ends
-traded r addr p rest bytes exchanged.NoReply n x = absurd (n refl)
+traded access r addr p rest bytes exchanged.NoReply n x = absurd (n refl)
 
 -- an exchange without a reply, and what the client heard of it
 pub untraded : {seated : Bool} {left a b c d : Option (List ℕ)} {g h : ℕ} {failed : Type 0} (mid : Option (List ℕ))
-    (r : HttpRequest) (addr : Address) (p : BodyPlan) (rest bytes : List ℕ) (ended : Carried)
-    → Exchanges r addr p rest bytes seated left a mid c d g h failed exchanged.NoReply
+    (access : HeaderAccess) (r : HttpRequest) (addr : Address) (p : BodyPlan) (rest bytes : List ℕ) (ended : Carried)
+    → Exchanges access r addr p rest bytes seated left a mid c d g h failed exchanged.NoReply
     → WritesReply (error_text BadGateway (is_head r)) Closes mid b ended
-    → Trades r addr p rest bytes seated left a b c d failed g h ended
-untraded {seated} {left} {a} {b} {c} {d} {g} {h} {failed} mid r addr p rest bytes ended x w = by x.ends
+    → Trades access r addr p rest bytes seated left a b c d failed g h ended
+untraded {seated} {left} {a} {b} {c} {d} {g} {h} {failed} mid access r addr p rest bytes ended x w = by x.ends
   where
-    by : EndsExchange r x.reading (exchange r addr p rest x.reading) x.seen bytes seated left a mid c d g h failed
-        exchanged.NoReply → Trades r addr p rest bytes seated left a b c d failed g h ended
+    by : EndsExchange access r x.reading (exchange access r addr p rest x.reading) x.seen bytes seated left a mid c d g h failed
+        exchanged.NoReply → Trades access r addr p rest bytes seated left a b c d failed g h ended
     by (inl (whole, exact)) = record {
       seen = x.seen;
       reading = x.reading;
@@ -252,12 +257,12 @@ untraded {seated} {left} {a} {b} {c} {d} {g} {h} {failed} mid r addr p rest byte
       };
       broken = λ i. absurd cc;
       goes = λ unasked. subst (λ z. ForwardsAs
-          (exchanged_turn r bytes false z (exchange r addr p rest x.reading) unasked) unasked false seated left a b c d
+          (exchanged_turn r bytes false z (exchange access r addr p rest x.reading) unasked) unasked false seated left a b c d
           g h
           ended) exact.ends
-          (gateway_told mid r bytes (exchange r addr p rest x.reading) unasked false
-          (exchange r addr p rest x.reading).origin ended exact.client w.is exact.granted exact.origin refl
-          (IsPrefix_refl (exchange r addr p rest x.reading).origin));
+          (gateway_told mid r bytes (exchange access r addr p rest x.reading) unasked false
+          (exchange access r addr p rest x.reading).origin ended exact.client w.is exact.granted exact.origin refl
+          (IsPrefix_refl (exchange access r addr p rest x.reading).origin));
     }
     by (inr (fault, unreached)) = record {
       seen = x.seen;
@@ -271,7 +276,7 @@ untraded {seated} {left} {a} {b} {c} {d} {g} {h} {failed} mid r addr p rest byte
         headed = λ i. absurd (told_here w i);
       };
       broken = λ _. fault;
-      goes = λ unasked. gateway_told mid r bytes (exchange r addr p rest x.reading) unasked true unreached.origin.0
+      goes = λ unasked. gateway_told mid r bytes (exchange access r addr p rest x.reading) unasked true unreached.origin.0
           ended unreached.client w.is unreached.granted unreached.origin.1 unreached.origin.2 unreached.origin.2;
     }
 
@@ -362,12 +367,12 @@ untold_goes {seated} {left} {a} {b} {c} {g} r rest bytes line unasked same (part
     }
 
 -- as the request asks
-pub forwards_connect : {seated : Bool} {left a b c d : Option (List ℕ)} {g h : ℕ} {failed : Type 0} (r : HttpRequest)
+pub forwards_connect : {seated : Bool} {left a b c d : Option (List ℕ)} {g h : ℕ} {failed : Type 0} (access : HeaderAccess) (r : HttpRequest)
     (addr : Address) (p : BodyPlan) (rest bytes : List ℕ) (ended : Carried)
     → is_connect r ≡ true → ((unasked : List FrontAnswer)
     → ForwardsAs (tunnelled_turn r bytes rest unasked) unasked false seated left a b c d g h ended)
-    → Forwards r addr p rest bytes seated left a b c d failed g h ended
-forwards_connect {seated} {left} {a} {b} {c} {d} {g} {h} {failed} r addr p rest bytes ended e x = record {
+    → Forwards access r addr p rest bytes seated left a b c d failed g h ended
+forwards_connect {seated} {left} {a} {b} {c} {d} {g} {h} {failed} access r addr p rest bytes ended e x = record {
   seen = [];
   reading = record { interim = []; final = None; rest = [] };
   broke = false;
@@ -376,11 +381,11 @@ forwards_connect {seated} {left} {a} {b} {c} {d} {g} {h} {failed} r addr p rest 
   goes = λ unasked. subst (λ t. ForwardsAs t unasked false seated left a b c d g h ended) (rw e refl) (x unasked);
 }
 
-pub forwards_trade : {seated : Bool} {left a b c d : Option (List ℕ)} {g h : ℕ} {failed : Type 0} (r : HttpRequest)
+pub forwards_trade : {seated : Bool} {left a b c d : Option (List ℕ)} {g h : ℕ} {failed : Type 0} (access : HeaderAccess) (r : HttpRequest)
     (addr : Address) (p : BodyPlan) (rest bytes : List ℕ) (ended : Carried)
-    → is_connect r ≡ false → Trades r addr p rest bytes seated left a b c d failed g h ended
-    → Forwards r addr p rest bytes seated left a b c d failed g h ended
-forwards_trade {seated} {left} {a} {b} {c} {d} {g} {h} {failed} r addr p rest bytes ended e x = record {
+    → is_connect r ≡ false → Trades access r addr p rest bytes seated left a b c d failed g h ended
+    → Forwards access r addr p rest bytes seated left a b c d failed g h ended
+forwards_trade {seated} {left} {a} {b} {c} {d} {g} {h} {failed} access r addr p rest bytes ended e x = record {
   seen = x.seen;
   reading = x.reading;
   broke = x.broke;
@@ -392,35 +397,64 @@ forwards_trade {seated} {left} {a} {b} {c} {d} {g} {h} {failed} r addr p rest by
 
 -- the same, by what was answered
 pub traded_told : {first told : Option (List ℕ)} {seated : Bool} {left a b c d : Option (List ℕ)} {g h : ℕ}
-    {failed : Type 0} (r : HttpRequest) (addr : Address) (p : BodyPlan) (e : Exchanged) (ended : Carried)
+    {failed : Type 0} (access : HeaderAccess) (r : HttpRequest) (addr : Address) (p : BodyPlan) (e : Exchanged) (ended : Carried)
     → ended ≡ carried_of e → (e ≡ exchanged.NoReply → ⊥)
-    → IfSome first (λ input. IfSome told (λ reply. Exchanges r addr p input reply seated left a b c d g h failed e))
-    → TradesTold r addr p first told seated left a b c d failed g h ended
-traded_told {first = None} r addr p e ended i n x = record { known = tt }
-traded_told {first = Some rest} {told = None} r addr p e ended i n x = record { known = tt }
-traded_told {first = Some rest} {told = Some bytes} {seated} {left} {a} {b} {c} {d} {g} {h} {failed} r addr p e ended i
+    → IfSome first (λ input. IfSome told (λ reply. Exchanges access r addr p input reply seated left a b c d g h failed e))
+    → TradesTold access r addr p first told seated left a b c d failed g h ended
+traded_told {first = None} access r addr p e ended i n x = record { known = tt }
+traded_told {first = Some rest} {told = None} access r addr p e ended i n x = record { known = tt }
+traded_told {first = Some rest} {told = Some bytes} {seated} {left} {a} {b} {c} {d} {g} {h} {failed} access r addr p e ended i
     n x =
     record {
-      known = subst (λ z. Trades r addr p rest bytes seated left a b c d failed g h z) (sym i)
-          (traded r addr p rest bytes e n x);
+      known = subst (λ z. Trades access r addr p rest bytes seated left a b c d failed g h z) (sym i)
+          (traded access r addr p rest bytes e n x);
     }
 
 pub untraded_told : {first told : Option (List ℕ)} {seated : Bool} {left a b c d : Option (List ℕ)} {g h : ℕ}
-    {failed : Type 0} (mid : Option (List ℕ)) (r : HttpRequest) (addr : Address) (p : BodyPlan) (e : Exchanged)
+    {failed : Type 0} (mid : Option (List ℕ)) (access : HeaderAccess) (r : HttpRequest) (addr : Address) (p : BodyPlan) (e : Exchanged)
     (no_body : Bool) (ended : Carried)
     → e ≡ exchanged.NoReply → no_body ≡ is_head r
-    → IfSome first (λ input. IfSome told (λ reply. Exchanges r addr p input reply seated left a mid c d g h failed e))
+    → IfSome first (λ input. IfSome told (λ reply. Exchanges access r addr p input reply seated left a mid c d g h failed e))
     → WritesReply (error_text BadGateway no_body) Closes mid b ended
-    → TradesTold r addr p first told seated left a b c d failed g h ended
-untraded_told {first = None} mid r addr p e no_body ended i n x w = record { known = tt }
-untraded_told {first = Some rest} {told = None} mid r addr p e no_body ended i n x w = record { known = tt }
-untraded_told {first = Some rest} {told = Some bytes} {seated} {left} {a} {b} {c} {d} {g} {h} {failed} mid r addr p e
+    → TradesTold access r addr p first told seated left a b c d failed g h ended
+untraded_told {first = None} mid access r addr p e no_body ended i n x w = record { known = tt }
+untraded_told {first = Some rest} {told = None} mid access r addr p e no_body ended i n x w = record { known = tt }
+untraded_told {first = Some rest} {told = Some bytes} {seated} {left} {a} {b} {c} {d} {g} {h} {failed} mid access r addr p e
     no_body ended i n x w =
     record {
-      known = untraded mid r addr p rest bytes ended
-          (subst (λ z. Exchanges r addr p rest bytes seated left a mid c d g h failed z) i x)
+      known = untraded mid access r addr p rest bytes ended
+          (subst (λ z. Exchanges access r addr p rest bytes seated left a mid c d g h failed z) i x)
           (subst (λ z. WritesReply (error_text BadGateway z) Closes mid b ended) n w);
     }
+
+-- by the configuration of a record and its facts
+pub traded_by : {first told : Option (List ℕ)} {seated : Bool} {left a b c d : Option (List ℕ)} {g h : ℕ}
+    {failed : Type 0} (j : Judged) (conf : Configuration) (facts : List Bool) (r : HttpRequest) (addr : Address)
+    (p : BodyPlan) (e : Exchanged) (ended : Carried)
+    → conf ≡ j.config → facts ≡ facts_of j.config.acls j.sight → ended ≡ carried_of e → (e ≡ exchanged.NoReply → ⊥)
+    → ((s : Sight) → facts ≡ facts_of conf.acls s → IfSome first (λ input. IfSome told
+    (λ reply. Exchanges (header_access conf s) r addr p input reply seated left a b c d g h failed e)))
+    → TradesTold (access_of j) r addr p first told seated left a b c d failed g h ended
+traded_by {first} {told} {seated} {left} {a} {b} {c} {d} {g} {h} {failed} j conf facts r addr p e ended same saw i n x =
+    traded_told (access_of j) r addr p e ended i n
+    (subst (λ z. IfSome first (λ input. IfSome told
+    (λ reply. Exchanges (header_access z j.sight) r addr p input reply seated left a b c d g h failed e))) same
+    (x j.sight (subst (λ z. facts ≡ facts_of (Configuration.acls z) j.sight) (sym same) saw)))
+
+pub untraded_by : {first told : Option (List ℕ)} {seated : Bool} {left a b c d : Option (List ℕ)} {g h : ℕ}
+    {failed : Type 0} (mid : Option (List ℕ)) (j : Judged) (conf : Configuration) (facts : List Bool) (r : HttpRequest)
+    (addr : Address) (p : BodyPlan) (e : Exchanged) (no_body : Bool) (ended : Carried)
+    → conf ≡ j.config → facts ≡ facts_of j.config.acls j.sight → e ≡ exchanged.NoReply → no_body ≡ is_head r
+    → ((s : Sight) → facts ≡ facts_of conf.acls s → IfSome first (λ input. IfSome told
+    (λ reply. Exchanges (header_access conf s) r addr p input reply seated left a mid c d g h failed e)))
+    → WritesReply (error_text BadGateway no_body) Closes mid b ended
+    → TradesTold (access_of j) r addr p first told seated left a b c d failed g h ended
+untraded_by {first} {told} {seated} {left} {a} {b} {c} {d} {g} {h} {failed} mid j conf facts r addr p e no_body ended
+    same saw i n x w =
+    untraded_told mid (access_of j) r addr p e no_body ended i n
+    (subst (λ z. IfSome first (λ input. IfSome told
+    (λ reply. Exchanges (header_access z j.sight) r addr p input reply seated left a mid c d g h failed e))) same
+    (x j.sight (subst (λ z. facts ≡ facts_of (Configuration.acls z) j.sight) (sym same) saw))) w
 
 carried_cause : (A B C : Type 0) (e : Exchanged) → ExchangeHasCause A B e → EndHasCause A (B ⊎ C) (carried_of e)
 carried_cause A B C exchanged.ClientFault x = x
@@ -503,19 +537,19 @@ connects_dry e ended i = tunnel_dry e ∙ ap dry_after (sym i)
 
 -- a tunnel, or an exchange, as the request asks
 pub connects_forwards : {first told : Option (List ℕ)} {seated : Bool} {left a b c d : Option (List ℕ)} {g h : ℕ}
-    {failed : Type 0} {ended : Carried} (r : HttpRequest) (addr : Address) (p : BodyPlan)
+    {failed : Type 0} {ended : Carried} (access : HeaderAccess) (r : HttpRequest) (addr : Address) (p : BodyPlan)
     → is_connect r ≡ true → ConnectsTold first told seated left a b c d g h ended
-    → ForwardsTold r addr p first told seated left a b c d failed g h ended
-connects_forwards {first = None} r addr p e x = record { known = tt }
-connects_forwards {first = Some rest} {told = None} r addr p e x = record { known = tt }
-connects_forwards {first = Some rest} {told = Some bytes} r addr p e x =
-    record { known = forwards_connect r addr p rest bytes _ e (λ unasked. x.known r unasked) }
+    → ForwardsTold access r addr p first told seated left a b c d failed g h ended
+connects_forwards {first = None} access r addr p e x = record { known = tt }
+connects_forwards {first = Some rest} {told = None} access r addr p e x = record { known = tt }
+connects_forwards {first = Some rest} {told = Some bytes} access r addr p e x =
+    record { known = forwards_connect access r addr p rest bytes _ e (λ unasked. x.known r unasked) }
 
 pub trades_forwards : {first told : Option (List ℕ)} {seated : Bool} {left a b c d : Option (List ℕ)} {g h : ℕ}
-    {failed : Type 0} {ended : Carried} (r : HttpRequest) (addr : Address) (p : BodyPlan)
-    → is_connect r ≡ false → TradesTold r addr p first told seated left a b c d failed g h ended
-    → ForwardsTold r addr p first told seated left a b c d failed g h ended
-trades_forwards {first = None} r addr p e x = record { known = tt }
-trades_forwards {first = Some rest} {told = None} r addr p e x = record { known = tt }
-trades_forwards {first = Some rest} {told = Some bytes} r addr p e x =
-    record { known = forwards_trade r addr p rest bytes _ e x.known }
+    {failed : Type 0} {ended : Carried} (access : HeaderAccess) (r : HttpRequest) (addr : Address) (p : BodyPlan)
+    → is_connect r ≡ false → TradesTold access r addr p first told seated left a b c d failed g h ended
+    → ForwardsTold access r addr p first told seated left a b c d failed g h ended
+trades_forwards {first = None} access r addr p e x = record { known = tt }
+trades_forwards {first = Some rest} {told = None} access r addr p e x = record { known = tt }
+trades_forwards {first = Some rest} {told = Some bytes} access r addr p e x =
+    record { known = forwards_trade access r addr p rest bytes _ e x.known }

@@ -6,6 +6,7 @@ use Rattle.sq_base.specs.declared.plans.BodyPlan.{BodyPlan}
 use Rattle.sq_outside.specs.Causes.{count_limit}
 use Rattle.sq_outside.specs.Dials.{Dial, Dialled, Origin, DialsMore, DialReaches, GivesDial}
 use Rattle.std.specs.Io.KnownBytes.{Appends, prepend_known}
+use Rattle.sq_headers.specs.Access.{HeaderAccess}
 use Rattle.sq_forward.specs.Replies.{Reading}
 use Rattle.sq_session.specs.Fronts.{FrontAnswer}
 use Rattle.sq_session.specs.Forwarding.{Forwards, given_by}
@@ -31,22 +32,22 @@ refused_told before None e = record { told = tt }
 refused_told before (Some now) e = record { told = (now, sym e) }
 
 -- the turn's dial is that of its request
-dial_of : (r : HttpRequest) (addr : Address) (p : BodyPlan) (rest bytes : List ℕ) (reading : Reading) (broke : Bool)
+dial_of : (access : HeaderAccess) (r : HttpRequest) (addr : Address) (p : BodyPlan) (rest bytes : List ℕ) (reading : Reading) (broke : Bool)
     (unasked : List FrontAnswer)
-    → (forwarded r addr p rest bytes reading broke unasked).dial
-    ≡ Some (dial_to r bytes (given_by (forwarded r addr p rest bytes reading broke unasked).dial))
-dial_of r addr p rest bytes reading broke unasked = by (is_connect r) refl
+    → (forwarded access r addr p rest bytes reading broke unasked).dial
+    ≡ Some (dial_to r bytes (given_by (forwarded access r addr p rest bytes reading broke unasked).dial))
+dial_of access r addr p rest bytes reading broke unasked = by (is_connect r) refl
   where
     by : (b : Bool) → is_connect r ≡ b
-        → (forwarded r addr p rest bytes reading broke unasked).dial
-        ≡ Some (dial_to r bytes (given_by (forwarded r addr p rest bytes reading broke unasked).dial))
+        → (forwarded access r addr p rest bytes reading broke unasked).dial
+        ≡ Some (dial_to r bytes (given_by (forwarded access r addr p rest bytes reading broke unasked).dial))
     by true e = rw e refl
     by false e = rw e refl
 
 -- a turn of a link that failed
-faulted_of : (r : HttpRequest) (addr : Address) (p : BodyPlan) (rest bytes : List ℕ) (reading : Reading) (broke : Bool)
-    (unasked : List FrontAnswer) → (forwarded r addr p rest bytes reading broke unasked).faulted ≡ true → broke ≡ true
-faulted_of r addr p rest bytes reading broke unasked h = by (is_connect r) refl
+faulted_of : (access : HeaderAccess) (r : HttpRequest) (addr : Address) (p : BodyPlan) (rest bytes : List ℕ) (reading : Reading) (broke : Bool)
+    (unasked : List FrontAnswer) → (forwarded access r addr p rest bytes reading broke unasked).faulted ≡ true → broke ≡ true
+faulted_of access r addr p rest bytes reading broke unasked h = by (is_connect r) refl
   where
     by : (b : Bool) → is_connect r ≡ b → broke ≡ true
     by true e = let k : false ≡ true = rw e at h in absurd cc
@@ -62,25 +63,25 @@ fits_dial whole t r bytes given full d e f w =
 
 -- the way to an origin that was reached, whose halves came back
 pub reached : {seated : Bool} {left a b : Option (List ℕ)} {g h : ℕ} {fails failed : Type 0} {ended : Carried}
-    (r : HttpRequest) (addr : Address) (p : BodyPlan) (rest : List ℕ) (unasked : List FrontAnswer)
+    (access : HeaderAccess) (r : HttpRequest) (addr : Address) (p : BodyPlan) (rest : List ℕ) (unasked : List FrontAnswer)
     (before mid : Option Dialled) (now : Dialled) (origin origin_back : Option Origin)
     (came written written_back : Option (List ℕ)) (first : Option (List ℕ))
     → DialsMore before mid → DialReaches mid r.host r.port origin came written → origin_back ≡ origin
     → first ≡ prepend_known [] came → GivesDial mid (Some now) origin_back written_back
-    → IfSome first (λ bytes. Forwards r addr p rest bytes seated left a b written written_back fails g h ended)
+    → IfSome first (λ bytes. Forwards access r addr p rest bytes seated left a b written written_back fails g h ended)
     → (fails → failed)
-    → Goes (is_connect r) (dialled r addr p rest unasked) unasked seated left a b before now failed g h ended
-reached r addr p rest unasked before None now origin origin_back came written written_back first m reach same
+    → Goes (is_connect r) (dialled access r addr p rest unasked) unasked seated left a b before now failed g h ended
+reached access r addr p rest unasked before None now origin origin_back came written written_back first m reach same
     at back f fault = absurd (let e = back.1 in cc)
-reached {seated} {left} {a} {b} {g} {h} {fails} {failed} {ended} r addr p rest unasked before (Some mid) now origin
+reached {seated} {left} {a} {b} {g} {h} {fails} {failed} {ended} access r addr p rest unasked before (Some mid) now origin
     origin_back came written written_back first m reach same at back f fault =
     let bytes = reach.0 in
     let made_is : back.0 ≡ mid = let e : Some mid ≡ Some back.0 = back.1 in cc in
-    let all : Forwards r addr p rest bytes seated left a b written written_back fails g h ended =
-    subst (λ o. IfSome o (λ bs. Forwards r addr p rest bs seated left a b written written_back fails g h ended))
+    let all : Forwards access r addr p rest bytes seated left a b written written_back fails g h ended =
+    subst (λ o. IfSome o (λ bs. Forwards access r addr p rest bs seated left a b written written_back fails g h ended))
     (at ∙ ap (prepend_known []) reach.2) f in
     let x = all.goes unasked in
-    let t = forwarded r addr p rest bytes all.reading all.broke unasked in
+    let t = forwarded access r addr p rest bytes all.reading all.broke unasked in
     let wrote_all : written_back ≡ Some x.given = wrote_to written written_back x.given reach.3 x.gave in
     let dial : now.back ≡ back.0.back
     ++ record { origin = record { host = r.host; port = r.port; bytes = bytes }; written = x.given } ∷ [] =
@@ -90,12 +91,12 @@ reached {seated} {left} {a} {b} {g} {h} {fails} {failed} {ended} r addr p rest u
       written = x.written;
       dial = Some (dial_to r bytes x.given);
       fits = all.fits;
-      broken = λ i. fault (all.broken (faulted_of r addr p rest bytes all.reading all.broke unasked i));
+      broken = λ i. fault (all.broken (faulted_of access r addr p rest bytes all.reading all.broke unasked i));
       gives = record {
         exact = x.exact;
         front = x.front;
         dial = fits_dial (is_exact ended && not all.broke) t.dial r bytes x.given (given_by t.dial)
-            (dial_to r bytes x.given) (dial_of r addr p rest bytes all.reading all.broke unasked) refl x.gives;
+            (dial_to r bytes x.given) (dial_of access r addr p rest bytes all.reading all.broke unasked) refl x.gives;
       };
       wrote = x.wrote;
       pays = x.pays;
@@ -128,35 +129,35 @@ reached {seated} {left} {a} {b} {g} {h} {fails} {failed} {ended} r addr p rest u
 
 -- an origin that was not reached
 pub unreached_told : {first : Option (List ℕ)} {before now : Option Dialled} {seat : Bool} {left a b : Option (List ℕ)}
-    {failed : Type 0} {g : ℕ} {ended : Carried} (r : HttpRequest) (addr : Address) (p : BodyPlan)
+    {failed : Type 0} {g : ℕ} {ended : Carried} (access : HeaderAccess) (r : HttpRequest) (addr : Address) (p : BodyPlan)
     → failed → WritesReply (error_text BadGateway (is_head r)) Closes a b ended → g ≤ count_limit → now ≡ before
-    → ReachesTold r addr p first before now seat left a b failed g g ended
-unreached_told {first = None} r addr p fault w few same = record { known = tt }
-unreached_told {first = Some rest} {now = None} r addr p fault w few same = record { known = tt }
-unreached_told {first = Some rest} {before} {now = Some d} r addr p fault w few same = record {
-  known = λ unasked. fault_goes (dialled r addr p rest unasked) (error_text BadGateway (is_head r)) [] unasked Closes
+    → ReachesTold access r addr p first before now seat left a b failed g g ended
+unreached_told {first = None} access r addr p fault w few same = record { known = tt }
+unreached_told {first = Some rest} {now = None} access r addr p fault w few same = record { known = tt }
+unreached_told {first = Some rest} {before} {now = Some d} access r addr p fault w few same = record {
+  known = λ unasked. fault_goes (dialled access r addr p rest unasked) (error_text BadGateway (is_head r)) [] unasked Closes
       before d fault refl w few (sym same) (λ s. absurd cc);
 }
 
 -- an origin that was reached, and whose halves came back
 pub reaches : {first : Option (List ℕ)} {before now : Option Dialled} {seated : Bool} {left a b : Option (List ℕ)}
     {failed : Type 0} {g h : ℕ} {ended : Carried} {fails : Type 0} {written written_back bytes : Option (List ℕ)}
-    (r : HttpRequest) (addr : Address) (p : BodyPlan)
+    (access : HeaderAccess) (r : HttpRequest) (addr : Address) (p : BodyPlan)
     (host : List ℕ) (port : ℕ) (mid : Option Dialled) (origin origin_back : Option Origin) (came : Option (List ℕ))
     → host ≡ r.host → port ≡ r.port → DialsMore before mid → DialReaches mid host port origin came written
     → origin_back ≡ origin → bytes ≡ prepend_known [] came → GivesDial mid now origin_back written_back
-    → ForwardsTold r addr p first bytes seated left a b written written_back fails g h ended → (fails → failed)
-    → ReachesTold r addr p first before now seated left a b failed g h ended
-reaches {first = None} r addr p host port mid origin origin_back came e f0 m reach same at back f fault =
+    → ForwardsTold access r addr p first bytes seated left a b written written_back fails g h ended → (fails → failed)
+    → ReachesTold access r addr p first before now seated left a b failed g h ended
+reaches {first = None} access r addr p host port mid origin origin_back came e f0 m reach same at back f fault =
     record { known = tt }
-reaches {first = Some rest} {now = None} r addr p host port mid origin origin_back came e f0 m reach same
+reaches {first = Some rest} {now = None} access r addr p host port mid origin origin_back came e f0 m reach same
     at back f fault = record { known = tt }
-reaches {first = Some rest} {before} {now = Some d} {written} {written_back} {bytes} r addr p host port mid origin
+reaches {first = Some rest} {before} {now = Some d} {written} {written_back} {bytes} access r addr p host port mid origin
     origin_back came e f0 m reach same at back f fault =
     let there : DialReaches mid r.host r.port origin came written =
     subst (λ h. DialReaches mid h r.port origin came written) e
     (subst (λ q. DialReaches mid host q origin came written) f0 reach) in
     record {
-      known = λ unasked. reached r addr p rest unasked before mid d origin origin_back came written written_back
+      known = λ unasked. reached access r addr p rest unasked before mid d origin origin_back came written written_back
           bytes m there same at back f.known fault;
     }

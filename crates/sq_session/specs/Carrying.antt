@@ -6,9 +6,9 @@ use Rattle.sq_base.specs.Requests.{HttpRequest}
 use Rattle.sq_base.specs.declared.plans.BodyPlan.{BodyPlan}
 use Rattle.sq_checks.specs.Records.{Judged}
 use Rattle.sq_outside.specs.Dials.{Dialled}
-use Rattle.sq_session.specs.Fronts.{FrontAnswer, OfOpen, OfDecide, OfSit, OfClose, SitsFor, names_pool}
+use Rattle.sq_session.specs.Fronts.{FrontAnswer, OfOpen, OfDecide, OfRewrite, OfSit, OfClose, SitsFor, takes_seat}
 use Rattle.sq_session.specs.Steps.{Goes}
-use Rattle.sq_session.specs.Turns.{is_connect, carried, recorded}
+use Rattle.sq_session.specs.Turns.{access_of, is_connect, carried, recorded}
 use Rattle.sq_session.specs.declared.ends.Carried.{Carried}
 
 -- method, version and fields are the same
@@ -17,8 +17,9 @@ pub record IsSameMessage (sent judged : HttpRequest) : Type 0 where
   pub minor : sent.minor ≡ judged.minor
   pub fields : sent.fields ≡ judged.fields
 
--- a seat was given, if there was a pool
+-- a seat was given, if there was a pool; an answer of the rewriter may come before
 abbrev pub sat : List FrontAnswer → Bool
+sat (OfRewrite j said ∷ more) = sat more
 sat (OfSit k (Ok u) ∷ more) = true
 sat (OfSit k (Err e) ∷ more) = false
 sat (OfDecide r d ∷ more) = false
@@ -34,7 +35,7 @@ pub record Carries (r : HttpRequest) (addr : Address) (p : BodyPlan) (rest : Lis
   pub answers : List FrontAnswer
   pub told : (list : List FrontAnswer) → stood list → stands (list ++ answers)
   pub sits : SitsFor j answers
-  pub goes : Goes (is_connect r) (carried r addr p rest answers) [] (names_pool j && sat answers)
+  pub goes : Goes (is_connect r) (carried (access_of j) r addr p rest answers) [] (takes_seat j && sat answers)
       left a b dialled_before dialled_now failed g h ended
 
 -- the part of a turn from the record on
@@ -45,5 +46,5 @@ pub record Obeys (r : HttpRequest) (addr : Address) (p : BodyPlan) (rest : List 
   pub answers : List FrontAnswer
   pub told : (list : List FrontAnswer) → stood list → stands (list ++ answers)
   pub sits : SitsFor j answers
-  pub goes : Goes (is_connect r) (recorded r addr p rest j answers) [] (names_pool j && sat answers)
+  pub goes : Goes (is_connect r) (recorded r addr p rest j answers) [] (takes_seat j && sat answers)
       left a b dialled_before dialled_now failed g h ended

@@ -7,6 +7,7 @@ use Rattle.sq_base.specs.Requests.{HttpRequest}
 use Rattle.sq_base.specs.declared.plans.BodyPlan.{BodyPlan}
 use Rattle.sq_outside.specs.Dials.{Dial}
 use Rattle.sq_outside.specs.Output.{IsPrefix}
+use Rattle.sq_headers.specs.Access.{HeaderAccess}
 use Rattle.sq_forward.specs.Exchanges.{exchange}
 use Rattle.sq_forward.specs.Replies.{Reading}
 use Rattle.sq_forward.specs.declared.tunnels.Tunnelled.{Tunnelled}
@@ -38,7 +39,7 @@ pub record ForwardsAs (t : ClientTurn) (unasked : List FrontAnswer) (broke seate
   pub spare : t.unasked ≡ unasked
 
 -- an exchange over these bytes of the origin
-pub record Trades (r : HttpRequest) (addr : Address) (p : BodyPlan) (rest bytes : List ℕ)
+pub record Trades (access : HeaderAccess) (r : HttpRequest) (addr : Address) (p : BodyPlan) (rest bytes : List ℕ)
     (seated : Bool) (left a b c d : Option (List ℕ)) (failed : Type 0) (g h : ℕ)
     (ended : Carried) : Type 0 where
   pub seen : List ℕ
@@ -48,11 +49,11 @@ pub record Trades (r : HttpRequest) (addr : Address) (p : BodyPlan) (rest bytes 
   pub broken : broke ≡ true → failed
   pub goes : (unasked : List FrontAnswer)
       → ForwardsAs (exchanged_turn r bytes broke
-      (ends_exchange broke (exchange r addr p rest reading)) (exchange r addr p rest reading)
+      (ends_exchange broke (exchange access r addr p rest reading)) (exchange access r addr p rest reading)
       unasked) unasked broke seated left a b c d g h ended
 
 -- an exchange or a tunnel, as the request asks
-pub record Forwards (r : HttpRequest) (addr : Address) (p : BodyPlan) (rest bytes : List ℕ)
+pub record Forwards (access : HeaderAccess) (r : HttpRequest) (addr : Address) (p : BodyPlan) (rest bytes : List ℕ)
     (seated : Bool) (left a b c d : Option (List ℕ)) (failed : Type 0) (g h : ℕ)
     (ended : Carried) : Type 0 where
   pub seen : List ℕ
@@ -62,7 +63,7 @@ pub record Forwards (r : HttpRequest) (addr : Address) (p : BodyPlan) (rest byte
       × (is_connect r ≡ true → broke ≡ false)
   pub broken : broke ≡ true → failed
   pub goes : (unasked : List FrontAnswer)
-      → ForwardsAs (forwarded r addr p rest bytes reading broke unasked) unasked broke seated left a
+      → ForwardsAs (forwarded access r addr p rest bytes reading broke unasked) unasked broke seated left a
       b c d g h ended
 
 -- how a turn ends by its tunnel

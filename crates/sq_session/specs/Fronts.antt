@@ -1,10 +1,15 @@
--- What a front's answers say: the engine and the pools as one connection sees them.
-use Rattle.std.specs.Prelude.{◌≡◌, ◌⊎◌, ℕ, List, [], ◌∷◌, Bool, Ok, Err, is_some, ⊤}
+-- What a front's answers say: the engine, the rewriter and the pools as one connection sees them.
+use Rattle.std.specs.Prelude.{◌≡◌, ◌⊎◌, ℕ, List, [], ◌∷◌, Bool, true, false, Ok, Err, is_some, ⊤}
+use Rattle.std.specs.Option.{option_map_or}
 use Rattle.std.specs.declared.result.Result.{Result}
 use Rattle.sq_base.specs.Addresses.{Address}
 use Rattle.sq_base.specs.Requests.{HttpRequest}
-use Rattle.sq_checks.specs.Records.{Judged}
+use Rattle.sq_checks.specs.Records.{Judged, takes_client}
+use Rattle.sq_machine.specs.SeatPlaces.{has_tags, pool_at, seat_place}
+use Rattle.sq_machine.specs.declared.places.SeatPlace.{SeatPlace}
+use Rattle.sq_machine.specs.declared.places.SeatPlace.TheVariants.{Nowhere, ByAddress, ByTag}
 use Rattle.sq_outside.specs.Causes.{Rose, raised}
+use Rattle.sq_rewrite.specs.Rewritings.{IsInPlaceOf, IsRedirect}
 use Rattle.sq_session.specs.declared.front.Opened.{Opened}
 use Rattle.sq_session.specs.declared.front.Opened.TheVariants as opened
 use Rattle.sq_session.specs.declared.front.SitFault.{SitFault}
@@ -12,12 +17,16 @@ use Rattle.sq_session.specs.declared.front.CloseFault.{CloseFault}
 use Rattle.sq_session.specs.declared.front.CloseFault.TheVariants as close
 use Rattle.sq_session.specs.declared.front.Decided.{Decided}
 use Rattle.sq_session.specs.declared.front.Decided.TheVariants.{Record, Mismatch, Refused, JournalFault, WantOfMemory}
+use Rattle.sq_session.specs.declared.front.Rewritten.{Rewritten}
+use Rattle.sq_session.specs.declared.front.Rewritten.TheVariants as rewritten
 
 -- an answer that a front gave: to the opening for this address and port, to a question about this
--- request, to a call for a seat with this record, to the close
+-- request, to a question to the rewriter about this record, to a call for a seat with this record,
+-- to the close
 pub data FrontAnswer : Type 0 where
   OfOpen : Address → ℕ → Opened → FrontAnswer
   OfDecide : HttpRequest → Decided → FrontAnswer
+  OfRewrite : Judged → Rewritten → FrontAnswer
   OfSit : Judged → Result (Unit {0}) SitFault → FrontAnswer
   OfClose : Result (Unit {0}) CloseFault → FrontAnswer
 
@@ -29,9 +38,19 @@ Decides r (Refused why) = ⊤
 Decides r JournalFault = ⊤
 Decides r WantOfMemory = ⊤
 
--- where the next answer is to a call for a seat, that is with this record
+-- another request in place of this one has its method, version and fields, and the scheme http; a
+-- client is sent elsewhere with a status of a redirect and a URL
+abbrev pub Rewrites : HttpRequest → Rewritten → Type 0
+Rewrites r rewritten.Same = ⊤
+Rewrites r (rewritten.New new) = IsInPlaceOf r new
+Rewrites r (rewritten.Redirect code url) = IsRedirect code url
+Rewrites r rewritten.WantOfMemory = ⊤
+
+-- where the next answers are of the rewriter and to a call for a seat, they are with this record,
+-- and what the rewriter makes of a request it makes of the record's
 abbrev pub SitsFor : Judged → List FrontAnswer → Type 0
 SitsFor j [] = ⊤
+SitsFor j (OfRewrite k said ∷ more) = (k ≡ j) × Rewrites j.sight.request said × SitsFor j more
 SitsFor j (OfSit k s ∷ more) = k ≡ j
 SitsFor j (OfDecide r d ∷ more) = ⊤
 SitsFor j (OfOpen a port o ∷ more) = ⊤
@@ -74,6 +93,17 @@ CloseRefuses before now (Err (close.Refused why)) = Rose before now
 CloseRefuses before now (Err close.JournalFault) = Rose before now
 CloseRefuses before now (Err close.WantOfMemory) = ⊤
 
--- the record names a pool
-abbrev pub names_pool : Judged → Bool
-names_pool j = is_some j.pool
+-- the record takes a seat: it has a pool, and where the buckets of that are by tags, a tag
+abbrev pub takes_seat : Judged → Bool
+takes_seat j = is_some (pool_at (seat_place j.config j.sight j.answers))
+
+-- its pool, if it has one, has buckets by tags
+abbrev pub needs_tag : Judged → Bool
+needs_tag j = option_map_or (has_tags j.config.pools) j.pool false
+
+-- the pool of a place takes the client of the record, or has buckets by tags
+abbrev pub TakesClient : Judged → SeatPlace → Type 0
+TakesClient j Nowhere = ⊤
+TakesClient j (ByAddress pool) = (takes_client j.config.pools j.sight.addr pool ≡ true)
+    × (has_tags j.config.pools pool ≡ false)
+TakesClient j (ByTag pool tag) = has_tags j.config.pools pool ≡ true

@@ -12,7 +12,7 @@ use Rattle.sq_head.specs.declared.own.Own.TheVariants.{Inner, Stopped, NoMemory,
 use Rattle.sq_forward.specs.Meters.{granted_after, dry_limit}
 use Rattle.sq_session.specs.Begins.{Begins}
 use Rattle.sq_session.specs.Carrying.{sat}
-use Rattle.sq_session.specs.Fronts.{FrontAnswer, OfOpen, OfDecide, OfSit, OfClose, Decides, SitsBehind, names_pool}
+use Rattle.sq_session.specs.Fronts.{FrontAnswer, OfOpen, OfDecide, OfRewrite, OfSit, OfClose, Decides, SitsBehind, takes_seat}
 use Rattle.sq_session.specs.Steps.{spare_of, FitsReply, Gives, DialsOn, Goes}
 use Rattle.sq_session.specs.Turns.{ClientTurn, from_origin, Reply, is_broken, is_connect, asked, turn}
 use Rattle.sq_session.specs.declared.beginning.Begun.{Begun}
@@ -28,19 +28,22 @@ use Rattle.sq_session.specs.declared.front.Opened.TheVariants as opened
 
 -- whether a seat was held in a turn with these answers of the front
 abbrev pub held_seat : List FrontAnswer → Bool
-held_seat (OfDecide q (decided.Record j) ∷ more) = names_pool j && sat more
+held_seat (OfDecide q (decided.Record j) ∷ more) = takes_seat j && sat more
 held_seat (OfDecide q (decided.Mismatch other) ∷ more) = false
 held_seat (OfDecide q (decided.Refused why) ∷ more) = false
 held_seat (OfDecide q decided.JournalFault ∷ more) = false
 held_seat (OfDecide q decided.WantOfMemory ∷ more) = false
+held_seat (OfRewrite j said ∷ more) = false
 held_seat (OfSit k s ∷ more) = false
 held_seat (OfOpen a port o ∷ more) = false
 held_seat (OfClose c ∷ more) = false
 held_seat [] = false
 
--- the front was asked about this request, what it said is of it, and a seat is one for its record
+-- the front was asked about this request, what it said is of it, and what the rewriter was asked
+-- about and a seat are of its record
 abbrev pub JudgesOf : HttpRequest → List FrontAnswer → Type 0
 JudgesOf r (OfDecide q d ∷ more) = (q ≡ r) × Decides r d × SitsBehind d more
+JudgesOf r (OfRewrite j said ∷ more) = ⊤
 JudgesOf r (OfSit k s ∷ more) = ⊤
 JudgesOf r (OfOpen a port o ∷ more) = ⊤
 JudgesOf r (OfClose c ∷ more) = ⊤

@@ -5,6 +5,7 @@ use Rattle.sq_base.specs.Addresses.{Address}
 use Rattle.sq_base.specs.Requests.{HttpRequest}
 use Rattle.sq_base.specs.declared.plans.BodyPlan.{BodyPlan}
 use Rattle.sq_checks.specs.Records.{Judged}
+use Rattle.sq_headers.specs.Access.{HeaderAccess}
 use Rattle.sq_outside.specs.Dials.{Dialled}
 use Rattle.sq_session.specs.Begins.{BeginsSo}
 use Rattle.sq_session.specs.Carrying.{Carries, Obeys}
@@ -22,11 +23,11 @@ pub record BeginsTold (first left : Option (List ℕ)) (begun : Begun) : Type 0 
   pub known : IfSome first (λ input. BeginsSo input left begun)
 
 -- an exchange, of the client's input and the origin's bytes
-pub record TradesTold (r : HttpRequest) (addr : Address) (p : BodyPlan)
+pub record TradesTold (access : HeaderAccess) (r : HttpRequest) (addr : Address) (p : BodyPlan)
     (first told : Option (List ℕ)) (seated : Bool) (left a b c d : Option (List ℕ))
     (failed : Type 0) (g h : ℕ) (ended : Carried) : Type 0 where
   pub known : IfSome first
-      (λ rest. IfSome told (λ bytes. Trades r addr p rest bytes seated left a b c d failed g h
+      (λ rest. IfSome told (λ bytes. Trades access r addr p rest bytes seated left a b c d failed g h
       ended))
 
 -- a tunnel
@@ -38,20 +39,20 @@ pub record ConnectsTold (first told : Option (List ℕ)) (seated : Bool)
       ended))
 
 -- either, as the request asks
-pub record ForwardsTold (r : HttpRequest) (addr : Address) (p : BodyPlan)
+pub record ForwardsTold (access : HeaderAccess) (r : HttpRequest) (addr : Address) (p : BodyPlan)
     (first told : Option (List ℕ)) (seated : Bool) (left a b c d : Option (List ℕ))
     (failed : Type 0) (g h : ℕ) (ended : Carried) : Type 0 where
   pub known : IfSome first
-      (λ rest. IfSome told (λ bytes. Forwards r addr p rest bytes seated left a b c d failed g h
+      (λ rest. IfSome told (λ bytes. Forwards access r addr p rest bytes seated left a b c d failed g h
       ended))
 
 -- the part of a turn from the dial on, of the client's input and the dialer's word
-pub record ReachesTold (r : HttpRequest) (addr : Address) (p : BodyPlan) (first : Option (List ℕ))
+pub record ReachesTold (access : HeaderAccess) (r : HttpRequest) (addr : Address) (p : BodyPlan) (first : Option (List ℕ))
     (before now : Option Dialled) (seated : Bool) (left a b : Option (List ℕ)) (failed : Type 0)
     (g h : ℕ) (ended : Carried) : Type 0 where
   pub known : IfSome first
       (λ rest. IfSome now (λ o. (unasked : List FrontAnswer)
-      → Goes (is_connect r) (dialled r addr p rest unasked) unasked seated left a b before o failed
+      → Goes (is_connect r) (dialled access r addr p rest unasked) unasked seated left a b before o failed
       g h ended))
 
 -- the part of a turn from the scheme on

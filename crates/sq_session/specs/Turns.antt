@@ -1,5 +1,5 @@
 -- The turns of a session: RFC 9112 section 9.3 (persistence), RFC 9110 sections 7.6 (forwarding),
--- 9.3.6 (CONNECT) and 10.1.1 (100-continue), and Squid's http_access.
+-- 9.3.6 (CONNECT) and 10.1.1 (100-continue), and Squid's http_access and url_rewrite_program.
 use Rattle.std.specs.Prelude.{ℕ, ◌-◌, List, [], ◌∷◌, ◌++◌, length, min, Bool, true, false, ◌||◌, if◌then◌else◌, bytes_eq, codes, Some, None, Ok, Err}
 use Rattle.std.specs.declared.option.Option.{Option}
 use Rattle.std.specs.declared.result.Result.{Result}
@@ -9,25 +9,27 @@ use Rattle.sq_base.specs.declared.plans.BodyPlan.{BodyPlan}
 use Rattle.sq_checks.specs.Records.{Judged}
 use Rattle.sq_outside.specs.Dials.{Dial}
 use Rattle.sq_head.specs.BodyPlans.{request_plan}
-use Rattle.sq_head.specs.OwnReplies.{error_text, denial}
+use Rattle.sq_head.specs.OwnReplies.{error_text, denial, redirect_text}
 use Rattle.sq_head.specs.RequestHeads.{crlf}
 use Rattle.sq_head.specs.Wishes.{wants_close, has_body}
 use Rattle.sq_head.specs.declared.faults.BadBody as body
 use Rattle.sq_head.specs.declared.faults.BadBody.TheVariants.{BothLengths, BadLength, BadCoding}
 use Rattle.sq_head.specs.declared.own.Own.{Own}
 use Rattle.sq_head.specs.declared.own.Own.TheVariants.{BadRequest, HeadTooLarge, Inner, Stopped, NoMemory, NotImplemented, BadGateway}
+use Rattle.sq_headers.specs.Access.{HeaderAccess, header_access}
 use Rattle.sq_forward.specs.Exchanges.{Exchange, exchange}
 use Rattle.sq_forward.specs.Replies.{Reading}
 use Rattle.sq_forward.specs.declared.exchanging.Exchanged.{Exchanged}
 use Rattle.sq_forward.specs.declared.exchanging.Exchanged.TheVariants as exchanged
 use Rattle.sq_session.specs.Begins.{fits_hosts}
-use Rattle.sq_session.specs.Fronts.{FrontAnswer, OfOpen, OfDecide, OfSit, OfClose}
+use Rattle.sq_session.specs.Fronts.{FrontAnswer, OfOpen, OfDecide, OfRewrite, OfSit, OfClose}
 use Rattle.sq_session.specs.declared.beginning.Begun.{Begun}
 use Rattle.sq_session.specs.declared.beginning.Begun.TheVariants as begun
 use Rattle.sq_session.specs.declared.ends.Carried.{Carried}
 use Rattle.sq_session.specs.declared.ends.Carried.TheVariants.{Stays, Closes, Over}
 use Rattle.sq_session.specs.declared.ends.End.TheVariants as end
 use Rattle.sq_session.specs.declared.front.Decided.TheVariants as decided
+use Rattle.sq_session.specs.declared.front.Rewritten.TheVariants as rewritten
 use Rattle.sq_session.specs.declared.front.SitFault.TheVariants as sit
 
 -- what the client gets: the proxy's own line, what came from the origin, and the proxy's own reply;
@@ -129,6 +131,10 @@ dial_to r bytes written = record {
   written = written;
 }
 
+-- which fields of heads go on, by the configuration of a record and what that saw
+abbrev pub access_of : Judged → HeaderAccess
+access_of j = header_access j.config j.sight
+
 -- an exchange that ends so
 abbrev pub exchanged_turn : HttpRequest → List ℕ → Bool → Exchanged → Exchange → List FrontAnswer
     → ClientTurn
@@ -165,12 +171,12 @@ abbrev pub ends_exchange : Bool → Exchange → Exchanged
 ends_exchange broke x = if broke then exchanged.NoReply else x.end
 
 -- behind the dial: the tunnel, or the exchange
-abbrev pub forwarded : HttpRequest → Address → BodyPlan → List ℕ → List ℕ → Reading → Bool
+abbrev pub forwarded : HeaderAccess → HttpRequest → Address → BodyPlan → List ℕ → List ℕ → Reading → Bool
     → List FrontAnswer → ClientTurn
-forwarded r addr p rest bytes reading broke unasked =
+forwarded access r addr p rest bytes reading broke unasked =
     if is_connect r then tunnelled_turn r bytes rest unasked
-    else exchanged_turn r bytes broke (ends_exchange broke (exchange r addr p rest reading))
-    (exchange r addr p rest reading) unasked
+    else exchanged_turn r bytes broke (ends_exchange broke (exchange access r addr p rest reading))
+    (exchange access r addr p rest reading) unasked
 
 -- an origin that was not reached
 abbrev pub unreached : HttpRequest → List FrontAnswer → ClientTurn
@@ -186,30 +192,72 @@ unreached r unasked = record {
 }
 
 -- from the dial on
-abbrev pub dialled : HttpRequest → Address → BodyPlan → List ℕ → List FrontAnswer → Reply
+abbrev pub dialled : HeaderAccess → HttpRequest → Address → BodyPlan → List ℕ → List FrontAnswer → Reply
     → ClientTurn
-dialled r addr p rest unasked NoOrigin = unreached r unasked
-dialled r addr p rest unasked (Came bytes seen reading broke) =
-    forwarded r addr p rest bytes reading broke unasked
+dialled access r addr p rest unasked NoOrigin = unreached r unasked
+dialled access r addr p rest unasked (Came bytes seen reading broke) =
+    forwarded access r addr p rest bytes reading broke unasked
 
 -- from the seat on
-abbrev pub seated : HttpRequest → Address → BodyPlan → List ℕ → List FrontAnswer → Reply
+abbrev pub seated : HeaderAccess → HttpRequest → Address → BodyPlan → List ℕ → List FrontAnswer → Reply
     → ClientTurn
-seated r addr p rest (OfSit k (Ok u) ∷ more) reply = dialled r addr p rest more reply
-seated r addr p rest (OfSit k (Err sit.Spent) ∷ more) reply = says Inner (is_head r) more
-seated r addr p rest (OfSit k (Err sit.WantOfMemory) ∷ more) reply = says NoMemory (is_head r) more
-seated r addr p rest (OfDecide q d ∷ more) reply = silent (Over end.WantOfMemory)
+seated access r addr p rest (OfSit k (Ok u) ∷ more) reply = dialled access r addr p rest more reply
+seated access r addr p rest (OfSit k (Err sit.Spent) ∷ more) reply = says Inner (is_head r) more
+seated access r addr p rest (OfSit k (Err sit.WantOfMemory) ∷ more) reply = says NoMemory (is_head r) more
+seated access r addr p rest (OfDecide q d ∷ more) reply = silent (Over end.WantOfMemory)
     (OfDecide q d ∷ more)
-seated r addr p rest (OfOpen a port o ∷ more) reply = silent (Over end.WantOfMemory)
+seated access r addr p rest (OfRewrite j said ∷ more) reply = silent (Over end.WantOfMemory)
+    (OfRewrite j said ∷ more)
+seated access r addr p rest (OfOpen a port o ∷ more) reply = silent (Over end.WantOfMemory)
     (OfOpen a port o ∷ more)
-seated r addr p rest (OfClose c ∷ more) reply = silent (Over end.WantOfMemory) (OfClose c ∷ more)
-seated r addr p rest [] reply = silent (Over end.WantOfMemory) []
+seated access r addr p rest (OfClose c ∷ more) reply = silent (Over end.WantOfMemory) (OfClose c ∷ more)
+seated access r addr p rest [] reply = silent (Over end.WantOfMemory) []
 
 -- from the scheme on: an allowed request, which goes on as this one
-abbrev pub carried : HttpRequest → Address → BodyPlan → List ℕ → List FrontAnswer → Reply
+abbrev pub carried : HeaderAccess → HttpRequest → Address → BodyPlan → List ℕ → List FrontAnswer → Reply
     → ClientTurn
-carried r addr p rest answers reply = if is_served r then seated r addr p rest answers reply
+carried access r addr p rest answers reply = if is_served r then seated access r addr p rest answers reply
     else says NotImplemented (is_head r) answers
+
+-- the client is sent elsewhere, behind which the connection closes
+abbrev pub redirected : ℕ → List ℕ → List FrontAnswer → ClientTurn
+redirected code url unasked = record {
+  own = [];
+  client = [];
+  last = redirect_text code url;
+  dial = None;
+  rest = [];
+  unasked = unasked;
+  ends = Closes;
+  faulted = false;
+}
+
+-- from the rewriter on: the request goes on as it is, or another one in its place with the body
+-- that comes, or the client is sent elsewhere
+abbrev pub rewritten_on : HeaderAccess → HttpRequest → Address → BodyPlan → List ℕ → List FrontAnswer → Reply
+    → ClientTurn
+rewritten_on access r addr p rest (OfRewrite j rewritten.Same ∷ more) reply = carried access r addr p rest more reply
+rewritten_on access r addr p rest (OfRewrite j (rewritten.New new) ∷ more) reply =
+    carried access new addr p rest more reply
+rewritten_on access r addr p rest (OfRewrite j (rewritten.Redirect code url) ∷ more) reply =
+    redirected code url more
+rewritten_on access r addr p rest (OfRewrite j rewritten.WantOfMemory ∷ more) reply =
+    says NoMemory (is_head r) more
+rewritten_on access r addr p rest (OfDecide q d ∷ more) reply = silent (Over end.WantOfMemory)
+    (OfDecide q d ∷ more)
+rewritten_on access r addr p rest (OfSit k s ∷ more) reply = silent (Over end.WantOfMemory)
+    (OfSit k s ∷ more)
+rewritten_on access r addr p rest (OfOpen a port o ∷ more) reply = silent (Over end.WantOfMemory)
+    (OfOpen a port o ∷ more)
+rewritten_on access r addr p rest (OfClose c ∷ more) reply = silent (Over end.WantOfMemory)
+    (OfClose c ∷ more)
+rewritten_on access r addr p rest [] reply = silent (Over end.WantOfMemory) []
+
+-- an allowed request: the rewriter is asked about each but CONNECT
+abbrev pub allowed : HeaderAccess → HttpRequest → Address → BodyPlan → List ℕ → List FrontAnswer → Reply
+    → ClientTurn
+allowed access r addr p rest answers reply = if is_connect r then carried access r addr p rest answers reply
+    else rewritten_on access r addr p rest answers reply
 
 -- a denial closes the connection but where the request has no body and the connection stays
 -- otherwise
@@ -234,7 +282,7 @@ denied r p rest j unasked = record {
 -- the verdict of a record
 abbrev pub recorded : HttpRequest → Address → BodyPlan → List ℕ → Judged → List FrontAnswer → Reply
     → ClientTurn
-recorded r addr p rest j answers reply = if j.outcome.allow then carried r addr p rest answers reply
+recorded r addr p rest j answers reply = if j.outcome.allow then allowed (access_of j) r addr p rest answers reply
     else denied r p rest j answers
 
 -- from the verdict on
@@ -247,6 +295,8 @@ judged r addr p rest (OfDecide q (decided.Mismatch other) ∷ more) reply =
 judged r addr p rest (OfDecide q (decided.Refused why) ∷ more) reply = says Inner (is_head r) more
 judged r addr p rest (OfDecide q decided.JournalFault ∷ more) reply = says Stopped (is_head r) more
 judged r addr p rest (OfDecide q decided.WantOfMemory ∷ more) reply = says NoMemory (is_head r) more
+judged r addr p rest (OfRewrite j said ∷ more) reply = silent (Over end.WantOfMemory)
+    (OfRewrite j said ∷ more)
 judged r addr p rest (OfSit k s ∷ more) reply = silent (Over end.WantOfMemory) (OfSit k s ∷ more)
 judged r addr p rest (OfOpen a port o ∷ more) reply = silent (Over end.WantOfMemory)
     (OfOpen a port o ∷ more)

@@ -6,6 +6,7 @@ ghost use Rattle.sq_forward.specs.Halves.{to_come, read_limit};
 ghost use Rattle.sq_session.specs.Told.{BeginsTold};
 ghost use Rattle.sq_session.specs.Begins.{is_blank, ended_as, is_host, fits_hosts};
 
+use http_header::HOST;
 use sq_base::{Field, Request};
 use sq_forward::{Half, HeadFound, find_head};
 use sq_outside::Source;
@@ -106,5 +107,5 @@ fn host_count(fields: &[Field]) -> usize
 fn is_host(field: &Field) -> bool
     ensures { result ≡ is_host field.now }
 {
-    field.name.as_bytes().eq_ignore_ascii_case(b"host")
+    field.name.as_bytes().eq_ignore_ascii_case(HOST.as_bytes())
 }

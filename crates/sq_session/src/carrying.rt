@@ -6,6 +6,7 @@ ghost use Rattle.sq_forward.specs.Halves.{to_come};
 ghost use Rattle.sq_session.specs.Carrying.{IsSameMessage};
 ghost use Rattle.sq_session.specs.Steps.{EndHasCause, WasTold, dry_after};
 ghost use Rattle.sq_session.specs.Told.{CarriesTold, ReachesTold};
+ghost use Rattle.sq_session.specs.Turns.{access_of};
 
 use crate::ends::Carried;
 use crate::forwarding::forward;
@@ -21,7 +22,8 @@ use std::sync::Wait;
 use std::thread::Threads;
 
 /// Takes an allowed request to its origin, as `sent`, and brings the reply to the client: by way of the scheme,
-/// the seat and the dial, of which there is one at most. The seat and the dial are given back. It may wait as
+/// the seat and the dial, of which there is one at most. Of the heads go on the fields that the configuration of
+/// the record allows, by what its check saw. The seat and the dial are given back. It may wait as
 /// long as a source gives bytes.
 pub fn carry<R: Threads + Wait + Sync, I: Source + Send, O: Out, F: Front, D: Dialer>(
     rt: &R,
@@ -66,7 +68,9 @@ pub fn carry<R: Threads + Wait + Sync, I: Source + Send, O: Out, F: Front, D: Di
         Err(SitFault::Spent) => return say(alloc, to, Own::Inner, is_head(sent)),
         Err(SitFault::WantOfMemory) => return say(alloc, to, Own::NoMemory, is_head(sent)),
     }
-    let carried = reach(rt, alloc, client, to, addr, sent, plan, front, dialer);
+    let carried = reach(
+        rt, alloc, client, to, addr, judged, sent, plan, front, dialer,
+    );
     front.rise();
     carried
 }
@@ -78,13 +82,14 @@ fn reach<R: Threads + Wait + Sync, I: Source + Send, O: Out, M: Meter, D: Dialer
     client: &mut Half<I>,
     to: &mut O,
     addr: Addr,
+    judged: &Record,
     sent: &Request,
     plan: BodyPlan,
     meter: &mut M,
     dialer: &mut D,
 ) -> Carried
     requires dry { M.dry meter.old ≡ 0 }
-    ensures told { ReachesTold sent.now addr plan (to_come I.left client.old) (D.dialled dialer.old)
+    ensures told { ReachesTold (access_of judged.now) sent.now addr plan (to_come I.left client.old) (D.dialled dialer.old)
         (D.dialled dialer.new)
         (M.seated meter.old) (to_come I.left client.new) (O.Sink.contents to.old)
         (O.Sink.contents to.new) (Rose (D.faults dialer.old) (D.faults dialer.new))
@@ -116,6 +121,7 @@ fn reach<R: Threads + Wait + Sync, I: Source + Send, O: Out, M: Meter, D: Dialer
         &mut origin,
         &mut to_origin,
         meter,
+        judged,
         sent,
         addr,
         plan,

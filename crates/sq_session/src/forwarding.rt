@@ -5,11 +5,12 @@ ghost use Rattle.sq_forward.specs.Halves.{to_come};
 ghost use Rattle.sq_session.specs.Forwarding.{tunnel_end};
 ghost use Rattle.sq_session.specs.Steps.{EndHasCause, dry_after};
 ghost use Rattle.sq_session.specs.Told.{ForwardsTold, TradesTold, ConnectsTold};
-ghost use Rattle.sq_session.specs.Turns.{carried_of};
+ghost use Rattle.sq_session.specs.Turns.{access_of, carried_of};
 
 use crate::ends::{Carried, End};
 use crate::own_replies::{is_connect, is_head, say};
 use sq_base::{Addr, BodyPlan, Request};
+use sq_checks::Record;
 use sq_forward::{Exchanged, Half, Meter, Tunnelled, exchange, tunnel};
 use sq_head::Own;
 use sq_outside::{Failed, Out, Source, write_all};
@@ -33,12 +34,13 @@ pub(crate) fn forward<
     origin: &mut Half<P>,
     to_origin: &mut Q,
     meter: &mut M,
+    judged: &Record,
     sent: &Request,
     addr: Addr,
     plan: BodyPlan,
 ) -> Carried
     requires dry { M.dry meter.old ≡ 0 }
-    ensures told { ForwardsTold sent.now addr plan (to_come I.left client.old)
+    ensures told { ForwardsTold (access_of judged.now) sent.now addr plan (to_come I.left client.old)
         (to_come P.left origin.old) (M.seated meter.old) (to_come I.left client.new)
         (O.Sink.contents to.old) (O.Sink.contents to.new)
         (Q.Sink.contents to_origin.old) (Q.Sink.contents to_origin.new)
@@ -61,7 +63,7 @@ pub(crate) fn forward<
         connect(rt, alloc, client, to, origin, to_origin, meter)
     } else {
         trade(
-            rt, alloc, client, to, origin, to_origin, meter, sent, addr, plan,
+            rt, alloc, client, to, origin, to_origin, meter, judged, sent, addr, plan,
         )
     }
 }
@@ -75,12 +77,13 @@ fn trade<R: Wait, I: Source, O: Out, P: Source, Q: Out, M: Meter>(
     origin: &mut Half<P>,
     to_origin: &mut Q,
     meter: &mut M,
+    judged: &Record,
     sent: &Request,
     addr: Addr,
     plan: BodyPlan,
 ) -> Carried
     requires dry { M.dry meter.old ≡ 0 }
-    ensures told { TradesTold sent.now addr plan (to_come I.left client.old)
+    ensures told { TradesTold (access_of judged.now) sent.now addr plan (to_come I.left client.old)
         (to_come P.left origin.old) (M.seated meter.old) (to_come I.left client.new)
         (O.Sink.contents to.old) (O.Sink.contents to.new)
         (Q.Sink.contents to_origin.old) (Q.Sink.contents to_origin.new)
@@ -99,8 +102,10 @@ fn trade<R: Wait, I: Source, O: Out, P: Source, Q: Out, M: Meter>(
     ensures to_later { O.Sink.faults to.old ≤ O.Sink.faults to.new }
     ensures origin_dialled { P.origin origin.new.source ≡ P.origin origin.old.source }
 {
+    let config = judged.config();
+    let facts = judged.facts();
     let ended = exchange(
-        rt, alloc, client, to, origin, to_origin, meter, sent, addr, plan,
+        rt, alloc, client, to, origin, to_origin, meter, sent, addr, plan, config, facts,
     );
     match ended {
         Exchanged::NoReply => say(alloc, to, Own::BadGateway, is_head(sent)),

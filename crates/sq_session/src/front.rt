@@ -1,13 +1,14 @@
-//! `Front`: the engine and the pools as one connection sees them.
+//! `Front`: the engine, the rewriter and the pools as one connection sees them.
 ghost use Rattle.std.specs.Prelude.{◌≡◌, ℕ, ◌≤◌, ◌∷◌, ◌++◌, [], List, false, OnOk, OnErr};
 ghost use Rattle.sq_outside.specs.Causes.{count_limit};
-ghost use Rattle.sq_session.specs.Fronts.{FrontAnswer, OfOpen, OfDecide, OfSit, OfClose, Decides, Asks, OpenRefuses, DecideRefuses, CloseRefuses, names_pool};
+ghost use Rattle.sq_session.specs.Fronts.{FrontAnswer, OfOpen, OfDecide, OfRewrite, OfSit, OfClose, Decides, Rewrites, Asks, OpenRefuses, DecideRefuses, CloseRefuses, takes_seat};
 
-use sq_base::{Addr, Request};
+use sq_base::{Addr, Request, Text};
 use sq_checks::Record;
 use sq_forward::Meter;
 use sq_machine::Refusal;
 use std::alloc::Global;
+use thiserror::Error;
 
 /// What the opening of a connection comes to.
 #[derive(Clone, Copy, Debug, PartialEq, Eq)]
@@ -39,23 +40,41 @@ pub enum Decided {
     WantOfMemory,
 }
 
-/// Why no seat was taken.
-#[derive(Clone, Copy, Debug, PartialEq, Eq)]
-pub enum SitFault {
-    /// The numbers of seats are used up.
-    Spent,
+/// What becomes of an allowed request before it goes on.
+#[derive(Drop)]
+pub enum Rewritten {
+    /// It goes on as it is.
+    Same,
+    /// This request goes on in its place.
+    New(Request),
+    /// The client is sent to this URL, with this status.
+    Redirect(u16, Text),
     /// There was no memory.
     WantOfMemory,
 }
 
+/// Why no seat was taken.
+#[derive(Clone, Copy, Debug, PartialEq, Eq, Error)]
+pub enum SitFault {
+    /// The numbers of seats are used up.
+    #[error("the numbers of seats are used up")]
+    Spent,
+    /// There was no memory.
+    #[error("out of memory")]
+    WantOfMemory,
+}
+
 /// Why a connection was not closed.
-#[derive(Clone, Copy, Debug, PartialEq, Eq)]
+#[derive(Clone, Copy, Debug, PartialEq, Eq, Error)]
 pub enum CloseFault {
     /// It is refused.
+    #[error("{0}")]
     Refused(Refusal),
     /// The journal could not be written.
+    #[error("the journal failed")]
     JournalFault,
     /// There was no memory.
+    #[error("out of memory")]
     WantOfMemory,
 }
 
@@ -67,7 +86,7 @@ pub struct Counts {
     pub granted: u64,
 }
 
-/// What one connection sees of the engine and the pools.
+/// What one connection sees of the engine, the rewriter and the pools.
 pub trait Front: Meter {
     /// It stands for this list of the answers that it gave so far, where it tells them.
     ghost stands: { Self → List FrontAnswer → Type 0 };
@@ -102,12 +121,25 @@ pub trait Front: Meter {
         ensures granted { Self.Meter.granted self.new ≡ Self.Meter.granted self.old }
         ensures dry { Self.Meter.dry self.new ≡ Self.Meter.dry self.old };
 
-    /// Takes a seat in the pool of a record, if it has one.
+    /// Asks the rewriter about the request of a record, and waits until it has answered. Another request has the
+    /// method, version and fields of that one, and the scheme http.
+    fn rewrite(&mut self, alloc: Global, judged: &Record) -> Rewritten
+        ensures told { (list : List FrontAnswer) → stands self.old list
+            → stands self.new (list ++ OfRewrite judged.now result ∷ []) }
+        ensures rewrites { Rewrites judged.now.sight.request result }
+        ensures asked { asked self.new ≡ asked self.old }
+        ensures refused_later { refused self.old ≤ refused self.new }
+        ensures seated { Self.Meter.seated self.new ≡ Self.Meter.seated self.old }
+        ensures granted { Self.Meter.granted self.new ≡ Self.Meter.granted self.old }
+        ensures dry { Self.Meter.dry self.new ≡ Self.Meter.dry self.old };
+
+    /// Takes a seat in the pool of a record, if it has one; in a pool with buckets by tags only for the tag of the
+    /// record, if it has one.
     fn sit(&mut self, alloc: Global, judged: &Record) -> Result<(), SitFault>
         requires unseated { Self.Meter.seated self.old ≡ false }
         ensures told { (list : List FrontAnswer) → stands self.old list
             → stands self.new (list ++ OfSit judged.now result ∷ []) }
-        ensures seated { OnOk result (Self.Meter.seated self.new ≡ names_pool judged.now) }
+        ensures seated { OnOk result (Self.Meter.seated self.new ≡ takes_seat judged.now) }
         ensures refused_seat { OnErr result (Self.Meter.seated self.new ≡ false) }
         ensures asked { asked self.new ≡ asked self.old }
         ensures refused_later { refused self.old ≤ refused self.new }

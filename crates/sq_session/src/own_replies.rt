@@ -1,8 +1,9 @@
 //! Replies of the proxy's own, and what decides which.
-ghost use Rattle.std.specs.Prelude.{◌≡◌, ◌≤◌, ◌⊎◌, false};
+ghost use Rattle.std.specs.Prelude.{◌≡◌, ◌≤◌, ◌⊎◌, true, false};
 ghost use Rattle.sq_outside.specs.Causes.{Rose};
-ghost use Rattle.sq_head.specs.OwnReplies.{error_text, denial};
+ghost use Rattle.sq_head.specs.OwnReplies.{error_text, denial, redirect_text};
 ghost use Rattle.sq_head.specs.Wishes.{has_body};
+ghost use Rattle.sq_rewrite.specs.Rewritings.{is_redirect_code};
 ghost use Rattle.sq_session.specs.Steps.{EndHasCause, dry_after};
 ghost use Rattle.sq_session.specs.Written.{WritesReply};
 ghost use Rattle.sq_session.specs.Turns.{is_head, is_connect, is_served, denied_closes, stays_unless, body_own};
@@ -10,7 +11,7 @@ ghost use Rattle.sq_session.specs.declared.ends.Carried.TheVariants.{Stays, Clos
 
 use crate::ends::{Carried, End};
 use sq_base::{BodyPlan, Request};
-use sq_head::{BadBody, Own, denial, error_text, wants_close};
+use sq_head::{BadBody, Own, denial, error_text, redirect_text, wants_close};
 use sq_outside::{Failed, Sink, write_all};
 use sq_rules::Outcome;
 use std::alloc::Global;
@@ -52,6 +53,21 @@ pub(crate) fn deny<O: Sink>(
     } else {
         write_reply(to, text.as_bytes(), Carried::Stays)
     }
+}
+
+/// Sends the client to this URL with this status, behind which the connection closes.
+pub(crate) fn send_elsewhere<O: Sink>(alloc: Global, to: &mut O, status: u16, url: &[u8]) -> Carried
+    requires code { is_redirect_code status ≡ true }
+    ensures tells { WritesReply (redirect_text status url.now) Closes (O.contents to.old)
+        (O.contents to.new) result }
+    ensures cause { EndHasCause (Rose (O.faults to.old) (O.faults to.new)) ⊥ result }
+    ensures later { O.faults to.old ≤ O.faults to.new }
+    ensures dry { dry_after result ≡ 0 }
+{
+    let Ok(text) = redirect_text(alloc, status, url) else {
+        return Carried::Over(End::WantOfMemory);
+    };
+    write_reply(to, text.as_bytes(), Carried::Closes)
 }
 
 // Writes a text, and ends so.

@@ -7,10 +7,10 @@ ghost use Rattle.sq_session.specs.Steps.{EndHasCause, WasTold, dry_after};
 ghost use Rattle.sq_session.specs.Told.{TurnTold, AnswersTold, ObeysTold};
 
 use crate::beginning::{Begun, fits_hosts, next_request};
-use crate::carrying::carry;
 use crate::ends::{Carried, End};
 use crate::front::{Decided, Front};
 use crate::own_replies::{body_own, denied_closes, deny, is_head, say};
+use crate::rewriting::go_on;
 use sq_base::{Addr, BodyPlan, Request};
 use sq_checks::Record;
 use sq_forward::{Half, Meter};
@@ -144,7 +144,7 @@ fn obey<R: Threads + Wait + Sync, I: Source + Send, O: Out, F: Front, D: Dialer>
     ensures dialled { WasTold (D.dialled dialer.old) (D.dialled dialer.new) }
 {
     if judged.outcome().allow {
-        carry(
+        go_on(
             rt, alloc, client, to, addr, judged, request, plan, front, dialer,
         )
     } else {

@@ -1,2 +1,3 @@
 mod BookLaws
+mod GrantLaws
 mod ShareLaws

@@ -1,3 +1,4 @@
 pub mod BankViews
 pub mod Books
+pub mod Granting
 pub mod Waking

@@ -1,25 +1,28 @@
-//! The delay pools, as they lie behind their lock.
-ghost use Rattle.std.specs.Prelude.{◌≡◌, ◌+◌, ◌<◌, ◌≤◌, ◌^◌, ◌==◌, ◌||◌, cond, is_some, max, min, nat_lt, suc, false, true, IfOk, OnOk, OnErr, IfErr};
-ghost use Rattle.sq_pools.specs.Basins.{grant_in, has_pool, is_dry, made_in, seat_in, HasLeft, IsChosen, IsGranted, IsRenewed};
+//! The delay pools of both kinds, as they lie behind their lock.
+ghost use Rattle.std.specs.Prelude.{◌≡◌, ◌+◌, ◌<◌, ◌≤◌, ◌==◌, ◌||◌, cond, is_some, max, min, nat_lt, suc, false, true, IfOk, OnOk, OnErr, IfErr};
+ghost use Rattle.sq_pools.specs.Basins.{grant_in, granted_limit, has_pool, has_tag_pool, is_dry, made_in, seat_in, HasLeft, IsChosen, IsGranted, IsRenewed, IsTagChosen, IsTagRenewed};
 ghost use Rattle.sq_pools.specs.declared.pools.ChooseFault.TheVariants as fault;
 ghost use Rattle.sq_machine.specs.Limits.{last_number};
+ghost use Rattle.sq_shared.specs.Granting.{granted_together};
 
 use crate::turns::Turns;
-use sq_base::{Addr, EpochNo, Moment, WantOfMemory};
-use sq_pools::{ChooseFault, Pools, Seat};
+use sq_base::{Addr, EpochNo, Moment, Text, WantOfMemory};
+use sq_pools::{ChooseFault, Pools, Seat, TagPools, TagSeat};
 use sq_rules::Config;
 use std::alloc::Global;
 use std::sync::Arc;
 use std::sync::ledger::{Book, Ledger, Share};
 
-/// The delay pools, the book of what they granted, and the seats that wait for their turn. The book counts on where the
-/// pools' number stands at 2^127.
+/// The delay pools with buckets by addresses, those with buckets by tags, the book of what both granted, and the seats of each
+/// kind that wait for their turn. The book counts on where the pools' numbers stand at 2^127.
 #[derive(Drop)]
 pub struct Bank<G: Ledger> {
     pools: Pools,
+    tags: TagPools,
     grants: Book<G>,
     turns: Turns,
-    ghost grants_are: { pools.granted ≡ min (2 ^ 127) grants.total },
+    tag_turns: Turns,
+    ghost grants_are: { granted_together pools tags ≡ min granted_limit grants.total },
 }
 
 /// The parts of a number of milliseconds below 1,024.
@@ -36,22 +39,42 @@ fn behind(now: Moment, passed: u64) -> Moment
     Moment(now.0.saturating_add(passed).min(LAST))
 }
 
-impl<G: Ledger> Bank<G> {
-    ghost use Rattle.sq_shared.specs.BankViews.{pools_of};
+// The first moment behind this one whose second is another, a second behind it at most.
+fn next_second<F: Fn(Moment) -> u64>(now: Moment, second_at: &F) -> Moment
+    requires { F.IsAlwaysCallable second_at.now }
+    ensures later { now ≤ result }
+    ensures soon { result ≤ now + 1000 }
+{
+    let second = second_at(now);
+    let mut passed = 0u64;
+    for part in PARTS {
+        let more = passed.saturating_add(part);
+        if second_at(behind(now, more)) == second {
+            passed = more;
+        }
+    }
+    behind(now, passed.min(999) + 1)
+}
 
-    /// Pools that granted nothing yet, and their book.
-    pub fn new(pools: Pools, grants: Book<G>) -> Bank<G>
-        requires { pools.granted ≡ min (2 ^ 127) grants.total }
-        ensures { pools_of result ≡ pools }
+impl<G: Ledger> Bank<G> {
+    ghost use Rattle.sq_shared.specs.BankViews.{pools_of, tags_of};
+
+    /// Pools of both kinds, and the book of what they granted so far.
+    pub fn new(pools: Pools, tags: TagPools, grants: Book<G>) -> Bank<G>
+        requires { granted_together pools tags ≡ min granted_limit grants.total }
+        ensures pools { pools_of result ≡ pools }
+        ensures tags { tags_of result ≡ tags }
     {
         Bank {
             pools,
+            tags,
             grants,
             turns: Turns::new(),
+            tag_turns: Turns::new(),
         }
     }
 
-    /// Gives a seat, as the pools do.
+    /// Gives a seat, as the pools with buckets by addresses do.
     pub fn choose(
         &mut self,
         alloc: Global,
@@ -71,11 +94,38 @@ impl<G: Ledger> Bank<G> {
         ensures not_spent { IfErr result
             (λ e. e ≡ fault.WantOfMemory → suc (pools_of self.old).given < last_number) }
         ensures err { OnErr result (pools_of self.new ≡ pools_of self.old) }
+        ensures tags { tags_of self.new ≡ tags_of self.old }
     {
         self.pools.choose(alloc, epoch, config, pool, addr, now)
     }
 
+    /// Gives a seat for a tag, as the pools with buckets by tags do.
+    pub fn choose_tag(
+        &mut self,
+        alloc: Global,
+        epoch: EpochNo,
+        config: &Arc<Config>,
+        pool: u32,
+        tag: &Text,
+        now: Moment,
+    ) -> Result<TagSeat, ChooseFault>
+        requires { has_tag_pool config.now.value pool ≡ true }
+        ensures number { IfOk result (λ n. n ≡ suc (tags_of self.old).given) }
+        ensures chosen { OnOk result
+            (IsTagChosen (tags_of self.old) (tags_of self.new) epoch config.now.value pool tag.now
+            (max now (tags_of self.old).latest)) }
+        ensures spent { IfErr result
+            (λ e. e ≡ fault.Spent → suc (tags_of self.old).given ≡ last_number) }
+        ensures not_spent { IfErr result
+            (λ e. e ≡ fault.WantOfMemory → suc (tags_of self.old).given < last_number) }
+        ensures err { OnErr result (tags_of self.new ≡ tags_of self.old) }
+        ensures pools { pools_of self.new ≡ pools_of self.old }
+    {
+        self.tags.choose(alloc, epoch, config, pool, tag, now)
+    }
+
     /// Grants bytes to a seat, as the pools do, and adds them to the share.
+    #[tactic(auto, using(crate::proofs::GrantLaws::kept_grant))]
     pub fn grant(&mut self, seat: &Seat, wanted: u64, now: Moment, share: &mut Share<G>) -> u64
         requires { 0 < share.old.parts }
         ensures granted { result
@@ -89,11 +139,41 @@ impl<G: Ledger> Bank<G> {
             (max now (pools_of self.old).latest) result (seat_in (pools_of self.old) seat.now) }
         ensures amount { share.new.amount ≡ share.old.amount + result }
         ensures parts { share.new.parts ≡ share.old.parts }
+        ensures tags { tags_of self.new ≡ tags_of self.old }
     {
         let Bank { pools, grants, .. } = self;
         let amount = pools.grant(seat, wanted, now);
         grants.add(share, amount);
         amount
+    }
+
+    /// Grants bytes to a seat for a tag, as its pools do, and adds them to the share.
+    #[tactic(auto, using(crate::proofs::GrantLaws::kept_tag_grant))]
+    pub fn grant_tag(
+        &mut self,
+        seat: &TagSeat,
+        wanted: u64,
+        now: Moment,
+        share: &mut Share<G>,
+    ) -> u64
+        requires { 0 < share.old.parts }
+        ensures granted { result
+            ≡ grant_in (tags_of self.old) (max now (tags_of self.old).latest) wanted
+            (seat_in (tags_of self.old) seat.now) }
+        ensures within { result ≤ wanted }
+        ensures nothing { 0 < wanted
+            → (result == 0) ≡ is_dry (tags_of self.old) (max now (tags_of self.old).latest)
+            (seat_in (tags_of self.old) seat.now) }
+        ensures taken { IsGranted (tags_of self.old) (tags_of self.new)
+            (max now (tags_of self.old).latest) result (seat_in (tags_of self.old) seat.now) }
+        ensures amount { share.new.amount ≡ share.old.amount + result }
+        ensures parts { share.new.parts ≡ share.old.parts }
+        ensures pools { pools_of self.new ≡ pools_of self.old }
+    {
+        let Bank { tags, grants, .. } = self;
+        let given = tags.grant(seat, wanted, now);
+        grants.add(share, given);
+        given
     }
 
     /// Grants bytes to a seat. Where others wait for a bucket of the seat since an earlier second, it is an even part of what the
@@ -116,11 +196,30 @@ impl<G: Ledger> Bank<G> {
         let part = self.pools.even_part(seat, &others, now);
         let left = self.turns.left(number, second, part, &others);
         let amount = self.grant(seat, wanted.min(left), now, share);
-        if amount == 0 {
-            self.turns.enter(number, second);
-        } else {
-            self.turns.take(number, amount);
-        }
+        self.turns.note(number, second, amount);
+        amount
+    }
+
+    /// The same for a seat for a tag.
+    pub fn grant_tag_in_turn(
+        &mut self,
+        seat: &TagSeat,
+        wanted: u64,
+        now: Moment,
+        share: &mut Share<G>,
+    ) -> u64
+        requires { 0 < share.old.parts }
+        ensures within { result ≤ wanted }
+        ensures amount { share.new.amount ≡ share.old.amount + result }
+        ensures parts { share.new.parts ≡ share.old.parts }
+    {
+        let number = seat.number();
+        let second = self.tags.second(seat, now);
+        let others = self.tag_turns.others(number, second);
+        let part = self.tags.even_part(seat, &others, now);
+        let left = self.tag_turns.left(number, second, part, &others);
+        let amount = self.grant_tag(seat, wanted.min(left), now, share);
+        self.tag_turns.note(number, second, amount);
         amount
     }
 
@@ -129,26 +228,37 @@ impl<G: Ledger> Bank<G> {
         ensures later { now ≤ result }
         ensures soon { result ≤ now + 1000 }
     {
-        let second = self.pools.second(seat, now);
-        let mut passed = 0u64;
-        for part in PARTS {
-            let more = passed.saturating_add(part);
-            if self.pools.second(seat, behind(now, more)) == second {
-                passed = more;
-            }
-        }
-        behind(now, passed.min(999) + 1)
+        next_second(now, &|at: Moment| self.pools.second(seat, at))
+    }
+
+    /// The same for the bucket of a seat for a tag.
+    pub fn tag_gains_at(&self, seat: &TagSeat, now: Moment) -> Moment
+        ensures later { now ≤ result }
+        ensures soon { result ≤ now + 1000 }
+    {
+        next_second(now, &|at: Moment| self.tags.second(seat, at))
     }
 
     /// Gives a seat up.
     pub fn leave(&mut self, seat: Seat)
-        ensures { HasLeft (pools_of self.old) (pools_of self.new) seat }
+        ensures left { HasLeft (pools_of self.old) (pools_of self.new) seat }
+        ensures tags { tags_of self.new ≡ tags_of self.old }
     {
         self.turns.leave(seat.number());
         self.pools.leave(seat);
     }
 
-    /// Makes the generation of an epoch, unless it is there or the epoch is before the newest.
+    /// Gives a seat for a tag up.
+    pub fn leave_tag(&mut self, seat: TagSeat)
+        ensures left { HasLeft (tags_of self.old) (tags_of self.new) seat }
+        ensures pools { pools_of self.new ≡ pools_of self.old }
+    {
+        self.tag_turns.leave(seat.number());
+        self.tags.leave(seat);
+    }
+
+    /// Makes the generation of an epoch of the pools with buckets by addresses, unless it is there or the epoch is before
+    /// the newest.
     pub fn renew(
         &mut self,
         alloc: Global,
@@ -165,22 +275,46 @@ impl<G: Ledger> Bank<G> {
         ensures needed { IfErr result
             (λ _. (nat_lt epoch (pools_of self.old).newest
             || is_some (made_in (pools_of self.old) epoch)) ≡ false) }
+        ensures tags { tags_of self.new ≡ tags_of self.old }
     {
         self.pools.renew(alloc, epoch, config, now)
     }
 
-    /// The pools, given back: what they granted is the whole share of the book.
-    pub fn end(self, all: Share<G>) -> Pools
+    /// The same for the pools with buckets by tags.
+    pub fn renew_tags(
+        &mut self,
+        alloc: Global,
+        epoch: EpochNo,
+        config: &Arc<Config>,
+        now: Moment,
+    ) -> Result<(), WantOfMemory>
+        ensures ok { OnOk result
+            (cond (nat_lt epoch (tags_of self.old).newest
+            || is_some (made_in (tags_of self.old) epoch)) (tags_of self.new ≡ tags_of self.old)
+            (IsTagRenewed (tags_of self.old) (tags_of self.new) epoch config.now.value
+            (max now (tags_of self.old).latest))) }
+        ensures err { OnErr result (tags_of self.new ≡ tags_of self.old) }
+        ensures needed { IfErr result
+            (λ _. (nat_lt epoch (tags_of self.old).newest
+            || is_some (made_in (tags_of self.old) epoch)) ≡ false) }
+        ensures pools { pools_of self.new ≡ pools_of self.old }
+    {
+        self.tags.renew(alloc, epoch, config, now)
+    }
+
+    /// The pools of both kinds, given back: what they granted together is the whole share of the book.
+    pub fn end(self, all: Share<G>) -> (Pools, TagPools)
         requires { all.parts ≡ G.parts }
-        ensures { result.granted ≡ min (2 ^ 127) all.amount }
+        ensures { granted_together result.0 result.1 ≡ min granted_limit all.amount }
     {
         let Bank {
             pools,
+            tags,
             mut grants,
             ..
         } = self;
         let mut all = all;
         grants.audit(&mut all);
-        pools
+        (pools, tags)
     }
 }

@@ -1,12 +1,12 @@
 //! The holds of the pools' lock. Nothing is proved here of what lies under it but what its type keeps; each function
 //! takes the lock, makes the one call of its name with the arguments that it was handed, and lets go; `grant` makes
-//! `grant_in_turn`.
+//! `grant_in_turn`, and `grant_tag` `grant_tag_in_turn`.
 ghost use Rattle.std.specs.Prelude.{◌≡◌, ◌+◌, ◌<◌, ◌≤◌, true};
-ghost use Rattle.sq_pools.specs.Basins.{has_pool};
+ghost use Rattle.sq_pools.specs.Basins.{has_pool, has_tag_pool};
 
 use crate::bank::Bank;
-use sq_base::{Addr, EpochNo, Moment, WantOfMemory};
-use sq_pools::{ChooseFault, Seat};
+use sq_base::{Addr, EpochNo, Moment, Text, WantOfMemory};
+use sq_pools::{ChooseFault, Seat, TagSeat};
 use sq_rules::Config;
 use std::alloc::Global;
 use std::sync::ledger::{Ledger, Share};
@@ -28,6 +28,23 @@ pub fn choose<R: Wait, G: Ledger>(
     bank.lock(rt).choose(alloc, epoch, config, pool, addr, now)
 }
 
+/// Gives a seat for a tag.
+pub fn choose_tag<R: Wait, G: Ledger>(
+    rt: &R,
+    alloc: Global,
+    bank: &Mutex<Bank<G>>,
+    epoch: EpochNo,
+    config: &Arc<Config>,
+    pool: u32,
+    tag: &Text,
+    now: Moment,
+) -> Result<TagSeat, ChooseFault>
+    requires { has_tag_pool config.now.value pool ≡ true }
+{
+    bank.lock(rt)
+        .choose_tag(alloc, epoch, config, pool, tag, now)
+}
+
 /// Grants bytes to a seat whose turn it is, which the share counts.
 pub fn grant<R: Wait, G: Ledger>(
     rt: &R,
@@ -45,6 +62,23 @@ pub fn grant<R: Wait, G: Ledger>(
     bank.lock(rt).grant_in_turn(seat, wanted, now, share)
 }
 
+/// The same for a seat for a tag.
+pub fn grant_tag<R: Wait, G: Ledger>(
+    rt: &R,
+    bank: &Mutex<Bank<G>>,
+    seat: &TagSeat,
+    wanted: u64,
+    now: Moment,
+    share: &mut Share<G>,
+) -> u64
+    requires { 0 < share.old.parts }
+    ensures within { result ≤ wanted }
+    ensures amount { share.new.amount ≡ share.old.amount + result }
+    ensures parts { share.new.parts ≡ share.old.parts }
+{
+    bank.lock(rt).grant_tag_in_turn(seat, wanted, now, share)
+}
+
 /// The first moment behind this one at which the buckets of a seat gain, a second behind it at most.
 pub fn gains_at<R: Wait, G: Ledger>(
     rt: &R,
@@ -58,12 +92,30 @@ pub fn gains_at<R: Wait, G: Ledger>(
     bank.lock(rt).gains_at(seat, now)
 }
 
+/// The same for the bucket of a seat for a tag.
+pub fn tag_gains_at<R: Wait, G: Ledger>(
+    rt: &R,
+    bank: &Mutex<Bank<G>>,
+    seat: &TagSeat,
+    now: Moment,
+) -> Moment
+    ensures later { now ≤ result }
+    ensures soon { result ≤ now + 1000 }
+{
+    bank.lock(rt).tag_gains_at(seat, now)
+}
+
 /// Gives a seat up.
 pub fn leave<R: Wait, G: Ledger>(rt: &R, bank: &Mutex<Bank<G>>, seat: Seat) {
     bank.lock(rt).leave(seat);
 }
 
-/// Makes the generation of an epoch.
+/// Gives a seat for a tag up.
+pub fn leave_tag<R: Wait, G: Ledger>(rt: &R, bank: &Mutex<Bank<G>>, seat: TagSeat) {
+    bank.lock(rt).leave_tag(seat);
+}
+
+/// Makes the generation of an epoch of the pools with buckets by addresses.
 pub fn renew<R: Wait, G: Ledger>(
     rt: &R,
     alloc: Global,
@@ -73,4 +125,16 @@ pub fn renew<R: Wait, G: Ledger>(
     now: Moment,
 ) -> Result<(), WantOfMemory> {
     bank.lock(rt).renew(alloc, epoch, config, now)
+}
+
+/// The same for the pools with buckets by tags.
+pub fn renew_tags<R: Wait, G: Ledger>(
+    rt: &R,
+    alloc: Global,
+    bank: &Mutex<Bank<G>>,
+    epoch: EpochNo,
+    config: &Arc<Config>,
+    now: Moment,
+) -> Result<(), WantOfMemory> {
+    bank.lock(rt).renew_tags(alloc, epoch, config, now)
 }

@@ -84,8 +84,17 @@ impl Turns {
         part
     }
 
+    // A seat was granted so much in this second.
+    pub(crate) fn note(&mut self, seat: SeatNo, second: u64, amount: u64) {
+        if amount == 0 {
+            self.enter(seat, second);
+        } else {
+            self.take(seat, amount);
+        }
+    }
+
     // A seat was granted so much.
-    pub(crate) fn take(&mut self, seat: SeatNo, amount: u64) {
+    fn take(&mut self, seat: SeatNo, amount: u64) {
         for place in &mut self.places {
             if place.seat == seat {
                 place.waits = false;
@@ -95,7 +104,7 @@ impl Turns {
     }
 
     // A seat was granted nothing in this second. It waits on where it waits.
-    pub(crate) fn enter(&mut self, seat: SeatNo, second: u64) {
+    fn enter(&mut self, seat: SeatNo, second: u64) {
         self.know(seat);
         for place in &mut self.places {
             if place.seat == seat && !place.waits {

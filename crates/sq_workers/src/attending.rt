@@ -10,7 +10,7 @@ use sq_conn_policy::HubFront;
 use sq_forward::{Ahead, Half};
 use sq_outside::{Clock, Dialer, Out, Source, raised_by};
 use sq_session::{SessionEnd, session};
-use sq_shared::{Bank, Room};
+use sq_shared::{Bank, RewriterRoom, Room};
 use std::alloc::Global;
 use std::sync::ledger::{Ledger, Share};
 use std::sync::{Mutex, Wait};
@@ -34,6 +34,7 @@ pub(crate) fn attend<
     alloc: Global,
     room: &Room<D, A, M, N>,
     bank: &Mutex<Bank<G>>,
+    rewriter: Option<&RewriterRoom>,
     conn: ConnNo,
     from: I,
     to: O,
@@ -65,7 +66,7 @@ pub(crate) fn attend<
         granted: grants.split_off(1, 0),
     };
     let (end, back) = serve_link(
-        rt, alloc, room, bank, conn, from, to, addr, port, dialer, clock, theirs,
+        rt, alloc, room, bank, rewriter, conn, from, to, addr, port, dialer, clock, theirs,
     );
     asked.merge(back.asked);
     refused.merge(back.refused);
@@ -92,6 +93,7 @@ fn serve_link<
     alloc: Global,
     room: &Room<D, A, M, N>,
     bank: &Mutex<Bank<G>>,
+    rewriter: Option<&RewriterRoom>,
     conn: ConnNo,
     from: I,
     mut to: O,
@@ -114,7 +116,7 @@ fn serve_link<
         refused,
         granted,
     } = shares;
-    let hub = LockHub::new(rt, room, bank, clock, asked, refused, granted);
+    let hub = LockHub::new(rt, room, bank, rewriter, clock, asked, refused, granted);
     let mut front = HubFront::new(rt, hub, conn);
     let mut client = Half {
         source: from,

@@ -1,18 +1,21 @@
-//! `LockHub`: the engine and the pools behind their locks, as one connection sees them.
+//! `LockHub`: the engine, the rewriter and the pools behind their locks, as one connection sees them.
 ghost use Rattle.std.specs.Prelude.{◌≡◌, ◌≤◌, ◌<◌, ◌+◌, ◌-◌, ◌^◌, min, None};
 ghost use Rattle.sq_outside.specs.Causes.{count_limit, raised};
 ghost use Rattle.sq_workers.specs.HubFaults.{hub_fault, hub_gave};
 
-use sq_base::{Addr, CheckNo, ConnNo, EpochNo, Moment, QuestionNo, Request};
+use sq_base::{Addr, CheckNo, ConnNo, EpochNo, Moment, QuestionNo, Request, Text};
 use sq_calls::{DeskCalls, DeskFault};
 use sq_checks::Record;
 use sq_conn_policy::{Hub, HubFault};
 use sq_model_rows::Stepped;
 use sq_outside::{Clock, raised, raised_by};
-use sq_pools::{ChooseFault, Seat};
+use sq_pools::{ChooseFault, Seat, TagSeat};
+use sq_rewrite::{RewriteFault, Rewriting};
 use sq_rules::Config;
 use sq_session::Counts;
-use sq_shared::{Bank, Room, holds, number_told, wait_answered, wake_after_step, wake_if_stopped};
+use sq_shared::{
+    Bank, RewriterRoom, Room, holds, number_told, wait_answered, wake_after_step, wake_if_stopped,
+};
 use std::alloc::Global;
 use std::sync::ledger::{Ledger, Share};
 use std::sync::{Arc, Mutex, Wait};
@@ -28,10 +31,18 @@ pub struct Shares<A: Ledger, N: Ledger, G: Ledger> {
     pub granted: Share<G>,
 }
 
-/// The engine and the pools behind their locks. Each call that has the name of one of theirs is one hold, in which it
-/// makes that one call at the moment of its clock and adds to its shares. It tells how many requests it made and how many
-/// bytes it was granted, each up to 2^63 - 1, and remembers the number of the question for which its last step said to wait, or 0,
-/// and when the buckets gain of the seat that was granted nothing last.
+// A question to the rewriter that had not ended, and how often one may have ended by then.
+#[derive(Clone, Copy)]
+struct RewriteWait {
+    question: QuestionNo,
+    ends: u64,
+}
+
+/// The engine, the rewriter, if there is one, and the pools behind their locks. Each call that has the name of one of theirs is
+/// one hold, in which it makes that one call, at the moment of its clock, and adds to its shares. It tells how many requests it
+/// made and how many bytes it was granted, each up to 2^63 - 1, and remembers the number of the question for which its last step
+/// said to wait, or 0, the question to the rewriter of which nothing could be taken yet, for the next wait alone, and when
+/// the buckets gain of the seat that was granted nothing last.
 #[derive(Drop)]
 pub struct LockHub<
     'a,
@@ -46,10 +57,12 @@ pub struct LockHub<
     rt: &'a R,
     room: &'a Room<D, A, M, N>,
     bank: &'a Mutex<Bank<G>>,
+    rewriter: Option<&'a RewriterRoom>,
     clock: C,
     asks: u64,
     grants: u64,
     question: u64,
+    rewriting: Option<RewriteWait>,
     gains_at: Moment,
     asked: Share<A>,
     refused: Share<N>,
@@ -111,6 +124,7 @@ impl<
         rt: &'a R,
         room: &'a Room<D, A, M, N>,
         bank: &'a Mutex<Bank<G>>,
+        rewriter: Option<&'a RewriterRoom>,
         clock: C,
         asked: Share<A>,
         refused: Share<N>,
@@ -127,10 +141,12 @@ impl<
             rt,
             room,
             bank,
+            rewriter,
             clock,
             asks: 0,
             grants: 0,
             question: 0,
+            rewriting: None,
             gains_at: Moment(0),
             asked,
             refused,
@@ -237,6 +253,30 @@ impl<'a, R: Wait, D: DeskCalls, A: Ledger, M: Ledger, N: Ledger, G: Ledger, C: C
         hub_gave(gave)
     }
 
+    fn rewrites(&self) -> bool {
+        self.rewriter.is_some()
+    }
+
+    fn put_rewrite(&mut self, alloc: Global, judged: &Record) -> Result<QuestionNo, RewriteFault> {
+        let Some(rewriter) = self.rewriter else {
+            return Err(RewriteFault::Full);
+        };
+        let sight = judged.sight();
+        rewriter.ask(self.rt, alloc, &sight.request, sight.addr)
+    }
+
+    // Where the question has not ended, the next wait is for it.
+    fn take_rewrite(&mut self, question: QuestionNo) -> Result<Option<Rewriting>, RewriteFault> {
+        let Some(rewriter) = self.rewriter else {
+            return Err(RewriteFault::UnknownQuestion(question));
+        };
+        let (gave, ends) = rewriter.take(self.rt, question);
+        if let Ok(None) = &gave {
+            self.rewriting = Some(RewriteWait { question, ends });
+        }
+        gave
+    }
+
     fn choose(
         &mut self,
         alloc: Global,
@@ -272,7 +312,46 @@ impl<'a, R: Wait, D: DeskCalls, A: Ledger, M: Ledger, N: Ledger, G: Ledger, C: C
         sq_shared::leave(self.rt, self.bank, seat);
     }
 
+    fn choose_tag(
+        &mut self,
+        alloc: Global,
+        epoch: EpochNo,
+        config: &Arc<Config>,
+        pool: u32,
+        tag: &Text,
+    ) -> Result<TagSeat, ChooseFault> {
+        let now = self.clock.now();
+        sq_shared::choose_tag(self.rt, alloc, self.bank, epoch, config, pool, tag, now)
+    }
+
+    #[tactic(auto, using(crate::proofs::HubLaws::hub_grants))]
+    fn grant_tag(&mut self, seat: &TagSeat, wanted: u64) -> u64 {
+        let now = self.clock.now();
+        let LockHub {
+            rt,
+            bank,
+            grants,
+            granted,
+            gains_at,
+            ..
+        } = self;
+        let given = sq_shared::grant_tag(*rt, *bank, seat, wanted, now, granted);
+        *grants = raised_by(*grants, given);
+        if given == 0 {
+            *gains_at = sq_shared::tag_gains_at(*rt, *bank, seat, now);
+        }
+        given
+    }
+
+    fn leave_tag(&mut self, seat: TagSeat) {
+        sq_shared::leave_tag(self.rt, self.bank, seat);
+    }
+
     fn wait(&mut self) {
+        if let (Some(rewriter), Some(wait)) = (self.rewriter, self.rewriting.take()) {
+            rewriter.wait_answered(self.rt, wait.question, wait.ends);
+            return;
+        }
         wait_answered(self.rt, self.room, QuestionNo(self.question));
     }
 

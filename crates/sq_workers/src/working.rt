@@ -7,7 +7,7 @@ use crate::sums::{Sums, both};
 use sq_base::ConnNo;
 use sq_calls::DeskCalls;
 use sq_outside::{Accepted, Another, Clock, Dialer, Listener};
-use sq_shared::{Bank, Door, Room, accept};
+use sq_shared::{Bank, Door, RewriterRoom, Room, accept};
 use std::alloc::Global;
 use std::sync::ledger::{Ledger, Share};
 use std::sync::{Mutex, Wait};
@@ -31,6 +31,7 @@ fn work<
     door: &Mutex<Door<L>>,
     room: &Room<D, A, M, N>,
     bank: &Mutex<Bank<G>>,
+    rewriter: Option<&RewriterRoom>,
     conn: ConnNo,
     mut dialer: Q,
     mut clock: C,
@@ -57,6 +58,7 @@ fn work<
                     alloc,
                     room,
                     bank,
+                    rewriter,
                     conn,
                     from,
                     to,
@@ -109,6 +111,7 @@ pub fn work_all<
     door: &Mutex<Door<L>>,
     room: &Room<D, A, M, N>,
     bank: &Mutex<Bank<G>>,
+    rewriter: Option<&RewriterRoom>,
     dialer: Q,
     clock: C,
     first: u32,
@@ -129,7 +132,7 @@ pub fn work_all<
         let conn = ConnNo(u64::from(first));
         let sums = nothing(asked, grants);
         return work(
-            rt, alloc, door, room, bank, conn, dialer, clock, sums, refused,
+            rt, alloc, door, room, bank, rewriter, conn, dialer, clock, sums, refused,
         );
     }
     let low = count / 2;
@@ -161,6 +164,7 @@ pub fn work_all<
                 door,
                 room,
                 bank,
+                rewriter,
                 dialer_low,
                 clock_low,
                 first,
@@ -183,7 +187,8 @@ pub fn work_all<
             ensures { (result.asked.parts ≡ high + high) × (result.grants.parts ≡ high + high) }
         {
             work_all(
-                rt, alloc, door, room, bank, dialer, clock, next, high, asked, refused, grants,
+                rt, alloc, door, room, bank, rewriter, dialer, clock, next, high, asked, refused,
+                grants,
             )
         },
     );

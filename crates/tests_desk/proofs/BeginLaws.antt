@@ -50,8 +50,9 @@ made_none made total t is m e = is m e ∙ sym t
 pub refused_none : (refused total : ℕ) → refused ≡ 0 → total ≡ 0 → refused ≡ min total count_limit
 refused_none refused total r t = grind arith
 
-pub granted_none : (granted total : ℕ) → granted ≡ 0 → total ≡ 0 → granted ≡ min (2 ^ 127) total
-granted_none granted total g t = grind arith
+pub granted_none : (pools tags total : ℕ) → pools ≡ 0 → tags ≡ 0 → total ≡ 0
+    → min (2 ^ 127) (pools + tags) ≡ min (2 ^ 127) total
+granted_none pools tags total p g t = grind arith
 
 whole_if : (t u : Bool) (a b : ℕ) (r : Result ℕ DeskFault) → t ≡ true
     → CountsReconfigured (if t then Some a else None) (if u then Some b else None) r → u ≡ true

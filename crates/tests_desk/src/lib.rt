@@ -1,5 +1,5 @@
 //! Tests of the desk: one job that makes each of its calls, over journals in memory of which each call fails in turn; and each
-//! call of a desk and of delay pools behind their locks, beside the same call of an equal desk or equal pools.
+//! call of a desk, of delay pools and of a rewriter behind their locks, beside the same call of an equal one.
 //!
 //! It has no public call. The answers expected come from the definitions of the machine's answers, of its next act and of
 //! the farms, followed by hand; which calls make places and which note entries, from what is promised of the desk.
@@ -17,6 +17,8 @@ mod jobs;
 mod locked;
 #[cfg(test)]
 mod locks;
+#[cfg(test)]
+mod rewriting;
 #[cfg(test)]
 mod seats;
 #[cfg(test)]

@@ -7,7 +7,7 @@ ghost use Rattle.sq_shared.specs.Books.{AreCounted};
 use crate::calls::setup_of;
 use crate::desks::{gave_mark, hub_mark, is_noted, mark};
 use crate::jobs::BEGIN;
-use crate::locks::{Blanks, CALLERS, Wholes, lock};
+use crate::locks::{Blanks, CALLERS, Wholes, lock, pools_of};
 use sq_base::{EpochNo, Moment};
 use sq_cache::HashSeed;
 use sq_calls::{DeskCalls, DeskFault};
@@ -17,7 +17,7 @@ use sq_journal::{print_entry, read_entry};
 use sq_journal_writers::MemJournal;
 use sq_machine::{Entry, Event, Offset, Told};
 use sq_outside::MemClock;
-use sq_pools::Pools;
+use sq_pools::{Pools, TagPools};
 use sq_shared::{Bank, ControlDesk, LockDesk, Room};
 use sq_urlmatch::Setup;
 use sq_workers::LockHub;
@@ -253,11 +253,11 @@ struct Back<A: Ledger, M: Ledger> {
 }
 
 // Makes all calls and then the one of the case, and puts down their marks.
-fn run_case<R: Wait, D: DeskCalls, A: Ledger, M: Ledger, N: Ledger, G: Ledger>(
-    rt: &R,
+fn run_case<'x, R: Wait, D: DeskCalls, A: Ledger, M: Ledger, N: Ledger, G: Ledger>(
+    rt: &'x R,
     alloc: Global,
-    room: &Room<D, A, M, N>,
-    bank: &Mutex<Bank<G>>,
+    room: &'x Room<D, A, M, N>,
+    bank: &'x Mutex<Bank<G>>,
     clock: MemClock,
     wholes: Wholes<A, M, N, G>,
     case: &str,
@@ -279,7 +279,7 @@ fn run_case<R: Wait, D: DeskCalls, A: Ledger, M: Ledger, N: Ledger, G: Ledger>(
     let mut desk = LockDesk::new(rt, room, refused.split_off(1, 0));
     let one = refused.split_off(1, 0);
     let two = refused.split_off(1, 0);
-    let mut hub = LockHub::new(rt, room, bank, clock, asked, refused, granted);
+    let mut hub = LockHub::new(rt, room, bank, None, clock, asked, refused, granted);
     let done = run_rows(Ok(()), alloc, &mut desk, &mut hub, FIRST, marks);
     let (done, made) = reread(done, rt, alloc, room, made, one, AGAIN, marks);
     let done = run_rows(done, alloc, &mut desk, &mut hub, SECOND, marks);
@@ -298,7 +298,7 @@ fn run_locked<R: Wait, D: DeskCalls, A: Ledger, M: Ledger, N: Ledger, G: Ledger>
     rt: &R,
     alloc: Global,
     desk: D,
-    pools: Pools,
+    pools: (Pools, TagPools),
     clock: MemClock,
     blanks: Blanks,
     case: &str,
@@ -314,7 +314,7 @@ fn run_locked<R: Wait, D: DeskCalls, A: Ledger, M: Ledger, N: Ledger, G: Ledger>
     requires entries { AreCounted 0 0 (D.told desk) }
     requires made { ForSome (D.made desk) (λ m. m ≡ 0) }
     requires refused { D.refused desk ≡ 0 }
-    requires granted { pools.granted ≡ 0 }
+    requires granted { (pools.0.granted ≡ 0) × (pools.1.granted ≡ 0) }
 {
     let (room, bank, wholes) = lock::<D, A, M, N, G>(alloc, desk, pools, blanks);
     let Back { done, asked, made } = run_case(rt, alloc, &room, &bank, clock, wholes, case, marks);
@@ -380,7 +380,7 @@ fn run_behind<R: Wait, F: DeskStart, A: Ledger, M: Ledger, N: Ledger, G: Ledger>
         × (G.parts ≡ 1) }
 {
     let clock = clock(alloc)?;
-    let pools = Pools::new(alloc, EpochNo(1), setup.config(), Moment(0))?;
+    let pools = pools_of(alloc, setup.config())?;
     let desk = begin::<F>(alloc, setup)?;
     let (done, desk) = run_locked::<R, Desk<MemJournal, F>, A, M, N, G>(
         rt,

@@ -1,14 +1,16 @@
 //! A desk and delay pools behind their locks, with the shares of who calls them.
-ghost use Rattle.std.specs.Prelude.{◌≡◌};
+ghost use Rattle.std.specs.Prelude.{◌≡◌, IfOk};
 ghost use Rattle.std.specs.Option.{ForSome};
 ghost use Rattle.sq_shared.specs.Books.{AreCounted};
 
+use sq_base::{EpochNo, Moment, WantOfMemory};
 use sq_calls::DeskCalls;
-use sq_pools::Pools;
+use sq_pools::{Pools, TagPools};
+use sq_rules::Config;
 use sq_shared::{Bank, Hall, Room};
 use std::alloc::Global;
-use std::sync::Mutex;
 use std::sync::ledger::{Blank, Book, Ledger, Share};
+use std::sync::{Arc, Mutex};
 
 /// How many take a share of the refusals: who calls the desk, the control before and behind the last call, and a connection.
 pub const CALLERS: u64 = 4;
@@ -65,19 +67,29 @@ fn room_of<D: DeskCalls, A: Ledger, M: Ledger, N: Ledger>(
     Room::new(Hall::new(alloc, desk, asks, makes, refusals))
 }
 
+/// Pools of both kinds, whose first epoch begins at 0 s.
+pub fn pools_of(alloc: Global, config: &Arc<Config>) -> Result<(Pools, TagPools), WantOfMemory>
+    ensures { IfOk result (λ p. (p.0.granted ≡ 0) × (p.1.granted ≡ 0)) }
+{
+    let pools = Pools::new(alloc, EpochNo(1), config, Moment(0))?;
+    let tags = TagPools::new(alloc, EpochNo(1), config, Moment(0))?;
+    Ok((pools, tags))
+}
+
 /// Puts pools that granted nothing yet behind their lock.
 #[tactic(auto, using(crate::proofs::BeginLaws::granted_none))]
-pub fn bank_of<G: Ledger>(pools: Pools, grants: Book<G>) -> Mutex<Bank<G>>
-    requires { (grants.total ≡ 0) × (pools.granted ≡ 0) }
+pub fn bank_of<G: Ledger>(pools: (Pools, TagPools), grants: Book<G>) -> Mutex<Bank<G>>
+    requires { (grants.total ≡ 0) × (pools.0.granted ≡ 0) × (pools.1.granted ≡ 0) }
 {
-    Mutex::new(Bank::new(pools, grants))
+    let (pools, tags) = pools;
+    Mutex::new(Bank::new(pools, tags, grants))
 }
 
 /// Puts a desk and pools that counted nothing yet behind their locks.
 pub fn lock<D: DeskCalls, A: Ledger, M: Ledger, N: Ledger, G: Ledger>(
     alloc: Global,
     desk: D,
-    pools: Pools,
+    pools: (Pools, TagPools),
     blanks: Blanks,
 ) -> (Room<D, A, M, N>, Mutex<Bank<G>>, Wholes<A, M, N, G>)
     requires asks { (blanks.asks.name ≡ A.name) × (blanks.asks.parts ≡ A.parts) }
@@ -87,7 +99,7 @@ pub fn lock<D: DeskCalls, A: Ledger, M: Ledger, N: Ledger, G: Ledger>(
     requires entries { AreCounted 0 0 (D.told desk) }
     requires made { ForSome (D.made desk) (λ m. m ≡ 0) }
     requires refused { D.refused desk ≡ 0 }
-    requires granted { pools.granted ≡ 0 }
+    requires granted { (pools.0.granted ≡ 0) × (pools.1.granted ≡ 0) }
     ensures asked { (result.2.asked.parts ≡ A.parts) × (result.2.asked.amount ≡ 0) }
     ensures made { (result.2.made.parts ≡ M.parts) × (result.2.made.amount ≡ 0) }
     ensures refused { result.2.refused.parts ≡ N.parts }

@@ -1,46 +1,57 @@
 //! Each call of delay pools, made once behind their lock and once of equal pools.
 ghost use Rattle.std.specs.Prelude.{◌≡◌, pos, true};
 ghost use Rattle.std.specs.Option.{ForSome};
-ghost use Rattle.sq_pools.specs.Basins.{has_pool};
+ghost use Rattle.sq_pools.specs.Basins.{has_pool, has_tag_pool};
 ghost use Rattle.sq_shared.specs.Books.{AreCounted};
 
 use crate::calls::setup_of;
 use crate::locked::{begin, text_of};
-use crate::locks::{Blanks, CALLERS, Wholes, lock};
-use sq_base::{Addr, EpochNo, Moment};
+use crate::locks::{Blanks, CALLERS, Wholes, lock, pools_of};
+use sq_base::{Addr, EpochNo, Moment, Text};
 use sq_calls::DeskCalls;
 use sq_conn_policy::Hub;
 use sq_desk::{Desk, DeskStart};
 use sq_journal_writers::MemJournal;
 use sq_outside::{Clock, MemClock};
-use sq_pools::{ChooseFault, Pools, Seat};
+use sq_pools::{Pools, Seat, TagPools, TagSeat};
 use sq_rules::Config;
+use sq_shared::{Bank, Room};
 use sq_urlmatch::Setup;
 use sq_workers::LockHub;
 use std::alloc::Global;
 use std::marker::Brand;
-use std::sync::ledger::Ledger;
-use std::sync::{Arc, Wait};
+use std::sync::ledger::{Ledger, Share};
+use std::sync::{Arc, Mutex, Wait};
 use std::test::Fail;
 
-/// Two delay pools, which begin empty: 100 bytes come to the first in a second, and 10 to the second.
-static CONF: &str = "delay_pools 2
+/// Two delay pools with buckets by addresses, which begin empty, and two with buckets by tags, which do so, too: 100 bytes come to
+/// a bucket of the first of both in a second, and 10 to one of the second.
+static CONF: &str = "delay_pools 4
 delay_class 1 1
 delay_class 2 1
+delay_class 3 5
+delay_class 4 5
 delay_parameters 1 100/1000
 delay_parameters 2 10/1000
+delay_parameters 3 100/1000
+delay_parameters 4 10/1000
 delay_initial_bucket_level 0
 ";
 
-/// A call that is made at 9 s, where a seat was given in the first pool at 2 s, of epoch 1, whose buckets are open since 0 s, and
-/// one in the second at 3 s, of epoch 2, whose buckets are open since then. Behind it stand what it answers, and the levels of
-/// the buckets of three seats: `-` is none. A seat is chosen in the second pool of epoch 2; 500 bytes are wanted on the second
-/// seat; that is given up, at no moment; and 500 bytes are wanted three times, with a rest before the third, behind which the clock
-/// is at 10.001 s: the rest ends where the clock is at 10 s, and the bucket gains.
+/// A call that is made at 9 s, where a seat was given in the first pool at 2 s, of epoch 1, which began at 0 s, and one in the
+/// second at 3 s, of epoch 2, which began then. Behind it stand what it answers, and the levels of the buckets of three seats:
+/// `-` is none. A seat is chosen in the second pool of epoch 2; 500 bytes are wanted on the second seat; that is given up, at no
+/// moment; and 500 bytes are wanted three times, with a rest before the third, behind which the clock is at 10.001 s: the rest ends
+/// where the clock is at 10 s, and the bucket gains. Behind `tag` the pools are those with buckets by tags: there the first two seats
+/// have the tag `gold`, and the one that is chosen then has `iron`; a tag's bucket gains from its first seat on.
 static CASES: &str = "choose => 3 900 60 60
 grant => 60 900 0 -
 leave => - 300 - -
 rest => 10 1000 0 -
+tag choose => 3 700 60 0
+tag grant => 60 700 0 -
+tag leave => - 100 - -
+tag rest => 10 800 0 -
 ";
 
 /// A client.
@@ -49,39 +60,66 @@ pub const CLIENT: Addr = Addr {
     number: 0x0a00_0001,
 };
 
-/// Whether the configuration has this pool, and it takes the client.
+/// Whether the configuration has this pool, it takes the client, and has buckets by addresses.
 pub fn takes(config: &Config, pool: u32, addr: Addr) -> bool
     ensures { result ≡ has_pool config.now pool addr }
 {
     match config.pools().get(pool as usize) {
-        Some(pool) => !(addr.v6 && pool.class >= 2 && pool.class <= 3),
+        Some(pool) => !(addr.v6 && pool.class >= 2 && pool.class <= 3) && pool.class != 5,
         None => false,
+    }
+}
+
+/// Whether the configuration has this pool, and it has buckets by tags.
+pub fn is_tagged(config: &Config, pool: u32) -> bool
+    ensures { result ≡ has_tag_pool config.now pool }
+{
+    match config.pools().get(pool as usize) {
+        Some(pool) => pool.class == 5,
+        None => false,
+    }
+}
+
+/// A seat, of a host or of a tag.
+#[derive(Drop)]
+enum Place {
+    Host(Seat),
+    Tagged(TagSeat),
+}
+
+impl Place {
+    fn number(&self) -> u64 {
+        match self {
+            Place::Host(seat) => seat.number().0,
+            Place::Tagged(seat) => seat.number().0,
+        }
     }
 }
 
 /// The calls of delay pools, each at the next moment of a clock where it has one.
 trait Giving {
+    /// A seat of the client, or of the tag.
     fn give_seat(
         &mut self,
         alloc: Global,
         epoch: EpochNo,
         config: &Arc<Config>,
         pool: u32,
-        addr: Addr,
-    ) -> Result<Seat, ChooseFault>
-        requires { has_pool config.now.value pool addr ≡ true };
+        tag: &Text,
+    ) -> Result<Place, Fail>;
 
-    fn give_bytes(&mut self, seat: &Seat, wanted: u64) -> u64;
+    fn give_bytes(&mut self, place: &Place, wanted: u64) -> u64;
 
-    fn take_seat(&mut self, seat: Seat);
+    fn take_seat(&mut self, place: Place);
 
     fn rest(&mut self);
 }
 
-/// Pools, and a clock.
+/// Pools of both kinds, and a clock.
 #[derive(Drop)]
 struct Timed {
     pools: Pools,
+    tags: TagPools,
     clock: MemClock,
 }
 
@@ -92,19 +130,33 @@ impl Giving for Timed {
         epoch: EpochNo,
         config: &Arc<Config>,
         pool: u32,
-        addr: Addr,
-    ) -> Result<Seat, ChooseFault> {
+        tag: &Text,
+    ) -> Result<Place, Fail> {
         let now = self.clock.now();
-        self.pools.choose(alloc, epoch, config, pool, addr, now)
+        if is_tagged(config, pool) {
+            let seat = self.tags.choose(alloc, epoch, config, pool, tag, now)?;
+            return Ok(Place::Tagged(seat));
+        }
+        if takes(config, pool, CLIENT) {
+            let seat = self.pools.choose(alloc, epoch, config, pool, CLIENT, now)?;
+            return Ok(Place::Host(seat));
+        }
+        Err(Fail::new("no such pool"))
     }
 
-    fn give_bytes(&mut self, seat: &Seat, wanted: u64) -> u64 {
+    fn give_bytes(&mut self, place: &Place, wanted: u64) -> u64 {
         let now = self.clock.now();
-        self.pools.grant(seat, wanted, now)
+        match place {
+            Place::Host(seat) => self.pools.grant(seat, wanted, now),
+            Place::Tagged(seat) => self.tags.grant(seat, wanted, now),
+        }
     }
 
-    fn take_seat(&mut self, seat: Seat) {
-        self.pools.leave(seat);
+    fn take_seat(&mut self, place: Place) {
+        match place {
+            Place::Host(seat) => self.pools.leave(seat),
+            Place::Tagged(seat) => self.tags.leave(seat),
+        }
     }
 
     // Three looks at the clock.
@@ -128,17 +180,31 @@ impl<H: Hub> Giving for Behind<H> {
         epoch: EpochNo,
         config: &Arc<Config>,
         pool: u32,
-        addr: Addr,
-    ) -> Result<Seat, ChooseFault> {
-        self.hub.choose(alloc, epoch, config, pool, addr)
+        tag: &Text,
+    ) -> Result<Place, Fail> {
+        if is_tagged(config, pool) {
+            let seat = self.hub.choose_tag(alloc, epoch, config, pool, tag)?;
+            return Ok(Place::Tagged(seat));
+        }
+        if takes(config, pool, CLIENT) {
+            let seat = self.hub.choose(alloc, epoch, config, pool, CLIENT)?;
+            return Ok(Place::Host(seat));
+        }
+        Err(Fail::new("no such pool"))
     }
 
-    fn give_bytes(&mut self, seat: &Seat, wanted: u64) -> u64 {
-        self.hub.grant(seat, wanted)
+    fn give_bytes(&mut self, place: &Place, wanted: u64) -> u64 {
+        match place {
+            Place::Host(seat) => self.hub.grant(seat, wanted),
+            Place::Tagged(seat) => self.hub.grant_tag(seat, wanted),
+        }
     }
 
-    fn take_seat(&mut self, seat: Seat) {
-        self.hub.leave(seat);
+    fn take_seat(&mut self, place: Place) {
+        match place {
+            Place::Host(seat) => self.hub.leave(seat),
+            Place::Tagged(seat) => self.hub.leave_tag(seat),
+        }
     }
 
     fn rest(&mut self) {
@@ -164,20 +230,24 @@ fn clock(alloc: Global) -> Result<MemClock, Fail> {
     Ok(MemClock::new(alloc, Moment(2000), rest))
 }
 
-// Gives a seat.
+// Gives a seat of the client, or of this tag.
 fn seat<P: Giving>(
     alloc: Global,
     pools: &mut P,
     epoch: EpochNo,
     config: &Arc<Config>,
     pool: u32,
-) -> Result<Seat, Fail> {
-    if !takes(config, pool, CLIENT) {
-        return Err(Fail::new("no such pool"));
-    }
-    match pools.give_seat(alloc, epoch, config, pool, CLIENT) {
-        Ok(seat) => Ok(seat),
-        Err(_) => Err(Fail::new("no seat is given")),
+    tag: &[u8],
+) -> Result<Place, Fail> {
+    let tag = Text::from_slice(alloc, tag)?;
+    pools.give_seat(alloc, epoch, config, pool, &tag)
+}
+
+// The places of the two pools of a case, and its call.
+fn pools_and_call(case: &str) -> (u32, u32, &str) {
+    match case.strip_prefix("tag ") {
+        Some(call) => (2, 3, call),
+        None => (0, 1, case),
     }
 }
 
@@ -188,10 +258,14 @@ fn run_case<P: Giving>(
     config: &Arc<Config>,
     case: &str,
 ) -> Result<Option<u64>, Fail> {
-    let _first = seat(alloc, pools, EpochNo(1), config, 0)?;
-    let second = seat(alloc, pools, EpochNo(2), config, 1)?;
-    match case {
-        "choose" => Ok(Some(seat(alloc, pools, EpochNo(2), config, 1)?.number().0)),
+    let (one, two, call) = pools_and_call(case);
+    let _first = seat(alloc, pools, EpochNo(1), config, one, b"gold")?;
+    let second = seat(alloc, pools, EpochNo(2), config, two, b"gold")?;
+    match call {
+        "choose" => {
+            let third = seat(alloc, pools, EpochNo(2), config, two, b"iron")?;
+            Ok(Some(third.number()))
+        }
         "grant" => Ok(Some(pools.give_bytes(&second, 500))),
         "rest" => {
             let _all = pools.give_bytes(&second, 500);
@@ -215,37 +289,77 @@ fn put(text: &mut String, number: Option<u64>) -> Result<(), Fail> {
     Ok(())
 }
 
+// The level of a seat's bucket.
+fn level(pools: &Pools, tags: &TagPools, place: &Place) -> Option<u64> {
+    match place {
+        Place::Host(seat) => pools.bucket(seat, 0).map(|bucket| bucket.level),
+        Place::Tagged(seat) => tags.bucket(seat, 0).map(|bucket| bucket.level),
+    }
+}
+
 // What is told of pools: the answer, and the levels of the buckets of the seats 1, 2 and 3.
 fn told(
     alloc: Global,
     config: &Arc<Config>,
     pools: &Pools,
+    tags: &TagPools,
+    case: &str,
     answer: Result<Option<u64>, Fail>,
 ) -> Result<String, Fail> {
     let answer = answer?;
+    let (one, two, _call) = pools_and_call(case);
     let mut others = timed_pools(alloc, config)?;
     let mut text = String::new(alloc);
     put(&mut text, answer)?;
-    for (epoch, pool) in [(EpochNo(1), 0), (EpochNo(2), 1), (EpochNo(2), 1)] {
-        let seat = seat(alloc, &mut others, epoch, config, pool)?;
+    for (epoch, pool) in [(EpochNo(1), one), (EpochNo(2), two), (EpochNo(2), two)] {
+        let place = seat(alloc, &mut others, epoch, config, pool, b"gold")?;
         text.push(' ')?;
-        put(&mut text, pools.bucket(&seat, 0).map(|bucket| bucket.level))?;
+        put(&mut text, level(pools, tags, &place))?;
     }
     Ok(text)
 }
 
 // Pools with the first epoch's buckets, and the clock of the calls.
 fn timed_pools(alloc: Global, config: &Arc<Config>) -> Result<Timed, Fail> {
-    let pools = Pools::new(alloc, EpochNo(1), config, Moment(0))?;
+    let (pools, tags) = pools_of(alloc, config)?;
     let clock = clock(alloc)?;
-    Ok(Timed { pools, clock })
+    Ok(Timed { pools, tags, clock })
 }
 
 // What is told of the calls of the pools themselves.
 fn told_plain(alloc: Global, config: &Arc<Config>, case: &str) -> Result<String, Fail> {
     let mut timed = timed_pools(alloc, config)?;
     let answer = run_case(alloc, &mut timed, config, case);
-    told(alloc, config, &timed.pools, answer)
+    told(alloc, config, &timed.pools, &timed.tags, case, answer)
+}
+
+// What the call of a case answers behind the lock, and the share of what was granted.
+fn run_hub<'x, R: Wait, D: DeskCalls, A: Ledger, M: Ledger, N: Ledger, G: Ledger>(
+    rt: &'x R,
+    alloc: Global,
+    config: &Arc<Config>,
+    room: &'x Room<D, A, M, N>,
+    bank: &'x Mutex<Bank<G>>,
+    clock: MemClock,
+    wholes: Wholes<A, M, N, G>,
+    case: &str,
+) -> (Result<Option<u64>, Fail>, Share<G>)
+    requires asked { (wholes.asked.parts ≡ 1) × (wholes.asked.amount ≡ 0) }
+    requires refused { wholes.refused.parts ≡ CALLERS }
+    requires granted { (wholes.granted.parts ≡ 1) × (wholes.granted.amount ≡ 0) }
+    ensures { result.1.parts ≡ 1 }
+{
+    let Wholes {
+        asked,
+        mut refused,
+        granted,
+        ..
+    } = wholes;
+    let one = refused.split_off(1, 0);
+    let hub = LockHub::new(rt, room, bank, None, clock, asked, one, granted);
+    let mut behind = Behind { hub };
+    let answer = run_case(alloc, &mut behind, config, case);
+    (answer, behind.hub.finish().granted)
 }
 
 // What is told of the calls of the pools behind their lock.
@@ -254,7 +368,7 @@ fn run_locked<R: Wait, D: DeskCalls + Drop, A: Ledger, M: Ledger, N: Ledger, G: 
     alloc: Global,
     config: &Arc<Config>,
     desk: D,
-    pools: Pools,
+    pools: (Pools, TagPools),
     clock: MemClock,
     blanks: Blanks,
     case: &str,
@@ -268,21 +382,12 @@ fn run_locked<R: Wait, D: DeskCalls + Drop, A: Ledger, M: Ledger, N: Ledger, G: 
     requires entries { AreCounted 0 0 (D.told desk) }
     requires made { ForSome (D.made desk) (λ m. m ≡ 0) }
     requires refused { D.refused desk ≡ 0 }
-    requires granted { pools.granted ≡ 0 }
+    requires granted { (pools.0.granted ≡ 0) × (pools.1.granted ≡ 0) }
 {
     let (room, bank, wholes) = lock::<D, A, M, N, G>(alloc, desk, pools, blanks);
-    let Wholes {
-        asked,
-        mut refused,
-        granted,
-        ..
-    } = wholes;
-    let one = refused.split_off(1, 0);
-    let hub = LockHub::new(rt, &room, &bank, clock, asked, one, granted);
-    let mut behind = Behind { hub };
-    let answer = run_case(alloc, &mut behind, config, case);
-    let granted = behind.hub.finish().granted;
-    told(alloc, config, &bank.into_inner().end(granted), answer)
+    let (answer, granted) = run_hub(rt, alloc, config, &room, &bank, clock, wholes, case);
+    let (pools, tags) = bank.into_inner().end(granted);
+    told(alloc, config, &pools, &tags, case, answer)
 }
 
 // What is told of the calls of the pools behind their lock.
@@ -303,7 +408,7 @@ fn run_behind<R: Wait, F: DeskStart, A: Ledger, M: Ledger, N: Ledger, G: Ledger>
         × (G.parts ≡ 1) }
 {
     let clock = clock(alloc)?;
-    let pools = Pools::new(alloc, EpochNo(1), config, Moment(0))?;
+    let pools = pools_of(alloc, config)?;
     let desk = begin::<F>(alloc, setup)?;
     run_locked::<R, Desk<MemJournal, F>, A, M, N, G>(
         rt,

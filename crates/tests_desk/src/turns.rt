@@ -2,12 +2,14 @@
 ghost use Rattle.std.specs.Prelude.{◌≡◌, ◌<◌};
 
 use crate::calls::setup_of;
-use crate::locks::bank_of;
-use crate::seats::{CLIENT, takes};
-use sq_base::{Addr, EpochNo, Moment};
-use sq_pools::{Pools, Seat};
+use crate::locks::{bank_of, pools_of};
+use crate::seats::{CLIENT, is_tagged, takes};
+use sq_base::{Addr, EpochNo, Moment, Text};
+use sq_pools::{Pools, Seat, TagPools, TagSeat};
 use sq_rules::Config;
-use sq_shared::{Bank, choose, gains_at, grant, renew};
+use sq_shared::{
+    Bank, choose, choose_tag, gains_at, grant, grant_tag, renew, renew_tags, tag_gains_at,
+};
 use std::alloc::Global;
 use std::marker::Brand;
 use std::sync::ledger::{Blank, Ledger, Share};
@@ -43,10 +45,12 @@ const MOMENTS: [Moment; 5] = [
     Moment(5000),
 ];
 
-/// A bucket that begins empty, and which 10 bytes fill in a second.
-static SLOW: &str = "delay_pools 1
+/// A bucket that begins empty, and which 10 bytes fill in a second, and one for each tag.
+static SLOW: &str = "delay_pools 2
 delay_class 1 1
+delay_class 2 5
 delay_parameters 1 10/1000
+delay_parameters 2 10/1000
 delay_initial_bucket_level 0
 ";
 
@@ -68,36 +72,61 @@ fn seat_at<R: Wait, G: Ledger>(
     }
 }
 
+// Takes a seat for a tag of epoch 2 at 9 s.
+fn tag_seat<R: Wait, G: Ledger>(
+    rt: &R,
+    alloc: Global,
+    bank: &Mutex<Bank<G>>,
+    config: &Arc<Config>,
+) -> Result<TagSeat, Fail> {
+    if !is_tagged(config, 1) {
+        return Err(Fail::new("no such pool"));
+    }
+    let tag = Text::from_slice(alloc, b"gold")?;
+    let epoch = EpochNo(2);
+    match choose_tag(rt, alloc, bank, epoch, config, 1, &tag, Moment(9000)) {
+        Ok(seat) => Ok(seat),
+        Err(_) => Err(Fail::new("no seat is given")),
+    }
+}
+
 // When the buckets gain of a seat of the first epoch, which began at 0 s, behind 9.25 s and behind 10 s, and of one of the second,
-// which began at 3.3 s, behind 9.3 s; and what that one is granted then.
+// which began at 3.3 s, behind 9.3 s; and what that one is granted then. The last two again of a seat of this epoch for a tag.
 fn run_epochs<R: Wait, G: Ledger>(
     rt: &R,
     alloc: Global,
     config: &Arc<Config>,
-    pools: Pools,
+    pools: (Pools, TagPools),
     blank: Blank,
 ) -> Result<String, Fail>
     requires blank { (blank.name ≡ G.name) × (blank.parts ≡ G.parts) × (G.parts ≡ 1) }
-    requires granted { pools.granted ≡ 0 }
+    requires granted { (pools.0.granted ≡ 0) × (pools.1.granted ≡ 0) }
 {
     let (grants, mut share) = blank.open::<G>();
     let bank = bank_of(pools, grants);
     let first = seat_at(rt, alloc, &bank, config, EpochNo(1), Moment(2250))?;
     renew(rt, alloc, &bank, EpochNo(2), config, Moment(3300))?;
+    renew_tags(rt, alloc, &bank, EpochNo(2), config, Moment(3300))?;
     let second = seat_at(rt, alloc, &bank, config, EpochNo(2), Moment(9000))?;
     let early = gains_at(rt, &bank, &first, Moment(9250)).0;
     let whole = gains_at(rt, &bank, &first, Moment(10_000)).0;
     let late = gains_at(rt, &bank, &second, Moment(9300)).0;
     let amount = grant(rt, &bank, &second, 500, Moment(9300), &mut share);
+    let tagged = tag_seat(rt, alloc, &bank, config)?;
+    let tag_late = tag_gains_at(rt, &bank, &tagged, Moment(9300)).0;
+    let tag_amount = grant_tag(rt, &bank, &tagged, 500, Moment(9300), &mut share);
     let mut text = String::new(alloc);
-    write!(text, "{early} {whole} {late} {amount}")?;
+    write!(
+        text,
+        "{early} {whole} {late} {amount} {tag_late} {tag_amount}"
+    )?;
     Ok(text)
 }
 
 // The same, by pools of their own.
 fn told_epochs<R: Wait>(rt: &R, alloc: Global) -> Result<String, Fail> {
     let setup = setup_of(alloc, SLOW.as_bytes())?;
-    let pools = Pools::new(alloc, EpochNo(1), setup.config(), Moment(0))?;
+    let pools = pools_of(alloc, setup.config())?;
     run_epochs::<R, Brand>(rt, alloc, setup.config(), pools, Blank::new(1))
 }
 
@@ -161,11 +190,11 @@ fn run<R: Wait, G: Ledger>(
     alloc: Global,
     config: &Arc<Config>,
     hosts: &[Addr],
-    pools: Pools,
+    pools: (Pools, TagPools),
     blank: Blank,
 ) -> Result<String, Fail>
     requires blank { (blank.name ≡ G.name) × (blank.parts ≡ G.parts) × (G.parts ≡ 1) }
-    requires granted { pools.granted ≡ 0 }
+    requires granted { (pools.0.granted ≡ 0) × (pools.1.granted ≡ 0) }
 {
     let (grants, mut share) = blank.open::<G>();
     let bank = bank_of(pools, grants);
@@ -181,7 +210,7 @@ fn run<R: Wait, G: Ledger>(
 // How many of the seats of these hosts get 100 bytes or more in each second, by these pools.
 fn told<R: Wait>(rt: &R, alloc: Global, conf: &str, hosts: &[Addr]) -> Result<String, Fail> {
     let setup = setup_of(alloc, conf.as_bytes())?;
-    let pools = Pools::new(alloc, EpochNo(1), setup.config(), Moment(0))?;
+    let pools = pools_of(alloc, setup.config())?;
     run::<R, Brand>(rt, alloc, setup.config(), hosts, pools, Blank::new(1))
 }
 
@@ -210,7 +239,7 @@ fn a_bucket_begins_with_its_epoch_and_gains_each_second_from_then_on(
     rt: HostRuntime,
 ) -> Result<(), Fail> {
     let told = told_epochs(&rt, rt.alloc())?;
-    // From 3.3 s to 9.3 s it gains six times.
-    assert!(rt; told.as_str() == "10000 11000 10300 60", "{told}");
+    // From 3.3 s to 9.3 s it gains six times, and that of the tag, which is there from 9 s on, once.
+    assert!(rt; told.as_str() == "10000 11000 10300 60 10300 10", "{told}");
     Ok(())
 }

@@ -7,14 +7,14 @@ ghost use Rattle.sq_shared.specs.Books.{AreCounted};
 use crate::calls::setup_of;
 use crate::desks::{hub_mark, mark};
 use crate::locked::{begin_failing, text_of};
-use crate::locks::{Blanks, CALLERS, Wholes, lock};
-use sq_base::{EpochNo, Moment, QuestionNo};
+use crate::locks::{Blanks, CALLERS, Wholes, lock, pools_of};
+use sq_base::{Moment, QuestionNo};
 use sq_calls::DeskCalls;
 use sq_conn_policy::Hub;
 use sq_desk::{Desk, DeskStart};
 use sq_journal_writers::MemJournal;
 use sq_outside::MemClock;
-use sq_pools::Pools;
+use sq_pools::{Pools, TagPools};
 use sq_shared::{Bank, LockDesk, Room, changes, is_awaited, set_done, tell_end, wait_due};
 use sq_urlmatch::Setup;
 use sq_workers::LockHub;
@@ -253,11 +253,11 @@ fn clock(alloc: Global) -> MemClock {
 }
 
 // The marks of all rows, of two connections and a desk that have these shares.
-fn run_shared<R: Wait, D: DeskCalls, A: Ledger, M: Ledger, N: Ledger, G: Ledger>(
-    rt: &R,
+fn run_shared<'x, R: Wait, D: DeskCalls, A: Ledger, M: Ledger, N: Ledger, G: Ledger>(
+    rt: &'x R,
     alloc: Global,
-    room: &Room<D, A, M, N>,
-    bank: &Mutex<Bank<G>>,
+    room: &'x Room<D, A, M, N>,
+    bank: &'x Mutex<Bank<G>>,
     wholes: Wholes<A, M, N, G>,
     rows: &str,
 ) -> Result<String, Fail>
@@ -275,8 +275,8 @@ fn run_shared<R: Wait, D: DeskCalls, A: Ledger, M: Ledger, N: Ledger, G: Ledger>
     let grants = granted.split_off(1, 0);
     let first = refused.split_off(1, 0);
     let second = refused.split_off(1, 0);
-    let mut one = LockHub::new(rt, room, bank, clock(alloc), asks, first, grants);
-    let mut two = LockHub::new(rt, room, bank, clock(alloc), asked, second, granted);
+    let mut one = LockHub::new(rt, room, bank, None, clock(alloc), asks, first, grants);
+    let mut two = LockHub::new(rt, room, bank, None, clock(alloc), asked, second, granted);
     let mut desk = LockDesk::new(rt, room, refused);
     run_rows(rt, alloc, room, &mut desk, &mut one, &mut two, rows)
 }
@@ -286,7 +286,7 @@ fn run_locked<R: Wait, D: DeskCalls + Drop, A: Ledger, M: Ledger, N: Ledger, G: 
     rt: &R,
     alloc: Global,
     desk: D,
-    pools: Pools,
+    pools: (Pools, TagPools),
     blanks: Blanks,
     rows: &str,
 ) -> Result<String, Fail>
@@ -299,7 +299,7 @@ fn run_locked<R: Wait, D: DeskCalls + Drop, A: Ledger, M: Ledger, N: Ledger, G: 
     requires entries { AreCounted 0 0 (D.told desk) }
     requires made { ForSome (D.made desk) (λ m. m ≡ 0) }
     requires refused { D.refused desk ≡ 0 }
-    requires granted { pools.granted ≡ 0 }
+    requires granted { (pools.0.granted ≡ 0) × (pools.1.granted ≡ 0) }
 {
     let (room, bank, wholes) = lock::<D, A, M, N, G>(alloc, desk, pools, blanks);
     run_shared(rt, alloc, &room, &bank, wholes, rows)
@@ -322,7 +322,7 @@ fn run_behind<R: Wait, F: DeskStart, A: Ledger, M: Ledger, N: Ledger, G: Ledger>
     requires grants { (blanks.grants.name ≡ G.name) × (blanks.grants.parts ≡ G.parts)
         × (G.parts ≡ 2) }
 {
-    let pools = Pools::new(alloc, EpochNo(1), setup.config(), Moment(0))?;
+    let pools = pools_of(alloc, setup.config())?;
     let desk = begin_failing::<F>(alloc, setup, fails)?;
     run_locked::<R, Desk<MemJournal, F>, A, M, N, G>(rt, alloc, desk, pools, blanks, rows.as_str())
 }

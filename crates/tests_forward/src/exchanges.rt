@@ -1,5 +1,5 @@
 //! Exchanges over links that do not fail.
-use crate::links::{CLIENT, half, meter, request, rest, sink};
+use crate::links::{CLIENT, half, judged, meter, request, rest, sink};
 use Exchanged::{BadBody, Closed, Cut, Kept, NoReply, OriginCut, Starved};
 use sq_forward::{Exchanged, exchange};
 use sq_head::request_plan;
@@ -354,8 +354,9 @@ static ROWS: [Row; 22] = [
 fn check<R: Wait + Abort>(rt: &R, alloc: Global, row: &Row) {
     let request = request(rt, alloc, row.method, row.target, row.old, row.fields);
     let plan = request_plan(&request).expect(rt, "a plan");
-    let mut client = half(rt, alloc, row.input, 7, &[]);
-    let mut origin = half(rt, alloc, row.reply, 7, &[]);
+    let (setup, facts) = judged(rt, alloc, b"", CLIENT, &request);
+    let mut client = half(rt, alloc, row.input.as_bytes(), 7, &[]);
+    let mut origin = half(rt, alloc, row.reply.as_bytes(), 7, &[]);
     let mut to_client = sink(rt, alloc, 11, &[]);
     let mut to_origin = sink(rt, alloc, 11, &[]);
     let mut meter = meter(row.grants);
@@ -370,6 +371,8 @@ fn check<R: Wait + Abort>(rt: &R, alloc: Global, row: &Row) {
         &request,
         CLIENT,
         plan,
+        setup.config(),
+        &facts,
     );
     assert!(rt; end == row.end, "{}", row.shows);
     assert!(rt;

@@ -1,5 +1,5 @@
 //! One exchange, of which each call of each half of both links fails in turn.
-use crate::links::{CLIENT, half, meter, request, sink};
+use crate::links::{CLIENT, half, judged, meter, request, sink};
 use Exchanged::{ClientFault, Kept, NoReply, OriginFault};
 use Place::{ClientRead, ClientWrite, OriginRead, OriginWrite};
 use sq_forward::{Exchanged, exchange};
@@ -86,8 +86,21 @@ fn check<R: Wait + Abort>(rt: &R, alloc: Global, row: &Row) {
     let fields = [("Host", "h.example"), ("Content-Length", "10")];
     let request = request(rt, alloc, "POST", "http://h.example/p", false, &fields);
     let plan = request_plan(&request).expect(rt, "a plan");
-    let mut client = half(rt, alloc, INPUT, 4, fails(*place, ClientRead, call));
-    let mut origin = half(rt, alloc, REPLY, 30, fails(*place, OriginRead, call));
+    let (setup, facts) = judged(rt, alloc, b"", CLIENT, &request);
+    let mut client = half(
+        rt,
+        alloc,
+        INPUT.as_bytes(),
+        4,
+        fails(*place, ClientRead, call),
+    );
+    let mut origin = half(
+        rt,
+        alloc,
+        REPLY.as_bytes(),
+        30,
+        fails(*place, OriginRead, call),
+    );
     let mut to_client = sink(rt, alloc, 50, fails(*place, ClientWrite, call));
     let mut to_origin = sink(rt, alloc, 50, fails(*place, OriginWrite, call));
     let mut meter = meter(None);
@@ -102,6 +115,8 @@ fn check<R: Wait + Abort>(rt: &R, alloc: Global, row: &Row) {
         &request,
         CLIENT,
         plan,
+        setup.config(),
+        &facts,
     );
     assert!(rt; end == *wanted, "{place:?} {call}");
     let as_far = is_front(to_client.bytes(), *client_count, TO_CLIENT);

@@ -1,10 +1,14 @@
 //! Links in memory, and requests.
-ghost use Rattle.std.specs.Prelude.{◌≡◌};
+ghost use Rattle.std.specs.Prelude.{◌≡◌, length};
 
-use sq_base::{Addr, Field, Fields, Request, Text};
+use sq_base::{Addr, Copying, Field, Fields, Request, Text};
+use sq_conf::read_config;
+use sq_facts::read_facts;
 use sq_forward::{Ahead, Half, MemMeter};
 use sq_outside::{MemSink, MemSource};
 use sq_request::make_request;
+use sq_rules::{Facts, Sight};
+use sq_urlmatch::Setup;
 use std::alloc::Global;
 use std::process::Abort;
 
@@ -18,11 +22,11 @@ pub const CLIENT: Addr = Addr {
 pub fn half(
     rt: &impl Abort,
     alloc: Global,
-    text: &str,
+    text: &[u8],
     step: usize,
     fails: &[u64],
 ) -> Half<MemSource> {
-    let bytes = Vec::from_slice(alloc, text.as_bytes()).expect(rt, "memory");
+    let bytes = Vec::from_slice(alloc, text).expect(rt, "memory");
     let fails = Vec::from_slice(alloc, fails).expect(rt, "memory");
     Half {
         source: MemSource::new(bytes, step, fails),
@@ -53,6 +57,29 @@ pub fn request(
     }
     let minor = if old { 0 } else { 1 };
     make_request(alloc, method.as_bytes(), target.as_bytes(), minor, list).expect(rt, "a request")
+}
+
+/// What this text states, and the facts of the check of a client's request.
+#[tactic(auto, using(sq_rules::proofs::FactLaws::facts_count))]
+pub fn judged(
+    rt: &impl Abort,
+    alloc: Global,
+    conf: &[u8],
+    addr: Addr,
+    request: &Request,
+) -> (Setup, Facts)
+    ensures { length result.1 ≡ length result.0.acls }
+{
+    let mut setup = read_config(alloc, conf).expect(rt, "a configuration");
+    let sight = Sight {
+        request: request.copy(alloc).expect(rt, "memory"),
+        addr,
+        port: 4000,
+        minute: 0,
+        conns: 1,
+    };
+    let facts = read_facts(alloc, &mut setup, &sight).expect(rt, "memory");
+    (setup, facts)
 }
 
 /// A meter that grants so many bytes, or all where there is no limit.

@@ -89,10 +89,10 @@ static ROWS: [Row; 29] = [
 fn check<R: Threads + Wait + Sync + Abort>(rt: &R, alloc: Global, number: usize, row: &Row) {
     let ((client_reads, client_writes, origin_reads, origin_writes), grants, wanted, down, up) =
         row;
-    let mut client = half(rt, alloc, AHEAD, 3, &[]);
+    let mut client = half(rt, alloc, AHEAD.as_bytes(), 3, &[]);
     assert!(rt; client.fill() == Ok(true));
-    client.source = half(rt, alloc, UP, 3, client_reads).source;
-    let mut origin = half(rt, alloc, DOWN, 4, origin_reads);
+    client.source = half(rt, alloc, UP.as_bytes(), 3, client_reads).source;
+    let mut origin = half(rt, alloc, DOWN.as_bytes(), 4, origin_reads);
     let client_wire = Wire::new(alloc, 64).expect(rt, "memory");
     let origin_wire = Wire::new(alloc, 64).expect(rt, "memory");
     let mut to_client = MemOut::new(sink(rt, alloc, 2, client_writes), Some(&client_wire));

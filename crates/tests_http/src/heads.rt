@@ -728,3 +728,21 @@ fn requests_have_their_wishes(rt: HostRuntime) -> Result<(), Fail> {
     }
     Ok(())
 }
+
+/// What a head goes out with whose Connection lists 4,000 options, of which two name a field.
+static OF_MANY: &str =
+    "GET / HTTP/1.1|Host: a|X-Stay: 1|Content-Length: 0|Via: 1.1 aclproxy|X-Forwarded-For: 10.1.2.3|Connection: close||";
+
+#[test]
+fn options_are_found_among_many(rt: HostRuntime) -> Result<(), Fail> {
+    let alloc = rt.alloc();
+    let mut head = text_of(alloc, "GET http://a/ HTTP/1.1|X-Hop: 1|X-Stay: 1|")?;
+    head.append(b"Content-Length: 0\r\nConnection: a")?;
+    for _ in 0..1000 {
+        head.append(b",x-hop,Content-length, X-Sta ,close")?;
+    }
+    head.append(b"\r\nX-LATE: 1\r\nConnection: x-Late\r\n\r\n")?;
+    let out = request_out(alloc, head.as_bytes())?;
+    assert!(rt; out == Some(text_of(alloc, OF_MANY)?), "{out:?}");
+    Ok(())
+}

@@ -1,23 +1,35 @@
 //! A hub of which one call fails.
 ghost use Rattle.std.specs.Prelude.{◌≡◌, ◌+◌, true, false, if◌then◌else◌};
 
-use sq_base::{Addr, CheckNo, ConnNo, EpochNo, Request};
+use sq_base::{Addr, CheckNo, ConnNo, EpochNo, QuestionNo, Request, Text};
 use sq_checks::Record;
 use sq_conn_policy::{Hub, HubFault};
 use sq_model_rows::Stepped;
-use sq_pools::{ChooseFault, Seat};
+use sq_pools::{ChooseFault, Seat, TagSeat};
+use sq_rewrite::{RewriteFault, Rewriting};
 use sq_rules::Config;
 use sq_session::Counts;
 use std::alloc::Global;
 use std::sync::Arc;
 
 /// A hub over another one. Of its calls that may fail, the one of this number, from 1, is not made, and fails.
-#[derive(Drop)]
 pub struct Failing<H: Hub + Drop> {
     hub: H,
     call: u64,
     made: u64,
     failed: bool,
+}
+
+// Written out, so that who lets one go does not take it apart.
+impl<H: Hub + Drop> Drop for Failing<H> {
+    fn drop(self) {
+        let Failing {
+            hub: _,
+            call: _,
+            made: _,
+            failed: _,
+        } = self;
+    }
 }
 
 impl<H: Hub + Drop> Failing<H> {
@@ -99,6 +111,24 @@ impl<H: Hub + Drop> Hub for Failing<H> {
         self.hub.take(alloc, check)
     }
 
+    fn rewrites(&self) -> bool {
+        self.hub.rewrites()
+    }
+
+    fn put_rewrite(&mut self, alloc: Global, judged: &Record) -> Result<QuestionNo, RewriteFault> {
+        if self.fails() {
+            return Err(RewriteFault::WantOfMemory);
+        }
+        self.hub.put_rewrite(alloc, judged)
+    }
+
+    fn take_rewrite(&mut self, question: QuestionNo) -> Result<Option<Rewriting>, RewriteFault> {
+        if self.fails() {
+            return Err(RewriteFault::WantOfMemory);
+        }
+        self.hub.take_rewrite(question)
+    }
+
     fn choose(
         &mut self,
         alloc: Global,
@@ -119,6 +149,28 @@ impl<H: Hub + Drop> Hub for Failing<H> {
 
     fn leave(&mut self, seat: Seat) {
         self.hub.leave(seat)
+    }
+
+    fn choose_tag(
+        &mut self,
+        alloc: Global,
+        epoch: EpochNo,
+        config: &Arc<Config>,
+        pool: u32,
+        tag: &Text,
+    ) -> Result<TagSeat, ChooseFault> {
+        if self.fails() {
+            return Err(ChooseFault::WantOfMemory);
+        }
+        self.hub.choose_tag(alloc, epoch, config, pool, tag)
+    }
+
+    fn grant_tag(&mut self, seat: &TagSeat, wanted: u64) -> u64 {
+        self.hub.grant_tag(seat, wanted)
+    }
+
+    fn leave_tag(&mut self, seat: TagSeat) {
+        self.hub.leave_tag(seat)
     }
 
     fn wait(&mut self) {

@@ -13,24 +13,48 @@ use std::sync::Wait;
 use std::thread::Threads;
 
 /// One host is denied; of others a helper process knows, one question at a time, whose answers stay fresh for ten
-/// seconds. What comes from one of these is granted by a pool that holds 1,000 bytes and begins with half of them.
+/// seconds. What comes from one of these is granted by a pool that holds 1,000 bytes and begins with half of them, and
+/// what comes from two others by one that does so for each tag. A redirector is asked about each allowed request.
 static CONFIG: &str = "external_acl_type v ttl=10 children-max=1 %>rd /bin/h
 acl known external v
 acl never dstdomain denied.example
 acl slow dstdomain slow.example
+acl sold dstdomain gold.example free.example
 http_access deny never
 http_access allow known
-delay_pools 1
+delay_pools 2
 delay_class 1 1
 delay_access 1 allow slow
 delay_parameters 1 10/1000
+delay_class 2 5
+delay_access 2 allow sold
+delay_parameters 2 10/1000
+url_rewrite_program /bin/r
 ";
 
 /// What the helper process writes, the last line first. Behind that it dies.
-static LINES: [&str; 3] = ["ERR", "OK", "OK"];
+static LINES: [&str; 5] = ["ERR", "OK", "OK tag=gold", "OK", "OK"];
+
+/// What the redirector writes, the last line first.
+static REWRITES: [&str; 7] = [
+    "OK url=http://c.example/",
+    "OK",
+    "OK",
+    "OK",
+    "OK",
+    "ERR",
+    "OK rewrite-url=http://b.example/y",
+];
 
 /// The origins, a host and a port each. Each of them answers one dial.
-static ORIGINS: [(&str, u16); 3] = [("a.example", 80), ("a.example", 80), ("slow.example", 81)];
+static ORIGINS: [(&str, u16); 6] = [
+    ("b.example", 80),
+    ("a.example", 80),
+    ("slow.example", 81),
+    ("gold.example", 80),
+    ("gold.example", 80),
+    ("free.example", 80),
+];
 
 /// What each origin sends.
 const REPLY: &str = "HTTP/1.1 204 No Content\r\n\r\n";
@@ -50,14 +74,20 @@ fn text(rt: &impl Abort, alloc: Global, bytes: &str) -> Text {
     Text::from_slice(alloc, bytes.as_bytes()).expect(rt, "memory")
 }
 
+fn texts(rt: &impl Abort, alloc: Global, lines: &[&str]) -> Vec<Text> {
+    let mut texts = Vec::new(alloc);
+    for line in lines {
+        texts.push(text(rt, alloc, line)).expect(rt, "memory");
+    }
+    texts
+}
+
 // A machine at moment 0.
 fn machine<'a, R: Wait + Abort>(rt: &'a R, alloc: Global) -> MemHub<'a, R> {
     let setup = read_config(alloc, CONFIG.as_bytes()).expect(rt, "a configuration");
-    let mut lines = Vec::new(alloc);
-    for line in LINES {
-        lines.push(text(rt, alloc, line)).expect(rt, "memory");
-    }
-    MemHub::new(rt, alloc, setup, Moment(0), lines).expect(rt, "memory")
+    let lines = texts(rt, alloc, &LINES);
+    let rewrites = texts(rt, alloc, &REWRITES);
+    MemHub::new(rt, alloc, setup, Moment(0), lines, rewrites).expect(rt, "memory")
 }
 
 fn origin<'a>(rt: &impl Abort, alloc: Global, host: &str, port: u16) -> MemOrigin<'a> {
@@ -116,9 +146,10 @@ pub fn run<R: Threads + Wait + Sync + Abort>(
         &mut front,
         &mut dialer,
     );
+    let hub = front.finish();
     Ran {
         end,
         text: wire.text(alloc).expect(rt, "memory"),
-        failed: front.finish().failed(),
+        failed: hub.failed(),
     }
 }

@@ -7,21 +7,29 @@ use std::process::Abort;
 
 /// A line is how many calls of the hub a request makes, how many bytes it is granted on a seat, the request and its
 /// reply, where `|` stands for CR and LF, and `!` for LF. A request is asked about, its check is stepped and its record
-/// is taken. A check is stepped twice where a helper process is asked, or a kept answer is taken, and else once. The
-/// fifth call takes a seat. The helper process answers the second and the fourth request, of a known host without being
-/// asked again the third, the fifth with ERR, and dies at the last.
+/// is taken. A check is stepped twice where a helper process is asked, or a kept answer is taken, and else once. Of an
+/// allowed request a question is put to the redirector, and it is looked for what that came to before it has ended and
+/// then. The eighth call takes a seat: of three requests whose pool has a bucket for each tag two have one, and the last
+/// has no tag. The helper process answers the second, the fourth, the fifth, with a tag, and the seventh request, of a
+/// known host without being asked again the third, the sixth and the last, the eighth with ERR, and dies at the ninth.
+/// The redirector has the second request go to another host and the client of the last one be sent elsewhere.
 static TURNS: &str =
     "3 0 GET http://denied.example/ => HTTP/1.1 403 Forbidden|Content-Type: text/plain|Content-Length: 14||denied rule 1!
-4 0 GET http://a.example/ => HTTP/1.1 204 No Content|Via: 1.1 aclproxy||
-4 0 HEAD http://a.example/x => HTTP/1.1 204 No Content|Via: 1.1 aclproxy||
-5 46 GET http://slow.example:81/ => HTTP/1.1 204 No Content|Via: 1.1 aclproxy||
+7 0 GET http://a.example/ => HTTP/1.1 204 No Content|Via: 1.1 aclproxy||
+7 0 HEAD http://a.example/x => HTTP/1.1 204 No Content|Via: 1.1 aclproxy||
+8 46 GET http://slow.example:81/ => HTTP/1.1 204 No Content|Via: 1.1 aclproxy||
+8 46 GET http://gold.example/ => HTTP/1.1 204 No Content|Via: 1.1 aclproxy||
+8 46 HEAD http://gold.example/x => HTTP/1.1 204 No Content|Via: 1.1 aclproxy||
+7 0 GET http://free.example/ => HTTP/1.1 204 No Content|Via: 1.1 aclproxy||
 4 0 GET http://b.example/ => HTTP/1.1 403 Forbidden|Content-Type: text/plain|Content-Length: 15||denied default!
-4 0 GET http://c.example/ => HTTP/1.1 403 Forbidden|Content-Type: text/plain|Content-Length: 26||denied fault 2 known Died!";
+4 0 GET http://c.example/ => HTTP/1.1 403 Forbidden|Content-Type: text/plain|Content-Length: 26||denied fault 2 known Died!
+7 0 GET http://a.example/z => HTTP/1.1 302 Found|Location: http://c.example/|Content-Length: 0|Connection: close||";
 
 /// Besides, the first call opens the connection, and the last one closes it.
-const CALLS: u64 = 26;
+const CALLS: u64 = 65;
 
-/// Where the journal failed, and where there was no memory for a seat.
+/// Where the journal failed, and where there was no memory for a question to the redirector, for what that came to or for
+/// a seat.
 const STOPPED: (&str, &str) = (
     "HTTP/1.1 500 Internal Server Error|Content-Type: text/plain|Content-Length: 16|Connection: close||",
     "journal stopped!",
@@ -100,7 +108,7 @@ fn say(rt: &impl Abort, call: u64, text: &mut Text) -> SessionEnd {
     for line in TURNS.lines() {
         let turn = read_turn(rt, line);
         if left < turn.calls {
-            let own = if left == 4 { NO_MEMORY } else { STOPPED };
+            let own = if left >= 4 { NO_MEMORY } else { STOPPED };
             add_own(rt, text, own, turn.request.starts_with("HEAD"));
             end.requests = end.requests.saturating_add(left.min(1));
             return end;

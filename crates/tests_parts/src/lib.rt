@@ -26,3 +26,5 @@ mod pools;
 mod processes;
 #[cfg(test)]
 mod rewriting;
+#[cfg(test)]
+mod tags;

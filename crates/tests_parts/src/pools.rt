@@ -465,12 +465,12 @@ fn moment(milliseconds: u64) -> Moment {
     Moment(milliseconds.min(9223372036854775807))
 }
 
-/// Whether a pool is there and takes the client.
+/// Whether a pool is there, takes the client, and has buckets by addresses.
 fn takes(config: &Config, pool: u32, addr: Addr) -> bool
     ensures { result ≡ has_pool config.now pool addr }
 {
     match config.pools().get(pool as usize) {
-        Some(pool) => !(addr.v6 && pool.class >= 2 && pool.class <= 3),
+        Some(pool) => !(addr.v6 && pool.class >= 2 && pool.class <= 3) && pool.class != 5,
         None => false,
     }
 }

@@ -2,15 +2,17 @@
 ghost use Rattle.std.specs.Prelude.{◌<◌, IfOk};
 
 use crate::fixtures::class;
-use sq_base::{Addr, Fields, ProcNo, QuestionNo, Request, number_of};
+use sq_base::{Addr, Field, Fields, ProcNo, QuestionNo, Request, Text, number_of};
 use sq_reply::read_reply;
 use sq_request::make_request;
 use sq_rewrite::{Got, RewriteAct, RewriteFault, Rewriter, Rewriting, rewriting_of};
 use std::alloc::Global;
+use std::process::Abort;
 use std::test::Fail;
 
-/// `METHOD TARGET > REPLY => WHAT`: what a reply makes of the request of this method and target (configuration
-/// reference, `url_rewrite_program`).
+/// `METHOD TARGET > REPLY => WHAT`: what a reply makes of the request of this method and target, of HTTP/1.0 and with the
+/// field `A: b` (configuration reference, `url_rewrite_program`). A new request is shown with the place that it goes to, its
+/// path, its version and its field.
 static REPLIES: &str = "GET http://a/ > OK => same
 GET http://a/ > OK url=http://c/ => redirect 302 http://c/
 GET http://a/ > OK status=301 url=http://c/ => redirect 301 http://c/
@@ -42,12 +44,12 @@ GET http://a/ > OK url=http://c/%1F => same
 GET http://a/ > OK url=%7Fhttp://c/ => same
 GET http://a/ > OK url=http://%80/ => same
 GET http://a/ > OK url=http://c/%FF => same
-GET http://a/ > OK rewrite-url=http://b.example/y => new GET http://b.example/y to b.example 80 /y
-POST http://a/ > OK rewrite-url=\"HTTP://B:81?q\" => new POST HTTP://B:81?q to b 81 ?q
-GET https://a/ > OK rewrite-url=http://b/ => new GET http://b/ to b 80 /
-GET http://a/ > OK status=302 rewrite-url=http://b/ => new GET http://b/ to b 80 /
-GET http://a/ > OK status=200 url=http://c/ rewrite-url=http://b/ => new GET http://b/ to b 80 /
-GET http://a/ > OK url=\"c d\" rewrite-url=http://b/ => new GET http://b/ to b 80 /
+GET http://a/ > OK rewrite-url=http://b.example/y => new GET http://b.example/y to b.example 80 /y 0 A:b
+POST http://a/ > OK rewrite-url=\"HTTP://B:81?q\" => new POST HTTP://B:81?q to b 81 ?q 0 A:b
+GET https://a/ > OK rewrite-url=http://b/ => new GET http://b/ to b 80 / 0 A:b
+GET http://a/ > OK status=302 rewrite-url=http://b/ => new GET http://b/ to b 80 / 0 A:b
+GET http://a/ > OK status=200 url=http://c/ rewrite-url=http://b/ => new GET http://b/ to b 80 / 0 A:b
+GET http://a/ > OK url=\"c d\" rewrite-url=http://b/ => new GET http://b/ to b 80 / 0 A:b
 GET http://a/ > OK rewrite-url=http://b/ url=http://c/ => redirect 302 http://c/
 GET http://a/ > OK rewrite-url=https://b/ => same
 GET http://a/ > OK rewrite-url=ftp://b/ => same
@@ -67,7 +69,7 @@ GET http://a/ > OK url=http://c/ url=http://d/ => redirect 302 http://c/
 GET http://a/ > OK url= url=http://d/ => same
 GET http://a/ > OK status=301 status=302 url=http://c/ => redirect 301 http://c/
 GET http://a/ > OK status=200 status=302 url=http://c/ => same
-GET http://a/ > OK rewrite-url=http://b/ rewrite-url=http://d/ => new GET http://b/ to b 80 /
+GET http://a/ > OK rewrite-url=http://b/ rewrite-url=http://d/ => new GET http://b/ to b 80 / 0 A:b
 GET http://a/ > OK rewrite-url=https://b/ rewrite-url=http://d/ => same
 GET http://a/ > ERR => same
 GET http://a/ > ERR url=http://c/ rewrite-url=http://b/ => same
@@ -117,9 +119,38 @@ started => 3
 act => send 3 5 http://f/ 10.1.2.3/- - GET
 line 3 OK rewrite-url=http://g/ => reply 5
 line 3 OK => stray
-take 5 => new GET http://g/ to g 80 /
+take 5 => new GET http://g/ to g 80 / 0 A:b
 act => stop 3
 act => none";
+
+/// The same of a rewriter of one process with two channels.
+static CHANNELS: &str = "ask http://a/ => 1
+ask http://b/ => 2
+act => start
+started => 1
+act => send 1 1 on 0 http://a/ 10.1.2.3/- - GET
+act => send 1 2 on 1 http://b/ 10.1.2.3/- - GET
+act => none
+line 1 1 OK url=http://x/ => reply 2
+take 2 => redirect 302 http://x/
+take 1 => waits
+ask http://c/ => 3
+act => send 1 3 on 1 http://c/ 10.1.2.3/- - GET
+line 1 0 OK => reply 1
+take 1 => same
+ask http://d/ => 4
+act => send 1 4 on 0 http://d/ 10.1.2.3/- - GET
+line 1 0 OK rewrite-url=http://g/ => reply 4
+line 1 0 OK => stray
+take 3 => same Stray
+take 4 => new GET http://g/ to g 80 / 0 A:b
+act => stop 1
+ask http://e/ => 5
+act => start
+started => 2
+act => send 2 5 on 0 http://e/ 10.1.2.3/- - GET
+line 2 OK => bad
+take 5 => same BadReply";
 
 fn client() -> Addr {
     Addr {
@@ -128,9 +159,28 @@ fn client() -> Addr {
     }
 }
 
+fn field(alloc: Global) -> Result<Field, Fail> {
+    let name = Text::from_slice(alloc, b"A")?;
+    let value = Text::from_slice(alloc, b"b")?;
+    Ok(Field { name, value })
+}
+
 fn request(alloc: Global, method: &str, target: &str) -> Result<Request, Fail> {
-    let fields = Fields::new(alloc);
-    Ok(make_request(alloc, method.as_bytes(), target.as_bytes(), 1, fields)?)
+    let mut fields = Vec::new(alloc);
+    fields.push(field(alloc)?)?;
+    let fields = Fields::from_vec(fields);
+    Ok(make_request(alloc, method.as_bytes(), target.as_bytes(), 0, fields)?)
+}
+
+/// The fields of a request.
+fn fields_shown(alloc: Global, request: &Request) -> Result<String, Fail> {
+    let mut text = String::new(alloc);
+    for field in request.fields.as_slice() {
+        text.push_str(str::from_utf8(field.name.as_bytes())?)?;
+        text.push(':')?;
+        text.push_str(str::from_utf8(field.value.as_bytes())?)?;
+    }
+    Ok(text)
 }
 
 /// What a request came to.
@@ -139,9 +189,10 @@ fn shown(alloc: Global, rewriting: &Rewriting) -> Result<String, Fail> {
         Rewriting::Same(None) => Ok(format!(in alloc; "same")?),
         Rewriting::Same(Some(cause)) => Ok(format!(in alloc; "same {cause:?}")?),
         Rewriting::New(r) => {
+            let fields = fields_shown(alloc, r)?;
             Ok(format!(in alloc;
-                "new {} {} to {} {} {}",
-                r.method, r.target, r.host, r.port, r.path
+                "new {} {} to {} {} {} {} {fields}",
+                r.method, r.target, r.host, r.port, r.path, r.minor
             )?)
         }
         Rewriting::Redirect(status, url) => Ok(format!(in alloc; "redirect {status} {url}")?),
@@ -149,8 +200,8 @@ fn shown(alloc: Global, rewriting: &Rewriting) -> Result<String, Fail> {
 }
 
 /// What a reply makes of a request.
-fn made(alloc: Global, request: &Request, line: &str) -> Result<String, Fail> {
-    let (_, reply) = read_reply(alloc, line.as_bytes(), false)?;
+fn made(alloc: Global, request: &Request, line: &[u8]) -> Result<String, Fail> {
+    let (_, reply) = read_reply(alloc, line, false)?;
     let rewriting = rewriting_of(alloc, &reply, request)?;
     shown(alloc, &rewriting)
 }
@@ -163,8 +214,42 @@ fn replies_make_redirects_and_requests(rt: HostRuntime) -> Result<(), Fail> {
         let (asked, line) = given.split_once(" > ").ok_or("no reply")?;
         let (method, target) = asked.split_once(' ').ok_or("no target")?;
         let request = request(alloc, method, target)?;
-        let made = made(alloc, &request, line)?;
+        let made = made(alloc, &request, line.as_bytes())?;
         assert!(rt; made.as_str() == wanted, "{row}");
+    }
+    Ok(())
+}
+
+// What a request becomes by a reply with a `url` of this byte between an `a` and a `b`: percent-encoded, or as it is between
+// quotes.
+fn made_with(alloc: Global, request: &Request, byte: u8, is_quoted: bool) -> Result<String, Fail> {
+    let digits = b"0123456789ABCDEF";
+    let mut line = Vec::from_slice(alloc, b"OK url=")?;
+    if is_quoted {
+        line.extend_from_slice(&[b'"', b'a', byte, b'b', b'"'])?;
+    } else {
+        let high = digits[(byte / 16) as usize];
+        let low = digits[(byte % 16) as usize];
+        line.extend_from_slice(&[b'a', b'%', high, low, b'b'])?;
+    }
+    made(alloc, request, line.as_slice())
+}
+
+#[test]
+fn a_url_with_a_forbidden_byte_is_no_redirect(rt: HostRuntime) -> Result<(), Fail> {
+    let alloc = rt.alloc();
+    let request = request(alloc, "GET", "http://a/")?;
+    for byte in 0..=255u8 {
+        let is_visible = 0x21 <= byte && byte <= 0x7E;
+        let wanted = if is_visible { "redirect 302 a" } else { "same" };
+        let came = made_with(alloc, &request, byte, false)?;
+        assert!(rt; came.starts_with(wanted), "{byte}: {came}");
+        // These three stand in no line.
+        let is_bare = byte != 0 && byte != b'\n' && byte != b'\r';
+        if is_bare && !is_visible {
+            let came = made_with(alloc, &request, byte, true)?;
+            assert!(rt; came.as_str() == "same", "{byte} in quotes: {came}");
+        }
     }
     Ok(())
 }
@@ -180,12 +265,15 @@ fn act(alloc: Global, rewriter: &mut Rewriter) -> Result<String, Fail> {
             RewriteAct::Send {
                 proc: ProcNo(proc),
                 question: QuestionNo(question),
-                channel: _,
+                channel,
                 text,
             },
         ) => {
             let text = str::from_utf8(text.as_bytes())?;
-            Ok(format!(in alloc; "send {proc} {question} {text}")?)
+            match channel {
+                None => Ok(format!(in alloc; "send {proc} {question} {text}")?),
+                Some(n) => Ok(format!(in alloc; "send {proc} {question} on {n} {text}")?),
+            }
         }
         Some(RewriteAct::Start) => Ok(format!(in alloc; "start")?),
         None => Ok(format!(in alloc; "none")?),
@@ -264,14 +352,31 @@ fn answer_about(alloc: Global, rewriter: &mut Rewriter, call: &str) -> Result<St
     }
 }
 
+// Ends the process unless a rewriter answers these calls so.
+fn check_calls(
+    rt: &impl Abort,
+    alloc: Global,
+    rewriter: &mut Rewriter,
+    calls: &str,
+) -> Result<(), Fail> {
+    for row in calls.lines() {
+        let (call, wanted) = row.split_once(" => ").ok_or("no answer")?;
+        let answer = answer(alloc, rewriter, call)?;
+        assert!(rt; answer.as_str() == wanted, "{row}");
+    }
+    Ok(())
+}
+
 #[test]
 fn a_rewriter_answers_its_calls(rt: HostRuntime) -> Result<(), Fail> {
     let alloc = rt.alloc();
     let mut rewriter = Rewriter::new(alloc, &class(alloc, 2, 0, 1));
-    for row in CALLS.lines() {
-        let (call, wanted) = row.split_once(" => ").ok_or("no answer")?;
-        let answer = answer(alloc, &mut rewriter, call)?;
-        assert!(rt; answer.as_str() == wanted, "{row}");
-    }
-    Ok(())
+    check_calls(&rt, alloc, &mut rewriter, CALLS)
+}
+
+#[test]
+fn a_line_answers_on_its_channel(rt: HostRuntime) -> Result<(), Fail> {
+    let alloc = rt.alloc();
+    let mut rewriter = Rewriter::new(alloc, &class(alloc, 1, 2, 1));
+    check_calls(&rt, alloc, &mut rewriter, CHANNELS)
 }

@@ -79,7 +79,7 @@ fn step(
                 took: None,
                 put: true,
             };
-            checks.note(number, said, class, key);
+            checks.note(number, said, acl, class, key);
             Ok(Some(asked))
         }
     }

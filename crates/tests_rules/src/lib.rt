@@ -1,6 +1,6 @@
 //! Tests of configurations that are made or built from parts, and of their patterns; of the facts of a check, of what
-//! rules come to over answers of helpers, at one stroke and by a stored place, of keys and of the pool of a check; of open
-//! connections and open checks; of questions about hosts, with the replies to them, and of a pipe.
+//! rules come to over answers of helpers, at one stroke and by a stored place, of keys, of the pool and of the tag of a
+//! check; of open connections and open checks; of questions about hosts, with the replies to them, and of a pipe.
 //!
 //! It has no public call. The expected values come from Squid's configuration reference, directives `acl`,
 //! `http_access`, `external_acl_type`, `delay_access` and `delay_pools`, from the syntax of the crate regex, and from
@@ -33,3 +33,5 @@ mod parts;
 mod patterns;
 #[cfg(test)]
 mod pools;
+#[cfg(test)]
+mod tags;

@@ -14,6 +14,10 @@ mod jobs;
 #[cfg(test)]
 mod nets;
 #[cfg(test)]
+mod resolvers;
+#[cfg(test)]
 mod served;
 #[cfg(test)]
 mod serving;
+#[cfg(test)]
+mod spawners;

@@ -1,5 +1,7 @@
-//! Nets in memory with clients that send their bytes at once, one origin, and one helper.
-use sq_base::{Addr, Moment, Text, WantOfMemory};
+//! Nets in memory with clients that send their bytes at once, one origin, one helper, one program that rewrites, and
+//! names.
+use crate::spawners::PairedNet;
+use sq_base::{Addr, Addrs, Moment, Text, WantOfMemory};
 use sq_outside::{
     MemChild, MemClock, MemDialer, MemLink, MemName, MemNet, MemOrigin, MemPair, MemParts,
     MemResolver, MemShape, MemSpawner, MemWait, Wire,
@@ -10,8 +12,11 @@ use std::sync::atomic::AtomicBool;
 /// A client: its IPv4 address as a number, and what it sends. It comes from port 4000.
 pub type Client<'a> = (u32, &'a [u8]);
 
-/// An origin `a.example`: its port, and what it replies to one dial.
-pub type Origin<'a> = (u16, &'a [u8]);
+/// An origin: its name and its port, and what it replies to one dial.
+pub type Origin<'a> = (&'a [u8], u16, &'a [u8]);
+
+/// A name, and its one IPv4 address as a number.
+pub type Named<'a> = (&'a [u8], u32);
 
 // A link of these bytes that no call fails.
 fn pair<'a>(
@@ -34,6 +39,18 @@ fn address(number: u32) -> Addr {
         v6: false,
         number: u128::from(number),
     }
+}
+
+/// These names, each with its address.
+pub fn names(alloc: Global, named: &[Named<'_>]) -> Result<Vec<MemName>, WantOfMemory> {
+    let mut names = Vec::new(alloc);
+    for &(host, number) in named {
+        let host = Text::from_slice(alloc, host)?;
+        let mut addrs = Addrs::new(alloc);
+        addrs.push(address(number))?;
+        names.push(MemName { host, addrs })?;
+    }
+    Ok(names)
 }
 
 /// The links of these clients, each with its wire.
@@ -59,8 +76,8 @@ pub fn origins<'a>(
     origin: Origin<'_>,
     wire: &'a Wire,
 ) -> Result<Vec<MemOrigin<'a>>, WantOfMemory> {
-    let (port, reply) = origin;
-    let host = Text::from_slice(alloc, b"a.example")?;
+    let (host, port, reply) = origin;
+    let host = Text::from_slice(alloc, host)?;
     let pair = pair(alloc, reply, Some(wire))?;
     let mut origins = Vec::new(alloc);
     origins.push(MemOrigin { host, port, pair })?;
@@ -82,17 +99,37 @@ pub fn helpers<'a>(alloc: Global, wires: &'a [Wire]) -> Result<Vec<MemChild<'a>>
     Ok(children)
 }
 
-/// A net with these links, origins and helpers, and a clock that stands at 7.
+/// A program `/bin/r` that says these lines, each once it was asked once more. Its questions go over the wire.
+pub fn rewriters<'a>(
+    alloc: Global,
+    lines: &[u8],
+    wire: &'a Wire,
+) -> Result<Vec<MemChild<'a>>, WantOfMemory> {
+    let mut words = Vec::new(alloc);
+    words.push(Text::from_slice(alloc, b"/bin/r")?)?;
+    let pair = pair(alloc, lines, Some(wire))?;
+    let waits = Some(MemWait {
+        wire,
+        turns: 20_000_000,
+    });
+    let mut children = Vec::new(alloc);
+    children.push(MemChild { words, pair, waits })?;
+    Ok(children)
+}
+
+/// A net with these links, origins, helpers and programs that rewrite, and a clock that stands at 7.
 pub fn net<'a>(
     alloc: Global,
     links: Vec<MemLink<'a>>,
     origins: Vec<MemOrigin<'a>>,
     children: Vec<MemChild<'a>>,
+    rewriters: Vec<MemChild<'a>>,
     names: &'a [MemName],
     word: &'a AtomicBool,
-) -> Result<MemNet<'a>, WantOfMemory> {
+) -> Result<PairedNet<'a>, WantOfMemory> {
     let dialer = MemDialer::new(alloc, origins, Vec::new(alloc))?;
     let spawner = MemSpawner::new(alloc, children, Vec::new(alloc))?;
+    let copy = MemSpawner::new(alloc, rewriters, Vec::new(alloc))?;
     let clock = MemClock::new(alloc, Moment(7), Vec::new(alloc));
     let resolver = MemResolver::new(alloc, names, Vec::new(alloc));
     let parts = MemParts::new(
@@ -104,5 +141,5 @@ pub fn net<'a>(
         clock,
         resolver,
     );
-    Ok(MemNet::new(parts, Vec::new(alloc)))
+    Ok(PairedNet::new(MemNet::new(parts, Vec::new(alloc)), copy))
 }

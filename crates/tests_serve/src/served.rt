@@ -1,11 +1,12 @@
 //! A server over a net in memory, from its words to what came of it.
 use crate::devices::{Orders, Versions};
-use crate::nets::{Client, Origin, helpers, links, net, origins};
+use crate::nets::{Client, Named, Origin, helpers, links, names, net, origins, rewriters};
+use crate::spawners::PairedNet;
 use sq_base::{Text, WantOfMemory};
 use sq_cache::HashSeed;
 use sq_journal::print_entry;
 use sq_journal_writers::MemJournal;
-use sq_outside::{MemName, MemNet, MemSink, Wire};
+use sq_outside::{MemName, MemSink, Wire};
 use sq_proxy::proxy;
 use std::alloc::Global;
 use std::process::Abort;
@@ -15,7 +16,8 @@ use std::test::Fail;
 use std::thread::Threads;
 
 /// A server: how many workers it has, the text of its configuration at each opening, its orders, which come once all clients
-/// have their replies, and which notes of its journal fail; its clients, and the origin.
+/// have their replies, and which notes of its journal fail; its clients, the origin, the lines that the program that rewrites
+/// says, and the names that are found.
 #[derive(Clone, Copy)]
 pub struct Job<'a> {
     pub workers: &'a [u8],
@@ -24,16 +26,19 @@ pub struct Job<'a> {
     pub fails: &'a [u64],
     pub clients: &'a [Client<'a>],
     pub origin: Origin<'a>,
+    pub rewriter: &'a [u8],
+    pub names: &'a [Named<'a>],
 }
 
-/// What a run came to: its status, what it wrote, its journal, and what each client and then the origin got, one behind
-/// the other.
+/// What a run came to: its status, what it wrote, its journal, what each client and then the origin got, one behind
+/// the other, and what the program that rewrites was asked.
 #[derive(Drop)]
 pub struct Came {
     pub code: u8,
     pub out: String,
     pub journal: String,
     pub got: String,
+    pub asked: String,
 }
 
 // A wire for each client.
@@ -93,15 +98,18 @@ fn sum_up(
     journal: &MemJournal,
     wires: &[Wire],
     origin: &Wire,
+    rewriter: &Wire,
 ) -> Result<Came, Fail> {
     let out = string(alloc, out.bytes())?;
     let journal = lines(alloc, journal)?;
     let got = texts(alloc, wires, origin)?;
+    let asked = texts(alloc, &[], rewriter)?;
     Ok(Came {
         code,
         out,
         journal,
         got,
+        asked,
     })
 }
 
@@ -110,9 +118,10 @@ fn run_over<R: Threads + Wait + Sync>(
     rt: &R,
     alloc: Global,
     job: &Job<'_>,
-    net: &mut MemNet<'_>,
+    net: &mut PairedNet<'_>,
     wires: &[Wire],
     origin: &Wire,
+    rewriter: &Wire,
 ) -> Result<Came, Fail> {
     let words = words(alloc, job.workers)?;
     let fails = Vec::from_slice(alloc, job.fails)?;
@@ -133,33 +142,44 @@ fn run_over<R: Threads + Wait + Sync>(
         seed,
     );
     match journal {
-        Some(journal) => sum_up(alloc, status.code(), &out, &journal, wires, origin),
+        Some(journal) => sum_up(
+            alloc,
+            status.code(),
+            &out,
+            &journal,
+            wires,
+            origin,
+            rewriter,
+        ),
         None => Err(Fail::new("no journal is handed back")),
     }
 }
 
-// Runs a server whose clients and whose origin have these wires.
+// Runs a server whose clients, whose origin and whose program that rewrites have these wires.
 fn run_with<'a, R: Threads + Wait + Sync>(
     rt: &R,
     alloc: Global,
     job: &Job<'_>,
     wires: &'a [Wire],
     origin: &'a Wire,
+    rewriter: &'a Wire,
     names: &'a [MemName],
     word: &'a AtomicBool,
 ) -> Result<Came, Fail> {
     let links = links(alloc, job.clients, wires)?;
     let children = helpers(alloc, wires)?;
     let origins = origins(alloc, job.origin, origin)?;
-    let mut net = net(alloc, links, origins, children, names, word)?;
-    run_over(rt, alloc, job, &mut net, wires, origin)
+    let rewriters = rewriters(alloc, job.rewriter, rewriter)?;
+    let mut net = net(alloc, links, origins, children, rewriters, names, word)?;
+    run_over(rt, alloc, job, &mut net, wires, origin, rewriter)
 }
 
 /// Runs a server.
 pub fn run<R: Threads + Wait + Sync>(rt: &R, alloc: Global, job: &Job<'_>) -> Result<Came, Fail> {
     let wires = wires(alloc, job.clients)?;
     let origin = Wire::new(alloc, 4096)?;
-    let names = Vec::new(alloc);
+    let rewriter = Wire::new(alloc, 4096)?;
+    let names = names(alloc, job.names)?;
     let word = AtomicBool::new(false);
     run_with(
         rt,
@@ -167,6 +187,7 @@ pub fn run<R: Threads + Wait + Sync>(rt: &R, alloc: Global, job: &Job<'_>) -> Re
         job,
         wires.as_slice(),
         &origin,
+        &rewriter,
         names.as_slice(),
         &word,
     )

@@ -17,7 +17,9 @@ fn job<'a>() -> Job<'a> {
         orders: b"",
         fails: &[],
         clients: &[],
-        origin: (80, REPLY),
+        origin: (b"a.example", 80, REPLY),
+        rewriter: b"",
+        names: &[],
     }
 }
 
@@ -206,11 +208,85 @@ fn an_origin_is_reached_by_whom_the_rules_allow(rt: HostRuntime) -> Result<(), F
     let two = Job {
         conf: &[PORTS],
         clients: &[(0xc000_0201, HOP), (0x0a01_0203, HOP)],
-        origin: (8080, REPLY),
+        origin: (b"a.example", 8080, REPLY),
         ..job()
     };
     let came = run(&rt, rt.alloc(), &two)?;
     assert!(rt; came.code == 0);
     assert!(rt; came.got.as_str() == PASSED);
+    Ok(())
+}
+
+/// A program is asked about each request that is allowed.
+const REWRITES: &[u8] =
+    b"url_rewrite_program /bin/r\nacl out src 192.0.2.0/24\nhttp_access deny out\nhttp_access allow all\n";
+
+/// What a client asks who wants another page, and ends.
+const PAGE: &[u8] = b"GET http://a.example/x HTTP/1.1\r\nHost: a.example\r\n\r\n";
+
+/// What it says to the first request, and to the second.
+const SAYS: &[u8] =
+    b"OK rewrite-url=\"http://b.example/y\"\nOK status=302 url=\"http://c.example/\"\n";
+
+/// What the three clients get, the last of whom is denied, and the origin, which answers one dial.
+const REWRITTEN: &str =
+    "HTTP/1.1 200 OK\r\nContent-Length: 2\r\nVia: 1.1 aclproxy\r\n\r\nhiHTTP/1.1 302 Found\r\nLocation: http://c.example/\r\nContent-Length: 0\r\nConnection: close\r\n\r\nHTTP/1.1 403 Forbidden\r\nContent-Type: text/plain\r\nContent-Length: 14\r\n\r\ndenied rule 1\nGET /y HTTP/1.1\r\nHost: b.example\r\nVia: 1.1 aclproxy\r\nX-Forwarded-For: 10.1.2.3\r\nConnection: close\r\n\r\n";
+
+#[test]
+fn a_program_that_rewrites_is_asked_about_what_is_allowed(rt: HostRuntime) -> Result<(), Fail> {
+    let three = Job {
+        conf: &[REWRITES],
+        clients: &[
+            (0x0a01_0203, PAGE),
+            (0x0a01_0204, PAGE),
+            (0xc000_0201, PAGE),
+        ],
+        origin: (b"b.example", 80, REPLY),
+        rewriter: SAYS,
+        ..job()
+    };
+    let came = run(&rt, rt.alloc(), &three)?;
+    assert!(rt; came.out.as_str() == "listening 3128\nstopped\n");
+    assert!(rt; came.got.as_str() == REWRITTEN);
+    assert!(rt;
+        came.asked.as_str()
+            == "http://a.example/x 10.1.2.3/- - GET\nhttp://a.example/x 10.1.2.4/- - GET\n"
+    );
+    Ok(())
+}
+
+/// Names are looked up, and none of this machine may be asked for.
+const LOOKUPS: &[u8] = b"dst_lookup on\nhttp_access deny to_localhost\nhttp_access allow all\n";
+
+/// A request of such a name.
+const HERE: &[u8] = b"GET http://localhost/ HTTP/1.1\r\nHost: localhost\r\n\r\n";
+
+/// A request of a name that does not resolve.
+const NOWHERE: &[u8] = b"GET http://no.example/ HTTP/1.1\r\nHost: no.example\r\n\r\n";
+
+/// What the first gets, what another name gets, what the last gets, and the origin of the other.
+const FOUND: &str =
+    "HTTP/1.1 403 Forbidden\r\nContent-Type: text/plain\r\nContent-Length: 14\r\n\r\ndenied rule 1\nHTTP/1.1 200 OK\r\nContent-Length: 2\r\nVia: 1.1 aclproxy\r\n\r\nhiHTTP/1.1 403 Forbidden\r\nContent-Type: text/plain\r\nContent-Length: 40\r\n\r\ndenied fault 1 to_localhost%20lookup Bh\nGET / HTTP/1.1\r\nHost: a.example\r\nVia: 1.1 aclproxy\r\nX-Forwarded-For: 10.0.0.2\r\nConnection: close\r\n\r\n";
+
+/// One thread answers for all names, and ends with the server.
+const LOOKED_UP: &str =
+    "7 begin 0 => epoch 1\n7 open 1 10.0.0.1 4000 => ok\n7 ask 1 GET http://localhost/ Host:localhost => check 1\n7 step 1 => waits 1\n7 act => start 1 dst%20lookup\n7 started 1 dst%20lookup => proc 1\n7 act => send 1 1 - localhost%20to_localhost%2520lookup%20-\n7 line 1 OK => reply 1 ok\n7 step 1 => done\n7 take 1 => epoch 1 denied rule 1\n7 close 1 => ok\n7 open 1 10.0.0.2 4000 => ok\n7 ask 1 GET http://a.example/ Host:a.example => check 2\n7 step 2 => waits 2\n7 act => send 1 2 - a.example%20to_localhost%2520lookup%20-\n7 line 1 ERR => reply 2 err\n7 step 2 => done\n7 take 2 => epoch 1 allowed rule 2\n7 close 1 => ok\n7 open 1 10.0.0.3 4000 => ok\n7 ask 1 GET http://no.example/ Host:no.example => check 3\n7 step 3 => waits 3\n7 act => send 1 3 - no.example%20to_localhost%2520lookup%20-\n7 line 1 BH => reply 3 bh\n7 step 3 => done\n7 take 3 => epoch 1 denied fault 1 to_localhost%20lookup Bh\n7 close 1 => ok\n7 died 1 => ok\n";
+
+#[test]
+fn a_name_of_this_machine_is_denied_by_its_address(rt: HostRuntime) -> Result<(), Fail> {
+    let three = Job {
+        conf: &[LOOKUPS],
+        clients: &[
+            (0x0a00_0001, HERE),
+            (0x0a00_0002, REQUEST),
+            (0x0a00_0003, NOWHERE),
+        ],
+        names: &[(b"localhost", 0x7f00_0001), (b"a.example", 0xc000_0201)],
+        ..job()
+    };
+    let came = run(&rt, rt.alloc(), &three)?;
+    assert!(rt; came.code == 0);
+    assert!(rt; came.got.as_str() == FOUND);
+    assert!(rt; came.journal.as_str() == LOOKED_UP);
     Ok(())
 }

@@ -16,11 +16,12 @@ pub struct Side {
     pub written: Text,
 }
 
-/// A session: its client's address and what that sends, the origins in the order in which they are dialled, what the
-/// front answers, and what its client is sent and how it ends.
+/// A session: lines behind those of the configuration, its client's address and what that sends, the origins in the
+/// order in which they are dialled, what the front answers, and what its client is sent and how it ends.
 #[derive(Drop)]
 pub struct Case {
     pub title: Text,
+    pub conf: Text,
     pub addr: Addr,
     pub input: Text,
     pub origins: Vec<Side>,
@@ -35,6 +36,7 @@ impl Case {
     pub fn new(alloc: Global) -> Case {
         Case {
             title: Text::new(alloc),
+            conf: Text::new(alloc),
             addr: Addr {
                 v6: false,
                 number: 0x0A01_0203,
@@ -151,6 +153,11 @@ pub fn take_line(rt: &impl Abort, alloc: Global, case: &mut Case, line: &str) {
     match word {
         // What is shown.
         "=" => add(rt, &mut case.title, rest, 1),
+        // A line of the configuration.
+        "conf" => {
+            case.conf.append(rest.as_bytes()).expect(rt, "memory");
+            case.conf.push(b'\n').expect(rt, "memory");
+        }
         // The client's address.
         "from" => case.addr = read_addr(rest.as_bytes()).expect(rt, "an address"),
         // What the client sends.

@@ -1,24 +1,32 @@
-//! A front in memory: it judges each request by a configuration, and answers one call otherwise where it is told to.
-ghost use Rattle.std.specs.Prelude.{◌≡◌, ◌<◌, ◌≤◌, ◌-◌, ◌^◌, false, IfSome};
+//! A front in memory: it judges each request by a configuration, rewrites it by a list of replies of a redirector, and
+//! answers one call otherwise where it is told to.
+ghost use Rattle.std.specs.Prelude.{◌≡◌, ◌<◌, ◌≤◌, ◌-◌, ◌^◌, false, is_some, IfOk, IfSome};
+ghost use Rattle.sq_base.specs.Requests.{HttpRequest};
+ghost use Rattle.sq_machine.specs.SeatPlaces.{pool_at};
 ghost use Rattle.sq_outside.specs.Causes.{raised};
+ghost use Rattle.sq_rewrite.specs.Rewritings.{MayBecome};
+ghost use Rattle.sq_session.specs.Fronts.{Rewrites};
 
-use sq_base::{Addr, CheckNo, ConnNo, Copying, EpochNo, Request, Steps};
+use sq_base::{Addr, CheckNo, ConnNo, Copying, EpochNo, Request, Steps, Text, WantOfMemory};
 use sq_checks::{OpenCheck, Record};
 use sq_conf::read_config;
 use sq_facts::read_facts;
 use sq_forward::Meter;
 use sq_frames::Slots;
-use sq_machine::Refusal;
+use sq_machine::{Refusal, SeatPlace};
 use sq_outside::{raised, raised_by};
+use sq_reply::read_reply;
+use sq_rewrite::{Rewriting, rewriting_of};
 use sq_rules::{Sight, Value};
-use sq_session::{CloseFault, Counts, Decided, Front, Opened, SitFault};
+use sq_session::{CloseFault, Counts, Decided, Front, Opened, Rewritten, SitFault, seat_place};
 use std::alloc::Global;
 use std::marker::Brand;
+use std::process::Abort;
 use std::sync::Arc;
 use std::sync::ledger::{Blank, Ledger};
 
 /// The address of the client; requests to `denied.example` are denied by rule 1, those of others and to other ports
-/// by default, and what comes from `slow.example` is granted by a pool.
+/// by default, and what comes from `slow.example` is granted by a pool. Lines of a case stand behind these.
 static CONFIG: &str = "acl lan src 10.0.0.0/8 2001:db8::/32
 acl web port 80 81 443 8080
 acl never dstdomain denied.example
@@ -31,6 +39,24 @@ delay_access 1 allow slow
 delay_parameters 1 1000/1000
 ";
 
+/// What the redirector replies of requests to a host; of others it leaves all as it is.
+static REPLIES: &str = "old.example OK rewrite-url=http://b.example/y
+port.example OK rewrite-url=\"HTTP://B.Example:81?q\"
+slow.example OK
+ftp.example OK rewrite-url=ftp://b.example/y
+bad.example OK rewrite-url=nonsense
+err.example ERR rewrite-url=http://b.example/y
+bh.example BH url=http://c.example/
+moved.example OK status=302 url=http://c.example/
+found.example OK url=http://c.example/?d=e rewrite-url=http://b.example/y
+301.example OK status=301 url=http://c.example/
+303.example OK status=303 url=/d
+307.example OK status=307 url=https://c.example/#d
+308.example OK status=308 url=~
+200.example OK status=200 url=http://c.example/
+denied.example OK url=http://c.example/
+";
+
 /// What a call of a front answers in place of its own answer.
 #[derive(Clone, Copy, PartialEq, Eq, Debug)]
 pub enum Other {
@@ -41,7 +67,7 @@ pub enum Other {
     Mismatch,
 }
 
-/// The call among `open`, `decide` and `sit`, from 1, that answers otherwise, and how. Call 0 is none.
+/// The call among `open`, `decide`, `rewrite` and `sit`, from 1, that answers otherwise, and how. Call 0 is none.
 #[derive(Clone, Copy, Debug)]
 pub struct Told {
     pub call: u64,
@@ -55,9 +81,10 @@ pub struct Room {
     pub more: u64,
 }
 
-/// A front of a client of this address.
+/// A front of a client of this address, whose requests are judged by this configuration.
 #[derive(Drop)]
 pub struct MemFront {
+    config: Text,
     pub addr: Addr,
     pub told: Told,
     pub room: Room,
@@ -75,11 +102,18 @@ pub struct MemFront {
     ghost dry_capped: { dry ≤ 2 ^ 63 - 1 },
 }
 
+/// The configuration with these lines behind it.
+pub fn config_with(rt: &impl Abort, alloc: Global, lines: &Text) -> Text {
+    let mut config = Text::from_slice(alloc, CONFIG.as_bytes()).expect(rt, "memory");
+    config.append(lines.as_bytes()).expect(rt, "memory");
+    config
+}
+
 /// The record of this request, which the configuration judges.
-fn judge(alloc: Global, addr: Addr, request: &Request) -> Option<Record>
+fn judge(alloc: Global, config: &[u8], addr: Addr, request: &Request) -> Option<Record>
     ensures { IfSome result (λ j. j.sight.request ≡ request.now) }
 {
-    let Ok(mut setup) = read_config(alloc, CONFIG.as_bytes()) else {
+    let Ok(mut setup) = read_config(alloc, config) else {
         return None;
     };
     let Ok(request) = request.copy(alloc) else {
@@ -118,6 +152,40 @@ fn another(alloc: Global, request: &Request) -> Option<Request>
     Some(other)
 }
 
+/// The reply about requests to this host.
+fn reply_of(host: &[u8]) -> &'static str {
+    for line in REPLIES.lines() {
+        if let Some((name, reply)) = line.split_once(' ') {
+            if name.as_bytes() == host {
+                return reply;
+            }
+        }
+    }
+    "OK"
+}
+
+/// What the redirector makes of a request.
+fn redirected(alloc: Global, request: &Request) -> Result<Rewriting, WantOfMemory>
+    ensures { IfOk result (λ w. MayBecome request.now w) }
+{
+    match read_reply(alloc, reply_of(request.host.as_bytes()).as_bytes(), false) {
+        Ok((_channel, reply)) => rewriting_of(alloc, &reply, request),
+        Err(_) => Err(WantOfMemory),
+    }
+}
+
+/// The same, as a front's answer.
+fn rewritten(rewriting: Result<Rewriting, WantOfMemory>) -> Rewritten
+    ensures { (r : HttpRequest) → IfOk rewriting (λ w. MayBecome r w) → Rewrites r result }
+{
+    match rewriting {
+        Ok(Rewriting::Same(_)) => Rewritten::Same,
+        Ok(Rewriting::New(new)) => Rewritten::New(new),
+        Ok(Rewriting::Redirect(status, url)) => Rewritten::Redirect(status, url),
+        Err(WantOfMemory) => Rewritten::WantOfMemory,
+    }
+}
+
 /// The record of a check that asks for nothing.
 fn finished<L: Ledger>(alloc: Global, begun: OpenCheck, blank: Blank) -> Option<Record>
     requires name { blank.name ≡ L.name }
@@ -140,13 +208,24 @@ fn finished<L: Ledger>(alloc: Global, begun: OpenCheck, blank: Blank) -> Option<
     }
 }
 
+/// Whether a place is a seat in a pool.
+fn is_seated(place: &SeatPlace) -> bool
+    ensures { result ≡ is_some (pool_at place.now) }
+{
+    match place {
+        SeatPlace::Nowhere => false,
+        SeatPlace::ByAddress(_) | SeatPlace::ByTag(_, _) => true,
+    }
+}
+
 impl MemFront {
     /// A front that holds no seat.
-    pub fn new(addr: Addr, told: Told, room: Room) -> MemFront
+    pub fn new(config: Text, addr: Addr, told: Told, room: Room) -> MemFront
         ensures dry { result.dry ≡ 0 }
         ensures seated { result.seated ≡ false }
     {
         MemFront {
+            config,
             addr,
             told,
             room,
@@ -253,7 +332,7 @@ impl Front for MemFront {
     fn decide(&mut self, alloc: Global, request: &Request) -> Decided {
         self.asked = raised(self.asked);
         let Some(other) = self.next() else {
-            return match judge(alloc, self.addr, request) {
+            return match judge(alloc, self.config.as_bytes(), self.addr, request) {
                 Some(judged) => Decided::Record(judged),
                 None => Decided::WantOfMemory,
             };
@@ -270,12 +349,22 @@ impl Front for MemFront {
         }
     }
 
-    fn sit(&mut self, _alloc: Global, judged: &Record) -> Result<(), SitFault> {
+    fn rewrite(&mut self, alloc: Global, judged: &Record) -> Rewritten {
         match self.next() {
-            None => {
-                self.seated = judged.pool().is_some();
-                Ok(())
-            }
+            None => rewritten(redirected(alloc, &judged.sight().request)),
+            Some(_) => Rewritten::WantOfMemory,
+        }
+    }
+
+    fn sit(&mut self, alloc: Global, judged: &Record) -> Result<(), SitFault> {
+        match self.next() {
+            None => match seat_place(alloc, judged) {
+                Ok(place) => {
+                    self.seated = is_seated(&place);
+                    Ok(())
+                }
+                Err(WantOfMemory) => Err(SitFault::WantOfMemory),
+            },
             Some(Other::Memory) => Err(SitFault::WantOfMemory),
             Some(_) => Err(SitFault::Spent),
         }

@@ -6,6 +6,8 @@
 #![tactic(auto)]
 
 #[cfg(test)]
+mod access;
+#[cfg(test)]
 mod bodies;
 #[cfg(test)]
 mod cases;
@@ -17,6 +19,8 @@ mod heads;
 mod refusals;
 #[cfg(test)]
 mod replies;
+#[cfg(test)]
+mod rewrites;
 #[cfg(test)]
 mod running;
 #[cfg(test)]

@@ -1,8 +1,8 @@
 //! Requests that no origin gets.
 use crate::tables::check_all;
 
-/// `other` is the call of the front among opening, judging and seating that answers otherwise, and how. The other
-/// letters are those of `heads`.
+/// `other` is the call of the front among opening, judging, rewriting and seating that answers otherwise, and how. The
+/// other letters are those of `heads`.
 static ROWS: &str = "= a client that no rule allows posts
 from 192.0.2.1
 c POST http://a.example/ HTTP/1.1|Host: a.example|Content-Length: 2||hi
@@ -108,7 +108,7 @@ c GET http://h/ HTTP/1.1|Host: h||
 t HTTP/1.1 500 Internal Server Error|Content-Type: text/plain|Content-Length: 15|Connection: close||internal error!
 end Finished 1 0
 = a question without a journal, behind an answer
-other 4 journal
+other 5 journal
 c GET http://h/1 HTTP/1.1|Host: h||GET http://h/2 HTTP/1.1|Host: h||
 o h 80 HTTP/1.1 204 No Content||
 w GET /1 HTTP/1.1|Host: h|Via: 1.1 aclproxy|X-Forwarded-For: 10.1.2.3|Connection: close||
@@ -121,12 +121,22 @@ c GET http://h/ HTTP/1.1|Host: h||
 t HTTP/1.1 500 Internal Server Error|Content-Type: text/plain|Content-Length: 14|Connection: close||out of memory!
 end Finished 1 0
 = no number is left for a seat
-other 3 full
+other 4 full
 c GET http://slow.example/ HTTP/1.1|Host: h||
 t HTTP/1.1 500 Internal Server Error|Content-Type: text/plain|Content-Length: 15|Connection: close||internal error!
 end Finished 1 0
-= a seat without memory
+= a rewriter without memory
 other 3 memory
+c GET http://moved.example/ HTTP/1.1|Host: h||
+t HTTP/1.1 500 Internal Server Error|Content-Type: text/plain|Content-Length: 14|Connection: close||out of memory!
+end Finished 1 0
+= a rewriter without memory, of HEAD
+other 3 memory
+c HEAD http://h/ HTTP/1.1|Host: h||
+t HTTP/1.1 500 Internal Server Error|Content-Type: text/plain|Content-Length: 14|Connection: close||
+end Finished 1 0
+= a seat without memory
+other 4 memory
 c HEAD http://slow.example/ HTTP/1.1|Host: h||
 t HTTP/1.1 500 Internal Server Error|Content-Type: text/plain|Content-Length: 14|Connection: close||
 end Finished 1 0

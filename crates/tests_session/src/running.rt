@@ -2,7 +2,7 @@
 ghost use Rattle.std.specs.Prelude.{◌≡◌, false};
 
 use crate::cases::{Case, Side};
-use crate::front::{MemFront, Other, Told};
+use crate::front::{MemFront, Other, Told, config_with};
 use Place::{ClientRead, ClientWrite, Dial, Front, OriginRead, OriginWrite};
 use sq_base::{Copying, Text};
 use sq_forward::{Ahead, Half};
@@ -98,7 +98,7 @@ fn mem_dialer<'a>(
     MemDialer::new(alloc, origins, dials).expect(rt, "memory")
 }
 
-fn mem_front(case: &Case, fault: Fault) -> MemFront
+fn mem_front(rt: &impl Abort, alloc: Global, case: &Case, fault: Fault) -> MemFront
     ensures dry { result.dry ≡ 0 }
     ensures seated { result.seated ≡ false }
 {
@@ -110,7 +110,8 @@ fn mem_front(case: &Case, fault: Fault) -> MemFront
     } else {
         case.told
     };
-    MemFront::new(case.addr, told, case.room)
+    let config = config_with(rt, alloc, &case.conf);
+    MemFront::new(config, case.addr, told, case.room)
 }
 
 // Whether the dials that came back went to the origins in their order, and were sent what is theirs.
@@ -144,7 +145,7 @@ pub fn run<R: Threads + Wait + Sync + Abort>(
     let writes = fails(rt, alloc, fault, ClientWrite);
     let sink = MemSink::new(alloc, room_for(&case.text), step, writes).expect(rt, "memory");
     let mut to = MemOut::new(sink, Some(&wire));
-    let mut front = mem_front(case, fault);
+    let mut front = mem_front(rt, alloc, case, fault);
     let mut dialer = mem_dialer(rt, alloc, case, step, fault);
     let end = session(
         rt,

@@ -71,6 +71,10 @@ fn has_cause(place: Place, case: &Case, ran: &Ran) -> bool {
                     ran,
                     b"internal error\n",
                     b"Content-Length: 15\r\nConnection: close\r\n\r\n",
+                ) || ends_in(
+                    ran,
+                    b"out of memory\n",
+                    b"Content-Length: 14\r\nConnection: close\r\n\r\n",
                 ))
         }
     }

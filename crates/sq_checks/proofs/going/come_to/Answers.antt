@@ -1,4 +1,4 @@
-use Rattle.std.proofs.Common.{◌≡◌, ◌∙◌, ℕ, List, [], IfOk, Some, None, ap, sym, subst, refl}
+use Rattle.std.proofs.Common.{◌≡◌, ◌∙◌, List, [], IfOk, Some, None, ap, sym, subst, refl}
 use Rattle.sq_rules.specs.Configurations.{Configuration}
 use Rattle.sq_rules.specs.Values.{taken_at}
 use Rattle.sq_rules.specs.declared.configs.Acl.{Acl}
@@ -10,9 +10,9 @@ use Rattle.sq_frames.specs.Courses.{is_need, still_needed}
 use Rattle.sq_frames.specs.Givens.{given_value, needed_by, ran_value, why_of}
 use Rattle.sq_frames.specs.Standing.{IsOver, looks_in, value_of}
 use Rattle.sq_frames.specs.declared.answers.Ran.TheVariants as ran
-use Rattle.sq_checks.specs.Givens.{AreCounted, AreFrames, found_value, looks_over}
+use Rattle.sq_checks.specs.Givens.{AreFrames, found_value, looks_over}
 use Rattle.sq_checks.proofs.CheckLaws.{always}
-use Rattle.sq_checks.proofs.GivenLaws.{counted_none, counted_run, decided_over, frames_given, frames_looked, frames_same, needed_over}
+use Rattle.sq_checks.proofs.GivenLaws.{decided_over, frames_given, frames_looked, frames_same, going_counted, going_given, going_none, going_run, needed_over}
 use Rattle.sq_checks.proofs.going.come_to.Goals as goal
 
 pub returns-in-Verdict-clause-value : goal.returns-in-Verdict-clause-value
@@ -37,7 +37,7 @@ returns-in-Verdict-clause-value g c =
 pub needs-init : goal.needs-init
 needs-init g c = record {
   frames = c.requires.frames;
-  counted = counted_none c.args.facts.now c.args.frames.now c.args.steps.now c.requires.frames.over;
+  going = going_none c.args.facts.now c.args.frames.now c.args.steps.now c.requires.frames.over;
 }
 
 pub needs-preserved : goal.needs-preserved
@@ -60,10 +60,10 @@ needs-preserved g c =
       frames = frames_given config sight answers facts f c.give.new.self c.in-Need.acl c.in-Answered.value are
           c.give.ensures.config over
           (λ acl external. c.give.ensures.given c.in-Need.acl acl need external) known;
-      counted = subst (λ (n : ℕ). AreCounted c.args.steps.now c.run.new.steps (looks_in c.args.frames.now) n)
-          (sym c.give.ensures.looks)
-          (counted_run facts c.needs.frames f c.args.steps.now c.needs.steps c.run.new.steps
-          (looks_in c.args.frames.now) c.needs.invariant.frames.over c.run.ensures.at c.needs.invariant.counted);
+      going = going_given facts f c.give.new.self c.args.steps.now c.run.new.steps (looks_in c.args.frames.now)
+          c.give.ensures.looks (c.give.ensures.at facts)
+          (going_run facts c.needs.frames f c.args.steps.now c.needs.steps c.run.new.steps
+          (looks_in c.args.frames.now) c.run.ensures.at c.needs.invariant.going);
     }
 
 pub returns-in-Open-clause-value : goal.returns-in-Open-clause-value
@@ -120,15 +120,45 @@ returns-in-Open-clause-looks g c =
 
 pub returns-in-Verdict-clause-counted : goal.returns-in-Verdict-clause-counted
 returns-in-Verdict-clause-counted g c =
-    counted_run c.args.facts.now c.needs.frames c.run.new.self c.args.steps.now c.needs.steps c.run.new.steps
-    (looks_in c.args.frames.now) c.needs.invariant.frames.over c.run.ensures.at c.needs.invariant.counted
+    let config = c.args.config.now in
+    let facts = c.args.facts.now in
+    let sight = c.args.sight.now in
+    let answers = c.args.answers.now in
+    let f = c.run.new.self in
+    let are : AreFrames config sight answers facts f =
+    frames_same config sight answers facts c.needs.frames f c.needs.invariant.frames c.run.ensures.config
+    c.run.ensures.given (_, c.run.ensures.looked) in
+    going_counted config sight answers facts f c.args.steps.now c.run.new.steps (looks_in c.args.frames.now)
+    c.requires.facts are
+    (going_run facts c.needs.frames f c.args.steps.now c.needs.steps c.run.new.steps (looks_in c.args.frames.now)
+    c.run.ensures.at c.needs.invariant.going)
 
 pub returns-in-Open-clause-counted : goal.returns-in-Open-clause-counted
 returns-in-Open-clause-counted g c =
-    counted_run c.args.facts.now c.needs.frames c.run.new.self c.args.steps.now c.needs.steps c.run.new.steps
-    (looks_in c.args.frames.now) c.needs.invariant.frames.over c.run.ensures.at c.needs.invariant.counted
+    let config = c.args.config.now in
+    let facts = c.args.facts.now in
+    let sight = c.args.sight.now in
+    let answers = c.args.answers.now in
+    let f = c.run.new.self in
+    let are : AreFrames config sight answers facts f =
+    frames_same config sight answers facts c.needs.frames f c.needs.invariant.frames c.run.ensures.config
+    c.run.ensures.given (_, c.run.ensures.looked) in
+    going_counted config sight answers facts f c.args.steps.now c.run.new.steps (looks_in c.args.frames.now)
+    c.requires.facts are
+    (going_run facts c.needs.frames f c.args.steps.now c.needs.steps c.run.new.steps (looks_in c.args.frames.now)
+    c.run.ensures.at c.needs.invariant.going)
 
 pub returns-in_err-value-in-Need-clause-counted : goal.returns-in_err-value-in-Need-clause-counted
 returns-in_err-value-in-Need-clause-counted g c =
-    counted_run c.args.facts.now c.needs.frames c.run.new.self c.args.steps.now c.needs.steps c.run.new.steps
-    (looks_in c.args.frames.now) c.needs.invariant.frames.over c.run.ensures.at c.needs.invariant.counted
+    let config = c.args.config.now in
+    let facts = c.args.facts.now in
+    let sight = c.args.sight.now in
+    let answers = c.args.answers.now in
+    let f = c.run.new.self in
+    let are : AreFrames config sight answers facts f =
+    frames_same config sight answers facts c.needs.frames f c.needs.invariant.frames c.run.ensures.config
+    c.run.ensures.given (_, c.run.ensures.looked) in
+    going_counted config sight answers facts f c.args.steps.now c.run.new.steps (looks_in c.args.frames.now)
+    c.requires.facts are
+    (going_run facts c.needs.frames f c.args.steps.now c.needs.steps c.run.new.steps (looks_in c.args.frames.now)
+    c.run.ensures.at c.needs.invariant.going)

@@ -1,5 +1,6 @@
 use Rattle.std.proofs.Common.{inr, IfSome, Err, refl, sym, ap, subst, ◌∙◌, arith, rules}
 use Rattle.std.specs.Io.KnownBytes.{prepend_known}
+use Rattle.sq_headers.specs.Access.{access_by}
 use Rattle.sq_forward.specs.Exchanges.{interim_text}
 use Rattle.sq_forward.specs.Leading.{TakesHead, PaysHeads}
 use Rattle.sq_forward.specs.Meters.{PaysAll}
@@ -8,7 +9,7 @@ use Rattle.sq_forward.proofs.replies.lead_reply.Goals as goal
 
 pub loop-init : goal.loop-init
 loop-init g c = record {
-  leads = leads_none _ _ _ _ _ (search (rules, g.M.laws));
+  leads = leads_none _ _ _ _ _ _ (search (rules, g.M.laws));
   room = omega arith;
   dry = c.requires.dry;
   seated = refl;
@@ -61,7 +62,7 @@ returns-in-Err-clause-leads g c =
     c.loop.invariant.leads c.in-Ok.ensures.takes
     (sym c.is_interim.ensures ∙ c.if-not-is_interim.false)
     (omega (arith, c.loop.invariant.room, c.if-passed-eq-INTERIM_LIMIT.false)) c.in-Err.ensures.other
-    (subst (λ s. PaysHeads (interim_text c.args.request.now c.in-Ok.head) s (g.O.Sink.contents c.loop.to_client)
+    (subst (λ s. PaysHeads (interim_text (access_by c.args.config.now c.args.facts.now) c.args.request.now c.in-Ok.head) s (g.O.Sink.contents c.loop.to_client)
     (g.O.Sink.contents c.pass_on.new.to_client) (g.M.Meter.granted c.loop.meter) (g.M.Meter.granted c.pass_on.new.meter)
     c.in-Err.end) c.loop.invariant.seated c.in-Err.ensures.sends)
 
@@ -74,7 +75,7 @@ loop-preserved g c =
           leads_more _ (prepend_known c.loop.origin.ahead (left c.loop.origin.source)) _ c.in-Ok.head inv.leads
           c.in-Ok.ensures.takes
           (sym c.is_interim.ensures ∙ c.if-not-is_interim.false)
-          (subst (λ s. PaysAll s (interim_text c.args.request.now c.in-Ok.head) (g.O.Sink.contents c.loop.to_client)
+          (subst (λ s. PaysAll s (interim_text (access_by c.args.config.now c.args.facts.now) c.args.request.now c.in-Ok.head) (g.O.Sink.contents c.loop.to_client)
           (g.O.Sink.contents c.pass_on.new.to_client) (g.M.Meter.granted c.loop.meter)
           (g.M.Meter.granted c.pass_on.new.meter)) inv.seated c.in-Ok-pass_on.ensures.sends);
       room = omega (arith, inv.room, c.if-passed-eq-INTERIM_LIMIT.false);

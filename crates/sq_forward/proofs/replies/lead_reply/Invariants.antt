@@ -1,5 +1,6 @@
 use Rattle.std.proofs.Common.{◌≡◌, ◌≤◌, ◌+◌, length, max}
 use Rattle.std.specs.Io.KnownBytes.{prepend_known}
+use Rattle.sq_headers.specs.Access.{access_by}
 use Rattle.sq_head.specs.ReplyHeads.{most_bytes}
 use Rattle.sq_forward.specs.Halves.{read_limit}
 use Rattle.sq_forward.specs.Replies.{interim_limit}
@@ -11,7 +12,7 @@ abbrev pub invariant-loop : goal.invariant-loop
 invariant-loop g l =
     let left = g.P.Source.left in
     record {
-      leads : LeadingSo l.fn.request (g.M.Meter.seated l.fn.meter) l.passed
+      leads : LeadingSo (access_by l.fn.config l.fn.facts) l.fn.request (g.M.Meter.seated l.fn.meter) l.passed
           (prepend_known l.fn.origin.ahead (left l.fn.origin.source))
           (prepend_known l.origin.ahead (left l.origin.source))
           (g.O.Sink.contents l.fn.to_client) (g.O.Sink.contents l.to_client) (g.M.Meter.granted l.fn.meter)

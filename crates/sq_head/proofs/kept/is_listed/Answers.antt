@@ -7,7 +7,7 @@ pub returns-then-is_one_of : goal.returns-then-is_one_of
 returns-then-is_one_of c =
     let listed : is_one_of (map (λ o. o.now) c.args.options.now) c.args.name.now ≡ true =
     sym (one_of_lent c.args.options.now c.args.name.now) ∙ sym c.is_one_of.ensures ∙ c.if-is_one_of.true in
-    rw listed (ap not c.is_alike.ensures)
+    rw listed (ap not c.is_named.ensures)
 
 pub returns-else-is_one_of : goal.returns-else-is_one_of
 returns-else-is_one_of c =

@@ -10,8 +10,8 @@ pub returns-in-Some : goal.returns-in-Some
 returns-in-Some c =
     let made = c.line-got.ensures in
     record {
-      waited = λ pools.
-          waited_by got_told c.args.engine.now c.line-got.new.self pools c.args.moment
+      waited = λ rewriter pools.
+          waited_by got_told c.args.engine.now c.line-got.new.self rewriter pools c.args.moment
           (event.Line c.args.proc c.as_bytes.result.now) c.line-got.result refl refl (kept_by _ _ made.kept)
           made.promised made.err;
     }
@@ -20,7 +20,7 @@ pub returns-in-None : goal.returns-in-None
 returns-in-None c =
     let made = c.died-died.ensures in
     record {
-      waited = λ pools.
-          waited_by (λ u. told.Fine) c.args.engine.now c.died-died.new.self pools c.args.moment (event.Died c.args.proc)
+      waited = λ rewriter pools.
+          waited_by (λ u. told.Fine) c.args.engine.now c.died-died.new.self rewriter pools c.args.moment (event.Died c.args.proc)
           c.died-died.result refl refl (kept_by _ _ made.kept) made.promised (unmade c.died-died.result _ _ made.err);
     }

@@ -10,13 +10,13 @@ returns c =
     let before = c.args.engine.now in
     let now = c.args.moment in
     record {
-      waited = λ pools.
+      waited = λ rewriter pools.
           elim c.match-act.branch [
-            | in-Stop w ↦ subst (λ e. Waited (hub_state before pools now) (hub_state e pools now)) (sym w.engine-is)
-                (waited_self (hub_state before pools now))
-            | in-Send w ↦ subst (λ e. Waited (hub_state before pools now) (hub_state e pools now)) (sym w.engine-is)
-                (waited_self (hub_state before pools now))
-            | in-Start w ↦ subst (λ e. Waited (hub_state before pools now) (hub_state e pools now)) (sym w.engine-is)
-                (w.start.ensures.waited pools)
+            | in-Stop w ↦ subst (λ e. Waited (hub_state before rewriter pools now) (hub_state e rewriter pools now)) (sym w.engine-is)
+                (waited_self (hub_state before rewriter pools now))
+            | in-Send w ↦ subst (λ e. Waited (hub_state before rewriter pools now) (hub_state e rewriter pools now)) (sym w.engine-is)
+                (waited_self (hub_state before rewriter pools now))
+            | in-Start w ↦ subst (λ e. Waited (hub_state before rewriter pools now) (hub_state e rewriter pools now)) (sym w.engine-is)
+                (w.start.ensures.waited rewriter pools)
           ];
     }

@@ -7,8 +7,8 @@ pub returns : goal.returns
 returns c =
     let made = c.started-proc.ensures in
     record {
-      waited = λ pools.
-          waited_start told.Proc c.args.engine.now c.started-proc.new.self pools c.args.moment
+      waited = λ rewriter pools.
+          waited_start told.Proc c.args.engine.now c.started-proc.new.self rewriter pools c.args.moment
           (record { epoch = c.args.epoch; class = c.args.class }) c.started-proc.result
           (kept_same _ _ made.checks) made.promised (unmade c.started-proc.result _ _ made.err);
     }

@@ -1,4 +1,4 @@
-use Rattle.std.proofs.Common.{[], ◌∷◌, Err, subst}
+use Rattle.std.proofs.Common.{[], Err, subst}
 use Rattle.sq_replay.specs.Entering.{Arrives}
 use Rattle.sq_replay.specs.MachineViews.{machine_of}
 use Rattle.sq_replay.specs.RunText.{begun_history}

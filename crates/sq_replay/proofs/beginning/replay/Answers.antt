@@ -1,10 +1,9 @@
-use Rattle.std.proofs.Common.{◌≡◌, ◌+◌, length, arith, refl, subst, sym, ap}
+use Rattle.std.proofs.Common.{◌≡◌, ◌+◌, length, arith, refl, subst}
 use Rattle.std.specs.Io.KnownBytes.{prepend_known}
 use Rattle.sq_outside.specs.SourceLines.{Finds, Moves, lines}
 use Rattle.sq_outside.specs.declared.lines.LineFound.TheVariants as found
 use Rattle.sq_replay.specs.declared.ends.RunEnd.TheVariants as ends
 use Rattle.sq_replay.proofs.BeginLaws.{faulty_script, lacking_script, none_script, not_held, stated_first, unread_script}
-use Rattle.sq_replay.proofs.OpeningLaws.{adds_none}
 use Rattle.sq_replay.proofs.OpenedLaws.{none_first, none_opened, none_reached, script_opened, script_reached}
 use Rattle.sq_replay.proofs.beginning.replay.Goals as goal
 

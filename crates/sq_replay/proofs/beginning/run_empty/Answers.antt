@@ -1,4 +1,4 @@
-use Rattle.std.proofs.Common.{pos, [], ◌∷◌, refl}
+use Rattle.std.proofs.Common.{pos, [], refl}
 use Rattle.sq_journal.specs.EntryText.{written}
 use Rattle.sq_replay.specs.RunText.{begun_history, configs_of, run_script}
 use Rattle.sq_outside.proofs.Writing.{IsPrefix_refl}

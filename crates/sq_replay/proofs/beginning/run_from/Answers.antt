@@ -1,4 +1,4 @@
-use Rattle.std.proofs.Common.{◌∷◌, [], pos, refl, subst}
+use Rattle.std.proofs.Common.{pos, refl, subst}
 use Rattle.std.specs.Io.KnownBytes.{prepend_known}
 use Rattle.sq_outside.specs.SourceLines.{lines}
 use Rattle.sq_outside.specs.Told.{IsNotTold}

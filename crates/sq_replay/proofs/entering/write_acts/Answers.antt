@@ -1,13 +1,12 @@
-use Rattle.std.proofs.Common.{◌≡◌, ℕ, List, Option, ◌++◌, Ok, Err, IfNone, IfSome, ◌<◌, refl, subst, sym, ap, ◌∙◌}
+use Rattle.std.proofs.Common.{◌≡◌, ◌++◌, Ok, Err, IfNone, IfSome, ◌<◌, refl, subst, sym, ap, ◌∙◌}
 use Rattle.sq_machine.specs.declared.entries.Event.TheVariants.{Act}
-use Rattle.sq_rules.specs.Configurations.{Configuration}
-use Rattle.sq_machine.specs.Entries.{History, entry_at}
+use Rattle.sq_machine.specs.Entries.{entry_at}
 use Rattle.sq_journal.specs.EntryText.{entry_line}
 use Rattle.sq_replay.specs.Dues.{dues_in}
 use Rattle.sq_replay.specs.Making.{IsActing}
 use Rattle.sq_replay.specs.MachineViews.{machine_of}
 use Rattle.sq_replay.specs.RunText.{acts}
-use Rattle.sq_replay.specs.Runs.{At, Reached, Wrote, WroteFront, WrotePart}
+use Rattle.sq_replay.specs.Runs.{At, Wrote, WroteFront, WrotePart}
 use Rattle.sq_replay.proofs.EnteringLaws.{reached_failed, reached_front, reached_lacking, reached_none}
 use Rattle.sq_replay.proofs.MakingLaws.{reached_first, reached_next}
 use Rattle.sq_replay.proofs.entering.write_acts.Goals as goal

@@ -6,7 +6,6 @@ use Rattle.sq_replay.specs.Openings.{Added, StepOpened, name_of}
 use Rattle.sq_replay.specs.RunText.{event_step}
 use Rattle.sq_replay.specs.Runs.{AddsCount, Goes, HasNext, openings_of}
 use Rattle.sq_replay.proofs.EnteringLaws.{named_is, plain_is}
-use Rattle.sq_replay.proofs.OpeningLaws.{adds_none, count_none}
 use Rattle.sq_replay.proofs.OpenedLaws.{plain_none, plain_opened}
 use Rattle.sq_replay.proofs.lines.run_event.Goals as goal
 

@@ -1,4 +1,4 @@
-use Rattle.std.proofs.Common.{arith, subst, sym, ap, ◌∙◌, Ok, Err, refl}
+use Rattle.std.proofs.Common.{arith, subst, ◌∙◌, Ok, Err, refl}
 use Rattle.std.specs.Io.KnownBytes.{prepend_known}
 use Rattle.sq_outside.specs.SourceLines.{Finds, Moves}
 use Rattle.sq_outside.specs.Told.{IsNotTold}
@@ -9,7 +9,7 @@ use Rattle.sq_replay.specs.RunText.{stated}
 use Rattle.sq_replay.specs.MachineViews.{machine_of}
 use Rattle.sq_replay.specs.Runs.{AddsCount, LineGoes, missed, openings_in}
 use Rattle.sq_replay.proofs.LoopLaws.{going_end, going_faulty, going_first, going_lacking, going_next, going_stop, going_unread}
-use Rattle.sq_replay.proofs.OpeningLaws.{adds_none, adds_then, count_adds}
+use Rattle.sq_replay.proofs.OpeningLaws.{adds_none, adds_then}
 use Rattle.sq_replay.proofs.OpenedLaws.{opened_before, opened_end, opened_stop, reached_end, so_far_first, so_far_next, step_not_ok, not_reached}
 use Rattle.sq_replay.proofs.lines.run_rest.Goals as goal
 

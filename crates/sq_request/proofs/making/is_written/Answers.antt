@@ -1,13 +1,14 @@
-use Rattle.std.proofs.Common.{◌∙◌, subst, IsTrue}
+use Rattle.std.proofs.Common.{◌∙◌}
+use Rattle.sq_request.proofs.MethodLaws.{no_method}
 use Rattle.sq_request.proofs.WrittenLaws.{written_method, line_differs, fields_decide}
 use Rattle.sq_request.proofs.making.is_written.Goals as goal
 
-pub returns-then-not-branch : goal.returns-then-not-branch
-returns-then-not-branch c = (
+pub returns-then-is_none : goal.returns-then-is_none
+returns-then-is_none c = (
   λ h. absurd (cc),
-  λ w. subst IsTrue c.if-not-branch.true
-      (c.in_ok-is_method.ensures.1
-      (written_method c.args.method.now c.args.target.now c.args.minor c.args.fields.now w)),
+  λ w. no_method c.args.method.now c.in_ok-read_method.field-0
+      (written_method c.args.method.now c.args.target.now c.args.minor c.args.fields.now w)
+      c.in_ok-read_method.ensures c.if-is_none.ensures,
 )
 
 pub returns-then-not-has_line : goal.returns-then-not-has_line

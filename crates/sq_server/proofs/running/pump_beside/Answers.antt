@@ -21,12 +21,16 @@ join-sums-requires-after_bounds g c κs within = (
         search rules,
         search rules,
         search rules,
+        search rules,
       ),
     ),
   ),
   (
     (search rules, search rules, search rules, search rules, search rules, search rules, search rules),
     (
+      search rules,
+      search rules,
+      search rules,
       search rules,
       search rules,
       search rules,

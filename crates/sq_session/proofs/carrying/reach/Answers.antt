@@ -2,6 +2,7 @@ use Rattle.std.proofs.Common.{ap}
 use Rattle.std.specs.Io.KnownBytes.{prepend_known}
 use Rattle.sq_base.specs.Requests.{HttpRequest}
 use Rattle.sq_head.specs.declared.own.Own.TheVariants.{BadGateway}
+use Rattle.sq_session.specs.Turns.{access_of}
 use Rattle.sq_session.proofs.CarryLaws.{cause_client, cause_reached, reached_rose}
 use Rattle.sq_session.proofs.PartLaws.{unreached_told, reaches, dialled_told, refused_told}
 use Rattle.sq_session.proofs.OwnReplyLaws.{tells_as}
@@ -9,7 +10,7 @@ use Rattle.sq_session.proofs.carrying.reach.Goals as goal
 
 pub returns-in_default-clause-told : goal.returns-in_default-clause-told
 returns-in_default-clause-told g c =
-    unreached_told c.args.sent.now c.args.addr c.args.plan c.in_default.ensures.cause.failed
+    unreached_told (access_of c.args.judged.now) c.args.sent.now c.args.addr c.args.plan c.in_default.ensures.cause.failed
     (tells_as BadGateway c.is_head.result _ c.is_head.ensures c.say.ensures.tells)
     (g.met.M.Meter.capped c.args.meter.now) c.in_default.ensures.failed
 
@@ -21,7 +22,7 @@ returns-in_default-clause-dialled g c = refused_told _ _ c.in_default.ensures.fa
 
 pub returns-clause-told : goal.returns-clause-told
 returns-clause-told g c =
-    reaches c.args.sent.now c.args.addr c.args.plan _ _ _ _ _ _ (ap HttpRequest.host c.sent.view_is)
+    reaches (access_of c.args.judged.now) c.args.sent.now c.args.addr c.args.plan _ _ _ _ _ _ (ap HttpRequest.host c.sent.view_is)
     (ap HttpRequest.port c.sent.view_is) c.in-Ok.ensures.made c.in-Ok.ensures.reaches
     c.forward-carried.ensures.origin_dialled
     (ap (λ l. prepend_known l (g.D.In.Source.left c.in-Ok.from)) c.new.ensures) c.give_back.ensures.given

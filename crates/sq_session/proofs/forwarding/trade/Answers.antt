@@ -1,14 +1,15 @@
-use Rattle.std.proofs.Common.{sym, ap, ◌∙◌}
+use Rattle.std.proofs.Common.{◌≡◌, sym, ap, ◌∙◌, rules}
 use Rattle.sq_forward.specs.Exchanges.{dry_after_exchange}
 use Rattle.sq_session.proofs.CarryLaws.{cause_said}
-use Rattle.sq_session.proofs.ForwardLaws.{traded_told, untraded_told, traded_cause, traded_dry}
+use Rattle.sq_session.proofs.ForwardLaws.{traded_by, untraded_by, traded_cause, traded_dry}
 use Rattle.sq_session.proofs.forwarding.trade.Goals as goal
 
 pub returns-in-NoReply-clause-told : goal.returns-in-NoReply-clause-told
 returns-in-NoReply-clause-told g c =
-    untraded_told (g.O.Sink.contents c.exchange-ended.new.to_client) c.args.sent.now c.args.addr c.args.plan
-    c.exchange-ended.result c.is_head.result c.say.result c.in-NoReply.is c.is_head.ensures
-    c.exchange-ended.ensures.told c.say.ensures.tells
+    let config : c.deref.result.now ≡ c.args.judged.now.config = search rules in
+    untraded_by (g.O.Sink.contents c.exchange-ended.new.to_client) c.args.judged.now _ _ c.args.sent.now c.args.addr
+    c.args.plan c.exchange-ended.result c.is_head.result c.say.result config c.facts-facts.ensures
+    c.in-NoReply.is c.is_head.ensures (λ s e. c.exchange-ended.ensures.told s e) c.say.ensures.tells
 
 pub returns-in-NoReply-clause-cause : goal.returns-in-NoReply-clause-cause
 returns-in-NoReply-clause-cause g c = cause_said _ _ _ _ _ c.say.result c.exchange-ended.ensures.to_client_later
@@ -19,8 +20,10 @@ returns-in-NoReply-clause-dry g c = c.exchange-ended.ensures.dry ∙ ap dry_afte
     ∙ sym c.say.ensures.dry
 
 pub returns-in_default-clause-told : goal.returns-in_default-clause-told
-returns-in_default-clause-told g c = traded_told c.args.sent.now c.args.addr c.args.plan c.exchange-ended.result
-    c.carried_of.result c.carried_of.ensures c.in_default.not-NoReply c.exchange-ended.ensures.told
+returns-in_default-clause-told g c =
+    let config : c.deref.result.now ≡ c.args.judged.now.config = search rules in
+    traded_by c.args.judged.now _ _ c.args.sent.now c.args.addr c.args.plan
+    c.exchange-ended.result c.carried_of.result config c.facts-facts.ensures c.carried_of.ensures c.in_default.not-NoReply (λ s e. c.exchange-ended.ensures.told s e)
 
 pub returns-in_default-clause-cause : goal.returns-in_default-clause-cause
 returns-in_default-clause-cause g c = traded_cause _ _ _ c.exchange-ended.result c.carried_of.result

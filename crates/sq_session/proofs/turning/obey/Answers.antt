@@ -1,14 +1,10 @@
 use Rattle.std.proofs.Common.{refl, sym, ap, ◌∙◌}
 use Rattle.sq_rules.specs.declared.outcomes.Outcome.{Outcome}
 use Rattle.sq_head.specs.OwnReplies.{denial}
-use Rattle.sq_session.proofs.CarryLaws.{obeys_allowed, obeys_denied, cause_client}
+use Rattle.sq_session.proofs.CarryLaws.{obeys_denied, cause_client}
 use Rattle.sq_session.proofs.GoesLaws.{was_told}
 use Rattle.sq_session.proofs.OwnReplyLaws.{tells_same}
 use Rattle.sq_session.proofs.turning.obey.Goals as goal
-
-pub returns-then-outcome-clause-told : goal.returns-then-outcome-clause-told
-returns-then-outcome-clause-told g c = obeys_allowed c.args.request.now c.args.addr c.args.plan c.args.judged.now
-    (sym (ap Outcome.allow c.outcome.ensures.value) ∙ c.if-outcome.true) c.carry.ensures.told
 
 pub returns-else-outcome-clause-told : goal.returns-else-outcome-clause-told
 returns-else-outcome-clause-told g c =

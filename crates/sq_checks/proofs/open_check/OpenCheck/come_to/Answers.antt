@@ -8,7 +8,7 @@ use Rattle.sq_checks.specs.OpenChecks.{CheckParts, HasCome, comes_to}
 use Rattle.sq_checks.specs.Stages.{is_settled}
 use Rattle.sq_checks.proofs.CheckLaws.{comes_settled, looked_on, need_idle, ok_then_both}
 use Rattle.sq_checks.proofs.GivenLaws.{frames_few}
-use Rattle.sq_checks.proofs.NeedLaws.{need_is_new}
+use Rattle.sq_checks.proofs.NeedLaws.{need_is_keyed, need_is_new}
 use Rattle.sq_checks.proofs.open_check.OpenCheck.come_to.Goals as goal
 
 pub invariant_of-self : goal.invariant_of-self
@@ -27,6 +27,7 @@ invariant_of-self g c =
       looks_are = looked_on (arc_value k.config) k.sight k.answers (looks_in k.frames) (looks_in f) k.stage
           c.self.invariant.looks_are counted.looked counted.looks few;
       frames_are = are;
+      asks_are = c.self.invariant.asks_are;
     }
 
 pub returns-clause-same : goal.returns-clause-same
@@ -44,7 +45,10 @@ returns-clause-same g c =
       steps = k.steps;
     } in
     let counted = c.come_to.ensures.counted in
-    (counted.looked, counted.steps, rw (← c.self.view_is) (ap x counted.looks))
+    let most : counted.looked ≤ leaves_over k.answers (arc_value k.config) k.sight =
+    subst (λ (d : Configuration). counted.looked ≤ leaves_over k.answers d k.sight) c.deref.ensures counted.few in
+    let few = subst (λ (y : CheckParts). counted.looked ≤ leaves_over y.answers y.config y.sight) c.self.view_is most in
+    (counted.looked, few, counted.steps, rw (← c.self.view_is) (ap x counted.looks))
 
 pub returns-clause-come : goal.returns-clause-come
 returns-clause-come g c =
@@ -73,4 +77,6 @@ returns-clause-come g c =
       idle = need_idle x settled c.self.invariant.stage_is v (is ∙ over);
       other = λ acl class key e of. need_is_new k.answers x.config k.sight acl class key
           (comes_settled x settled ∙ sym (is ∙ over) ∙ e) of;
+      keyed = λ acl key e. need_is_keyed k.answers x.config k.sight acl key
+          (comes_settled x settled ∙ sym (is ∙ over) ∙ e);
     }) c.come_to.ensures.value c.come_to.ensures.looks

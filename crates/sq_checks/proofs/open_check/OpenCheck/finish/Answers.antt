@@ -32,4 +32,5 @@ invariant_of-self c =
       stage_is = over_unversioned x.answers x.config x.sight ∙ comes_settled x settled ∙ sym come.comes;
       looks_are = come.looks;
       frames_are = c.self.invariant.frames_are;
+      asks_are = tt;
     }

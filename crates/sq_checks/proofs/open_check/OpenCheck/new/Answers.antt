@@ -26,6 +26,7 @@ invariant_of-result c =
       frames_are = frames_first (arc_value c.in_ok-config.config) c.args.sight c.new.result c.args.facts f
           (c.in_ok-frames.ensures.config ∙ sym config) (0, c.in_ok-frames.ensures.at c.args.facts)
           c.in_ok-frames.ensures.given;
+      asks_are = tt;
     }
 
 pub returns : goal.returns

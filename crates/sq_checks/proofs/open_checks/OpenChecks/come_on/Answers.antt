@@ -22,7 +22,7 @@ returns-clause-list g c =
       c.come_to.ensures.same.0,
       rw (← c.self.view_is)
           ((c.get_mut.follows.holds c.come_to.new.self).0
-          ∙ ap (set_value (is_at (nat_cmp c.args.number)) es) c.come_to.ensures.same.2
+          ∙ ap (set_value (is_at (nat_cmp c.args.number)) es) c.come_to.ensures.same.3
           ∙ set_changed c.args.number (looked c.come_to.ensures.same.0) c.in-Some.check.now es
           (sorted_once es c.in-Some.ensures.ordered) here),
     )
@@ -33,7 +33,7 @@ returns-clause-rows g c =
     let here : value_at es c.args.number ≡ Some c.in-Some.check.now = sym c.in-Some.ensures.value in
     rw (← c.self.view_is)
     (ap rows_of ((c.get_mut.follows.holds c.come_to.new.self).0
-    ∙ ap (set_value (is_at (nat_cmp c.args.number)) es) c.come_to.ensures.same.2
+    ∙ ap (set_value (is_at (nat_cmp c.args.number)) es) c.come_to.ensures.same.3
     ∙ set_changed c.args.number (looked c.come_to.ensures.same.0) c.in-Some.check.now es
     (sorted_once es c.in-Some.ensures.ordered) here)
     ∙ rows_stay c.args.number (looked c.come_to.ensures.same.0) es (λ n k. refl))
@@ -46,8 +46,8 @@ returns-clause-come g c =
     let here : value_at es c.args.number ≡ Some x = sym c.in-Some.ensures.value in
     let found =
     ap (λ z. value_at z c.args.number)
-    ((c.get_mut.follows.holds y).0 ∙ ap (set_value (is_at (nat_cmp c.args.number)) es) c.come_to.ensures.same.2
+    ((c.get_mut.follows.holds y).0 ∙ ap (set_value (is_at (nat_cmp c.args.number)) es) c.come_to.ensures.same.3
     ∙ set_changed c.args.number (looked c.come_to.ensures.same.0) x es (sorted_once es c.in-Some.ensures.ordered) here)
-    ∙ value_changed c.args.number (looked c.come_to.ensures.same.0) x es here ∙ ap Some (sym c.come_to.ensures.same.2) in
+    ∙ value_changed c.args.number (looked c.come_to.ensures.same.0) x es here ∙ ap Some (sym c.come_to.ensures.same.3) in
     ok_then c.come_to.result (HasCome y) (λ v. IfSome (value_at _ c.args.number) (λ k. HasCome k v))
     (λ v h. subst (λ z. IfSome z (λ k. HasCome k v)) (sym found) h) c.come_to.ensures.come

@@ -3,7 +3,10 @@ use Rattle.std.specs.BTreeMap.{is_at}
 use Rattle.std.specs.Map.{set_value}
 use Rattle.std.specs.Ordering.{nat_cmp}
 use Rattle.sq_base.specs.Distinct.{has_answer}
+use Rattle.sq_rules.specs.Keys.{key_text}
+use Rattle.sq_machine.specs.StepRule.{class_of_acl}
 use Rattle.sq_model_rows.specs.CheckRows.{stepped}
+use Rattle.sq_checks.specs.Givens.{looks_over}
 use Rattle.sq_checks.specs.OpenChecks.{noted, rows_of, says_of}
 use Rattle.sq_checks.specs.Stages.{is_idle}
 use Rattle.sq_checks.specs.Tables.{value_at}
@@ -17,11 +20,29 @@ note-requires-clause-idle c =
     rw (← c.self.view_is) (sym c.in-Some.ensures.value) in
     found_has (λ x. is_idle x.stage ≡ true) _ _ here c.requires.idle
 
+pub note-requires-clause-of_class : goal.note-requires-clause-of_class
+note-requires-clause-of_class c =
+    let here : value_at c.args.self.now c.args.number ≡ Some c.in-Some.check.now =
+    rw (← c.self.view_is) (sym c.in-Some.ensures.value) in
+    found_has (λ x. class_of_acl x.config.acls c.args.acl ≡ Some c.args.class) _ _ here c.requires.of_class
+
+pub note-requires-clause-of_key : goal.note-requires-clause-of_key
+note-requires-clause-of_key c =
+    let here : value_at c.args.self.now c.args.number ≡ Some c.in-Some.check.now =
+    rw (← c.self.view_is) (sym c.in-Some.ensures.value) in
+    found_has (λ x. key_text x.config c.args.acl x.sight ≡ c.args.key) _ _ here c.requires.of_key
+
 pub note-requires-clause-other : goal.note-requires-clause-other
 note-requires-clause-other c =
     let here : value_at c.args.self.now c.args.number ≡ Some c.in-Some.check.now =
     rw (← c.self.view_is) (sym c.in-Some.ensures.value) in
     found_has (λ x. has_answer x.answers c.args.class c.args.key ≡ false) _ _ here c.requires.other
+
+pub note-requires-clause-looks : goal.note-requires-clause-looks
+note-requires-clause-looks c =
+    let here : value_at c.args.self.now c.args.number ≡ Some c.in-Some.check.now =
+    rw (← c.self.view_is) (sym c.in-Some.ensures.value) in
+    found_has (λ x. x.looks ≡ looks_over x.answers x.config x.sight) _ _ here c.requires.looks
 
 pub returns-clause-list : goal.returns-clause-list
 returns-clause-list c =

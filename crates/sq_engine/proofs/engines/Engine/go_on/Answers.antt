@@ -4,7 +4,9 @@ use Rattle.std.specs.List.{slice_get}
 use Rattle.sq_machine.specs.Machine.{step_next}
 use Rattle.sq_machine.specs.StepRule.{class_of_acl, says_done}
 use Rattle.sq_machine.specs.declared.entries.Told.TheVariants as told
+use Rattle.sq_rules.specs.Keys.{key_text}
 use Rattle.sq_rules.specs.declared.values.Value.TheVariants as value
+use Rattle.sq_checks.specs.Givens.{looks_over}
 use Rattle.sq_checks.specs.OpenChecks.{HasCome, comes_to, is_need}
 use Rattle.sq_checks.specs.Stages.{is_idle, need_in}
 use Rattle.sq_checks.specs.Tables.{value_at}
@@ -52,6 +54,29 @@ resolve-requires-clause-idle c =
     some_has (λ z. HasCome z c.args.value) (value_at w.checks c.args.check) k c.requires.come found in
     if_has (λ z. is_idle z.stage ≡ true) (value_at w.checks c.args.check) k found (come.idle (ap is_need c.in-Need.is))
 
+pub resolve-requires-clause-of_class : goal.resolve-requires-clause-of_class
+resolve-requires-clause-of_class c =
+    let w = c.args.self.now in
+    let k = c.in-Some.open.now in
+    let found : value_at w.checks c.args.check ≡ Some k =
+    subst (λ z. value_at z.checks c.args.check ≡ Some k) c.self.view_is (sym c.in-Some.ensures) in
+    let config : c.deref.result.now ≡ k.config = cc in
+    let of : class_of_acl k.config.acls c.in-Need.acl ≡ Some c.needed_class-class.result =
+    ap (λ z. class_of_acl z.acls c.in-Need.acl) (sym config) ∙ c.needed_class-class.ensures.class in
+    if_has (λ z. class_of_acl z.config.acls c.in-Need.acl ≡ Some c.needed_class-class.result)
+    (value_at w.checks c.args.check) k found of
+
+pub resolve-requires-clause-of_key : goal.resolve-requires-clause-of_key
+resolve-requires-clause-of_key c =
+    let w = c.args.self.now in
+    let k = c.in-Some.open.now in
+    let found : value_at w.checks c.args.check ≡ Some k =
+    subst (λ z. value_at z.checks c.args.check ≡ Some k) c.self.view_is (sym c.in-Some.ensures) in
+    let come : HasCome k c.args.value =
+    some_has (λ z. HasCome z c.args.value) (value_at w.checks c.args.check) k c.requires.come found in
+    if_has (λ z. key_text z.config c.in-Need.acl z.sight ≡ c.in-Need.key) (value_at w.checks c.args.check) k found
+    (come.keyed c.in-Need.acl c.in-Need.key c.in-Need.is)
+
 pub resolve-requires-clause-other : goal.resolve-requires-clause-other
 resolve-requires-clause-other c =
     let w = c.args.self.now in
@@ -66,6 +91,16 @@ resolve-requires-clause-other c =
     if_has (λ z. has_answer z.answers c.needed_class-class.result c.in-Need.key ≡ false)
     (value_at w.checks c.args.check) k found
     (come.other c.in-Need.acl c.needed_class-class.result c.in-Need.key c.in-Need.is of)
+
+pub resolve-requires-clause-looks : goal.resolve-requires-clause-looks
+resolve-requires-clause-looks c =
+    let w = c.args.self.now in
+    let k = c.in-Some.open.now in
+    let found : value_at w.checks c.args.check ≡ Some k =
+    subst (λ z. value_at z.checks c.args.check ≡ Some k) c.self.view_is (sym c.in-Some.ensures) in
+    let come : HasCome k c.args.value =
+    some_has (λ z. HasCome z c.args.value) (value_at w.checks c.args.check) k c.requires.come found in
+    if_has (λ z. z.looks ≡ looks_over z.answers z.config z.sight) (value_at w.checks c.args.check) k found come.looks
 
 pub resolve-requires-clause-part : goal.resolve-requires-clause-part
 resolve-requires-clause-part c =

@@ -1,15 +1,17 @@
 use Rattle.std.proofs.Common.{◌≡◌, ◌∙◌, None, Some, max, ap, sym, subst, rules}
 use Rattle.sq_machine.specs.Machine.{step_next}
+use Rattle.sq_machine.specs.Next.{gives}
 use Rattle.sq_machine.specs.declared.entries.Told.TheVariants as told
-use Rattle.sq_checks.specs.Stages.{need_in}
+use Rattle.sq_checks.specs.Stages.{need_in, question_in}
 use Rattle.sq_checks.specs.Tables.{value_at}
 use Rattle.sq_model_state.specs.Changes.{after_step_of}
 use Rattle.sq_model_state.specs.States.{IsSame}
 use Rattle.sq_engine.specs.EngineViews.{state_of}
-use Rattle.sq_engine.specs.Stepping.{says_waits}
-use Rattle.sq_engine.proofs.NowLaws.{after_found, idle_looked, says_waiting, settled_looked, settled_settled, step_found, step_unknown, there_looked, there_settled}
+use Rattle.sq_engine.specs.Stepping.{epoch_of, stepped_told}
+use Rattle.sq_checks.specs.OpenChecks.{says_waits}
+use Rattle.sq_engine.proofs.NowLaws.{after_found, idle_looked, if_has, says_waiting, settled_looked, settled_settled, step_found, step_unknown, there_looked, there_settled, waits_for_need}
 use Rattle.sq_engine.proofs.StepLaws.{quiet_same}
-use Rattle.sq_engine.proofs.BegunLaws.{kept_between, kept_but, kept_same}
+use Rattle.sq_engine.proofs.BegunLaws.{kept_between}
 use Rattle.sq_engine.proofs.engines.Engine.step_on.Goals as goal
 
 pub returns-in_default-clause-told : goal.returns-in_default-clause-told
@@ -28,6 +30,17 @@ returns-in-Some-need-clause-told c =
     let needs : need_in k.stage ≡ Some x = sym c.in-Some-need.ensures.value in
     let t = max c.args.now w.latest in
     step_found w c.args.check t k found ∙ ap (step_next w.puts) (says_waiting w c.args.check t k x needs)
+    ∙ ap (λ z. gives (stepped_told (state_of w) (epoch_of (state_of w) c.args.check) z)) (sym c.wait_on.ensures.told)
+
+pub wait_on-requires-clause-waits : goal.wait_on-requires-clause-waits
+wait_on-requires-clause-waits c =
+    let w = c.args.self.now in
+    let k = c.in-Some.open.now in
+    let found : value_at w.checks c.args.check ≡ Some k =
+    subst (λ z. value_at z.checks c.args.check ≡ Some k) c.self.view_is (sym c.in-Some.ensures) in
+    let x = c.in-Some-need.need.now in
+    if_has (λ z. question_in z.stage ≡ Some x.question) (value_at w.checks c.args.check) k found
+    (waits_for_need k x (sym c.in-Some-need.ensures.value))
 
 pub returns-in-Some-need-clause-ok : goal.returns-in-Some-need-clause-ok
 returns-in-Some-need-clause-ok c =
@@ -56,7 +69,7 @@ come_to-requires-clause-there c =
     let k = c.in-Some.open.now in
     let found : value_at w.checks c.args.check ≡ Some k =
     subst (λ z. value_at z.checks c.args.check ≡ Some k) c.self.view_is (sym c.in-Some.ensures) in
-    there_settled w.checks c.settle.new.self.checks c.args.check k found c.in-Ok-settle.ensures.ok
+    there_settled w.checks c.settle.new.self.checks c.args.check k found c.in-Ok.ensures.ok
 
 pub come_to-requires-clause-settled : goal.come_to-requires-clause-settled
 come_to-requires-clause-settled c =
@@ -64,7 +77,7 @@ come_to-requires-clause-settled c =
     let k = c.in-Some.open.now in
     let found : value_at w.checks c.args.check ≡ Some k =
     subst (λ z. value_at z.checks c.args.check ≡ Some k) c.self.view_is (sym c.in-Some.ensures) in
-    settled_settled w.checks c.settle.new.self.checks c.args.check k found c.in-Ok-settle.ensures.ok
+    settled_settled w.checks c.settle.new.self.checks c.args.check k found c.in-Ok.ensures.ok
 
 pub go_on-requires-clause-there : goal.go_on-requires-clause-there
 go_on-requires-clause-there c =
@@ -74,7 +87,7 @@ go_on-requires-clause-there c =
     subst (λ z. value_at z.checks c.args.check ≡ Some k) c.self.view_is (sym c.in-Some.ensures) in
     let list = c.come_to.ensures.list in
     there_looked w.checks c.settle.new.self.checks c.come_to.new.self.checks c.args.check list.0 k found
-    c.in-Ok-settle.ensures.ok list.1
+    c.in-Ok.ensures.ok list.1
 
 pub go_on-requires-clause-settled : goal.go_on-requires-clause-settled
 go_on-requires-clause-settled c =
@@ -84,7 +97,7 @@ go_on-requires-clause-settled c =
     subst (λ z. value_at z.checks c.args.check ≡ Some k) c.self.view_is (sym c.in-Some.ensures) in
     let list = c.come_to.ensures.list in
     settled_looked w.checks c.settle.new.self.checks c.come_to.new.self.checks c.args.check list.0 k found
-    c.in-Ok-settle.ensures.ok list.1
+    c.in-Ok.ensures.ok list.1
 
 pub go_on-requires-clause-idle : goal.go_on-requires-clause-idle
 go_on-requires-clause-idle c =
@@ -95,21 +108,9 @@ go_on-requires-clause-idle c =
     let list = c.come_to.ensures.list in
     let none : need_in k.stage ≡ None = search rules in
     idle_looked w.checks c.settle.new.self.checks c.come_to.new.self.checks c.args.check list.0 k found
-    c.in-Ok-settle.ensures.ok list.1 none
+    c.in-Ok.ensures.ok list.1 none
 
 pub returns-clause-kept : goal.returns-clause-kept
 returns-clause-kept c =
     kept_between c.args.check c.args.self.now.checks c.settle.new.self.checks c.come_to.new.self.checks
     c.go_on.new.self.checks c.settle.ensures.kept c.come_to.ensures.kept c.go_on.ensures.kept
-
-pub returns-in-Err-clause-kept : goal.returns-in-Err-clause-kept
-returns-in-Err-clause-kept c = kept_but c.args.check c.args.self.now.checks c.args.self.now.checks
-    (kept_same c.args.self.now.checks)
-
-pub returns-in-Some-need-clause-kept : goal.returns-in-Some-need-clause-kept
-returns-in-Some-need-clause-kept c = kept_but c.args.check c.args.self.now.checks c.wait_on.new.self.checks
-    c.wait_on.ensures.kept
-
-pub returns-in-Err-settle-clause-kept : goal.returns-in-Err-settle-clause-kept
-returns-in-Err-settle-clause-kept c = kept_but c.args.check c.args.self.now.checks c.settle.new.self.checks
-    c.settle.ensures.kept

@@ -1,11 +1,9 @@
-use Rattle.std.proofs.Common.{Some, ◌≡◌, false, subst, refl}
+use Rattle.std.proofs.Common.{subst, refl}
 use Rattle.sq_checks.specs.Conns.{check_in}
-use Rattle.sq_checks.specs.OpenChecks.{rows_of}
-use Rattle.sq_checks.specs.Stages.{need_in}
+use Rattle.sq_checks.specs.OpenChecks.{rows_of, says_waits}
 use Rattle.sq_epochs.specs.EpochStates.{epoch_at}
 use Rattle.sq_engine.specs.EngineViews.{EngineView}
-use Rattle.sq_engine.specs.Stepping.{says_waits}
-use Rattle.sq_engine.proofs.ChangedLaws.{at_number, changed_engine, waited_keeps}
+use Rattle.sq_engine.proofs.ChangedLaws.{changed_engine, waited_keeps}
 use Rattle.sq_engine.proofs.HeldLaws.{asked_stepped, counted_stepped}
 use Rattle.sq_engine.specs.Begun.{AreKept}
 use Rattle.sq_engine.proofs.BegunLaws.{kept_change}
@@ -23,15 +21,17 @@ invariant_of-self c =
       offset = c.self.inside.offset;
       latest = c.self.inside.latest;
     } in
-    changed_engine v c.note.new.self c.args.moment c.args.check _ c.self.invariant c.note.ensures.list
+    let rows = c.wait_on.ensures.rows c.args.question (rw (← c.self.view_is) at c.requires.waits) in
+    changed_engine v c.wait_on.new.self c.args.moment c.args.check _ c.self.invariant c.wait_on.ensures.list
     (asked_stepped c.args.check (says_waits c.args.question) (check_in v.conns) (rows_of v.checks) _ v.asks
-    c.note.ensures.rows c.self.invariant.asked)
+    rows c.self.invariant.asked)
     (counted_stepped c.args.check (says_waits c.args.question) v.epochs.current (epoch_at v.epochs) (rows_of v.checks) _
-    c.note.ensures.rows c.self.invariant.counted)
-    (λ m same j is. waited_keeps c.args.question c.args.class c.args.key false j
-    (at_number (λ k. need_in k.stage
-    ≡ Some (record { question = c.args.question; class = c.args.class; key = c.args.key })) v.checks c.args.check m same
-    j is (rw (← c.self.view_is) at c.requires.waits)))
+    rows c.self.invariant.counted)
+    (λ m same j is. waited_keeps j)
+
+pub returns-clause-rows : goal.returns-clause-rows
+returns-clause-rows c = rw (← c.self.view_is)
+    (c.wait_on.ensures.rows c.args.question (rw (← c.self.view_is) at c.requires.waits))
 
 pub returns-clause-kept : goal.returns-clause-kept
 returns-clause-kept c =
@@ -45,5 +45,5 @@ returns-clause-kept c =
       offset = c.self.inside.offset;
       latest = c.self.inside.latest;
     } in
-    subst (λ z. AreKept z.checks c.note.new.self) c.self.view_is
-    (kept_change c.args.check _ v.checks c.note.new.self c.note.ensures.list (λ k. refl))
+    subst (λ z. AreKept z.checks c.wait_on.new.self) c.self.view_is
+    (kept_change c.args.check _ v.checks c.wait_on.new.self c.wait_on.ensures.list (λ k. refl))

@@ -1,12 +1,14 @@
-use Rattle.std.proofs.Common.{inr, rules}
+use Rattle.std.proofs.Common.{inl, inr, rules}
+use Rattle.sq_helper_pump.specs.declared.halves.ProcIn.TheVariants.{Child}
 use Rattle.sq_helper_pump.proofs.pump.ServePump.start.Goals as goal
 
 pub returns-in-Ok-clause-starting : goal.returns-in-Ok-clause-starting
 returns-in-Ok-clause-starting g c =
-    inr (inr (inr (
+    inr (inr (inr (inl (
       c.as_slice.result.now,
       c.in-Ok.from,
-      c.in-Ok.to,
+      Child c.in-Ok.to,
+      search rules,
       search rules,
       search rules,
       record {
@@ -18,4 +20,4 @@ returns-in-Ok-clause-starting g c =
       search rules,
       search rules,
       search rules,
-    )))
+    ))))

@@ -1,6 +1,7 @@
 use Rattle.std.proofs.Common.{refl}
 use Rattle.sq_engine.specs.EngineViews.{state_of}
 use Rattle.sq_engine.specs.Stepping.{epoch_of}
+use Rattle.sq_mem_hub.specs.MemHubs.{both_pools}
 use Rattle.sq_mem_hub.proofs.CallLaws.{steps_by}
 use Rattle.sq_mem_hub.proofs.mem_hub.MemHubHub.step.Goals as goal
 
@@ -11,5 +12,5 @@ returns-clause-told g c =
       _,
       refl,
       steps_by c.args.check (epoch_of (state_of hub.engine) c.args.check) c.step-made.result c.answer.result
-          hub.engine c.step-made.new.self hub.pools hub.moment c.answer.ensures.result made.promised made.err made.kept,
+          hub.engine c.step-made.new.self hub.rewriter (both_pools hub.pools hub.tags) hub.moment c.answer.ensures.result made.promised made.err made.kept,
     )

@@ -4,5 +4,5 @@ use Rattle.sq_pools.proofs.MapLaws.{removed, spot_key}
 use Rattle.sq_pools.proofs.buckets.Buckets.remove.Goals as goal
 
 pub returns : goal.returns
-returns c = c.remove-was.ensures.entries ∙ removed _ _ spot_key c.args.spot c.self.inside.map.entries
-    ∙ ap (without_bucket c.args.spot) c.self.view_is
+returns c = c.remove-was.ensures.entries ∙ removed _ _ spot_key c.args.spot.now c.self.inside.map.entries
+    ∙ ap (without_bucket c.args.spot.now) c.self.view_is

@@ -3,8 +3,7 @@ use Rattle.std.specs.BTreeMap.{is_at}
 use Rattle.std.specs.Ordering.{nat_cmp}
 use Rattle.std.proofs.lemmas.Map.Steps.{set_value_same}
 use Rattle.std.proofs.lemmas.Result.{err_from_is_err_and}
-use Rattle.sq_machine.specs.PoolReadings.{has_spot, is_aggregate, second_of}
-use Rattle.sq_pools.specs.Grants.{bucket_at, filled_if, opened_in}
+use Rattle.sq_machine.specs.PoolReadings.{is_aggregate}
 use Rattle.sq_pools.specs.Generations.{generation_at, held_at}
 use Rattle.sq_pools.specs.declared.generations.Generation.{Generation}
 use Rattle.sq_pools.proofs.GenerationLaws.{HasAnother, entered_filled, entered_held, entered_made, held_there}
@@ -18,7 +17,7 @@ enter-requires-clause-held c =
     let here : generation_at es c.args.epoch ≡ Some g = found _ _ number_key c.args.epoch es
     ∙ sym c.in-Some.ensures.value in
     let held : held_at es c.args.epoch ≡ g.held = held_there es c.args.epoch g here in
-    let few : held_at es c.args.epoch < 9223372036854775808 = rw c.self.view_is c.requires in
+    let few : held_at es c.args.epoch < 9223372036854775808 = rw c.self.view_is c.requires.held in
     rw held at few
 
 pub returns-in_err-enter-in-Some-clause-err : goal.returns-in_err-enter-in-Some-clause-err
@@ -67,9 +66,6 @@ returns-in_ok-enter-in-Some-clause-buckets c = λ e s.
     ∙ sym c.in-Some.ensures.value in
     let other : HasAnother c.args.epoch (Some w) es fs =
     λ q. after _ _ number_key q c.args.epoch (Some w) es fs (((c.get_mut.follows.holds w).3 (search rules)).0 q) in
-    let start : c.initial.result ≡ c.args.config.now.initial = c.initial.ensures.value in
-    rw (← c.self.view_is) (entered_filled c.args.epoch c.args.config.now.initial c.args.now c.args.spots.now g w
-    (is_aggregate (Some c.args.config.now)) es fs here other c.enter.ensures.made
-    (λ t. c.in_ok-enter-in-Some.ensures.buckets t
-    ∙ ap (λ n. filled_if (has_spot c.args.spots.now t) (opened_in n (second_of g.made c.args.now) t)
-    (bucket_at g.buckets t)) start) e s)
+    rw (← c.self.view_is) (entered_filled c.args.epoch c.args.initial c.args.now c.args.spots.now g w
+    (is_aggregate c.args.pools.now) es fs here other c.enter.ensures.made
+    c.in_ok-enter-in-Some.ensures.buckets e s)

@@ -5,7 +5,7 @@ use Rattle.sq_replay.specs.declared.stops.Stop.TheVariants as stop
 use Rattle.sq_replay.specs.MachineViews.{MachineView, machine_of}
 use Rattle.sq_replay.specs.Making.{IsMaking}
 use Rattle.std.specs.Prelude.{IfNone}
-use Rattle.sq_pools.specs.Basins.{seat_in}
+use Rattle.sq_replay.specs.Riding.{IsHeldNowhere}
 use Rattle.sq_replay.proofs.SeatingLaws.{grant_stops, granted_at}
 use Rattle.sq_replay.proofs.machines.ScriptMachine.grant.Goals as goal
 
@@ -18,12 +18,12 @@ returns-in_default-clause-making c =
       riders = c.self.inside.riders;
     } in
     let none : c.grant.result ≡ None = search rules in
-    let gone : seat_in m.pools c.args.seat ≡ None =
-    subst (λ (o : Option ℕ). IfNone o (seat_in m.pools c.args.seat ≡ None)) none c.grant.ensures.none in
+    let gone : IsHeldNowhere m.pools c.args.seat =
+    subst (λ (o : Option ℕ). IfNone o (IsHeldNowhere m.pools c.args.seat)) none c.grant.ensures.none in
     let w = machine_of (record m { pools = c.grant.new.self }) in
     subst (λ (z : MachineView). IsMaking (machine_of z) (w) c.args.now (event.Grant c.args.seat c.args.wanted)
     (Err stop.Refused)) c.self.view_is
-    (grant_stops (machine_of m) w c.args.now c.args.seat c.args.wanted gone)
+    (grant_stops (machine_of m) w c.args.now c.args.seat c.args.wanted gone.addressed gone.tagged)
 
 pub returns-clause-making : goal.returns-clause-making
 returns-clause-making c =
@@ -42,5 +42,4 @@ returns-clause-making c =
     })) c.args.now (event.Grant c.args.seat c.args.wanted) (Ok (told.Granted c.in-Some.amount)))
     c.self.view_is
     (granted_at (machine_of m) c.grant.new.self c.args.now c.later-moment.result c.args.seat c.args.wanted
-    c.in-Some.amount c.later-moment.ensures c.facts.ensures c.in-Some.ensures.there c.in-Some.ensures.amount
-    c.in-Some.ensures.taken)
+    c.in-Some.amount c.later-moment.ensures c.facts.ensures c.in-Some.ensures.granted)

@@ -1,13 +1,12 @@
-use Rattle.std.proofs.Common.{◌≡◌, ◌∙◌, max, Ok, Err, is_some, sym, subst}
+use Rattle.std.proofs.Common.{◌≡◌, ◌∙◌, Ok, Err, sym, subst}
 use Rattle.sq_machine.specs.declared.entries.Told.TheVariants as told
 use Rattle.sq_engine.specs.EngineViews.{state_of}
 use Rattle.sq_replay.specs.declared.stops.Stop.{Stop}
 use Rattle.sq_replay.specs.MachineViews.{MachineView, machine_of}
-use Rattle.std.proofs.Common.{cond, nat_lt, ◌||◌}
 use Rattle.std.specs.Arc.{arc_value}
 use Rattle.sq_rules.specs.Configurations.{Configuration}
-use Rattle.sq_pools.specs.Basins.{IsRenewed, made_in}
 use Rattle.sq_replay.specs.Making.{IsReconfiguring}
+use Rattle.sq_replay.specs.Riding.{AreRenewed}
 use Rattle.sq_replay.proofs.EngineLaws.{reconfigure_stops_at, reconfigured_at}
 use Rattle.sq_replay.proofs.machines.ScriptMachine.reconfigure.Goals as goal
 
@@ -38,11 +37,9 @@ returns-clause-making c =
     let e = c.in-Ok-reconfigure.epoch in
     let u = c.later-moment.result in
     let own : arc_value c.in-Ok.config ≡ c.args.setup = c.in-Ok.ensures ∙ c.config.ensures in
-    let renewed = subst (λ (k : Configuration). cond (nat_lt e m.pools.newest || is_some (made_in m.pools e))
-    (q ≡ m.pools) (IsRenewed m.pools q e k (max u m.pools.latest))) own c.in-Ok-renew.ensures.ok in
     subst (λ (z : MachineView). IsReconfiguring (machine_of z)
     (machine_of (record { engine = c.reconfigure.new.self; pools = q; latest = u; riders = m.riders })) c.args.now
     c.args.setup (Ok (told.Epoch e))) c.self.view_is
     (reconfigured_at (machine_of m) (state_of c.reconfigure.new.self) q c.args.now u e c.args.setup
     c.later-moment.ensures c.facts.ensures c.in-Ok-reconfigure.ensures.told c.in-Ok-reconfigure.ensures.promised
-    renewed)
+    (λ fresh tags. subst (λ (k : Configuration). AreRenewed m.pools q e k u) own (c.in-Ok-renew.ensures fresh tags)))

@@ -66,8 +66,9 @@ returns-clause-making c =
     (taken_at_moment (machine_of m) (state_of c.take.new.self) (rider_at c.note.new.self) c.args.now
     c.later-moment.result c.args.check c.in-Some.conn r c.later-moment.ensures c.facts-2.ensures (sym c.in-Some.ensures)
     c.in-Ok.ensures.promised
-    (λ k found. record_is m.engine c.args.check k r c.facts.ensures found c.in-Ok.ensures.record
-    (sym c.pool-pool.ensures.value ∙ c.pool-pool.ensures.theirs)) c.in-Ok-note.ensures.ok)))
+    (λ k found. record_is m.engine c.args.check k r (told.Judged r.epoch r.outcome) c.facts.ensures found
+    c.in-Ok.ensures.told c.in-Ok.ensures.record)
+    c.in-Ok-note.ensures.ok)))
 
 pub returns-clause-row : goal.returns-clause-row
 returns-clause-row c =

@@ -1,0 +1,3 @@
+pub mod AccessLaws
+mod RuleLaws
+mod TableLaws

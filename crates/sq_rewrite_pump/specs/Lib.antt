@@ -1,0 +1,5 @@
+pub mod Handing
+pub mod LineViews
+pub mod Pumps
+pub mod RewriterCalls
+pub mod Turning
