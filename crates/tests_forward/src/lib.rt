@@ -14,4 +14,8 @@ mod faults;
 #[cfg(test)]
 mod links;
 #[cfg(test)]
+mod reply_fields;
+#[cfg(test)]
+mod request_fields;
+#[cfg(test)]
 mod tunnels;

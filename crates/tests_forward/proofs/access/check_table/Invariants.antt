@@ -1,6 +1,6 @@
 use denote.Text.{Utf8}
 use denote.Shadow.{shadow}
-use Rattle.tests_forward.proofs.access.fields_go_on_by_their_rules.Given as goal
+use Rattle.tests_forward.proofs.access.check_table.Given as goal
 
 -- what is shown stays a text
 abbrev pub invariant-loop-line : goal.invariant-loop-line
