@@ -10,6 +10,7 @@ are verified at the end, and a row in which a request failed says so."""
 import argparse
 import contextlib
 import os
+import random
 import re
 import shutil
 import socket
@@ -75,10 +76,12 @@ class Came:
 
 
 def free_port() -> int:
-    with socket.socket() as it:
-        it.bind(("127.0.0.1", 0))
-        port: int = it.getsockname()[1]
-        return port
+    """A free port below those that the system gives to the ends of clients, so that none of these has it meanwhile."""
+    for port in random.sample(range(20000, 32000), 100):
+        with contextlib.suppress(OSError), socket.socket() as it:
+            it.bind(("127.0.0.1", port))
+            return port
+    sys.exit("no port is free")
 
 
 @contextlib.contextmanager

@@ -138,6 +138,16 @@ class Bench:
             link.sendall(self.request(path, "Connection: close", *fields))
             return all_of(link)
 
+    def tunnel(self, path: str) -> bytes:
+        """What comes back of a tunnel to the origin, and of a request in it."""
+        with self.connect() as link:
+            link.sendall(f"CONNECT 127.0.0.1:{self.origin} HTTP/1.1\r\nHost: a\r\n\r\n".encode())
+            got = link.recv(65536)
+            if got == TUNNEL:
+                link.sendall(self.request(path))
+                link.shutdown(socket.SHUT_WR)
+            return got + all_of(link)
+
     def verify(self, journal: str = "journal") -> str:
         """What `verify` says of the whole lines of a journal."""
         text = Path(journal).read_bytes()
@@ -189,6 +199,8 @@ ASKING = (
     "http_access deny asked !known\nhttp_access allow localhost\n"
 )
 PLAIN = "http_access allow localhost\n"
+TUNNEL = b"HTTP/1.1 200 Connection established\r\n\r\n"
+THROUGH = b"HTTP/1.1 200 OK\r\nContent-Length: 5\r\n\r\nhello"
 GATEWAY = own("502 Bad Gateway", "bad gateway")
 STOPPED = own("500 Internal Server Error", "journal stopped")
 BIG = hello().replace(b"Length: 5", b"Length: %d" % (5 << 20)).replace(b"hello", b"hello" * (1 << 20))
@@ -660,8 +672,8 @@ def helpers_that_cannot_start(bench: Bench) -> None:
 
 
 def no_processes(bench: Bench) -> None:
-    """Where the system gives no further process, helpers are NoHelper; where it gives one, and no thread to hear it, Died. Other checks
-    go on."""
+    """Where the system gives no further process, helpers are NoHelper, and tunnels, which need one thread more, are 502; where it gives
+    one, and no thread to hear it, Died. Other checks go on."""
     if os.getuid() != 0:
         return bench.left("only root can be another user")
     os.chmod(".", 0o777)
@@ -685,6 +697,7 @@ def no_processes(bench: Bench) -> None:
             except (OSError, subprocess.SubprocessError) as fault:
                 return bench.left(f"it does not start as another user: {fault}")
             bench.same(f"{turn}, a request", bench.get("/"), hello())
+            bench.same(f"{turn}, a tunnel", bench.tunnel("/"), GATEWAY if turn == 1 else TUNNEL + THROUGH)
             denied = own("403 Forbidden", f"denied fault 1 known {cause}")
             # It has as many threads as before (the first, four workers', the pump's), and no process more; and then one more.
             until(5, lambda: server.value("Threads") == 6)
@@ -706,7 +719,7 @@ def processes() -> Iterator[os.stat_result]:
 
 
 def port_that_is_taken(bench: Bench) -> None:
-    """`error net`, status 9, and a journal without a line: the port is opened before the first entry."""
+    """`error net`, status 9, and in place of a journal the port and why it is not opened: that comes before the first entry."""
     Path("c.conf").write_text(PLAIN)
     hosts = [("127.0.0.1", socket.AF_INET), ("0.0.0.0", socket.AF_INET), ("::", socket.AF_INET6)]
     for host, family in hosts:
@@ -715,16 +728,18 @@ def port_that_is_taken(bench: Bench) -> None:
         except OSError:
             bench.left(f"there is no {host}")
             continue
+        port = taken.getsockname()[1]
         with taken, open("j", "wb") as journal:
-            words = [bench.program, "serve", "c.conf", "--port", str(taken.getsockname()[1])]
+            words = [bench.program, "serve", "c.conf", "--port", str(port)]
             ran = subprocess.run(words, stdin=subprocess.DEVNULL, stdout=subprocess.PIPE, stderr=journal, timeout=60)
         bench.same(f"taken at {host}", f"{ran.stdout.decode().strip()}, status {ran.returncode}", "error net, status 9")
-        bench.same(f"taken at {host}, the journal", os.path.getsize("j"), 0)
+        bench.same(f"taken at {host}, the port", Path("j").read_text(), f"aclproxy: port {port}: Address already in use (os error 98)\n")
     server = bench.start(PLAIN)
     port = bench.port
     words = [bench.program, "serve", "c.conf", "--port", str(port)]
     other = subprocess.run(words, stdin=subprocess.DEVNULL, stdout=subprocess.PIPE, stderr=subprocess.PIPE, timeout=60)
     bench.same("taken by another server", f"{other.stdout.decode().strip()}, status {other.returncode}", "error net, status 9")
+    bench.same("the port", other.stderr.decode(), f"aclproxy: port {port}: Address already in use (os error 98)\n")
     bench.port = port
     bench.same("that one", bench.get("/"), hello())
     bench.same("its end", bench.ends(server), "stopped status 0")

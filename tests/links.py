@@ -486,6 +486,8 @@ def shortages(bench: Bench) -> None:
     taken = Server(bench.program, ["squid.conf", "--port", str(bench.port)], "other")
     said = f"{taken.hear(PATIENCE)}, {taken.hear(PATIENCE)}, status {taken.ends(5)}"
     bench.check("a taken port", said == "error net, its end, status 9", said)
+    named = Path("other").read_text()
+    bench.check("its name", named == f"aclproxy: port {bench.port}: Address already in use (os error 98)\n", named)
     # Stacks of 8 MiB.
     for workers, most in ((16, 100 << 20), (64, 400 << 20)):
         words = ["squid.conf", "--port", str(free_port()), "--workers", str(workers)]

@@ -218,8 +218,8 @@ KNOWN: dict[str, str] = {
     "docs/OPERATING.md says under Memory",
     "a look-up crashes": "getaddrinfo of the GNU C library 2.36 ends the process by a signal where some of the allocations of its first call are "
     "refused, in any program; its later calls fail as they should (docs/OPERATING.md, Memory)",
-    "a tunnel has one thread": "where the second one could not be made, the bytes of the origin go first, and those of the client once that "
-    "has ended, so that two sides that wait for one another wait, and an end of the server waits for them (docs/OPERATING.md, Memory)",
+    "a tunnel has one thread": "where the second one could not be made, though one was there before the dial, the bytes of the origin go "
+    "first, and those of the client once that has ended, so that two sides that wait for one another wait, and an end of the server waits for them (docs/OPERATING.md, Memory)",
     "the port was not opened": "want of memory in the opening of the port is told as `error net`, with status 9 (docs/DECISIONS.md)",
 }
 
@@ -614,8 +614,9 @@ class Trial:
                         try:
                             more = link.recv(65536)
                         except TimeoutError:
-                            # Nobody makes a thread meanwhile but this tunnel: the helpers that there are were started before.
-                            alone = got == line and self.control.refused and self.control.threads == threads
+                            # Nobody makes a thread meanwhile but this tunnel, for which its dialer made one that has ended: the helpers
+                            # that there are were started before.
+                            alone = got == line and self.control.refused and self.control.threads == threads + 1
                             if alone:
                                 self.bench.knows(self.part, self.nth, "a tunnel has one thread")
                                 self.effects["tunnel that waits"] += 1

@@ -378,9 +378,9 @@ judged=$((judged + 4))
 
 # Another server cannot have the port.
 bounded "$program" serve first.conf --port "$port" </dev/null >said2 2>journal2
-same 'a port that is taken' "$(echo "status $?" && cat said2 && wc -c <journal2)" 'status 9
+same 'a port that is taken' "$(echo "status $?" && cat said2 journal2)" "status 9
 error net
-0'
+aclproxy: port $port: Address already in use (os error 98)"
 
 # A connection that is idle ends with the server, within a second or two.
 get /small >one

@@ -6,6 +6,7 @@ its orders and ends, and `split` writes what is left.
 """
 
 import os
+import re
 import selectors
 import shutil
 import signal
@@ -101,6 +102,17 @@ def is_anybody_connected(port: int) -> bool:
     return not told
 
 
+def refusal_in(piece: Path) -> str:
+    """Why the port was not opened, where `serve` says that in place of a journal, or nothing."""
+    try:
+        with open(piece, "rb") as text:
+            line = text.readline(4096)
+    except OSError:
+        return ""
+    found = re.fullmatch(rb"aclproxy: port [0-9]+: (.+)\n", line)
+    return found[1].decode(errors="replace") if found else ""
+
+
 class Run:
     """One run: a `serve`, the `split` that writes its journal, and its folder."""
 
@@ -143,6 +155,7 @@ class Run:
         self.rest = b""
         self.last = ""
         self.listening = False
+        self.refusal = ""
         self.port = 0
         self.ended = False
         self.asked_at: Optional[float] = None
@@ -208,9 +221,12 @@ class Run:
             return status
         if self.split.returncode != 0:
             say(f"split ended with status {self.split.returncode}: the journal in {self.folder} is not whole")
-        if not self.listening and not pieces_of(self.folder):
-            # It has not begun: there is nothing to keep.
-            shutil.rmtree(self.folder, ignore_errors=True)
+        if not self.listening:
+            pieces = pieces_of(self.folder)
+            self.refusal = refusal_in(pieces[0]) if pieces else ""
+            if not pieces or self.refusal:
+                # It has not begun: there is nothing to keep.
+                shutil.rmtree(self.folder, ignore_errors=True)
         return status
 
 
@@ -387,6 +403,8 @@ class Supervisor:
         elif status == 9 and not run.listening:
             port = self.options.port if self.options.port is not None else Conf(run.source).port()
             why = f"port {port} of all addresses (0.0.0.0 and ::) is taken or may not be opened"
+            if run.refusal:
+                why += f": {run.refusal}"
         else:
             why = words.STATUSES.get(status, f"its last line is {run.last!r}")
         if not self.renewing or self.stopping or status != 0:

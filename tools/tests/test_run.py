@@ -383,7 +383,9 @@ class Run(InFolder):
             taken.listen()
             with Service(self.folder, self.file("conf", ["http_access deny all"]), port=int(taken.getsockname()[1])) as service:
                 self.assertEqual(service.ended(), 9)
-                self.assertIn(f"status 9: port {taken.getsockname()[1]} of all addresses (0.0.0.0 and ::) is taken", service.said())
+                port = taken.getsockname()[1]
+                self.assertIn(f"status 9: port {port} of all addresses (0.0.0.0 and ::) is taken or may not be opened: Address already in use", service.said())
+                self.assertEqual(service.runs(), [])
         with Service(self.folder, str(self.folder / "none")) as service:
             self.assertEqual(service.ended(), 66)
             self.assertIn("none: there is no such file\n", service.said())

@@ -1,3 +1,4 @@
+-- In the statement: docs/STATEMENT.md lists which definitions.
 -- IP addresses and their texts: RFC 4291 section 2.2 for IPv6, RFC 5952 section 4 for its printing,
 -- and four decimal parts for IPv4. `IsDotted` and `IsColonHex` are the standard library's grammar
 -- of both, `read_ipv4` and `read_ipv6` its readers.

@@ -1,3 +1,4 @@
+-- In the statement: docs/STATEMENT.md lists which definitions.
 -- Bytes of ASCII by name.
 use Rattle.std.specs.Prelude.{ℕ}
 

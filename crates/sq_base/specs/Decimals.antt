@@ -1,3 +1,4 @@
+-- In the statement: docs/STATEMENT.md lists which definitions.
 -- Decimal numbers: digits without leading zeros, as in journals, scripts and parts of addresses.
 use Rattle.std.specs.Prelude.{ℕ, ◌+◌, ◌-◌, ◌*◌, ◌^◌, List, [], ◌∷◌, if◌then◌else◌, ◌&&◌, nat_lt, Some, None, decimal, bytes_eq}
 use Rattle.std.specs.declared.option.Option.{Option}

@@ -1,3 +1,4 @@
+-- In the statement: docs/STATEMENT.md lists which definitions.
 -- Domains of the configuration and the hosts in them (configuration reference, `acl`, type
 -- dstdomain).
 use Rattle.std.specs.Prelude.{ℕ, List, [], ◌∷◌, Bool, if◌then◌else◌, ◌||◌, ◌==◌, nat_eq, bytes_eq}

@@ -1,3 +1,4 @@
+-- In the statement: docs/STATEMENT.md lists which definitions.
 -- Escaped words: how a text of any bytes stands as one word of a journal or script line.
 use Rattle.std.specs.Prelude.{ℕ, Bool, ◌||◌, ◌==◌, nat_le, List, [], ◌∷◌, if◌then◌else◌, Some, None, codes, bytes_eq}
 use Rattle.std.specs.List.{flat_map}

@@ -1,3 +1,4 @@
+-- In the statement: docs/STATEMENT.md lists which definitions.
 -- Lines of a configuration file and their words, as Squid's configuration reference lays squid.conf
 -- out: `#` begins a comment, and a `\` at a line's end joins the next line to it.
 use Rattle.std.specs.Prelude.{ℕ, ◌+◌, ◌-◌, List, [], ◌∷◌, ◌++◌, length, Bool, true, false, not, if◌then◌else◌, ◌&&◌, ◌||◌, ◌==◌, nat_lt, Some, None, take, take_while, filter, slice_get}

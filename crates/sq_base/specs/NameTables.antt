@@ -1,3 +1,4 @@
+-- In the statement: docs/STATEMENT.md lists which definitions.
 -- Tables of names: what stands beside each name.
 use Rattle.std.specs.Prelude.{ℕ, List, Bool, bytes_eq}
 use Rattle.std.specs.List.{list_any}

@@ -1,3 +1,4 @@
+-- In the statement: docs/STATEMENT.md lists which definitions.
 -- Ranges of addresses, as the acl types src and dst of Squid's configuration reference have them:
 -- one address, a block `ADDR/N` or `ADDR/MASK`, a span `ADDR-ADDR`, and `all`.
 use Rattle.std.specs.Prelude.{◌≡◌, ℕ, ◌+◌, ◌-◌, ◌*◌, ◌%◌, ◌^◌, List, Bool, false, not, if◌then◌else◌, ◌&&◌, ◌==◌, nat_le, Some, None, take, drop, codes, bytes_eq}

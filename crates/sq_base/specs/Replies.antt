@@ -1,3 +1,4 @@
+-- In the statement: docs/STATEMENT.md lists which definitions.
 -- Reply lines and question lines of helper programs: how each is read and written. Squid's helper
 -- protocol page, "Helper protocol", with its forms of key=value pairs and of quoted values.
 use Rattle.std.specs.Prelude.{ℕ, zero, suc, ◌+◌, ◌^◌, List, [], ◌∷◌, ◌++◌, length, Bool, true, false, not, if◌then◌else◌, ◌&&◌, ◌||◌, ◌==◌, nat_le, Some, None, drop, take, codes, bytes_eq, decimal}

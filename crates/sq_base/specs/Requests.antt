@@ -1,3 +1,4 @@
+-- In the statement: docs/STATEMENT.md lists which definitions.
 -- Requests as rules and helpers see them: a method and target, the target's parts, and the fields.
 use Rattle.std.specs.Prelude.{◌≡◌, ℕ, List, Bool, true, not, ◌==◌, Some}
 use Rattle.std.specs.List.{list_all}

@@ -1,3 +1,4 @@
+-- In the statement: docs/STATEMENT.md lists which definitions.
 -- Request targets: RFC 9112 section 3.2 (absolute-form and authority-form) over RFC 3986 section 3,
 -- without user information and fragments.
 use Rattle.std.specs.Prelude.{ℕ, ◌+◌, List, [], ◌∷◌, length, Bool, false, not, if◌then◌else◌, ◌&&◌, ◌||◌, ◌==◌, nat_lt, nat_le, nat_eq, Some, None, take, drop, position, codes, bytes_eq}

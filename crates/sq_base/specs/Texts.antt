@@ -1,3 +1,4 @@
+-- In the statement: docs/STATEMENT.md lists which definitions.
 -- Texts as lists of bytes.
 use Rattle.std.specs.Prelude.{ℕ, List, [], ◌∷◌, ◌++◌, ◌/◌, ◌%◌, ◌<◌, All, false, if◌then◌else◌, codes, flat_map}
 use Rattle.std.specs.Char.{is_ascii_graphic}

@@ -3,4 +3,5 @@ mod GrowthLaws
 mod LineLaws
 mod PassLaws
 pub mod PieceLaws
+mod SizeLaws
 mod TakeLaws

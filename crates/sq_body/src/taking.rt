@@ -39,12 +39,7 @@ fn push_framed(chunked: bool, text: &[u8], out: &mut Text) -> Result<(), WantOfM
 }
 
 // Behind a whole chunk line.
-fn begin_chunk(
-    alloc: Global,
-    chunked: bool,
-    size: u64,
-    out: &mut Text,
-) -> Result<BodyState, WantOfMemory>
+fn begin_chunk(chunked: bool, size: u64, out: &mut Text) -> Result<BodyState, WantOfMemory>
     ensures ok { IfOk result
         (λ p. (p ≡ (sized chunked size).place) × (out.new ≡ out.old ++ (sized chunked size).out)
         × (is_sound p ≡ true)) }
@@ -57,7 +52,7 @@ fn begin_chunk(
         return Ok(BodyState::Trailer(0, Mark::Begin));
     }
     if chunked {
-        push_size(alloc, size, out)?;
+        push_size(size, out)?;
     }
     Ok(BodyState::Data(size))
 }
@@ -77,7 +72,7 @@ fn take_fresh_line(
     let (piece, _) = rest.split_at(count);
     match read_line(piece) {
         LineRead::Whole(len, size) => {
-            let place = begin_chunk(alloc, chunked, size, out)?;
+            let place = begin_chunk(chunked, size, out)?;
             Ok((place, len))
         }
         LineRead::NotYet => {
@@ -116,7 +111,7 @@ fn take_line(
     text.append(piece)?;
     match read_line(text.as_bytes()) {
         LineRead::Whole(len, size) => {
-            let place = begin_chunk(alloc, chunked, size, out)?;
+            let place = begin_chunk(chunked, size, out)?;
             Ok((place, len - had))
         }
         LineRead::NotYet => {

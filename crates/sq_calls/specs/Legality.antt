@@ -1,3 +1,4 @@
+-- In the statement: docs/STATEMENT.md lists which definitions.
 -- Which histories are legal from a beginning on, and over which configurations.
 use Rattle.std.specs.Prelude.{◌≡◌, ℕ, ℤ, suc, List, ◌∷◌, length, Some, None, IfSome}
 use Rattle.std.specs.declared.option.Option.{Option}

@@ -1,9 +1,12 @@
 -- A check whose outcome was taken.
-use Rattle.std.specs.Prelude.{◌≡◌, ℕ, List, Bool, false, not, slice_get}
+use Rattle.std.specs.Prelude.{◌≡◌, ℕ, List, Bool, true, false, not, slice_get, ⊤}
 use Rattle.std.specs.Option.{option_map_or}
 use Rattle.std.specs.declared.option.Option.{Option}
 use Rattle.sq_base.specs.Addresses.{Address}
 use Rattle.sq_base.specs.declared.helpers.Answer.{Answer}
+use Rattle.sq_machine.specs.SeatPlaces.{has_tags}
+use Rattle.sq_machine.specs.declared.places.SeatPlace.{SeatPlace}
+use Rattle.sq_machine.specs.declared.places.SeatPlace.TheVariants.{Nowhere, ByAddress, ByTag}
 use Rattle.sq_rules.specs.Configurations.{Configuration}
 use Rattle.sq_rules.specs.Facts.{facts_of}
 use Rattle.sq_rules.specs.Verdicts.{is_passed_over, pool_of, verdict_over}
@@ -54,3 +57,14 @@ judged_of n o c = record {
 abbrev pub takes_client : List Pool → Address → ℕ → Bool
 takes_client pools a place = option_map_or (λ p. not (is_passed_over a p)) (slice_get pools place)
     false
+
+-- its pool, if it has one, has buckets by tags
+abbrev pub needs_tag : Judged → Bool
+needs_tag j = option_map_or (has_tags j.config.pools) j.pool false
+
+-- the pool of a place takes the client of the record, or has buckets by tags
+abbrev pub TakesClient : Judged → SeatPlace → Type 0
+TakesClient j Nowhere = ⊤
+TakesClient j (ByAddress pool) = (takes_client j.config.pools j.sight.addr pool ≡ true)
+    × (has_tags j.config.pools pool ≡ false)
+TakesClient j (ByTag pool tag) = has_tags j.config.pools pool ≡ true

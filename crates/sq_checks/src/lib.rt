@@ -4,8 +4,9 @@
 //! address. `OpenCheck` is a check from its request to its outcome: `come_to` goes on with its rules over its
 //! answers, from where it stopped, `note` and `finish` take what a step says, `serve` gives it the answer of the
 //! question that it waits for.
-//! `OpenChecks` holds them by number, and `Record` is what is left of one whose outcome was taken. A check
-//! that waits has its own copy of the key, so the end of its question is delivered without memory.
+//! `OpenChecks` holds them by number, and `Record` is what is left of one whose outcome was taken; `seat_place` says
+//! where that is seated. A check that waits has its own copy of the key, so the end of its question is delivered
+//! without memory.
 #![tactic(auto)]
 
 mod conns;
@@ -14,6 +15,7 @@ mod going;
 mod open_check;
 mod open_checks;
 mod records;
+mod seat_places;
 mod stages;
 mod tables;
 

@@ -1,3 +1,2 @@
 mod DayLaws
-mod GroupLaws
 mod NumberLaws

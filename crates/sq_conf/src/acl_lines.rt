@@ -30,7 +30,7 @@ fn leaf_line(
     place: Option<u32>,
     leaf: Leaf,
 ) -> Result<(), ReadFault>
-    requires target { IsTarget builder.old.acls name.now place }
+    requires target { IsTarget builder.old.dst_lookup builder.old.acls name.now place }
     requires patterns { are_patterns leaf ≡ true }
     requires plain { (builder.old.dst_lookup && is_dst (body.Leaf leaf)) ≡ false }
     ensures { Makes result builder.new (Ok (with_values name.now place builder.old leaf)) }
@@ -54,7 +54,7 @@ fn lookup_values(
     place: Option<u32>,
     words: &[Text],
 ) -> Result<(), ReadFault>
-    requires target { IsTarget builder.old.acls name.now place }
+    requires target { IsTarget builder.old.dst_lookup builder.old.acls name.now place }
     requires on { builder.old.dst_lookup ≡ true }
     ensures { Makes result builder.new (lookup_values name.now place builder.old words.now) }
 {
@@ -83,7 +83,7 @@ fn dst_values(
     place: Option<u32>,
     words: &[Text],
 ) -> Result<(), ReadFault>
-    requires target { IsTarget builder.old.acls name.now place }
+    requires target { IsTarget builder.old.dst_lookup builder.old.acls name.now place }
     ensures { Makes result builder.new (dst_values name.now place builder.old words.now) }
 {
     if builder.looks_up() {
@@ -116,7 +116,7 @@ fn external_line(
     place: Option<u32>,
     words: &[Text],
 ) -> Result<(), ReadFault>
-    requires target { IsTarget builder.old.acls name.now place }
+    requires target { IsTarget builder.old.dst_lookup builder.old.acls name.now place }
     ensures { Makes result builder.new (external_line name.now place builder.old words.now) }
 {
     if place.is_some() {
@@ -140,7 +140,7 @@ fn acl_values(
     kind: AclType,
     words: &[Text],
 ) -> Result<(), ReadFault>
-    requires target { IsTarget builder.old.acls name.now place }
+    requires target { IsTarget builder.old.dst_lookup builder.old.acls name.now place }
     requires kind { has_type builder.old.acls kind place ≡ true }
     ensures { Makes result builder.new (acl_values kind name.now place builder.old words.now) }
 {

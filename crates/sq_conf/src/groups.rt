@@ -81,7 +81,7 @@ pub fn any_of(
     place: Option<u32>,
     words: &[Text],
 ) -> Result<(), ReadFault>
-    requires target { IsTarget builder.old.acls name.now place }
+    requires target { IsTarget builder.old.dst_lookup builder.old.acls name.now place }
     requires kind { has_type builder.old.acls type.AnyOf place ≡ true }
     ensures { Makes result builder.new (any_of name.now place builder.old words.now) }
 {
@@ -105,7 +105,7 @@ pub fn all_of(
     place: Option<u32>,
     words: &[Text],
 ) -> Result<(), ReadFault>
-    requires target { IsTarget builder.old.acls name.now place }
+    requires target { IsTarget builder.old.dst_lookup builder.old.acls name.now place }
     requires kind { has_type builder.old.acls type.AllOf place ≡ true }
     ensures { Makes result builder.new (all_of name.now place builder.old words.now) }
 {

@@ -1,5 +1,6 @@
 //! Lines `request_header_access` and `reply_header_access`.
-ghost use Rattle.std.specs.Prelude.{◌≡◌};
+ghost use Rattle.std.specs.Prelude.{◌≡◌, bytes_eq, true, IfOk};
+ghost use Rattle.std.specs.Str.{str_to_ascii_lowercase};
 ghost use Rattle.sq_conf.specs.Forms.{Gives, Makes};
 ghost use Rattle.sq_rules.specs.HeaderLines.{header_line, header_name, is_field_name};
 
@@ -23,7 +24,8 @@ fn is_field_name(word: &[u8]) -> bool
 // The name of a field, in lower case.
 #[tactic(auto, unfolding(sq_rules::specs::HeaderLines::header_name))]
 fn header_name(alloc: Global, word: &[u8]) -> Result<Text, ReadFault>
-    ensures { Gives (λ t. t) result (header_name word.now) }
+    ensures read { Gives (λ t. t) result (header_name word.now) }
+    ensures lower { IfOk result (λ t. bytes_eq t (str_to_ascii_lowercase t) ≡ true) }
 {
     if !is_field_name(word) {
         return Err(ReadFault::Fault(Kind::BadValue));

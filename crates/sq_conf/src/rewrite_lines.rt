@@ -1,5 +1,5 @@
 //! Lines `url_rewrite_program` and `url_rewrite_children`.
-ghost use Rattle.std.specs.Prelude.{◌≡◌, IfOk, OnOk};
+ghost use Rattle.std.specs.Prelude.{◌≡◌, true, length, nat_lt, IfOk, OnOk};
 ghost use Rattle.sq_conf.specs.Forms.{Gives, Makes};
 ghost use Rattle.sq_rules.specs.RewriteLines.{children_line, children_words, program_line, program_words, with_children};
 
@@ -24,7 +24,8 @@ fn copied(alloc: Global, words: &[Text]) -> Result<Texts, WantOfMemory>
 
 // The helper and its arguments.
 fn program_words(alloc: Global, words: &[Text]) -> Result<Texts, ReadFault>
-    ensures { Gives (λ t. t) result (program_words words.now) }
+    ensures read { Gives (λ t. t) result (program_words words.now) }
+    ensures some { IfOk result (λ t. nat_lt 0 (length t) ≡ true) }
 {
     if words.is_empty() {
         return Err(ReadFault::Fault(Kind::MissingWord));

@@ -36,7 +36,8 @@ both_right true b e = e
 both_right false b e = absurd cc
 
 -- the answers that a dial leaves to spare
-spare_of : (access : HeaderAccess) (r : HttpRequest) (addr : Address) (p : BodyPlan) (rest : List ℕ) (more : List FrontAnswer) (reply : Reply)
+spare_of : (access : HeaderAccess) (r : HttpRequest) (addr : Address) (p : BodyPlan) (rest : List ℕ)
+    (more : List FrontAnswer) (reply : Reply)
     → (dialled access r addr p rest more reply).unasked ≡ more
 spare_of access r addr p rest more NoOrigin = refl
 spare_of access r addr p rest more (Came bytes seen reading broke) = by (is_connect r) refl
@@ -56,7 +57,8 @@ seated_completes : (r s : HttpRequest) (addr : Address) (p : BodyPlan) (rest : L
 seated_completes r s addr p rest j all more [] reply front same allow sent head served few none = HasNone refl
 seated_completes r s addr p rest j all more (OfSit k (Ok u) ∷ behind) reply front same allow sent head served few none =
     GetsReply j more front same allow (subst (λ x. is_served x ≡ true) sent served)
-    (ap (λ l. dialled (access_of j) s addr p rest l reply) (sym (spare_of (access_of j) s addr p rest behind reply) ∙ none)
+    (ap (λ l. dialled (access_of j) s addr p rest l reply)
+    (sym (spare_of (access_of j) s addr p rest behind reply) ∙ none)
     ∙ ap (λ x. dialled (access_of j) x addr p rest [] reply) sent)
 seated_completes r s addr p rest j all more (OfSit k (Err sit.Spent) ∷ behind) reply front same allow sent head served
     few none = absurd cc
@@ -66,7 +68,8 @@ seated_completes r s addr p rest j all more (OfDecide q d ∷ behind) reply fron
     absurd cc
 seated_completes r s addr p rest j all more (OfRewrite k said ∷ behind) reply front same allow sent head served few
     none = absurd cc
-seated_completes r s addr p rest j all more (OfOpen a port o ∷ behind) reply front same allow sent head served few none =
+seated_completes r s addr p rest j all more (OfOpen a port o ∷ behind) reply front same allow sent head served few none
+    =
     absurd cc
 seated_completes r s addr p rest j all more (OfClose c ∷ behind) reply front same allow sent head served few none =
     absurd cc
@@ -80,14 +83,17 @@ carried_completes : (r s : HttpRequest) (addr : Address) (p : BodyPlan) (rest : 
     → Completes r addr p rest all reply (carried (access_of j) s addr p rest answers reply)
 carried_completes r s addr p rest j all more answers reply front same allow sent head few none = by (is_served s) refl
   where
-    by : (t : Bool) → is_served s ≡ t → Completes r addr p rest all reply (carried (access_of j) s addr p rest answers reply)
+    by : (t : Bool) → is_served s ≡ t
+        → Completes r addr p rest all reply (carried (access_of j) s addr p rest answers reply)
     by true e =
-        let is : carried (access_of j) s addr p rest answers reply ≡ seated (access_of j) s addr p rest answers reply = rw e refl in
+        let is : carried (access_of j) s addr p rest answers reply
+        ≡ seated (access_of j) s addr p rest answers reply = rw e refl in
         subst (Completes r addr p rest all reply) (sym is)
         (seated_completes r s addr p rest j all more answers reply front same allow sent head e few
         (sym (ap ClientTurn.unasked is) ∙ none))
     by false e =
-        let is : carried (access_of j) s addr p rest answers reply ≡ says NotImplemented (is_head s) answers = rw e refl in
+        let is : carried (access_of j) s addr p rest answers reply
+        ≡ says NotImplemented (is_head s) answers = rw e refl in
         GetsUnserved j more front same allow (subst (λ x. is_served x ≡ false) sent e)
         (is ∙ ap (says NotImplemented (is_head s)) (sym (ap ClientTurn.unasked is) ∙ none)
         ∙ ap (λ x. says NotImplemented (is_head x) []) sent)
@@ -133,14 +139,17 @@ allowed_completes : (r : HttpRequest) (addr : Address) (p : BodyPlan) (rest : Li
     → Completes r addr p rest all reply (allowed (access_of j) r addr p rest more reply)
 allowed_completes r addr p rest j all more reply front same allow sits few none = by (is_connect r) refl
   where
-    by : (t : Bool) → is_connect r ≡ t → Completes r addr p rest all reply (allowed (access_of j) r addr p rest more reply)
+    by : (t : Bool) → is_connect r ≡ t
+        → Completes r addr p rest all reply (allowed (access_of j) r addr p rest more reply)
     by true e =
-        let is : allowed (access_of j) r addr p rest more reply ≡ carried (access_of j) r addr p rest more reply = rw e refl in
+        let is : allowed (access_of j) r addr p rest more reply
+        ≡ carried (access_of j) r addr p rest more reply = rw e refl in
         subst (Completes r addr p rest all reply) (sym is)
         (carried_completes r r addr p rest j all more more reply front same allow (rw e refl) refl few
         (sym (ap ClientTurn.unasked is) ∙ none))
     by false e =
-        let is : allowed (access_of j) r addr p rest more reply ≡ rewritten_on (access_of j) r addr p rest more reply = rw e refl in
+        let is : allowed (access_of j) r addr p rest more reply
+        ≡ rewritten_on (access_of j) r addr p rest more reply = rw e refl in
         subst (Completes r addr p rest all reply) (sym is)
         (rewritten_completes r addr p rest j all more reply front same allow e sits few
         (sym (ap ClientTurn.unasked is) ∙ none))
@@ -155,7 +164,8 @@ recorded_completes r addr p rest j all answers reply front same sits few none = 
   where
     by : (t : Bool) → j.outcome.allow ≡ t → Completes r addr p rest all reply (recorded r addr p rest j answers reply)
     by true e =
-        let is : recorded r addr p rest j answers reply ≡ allowed (access_of j) r addr p rest answers reply = rw e refl in
+        let is : recorded r addr p rest j answers reply
+        ≡ allowed (access_of j) r addr p rest answers reply = rw e refl in
         subst (Completes r addr p rest all reply) (sym is)
         (allowed_completes r addr p rest j all answers reply front same e sits few
         (sym (ap ClientTurn.unasked is) ∙ none))

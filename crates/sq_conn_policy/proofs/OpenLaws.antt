@@ -48,7 +48,12 @@ pub tells_unopened : (conn : ℕ) (addr : Address) (port : ℕ) (fault : HubFaul
 tells_unopened conn addr port fault o a b is p =
     subst (λ y. Tells (Opens conn addr port y) a b) (sym is)
     (tells_as (MakesOn IsFine (event.Open conn addr port) (Err fault)) (Opens conn addr port (opened_of fault)) a b
-    (λ v w by. record { opens = opens_fault conn addr port fault v w by.makes; rewriter = by.makes.rewriter; pools = by.makes.pools }) p)
+    (λ v w by. record {
+      opens = opens_fault conn addr port fault v w by.makes;
+      rewriter = by.makes.rewriter;
+      pools
+          = by.makes.pools;
+    }) p)
 
 closes_fault : (conn : ℕ) (fault : HubFault) (v w : HubState) → Makes IsFine (event.Close conn) (Err fault) v w
     → ClosesBy (event.Close conn) (Err (unclosed_of fault)) v w.machine
@@ -83,4 +88,9 @@ pub tells_unclosed : (conn : ℕ) (fault : HubFault) (c : CloseFault) (a b : Opt
 tells_unclosed conn fault c a b is p =
     subst (λ y. Tells (Closes conn (Err y)) a b) (sym is)
     (tells_as (MakesOn IsFine (event.Close conn) (Err fault)) (Closes conn (Err (unclosed_of fault))) a b
-    (λ v w by. record { closes = closes_fault conn fault v w by.makes; rewriter = by.makes.rewriter; pools = by.makes.pools }) p)
+    (λ v w by. record {
+      closes = closes_fault conn fault v w by.makes;
+      rewriter = by.makes.rewriter;
+      pools
+          = by.makes.pools;
+    }) p)

@@ -1,17 +1,17 @@
 -- What a call for a seat makes of what a hub tells.
 use Rattle.std.proofs.Common.{◌≡◌, inl, inr, ℕ, List, true, Option, Some, None, is_some, Result, Ok, Err, refl, ap, subst}
-use Rattle.sq_checks.specs.Records.{Judged}
+use Rattle.sq_checks.specs.Records.{Judged, needs_tag}
 use Rattle.sq_machine.specs.SeatPlaces.{pool_at, seat_place}
 use Rattle.sq_machine.specs.declared.places.SeatPlace.{SeatPlace}
 use Rattle.sq_machine.specs.declared.places.SeatPlace.TheVariants.{Nowhere, ByAddress, ByTag}
 use Rattle.sq_pools.specs.declared.pools.ChooseFault.{ChooseFault}
-use Rattle.sq_session.specs.Fronts.{needs_tag, takes_seat}
+use Rattle.sq_session.specs.Fronts.{takes_seat}
 use Rattle.sq_session.specs.declared.front.SitFault.{SitFault}
 use Rattle.sq_session.specs.declared.front.SitFault.TheVariants as sit
 use Rattle.sq_conn_policy.specs.Judging.{GrantsOn, Rises, Seats, SeatsAt, Sits, seat_of, unseated_of}
 use Rattle.sq_conn_policy.specs.Tellings.{Chooses, ChoosesTag, HubState, LeavesMachine, Tells}
-use Rattle.sq_conn_policy.specs.declared.seating.HeldSeat.{HeldSeat}
-use Rattle.sq_conn_policy.specs.declared.seating.HeldSeat.TheVariants as held
+use Rattle.sq_pools.specs.declared.held_seats.HeldSeat.{HeldSeat}
+use Rattle.sq_pools.specs.declared.held_seats.HeldSeat.TheVariants as held
 
 -- where nothing changes the machine stays
 same_rest : (v w : HubState) → w ≡ v → LeavesMachine v w

@@ -83,7 +83,8 @@ step_goes_on n now answer = grind arith
 
 -- a check that has not gone on
 pub goes_self : (n : ℕ) (v : HubState) → GoesOn n v v
-goes_self n v = record { adds = λ configs h st. ([], refl, st); kept = λ m b e. e; works = works_self v.rewriter; pools = refl }
+goes_self n v = record
+    { adds = λ configs h st. ([], refl, st); kept = λ m b e. e; works = works_self v.rewriter; pools = refl }
 
 -- a step more
 pub goes_step : (n : ℕ) (s : Stepped) (v w x : HubState) → GoesOn n v w → MakesOn IsStep (event.Step n) (Ok s) w x

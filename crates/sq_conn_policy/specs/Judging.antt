@@ -21,7 +21,7 @@ use Rattle.sq_machine.specs.declared.entries.Event.TheVariants as event
 use Rattle.sq_machine.specs.declared.entries.Told.TheVariants as told
 use Rattle.sq_machine.specs.declared.refusals.Refusal.{Refusal}
 use Rattle.sq_machine.specs.declared.refusals.Refusal.TheVariants as refusal
-use Rattle.sq_checks.specs.Records.{Judged}
+use Rattle.sq_checks.specs.Records.{Judged, needs_tag}
 use Rattle.sq_rewrite.specs.Calls.{Calls, Took}
 use Rattle.sq_rewrite.specs.States.{RewriteState, RunsOn, after_calls, ask_refusal, is_of_processes, take_refusal}
 use Rattle.sq_rewrite.specs.declared.faults.RewriteFault.{RewriteFault}
@@ -30,7 +30,6 @@ use Rattle.sq_rewrite.specs.declared.rewritings.Rewriting.{Rewriting}
 use Rattle.sq_rewrite.specs.declared.rewritings.Rewriting.TheVariants as rewriting
 use Rattle.sq_pools.specs.declared.pools.ChooseFault.{ChooseFault}
 use Rattle.sq_pools.specs.declared.pools.ChooseFault.TheVariants as choose
-use Rattle.sq_session.specs.Fronts.{needs_tag}
 use Rattle.sq_session.specs.declared.front.CloseFault.{CloseFault}
 use Rattle.sq_session.specs.declared.front.CloseFault.TheVariants as close
 use Rattle.sq_session.specs.declared.front.Decided.{Decided}
@@ -45,8 +44,8 @@ use Rattle.sq_model_state.specs.States.{IsSame, State}
 use Rattle.sq_conn_policy.specs.Tellings.{AreKept, Chooses, ChoosesTag, Grants, GrantsTag, HubState, IsNext, IsOfCheck, IsRefused, Leaves, LeavesTag, StandsAt, Works, asks_for, is_outside, machine_now, puts_for}
 use Rattle.sq_conn_policy.specs.declared.hub.HubFault.{HubFault}
 use Rattle.sq_conn_policy.specs.declared.hub.HubFault.TheVariants.{Refused, JournalFault, WantOfMemory}
-use Rattle.sq_conn_policy.specs.declared.seating.HeldSeat.{HeldSeat}
-use Rattle.sq_conn_policy.specs.declared.seating.HeldSeat.TheVariants as held
+use Rattle.sq_pools.specs.declared.held_seats.HeldSeat.{HeldSeat}
+use Rattle.sq_pools.specs.declared.held_seats.HeldSeat.TheVariants as held
 
 -- how a connection opens: as the machine answers the event
 abbrev pub OpensBy : Event → Opened → HubState → State → Type 0
@@ -223,13 +222,14 @@ TakesLast q (Err f) (Some s) new = (more : Calls) × (list_all is_of_processes m
     × (take_refusal q (after_calls more s) ≡ Some f)
 
 -- the same of what a hub tells; meanwhile only events came that no connection makes
-pub record TakesAtLast (q : ℕ) (result : Result Rewriting RewriteFault) (v w : HubState) : Type 0 where
-  pub adds : (configs : List Configuration) (h : History) → StandsAt configs h v.machine
-      → (more : History) × (list_all is_outside more ≡ true)
-      × StandsAt configs (more ++ h) w.machine
-  pub kept : AreKept v.begun w.begun
-  pub takes : TakesLast q result v.rewriter w.rewriter
-  pub pools : w.pools ≡ v.pools
+pub record TakesAtLast (q : ℕ) (result : Result Rewriting RewriteFault) (v w : HubState) : Type 0
+  where
+    pub adds : (configs : List Configuration) (h : History) → StandsAt configs h v.machine
+        → (more : History) × (list_all is_outside more ≡ true)
+        × StandsAt configs (more ++ h) w.machine
+    pub kept : AreKept v.begun w.begun
+    pub takes : TakesLast q result v.rewriter w.rewriter
+    pub pools : w.pools ≡ v.pools
 
 -- the calls of a question that was put for this record and taken: this was taken of it, after the
 -- rewriter's processes did their part

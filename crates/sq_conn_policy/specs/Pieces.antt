@@ -63,7 +63,8 @@ IsClosing conn (Err fault) entries = entries ≡ []
 abbrev pub IsRewritten : Judged → Rewritten → Calls → Type 0
 IsRewritten j rewritten.Same calls = (calls ≡ []) ⊎ IsRewriting j rewritten.Same calls
 IsRewritten j (rewritten.New new) calls = IsRewriting j (rewritten.New new) calls
-IsRewritten j (rewritten.Redirect code url) calls = IsRewriting j (rewritten.Redirect code url) calls
+IsRewritten j (rewritten.Redirect code url) calls = IsRewriting j (rewritten.Redirect code url)
+    calls
 IsRewritten j rewritten.WantOfMemory calls = calls ≡ []
 
 -- the entries and the calls are those of the answer

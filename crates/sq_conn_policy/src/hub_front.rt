@@ -8,12 +8,13 @@ ghost use Rattle.sq_conn_policy.specs.Tellings.{Tells};
 use crate::hub::{Hub, HubFault};
 use crate::judging::judge;
 use crate::rewriting::rewrite;
-use crate::seating::{HeldSeat, give_back, granted, take_seat};
+use crate::seating::{give_back, granted, take_seat};
 use sq_base::{Addr, ConnNo, Request};
 use sq_checks::Record;
 use sq_forward::Meter;
 use sq_machine::Refusal;
 use sq_outside::COUNT_LIMIT;
+use sq_pools::HeldSeat;
 use sq_session::{CloseFault, Counts, Decided, Front, Opened, Rewritten, SitFault};
 use std::alloc::Global;
 use std::sync::Wait;
@@ -94,6 +95,10 @@ impl<'a, R: Wait, H: Hub + Drop> Meter for HubFront<'a, R, H> {
     } };
 
     ghost capped = { λ f. H.granted_capped f.hub };
+
+    fn is_seated(&self) -> bool {
+        self.seat.is_some()
+    }
 
     fn grant(&mut self, wanted: u64) -> u64
         // It is the hub's grant on its seat, where it holds one.

@@ -8,16 +8,9 @@ ghost use Rattle.sq_conn_policy.specs.Tellings.{Tells};
 use crate::hub::Hub;
 use sq_checks::Record;
 use sq_machine::SeatPlace;
-use sq_pools::{ChooseFault, Seat, TagSeat};
-use sq_session::{SitFault, seat_place};
+use sq_pools::{ChooseFault, HeldSeat};
+use sq_session::SitFault;
 use std::alloc::Global;
-
-/// A seat that a front holds: in a pool with buckets by addresses, or in one with buckets by tags.
-#[derive(Drop, Debug)]
-pub(crate) enum HeldSeat {
-    ByAddress(Seat),
-    ByTag(TagSeat),
-}
 
 /// Takes the seat of a record, if it takes one. It takes memory for a tag where its pool has buckets by tags.
 pub(crate) fn take_seat<H: Hub>(
@@ -31,7 +24,7 @@ pub(crate) fn take_seat<H: Hub>(
     ensures refused_later { H.refused hub.old ≤ H.refused hub.new }
     ensures granted { H.granted hub.new ≡ H.granted hub.old }
 {
-    let Ok(place) = seat_place(alloc, judged) else {
+    let Ok(place) = judged.seat_place(alloc) else {
         return Err(SitFault::WantOfMemory);
     };
     let epoch = judged.epoch();

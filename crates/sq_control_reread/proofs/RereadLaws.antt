@@ -1,8 +1,6 @@
 -- A text that is read, and what it states.
-use Rattle.std.proofs.Common.{◌≡◌, ℕ, ◌<◌, List, length, Bool, true, false, if◌then◌else◌, nat_lt, Result, Ok, Err, Some, None, IfSome, refl, sym, ap, ◌∙◌, subst, arith}
+use Rattle.std.proofs.Common.{◌≡◌, ℕ, List, Result, Ok, Err, Some, None, IfSome, sym, ap, ◌∙◌, subst}
 use Rattle.std.specs.declared.option.Option.{Option}
-use Rattle.std.proofs.lemmas.Bool.Decides.{nat_tests}
-use Rattle.sq_base.specs.Lines.{lexed}
 use Rattle.sq_outside.specs.Input.{IsWhole, ReadsFile, ReadsOpening}
 use Rattle.sq_outside.specs.Told.{AddsText, Openings, Texts}
 use Rattle.sq_rules.specs.Configurations.{Configuration}
@@ -15,47 +13,14 @@ use Rattle.sq_machine.specs.Entries.{History}
 use Rattle.sq_machine.specs.declared.entries.Told.TheVariants as answer
 use Rattle.sq_rules.specs.declared.kinds.Kind.{Kind}
 use Rattle.sq_machine.specs.declared.refusals.Refusal.TheVariants as refusal
-use Rattle.sq_rules.specs.ConfText.{all_read, and_then, conf_gives, conf_refuses, conf_result, end_read, error_at, text_read}
-use Rattle.sq_rules.specs.Drafts.{Drafts, are_complete, finished}
+use Rattle.sq_rules.specs.ConfText.{conf_gives, conf_refuses}
 use Rattle.sq_rules.specs.Limits.{text_limit}
 use Rattle.sq_rules.specs.declared.kinds.ConfError.{ConfError}
 use Rattle.sq_rules.specs.declared.kinds.Kind.TheVariants as kind
+use Rattle.sq_drafts.proofs.TextLaws.{gives_source, too_long}
 use Rattle.sq_control_reread.specs.Rereading.{Adds, OfFile, States, answers}
 
--- a text past its limit
-pub too_long : (bytes : List ℕ) → text_limit < length bytes
-    → conf_result bytes ≡ Err (record { line = 0; kind = kind.TooMany })
-unfolding conf_result
-too_long bytes l = let long : nat_lt text_limit (length bytes) ≡ true = grind (arith, nat_tests) in rw long refl
-
--- a configuration that a text gives has it as its source
-pub gives_source : (text : List ℕ) (config : Configuration) → conf_gives text config → config.source ≡ text
-unfolding conf_result finished
-gives_source text config gives = by (nat_lt text_limit (length text)) gives
-  where
-    ended : (d : Drafts) (b : Bool) → (if b then Ok (finished text d) else error_at 0 kind.PoolIncomplete) ≡ Ok config
-        → config.source ≡ text
-    ended d true e = let same : finished text d ≡ config = cc in ap (λ (c : Configuration). c.source) (sym same)
-    ended d false e = absurd (cc)
-
-    read : (r : Result Drafts ConfError) → and_then r (end_read text) ≡ Ok config → config.source ≡ text
-    read (Ok d) e = ended d (are_complete d.pools) e
-    read (Err x) e = absurd (cc)
-
-    whole : (r : Result Drafts ConfError)
-        → and_then r (λ d. and_then (text_read d (lexed text).fault) (end_read text)) ≡ Ok config → config.source ≡ text
-    whole (Ok d) e = read (text_read d (lexed text).fault) e
-    whole (Err x) e = absurd (cc)
-
-    by : (b : Bool) →
-        (if b then error_at 0 kind.TooMany
-        else and_then (all_read (lexed text).lines) (λ d. and_then (text_read d (lexed text).fault) (end_read text)))
-        ≡ Ok config
-        → config.source ≡ text
-    by true e = absurd (cc)
-    by false e = whole (all_read (lexed text).lines) e
-
--- and it is the one that its source states
+-- a configuration that a text gives is the one that its source states
 pub is_stated : (text : List ℕ) (config : Configuration) → conf_gives text config → IsStated config
 is_stated text config gives = subst (λ t. conf_gives t config) (sym (gives_source text config gives)) gives
 

@@ -12,7 +12,7 @@ use Rattle.sq_machine.specs.declared.entries.Told.{Told}
 use Rattle.sq_machine.specs.declared.entries.Told.TheVariants as told
 use Rattle.sq_machine.specs.declared.refusals.Refusal.TheVariants as refusal
 use Rattle.sq_rules.specs.Configurations.{Configuration}
-use Rattle.sq_machine.specs.DueActs.{ClassId}
+use Rattle.sq_machine.specs.DueActs.{ClassId, Due, sends, starts, stops}
 use Rattle.sq_machine.specs.Entries.{History, entry_at}
 use Rattle.sq_machine.specs.Next.{Next}
 use Rattle.sq_channel.specs.declared.replies.Got.{Got}
@@ -24,7 +24,6 @@ use Rattle.sq_epochs.specs.declared.acts.Act.TheVariants as act
 use Rattle.sq_checks.specs.Records.{Judged}
 use Rattle.sq_model_state.specs.Answers.{ask_answer, asked_in, close_answer, died_answer, failed_answer, name_in, open_answer, started_answer, take_answer}
 use Rattle.sq_model_state.specs.Changes.{after_ask, after_close, after_failed_at, after_open, after_started_at, after_take}
-use Rattle.sq_model_state.specs.Acts.{Due, sends, starts, stops}
 use Rattle.sq_model_state.specs.Says.{class_in}
 use Rattle.sq_model_state.specs.States.{State}
 use Rattle.sq_engine.specs.Acting.{after_act, due_now, told_of_act}

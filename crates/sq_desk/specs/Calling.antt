@@ -17,12 +17,13 @@ use Rattle.sq_machine.specs.Next.{Next, gives, refuses}
 use Rattle.sq_machine.specs.Readings.{latest}
 use Rattle.sq_channel.specs.declared.replies.Got.{Got}
 use Rattle.sq_channel.specs.declared.replies.Got.TheVariants as got
+use Rattle.sq_epochs.specs.DueStates.{told_act}
 use Rattle.sq_epochs.specs.declared.acts.Act.{Act}
 use Rattle.sq_model_state.specs.Answers.{line_answer, reconfigure_answer}
 use Rattle.sq_model_state.specs.Changes.{after_end_at, after_reconfigured, first_state}
 use Rattle.sq_model_state.specs.Promises.{IsAnswered, StandsFor}
 use Rattle.sq_model_state.specs.States.{IsSame, State}
-use Rattle.sq_engine.specs.Acting.{act_told, after_act, due_now, told_of_act}
+use Rattle.sq_engine.specs.Acting.{after_act, due_now, told_of_act}
 use Rattle.sq_engine.specs.EngineViews.{EngineView, state_of}
 use Rattle.sq_engine.specs.Lines.{IsLineDone, got_told}
 use Rattle.sq_journal_writers.specs.Noting.{with_entry}
@@ -112,7 +113,7 @@ pub record HasIdled (v w : DeskView) : Type 0 where
 -- this act was due, it was made, and it is in the journal
 pub record HasActed (now : ℕ) (a : Act) (v w : DeskView) : Type 0 where
   pub going : v.notes.stopped ≡ false
-  pub act_is : option_map act_told (due_now v.engine) ≡ Some a
+  pub act_is : option_map told_act (due_now v.engine) ≡ Some a
   pub same : IsSame (state_of w.engine) (after_act (due_now v.engine) now (state_of v.engine))
   pub notes : w.notes ≡ record v.notes {
     history = with_entry (entry_at now event.Act (told_of_act (state_of v.engine) a))
@@ -122,7 +123,7 @@ pub record HasActed (now : ℕ) (a : Act) (v w : DeskView) : Type 0 where
 
 -- the answer that tells of the act that is due, if one is
 abbrev pub told_due : EngineView → Option Told
-told_due v = option_map (λ a. told_of_act (state_of v) a) (option_map act_told (due_now v))
+told_due v = option_map (λ a. told_of_act (state_of v) a) (option_map told_act (due_now v))
 
 -- a call for the next act
 abbrev pub Acts : ℕ → DeskView → Result (Option Act) DeskFault → DeskView → Type 0

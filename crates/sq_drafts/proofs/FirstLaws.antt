@@ -11,7 +11,7 @@ use Rattle.sq_rules.specs.Changes.{all_patterns}
 use Rattle.sq_rules.specs.Configurations.{are_known_bodies, have_own_names, place_from}
 use Rattle.sq_rules.specs.Limits.{acl_limit, most_acls}
 use Rattle.sq_rules.specs.Drafts.{first_acls, first_classes, with_first, with_firsts}
-use Rattle.sq_rules.specs.Lookups.{are_looked_up, asking_acl, begins_literal, classes_within, either_acl, is_dst, literal_name, looked_up, lookup_name, named_acl, named_name, stated, values_acl}
+use Rattle.sq_rules.specs.Lookups.{are_looked_up, asking_acl, begins_literal, classes_within, either_acl, is_dst, literal_name, looked_up, lookup_name, named_acl, named_name, stated_acls, values_acl}
 use Rattle.sq_rules.specs.declared.configs.Acl.{Acl}
 use Rattle.sq_rules.specs.declared.configs.Body.{Body}
 use Rattle.sq_rules.specs.declared.configs.Body.TheVariants as body
@@ -57,11 +57,11 @@ pub begun_classes : (lookup : Bool) → length (first_classes lookup) ≤ classe
 begun_classes true = omega arith
 begun_classes false = omega arith
 
-pub begun_stated : (lookup : Bool) → stated (first_acls lookup) ≤ acl_limit
+pub begun_stated : (lookup : Bool) → stated_acls lookup (first_acls lookup) ≤ acl_limit
 begun_stated true = omega arith
 begun_stated false = omega arith
 
-pub begun_acls : (lookup : Bool) → length (first_acls lookup) ≤ suc (4 * stated (first_acls lookup))
+pub begun_acls : (lookup : Bool) → length (first_acls lookup) ≤ suc (4 * stated_acls lookup (first_acls lookup))
 begun_acls true = omega arith
 begun_acls false = omega arith
 

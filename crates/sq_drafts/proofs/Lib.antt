@@ -1,5 +1,14 @@
+mod AclReadLaws
 mod FirstLaws
+mod FreeLaws
+pub mod GroupLaws
 mod KnownLaws
+mod LineReadLaws
 mod ListLaws
+mod LookedLaws
 mod SoundLaws
+pub mod StatedLaws
+mod StepLaws
 mod TakesLaws
+pub mod TextLaws
+mod WholeLaws

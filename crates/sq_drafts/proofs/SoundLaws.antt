@@ -6,23 +6,23 @@ use Rattle.std.proofs.lemmas.List.{length-append, length-replicate, length-set, 
 use Rattle.std.proofs.lemmas.List.Folds.{list_all-map}
 use Rattle.std.proofs.lemmas.Option.{get_or_from_slice_get}
 use Rattle.std.specs.List.{list_all}
-use Rattle.std.specs.Option.{option_map}
+use Rattle.std.specs.Option.{option_map, unwrap_or}
 use Rattle.sq_base.specs.declared.addresses.Range.{Range}
 use Rattle.sq_drafts.proofs.KnownLaws.{fast_longer, known_set, known_wider, leaf_known, leaf_patterns, line_known, line_patterns, member_known, member_patterns, rule_wider}
 use Rattle.sq_drafts.proofs.ListLaws.{all_at, all_from, all_from_both, all_set, by_either, first_true, found, second_true}
-use Rattle.sq_drafts.specs.Sound.{IsSound, has_room_for, is_pool_draft, stay_fast}
+use Rattle.sq_drafts.specs.Sound.{IsSound, has_room_for, has_words, is_children, is_pool_draft, stay_fast}
 use Rattle.sq_rules.proofs.AclLaws.{known_longer}
 use Rattle.sq_rules.proofs.ListLaws.{all_push}
-use Rattle.sq_rules.proofs.LookupLaws.{line_all, line_asking, line_dst, literal_blank, looked_class, looked_group, looked_leaf, looked_more, looked_push, lookup_blank, member_all, member_asking, member_dst, named_blank, unmade_push, unmade_set}
+use Rattle.sq_rules.proofs.LookupLaws.{line_all, line_asking, line_dst, literal_blank, looked_class, looked_group, looked_leaf, looked_more, looked_push, lookup_blank, member_all, member_asking, member_dst, named_blank, stated_alike, unmade_push, unmade_set}
 use Rattle.sq_rules.proofs.MemberLaws.{leaf_slow, line_slow}
 use Rattle.sq_rules.proofs.PredefinedTexts.{cache_objects, managers}
 use Rattle.sq_rules.proofs.TableLaws.{changed_at, slow_length, slow_same}
 use Rattle.sq_rules.specs.Changes.{AreSlowOnes, all_patterns, has_patterns, with_member_at}
 use Rattle.sq_rules.specs.Classes.{Class}
-use Rattle.sq_rules.specs.Configurations.{are_known_bodies, has_buckets, is_fast_rule, is_header, is_known_body, is_known_rule, is_pool, is_pool_class, is_slow, pairs_of, slow_ones, some_slow}
-use Rattle.sq_rules.specs.Drafts.{Drafts, PoolDraft, are_complete, are_fast, are_fast_where, are_patterns, change_body, is_complete, is_fast, no_pool, or_none, or_zero, pool_at, pool_of_draft, predefined_ones, with_leaf, with_line, with_member, with_pool}
+use Rattle.sq_rules.specs.Configurations.{are_known_bodies, has_buckets, is_fast_rule, is_header, is_known_body, is_known_rule, is_lower, is_pool, is_pool_class, is_rewriter, is_rewriter_class, is_slow, pairs_of, slow_ones, some_slow}
+use Rattle.sq_rules.specs.Drafts.{Drafts, PoolDraft, are_complete, are_fast, are_fast_where, are_patterns, change_body, is_complete, is_fast, no_pool, pool_at, pool_of_draft, predefined_ones, rewriter_of, with_leaf, with_line, with_member, with_pool}
 use Rattle.sq_rules.specs.Limits.{acl_limit, header_limit, pool_limit}
-use Rattle.sq_rules.specs.Lookups.{are_looked_up, asking_acl, begins_lookup, classes_within, either_acl, has_blank, is_dst, looked_up, named_acl, stated, takes_members, values_acl}
+use Rattle.sq_rules.specs.Lookups.{are_looked_up, asking_acl, begins_lookup, classes_within, either_acl, has_blank, is_dst, looked_up, named_acl, stated_acls, takes_members, unmade_acls, values_acl}
 use Rattle.sq_rules.specs.Rates.{Limit}
 use Rattle.sq_rules.specs.declared.configs.Acl.{Acl}
 use Rattle.sq_rules.specs.declared.configs.Body.{Body}
@@ -53,26 +53,31 @@ header_over count slow h = is_known_rule count h.rule && not (some_slow slow h.r
 
 -- acls of which as many stand, with the same names, and the same are slow
 pub IsSound_alike : (d : Drafts) (acls : List Acl) → IsSound d → length acls ≡ length d.acls
-    → stated acls ≡ stated d.acls → slow_ones acls ≡ slow_ones d.acls
+    → unmade_acls acls ≡ unmade_acls d.acls → slow_ones acls ≡ slow_ones d.acls
     → are_known_bodies (length d.classes) 0 acls ≡ true →
     all_patterns acls ≡ true → are_looked_up d.dst_lookup d.classes acls ≡ true → IsSound (record d { acls = acls })
-IsSound_alike d acls sound long named slow known patterns looked = record {
-  members = known;
-  patterns = patterns;
-  places = rw long sound.places;
-  pools_are = ap (λ n. list_all (pool_over n (slow_ones acls)) d.pools) long
-      ∙ ap (λ s. list_all (pool_over (length d.acls) s) d.pools) slow ∙ sound.pools_are;
-  headers_are = ap (λ n. list_all (header_over n (slow_ones acls)) d.headers) long
-      ∙ ap (λ s. list_all (header_over (length d.acls) s) d.headers) slow ∙ sound.headers_are;
-  lookups_are = looked;
-  few_classes = sound.few_classes;
-  few_acls = omega (arith, sound.few_acls, named);
-  all_acls = omega (arith, sound.all_acls, long, named);
-  few_rules = sound.few_rules;
-  few_pools = sound.few_pools;
-  few_headers = sound.few_headers;
-  initial_is = sound.initial_is;
-}
+IsSound_alike d acls sound long unmade slow known patterns looked =
+    let named : stated_acls d.dst_lookup acls ≡ stated_acls d.dst_lookup d.acls =
+    stated_alike d.dst_lookup (λ (a : Acl). a.name) (λ (a : Acl). a.name) acls d.acls unmade long in record {
+      members = known;
+      patterns = patterns;
+      places = rw long sound.places;
+      pools_are = ap (λ n. list_all (pool_over n (slow_ones acls)) d.pools) long
+          ∙ ap (λ s. list_all (pool_over (length d.acls) s) d.pools) slow ∙ sound.pools_are;
+      headers_are = ap (λ n. list_all (header_over n (slow_ones acls)) d.headers) long
+          ∙ ap (λ s. list_all (header_over (length d.acls) s) d.headers) slow ∙ sound.headers_are;
+      lookups_are = looked;
+      few_classes = sound.few_classes;
+      few_acls = omega (arith, sound.few_acls, named);
+      all_acls = omega (arith, sound.all_acls, long, named);
+      few_rules = sound.few_rules;
+      few_pools = sound.few_pools;
+      few_headers = sound.few_headers;
+      lower_headers = sound.lower_headers;
+      program_is = sound.program_is;
+      children_are = sound.children_are;
+      initial_is = sound.initial_is;
+    }
 
 -- one acl put in
 pub members_set : (d : Drafts) (p : ℕ) (x y : Acl) → IsSound d → slice_get d.acls p ≡ Some x
@@ -152,16 +157,22 @@ plus_none : (n : ℕ) → n + 0 ≡ n
 plus_none n = omega arith
 
 -- one acl more of a name without a blank
-counted_one : (acls : List Acl) (a : Acl) → has_blank a.name ≡ false → stated (acls ++ a ∷ []) ≡ suc (stated acls)
-counted_one acls a word = unmade_push (λ (z : Acl). z.name) acls a ∙ ap (λ b. stated acls + (if b then 0 else 1)) word
-    ∙ plus_one (stated acls)
+unmade_one : (acls : List Acl) (a : Acl) → has_blank a.name ≡ false
+    → unmade_acls (acls ++ a ∷ []) ≡ suc (unmade_acls acls)
+unmade_one acls a word = unmade_push (λ (z : Acl). z.name) acls a
+    ∙ ap (λ b. unmade_acls acls + (if b then 0 else 1)) word ∙ plus_one (unmade_acls acls)
 
-counted_none : (acls : List Acl) (a : Acl) → has_blank a.name ≡ true → stated (acls ++ a ∷ []) ≡ stated acls
-counted_none acls a made = unmade_push (λ (z : Acl). z.name) acls a ∙ ap (λ b. stated acls + (if b then 0 else 1)) made
-    ∙ plus_none (stated acls)
+unmade_none : (acls : List Acl) (a : Acl) → has_blank a.name ≡ true → unmade_acls (acls ++ a ∷ []) ≡ unmade_acls acls
+unmade_none acls a made = unmade_push (λ (z : Acl). z.name) acls a
+    ∙ ap (λ b. unmade_acls acls + (if b then 0 else 1)) made ∙ plus_none (unmade_acls acls)
+
+counted_one : (lookup : Bool) (acls : List Acl) (a : Acl) → has_blank a.name ≡ false
+    → stated_acls lookup (acls ++ a ∷ []) ≡ suc (stated_acls lookup acls)
+counted_one true acls a word = unmade_one acls a word
+counted_one false acls a word = length_push acls a ∙ plus_one (length acls)
 
 -- one acl more
-pub IsSound_push : (d : Drafts) (a : Acl) → IsSound d → nat_lt (stated d.acls) acl_limit ≡ true
+pub IsSound_push : (d : Drafts) (a : Acl) → IsSound d → nat_lt (stated_acls d.dst_lookup d.acls) acl_limit ≡ true
     → has_blank a.name ≡ false → (d.dst_lookup && is_dst a.body) ≡ false
     → is_known_body (length d.classes) (length d.acls) a.body ≡ true → has_patterns a.body ≡ true
     → IsSound (record d { acls = d.acls ++ a ∷ [] })
@@ -173,11 +184,14 @@ IsSound_push d a sound room word plain known good = record {
   headers_are = headers_longer d.acls a d.headers sound.headers_are;
   lookups_are = looked_push d.dst_lookup d.classes d.acls a sound.lookups_are plain;
   few_classes = sound.few_classes;
-  few_acls = grind (arith, nat_tests, room, counted_one d.acls a word);
-  all_acls = omega (arith, sound.all_acls, counted_one d.acls a word, length_push d.acls a);
+  few_acls = grind (arith, nat_tests, room, counted_one d.dst_lookup d.acls a word);
+  all_acls = omega (arith, sound.all_acls, counted_one d.dst_lookup d.acls a word, length_push d.acls a);
   few_rules = sound.few_rules;
   few_pools = sound.few_pools;
   few_headers = sound.few_headers;
+  lower_headers = sound.lower_headers;
+  program_is = sound.program_is;
+  children_are = sound.children_are;
   initial_is = sound.initial_is;
 }
 
@@ -186,7 +200,7 @@ pub no_leaf : (lookup : Bool) → (lookup && false) ≡ false
 no_leaf true = refl
 no_leaf false = refl
 
-four_behind : {A : Type 0} (xs : List A) (a b c e : A)
+pub four_behind : {A : Type 0} (xs : List A) (a b c e : A)
     → (((xs ++ a ∷ []) ++ b ∷ []) ++ c ∷ []) ++ e ∷ [] ≡ xs ++ a ∷ b ∷ c ∷ e ∷ []
 four_behind [] a b c e = refl
 four_behind (x ∷ xs) a b c e = ap (λ l. x ∷ l) (four_behind xs a b c e)
@@ -232,17 +246,23 @@ members_more classes acls name values looks known =
     subst (λ l. are_known_bodies n 0 l ≡ true) (four_behind acls a b c e)
     (known_longer n 0 (k + 3) (((acls ++ a ∷ []) ++ b ∷ []) ++ c ∷ []) e s3 (omega (arith, l3)) either)
 
-stated_more : (acls : List Acl) (k : ℕ) (name : List ℕ) (values : List Range) → has_blank name ≡ false
-    → stated (acls ++ looked_up k name values) ≡ suc (stated acls)
-stated_more acls k name values word =
+unmade_more : (acls : List Acl) (k : ℕ) (name : List ℕ) (values : List Range) → has_blank name ≡ false
+    → unmade_acls (acls ++ looked_up k name values) ≡ suc (unmade_acls acls)
+unmade_more acls k name values word =
     let a = values_acl name values in
     let b = asking_acl name in
     let c = named_acl k name in
     let e = either_acl k name in
-    ap stated (sym (four_behind acls a b c e))
-    ∙ counted_one (((acls ++ a ∷ []) ++ b ∷ []) ++ c ∷ []) e word
-    ∙ ap suc (counted_none ((acls ++ a ∷ []) ++ b ∷ []) c (named_blank name)
-    ∙ counted_none (acls ++ a ∷ []) b (lookup_blank name) ∙ counted_none acls a (literal_blank name))
+    ap unmade_acls (sym (four_behind acls a b c e))
+    ∙ unmade_one (((acls ++ a ∷ []) ++ b ∷ []) ++ c ∷ []) e word
+    ∙ ap suc (unmade_none ((acls ++ a ∷ []) ++ b ∷ []) c (named_blank name)
+    ∙ unmade_none (acls ++ a ∷ []) b (lookup_blank name) ∙ unmade_none acls a (literal_blank name))
+
+counted_more : (lookup : Bool) (acls : List Acl) (k : ℕ) (name : List ℕ) (values : List Range) → lookup ≡ true
+    → has_blank name ≡ false
+    → stated_acls lookup (acls ++ looked_up k name values) ≡ suc (stated_acls lookup acls)
+counted_more true acls k name values on word = unmade_more acls k name values word
+counted_more false acls k name values on word = cc
 
 length_more : (acls : List Acl) (k : ℕ) (name : List ℕ) (values : List Range)
     → length (acls ++ looked_up k name values) ≡ length acls + 4
@@ -254,7 +274,7 @@ looks_there classes acls is = first_true (begins_lookup classes) _ is
 
 -- the four acls of one of type dst more
 pub IsSound_more : (d : Drafts) (name : List ℕ) (values : List Range) → IsSound d → d.dst_lookup ≡ true
-    → nat_lt (stated d.acls) acl_limit ≡ true → has_blank name ≡ false
+    → nat_lt (stated_acls d.dst_lookup d.acls) acl_limit ≡ true → has_blank name ≡ false
     → IsSound (record d { acls = d.acls ++ looked_up (length d.acls) name values })
 IsSound_more d name values sound on room word =
     let k = length d.acls in
@@ -264,8 +284,8 @@ IsSound_more d name values sound on room word =
     let e = either_acl k name in
     let looks : begins_lookup d.classes ≡ true =
     looks_there d.classes d.acls (subst (λ z. are_looked_up z d.classes d.acls ≡ true) on sound.lookups_are) in
-    let count : stated (d.acls ++ looked_up k name values) ≡ suc (stated d.acls) =
-    stated_more d.acls k name values word in
+    let count : stated_acls d.dst_lookup (d.acls ++ looked_up k name values) ≡ suc (stated_acls d.dst_lookup d.acls) =
+    counted_more d.dst_lookup d.acls k name values on word in
     let long : length (d.acls ++ looked_up k name values) ≡ k + 4 = length_more d.acls k name values in
     record {
       members = members_more d.classes d.acls name values looks sound.members;
@@ -287,6 +307,9 @@ IsSound_more d name values sound on room word =
       few_rules = sound.few_rules;
       few_pools = sound.few_pools;
       few_headers = sound.few_headers;
+      lower_headers = sound.lower_headers;
+      program_is = sound.program_is;
+      children_are = sound.children_are;
       initial_is = sound.initial_is;
     }
 
@@ -313,13 +336,16 @@ IsSound_class d c sound room = record {
   few_rules = sound.few_rules;
   few_pools = sound.few_pools;
   few_headers = sound.few_headers;
+  lower_headers = sound.lower_headers;
+  program_is = sound.program_is;
+  children_are = sound.children_are;
   initial_is = sound.initial_is;
 }
 
 -- one rule for fields more
 pub IsSound_header : (d : Drafts) (h : HeaderRule) → IsSound d → nat_lt (length d.headers) header_limit ≡ true
-    → is_header d.acls h ≡ true → IsSound (record d { headers = d.headers ++ h ∷ [] })
-IsSound_header d h sound room good = record {
+    → is_header d.acls h ≡ true → is_lower h ≡ true → IsSound (record d { headers = d.headers ++ h ∷ [] })
+IsSound_header d h sound room good lower = record {
   members = sound.members;
   patterns = sound.patterns;
   places = sound.places;
@@ -332,6 +358,9 @@ IsSound_header d h sound room good = record {
   few_rules = sound.few_rules;
   few_pools = sound.few_pools;
   few_headers = grind (arith, nat_tests, room, length_push d.headers h);
+  lower_headers = all_push is_lower d.headers h sound.lower_headers lower;
+  program_is = sound.program_is;
+  children_are = sound.children_are;
   initial_is = sound.initial_is;
 }
 
@@ -357,6 +386,9 @@ IsSound_pool d p y sound good = record {
   few_rules = sound.few_rules;
   few_pools = omega (arith, sound.few_pools, length-set d.pools p y);
   few_headers = sound.few_headers;
+  lower_headers = sound.lower_headers;
+  program_is = sound.program_is;
+  children_are = sound.children_are;
   initial_is = sound.initial_is;
 }
 
@@ -380,6 +412,9 @@ IsSound_count d counted n pools sound made few = record {
   few_rules = sound.few_rules;
   few_pools = omega (arith, ap length made, length-replicate n no_pool, few);
   few_headers = sound.few_headers;
+  lower_headers = sound.lower_headers;
+  program_is = sound.program_is;
+  children_are = sound.children_are;
   initial_is = sound.initial_is;
 }
 
@@ -414,8 +449,11 @@ IsSound_member d p t sound within earlier takes fast =
     let y : Acl = record x { body = with_member t x.body } in
     let now : set d.acls p y ≡ with_member_at p t d.acls = sym (changed_at d.acls p x (with_member t) is) in
     let long : length (with_member_at p t d.acls) ≡ length d.acls = ap length (sym now) ∙ length-set d.acls p y in
-    let named : stated (with_member_at p t d.acls) ≡ stated d.acls = ap stated (sym now)
+    let unmade : unmade_acls (with_member_at p t d.acls) ≡ unmade_acls d.acls = ap unmade_acls (sym now)
     ∙ unmade_set (λ (a : Acl). a.name) d.acls p x y is refl in
+    let named : stated_acls d.dst_lookup (with_member_at p t d.acls) ≡ stated_acls d.dst_lookup d.acls =
+    stated_alike d.dst_lookup (λ (a : Acl). a.name) (λ (a : Acl). a.name) (with_member_at p t d.acls) d.acls unmade
+    long in
     let slow = slow_ones (with_member_at p t d.acls) in
     let pools_fast : list_all (λ q. list_all (is_fast slow) q.lists) d.pools ≡ true =
     first_true _ (list_all (λ h. is_fast slow h.rule) d.headers) fast in
@@ -442,6 +480,9 @@ IsSound_member d p t sound within earlier takes fast =
       few_rules = sound.few_rules;
       few_pools = sound.few_pools;
       few_headers = sound.few_headers;
+      lower_headers = sound.lower_headers;
+      program_is = sound.program_is;
+      children_are = sound.children_are;
       initial_is = sound.initial_is;
     }
 
@@ -472,7 +513,7 @@ member_fast d p t None sound same =
 member_fast d p t (Some slow) sound same = ap (λ s. are_fast_where s d.pools d.headers) (sym same)
 
 buckets : (class : Option ℕ) (pairs : Option (List (Option Limit))) → has_room_for class pairs ≡ true
-    → (is_some class && is_some pairs) ≡ true → has_buckets (or_zero class) (length (or_none pairs)) ≡ true
+    → (is_some class && is_some pairs) ≡ true → has_buckets (unwrap_or class 0) (length (unwrap_or pairs [])) ≡ true
 buckets None pairs room full = cc
 buckets (Some class) None room full = cc
 buckets (Some class) (Some pairs) room full = room
@@ -480,7 +521,7 @@ buckets (Some class) (Some pairs) room full = room
 pool_finished : (acls : List Acl) (p : PoolDraft) → is_pool_draft acls p ≡ true → is_complete p ≡ true
     → is_pool acls (pool_of_draft p) ≡ true
 pool_finished acls p good full =
-    and_from (has_buckets (or_zero p.class) (length (or_none p.pairs))) (list_all (is_fast_rule acls) p.lists)
+    and_from (has_buckets (unwrap_or p.class 0) (length (unwrap_or p.pairs []))) (list_all (is_fast_rule acls) p.lists)
     (buckets p.class p.pairs (first_true (has_room_for p.class p.pairs) (list_all (is_fast_rule acls) p.lists) good)
     full)
     (second_true (has_room_for p.class p.pairs) (list_all (is_fast_rule acls) p.lists) good)
@@ -492,6 +533,13 @@ pools_finished acls pools good full =
     list_all-map (is_pool acls) pool_of_draft pools
     ∙ all_from_both (is_pool_draft acls) is_complete (λ p. is_pool acls (pool_of_draft p)) pools (pool_finished acls)
     good full
+
+-- the class of a program that rewrites has its name
+pub rewriter_finished : (program : Option (List (List ℕ))) (children : Option Class) → has_words program ≡ true
+    → is_children children ≡ true → is_rewriter (rewriter_of program children) ≡ true
+rewriter_finished None children words named = refl
+rewriter_finished (Some w) None words named = words
+rewriter_finished (Some w) (Some c) words named = and_from (is_rewriter_class c) (nat_lt 0 (length w)) named words
 
 unset : (class : Option ℕ) (pairs : Option (List (Option Limit))) (n : ℕ) → has_room_for class pairs ≡ true
     → class ≡ None → is_pool_class n ≡ true → has_room_for (Some n) pairs ≡ true

@@ -1,1 +1,2 @@
+pub mod MadeNames
 pub mod Sound

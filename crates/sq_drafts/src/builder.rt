@@ -1,9 +1,10 @@
 //! `Builder`: what the lines of a configuration so far state.
 ghost use Rattle.std.specs.Prelude.{◌≡◌, ◌≤◌, ◌+◌, ◌++◌, ◌∷◌, [], true, false, is_some, length, nat_le, Some, None, IfOk, IfErr, OnOk, OnErr};
+ghost use Rattle.std.specs.Option.{unwrap_or};
 ghost use Rattle.sq_rules.specs.Building.{place_of};
 ghost use Rattle.sq_rules.specs.Changes.{all_patterns};
 ghost use Rattle.sq_rules.specs.Configurations.{nesting_of, nestings};
-ghost use Rattle.sq_rules.specs.Drafts.{are_complete, begun, class_or_default, finished, first_acls, first_classes, leaf_of, predefined_ones, rewriter_class, rewriter_of, with_first, with_firsts};
+ghost use Rattle.sq_rules.specs.Drafts.{are_complete, begun, finished, first_acls, first_classes, leaf_of, predefined_ones, rewriter_class, rewriter_of, with_first, with_firsts};
 ghost use Rattle.sq_rules.specs.Limits.{initial_limit, most_acls, nesting_limit, text_limit};
 ghost use Rattle.sq_rules.specs.Lookups.{begins_literal, is_dst, literal_acl, literal_name, lookup_name, named_name};
 
@@ -118,14 +119,12 @@ fn with_first(
     requires named { is_dst body ≡ true → place_of acls (named_name name) ≡ None }
     ensures { IfOk result (λ t. t ≡ with_first body name acls) }
 {
+    let mut acls = acls;
     match body {
-        Body::Leaf(Leaf::Dst(values)) => acls.with_lookup(alloc, name, values),
-        body => {
-            let mut acls = acls;
-            acls.push(alloc, name, body)?;
-            Ok(acls)
-        }
+        Body::Leaf(Leaf::Dst(values)) => acls.push_lookup(alloc, name, values)?,
+        body => acls.push(alloc, name, body)?,
     }
+    Ok(acls)
 }
 
 // `dst literal` alone.
@@ -191,7 +190,7 @@ fn rewriter_class(alloc: Global) -> Result<Class, WantOfMemory>
 }
 
 fn class_or_default(alloc: Global, children: Option<Class>) -> Result<Class, WantOfMemory>
-    ensures { IfOk result (λ c. c ≡ class_or_default children) }
+    ensures { IfOk result (λ c. c ≡ unwrap_or children rewriter_class) }
 {
     match children {
         Some(class) => Ok(class),
@@ -238,24 +237,6 @@ impl Builder {
             headers: Listed::new(alloc),
             notices: Listed::new(alloc),
         })
-    }
-
-    // Nothing at all. It takes no memory.
-    fn nothing(alloc: Global) -> Builder {
-        Builder {
-            dst_lookup: false,
-            classes: ClassTable::new(alloc),
-            acls: AclTable::new(alloc),
-            rules: Listed::new(alloc),
-            counted: false,
-            pools: Vec::new(alloc),
-            initial: 0,
-            port: None,
-            program: None,
-            children: None,
-            headers: Listed::new(alloc),
-            notices: Listed::new(alloc),
-        }
     }
 
     /// Sets the percentage of its limit at which a bucket opens.

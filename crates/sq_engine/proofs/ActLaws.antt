@@ -5,7 +5,7 @@ use Rattle.std.specs.List.{flat_map, slice_get}
 use Rattle.std.specs.Prelude.{slice_set}
 use Rattle.std.specs.Option.{option_and_then, option_map, option_map_or, option_or}
 use Rattle.sq_machine.specs.declared.entries.Event.TheVariants as event
-use Rattle.sq_machine.specs.DueActs.{ClassId, first_made, first_of}
+use Rattle.sq_machine.specs.DueActs.{ClassId, Due, first_made, first_of, sends, starts, stops}
 use Rattle.sq_machine.specs.Farms.{Sending, Stock, Waiting, after_send, after_send_by, after_start, send_of, start_due}
 use Rattle.sq_machine.specs.Living.{some_free}
 use Rattle.sq_machine.specs.Numbered.{below, picks}
@@ -14,34 +14,22 @@ use Rattle.sq_model_rows.specs.ClassRows.{ClassRow, after_sending, after_startin
 use Rattle.sq_model_laws.proofs.RowLaws.{picks_same}
 use Rattle.sq_class.specs.Parts.{PartState}
 use Rattle.sq_epochs.specs.DueStates as dues
-use Rattle.sq_epochs.specs.DueStates.{act_at, after_due, change_at, change_class, change_part, due_of, live_places, send_by, sent_part, start_by, started_part}
+use Rattle.sq_epochs.specs.DueStates.{act_at, after_due, change_at, change_class, change_part, due_of, live_places, send_by, sent_part, start_by, started_part, told_act, told_due}
 use Rattle.sq_epochs.specs.EpochProcs.{AreWhole}
 use Rattle.sq_epochs.specs.EpochStates.{EpochState, EpochsState, IsChanged, change_epoch, epoch_at, epoch_in, epoch_number, part_at, part_of, with_part}
 use Rattle.sq_epochs.specs.declared.acts.Act.{Act}
 use Rattle.sq_epochs.proofs.DueLaws.{found_self, made_same}
 use Rattle.sq_epochs.proofs.NumberLaws.{live_numbers, rising_picked}
 use Rattle.sq_epochs.proofs.ReadLaws.{config_acted, row_acted, stop_told}
-use Rattle.sq_model_state.specs.Acts.{Due, due_in, live_places_in, places_in, send_in, sends, start_in, starts, stops}
+use Rattle.sq_model_state.specs.Acts.{due_in, live_places_in, places_in, send_in, start_in}
 use Rattle.sq_model_state.specs.States.{IsSame, State, live}
 use Rattle.sq_model_state.specs.Changes.{at, change_row}
 use Rattle.sq_model_state.proofs.ActPromises.{none_due, send_answered, start_answered, stop_answered}
 use Rattle.sq_model_state.proofs.PromiseLaws.{answered_same}
-use Rattle.sq_engine.specs.Acting.{IsActPromised, act_told, after_act, as_due, due_now}
+use Rattle.sq_engine.specs.Acting.{IsActPromised, after_act, due_now}
 use Rattle.sq_engine.specs.Engines.{IsEngine}
 use Rattle.sq_engine.specs.EngineViews.{EngineView, config_in, state_of, stop_at}
 use Rattle.sq_engine.proofs.QuietLaws.{IsQuiet, quiet_engine}
-
--- the first that is made, mapped
-mapped_or : {A B : Type 0} (f : A → B) (o p : Option A)
-    → option_map f (option_or o p) ≡ option_or (option_map f o) (option_map f p)
-mapped_or f None p = refl
-mapped_or f (Some x) p = refl
-
-mapped_made : {A B C : Type 0} (f : B → C) (g : A → Option B) (xs : List A)
-    → option_map f (first_made g xs) ≡ first_made (λ x. option_map f (g x)) xs
-mapped_made f g [] = refl
-mapped_made f g (x ∷ xs) = mapped_or f (g x) (first_made g xs)
-    ∙ ap (option_or (option_map f (g x))) (mapped_made f g xs)
 
 -- what is made was made of one of them
 made_by : {A B : Type 0} (f : A → Option B) (xs : List A) (b : B) → first_made f xs ≡ Some b → (x : A) × (f x ≡ Some b)
@@ -81,69 +69,49 @@ places_read v i w =
         (below (option_map_or (λ config. length config.classes) (config_in o) 0))) (sym is)
 
 -- what each class is to do is what the state says
-send_read : (v : EngineView) (p : ClassId) → option_map as_due (act_at send_by v.epochs p) ≡ send_in (state_of v) p
+send_read : (v : EngineView) (p : ClassId) → act_at send_by v.epochs p ≡ send_in (state_of v) p
 send_read v p = by (part_at v.epochs p.epoch p.class)
   where
-    inside : (o : Option Sending) → option_map as_due (option_map (dues.sends p) o) ≡ option_map (sends p) o
-    inside None = refl
-    inside (Some s) = refl
-
     by : (o : Option PartState)
-        → option_map as_due (option_and_then (send_by p) o)
+        → option_and_then (send_by p) o
         ≡ option_map (sends p) (option_and_then (λ r. send_of r.stock) (option_map (λ x. x.row) o))
     by None = refl
-    by (Some x) = inside (send_of x.row.stock)
+    by (Some x) = refl
 
-start_read : (v : EngineView) (p : ClassId) → option_map as_due (act_at start_by v.epochs p) ≡ start_in (state_of v) p
+start_read : (v : EngineView) (p : ClassId) → act_at start_by v.epochs p ≡ start_in (state_of v) p
 start_read v p = by (part_at v.epochs p.epoch p.class)
   where
-    inside : (b : Bool) → option_map as_due (if b then Some (dues.starts p) else None)
-        ≡ (if b then Some (starts p) else None)
-    inside true = refl
-    inside false = refl
-
     by : (o : Option PartState)
-        → option_map as_due (option_and_then (start_by p) o)
+        → option_and_then (start_by p) o
         ≡ option_and_then (λ r. if start_due r.stock then Some (starts p) else None) (option_map (λ x. x.row) o)
     by None = refl
-    by (Some x) = inside (start_due x.row.stock)
+    by (Some x) = refl
 
-stop_mapped : (o : Option ℕ) → option_map as_due (option_map dues.stops o) ≡ option_map stops o
-stop_mapped None = refl
-stop_mapped (Some k) = refl
+-- what is made of the classes of live epochs is made of those of the state
+made_read : (v : EngineView) (f g : ClassId → Option Due) → IsEngine v → AreWhole v.epochs → ((p : ClassId) → f p ≡ g p)
+    → first_made f (live_places v.epochs) ≡ first_made g (live_places_in (state_of v))
+made_read v f g i w same = made_same f g (live_places v.epochs) same ∙ ap (first_made g) (places_read v i w)
 
 -- the next act is that of the state
 pub due_read : (v : EngineView) → IsEngine v → AreWhole v.epochs → due_now v ≡ due_in (state_of v)
 due_read v i w =
-    mapped_or as_due (option_map dues.stops (first_of v.epochs.stops)) _
-    ∙ ap (λ z. option_or z (option_map as_due (option_or made_send made_start)))
-    (stop_mapped (first_of v.epochs.stops) ∙ ap (λ ns. option_map stops (first_of ns)) (stops_read v w))
-    ∙ ap (option_or (option_map stops (first_of (picks (stop_at v.epochs) v.epochs.procs))))
-    (mapped_or as_due made_send made_start)
+    ap (λ ns. option_or (option_map stops (first_of ns)) (option_or
+    (first_made (act_at send_by v.epochs) (live_places v.epochs))
+    (first_made (act_at start_by v.epochs) (live_places v.epochs)))) (stops_read v w)
     ∙ ap (λ z. option_or (option_map stops (first_of (picks (stop_at v.epochs) v.epochs.procs)))
-    (option_or z (option_map as_due made_start)))
-    (mapped_made as_due (act_at send_by v.epochs) (live_places v.epochs)
-    ∙ made_same _ (send_in (state_of v)) (live_places v.epochs) (send_read v)
-    ∙ ap (first_made (send_in (state_of v))) (places_read v i w))
+    (option_or z (first_made (act_at start_by v.epochs) (live_places v.epochs))))
+    (made_read v (act_at send_by v.epochs) (send_in (state_of v)) i w (send_read v))
     ∙ ap (λ z. option_or (option_map stops (first_of (picks (stop_at v.epochs) v.epochs.procs)))
     (option_or (first_made (send_in (state_of v)) (live_places_in (state_of v))) z))
-    (mapped_made as_due (act_at start_by v.epochs) (live_places v.epochs)
-    ∙ made_same _ (start_in (state_of v)) (live_places v.epochs) (start_read v)
-    ∙ ap (first_made (start_in (state_of v))) (places_read v i w))
-  where
-    made_send : Option dues.DueAt
-    made_send = first_made (act_at send_by v.epochs) (live_places v.epochs)
-
-    made_start : Option dues.DueAt
-    made_start = first_made (act_at start_by v.epochs) (live_places v.epochs)
+    (made_read v (act_at start_by v.epochs) (start_in (state_of v)) i w (start_read v))
 
 -- the class of an act is there
-abbrev IsThere : EpochsState → dues.DueAt → Type 0
-IsThere v (dues.stops k) = Unit {0}
-IsThere v (dues.sends p s) = (x : PartState) × (part_at v p.epoch p.class ≡ Some x)
-IsThere v (dues.starts p) = (x : PartState) × (part_at v p.epoch p.class ≡ Some x)
+abbrev IsThere : EpochsState → Due → Type 0
+IsThere v (stops k) = Unit {0}
+IsThere v (sends p s) = (x : PartState) × (part_at v p.epoch p.class ≡ Some x)
+IsThere v (starts p) = (x : PartState) × (part_at v p.epoch p.class ≡ Some x)
 
-due_there : (v : EpochsState) (d : dues.DueAt) → due_of v ≡ Some d → IsThere v d
+due_there : (v : EpochsState) (d : Due) → due_of v ≡ Some d → IsThere v d
 due_there v d is = stop (first_of v.stops) is
   where
     starting : (q : ClassId) (o : Option PartState) → part_at v q.epoch q.class ≡ o
@@ -151,35 +119,35 @@ due_there v d is = stop (first_of v.stops) is
     starting q None e is = absurd (cc)
     starting q (Some x) e is = by (start_due x.row.stock) is
       where
-        by : (b : Bool) → (if b then Some (dues.starts q) else None) ≡ Some d → IsThere v d
+        by : (b : Bool) → (if b then Some (starts q) else None) ≡ Some d → IsThere v d
         by false is = absurd (cc)
-        by true is = subst (IsThere v) (same_Some (dues.starts q) d is) (x, e)
+        by true is = subst (IsThere v) (same_Some (starts q) d is) (x, e)
 
     sending : (q : ClassId) (o : Option PartState) → part_at v q.epoch q.class ≡ o
         → option_and_then (send_by q) o ≡ Some d → IsThere v d
     sending q None e is = absurd (cc)
     sending q (Some x) e is = by (send_of x.row.stock) is
       where
-        by : (o : Option Sending) → option_map (dues.sends q) o ≡ Some d → IsThere v d
+        by : (o : Option Sending) → option_map (sends q) o ≡ Some d → IsThere v d
         by None is = absurd (cc)
-        by (Some s) is = subst (IsThere v) (same_Some (dues.sends q s) d is) (x, e)
+        by (Some s) is = subst (IsThere v) (same_Some (sends q s) d is) (x, e)
 
     start : first_made (act_at start_by v) (live_places v) ≡ Some d → IsThere v d
     start is = let q = made_by (act_at start_by v) (live_places v) d is in
         starting q.0 (part_at v q.0.epoch q.0.class) refl q.1
 
-    send : (o : Option dues.DueAt) → first_made (act_at send_by v) (live_places v) ≡ o
+    send : (o : Option Due) → first_made (act_at send_by v) (live_places v) ≡ o
         → option_or o (first_made (act_at start_by v) (live_places v)) ≡ Some d → IsThere v d
     send None e is = start is
     send (Some x) e is = let q = made_by (act_at send_by v) (live_places v) d (e ∙ is) in
         sending q.0 (part_at v q.0.epoch q.0.class) refl q.1
 
     stop : (o : Option ℕ)
-        → option_or (option_map dues.stops o)
+        → option_or (option_map stops o)
         (option_or (first_made (act_at send_by v) (live_places v)) (first_made (act_at start_by v) (live_places v)))
         ≡ Some d → IsThere v d
     stop None is = send (first_made (act_at send_by v) (live_places v)) refl is
-    stop (Some k) is = subst (IsThere v) (same_Some (dues.stops k) d is) tt
+    stop (Some k) is = subst (IsThere v) (same_Some (stops k) d is) tt
 
 -- a part that is changed at its place
 change_slice : (ps : List PartState) (c : ℕ) (p : PartState) (f : PartState → PartState) → slice_get ps c ≡ Some p
@@ -230,13 +198,13 @@ losses_started s = by (start_due s)
     by false = refl
 
 -- an engine is one still after an act
-pub act_engine : (v : EngineView) (d : dues.DueAt) (t : ℕ) → IsEngine v → due_of v.epochs ≡ Some d
+pub act_engine : (v : EngineView) (d : Due) (t : ℕ) → IsEngine v → due_of v.epochs ≡ Some d
     → IsEngine (record v { epochs = after_due (Some d) v.epochs; latest = t })
 act_engine v d t i is = by d (due_there v.epochs d is)
   where
-    by : (d : dues.DueAt) → IsThere v.epochs d
+    by : (d : Due) → IsThere v.epochs d
         → IsEngine (record v { epochs = after_due (Some d) v.epochs; latest = t })
-    by (dues.stops k) there = record {
+    by (stops k) there = record {
       asked = i.asked;
       counted = i.counted;
       configured = i.configured;
@@ -245,10 +213,10 @@ act_engine v d t i is = by d (due_there v.epochs d is)
       keyed = i.keyed;
       setup_is = i.setup_is;
     }
-    by (dues.sends p s) there =
+    by (sends p s) there =
         quiet_engine v (change_part p sent_part v.epochs) t p.epoch p.class after_sending i (λ r. refl)
         (λ r. losses_sent r.stock) (act_change v.epochs p sent_part after_sending there.0 there.1 refl (λ n. refl))
-    by (dues.starts p) there =
+    by (starts p) there =
         quiet_engine v (change_part p started_part v.epochs) t p.epoch p.class after_starting i (λ r. refl)
         (λ r. losses_started r.stock)
         (act_change v.epochs p started_part after_starting there.0 there.1 refl (λ n. refl))
@@ -275,10 +243,10 @@ part_same v p f F t same = record {
   offset_is = refl;
 }
 
-pub act_same : (v : EngineView) (d : dues.DueAt) (t : ℕ)
+pub act_same : (v : EngineView) (d : Due) (t : ℕ)
     → IsSame (state_of (record v { epochs = after_due (Some d) v.epochs; latest = t }))
-    (after_act (Some (as_due d)) t (state_of v))
-act_same v (dues.stops k) t = record {
+    (after_act (Some d) t (state_of v))
+act_same v (stops k) t = record {
   clients_are = λ c. refl;
   conns_are = refl;
   from_are = λ a. refl;
@@ -294,15 +262,8 @@ act_same v (dues.stops k) t = record {
   latest_is = refl;
   offset_is = refl;
 }
-act_same v (dues.sends p s) t = part_same v p sent_part after_sending t (λ x. refl)
-act_same v (dues.starts p) t = part_same v p started_part after_starting t (λ x. refl)
-
--- an act is told as it is one of the state
-pub told_read : (o : Option dues.DueAt) → dues.told_due o ≡ option_map act_told (option_map as_due o)
-told_read None = refl
-told_read (Some (dues.stops k)) = refl
-told_read (Some (dues.sends p s)) = refl
-told_read (Some (dues.starts p)) = refl
+act_same v (sends p s) t = part_same v p sent_part after_sending t (λ x. refl)
+act_same v (starts p) t = part_same v p started_part after_starting t (λ x. refl)
 
 -- what the live epochs leave is an engine, and its state is what the act makes of it
 pub act_left : (v : EngineView) (new : EpochsState) (t : ℕ) → IsEngine v → new ≡ after_due (due_of v.epochs) v.epochs
@@ -310,7 +271,7 @@ pub act_left : (v : EngineView) (new : EpochsState) (t : ℕ) → IsEngine v →
 act_left v new t i left = subst (λ z. IsEngine (record v { epochs = z; latest = t })) (sym left)
     (by (due_of v.epochs) refl)
   where
-    by : (o : Option dues.DueAt) → due_of v.epochs ≡ o
+    by : (o : Option Due) → due_of v.epochs ≡ o
         → IsEngine (record v { epochs = after_due o v.epochs; latest = t })
     by None e = record {
       asked = i.asked;
@@ -324,20 +285,20 @@ act_left v new t i left = subst (λ z. IsEngine (record v { epochs = z; latest =
     by (Some d) e = act_engine v d t i e
 
 pub left_same : (v : EngineView) (new : EpochsState) (t : ℕ) (a : Act) → new ≡ after_due (due_of v.epochs) v.epochs
-    → dues.told_due (due_of v.epochs) ≡ Some a
+    → told_due (due_of v.epochs) ≡ Some a
     → IsSame (state_of (record v { epochs = new; latest = t })) (after_act (due_now v) t (state_of v))
 left_same v new t a left is = subst (λ z. IsSame (state_of (record v { epochs = z; latest = t }))
     (after_act (due_now v) t (state_of v))) (sym left) (by (due_of v.epochs) is)
   where
-    by : (o : Option dues.DueAt) → dues.told_due o ≡ Some a
+    by : (o : Option Due) → told_due o ≡ Some a
         → IsSame (state_of (record v { epochs = after_due o v.epochs; latest = t }))
-        (after_act (option_map as_due o) t (state_of v))
+        (after_act o t (state_of v))
     by None is = absurd (cc)
     by (Some d) is = act_same v d t
 
 -- what is promised of it
 pub act_promised : (v : EngineView) (new : State) (now : ℕ) (r : Option Act) → IsEngine v → AreWhole v.epochs
-    → r ≡ option_map act_told (due_now v)
+    → r ≡ option_map told_act (due_now v)
     → IfSome r (λ a. IsSame new (after_act (due_now v) now (state_of v))) → IsActPromised (state_of v) now r new
 act_promised v new now r i w is ok = by (due_now v) refl r is ok
   where
@@ -345,7 +306,7 @@ act_promised v new now r i w is ok = by (due_now v) refl r is ok
     read o e = sym (due_read v i w) ∙ e
 
     done : (d : Due) → due_now v ≡ Some d → IsSame new (after_act (Some d) now (state_of v))
-        → IsActPromised (state_of v) now (Some (act_told d)) new
+        → IsActPromised (state_of v) now (Some (told_act d)) new
     done (stops k) e same = λ configs h st late. answered_same configs h _ new now event.Act _ same
         (stop_answered configs h (state_of v) now k st late (read (Some (stops k)) e))
     done (sends p s) e same = λ configs h st late. answered_same configs h _ new now event.Act _ same
@@ -353,7 +314,7 @@ act_promised v new now r i w is ok = by (due_now v) refl r is ok
     done (starts p) e same = λ configs h st late. answered_same configs h _ new now event.Act _ same
         (start_answered configs h (state_of v) now p st late (read (Some (starts p)) e))
 
-    by : (o : Option Due) → due_now v ≡ o → (r : Option Act) → r ≡ option_map act_told o
+    by : (o : Option Due) → due_now v ≡ o → (r : Option Act) → r ≡ option_map told_act o
         → IfSome r (λ a. IsSame new (after_act o now (state_of v))) → IsActPromised (state_of v) now r new
     by None e None is ok = λ configs h st late. none_due configs h (state_of v) now st late (read None e)
     by None e (Some a) is ok = absurd (cc)

@@ -1,6 +1,5 @@
 -- Acts as they are told, and what an act makes of the state.
 use Rattle.std.specs.Prelude.{◌≡◌, ℕ, ◌≤◌, List, None, Some}
-use Rattle.std.specs.Option.{option_map}
 use Rattle.std.specs.declared.option.Option.{Option}
 use Rattle.sq_machine.specs.declared.entries.Event.TheVariants as event
 use Rattle.sq_machine.specs.declared.entries.Told.{Told}
@@ -11,38 +10,30 @@ use Rattle.sq_machine.specs.Machine.{next}
 use Rattle.sq_machine.specs.Next.{nothing}
 use Rattle.sq_machine.specs.Marking.{marked}
 use Rattle.sq_machine.specs.Readings.{latest}
-use Rattle.sq_epochs.specs.DueStates as dues
+use Rattle.sq_epochs.specs.DueStates.{due_of}
 use Rattle.sq_epochs.specs.declared.acts.Act.{Act}
 use Rattle.sq_epochs.specs.declared.acts.Act.TheVariants as act
-use Rattle.sq_model_state.specs.Acts.{Due, sends, starts, stops}
+use Rattle.sq_machine.specs.DueActs.{Due, sends, starts, stops}
 use Rattle.sq_model_state.specs.Answers.{name_in}
 use Rattle.sq_model_state.specs.Changes.{after_send_at, after_start_at, after_stop_of}
 use Rattle.sq_model_state.specs.Promises.{IsAnswered, StandsFor}
 use Rattle.sq_model_state.specs.States.{State}
 use Rattle.sq_engine.specs.EngineViews.{EngineView}
 
--- an act of the live epochs, as one of the state
-abbrev pub as_due : dues.DueAt → Due
-as_due (dues.stops k) = stops k
-as_due (dues.sends p s) = sends p s
-as_due (dues.starts p) = starts p
-
 -- the next act of an engine
 abbrev pub due_now : EngineView → Option Due
-due_now v = option_map as_due (dues.due_of v.epochs)
-
--- an act as a call answers it
-abbrev pub act_told : Due → Act
-act_told (stops k) = act.Stop k
-act_told (sends p s) = act.Send s.proc s.question s.channel s.text
-act_told (starts p) = act.Start p.epoch p.class
+due_now v = due_of v.epochs
 
 -- what an act makes of the state
+abbrev pub after_due : Due → ℕ → State → State
+after_due (stops k) now s = after_stop_of k now s
+after_due (sends p sending) now s = after_send_at p now s
+after_due (starts p) now s = after_start_at p now s
+
+-- the same for the next act, where there is one
 abbrev pub after_act : Option Due → ℕ → State → State
 after_act None now s = s
-after_act (Some (stops k)) now s = after_stop_of k now s
-after_act (Some (sends p sending)) now s = after_send_at p now s
-after_act (Some (starts p)) now s = after_start_at p now s
+after_act (Some d) now s = after_due d now s
 
 -- the answer of a call, as a history tells it
 abbrev pub told_of_act : State → Act → Told

@@ -1,9 +1,9 @@
 //! What is to be done next.
 ghost use Rattle.std.specs.Prelude.{◌≡◌, max, IfNone, IfOk, IfSome};
-ghost use Rattle.std.specs.Option.{option_map};
+ghost use Rattle.sq_epochs.specs.DueStates.{told_due};
 ghost use Rattle.sq_model_state.specs.Acts.{due_in};
 ghost use Rattle.sq_model_state.specs.States.{IsSame};
-ghost use Rattle.sq_engine.specs.Acting.{IsActPromised, act_told, after_act, due_now};
+ghost use Rattle.sq_engine.specs.Acting.{IsActPromised, after_act, due_now};
 ghost use Rattle.sq_engine.specs.EngineViews.{state_of};
 
 use crate::engines::Engine;
@@ -16,7 +16,7 @@ impl Engine {
     /// The next act that is due, which counts as made with this call. Where none is, nothing changes, the greatest
     /// moment neither. It takes no memory.
     pub fn act(&mut self, now: Moment) -> Option<Act>
-        ensures act { result ≡ option_map act_told (due_now self.old) }
+        ensures act { result ≡ told_due (due_now self.old) }
         ensures state { due_now self.old ≡ due_in (state_of self.old) }
         ensures some { IfSome result
             (λ a. IsSame (state_of self.new)
@@ -37,7 +37,7 @@ impl Engine {
 
     /// A copy of what `act` would answer. Nothing changes.
     pub fn due(&self, alloc: Global) -> Result<Option<Act>, WantOfMemory>
-        ensures act { IfOk result (λ a. a ≡ option_map act_told (due_now self.now)) }
+        ensures act { IfOk result (λ a. a ≡ told_due (due_now self.now)) }
         ensures state { due_now self.now ≡ due_in (state_of self.now) }
     {
         // For the proof: what holds of live epochs.

@@ -7,7 +7,8 @@ use Rattle.std.specs.List.{slice_get}
 use Rattle.sq_channel.proofs.RisingLaws.{if_true}
 use Rattle.sq_machine.specs.Farms.{Sending, send_of}
 use Rattle.sq_class.specs.Parts.{PartState}
-use Rattle.sq_epochs.specs.DueStates.{act_in, after_due, first_place, owes_send, owes_start, send_by, sends, start_by, starts, stops}
+use Rattle.sq_machine.specs.DueActs.{sends, starts, stops}
+use Rattle.sq_epochs.specs.DueStates.{act_in, after_due, first_place, owes_send, owes_start, send_by, start_by}
 use Rattle.sq_epochs.specs.EpochStates.{EpochState, EpochsState}
 use Rattle.sq_epochs.proofs.DueLaws.{first_is, record_stops}
 

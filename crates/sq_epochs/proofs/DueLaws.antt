@@ -5,12 +5,12 @@ use Rattle.std.specs.Option.{option_and_then, option_map, option_or}
 use Rattle.std.specs.declared.option.Option.{Option}
 use Rattle.std.proofs.lemmas.Option.{same_Some}
 use Rattle.sq_channel.proofs.RisingLaws.{if_false, if_true}
-use Rattle.sq_machine.specs.DueActs.{ClassId, first_made, first_of}
+use Rattle.sq_machine.specs.DueActs.{ClassId, Due, first_made, first_of, sends, starts, stops}
 use Rattle.sq_machine.specs.Farms.{Sending, send_of, start_due}
 use Rattle.sq_machine.specs.Numbered.{below}
 use Rattle.sq_machine.specs.Rising.{AreAbove, Rises}
 use Rattle.sq_class.specs.Parts.{PartState}
-use Rattle.sq_epochs.specs.DueStates.{DueAt, act_at, act_in, after_act_in, after_due, change_at, change_class, first_place, has_act, live_places, owes_send, owes_start, places_in, send_by, sends, sent_part, start_by, started_part, starts, stops}
+use Rattle.sq_epochs.specs.DueStates.{act_at, act_in, after_act_in, after_due, change_at, change_class, first_place, has_act, live_places, owes_send, owes_start, places_in, send_by, sent_part, start_by, started_part}
 use Rattle.sq_epochs.specs.EpochStates.{EpochState, EpochsState, change_epoch, epoch_in, epoch_number, part_at, part_of}
 
 shifted : (a b : ℕ) → nat_lt (suc a) (suc b) ≡ nat_lt a b
@@ -267,17 +267,17 @@ set_back [] i x at = refl
 set_back (z ∷ zs) zero x at = let z_is : z ≡ x = cc in ap (λ w. w ∷ zs) (sym z_is)
 set_back (z ∷ zs) (suc i) x at = ap (λ w. z ∷ w) (set_back zs i x at)
 
-module _ (by : ClassId → PartState → Option DueAt) (test : PartState → Bool)
+module _ (by : ClassId → PartState → Option Due) (test : PartState → Bool)
     (agree : (p : ClassId) (x : PartState) → is_some (by p x) ≡ test x) where
   -- what a class at a place of an epoch is to do
-  abbrev at_class : EpochState → ℕ → Option DueAt
+  abbrev at_class : EpochState → ℕ → Option Due
   at_class x c = option_and_then (by (record { epoch = x.epoch; class = c })) (slice_get x.parts c)
 
   not_due : (x : EpochState) (c : ℕ) → ((p : PartState) → slice_get x.parts c ≡ Some p → test p ≡ false)
       → at_class x c ≡ None
   not_due x c miss = by_part (slice_get x.parts c) refl
     where
-      nothing : (o : Option DueAt) → is_some o ≡ false → o ≡ None
+      nothing : (o : Option Due) → is_some o ≡ false → o ≡ None
       nothing None e = refl
       nothing (Some d) e = absurd cc
 
@@ -371,7 +371,7 @@ start_agrees p x = by_start (start_due x.row.stock)
     by_start false = refl
 
 -- an act is of a class of this epoch
-abbrev pub IsOfEpoch : ℕ → Option DueAt → Type 0
+abbrev pub IsOfEpoch : ℕ → Option Due → Type 0
 IsOfEpoch e None = Unit {0}
 IsOfEpoch e (Some (stops k)) = ⊥
 IsOfEpoch e (Some (sends p s)) = p.epoch ≡ e
@@ -416,7 +416,7 @@ start_of_epoch x = by_first (first_place owes_start x.parts)
     by_first (Some c) = by_part c (slice_get x.parts c)
 
 -- an act of the epoch at a place is one of all
-pub act_lifted : (v : EpochsState) (i : ℕ) (x : EpochState) (o : Option DueAt) → Rises (map epoch_number v.epochs)
+pub act_lifted : (v : EpochsState) (i : ℕ) (x : EpochState) (o : Option Due) → Rises (map epoch_number v.epochs)
     → slice_get v.epochs i ≡ Some x → IsOfEpoch x.epoch o
     → record v { epochs = set v.epochs i (after_act_in o x) } ≡ after_due o v
 act_lifted v i x None r at of_it = ap (λ z. record v { epochs = z }) (set_back v.epochs i x at)

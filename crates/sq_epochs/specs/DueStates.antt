@@ -3,7 +3,7 @@ use Rattle.std.specs.Prelude.{ℕ, zero, suc, List, [], ◌∷◌, Bool, not, �
 use Rattle.std.specs.List.{flat_map}
 use Rattle.std.specs.Option.{option_and_then, option_map, option_or}
 use Rattle.std.specs.declared.option.Option.{Option}
-use Rattle.sq_machine.specs.DueActs.{ClassId, first_made, first_of}
+use Rattle.sq_machine.specs.DueActs.{ClassId, Due, first_made, first_of, sends, starts, stops}
 use Rattle.sq_machine.specs.Farms.{Sending, send_of, start_due}
 use Rattle.sq_machine.specs.Numbered.{below}
 use Rattle.sq_model_rows.specs.ClassRows.{after_sending, after_starting}
@@ -11,12 +11,6 @@ use Rattle.sq_class.specs.Parts.{PartState}
 use Rattle.sq_epochs.specs.declared.acts.Act.{Act}
 use Rattle.sq_epochs.specs.declared.acts.Act.TheVariants as act
 use Rattle.sq_epochs.specs.EpochStates.{EpochState, EpochsState, change_epoch, part_at}
-
--- an act: the stop of a process, a send of the class at a place, or a start of it
-pub data DueAt : Type 0 where
-  stops : ℕ → DueAt
-  sends : ClassId → Sending → DueAt
-  starts : ClassId → DueAt
 
 -- the classes of an epoch, in order
 abbrev pub places_in : EpochState → List ClassId
@@ -27,19 +21,19 @@ abbrev pub live_places : EpochsState → List ClassId
 live_places v = flat_map places_in v.epochs
 
 -- what a class at a place is to do, by its part
-abbrev pub act_at : (ClassId → PartState → Option DueAt) → EpochsState → ClassId → Option DueAt
+abbrev pub act_at : (ClassId → PartState → Option Due) → EpochsState → ClassId → Option Due
 act_at by v p = option_and_then (by p) (part_at v p.epoch p.class)
 
 -- the send of a class, where one is due
-abbrev pub send_by : ClassId → PartState → Option DueAt
+abbrev pub send_by : ClassId → PartState → Option Due
 send_by p x = option_map (sends p) (send_of x.row.stock)
 
 -- the start of a class, where one is due
-abbrev pub start_by : ClassId → PartState → Option DueAt
+abbrev pub start_by : ClassId → PartState → Option Due
 start_by p x = if start_due x.row.stock then Some (starts p) else None
 
 -- the next act: first stops, then sends, then starts
-abbrev pub due_of : EpochsState → Option DueAt
+abbrev pub due_of : EpochsState → Option Due
 due_of v =
     option_or (option_map stops (first_of v.stops))
     (option_or (first_made (act_at send_by v) (live_places v))
@@ -66,19 +60,19 @@ abbrev pub started_part : PartState → PartState
 started_part p = record p { row = after_starting p.row }
 
 -- the act was made
-abbrev pub after_due : Option DueAt → EpochsState → EpochsState
+abbrev pub after_due : Option Due → EpochsState → EpochsState
 after_due None v = v
 after_due (Some (stops k)) v = record v { stops = filter (λ j. not (k == j)) v.stops }
 after_due (Some (sends p s)) v = change_part p sent_part v
 after_due (Some (starts p)) v = change_part p started_part v
 
 -- the act as it is told
-abbrev pub told_act : DueAt → Act
+abbrev pub told_act : Due → Act
 told_act (stops k) = act.Stop k
 told_act (sends p s) = act.Send s.proc s.question s.channel s.text
 told_act (starts p) = act.Start p.epoch p.class
 
-abbrev pub told_due : Option DueAt → Option Act
+abbrev pub told_due : Option Due → Option Act
 told_due d = option_map told_act d
 
 -- the place of the first that the test holds of
@@ -99,14 +93,14 @@ abbrev pub has_act : (PartState → Bool) → EpochState → Bool
 has_act test x = is_some (first_place test x.parts)
 
 -- what the first class of the epoch is to do that meets the test
-abbrev pub act_in : (ClassId → PartState → Option DueAt) → (PartState → Bool) → EpochState
-    → Option DueAt
+abbrev pub act_in : (ClassId → PartState → Option Due) → (PartState → Bool) → EpochState
+    → Option Due
 act_in by test x = option_and_then
     (λ c. option_and_then (by (record { epoch = x.epoch; class = c })) (slice_get x.parts c))
     (first_place test x.parts)
 
 -- the epoch after an act of it
-abbrev pub after_act_in : Option DueAt → EpochState → EpochState
+abbrev pub after_act_in : Option Due → EpochState → EpochState
 after_act_in None x = x
 after_act_in (Some (stops k)) x = x
 after_act_in (Some (sends p s)) x = change_class p.class sent_part x

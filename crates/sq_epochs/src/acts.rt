@@ -1,8 +1,8 @@
 //! The act that is due: first a stop, then a send, then a start, each of the least number, epoch and class.
 ghost use Rattle.std.specs.Prelude.{◌≡◌, ◌<◌, ℕ, None, Some, length, IfOk, IfSome};
 ghost use Rattle.std.specs.Option.{option_map};
-ghost use Rattle.sq_machine.specs.DueActs.{first_made, first_of};
-ghost use Rattle.sq_epochs.specs.DueStates.{act_at, act_in, after_act_in, after_due, due_of, first_place, has_act, live_places, owes_send, owes_start, send_by, start_by, stops, told_due};
+ghost use Rattle.sq_machine.specs.DueActs.{first_made, first_of, stops};
+ghost use Rattle.sq_epochs.specs.DueStates.{act_at, act_in, after_act_in, after_due, due_of, first_place, has_act, live_places, owes_send, owes_start, send_by, start_by, told_due};
 ghost use Rattle.sq_epochs.specs.EpochProcs.{SameLiving};
 
 use crate::epoch::Epoch;

@@ -3,7 +3,7 @@ use Rattle.std.proofs.Common.{◌≡◌, ℕ, List, [], ◌∷◌, ◌++◌, map
 use Rattle.std.specs.Option.{option_map, option_or}
 use Rattle.std.specs.Prelude.{find}
 use Rattle.sq_base.specs.declared.helpers.Answer.{Answer}
-use Rattle.sq_machine.specs.Tags.{first_tag, tag_at, tag_of, tag_of_acl}
+use Rattle.sq_rules.specs.Tags.{first_tag, tag_at, tag_of, tag_of_acl}
 use Rattle.sq_rules.specs.Configurations.{Configuration, are_known_bodies}
 use Rattle.sq_rules.specs.Values.{acl_value, answer_for, both, either, taken_at, turned, value_if}
 use Rattle.sq_rules.specs.Walks.{Seen, acl_walk, is_hit, is_miss, line_seen, rule_seen, term_seen, walk_while}

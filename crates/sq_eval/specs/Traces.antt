@@ -2,7 +2,7 @@
 use Rattle.std.specs.Prelude.{ℕ, List, [], ◌∷◌, Bool, if◌then◌else◌, map, slice_get, None}
 use Rattle.std.specs.Option.{option_or}
 use Rattle.std.specs.declared.option.Option.{Option}
-use Rattle.sq_machine.specs.Tags.{first_tag, tag_at}
+use Rattle.sq_rules.specs.Tags.{first_tag, tag_at}
 use Rattle.sq_rules.specs.Values.{acl_value, both, either, taken_at}
 use Rattle.sq_rules.specs.Walks.{Seen, acl_walk, is_hit, is_miss, term_seen}
 use Rattle.sq_rules.specs.declared.configs.Rule.{Rule}

@@ -2,7 +2,7 @@
 ghost use Rattle.std.specs.Prelude.{◌≡◌, ◌<◌, ◌≤◌, ℕ, List, Some, true, find, length, map, slice_get, IfOk};
 ghost use Rattle.std.specs.List.{list_all};
 ghost use Rattle.std.specs.Option.{option_copied, option_or};
-ghost use Rattle.sq_machine.specs.Tags.{tag_in, tag_of, tag_pair};
+ghost use Rattle.sq_rules.specs.Tags.{tag_in, tag_of, tag_pair};
 ghost use Rattle.sq_rules.specs.Configurations.{are_known, is_known_body, is_known_rule};
 ghost use Rattle.sq_rules.specs.Facts.{facts_of};
 ghost use Rattle.sq_rules.specs.Keys.{key_text};

@@ -3,20 +3,22 @@ use Rattle.std.specs.Prelude.{◌≡◌, ℕ, ◌+◌, ◌<◌, ◌≤◌, List,
 use Rattle.std.specs.declared.option.Option.{Option}
 use Rattle.std.specs.Io.KnownBytes.{IsAtEnd}
 
--- at most so many bytes are read at a time
+-- at most so many bytes of a head are read at a time, and so many on a seat
 abbrev pub read_limit : ℕ
 read_limit = 16384
 
--- behind the bytes there is less room than this
-abbrev pub most_room : ℕ
-most_room = 24576
+-- at most so many bytes of a body or of a way of a tunnel are read at a time where no seat is held
+abbrev pub large_read_limit : ℕ
+large_read_limit = 65536
 
--- the bytes stand in it from one place to another, with few before them and few behind
-pub record IsBuffer (bytes : List ℕ) (start end : ℕ) : Type 0 where
+-- the bytes stand in it from one place to another, with few before them and few behind; the spare room is no more than
+-- for one read
+pub record IsBuffer (bytes : List ℕ) (start end : ℕ) (spare : List ℕ) : Type 0 where
   pub ordered : start ≤ end
   pub within : end ≤ length bytes
   pub before : start < read_limit
-  pub behind : length bytes < end + most_room
+  pub behind : length bytes ≤ end + large_read_limit
+  pub small : length spare ≤ large_read_limit
 
 -- some bytes came; or none did, and the source has none left
 abbrev pub Filled : List ℕ → List ℕ → Option (List ℕ) → Bool → Type 0

@@ -3,7 +3,7 @@ use Rattle.std.specs.Prelude.{List, ℕ}
 use Rattle.std.specs.declared.option.Option.{Option}
 use Rattle.std.specs.Io.KnownBytes.{prepend_known}
 use Rattle.sq_forward.specs.declared.half.Half.{Half}
-pub use Rattle.sq_forward.specs.Buffers.{read_limit, Filled}
+pub use Rattle.sq_forward.specs.Buffers.{read_limit, large_read_limit, Filled}
 
 -- what a half has to come: the bytes ahead, and those that its source has left, where that tells
 -- them

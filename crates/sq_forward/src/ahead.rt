@@ -4,28 +4,31 @@ ghost use Rattle.std.specs.Io.KnownBytes.{Consumes, IsAtEnd, Keeps, prepend_know
 ghost use Rattle.sq_outside.specs.Causes.{HasCause};
 ghost use Rattle.sq_outside.specs.Input.{ReadHasCause};
 ghost use Rattle.sq_outside.specs.Output.{IsPrefix};
-ghost use Rattle.sq_forward.specs.Buffers.{most_room, read_limit, Filled};
+ghost use Rattle.sq_forward.specs.Buffers.{large_read_limit, Filled};
 
 use sq_base::WantOfMemory;
 use sq_outside::{Failed, Source, Unread};
 use std::alloc::Global;
 use std::marker::Model;
+use std::mem;
 
-// At most this many bytes are read at a time.
-const READ: usize = 16_384;
+/// At most this many bytes of a head are read at a time, and this many on a seat.
+pub(crate) const READ: usize = 16_384;
 
-// Less room than this is too little for a read.
-const LEAST_ROOM: usize = 8_192;
+/// At most this many bytes of a body or of a way of a tunnel are read at a time where no seat is held.
+pub(crate) const LARGE_READ: usize = 65_536;
 
 /// Bytes that were read ahead of their use, with room behind them for the next read. They stand where they were
 /// read, and are moved only where 16,384 would stand before them. A contract sees their list. Their buffer has at most
-/// 40,958 bytes more than they are, besides what the vector has in reserve.
+/// 81,919 bytes more than they are, besides what the vector has in reserve.
 #[derive(Drop)]
 pub struct Ahead {
     // They stand from `start` to `end`.
     bytes: Vec<u8>,
     start: usize,
     end: usize,
+    // Room that was taken over, and holds no bytes.
+    spare: Vec<u8>,
 }
 
 impl Model for Ahead {
@@ -36,30 +39,38 @@ impl Model for Ahead {
 
     ghost view = { λ a. take (a.end - a.start) (drop a.start a.bytes.items) };
 
-    ghost invariant = { λ a. IsBuffer a.bytes.items a.start a.end };
+    ghost invariant = { λ a. IsBuffer a.bytes.items a.start a.end a.spare.items };
 }
 
-// Room for a read behind the first `end` bytes.
-fn make_room(bytes: &mut Vec<u8>, end: usize) -> Result<(), WantOfMemory>
+// Room for a read of `most` bytes, or of half as many, behind the first `end`.
+fn make_room(bytes: &mut Vec<u8>, end: usize, most: usize) -> Result<(), WantOfMemory>
+    requires some { 2 ≤ most }
+    requires limit { most ≤ large_read_limit }
     requires within { end ≤ length bytes.old.items }
-    requires few { length bytes.old.items < end + most_room }
+    requires few { length bytes.old.items ≤ end + large_read_limit }
     ensures room { OnOk result (end < length bytes.new.items) }
-    ensures few { length bytes.new.items < end + most_room }
+    ensures few { length bytes.new.items ≤ end + large_read_limit }
     ensures within { end ≤ length bytes.new.items }
     ensures front { take end bytes.new.items ≡ take end bytes.old.items }
 {
-    if bytes.len() - end < LEAST_ROOM {
-        bytes.extend_from_slice(&[0u8; READ])?;
+    if bytes.len() - end < most / 2 {
+        bytes.resize(end + most, 0)?;
     }
     Ok(())
 }
 
-// Reads some bytes to the place behind the first `end`.
-fn read_at<S: Source>(source: &mut S, bytes: &mut Vec<u8>, end: usize) -> Result<usize, Failed>
+// Reads some bytes, `limit` at most, to the place behind the first `end`.
+fn read_at<S: Source>(
+    source: &mut S,
+    bytes: &mut Vec<u8>,
+    end: usize,
+    limit: usize,
+) -> Result<usize, Failed>
+    requires some { 0 < limit }
     requires room { end < length bytes.old.items }
     ensures len { length bytes.new.items ≡ length bytes.old.items }
     ensures front { take end bytes.new.items ≡ take end bytes.old.items }
-    ensures within { IfOk result (λ n. (end + n ≤ length bytes.new.items) × (n ≤ read_limit)) }
+    ensures within { IfOk result (λ n. (end + n ≤ length bytes.new.items) × (n ≤ limit)) }
     ensures taken { IfOk result
         (λ n. Consumes (S.left source.old) (S.left source.new)
         (take n (drop end bytes.new.items))) }
@@ -68,7 +79,7 @@ fn read_at<S: Source>(source: &mut S, bytes: &mut Vec<u8>, end: usize) -> Result
     ensures origin { S.origin source.new ≡ S.origin source.old }
     ensures cause { HasCause (S.faults source.old) (S.faults source.new) result }
 {
-    let most = (bytes.len() - end).min(READ);
+    let most = (bytes.len() - end).min(limit);
     source.read(&mut bytes[end..end + most])
 }
 
@@ -81,7 +92,36 @@ impl Ahead {
             bytes: Vec::new(alloc),
             start: 0,
             end: 0,
+            spare: Vec::new(alloc),
         }
+    }
+
+    /// No bytes, for another source, in the room that was taken over last. It takes no memory.
+    pub fn lend_room(&mut self, alloc: Global) -> Ahead
+        ensures none { result ≡ [] }
+        ensures same { self.new ≡ self.old }
+    {
+        let bytes = mem::replace(&mut self.spare, Vec::new(alloc));
+        Ahead {
+            bytes,
+            start: 0,
+            end: 0,
+            spare: Vec::new(alloc),
+        }
+    }
+
+    /// Takes over the room of bytes that are of no use any more, to be lent again. It takes no memory.
+    pub fn take_room(&mut self, other: Ahead)
+        ensures { self.new ≡ self.old }
+    {
+        let Ahead {
+            mut bytes,
+            start: _,
+            end: _,
+            spare: _,
+        } = other;
+        bytes.truncate(LARGE_READ);
+        self.spare = bytes;
     }
 
     /// The bytes, lent.
@@ -98,22 +138,24 @@ impl Ahead {
         self.end - self.start
     }
 
-    /// Reads some bytes of a source behind these. The answer is whether there were any. None is read where there is
-    /// no memory for it.
-    pub(crate) fn read<S: Source>(&mut self, source: &mut S) -> Result<bool, Unread>
+    /// Reads some bytes of a source, `limit` at most, behind these. The answer is whether there were any. None is read
+    /// where there is no memory for it.
+    pub(crate) fn read<S: Source>(&mut self, source: &mut S, limit: usize) -> Result<bool, Unread>
+        requires some { 2 ≤ limit }
+        requires limit { limit ≤ large_read_limit }
         ensures kept { Keeps (prepend_known self.old (S.left source.old))
             (prepend_known self.new (S.left source.new)) }
         ensures filled { IfOk result (Filled self.old self.new (S.left source.new)) }
         ensures front { IsPrefix self.old self.new }
-        ensures few { length self.new ≤ length self.old + read_limit }
+        ensures few { length self.new ≤ length self.old + limit }
         ensures origin { S.origin source.new ≡ S.origin source.old }
         ensures cause { ReadHasCause (S.faults source.old) (S.faults source.new) result }
     {
-        match make_room(&mut self.bytes, self.end) {
+        match make_room(&mut self.bytes, self.end, limit) {
             Ok(()) => {}
             Err(WantOfMemory) => return Err(Unread::WantOfMemory),
         }
-        match read_at(source, &mut self.bytes, self.end) {
+        match read_at(source, &mut self.bytes, self.end, limit) {
             Ok(0) => Ok(false),
             Ok(count) => {
                 self.end += count;
@@ -131,7 +173,7 @@ impl Ahead {
         self.start += n;
         if self.start == self.end {
             // Mostly all of them go, and none is moved.
-            self.bytes.truncate(READ);
+            self.bytes.truncate(LARGE_READ);
             self.start = 0;
             self.end = 0;
         } else if self.start >= READ {

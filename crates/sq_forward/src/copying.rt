@@ -1,7 +1,9 @@
 //! Bodies that are copied as their bytes are granted.
-ghost use Rattle.std.specs.Prelude.{◌≡◌, ◌≤◌, ℕ, [], length, max, IfSome, IfOk, IfErr, OnOk};
+ghost use Rattle.std.specs.Io.KnownBytes.{Keeps};
+ghost use Rattle.std.specs.Prelude.{◌≡◌, ◌≤◌, ◌+◌, ℕ, [], length, max, IfSome, IfOk, IfErr, OnOk};
+ghost use Rattle.sq_outside.specs.Input.{ReadHasCause};
 ghost use Rattle.sq_forward.specs.Copying.{Copies, CopiesPiece, PieceFed, PieceUnfed, CopyHasCause, dry_after_copy, dry_after_piece};
-ghost use Rattle.sq_forward.specs.Halves.{to_come, read_limit};
+ghost use Rattle.sq_forward.specs.Halves.{to_come, large_read_limit, Filled};
 
 use crate::half::Half;
 use crate::meter::Meter;
@@ -33,7 +35,7 @@ pub(crate) enum Copied {
 }
 
 /// Copies a body of this plan from a source to a sink, each byte granted first. What is read ahead is at
-/// most a read, or what it was before.
+/// most a read, or what it was before: of 16,384 bytes on a seat, and of 65,536 without one, which goes out in one piece.
 pub(crate) fn copy_body<R: Wait, S: Source, O: Sink, M: Meter>(
     rt: &R,
     alloc: Global,
@@ -55,7 +57,7 @@ pub(crate) fn copy_body<R: Wait, S: Source, O: Sink, M: Meter>(
     ensures source_later { S.faults from.old.source ≤ S.faults from.new.source }
     ensures sink_later { O.faults to.old ≤ O.faults to.new }
     ensures origin { S.origin from.new.source ≡ S.origin from.old.source }
-    ensures few { length from.new.ahead ≤ max (length from.old.ahead) read_limit }
+    ensures few { length from.new.ahead ≤ max (length from.old.ahead) large_read_limit }
 {
     let mut cursor = BodyCursor::new(alloc, plan, chunked_out);
     let mut framed = Text::new(alloc);
@@ -91,7 +93,7 @@ fn copy_piece<S: Source, O: Sink, M: Meter>(
     ensures source_later { S.faults from.old.source ≤ S.faults from.new.source }
     ensures sink_later { O.faults to.old ≤ O.faults to.new }
     ensures origin { S.origin from.new.source ≡ S.origin from.old.source }
-    ensures few { length from.new.ahead ≤ max (length from.old.ahead) read_limit }
+    ensures few { length from.new.ahead ≤ max (length from.old.ahead) large_read_limit }
 {
     match write_ahead(alloc, cursor, from.ahead.as_bytes(), to, meter, framed) {
         Ok(fed) => {
@@ -102,11 +104,26 @@ fn copy_piece<S: Source, O: Sink, M: Meter>(
         }
         Err(copied) => return Some(copied),
     }
-    match from.fill() {
+    match fill(from, meter.is_seated()) {
         Ok(true) => None,
         Ok(false) => Some(Copied::Cut),
         Err(Unread::Failed) => Some(Copied::NoSource),
         Err(Unread::WantOfMemory) => Some(Copied::WantOfMemory),
+    }
+}
+
+// Reads the next bytes: fewer at a time on a seat, where they wait for grants.
+fn fill<S: Source>(from: &mut Half<S>, seated: bool) -> Result<bool, Unread>
+    ensures kept { Keeps (to_come S.left from.old) (to_come S.left from.new) }
+    ensures filled { IfOk result (Filled from.old.ahead from.new.ahead (S.left from.new.source)) }
+    ensures few { length from.new.ahead ≤ length from.old.ahead + large_read_limit }
+    ensures origin { S.origin from.new.source ≡ S.origin from.old.source }
+    ensures cause { ReadHasCause (S.faults from.old.source) (S.faults from.new.source) result }
+{
+    if seated {
+        from.fill()
+    } else {
+        from.fill_large()
     }
 }
 

@@ -6,7 +6,7 @@ ghost use Rattle.sq_outside.specs.Causes.{Rose};
 ghost use Rattle.sq_rules.specs.Facts.{facts_of};
 ghost use Rattle.sq_rules.specs.declared.sights.Sight.{Sight};
 ghost use Rattle.sq_forward.specs.Exchanges.{Exchanges, ExchangeHasCause, dry_after_exchange};
-ghost use Rattle.sq_forward.specs.Halves.{to_come, read_limit};
+ghost use Rattle.sq_forward.specs.Halves.{to_come, read_limit, large_read_limit};
 
 use crate::half::Half;
 use crate::meter::Meter;
@@ -83,7 +83,7 @@ fn exchange_by<R: Wait, I: Source, O: Sink, P: Source, Q: Sink, M: Meter>(
     ensures to_origin_later { Q.faults to_origin.old ≤ Q.faults to_origin.new }
     ensures client_dialled { I.origin client.new.source ≡ I.origin client.old.source }
     ensures origin_dialled { P.origin origin.new.source ≡ P.origin origin.old.source }
-    ensures few_client { length client.new.ahead ≤ max (length client.old.ahead) read_limit }
+    ensures few_client { length client.new.ahead ≤ max (length client.old.ahead) large_read_limit }
     ensures few_origin { length origin.new.ahead
         ≤ max (length origin.old.ahead) (most_bytes + read_limit) }
 {
@@ -144,7 +144,7 @@ pub fn exchange<R: Wait, I: Source, O: Sink, P: Source, Q: Sink, M: Meter>(
     ensures to_origin_later { Q.faults to_origin.old ≤ Q.faults to_origin.new }
     ensures client_dialled { I.origin client.new.source ≡ I.origin client.old.source }
     ensures origin_dialled { P.origin origin.new.source ≡ P.origin origin.old.source }
-    ensures few_client { length client.new.ahead ≤ max (length client.old.ahead) read_limit }
+    ensures few_client { length client.new.ahead ≤ max (length client.old.ahead) large_read_limit }
     ensures few_origin { length origin.new.ahead
         ≤ max (length origin.old.ahead) (most_bytes + read_limit) }
 {

@@ -23,6 +23,10 @@ impl Meter for Free {
 
     ghost capped = { λ _. Prim.search rules };
 
+    fn is_seated(&self) -> bool {
+        false
+    }
+
     fn grant(&mut self, wanted: u64) -> u64 {
         wanted
     }

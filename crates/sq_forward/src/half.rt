@@ -3,9 +3,9 @@ ghost use Rattle.std.specs.Prelude.{◌≡◌, ◌+◌, ◌≤◌, length, drop,
 ghost use Rattle.std.specs.Io.KnownBytes.{Keeps};
 ghost use Rattle.sq_outside.specs.Input.{ReadHasCause};
 ghost use Rattle.sq_outside.specs.Output.{IsPrefix};
-ghost use Rattle.sq_forward.specs.Halves.{to_come, read_limit, Filled};
+ghost use Rattle.sq_forward.specs.Halves.{to_come, read_limit, large_read_limit, Filled};
 
-use crate::ahead::Ahead;
+use crate::ahead::{Ahead, LARGE_READ, READ};
 use sq_outside::{Source, Unread};
 
 /// A source with the bytes that were read ahead of it.
@@ -16,7 +16,7 @@ pub struct Half<S> {
 }
 
 impl<S: Source> Half<S> {
-    /// Reads some bytes behind those that are ahead. The answer is whether there were any. None is lost.
+    /// Reads some bytes, 16,384 at most, behind those that are ahead. The answer is whether there were any. None is lost.
     pub fn fill(&mut self) -> Result<bool, Unread>
         ensures kept { Keeps (to_come S.left self.old) (to_come S.left self.new) }
         ensures filled { IfOk result
@@ -26,7 +26,20 @@ impl<S: Source> Half<S> {
         ensures origin { S.origin self.new.source ≡ S.origin self.old.source }
         ensures cause { ReadHasCause (S.faults self.old.source) (S.faults self.new.source) result }
     {
-        self.ahead.read(&mut self.source)
+        self.ahead.read(&mut self.source, READ)
+    }
+
+    /// The same of 65,536 bytes at most.
+    pub(crate) fn fill_large(&mut self) -> Result<bool, Unread>
+        ensures kept { Keeps (to_come S.left self.old) (to_come S.left self.new) }
+        ensures filled { IfOk result
+            (Filled self.old.ahead self.new.ahead (S.left self.new.source)) }
+        ensures front { IsPrefix self.old.ahead self.new.ahead }
+        ensures few { length self.new.ahead ≤ length self.old.ahead + large_read_limit }
+        ensures origin { S.origin self.new.source ≡ S.origin self.old.source }
+        ensures cause { ReadHasCause (S.faults self.old.source) (S.faults self.new.source) result }
+    {
+        self.ahead.read(&mut self.source, LARGE_READ)
     }
 
     /// Drops the first n of the bytes that are ahead. It takes no memory.

@@ -32,6 +32,10 @@ impl Meter for MemMeter {
 
     ghost capped = { λ m. m.granted_capped };
 
+    fn is_seated(&self) -> bool {
+        self.seated
+    }
+
     fn grant(&mut self, wanted: u64) -> u64 {
         let given = if self.seated {
             wanted.min(self.room)

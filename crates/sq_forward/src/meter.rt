@@ -22,6 +22,10 @@ pub trait Meter {
 
     ghost besides: { Self → Besides };
 
+    /// Whether it holds a seat. It takes no memory.
+    fn is_seated(&self) -> bool
+        ensures { result ≡ seated self.now };
+
     /// Grants at most so many bytes, and all of them where no seat is held.
     fn grant(&mut self, wanted: u64) -> u64
         ensures gives { Gives (seated self.old) wanted result }

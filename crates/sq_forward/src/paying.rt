@@ -21,8 +21,38 @@ pub(crate) enum Unpaid {
     Starved,
 }
 
-/// Writes the bytes as they are granted. At a failure of the sink one grant may be written in part.
+/// Writes the bytes: on a seat as they are granted, and else as they are, for which no grant is needed. At a failure of
+/// the sink one grant may be written in part.
 pub(crate) fn pay<M: Meter, O: Sink>(meter: &mut M, to: &mut O, bytes: &[u8]) -> Result<(), Unpaid>
+    requires dry { M.dry meter.old ≡ 0 }
+    ensures ok { OnOk result
+        (PaysAll (M.seated meter.old) bytes.now (O.contents to.old) (O.contents to.new)
+        (M.granted meter.old) (M.granted meter.new)) }
+    ensures failed { IsErrOf result Unpaid.Failed
+        → PaysPart (M.seated meter.old) bytes.now (O.contents to.old) (O.contents to.new)
+        (M.granted meter.old) (M.granted meter.new) piece_limit }
+    ensures starved { IsErrOf result Unpaid.Starved
+        → PaysPart (M.seated meter.old) bytes.now (O.contents to.old) (O.contents to.new)
+        (M.granted meter.old) (M.granted meter.new) 0 }
+    ensures dry_at_ok { OnOk result (M.dry meter.new ≡ 0) }
+    ensures dry_at_failed { IsErrOf result Unpaid.Failed → M.dry meter.new ≡ 0 }
+    ensures dry_at_starved { IsErrOf result Unpaid.Starved → M.dry meter.new ≡ dry_limit }
+    ensures seated { M.seated meter.new ≡ M.seated meter.old }
+    ensures besides { M.besides meter.new ≡ M.besides meter.old }
+    ensures later { O.faults to.old ≤ O.faults to.new }
+    ensures cause { IsErrOf result Unpaid.Failed → Rose (O.faults to.old) (O.faults to.new) }
+{
+    if meter.is_seated() {
+        return pay_by_grants(meter, to, bytes);
+    }
+    match write_all(to, bytes) {
+        Ok(()) => Ok(()),
+        Err(Failed) => Err(Unpaid::Failed),
+    }
+}
+
+// Writes the bytes as they are granted, a grant at a time. At a failure of the sink one grant may be written in part.
+fn pay_by_grants<M: Meter, O: Sink>(meter: &mut M, to: &mut O, bytes: &[u8]) -> Result<(), Unpaid>
     requires dry { M.dry meter.old ≡ 0 }
     ensures ok { OnOk result
         (PaysAll (M.seated meter.old) bytes.now (O.contents to.old) (O.contents to.new)

@@ -5,7 +5,7 @@ ghost use Rattle.sq_head.specs.ReplyHeads.{most_bytes};
 ghost use Rattle.sq_headers.specs.Access.{access_by};
 ghost use Rattle.sq_outside.specs.Causes.{Rose};
 ghost use Rattle.sq_forward.specs.Exchanges.{shape_of, is_to_close, interim_text, ExchangeHasCause, dry_after_exchange};
-ghost use Rattle.sq_forward.specs.Halves.{to_come, read_limit};
+ghost use Rattle.sq_forward.specs.Halves.{to_come, read_limit, large_read_limit};
 ghost use Rattle.sq_forward.specs.Leading.{TakesHead, LeadsReply, LeadHasCause, SendsText, SendsReply, own_head, complete, body_sent, dry_after_sending};
 ghost use Rattle.sq_forward.specs.Replies.{is_interim};
 
@@ -233,7 +233,7 @@ pub(crate) fn send_reply<R: Wait, P: Source, O: Sink, M: Meter>(
     ensures origin_later { P.faults origin.old.source ≤ P.faults origin.new.source }
     ensures client_later { O.faults to_client.old ≤ O.faults to_client.new }
     ensures dialled { P.origin origin.new.source ≡ P.origin origin.old.source }
-    ensures few { length origin.new.ahead ≤ max (length origin.old.ahead) read_limit }
+    ensures few { length origin.new.ahead ≤ max (length origin.old.ahead) large_read_limit }
 {
     let plan = match plan_of(request, head) {
         Ok(plan) => plan,

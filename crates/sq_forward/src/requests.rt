@@ -4,7 +4,7 @@ ghost use Rattle.sq_head.specs.RequestHeads.{is_chunked};
 ghost use Rattle.sq_headers.specs.Access.{access_by};
 ghost use Rattle.sq_outside.specs.Causes.{Rose};
 ghost use Rattle.sq_forward.specs.Exchanges.{continue_part, dry_after_exchange};
-ghost use Rattle.sq_forward.specs.Halves.{to_come, read_limit};
+ghost use Rattle.sq_forward.specs.Halves.{to_come, large_read_limit};
 ghost use Rattle.sq_forward.specs.Sending.{sent, SendsRequest, SendHasCause};
 
 use crate::copying::{Copied, copy_body};
@@ -46,7 +46,7 @@ pub(crate) fn send_request<R: Wait, I: Source, O: Sink, Q: Sink>(
     ensures to_client_later { O.faults to_client.old ≤ O.faults to_client.new }
     ensures to_origin_later { Q.faults to_origin.old ≤ Q.faults to_origin.new }
     ensures dialled { I.origin client.new.source ≡ I.origin client.old.source }
-    ensures few { length client.new.ahead ≤ max (length client.old.ahead) read_limit }
+    ensures few { length client.new.ahead ≤ max (length client.old.ahead) large_read_limit }
 {
     let Ok(head) = request_head(alloc, config, facts, request, addr, plan) else {
         return Some(Exchanged::WantOfMemory);

@@ -2,7 +2,7 @@
 ghost use Rattle.std.specs.Prelude.{◌≡◌, ◌≤◌, ◌⊎◌, length, max};
 ghost use Rattle.sq_outside.specs.Causes.{Rose};
 ghost use Rattle.sq_outside.specs.Dials.{IsClosed};
-ghost use Rattle.sq_forward.specs.Halves.{to_come, read_limit};
+ghost use Rattle.sq_forward.specs.Halves.{to_come, large_read_limit};
 ghost use Rattle.sq_forward.specs.Tunnels.{JoinsWays, dry_after_tunnel, spare_of_tunnel, GoesInPart, GoesWhole, GoesPaid, GoesGranted};
 
 use crate::half::Half;
@@ -98,8 +98,8 @@ pub fn tunnel<
         × (Q.Sink.faults to_origin.old ≤ Q.Sink.faults to_origin.new) }
     ensures dialled { (I.origin client.new.source ≡ I.origin client.old.source)
         × (P.origin origin.new.source ≡ P.origin origin.old.source) }
-    ensures few { (length client.new.ahead ≤ max (length client.old.ahead) read_limit)
-        × (length origin.new.ahead ≤ max (length origin.old.ahead) read_limit) }
+    ensures few { (length client.new.ahead ≤ max (length client.old.ahead) large_read_limit)
+        × (length origin.new.ahead ≤ max (length origin.old.ahead) large_read_limit) }
 {
     let (up, down) = join_mut(
         rt,

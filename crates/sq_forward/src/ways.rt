@@ -1,7 +1,7 @@
 //! One way of a tunnel.
 ghost use Rattle.std.specs.Prelude.{◌≡◌, ◌≤◌, length, max};
 ghost use Rattle.sq_outside.specs.Dials.{IsClosed};
-ghost use Rattle.sq_forward.specs.Halves.{to_come, read_limit};
+ghost use Rattle.sq_forward.specs.Halves.{to_come, large_read_limit};
 ghost use Rattle.sq_forward.specs.Tunnels.{way_of, WayHasCause, dry_after_way, spare_of_way, GoesInPart, GoesWhole, PaidAtEnd, GoesGranted};
 
 use crate::copying::{Copied, copy_body};
@@ -67,7 +67,7 @@ pub(crate) fn copy_way<R: Wait, S: Source, O: Out, M: Meter>(
     ensures source_later { S.faults from.old.source ≤ S.faults from.new.source }
     ensures sink_later { O.Sink.faults to.old ≤ O.Sink.faults to.new }
     ensures origin { S.origin from.new.source ≡ S.origin from.old.source }
-    ensures few { length from.new.ahead ≤ max (length from.old.ahead) read_limit }
+    ensures few { length from.new.ahead ≤ max (length from.old.ahead) large_read_limit }
 {
     let copied = copy_body(rt, alloc, from, to, meter, BodyPlan::ToClose, false);
     to.close();
@@ -93,7 +93,7 @@ pub(crate) fn send_way<R: Wait, S: Source, O: Out>(
     ensures source_later { S.faults from.old.source ≤ S.faults from.new.source }
     ensures sink_later { O.Sink.faults to.old ≤ O.Sink.faults to.new }
     ensures origin { S.origin from.new.source ≡ S.origin from.old.source }
-    ensures few { length from.new.ahead ≤ max (length from.old.ahead) read_limit }
+    ensures few { length from.new.ahead ≤ max (length from.old.ahead) large_read_limit }
 {
     copy_way(rt, alloc, from, to, &mut Free)
 }

@@ -1,5 +1,5 @@
 mod MergeLaws
 mod NameLaws
-mod OrderLaws
 mod SearchLaws
+mod TableLaws
 pub mod ThreadLaws

@@ -1,3 +1,4 @@
+-- In the statement: docs/STATEMENT.md lists which definitions.
 -- The text of a journal entry: `MOMENT EVENT => ANSWER`, with one space between words. Numbers are
 -- decimal, and a text is one escaped word.
 use Rattle.std.specs.Prelude.{ℕ, ◌+◌, List, [], ◌∷◌, ◌++◌, map, codes, decimal, Some, None}

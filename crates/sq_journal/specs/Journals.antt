@@ -1,3 +1,4 @@
+-- In the statement: docs/STATEMENT.md lists which definitions.
 -- The text of a whole journal. Version 1 is the lines of its entries. Version 2 begins with the
 -- line `journal 2`, and each entry's text stands after its number and its epoch.
 use Rattle.std.specs.Prelude.{ℕ, ◌+◌, ◌-◌, ◌^◌, min, List, [], ◌∷◌, ◌++◌, length, codes, decimal}

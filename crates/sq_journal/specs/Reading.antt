@@ -1,3 +1,4 @@
+-- In the statement: docs/STATEMENT.md lists which definitions.
 -- Entries read from words, word by word.
 use Rattle.std.specs.Prelude.{◌≡◌, ℕ, ◌+◌, ◌^◌, ℤ, pos, negsuc, List, [], ◌∷◌, ◌==◌, Bool, if◌then◌else◌, ◌&&◌, ◌||◌, nat_lt, Some, None, Result, Ok, Err, zero, suc, bytes_eq, take, drop, position, option_map, option_and_then}
 use Rattle.std.specs.declared.option.Option.{Option}

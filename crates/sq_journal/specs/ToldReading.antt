@@ -1,3 +1,4 @@
+-- In the statement: docs/STATEMENT.md lists which definitions.
 -- Answers and entries read from words, word by word.
 use Rattle.std.specs.Prelude.{ℕ, ◌+◌, ◌^◌, List, [], ◌∷◌, Bool, if◌then◌else◌, Some, None, zero, suc, codes, bytes_eq, option_map, option_and_then}
 use Rattle.std.specs.declared.option.Option.{Option}

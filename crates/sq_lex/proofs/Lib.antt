@@ -1,3 +1,4 @@
+pub mod BareLaws
 mod JoinLaws
 mod LexLaws
 mod LineLaws

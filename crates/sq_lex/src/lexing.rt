@@ -1,8 +1,10 @@
 //! A text as lines of words.
-ghost use Rattle.std.specs.Prelude.{◌≡◌, ◌<◌, ◌^◌, length, None, IfOk, IfErr};
+ghost use Rattle.std.specs.Prelude.{◌≡◌, ◌<◌, ◌^◌, length, true, None, IfOk, IfErr};
+ghost use Rattle.std.specs.List.{list_all};
 ghost use Rattle.std.specs.Str.{is_utf8};
 ghost use Rattle.sq_base.specs.Lines.{fault_of, lexed_to, lexed_lines, lexed};
 ghost use Rattle.sq_lex.specs.Faults.{IsFaultOf};
+ghost use Rattle.sq_lex.specs.Words.{is_bare_line};
 
 use crate::faults::LexFault;
 use crate::joining::{Joined, join};
@@ -13,10 +15,11 @@ use std::alloc::Global;
 
 const LINE_LIMIT: usize = 65536;
 
-/// The lines with their words, or the first faulty line.
+/// The lines with their words, or the first faulty line. No word holds a blank.
 pub fn words(alloc: Global, text: &[u8]) -> Result<Lines, LexFault>
     requires { length text.now < 2 ^ 30 }
     ensures ok { IfOk result (λ lines. lexed text.now ≡ lexed_to lines None) }
+    ensures bare { IfOk result (λ lines. list_all is_bare_line lines ≡ true) }
     ensures err { IfErr result (λ e. IsFaultOf e (lexed text.now).fault) }
 {
     let lexed = lex(alloc, text)?;
@@ -26,10 +29,11 @@ pub fn words(alloc: Global, text: &[u8]) -> Result<Lines, LexFault>
     }
 }
 
-/// The lines before the first faulty one, and its fault.
+/// The lines before the first faulty one, and its fault. No word holds a blank.
 pub fn lex(alloc: Global, text: &[u8]) -> Result<Lexed, WantOfMemory>
     requires { length text.now < 2 ^ 30 }
-    ensures { IfOk result (λ l. l ≡ lexed text.now) }
+    ensures ok { IfOk result (λ l. l ≡ lexed text.now) }
+    ensures bare { IfOk result (λ l. list_all is_bare_line l.lines ≡ true) }
 {
     let lines = file_lines(alloc, text)?;
     let joined = join(alloc, lines.as_slice())?;

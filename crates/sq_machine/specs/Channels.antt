@@ -1,3 +1,4 @@
+-- In the statement: docs/STATEMENT.md lists which definitions.
 -- The channels of a helper process and the questions that are open on them (helper protocol page,
 -- "concurrency").
 use Rattle.std.specs.Prelude.{ℕ, suc, ◌≤◌, ◌<◌, List, [], ◌∷◌, map, length, Bool, true, false, ◌==◌, if◌then◌else◌, Some, None, slice_get}

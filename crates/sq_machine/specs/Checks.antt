@@ -1,3 +1,4 @@
+-- In the statement: docs/STATEMENT.md lists which definitions.
 -- The checks of a history: check n is the n-th `ask`, and is open where neither a `take` of it nor
 -- a `close` of its connection stands after it.
 use Rattle.std.specs.Prelude.{ℕ, List, [], ◌∷◌, Bool, true, false, if◌then◌else◌, ◌&&◌, ◌||◌, ◌==◌, nat_le, Some, None, zero, suc}

@@ -1,3 +1,4 @@
+-- In the statement: docs/STATEMENT.md lists which definitions.
 -- The act that is due: first a stop, then a send, then a start.
 use Rattle.std.specs.Prelude.{ℕ, List, [], ◌∷◌, map, length, if◌then◌else◌, Some, None}
 use Rattle.std.specs.List.{flat_map}
@@ -27,6 +28,12 @@ first_made f (x ∷ xs) = option_or (f x) (first_made f xs)
 pub record ClassId : Type 0 where
   pub epoch : ℕ
   pub class : ℕ
+
+-- an act: the stop of a process, a send of the class at a place, or a start of it
+pub data Due : Type 0 where
+  stops : ℕ → Due
+  sends : ClassId → Sending → Due
+  starts : ClassId → Due
 
 -- the classes of an epoch, in order
 abbrev pub class_ids : List Configuration → ℕ → List ClassId

@@ -1,3 +1,4 @@
+-- In the statement: docs/STATEMENT.md lists which definitions.
 -- Entries of a journal, and what holds of each.
 use Rattle.std.specs.Prelude.{◌≡◌, ℕ, List, Bool, true, false, not, ◌&&◌, ◌==◌, ◌^◌, nat_lt}
 use Rattle.sq_base.specs.Requests.{have_plain_names}

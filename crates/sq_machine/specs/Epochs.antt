@@ -1,3 +1,4 @@
+-- In the statement: docs/STATEMENT.md lists which definitions.
 -- Epochs of a history: each reconfiguration begins one, and it lives while it is current or has an
 -- open check.
 use Rattle.std.specs.Prelude.{ℕ, zero, suc, List, [], length, Bool, false, None, ◌||◌, ◌&&◌, ◌==◌, slice_get, bytes_eq, position}

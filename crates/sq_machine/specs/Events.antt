@@ -1,3 +1,4 @@
+-- In the statement: docs/STATEMENT.md lists which definitions.
 -- What an event does, told by what it names, so that a reading, or a theorem over histories, goes
 -- by the one or two cases that matter to it.
 use Rattle.std.specs.Prelude.{ℕ, ℤ, List, Bool, true, false, ◌==◌, Some, None, is_some}

@@ -1,3 +1,4 @@
+-- In the statement: docs/STATEMENT.md lists which definitions.
 -- The farm of an epoch's class as a history leaves it: its queue, its processes with their
 -- channels, its starts.
 use Rattle.std.specs.Prelude.{ℕ, ◌-◌, min, List, [], ◌∷◌, Bool, true, false, not, ◌&&◌, ◌||◌, ◌==◌, if◌then◌else◌, bytes_eq, is_some, Some, None}

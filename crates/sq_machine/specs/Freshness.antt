@@ -1,3 +1,4 @@
+-- In the statement: docs/STATEMENT.md lists which definitions.
 -- How long a verdict is fresh (configuration reference, `external_acl_type`, options `ttl=`,
 -- `negative_ttl=` and `grace=`).
 use Rattle.std.specs.Prelude.{ℕ, ◌-◌, ◌*◌, ◌/◌, Bool, ◌&&◌, nat_le, nat_lt}

@@ -1,3 +1,4 @@
+-- In the statement: docs/STATEMENT.md lists which definitions.
 -- The cached replies of an epoch's class, as a history leaves them (configuration reference,
 -- `external_acl_type`, options `cache=`, `ttl=`, `negative_ttl=`).
 use Rattle.std.specs.Prelude.{ℕ, suc, List, [], ◌∷◌, Bool, false, not, ◌&&◌, ◌==◌, if◌then◌else◌, is_some, position, Some, None}
@@ -14,7 +15,8 @@ use Rattle.sq_rules.specs.Configurations.{Configuration}
 use Rattle.sq_machine.specs.Epochs.{class_at, config_of}
 use Rattle.sq_rules.specs.AlikeClasses.{is_alike}
 use Rattle.sq_machine.specs.KeptLists.{CachedReplies, is_fault, keep, to_front}
-use Rattle.sq_machine.specs.Marks.{Past, Put, entries}
+use Rattle.sq_machine.specs.DueActs.{ClassId}
+use Rattle.sq_machine.specs.Marks.{Marked, Past, Put, entries}
 use Rattle.sq_machine.specs.Questions.{put_of, said_by}
 use Rattle.sq_machine.specs.Readings.{current}
 use Rattle.sq_machine.specs.FarmReadings.{is_put_for}
@@ -46,13 +48,13 @@ abbrev pub keep_reply : Option Class → ℕ → Option (List ℕ) → ℕ → O
 keep_reply (Some class) q (Some key) date (Some w) kept = keep_what class q key date w kept
 keep_reply class q key date w kept = kept
 
--- a line that is a reply
-abbrev pub after_line : List Configuration → Past → ℕ → ℕ → ℕ → List ℕ → ℕ → Told → CachedReplies
+-- a line that is a reply, at its moment
+abbrev pub after_line : List Configuration → Past → ClassId → ℕ → List ℕ → ℕ → Told → CachedReplies
     → CachedReplies
-after_line configs m e c k bytes date (told.Reply q w) kept =
-    keep_reply (class_at configs e c) q (key_here e c (put_of m q)) date (said_by configs m k bytes)
-    kept
-after_line configs m e c k bytes date answer kept = kept
+after_line configs m here k bytes date (told.Reply q w) kept =
+    keep_reply (class_at configs here.epoch here.class) q
+    (key_here here.epoch here.class (put_of m q)) date (said_by configs m k bytes) kept
+after_line configs m here k bytes date answer kept = kept
 
 -- a new epoch begins with what was kept of classes that are alike, and their lists of the epoch
 -- before are empty from there
@@ -63,20 +65,21 @@ after_reconfigure configs before now e c kept =
     else (if (e == now) && is_some (alike_place configs (suc now) (class_at configs e c)) then []
     else kept)
 
--- what an entry leaves
-abbrev pub kept_after : List Configuration → Past → (ℕ → CachedReplies) → ℕ → ℕ → ℕ → Event → Told
-    → Option Answer → CachedReplies → CachedReplies
-kept_after configs m before e c date (Step n) answer took kept =
-    after_took (option_map_or (λ a. a.epoch == e) (ask_of (entries m) n) false) c took kept
-kept_after configs m before e c date (Line k bytes) answer took kept =
-    after_line configs m e c k bytes date answer kept
-kept_after configs m before e c date (Reconfigure text) answer took kept =
-    after_reconfigure configs before (current (entries m)) e c kept
-kept_after configs m before e c date event answer took kept = kept
+-- what an entry leaves of the class there, by its event
+abbrev pub kept_after : List Configuration → Past → (ℕ → CachedReplies) → ClassId → Event → Marked
+    → CachedReplies → CachedReplies
+kept_after configs m before here (Step n) x kept =
+    after_took (option_map_or (λ a. a.epoch == here.epoch) (ask_of (entries m) n) false) here.class
+    x.took kept
+kept_after configs m before here (Line k bytes) x kept =
+    after_line configs m here k bytes x.entry.moment x.entry.answer kept
+kept_after configs m before here (Reconfigure text) x kept =
+    after_reconfigure configs before (current (entries m)) here.epoch here.class kept
+kept_after configs m before here event x kept = kept
 
 -- what is kept of the class at a place of an epoch's configuration, the newest use first
 abbrev pub kept : List Configuration → Past → ℕ → ℕ → CachedReplies
 kept configs [] e c = []
 kept configs (x ∷ m) e c =
-    kept_after configs m (kept configs m (current (entries m))) e c x.entry.moment x.entry.event
-    x.entry.answer x.took (kept configs m e c)
+    kept_after configs m (kept configs m (current (entries m))) (record { epoch = e; class = c })
+    x.entry.event x (kept configs m e c)

@@ -29,6 +29,5 @@ pub mod Readings
 pub mod Rising
 pub mod SeatPlaces
 pub mod StepRule
-pub mod Tags
 pub mod TakenRecords
 pub mod Transcripts

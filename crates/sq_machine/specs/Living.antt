@@ -1,3 +1,4 @@
+-- In the statement: docs/STATEMENT.md lists which definitions.
 -- The living processes of a class, by number (configuration reference, `external_acl_type`,
 -- "children-max", "concurrency").
 use Rattle.std.specs.Prelude.{ℕ, ◌+◌, List, [], ◌∷◌, map, Bool, true, false, if◌then◌else◌, nat_lt, ◌==◌, Some, None, is_some}

@@ -1,3 +1,4 @@
+-- In the statement: docs/STATEMENT.md lists which definitions.
 -- Questions that have a fault in place of a reply and were not handed out yet.
 use Rattle.std.specs.Prelude.{◌≡◌, ℕ, suc, List, [], ◌∷◌, if◌then◌else◌, nat_lt, ◌==◌, Some, None}
 use Rattle.std.specs.declared.option.Option.{Option}

@@ -1,3 +1,4 @@
+-- In the statement: docs/STATEMENT.md lists which definitions.
 -- A history marked: beside each entry what the rule of a step says there.
 use Rattle.std.specs.Prelude.{ℕ, List, [], ◌∷◌, None}
 use Rattle.sq_machine.specs.declared.entries.Event.{Event}

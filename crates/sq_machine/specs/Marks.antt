@@ -1,3 +1,4 @@
+-- In the statement: docs/STATEMENT.md lists which definitions.
 -- A history with what its steps said: beside each entry the question that was put there, and what a
 -- check took there.
 use Rattle.std.specs.Prelude.{ℕ, List, [], ◌∷◌}

@@ -1,3 +1,4 @@
+-- In the statement: docs/STATEMENT.md lists which definitions.
 -- What the machine may answer to an event.
 use Rattle.std.specs.Prelude.{ℕ, Bool, true, false, Some, None}
 use Rattle.std.specs.declared.option.Option.{Option}

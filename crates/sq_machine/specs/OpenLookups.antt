@@ -1,3 +1,4 @@
+-- In the statement: docs/STATEMENT.md lists which definitions.
 -- Questions to helpers that have no answer yet, with their keys, and the checks that wait for them.
 use Rattle.std.specs.Prelude.{ℕ, List, [], ◌∷◌, Bool, true, ◌&&◌, ◌==◌, if◌then◌else◌, nat_lt, find, is_none}
 use Rattle.std.specs.List.{list_any, list_all}

@@ -1,3 +1,4 @@
+-- In the statement: docs/STATEMENT.md lists which definitions.
 -- Delay pools over what happens to them: generations, seats, buckets, and what a grant answers
 -- (configuration reference, `delay_pools`, `delay_class`, `delay_access`, `delay_parameters`). Pools
 -- with buckets by addresses and those with buckets by tags have generations of their own, so each of

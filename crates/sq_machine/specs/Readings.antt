@@ -1,3 +1,4 @@
+-- In the statement: docs/STATEMENT.md lists which definitions.
 -- What a history says of its time and of its epochs.
 use Rattle.std.specs.Prelude.{ℕ, suc, Bool, true, false, ℤ, pos, [], ◌∷◌, Some, None, max}
 use Rattle.std.specs.declared.option.Option.{Option}

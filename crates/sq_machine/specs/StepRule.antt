@@ -1,3 +1,4 @@
+-- In the statement: docs/STATEMENT.md lists which definitions.
 -- What a step of a check says: the verdict, or how the answer that is needed first is found.
 use Rattle.std.specs.Prelude.{ℕ, suc, List, length, Bool, true, false, if◌then◌else◌, nat_lt, Some, None, slice_get}
 use Rattle.std.specs.Option.{option_and_then, option_map_or}

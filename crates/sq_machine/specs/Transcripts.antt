@@ -1,3 +1,4 @@
+-- In the statement: docs/STATEMENT.md lists which definitions.
 -- What a helper process was sent and what it wrote: on each channel the question that waits (helper
 -- protocol page).
 use Rattle.std.specs.Prelude.{ℕ, max, List, [], ◌∷◌, map, Bool, true, false, ◌&&◌, ◌==◌, if◌then◌else◌, nat_le, nat_lt, Some, None}

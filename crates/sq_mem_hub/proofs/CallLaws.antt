@@ -168,7 +168,12 @@ makes_by R tell e (Err (refusal.TooManyEpochs n)) v w other tells promised same 
       pools = pools;
     }
 makes_by R tell e (Err (refusal.Spent n)) v w other tells promised same left pools =
-    record { answers = λ no. refused_by v.machine v.moment e (refusal.Spent n) promised; unmade = same; rewriter = left; pools = pools }
+    record {
+      answers = λ no. refused_by v.machine v.moment e (refusal.Spent n) promised;
+      unmade = same;
+      rewriter = left;
+      pools = pools;
+    }
 makes_by R tell e (Err refusal.WantOfMemory) v w other tells promised same left pools =
     record { answers = tt; unmade = same; rewriter = left; pools = pools }
 
@@ -205,7 +210,8 @@ kept_same old new e = λ n b is. subst (λ checks. begun_in checks n ≡ Some b)
 
 -- a check that begins
 pub begins_by : (n : ℕ) (config : Configuration) (r : HttpRequest) (old : List (ℕ × CheckParts)) (v w : EngineView)
-    (rewriter : Option RewriteState) (pools : DelayPools) (moment : ℕ) → HasBegun n config r old w.checks → BeginsCheck r (Ok n) (hub_state w rewriter pools moment)
+    (rewriter : Option RewriteState) (pools : DelayPools) (moment : ℕ) → HasBegun n config r old w.checks
+    → BeginsCheck r (Ok n) (hub_state w rewriter pools moment)
 begins_by n config r old v w rewriter pools moment has = (
   check_of
       (record { config = config; sight = has.sight; pool = pool_of config has.sight; looks = 0 }),
@@ -232,7 +238,8 @@ taken_from v n j (Some k) at told_is rec =
       ap (λ o. option_map check_of (option_map begun_parts o)) at ∙ ap (λ (x : Judged). Some (begun_of x)) (sym is),
     )
 
-pub taken_by : (v : EngineView) (n : ℕ) (rewriter : Option RewriteState) (pools : DelayPools) (moment : ℕ) (r : Result Judged Refusal)
+pub taken_by : (v : EngineView) (n : ℕ) (rewriter : Option RewriteState) (pools : DelayPools) (moment : ℕ)
+    (r : Result Judged Refusal)
     → IsAlwaysTold (λ j. told.Judged j.epoch j.outcome) (take_answer (state_of v) n) r
     → IfOk r (λ j. (k : CheckParts) → value_at v.checks n ≡ Some k → j ≡ judged_of n j.outcome k)
     → IsOfCheck n (hub_result r) (hub_state v rewriter pools moment)
@@ -247,7 +254,8 @@ step_tells s e stepped.Done = refl
 
 -- a question
 begins_so : (x : Result ℕ Refusal) (config : Configuration) (r : HttpRequest) (old : List (ℕ × CheckParts))
-    (v w : EngineView) (rewriter : Option RewriteState) (pools : DelayPools) (moment : ℕ) → IfOk x (λ n. HasBegun n config r old w.checks)
+    (v w : EngineView) (rewriter : Option RewriteState) (pools : DelayPools) (moment : ℕ)
+    → IfOk x (λ n. HasBegun n config r old w.checks)
     → BeginsCheck r (hub_result x) (hub_state w rewriter pools moment)
 begins_so (Ok n) config r old v w rewriter pools moment has = begins_by n config r old v w rewriter pools moment has
 begins_so (Err why) config r old v w rewriter pools moment has = tt
@@ -266,13 +274,15 @@ asks_by conn r x f v w rewriter pools moment is promised same has =
     })
 
 -- a step
-pub steps_by : (n k : ℕ) (x : Result Stepped Refusal) (f : Result Stepped HubFault) (v w : EngineView) (rewriter : Option RewriteState) (pools : DelayPools)
+pub steps_by : (n k : ℕ) (x : Result Stepped Refusal) (f : Result Stepped HubFault) (v w : EngineView)
+    (rewriter : Option RewriteState) (pools : DelayPools)
     (moment : ℕ) → f ≡ hub_result x
     → IsPromised (stepped_told (state_of v) k) (state_of v) (max moment v.latest) (event.Step n) x (state_of w)
     → OnErr x (IsSame (state_of w) (state_of v)) → engine.AreKeptBut n v.checks w.checks
     → MakesOn IsStep (event.Step n) f (hub_state v rewriter pools moment) (hub_state w rewriter pools moment)
 steps_by n k x f v w rewriter pools moment is promised same kept =
-    subst (λ y. MakesOn IsStep (event.Step n) y (hub_state v rewriter pools moment) (hub_state w rewriter pools moment)) (sym is)
+    subst (λ y. MakesOn IsStep (event.Step n) y (hub_state v rewriter pools moment) (hub_state w rewriter pools moment))
+    (sym is)
     (record {
       makes = makes_by IsStep (stepped_told (state_of v) k) (event.Step n) x (hub_state v rewriter pools moment)
           (hub_state w rewriter pools moment) refl (step_tells (state_of v) k) promised same refl refl;
@@ -280,7 +290,8 @@ steps_by n k x f v w rewriter pools moment is promised same kept =
     })
 
 -- the taking of a record
-pub takes_by : (n : ℕ) (x : Result Judged Refusal) (f : Result Judged HubFault) (v w : EngineView) (rewriter : Option RewriteState) (pools : DelayPools)
+pub takes_by : (n : ℕ) (x : Result Judged Refusal) (f : Result Judged HubFault) (v w : EngineView)
+    (rewriter : Option RewriteState) (pools : DelayPools)
     (moment : ℕ) → f ≡ hub_result x
     → IsAlwaysTold (λ j. told.Judged j.epoch j.outcome) (take_answer (state_of v) n) x
     → IfOk x (λ j. (k : CheckParts) → value_at v.checks n ≡ Some k → j ≡ judged_of n j.outcome k)
@@ -291,7 +302,8 @@ takes_by n x f v w rewriter pools moment is told_is rec promised same kept =
     subst (λ y. Takes n y (hub_state v rewriter pools moment) (hub_state w rewriter pools moment)) (sym is)
     (record {
       makes = record {
-        makes = makes_by IsTaken (λ j. told.Judged j.epoch j.outcome) (event.Take n) x (hub_state v rewriter pools moment)
+        makes = makes_by IsTaken (λ j. told.Judged j.epoch j.outcome) (event.Take n) x
+            (hub_state v rewriter pools moment)
             (hub_state w rewriter pools moment) refl (λ j. refl) promised (unmade x v w same) refl refl;
         kept = kept_by v.checks w.checks kept;
       };

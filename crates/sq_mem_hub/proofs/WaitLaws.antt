@@ -41,7 +41,8 @@ both false b p q = absurd (cc)
 
 -- nothing came
 pub waited_self : (v : HubState) → Waited v v
-waited_self v = record { adds = λ configs h st. ([], refl, st); kept = λ n b e. e; works = works_self v.rewriter; pools = refl }
+waited_self v = record
+    { adds = λ configs h st. ([], refl, st); kept = λ n b e. e; works = works_self v.rewriter; pools = refl }
 
 -- and more came
 pub waited_then : (v w x : HubState) → Waited v w → Waited w x → Waited v x
@@ -60,7 +61,8 @@ waited_then v w x one other = record {
 }
 
 -- one event that was answered
-one_event : (v w : EngineView) (rewriter : Option RewriteState) (pools : DelayPools) (moment : ℕ) (e : Event) (answer : Told) → comes_outside e ≡ true
+one_event : (v w : EngineView) (rewriter : Option RewriteState) (pools : DelayPools) (moment : ℕ) (e : Event)
+    (answer : Told) → comes_outside e ≡ true
     → is_of_pools e ≡ false → AreKept (begun_in v.checks) (begun_in w.checks)
     → ((configs : List Configuration) (h : History) → StandsFor configs h (state_of v) → latest h ≤ max moment v.latest
     → IsAnswered configs h (max moment v.latest) e answer (state_of w))
@@ -78,7 +80,8 @@ one_event v w rewriter pools moment e answer outside other kept promised = recor
 }
 
 -- one that was not made
-no_event : (v w : EngineView) (rewriter : Option RewriteState) (pools : DelayPools) (moment : ℕ) → AreKept (begun_in v.checks) (begun_in w.checks)
+no_event : (v w : EngineView) (rewriter : Option RewriteState) (pools : DelayPools) (moment : ℕ)
+    → AreKept (begun_in v.checks) (begun_in w.checks)
     → IsSame (state_of w) (state_of v) → Waited (hub_state v rewriter pools moment) (hub_state w rewriter pools moment)
 no_event v w rewriter pools moment kept same = record {
   adds = λ configs h st. (
@@ -100,31 +103,39 @@ no_event v w rewriter pools moment kept same = record {
 }
 
 -- an act
-pub waited_act : (v w : EngineView) (rewriter : Option RewriteState) (pools : DelayPools) (moment : ℕ) (a : Act) → w.checks ≡ v.checks
+pub waited_act : (v w : EngineView) (rewriter : Option RewriteState) (pools : DelayPools) (moment : ℕ) (a : Act)
+    → w.checks ≡ v.checks
     → IsActPromised (state_of v) (max moment v.latest) (Some a) (state_of w)
     → Waited (hub_state v rewriter pools moment) (hub_state w rewriter pools moment)
 waited_act v w rewriter pools moment a checks promised =
-    one_event v w rewriter pools moment event.Act (told_of_act (state_of v) a) refl refl (kept_same v.checks w.checks checks)
+    one_event v w rewriter pools moment event.Act (told_of_act (state_of v) a) refl refl
+    (kept_same v.checks w.checks checks)
     promised
 
 -- a call for a process
-pub waited_by : {A : Type 0} (tell : A → Told) (v w : EngineView) (rewriter : Option RewriteState) (pools : DelayPools) (moment : ℕ) (e : Event)
+pub waited_by : {A : Type 0} (tell : A → Told) (v w : EngineView) (rewriter : Option RewriteState) (pools : DelayPools)
+    (moment : ℕ) (e : Event)
     (r : Result A Refusal) → comes_outside e ≡ true → is_of_pools e ≡ false
     → AreKept (begun_in v.checks) (begun_in w.checks)
     → IsPromised tell (state_of v) (max moment v.latest) e r (state_of w) → OnErr r (IsSame (state_of w) (state_of v))
     → Waited (hub_state v rewriter pools moment) (hub_state w rewriter pools moment)
 waited_by tell v w rewriter pools moment e (Ok a) outside other kept promised same =
     one_event v w rewriter pools moment e (tell a) outside other kept promised
-waited_by tell v w rewriter pools moment e (Err why) outside other kept promised same = no_event v w rewriter pools moment kept same
+waited_by tell v w rewriter pools moment e (Err why) outside other kept promised same = no_event v w rewriter pools
+    moment kept same
 
 -- a start
-pub waited_start : {A : Type 0} (tell : A → Told) (v w : EngineView) (rewriter : Option RewriteState) (pools : DelayPools) (moment : ℕ) (p : ClassId)
+pub waited_start : {A : Type 0} (tell : A → Told) (v w : EngineView) (rewriter : Option RewriteState)
+    (pools : DelayPools) (moment : ℕ) (p : ClassId)
     (r : Result A Refusal) → AreKept (begun_in v.checks) (begun_in w.checks)
     → IsPromisedAt tell (state_of v) (max moment v.latest) event.Started p r (state_of w)
-    → OnErr r (IsSame (state_of w) (state_of v)) → Waited (hub_state v rewriter pools moment) (hub_state w rewriter pools moment)
+    → OnErr r (IsSame (state_of w) (state_of v))
+    → Waited (hub_state v rewriter pools moment) (hub_state w rewriter pools moment)
 waited_start tell v w rewriter pools moment p (Ok a) kept promised same =
-    one_event v w rewriter pools moment (event.Started p.epoch (name_in (state_of v) p)) (tell a) refl refl kept promised
-waited_start tell v w rewriter pools moment p (Err why) kept promised same = no_event v w rewriter pools moment kept same
+    one_event v w rewriter pools moment (event.Started p.epoch (name_in (state_of v) p)) (tell a) refl refl kept
+    promised
+waited_start tell v w rewriter pools moment p (Err why) kept promised same = no_event v w rewriter pools moment kept
+    same
 
 -- calls came to the rewriter alone
 pub waited_works : (v : EngineView) (a b : Option RewriteState) (pools : DelayPools) (moment : ℕ) → Works a b

@@ -1,3 +1,4 @@
+-- In the statement: docs/STATEMENT.md lists which definitions.
 -- What every legal history is: what its outcomes, its questions and their sends come from.
 use Rattle.std.specs.Prelude.{◌≡◌, ◌⊎◌, ℕ, ◌≤◌, List, [], ◌∷◌, true, false, length, nat_lt, Some, None}
 use Rattle.std.specs.declared.option.Option.{Option}

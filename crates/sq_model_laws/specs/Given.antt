@@ -1,3 +1,4 @@
+-- In the statement: docs/STATEMENT.md lists which definitions.
 -- What a history gave: answers by the lines of helpers, and what a check has them from.
 use Rattle.std.specs.Prelude.{Bool, List, None, Some, ℕ, [], false, if◌then◌else◌, length, nat_lt, suc, true, ◌==◌, ◌∷◌, ◌≡◌, ◌⊎◌}
 use Rattle.sq_base.specs.declared.helpers.Answer.{Answer}

@@ -1,3 +1,4 @@
+-- In the statement: docs/STATEMENT.md lists which definitions.
 -- What a check needs, and what it needs that waits for a question.
 use Rattle.std.specs.Prelude.{◌≡◌, ℕ, ◌≤◌, List, [], ◌∷◌, true, false, length, nat_lt, Some}
 use Rattle.std.specs.Option.{option_and_then}

@@ -1,3 +1,4 @@
+-- In the statement: docs/STATEMENT.md lists which definitions.
 -- Open checks as rows, and what a step and the ends of questions do to them.
 use Rattle.std.specs.Prelude.{ℕ, suc, min, List, [], ◌∷◌, ◌++◌, Bool, true, false, ◌||◌, ◌==◌, if◌then◌else◌, filter, find, map, not, Some, None}
 use Rattle.std.specs.Option.{option_and_then, option_to_list, unwrap_or}

@@ -10,7 +10,7 @@ use Rattle.sq_machine.specs.declared.entries.Told.{Told}
 use Rattle.sq_machine.specs.declared.entries.Told.TheVariants as told
 use Rattle.sq_rules.specs.Classes.{Class}
 use Rattle.sq_rules.specs.Configurations.{Configuration}
-use Rattle.sq_machine.specs.DueActs.{ClassId, first_made, first_of, live_places, next_act, class_ids, send_at, sending_told, start_at, stop_of}
+use Rattle.sq_machine.specs.DueActs.{ClassId, Due, class_ids, first_made, first_of, live_places, next_act, send_at, sending_told, sends, start_at, starts, stop_of, stops}
 use Rattle.sq_machine.specs.Epochs.{class_at, is_live, name_of_class, config_of}
 use Rattle.sq_machine.specs.FarmReadings.{farm_with}
 use Rattle.sq_machine.specs.Farms.{Sending, send_of, start_due}
@@ -22,7 +22,7 @@ use Rattle.sq_machine.specs.Readings.{current}
 use Rattle.sq_model_rows.specs.ClassRows.{ClassRow, class_row}
 use Rattle.sq_model_laws.specs.Given.{EachOf}
 use Rattle.sq_model_laws.proofs.RowLaws.{picks_same}
-use Rattle.sq_model_state.specs.Acts.{Due, due_in, live_places_in, places_in, send_in, sends, start_in, starts, stop_in, stops}
+use Rattle.sq_model_state.specs.Acts.{due_in, live_places_in, places_in, send_in, start_in, stop_in}
 use Rattle.sq_model_state.specs.Answers.{act_answer, act_of, due_told, name_in}
 use Rattle.sq_model_state.specs.States.{State, Stands, live}
 use Rattle.sq_model_state.proofs.Lawful.{class_live, config_live, lives_is, row_live}

@@ -6,7 +6,7 @@ use Rattle.sq_machine.specs.declared.entries.Told.{Told}
 use Rattle.sq_machine.specs.declared.entries.Told.TheVariants as told
 use Rattle.sq_machine.specs.declared.refusals.Refusal.TheVariants as refusal
 use Rattle.sq_rules.specs.Configurations.{Configuration}
-use Rattle.sq_machine.specs.DueActs.{ClassId, sending_told}
+use Rattle.sq_machine.specs.DueActs.{ClassId, sending_told, sends, starts, stops}
 use Rattle.sq_machine.specs.Entries.{History}
 use Rattle.sq_machine.specs.Farms.{Sending}
 use Rattle.sq_machine.specs.Machine.{next}
@@ -17,7 +17,7 @@ use Rattle.sq_machine.specs.Marks.{Past, entries}
 use Rattle.sq_machine.specs.Readings.{current, latest}
 use Rattle.sq_model_rows.specs.ClassRows.{ClassRow}
 use Rattle.sq_model_laws.proofs.LegalLaws.{marked_entries}
-use Rattle.sq_model_state.specs.Acts.{due_in, sends, starts, stops}
+use Rattle.sq_model_state.specs.Acts.{due_in}
 use Rattle.sq_model_state.specs.Answers.{act_of, failed_answer, has_start_in, name_in, reconfigure_answer, started_answer}
 use Rattle.sq_model_state.specs.Changes.{after_failed_at, after_reconfigured, after_send_at, after_start_at, after_started_at, after_stop_of}
 use Rattle.sq_model_state.specs.Promises.{IsAnswered, StandsFor}

@@ -11,7 +11,7 @@ use Rattle.sq_machine.specs.declared.entries.Told.TheVariants as told
 use Rattle.sq_machine.specs.Channels.{channel_name, least_free}
 use Rattle.sq_rules.specs.Classes.{Class}
 use Rattle.sq_rules.specs.Configurations.{Configuration}
-use Rattle.sq_machine.specs.DueActs.{ClassId, sending_told}
+use Rattle.sq_machine.specs.DueActs.{ClassId, sending_told, sends, starts}
 use Rattle.sq_machine.specs.Entries.{History}
 use Rattle.sq_machine.specs.Epochs.{class_at, is_live, config_of}
 use Rattle.sq_machine.specs.FarmReadings.{farm_with, is_put_for, is_queued, living_of, waiting_of}
@@ -32,7 +32,7 @@ use Rattle.sq_model_laws.proofs.RowLaws.{picked, row_among}
 use Rattle.sq_model_laws.proofs.SendLaws.{SendIs, class_not_sending, class_sending, send_is}
 use Rattle.sq_model_laws.proofs.StartLaws.{class_not_starting, class_starting}
 use Rattle.sq_model_laws.proofs.StepLaws.{class_stopped}
-use Rattle.sq_model_state.specs.Acts.{due_in, sends, starts}
+use Rattle.sq_model_state.specs.Acts.{due_in}
 use Rattle.sq_model_state.specs.Answers.{name_in}
 use Rattle.sq_model_state.specs.Changes.{after_send_at, after_start_at, after_stop_of, at, change_row, is_at}
 use Rattle.sq_model_state.specs.States.{State, Stands, place_of}

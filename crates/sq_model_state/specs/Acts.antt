@@ -1,18 +1,13 @@
+-- In the statement: docs/STATEMENT.md lists which definitions.
 -- The act that is due, by the machine's state.
 use Rattle.std.specs.Prelude.{ℕ, List, map, length, Some, None, if◌then◌else◌}
 use Rattle.std.specs.List.{flat_map}
 use Rattle.std.specs.Option.{option_and_then, option_map, option_map_or, option_or}
 use Rattle.std.specs.declared.option.Option.{Option}
-use Rattle.sq_machine.specs.DueActs.{ClassId, first_made, first_of}
+use Rattle.sq_machine.specs.DueActs.{ClassId, Due, first_made, first_of, sends, starts, stops}
 use Rattle.sq_machine.specs.Farms.{Sending, send_of, start_due}
 use Rattle.sq_machine.specs.Numbered.{below, picks}
 use Rattle.sq_model_state.specs.States.{State, live}
-
--- an act: the stop of a process, a send of the class at a place, or a start of it
-pub data Due : Type 0 where
-  stops : ℕ → Due
-  sends : ClassId → Sending → Due
-  starts : ClassId → Due
 
 -- the classes of a live epoch, in order
 abbrev pub places_in : State → ℕ → List ClassId

@@ -10,7 +10,7 @@ use Rattle.sq_machine.specs.declared.refusals.Refusal.TheVariants as refusal
 use Rattle.sq_rules.specs.declared.sights.Sight.{Sight}
 use Rattle.sq_machine.specs.Channels.{Channels}
 use Rattle.sq_machine.specs.Checks.{Asked, peer_or_nobody}
-use Rattle.sq_machine.specs.DueActs.{ClassId, sending_told}
+use Rattle.sq_machine.specs.DueActs.{ClassId, Due, sending_told, sends, starts, stops}
 use Rattle.sq_machine.specs.Machine.{step_next}
 use Rattle.sq_machine.specs.Limits.{conn_limit, epoch_limit, last_number}
 use Rattle.sq_machine.specs.Living.{find_proc}
@@ -19,7 +19,7 @@ use Rattle.sq_machine.specs.Numbered.{picks}
 use Rattle.sq_rules.specs.Sights.{asked_request, minute_of_week}
 use Rattle.sq_machine.specs.Transcripts.{line_is, line_told}
 use Rattle.sq_model_rows.specs.CheckRows.{Held, held_at, held_on}
-use Rattle.sq_model_state.specs.Acts.{Due, due_in, sends, starts, stops}
+use Rattle.sq_model_state.specs.Acts.{due_in}
 use Rattle.sq_model_state.specs.Says.{class_in, outcome_in, says_in}
 use Rattle.sq_model_state.specs.States.{State}
 

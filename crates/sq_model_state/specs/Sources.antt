@@ -1,3 +1,4 @@
+-- In the statement: docs/STATEMENT.md lists which definitions.
 -- Which text an epoch began by.
 use Rattle.std.specs.Prelude.{◌≡◌, suc, List, [], ◌∷◌, Some}
 use Rattle.sq_machine.specs.declared.entries.Event.{Event}

@@ -1,6 +1,6 @@
 -- Links: where they came from, whether they were closed, and what a dialer and a listener tell of
 -- them.
-use Rattle.std.specs.Prelude.{◌≡◌, ℕ, ◌+◌, List, [], ◌∷◌, ◌++◌, Bool, true, false, Some, IfSome}
+use Rattle.std.specs.Prelude.{◌≡◌, ◌⊎◌, ℕ, ◌+◌, List, [], ◌∷◌, ◌++◌, Bool, true, false, Some, IfSome}
 use Rattle.std.specs.declared.option.Option.{Option}
 use Rattle.sq_base.specs.Addresses.{Address}
 
@@ -38,6 +38,14 @@ IsOpen told = IfSome told (λ b. b ≡ false)
 -- to a sink that tells nothing was written
 abbrev pub IsEmpty : Option (List ℕ) → Type 0
 IsEmpty told = IfSome told (λ bytes. bytes ≡ [])
+
+-- where the dialer tells its calls, there was one more
+abbrev pub CallsMore : Option ℕ → Option ℕ → Type 0
+CallsMore old new = IfSome new (λ now. (before : ℕ) × (old ≡ Some before) × (now ≡ before + 1))
+
+-- there was no call, or one
+abbrev pub CallsOnce : Option ℕ → Option ℕ → Type 0
+CallsOnce old new = (new ≡ old) ⊎ CallsMore old new
 
 -- where the dialer tells, one dial more was made
 abbrev pub DialsMore : Option Dialled → Option Dialled → Type 0

@@ -3,14 +3,7 @@ pub mod Causes
 pub mod Dials
 pub mod Holding
 pub mod Input
-pub mod Memory
-pub mod MemoryChildren
-pub mod MemoryLinks
-pub mod MemoryNet
-pub mod MemoryServer
-pub mod MemoryWorld
 pub mod Output
 pub mod SourceLines
-pub mod Taking
 pub mod Told
 pub mod World

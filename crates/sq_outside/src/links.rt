@@ -2,7 +2,7 @@
 ghost use Rattle.std.specs.Prelude.{◌≡◌, ℕ, ◌+◌, ◌≤◌, List, Bool, IfOk, OnOk, OnErr};
 ghost use Rattle.std.specs.declared.option.Option.{Option};
 ghost use Rattle.sq_outside.specs.Causes.{HasCause, TakesBack, count_limit};
-ghost use Rattle.sq_outside.specs.Dials.{Dialled, Coming, IsClosed, IsOpen, DialsMore, DialReaches, GivesDial, LinkComes};
+ghost use Rattle.sq_outside.specs.Dials.{Dialled, Coming, IsClosed, IsOpen, CallsMore, DialsMore, DialReaches, GivesDial, LinkComes};
 ghost use Rattle.sq_outside.specs.World.{IfLink, IfNoLink, AcceptHasCause};
 
 use crate::traits::{Failed, Sink, Source};
@@ -21,6 +21,15 @@ pub trait Out: Sink {
         ensures later { Self.Sink.faults self.old ≤ Self.Sink.faults self.new };
 }
 
+/// For what a link to an origin is dialled.
+#[derive(Clone, Copy, Debug, PartialEq, Eq)]
+pub enum LinkUse {
+    /// A request and its reply, which one thread carries.
+    Exchange,
+    /// A tunnel, each of whose directions a thread of its own carries.
+    Tunnel,
+}
+
 /// What reaches origins by host and port.
 pub trait Dialer {
     type In: Source + Send + Drop;
@@ -30,16 +39,22 @@ pub trait Dialer {
     /// How many dials were made, failed ones not counted, and those that were given back, where it tells them.
     ghost dialled: { Self → Option Dialled };
 
+    /// How often `dial` was called, failed calls too, where it tells that.
+    ghost calls: { Self → Option ℕ };
+
     /// How often it has failed, and how many dials came back of which a half had failed.
     ghost faults: { Self → ℕ };
 
-    /// Reaches the origin. Both halves begin with the count 0; the outgoing one is open.
+    /// Reaches the origin. Both halves begin with the count 0; the outgoing one is open. The use is for the dialer to
+    /// see to what the link needs beside itself; no clause depends on it.
     fn dial(
         &mut self,
         alloc: Global,
         host: &Text,
         port: u16,
+        link_use: LinkUse,
     ) -> Result<(Self::In, Self::Outgo), Failed>
+        ensures calls { CallsMore (calls self.old) (calls self.new) }
         ensures made { OnOk result (DialsMore (dialled self.old) (dialled self.new)) }
         ensures failed { OnErr result (dialled self.new ≡ dialled self.old) }
         ensures reaches { IfOk result (λ h. DialReaches (dialled self.new) host.now port
@@ -53,6 +68,7 @@ pub trait Dialer {
     fn give_back(&mut self, from: Self::In, to: Self::Outgo)
         ensures given { GivesDial (dialled self.old) (dialled self.new)
             (Self.In.origin from) (Self.Outgo.Sink.contents to) }
+        ensures calls { calls self.new ≡ calls self.old }
         ensures cause { TakesBack (faults self.old) (faults self.new)
             (Self.In.faults from + Self.Outgo.Sink.faults to) };
 

@@ -1,3 +1,4 @@
+-- In the statement: docs/STATEMENT.md lists which definitions.
 -- A bucket at two moments of its life.
 use Rattle.std.specs.Prelude.{◌≡◌, ℕ, ◌+◌, ◌*◌, ◌≤◌, List, [], ◌∷◌, ◌++◌, is_some, true, Some, ⊤}
 use Rattle.sq_rules.specs.Rates.{Limit}

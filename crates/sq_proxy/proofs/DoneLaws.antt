@@ -4,22 +4,22 @@ use Rattle.std.specs.declared.option.Option.{Option}
 use Rattle.sq_outside.specs.Output.{Grew, IsWritten}
 use Rattle.sq_outside.specs.SourceLines.{lines}
 use Rattle.sq_outside.specs.Told.{Opening, Openings}
+use Rattle.sq_rules.specs.ConfText.{conf_result}
 use Rattle.sq_rules.specs.declared.kinds.ConfError.{ConfError}
 use Rattle.sq_rules.specs.Configurations.{Configuration}
-use Rattle.sq_replay.specs.ConfReading.{read_result}
 use Rattle.sq_replay.specs.Ends.{End, Done, Refused, Faulted}
 use Rattle.sq_replay.specs.Openings.{Added}
 use Rattle.sq_replay.specs.RunText.{Shelf}
 use Rattle.sq_replay.proofs.HeadlineLaws.{run_true}
 use Rattle.sq_replay.proofs.OpenedLaws.{Added_map}
-use Rattle.sq_replay.proofs.ReadingLaws.{is_read}
+use Rattle.sq_drafts.proofs.TextLaws.{gives_configuration}
 use Rattle.sq_verify.specs.declared.findings.Finding.{Finding}
 use Rattle.sq_verify.specs.declared.findings.Finding.TheVariants as finding
 use Rattle.sq_verify.specs.Judging.{judged}
 use Rattle.sq_verify.proofs.MigratedLaws.{migrated_verified}
 use Rattle.sq_proxy.specs.declared.ends.Status.{Status}
 use Rattle.sq_proxy.specs.declared.ends.Status.TheVariants as ends
-use Rattle.sq_proxy.specs.Commands.{Command, Disk, Migrate, MigratesAlike, MigratesTruly, Output, Parse, Rehearse, Replay, RunsTruly, RunsTrulyOver, Verify, conf_read, found_output, journal_output, migrated_output, shelf_of, staged, start_stage}
+use Rattle.sq_proxy.specs.Commands.{Command, Disk, Migrate, MigratesAlike, MigratesTruly, Output, Parse, Rehearse, Replay, RunsTruly, RunsTrulyOver, Verify, conf_read, found_output, journal_output, migrated_output, shelf_of, staged, conf_stage}
 use Rattle.sq_proxy.specs.Ends.{EndsBy, IsFaultEnd, IsToldEnd, end_of, last_line}
 use Rattle.sq_proxy.specs.Opened.{AuditedOpened, CameOf, CommandOpened, TrueOpened, behind_first, first_text, opened_output, shelf_over}
 use Rattle.sq_proxy.specs.Outputs.{Delivers, DeliversAs}
@@ -27,13 +27,13 @@ use Rattle.sq_proxy.proofs.EndLaws.{with_line_is}
 use Rattle.sq_proxy.proofs.VerifyLaws.{texts_audited}
 
 -- a configuration that a run begins with is one that the text gives
-started : (name : List ℕ) (o : Option (List ℕ)) (config : Configuration) → start_stage name o ≡ Ok config
-    → (text : List ℕ) × (read_result text ≡ Ok config)
+started : (name : List ℕ) (o : Option (List ℕ)) (config : Configuration) → conf_stage name o ≡ Ok config
+    → (text : List ℕ) × (conf_result text ≡ Ok config)
 started name None config e = absurd (cc)
-started name (Some text) config e = (text, by (read_result text) refl e)
+started name (Some text) config e = (text, by (conf_result text) refl e)
   where
-    by : (r : Result Configuration ConfError) → read_result text ≡ r → conf_read r ≡ Ok config
-        → read_result text ≡ Ok config
+    by : (r : Result Configuration ConfError) → conf_result text ≡ r → conf_read r ≡ Ok config
+        → conf_result text ≡ Ok config
     by (Ok c) is e = is ∙ (let same : c ≡ config = cc in ap (λ (x : Configuration). Ok x) same)
     by (Err x) is e = absurd (cc)
 
@@ -42,7 +42,7 @@ runs_over : (files : Shelf) (conf_text script_text : Option (List ℕ)) (conf : 
     → RunsTrulyOver files conf_text script_text conf
 runs_over files conf_text script_text conf = λ config text there script_there.
     let s = started conf conf_text config there in
-    run_true files config (lines text) (is_read s.0 config s.1).good
+    run_true files config (lines text) (gives_configuration s.0 config s.1)
 
 pub runs_truly_told : (texts : Option Disk) (words : List (List ℕ)) → IfSome texts (λ disk. RunsTruly disk words)
 runs_truly_told None words = tt
@@ -70,7 +70,7 @@ staged_alike (Err end) go other same = (λ e. e, λ e. e)
 
 migrates_alike : (bytes : List ℕ) → MigratesAlike bytes
 migrates_alike bytes = λ small whole short fits conf_text conf journal.
-    staged_alike (start_stage conf conf_text) (λ config. journal_output config bytes)
+    staged_alike (conf_stage conf conf_text) (λ config. journal_output config bytes)
     (λ config. journal_output config (migrated_output bytes).text)
     (λ config. (
       found_alike (judged config (lines bytes)).found (judged config (lines (migrated_output bytes).text)).found

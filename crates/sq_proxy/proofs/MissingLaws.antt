@@ -6,6 +6,7 @@ use Rattle.sq_outside.specs.Told.{IsNotTold, Texts}
 use Rattle.sq_request.specs.Written.{made_request}
 use Rattle.sq_machine.specs.declared.entries.Event.{Event}
 use Rattle.sq_machine.specs.declared.entries.Event.TheVariants.{Begin, Open, Close, Ask, Step, Take, Started, StartFail, Line as HelperLine, Died, Act, Reconfigure, Seat, Grant, Leave}
+use Rattle.sq_rules.specs.ConfText.{conf_result}
 use Rattle.sq_rules.specs.declared.kinds.ConfError.{ConfError}
 use Rattle.sq_rules.specs.Configurations.{Configuration}
 use Rattle.sq_machine.specs.Entries.{History}
@@ -15,11 +16,10 @@ use Rattle.sq_machine.specs.Marking.{marked}
 use Rattle.sq_machine.specs.Readings.{current, latest}
 use Rattle.sq_replay.specs.declared.ends.RunEnd.{RunEnd}
 use Rattle.sq_replay.specs.declared.ends.RunEnd.TheVariants as ended
-use Rattle.sq_replay.specs.ConfReading.{read_result}
 use Rattle.sq_replay.specs.RunText.{ScriptRun, Shelf, accepted, answered, asked_next, begun_history, configs_of, event_step, line_step, reconfigured, run_first, run_from, run_lines, run_on, run_over, run_script, run_stated, stated, stated_step, stopped}
 use Rattle.sq_proxy.specs.declared.ends.Status.{Status}
 use Rattle.sq_proxy.specs.declared.ends.Status.TheVariants as ends
-use Rattle.sq_proxy.specs.Commands.{Disk, IsNamed, NamesFile, NamesIn, Replay, conf_read, ran_output, replay_output, script_stage, shelf_of, staged, start_stage}
+use Rattle.sq_proxy.specs.Commands.{Disk, IsNamed, NamesFile, NamesIn, Replay, conf_read, ran_output, replay_output, script_stage, shelf_of, staged, conf_stage}
 use Rattle.sq_proxy.specs.Ends.{IfMissing, IsReplayEnd, run_status}
 use Rattle.sq_proxy.specs.Outputs.{Delivers}
 
@@ -68,7 +68,7 @@ reconfigured_misses : (P : List ℕ → Type 0) (configs : List Configuration) (
     → StepMisses P (reconfigured configs h number now name o)
 reconfigured_misses P configs h number now name None p = p
 reconfigured_misses P configs h number now name (Some text) p =
-    accepted_misses P (read_result text) (asked_next configs h number now (Reconfigure text))
+    accepted_misses P (conf_result text) (asked_next configs h number now (Reconfigure text))
     (asked_misses P configs h number now (Reconfigure text))
 
 event_misses : (P : List ℕ → Type 0) (files : Shelf) (configs : List Configuration) (h : History) (number now : ℕ)
@@ -184,12 +184,12 @@ conf_named disk conf script name text (Err x) e = absurd (cc)
 conf_named disk conf script name text (Ok config) e = script_named disk conf script name config (disk script) refl e
 
 output_named : (disk : Disk) (conf script name : List ℕ) (o : Option (List ℕ))
-    → ends.Missing name ≡ (staged (start_stage conf o)
+    → ends.Missing name ≡ (staged (conf_stage conf o)
     (λ config. staged (script_stage script (disk script))
     (λ t. ran_output (run_script (shelf_of disk) config (lines t))))).end
     → IsNamed (Some disk) (Some (Replay conf script)) name
 output_named disk conf script name None e = inl (cc)
-output_named disk conf script name (Some text) e = conf_named disk conf script name text (read_result text) e
+output_named disk conf script name (Some text) e = conf_named disk conf script name text (conf_result text) e
 
 -- a file that `replay` misses is one that it names, or its script does
 replay_named : (texts : Texts) (a b : Option (List ℕ)) (before now : ℕ) (conf script name : List ℕ)

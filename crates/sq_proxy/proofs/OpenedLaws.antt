@@ -6,29 +6,26 @@ use Rattle.sq_outside.specs.Input.{IsWhole, OpensAtMost}
 use Rattle.sq_outside.specs.SourceLines.{lines}
 use Rattle.sq_outside.specs.Told.{Opening, Openings, AddsOpening, AddsText, Texts}
 use Rattle.sq_outside.proofs.Writing.{IsPrefix_nil}
-use Rattle.sq_rules.specs.Configurations.{Configuration, IsConfiguration}
-use Rattle.sq_rules.specs.declared.kinds.ConfError.{ConfError}
+use Rattle.sq_rules.specs.Configurations.{Configuration}
 use Rattle.sq_rules.specs.ConfText.{conf_result}
 use Rattle.sq_rules.specs.Limits.{text_limit}
 use Rattle.sq_rules.specs.declared.kinds.Kind.TheVariants as kind
 use Rattle.sq_replay.specs.declared.ends.RunEnd.{RunEnd}
 use Rattle.sq_replay.specs.Ends.{End, Done, Refused, Faulted, Reading, Writing, Lacking}
-use Rattle.sq_replay.specs.ConfReading.{checked}
 use Rattle.sq_replay.specs.RunText.{ScriptRun, run_script}
 use Rattle.sq_replay.specs.Openings.{Added, RunOpened}
 use Rattle.sq_replay.specs.Runs.{Reaches, ScriptRuns, missed}
 use Rattle.sq_replay.proofs.OpenedLaws.{Added_map, Added_none, Added_one, Added_then}
-use Rattle.sq_replay.proofs.ReadingLaws.{read_is}
 use Rattle.sq_proxy.specs.declared.ends.Status.{Status}
 use Rattle.sq_proxy.specs.declared.ends.Status.TheVariants as ends
-use Rattle.sq_proxy.specs.Commands.{Parse, Replay, Disk, Output, conf_read, conf_stage, parse_output, replay_output, shelf_of, start_stage, ran_output, script_stage, silent, staged}
+use Rattle.sq_proxy.specs.Commands.{Parse, Replay, Disk, Output, conf_read, conf_stage, parse_output, replay_output, shelf_of, ran_output, script_stage, silent, staged}
 use Rattle.sq_proxy.specs.Ends.{Comes, IsFault, IsFaultEnd, IsMissingOr, IsOpenEnd, end_of, run_status}
 use Rattle.sq_proxy.specs.Opened.{BeginsWith, CommandOpened, IsOnce, NamedOpened, PlayOpened, ScriptOpened, behind_first, first_text, opened_output, shelf_over}
 use Rattle.sq_proxy.specs.Outputs.{Delivers, DeliversAs, IsSettled}
 use Rattle.sq_proxy.specs.ParseText.{parse_text}
 use Rattle.sq_proxy.proofs.SettleLaws.{delivers_later}
 use Rattle.sq_proxy.proofs.ShelfLaws.{begins_is, behind_is, first_is, tells_over}
-use Rattle.sq_proxy.proofs.StageLaws.{too_long}
+use Rattle.sq_drafts.proofs.TextLaws.{too_long}
 
 -- what `open_conf` says of its openings
 abbrev pub ConfOpened : List ℕ → Result Configuration Status → List Opening → Type 0
@@ -196,29 +193,6 @@ pub staged_ends : {A : Type 0} (stage : Result A Status) (go : A → Output) (en
 staged_ends stage go end (inl e) = inl (ap (λ s. staged s go) e)
 staged_ends stage go end (inr fault) = inr fault
 
--- what a text gives to begin with is what it gives
-start_text : (name text : List ℕ) (r : Result Configuration ConfError) (end : Status) → conf_result text ≡ r
-    → Comes (Err end) (conf_read r) → Comes (Err end) (conf_read (checked r))
-start_text name text (Ok config) end is (inl e) = absurd (cc)
-start_text name text (Ok config) end is (inr fault) = inr fault
-start_text name text (Err x) end is c = c
-
-pub start_ends : (name : List ℕ) (o : Option (List ℕ)) (end : Status) → Comes (Err end) (conf_stage name o)
-    → Comes (Err end) (start_stage name o)
-start_ends name None end c = c
-start_ends name (Some text) end c = start_text name text (conf_result text) end refl c
-
-start_gives : (text : List ℕ) (r : Result Configuration ConfError) (config : Configuration) → conf_result text ≡ r
-    → conf_read r ≡ Ok config → conf_result text ≡ Ok config
-start_gives text (Ok c) config is e = is ∙ (let same : c ≡ config = cc in ap (λ (x : Configuration). Ok x) same)
-start_gives text (Err x) config is e = absurd (cc)
-
-pub start_is : (name : List ℕ) (o : Option (List ℕ)) (config : Configuration) → conf_stage name o ≡ Ok config
-    → IsConfiguration config → start_stage name o ≡ Ok config
-start_is name None config e good = absurd (cc)
-start_is name (Some text) config e good = ap conf_read
-    (read_is text config (start_gives text (conf_result text) config refl e) good)
-
 pub parse_ends : (old new : Openings) (a : Option (List ℕ)) (n : ℕ) (conf : List ℕ) (end : Status)
     → (end_of end ≡ Faulted Writing → ⊥) → Added old new (ConfOpened conf (Err end))
     → Added old new (CommandOpened (Some (Parse conf)) a a n n end)
@@ -256,7 +230,7 @@ replay_ends old new a n conf script end other added =
     (λ more p. (
       conf_begins conf script end more p.0,
       nothing_delivers a n (opened_output (Some (Replay conf script)) more) end other
-          (staged_ends (start_stage conf (first_text more)) _ end (start_ends conf (first_text more) end p.1)),
+          (staged_ends (conf_stage conf (first_text more)) _ end p.1),
     )) added
 
 -- the script's run, over the configuration that was read
@@ -265,16 +239,14 @@ script_run later script text config = staged (script_stage script text)
     (λ t. ran_output (run_script (shelf_over later) config (lines t)))
 
 played : (a b : Option (List ℕ)) (before now : ℕ) (conf script : List ℕ) (config : Configuration) (result : Status)
-    → IsConfiguration config
     → (first next : List Opening) → ConfOpened conf (Ok config) first
     → PlayOpened script config a b before now result next
     → CommandOpened (Some (Replay conf script)) a b before now result (next ++ first)
-played a b before now conf script config result good [] next p q = absurd (cc)
-played a b before now conf script config result good (o ∷ []) next p q =
-    let start : start_stage conf (Some o.text) ≡ Ok config = start_is conf (Some o.text) config p.1 good in
+played a b before now conf script config result [] next p q = absurd (cc)
+played a b before now conf script config result (o ∷ []) next p q =
     let all = next ++ o ∷ [] in
     let behind : next ≡ behind_first all = sym (behind_is next o) in
-    let there : start_stage conf (first_text all) ≡ Ok config = ap (start_stage conf) (first_is next o) ∙ start in
+    let there : conf_stage conf (first_text all) ≡ Ok config = ap (conf_stage conf) (first_is next o) ∙ p.1 in
     let run : Delivers a b before now
     (script_run (behind_first (behind_first all)) script (first_text (behind_first all)) config) result =
     subst (λ (l : List Opening). Delivers a b before now (script_run (behind_first l) script (first_text l) config)
@@ -284,31 +256,31 @@ played a b before now conf script config result good (o ∷ []) next p q =
           (staged r (script_run (behind_first (behind_first all)) script (first_text (behind_first all)))) result)
           (sym there) run,
     )
-played a b before now conf script config result good (o ∷ u ∷ first) next p q = absurd p.0
+played a b before now conf script config result (o ∷ u ∷ first) next p q = absurd p.0
 
 pub replay_opened : (old mid new : Openings) (a b : Option (List ℕ)) (before now : ℕ) (conf script : List ℕ)
-    (config : Configuration) (result : Status) → IsConfiguration config
+    (config : Configuration) (result : Status)
     → Added old mid (ConfOpened conf (Ok config)) → Added mid new (PlayOpened script config a b before now result)
     → Added old new (CommandOpened (Some (Replay conf script)) a b before now result)
-replay_opened old mid new a b before now conf script config result good first next =
+replay_opened old mid new a b before now conf script config result first next =
     Added_then old mid new (ConfOpened conf (Ok config)) (PlayOpened script config a b before now result)
     (CommandOpened (Some (Replay conf script)) a b before now result) first next
-    (played a b before now conf script config result good)
+    (played a b before now conf script config result)
 
 -- the same where texts are told
 pub replay_told : (texts : Texts) (same : Texts) (a b : Option (List ℕ)) (before now : ℕ) (conf script : List ℕ)
-    (config : Configuration) (result : Status) → same ≡ texts → IsConfiguration config
+    (config : Configuration) (result : Status) → same ≡ texts
     → IfSome texts (λ disk. Comes (Ok config) (conf_stage conf (disk conf)))
     → IfSome same (λ disk. Delivers a b before now
     (staged (script_stage script (disk script)) (λ text. ran_output (run_script (shelf_of disk) config (lines text))))
     result)
     → IfSome texts (λ disk. Delivers a b before now (replay_output disk conf script) result)
-replay_told None same a b before now conf script config result is good comes runs = tt
-replay_told (Some disk) same a b before now conf script config result is good comes runs =
+replay_told None same a b before now conf script config result is comes runs = tt
+replay_told (Some disk) same a b before now conf script config result is comes runs =
     subst (λ r. Delivers a b before now
     (staged r (λ c. staged (script_stage script (disk script))
     (λ text. ran_output (run_script (shelf_of disk) c (lines text))))) result)
-    (sym (start_is conf (disk conf) config comes good))
+    (sym comes)
     (subst (λ (t : Texts). IfSome t
     (λ d. Delivers a b before now
     (staged (script_stage script (d script)) (λ text. ran_output (run_script (shelf_of d) config (lines text))))
@@ -321,7 +293,7 @@ pub replay_stops : (texts : Texts) (a : Option (List ℕ)) (n : ℕ) (conf scrip
 replay_stops None a n conf script end other comes = tt
 replay_stops (Some disk) a n conf script end other comes =
     nothing_delivers a n (replay_output disk conf script) end other
-    (staged_ends (start_stage conf (disk conf)) _ end (start_ends conf (disk conf) end comes))
+    (staged_ends (conf_stage conf (disk conf)) _ end comes)
 
 -- words that are no command open nothing
 pub usage_opened : (old : Openings) (a : Option (List ℕ)) (n : ℕ)

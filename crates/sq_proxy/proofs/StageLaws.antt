@@ -1,22 +1,16 @@
 -- The files of a command, read and judged.
-use Rattle.std.proofs.Common.{◌≡◌, ℕ, ◌<◌, List, length, true, nat_lt, Err, Some, None, IfSome, inl, refl, ap, ◌∙◌, arith}
-use Rattle.std.proofs.lemmas.Bool.Decides.{nat_tests}
+use Rattle.std.proofs.Common.{ℕ, List, Err, Some, None, IfSome, inl, ap, ◌∙◌}
 use Rattle.sq_outside.specs.Input.{ReadsFile}
 use Rattle.sq_outside.specs.Told.{Texts}
-use Rattle.sq_rules.specs.ConfText.{conf_result}
 use Rattle.sq_rules.specs.Configurations.{Configuration}
 use Rattle.sq_rules.specs.Limits.{text_limit}
 use Rattle.sq_rules.specs.declared.kinds.Kind.TheVariants as kind
+use Rattle.sq_drafts.proofs.TextLaws.{too_long}
 use Rattle.sq_proxy.specs.declared.ends.Status.TheVariants as ends
 use Rattle.sq_proxy.specs.Commands.{conf_read, conf_stage}
 use Rattle.sq_proxy.specs.Ends.{Comes}
 
 -- a text past its limit
-pub too_long : (bytes : List ℕ) → text_limit < length bytes
-    → conf_result bytes ≡ Err (record { line = 0; kind = kind.TooMany })
-unfolding conf_result
-too_long bytes l = let long : nat_lt text_limit (length bytes) ≡ true = grind (arith, nat_tests) in rw long refl
-
 pub long_conf : (texts : Texts) (name : List ℕ) → ReadsFile text_limit texts name None
     → IfSome texts (λ disk. Comes {A = Configuration} (Err (ends.Config 0 kind.TooMany)) (conf_stage name (disk name)))
 long_conf None name r = tt

@@ -6,11 +6,11 @@ use Rattle.sq_outside.specs.Causes.{Rose, TakesBack}
 use Rattle.sq_outside.specs.Output.{Grew, IsProperPrefix}
 use Rattle.sq_outside.specs.SourceLines.{lines}
 use Rattle.sq_outside.specs.Told.{AddsOpening, GivesText, IsNotTold, Opening, Openings, Texts}
-use Rattle.sq_rules.specs.Configurations.{Configuration, IsConfiguration}
+use Rattle.sq_rules.specs.ConfText.{conf_result}
+use Rattle.sq_rules.specs.Configurations.{Configuration}
 use Rattle.sq_rules.specs.declared.kinds.ConfError.{ConfError}
-use Rattle.sq_replay.specs.ConfReading.{read_result}
 use Rattle.sq_replay.specs.Ends.{Faulted, Writing}
-use Rattle.sq_replay.proofs.ReadingLaws.{is_read}
+use Rattle.sq_drafts.proofs.TextLaws.{gives_configuration}
 use Rattle.sq_verify.specs.declared.findings.Finding.{Finding}
 use Rattle.sq_verify.specs.declared.findings.Finding.TheVariants as finding
 use Rattle.sq_verify.specs.Judging.{Judged, judged}
@@ -19,13 +19,13 @@ use Rattle.sq_verify.specs.FindingText.{finding_text}
 use Rattle.sq_verify.proofs.AuditLaws.{audited}
 use Rattle.sq_proxy.specs.declared.ends.Status.{Status}
 use Rattle.sq_proxy.specs.declared.ends.Status.TheVariants as ends
-use Rattle.sq_proxy.specs.Commands.{AuditedTexts, AuditsFiles, Command, IsNamed, Output, Verify, command_output, conf_read, conf_stage, found_output, journal_output, output_of, script_stage, silent, staged, start_stage, verify_output, verify_over}
+use Rattle.sq_proxy.specs.Commands.{AuditedTexts, AuditsFiles, Command, IsNamed, Output, Verify, command_output, conf_read, conf_stage, found_output, journal_output, output_of, script_stage, silent, staged, verify_output, verify_over}
 use Rattle.sq_proxy.specs.Ends.{Comes, HasCauses, IfMissing, IsFault, IsFoundEnd, IsMissingOr, IsPlayedEnd, IsToldEnd, IsVerifyEnd, end_of}
 use Rattle.sq_proxy.specs.Opened.{BeginsWith, CommandOpened, IsOnce, JournalOpened, behind_first, first_text, opened_output}
 use Rattle.sq_proxy.specs.Outputs.{Delivers}
 use Rattle.sq_replay.specs.Openings.{Added}
 use Rattle.sq_replay.proofs.OpenedLaws.{Added_map, Added_none, Added_then}
-use Rattle.sq_proxy.proofs.OpenedLaws.{ConfOpened, missing_no_write, missing_silent, nothing_delivers, staged_ends, start_ends, start_is}
+use Rattle.sq_proxy.proofs.OpenedLaws.{ConfOpened, missing_no_write, missing_silent, nothing_delivers, staged_ends}
 use Rattle.sq_proxy.proofs.ShelfLaws.{begins_is, behind_is, first_is}
 
 -- what was found
@@ -171,7 +171,7 @@ verify_ends old new a n conf journal end other added =
     (λ more p. (
       conf_once conf journal more p.0,
       nothing_delivers a n (opened_output (Some (Verify conf journal)) more) end other
-          (staged_ends (start_stage conf (first_text more)) _ end (start_ends conf (first_text more) end p.1)),
+          (staged_ends (conf_stage conf (first_text more)) _ end p.1),
     )) added
 
 pub verify_stops : (texts : Texts) (a : Option (List ℕ)) (n : ℕ) (conf journal : List ℕ) (end : Status)
@@ -181,23 +181,22 @@ pub verify_stops : (texts : Texts) (a : Option (List ℕ)) (n : ℕ) (conf journ
 verify_stops None a n conf journal end other comes = tt
 verify_stops (Some disk) a n conf journal end other comes =
     nothing_delivers a n (verify_output disk conf journal) end other
-    (staged_ends (start_stage conf (disk conf)) _ end (start_ends conf (disk conf) end comes))
+    (staged_ends (conf_stage conf (disk conf)) _ end comes)
 
 -- the journal's text, over the configuration that was read
 abbrev journal_run : List ℕ → Option (List ℕ) → Configuration → Output
 journal_run journal text config = staged (script_stage journal text) (journal_output config)
 
 judged_opened : (a b : Option (List ℕ)) (before now : ℕ) (conf journal : List ℕ) (config : Configuration)
-    (result : Status) → IsConfiguration config
+    (result : Status)
     → (first next : List Opening) → ConfOpened conf (Ok config) first
     → JournalOpened journal (journal_output config) a b before now result next
     → CommandOpened (Some (Verify conf journal)) a b before now result (next ++ first)
-judged_opened a b before now conf journal config result good [] next p q = absurd (cc)
-judged_opened a b before now conf journal config result good (o ∷ []) next p q =
-    let start : start_stage conf (Some o.text) ≡ Ok config = start_is conf (Some o.text) config p.1 good in
+judged_opened a b before now conf journal config result [] next p q = absurd (cc)
+judged_opened a b before now conf journal config result (o ∷ []) next p q =
     let all = next ++ o ∷ [] in
     let behind : next ≡ behind_first all = sym (behind_is next o) in
-    let there : start_stage conf (first_text all) ≡ Ok config = ap (start_stage conf) (first_is next o) ∙ start in
+    let there : conf_stage conf (first_text all) ≡ Ok config = ap (conf_stage conf) (first_is next o) ∙ p.1 in
     let run : Delivers a b before now (journal_run journal (first_text (behind_first all)) config) result =
     subst (λ (l : List Opening). Delivers a b before now (journal_run journal (first_text l) config) result) behind
     q.1 in (
@@ -205,31 +204,31 @@ judged_opened a b before now conf journal config result good (o ∷ []) next p q
       subst (λ r. Delivers a b before now (staged r (journal_run journal (first_text (behind_first all)))) result)
           (sym there) run,
     )
-judged_opened a b before now conf journal config result good (o ∷ u ∷ first) next p q = absurd p.0
+judged_opened a b before now conf journal config result (o ∷ u ∷ first) next p q = absurd p.0
 
 pub verify_opened : (old mid new : Openings) (a b : Option (List ℕ)) (before now : ℕ) (conf journal : List ℕ)
-    (config : Configuration) (result : Status) → IsConfiguration config
+    (config : Configuration) (result : Status)
     → Added old mid (ConfOpened conf (Ok config))
     → Added mid new (JournalOpened journal (journal_output config) a b before now result)
     → Added old new (CommandOpened (Some (Verify conf journal)) a b before now result)
-verify_opened old mid new a b before now conf journal config result good first next =
+verify_opened old mid new a b before now conf journal config result first next =
     Added_then old mid new (ConfOpened conf (Ok config))
     (JournalOpened journal (journal_output config) a b before now result)
     (CommandOpened (Some (Verify conf journal)) a b before now result) first next
-    (judged_opened a b before now conf journal config result good)
+    (judged_opened a b before now conf journal config result)
 
 -- the same where texts are told
 pub verify_told : (texts same : Texts) (a b : Option (List ℕ)) (before now : ℕ) (conf journal : List ℕ)
-    (config : Configuration) (result : Status) → same ≡ texts → IsConfiguration config
+    (config : Configuration) (result : Status) → same ≡ texts
     → IfSome texts (λ disk. Comes (Ok config) (conf_stage conf (disk conf)))
     → IfSome same (λ disk. Delivers a b before now
     (staged (script_stage journal (disk journal)) (journal_output config)) result)
     → IfSome texts (λ disk. Delivers a b before now (verify_output disk conf journal) result)
-verify_told None same a b before now conf journal config result is good comes runs = tt
-verify_told (Some disk) same a b before now conf journal config result is good comes runs =
+verify_told None same a b before now conf journal config result is comes runs = tt
+verify_told (Some disk) same a b before now conf journal config result is comes runs =
     subst (λ r. Delivers a b before now
     (staged r (λ c. staged (script_stage journal (disk journal)) (journal_output c))) result)
-    (sym (start_is conf (disk conf) config comes good))
+    (sym comes)
     (subst (λ (t : Texts). IfSome t
     (λ d. Delivers a b before now (staged (script_stage journal (d journal)) (journal_output config)) result)) is runs)
 
@@ -266,7 +265,7 @@ verify_missing texts conf journal ends.WantOfMemory e = tt
 
 -- audits
 
-by_found : (text bytes : List ℕ) (config : Configuration) (found : Finding) → read_result text ≡ Ok config
+by_found : (text bytes : List ℕ) (config : Configuration) (found : Finding) → conf_result text ≡ Ok config
     → (judged config (lines bytes)).found ≡ found → ends.Ok ≡ (found_output found).end
     → AuditedTexts (Some text) (Some bytes)
 by_found text bytes config (finding.Verified n) reads is e =
@@ -278,21 +277,21 @@ by_found text bytes config (finding.Verified n) reads is e =
       conf_there = refl;
       conf_reads = reads;
       journal_there = refl;
-      audited = audited config bytes n (is_read text config reads).good is;
+      audited = audited config bytes n (gives_configuration text config reads) is;
     }
 by_found text bytes config (finding.Script n) reads is e = absurd (cc)
 by_found text bytes config (finding.Differs l m j) reads is e = absurd (cc)
 by_found text bytes config finding.ReadFault reads is e = absurd (cc)
 by_found text bytes config finding.WantOfMemory reads is e = absurd (cc)
 
-by_journal : (journal text : List ℕ) (config : Configuration) (o : Option (List ℕ)) → read_result text ≡ Ok config
+by_journal : (journal text : List ℕ) (config : Configuration) (o : Option (List ℕ)) → conf_result text ≡ Ok config
     → ends.Ok ≡ (staged (script_stage journal o) (journal_output config)).end
     → AuditedTexts (Some text) o
 by_journal journal text config None reads e = absurd (cc)
 by_journal journal text config (Some bytes) reads e = by_found text bytes config (judged config (lines bytes)).found
     reads refl e
 
-by_read : (journal text : List ℕ) (r : Result Configuration ConfError) (o : Option (List ℕ)) → read_result text ≡ r
+by_read : (journal text : List ℕ) (r : Result Configuration ConfError) (o : Option (List ℕ)) → conf_result text ≡ r
     → ends.Ok ≡ (staged (conf_read r) (λ config. staged (script_stage journal o) (journal_output config))).end
     → AuditedTexts (Some text) o
 by_read journal text (Ok config) o reads e = by_journal journal text config o reads e
@@ -302,7 +301,7 @@ by_read journal text (Err x) o reads e = absurd (cc)
 pub texts_audited : (conf journal : List ℕ) (o p : Option (List ℕ)) → ends.Ok ≡ (verify_over o p conf journal).end
     → AuditedTexts o p
 texts_audited conf journal None p e = absurd (cc)
-texts_audited conf journal (Some text) p e = by_read journal text (read_result text) p refl e
+texts_audited conf journal (Some text) p e = by_read journal text (conf_result text) p refl e
 
 -- where `verify` ends well, its journal is audited
 pub audits_told : (texts : Texts) (a b : Option (List ℕ)) (before now : ℕ) (words : List (List ℕ)) (s same : Status)

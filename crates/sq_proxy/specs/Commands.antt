@@ -1,3 +1,4 @@
+-- In the statement: docs/STATEMENT.md lists which definitions.
 -- The commands, and what each comes to over files: the text that is written before the last line,
 -- and the end.
 use Rattle.std.specs.Prelude.{◌≡◌, ◌⊎◌, ◌↔◌, ℕ, ◌+◌, ◌≤◌, List, [], ◌∷◌, length, Bool, true, false, Result, Ok, Err, Some, None, IfSome, codes, bytes_eq, if◌then◌else◌}
@@ -12,7 +13,6 @@ use Rattle.sq_rules.specs.ConfText.{conf_result}
 use Rattle.sq_rules.specs.declared.kinds.ConfError.{ConfError}
 use Rattle.sq_journal.specs.EntryText.{written}
 use Rattle.sq_journal.specs.Journals.{journal_text}
-use Rattle.sq_replay.specs.ConfReading.{read_result}
 use Rattle.sq_replay.specs.Headline.{IsTrueOrNone}
 use Rattle.sq_replay.specs.RunText.{ScriptRun, Shelf, configs_of, run_script, stated}
 use Rattle.sq_rehearse.specs.Rehearsals.{configuration_text, rehearsal}
@@ -124,11 +124,6 @@ abbrev pub conf_stage : List ℕ → Option (List ℕ) → Result Configuration 
 conf_stage name None = Err (ends.Missing name)
 conf_stage name (Some text) = conf_read (conf_result text)
 
--- the same of a configuration that a run begins with
-abbrev pub start_stage : List ℕ → Option (List ℕ) → Result Configuration Status
-start_stage name None = Err (ends.Missing name)
-start_stage name (Some text) = conf_read (read_result text)
-
 -- the text of the file of a script or a journal, if it is there
 abbrev pub script_stage : List ℕ → Option (List ℕ) → Result (List ℕ) Status
 script_stage name None = Err (ends.Missing name)
@@ -147,7 +142,7 @@ parse_output disk conf = parse_over (disk conf) conf
 -- then the script is opened and run
 abbrev pub replay_over : Shelf → Option (List ℕ) → Option (List ℕ) → List ℕ → List ℕ → Output
 replay_over files conf_text script_text conf script =
-    staged (start_stage conf conf_text)
+    staged (conf_stage conf conf_text)
     (λ config. staged (script_stage script script_text)
     (λ text. ran_output (run_script files config (lines text))))
 
@@ -178,7 +173,7 @@ journal_output config bytes = found_output (judged config (lines bytes)).found
 -- configuration is read and judged, then the journal is opened and judged
 abbrev pub verify_over : Option (List ℕ) → Option (List ℕ) → List ℕ → List ℕ → Output
 verify_over conf_text journal_text conf journal =
-    staged (start_stage conf conf_text)
+    staged (conf_stage conf conf_text)
     (λ config. staged (script_stage journal journal_text) (journal_output config))
 
 abbrev pub verify_output : Disk → List ℕ → List ℕ → Output
@@ -236,7 +231,7 @@ output_of disk words = command_output disk (command_of words)
 -- history is legal, with what is so of every legal history
 abbrev pub RunsTrulyOver : Shelf → Option (List ℕ) → Option (List ℕ) → List ℕ → Type 0
 RunsTrulyOver files conf_text script_text conf = (config : Configuration) (text : List ℕ)
-    → start_stage conf conf_text ≡ Ok config → script_text ≡ Some text
+    → conf_stage conf conf_text ≡ Ok config → script_text ≡ Some text
     → IsTrueOrNone (configs_of files config (lines text))
     (run_script files config (lines text)).history
 
@@ -269,7 +264,7 @@ pub record AuditedTexts (conf_text journal_text : Option (List ℕ)) : Type 0 wh
   pub bytes : List ℕ
   pub count : ℕ
   pub conf_there : conf_text ≡ Some text
-  pub conf_reads : read_result text ≡ Ok config
+  pub conf_reads : conf_result text ≡ Ok config
   pub journal_there : journal_text ≡ Some bytes
   pub audited : IsAudited config bytes count
 

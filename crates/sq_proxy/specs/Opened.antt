@@ -1,3 +1,4 @@
+-- In the statement: docs/STATEMENT.md lists which definitions.
 -- The openings of a command, where the files tell them: CONF first, then SCRIPT and what the script
 -- names, or JOURNAL, and what comes of their texts.
 use Rattle.std.specs.Prelude.{◌≡◌, ℕ, ◌+◌, ◌==◌, List, [], ◌∷◌, length, bytes_eq, if◌then◌else◌, Some, None}

@@ -1,6 +1,6 @@
 //! What `parse` writes of a configuration.
 ghost use Rattle.std.specs.Prelude.{◌≡◌, ◌++◌, decimal, IfOk, OnOk};
-ghost use Rattle.sq_rules.specs.Lookups.{stated, stated_classes};
+ghost use Rattle.sq_rules.specs.Lookups.{stated_acls, stated_classes, unmade_acls};
 ghost use Rattle.sq_proxy.specs.ParseText.{counts_line, notice_line, parse_text};
 
 use itoa::Buffer;
@@ -27,9 +27,9 @@ fn put_notice(to: &mut Text, notice: &Notice) -> Result<(), WantOfMemory>
     to.push(b'\n')
 }
 
-// How many acls a file states: those that are made have a blank in their names.
-fn stated(acls: &[Acl]) -> usize
-    ensures { result ≡ stated acls.now }
+// How many of some acls have a name without a blank.
+fn unmade_acls(acls: &[Acl]) -> usize
+    ensures { result ≡ unmade_acls acls.now }
 {
     let mut count = 0;
     for acl in acls {
@@ -38,6 +38,17 @@ fn stated(acls: &[Acl]) -> usize
         }
     }
     count
+}
+
+// How many acls a file states: where names are looked up, those that are made have a blank in their names.
+fn stated_acls(config: &Config) -> usize
+    ensures { result ≡ stated_acls config.now.dst_lookup config.now.acls }
+{
+    if config.dst_lookup() {
+        unmade_acls(config.acls())
+    } else {
+        config.acls().len()
+    }
 }
 
 // How many classes a file states: all but the one that is made for look-ups.
@@ -56,7 +67,7 @@ fn stated_classes(config: &Config) -> usize
 fn put_counts(to: &mut Text, config: &Config) -> Result<(), WantOfMemory>
     ensures { OnOk result (to.new ≡ to.old ++ counts_line config.now) }
 {
-    put_count(to, b"ok acls ", stated(config.acls()) as u64)?;
+    put_count(to, b"ok acls ", stated_acls(config) as u64)?;
     put_count(to, b" rules ", config.rules().len() as u64)?;
     put_count(to, b" classes ", stated_classes(config) as u64)?;
     put_count(to, b" pools ", config.pools().len() as u64)?;

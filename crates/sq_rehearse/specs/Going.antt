@@ -1,3 +1,4 @@
+-- In the statement: docs/STATEMENT.md lists which definitions.
 -- How a driver goes from check to check, from round to round, and from request to request.
 use Rattle.std.specs.Prelude.{ℕ, ◌+◌, ◌-◌, ◌%◌, suc, List, [], ◌∷◌, ◌++◌, drop, length, slice_get, Bool, true, false, ◌==◌, ◌||◌, nat_lt, if◌then◌else◌, Some, None}
 use Rattle.std.specs.declared.option.Option.{Option}

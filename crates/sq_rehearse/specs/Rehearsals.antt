@@ -1,3 +1,4 @@
+-- In the statement: docs/STATEMENT.md lists which definitions.
 -- A rehearsal: the history that the driver and the machine make together, and what it came to.
 use Rattle.std.specs.Prelude.{ℕ, ◌+◌, ◌*◌, pos, zero, suc, max, List, [], ◌∷◌, ◌++◌, Bool, true, false, if◌then◌else◌, is_some, Some, None, codes}
 use Rattle.std.specs.declared.option.Option.{Option}

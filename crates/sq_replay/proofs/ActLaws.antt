@@ -6,7 +6,7 @@ use Rattle.sq_machine.specs.declared.entries.Event.TheVariants.{Act}
 use Rattle.sq_machine.specs.declared.entries.Told.{Told}
 use Rattle.sq_machine.specs.declared.refusals.Refusal.{Refusal}
 use Rattle.sq_rules.specs.Configurations.{Configuration, IsConfiguration}
-use Rattle.sq_machine.specs.DueActs.{ClassId}
+use Rattle.sq_machine.specs.DueActs.{ClassId, Due, sends, starts, stops}
 use Rattle.sq_machine.specs.Entries.{History, entry_at}
 use Rattle.sq_machine.specs.Machine.{Legal, next}
 use Rattle.sq_machine.specs.Next.{Next, gives, nothing, refuses}
@@ -18,7 +18,7 @@ use Rattle.sq_machine.specs.Readings.{latest}
 use Rattle.sq_model_rows.specs.CheckRows.{Held}
 use Rattle.sq_model_laws.specs.Given.{EachOf}
 use Rattle.sq_model_laws.proofs.RowLaws.{picks_same}
-use Rattle.sq_model_state.specs.Acts.{Due, due_in, live_places_in, places_in, sends, starts, stops}
+use Rattle.sq_model_state.specs.Acts.{due_in, live_places_in, places_in}
 use Rattle.sq_model_state.specs.Answers.{act_of, due_told}
 use Rattle.sq_model_state.specs.Promises.{IsAnswered, StandsFor}
 use Rattle.sq_model_state.specs.States.{IsSame, Stands, State, lives_with}
@@ -27,7 +27,8 @@ use Rattle.sq_model_state.proofs.ActPromises.{send_answered, start_answered, sto
 use Rattle.sq_model_state.proofs.ActStands.{send_stands, start_stands, stop_stands}
 use Rattle.sq_model_state.proofs.Lawful.{Lawful, lawful}
 use Rattle.sq_model_state.proofs.PromiseLaws.{legal_more, next_now}
-use Rattle.sq_replay.specs.Dues.{NoneDue, after_due, dues, dues_at, dues_in, dues_of_row, state_at, total}
+use Rattle.sq_engine.specs.Acting.{after_due}
+use Rattle.sq_replay.specs.Dues.{NoneDue, dues, dues_at, dues_in, dues_of_row, state_at, total}
 use Rattle.sq_replay.specs.RunText.{acted, acts, acts_upto}
 use Rattle.sq_replay.proofs.DueLaws.{send_lowers, start_lowers, stop_lowers, total_same}
 

@@ -6,10 +6,12 @@ use Rattle.sq_machine.specs.declared.entries.Event.TheVariants as event
 use Rattle.sq_machine.specs.Machine.{next}
 use Rattle.sq_machine.specs.Next.{nothing}
 use Rattle.sq_machine.specs.Marking.{marked}
+use Rattle.sq_epochs.specs.DueStates.{told_act}
 use Rattle.sq_epochs.specs.declared.acts.Act.{Act}
-use Rattle.sq_model_state.specs.Acts.{Due, due_in, sends, starts, stops}
+use Rattle.sq_machine.specs.DueActs.{Due, sends, starts, stops}
+use Rattle.sq_model_state.specs.Acts.{due_in}
 use Rattle.sq_model_state.specs.States.{IsSame, State}
-use Rattle.sq_engine.specs.Acting.{IsActPromised, act_told, after_act, told_of_act}
+use Rattle.sq_engine.specs.Acting.{IsActPromised, after_act, told_of_act}
 use Rattle.sq_replay.specs.Riding.{AreBasins}
 use Rattle.sq_replay.proofs.PairLaws.{is_elsewhere}
 use Rattle.sq_replay.specs.Dues.{dues_in}
@@ -54,7 +56,7 @@ none_at_moment v w t now u e p = act_none v w t now
     (subst (λ (n : ℕ). IsActPromised v.state (max n v.state.latest) None t) e p)
 
 -- what an act leaves has less due
-pub act_lowers_due : (s t : State) (o : Option Due) (now : ℕ) (a : Act) → o ≡ due_in s → Some a ≡ option_map act_told o
+pub act_lowers_due : (s t : State) (o : Option Due) (now : ℕ) (a : Act) → o ≡ due_in s → Some a ≡ option_map told_act o
     → IsSame t (after_act o now s) → dues_in t < dues_in s
 act_lowers_due s t None now a due told same = absurd (none-some a (sym told))
 act_lowers_due s t (Some (stops k)) now a due told same = due_lowers s t (stops k) now (sym due) same

@@ -5,6 +5,7 @@ use Rattle.sq_outside.specs.SourceLines.{SourceLine, is_readable}
 use Rattle.sq_request.specs.Written.{made_request}
 use Rattle.sq_machine.specs.declared.entries.Event.{Event}
 use Rattle.sq_machine.specs.declared.entries.Event.TheVariants.{Begin, Ask, Act, Reconfigure}
+use Rattle.sq_rules.specs.ConfText.{conf_result}
 use Rattle.sq_rules.specs.declared.kinds.ConfError.{ConfError}
 use Rattle.sq_rules.specs.Configurations.{Configuration}
 use Rattle.sq_machine.specs.Entries.{History}
@@ -14,7 +15,6 @@ use Rattle.sq_machine.specs.Marking.{marked}
 use Rattle.sq_machine.specs.Readings.{current, latest}
 use Rattle.sq_replay.specs.declared.ends.RunEnd.{RunEnd}
 use Rattle.sq_replay.specs.declared.ends.RunEnd.TheVariants as ends
-use Rattle.sq_replay.specs.ConfReading.{read_result}
 use Rattle.sq_replay.specs.Ends.{IsScriptEnd}
 use Rattle.sq_replay.specs.RunText.{ScriptRun, Shelf, accepted, answered, asked_next, begun_history, configs_of, event_step, line_step, reconfigured, run_first, run_from, run_lines, run_on, run_over, run_script, run_stated, stated, stated_step, stopped}
 
@@ -47,7 +47,7 @@ accepted_ends (Err e) step s = tt
 reconfigured_ends : (configs : List Configuration) (h : History) (number now : ℕ) (name : List ℕ) (o : Option (List ℕ))
     → StepEnds (reconfigured configs h number now name o)
 reconfigured_ends configs h number now name None = tt
-reconfigured_ends configs h number now name (Some text) = accepted_ends (read_result text)
+reconfigured_ends configs h number now name (Some text) = accepted_ends (conf_result text)
     (asked_next configs h number now (Reconfigure text)) (asked_ends configs h number now (Reconfigure text))
 
 -- the event of a line

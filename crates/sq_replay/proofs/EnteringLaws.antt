@@ -7,6 +7,7 @@ use Rattle.sq_request.specs.Written.{made_request}
 use Rattle.sq_machine.specs.declared.entries.Event.{Event}
 use Rattle.sq_machine.specs.declared.entries.Event.TheVariants.{Begin, Open, Close, Ask, Step, Take, Started, StartFail, Line as HelperLine, Died, Act, Reconfigure, Seat, Grant, Leave}
 use Rattle.sq_machine.specs.declared.entries.Told.{Told}
+use Rattle.sq_rules.specs.ConfText.{conf_result}
 use Rattle.sq_rules.specs.declared.kinds.Kind.TheVariants as kind
 use Rattle.sq_rules.specs.Configurations.{Configuration}
 use Rattle.sq_machine.specs.Entries.{History, entry_at}
@@ -20,7 +21,6 @@ use Rattle.sq_journal.specs.EntryText.{entry_line, written}
 use Rattle.sq_replay.specs.declared.ends.RunEnd.{RunEnd}
 use Rattle.sq_replay.specs.declared.ends.RunEnd.TheVariants as ends
 use Rattle.sq_replay.specs.declared.page.Unwritten.{Unwritten}
-use Rattle.sq_replay.specs.ConfReading.{read_result}
 use Rattle.sq_replay.specs.Entering.{Arrives, IsJudgeEnd, Judges, NamedReads, named_of}
 use Rattle.sq_replay.specs.Making.{IsRefusal, MayStand, is_refused}
 use Rattle.sq_replay.specs.RunText.{Shelf, accepted, acts, asked_next, event_step, reconfigured}
@@ -30,7 +30,7 @@ use Rattle.sq_replay.proofs.GrowthLaws.{acts_grow, event_grows}
 use Rattle.sq_replay.proofs.LoopLaws.{front_more, part_more}
 use Rattle.sq_replay.proofs.MakingLaws.{made_asks, refused_asks}
 use Rattle.sq_replay.proofs.OpeningLaws.{tells_text}
-use Rattle.sq_replay.proofs.ReadingLaws.{gives_source, is_read, read_long}
+use Rattle.sq_drafts.proofs.TextLaws.{gives_source, too_long}
 
 -- acts
 
@@ -205,20 +205,16 @@ plain_is event e is = cc
 
 -- the reconfiguration by a text that gives this configuration
 named_asks : (configs : List Configuration) (h : History) (number now : ℕ) (name text : List ℕ) (config : Configuration)
-    (o : Option (List ℕ)) → o ≡ Some text → read_result text ≡ Ok config
+    (o : Option (List ℕ)) → o ≡ Some text → conf_result text ≡ Ok config
     → reconfigured configs h number now name o ≡ asked_next configs h number now (Reconfigure text)
 named_asks configs h number now name text config o there read =
     ap (reconfigured configs h number now name) there
     ∙ ap (λ r. accepted r (asked_next configs h number now (Reconfigure text))) read
 
--- the text is the configuration's source
-pub named_source_is : (text : List ℕ) (config : Configuration) → read_result text ≡ Ok config → config.source ≡ text
-named_source_is text config read = gives_source text config (is_read text config read).gives
-
 -- it was made
 pub named_step : (v w : ScriptView) (files : Shelf) (configs : List Configuration) (h : History) (number now : ℕ)
     (name text : List ℕ) (config : Configuration) (answer : Told) → Is v configs h
-    → files (current h) name ≡ Some text → read_result text ≡ Ok config
+    → files (current h) name ≡ Some text → conf_result text ≡ Ok config
     → IsMade w configs h (max now v.latest) (Reconfigure text) answer
     → event_step files configs h number now (Reconfigure name)
     ≡ Ok (acts configs (entry_at (max now v.latest) (Reconfigure text) answer ∷ h))
@@ -229,13 +225,13 @@ named_step v w files configs h number now name text config answer is there read 
 -- it is refused
 pub named_refused : (v : ScriptView) (files : Shelf) (configs : List Configuration) (h : History) (number now : ℕ)
     (name text : List ℕ) (config : Configuration) → Is v configs h
-    → files (current h) name ≡ Some text → read_result text ≡ Ok config
+    → files (current h) name ≡ Some text → conf_result text ≡ Ok config
     → is_refused (next configs (marked configs h) (max now v.latest) (Reconfigure config.source)) ≡ true
     → event_step files configs h number now (Reconfigure name) ≡ Err (ends.Script number)
 named_refused v files configs h number now name text config is there read r =
     let refused : is_refused (next configs (marked configs h) (max now v.latest) (Reconfigure text)) ≡ true =
     subst (λ (t : List ℕ). is_refused (next configs (marked configs h) (max now v.latest) (Reconfigure t)) ≡ true)
-    (named_source_is text config read) r in
+    (gives_source text config read) r in
     named_asks configs h number now name text config (files (current h) name) there read
     ∙ refused_asks v configs h number now (Reconfigure text) is refused
 
@@ -268,7 +264,7 @@ named_whole texts old new files e missing name text t a tells =
 
 -- it gives no configuration
 judged_end : (name text : List ℕ) (o : Option (List ℕ)) (end : RunEnd) → o ≡ Some text → IsJudgeEnd end
-    → Judges (read_result text) (Err end) → NamedReads name o (Err end)
+    → Judges (conf_result text) (Err end) → NamedReads name o (Err end)
 judged_end name text o (ends.Config e) there is j = (text, there, j)
 judged_end name text o ends.WantOfMemory there is j = tt
 judged_end name text o ends.Ok there is j = absurd is
@@ -279,7 +275,7 @@ judged_end name text o ends.WriteFault there is j = absurd is
 
 pub named_judged : (texts : Texts) (old new : Openings) (files : Shelf) (e : ℕ) (missing : Option (List ℕ))
     (name text : List ℕ) (end : RunEnd) → ReadsFile text_limit texts name (Some text)
-    → ReadsOpening text_limit old new name (Some text) → IsJudgeEnd end → Judges (read_result text) (Err end)
+    → ReadsOpening text_limit old new name (Some text) → IsJudgeEnd end → Judges (conf_result text) (Err end)
     → Tells texts old new files e missing → NamedReads name (files e name) (Err end)
 named_judged texts old new files e missing name text end t a is j tells =
     judged_end name text (files e name) end (named_whole texts old new files e missing name text t a tells) is j
@@ -291,4 +287,4 @@ pub named_long : (texts : Texts) (old new : Openings) (files : Shelf) (e : ℕ) 
     → NamedReads name (files e name) (Err (ends.Config (record { line = 0; kind = kind.TooMany })))
 named_long texts old new files e missing name t a tells =
     let x = tells_text texts old new files e missing name (λ bytes. IsWhole text_limit bytes None) t a tells in
-    (x.0, x.1, read_long x.0 x.2)
+    (x.0, x.1, too_long x.0 x.2)

@@ -7,8 +7,8 @@ use Rattle.std.specs.Ordering.{is_eq, nat_cmp}
 use Rattle.sq_machine.specs.Limits.{last_number}
 use Rattle.sq_machine.specs.PoolReadings.{Sat}
 use Rattle.sq_pools.specs.Basins.{Basin, IsBasin, seat_in}
-use Rattle.sq_replay.specs.declared.seats.SeatInUse.{SeatInUse}
-use Rattle.sq_replay.specs.declared.seats.SeatInUse.TheVariants as held
+use Rattle.sq_pools.specs.declared.held_seats.HeldSeat.{HeldSeat}
+use Rattle.sq_pools.specs.declared.held_seats.HeldSeat.TheVariants as held
 use Rattle.sq_replay.specs.Riding.{AreHeld, IsHeldNowhere, held_for, held_seat}
 use Rattle.sq_replay.specs.Runs.{BothPools}
 
@@ -33,7 +33,7 @@ after n k w es fs h =
 
 -- a seat that is held is one of the one pools or of the others, under its own number
 
-held_kind : (es : List (ℕ × SeatInUse)) (p : BothPools) (n : ℕ) (x : SeatInUse) → AreHeld es p
+held_kind : (es : List (ℕ × HeldSeat)) (p : BothPools) (n : ℕ) (x : HeldSeat) → AreHeld es p
     → Some x ≡ lookup (is_at (nat_cmp n)) es
     → Some x ≡ held_for n (seat_in p.addressed n) (seat_in p.tagged n)
 held_kind es p n x are at = at ∙ sym (found n es) ∙ are.held_are n
@@ -43,7 +43,7 @@ pub record IsHeldHere (q : Basin) (n x : ℕ) : Type 0 where
   pub number_is : x ≡ n
   pub used : is_some (seat_in q n) ≡ true
 
-pub held_addressed : (es : List (ℕ × SeatInUse)) (p : BothPools) (n x : ℕ) → AreHeld es p
+pub held_addressed : (es : List (ℕ × HeldSeat)) (p : BothPools) (n x : ℕ) → AreHeld es p
     → Some (held.ByAddress x) ≡ lookup (is_at (nat_cmp n)) es → IsHeldHere p.addressed n x
 held_addressed es p n x is at = by (seat_in p.addressed n) (seat_in p.tagged n) refl
     (held_kind es p n (held.ByAddress x) is at)
@@ -54,7 +54,7 @@ held_addressed es p n x is at = by (seat_in p.addressed n) (seat_in p.tagged n) 
     by None (Some s) was e = absurd (cc)
     by None None was e = absurd (cc)
 
-pub held_tagged : (es : List (ℕ × SeatInUse)) (p : BothPools) (n x : ℕ) → AreHeld es p
+pub held_tagged : (es : List (ℕ × HeldSeat)) (p : BothPools) (n x : ℕ) → AreHeld es p
     → Some (held.ByTag x) ≡ lookup (is_at (nat_cmp n)) es → IsHeldHere p.tagged n x
 held_tagged es p n x is at = by (seat_in p.addressed n) (seat_in p.tagged n) refl
     (held_kind es p n (held.ByTag x) is at)
@@ -65,7 +65,7 @@ held_tagged es p n x is at = by (seat_in p.addressed n) (seat_in p.tagged n) ref
     by None None was e = absurd (cc)
 
 -- what is not held is in use in neither
-pub held_none : (es : List (ℕ × SeatInUse)) (p : BothPools) (n : ℕ) → AreHeld es p
+pub held_none : (es : List (ℕ × HeldSeat)) (p : BothPools) (n : ℕ) → AreHeld es p
     → lookup (is_at (nat_cmp n)) es ≡ None → IsHeldNowhere p n
 held_none es p n is none = by (seat_in p.addressed n) (seat_in p.tagged n) refl refl
     (sym (is.held_are n) ∙ found n es ∙ none)
@@ -85,7 +85,7 @@ none_past p n is low = by (seat_in p n) refl
     by (Some s) was = let high = (is.numbers n (ap is_some was)).1 in absurd (omega arith)
 
 -- one more seat of pools with buckets by addresses
-pub held_more : (es fs : List (ℕ × SeatInUse)) (p q : BothPools) (k x g : ℕ) (s : Sat) → AreHeld es p
+pub held_more : (es fs : List (ℕ × HeldSeat)) (p q : BothPools) (k x g : ℕ) (s : Sat) → AreHeld es p
     → IsBasin p.tagged → p.addressed.given < g → k ≡ g → x ≡ g
     → ((n : ℕ) → lookup (is_at (nat_cmp n)) fs
     ≡ cond (is_at (nat_cmp k) n) (Some (held.ByAddress x)) (lookup (is_at (nat_cmp n)) es))
@@ -115,7 +115,7 @@ held_more es fs p q k x g s is basin low key own put seated same even = record {
   alone n false e there = is.apart n there
 
 -- one more seat of pools with buckets by tags
-pub tag_held_more : (es fs : List (ℕ × SeatInUse)) (p q : BothPools) (k x g : ℕ) (s : Sat) → AreHeld es p
+pub tag_held_more : (es fs : List (ℕ × HeldSeat)) (p q : BothPools) (k x g : ℕ) (s : Sat) → AreHeld es p
     → IsBasin p.addressed → p.addressed.given < g → k ≡ g → x ≡ g
     → ((n : ℕ) → lookup (is_at (nat_cmp n)) fs
     ≡ cond (is_at (nat_cmp k) n) (Some (held.ByTag x)) (lookup (is_at (nat_cmp n)) es))
@@ -148,7 +148,7 @@ tag_held_more es fs p q k x g s is basin low key own put seated same even = reco
   alone n false e there = is.apart n there
 
 -- one seat less
-pub held_less : (es fs : List (ℕ × SeatInUse)) (p q : BothPools) (k : ℕ) → AreHeld es p
+pub held_less : (es fs : List (ℕ × HeldSeat)) (p q : BothPools) (k : ℕ) → AreHeld es p
     → ((n : ℕ) → lookup (is_at (nat_cmp n)) fs ≡ cond (is_at (nat_cmp k) n) None (lookup (is_at (nat_cmp n)) es))
     → ((n : ℕ) → seat_in q.addressed n ≡ cond (n == k) None (seat_in p.addressed n))
     → ((n : ℕ) → seat_in q.tagged n ≡ cond (n == k) None (seat_in p.tagged n))
@@ -179,7 +179,7 @@ left_alone q k none n = by (n == k) refl
     by false e = refl
 
 -- what is in use by a tag is not by an address
-pub not_addressed : (es : List (ℕ × SeatInUse)) (p : BothPools) (k : ℕ) → AreHeld es p
+pub not_addressed : (es : List (ℕ × HeldSeat)) (p : BothPools) (k : ℕ) → AreHeld es p
     → is_some (seat_in p.tagged k) ≡ true → seat_in p.addressed k ≡ None
 not_addressed es p k is used = by (seat_in p.addressed k) refl
   where

@@ -36,7 +36,8 @@ use Rattle.sq_journal.specs.EntryText.{entry_line, written}
 use Rattle.sq_pools.specs.Basins.{Basin, HasLeft, HasPassed, IsChosen, IsGranted, IsRenewed, IsTagChosen, IsTagRenewed, grant_in, seat_in}
 use Rattle.sq_pools.specs.Stands.{PoolsStand, entry}
 use Rattle.sq_pools.proofs.StandLaws.{grant_elsewhere, grant_is, grant_stands, leave_elsewhere, leave_stands, new_stands, pass_stands, renew_stands, sit_stands}
-use Rattle.sq_model_state.specs.Acts.{Due, due_in}
+use Rattle.sq_machine.specs.DueActs.{Due}
+use Rattle.sq_model_state.specs.Acts.{due_in}
 use Rattle.sq_model_state.specs.Answers.{due_told}
 use Rattle.sq_model_state.specs.Promises.{IsAnswered}
 use Rattle.sq_model_state.specs.Changes.{first_state}
@@ -45,7 +46,7 @@ use Rattle.sq_model_state.proofs.ActPromises.{none_due}
 use Rattle.sq_model_state.proofs.Lawful.{stands_same}
 use Rattle.sq_model_state.proofs.PromiseLaws.{answered_same, first_for, grant_answered, leave_answered, next_now, seat_answered}
 use Rattle.sq_replay.specs.declared.ends.RunEnd.TheVariants as ends
-use Rattle.sq_replay.specs.Dues.{after_due}
+use Rattle.sq_engine.specs.Acting.{after_due}
 use Rattle.sq_replay.specs.Making.{is_refused}
 use Rattle.sq_replay.specs.Riding.{AreBasins, HaveBegun}
 use Rattle.sq_replay.specs.RunText.{acts, answered, asked_next, first_history}

@@ -22,7 +22,7 @@ use Rattle.sq_model_rows.specs.declared.stepping.Stepped.{Stepped}
 use Rattle.sq_model_rows.specs.declared.stepping.Stepped.TheVariants as stepped
 use Rattle.sq_epochs.specs.declared.acts.Act.{Act}
 use Rattle.sq_epochs.specs.declared.acts.Act.TheVariants as act
-use Rattle.sq_model_state.specs.Acts.{Due, sends, starts, stops}
+use Rattle.sq_machine.specs.DueActs.{Due, sends, starts, stops}
 use Rattle.sq_model_state.specs.Answers.{name_in}
 use Rattle.sq_model_state.specs.Promises.{IsAnswered, StandsFor}
 use Rattle.sq_model_state.specs.States.{IsSame, State}

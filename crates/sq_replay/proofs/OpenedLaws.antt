@@ -7,17 +7,17 @@ use Rattle.sq_outside.specs.Told.{AddsText, Opening, Openings}
 use Rattle.sq_outside.specs.declared.lines.LineFound.TheVariants as found
 use Rattle.sq_machine.specs.declared.entries.Event.{Event}
 use Rattle.sq_machine.specs.declared.entries.Event.TheVariants.{Reconfigure}
+use Rattle.sq_rules.specs.ConfText.{conf_result}
 use Rattle.sq_rules.specs.Configurations.{Configuration}
 use Rattle.sq_rules.specs.Limits.{text_limit}
 use Rattle.sq_rules.specs.declared.kinds.Kind.TheVariants as kind
 use Rattle.sq_replay.specs.declared.ends.RunEnd.{RunEnd}
 use Rattle.sq_replay.specs.declared.ends.RunEnd.TheVariants as ends
-use Rattle.sq_replay.specs.ConfReading.{read_result}
 use Rattle.sq_replay.specs.Entering.{IsBeginEnd, IsEmptyEnd, IsJudgeEnd, IsPlainEnd, Judges, named_of}
 use Rattle.sq_replay.specs.Openings.{Added, AllGive, LinesOpened, MayOpen, NameOpened, OpenedSoFar, ReachesEnd, RunOpened, StepOpened, StopOpened, before_names, name_at, name_in, name_of, names_in, next_name, opened_names}
 use Rattle.sq_replay.specs.RunText.{stated}
 use Rattle.sq_replay.specs.Runs.{IsStepEnd, whole_line}
-use Rattle.sq_replay.proofs.ReadingLaws.{read_long}
+use Rattle.sq_drafts.proofs.TextLaws.{too_long}
 
 -- openings that were added
 
@@ -65,22 +65,22 @@ pub long_opened : (old new : Openings) (name : List ℕ) (number : ℕ)
 long_opened old new name number adds =
     Added_one old new name (λ bytes. IsWhole text_limit bytes None)
     (StopOpened number (ends.Config (record { line = 0; kind = kind.TooMany })) (Some name)) adds
-    (λ text long. (record { name = name; text = text }, refl, refl, read_long text long))
+    (λ text long. (record { name = name; text = text }, refl, refl, too_long text long))
 
 -- it gives a configuration
-pub name_opened : (old new : Openings) (name text : List ℕ) (config : Configuration) → read_result text ≡ Ok config
+pub name_opened : (old new : Openings) (name text : List ℕ) (config : Configuration) → conf_result text ≡ Ok config
     → AddsText old new name (λ bytes. IsWhole text_limit bytes (Some text))
     → Added old new (NameOpened (Some name))
 name_opened old new name text config reads adds =
     Added_one old new name (λ bytes. IsWhole text_limit bytes (Some text)) (NameOpened (Some name)) adds
-    (λ bytes whole. (record { name = name; text = bytes }, refl, refl, (config, ap read_result whole.0 ∙ reads)))
+    (λ bytes whole. (record { name = name; text = bytes }, refl, refl, (config, ap conf_result whole.0 ∙ reads)))
 
 -- or none
 judged_opened : (number : ℕ) (name text bytes : List ℕ) (end : RunEnd) → IsJudgeEnd end
-    → Judges (read_result text) (Err end) → bytes ≡ text
+    → Judges (conf_result text) (Err end) → bytes ≡ text
     → StopOpened number end (Some name) (record { name = name; text = bytes } ∷ [])
 judged_opened number name text bytes (ends.Config e) is j same =
-    (record { name = name; text = bytes }, refl, refl, ap read_result same ∙ j)
+    (record { name = name; text = bytes }, refl, refl, ap conf_result same ∙ j)
 judged_opened number name text bytes ends.WantOfMemory is j same = refl
 judged_opened number name text bytes ends.Ok is j same = absurd is
 judged_opened number name text bytes (ends.Script n) is j same = absurd is
@@ -89,7 +89,7 @@ judged_opened number name text bytes ends.ReadFault is j same = absurd is
 judged_opened number name text bytes ends.WriteFault is j same = absurd is
 
 pub fault_opened : (old new : Openings) (number : ℕ) (name text : List ℕ) (end : RunEnd) → IsJudgeEnd end
-    → Judges (read_result text) (Err end) → AddsText old new name (λ bytes. IsWhole text_limit bytes (Some text))
+    → Judges (conf_result text) (Err end) → AddsText old new name (λ bytes. IsWhole text_limit bytes (Some text))
     → Added old new (StopOpened number end (Some name))
 fault_opened old new number name text end is j adds =
     Added_one old new name (λ bytes. IsWhole text_limit bytes (Some text)) (StopOpened number end (Some name)) adds

@@ -1,5 +1,5 @@
 -- Outcomes that are taken: the record that the engine hands out is what a seat needs.
-use Rattle.std.proofs.Common.{◌≡◌, ℕ, ◌≤◌, max, List, [], ◌∷◌, ◌++◌, ◌==◌, Bool, true, false, not, if◌then◌else◌, Option, Some, None, Ok, Err, slice_get, refl, sym, ap, subst, ◌∙◌}
+use Rattle.std.proofs.Common.{◌≡◌, ℕ, ◌≤◌, max, List, [], ◌∷◌, ◌++◌, ◌==◌, Bool, true, false, not, if◌then◌else◌, Option, Some, None, Ok, Err, slice_get, refl, sym, ap, subst, ◌∙◌, ◌&&◌}
 use Rattle.std.proofs.lemmas.List.{append-nil}
 use Rattle.std.proofs.lemmas.Option.{none-some, same_Some}
 use Rattle.std.specs.Option.{option_map, option_or, option_to_list}
@@ -7,6 +7,8 @@ use Rattle.sq_base.proofs.CommonLaws.{map_some}
 use Rattle.sq_machine.specs.declared.entries.Event.TheVariants.{Take}
 use Rattle.sq_machine.specs.declared.entries.Told.{Told}
 use Rattle.sq_machine.specs.declared.entries.Told.TheVariants as told
+use Rattle.sq_machine.specs.declared.places.SeatPlace.{SeatPlace}
+use Rattle.sq_machine.specs.declared.places.SeatPlace.TheVariants.{Nowhere, ByAddress, ByTag}
 use Rattle.sq_machine.specs.declared.refusals.Refusal.TheVariants as refusal
 use Rattle.sq_base.specs.declared.helpers.Answer.{Answer}
 use Rattle.sq_rules.specs.declared.configs.Acl.{Acl}
@@ -18,7 +20,7 @@ use Rattle.sq_machine.specs.Entries.{History, entry_at}
 use Rattle.sq_machine.specs.Next.{gives, refuse_if, refuses}
 use Rattle.sq_machine.specs.Marking.{marked}
 use Rattle.sq_machine.specs.SeatPlaces.{place_in, seat_place}
-use Rattle.sq_machine.specs.Tags.{first_tag, tag_at, tag_in, tag_of, tag_of_acl, tag_of_body}
+use Rattle.sq_rules.specs.Tags.{first_tag, tag_at, tag_in, tag_of, tag_of_acl, tag_of_body}
 use Rattle.sq_machine.specs.TakenRecords.{allowed_of, taken_answers}
 use Rattle.sq_machine.specs.Readings.{latest}
 use Rattle.sq_rules.specs.Sights.{unversioned_sight}
@@ -28,7 +30,7 @@ use Rattle.sq_rules.specs.Walks.{rules_walk, walk_over}
 use Rattle.sq_rules.proofs.SightLaws.{key_unversioned, taken_unversioned}
 use Rattle.sq_model_rows.specs.CheckRows.{Held, held_at}
 use Rattle.sq_checks.specs.OpenChecks.{CheckParts, answers_in, row, rows_of}
-use Rattle.sq_checks.specs.Records.{Judged, judged_of}
+use Rattle.sq_checks.specs.Records.{Judged, TakesClient, judged_of}
 use Rattle.sq_checks.specs.Stages.{came_in, is_done_in}
 use Rattle.sq_checks.specs.Tables.{value_at}
 use Rattle.sq_checks.specs.declared.stages.CheckStage.{CheckStage}
@@ -42,12 +44,19 @@ use Rattle.sq_engine.specs.Engines.{IsEngine}
 use Rattle.sq_engine.proofs.TableLaws.{row_at_number}
 use Rattle.sq_replay.specs.declared.stops.Stop.TheVariants as stop
 use Rattle.sq_replay.specs.Making.{IsMaking, is_refused}
-use Rattle.sq_replay.specs.Riding.{AreBasins, rider_of}
+use Rattle.sq_pools.specs.Basins.{has_tag_pool}
+use Rattle.sq_replay.specs.Riding.{AreBasins, IsSeatableAt, rider_of}
 use Rattle.sq_replay.specs.Runs.{Is, ScriptView, Rider, Rides}
 use Rattle.sq_replay.proofs.EngineLaws.{engine_made, latest_by}
 use Rattle.sq_replay.proofs.MakingLaws.{riders_taken}
 use Rattle.sq_replay.proofs.TakenLaws.{IsRecord, held_ask, record_rides}
 use Rattle.sq_replay.proofs.ToldLaws.{take_told}
+
+-- where the pool of a record takes its client, a seat there may be given
+pub seatable : (j : Judged) (place : SeatPlace) → TakesClient j place → IsSeatableAt (rider_of j) place
+seatable j Nowhere takes = tt
+seatable j (ByAddress pool) takes = ap (λ b. b && not (has_tag_pool j.config pool)) takes.0 ∙ ap not takes.1
+seatable j (ByTag pool tag) takes = takes
 
 -- a check is seated by what it saw, whatever the version
 tag_unversioned : (c : Configuration) (s : Sight) (answers : List Answer) (place : ℕ)

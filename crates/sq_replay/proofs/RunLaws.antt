@@ -10,6 +10,7 @@ use Rattle.sq_request.specs.Written.{is_written, made_request}
 use Rattle.sq_machine.specs.declared.entries.Event.{Event}
 use Rattle.sq_machine.specs.declared.entries.Event.TheVariants.{Begin, Open, Close, Ask, Step, Take, Started, StartFail, Line as HelperLine, Died, Act, Reconfigure, Seat, Grant, Leave}
 use Rattle.sq_machine.specs.declared.entries.Told.{Told}
+use Rattle.sq_rules.specs.ConfText.{conf_result}
 use Rattle.sq_rules.specs.declared.kinds.ConfError.{ConfError}
 use Rattle.sq_rules.specs.Configurations.{Configuration}
 use Rattle.sq_machine.specs.Entries.{History, entry_at}
@@ -21,7 +22,6 @@ use Rattle.sq_machine.specs.Readings.{current, latest}
 use Rattle.sq_model_state.proofs.PromiseLaws.{legal_more}
 use Rattle.sq_replay.specs.declared.ends.RunEnd.{RunEnd}
 use Rattle.sq_replay.specs.declared.ends.RunEnd.TheVariants as ends
-use Rattle.sq_replay.specs.ConfReading.{read_result}
 use Rattle.sq_replay.specs.RunText.{ScriptRun, Shelf, accepted, acts, answered, asked_next, begun_history, event_step, first_history, line_step, reconfigured, run_first, run_from, run_lines, run_on, run_over, run_stated, stated, stated_step, stopped}
 use Rattle.sq_replay.specs.Steps.{IsEntered, IsStep}
 use Rattle.sq_replay.specs.Dues.{dues}
@@ -94,7 +94,7 @@ named_step : (files : Shelf) (configs : List Configuration) (h : History) (numbe
     → reconfigured configs h number now name o ≡ Ok t → IsStep files configs h (current h) (Reconfigure name) t
 named_step files configs h number now name t None is e = absurd (cc)
 named_step files configs h number now name t (Some text) is e =
-    let k = accepted_ok (read_result text) (asked_next configs h number now (Reconfigure text)) t e in
+    let k = accepted_ok (conf_result text) (asked_next configs h number now (Reconfigure text)) t e in
     asked_step files configs h (current h) number now (Reconfigure name) (Reconfigure text) t
     (text, refl, record { config = k.0; text_is = is; gives_it = k.1 }) refl refl k.2
 

@@ -4,6 +4,7 @@ use Rattle.std.specs.declared.option.Option.{Option}
 use Rattle.sq_outside.specs.SourceLines.{SourceLine}
 use Rattle.sq_machine.specs.declared.entries.Event.{Event}
 use Rattle.sq_machine.specs.declared.entries.Event.TheVariants.{Begin, Open, Close, Ask, Step, Take, Started, StartFail, Line as HelperLine, Died, Act, Reconfigure, Seat, Grant, Leave}
+use Rattle.sq_rules.specs.ConfText.{conf_result}
 use Rattle.sq_rules.specs.Configurations.{Configuration}
 use Rattle.sq_machine.specs.Entries.{History, entry_at}
 use Rattle.sq_machine.specs.Events.{begins_epoch}
@@ -11,13 +12,12 @@ use Rattle.sq_machine.specs.Machine.{Legal}
 use Rattle.sq_machine.specs.Epochs.{config_of}
 use Rattle.sq_machine.specs.Readings.{current, epoch_after}
 use Rattle.sq_model_state.specs.Sources.{AreSourced, IsSourced}
-use Rattle.sq_replay.specs.ConfReading.{read_result}
 use Rattle.sq_replay.specs.Dues.{dues}
 use Rattle.sq_replay.specs.Headline.{AreAccepted, IsAhead, IsAccepted}
 use Rattle.sq_replay.specs.RunText.{Shelf, acts, begun_history, configs_of, first_history, named_by, named_from, named_in, run_script, stated, with_config, with_text}
 use Rattle.sq_replay.specs.Steps.{IsEntered, IsNamed, IsStep}
 use Rattle.sq_replay.proofs.ActLaws.{acts_keep}
-use Rattle.sq_replay.proofs.ReadingLaws.{gives_source, is_read}
+use Rattle.sq_drafts.proofs.TextLaws.{gives_source}
 use Rattle.sq_replay.proofs.RunLaws.{OrNone, Stays, begun_legal, run_keeps, step_legal}
 
 -- acts begin no epoch
@@ -120,7 +120,7 @@ named_ahead files configs l ls h t now name text states n same a = record {
 -- the configuration that such a line would read is that of the next epoch
 pub named_next : (files : Shelf) (configs : List Configuration) (l : SourceLine) (ls : List SourceLine) (h : History)
     (now : ℕ) (name text : List ℕ) (config : Configuration)
-    → stated l.bytes ≡ Some (now, Reconfigure name) → files (current h) name ≡ Some text → read_result text ≡ Ok config
+    → stated l.bytes ≡ Some (now, Reconfigure name) → files (current h) name ≡ Some text → conf_result text ≡ Ok config
     → IsAhead files configs h (l ∷ ls) → config_of configs (suc (current h)) ≡ Some config
 named_next files configs l ls h now name text config states is gives a =
     let n : IsNamed files (current h) name text = record { config = config; text_is = is; gives_it = gives } in
@@ -138,7 +138,7 @@ pub named_source : (files : Shelf) (configs : List Configuration) (l : SourceLin
     → IsNamed files (current h) name text → IsAhead files configs h (l ∷ ls) → IsAccepted configs h (Reconfigure text)
 named_source files configs l ls h now name text states n a = (
   n.config,
-  (is_read text n.config n.gives_it).gives,
+  n.gives_it,
   named_next files configs l ls h now name text n.config states n.text_is n.gives_it a,
 )
 

@@ -1,3 +1,4 @@
+-- In the statement: docs/STATEMENT.md lists which definitions.
 -- The state that a history comes to, and how many acts are due of it at most: each act takes a due
 -- stop, a queued question, or a start that `children-max` leaves.
 use Rattle.std.specs.Prelude.{◌≡◌, ℕ, ◌+◌, ◌-◌, List, [], ◌∷◌, length, if◌then◌else◌, Some, None}
@@ -20,8 +21,7 @@ use Rattle.sq_machine.specs.Questions.{put_count}
 use Rattle.sq_machine.specs.Readings.{current, latest, offset_of}
 use Rattle.sq_model_rows.specs.CheckRows.{held_checks}
 use Rattle.sq_model_rows.specs.ClassRows.{ClassRow, class_part}
-use Rattle.sq_model_state.specs.Acts.{Due, live_places_in, sends, starts, stops}
-use Rattle.sq_model_state.specs.Changes.{after_send_at, after_start_at, after_stop_of}
+use Rattle.sq_model_state.specs.Acts.{live_places_in}
 use Rattle.sq_model_state.specs.States.{State, machine_moment, place_of}
 
 -- the state that a history comes to: each part is its reading
@@ -68,12 +68,6 @@ dues_in s = length (picks s.stop s.procs) + total (dues_at s) (live_places_in s)
 -- the acts that are due after a history at most
 abbrev pub dues : List Configuration → History → ℕ
 dues configs h = dues_in (state_at configs (marked configs h))
-
--- the state after the act that was due
-abbrev pub after_due : Due → ℕ → State → State
-after_due (stops k) now s = after_stop_of k now s
-after_due (sends p x) now s = after_send_at p now s
-after_due (starts p) now s = after_start_at p now s
 
 -- no act is due after a history
 abbrev pub NoneDue : List Configuration → History → Type 0

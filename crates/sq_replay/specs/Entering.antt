@@ -4,6 +4,7 @@ use Rattle.std.specs.declared.option.Option.{Option}
 use Rattle.sq_outside.specs.Causes.{Rose}
 use Rattle.sq_machine.specs.declared.entries.Event.{Event}
 use Rattle.sq_machine.specs.declared.entries.Event.TheVariants.{Act, Begin, Reconfigure}
+use Rattle.sq_rules.specs.ConfText.{conf_result}
 use Rattle.sq_rules.specs.declared.kinds.ConfError.{ConfError}
 use Rattle.sq_rules.specs.Configurations.{Configuration}
 use Rattle.sq_machine.specs.Entries.{History}
@@ -14,7 +15,6 @@ use Rattle.sq_replay.specs.declared.ends.RunEnd.{RunEnd}
 use Rattle.sq_replay.specs.declared.ends.RunEnd.TheVariants as ends
 use Rattle.sq_replay.specs.declared.page.Unwritten.{Unwritten}
 use Rattle.sq_replay.specs.declared.page.Unwritten.TheVariants as untold
-use Rattle.sq_replay.specs.ConfReading.{read_result}
 use Rattle.sq_replay.specs.Ends.{end_of}
 use Rattle.sq_replay.specs.MachineViews.{MachineView, machine_of}
 use Rattle.sq_replay.specs.RunText.{begun_history}
@@ -31,10 +31,10 @@ Arrives v base contents page configs t (Err untold.WantOfMemory) =
 
 -- what was read of a file of this name, where this is its text, if it is there
 abbrev pub NamedReads : List ℕ → Option (List ℕ) → Result (List ℕ × Configuration) RunEnd → Type 0
-NamedReads name o (Ok (text, config)) = (o ≡ Some text) × (read_result text ≡ Ok config)
+NamedReads name o (Ok (text, config)) = (o ≡ Some text) × (conf_result text ≡ Ok config)
 NamedReads name o (Err (ends.Missing n)) = (n ≡ name) × (o ≡ None)
 NamedReads name o (Err (ends.Config e)) = (text : List ℕ) × (o ≡ Some text)
-    × (read_result text ≡ Err e)
+    × (conf_result text ≡ Err e)
 NamedReads name o (Err ends.ReadFault) = Unit {0}
 NamedReads name o (Err ends.WantOfMemory) = Unit {0}
 NamedReads name o (Err end) = ⊥

@@ -1,5 +1,4 @@
 -- Definitions that the laws cite, and the contracts of the code that runs scripts.
-pub mod ConfReading
 pub mod Dues
 pub mod Ends
 pub mod Entering

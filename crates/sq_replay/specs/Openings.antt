@@ -1,3 +1,4 @@
+-- In the statement: docs/STATEMENT.md lists which definitions.
 -- The openings of a run: of the files that its lines name, one for each line, in the order of the
 -- lines.
 use Rattle.std.specs.Prelude.{◌≡◌, ℕ, ◌+◌, List, [], ◌∷◌, ◌++◌, length, Result, Ok, Err, Some, None, IfSome}
@@ -7,10 +8,10 @@ use Rattle.sq_outside.specs.SourceLines.{SourceLine, lines}
 use Rattle.sq_outside.specs.Told.{Opening, Openings}
 use Rattle.sq_machine.specs.declared.entries.Event.{Event}
 use Rattle.sq_machine.specs.declared.entries.Event.TheVariants.{Reconfigure}
+use Rattle.sq_rules.specs.ConfText.{conf_result}
 use Rattle.sq_rules.specs.Configurations.{Configuration}
 use Rattle.sq_replay.specs.declared.ends.RunEnd.{RunEnd}
 use Rattle.sq_replay.specs.declared.ends.RunEnd.TheVariants as ends
-use Rattle.sq_replay.specs.ConfReading.{read_result}
 use Rattle.sq_replay.specs.RunText.{stated}
 
 -- where openings are told, some were added, newest first, of which P holds
@@ -56,7 +57,7 @@ opened_names (o ∷ more) = opened_names more ++ o.name ∷ []
 
 -- the text of an opening gives a configuration
 abbrev pub Gives : Opening → Type 0
-Gives o = (config : Configuration) × (read_result o.text ≡ Ok config)
+Gives o = (config : Configuration) × (conf_result o.text ≡ Ok config)
 
 abbrev pub AllGive : List Opening → Type 0
 AllGive [] = Unit {0}
@@ -85,7 +86,7 @@ abbrev pub StopOpened : ℕ → RunEnd → Option (List ℕ) → List Opening �
 StopOpened number ends.Ok name more = more ≡ []
 StopOpened number (ends.Script line) name more = (line ≡ number) × MayOpen name more
 StopOpened number (ends.Config e) name more = (o : Opening) × (more ≡ o ∷ []) × (name ≡ Some o.name)
-    × (read_result o.text ≡ Err e)
+    × (conf_result o.text ≡ Err e)
 StopOpened number (ends.Missing missed) name more = (more ≡ []) × (name ≡ Some missed)
 StopOpened number end name more = MayOpen name more
 

@@ -9,8 +9,8 @@ use Rattle.sq_machine.specs.SeatPlaces.{seat_place}
 use Rattle.sq_rules.specs.Configurations.{Configuration}
 use Rattle.sq_checks.specs.Records.{Judged}
 use Rattle.sq_pools.specs.Basins.{Basin, HasBegun, HasBegunTags, HasLeft, IsBasin, IsGranted, IsRenewed, IsTagRenewed, grant_in, has_pool, has_tag_pool, seat_in}
-use Rattle.sq_replay.specs.declared.seats.SeatInUse.{SeatInUse}
-use Rattle.sq_replay.specs.declared.seats.SeatInUse.TheVariants as held
+use Rattle.sq_pools.specs.declared.held_seats.HeldSeat.{HeldSeat}
+use Rattle.sq_pools.specs.declared.held_seats.HeldSeat.TheVariants as held
 use Rattle.sq_replay.specs.Runs.{BothPools, Rider}
 
 -- where a record is seated, its pool takes its client, or has buckets by tags
@@ -36,11 +36,11 @@ abbrev pub rider_at : List (ℕ × Rider) → ℕ → Option Rider
 rider_at riders c = lookup (λ k. c == k) riders
 
 -- the seat that is held under a number
-abbrev pub held_seat : List (ℕ × SeatInUse) → ℕ → Option SeatInUse
+abbrev pub held_seat : List (ℕ × HeldSeat) → ℕ → Option HeldSeat
 held_seat seats n = lookup (λ k. n == k) seats
 
 -- what is held for a number that is in use in the one pools or in the others
-abbrev pub held_for : ℕ → Option Sat → Option Sat → Option SeatInUse
+abbrev pub held_for : ℕ → Option Sat → Option Sat → Option HeldSeat
 held_for n (Some s) other = Some (held.ByAddress n)
 held_for n None (Some s) = Some (held.ByTag n)
 held_for n None None = None
@@ -54,7 +54,7 @@ pub record AreBasins (p : BothPools) : Type 0 where
   pub apart : (n : ℕ) → is_some (seat_in p.addressed n) ≡ true → seat_in p.tagged n ≡ None
 
 -- so it is of pools whose seats in use are held, each under its number
-pub record AreHeld (seats : List (ℕ × SeatInUse)) (p : BothPools) : Type 0 where
+pub record AreHeld (seats : List (ℕ × HeldSeat)) (p : BothPools) : Type 0 where
   pub held_are : (n : ℕ)
       → held_seat seats n ≡ held_for n (seat_in p.addressed n) (seat_in p.tagged n)
   pub even : p.tagged.given ≡ p.addressed.given

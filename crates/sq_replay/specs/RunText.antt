@@ -1,3 +1,4 @@
+-- In the statement: docs/STATEMENT.md lists which definitions.
 -- What a run of a script over a configuration comes to: its history, whose lines are written, and
 -- its end.
 use Rattle.std.specs.Prelude.{ℕ, ◌+◌, ℤ, List, [], ◌∷◌, length, Result, Ok, Err, Some, None, is_some, max, pos, zero, suc, if◌then◌else◌}
@@ -8,6 +9,7 @@ use Rattle.sq_request.specs.Written.{made_request}
 use Rattle.sq_machine.specs.declared.entries.Event.{Event}
 use Rattle.sq_machine.specs.declared.entries.Event.TheVariants.{Begin, Ask, Act, Reconfigure}
 use Rattle.sq_machine.specs.declared.entries.Told.TheVariants as told
+use Rattle.sq_rules.specs.ConfText.{conf_result}
 use Rattle.sq_rules.specs.declared.kinds.ConfError.{ConfError}
 use Rattle.sq_rules.specs.Configurations.{Configuration}
 use Rattle.sq_machine.specs.Entries.{History, entry_at}
@@ -19,7 +21,6 @@ use Rattle.sq_journal.specs.Lines.{spaced_words}
 use Rattle.sq_journal.specs.Reading.{dated_of}
 use Rattle.sq_replay.specs.declared.ends.RunEnd.{RunEnd}
 use Rattle.sq_replay.specs.declared.ends.RunEnd.TheVariants as ends
-use Rattle.sq_replay.specs.ConfReading.{read_result}
 use Rattle.sq_replay.specs.Dues.{dues}
 
 -- a history, the newest entry first, and how the run ends
@@ -83,7 +84,7 @@ accepted (Err e) step = Err (ends.Config e)
 abbrev pub reconfigured : List Configuration → History → ℕ → ℕ → List ℕ → Option (List ℕ)
     → Result History RunEnd
 reconfigured configs h number now name None = Err (ends.Missing name)
-reconfigured configs h number now name (Some text) = accepted (read_result text)
+reconfigured configs h number now name (Some text) = accepted (conf_result text)
     (asked_next configs h number now (Reconfigure text))
 
 -- the event of a line of the script, behind the first: `begin` may stand in the first alone, and
@@ -163,7 +164,7 @@ with_config (Err e) more = []
 
 abbrev pub with_text : Option (List ℕ) → List Configuration → List Configuration
 with_text None more = []
-with_text (Some text) more = with_config (read_result text) more
+with_text (Some text) more = with_config (conf_result text) more
 
 abbrev pub named_by : Shelf → Event → (ℕ → List Configuration) → ℕ → List Configuration
 named_by files (Reconfigure name) more e = with_text (files e name) (more (suc e))

@@ -1,3 +1,4 @@
+-- In the statement: docs/STATEMENT.md lists which definitions.
 -- A run under way: the machine with its pools, what was written, and what the script has left.
 use Rattle.std.specs.Prelude.{◌≡◌, ◌⊎◌, ℕ, ◌+◌, ◌≤◌, suc, List, [], ◌∷◌, ◌++◌, length, if◌then◌else◌, true, Result, Ok, Err, Some, None, IfSome}
 use Rattle.std.specs.Io.KnownBytes.{Appends}
@@ -12,6 +13,7 @@ use Rattle.sq_machine.specs.declared.entries.Event.{Event}
 use Rattle.sq_machine.specs.declared.entries.Event.TheVariants.{Reconfigure}
 use Rattle.sq_machine.specs.declared.entries.Told.{Told}
 use Rattle.sq_machine.specs.Checks.{Asked}
+use Rattle.sq_rules.specs.ConfText.{conf_result}
 use Rattle.sq_rules.specs.Configurations.{Configuration}
 use Rattle.sq_machine.specs.Entries.{History, entry_at}
 use Rattle.sq_machine.specs.Events.{begins_epoch}
@@ -32,7 +34,6 @@ use Rattle.sq_model_state.specs.Promises.{StandsFor}
 use Rattle.sq_model_state.specs.States.{State}
 use Rattle.sq_replay.specs.declared.ends.RunEnd.{RunEnd}
 use Rattle.sq_replay.specs.declared.ends.RunEnd.TheVariants as ends
-use Rattle.sq_replay.specs.ConfReading.{read_result}
 use Rattle.sq_replay.specs.Ends.{End, Done, Refused, Faulted, Reading, Writing, Lacking, end_of}
 use Rattle.sq_replay.specs.Headline.{IsAhead}
 use Rattle.sq_replay.specs.RunText.{ScriptRun, Shelf, acts, configs_of, run_lines, run_script, stated, stated_step}
@@ -209,7 +210,7 @@ openings_in (Some (now, event)) = openings_of event
 abbrev pub HasNext : Shelf → List Configuration → History → Event → Type 0
 HasNext files configs h (Reconfigure name) =
     (text : List ℕ) (config : Configuration) → files (current h) name ≡ Some text
-    → read_result text ≡ Ok config → config_of configs (suc (current h)) ≡ Some config
+    → conf_result text ≡ Ok config → config_of configs (suc (current h)) ≡ Some config
 HasNext files configs h event = Unit {0}
 
 -- one step

@@ -3,6 +3,7 @@ use Rattle.std.specs.Prelude.{◌≡◌, ℕ, ◌≤◌, List, ◌∷◌, true, 
 use Rattle.sq_machine.specs.declared.entries.Event.{Event}
 use Rattle.sq_machine.specs.declared.entries.Event.TheVariants.{Reconfigure}
 use Rattle.sq_machine.specs.declared.entries.Told.{Told}
+use Rattle.sq_rules.specs.ConfText.{conf_result}
 use Rattle.sq_rules.specs.Configurations.{Configuration}
 use Rattle.sq_machine.specs.Entries.{History, entry_at}
 use Rattle.sq_machine.specs.Events.{begins_epoch, has_target, is_begin}
@@ -10,14 +11,13 @@ use Rattle.sq_machine.specs.Machine.{next}
 use Rattle.sq_machine.specs.Next.{gives}
 use Rattle.sq_machine.specs.Marking.{marked}
 use Rattle.sq_machine.specs.Readings.{latest}
-use Rattle.sq_replay.specs.ConfReading.{read_result}
 use Rattle.sq_replay.specs.RunText.{Shelf, acts}
 
 -- the file of this name has this text, which gives a configuration
 pub record IsNamed (files : Shelf) (e : ℕ) (name text : List ℕ) : Type 0 where
   pub config : Configuration
   pub text_is : files e name ≡ Some text
-  pub gives_it : read_result text ≡ Ok config
+  pub gives_it : conf_result text ≡ Ok config
 
 -- what is entered of an event of a script: of a reconfiguration the text of its file, and of every
 -- other the event

@@ -4,7 +4,7 @@ ghost use Rattle.sq_outside.specs.Told.{IsNotTold};
 ghost use Rattle.sq_replay.specs.Entering.{IfMissed, IsJudgeEnd, IsNamingEnd, Judges, NamedReads, NamingHasCauses};
 ghost use Rattle.sq_replay.specs.Openings.{Added, StepOpened};
 ghost use Rattle.sq_replay.specs.RunText.{Shelf};
-ghost use Rattle.sq_replay.specs.ConfReading.{read_result};
+ghost use Rattle.sq_rules.specs.ConfText.{conf_result};
 ghost use Rattle.sq_replay.specs.Runs.{Adds, AddsCount, Tells, missed_by};
 
 use crate::ends::RunEnd;
@@ -17,14 +17,11 @@ use std::alloc::Global;
 
 // The configuration of a text.
 fn judge(alloc: Global, text: &[u8]) -> Result<Setup, RunEnd>
-    ensures judges { Judges (read_result text.now) result }
+    ensures judges { Judges (conf_result text.now) result }
     ensures end { IfErr result IsJudgeEnd }
 {
     match read_config(alloc, text) {
-        Ok(setup) => {
-            setup.config().facts();
-            Ok(setup)
-        }
+        Ok(setup) => Ok(setup),
         Err(ConfFault::At(fault)) => Err(RunEnd::Config(fault)),
         Err(ConfFault::WantOfMemory) => Err(RunEnd::WantOfMemory),
     }

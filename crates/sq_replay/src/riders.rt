@@ -1,14 +1,12 @@
 //! The records last taken on connections, as seats need them.
 ghost use Rattle.std.specs.Prelude.{◌≡◌, ◌==◌, [], ℕ, Some, None, if◌then◌else◌, IfOk, OnOk, OnErr};
 ghost use Rattle.std.specs.Option.{option_copied};
-ghost use Rattle.sq_machine.specs.SeatPlaces.{has_tags, seat_place};
-ghost use Rattle.sq_replay.specs.Riding.{IsSeatableAt, rider_at, rider_of};
+ghost use Rattle.sq_replay.specs.Riding.{rider_at, rider_of};
 
 use sq_base::{Addr, ConnNo, EpochNo, WantOfMemory};
 use sq_checks::Record;
-use sq_eval::tag_of;
 use sq_machine::SeatPlace;
-use sq_rules::{Config, Pool};
+use sq_rules::Config;
 use std::alloc::Global;
 use std::collections::BTreeMap;
 use std::marker::Model;
@@ -41,42 +39,13 @@ impl Model for Ride {
         (record { epoch = r.epoch; config = arc_value r.config; place = r.place; addr = r.addr }) };
 }
 
-// Whether the buckets of a pool are by tags.
-fn has_tags(pools: &[Pool], pool: u32) -> bool
-    ensures { result ≡ has_tags pools.now pool }
-{
-    match pools.get(pool as usize) {
-        Some(taken) => taken.class == 5,
-        None => false,
-    }
-}
-
-// Where a record is seated. It takes memory where its pool has buckets by tags.
-fn place_of(alloc: Global, taken: &Record) -> Result<SeatPlace, WantOfMemory>
-    ensures value { IfOk result
-        (λ p. p ≡ seat_place taken.now.config taken.now.sight taken.now.answers) }
-    ensures seatable { IfOk result (λ p. IsSeatableAt (rider_of taken.now) p) }
-{
-    let Some(pool) = taken.pool() else {
-        return Ok(SeatPlace::Nowhere);
-    };
-    let config = taken.config();
-    if !has_tags(config.pools(), pool) {
-        return Ok(SeatPlace::ByAddress(pool));
-    }
-    let tag = tag_of(alloc, config, taken.facts(), taken.sight(), taken.answers())?;
-    Ok(match tag {
-        Some(tag) => SeatPlace::ByTag(pool, tag),
-        None => SeatPlace::Nowhere,
-    })
-}
-
 // What a seat needs of a record.
+#[tactic(auto, using(crate::proofs::RecordLaws::seatable))]
 fn ride_of(alloc: Global, taken: &Record) -> Result<Ride, WantOfMemory>
     ensures { IfOk result (λ r. r ≡ rider_of taken.now) }
 {
     let config = Arc::try_clone(taken.config())?;
-    let place = place_of(alloc, taken)?;
+    let place = taken.seat_place(alloc)?;
     Ok(Ride {
         epoch: taken.epoch(),
         config,

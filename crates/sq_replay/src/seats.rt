@@ -5,26 +5,19 @@ ghost use Rattle.sq_pools.specs.Basins.{HasPassed, IsChosen, IsTagChosen, has_po
 ghost use Rattle.sq_replay.specs.Riding.{AreBasins, AreRenewed, HasLeftOf, HaveBegun, IsGrantedOf, IsHeldNowhere};
 
 use sq_base::{Addr, EpochNo, Moment, SeatNo, Text, WantOfMemory};
-use sq_pools::{ChooseFault, Pools, Seat, TagPools, TagSeat};
+use sq_pools::{ChooseFault, HeldSeat, Pools, TagPools};
 use sq_rules::Config;
 use std::alloc::Global;
 use std::collections::BTreeMap;
 use std::marker::Model;
 use std::sync::Arc;
 
-// A seat in use, of the one pools or of the others.
-#[derive(Drop)]
-pub(crate) enum SeatInUse {
-    ByAddress(Seat),
-    ByTag(TagSeat),
-}
-
 // Delay pools of both kinds, with each seat in use under its number. A contract sees the pools.
 #[derive(Drop)]
 pub(crate) struct SeatedPools {
     pools: Pools,
     tags: TagPools,
-    seats: BTreeMap<SeatNo, SeatInUse>,
+    seats: BTreeMap<SeatNo, HeldSeat>,
 }
 
 impl Model for SeatedPools {
@@ -101,12 +94,12 @@ impl SeatedPools {
         self.pools.facts();
         let _passed = self.tags.pass();
         let number = seat.number();
-        match self.seats.insert(number, SeatInUse::ByAddress(seat)) {
+        match self.seats.insert(number, HeldSeat::ByAddress(seat)) {
             Ok(_) => Ok(number),
             Err(back) => {
                 match back.value.1 {
-                    SeatInUse::ByAddress(seat) => self.pools.leave(seat),
-                    SeatInUse::ByTag(_) => unreachable!(),
+                    HeldSeat::ByAddress(seat) => self.pools.leave(seat),
+                    HeldSeat::ByTag(_) => unreachable!(),
                 }
                 Err(ChooseFault::WantOfMemory)
             }
@@ -139,12 +132,12 @@ impl SeatedPools {
         self.tags.facts();
         let _passed = self.pools.pass();
         let number = seat.number();
-        match self.seats.insert(number, SeatInUse::ByTag(seat)) {
+        match self.seats.insert(number, HeldSeat::ByTag(seat)) {
             Ok(_) => Ok(number),
             Err(back) => {
                 match back.value.1 {
-                    SeatInUse::ByTag(seat) => self.tags.leave(seat),
-                    SeatInUse::ByAddress(_) => unreachable!(),
+                    HeldSeat::ByTag(seat) => self.tags.leave(seat),
+                    HeldSeat::ByAddress(_) => unreachable!(),
                 }
                 Err(ChooseFault::WantOfMemory)
             }
@@ -159,8 +152,8 @@ impl SeatedPools {
         ensures granted { IfSome result (λ n. IsGrantedOf self.old self.new now number wanted n) }
     {
         match self.seats.get(&number)? {
-            SeatInUse::ByAddress(seat) => Some(self.pools.grant(seat, wanted, now)),
-            SeatInUse::ByTag(seat) => Some(self.tags.grant(seat, wanted, now)),
+            HeldSeat::ByAddress(seat) => Some(self.pools.grant(seat, wanted, now)),
+            HeldSeat::ByTag(seat) => Some(self.tags.grant(seat, wanted, now)),
         }
     }
 
@@ -171,11 +164,11 @@ impl SeatedPools {
     {
         match self.seats.remove(&number) {
             None => false,
-            Some(SeatInUse::ByAddress(seat)) => {
+            Some(HeldSeat::ByAddress(seat)) => {
                 self.pools.leave(seat);
                 true
             }
-            Some(SeatInUse::ByTag(seat)) => {
+            Some(HeldSeat::ByTag(seat)) => {
                 self.tags.leave(seat);
                 true
             }

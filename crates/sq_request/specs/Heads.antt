@@ -1,3 +1,4 @@
+-- In the statement: docs/STATEMENT.md lists which definitions.
 -- The request of a head: RFC 9112 sections 3 and 5, as the grammar of `httparse` reads them.
 use Rattle.std.specs.Prelude.{◌≡◌, ℕ, ◌+◌, ◌<◌, ◌≤◌, List, [], ◌∷◌, ◌++◌, length, map, codes, Some, None}
 use Rattle.std.specs.List.{flat_map}

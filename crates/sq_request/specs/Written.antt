@@ -1,3 +1,4 @@
+-- In the statement: docs/STATEMENT.md lists which definitions.
 -- Of which parts a head can be written that reads as these parts: RFC 9112 sections 3 and 5.
 use Rattle.std.specs.Prelude.{ℕ, List, length, Bool, ◌&&◌, if◌then◌else◌, nat_lt, nat_le, bytes_eq, None}
 use Rattle.std.specs.List.{list_all}

@@ -15,7 +15,7 @@ pub nestings_longer : (before : List ℕ) (acls : List Acl) (a : Acl)
 nestings_longer before [] a = refl
 nestings_longer before (b ∷ acls) a = nestings_longer (before ++ nesting_of before b.body ∷ []) acls a
 
-slow_longer : (before : List Bool) (acls : List Acl) (a : Acl)
+pub slow_longer : (before : List Bool) (acls : List Acl) (a : Acl)
     → slow_on before (acls ++ a ∷ []) ≡ slow_on before acls ++ is_slow (slow_on before acls) a.body ∷ []
 slow_longer before [] a = refl
 slow_longer before (b ∷ acls) a = slow_longer (before ++ is_slow before b.body ∷ []) acls a

@@ -9,7 +9,7 @@ use Rattle.sq_rules.proofs.TableLaws.{nesting_at, nestings_length}
 use Rattle.sq_rules.specs.Building.{place_of}
 use Rattle.sq_rules.specs.Configurations.{nesting_of, nestings}
 use Rattle.sq_rules.specs.Limits.{nesting_limit}
-use Rattle.sq_rules.specs.Lookups.{asking_acl, begins_literal, either_acl, holds_all, looked_up, lookup_name, named_acl, named_name, values_acl}
+use Rattle.sq_rules.specs.Lookups.{asking_acl, begins_literal, either_acl, holds_all, literal_name, looked_up, lookup_name, named_acl, named_name, values_acl}
 use Rattle.sq_rules.specs.declared.configs.Acl.{Acl}
 use Rattle.sq_rules.specs.declared.configs.Body.{Body}
 use Rattle.sq_rules.specs.declared.configs.Body.TheVariants as body
@@ -134,8 +134,15 @@ all_four acls n v = behind acls (values_acl n v) (asking_acl n) (named_acl (leng
     behind [] a b c e = refl
     behind (x ∷ xs) a b c e = ap (λ l. x ∷ l) (behind xs a b c e)
 
--- a list with one more at its end
-pub next_is : (before made now : List Acl) (n m : List ℕ) (x y : Body)
-    → now ≡ before ++ (record { name = n; body = x }) ∷ [] → before ≡ made → n ≡ m → x ≡ y
-    → now ≡ made ++ (record { name = m; body = y }) ∷ []
-next_is before made now n m x y now_is before_is named same = rw (now_is, before_is, named, same) refl
+-- the first two are put at the end
+pub two_are : (acls now : List Acl) (n : List ℕ) (v : List Range) (literal lookup : List ℕ) (asks : Body)
+    → now ≡ (acls ++ (record { name = literal; body = (values_acl n v).body }) ∷ [])
+    ++ (record { name = lookup; body = asks }) ∷ []
+    → literal ≡ literal_name n → lookup ≡ lookup_name n → asks ≡ (asking_acl n).body → now ≡ with_two acls n v
+two_are acls now n v literal lookup asks now_is one two three = rw (now_is, one, two, three) refl
+
+-- and the third
+pub three_are : (acls now : List Acl) (n : List ℕ) (v : List Range) (named : List ℕ) (b : Body)
+    → now ≡ with_two acls n v → named ≡ named_name n → b ≡ (named_acl (length acls) n).body
+    → now ++ (record { name = named; body = b }) ∷ [] ≡ with_three acls n v
+three_are acls now n v named b now_is named_is body_is = rw (now_is, named_is, body_is) refl

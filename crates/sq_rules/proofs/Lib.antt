@@ -2,11 +2,13 @@ pub mod AclLaws
 mod ConfTexts
 pub mod FactLaws
 mod FourLaws
+mod HeaderLaws
 pub mod ListLaws
 pub mod LookupLaws
 mod MadeLaws
 pub mod MemberLaws
 pub mod NameLaws
+mod PopLaws
 pub mod PredefinedTexts
 mod ScanLaws
 pub mod SightLaws

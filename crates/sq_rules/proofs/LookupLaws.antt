@@ -12,7 +12,7 @@ use Rattle.sq_rules.specs.Classes.{Class}
 use Rattle.sq_rules.specs.Configurations.{place_from}
 use Rattle.sq_rules.specs.Drafts.{joined_leaves, with_leaf, with_line, with_member}
 use Rattle.sq_rules.specs.Limits.{class_limit}
-use Rattle.sq_rules.specs.Lookups.{are_behind, are_in_four, are_looked_up, asking_acl, begins_literal, begins_lookup, begins_with_all, classes_within, either_acl, has_blank, holds_all, is_asking, is_dst, is_either_body, is_last_of_four, is_named_body, is_values_of, literal_name, lookup_name, looked_up, name_at, named_acl, named_name, stated, takes_members, unmade, values_acl}
+use Rattle.sq_rules.specs.Lookups.{are_behind, are_in_four, are_looked_up, asking_acl, begins_literal, begins_lookup, begins_with_all, classes_within, either_acl, has_blank, holds_all, is_asking, is_dst, is_either_body, is_last_of_four, is_named_body, is_values_of, literal_name, lookup_name, looked_up, name_at, named_acl, named_name, stated_of, takes_members, unmade, unmade_acls, values_acl}
 use Rattle.sq_rules.specs.declared.configs.Acl.{Acl}
 use Rattle.sq_rules.specs.declared.configs.Body.{Body}
 use Rattle.sq_rules.specs.declared.configs.Body.TheVariants as body
@@ -54,15 +54,27 @@ pub unmade_most : {A : Type 0} (f : A → List ℕ) (xs : List A) → unmade f x
 unmade_most f [] = omega arith
 unmade_most f (x ∷ xs) = most_by (has_blank (f x)) (unmade f xs) (length xs) (unmade_most f xs)
 
+-- as many stated ones in lists with as many names without a blank
+pub stated_alike : {A B : Type 0} (lookup : Bool) (f : A → List ℕ) (g : B → List ℕ) (xs : List A) (ys : List B)
+    → unmade f xs ≡ unmade g ys → length xs ≡ length ys → stated_of lookup f xs ≡ stated_of lookup g ys
+stated_alike true f g xs ys few long = few
+stated_alike false f g xs ys few long = long
+
+-- no more are stated than there are
+pub stated_most : {A : Type 0} (lookup : Bool) (f : A → List ℕ) (xs : List A) → stated_of lookup f xs ≤ length xs
+stated_most true f xs = unmade_most f xs
+stated_most false f xs = omega arith
+
 -- each configuration may have the classes that one without look-ups may have
 pub classes_least : (lookup : Bool) → class_limit ≤ classes_within lookup
 classes_least true = omega arith
 classes_least false = omega arith
 
--- the count of stated acls, where one acl more stands at the end
-pub stated_push : (old new : List Acl) (a : Acl) (m k n : ℕ) → m ≡ stated old → k ≡ (if has_blank a.name then 0 else 1)
-    → n ≡ m + k → new ≡ old ++ a ∷ [] → n ≡ stated new
-stated_push old new a m k n was one now more = rw (now, was, one, more) (sym (unmade_push (λ (z : Acl). z.name) old a))
+-- the count of such acls, where one acl more stands at the end
+pub unmade_acls_push : (old new : List Acl) (a : Acl) (m k n : ℕ) → m ≡ unmade_acls old
+    → k ≡ (if has_blank a.name then 0 else 1) → n ≡ m + k → new ≡ old ++ a ∷ [] → n ≡ unmade_acls new
+unmade_acls_push old new a m k n was one now more = rw (now, was, one, more)
+    (sym (unmade_push (λ (z : Acl). z.name) old a))
 
 next_by : (b : Bool) (m k n : ℕ) → m + (if b then k else suc k) ≡ n → m + (if b then 0 else 1) + k ≡ n
 next_by true m k n e = omega (arith, e)
@@ -81,9 +93,9 @@ at_most_one : (b : Bool) → (if b then 0 else 1) ≤ 1
 at_most_one true = omega arith
 at_most_one false = omega arith
 
-pub stated_most : (acls : List Acl) (name : List ℕ) (m k : ℕ) → m ≡ stated acls → k ≡ (if has_blank name then 0 else 1)
-    → m + k ≤ suc (length acls)
-stated_most acls name m k was more =
+pub unmade_acls_most : (acls : List Acl) (name : List ℕ) (m k : ℕ) → m ≡ unmade_acls acls
+    → k ≡ (if has_blank name then 0 else 1) → m + k ≤ suc (length acls)
+unmade_acls_most acls name m k was more =
     let few = unmade_most (λ (a : Acl). a.name) acls in
     let one = at_most_one (has_blank name) in
     omega (arith, few, one, was, more)

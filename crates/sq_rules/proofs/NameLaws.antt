@@ -51,7 +51,8 @@ kept_or true k o none = rw (none refl) refl
 kept_or false k None none = refl
 kept_or false k (Some i) none = refl
 
-same_place : {A : Type 0} (f : A → List ℕ) (n : ℕ) (xs : List A) (a b : List ℕ) → bytes_eq a b ≡ true
+-- equal names have the same place
+pub same_place : {A : Type 0} (f : A → List ℕ) (n : ℕ) (xs : List A) (a b : List ℕ) → bytes_eq a b ≡ true
     → place_from f n xs a ≡ None → place_from f n xs b ≡ None
 same_place f n xs a b e none = let same : a ≡ b = grind (arith, e, bytes_eq-Decides a b) in rw (← same) none
 

@@ -1,3 +1,4 @@
+-- In the statement: docs/STATEMENT.md lists which definitions.
 -- Lines `acl NAME TYPE VALUE ...` and `http_access allow|deny TERM ...` (configuration reference,
 -- `acl`, `http_access`).
 use Rattle.std.specs.Prelude.{ℕ, ◌-◌, List, [], ◌∷◌, ◌++◌, length, Bool, true, false, not, if◌then◌else◌, ◌&&◌, ◌||◌, ◌==◌, nat_lt, nat_le, Some, None, Ok, Err, is_some, is_none, codes}
@@ -12,7 +13,7 @@ use Rattle.sq_rules.specs.Changes.{type_at}
 use Rattle.sq_rules.specs.Configurations.{are_shallow}
 use Rattle.sq_rules.specs.Drafts.{Drafts, are_fast, with_acl_more, with_body, with_leaf, with_line, with_lookup, with_member}
 use Rattle.sq_rules.specs.Limits.{acl_limit, name_limit, rule_limit}
-use Rattle.sq_rules.specs.Lookups.{has_blank, literal_name, lookup_name, named_name, stated}
+use Rattle.sq_rules.specs.Lookups.{has_blank, literal_name, lookup_name, named_name, stated_acls}
 use Rattle.sq_rules.specs.Steps.{WordList, unless, needed, word, over, over_some, some_of, one_more, begins}
 use Rattle.sq_rules.specs.declared.acl_types.AclType.{AclType}
 use Rattle.sq_rules.specs.declared.acl_types.AclType.TheVariants as type
@@ -30,10 +31,10 @@ abbrev pub is_name : List ℕ → Bool
 is_name w = not (begins bang w) && (nat_le (length w) name_limit && not (has_blank w))
 
 -- the place of the acl of this name, or room for one more
-abbrev pub acl_named : List Acl → List ℕ → Result (Option ℕ) Kind
-acl_named acls w =
+abbrev pub acl_named : Bool → List Acl → List ℕ → Result (Option ℕ) Kind
+acl_named lookup acls w =
     unless (is_name w) BadValue
-    (unless (is_some (place_of acls w) || nat_lt (stated acls) acl_limit) TooMany
+    (unless (is_some (place_of acls w) || nat_lt (stated_acls lookup acls) acl_limit) TooMany
     (Ok (place_of acls w)))
 
 -- the types by their names
@@ -205,7 +206,7 @@ acl_values type.AllOf name place d ws = all_of name place d ws
 unfoldable pub acl_line : Drafts → WordList → Result Drafts Kind
 acl_line d ws = do
   name ← word ws
-  place ← acl_named d.acls name.0
+  place ← acl_named d.dst_lookup d.acls name.0
   kind ← word name.1
   type ← acl_type kind.0
   unless (has_type d.acls type place) TypeClash (acl_values type name.0 place d kind.1)

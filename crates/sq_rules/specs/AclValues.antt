@@ -1,3 +1,4 @@
+-- In the statement: docs/STATEMENT.md lists which definitions.
 -- Values of leaf acls (configuration reference, `acl`).
 use Rattle.std.specs.Prelude.{ℕ, ◌+◌, ◌*◌, List, [], ◌∷◌, ◌++◌, length, Bool, true, false, not, if◌then◌else◌, nat_lt, nat_le, Some, None, Ok, codes, bit_or}
 use Rattle.std.specs.List.{list_any, before_first, after_first}

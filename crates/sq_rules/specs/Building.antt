@@ -1,16 +1,17 @@
+-- In the statement: docs/STATEMENT.md lists which definitions.
 -- The configuration that parts state, or their first fault: the parts in their order, and in each
 -- its names from left to right; that an acl nests too deep comes after the names in it
 -- (configuration reference, `acl`, `http_access`, `external_acl_type`, `delay_access`,
 -- `request_header_access`, `reply_header_access`).
-use Rattle.std.specs.Prelude.{◌≡◌, ◌≢◌, ℕ, ◌≤◌, List, [], ◌∷◌, ◌++◌, length, suc, Bool, false, if◌then◌else◌, nat_le, Some, None, Ok, Err, MatchResult, slice_index_or}
+use Rattle.std.specs.Prelude.{◌≡◌, ◌≢◌, ℕ, ◌≤◌, List, [], ◌∷◌, ◌++◌, length, suc, Bool, false, true, if◌then◌else◌, nat_le, Some, None, Ok, Err, MatchResult, slice_index_or}
 use Rattle.std.specs.Str.{str_to_ascii_lowercase}
 use Rattle.std.specs.declared.option.Option.{Option}
 use Rattle.std.specs.declared.result.Result.{Result}
 use Rattle.sq_base.specs.Results.{◌>>=◌}
 use Rattle.sq_rules.specs.Classes.{Class, with_arguments}
-use Rattle.sq_rules.specs.Configurations.{Configuration, has_buckets, has_class, has_name, nesting_of, nestings, place_from, slow_ones}
+use Rattle.sq_rules.specs.Configurations.{Configuration, has_buckets, has_class, has_name, is_rewriter, nesting_of, nestings, place_from, slow_ones}
 use Rattle.sq_rules.specs.Limits.{acl_limit, header_limit, initial_limit, most_acls, nesting_limit, pool_limit, rule_limit, text_limit}
-use Rattle.sq_rules.specs.Lookups.{are_looked_up, classes_within, unmade}
+use Rattle.sq_rules.specs.Lookups.{are_looked_up, classes_within, stated_of}
 use Rattle.sq_rules.specs.declared.configs.Acl.{Acl}
 use Rattle.sq_rules.specs.declared.configs.Body.{Body}
 use Rattle.sq_rules.specs.declared.configs.Body.TheVariants as body
@@ -90,7 +91,9 @@ acls_made classes acls [] = Ok acls
 acls_made classes acls (a ∷ parts) = next_acl classes acls a >>= λ more. acls_made classes more
     parts
 
--- the acls, where each of type dst stands with its look-up if names are looked up
+-- the acls, where each of type dst stands with its look-up if names are looked up. The fault names
+-- none of them, since what lacks may be the class or `dst literal`; it comes behind the faults of
+-- all classes and acls, and before those of rules
 abbrev pub unless_looked_up : Bool → List Class → List Acl → Result (List Acl) BuildFault
 unless_looked_up lookup classes acls = if are_looked_up lookup classes acls then Ok acls
     else Err fault.NoLookup
@@ -166,13 +169,15 @@ built p = do
   })
 
 -- the numbers and lengths of the parts lie within their limits; what is made for look-ups does not
--- count
+-- count where names are looked up. The class that rewrites, where there is one, has its name and a
+-- program
 pub record AreWithin (p : Parts) : Type 0 where
   pub short : length p.source ≤ text_limit
   pub few_classes : length p.classes ≤ classes_within p.dst_lookup
-  pub few_acls : unmade (λ a. a.name) p.acls ≤ acl_limit
+  pub few_acls : stated_of p.dst_lookup (λ a. a.name) p.acls ≤ acl_limit
   pub all_acls : length p.acls ≤ most_acls
   pub few_rules : length p.rules ≤ rule_limit
   pub few_pools : length p.pools ≤ pool_limit
   pub few_headers : length p.headers ≤ header_limit
+  pub rewriter_is : is_rewriter p.rewriter ≡ true
   pub initial_is : p.initial ≤ initial_limit

@@ -1,3 +1,4 @@
+-- In the statement: docs/STATEMENT.md lists which definitions.
 -- What is asked of the acls of a configuration under way, beside the changes of `Drafts`
 -- (configuration reference, `acl`).
 use Rattle.std.specs.Prelude.{◌≡◌, ℕ, List, Bool, true, false, if◌then◌else◌, Option, Some, None, slice_get}

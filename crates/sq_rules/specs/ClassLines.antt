@@ -1,8 +1,9 @@
+-- In the statement: docs/STATEMENT.md lists which definitions.
 -- Lines `external_acl_type NAME [option ...] [%token ...] helper [argument ...]` (configuration
 -- reference, `external_acl_type`).
 use Rattle.std.specs.Prelude.{ℕ, ◌*◌, List, [], ◌∷◌, ◌++◌, length, Bool, true, false, not, if◌then◌else◌, ◌&&◌, ◌||◌, ◌==◌, nat_lt, nat_le, nat_eq, Some, None, Ok, is_none, codes, drop}
 use Rattle.std.specs.List.{list_any, before_first, after_first, starts_with}
-use Rattle.std.specs.Option.{option_or}
+use Rattle.std.specs.Option.{option_or, unwrap_or}
 use Rattle.std.specs.declared.option.Option.{Option}
 use Rattle.std.specs.declared.result.Result.{Result}
 use Rattle.sq_base.specs.Bytes.{close_brace, equals, percent}
@@ -178,22 +179,18 @@ class_step s w =
     else (if is_empty s.format && is_option w then option_step s w
     else Ok (with_word s w)))
 
-abbrev pub or_else : ℕ → Option ℕ → ℕ
-or_else default None = default
-or_else default (Some n) = n
-
 -- the class that a line states
 unfoldable pub class_of : List ℕ → ClassDraft → Class
 class_of name s = record {
   name = name;
   ttl = s.ttl;
-  negative_ttl = or_else s.ttl s.negative_ttl;
+  negative_ttl = unwrap_or s.negative_ttl s.ttl;
   grace = s.grace;
   cache = s.cache;
   children_max = s.children_max;
   startup = s.startup;
   concurrency = s.concurrency;
-  queue_size = or_else (2 * s.children_max) s.queue_size;
+  queue_size = unwrap_or s.queue_size (2 * s.children_max);
   format = with_arguments s.format;
   words = s.words;
 }

@@ -1,3 +1,4 @@
+-- In the statement: docs/STATEMENT.md lists which definitions.
 -- Numbers of a configuration: those of options, delay directives and http_port may have leading
 -- zeros (configuration reference, `external_acl_type`, `delay_parameters`, `http_port`).
 use Rattle.std.specs.Prelude.{ℕ, List, length, Bool, if◌then◌else◌, ◌&&◌, ◌||◌, nat_le, Some, None, is_some, codes, bytes_eq, Ok}

@@ -1,3 +1,4 @@
+-- In the statement: docs/STATEMENT.md lists which definitions.
 -- What a text of a configuration states, or its first fault: the lines in their order, and in each
 -- its words from the left (configuration reference).
 use Rattle.std.specs.Prelude.{◌≡◌, ℕ, List, [], ◌∷◌, length, Bool, true, false, if◌then◌else◌, nat_lt, Some, None, Ok, Err, codes}

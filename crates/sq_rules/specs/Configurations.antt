@@ -1,12 +1,14 @@
+-- In the statement: docs/STATEMENT.md lists which definitions.
 -- A configuration as a value, and what holds of every one (configuration reference, `acl`,
 -- `http_access`, `external_acl_type`, `delay_pools`, `delay_class`, `delay_access`,
 -- `delay_parameters`, `request_header_access`, `reply_header_access`, `url_rewrite_program`).
-use Rattle.std.specs.Prelude.{◌≡◌, ℕ, ◌≤◌, List, [], ◌∷◌, ◌++◌, length, Bool, true, false, not, ◌&&◌, ◌||◌, ◌==◌, nat_lt, nat_le, max, suc, bytes_eq, slice_index_or, if◌then◌else◌, Some, None}
+use Rattle.std.specs.Prelude.{◌≡◌, ℕ, ◌≤◌, List, [], ◌∷◌, ◌++◌, length, Bool, true, false, not, ◌&&◌, ◌||◌, ◌==◌, nat_lt, nat_le, max, suc, bytes_eq, slice_index_or, if◌then◌else◌, Some, None, codes}
 use Rattle.std.specs.declared.option.Option.{Option}
 use Rattle.std.specs.List.{list_all, list_any}
+use Rattle.std.specs.Str.{str_to_ascii_lowercase}
 use Rattle.sq_rules.specs.Classes.{Class}
 use Rattle.sq_rules.specs.Limits.{acl_limit, header_limit, initial_limit, most_acls, nesting_limit, pool_limit, rule_limit, text_limit}
-use Rattle.sq_rules.specs.Lookups.{are_looked_up, classes_within, stated}
+use Rattle.sq_rules.specs.Lookups.{are_looked_up, classes_within, stated_acls}
 use Rattle.sq_rules.specs.declared.configs.Acl.{Acl}
 use Rattle.sq_rules.specs.declared.configs.Body.{Body}
 use Rattle.sq_rules.specs.declared.configs.Body.TheVariants as body
@@ -170,6 +172,19 @@ is_pool acls p = has_buckets p.class (length p.pairs) && list_all (is_fast_rule 
 abbrev pub is_header : List Acl → HeaderRule → Bool
 is_header acls h = is_fast_rule acls h.rule
 
+-- the name of the field stands in lower case
+abbrev pub is_lower : HeaderRule → Bool
+is_lower h = bytes_eq h.name (str_to_ascii_lowercase h.name)
+
+-- the class of the program that rewrites has its name
+abbrev pub is_rewriter_class : Class → Bool
+is_rewriter_class c = bytes_eq c.name (codes "url rewrite")
+
+-- where there is a program that rewrites, its class has the name, and the program a word or more
+abbrev pub is_rewriter : Option Class → Bool
+is_rewriter None = true
+is_rewriter (Some c) = is_rewriter_class c && nat_lt 0 (length c.words)
+
 -- what holds of every configuration; the ranges of a class's options, of a pool's rates and of the
 -- periods of `time` are held by the invariants of these types
 pub record IsConfiguration (c : Configuration) : Type 0 where
@@ -181,9 +196,11 @@ pub record IsConfiguration (c : Configuration) : Type 0 where
   pub places : list_all (is_known_rule (length c.acls)) c.rules ≡ true
   pub pools_are : list_all (is_pool c.acls) c.pools ≡ true
   pub headers_are : list_all (is_header c.acls) c.headers ≡ true
+  pub lower_headers : list_all is_lower c.headers ≡ true
+  pub rewriter_is : is_rewriter c.rewriter ≡ true
   pub lookups_are : are_looked_up c.dst_lookup c.classes c.acls ≡ true
   pub few_classes : length c.classes ≤ classes_within c.dst_lookup
-  pub few_acls : stated c.acls ≤ acl_limit
+  pub few_acls : stated_acls c.dst_lookup c.acls ≤ acl_limit
   pub all_acls : length c.acls ≤ most_acls
   pub few_rules : length c.rules ≤ rule_limit
   pub few_pools : length c.pools ≤ pool_limit

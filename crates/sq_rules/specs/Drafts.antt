@@ -1,9 +1,11 @@
+-- In the statement: docs/STATEMENT.md lists which definitions.
 -- A configuration as far as some of its lines state it, and what a line changes (configuration
 -- reference, `acl`, `http_access`, `external_acl_type`, `delay_pools`, `delay_class`,
 -- `delay_access`, `delay_parameters`, `delay_initial_bucket_level`, `http_port`,
 -- `request_header_access`, `reply_header_access`, `url_rewrite_program`, `url_rewrite_children`).
 use Rattle.std.specs.Prelude.{ℕ, List, [], ◌∷◌, ◌++◌, map, length, codes, if◌then◌else◌, Bool, true, false, not, ◌&&◌, replicate, set, Some, None, is_some, slice_get, slice_index_or}
 use Rattle.std.specs.List.{list_all}
+use Rattle.std.specs.Option.{unwrap_or}
 use Rattle.std.specs.declared.option.Option.{Option}
 use Rattle.sq_rules.specs.Classes.{Class}
 use Rattle.sq_rules.specs.Configurations.{Configuration, slow_ones, some_slow}
@@ -214,21 +216,13 @@ is_complete p = is_some p.class && is_some p.pairs
 abbrev pub are_complete : List PoolDraft → Bool
 are_complete pools = list_all is_complete pools
 
-abbrev pub or_zero : Option ℕ → ℕ
-or_zero None = 0
-or_zero (Some n) = n
-
-abbrev pub or_none : Option (List (Option Limit)) → List (Option Limit)
-or_none None = []
-or_none (Some pairs) = pairs
-
 -- a pool that is complete
 abbrev pub pool_of_draft : PoolDraft → Pool
-pool_of_draft p = record { class = or_zero p.class; pairs = or_none p.pairs; lists = p.lists }
-
-abbrev pub port_or_default : Option ℕ → ℕ
-port_or_default None = 3128
-port_or_default (Some n) = n
+pool_of_draft p = record {
+  class = unwrap_or p.class 0;
+  pairs = unwrap_or p.pairs [];
+  lists = p.lists;
+}
 
 -- the class of the program that rewrites, without its program: the defaults of
 -- `url_rewrite_children`
@@ -247,14 +241,11 @@ rewriter_class = record {
   words = [];
 }
 
-abbrev pub class_or_default : Option Class → Class
-class_or_default None = rewriter_class
-class_or_default (Some c) = c
-
 -- the class of the program that rewrites, where there is one
 abbrev pub rewriter_of : Option (List (List ℕ)) → Option Class → Option Class
 rewriter_of None children = None
-rewriter_of (Some words) children = Some (record (class_or_default children) { words = words })
+rewriter_of (Some words) children = Some
+    (record (unwrap_or children rewriter_class) { words = words })
 
 -- the configuration that all lines of a text state
 unfoldable pub finished : List ℕ → Drafts → Configuration
@@ -266,7 +257,7 @@ finished source d = record {
   rules = d.rules;
   pools = map pool_of_draft d.pools;
   initial = d.initial;
-  port = port_or_default d.port;
+  port = unwrap_or d.port 3128;
   rewriter = rewriter_of d.program d.children;
   headers = d.headers;
   notices = d.notices;

@@ -1,3 +1,4 @@
+-- In the statement: docs/STATEMENT.md lists which definitions.
 -- Lines `request_header_access NAME allow|deny TERM ...` and `reply_header_access` (configuration
 -- reference, `request_header_access`, `reply_header_access`).
 use Rattle.std.specs.Prelude.{ℕ, List, [], ◌∷◌, ◌++◌, length, Bool, not, ◌&&◌, nat_lt, Ok, codes}

@@ -1,3 +1,4 @@
+-- In the statement: docs/STATEMENT.md lists which definitions.
 -- The key of an external acl: the question that its helper is asked about a request (configuration
 -- reference, `external_acl_type`, FORMAT).
 use Rattle.std.specs.Prelude.{ℕ, Bool, ◌||◌, ◌==◌, nat_le, List, [], ◌∷◌, if◌then◌else◌, map, Some, None, codes, decimal, slice_get}

@@ -1,3 +1,4 @@
+-- In the statement: docs/STATEMENT.md lists which definitions.
 -- Where a leaf acl holds: some value of its list meets its type's row (configuration reference,
 -- `acl`).
 use Rattle.std.specs.Prelude.{ℕ, List, [], ◌∷◌, Bool, false, ◌&&◌, nat_lt, nat_le, Some, None, bytes_eq}

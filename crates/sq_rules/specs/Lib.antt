@@ -27,6 +27,7 @@ pub mod RewriteLines
 pub mod Sights
 pub mod Steps
 pub mod Tables
+pub mod Tags
 pub mod Times
 pub mod Values
 pub mod Verdicts

@@ -1,3 +1,4 @@
+-- In the statement: docs/STATEMENT.md lists which definitions.
 -- Limits of a configuration.
 use Rattle.std.specs.Prelude.{ℕ}
 

@@ -1,3 +1,4 @@
+-- In the statement: docs/STATEMENT.md lists which definitions.
 -- Acls of type `dst` where the names of hosts are looked up. Each is four acls: its values, which a
 -- host that is an address meets; an acl that asks for the look-up of a name; and two groups over
 -- these. No word of a file holds a blank, so no name of a file is one of theirs (configuration
@@ -29,9 +30,16 @@ unmade name_of [] = 0
 unmade name_of (a ∷ list) = if has_blank (name_of a) then unmade name_of list
     else suc (unmade name_of list)
 
--- how many of some acls a file states
-abbrev pub stated : List Acl → ℕ
-stated acls = unmade (λ a. a.name) acls
+abbrev pub unmade_acls : List Acl → ℕ
+unmade_acls acls = unmade (λ a. a.name) acls
+
+-- how many of these a file states: all, or where names are looked up those that are not made
+abbrev pub stated_of : {A : Type 0} → Bool → (A → List ℕ) → List A → ℕ
+stated_of true name_of list = unmade name_of list
+stated_of false name_of list = length list
+
+abbrev pub stated_acls : Bool → List Acl → ℕ
+stated_acls lookup acls = stated_of lookup (λ a. a.name) acls
 
 -- how many classes may stand: those that a file states, and the one that is made
 abbrev pub classes_within : Bool → ℕ

@@ -1,3 +1,4 @@
+-- In the statement: docs/STATEMENT.md lists which definitions.
 -- The words of an outcome, as a journal, a script's output and a denial have them.
 use Rattle.std.specs.Prelude.{List, [], ◌∷◌, ℕ, Bool, if◌then◌else◌, codes, decimal}
 use Rattle.sq_base.specs.Escapes.{text_word}

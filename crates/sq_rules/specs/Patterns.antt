@@ -1,3 +1,4 @@
+-- In the statement: docs/STATEMENT.md lists which definitions.
 -- What a pattern of `url_regex` is, and when it is found (configuration reference, `acl`, type
 -- url_regex): patterns have the syntax of the crate regex, over bytes.
 use Rattle.std.specs.Prelude.{ℕ, Bool, false, ◌&&◌, nat_le, List, Option, None, Some, is_some, chars}

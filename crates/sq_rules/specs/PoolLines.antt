@@ -1,3 +1,4 @@
+-- In the statement: docs/STATEMENT.md lists which definitions.
 -- Lines of delay pools, and `http_port` (configuration reference, `delay_pools`, `delay_class`,
 -- `delay_access`, `delay_parameters`, `delay_initial_bucket_level`, `http_port`).
 use Rattle.std.specs.Prelude.{ℕ, ◌-◌, List, [], ◌∷◌, ◌++◌, length, Bool, true, false, not, ◌&&◌, ◌==◌, nat_lt, nat_le, Some, None, Ok, Err, is_none, codes, slice_index_or}

@@ -1,3 +1,4 @@
+-- In the statement: docs/STATEMENT.md lists which definitions.
 -- The acls that stand before the first line of a configuration (configuration reference, `acl`).
 use Rattle.std.specs.Prelude.{ℕ, ◌*◌, ◌^◌, List, [], ◌∷◌, true, false, codes}
 use Rattle.sq_base.specs.Addresses.{v4, v6}

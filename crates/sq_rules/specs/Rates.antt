@@ -1,3 +1,4 @@
+-- In the statement: docs/STATEMENT.md lists which definitions.
 -- The limits of a delay pool's buckets (configuration reference, `delay_parameters`).
 use Rattle.std.specs.Prelude.{ℕ, ◌≤◌}
 use Rattle.sq_rules.specs.Limits.{delay_limit}

@@ -1,3 +1,4 @@
+-- In the statement: docs/STATEMENT.md lists which definitions.
 -- Lines `url_rewrite_program` and `url_rewrite_children` (configuration reference,
 -- `url_rewrite_program`, `url_rewrite_children`).
 use Rattle.std.specs.Prelude.{ℕ, List, [], ◌∷◌, Bool, if◌then◌else◌, Some, None, Ok, is_none, codes}

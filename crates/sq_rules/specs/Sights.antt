@@ -1,3 +1,4 @@
+-- In the statement: docs/STATEMENT.md lists which definitions.
 -- What a check sees: the request of its method, target and fields, and the local time.
 use Rattle.std.specs.Prelude.{◌≡◌, ℕ, ◌+◌, ◌*◌, ◌/◌, ℤ, pos, ◌+ℤ◌, ◌*ℤ◌, unsigned_abs, List, [], Some, None}
 use Rattle.std.specs.Int.{int_div_euclid, int_rem_euclid}

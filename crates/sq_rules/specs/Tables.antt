@@ -3,7 +3,7 @@ use Rattle.std.specs.Prelude.{◌≡◌, ℕ, List, Bool, true, if◌then◌else
 use Rattle.std.specs.declared.option.Option.{Option}
 use Rattle.sq_rules.specs.Configurations.{are_shallow, are_unique, nestings, slow_ones}
 use Rattle.sq_rules.specs.Limits.{nesting_limit}
-use Rattle.sq_rules.specs.Lookups.{stated}
+use Rattle.sq_rules.specs.Lookups.{unmade_acls}
 use Rattle.sq_rules.specs.Names.{KnowsPlaces}
 use Rattle.sq_rules.specs.declared.configs.Acl.{Acl}
 
@@ -13,7 +13,7 @@ pub record KnowsAcls (acls : List Acl) (places : List (List ℕ × ℕ)) (depths
   pub places_are : KnowsPlaces (λ a. a.name) places acls
   pub depths_are : depths ≡ nestings acls
   pub slow_are : slow ≡ slow_ones acls
-  pub count_is : count ≡ stated acls
+  pub count_is : count ≡ unmade_acls acls
   pub unique : are_unique acls ≡ true
   pub shallow : are_shallow acls ≡ true
 

@@ -1,3 +1,4 @@
+-- In the statement: docs/STATEMENT.md lists which definitions.
 -- The values of terms and rules, where those of leaf acls and of external acls are taken from
 -- elsewhere (configuration reference, `acl`: types external, any-of and all-of).
 use Rattle.std.specs.Prelude.{ℕ, zero, suc, List, [], ◌∷◌, Bool, true, false, ◌&&◌, ◌==◌, if◌then◌else◌, map, Some, None, slice_get, bytes_eq}

@@ -1,3 +1,4 @@
+-- In the statement: docs/STATEMENT.md lists which definitions.
 -- The direct evaluation of a configuration over what a check sees and the answers of helpers that
 -- it has (configuration reference, `http_access`, `delay_access`, `request_header_access` and
 -- `reply_header_access`).

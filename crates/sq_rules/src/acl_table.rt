@@ -1,11 +1,11 @@
 //! The acls of a configuration under way.
-ghost use Rattle.std.specs.Prelude.{◌≡◌, ◌≢◌, ◌∷◌, ◌++◌, ◌+◌, ◌<◌, ◌≤◌, [], true, false, if◌then◌else◌, length, nat_le, Some, None, IfOk, IfErr, IfSome, OnOk, OnErr, slice_index_or};
+ghost use Rattle.std.specs.Prelude.{◌≡◌, ◌≢◌, ◌∷◌, ◌++◌, ◌+◌, ◌<◌, ◌≤◌, [], true, false, ◌-◌, if◌then◌else◌, length, nat_le, take, Some, None, IfOk, IfErr, IfSome, OnOk, OnErr, slice_index_or};
 ghost use Rattle.sq_rules.specs.Building.{place_of, with_acl, IsMade};
 ghost use Rattle.sq_rules.specs.Changes.{type_at, with_member_at, AreSlowOnes};
 ghost use Rattle.sq_rules.specs.Configurations.{are_shallow, are_unique, nesting_of, nestings, slow_ones};
 ghost use Rattle.sq_rules.specs.Drafts.{change_body, with_leaf, with_line};
 ghost use Rattle.sq_rules.specs.Limits.{most_acls, nesting_limit};
-ghost use Rattle.sq_rules.specs.Lookups.{begins_literal, has_blank, literal_name, lookup_name, looked_up, named_name, stated};
+ghost use Rattle.sq_rules.specs.Lookups.{begins_literal, has_blank, literal_name, lookup_name, looked_up, named_name, unmade_acls};
 
 use crate::acl_types::AclType;
 use crate::configs::{Acl, Acls, Body, Term};
@@ -23,7 +23,7 @@ use sq_base::{Copying, Listed, Ranges, Text, WantOfMemory};
 use std::alloc::Global;
 use std::marker::Model;
 
-// What an acl of this name adds to the count of those that a file states.
+// What an acl of this name adds to the count of those whose names hold no blank.
 fn counted(name: &Text) -> usize
     ensures { result ≡ (if has_blank name.now then 0 else 1) }
 {
@@ -38,7 +38,7 @@ pub struct AclTable {
     places: Names,
     nestings: Vec<u32>,
     slow: Vec<bool>,
-    stated: usize,
+    unmade: usize,
 }
 
 impl Model for AclTable {
@@ -51,7 +51,7 @@ impl Model for AclTable {
     ghost view = { λ t. t.acls.items };
 
     ghost invariant = { λ t. KnowsAcls t.acls.items t.places t.nestings.items t.slow.items
-        t.stated };
+        t.unmade };
 }
 
 impl AclTable {
@@ -64,7 +64,7 @@ impl AclTable {
             places: Names::new(alloc),
             nestings: Vec::new(alloc),
             slow: Vec::new(alloc),
-            stated: 0,
+            unmade: 0,
         }
     }
 
@@ -75,11 +75,11 @@ impl AclTable {
         self.acls.len()
     }
 
-    /// How many of them a file states: those whose names hold no blank.
-    pub fn stated(&self) -> usize
-        ensures { result ≡ stated self.now }
+    /// How many of them have a name without a blank.
+    pub fn unmade(&self) -> usize
+        ensures { result ≡ unmade_acls self.now }
     {
-        self.stated
+        self.unmade
     }
 
     /// The acls, lent.
@@ -132,7 +132,7 @@ impl AclTable {
             unreachable!();
         };
         let asks = is_slow(self.slow.as_slice(), &body);
-        let stated = self.stated + counted(&name);
+        let unmade = self.unmade + counted(&name);
         let key = name.copy(alloc)?;
         self.acls.reserve(1)?;
         self.nestings.reserve(1)?;
@@ -142,35 +142,68 @@ impl AclTable {
         self.nestings.push_reserved(nesting);
         self.slow.push_reserved(asks);
         self.acls.push_reserved(Acl { name, body });
-        self.stated = stated;
+        self.unmade = unmade;
         Ok(())
     }
 
-    // The table with one acl more, which nests no deeper than it may.
-    fn with_made(mut self, alloc: Global, name: Text, body: Body) -> Result<AclTable, WantOfMemory>
-        requires few { length self < most_acls }
-        requires free { place_of self name ≡ None }
-        requires shallow { nat_le (nesting_of (nestings self) body) nesting_limit ≡ true }
-        ensures { IfOk result (λ t. t ≡ self ++ (record { name = name; body = body }) ∷ []) }
+    // Without the last acl. It takes no memory.
+    fn pop(&mut self)
+        ensures { self.new ≡ take (length self.old - 1) self.old }
     {
-        self.push(alloc, name, body)?;
-        Ok(self)
+        let Some(acl) = self.acls.pop() else {
+            return;
+        };
+        self.nestings.pop();
+        self.slow.pop();
+        self.places.remove(&acl.name);
+        self.unmade = self.unmade.saturating_sub(counted(&acl.name));
     }
 
-    /// The table with the four acls of one of type `dst`, whose names are free.
-    pub fn with_lookup(
-        self,
+    // Two acls more, or none.
+    fn push_two(
+        &mut self,
+        alloc: Global,
+        name: Text,
+        body: Body,
+        next_name: Text,
+        next_body: Body,
+    ) -> Result<(), WantOfMemory>
+        requires few { length self.old + 2 ≤ most_acls }
+        requires free { place_of self.old name ≡ None }
+        requires shallow { nat_le (nesting_of (nestings self.old) body) nesting_limit ≡ true }
+        requires next_free { place_of (self.old ++ (record { name = name; body = body }) ∷ [])
+            next_name ≡ None }
+        requires next_shallow { nat_le
+            (nesting_of (nestings (self.old ++ (record { name = name; body = body }) ∷ []))
+            next_body) nesting_limit ≡ true }
+        ensures ok { OnOk result
+            (self.new ≡ (self.old ++ (record { name = name; body = body }) ∷ [])
+            ++ (record { name = next_name; body = next_body }) ∷ []) }
+        ensures err { OnErr result (self.new ≡ self.old) }
+    {
+        self.push(alloc, name, body)?;
+        let pushed = self.push(alloc, next_name, next_body);
+        if pushed.is_err() {
+            self.pop();
+        }
+        pushed
+    }
+
+    /// The four acls of one of type `dst` more, whose names are free.
+    pub fn push_lookup(
+        &mut self,
         alloc: Global,
         name: Text,
         values: Ranges,
-    ) -> Result<AclTable, WantOfMemory>
-        requires few { length self + 4 ≤ most_acls }
-        requires first { begins_literal self ≡ true }
-        requires free { place_of self name ≡ None }
-        requires literal { place_of self (literal_name name) ≡ None }
-        requires lookup { place_of self (lookup_name name) ≡ None }
-        requires named { place_of self (named_name name) ≡ None }
-        ensures { IfOk result (λ t. t ≡ self ++ looked_up (length self) name values) }
+    ) -> Result<(), WantOfMemory>
+        requires few { length self.old + 4 ≤ most_acls }
+        requires first { begins_literal self.old ≡ true }
+        requires free { place_of self.old name ≡ None }
+        requires literal { place_of self.old (literal_name name) ≡ None }
+        requires lookup { place_of self.old (lookup_name name) ≡ None }
+        requires named { place_of self.old (named_name name) ≡ None }
+        ensures ok { OnOk result (self.new ≡ self.old ++ looked_up (length self.old) name values) }
+        ensures err { OnErr result (self.new ≡ self.old) }
     {
         let place = self.acls.len() as u32;
         let literal = literal_name(alloc, &name)?;
@@ -178,10 +211,14 @@ impl AclTable {
         let named = named_name(alloc, &name)?;
         let body = named_body(alloc, place)?;
         let either = either_body(alloc, place)?;
-        let one = self.with_made(alloc, literal, Body::Leaf(Leaf::Dst(values)))?;
-        let two = one.with_made(alloc, lookup, asking(alloc))?;
-        let three = two.with_made(alloc, named, body)?;
-        three.with_made(alloc, name, either)
+        let leaf = Body::Leaf(Leaf::Dst(values));
+        self.push_two(alloc, literal, leaf, lookup, asking(alloc))?;
+        let pushed = self.push_two(alloc, named, body, name, either);
+        if pushed.is_err() {
+            self.pop();
+            self.pop();
+        }
+        pushed
     }
 
     /// The table with one acl more, which must not nest too deep.

@@ -4,7 +4,7 @@ ghost use Rattle.std.specs.List.{list_all};
 ghost use Rattle.sq_rules.specs.Building.{acls_made, body_made, classes_made, completed, each_made, rule_made, term_made, terms_made, IsMade};
 ghost use Rattle.sq_rules.specs.Configurations.{are_known, are_known_bodies, is_known_body, is_known_rule};
 ghost use Rattle.sq_rules.specs.Limits.{most_acls, most_classes};
-ghost use Rattle.sq_rules.specs.Lookups.{stated, unmade};
+ghost use Rattle.sq_rules.specs.Lookups.{unmade, unmade_acls};
 
 use crate::acl_table::AclTable;
 use crate::class_table::ClassTable;
@@ -108,7 +108,7 @@ pub fn acls_of(alloc: Global, classes: &ClassTable, parts: AclParts) -> Result<A
     requires { length parts ≤ most_acls }
     ensures made { IsMade result (acls_made classes.now [] parts) }
     ensures count { IfOk result (λ t. length t ≡ length parts) }
-    ensures stated { IfOk result (λ t. stated t ≡ unmade (λ a. a.name) parts) }
+    ensures unmade { IfOk result (λ t. unmade_acls t ≡ unmade (λ a. a.name) parts) }
     ensures known { IfOk result (λ acls. are_known_bodies (length classes.now) 0 acls ≡ true) }
 {
     let mut acls = AclTable::new(alloc);

@@ -2,7 +2,7 @@
 ghost use Rattle.std.specs.Prelude.{◌≡◌, ◌≤◌, ◌<◌, ◌^◌, ◌∷◌, [], true, false, length, IfOk, slice_index_or};
 ghost use Rattle.std.specs.List.{list_all};
 ghost use Rattle.sq_rules.specs.Building.{each_made, fast_rule_made, fast_term_made, header_made, pool_made, pools_made, IsMade};
-ghost use Rattle.sq_rules.specs.Configurations.{are_known, has_buckets, is_fast_rule, is_header, is_pool, is_pool_class, pairs_of, slow_ones, some_slow};
+ghost use Rattle.sq_rules.specs.Configurations.{are_known, has_buckets, is_fast_rule, is_header, is_lower, is_pool, is_pool_class, pairs_of, slow_ones, some_slow};
 ghost use Rattle.sq_rules.specs.Limits.{pool_limit};
 
 use crate::acl_table::AclTable;
@@ -129,6 +129,7 @@ pub fn pools_of(alloc: Global, acls: &AclTable, parts: PoolParts) -> Result<Pool
 fn header_of(alloc: Global, acls: &AclTable, part: HeaderPart) -> Result<HeaderRule, BuildFault>
     ensures made { IsMade result (header_made acls.now part) }
     ensures is_header { IfOk result (λ h. is_header acls.now h ≡ true) }
+    ensures lower { IfOk result (λ h. is_lower h ≡ true) }
 {
     let HeaderPart { reply, name, rule } = part;
     let rule = fast_rule_of(alloc, acls, rule)?;
@@ -146,6 +147,7 @@ pub fn headers_of(
     ensures made { IsMade result (each_made (header_made acls.now) parts) }
     ensures count { IfOk result (λ headers. length headers ≡ length parts) }
     ensures are_headers { IfOk result (λ headers. list_all (is_header acls.now) headers ≡ true) }
+    ensures lower { IfOk result (λ headers. list_all is_lower headers ≡ true) }
 {
     let mut headers = Listed::new(alloc);
     for part in parts.into_vec() {

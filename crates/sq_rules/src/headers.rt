@@ -1,5 +1,5 @@
 //! Rules that say which fields of heads are passed on, as `request_header_access` and `reply_header_access` state them.
-ghost use Rattle.std.specs.Prelude.{◌≡◌, IfOk};
+ghost use Rattle.std.specs.Prelude.{◌≡◌, bytes_eq, true, IfOk};
 ghost use Rattle.std.specs.Str.{str_to_ascii_lowercase};
 
 use crate::configs::Rule;
@@ -20,8 +20,10 @@ pub struct HeaderRule {
 pub type HeaderRules = Listed<HeaderRule>;
 
 /// A name in lower case.
+#[tactic(auto, using(crate::proofs::HeaderLaws::lower_again))]
 pub fn lowered(alloc: Global, name: &[u8]) -> Result<Text, WantOfMemory>
-    ensures { IfOk result (λ t. t ≡ str_to_ascii_lowercase name.now) }
+    ensures text { IfOk result (λ t. t ≡ str_to_ascii_lowercase name.now) }
+    ensures lower { IfOk result (λ t. bytes_eq t (str_to_ascii_lowercase t) ≡ true) }
 {
     let name = name.to_ascii_lowercase(alloc)?;
     Ok(Text::from_vec(name))

@@ -1,5 +1,5 @@
 //! Places by name.
-ghost use Rattle.std.specs.Prelude.{◌≡◌, [], cond, ℕ, List, Some, bytes_eq, OnOk, OnErr};
+ghost use Rattle.std.specs.Prelude.{◌≡◌, [], cond, ℕ, List, None, Some, bytes_eq, OnOk, OnErr};
 ghost use Rattle.sq_rules.specs.Names.{place_at};
 
 use sq_base::{Text, WantOfMemory};
@@ -50,5 +50,13 @@ impl Names {
             Err(_) => return Err(WantOfMemory),
         }
         Ok(())
+    }
+
+    /// Takes the place of a name out. It takes no memory.
+    pub fn remove(&mut self, name: &Text)
+        ensures { (q : List ℕ) → place_at self.new q
+            ≡ cond (bytes_eq name.now q) None (place_at self.old q) }
+    {
+        let _ = self.places.remove(name);
     }
 }

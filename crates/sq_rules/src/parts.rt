@@ -108,7 +108,8 @@ pub enum BuildFault {
     #[error("{0}: this acl nests more than 32 deep")]
     TooDeep(Text),
     /// Names are looked up, and the class `dst lookup` or the acl `dst literal` does not stand first, or an acl of type
-    /// `dst` does not stand with its look-up.
+    /// `dst` does not stand with its look-up. It names none of them, since what lacks may be the class or
+    /// `dst literal`; it comes behind the faults of all classes and acls, and before those of rules.
     #[error("names are looked up, and an acl of type dst does not stand with its look-up")]
     NoLookup,
     /// The pool at this place, from 0, has none of the classes 1, 2, 3 and 5, or not as many limits as its class has.

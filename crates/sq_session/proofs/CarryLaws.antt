@@ -46,7 +46,8 @@ carries_unserved {first = Some rest} {d = Some now} {stood} r addr p j e w few =
     answers = [];
     told = told_none stood;
     sits = tt;
-    goes = own_goes (carried (access_of j) r addr p rest []) (error_text NotImplemented (is_head r)) [] [] Closes (Some now) now
+    goes = own_goes (carried (access_of j) r addr p rest []) (error_text NotImplemented (is_head r)) [] [] Closes
+        (Some now) now
         (rw e refl) w few refl (λ s. absurd cc);
   };
 }
@@ -56,7 +57,8 @@ pub carries_unseated : {first : Option (List ℕ)} {d : Option Dialled} {stood s
     {left a b : Option (List ℕ)} {failed : Type 0} {g h : ℕ} {ended : Carried} (r : HttpRequest) (addr : Address)
     (p : BodyPlan) (j : Judged) (answers : List FrontAnswer) (own : Own)
     → is_served r ≡ true → ((rest : List ℕ)
-    → seated (access_of j) r addr p rest answers NoOrigin ≡ own_turn (error_text own (is_head r)) [] [] Closes) → SitsFor j answers
+    → seated (access_of j) r addr p rest answers NoOrigin ≡ own_turn (error_text own (is_head r)) [] [] Closes)
+    → SitsFor j answers
     → ((list : List FrontAnswer) → stood list → stands (list ++ answers))
     → WritesReply (error_text own (is_head r)) Closes a b ended → g ≤ count_limit → h ≡ g
     → CarriesTold r addr p j first d d stood stands left a b failed g h ended
@@ -69,9 +71,11 @@ carries_unseated {first = Some rest} {d = Some now} {left} {a} {b} {failed} {g} 
         answers = answers;
         told = told;
         sits = sits;
-        goes = subst (λ n. Goes (is_connect r) (carried (access_of j) r addr p rest answers) [] (takes_seat j && sat answers) left a b
+        goes = subst (λ n. Goes (is_connect r) (carried (access_of j) r addr p rest answers) []
+            (takes_seat j && sat answers) left a b
             (Some now) now failed g n ended) (sym same)
-            (own_goes (carried (access_of j) r addr p rest answers) (error_text own (is_head r)) [] [] Closes (Some now) now
+            (own_goes (carried (access_of j) r addr p rest answers) (error_text own (is_head r)) [] [] Closes (Some now)
+            now
             (rw e (turn rest)) w few refl (λ s. absurd cc));
       };
     }
@@ -93,16 +97,20 @@ carries_seated {first = Some rest} {before} {d = Some now} {left} {a} {b} {faile
         told = told;
         sits = refl;
         goes =
-            subst (λ m. Goes (is_connect r) (carried (access_of j) r addr p rest (OfSit j (Ok u) ∷ [])) [] (takes_seat j && true) left
+            subst (λ m. Goes (is_connect r) (carried (access_of j) r addr p rest (OfSit j (Ok u) ∷ [])) []
+            (takes_seat j && true) left
             a b
             before now failed k m ended) last
-            (subst (λ m. Goes (is_connect r) (carried (access_of j) r addr p rest (OfSit j (Ok u) ∷ [])) [] (takes_seat j && true)
+            (subst (λ m. Goes (is_connect r) (carried (access_of j) r addr p rest (OfSit j (Ok u) ∷ [])) []
+            (takes_seat j && true)
             left a
             b before now failed m h ended) same
-            (subst (λ s. Goes (is_connect r) (carried (access_of j) r addr p rest (OfSit j (Ok u) ∷ [])) [] s left a b before now
+            (subst (λ s. Goes (is_connect r) (carried (access_of j) r addr p rest (OfSit j (Ok u) ∷ [])) [] s left a b
+            before now
             failed g
             h ended) (held ∙ and_true (takes_seat j))
-            (goes_as (dialled (access_of j) r addr p rest []) (carried (access_of j) r addr p rest (OfSit j (Ok u) ∷ [])) (λ reply. rw e refl)
+            (goes_as (dialled (access_of j) r addr p rest [])
+            (carried (access_of j) r addr p rest (OfSit j (Ok u) ∷ [])) (λ reply. rw e refl)
             (x.known []))));
       };
     }
@@ -123,7 +131,8 @@ obeys_tunnel {first = Some rest} {d = Some now} r addr p j e f x =
         answers = y.answers;
         told = y.told;
         sits = y.sits;
-        goes = goes_as (carried (access_of j) r addr p rest y.answers) (recorded r addr p rest j y.answers) (λ reply. rw (e, f) refl)
+        goes = goes_as (carried (access_of j) r addr p rest y.answers) (recorded r addr p rest j y.answers)
+            (λ reply. rw (e, f) refl)
             y.goes;
       };
     }
@@ -134,14 +143,16 @@ pub obeys_sent : {first : Option (List ℕ)} {before d : Option Dialled} {stood 
     (addr : Address) (p : BodyPlan) (j : Judged) (said : Rewritten)
     → j.outcome.allow ≡ true → is_connect r ≡ false → sent.method ≡ r.method
     → ((rest : List ℕ) (more : List FrontAnswer) (reply : Reply)
-    → carried (access_of j) sent addr p rest more reply ≡ rewritten_on (access_of j) r addr p rest (OfRewrite j said ∷ more) reply)
+    → carried (access_of j) sent addr p rest more reply
+    ≡ rewritten_on (access_of j) r addr p rest (OfRewrite j said ∷ more) reply)
     → Rewrites j.sight.request said → g ≡ k
     → ((list : List FrontAnswer) → stood list → mid (list ++ OfRewrite j said ∷ []))
     → CarriesTold sent addr p j first before d mid stands left a b failed g h ended
     → ObeysTold r addr p j first before d stood stands left a b failed k h ended
 obeys_sent {first = None} r sent addr p j said e f m goes_on is same told x = record { known = tt }
 obeys_sent {first = Some rest} {d = None} r sent addr p j said e f m goes_on is same told x = record { known = tt }
-obeys_sent {first = Some rest} {before} {d = Some now} {stands} {left} {a} {b} {failed} {g} {h} {k} {ended} r sent addr p
+obeys_sent {first = Some rest} {before} {d = Some now} {stands} {left} {a} {b} {failed} {g} {h} {k} {ended} r sent addr
+    p
     j said e f m goes_on is same told x =
     let y = x.known in
     let all = OfRewrite j said ∷ y.answers in
@@ -167,7 +178,8 @@ pub obeys_told : {first : Option (List ℕ)} {d : Option Dialled} {stood stands 
     {left a b : Option (List ℕ)} {failed : Type 0} {g h : ℕ} {ended : Carried} (r : HttpRequest) (addr : Address)
     (p : BodyPlan) (j : Judged) (said : Rewritten) (words : List ℕ)
     → j.outcome.allow ≡ true → is_connect r ≡ false
-    → ((rest : List ℕ) → rewritten_on (access_of j) r addr p rest (OfRewrite j said ∷ []) NoOrigin ≡ own_turn words [] [] Closes)
+    → ((rest : List ℕ) → rewritten_on (access_of j) r addr p rest (OfRewrite j said ∷ []) NoOrigin
+    ≡ own_turn words [] [] Closes)
     → Rewrites j.sight.request said → ((list : List FrontAnswer) → stood list → stands (list ++ OfRewrite j said ∷ []))
     → WritesReply words Closes a b ended → g ≤ count_limit → h ≡ g
     → ObeysTold r addr p j first d d stood stands left a b failed g h ended

@@ -157,14 +157,16 @@ gateway_told mid r bytes x unasked broke given (Over OriginFault) client w grant
 gateway_told mid r bytes x unasked broke given (Over Starved) client w granted gave gives front = absurd w
 
 -- an exchange that ended as the origin's bytes say
-trades_exact : {seated : Bool} {left a b c d : Option (List ℕ)} {g h : ℕ} {failed : Type 0} (access : HeaderAccess) (r : HttpRequest)
+trades_exact : {seated : Bool} {left a b c d : Option (List ℕ)} {g h : ℕ} {failed : Type 0} (access : HeaderAccess)
+    (r : HttpRequest)
     (addr : Address) (p : BodyPlan) (rest bytes : List ℕ) (e : Exchanged)
     → (x : Exchanges access r addr p rest bytes seated left a b c d g h failed e) → gateway_part e (is_head r) ≡ []
     → (carried_of e ≡ Stays → e ≡ exchanged.Kept) → (is_by_origin (carried_of e) ≡ true → x.seen ≡ bytes)
     → (carried_of e ≡ Over OriginFault → ⊥)
     → Exact (exchange access r addr p rest x.reading) seated left a b c d g h e
     → Trades access r addr p rest bytes seated left a b c d failed g h (carried_of e)
-trades_exact {seated} {left} {a} {b} {c} {d} {g} {h} {failed} access r addr p rest bytes e x none kept whole other exact =
+trades_exact {seated} {left} {a} {b} {c} {d} {g} {h} {failed} access r addr p rest bytes e x none kept whole other exact
+    =
     let y = exchange access r addr p rest x.reading in
     record {
       seen = x.seen;
@@ -185,14 +187,16 @@ trades_exact {seated} {left} {a} {b} {c} {d} {g} {h} {failed} access r addr p re
     }
 
 -- an exchange that a fault ended
-trades_part : {seated : Bool} {left a b c d : Option (List ℕ)} {g h : ℕ} {failed : Type 0} (access : HeaderAccess) (r : HttpRequest)
+trades_part : {seated : Bool} {left a b c d : Option (List ℕ)} {g h : ℕ} {failed : Type 0} (access : HeaderAccess)
+    (r : HttpRequest)
     (addr : Address) (p : BodyPlan) (rest bytes : List ℕ) (e : Exchanged) (spare : ℕ)
     → (x : Exchanges access r addr p rest bytes seated left a b c d g h failed e) → is_exact (carried_of e) ≡ false
     → is_by_origin (carried_of e) ≡ false → spare ≤ spare_of (carried_of e)
     → (carried_of e ≡ Over OriginFault → x.reading.final ≡ None → ⊥)
     → Fronts (exchange access r addr p rest x.reading) seated a b c d g h spare
     → Trades access r addr p rest bytes seated left a b c d failed g h (carried_of e)
-trades_part {seated} {left} {a} {b} {c} {d} {g} {h} {failed} access r addr p rest bytes e spare x fault other few headed f =
+trades_part {seated} {left} {a} {b} {c} {d} {g} {h} {failed} access r addr p rest bytes e spare x fault other few headed
+    f =
     let y = exchange access r addr p rest x.reading in
     record {
       seen = x.seen;
@@ -210,27 +214,36 @@ trades_part {seated} {left} {a} {b} {c} {d} {g} {h} {failed} access r addr p res
     }
 
 -- an exchange with a reply, or none that the client hears of
-pub traded : {seated : Bool} {left a b c d : Option (List ℕ)} {g h : ℕ} {failed : Type 0} (access : HeaderAccess) (r : HttpRequest)
+pub traded : {seated : Bool} {left a b c d : Option (List ℕ)} {g h : ℕ} {failed : Type 0} (access : HeaderAccess)
+    (r : HttpRequest)
     (addr : Address) (p : BodyPlan) (rest bytes : List ℕ) (e : Exchanged)
     → (e ≡ exchanged.NoReply → ⊥) → Exchanges access r addr p rest bytes seated left a b c d g h failed e
     → Trades access r addr p rest bytes seated left a b c d failed g h (carried_of e)
-traded access r addr p rest bytes exchanged.Kept n x = trades_exact access r addr p rest bytes exchanged.Kept x refl (λ _. refl)
+traded access r addr p rest bytes exchanged.Kept n x = trades_exact access r addr p rest bytes exchanged.Kept x refl
+    (λ _. refl)
     (λ _. x.ends.0) (λ s. cc) x.ends.1
 traded access r addr p rest bytes exchanged.Closed n x = trades_exact access r addr p rest bytes exchanged.Closed x refl
     (λ s. absurd cc) (λ _. x.ends.0) (λ s. cc) x.ends.1
-traded access r addr p rest bytes exchanged.OriginCut n x = trades_exact access r addr p rest bytes exchanged.OriginCut x refl
+traded access r addr p rest bytes exchanged.OriginCut n x = trades_exact access r addr p rest bytes exchanged.OriginCut
+    x refl
     (λ s. absurd cc) (λ _. x.ends.0) (λ s. cc) x.ends.1
-traded access r addr p rest bytes exchanged.Cut n x = trades_exact access r addr p rest bytes exchanged.Cut x refl (λ s. absurd cc)
+traded access r addr p rest bytes exchanged.Cut n x = trades_exact access r addr p rest bytes exchanged.Cut x refl
+    (λ s. absurd cc)
     (λ s. absurd cc) (λ s. cc) x.ends
-traded access r addr p rest bytes exchanged.BadBody n x = trades_exact access r addr p rest bytes exchanged.BadBody x refl
+traded access r addr p rest bytes exchanged.BadBody n x = trades_exact access r addr p rest bytes exchanged.BadBody x
+    refl
     (λ s. absurd cc) (λ s. absurd cc) (λ s. cc) x.ends
-traded access r addr p rest bytes exchanged.ClientFault n x = trades_part access r addr p rest bytes exchanged.ClientFault piece_limit
+traded access r addr p rest bytes exchanged.ClientFault n x = trades_part access r addr p rest bytes
+    exchanged.ClientFault piece_limit
     x refl refl (omega arith) (λ s. absurd cc) x.ends
-traded access r addr p rest bytes exchanged.OriginFault n x = trades_part access r addr p rest bytes exchanged.OriginFault 0 x refl
+traded access r addr p rest bytes exchanged.OriginFault n x = trades_part access r addr p rest bytes
+    exchanged.OriginFault 0 x refl
     refl (omega arith) (λ _ n. let q = sym x.ends.final ∙ n in cc) x.ends.fronts
-traded access r addr p rest bytes exchanged.Starved n x = trades_part access r addr p rest bytes exchanged.Starved 0 x refl refl
+traded access r addr p rest bytes exchanged.Starved n x = trades_part access r addr p rest bytes exchanged.Starved 0 x
+    refl refl
     (omega arith) (λ s. absurd cc) x.ends
-traded access r addr p rest bytes exchanged.WantOfMemory n x = trades_part access r addr p rest bytes exchanged.WantOfMemory 0 x refl
+traded access r addr p rest bytes exchanged.WantOfMemory n x = trades_part access r addr p rest bytes
+    exchanged.WantOfMemory 0 x refl
     refl (omega arith) (λ s. absurd cc) x.ends
 traded access r addr p rest bytes exchanged.NoReply n x = absurd (n refl)
 
@@ -242,7 +255,8 @@ pub untraded : {seated : Bool} {left a b c d : Option (List ℕ)} {g h : ℕ} {f
     → Trades access r addr p rest bytes seated left a b c d failed g h ended
 untraded {seated} {left} {a} {b} {c} {d} {g} {h} {failed} mid access r addr p rest bytes ended x w = by x.ends
   where
-    by : EndsExchange access r x.reading (exchange access r addr p rest x.reading) x.seen bytes seated left a mid c d g h failed
+    by : EndsExchange access r x.reading (exchange access r addr p rest x.reading) x.seen bytes seated left a mid c d g
+        h failed
         exchanged.NoReply → Trades access r addr p rest bytes seated left a b c d failed g h ended
     by (inl (whole, exact)) = record {
       seen = x.seen;
@@ -257,7 +271,8 @@ untraded {seated} {left} {a} {b} {c} {d} {g} {h} {failed} mid access r addr p re
       };
       broken = λ i. absurd cc;
       goes = λ unasked. subst (λ z. ForwardsAs
-          (exchanged_turn r bytes false z (exchange access r addr p rest x.reading) unasked) unasked false seated left a b c d
+          (exchanged_turn r bytes false z (exchange access r addr p rest x.reading) unasked) unasked false seated left a
+          b c d
           g h
           ended) exact.ends
           (gateway_told mid r bytes (exchange access r addr p rest x.reading) unasked false
@@ -276,7 +291,8 @@ untraded {seated} {left} {a} {b} {c} {d} {g} {h} {failed} mid access r addr p re
         headed = λ i. absurd (told_here w i);
       };
       broken = λ _. fault;
-      goes = λ unasked. gateway_told mid r bytes (exchange access r addr p rest x.reading) unasked true unreached.origin.0
+      goes = λ unasked. gateway_told mid r bytes (exchange access r addr p rest x.reading) unasked true
+          unreached.origin.0
           ended unreached.client w.is unreached.granted unreached.origin.1 unreached.origin.2 unreached.origin.2;
     }
 
@@ -367,7 +383,8 @@ untold_goes {seated} {left} {a} {b} {c} {g} r rest bytes line unasked same (part
     }
 
 -- as the request asks
-pub forwards_connect : {seated : Bool} {left a b c d : Option (List ℕ)} {g h : ℕ} {failed : Type 0} (access : HeaderAccess) (r : HttpRequest)
+pub forwards_connect : {seated : Bool} {left a b c d : Option (List ℕ)} {g h : ℕ} {failed : Type 0}
+    (access : HeaderAccess) (r : HttpRequest)
     (addr : Address) (p : BodyPlan) (rest bytes : List ℕ) (ended : Carried)
     → is_connect r ≡ true → ((unasked : List FrontAnswer)
     → ForwardsAs (tunnelled_turn r bytes rest unasked) unasked false seated left a b c d g h ended)
@@ -381,7 +398,8 @@ forwards_connect {seated} {left} {a} {b} {c} {d} {g} {h} {failed} access r addr 
   goes = λ unasked. subst (λ t. ForwardsAs t unasked false seated left a b c d g h ended) (rw e refl) (x unasked);
 }
 
-pub forwards_trade : {seated : Bool} {left a b c d : Option (List ℕ)} {g h : ℕ} {failed : Type 0} (access : HeaderAccess) (r : HttpRequest)
+pub forwards_trade : {seated : Bool} {left a b c d : Option (List ℕ)} {g h : ℕ} {failed : Type 0}
+    (access : HeaderAccess) (r : HttpRequest)
     (addr : Address) (p : BodyPlan) (rest bytes : List ℕ) (ended : Carried)
     → is_connect r ≡ false → Trades access r addr p rest bytes seated left a b c d failed g h ended
     → Forwards access r addr p rest bytes seated left a b c d failed g h ended
@@ -397,13 +415,16 @@ forwards_trade {seated} {left} {a} {b} {c} {d} {g} {h} {failed} access r addr p 
 
 -- the same, by what was answered
 pub traded_told : {first told : Option (List ℕ)} {seated : Bool} {left a b c d : Option (List ℕ)} {g h : ℕ}
-    {failed : Type 0} (access : HeaderAccess) (r : HttpRequest) (addr : Address) (p : BodyPlan) (e : Exchanged) (ended : Carried)
+    {failed : Type 0} (access : HeaderAccess) (r : HttpRequest) (addr : Address) (p : BodyPlan) (e : Exchanged)
+    (ended : Carried)
     → ended ≡ carried_of e → (e ≡ exchanged.NoReply → ⊥)
-    → IfSome first (λ input. IfSome told (λ reply. Exchanges access r addr p input reply seated left a b c d g h failed e))
+    → IfSome first (λ input. IfSome told
+    (λ reply. Exchanges access r addr p input reply seated left a b c d g h failed e))
     → TradesTold access r addr p first told seated left a b c d failed g h ended
 traded_told {first = None} access r addr p e ended i n x = record { known = tt }
 traded_told {first = Some rest} {told = None} access r addr p e ended i n x = record { known = tt }
-traded_told {first = Some rest} {told = Some bytes} {seated} {left} {a} {b} {c} {d} {g} {h} {failed} access r addr p e ended i
+traded_told {first = Some rest} {told = Some bytes} {seated} {left} {a} {b} {c} {d} {g} {h} {failed} access r addr p e
+    ended i
     n x =
     record {
       known = subst (λ z. Trades access r addr p rest bytes seated left a b c d failed g h z) (sym i)
@@ -411,15 +432,18 @@ traded_told {first = Some rest} {told = Some bytes} {seated} {left} {a} {b} {c} 
     }
 
 pub untraded_told : {first told : Option (List ℕ)} {seated : Bool} {left a b c d : Option (List ℕ)} {g h : ℕ}
-    {failed : Type 0} (mid : Option (List ℕ)) (access : HeaderAccess) (r : HttpRequest) (addr : Address) (p : BodyPlan) (e : Exchanged)
+    {failed : Type 0} (mid : Option (List ℕ)) (access : HeaderAccess) (r : HttpRequest) (addr : Address) (p : BodyPlan)
+    (e : Exchanged)
     (no_body : Bool) (ended : Carried)
     → e ≡ exchanged.NoReply → no_body ≡ is_head r
-    → IfSome first (λ input. IfSome told (λ reply. Exchanges access r addr p input reply seated left a mid c d g h failed e))
+    → IfSome first (λ input. IfSome told
+    (λ reply. Exchanges access r addr p input reply seated left a mid c d g h failed e))
     → WritesReply (error_text BadGateway no_body) Closes mid b ended
     → TradesTold access r addr p first told seated left a b c d failed g h ended
 untraded_told {first = None} mid access r addr p e no_body ended i n x w = record { known = tt }
 untraded_told {first = Some rest} {told = None} mid access r addr p e no_body ended i n x w = record { known = tt }
-untraded_told {first = Some rest} {told = Some bytes} {seated} {left} {a} {b} {c} {d} {g} {h} {failed} mid access r addr p e
+untraded_told {first = Some rest} {told = Some bytes} {seated} {left} {a} {b} {c} {d} {g} {h} {failed} mid access r addr
+    p e
     no_body ended i n x w =
     record {
       known = untraded mid access r addr p rest bytes ended

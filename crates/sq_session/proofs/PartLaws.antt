@@ -4,7 +4,7 @@ use Rattle.sq_base.specs.Addresses.{Address}
 use Rattle.sq_base.specs.Requests.{HttpRequest}
 use Rattle.sq_base.specs.declared.plans.BodyPlan.{BodyPlan}
 use Rattle.sq_outside.specs.Causes.{count_limit}
-use Rattle.sq_outside.specs.Dials.{Dial, Dialled, Origin, DialsMore, DialReaches, GivesDial}
+use Rattle.sq_outside.specs.Dials.{Dial, Dialled, Origin, CallsMore, DialsMore, DialReaches, GivesDial}
 use Rattle.std.specs.Io.KnownBytes.{Appends, prepend_known}
 use Rattle.sq_headers.specs.Access.{HeaderAccess}
 use Rattle.sq_forward.specs.Replies.{Reading}
@@ -31,8 +31,13 @@ pub refused_told : (before now : Option Dialled) → now ≡ before → WasTold 
 refused_told before None e = record { told = tt }
 refused_told before (Some now) e = record { told = (now, sym e) }
 
+-- the call of a dial, and no other at its return
+pub calls_after : (before mid now : Option ℕ) → CallsMore before mid → now ≡ mid → CallsMore before now
+calls_after before mid now more same = subst (λ n. CallsMore before n) (sym same) more
+
 -- the turn's dial is that of its request
-dial_of : (access : HeaderAccess) (r : HttpRequest) (addr : Address) (p : BodyPlan) (rest bytes : List ℕ) (reading : Reading) (broke : Bool)
+dial_of : (access : HeaderAccess) (r : HttpRequest) (addr : Address) (p : BodyPlan) (rest bytes : List ℕ)
+    (reading : Reading) (broke : Bool)
     (unasked : List FrontAnswer)
     → (forwarded access r addr p rest bytes reading broke unasked).dial
     ≡ Some (dial_to r bytes (given_by (forwarded access r addr p rest bytes reading broke unasked).dial))
@@ -45,8 +50,10 @@ dial_of access r addr p rest bytes reading broke unasked = by (is_connect r) ref
     by false e = rw e refl
 
 -- a turn of a link that failed
-faulted_of : (access : HeaderAccess) (r : HttpRequest) (addr : Address) (p : BodyPlan) (rest bytes : List ℕ) (reading : Reading) (broke : Bool)
-    (unasked : List FrontAnswer) → (forwarded access r addr p rest bytes reading broke unasked).faulted ≡ true → broke ≡ true
+faulted_of : (access : HeaderAccess) (r : HttpRequest) (addr : Address) (p : BodyPlan) (rest bytes : List ℕ)
+    (reading : Reading) (broke : Bool)
+    (unasked : List FrontAnswer) → (forwarded access r addr p rest bytes reading broke unasked).faulted ≡ true → broke
+    ≡ true
 faulted_of access r addr p rest bytes reading broke unasked h = by (is_connect r) refl
   where
     by : (b : Bool) → is_connect r ≡ b → broke ≡ true
@@ -63,7 +70,8 @@ fits_dial whole t r bytes given full d e f w =
 
 -- the way to an origin that was reached, whose halves came back
 pub reached : {seated : Bool} {left a b : Option (List ℕ)} {g h : ℕ} {fails failed : Type 0} {ended : Carried}
-    (access : HeaderAccess) (r : HttpRequest) (addr : Address) (p : BodyPlan) (rest : List ℕ) (unasked : List FrontAnswer)
+    (access : HeaderAccess) (r : HttpRequest) (addr : Address) (p : BodyPlan) (rest : List ℕ)
+    (unasked : List FrontAnswer)
     (before mid : Option Dialled) (now : Dialled) (origin origin_back : Option Origin)
     (came written written_back : Option (List ℕ)) (first : Option (List ℕ))
     → DialsMore before mid → DialReaches mid r.host r.port origin came written → origin_back ≡ origin
@@ -73,7 +81,8 @@ pub reached : {seated : Bool} {left a b : Option (List ℕ)} {g h : ℕ} {fails 
     → Goes (is_connect r) (dialled access r addr p rest unasked) unasked seated left a b before now failed g h ended
 reached access r addr p rest unasked before None now origin origin_back came written written_back first m reach same
     at back f fault = absurd (let e = back.1 in cc)
-reached {seated} {left} {a} {b} {g} {h} {fails} {failed} {ended} access r addr p rest unasked before (Some mid) now origin
+reached {seated} {left} {a} {b} {g} {h} {fails} {failed} {ended} access r addr p rest unasked before (Some mid) now
+    origin
     origin_back came written written_back first m reach same at back f fault =
     let bytes = reach.0 in
     let made_is : back.0 ≡ mid = let e : Some mid ≡ Some back.0 = back.1 in cc in
@@ -129,13 +138,15 @@ reached {seated} {left} {a} {b} {g} {h} {fails} {failed} {ended} access r addr p
 
 -- an origin that was not reached
 pub unreached_told : {first : Option (List ℕ)} {before now : Option Dialled} {seat : Bool} {left a b : Option (List ℕ)}
-    {failed : Type 0} {g : ℕ} {ended : Carried} (access : HeaderAccess) (r : HttpRequest) (addr : Address) (p : BodyPlan)
+    {failed : Type 0} {g : ℕ} {ended : Carried} (access : HeaderAccess) (r : HttpRequest) (addr : Address)
+    (p : BodyPlan)
     → failed → WritesReply (error_text BadGateway (is_head r)) Closes a b ended → g ≤ count_limit → now ≡ before
     → ReachesTold access r addr p first before now seat left a b failed g g ended
 unreached_told {first = None} access r addr p fault w few same = record { known = tt }
 unreached_told {first = Some rest} {now = None} access r addr p fault w few same = record { known = tt }
 unreached_told {first = Some rest} {before} {now = Some d} access r addr p fault w few same = record {
-  known = λ unasked. fault_goes (dialled access r addr p rest unasked) (error_text BadGateway (is_head r)) [] unasked Closes
+  known = λ unasked. fault_goes (dialled access r addr p rest unasked) (error_text BadGateway (is_head r)) [] unasked
+      Closes
       before d fault refl w few (sym same) (λ s. absurd cc);
 }
 
@@ -152,7 +163,8 @@ reaches {first = None} access r addr p host port mid origin origin_back came e f
     record { known = tt }
 reaches {first = Some rest} {now = None} access r addr p host port mid origin origin_back came e f0 m reach same
     at back f fault = record { known = tt }
-reaches {first = Some rest} {before} {now = Some d} {written} {written_back} {bytes} access r addr p host port mid origin
+reaches {first = Some rest} {before} {now = Some d} {written} {written_back} {bytes} access r addr p host port mid
+    origin
     origin_back came e f0 m reach same at back f fault =
     let there : DialReaches mid r.host r.port origin came written =
     subst (λ h. DialReaches mid h r.port origin came written) e
@@ -161,3 +173,15 @@ reaches {first = Some rest} {before} {now = Some d} {written} {written_back} {by
       known = λ unasked. reached access r addr p rest unasked before mid d origin origin_back came written written_back
           bytes m there same at back f.known fault;
     }
+
+-- the same of the client's bytes to come, and of those that are left, in other words
+pub reaches_as : {first same_first left same_left : Option (List ℕ)} {before now : Option Dialled} {seated : Bool}
+    {a b : Option (List ℕ)} {failed : Type 0} {g h : ℕ} {ended : Carried}
+    {access : HeaderAccess} {r : HttpRequest} {addr : Address} {p : BodyPlan}
+    → same_first ≡ first → left ≡ same_left
+    → ReachesTold access r addr p same_first before now seated same_left a b failed g h ended
+    → ReachesTold access r addr p first before now seated left a b failed g h ended
+reaches_as {same_first} {left} {before} {now} {seated} {a} {b} {failed} {g} {h} {ended} {access} {r} {addr} {p} e f
+    told =
+    subst (λ l. ReachesTold access r addr p l before now seated left a b failed g h ended) e
+    (subst (λ l. ReachesTold access r addr p same_first before now seated l a b failed g h ended) (sym f) told)

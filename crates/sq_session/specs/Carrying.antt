@@ -35,7 +35,8 @@ pub record Carries (r : HttpRequest) (addr : Address) (p : BodyPlan) (rest : Lis
   pub answers : List FrontAnswer
   pub told : (list : List FrontAnswer) → stood list → stands (list ++ answers)
   pub sits : SitsFor j answers
-  pub goes : Goes (is_connect r) (carried (access_of j) r addr p rest answers) [] (takes_seat j && sat answers)
+  pub goes : Goes (is_connect r) (carried (access_of j) r addr p rest answers) []
+      (takes_seat j && sat answers)
       left a b dialled_before dialled_now failed g h ended
 
 -- the part of a turn from the record on

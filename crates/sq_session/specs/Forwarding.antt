@@ -39,7 +39,8 @@ pub record ForwardsAs (t : ClientTurn) (unasked : List FrontAnswer) (broke seate
   pub spare : t.unasked ≡ unasked
 
 -- an exchange over these bytes of the origin
-pub record Trades (access : HeaderAccess) (r : HttpRequest) (addr : Address) (p : BodyPlan) (rest bytes : List ℕ)
+pub record Trades (access : HeaderAccess) (r : HttpRequest) (addr : Address) (p : BodyPlan)
+    (rest bytes : List ℕ)
     (seated : Bool) (left a b c d : Option (List ℕ)) (failed : Type 0) (g h : ℕ)
     (ended : Carried) : Type 0 where
   pub seen : List ℕ
@@ -49,11 +50,13 @@ pub record Trades (access : HeaderAccess) (r : HttpRequest) (addr : Address) (p 
   pub broken : broke ≡ true → failed
   pub goes : (unasked : List FrontAnswer)
       → ForwardsAs (exchanged_turn r bytes broke
-      (ends_exchange broke (exchange access r addr p rest reading)) (exchange access r addr p rest reading)
+      (ends_exchange broke (exchange access r addr p rest reading))
+      (exchange access r addr p rest reading)
       unasked) unasked broke seated left a b c d g h ended
 
 -- an exchange or a tunnel, as the request asks
-pub record Forwards (access : HeaderAccess) (r : HttpRequest) (addr : Address) (p : BodyPlan) (rest bytes : List ℕ)
+pub record Forwards (access : HeaderAccess) (r : HttpRequest) (addr : Address) (p : BodyPlan)
+    (rest bytes : List ℕ)
     (seated : Bool) (left a b c d : Option (List ℕ)) (failed : Type 0) (g h : ℕ)
     (ended : Carried) : Type 0 where
   pub seen : List ℕ
@@ -63,7 +66,8 @@ pub record Forwards (access : HeaderAccess) (r : HttpRequest) (addr : Address) (
       × (is_connect r ≡ true → broke ≡ false)
   pub broken : broke ≡ true → failed
   pub goes : (unasked : List FrontAnswer)
-      → ForwardsAs (forwarded access r addr p rest bytes reading broke unasked) unasked broke seated left a
+      → ForwardsAs (forwarded access r addr p rest bytes reading broke unasked) unasked broke seated
+      left a
       b c d g h ended
 
 -- how a turn ends by its tunnel

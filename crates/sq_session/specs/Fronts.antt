@@ -1,13 +1,10 @@
 -- What a front's answers say: the engine, the rewriter and the pools as one connection sees them.
-use Rattle.std.specs.Prelude.{◌≡◌, ◌⊎◌, ℕ, List, [], ◌∷◌, Bool, true, false, Ok, Err, is_some, ⊤}
-use Rattle.std.specs.Option.{option_map_or}
+use Rattle.std.specs.Prelude.{◌≡◌, ◌⊎◌, ℕ, List, [], ◌∷◌, Bool, Ok, Err, is_some, ⊤}
 use Rattle.std.specs.declared.result.Result.{Result}
 use Rattle.sq_base.specs.Addresses.{Address}
 use Rattle.sq_base.specs.Requests.{HttpRequest}
-use Rattle.sq_checks.specs.Records.{Judged, takes_client}
-use Rattle.sq_machine.specs.SeatPlaces.{has_tags, pool_at, seat_place}
-use Rattle.sq_machine.specs.declared.places.SeatPlace.{SeatPlace}
-use Rattle.sq_machine.specs.declared.places.SeatPlace.TheVariants.{Nowhere, ByAddress, ByTag}
+use Rattle.sq_checks.specs.Records.{Judged}
+use Rattle.sq_machine.specs.SeatPlaces.{pool_at, seat_place}
 use Rattle.sq_outside.specs.Causes.{Rose, raised}
 use Rattle.sq_rewrite.specs.Rewritings.{IsInPlaceOf, IsRedirect}
 use Rattle.sq_session.specs.declared.front.Opened.{Opened}
@@ -96,14 +93,3 @@ CloseRefuses before now (Err close.WantOfMemory) = ⊤
 -- the record takes a seat: it has a pool, and where the buckets of that are by tags, a tag
 abbrev pub takes_seat : Judged → Bool
 takes_seat j = is_some (pool_at (seat_place j.config j.sight j.answers))
-
--- its pool, if it has one, has buckets by tags
-abbrev pub needs_tag : Judged → Bool
-needs_tag j = option_map_or (has_tags j.config.pools) j.pool false
-
--- the pool of a place takes the client of the record, or has buckets by tags
-abbrev pub TakesClient : Judged → SeatPlace → Type 0
-TakesClient j Nowhere = ⊤
-TakesClient j (ByAddress pool) = (takes_client j.config.pools j.sight.addr pool ≡ true)
-    × (has_tags j.config.pools pool ≡ false)
-TakesClient j (ByTag pool tag) = has_tags j.config.pools pool ≡ true

@@ -27,7 +27,8 @@ pub record TradesTold (access : HeaderAccess) (r : HttpRequest) (addr : Address)
     (first told : Option (List ℕ)) (seated : Bool) (left a b c d : Option (List ℕ))
     (failed : Type 0) (g h : ℕ) (ended : Carried) : Type 0 where
   pub known : IfSome first
-      (λ rest. IfSome told (λ bytes. Trades access r addr p rest bytes seated left a b c d failed g h
+      (λ rest. IfSome told
+      (λ bytes. Trades access r addr p rest bytes seated left a b c d failed g h
       ended))
 
 -- a tunnel
@@ -43,16 +44,19 @@ pub record ForwardsTold (access : HeaderAccess) (r : HttpRequest) (addr : Addres
     (first told : Option (List ℕ)) (seated : Bool) (left a b c d : Option (List ℕ))
     (failed : Type 0) (g h : ℕ) (ended : Carried) : Type 0 where
   pub known : IfSome first
-      (λ rest. IfSome told (λ bytes. Forwards access r addr p rest bytes seated left a b c d failed g h
+      (λ rest. IfSome told
+      (λ bytes. Forwards access r addr p rest bytes seated left a b c d failed g h
       ended))
 
 -- the part of a turn from the dial on, of the client's input and the dialer's word
-pub record ReachesTold (access : HeaderAccess) (r : HttpRequest) (addr : Address) (p : BodyPlan) (first : Option (List ℕ))
+pub record ReachesTold (access : HeaderAccess) (r : HttpRequest) (addr : Address) (p : BodyPlan)
+    (first : Option (List ℕ))
     (before now : Option Dialled) (seated : Bool) (left a b : Option (List ℕ)) (failed : Type 0)
     (g h : ℕ) (ended : Carried) : Type 0 where
   pub known : IfSome first
       (λ rest. IfSome now (λ o. (unasked : List FrontAnswer)
-      → Goes (is_connect r) (dialled access r addr p rest unasked) unasked seated left a b before o failed
+      → Goes (is_connect r) (dialled access r addr p rest unasked) unasked seated left a b before o
+      failed
       g h ended))
 
 -- the part of a turn from the scheme on

@@ -171,7 +171,8 @@ abbrev pub ends_exchange : Bool → Exchange → Exchanged
 ends_exchange broke x = if broke then exchanged.NoReply else x.end
 
 -- behind the dial: the tunnel, or the exchange
-abbrev pub forwarded : HeaderAccess → HttpRequest → Address → BodyPlan → List ℕ → List ℕ → Reading → Bool
+abbrev pub forwarded : HeaderAccess → HttpRequest → Address → BodyPlan → List ℕ → List ℕ → Reading
+    → Bool
     → List FrontAnswer → ClientTurn
 forwarded access r addr p rest bytes reading broke unasked =
     if is_connect r then tunnelled_turn r bytes rest unasked
@@ -192,31 +193,37 @@ unreached r unasked = record {
 }
 
 -- from the dial on
-abbrev pub dialled : HeaderAccess → HttpRequest → Address → BodyPlan → List ℕ → List FrontAnswer → Reply
+abbrev pub dialled : HeaderAccess → HttpRequest → Address → BodyPlan → List ℕ → List FrontAnswer
+    → Reply
     → ClientTurn
 dialled access r addr p rest unasked NoOrigin = unreached r unasked
 dialled access r addr p rest unasked (Came bytes seen reading broke) =
     forwarded access r addr p rest bytes reading broke unasked
 
 -- from the seat on
-abbrev pub seated : HeaderAccess → HttpRequest → Address → BodyPlan → List ℕ → List FrontAnswer → Reply
+abbrev pub seated : HeaderAccess → HttpRequest → Address → BodyPlan → List ℕ → List FrontAnswer
+    → Reply
     → ClientTurn
 seated access r addr p rest (OfSit k (Ok u) ∷ more) reply = dialled access r addr p rest more reply
 seated access r addr p rest (OfSit k (Err sit.Spent) ∷ more) reply = says Inner (is_head r) more
-seated access r addr p rest (OfSit k (Err sit.WantOfMemory) ∷ more) reply = says NoMemory (is_head r) more
+seated access r addr p rest (OfSit k (Err sit.WantOfMemory) ∷ more) reply = says NoMemory
+    (is_head r) more
 seated access r addr p rest (OfDecide q d ∷ more) reply = silent (Over end.WantOfMemory)
     (OfDecide q d ∷ more)
 seated access r addr p rest (OfRewrite j said ∷ more) reply = silent (Over end.WantOfMemory)
     (OfRewrite j said ∷ more)
 seated access r addr p rest (OfOpen a port o ∷ more) reply = silent (Over end.WantOfMemory)
     (OfOpen a port o ∷ more)
-seated access r addr p rest (OfClose c ∷ more) reply = silent (Over end.WantOfMemory) (OfClose c ∷ more)
+seated access r addr p rest (OfClose c ∷ more) reply = silent (Over end.WantOfMemory)
+    (OfClose c ∷ more)
 seated access r addr p rest [] reply = silent (Over end.WantOfMemory) []
 
 -- from the scheme on: an allowed request, which goes on as this one
-abbrev pub carried : HeaderAccess → HttpRequest → Address → BodyPlan → List ℕ → List FrontAnswer → Reply
+abbrev pub carried : HeaderAccess → HttpRequest → Address → BodyPlan → List ℕ → List FrontAnswer
+    → Reply
     → ClientTurn
-carried access r addr p rest answers reply = if is_served r then seated access r addr p rest answers reply
+carried access r addr p rest answers reply = if is_served r then seated access r addr p rest answers
+    reply
     else says NotImplemented (is_head r) answers
 
 -- the client is sent elsewhere, behind which the connection closes
@@ -234,9 +241,11 @@ redirected code url unasked = record {
 
 -- from the rewriter on: the request goes on as it is, or another one in its place with the body
 -- that comes, or the client is sent elsewhere
-abbrev pub rewritten_on : HeaderAccess → HttpRequest → Address → BodyPlan → List ℕ → List FrontAnswer → Reply
+abbrev pub rewritten_on : HeaderAccess → HttpRequest → Address → BodyPlan → List ℕ
+    → List FrontAnswer → Reply
     → ClientTurn
-rewritten_on access r addr p rest (OfRewrite j rewritten.Same ∷ more) reply = carried access r addr p rest more reply
+rewritten_on access r addr p rest (OfRewrite j rewritten.Same ∷ more) reply = carried access r addr
+    p rest more reply
 rewritten_on access r addr p rest (OfRewrite j (rewritten.New new) ∷ more) reply =
     carried access new addr p rest more reply
 rewritten_on access r addr p rest (OfRewrite j (rewritten.Redirect code url) ∷ more) reply =
@@ -254,9 +263,11 @@ rewritten_on access r addr p rest (OfClose c ∷ more) reply = silent (Over end.
 rewritten_on access r addr p rest [] reply = silent (Over end.WantOfMemory) []
 
 -- an allowed request: the rewriter is asked about each but CONNECT
-abbrev pub allowed : HeaderAccess → HttpRequest → Address → BodyPlan → List ℕ → List FrontAnswer → Reply
+abbrev pub allowed : HeaderAccess → HttpRequest → Address → BodyPlan → List ℕ → List FrontAnswer
+    → Reply
     → ClientTurn
-allowed access r addr p rest answers reply = if is_connect r then carried access r addr p rest answers reply
+allowed access r addr p rest answers reply = if is_connect r then carried access r addr p rest
+    answers reply
     else rewritten_on access r addr p rest answers reply
 
 -- a denial closes the connection but where the request has no body and the connection stays
@@ -282,7 +293,8 @@ denied r p rest j unasked = record {
 -- the verdict of a record
 abbrev pub recorded : HttpRequest → Address → BodyPlan → List ℕ → Judged → List FrontAnswer → Reply
     → ClientTurn
-recorded r addr p rest j answers reply = if j.outcome.allow then allowed (access_of j) r addr p rest answers reply
+recorded r addr p rest j answers reply = if j.outcome.allow then allowed (access_of j) r addr p rest
+    answers reply
     else denied r p rest j answers
 
 -- from the verdict on

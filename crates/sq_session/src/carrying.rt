@@ -2,6 +2,7 @@
 ghost use Rattle.std.specs.Prelude.{◌≡◌, ◌≤◌, ◌⊎◌, true, false, Ok};
 ghost use Rattle.sq_head.specs.BodyPlans.{request_plan};
 ghost use Rattle.sq_outside.specs.Causes.{Rose};
+ghost use Rattle.sq_outside.specs.Dials.{CallsMore, CallsOnce};
 ghost use Rattle.sq_forward.specs.Halves.{to_come};
 ghost use Rattle.sq_session.specs.Carrying.{IsSameMessage};
 ghost use Rattle.sq_session.specs.Steps.{EndHasCause, WasTold, dry_after};
@@ -11,12 +12,12 @@ ghost use Rattle.sq_session.specs.Turns.{access_of};
 use crate::ends::Carried;
 use crate::forwarding::forward;
 use crate::front::{Front, SitFault};
-use crate::own_replies::{is_head, is_served, say};
+use crate::own_replies::{is_connect, is_head, is_served, say};
 use sq_base::{Addr, BodyPlan, Request};
 use sq_checks::Record;
-use sq_forward::{Ahead, Half, Meter};
+use sq_forward::{Half, Meter};
 use sq_head::Own;
-use sq_outside::{Dialer, Out, Source};
+use sq_outside::{Dialer, LinkUse, Out, Source};
 use std::alloc::Global;
 use std::sync::Wait;
 use std::thread::Threads;
@@ -59,6 +60,7 @@ pub fn carry<R: Threads + Wait + Sync, I: Source + Send, O: Out, F: Front, D: Di
     ensures to_later { O.Sink.faults to.old ≤ O.Sink.faults to.new }
     ensures dialer_later { D.faults dialer.old ≤ D.faults dialer.new }
     ensures dialled { WasTold (D.dialled dialer.old) (D.dialled dialer.new) }
+    ensures calls { CallsOnce (D.calls dialer.old) (D.calls dialer.new) }
 {
     if !is_served(sent) {
         return say(alloc, to, Own::NotImplemented, is_head(sent));
@@ -75,6 +77,15 @@ pub fn carry<R: Threads + Wait + Sync, I: Source + Send, O: Out, F: Front, D: Di
     carried
 }
 
+// For what the origin of a request is dialled.
+fn link_use(sent: &Request) -> LinkUse {
+    if is_connect(sent) {
+        LinkUse::Tunnel
+    } else {
+        LinkUse::Exchange
+    }
+}
+
 // Dials the origin, forwards the request, and gives the dial back.
 fn reach<R: Threads + Wait + Sync, I: Source + Send, O: Out, M: Meter, D: Dialer>(
     rt: &R,
@@ -89,8 +100,8 @@ fn reach<R: Threads + Wait + Sync, I: Source + Send, O: Out, M: Meter, D: Dialer
     dialer: &mut D,
 ) -> Carried
     requires dry { M.dry meter.old ≡ 0 }
-    ensures told { ReachesTold (access_of judged.now) sent.now addr plan (to_come I.left client.old) (D.dialled dialer.old)
-        (D.dialled dialer.new)
+    ensures told { ReachesTold (access_of judged.now) sent.now addr plan
+        (to_come I.left client.old) (D.dialled dialer.old) (D.dialled dialer.new)
         (M.seated meter.old) (to_come I.left client.new) (O.Sink.contents to.old)
         (O.Sink.contents to.new) (Rose (D.faults dialer.old) (D.faults dialer.new))
         (M.granted meter.old) (M.granted meter.new) result }
@@ -105,13 +116,14 @@ fn reach<R: Threads + Wait + Sync, I: Source + Send, O: Out, M: Meter, D: Dialer
     ensures to_later { O.Sink.faults to.old ≤ O.Sink.faults to.new }
     ensures dialer_later { D.faults dialer.old ≤ D.faults dialer.new }
     ensures dialled { WasTold (D.dialled dialer.old) (D.dialled dialer.new) }
+    ensures calls { CallsMore (D.calls dialer.old) (D.calls dialer.new) }
 {
-    let Ok((from, mut to_origin)) = dialer.dial(alloc, &sent.host, sent.port) else {
+    let Ok((from, mut to_origin)) = dialer.dial(alloc, &sent.host, sent.port, link_use(sent)) else {
         return say(alloc, to, Own::BadGateway, is_head(sent));
     };
     let mut origin = Half {
         source: from,
-        ahead: Ahead::new(alloc),
+        ahead: client.ahead.lend_room(alloc),
     };
     let carried = forward(
         rt,
@@ -126,7 +138,8 @@ fn reach<R: Threads + Wait + Sync, I: Source + Send, O: Out, M: Meter, D: Dialer
         addr,
         plan,
     );
-    let Half { source, ahead: _ } = origin;
+    let Half { source, ahead } = origin;
+    client.ahead.take_room(ahead);
     dialer.give_back(source, to_origin);
     carried
 }

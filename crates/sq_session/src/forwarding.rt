@@ -40,8 +40,8 @@ pub(crate) fn forward<
     plan: BodyPlan,
 ) -> Carried
     requires dry { M.dry meter.old ≡ 0 }
-    ensures told { ForwardsTold (access_of judged.now) sent.now addr plan (to_come I.left client.old)
-        (to_come P.left origin.old) (M.seated meter.old) (to_come I.left client.new)
+    ensures told { ForwardsTold (access_of judged.now) sent.now addr plan
+        (to_come I.left client.old) (to_come P.left origin.old) (M.seated meter.old) (to_come I.left client.new)
         (O.Sink.contents to.old) (O.Sink.contents to.new)
         (Q.Sink.contents to_origin.old) (Q.Sink.contents to_origin.new)
         (Rose (P.faults origin.old.source) (P.faults origin.new.source)
@@ -83,8 +83,8 @@ fn trade<R: Wait, I: Source, O: Out, P: Source, Q: Out, M: Meter>(
     plan: BodyPlan,
 ) -> Carried
     requires dry { M.dry meter.old ≡ 0 }
-    ensures told { TradesTold (access_of judged.now) sent.now addr plan (to_come I.left client.old)
-        (to_come P.left origin.old) (M.seated meter.old) (to_come I.left client.new)
+    ensures told { TradesTold (access_of judged.now) sent.now addr plan
+        (to_come I.left client.old) (to_come P.left origin.old) (M.seated meter.old) (to_come I.left client.new)
         (O.Sink.contents to.old) (O.Sink.contents to.new)
         (Q.Sink.contents to_origin.old) (Q.Sink.contents to_origin.new)
         (Rose (P.faults origin.old.source) (P.faults origin.new.source)

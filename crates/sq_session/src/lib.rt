@@ -7,8 +7,6 @@
 //! tell what they hold, what was written is what the definition of a turn gives of the client's bytes, the front's
 //! answers and the origins' bytes, or a front of it behind a fault: no byte goes to an origin without a record that
 //! allows its request. A fault is answered only where the count of its object rose.
-//!
-//! `seat_place` says to a front where a record is seated.
 #![tactic(auto)]
 
 mod beginning;
@@ -18,7 +16,6 @@ mod forwarding;
 mod front;
 mod own_replies;
 mod rewriting;
-mod seat_places;
 mod sessions;
 mod turning;
 
@@ -26,5 +23,4 @@ pub use beginning::Begun;
 pub use carrying::carry;
 pub use ends::{Carried, End};
 pub use front::{CloseFault, Counts, Decided, Front, Opened, Rewritten, SitFault};
-pub use seat_places::seat_place;
 pub use sessions::{SessionEnd, session};

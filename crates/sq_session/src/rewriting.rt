@@ -1,6 +1,7 @@
 //! An allowed request, which goes on as the rewriter leaves it.
 ghost use Rattle.std.specs.Prelude.{◌≡◌, ◌≤◌, ◌⊎◌, true, false, Ok};
 ghost use Rattle.sq_outside.specs.Causes.{Rose};
+ghost use Rattle.sq_outside.specs.Dials.{CallsOnce};
 ghost use Rattle.sq_forward.specs.Halves.{to_come};
 ghost use Rattle.sq_head.specs.BodyPlans.{request_plan};
 ghost use Rattle.sq_session.specs.Steps.{EndHasCause, WasTold, dry_after};
@@ -55,6 +56,7 @@ pub(crate) fn go_on<R: Threads + Wait + Sync, I: Source + Send, O: Out, F: Front
     ensures to_later { O.Sink.faults to.old ≤ O.Sink.faults to.new }
     ensures dialer_later { D.faults dialer.old ≤ D.faults dialer.new }
     ensures dialled { WasTold (D.dialled dialer.old) (D.dialled dialer.new) }
+    ensures calls { CallsOnce (D.calls dialer.old) (D.calls dialer.new) }
 {
     if is_connect(request) {
         return carry(

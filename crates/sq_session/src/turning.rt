@@ -1,6 +1,7 @@
 //! One turn: a request and its answer.
 ghost use Rattle.std.specs.Prelude.{◌≡◌, ◌≤◌, ◌⊎◌, false, Ok};
 ghost use Rattle.sq_outside.specs.Causes.{Rose};
+ghost use Rattle.sq_outside.specs.Dials.{CallsOnce};
 ghost use Rattle.sq_forward.specs.Halves.{to_come};
 ghost use Rattle.sq_head.specs.BodyPlans.{request_plan};
 ghost use Rattle.sq_session.specs.Steps.{EndHasCause, WasTold, dry_after};
@@ -48,6 +49,7 @@ pub(crate) fn turn<R: Threads + Wait + Sync, I: Source + Send, O: Out, F: Front,
     ensures to_later { O.Sink.faults to.old ≤ O.Sink.faults to.new }
     ensures dialer_later { D.faults dialer.old ≤ D.faults dialer.new }
     ensures dialled { WasTold (D.dialled dialer.old) (D.dialled dialer.new) }
+    ensures calls { CallsOnce (D.calls dialer.old) (D.calls dialer.new) }
 {
     match next_request(rt, alloc, client) {
         Begun::Asks(request) => answer(rt, alloc, client, to, addr, &request, front, dialer),
@@ -89,6 +91,7 @@ fn answer<R: Threads + Wait + Sync, I: Source + Send, O: Out, F: Front, D: Diale
     ensures to_later { O.Sink.faults to.old ≤ O.Sink.faults to.new }
     ensures dialer_later { D.faults dialer.old ≤ D.faults dialer.new }
     ensures dialled { WasTold (D.dialled dialer.old) (D.dialled dialer.new) }
+    ensures calls { CallsOnce (D.calls dialer.old) (D.calls dialer.new) }
 {
     if !fits_hosts(request) {
         return say(alloc, to, Own::BadRequest, is_head(request));
@@ -142,6 +145,7 @@ fn obey<R: Threads + Wait + Sync, I: Source + Send, O: Out, F: Front, D: Dialer>
     ensures to_later { O.Sink.faults to.old ≤ O.Sink.faults to.new }
     ensures dialer_later { D.faults dialer.old ≤ D.faults dialer.new }
     ensures dialled { WasTold (D.dialled dialer.old) (D.dialled dialer.new) }
+    ensures calls { CallsOnce (D.calls dialer.old) (D.calls dialer.new) }
 {
     if judged.outcome().allow {
         go_on(

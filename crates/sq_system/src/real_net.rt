@@ -15,9 +15,10 @@ use std::net::{self, TcpListener, TcpStream};
 use std::process::{ChildStderr, ChildStdin, ChildStdout, OpenProcess, Processes};
 use std::rt::{Env, Files};
 use std::sync::Wait;
+use std::thread::Threads;
 use std::time;
 
-/// The net of this machine.
+/// The net of this machine. Where its port cannot be opened it says so on standard error: `aclproxy: port N: REASON`.
 #[derive(Drop)]
 pub struct RealNet<R> {
     rt: R,
@@ -39,6 +40,8 @@ impl<
         + Files<File = File>
         + Wait
         + time::Clock
+        + Threads
+        + Eprint
         + Copy
         + Send
         + Drop,
@@ -62,11 +65,16 @@ where
 
     ghost capped = { λ s. s.capped };
 
+    // A port that cannot be opened is named on standard error, with the reason.
     fn parts(&mut self, alloc: Global, port: u16) -> Result<Parts<RealNet<R>>, Failed> {
         let times = LinkTimes::of_server();
-        let Some(listening) = RealListener::listen(alloc, self.rt, port, times) else {
-            raise(&mut self.faults);
-            return Err(Failed);
+        let listening = match RealListener::listen(alloc, self.rt, port, times) {
+            Ok(listening) => listening,
+            Err(reason) => {
+                let _ = eprintln!(self.rt; "aclproxy: port {port}: {reason}");
+                raise(&mut self.faults);
+                return Err(Failed);
+            }
         };
         Ok(Parts {
             listener: listening.listener,

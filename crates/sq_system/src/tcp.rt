@@ -8,7 +8,7 @@ use crate::link_stream::{LinkStream, LinkWatch, Side, is_tick};
 use crate::times::LinkTimes;
 use sq_outside::{Failed, Out, Sink, Source};
 use std::alloc::Global;
-use std::io::ErrorKind;
+use std::io::{self, ErrorKind};
 use std::net::{Shutdown, TcpStream};
 use std::sync::Arc;
 use std::time::Clock;
@@ -44,10 +44,10 @@ impl Drop for SlotGuard {
 }
 
 /// Sends small pieces at once, and lets a call that waits look around at each tick.
-pub(crate) fn set(stream: &TcpStream, times: LinkTimes) -> Option<()> {
-    stream.set_nodelay(true).ok()?;
-    stream.set_read_timeout(Some(times.tick)).ok()?;
-    stream.set_write_timeout(Some(times.tick)).ok()
+pub(crate) fn set(stream: &TcpStream, times: LinkTimes) -> io::Result<()> {
+    stream.set_nodelay(true)?;
+    stream.set_read_timeout(Some(times.tick))?;
+    stream.set_write_timeout(Some(times.tick))
 }
 
 impl<R: Copy + Drop> RealIn<R> {
@@ -65,7 +65,7 @@ impl<R: Copy + Drop> RealIn<R> {
     ) -> Option<(RealIn<R>, RealOut<R>)>
         ensures fresh { IfSome result (λ h. (in_faults h.0 ≡ 0) × (out_faults h.1 ≡ 0)) }
     {
-        set(&stream, times)?;
+        set(&stream, times).ok()?;
         let line = Arc::new(alloc, LinkStream::new(stream)).ok()?;
         let side = match client {
             Some(client) => {

@@ -10,17 +10,19 @@ use crate::tcp::{RealIn, RealOut};
 use crate::tcp_server::addr_of;
 use crate::times::LinkTimes;
 use sq_base::{Addrs, Text};
-use sq_outside::{Another, Dialer, Failed, LookFault, Resolver};
+use sq_outside::{Another, Dialer, Failed, LinkUse, LookFault, Resolver};
 use std::alloc::Global;
 use std::io::ErrorKind;
 use std::net::{Net, TcpStream, ToSocketAddrs};
 use std::rt::Files;
 use std::sync::Arc;
+use std::thread::{self, Threads};
 use std::time::{Clock, Instant};
 
 /// A dialer by the system's names and sockets. It reaches a host in its one spelling alone, and gives up where that takes too
-/// long; the look-up of a name takes as long as the system lets it. It is used by one thread: what it dials is for the client
-/// whose link this thread has accepted last.
+/// long; the look-up of a name takes as long as the system lets it. For a tunnel it sees first whether a thread can be had, and
+/// dials nobody where none is given. It is used by one thread: what it dials is for the client whose link this thread has
+/// accepted last.
 #[derive(Drop)]
 pub struct RealDialer<R> {
     rt: R,
@@ -114,12 +116,47 @@ impl<R: Net<Stream = TcpStream> + Clock + Files + Copy + Drop> RealDialer<R> {
     }
 }
 
-impl<R: Net<Stream = TcpStream> + Clock + Files + Copy + Send + Drop> Dialer for RealDialer<R> {
+// Whether a thread can be had beside the one that calls. It has ended when this returns.
+fn has_thread<R: Threads>(rt: &R) -> bool {
+    match thread::spawn(rt, || {}) {
+        Ok(thread) => {
+            thread.join(rt);
+            true
+        }
+        Err(_) => false,
+    }
+}
+
+impl<R: Net<Stream = TcpStream> + Clock + Files + Threads + Copy + Drop> RealDialer<R> {
+    ghost use Rattle.sq_system.specs.Adapters.{in_faults, out_faults};
+
+    // The same, if there is what this use of the link needs beside.
+    fn reach_for(
+        &mut self,
+        alloc: Global,
+        host: &Text,
+        port: u16,
+        link_use: LinkUse,
+    ) -> Option<(RealIn<R>, RealOut<R>)>
+        ensures fresh { IfSome result (λ h. (in_faults h.0 ≡ 0) × (out_faults h.1 ≡ 0)) }
+        ensures kept { self.new.faults ≡ self.old.faults }
+    {
+        match link_use {
+            LinkUse::Tunnel if !has_thread(&self.rt) => None,
+            _ => self.reach(alloc, host, port),
+        }
+    }
+}
+
+impl<R: Net<Stream = TcpStream> + Clock + Files + Threads + Copy + Send + Drop> Dialer
+    for RealDialer<R> {
     type In = RealIn<R>;
 
     type Outgo = RealOut<R>;
 
     ghost dialled = { λ _. None };
+
+    ghost calls = { λ _. None };
 
     ghost faults = { λ s. s.faults };
 
@@ -130,8 +167,9 @@ impl<R: Net<Stream = TcpStream> + Clock + Files + Copy + Send + Drop> Dialer for
         alloc: Global,
         host: &Text,
         port: u16,
+        link_use: LinkUse,
     ) -> Result<(RealIn<R>, RealOut<R>), Failed> {
-        match self.reach(alloc, host, port) {
+        match self.reach_for(alloc, host, port, link_use) {
             Some(halves) => Ok(halves),
             None => {
                 raise(&mut self.faults);

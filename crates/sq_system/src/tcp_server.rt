@@ -1,7 +1,7 @@
 //! What accepts TCP links, and what stops it: the trusted edge. It relies on `accept` giving the links that
 //! come to the port, on a link from here being one of them, and on Linux: a socket that is accepted has the settings of the
 //! listener's, and an `accept` ends when its socket is shut.
-ghost use Rattle.std.specs.Prelude.{◌≡◌, ◌≤◌, ◌-◌, ◌^◌, nat_lt, None, IfSome};
+ghost use Rattle.std.specs.Prelude.{◌≡◌, ◌≤◌, ◌-◌, ◌^◌, nat_lt, None, IfOk, IfSome};
 ghost use Rattle.sq_outside.specs.World.{IfLink};
 
 use crate::again::raise;
@@ -108,21 +108,21 @@ impl<R: Net<Listener = TcpListener, Stream = TcpStream> + Copy + Drop> RealListe
     ghost use Rattle.sq_system.specs.Adapters.{accept_faults};
 
     /// A listener at this port, or at a free one for port 0, whose links have these limits of time, what stops it, a dialer for the
-    /// workers that take its links, and a spawner of processes that end with it. None where it can't be had.
-    pub fn listen(alloc: Global, rt: R, port: u16, times: LinkTimes) -> Option<Listening<R>>
-        ensures fresh { IfSome result (λ l. accept_faults l.listener ≡ 0) }
+    /// workers that take its links, and a spawner of processes that end with it. The error is the system's, or want of memory.
+    pub fn listen(alloc: Global, rt: R, port: u16, times: LinkTimes) -> io::Result<Listening<R>>
+        ensures fresh { IfOk result (λ l. accept_faults l.listener ≡ 0) }
     {
-        let listener = bind(&rt, port).ok()?;
-        let socket = TcpStream::from(OwnedFd::from(listener.try_clone().ok()?));
+        let listener = bind(&rt, port)?;
+        let socket = TcpStream::from(OwnedFd::from(listener.try_clone()?));
         set(&socket, times)?;
-        let house = Arc::new(alloc, House::new(alloc)).ok()?;
+        let house = Arc::new(alloc, House::new(alloc))?;
         let stopper = RealStopper {
             rt,
             socket,
-            house: Arc::try_clone(&house).ok()?,
+            house: Arc::try_clone(&house)?,
         };
-        let dialer = RealDialer::beside(rt, times, Arc::try_clone(&house).ok()?);
-        let spawner = RealSpawner::beside(rt, times, Arc::try_clone(&house).ok()?);
+        let dialer = RealDialer::beside(rt, times, Arc::try_clone(&house)?);
+        let spawner = RealSpawner::beside(rt, times, Arc::try_clone(&house)?);
         let entrance = Entrance {
             rt,
             listener,
@@ -134,7 +134,7 @@ impl<R: Net<Listener = TcpListener, Stream = TcpStream> + Copy + Drop> RealListe
             entrance,
             faults: 0,
         };
-        Some(Listening {
+        Ok(Listening {
             listener,
             stopper,
             dialer,

@@ -19,7 +19,6 @@ use Rattle.sq_journal.specs.Journals.{journal_text, numbered_lines, version_line
 use Rattle.sq_model_state.proofs.PromiseLaws.{legal_more}
 use Rattle.sq_replay.specs.Headline.{AreAccepted, IsAccepted, IsTrue}
 use Rattle.sq_replay.proofs.HeadlineLaws.{history_true}
-use Rattle.sq_replay.proofs.ReadingLaws.{is_read}
 use Rattle.sq_verify.specs.declared.findings.Finding.{Finding}
 use Rattle.sq_verify.specs.declared.findings.Finding.TheVariants as finding
 use Rattle.sq_verify.specs.declared.halts.Halt.{Halt}
@@ -70,7 +69,7 @@ formed event may = refl
 -- the text of a reconfiguration gives the configuration of the next epoch
 accepts : (configs : List Configuration) (h : History) (event : Event) → MayFollow event → HasNext configs h event
     → IsAccepted configs h event
-accepts configs h (Reconfigure text) may next = (may.0, (is_read text may.0 may.1).gives, next may.0 may.1)
+accepts configs h (Reconfigure text) may next = (may.0, may.1, next may.0 may.1)
 accepts configs h event may next = tt
 
 has_next : (configs : List Configuration) (h : History) (o : Option Noted) (e : Noted) → o ≡ Some e → IsNext configs h o

@@ -4,16 +4,16 @@ use Rattle.sq_outside.specs.SourceLines.{SourceLine, is_within}
 use Rattle.sq_machine.specs.declared.entries.Event.{Event}
 use Rattle.sq_machine.specs.declared.entries.Event.TheVariants.{Begin, Reconfigure}
 use Rattle.sq_machine.specs.declared.entries.Told.TheVariants as told
+use Rattle.sq_rules.specs.ConfText.{conf_result}
 use Rattle.sq_rules.specs.declared.kinds.ConfError.{ConfError}
 use Rattle.sq_rules.specs.Configurations.{Configuration, IsConfiguration}
 use Rattle.sq_machine.specs.Entries.{History, Noted, entry_at}
 use Rattle.sq_machine.specs.Events.{is_begin}
 use Rattle.sq_machine.specs.Readings.{current}
 use Rattle.sq_model_laws.specs.Given.{EachOf}
-use Rattle.sq_replay.specs.ConfReading.{read_result}
 use Rattle.sq_replay.specs.Headline.{IsAccepted}
 use Rattle.sq_replay.specs.RunText.{with_config}
-use Rattle.sq_replay.proofs.ReadingLaws.{is_read}
+use Rattle.sq_drafts.proofs.TextLaws.{gives_configuration}
 use Rattle.sq_verify.specs.declared.versions.Version.{Version}
 use Rattle.sq_verify.specs.JournalLines.{line_in, line_limit, noted_in}
 use Rattle.sq_verify.specs.Judging.{begun_line, epochs_of, first_line, named_by, named_from, named_in, stated_first}
@@ -64,14 +64,14 @@ first_ok v place l t e =
 
 -- configurations
 
-good_by : (r : Result Configuration ConfError) (text : List ℕ) (more : List Configuration) → read_result text ≡ r
+good_by : (r : Result Configuration ConfError) (text : List ℕ) (more : List Configuration) → conf_result text ≡ r
     → EachOf IsConfiguration more → EachOf IsConfiguration (with_config r more)
-good_by (Ok config) text more is good = ((is_read text config is).good, good)
+good_by (Ok config) text more is good = (gives_configuration text config is, good)
 good_by (Err e) text more is good = tt
 
 good_event : (event : Event) (more : List Configuration) → EachOf IsConfiguration more
     → EachOf IsConfiguration (named_by event more)
-good_event (Reconfigure text) more good = good_by (read_result text) text more refl good
+good_event (Reconfigure text) more good = good_by (conf_result text) text more refl good
 good_event event more good = good
 
 good_noted : (o : Option Noted) (more : List Configuration) → EachOf IsConfiguration more

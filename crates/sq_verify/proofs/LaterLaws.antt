@@ -5,6 +5,7 @@ use Rattle.sq_request.specs.Written.{made_request}
 use Rattle.sq_machine.specs.declared.entries.Event.{Event}
 use Rattle.sq_machine.specs.declared.entries.Event.TheVariants.{Begin, Ask, Reconfigure}
 use Rattle.sq_machine.specs.declared.entries.Told.{Told}
+use Rattle.sq_rules.specs.ConfText.{conf_result}
 use Rattle.sq_rules.specs.declared.kinds.ConfError.{ConfError}
 use Rattle.sq_rules.specs.Configurations.{Configuration}
 use Rattle.sq_machine.specs.Entries.{History, Noted, entry_at}
@@ -13,7 +14,6 @@ use Rattle.sq_machine.specs.Machine.{next}
 use Rattle.sq_machine.specs.Next.{Next, gives, nothing, refuses}
 use Rattle.sq_machine.specs.Marking.{marked}
 use Rattle.sq_machine.specs.Readings.{current, epoch_after, latest}
-use Rattle.sq_replay.specs.ConfReading.{read_result}
 use Rattle.sq_replay.specs.RunText.{with_config}
 use Rattle.sq_verify.specs.declared.halts.Halt.{Halt}
 use Rattle.sq_verify.specs.declared.halts.Halt.TheVariants as halt
@@ -52,7 +52,7 @@ event_ok v configs h line now (Begin offset) t e = absurd (cc)
 event_ok v configs h line now (Ask conn method target fields) t e =
     request_ok (is_some (made_request method target 1 fields))
     (asked_line v configs h line now (Ask conn method target fields)) t e
-event_ok v configs h line now (Reconfigure text) t e = read_ok (read_result text)
+event_ok v configs h line now (Reconfigure text) t e = read_ok (conf_result text)
     (asked_line v configs h line now (Reconfigure text)) t e
 event_ok v configs h line now event t e = (tt, e)
 
@@ -113,7 +113,7 @@ named_is : (v : Version) (l : SourceLine) (ls : List SourceLine) (e : Noted) →
     → named_from v (l ∷ ls) ≡ named_by e.event (named_from v ls)
 named_is v l ls e is = ap (λ (o : Option Noted). named_in o (named_from v ls)) is
 
-by_text : (text : List ℕ) (config : Configuration) (more : List Configuration) → read_result text ≡ Ok config
+by_text : (text : List ℕ) (config : Configuration) (more : List Configuration) → conf_result text ≡ Ok config
     → named_by (Reconfigure text) more ≡ config ∷ more
 by_text text config more is = ap (λ (r : Result Configuration ConfError). with_config r more) is
 

@@ -13,6 +13,7 @@ use Rattle.sq_machine.specs.declared.entries.Event.{Event}
 use Rattle.sq_machine.specs.declared.entries.Event.TheVariants.{Ask, Begin, Reconfigure}
 use Rattle.sq_machine.specs.declared.entries.Told.{Told}
 use Rattle.sq_machine.specs.declared.entries.Told.TheVariants as told
+use Rattle.sq_rules.specs.ConfText.{conf_result}
 use Rattle.sq_rules.specs.declared.kinds.ConfError.{ConfError}
 use Rattle.sq_rules.specs.Configurations.{Configuration}
 use Rattle.sq_machine.specs.Entries.{History, Noted, entry_at}
@@ -28,7 +29,6 @@ use Rattle.sq_journal.specs.ToldReading.{entry_of}
 use Rattle.sq_journal.specs.Values.{IsNoted}
 use Rattle.sq_journal.proofs.EntryLaws.{entry_takes}
 use Rattle.sq_journal.proofs.LineLaws.{line_again, words_bytes}
-use Rattle.sq_replay.specs.ConfReading.{read_result}
 use Rattle.sq_verify.specs.declared.findings.Finding.{Finding}
 use Rattle.sq_verify.specs.declared.findings.Finding.TheVariants as finding
 use Rattle.sq_verify.specs.declared.halts.Halt.{Halt}
@@ -196,7 +196,7 @@ event_alike configs g h e now (Begin offset) same a = tt
 event_alike configs g h e now (Ask conn method target fields) same a =
     if_alike (Behind h e) (is_some (made_request method target 1 fields)) _ _
     (asked_alike configs g h e now (Ask conn method target fields) same a)
-event_alike configs g h e now (Reconfigure text) same a = read_alike (Behind h e) (read_result text) _ _
+event_alike configs g h e now (Reconfigure text) same a = read_alike (Behind h e) (conf_result text) _ _
     (asked_alike configs g h e now (Reconfigure text) same a)
 event_alike configs g h e now event same a = asked_alike configs g h e now event same a
 

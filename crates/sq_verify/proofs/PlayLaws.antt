@@ -10,14 +10,13 @@ use Rattle.sq_machine.specs.Machine.{next}
 use Rattle.sq_machine.specs.Marking.{marked}
 use Rattle.sq_replay.specs.declared.stops.Stop.{Stop}
 use Rattle.sq_replay.specs.declared.stops.Stop.TheVariants as stop
-use Rattle.sq_replay.specs.ConfReading.{read_result}
 use Rattle.sq_replay.specs.Making.{IsActing, IsMaking, IsReconfiguring, IsRefusal, MayStand, is_refused}
 use Rattle.sq_replay.specs.Runs.{IsMade, ScriptView}
 use Rattle.sq_conf.specs.declared.faults.ConfFault.{ConfFault}
 use Rattle.sq_conf.specs.declared.faults.ConfFault.TheVariants as conf
 use Rattle.sq_rules.specs.declared.kinds.Kind.{Kind}
-use Rattle.sq_rules.specs.ConfText.{conf_refuses}
-use Rattle.sq_replay.proofs.ReadingLaws.{gives_source, is_read, read_refused}
+use Rattle.sq_rules.specs.ConfText.{conf_refuses, conf_result}
+use Rattle.sq_drafts.proofs.TextLaws.{gives_source}
 use Rattle.sq_verify.specs.Promised.{Accepts, IsNone, MayFollow, Plays, stop_for}
 
 may : (event : Event) → begins_epoch event ≡ false → MayStand event → MayFollow event
@@ -53,27 +52,24 @@ pub act_none : (old new : ScriptView) (now : ℕ) → IsActing old new (max now 
     → Plays old new now Act (Err stop.Refused)
 act_none old new now a = λ configs h is. ap is_refused (a configs h is)
 
-source_is : (text : List ℕ) (config : Configuration) → read_result text ≡ Ok config → config.source ≡ text
-source_is text config is = gives_source text config (is_read text config is).gives
-
 -- a reconfiguration by the text that gives its configuration
 pub reconfigure_plays : (old new : ScriptView) (now : ℕ) (text : List ℕ) (config : Configuration) (r : Result Told Stop)
-    → read_result text ≡ Ok config → IsReconfiguring old new now config r
+    → conf_result text ≡ Ok config → IsReconfiguring old new now config r
     → Plays old new now (Reconfigure text) r
 reconfigure_plays old new now text config (Ok answer) read m = (
   (config, read),
   λ configs h is said.
       subst (λ (t : List ℕ). IsMade new configs h (max now old.latest) (Reconfigure t) answer)
-      (source_is text config read) (m configs h is (said config read)),
+      (gives_source text config read) (m configs h is (said config read)),
 )
 reconfigure_plays old new now text config (Err stop.Refused) read m = λ configs h is.
     inr (subst (λ (t : List ℕ). is_refused (next configs (marked configs h) (max now old.latest) (Reconfigure t))
-    ≡ true) (source_is text config read) (m configs h is))
+    ≡ true) (gives_source text config read) (m configs h is))
 reconfigure_plays old new now text config (Err stop.WantOfMemory) read m = tt
 
 -- a text that gives no configuration
 pub accepts_none : (text : List ℕ) (fault : ConfFault)
     → ((line : ℕ) (kind : Kind) → fault ≡ conf.At (record { line = line; kind = kind }) → conf_refuses text line kind)
     → Accepts text (Err (stop_for fault))
-accepts_none text (conf.At e) refused = (e, read_refused text e.line e.kind (refused e.line e.kind refl))
+accepts_none text (conf.At e) refused = (e, refused e.line e.kind refl)
 accepts_none text conf.WantOfMemory refused = tt

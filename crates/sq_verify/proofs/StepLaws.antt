@@ -4,6 +4,7 @@ use Rattle.sq_request.specs.Written.{made_request}
 use Rattle.sq_machine.specs.declared.entries.Event.{Event}
 use Rattle.sq_machine.specs.declared.entries.Event.TheVariants.{Begin, Ask, Reconfigure}
 use Rattle.sq_machine.specs.declared.entries.Told.{Told}
+use Rattle.sq_rules.specs.ConfText.{conf_result}
 use Rattle.sq_rules.specs.declared.kinds.ConfError.{ConfError}
 use Rattle.sq_rules.specs.Configurations.{Configuration}
 use Rattle.sq_machine.specs.Entries.{History, Noted, entry_at}
@@ -14,7 +15,6 @@ use Rattle.sq_machine.specs.Marking.{marked}
 use Rattle.sq_machine.specs.Readings.{current, epoch_after}
 use Rattle.sq_journal.specs.Journals.{epoch_at, greatest_number, next_number, number_at}
 use Rattle.sq_journal_writers.specs.Sinks.{epoch_behind}
-use Rattle.sq_replay.specs.ConfReading.{read_result}
 use Rattle.sq_replay.specs.Making.{is_refused}
 use Rattle.sq_replay.specs.Runs.{Is, IsMade, ScriptView}
 use Rattle.sq_verify.specs.declared.halts.Halt.{Halt}
@@ -156,6 +156,6 @@ none_is v old configs h line now (Ask conn method target fields) is (inr refused
 none_is v old configs h line now (Reconfigure text) is (inl fault) =
     ap (λ (r : Result Configuration ConfError). if_read r (asked_line v configs h line now (Reconfigure text))) fault.1
 none_is v old configs h line now (Reconfigure text) is (inr refused) =
-    none_read (read_result text) (asked_line v configs h line now (Reconfigure text))
+    none_read (conf_result text) (asked_line v configs h line now (Reconfigure text))
     (refused_asked v old configs h line now (Reconfigure text) is refused)
 none_is v old configs h line now event is none = refused_asked v old configs h line now event is none

@@ -1,3 +1,4 @@
+-- In the statement: docs/STATEMENT.md lists which definitions.
 -- The lines of a journal of either version. In version 2 the entry's number and its epoch stand
 -- before the entry's text.
 use Rattle.std.specs.Prelude.{ℕ, ◌+◌, List, ◌∷◌, Bool, ◌&&◌, bytes_eq, codes, option_map}

@@ -1,3 +1,4 @@
+-- In the statement: docs/STATEMENT.md lists which definitions.
 -- What a journal comes to: each line, one after another, against the line that the machine has for
 -- its event. The journal is verified where each is the machine's and there is one; else it ends at
 -- the first line that is not.
@@ -8,6 +9,7 @@ use Rattle.sq_request.specs.Written.{made_request}
 use Rattle.sq_machine.specs.declared.entries.Event.{Event}
 use Rattle.sq_machine.specs.declared.entries.Event.TheVariants.{Begin, Ask, Reconfigure}
 use Rattle.sq_machine.specs.declared.entries.Told.TheVariants as told
+use Rattle.sq_rules.specs.ConfText.{conf_result}
 use Rattle.sq_rules.specs.declared.kinds.ConfError.{ConfError}
 use Rattle.sq_rules.specs.Configurations.{Configuration}
 use Rattle.sq_machine.specs.Entries.{History, Noted, entry_at}
@@ -15,7 +17,6 @@ use Rattle.sq_machine.specs.Machine.{next}
 use Rattle.sq_machine.specs.Next.{Next, gives}
 use Rattle.sq_machine.specs.Marking.{marked}
 use Rattle.sq_machine.specs.Readings.{latest}
-use Rattle.sq_replay.specs.ConfReading.{read_result}
 use Rattle.sq_replay.specs.RunText.{with_config}
 use Rattle.sq_verify.specs.declared.findings.Finding.{Finding}
 use Rattle.sq_verify.specs.declared.findings.Finding.TheVariants as finding
@@ -59,7 +60,7 @@ event_line v configs h line now (Begin offset) = Err halt.NoLine
 event_line v configs h line now (Ask conn method target fields) =
     if_request (is_some (made_request method target 1 fields))
     (asked_line v configs h line now (Ask conn method target fields))
-event_line v configs h line now (Reconfigure text) = if_read (read_result text)
+event_line v configs h line now (Reconfigure text) = if_read (conf_result text)
     (asked_line v configs h line now (Reconfigure text))
 event_line v configs h line now event = asked_line v configs h line now event
 
@@ -130,7 +131,7 @@ judged_first v configs place (l ∷ ls) =
 
 -- behind these, the one that an event's text gives
 abbrev pub named_by : Event → List Configuration → List Configuration
-named_by (Reconfigure text) more = with_config (read_result text) more
+named_by (Reconfigure text) more = with_config (conf_result text) more
 named_by event more = more
 
 abbrev pub named_in : Option Noted → List Configuration → List Configuration

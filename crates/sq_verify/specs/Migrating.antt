@@ -1,3 +1,4 @@
+-- In the statement: docs/STATEMENT.md lists which definitions.
 -- A journal of version 1, read line by line, as one of version 2.
 use Rattle.std.specs.Prelude.{◌≡◌, ◌⊎◌, ℕ, ◌+◌, List, [], ◌∷◌, ◌++◌, length, Bool, true, false, not, ◌==◌, if◌then◌else◌, Result, Ok, Err, Some, None, IsErrOf, ◌≤◌}
 use Rattle.std.specs.declared.option.Option.{Option}

@@ -8,6 +8,7 @@ use Rattle.sq_request.specs.Written.{made_request}
 use Rattle.sq_machine.specs.declared.entries.Event.{Event}
 use Rattle.sq_machine.specs.declared.entries.Event.TheVariants.{Begin, Ask, Reconfigure}
 use Rattle.sq_machine.specs.declared.entries.Told.{Told}
+use Rattle.sq_rules.specs.ConfText.{conf_result}
 use Rattle.sq_rules.specs.declared.kinds.ConfError.{ConfError}
 use Rattle.sq_rules.specs.Configurations.{Configuration, IsConfiguration}
 use Rattle.sq_machine.specs.Entries.{History, Noted}
@@ -21,7 +22,6 @@ use Rattle.sq_conf.specs.declared.faults.ConfFault.{ConfFault}
 use Rattle.sq_conf.specs.declared.faults.ConfFault.TheVariants as conf
 use Rattle.sq_replay.specs.declared.stops.Stop.{Stop}
 use Rattle.sq_replay.specs.declared.stops.Stop.TheVariants as stop
-use Rattle.sq_replay.specs.ConfReading.{read_result}
 use Rattle.sq_replay.specs.Making.{is_refused}
 use Rattle.sq_replay.specs.Runs.{Is, IsMade, ScriptView}
 use Rattle.sq_verify.specs.declared.findings.Finding.{Finding}
@@ -47,13 +47,13 @@ stop_for conf.WantOfMemory = stop.WantOfMemory
 
 -- a text gives this configuration, or none
 abbrev pub Accepts : List ℕ → Result Configuration Stop → Type 0
-Accepts text (Ok config) = read_result text ≡ Ok config
-Accepts text (Err stop.Refused) = (e : ConfError) × (read_result text ≡ Err e)
+Accepts text (Ok config) = conf_result text ≡ Ok config
+Accepts text (Err stop.Refused) = (e : ConfError) × (conf_result text ≡ Err e)
 Accepts text (Err stop.WantOfMemory) = Unit {0}
 
 -- the configuration that an event's text gives is that of the next epoch
 abbrev pub HasNext : List Configuration → History → Event → Type 0
-HasNext configs h (Reconfigure text) = (config : Configuration) → read_result text ≡ Ok config
+HasNext configs h (Reconfigure text) = (config : Configuration) → conf_result text ≡ Ok config
     → config_of configs (suc (current h)) ≡ Some config
 HasNext configs h event = Unit {0}
 
@@ -66,7 +66,7 @@ IsNext configs h (Some e) = HasNext configs h e.event
 abbrev pub MayFollow : Event → Type 0
 MayFollow (Begin offset) = ⊥
 MayFollow (Ask conn method target fields) = is_some (made_request method target 1 fields) ≡ true
-MayFollow (Reconfigure text) = (config : Configuration) × (read_result text ≡ Ok config)
+MayFollow (Reconfigure text) = (config : Configuration) × (conf_result text ≡ Ok config)
 MayFollow event = Unit {0}
 
 -- it may not, or the machine refuses it after this history
@@ -76,7 +76,7 @@ IsNone configs h moment (Ask conn method target fields) =
     (made_request method target 1 fields ≡ None)
     ⊎ (is_refused (next configs (marked configs h) moment (Ask conn method target fields)) ≡ true)
 IsNone configs h moment (Reconfigure text) =
-    ((e : ConfError) × (read_result text ≡ Err e))
+    ((e : ConfError) × (conf_result text ≡ Err e))
     ⊎ (is_refused (next configs (marked configs h) moment (Reconfigure text)) ≡ true)
 IsNone configs h moment event = is_refused (next configs (marked configs h) moment event) ≡ true
 

@@ -1,13 +1,14 @@
+-- In the statement: docs/STATEMENT.md lists which definitions.
 -- What a history has to be that a journal of its text is verified.
 use Rattle.std.specs.Prelude.{ℕ, ◌≡◌, ◌≤◌, List, [], ◌∷◌, ◌++◌, length}
 use Rattle.sq_outside.specs.SourceLines.{total_limit}
 use Rattle.sq_machine.specs.declared.entries.Event.{Event}
 use Rattle.sq_machine.specs.declared.entries.Event.TheVariants.{Reconfigure}
+use Rattle.sq_rules.specs.ConfText.{conf_result}
 use Rattle.sq_rules.specs.Configurations.{Configuration}
 use Rattle.sq_machine.specs.Entries.{History}
 use Rattle.sq_machine.specs.Machine.{Legal}
 use Rattle.sq_journal.specs.Values.{IsNoted}
-use Rattle.sq_replay.specs.ConfReading.{read_result}
 use Rattle.sq_replay.specs.RunText.{with_config}
 use Rattle.sq_verify.specs.declared.findings.Finding.{Finding}
 use Rattle.sq_verify.specs.declared.findings.Finding.TheVariants as finding
@@ -18,7 +19,7 @@ use Rattle.sq_verify.specs.Promised.{MayFollow}
 
 -- the configuration that an event's text gives
 abbrev pub held_by : Event → List Configuration
-held_by (Reconfigure text) = with_config (read_result text) []
+held_by (Reconfigure text) = with_config (conf_result text) []
 held_by event = []
 
 -- those that the reconfigurations of a history hold, the oldest first

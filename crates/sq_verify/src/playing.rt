@@ -66,10 +66,7 @@ fn accept(alloc: Global, text: &[u8]) -> Result<Setup, Stop>
     ensures { Accepts text.now result }
 {
     match read_config(alloc, text) {
-        Ok(setup) => {
-            configuration_facts(&setup);
-            Ok(setup)
-        }
+        Ok(setup) => Ok(setup),
         Err(fault) => Err(stop_by(fault)),
     }
 }

@@ -3,7 +3,7 @@ use crate::fixtures::long_text;
 use KeeperEnd::{Ended, ReadFault, Told};
 use sq_base::{ProcNo, Text};
 use sq_keeper::{Handed, KeeperEnd, MemDesk, read_lines};
-use sq_outside::MemSource;
+use sq_outside_mem::MemSource;
 use std::alloc::Global;
 use std::sync::Wait;
 use std::test::Fail;

@@ -1,6 +1,7 @@
 //! The lines of a script, as a source gives them in pieces.
 use sq_base::{Text, WantOfMemory};
-use sq_outside::{Held, LineFound, MemSource, Unread, next_line};
+use sq_outside::{Held, LineFound, Unread, next_line};
+use sq_outside_mem::MemSource;
 use std::alloc::Global;
 use std::test::Fail;
 

@@ -16,7 +16,7 @@ use sq_desk::{Desk, DeskStart};
 use sq_journal::{print_entry, read_entry};
 use sq_journal_writers::MemJournal;
 use sq_machine::{Entry, Event, Offset, Told};
-use sq_outside::MemClock;
+use sq_outside_mem::MemClock;
 use sq_pools::{Pools, TagPools};
 use sq_shared::{Bank, ControlDesk, LockDesk, Room};
 use sq_urlmatch::Setup;

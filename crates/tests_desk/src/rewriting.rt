@@ -13,7 +13,7 @@ use sq_checks::Record;
 use sq_conn_policy::Hub;
 use sq_desk::{Desk, DeskStart};
 use sq_journal_writers::MemJournal;
-use sq_outside::MemClock;
+use sq_outside_mem::MemClock;
 use sq_pools::{Pools, TagPools};
 use sq_request::make_request;
 use sq_rewrite::{Got, RewriteAct, RewriteFault, Rewriter, Rewriting};

@@ -13,7 +13,7 @@ use sq_calls::DeskCalls;
 use sq_conn_policy::Hub;
 use sq_desk::{Desk, DeskStart};
 use sq_journal_writers::MemJournal;
-use sq_outside::MemClock;
+use sq_outside_mem::MemClock;
 use sq_pools::{Pools, TagPools};
 use sq_shared::{Bank, LockDesk, Room, changes, is_awaited, set_done, tell_end, wait_due};
 use sq_urlmatch::Setup;

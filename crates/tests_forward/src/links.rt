@@ -5,7 +5,7 @@ use sq_base::{Addr, Copying, Field, Fields, Request, Text};
 use sq_conf::read_config;
 use sq_facts::read_facts;
 use sq_forward::{Ahead, Half, MemMeter};
-use sq_outside::{MemSink, MemSource};
+use sq_outside_mem::{MemSink, MemSource};
 use sq_request::make_request;
 use sq_rules::{Facts, Sight};
 use sq_urlmatch::Setup;

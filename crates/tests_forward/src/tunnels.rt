@@ -2,7 +2,7 @@
 use crate::links::{half, meter, sink};
 use Tunnelled::{ClientFault, Ended, OriginFault, Starved};
 use sq_forward::{Tunnelled, tunnel};
-use sq_outside::{MemOut, Wire};
+use sq_outside_mem::{MemOut, Wire};
 use std::alloc::Global;
 use std::process::Abort;
 use std::sync::Wait;

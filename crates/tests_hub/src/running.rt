@@ -5,7 +5,7 @@ use sq_conf::read_config;
 use sq_conn_policy::HubFront;
 use sq_forward::{Ahead, Half};
 use sq_mem_hub::MemHub;
-use sq_outside::{MemDialer, MemOrigin, MemOut, MemPair, MemShape, MemSink, MemSource, Wire};
+use sq_outside_mem::{MemDialer, MemOrigin, MemOut, MemPair, MemShape, MemSink, MemSource, Wire};
 use sq_session::{SessionEnd, session};
 use std::alloc::Global;
 use std::process::Abort;

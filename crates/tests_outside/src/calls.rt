@@ -2,9 +2,9 @@
 
 use sq_base::{Text, WantOfMemory};
 use sq_outside::{
-    COUNT_LIMIT, Calls, Failed, Files, MemFile, MemFiles, MemSink, MemSource, Sink, Source,
-    read_file, read_whole, write_all, write_line,
+    COUNT_LIMIT, Calls, Failed, Files, Sink, Source, read_file, read_whole, write_all, write_line,
 };
+use sq_outside_mem::{MemFile, MemFiles, MemSink, MemSource};
 use std::alloc::Global;
 use std::test::Fail;
 

@@ -2,7 +2,7 @@
 use crate::job::End::{Done, Fault};
 use crate::job::{Ended, Part, Wires, job, net};
 use sq_base::WantOfMemory;
-use sq_outside::Wire;
+use sq_outside_mem::Wire;
 use std::alloc::Global;
 use std::sync::atomic::AtomicBool;
 use std::test::Fail;

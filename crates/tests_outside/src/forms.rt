@@ -2,8 +2,10 @@
 use crate::job::{Part, Wires, helper, link, net, stops};
 use sq_base::{Addr, Addrs, Moment, Text, WantOfMemory};
 use sq_outside::{
-    Another, Clock, Dialer, LookFault, MemChild, MemClock, MemDialer, MemName, MemOrigin,
-    MemResolver, MemSpawner, MemWait, Out, Resolver, Source, Spawner, Wire, write_all,
+    Another, Clock, Dialer, LinkUse, LookFault, Out, Resolver, Source, Spawner, write_all,
+};
+use sq_outside_mem::{
+    MemChild, MemClock, MemDialer, MemName, MemOrigin, MemResolver, MemSpawner, MemWait, Wire,
 };
 use std::alloc::Global;
 use std::process::Abort;
@@ -40,7 +42,7 @@ fn is_reached<'a>(
     port: u16,
 ) -> Result<bool, WantOfMemory> {
     let host = Text::from_slice(alloc, host)?;
-    match dialer.dial(alloc, &host, port) {
+    match dialer.dial(alloc, &host, port, LinkUse::Exchange) {
         Ok((from, to)) => {
             dialer.give_back(from, to);
             Ok(true)

@@ -1,9 +1,12 @@
 //! One job over all objects of a net in memory, of which one call is to fail.
 use sq_base::{Addr, Moment, Text, WantOfMemory};
 use sq_outside::{
-    Accepted, Dialer, Listener, MemChild, MemClock, MemDialer, MemLink, MemListener, MemName,
-    MemNet, MemOrigin, MemOut, MemPair, MemParts, MemResolver, MemShape, MemSpawner, Net, Out,
-    Parts, Resolver, Spawner, Stopper, Wire, read_whole, write_all,
+    Accepted, Dialer, LinkUse, Listener, Net, Out, Parts, Resolver, Spawner, Stopper, read_whole,
+    write_all,
+};
+use sq_outside_mem::{
+    MemChild, MemClock, MemDialer, MemLink, MemListener, MemName, MemNet, MemOrigin, MemOut,
+    MemPair, MemParts, MemResolver, MemShape, MemSpawner, Wire,
 };
 use std::alloc::Global;
 use std::sync::atomic::AtomicBool;
@@ -241,7 +244,9 @@ fn exchange<'a>(
     to_client: &mut MemOut<'a>,
 ) -> Result<(), Part> {
     let host = Text::from_slice(alloc, b"a.example").or(Err(Part::Net))?;
-    let (mut from, mut to) = dialer.dial(alloc, &host, 80).or(Err(Part::Dialer))?;
+    let (mut from, mut to) = dialer
+        .dial(alloc, &host, 80, LinkUse::Exchange)
+        .or(Err(Part::Dialer))?;
     let sent = write_all(&mut to, request.as_bytes());
     to.close();
     let reply = match sent {

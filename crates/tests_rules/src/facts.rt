@@ -97,7 +97,7 @@ fn acls(alloc: Global) -> Result<AclParts, WantOfMemory> {
 }
 
 /// The configuration of these acls alone, where they are not too many.
-#[tactic(auto, using(sq_rules::proofs::LookupLaws::unmade_most))]
+#[tactic(auto, using(sq_rules::proofs::LookupLaws::stated_most))]
 fn setup(alloc: Global, acls: AclParts) -> Result<Setup, Fail> {
     if acls.len() > 4_096 {
         return Err(Fail::new("too many acls"));

@@ -108,7 +108,7 @@ fn a_key_tells_the_request_its_fields_and_the_acl(rt: HostRuntime) -> Result<(),
 }
 
 /// The configuration of these classes and acls alone, where they are not too many.
-#[tactic(auto, using(sq_rules::proofs::LookupLaws::unmade_most))]
+#[tactic(auto, using(sq_rules::proofs::LookupLaws::stated_most))]
 fn config_of(alloc: Global, classes: Classes, acls: AclParts) -> Result<Config, Fail> {
     if classes.len() > 64 || acls.len() > 4_096 {
         return Err(Fail::new("too many parts"));

@@ -1,11 +1,13 @@
 //! Parts of configurations: what they state, and their first faults.
 ghost use Rattle.std.specs.Prelude.{◌≡◌, ◌∷◌, [], true, IfOk};
 ghost use Rattle.sq_rules.specs.Building.{AreWithin};
+ghost use Rattle.sq_rules.specs.Configurations.{is_rewriter};
 
 use sq_base::{Listed, Text, Texts};
 use sq_rules::{
-    AclPart, AclParts, BodyPart, BuildFault, Class, Classes, Config, HeaderPart, Leaf, Limits,
-    LineParts, Parts, PoolPart, PoolParts, RulePart, RuleParts, TermPart, TermParts, Token,
+    AclPart, AclParts, Body, BodyPart, BuildFault, Class, Classes, Config, HeaderPart, Leaf,
+    Limits, LineParts, Parts, PoolPart, PoolParts, RulePart, RuleParts, TermPart, TermParts, Token,
+    literal_leaf, lookup_class,
 };
 use std::alloc::Global;
 use std::test::Fail;
@@ -224,11 +226,24 @@ fn digit(place: u32) -> &'static [u8] {
     }
 }
 
+/// Whether the class that rewrites, where there is one, has its name and a program.
+fn is_rewriter(rewriter: &Option<Class>) -> bool
+    ensures { result ≡ is_rewriter rewriter.now }
+{
+    match rewriter {
+        None => true,
+        Some(class) => class.name.as_bytes() == b"url rewrite".as_slice() && 0 < class.words.len(),
+    }
+}
+
 /// Whether parts are no more than there may be.
-#[tactic(auto, using(sq_rules::proofs::LookupLaws::unmade_most, sq_rules::proofs::LookupLaws::classes_least))]
+#[tactic(auto, using(sq_rules::proofs::LookupLaws::stated_most, sq_rules::proofs::LookupLaws::classes_least))]
 fn are_few(parts: &Parts) -> bool
     ensures { result ≡ true → AreWithin parts.now }
 {
+    if !is_rewriter(&parts.rewriter) {
+        return false;
+    }
     parts.source.len() <= 1_048_576
         && parts.classes.len() <= 64
         && parts.acls.len() <= 4_096
@@ -289,6 +304,93 @@ fn parts_have_this_first_fault(rt: HostRuntime) -> Result<(), Fail> {
             "{why}"
         );
     }
+    Ok(())
+}
+
+/// The terms that the names between `;` name, with `!` before some.
+fn named_terms(alloc: Global, names: &str) -> Result<TermParts, Fail> {
+    let mut terms = TermParts::new(alloc);
+    for name in names.split(';') {
+        let bare = name.trim_start_matches('!');
+        terms.push(TermPart {
+            acl: Text::from_slice(alloc, bare.as_bytes())?,
+            negated: bare.len() < name.len(),
+        })?;
+    }
+    Ok(terms)
+}
+
+/// A list of every address.
+fn all_hosts(alloc: Global) -> Result<BodyPart, Fail> {
+    match literal_leaf(alloc)? {
+        Body::Leaf(leaf) => Ok(BodyPart::Leaf(leaf)),
+        _ => Err(Fail::new("no list")),
+    }
+}
+
+/// Adds a list of this name.
+fn add_acl(alloc: Global, parts: &mut Parts, name: &str, body: BodyPart) -> Result<(), Fail> {
+    let name = Text::from_slice(alloc, name.as_bytes())?;
+    parts.acls.push(AclPart { name, body })?;
+    Ok(())
+}
+
+/// Adds the class of look-ups, `dst literal`, and the four lists of one of type `dst`.
+fn add_lookups(alloc: Global, parts: &mut Parts) -> Result<(), Fail> {
+    parts.dst_lookup = true;
+    parts.classes.push(lookup_class(alloc)?)?;
+    add_acl(alloc, parts, "dst literal", all_hosts(alloc)?)?;
+    add_acl(alloc, parts, "x literal", all_hosts(alloc)?)?;
+    let asking = BodyPart::External {
+        class: Text::from_slice(alloc, b"dst lookup")?,
+        arguments: Texts::new(alloc),
+    };
+    add_acl(alloc, parts, "x lookup", asking)?;
+    let mut lines = LineParts::new(alloc);
+    lines.push(named_terms(alloc, "!dst literal;x lookup")?)?;
+    add_acl(alloc, parts, "x named", BodyPart::AllOf(lines))?;
+    let either = named_terms(alloc, "x literal;x named")?;
+    add_acl(alloc, parts, "x", BodyPart::AnyOf(either))
+}
+
+/// The class of a program that rewrites.
+fn rewriter(alloc: Global) -> Result<Class, Fail> {
+    let name = Text::from_slice(alloc, b"url rewrite")?;
+    let mut words = Texts::new(alloc);
+    words.push(Text::from_slice(alloc, b"/bin/r")?)?;
+    Ok(Class {
+        name,
+        words,
+        ..class(alloc, b'r')?
+    })
+}
+
+/// Parts with look-ups, a program that rewrites, and a rule for the field `Via`.
+fn whole_parts(alloc: Global) -> Result<Parts, Fail> {
+    let mut parts = no_parts(alloc);
+    add_lookups(alloc, &mut parts)?;
+    parts.rewriter = Some(rewriter(alloc)?);
+    parts.headers.push(HeaderPart {
+        reply: true,
+        name: Text::from_slice(alloc, b"Via")?,
+        rule: rule(alloc, false, b"")?,
+    })?;
+    Ok(parts)
+}
+
+#[test]
+fn parts_with_look_ups_a_rewriter_and_a_field_are_given_back(rt: HostRuntime) -> Result<(), Fail> {
+    let alloc = rt.alloc();
+    let parts = whole_parts(alloc)?;
+    if !are_few(&parts) {
+        return Err(Fail::new("too many parts"));
+    }
+    let config = Config::build(alloc, parts)?;
+    assert!(rt; config.dst_lookup() && config.classes().len() == 1 && config.acls().len() == 5);
+    assert!(rt; matches!(config.rewriter(), Some(class) if class.words.len() == 1));
+    assert!(rt;
+        matches!(config.headers(), [header] if header.reply && header.name.as_bytes() == b"via".as_slice())
+    );
     Ok(())
 }
 

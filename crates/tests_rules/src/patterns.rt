@@ -48,7 +48,7 @@ fn list(alloc: Global, name: &[u8], patterns: &str) -> Result<AclPart, Fail> {
 }
 
 /// A configuration with these two lists of patterns.
-#[tactic(auto, using(sq_rules::proofs::LookupLaws::unmade_most))]
+#[tactic(auto, using(sq_rules::proofs::LookupLaws::stated_most))]
 fn setup(alloc: Global, first: &str, second: &str) -> Result<Result<Setup, SetupFault>, Fail> {
     let mut acls = AclParts::new(alloc);
     acls.push(list(alloc, b"first", first)?)?;

@@ -3,7 +3,8 @@ ghost use Rattle.std.specs.Prelude.{None};
 ghost use Rattle.std.proofs.Common.{arith};
 
 use sq_base::Text;
-use sq_outside::{Failed, Files, NoOpen, Source, Wire};
+use sq_outside::{Failed, Files, NoOpen, Source};
+use sq_outside_mem::Wire;
 use std::alloc::Global;
 use std::thread;
 

@@ -1,7 +1,7 @@
 //! Jobs of commands over files and a sink in memory.
 
 use sq_base::{Text, WantOfMemory};
-use sq_outside::{MemFile, MemFiles, MemSink};
+use sq_outside_mem::{MemFile, MemFiles, MemSink};
 use sq_proxy::{Status, run_command};
 use std::alloc::Global;
 

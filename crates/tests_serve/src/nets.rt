@@ -2,7 +2,7 @@
 //! names.
 use crate::spawners::PairedNet;
 use sq_base::{Addr, Addrs, Moment, Text, WantOfMemory};
-use sq_outside::{
+use sq_outside_mem::{
     MemChild, MemClock, MemDialer, MemLink, MemName, MemNet, MemOrigin, MemPair, MemParts,
     MemResolver, MemShape, MemSpawner, MemWait, Wire,
 };

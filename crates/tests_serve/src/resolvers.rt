@@ -3,7 +3,8 @@ ghost use Rattle.std.specs.Prelude.{◌≤◌, None};
 ghost use Rattle.sq_outside.specs.Causes.{count_limit};
 
 use sq_base::{Addrs, Text};
-use sq_outside::{Another, LookFault, MemResolver, Resolver, raised};
+use sq_outside::{Another, LookFault, Resolver, raised};
+use sq_outside_mem::MemResolver;
 use std::alloc::Global;
 
 /// A resolver in memory, and how often no address was found.

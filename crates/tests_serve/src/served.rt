@@ -6,7 +6,7 @@ use sq_base::{Text, WantOfMemory};
 use sq_cache::HashSeed;
 use sq_journal::print_entry;
 use sq_journal_writers::MemJournal;
-use sq_outside::{MemName, MemSink, Wire};
+use sq_outside_mem::{MemName, MemSink, Wire};
 use sq_proxy::proxy;
 use std::alloc::Global;
 use std::process::Abort;

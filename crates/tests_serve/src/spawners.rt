@@ -1,13 +1,13 @@
 //! A net in memory whose spawner has a copy with children of its own, and whose resolver fails for hosts without an address.
 ghost use Rattle.std.specs.Prelude.{◌≡◌, ◌≤◌, None};
 ghost use Rattle.sq_outside.specs.Causes.{count_limit};
-ghost use Rattle.sq_outside.specs.MemoryNet.{net_faults};
+ghost use Rattle.sq_outside_mem.specs.MemoryNet.{net_faults};
 
 use crate::resolvers::StrictResolver;
 use sq_base::Text;
-use sq_outside::{
-    Another, Failed, MemChildOut, MemClock, MemDialer, MemListener, MemNet, MemOut, MemSpawner,
-    MemStopper, Net, Parts, Spawner, raised,
+use sq_outside::{Another, Failed, Net, Parts, Spawner, raised};
+use sq_outside_mem::{
+    MemChildOut, MemClock, MemDialer, MemListener, MemNet, MemOut, MemSpawner, MemStopper,
 };
 use std::alloc::Global;
 use std::sync::Mutex;
@@ -100,7 +100,7 @@ impl<'a> PairedNet<'a> {
 }
 
 impl<'a> Net for PairedNet<'a> {
-    ghost use Rattle.sq_outside.specs.MemoryNet.{net_faults};
+    ghost use Rattle.sq_outside_mem.specs.MemoryNet.{net_faults};
 
     type L = MemListener<'a>;
 

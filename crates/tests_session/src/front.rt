@@ -18,7 +18,7 @@ use sq_outside::{raised, raised_by};
 use sq_reply::read_reply;
 use sq_rewrite::{Rewriting, rewriting_of};
 use sq_rules::{Sight, Value};
-use sq_session::{CloseFault, Counts, Decided, Front, Opened, Rewritten, SitFault, seat_place};
+use sq_session::{CloseFault, Counts, Decided, Front, Opened, Rewritten, SitFault};
 use std::alloc::Global;
 use std::marker::Brand;
 use std::process::Abort;
@@ -280,6 +280,10 @@ impl Meter for MemFront {
 
     ghost capped = { λ f. f.granted_capped };
 
+    fn is_seated(&self) -> bool {
+        self.seated
+    }
+
     fn grant(&mut self, wanted: u64) -> u64 {
         let given = if self.seated {
             wanted.min(self.room.first)
@@ -358,7 +362,7 @@ impl Front for MemFront {
 
     fn sit(&mut self, alloc: Global, judged: &Record) -> Result<(), SitFault> {
         match self.next() {
-            None => match seat_place(alloc, judged) {
+            None => match judged.seat_place(alloc) {
                 Ok(place) => {
                     self.seated = is_seated(&place);
                     Ok(())

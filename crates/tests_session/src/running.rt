@@ -6,7 +6,7 @@ use crate::front::{MemFront, Other, Told, config_with};
 use Place::{ClientRead, ClientWrite, Dial, Front, OriginRead, OriginWrite};
 use sq_base::{Copying, Text};
 use sq_forward::{Ahead, Half};
-use sq_outside::{MemDialer, MemOrigin, MemOut, MemPair, MemShape, MemSink, MemSource, Wire};
+use sq_outside_mem::{MemDialer, MemOrigin, MemOut, MemPair, MemShape, MemSink, MemSource, Wire};
 use sq_session::{SessionEnd, session};
 use std::alloc::Global;
 use std::process::Abort;

@@ -1,12 +1,13 @@
 //! What several tests share: a long text, and both ends of a link on this machine.
 use sq_base::{Text, WantOfMemory};
 use sq_outside::{
-    Accepted, Clock, Dialer, Failed, Listener, Out, Sink, Source, read_whole, write_all,
+    Accepted, Clock, Dialer, Failed, LinkUse, Listener, Out, Sink, Source, read_whole, write_all,
 };
 use sq_system::{RealDialer, RealIn, RealListener, RealOut};
 use std::alloc::Global;
 use std::net::{Net, TcpStream};
 use std::rt::Files;
+use std::thread::Threads;
 use std::time;
 
 /// How many bytes each side sends.
@@ -47,7 +48,7 @@ pub fn receives<S: Source>(alloc: Global, from: &mut S, mark: u8) -> bool {
 pub type Halves<R> = (RealIn<R>, RealOut<R>);
 
 /// Dials this machine by this host.
-pub fn dials<R: Net<Stream = TcpStream> + time::Clock + Files + Copy + Send + Drop>(
+pub fn dials<R: Net<Stream = TcpStream> + time::Clock + Files + Threads + Copy + Send + Drop>(
     alloc: Global,
     dialer: &mut RealDialer<R>,
     host: &[u8],
@@ -56,7 +57,7 @@ pub fn dials<R: Net<Stream = TcpStream> + time::Clock + Files + Copy + Send + Dr
     let Ok(host) = Text::from_slice(alloc, host) else {
         return Err(Failed);
     };
-    dialer.dial(alloc, &host, port)
+    dialer.dial(alloc, &host, port, LinkUse::Exchange)
 }
 
 /// The halves of the next link, if one came.

@@ -166,7 +166,7 @@ fn programs_end_with_their_server(rt: HostRuntime) -> Result<(), Fail> {
         answer: Duration::from_secs(60),
         ..short()
     };
-    let net = RealListener::listen(alloc, rt, 0, times).ok_or("no port")?;
+    let net = RealListener::listen(alloc, rt, 0, times).or(Err("no port"))?;
     let mut spawner = net.spawner;
     let mut clock = RealClock::new(rt);
     let command = words(alloc, &[b"sh", b"-c", b"cat > /dev/null; true"])?;

@@ -44,7 +44,7 @@ fn fails_after<S: Source, C: Clock>(from: &mut S, clock: &mut C) -> u64 {
 fn a_silent_link_fails_in_time(rt: HostRuntime) -> Result<(), Fail> {
     let alloc = rt.alloc();
     let mut listener = RealListener::listen(alloc, rt, 0, silent())
-        .ok_or("no port")?
+        .or(Err("no port"))?
         .listener;
     let port = listener.port().ok_or("no port")?;
     let mut dialer = RealDialer::new(rt, silent());
@@ -73,7 +73,7 @@ fn a_silent_link_fails_in_time(rt: HostRuntime) -> Result<(), Fail> {
 fn what_is_written_keeps_the_half_that_is_read(rt: HostRuntime) -> Result<(), Fail> {
     let alloc = rt.alloc();
     let mut listener = RealListener::listen(alloc, rt, 0, short())
-        .ok_or("no port")?
+        .or(Err("no port"))?
         .listener;
     let port = listener.port().ok_or("no port")?;
     let mut dialer = RealDialer::new(rt, silent());
@@ -97,7 +97,7 @@ fn what_is_written_keeps_the_half_that_is_read(rt: HostRuntime) -> Result<(), Fa
 #[test]
 fn a_link_gives_way_where_it_is_wanted(rt: HostRuntime) -> Result<(), Fail> {
     let alloc = rt.alloc();
-    let mut net = RealListener::listen(alloc, rt, 0, short()).ok_or("no port")?;
+    let mut net = RealListener::listen(alloc, rt, 0, short()).or(Err("no port"))?;
     let port = net.listener.port().ok_or("no port")?;
     let mut clock = RealClock::new(rt);
     let mut clients = RealDialer::new(rt, LinkTimes::of_server());
@@ -126,7 +126,7 @@ fn a_link_gives_way_where_it_is_wanted(rt: HostRuntime) -> Result<(), Fail> {
 fn a_link_stays_where_somebody_waits_for_the_next(rt: HostRuntime) -> Result<(), Fail> {
     let alloc = rt.alloc();
     let mut listener = RealListener::listen(alloc, rt, 0, silent())
-        .ok_or("no port")?
+        .or(Err("no port"))?
         .listener;
     let port = listener.port().ok_or("no port")?;
     let mut clients = RealDialer::new(rt, LinkTimes::of_server());
@@ -144,10 +144,10 @@ fn a_link_stays_where_somebody_waits_for_the_next(rt: HostRuntime) -> Result<(),
 #[test]
 fn what_was_dialled_ends_with_its_client(rt: HostRuntime) -> Result<(), Fail> {
     let alloc = rt.alloc();
-    let mut net = RealListener::listen(alloc, rt, 0, short()).ok_or("no port")?;
+    let mut net = RealListener::listen(alloc, rt, 0, short()).or(Err("no port"))?;
     let port = net.listener.port().ok_or("no port")?;
     let origins = RealListener::listen(alloc, rt, 0, short())
-        .ok_or("no port")?
+        .or(Err("no port"))?
         .listener;
     let theirs = origins.port().ok_or("no port")?;
     let mut clock = RealClock::new(rt);
@@ -173,7 +173,7 @@ fn what_was_dialled_ends_with_its_client(rt: HostRuntime) -> Result<(), Fail> {
 #[test]
 fn links_end_with_their_server(rt: HostRuntime) -> Result<(), Fail> {
     let alloc = rt.alloc();
-    let mut net = RealListener::listen(alloc, rt, 0, short()).ok_or("no port")?;
+    let mut net = RealListener::listen(alloc, rt, 0, short()).or(Err("no port"))?;
     let port = net.listener.port().ok_or("no port")?;
     let mut clock = RealClock::new(rt);
     let mut clients = RealDialer::new(rt, LinkTimes::of_server());
@@ -184,7 +184,7 @@ fn links_end_with_their_server(rt: HostRuntime) -> Result<(), Fail> {
     assert!(rt; matches!(net.listener.next(alloc), Accepted::Stopped));
     assert!(rt; dials(alloc, &mut clients, b"127.0.0.1", port).is_err());
     // The port is free, while its links go on.
-    assert!(rt; RealListener::listen(alloc, rt, port, short()).is_some());
+    assert!(rt; RealListener::listen(alloc, rt, port, short()).is_ok());
     let time = fails_after(&mut from, &mut clock);
     assert!(rt; time < 2500, "an idle one after {time}");
     for _ in 0..3000 {

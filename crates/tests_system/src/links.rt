@@ -22,7 +22,7 @@ fn replies<R: time::Clock + Files + Copy + Send + Drop>(
 #[test]
 fn each_side_sends_1_mib_and_closes(rt: HostRuntime) -> Result<(), Fail> {
     let alloc = rt.alloc();
-    let net = RealListener::listen(alloc, rt, 0, LinkTimes::of_server()).ok_or("no port")?;
+    let net = RealListener::listen(alloc, rt, 0, LinkTimes::of_server()).or(Err("no port"))?;
     let listener = net.listener;
     let port = listener.port().ok_or("no port")?;
     let other = thread::spawn(&rt, move || replies(alloc, listener))?;
@@ -64,7 +64,7 @@ fn a_listener_that_waits_is_stopped(rt: HostRuntime) -> Result<(), Fail> {
 #[test]
 fn clients_come_from_their_address(rt: HostRuntime) -> Result<(), Fail> {
     let alloc = rt.alloc();
-    let net = RealListener::listen(alloc, rt, 0, LinkTimes::of_server()).ok_or("no port")?;
+    let net = RealListener::listen(alloc, rt, 0, LinkTimes::of_server()).or(Err("no port"))?;
     let mut listener = net.listener;
     let port = listener.port().ok_or("no port")?;
     let mut dialer = RealDialer::new(rt, LinkTimes::of_server());

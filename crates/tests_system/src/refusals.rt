@@ -61,7 +61,7 @@ fn a_port_is_taken_once_and_free_again(rt: HostRuntime) -> Result<(), Fail> {
     let mut net = RealNet::new(rt);
     let parts = net.parts(alloc, 0)?;
     let port = parts.listener.port().ok_or("no port")?;
-    assert!(rt; RealListener::listen(alloc, rt, port, LinkTimes::of_server()).is_none());
+    assert!(rt; RealListener::listen(alloc, rt, port, LinkTimes::of_server()).is_err());
     assert!(rt; net.parts(alloc, port).is_err());
     let mut dialer = parts.dialer;
     assert!(rt; dials(alloc, &mut dialer, b"127.0.0.1", port).is_ok());

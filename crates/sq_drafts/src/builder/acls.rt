@@ -5,7 +5,7 @@ ghost use Rattle.sq_rules.specs.Changes.{type_at, with_member_at};
 ghost use Rattle.sq_rules.specs.Configurations.{are_shallow, slow_ones};
 ghost use Rattle.sq_rules.specs.Drafts.{are_fast, are_patterns, with_acl_more, with_body, with_leaf, with_line, with_member};
 ghost use Rattle.sq_rules.specs.Limits.{acl_limit, most_acls};
-ghost use Rattle.sq_rules.specs.Lookups.{has_blank, is_dst, stated, takes_members};
+ghost use Rattle.sq_rules.specs.Lookups.{has_blank, is_dst, stated_acls, takes_members};
 ghost use Rattle.sq_rules.specs.declared.configs.Body.TheVariants as body;
 
 use crate::builder::Builder;
@@ -33,9 +33,14 @@ impl Builder {
 
     /// Whether one acl more may stand.
     pub fn has_room_for_acl(&self) -> bool
-        ensures { result ≡ nat_lt (stated self.now.acls) acl_limit }
+        ensures { result ≡ nat_lt (stated_acls self.now.dst_lookup self.now.acls) acl_limit }
     {
-        self.acls.stated() < ACL_LIMIT
+        let stated = if self.dst_lookup {
+            self.acls.unmade()
+        } else {
+            self.acls.len()
+        };
+        stated < ACL_LIMIT
     }
 
     /// The type of the acl at a place.
@@ -56,7 +61,7 @@ impl Builder {
     /// A new acl of values.
     pub fn push_leaf(&mut self, alloc: Global, name: Text, leaf: Leaf) -> Result<(), WantOfMemory>
         requires free { place_of self.old.acls name ≡ None }
-        requires room { nat_lt (stated self.old.acls) acl_limit ≡ true }
+        requires room { nat_lt (stated_acls self.old.dst_lookup self.old.acls) acl_limit ≡ true }
         requires word { has_blank name ≡ false }
         requires patterns { are_patterns leaf ≡ true }
         requires plain { (self.old.dst_lookup && is_dst (body.Leaf leaf)) ≡ false }
@@ -75,7 +80,7 @@ impl Builder {
         arguments: Texts,
     ) -> Result<(), WantOfMemory>
         requires free { place_of self.old.acls name ≡ None }
-        requires room { nat_lt (stated self.old.acls) acl_limit ≡ true }
+        requires room { nat_lt (stated_acls self.old.dst_lookup self.old.acls) acl_limit ≡ true }
         requires word { has_blank name ≡ false }
         requires class { class < length self.old.classes }
         ensures ok { OnOk result
@@ -89,7 +94,7 @@ impl Builder {
     /// A new group that holds where some member does, with no member yet.
     pub fn push_any_of(&mut self, alloc: Global, name: Text) -> Result<(), WantOfMemory>
         requires free { place_of self.old.acls name ≡ None }
-        requires room { nat_lt (stated self.old.acls) acl_limit ≡ true }
+        requires room { nat_lt (stated_acls self.old.dst_lookup self.old.acls) acl_limit ≡ true }
         requires word { has_blank name ≡ false }
         ensures ok { OnOk result (self.new ≡ with_acl_more name (body.AnyOf []) self.old) }
         ensures err { OnErr result (self.new ≡ self.old) }
@@ -102,7 +107,7 @@ impl Builder {
     /// A new group that holds where all members of some line do, with no line yet.
     pub fn push_all_of(&mut self, alloc: Global, name: Text) -> Result<(), WantOfMemory>
         requires free { place_of self.old.acls name ≡ None }
-        requires room { nat_lt (stated self.old.acls) acl_limit ≡ true }
+        requires room { nat_lt (stated_acls self.old.dst_lookup self.old.acls) acl_limit ≡ true }
         requires word { has_blank name ≡ false }
         ensures ok { OnOk result (self.new ≡ with_acl_more name (body.AllOf []) self.old) }
         ensures err { OnErr result (self.new ≡ self.old) }

@@ -1,6 +1,6 @@
 //! Rules for the fields of heads.
 ghost use Rattle.std.specs.Prelude.{◌≡◌, ◌++◌, ◌∷◌, [], true, length, nat_lt, OnOk, OnErr};
-ghost use Rattle.sq_rules.specs.Configurations.{is_header};
+ghost use Rattle.sq_rules.specs.Configurations.{is_header, is_lower};
 ghost use Rattle.sq_rules.specs.Limits.{header_limit};
 
 use crate::builder::Builder;
@@ -15,10 +15,11 @@ impl Builder {
         self.headers.len() < HEADER_LIMIT
     }
 
-    /// One rule more for fields, whose terms name acls that stand and are not slow.
+    /// One rule more for fields, whose name is in lower case, and whose terms name acls that stand and are not slow.
     pub fn push_header(&mut self, header: HeaderRule) -> Result<(), WantOfMemory>
         requires room { nat_lt (length self.old.headers) header_limit ≡ true }
         requires fast { is_header self.old.acls header ≡ true }
+        requires lower { is_lower header ≡ true }
         ensures ok { OnOk result
             (self.new ≡ record self.old { headers = self.old.headers ++ header ∷ [] }) }
         ensures err { OnErr result (self.new ≡ self.old) }

@@ -1,16 +1,15 @@
 //! Acls of type `dst` where the names of hosts are looked up.
-ghost use Rattle.std.specs.Prelude.{◌≡◌, true, false, length, nat_lt, None, IfOk, OnOk};
+ghost use Rattle.std.specs.Prelude.{◌≡◌, true, false, length, nat_lt, None, IfOk, OnErr, OnOk};
 ghost use Rattle.sq_rules.specs.AclLines.{are_free};
 ghost use Rattle.sq_rules.specs.Building.{place_of};
 ghost use Rattle.sq_rules.specs.Drafts.{with_lookup};
 ghost use Rattle.sq_rules.specs.Limits.{acl_limit};
-ghost use Rattle.sq_rules.specs.Lookups.{has_blank, stated};
+ghost use Rattle.sq_rules.specs.Lookups.{has_blank, stated_acls};
 
 use crate::builder::Builder;
 use sq_base::{Ranges, Text, WantOfMemory};
 use sq_rules::{literal_name, lookup_name, named_name};
 use std::alloc::Global;
-use std::mem;
 
 impl Builder {
     /// Whether names are looked up.
@@ -35,20 +34,7 @@ impl Builder {
         )
     }
 
-    // The builder with the four acls of one of type dst.
-    fn with_lookup(self, alloc: Global, name: Text, values: Ranges) -> Result<Builder, WantOfMemory>
-        requires on { self.dst_lookup ≡ true }
-        requires free { place_of self.acls name ≡ None }
-        requires made { are_free self.acls name ≡ true }
-        requires room { nat_lt (stated self.acls) acl_limit ≡ true }
-        requires word { has_blank name ≡ false }
-        ensures { IfOk result (λ b. b ≡ with_lookup name values self) }
-    {
-        let acls = self.acls.with_lookup(alloc, name, values)?;
-        Ok(Builder { acls, ..self })
-    }
-
-    /// A new acl of type `dst`, which is four, whose names are free. Where memory ran out, nothing is stated any more.
+    /// A new acl of type `dst`, which is four, whose names are free.
     pub fn push_lookup(
         &mut self,
         alloc: Global,
@@ -58,12 +44,11 @@ impl Builder {
         requires on { self.old.dst_lookup ≡ true }
         requires free { place_of self.old.acls name ≡ None }
         requires made { are_free self.old.acls name ≡ true }
-        requires room { nat_lt (stated self.old.acls) acl_limit ≡ true }
+        requires room { nat_lt (stated_acls self.old.dst_lookup self.old.acls) acl_limit ≡ true }
         requires word { has_blank name ≡ false }
-        ensures { OnOk result (self.new ≡ with_lookup name values self.old) }
+        ensures ok { OnOk result (self.new ≡ with_lookup name values self.old) }
+        ensures err { OnErr result (self.new ≡ self.old) }
     {
-        let before = mem::replace(self, Builder::nothing(alloc));
-        *self = before.with_lookup(alloc, name, values)?;
-        Ok(())
+        self.acls.push_lookup(alloc, name, values)
     }
 }

@@ -1,5 +1,6 @@
 //! The program that rewrites targets.
-ghost use Rattle.std.specs.Prelude.{◌≡◌, is_some, Some};
+ghost use Rattle.std.specs.Prelude.{◌≡◌, true, is_some, length, nat_lt, Some};
+ghost use Rattle.sq_rules.specs.Configurations.{is_rewriter_class};
 
 use crate::builder::Builder;
 use sq_base::Texts;
@@ -13,8 +14,9 @@ impl Builder {
         self.program.is_some()
     }
 
-    /// Sets the words of the program that rewrites.
+    /// Sets the words of the program that rewrites, one or more.
     pub fn set_program(&mut self, words: Texts)
+        requires { nat_lt 0 (length words) ≡ true }
         ensures { self.new ≡ record self.old { program = Some words } }
     {
         self.program = Some(words);
@@ -27,8 +29,9 @@ impl Builder {
         self.children.is_some()
     }
 
-    /// Sets the class of the program that rewrites; its words count for nothing.
+    /// Sets the class of the program that rewrites, which has its name; its words count for nothing.
     pub fn set_children(&mut self, class: Class)
+        requires { is_rewriter_class class ≡ true }
         ensures { self.new ≡ record self.old { children = Some class } }
     {
         self.children = Some(class);

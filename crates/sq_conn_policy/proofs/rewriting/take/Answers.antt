@@ -23,7 +23,8 @@ pub loop-preserved : goal.loop-preserved
 loop-preserved g c =
     let inv = c.loop.invariant in
     record {
-      waited = tells_untaken c.args.question _ _ _ _ inv.waited (rw c.in-Ok-None.field-0-is at c.in-Ok-None.ensures.told)
+      waited = tells_untaken c.args.question _ _ _ _ inv.waited
+          (rw c.in-Ok-None.field-0-is at c.in-Ok-None.ensures.told)
           c.wait.ensures.told;
       asked = c.wait.ensures.asked ∙ c.take_rewrite.ensures.asked ∙ inv.asked;
       refused_later = omega (

@@ -1,6 +1,6 @@
 use Rattle.std.proofs.Common.{◌≡◌, ◌≤◌, length, max}
 use Rattle.std.specs.Io.KnownBytes.{prepend_known}
-use Rattle.sq_forward.specs.Halves.{read_limit}
+use Rattle.sq_forward.specs.Halves.{large_read_limit}
 use Rattle.sq_forward.proofs.CopyLaws.{SoFar}
 use Rattle.sq_forward.proofs.copying.copy_body.Given as goal
 
@@ -20,5 +20,5 @@ invariant-loop g l =
       source_later : g.S.Source.faults l.fn.from.source ≤ g.S.Source.faults l.from.source;
       sink_later : g.O.Sink.faults l.fn.to ≤ g.O.Sink.faults l.to;
       origin : g.S.Source.origin l.from.source ≡ g.S.Source.origin l.fn.from.source;
-      few : length l.from.ahead ≤ max (length l.fn.from.ahead) read_limit;
+      few : length l.from.ahead ≤ max (length l.fn.from.ahead) large_read_limit;
     }

@@ -25,10 +25,10 @@ returns-in-Ok-true-clause-copies g c =
 pub returns-in-Ok-false-clause-copies : goal.returns-in-Ok-false-clause-copies
 returns-in-Ok-false-clause-copies g c =
     let left = g.S.Source.left in
-    let filled : Filled c.drop_front.new.self.ahead c.fill.new.self.ahead (left c.fill.new.self.source) false =
-    subst (λ t. Filled c.drop_front.new.self.ahead c.fill.new.self.ahead (left c.fill.new.self.source) t)
+    let filled : Filled c.drop_front.new.self.ahead c.fill.new.from.ahead (left c.fill.new.from.source) false =
+    subst (λ t. Filled c.drop_front.new.self.ahead c.fill.new.from.ahead (left c.fill.new.from.source) t)
     c.in-Ok-false.field-0-test c.in-Ok-false.ensures.filled in
-    piece_cut c.args.from.now.ahead c.fill.new.self.ahead (left c.args.from.now.source) _ (left c.fill.new.self.source)
+    piece_cut c.args.from.now.ahead c.fill.new.from.ahead (left c.args.from.now.source) _ (left c.fill.new.from.source)
     (passed left c.args.from.now.ahead c.in-Ok.fed.used c.drop_front.ensures.ahead c.drop_front.ensures.source)
     c.fill.ensures.kept
     (filled.0 ∙ c.drop_front.ensures.ahead) filled.1

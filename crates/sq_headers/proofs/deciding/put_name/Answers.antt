@@ -19,4 +19,4 @@ returns-in-Some c =
     (c.unwrap_or-allowed.ensures
     ∙ ap (λ o. unwrap_or o c.args.others) (c.end.ensures (fact_taken facts) config.acls)
     ∙ decided_by config facts c.args.reply c.args.table.now c.args.name.now c.in-Some.standing c.args.others
-    c.requires.table (ap (standing_at c.args.table.now) (sym c.in_ok-key.ensures) ∙ here) c.requires.others))
+    c.requires.table (ap (standing_at c.args.table.now) (sym c.in_ok-key.ensures.text) ∙ here) c.requires.others))

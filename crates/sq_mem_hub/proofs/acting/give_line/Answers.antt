@@ -21,6 +21,7 @@ returns-in-None c =
     let made = c.died-died.ensures in
     record {
       waited = λ rewriter pools.
-          waited_by (λ u. told.Fine) c.args.engine.now c.died-died.new.self rewriter pools c.args.moment (event.Died c.args.proc)
+          waited_by (λ u. told.Fine) c.args.engine.now c.died-died.new.self rewriter pools c.args.moment
+          (event.Died c.args.proc)
           c.died-died.result refl refl (kept_by _ _ made.kept) made.promised (unmade c.died-died.result _ _ made.err);
     }

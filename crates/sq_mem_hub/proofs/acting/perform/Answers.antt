@@ -12,11 +12,14 @@ returns c =
     record {
       waited = λ rewriter pools.
           elim c.match-act.branch [
-            | in-Stop w ↦ subst (λ e. Waited (hub_state before rewriter pools now) (hub_state e rewriter pools now)) (sym w.engine-is)
+            | in-Stop w ↦ subst (λ e. Waited (hub_state before rewriter pools now) (hub_state e rewriter pools now))
+                (sym w.engine-is)
                 (waited_self (hub_state before rewriter pools now))
-            | in-Send w ↦ subst (λ e. Waited (hub_state before rewriter pools now) (hub_state e rewriter pools now)) (sym w.engine-is)
+            | in-Send w ↦ subst (λ e. Waited (hub_state before rewriter pools now) (hub_state e rewriter pools now))
+                (sym w.engine-is)
                 (waited_self (hub_state before rewriter pools now))
-            | in-Start w ↦ subst (λ e. Waited (hub_state before rewriter pools now) (hub_state e rewriter pools now)) (sym w.engine-is)
+            | in-Start w ↦ subst (λ e. Waited (hub_state before rewriter pools now) (hub_state e rewriter pools now))
+                (sym w.engine-is)
                 (w.start.ensures.waited rewriter pools)
           ];
     }

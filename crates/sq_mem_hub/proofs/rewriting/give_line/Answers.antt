@@ -7,7 +7,8 @@ pub returns-in-Some : goal.returns-in-Some
 returns-in-Some c =
     let made = c.line-got.ensures in
     record {
-      works = works_call (Wrote c.args.proc c.as_bytes.result.now) c.line-got.result _ _ (λ g. refl) made.answers made.ok
+      works = works_call (Wrote c.args.proc c.as_bytes.result.now) c.line-got.result _ _ (λ g. refl) made.answers
+          made.ok
           made.err;
     }
 

@@ -7,7 +7,8 @@ use Rattle.sq_replay.specs.MachineViews.{machine_of}
 use Rattle.sq_replay.specs.Making.{IsReconfiguring}
 use Rattle.sq_replay.specs.RunText.{acts, event_step}
 use Rattle.sq_replay.specs.Runs.{IsMade}
-use Rattle.sq_replay.proofs.EnteringLaws.{arrives_at, event_front, front_step, named_refused, named_source_is, named_step, named_stops, part_step}
+use Rattle.sq_drafts.proofs.TextLaws.{gives_source}
+use Rattle.sq_replay.proofs.EnteringLaws.{arrives_at, event_front, front_step, named_refused, named_step, named_stops, part_step}
 use Rattle.sq_replay.proofs.OpenedLaws.{opened_refused, opened_stops}
 use Rattle.sq_replay.proofs.lines.run_named.Goals as goal
 use Rattle.sq_machine.specs.Entries.{entry_at}
@@ -34,7 +35,7 @@ returns-in-Err-WantOfMemory-clause-goes g c = λ base configs h shelf at tells n
 pub returns-in-Ok-enter-clause-goes : goal.returns-in-Ok-enter-clause-goes
 returns-in-Ok-enter-clause-goes g c = λ base configs h shelf at tells next.
     let read = c.in-Ok.ensures.reads shelf (current h) tells in
-    let source : c.in-Ok.named.1.source ≡ c.in-Ok.named.0 = named_source_is c.in-Ok.named.0 c.in-Ok.named.1 read.1 in
+    let source : c.in-Ok.named.1.source ≡ c.in-Ok.named.0 = gives_source c.in-Ok.named.0 c.in-Ok.named.1 read.1 in
     let moment : c.latest.result ≡ max c.args.now c.args.machine.now.latest = c.latest.ensures
     ∙ c.in-Ok-reconfigure.ensures.latest in
     let made : IsMade (machine_of c.reconfigure.new.self) configs h (max c.args.now c.args.machine.now.latest)
@@ -59,7 +60,7 @@ returns-in-Ok-enter-clause-goes g c = λ base configs h shelf at tells next.
 pub returns-in-Err-Failed-clause-goes : goal.returns-in-Err-Failed-clause-goes
 returns-in-Err-Failed-clause-goes g c = λ base configs h shelf at tells next.
     let read = c.in-Ok.ensures.reads shelf (current h) tells in
-    let source : c.in-Ok.named.1.source ≡ c.in-Ok.named.0 = named_source_is c.in-Ok.named.0 c.in-Ok.named.1 read.1 in
+    let source : c.in-Ok.named.1.source ≡ c.in-Ok.named.0 = gives_source c.in-Ok.named.0 c.in-Ok.named.1 read.1 in
     let moment : c.latest.result ≡ max c.args.now c.args.machine.now.latest = c.latest.ensures
     ∙ c.in-Ok-reconfigure.ensures.latest in
     let made : IsMade (machine_of c.reconfigure.new.self) configs h (max c.args.now c.args.machine.now.latest)
@@ -89,7 +90,7 @@ returns-in-Err-Failed-clause-goes g c = λ base configs h shelf at tells next.
 pub returns-in-Err-WantOfMemory-enter-clause-goes : goal.returns-in-Err-WantOfMemory-enter-clause-goes
 returns-in-Err-WantOfMemory-enter-clause-goes g c = λ base configs h shelf at tells next.
     let read = c.in-Ok.ensures.reads shelf (current h) tells in
-    let source : c.in-Ok.named.1.source ≡ c.in-Ok.named.0 = named_source_is c.in-Ok.named.0 c.in-Ok.named.1 read.1 in
+    let source : c.in-Ok.named.1.source ≡ c.in-Ok.named.0 = gives_source c.in-Ok.named.0 c.in-Ok.named.1 read.1 in
     let moment : c.latest.result ≡ max c.args.now c.args.machine.now.latest = c.latest.ensures
     ∙ c.in-Ok-reconfigure.ensures.latest in
     let made : IsMade (machine_of c.reconfigure.new.self) configs h (max c.args.now c.args.machine.now.latest)

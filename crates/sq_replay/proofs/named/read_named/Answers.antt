@@ -1,6 +1,6 @@
 use Rattle.std.proofs.Common.{◌≡◌, Ok, Err, Some, None, subst, refl, ap}
 use Rattle.sq_outside.specs.Input.{IsWhole, ReadsFile, ReadsOpening}
-use Rattle.sq_replay.specs.ConfReading.{read_result}
+use Rattle.sq_rules.specs.ConfText.{conf_result}
 use Rattle.sq_replay.specs.Entering.{Judges}
 use Rattle.sq_replay.specs.Openings.{StopOpened}
 use Rattle.sq_replay.specs.declared.ends.RunEnd.TheVariants as ends
@@ -55,7 +55,7 @@ returns-in-Ok-clause-reads g c = λ shelf e tells.
           c.in-Ok-Some.ensures.text)
           (subst (ReadsOpening 1048576 old new c.args.name) c.in-Ok-Some.field-0-is c.in-Ok-Some.ensures.opened_list)
           tells,
-      subst (λ b. read_result b ≡ Ok c.in-Ok.setup) c.as_bytes.ensures.value c.in-Ok.ensures.judges,
+      subst (λ b. conf_result b ≡ Ok c.in-Ok.setup) c.as_bytes.ensures.value c.in-Ok.ensures.judges,
     )
 
 pub returns-in-Ok-clause-adds : goal.returns-in-Ok-clause-adds
@@ -81,7 +81,7 @@ returns-clause-reads g c = λ shelf e tells.
     c.in-Ok-Some.ensures.text)
     (subst (ReadsOpening 1048576 old new c.args.name) c.in-Ok-Some.field-0-is c.in-Ok-Some.ensures.opened_list)
     c.in-Err.ensures.end
-    (subst (λ b. Judges (read_result b) (Err c.in-Err.end)) c.as_bytes.ensures.value c.in-Err.ensures.judges) tells
+    (subst (λ b. Judges (conf_result b) (Err c.in-Err.end)) c.as_bytes.ensures.value c.in-Err.ensures.judges) tells
 
 pub returns-clause-adds : goal.returns-clause-adds
 returns-clause-adds g c =
@@ -116,7 +116,7 @@ returns-in-Ok-clause-opens g c = λ number.
     let old = g.F.Files.opened c.args.files.now in
     let new = g.F.Files.opened c.read_file.new.files in
     name_opened old new c.args.name c.in-Ok-Some.text c.in-Ok.setup
-    (subst (λ b. read_result b ≡ Ok c.in-Ok.setup) c.as_bytes.ensures.value c.in-Ok.ensures.judges)
+    (subst (λ b. conf_result b ≡ Ok c.in-Ok.setup) c.as_bytes.ensures.value c.in-Ok.ensures.judges)
     (subst (ReadsOpening 1048576 old new c.args.name) c.in-Ok-Some.field-0-is c.in-Ok-Some.ensures.opened_list)
 
 pub returns-clause-opens : goal.returns-clause-opens
@@ -124,5 +124,5 @@ returns-clause-opens g c = λ number.
     let old = g.F.Files.opened c.args.files.now in
     let new = g.F.Files.opened c.read_file.new.files in
     fault_opened old new number c.args.name c.in-Ok-Some.text c.in-Err.end c.in-Err.ensures.end
-    (subst (λ b. Judges (read_result b) (Err c.in-Err.end)) c.as_bytes.ensures.value c.in-Err.ensures.judges)
+    (subst (λ b. Judges (conf_result b) (Err c.in-Err.end)) c.as_bytes.ensures.value c.in-Err.ensures.judges)
     (subst (ReadsOpening 1048576 old new c.args.name) c.in-Ok-Some.field-0-is c.in-Ok-Some.ensures.opened_list)

@@ -1,4 +1,4 @@
-use Rattle.std.proofs.Common.{List, [], ◌∷◌, ◌++◌, Err, refl, sym, subst, ◌∙◌}
+use Rattle.std.proofs.Common.{List, [], ◌∷◌, ◌++◌, Err, refl, sym, subst, ◌∙◌, inl, inr}
 use Rattle.sq_head.specs.declared.own.Own.TheVariants.{NotImplemented, Inner, NoMemory}
 use Rattle.sq_session.specs.Fronts.{FrontAnswer, OfSit}
 use Rattle.sq_session.specs.declared.front.SitFault.TheVariants as sit
@@ -20,6 +20,9 @@ returns-then-not-is_served-clause-cause g c = cause_client _ _ _ c.say.result c.
 pub returns-then-not-is_served-clause-dialled : goal.returns-then-not-is_served-clause-dialled
 returns-then-not-is_served-clause-dialled g c = was_told _
 
+pub returns-then-not-is_served-clause-calls : goal.returns-then-not-is_served-clause-calls
+returns-then-not-is_served-clause-calls g c = inl refl
+
 pub returns-in-Err-Spent-clause-told : goal.returns-in-Err-Spent-clause-told
 returns-in-Err-Spent-clause-told g c =
     carries_unseated c.args.sent.now c.args.addr c.args.plan c.args.judged.now
@@ -36,6 +39,9 @@ returns-in-Err-Spent-clause-cause g c = cause_client _ _ _ c.say-in-Err-Spent.re
 
 pub returns-in-Err-Spent-clause-dialled : goal.returns-in-Err-Spent-clause-dialled
 returns-in-Err-Spent-clause-dialled g c = was_told _
+
+pub returns-in-Err-Spent-clause-calls : goal.returns-in-Err-Spent-clause-calls
+returns-in-Err-Spent-clause-calls g c = inl refl
 
 pub returns-in-Err-WantOfMemory-clause-told : goal.returns-in-Err-WantOfMemory-clause-told
 returns-in-Err-WantOfMemory-clause-told g c =
@@ -56,6 +62,9 @@ returns-in-Err-WantOfMemory-clause-cause g c = cause_client _ _ _ c.say-in-Err-W
 pub returns-in-Err-WantOfMemory-clause-dialled : goal.returns-in-Err-WantOfMemory-clause-dialled
 returns-in-Err-WantOfMemory-clause-dialled g c = was_told _
 
+pub returns-in-Err-WantOfMemory-clause-calls : goal.returns-in-Err-WantOfMemory-clause-calls
+returns-in-Err-WantOfMemory-clause-calls g c = inl refl
+
 pub returns-clause-told : goal.returns-clause-told
 returns-clause-told g c =
     carries_seated c.args.sent.now c.args.addr c.args.plan c.args.judged.now _
@@ -64,6 +73,9 @@ returns-clause-told g c =
     (λ list s. c.rise.ensures.told _
     (g.met.F.Front.stands_besides c.sit.new.self c.reach-carried.new.meter (sym c.reach-carried.ensures.besides) _
     (c.in-Ok.ensures.told list s))) c.reach-carried.ensures.told
+
+pub returns-clause-calls : goal.returns-clause-calls
+returns-clause-calls g c = inr c.reach-carried.ensures.calls
 
 pub returns-clause-asked : goal.returns-clause-asked
 returns-clause-asked g c = c.rise.ensures.asked

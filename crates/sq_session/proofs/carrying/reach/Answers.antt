@@ -4,13 +4,14 @@ use Rattle.sq_base.specs.Requests.{HttpRequest}
 use Rattle.sq_head.specs.declared.own.Own.TheVariants.{BadGateway}
 use Rattle.sq_session.specs.Turns.{access_of}
 use Rattle.sq_session.proofs.CarryLaws.{cause_client, cause_reached, reached_rose}
-use Rattle.sq_session.proofs.PartLaws.{unreached_told, reaches, dialled_told, refused_told}
+use Rattle.sq_session.proofs.PartLaws.{unreached_told, reaches, reaches_as, dialled_told, refused_told, calls_after}
 use Rattle.sq_session.proofs.OwnReplyLaws.{tells_as}
 use Rattle.sq_session.proofs.carrying.reach.Goals as goal
 
 pub returns-in_default-clause-told : goal.returns-in_default-clause-told
 returns-in_default-clause-told g c =
-    unreached_told (access_of c.args.judged.now) c.args.sent.now c.args.addr c.args.plan c.in_default.ensures.cause.failed
+    unreached_told (access_of c.args.judged.now) c.args.sent.now c.args.addr c.args.plan
+    c.in_default.ensures.cause.failed
     (tells_as BadGateway c.is_head.result _ c.is_head.ensures c.say.ensures.tells)
     (g.met.M.Meter.capped c.args.meter.now) c.in_default.ensures.failed
 
@@ -22,13 +23,16 @@ returns-in_default-clause-dialled g c = refused_told _ _ c.in_default.ensures.fa
 
 pub returns-clause-told : goal.returns-clause-told
 returns-clause-told g c =
-    reaches (access_of c.args.judged.now) c.args.sent.now c.args.addr c.args.plan _ _ _ _ _ _ (ap HttpRequest.host c.sent.view_is)
+    reaches_as (ap (λ l. prepend_known l (g.I.Source.left c.args.client.now.source)) c.lend_room.ensures.same)
+    (ap (λ l. prepend_known l (g.I.Source.left c.forward-carried.new.client.source)) c.take_room.ensures)
+    (reaches (access_of c.args.judged.now) c.args.sent.now c.args.addr c.args.plan _ _ _ _ _ _
+    (ap HttpRequest.host c.sent.view_is)
     (ap HttpRequest.port c.sent.view_is) c.in-Ok.ensures.made c.in-Ok.ensures.reaches
     c.forward-carried.ensures.origin_dialled
-    (ap (λ l. prepend_known l (g.D.In.Source.left c.in-Ok.from)) c.new.ensures) c.give_back.ensures.given
+    (ap (λ l. prepend_known l (g.D.In.Source.left c.in-Ok.from)) c.lend_room.ensures.none) c.give_back.ensures.given
     c.forward-carried.ensures.told
     (λ f. reached_rose _ _ _ _ _ _ _ c.in-Ok.ensures.fresh.0 c.in-Ok.ensures.fresh.1 c.in-Ok.ensures.cause.quiet
-    c.give_back.ensures.cause f)
+    c.give_back.ensures.cause f))
 
 pub returns-clause-cause : goal.returns-clause-cause
 returns-clause-cause g c = cause_reached _ _ _ c.forward-carried.result
@@ -37,3 +41,6 @@ returns-clause-cause g c = cause_reached _ _ _ c.forward-carried.result
 
 pub returns-clause-dialled : goal.returns-clause-dialled
 returns-clause-dialled g c = dialled_told _ _ _ _ _ c.in-Ok.ensures.made c.give_back.ensures.given
+
+pub returns-clause-calls : goal.returns-clause-calls
+returns-clause-calls g c = calls_after _ _ _ c.in-Ok.ensures.calls c.give_back.ensures.calls

@@ -23,7 +23,8 @@ pub returns-in_default-clause-told : goal.returns-in_default-clause-told
 returns-in_default-clause-told g c =
     let config : c.deref.result.now ≡ c.args.judged.now.config = search rules in
     traded_by c.args.judged.now _ _ c.args.sent.now c.args.addr c.args.plan
-    c.exchange-ended.result c.carried_of.result config c.facts-facts.ensures c.carried_of.ensures c.in_default.not-NoReply (λ s e. c.exchange-ended.ensures.told s e)
+    c.exchange-ended.result c.carried_of.result config c.facts-facts.ensures c.carried_of.ensures
+    c.in_default.not-NoReply (λ s e. c.exchange-ended.ensures.told s e)
 
 pub returns-in_default-clause-cause : goal.returns-in_default-clause-cause
 returns-in_default-clause-cause g c = traded_cause _ _ _ c.exchange-ended.result c.carried_of.result

@@ -1,4 +1,4 @@
-use Rattle.std.proofs.Common.{refl, sym, ap, subst, ◌∙◌}
+use Rattle.std.proofs.Common.{refl, sym, ap, subst, ◌∙◌, inl}
 use Rattle.sq_base.specs.Requests.{HttpRequest}
 use Rattle.sq_head.specs.OwnReplies.{redirect_text}
 use Rattle.sq_head.specs.declared.own.Own.TheVariants.{NoMemory}
@@ -42,6 +42,9 @@ returns-in-Redirect-clause-cause g c = cause_client _ _ _ c.send_elsewhere.resul
 pub returns-in-Redirect-clause-dialled : goal.returns-in-Redirect-clause-dialled
 returns-in-Redirect-clause-dialled g c = was_told _
 
+pub returns-in-Redirect-clause-calls : goal.returns-in-Redirect-clause-calls
+returns-in-Redirect-clause-calls g c = inl refl
+
 pub returns-in-WantOfMemory-clause-told : goal.returns-in-WantOfMemory-clause-told
 returns-in-WantOfMemory-clause-told g c =
     obeys_told c.args.request.now c.args.addr c.args.plan c.args.judged.now rewritten.WantOfMemory _
@@ -55,3 +58,6 @@ returns-in-WantOfMemory-clause-cause g c = cause_client _ _ _ c.say.result c.say
 
 pub returns-in-WantOfMemory-clause-dialled : goal.returns-in-WantOfMemory-clause-dialled
 returns-in-WantOfMemory-clause-dialled g c = was_told _
+
+pub returns-in-WantOfMemory-clause-calls : goal.returns-in-WantOfMemory-clause-calls
+returns-in-WantOfMemory-clause-calls g c = inl refl

@@ -1,4 +1,4 @@
-use Rattle.std.proofs.Common.{refl, sym, ◌∙◌}
+use Rattle.std.proofs.Common.{refl, sym, ◌∙◌, inl}
 use Rattle.sq_head.specs.declared.own.Own.TheVariants.{BadRequest, Inner, Stopped, NoMemory}
 use Rattle.sq_session.specs.declared.front.Decided.TheVariants as decided
 use Rattle.sq_session.proofs.CarryLaws.{answers_hosts, answers_body, answers_unjudged, answers_judged, cause_client}
@@ -18,6 +18,9 @@ returns-then-not-fits_hosts-clause-cause g c = cause_client _ _ _ c.say.result c
 pub returns-then-not-fits_hosts-clause-dialled : goal.returns-then-not-fits_hosts-clause-dialled
 returns-then-not-fits_hosts-clause-dialled g c = was_told _
 
+pub returns-then-not-fits_hosts-clause-calls : goal.returns-then-not-fits_hosts-clause-calls
+returns-then-not-fits_hosts-clause-calls g c = inl refl
+
 pub returns-in-Err-clause-told : goal.returns-in-Err-clause-told
 returns-in-Err-clause-told g c =
     answers_body c.args.request.now c.args.addr c.in-Err.bad c.body_own.result
@@ -30,6 +33,9 @@ returns-in-Err-clause-cause g c = cause_client _ _ _ c.say-in-Err.result c.say-i
 
 pub returns-in-Err-clause-dialled : goal.returns-in-Err-clause-dialled
 returns-in-Err-clause-dialled g c = was_told _
+
+pub returns-in-Err-clause-calls : goal.returns-in-Err-clause-calls
+returns-in-Err-clause-calls g c = inl refl
 
 pub returns-in-Record-clause-told : goal.returns-in-Record-clause-told
 returns-in-Record-clause-told g c =
@@ -51,6 +57,9 @@ returns-in-Mismatch-clause-cause g c = cause_client _ _ _ c.say-in-Mismatch.resu
 pub returns-in-Mismatch-clause-dialled : goal.returns-in-Mismatch-clause-dialled
 returns-in-Mismatch-clause-dialled g c = was_told _
 
+pub returns-in-Mismatch-clause-calls : goal.returns-in-Mismatch-clause-calls
+returns-in-Mismatch-clause-calls g c = inl refl
+
 pub returns-in-Refused-clause-told : goal.returns-in-Refused-clause-told
 returns-in-Refused-clause-told g c =
     answers_unjudged c.args.request.now c.args.addr c.in-Ok.plan _ Inner
@@ -64,6 +73,9 @@ returns-in-Refused-clause-cause g c = cause_client _ _ _ c.say-in-Refused.result
 
 pub returns-in-Refused-clause-dialled : goal.returns-in-Refused-clause-dialled
 returns-in-Refused-clause-dialled g c = was_told _
+
+pub returns-in-Refused-clause-calls : goal.returns-in-Refused-clause-calls
+returns-in-Refused-clause-calls g c = inl refl
 
 pub returns-in-JournalFault-clause-told : goal.returns-in-JournalFault-clause-told
 returns-in-JournalFault-clause-told g c =
@@ -80,6 +92,9 @@ returns-in-JournalFault-clause-cause g c = cause_client _ _ _ c.say-in-JournalFa
 pub returns-in-JournalFault-clause-dialled : goal.returns-in-JournalFault-clause-dialled
 returns-in-JournalFault-clause-dialled g c = was_told _
 
+pub returns-in-JournalFault-clause-calls : goal.returns-in-JournalFault-clause-calls
+returns-in-JournalFault-clause-calls g c = inl refl
+
 pub returns-clause-told : goal.returns-clause-told
 returns-clause-told g c =
     answers_unjudged c.args.request.now c.args.addr c.in-Ok.plan decided.WantOfMemory NoMemory
@@ -93,3 +108,6 @@ returns-clause-cause g c = cause_client _ _ _ c.say-in-WantOfMemory.result c.say
 
 pub returns-clause-dialled : goal.returns-clause-dialled
 returns-clause-dialled g c = was_told _
+
+pub returns-clause-calls : goal.returns-clause-calls
+returns-clause-calls g c = inl refl

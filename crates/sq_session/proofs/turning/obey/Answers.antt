@@ -1,4 +1,4 @@
-use Rattle.std.proofs.Common.{refl, sym, ap, ◌∙◌}
+use Rattle.std.proofs.Common.{refl, sym, ap, ◌∙◌, inl}
 use Rattle.sq_rules.specs.declared.outcomes.Outcome.{Outcome}
 use Rattle.sq_head.specs.OwnReplies.{denial}
 use Rattle.sq_session.proofs.CarryLaws.{obeys_denied, cause_client}
@@ -21,3 +21,6 @@ returns-else-outcome-clause-cause g c = cause_client _ _ _ c.deny.result c.deny.
 
 pub returns-else-outcome-clause-dialled : goal.returns-else-outcome-clause-dialled
 returns-else-outcome-clause-dialled g c = was_told _
+
+pub returns-else-outcome-clause-calls : goal.returns-else-outcome-clause-calls
+returns-else-outcome-clause-calls g c = inl refl

@@ -21,12 +21,18 @@ returns-in-Nothing-clause-told g c = takes_none c.args.addr begun.Nothing Closes
 pub returns-in-Nothing-clause-dialled : goal.returns-in-Nothing-clause-dialled
 returns-in-Nothing-clause-dialled g c = was_told _
 
+pub returns-in-Nothing-clause-calls : goal.returns-in-Nothing-clause-calls
+returns-in-Nothing-clause-calls g c = inl refl
+
 pub returns-in-Cut-clause-told : goal.returns-in-Cut-clause-told
 returns-in-Cut-clause-told g c = takes_none c.args.addr begun.Cut (Over end.Cut) (λ rest. refl) (λ e. cc) (λ e. cc)
     (g.met.F.Meter.capped c.args.front.now) c.in-Cut.ensures.begins
 
 pub returns-in-Cut-clause-dialled : goal.returns-in-Cut-clause-dialled
 returns-in-Cut-clause-dialled g c = was_told _
+
+pub returns-in-Cut-clause-calls : goal.returns-in-Cut-clause-calls
+returns-in-Cut-clause-calls g c = inl refl
 
 pub returns-in-TooLarge-clause-told : goal.returns-in-TooLarge-clause-told
 returns-in-TooLarge-clause-told g c =
@@ -39,6 +45,9 @@ returns-in-TooLarge-clause-cause g c = cause_client _ _ _ c.say.result c.say.ens
 pub returns-in-TooLarge-clause-dialled : goal.returns-in-TooLarge-clause-dialled
 returns-in-TooLarge-clause-dialled g c = was_told _
 
+pub returns-in-TooLarge-clause-calls : goal.returns-in-TooLarge-clause-calls
+returns-in-TooLarge-clause-calls g c = inl refl
+
 pub returns-in-Bad-clause-told : goal.returns-in-Bad-clause-told
 returns-in-Bad-clause-told g c =
     takes_own c.args.addr begun.Bad _ (λ rest. refl) (g.met.F.Meter.capped c.args.front.now) c.in-Bad.ensures.begins
@@ -50,6 +59,9 @@ returns-in-Bad-clause-cause g c = cause_client _ _ _ c.say-in-Bad.result c.say-i
 pub returns-in-Bad-clause-dialled : goal.returns-in-Bad-clause-dialled
 returns-in-Bad-clause-dialled g c = was_told _
 
+pub returns-in-Bad-clause-calls : goal.returns-in-Bad-clause-calls
+returns-in-Bad-clause-calls g c = inl refl
+
 pub returns-in-Failed-clause-told : goal.returns-in-Failed-clause-told
 returns-in-Failed-clause-told g c = takes_none c.args.addr begun.Failed (Over end.ClientFault) (λ rest. refl) (λ e. cc)
     (λ e. cc) (g.met.F.Meter.capped c.args.front.now) c.in-Failed.ensures.begins
@@ -59,6 +71,9 @@ returns-in-Failed-clause-cause g c = inl (c.in-Failed.ensures.cause refl)
 
 pub returns-in-Failed-clause-dialled : goal.returns-in-Failed-clause-dialled
 returns-in-Failed-clause-dialled g c = was_told _
+
+pub returns-in-Failed-clause-calls : goal.returns-in-Failed-clause-calls
+returns-in-Failed-clause-calls g c = inl refl
 
 pub returns-in-WantOfMemory-clause-told : goal.returns-in-WantOfMemory-clause-told
 returns-in-WantOfMemory-clause-told g c =
@@ -71,3 +86,6 @@ returns-in-WantOfMemory-clause-cause g c = cause_client _ _ _ c.say-in-WantOfMem
 
 pub returns-in-WantOfMemory-clause-dialled : goal.returns-in-WantOfMemory-clause-dialled
 returns-in-WantOfMemory-clause-dialled g c = was_told _
+
+pub returns-in-WantOfMemory-clause-calls : goal.returns-in-WantOfMemory-clause-calls
+returns-in-WantOfMemory-clause-calls g c = inl refl

@@ -1,12 +1,8 @@
 use Rattle.std.proofs.Common.{Err, sym, subst}
 use Rattle.sq_replay.specs.declared.stops.Stop.{Stop}
-use Rattle.sq_replay.proofs.ReadingLaws.{read_is}
 use Rattle.sq_verify.specs.Promised.{Accepts}
 use Rattle.sq_verify.proofs.PlayLaws.{accepts_none}
 use Rattle.sq_verify.proofs.playing.accept.Goals as goal
-
-pub returns-in-Ok : goal.returns-in-Ok
-returns-in-Ok c = read_is c.args.text.now c.in-Ok.setup c.in-Ok.ensures.ok c.configuration_facts.ensures
 
 pub returns-in-Err : goal.returns-in-Err
 returns-in-Err c = subst (λ (s : Stop). Accepts c.args.text.now (Err s)) (sym c.stop_by.ensures)

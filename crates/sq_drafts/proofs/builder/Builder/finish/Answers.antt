@@ -1,6 +1,6 @@
 use Rattle.std.proofs.Common.{◌≡◌, length, ap, ◌∙◌, arith}
 use Rattle.std.proofs.lemmas.List.{length-map}
-use Rattle.sq_drafts.proofs.SoundLaws.{pools_finished}
+use Rattle.sq_drafts.proofs.SoundLaws.{pools_finished, rewriter_finished}
 use Rattle.sq_rules.specs.Drafts.{pool_of_draft}
 use Rattle.sq_drafts.proofs.builder.Builder.finish.Goals as goal
 
@@ -18,6 +18,10 @@ of_parts-requires c =
       pools_are = rw (c.into_acls.ensures.acls, c.in_ok-pools.ensures.ok)
           (pools_finished c.self.inside.acls c.self.inside.pools.items c.self.invariant.pools_are
           c.in_ok-pools.ensures.complete);
+      lower_headers = c.self.invariant.lower_headers;
+      rewriter_is = rw c.in_ok-rewriter.ensures
+          (rewriter_finished c.self.inside.program c.self.inside.children c.self.invariant.program_is
+          c.self.invariant.children_are);
       headers_are = rw c.into_acls.ensures.acls c.self.invariant.headers_are;
       lookups_are = rw (c.into_classes.ensures.classes, c.into_acls.ensures.acls) c.self.invariant.lookups_are;
       few_classes = rw c.into_classes.ensures.classes c.self.invariant.few_classes;

@@ -12,4 +12,4 @@ invariant_of-self c =
     let fast : is_header c.self.inside.acls c.args.header ≡ true =
     subst (λ (d : Drafts). is_header d.acls c.args.header ≡ true) (sym c.self.view_is) c.requires.fast in
     IsSound_header_by c.push.result _ c.push.new.self _ c.self.invariant c.push.ensures.ok c.push.ensures.err
-    (IsSound_header _ c.args.header c.self.invariant room fast)
+    (IsSound_header _ c.args.header c.self.invariant room fast c.requires.lower)

@@ -1,10 +1,9 @@
 use Rattle.std.proofs.Common.{◌≡◌, ◌∙◌, max, None, Some, sym, subst}
-use Rattle.sq_epochs.specs.DueStates.{due_of}
 use Rattle.sq_model_state.specs.Acts.{due_in}
 use Rattle.sq_model_state.specs.States.{IsSame}
 use Rattle.sq_engine.specs.Acting.{IsActPromised, after_act, due_now}
 use Rattle.sq_engine.specs.EngineViews.{EngineView, state_of}
-use Rattle.sq_engine.proofs.ActLaws.{act_left, act_promised, due_read, left_same, told_read}
+use Rattle.sq_engine.proofs.ActLaws.{act_left, act_promised, due_read, left_same}
 use Rattle.sq_engine.proofs.engines.Engine.act.Goals as goal
 
 pub invariant_of-self : goal.invariant_of-self
@@ -49,7 +48,7 @@ returns-in_default-clause-promised c =
     } in
     subst (λ z. IsActPromised (state_of z) (max c.args.now z.latest) None (state_of z)) c.self.view_is
     (act_promised v (state_of v) (max c.args.now v.latest) None c.self.invariant c.facts.ensures
-    (sym c.in_default.is ∙ c.act.ensures.act ∙ told_read (due_of v.epochs)) tt)
+    (sym c.in_default.is ∙ c.act.ensures.act) tt)
 
 pub invariant_of-self-2 : goal.invariant_of-self-2
 invariant_of-self-2 c =
@@ -112,7 +111,7 @@ returns-clause-promised c =
     let new : EngineView = record v { epochs = c.act.new.self; latest = c.later-self-inside.result } in
     subst (λ z. IsActPromised (state_of z) (max c.args.now z.latest) (Some c.in-Some.act) (state_of new)) c.self.view_is
     (act_promised v (state_of new) (max c.args.now v.latest) (Some c.in-Some.act) c.self.invariant c.facts.ensures
-    (sym c.in-Some.is ∙ c.act.ensures.act ∙ told_read (due_of v.epochs))
+    (sym c.in-Some.is ∙ c.act.ensures.act)
     (subst (λ m. IsSame (state_of new) (after_act (due_now v) m (state_of v))) c.later-self-inside.ensures
     (left_same v c.act.new.self c.later-self-inside.result c.in-Some.act c.act.ensures.value
     (sym c.act.ensures.act ∙ c.in-Some.is))))

@@ -1,7 +1,7 @@
 use Rattle.std.proofs.Common.{ap, ◌∙◌, sym}
 use Rattle.std.specs.Option.{option_map}
-use Rattle.sq_machine.specs.DueActs.{first_of}
-use Rattle.sq_epochs.specs.DueStates.{after_due, stops}
+use Rattle.sq_machine.specs.DueActs.{first_of, stops}
+use Rattle.sq_epochs.specs.DueStates.{after_due}
 use Rattle.sq_epochs.specs.EpochStates.{EpochsState}
 use Rattle.sq_epochs.proofs.ActLaws.{after_stop}
 use Rattle.sq_epochs.proofs.DueLaws.{drop_first}

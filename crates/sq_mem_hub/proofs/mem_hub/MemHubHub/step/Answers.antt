@@ -12,5 +12,6 @@ returns-clause-told g c =
       _,
       refl,
       steps_by c.args.check (epoch_of (state_of hub.engine) c.args.check) c.step-made.result c.answer.result
-          hub.engine c.step-made.new.self hub.rewriter (both_pools hub.pools hub.tags) hub.moment c.answer.ensures.result made.promised made.err made.kept,
+          hub.engine c.step-made.new.self hub.rewriter (both_pools hub.pools hub.tags) hub.moment
+          c.answer.ensures.result made.promised made.err made.kept,
     )

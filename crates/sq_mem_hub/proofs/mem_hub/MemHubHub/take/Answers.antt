@@ -9,6 +9,7 @@ returns-clause-told g c =
     let made = c.take-made.ensures in (
       _,
       refl,
-      takes_by c.args.check c.take-made.result c.answer.result hub.engine c.take-made.new.self hub.rewriter (both_pools hub.pools hub.tags)
+      takes_by c.args.check c.take-made.result c.answer.result hub.engine c.take-made.new.self hub.rewriter
+          (both_pools hub.pools hub.tags)
           hub.moment c.answer.ensures.result made.told made.record made.promised made.err made.kept,
     )

@@ -22,7 +22,7 @@ invariant_of-self-2 c =
     grind (arith, common_steps, c.in_ok-depths.ensures.shallow, c.as_slice-acls.ensures.value) in
     rw (c.renew.ensures, c.renew-2.ensures)
     (KnowsAcls_member acls c.self.inside.places c.self.inside.nestings.items c.self.inside.slow.items
-    c.self.inside.stated c.args.place c.args.term x c.add_member.new.self c.in_ok-depths.depths c.args.slow
+    c.self.inside.unmade c.args.place c.args.term x c.add_member.new.self c.in_ok-depths.depths c.args.slow
     c.self.invariant is c.in_ok-add_member.ensures.ok deep asks shallow)
 
 pub returns-clause-ok : goal.returns-clause-ok

@@ -14,7 +14,7 @@ invariant_of-self c =
     let y = c.join.new.self in
     let is : slice_get acls c.args.place ≡ Some x =
     slice_get_read acls _ c.args.place x refl (grind (arith, common_steps)) c.index_mut.ensures.value in
-    KnowsAcls_set acls c.self.inside.places c.self.inside.nestings.items c.self.inside.slow.items c.self.inside.stated
+    KnowsAcls_set acls c.self.inside.places c.self.inside.nestings.items c.self.inside.slow.items c.self.inside.unmade
     c.args.place x y c.self.invariant is c.join.ensures.named
     (λ before. kept_by c.join.result x y (with_leaf c.args.more x.body) (nesting_of before) c.join.ensures.ok
     c.join.ensures.err (leaf_depth before c.args.more x.body))

@@ -14,7 +14,7 @@ invariant_of-self c =
     let y = c.open_line.new.self in
     let is : slice_get acls c.args.place ≡ Some x =
     slice_get_read acls _ c.args.place x refl (grind (arith, common_steps)) c.index_mut.ensures.value in
-    KnowsAcls_set acls c.self.inside.places c.self.inside.nestings.items c.self.inside.slow.items c.self.inside.stated
+    KnowsAcls_set acls c.self.inside.places c.self.inside.nestings.items c.self.inside.slow.items c.self.inside.unmade
     c.args.place x y c.self.invariant is c.open_line.ensures.named
     (λ before. kept_by c.open_line.result x y (with_line x.body) (nesting_of before) c.open_line.ensures.ok
     c.open_line.ensures.err (line_depth before x.body))

@@ -1,7 +1,7 @@
 use Rattle.std.proofs.Common.{◌≡◌, ◌<◌, ◌≤◌, ◌+◌, ◌++◌, length, suc, ◌∷◌, [], None, Some, refl, arith}
 use Rattle.std.proofs.lemmas.Grind.{common_steps}
 use Rattle.sq_rules.proofs.AclLaws.{depths_push, shallow_push, slow_push}
-use Rattle.sq_rules.proofs.LookupLaws.{stated_most, stated_push}
+use Rattle.sq_rules.proofs.LookupLaws.{unmade_acls_most, unmade_acls_push}
 use Rattle.sq_rules.proofs.NameLaws.{known_push, own_push}
 use Rattle.sq_rules.specs.Configurations.{nesting_of, place_from}
 use Rattle.sq_rules.specs.Limits.{most_acls}
@@ -9,11 +9,11 @@ use Rattle.sq_rules.specs.Tables.{allowed}
 use Rattle.sq_rules.specs.declared.configs.Acl.{Acl}
 use Rattle.sq_rules.proofs.acl_table.AclTable.push.Goals as goal
 
-pub overflow_add-stated : goal.overflow_add-stated
-overflow_add-stated c =
+pub overflow_add-unmade : goal.overflow_add-unmade
+overflow_add-unmade c =
     let old = c.self.inside.acls.items in
-    let most : c.self.inside.stated + c.counted.result ≤ suc (length old) =
-    stated_most old c.args.name c.self.inside.stated c.counted.result c.self.invariant.count_is
+    let most : c.self.inside.unmade + c.counted.result ≤ suc (length old) =
+    unmade_acls_most old c.args.name c.self.inside.unmade c.counted.result c.self.invariant.count_is
     (grind (arith, common_steps, c.counted.ensures)) in
     let few : length old < most_acls = rw c.self.view_is c.requires.few in
     omega (arith, most, few)
@@ -39,8 +39,8 @@ invariant_of-self-2 c =
           c.self.invariant.slow_are
           (grind (arith, common_steps, c.push_reserved-2.ensures.items, c.reserve-3.ensures.items))
           (grind (arith, common_steps, c.is_slow-asks.ensures)) more;
-      count_is = stated_push old new acl c.self.inside.stated c.counted.result (c.self.inside.stated + c.counted.result)
-          c.self.invariant.count_is (grind (arith, common_steps, c.counted.ensures)) refl more;
+      count_is = unmade_acls_push old new acl c.self.inside.unmade c.counted.result
+          (c.self.inside.unmade + c.counted.result) c.self.invariant.count_is (grind (arith, common_steps, c.counted.ensures)) refl more;
       unique = own_push (λ a. a.name) old new acl c.self.invariant.unique free more;
       shallow = shallow_push c.self.inside.nestings.items old new acl c.in-Some.nesting c.self.invariant.shallow
           c.self.invariant.depths_are deep more;

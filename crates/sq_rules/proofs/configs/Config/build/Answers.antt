@@ -1,5 +1,8 @@
 use Rattle.std.proofs.Common.{arith}
 use Rattle.std.proofs.lemmas.Grind.{common_steps}
+use Rattle.sq_rules.proofs.LookupLaws.{stated_alike}
+use Rattle.sq_rules.specs.declared.configs.Acl.{Acl}
+use Rattle.sq_rules.specs.declared.parts.AclPart.{AclPart}
 use Rattle.sq_rules.proofs.configs.Config.build.Goals as goal
 
 pub invariant_of-result : goal.invariant_of-result
@@ -12,6 +15,8 @@ invariant_of-result c = record {
   places = rw c.into_acls.ensures.acls c.in_ok-rules.ensures.known;
   pools_are = rw c.into_acls.ensures.acls c.in_ok-pools.ensures.are_pools;
   headers_are = rw c.into_acls.ensures.acls c.in_ok-headers.ensures.are_headers;
+  lower_headers = c.in_ok-headers.ensures.lower;
+  rewriter_is = c.requires.rewriter_is;
   lookups_are = rw (c.into_classes.ensures.classes, c.into_acls.ensures.acls)
       (grind (
         arith,
@@ -22,7 +27,12 @@ invariant_of-result c = record {
         c.if-not-are_looked_up.false,
       ));
   few_classes = rw (c.into_classes.ensures.classes, c.in_ok-classes.ensures.count) c.requires.few_classes;
-  few_acls = rw (c.into_acls.ensures.acls, c.in_ok-acls.ensures.stated) c.requires.few_acls;
+  few_acls = rw (
+    c.into_acls.ensures.acls,
+    stated_alike c.args.parts.dst_lookup (λ (a : Acl). a.name) (λ (p : AclPart). p.name)
+        c.in_ok-acls.acls c.args.parts.acls c.in_ok-acls.ensures.unmade c.in_ok-acls.ensures.count,
+  )
+      c.requires.few_acls;
   all_acls = rw (c.into_acls.ensures.acls, c.in_ok-acls.ensures.count) c.requires.all_acls;
   few_rules = rw c.in_ok-rules.ensures.count c.requires.few_rules;
   few_pools = rw c.in_ok-pools.ensures.count c.requires.few_pools;
