@@ -5,7 +5,7 @@ It needs Debian's packages squid, nginx-light and wrk, and begins all of it by i
 in a folder of its own: an origin (nginx), a Squid without a cache and without logs, and this proxy with its journal in a file. Each row is
 asked of both in turn, for so many seconds, in so many rounds, and its ratio is that of the medians: the numbers are those of one machine in
 one run. Of each there is the processor time that the proxy's processes took for a request, its helpers left out. The journals of this proxy
-are verified at the end, and a row in which a request failed says so."""
+are verified at the end, and a row in which a request failed says so; then the status is not 0."""
 
 import argparse
 import contextlib
@@ -46,14 +46,15 @@ end
 
 @dataclass(frozen=True)
 class Row:
-    """What is asked: its name, the file, how many clients ask, whether each request has a connection of its own, and the channels of the
-    helper that is asked for each, if one is."""
+    """What is asked: its name, the file, how many clients ask, whether each request has a connection of its own, the channels of the
+    helper that is asked for each, if one is, and whether the requests go through a tunnel, of one client."""
 
     name: str
     file: str
     clients: int
     closes: bool = False
     channels: int | None = None
+    tunnel: bool = False
 
 
 ROWS = (
@@ -63,6 +64,7 @@ ROWS = (
     Row("64 KiB, 8 clients", "64k", 8), Row("10 MiB, 1 client", "10m", 1), Row("10 MiB, 4 clients", "10m", 4),
     Row("1 KiB, one helper process without channels, 64 clients", "1k", 64, channels=0),
     Row("1 KiB, one helper process with 100 channels, 64 clients", "1k", 64, channels=100),
+    Row("10 MiB through a tunnel, 1 client", "10m", 1, tunnel=True),
 )
 
 
@@ -97,6 +99,8 @@ def running(words: list[str], port: int, journal: Path | None = None) -> Iterato
                 if process.poll() is not None:
                     sys.exit(f"{words[0]} has ended")
                 time.sleep(0.1)
+            else:
+                sys.exit(f"{words[0]} does not listen at port {port}")
             yield process
         finally:
             if process.stdin and journal:
@@ -126,6 +130,31 @@ def ask(folder: Path, row: Row, proxy: int, origin: int, seconds: int) -> tuple[
     bad = re.search(r"Non-2xx or 3xx responses: (\d+)", said)
     errors = re.search(r"connect (\d+), read (\d+), write (\d+), timeout (\d+)", said)
     return int(count[1]) / lasted, int(count[1]), (int(bad[1]) if bad else 0) + (sum(map(int, errors.groups())) if errors else 0)
+
+
+def ask_tunnel(row: Row, proxy: int, origin: int, seconds: int) -> tuple[float, int, int]:
+    """The same through one tunnel, by a loop of this program: it ends at the first request that fails."""
+    room, count = bytearray(262144), 0
+    with socket.create_connection(("127.0.0.1", proxy), 20) as link:
+
+        def is_served(words: str, length: int) -> bool:
+            """Asks, and reads a head and so many bytes behind it: whether it is a 200 and all of them came."""
+            link.sendall(f"{words} HTTP/1.1\r\nHost: 127.0.0.1:{origin}\r\n\r\n".encode("ascii"))
+            said = b""
+            while b"\r\n\r\n" not in said and (more := link.recv(65536)):
+                said += more
+            head, _, body = said.partition(b"\r\n\r\n")
+            left = length - len(body) if b" 200 " in head else 0
+            while left > 0 and (size := link.recv_into(room, min(left, len(room)))):
+                left -= size
+            return b" 200 " in head and left == 0
+
+        served = is_served(f"CONNECT 127.0.0.1:{origin}", 0)
+        begun = time.monotonic()
+        while served and time.monotonic() < begun + seconds:
+            served = is_served(f"GET /{row.file}", SIZES[row.file])
+            count += served
+        return count / (time.monotonic() - begun), count, int(not served)
 
 
 def rules(folder: Path, row: Row) -> str:
@@ -182,7 +211,7 @@ def measure(program: str, folder: Path, port: int, row: Row, seconds: int, round
         for _ in range(rounds):
             for name, (proxy, pid) in (("ours", us), ("squid", them)):
                 before = took(pid)
-                rate, count, failed = ask(folder, row, proxy, port, seconds)
+                rate, count, failed = ask_tunnel(row, proxy, port, seconds) if row.tunnel else ask(folder, row, proxy, port, seconds)
                 came[name].rates.append(rate)
                 came[name].costs.append((took(pid) - before) / max(count, 1) * 1e6)
                 came[name].failed += failed
@@ -203,12 +232,17 @@ def main() -> None:
         folder.chmod(0o755)
         (folder / "helper").write_text(HELPER)
         print("| What | Requests a second, to Squid's | Processor time of a request: here, Squid | Failed: here, Squid |\n|---|---|---|---|")
+        failed = 0
         with origin(folder) as port:
             for row in ROWS:
                 came = measure(given.program, folder, port, row, given.seconds, given.rounds)
                 rate = {name: statistics.median(it.rates) for name, it in came.items()}
                 cost = {name: statistics.median(it.costs) for name, it in came.items()}
-                print(f"| {row.name} | {rate['ours']:,.0f}, {rate['ours'] / rate['squid']:.2f} | {cost['ours']:.0f}, {cost['squid']:.0f} microseconds | {came['ours'].failed}, {came['squid'].failed} |", flush=True)
+                ratio = f"{rate['ours'] / rate['squid']:.2f}" if rate["squid"] else "none came"
+                print(f"| {row.name} | {rate['ours']:,.0f}, {ratio} | {cost['ours']:.0f}, {cost['squid']:.0f} microseconds | {came['ours'].failed}, {came['squid'].failed} |", flush=True)
+                failed += sum(it.failed for it in came.values())
+        if failed:
+            sys.exit(f"{failed} requests failed")
     finally:
         shutil.rmtree(folder, ignore_errors=True)
 

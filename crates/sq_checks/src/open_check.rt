@@ -1,10 +1,9 @@
 //! An open check.
-ghost use Rattle.std.specs.Prelude.{◌≡◌, ◌+◌, ◌≤◌, ℕ, true, false, suc, min, Some, IfOk, OnOk, OnErr, IfSome, is_some};
+ghost use Rattle.std.specs.Prelude.{◌≡◌, ◌+◌, ◌≤◌, ℕ, true, false, Some, IfOk, OnOk, OnErr, IfSome, is_some};
 ghost use Rattle.std.specs.Arc.{arc_value};
 ghost use Rattle.std.specs.Option.{option_copied};
 ghost use Rattle.sq_base.specs.Distinct.{has_answer};
 ghost use Rattle.sq_rules.specs.Facts.{facts_of};
-ghost use Rattle.sq_machine.specs.Limits.{last_number};
 ghost use Rattle.sq_machine.specs.StepRule.{class_of_acl};
 ghost use Rattle.sq_rules.specs.Keys.{key_text};
 ghost use Rattle.sq_rules.specs.Verdicts.{verdict_over};
@@ -301,9 +300,18 @@ impl OpenCheck {
         } = self;
         let looks = frames.looks();
         match stage {
-            CheckStage::Done(outcome) => Record::new(
-                check, epoch, config, sight, facts, answers, outcome, pool, looks, steps,
-            ),
+            CheckStage::Done(outcome) => Record {
+                check,
+                epoch,
+                config,
+                sight,
+                facts,
+                answers,
+                outcome,
+                pool,
+                looks,
+                steps,
+            },
             _ => unreachable!(),
         }
     }

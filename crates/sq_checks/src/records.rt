@@ -15,16 +15,16 @@ use std::sync::Arc;
 /// and its answers.
 #[derive(Drop)]
 pub struct Record {
-    check: CheckNo,
-    epoch: EpochNo,
-    config: Arc<Config>,
-    sight: Sight,
-    facts: Facts,
-    answers: Answers,
-    outcome: Outcome,
-    pool: Option<u32>,
-    looks: u64,
-    steps: u64,
+    pub(crate) check: CheckNo,
+    pub(crate) epoch: EpochNo,
+    pub(crate) config: Arc<Config>,
+    pub(crate) sight: Sight,
+    pub(crate) facts: Facts,
+    pub(crate) answers: Answers,
+    pub(crate) outcome: Outcome,
+    pub(crate) pool: Option<u32>,
+    pub(crate) looks: u64,
+    pub(crate) steps: u64,
 }
 
 impl Model for Record {
@@ -62,49 +62,6 @@ impl Model for Record {
 
 impl Record {
     ghost use Rattle.sq_checks.specs.Records.{takes_client};
-
-    // A check that is over, of its parts.
-    pub(crate) fn new(
-        check: CheckNo,
-        epoch: EpochNo,
-        config: Arc<Config>,
-        sight: Sight,
-        facts: Facts,
-        answers: Answers,
-        outcome: Outcome,
-        pool: Option<u32>,
-        looks: u64,
-        steps: u64,
-    ) -> Record
-        requires facts { facts ≡ facts_of (arc_value config).acls sight }
-        requires verdict { verdict_over answers (arc_value config) sight ≡ value.Verdict outcome }
-        requires pool { pool ≡ pool_of (arc_value config) sight }
-        requires looks { looks ≡ looks_over answers (arc_value config) sight }
-        ensures { result ≡ record {
-          check = check;
-          epoch = epoch;
-          config = arc_value config;
-          sight = sight;
-          answers = answers;
-          outcome = outcome;
-          pool = pool;
-          looks = looks;
-          steps = steps;
-        } }
-    {
-        Record {
-            check,
-            epoch,
-            config,
-            sight,
-            facts,
-            answers,
-            outcome,
-            pool,
-            looks,
-            steps,
-        }
-    }
 
     /// Its number.
     pub fn check(&self) -> CheckNo

@@ -1,32 +1,19 @@
 -- The four acls of one of type `dst` behind others: names stay their own, and none nests too deep.
-use Rattle.std.proofs.Common.{◌≡◌, ℕ, suc, max, List, [], ◌∷◌, ◌++◌, length, take, true, refl, ap, subst, ◌∙◌, arith, Option, Some, None, is_none, slice_get, append_assoc}
+use Rattle.std.proofs.Common.{◌≡◌, ℕ, suc, max, List, [], ◌∷◌, ◌++◌, length, true, refl, ap, subst, Option, Some, None, is_none}
 use Rattle.std.proofs.lemmas.Bool.{and_parts}
-use Rattle.std.proofs.lemmas.List.{length_push}
-use Rattle.std.specs.Prelude.{codes, slice_index_or}
+use Rattle.std.specs.Prelude.{codes}
 use Rattle.sq_base.specs.declared.addresses.Range.{Range}
 use Rattle.sq_drafts.proofs.SoundLaws.{four_behind}
-use Rattle.sq_rules.proofs.AclLaws.{nestings_longer, shallow_push}
-use Rattle.sq_rules.proofs.LookupLaws.{end_apart, ends_apart, free_push, get_end, get_front}
+use Rattle.sq_rules.proofs.AclLaws.{shallow_push}
+use Rattle.sq_rules.proofs.FourLaws.{named_deep, named_index, values_flat, with_one, with_three, with_two}
+use Rattle.sq_rules.proofs.LookupLaws.{end_apart, ends_apart, free_push}
 use Rattle.sq_rules.proofs.NameLaws.{own_push}
-use Rattle.sq_rules.proofs.TableLaws.{nesting_at, nestings_length}
 use Rattle.sq_rules.specs.AclLines.{are_free}
 use Rattle.sq_rules.specs.Building.{place_of}
 use Rattle.sq_rules.specs.Configurations.{are_shallow, are_unique, nesting_of, nestings}
-use Rattle.sq_rules.specs.Lookups.{asking_acl, begins_literal, either_acl, holds_all, literal_name, looked_up, lookup_name, named_acl, named_name, values_acl}
+use Rattle.sq_rules.specs.Lookups.{asking_acl, begins_literal, either_acl, literal_name, looked_up, lookup_name, named_acl, named_name, values_acl}
 use Rattle.sq_rules.specs.Tables.{allowed}
 use Rattle.sq_rules.specs.declared.configs.Acl.{Acl}
-use Rattle.sq_rules.specs.declared.configs.Body.{Body}
-use Rattle.sq_rules.specs.declared.configs.Body.TheVariants as body
-
--- the acls so far, after each of the four
-abbrev with_one : List Acl → List ℕ → List Range → List Acl
-with_one acls n v = acls ++ values_acl n v ∷ []
-
-abbrev with_two : List Acl → List ℕ → List Range → List Acl
-with_two acls n v = with_one acls n v ++ asking_acl n ∷ []
-
-abbrev with_three : List Acl → List ℕ → List Range → List Acl
-with_three acls n v = with_two acls n v ++ named_acl (length acls) n ∷ []
 
 abbrev named : Acl → List ℕ
 named a = a.name
@@ -64,67 +51,6 @@ own_more acls n v own free made =
     (end_apart n (codes "lookup") 32)) (end_apart n (codes "named") 32)) refl)
 
 -- how deep they nest
-leaf_flat : (before : List ℕ) (b : Body) → holds_all b ≡ true → nesting_of before b ≡ 0
-leaf_flat before (body.Leaf l) is = refl
-leaf_flat before (body.External class arguments) is = cc
-leaf_flat before (body.AnyOf terms) is = cc
-leaf_flat before (body.AllOf lines) is = cc
-
--- `dst literal` stands first, also where more stand behind
-first_flat : (acls more : List Acl) → begins_literal acls ≡ true → slice_index_or (nestings (acls ++ more)) 0 0 ≡ 0
-first_flat [] more is = cc
-first_flat (a ∷ acls) more is = nesting_at (a ∷ acls ++ more) 0 a refl
-    ∙ leaf_flat (take 0 (nestings (a ∷ acls ++ more))) a.body (and_parts _ (holds_all a.body) is).1
-
-long_one : (acls : List Acl) (n : List ℕ) (v : List Range) → length (with_one acls n v) ≡ suc (length acls)
-long_one acls n v = omega (arith, length_push acls (values_acl n v))
-
-long_two : (acls : List Acl) (n : List ℕ) (v : List Range) → length (with_two acls n v) ≡ suc (suc (length acls))
-long_two acls n v = omega (arith, length_push (with_one acls n v) (asking_acl n), long_one acls n v)
-
-asking_flat : (acls : List Acl) (n : List ℕ) (v : List Range)
-    → slice_index_or (nestings (with_two acls n v)) (suc (length acls)) 0 ≡ 0
-asking_flat acls n v = nesting_at (with_two acls n v) (suc (length acls)) (asking_acl n)
-    (subst (λ k. slice_get (with_two acls n v) k ≡ Some (asking_acl n)) (long_one acls n v)
-    (get_end (with_one acls n v) (asking_acl n)))
-
-one_deep : (i j : ℕ) → i ≡ 0 → j ≡ 0 → suc (max (max i (max j 0)) 0) ≡ 1
-one_deep i j e f = rw (e, f) refl
-
-named_deep : (acls : List Acl) (n : List ℕ) (v : List Range) → begins_literal acls ≡ true
-    → nesting_of (nestings (with_two acls n v)) (named_acl (length acls) n).body ≡ 1
-named_deep acls n v is =
-    let first : slice_index_or (nestings (with_two acls n v)) 0 0 ≡ 0 =
-    ap (λ l. slice_index_or (nestings l) 0 0) (append_assoc acls (values_acl n v ∷ []) (asking_acl n ∷ []))
-    ∙ first_flat acls (values_acl n v ∷ asking_acl n ∷ []) is in
-    one_deep _ _ first (asking_flat acls n v)
-
-index_end : (xs : List ℕ) (y : ℕ) → slice_index_or (xs ++ y ∷ []) (length xs) 0 ≡ y
-index_end [] y = refl
-index_end (x ∷ xs) y = index_end xs y
-
-named_index : (acls : List Acl) (n : List ℕ) (v : List Range) → begins_literal acls ≡ true
-    → slice_index_or (nestings (with_three acls n v)) (suc (suc (length acls))) 0 ≡ 1
-named_index acls n v is =
-    let long : length (nestings (with_two acls n v)) ≡ suc (suc (length acls)) = nestings_length (with_two acls n v)
-    ∙ long_two acls n v in
-    ap (λ l. slice_index_or l (suc (suc (length acls))) 0)
-    (nestings_longer [] (with_two acls n v) (named_acl (length acls) n))
-    ∙ subst (λ k. slice_index_or
-    (nestings (with_two acls n v) ++ nesting_of (nestings (with_two acls n v)) (named_acl (length acls) n).body ∷ []) k
-    0 ≡ nesting_of (nestings (with_two acls n v)) (named_acl (length acls) n).body) long
-    (index_end (nestings (with_two acls n v))
-    (nesting_of (nestings (with_two acls n v)) (named_acl (length acls) n).body))
-    ∙ named_deep acls n v is
-
-values_flat : (acls : List Acl) (n : List ℕ) (v : List Range)
-    → slice_index_or (nestings (with_three acls n v)) (length acls) 0 ≡ 0
-values_flat acls n v =
-    nesting_at (with_three acls n v) (length acls) (values_acl n v)
-    (get_front (with_two acls n v) (named_acl (length acls) n) (length acls) (omega (arith, long_two acls n v))
-    ∙ get_front (with_one acls n v) (asking_acl n) (length acls) (omega (arith, long_one acls n v))
-    ∙ get_end acls (values_acl n v))
-
 two_deep : (i j : ℕ) → i ≡ 0 → j ≡ 1 → suc (max i (max j 0)) ≡ 2
 two_deep i j e f = rw (e, f) refl
 

@@ -12,8 +12,8 @@ use crate::faults::FinishFault;
 use crate::pools::{StatedPool, complete_pools};
 use sq_base::{Listed, Text, Texts, WantOfMemory};
 use sq_rules::{
-    AclPart, AclTable, Body, BodyPart, Class, ClassTable, Config, HeaderRules, Leaf, Notice,
-    Notices, Rules, literal_leaf, lookup_class, predefined_acls,
+    AclPart, AclTable, Body, BodyPart, Class, ClassTable, Config, ConfigFields, HeaderRules, Leaf,
+    Notice, Notices, Rules, literal_leaf, lookup_class, predefined_acls,
 };
 use std::alloc::Global;
 use std::marker::Model;
@@ -284,18 +284,18 @@ impl Builder {
         let pools = complete_pools(alloc, self.pools)?;
         let rewriter = rewriter_of(alloc, self.program, self.children)?;
         let port = self.port.unwrap_or(3128);
-        Ok(Config::of_parts(
+        Ok(Config::of_fields(ConfigFields {
             source,
-            self.dst_lookup,
-            self.classes.into_classes(),
-            self.acls.into_acls(),
-            self.rules,
+            dst_lookup: self.dst_lookup,
+            classes: self.classes.into_classes(),
+            acls: self.acls.into_acls(),
+            rules: self.rules,
             pools,
-            self.initial,
+            initial: self.initial,
             port,
             rewriter,
-            self.headers,
-            self.notices,
-        ))
+            headers: self.headers,
+            notices: self.notices,
+        }))
     }
 }

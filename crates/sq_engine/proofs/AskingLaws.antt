@@ -83,7 +83,8 @@ free_asking v e c n p i a is = i.waiting.waits e c p is n ∙ ap (waits_at e c) 
 
 -- what a step says that asked a class can be noted
 pub said_noted : (e c n t count : ℕ) (key : List ℕ) (class : Class) (said : StepEffect) (old new : EpochsState)
-    → IsChanged e c (IsResolved class c key t n count said) old new → IsNoted c key said
+    → IsChanged e c (IsResolved class c key (record { now = t; check = n; count = count }) said) old new
+    → IsNoted c key said
 said_noted e c n t count key class said old new ch =
     subst (IsNoted c key) (sym (ch.change e).said_is)
     (need_noted class (record { epoch = e; class = c; key = key }) t ch.before.row.kept

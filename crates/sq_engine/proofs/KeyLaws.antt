@@ -222,7 +222,7 @@ pub keyed_resolved : (old new : EpochsState) (cs : List (ℕ × CheckParts)) (t 
     (class : Class) (said : StepEffect) (check : CheckParts) → AreKeyed (part_at old) (value_at cs)
     → ((f d : ℕ) (p : PartState) → part_at old f d ≡ Some p → all_below (suc puts) p.row.lookups ≡ true)
     → value_at cs n ≡ Some check → check.epoch ≡ e
-    → IsChanged e c (IsResolved class c key t n puts said) old new
+    → IsChanged e c (IsResolved class c key (record { now = t; check = n; count = puts }) said) old new
     → AreKeyed (part_at new) (value_at (change_at n (noted said c key) cs))
 keyed_resolved old new cs t e c n puts key class said check a below found epoch ch = record { once = once; keys = keys }
   where
@@ -230,7 +230,7 @@ keyed_resolved old new cs t e c n puts key class said check a below found epoch 
     s = says_of_row class e c key t puts ch.before.row
 
     k : PartChanged e c ch.before ch.after old new
-    k = part_changed e c (IsResolved class c key t n puts said) old new ch
+    k = part_changed e c (IsResolved class c key (record { now = t; check = n; count = puts }) said) old new ch
 
     row : ch.after.row ≡ after_says c puts s ch.before.row
     row = (ch.change e).row_is

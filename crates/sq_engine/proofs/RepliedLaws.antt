@@ -41,7 +41,7 @@ pub reply_done : (v : EngineView) (new : EpochsState) (cs : List (ℕ × CheckPa
     → home_at v.epochs k ≡ Some (record { epoch = e; class = c }) → class_at v.epochs e c ≡ Some class
     → part_at v.epochs e c ≡ Some p
     → ((x : PartState) → part_at v.epochs e c ≡ Some x → key_of q x.row.lookups ≡ Some key)
-    → IsChanged e c (HasReplied class k q key w t checks) v.epochs new → w ≡ what_of reply
+    → IsChanged e c (HasReplied class k q key (record { what = w; date = t }) checks) v.epochs new → w ≡ what_of reply
     → cs ≡ all_ended q w t v.checks → Rises (map held_number (rows_of v.checks))
     → IsReplied (state_of v) k q reply t (state_of (record v { checks = cs; epochs = new; latest = t }))
 reply_done v new cs e c k q t key w reply class checks p i home at_class at found ch says list rise = record {

@@ -117,7 +117,8 @@ pub record IsOfPart (v : EngineView) (e c : ℕ) : Type 0 where
   pub is : part_at v.epochs e c ≡ Some part
 
 part_of_reply : (v : EngineView) (new : EpochsState) (e c k q t : ℕ) (key : List ℕ) (w : What) (class : Class)
-    (checks : List ℕ) → IsChanged e c (HasReplied class k q key w t checks) v.epochs new → IsOfPart v e c
+    (checks : List ℕ) → IsChanged e c (HasReplied class k q key (record { what = w; date = t }) checks) v.epochs new
+    → IsOfPart v e c
 part_of_reply v new e c k q t key w class checks ch = record { part = ch.before; is = ch.was }
 
 -- the rows of the checks after it
@@ -137,20 +138,23 @@ reply_rows v cs e c q t key w i of found list rise =
 pub reply_change : (v : EngineView) (new : EpochsState) (e c k q t : ℕ) (key : List ℕ) (w : What) (class : Class)
     (checks : List ℕ) → IsEngine v
     → ((p : PartState) → part_at v.epochs e c ≡ Some p → key_of q p.row.lookups ≡ Some key)
-    → IsChanged e c (HasReplied class k q key w t checks) v.epochs new
+    → IsChanged e c (HasReplied class k q key (record { what = w; date = t }) checks) v.epochs new
     → IsChanged e c (HasEnds (after_reply class k q key w t) (gone_one q)) v.epochs
     (record new { homes = v.epochs.homes; stops = v.epochs.stops })
 reply_change v new e c k q t key w class checks i found ch =
-    changed_as e c (HasReplied class k q key w t checks) (HasEnds (after_reply class k q key w t) (gone_one q)) v.epochs
+    changed_as e c (HasReplied class k q key (record { what = w; date = t }) checks)
+    (HasEnds (after_reply class k q key w t) (gone_one q)) v.epochs
     (record new { homes = v.epochs.homes; stops = v.epochs.stops }) change
-    (changed_beside e c (HasReplied class k q key w t checks) v.epochs new v.epochs.homes v.epochs.stops ch)
+    (changed_beside e c (HasReplied class k q key (record { what = w; date = t }) checks) v.epochs
+    new v.epochs.homes v.epochs.stops ch)
   where
     opened : (p : PartState) → part_at v.epochs e c ≡ Some p → (r : ℕ) → gone_one q r ≡ true
         → is_open_lookup r p.row.lookups ≡ true
     opened p at r x = key_open r key p.row.lookups
         (ap (λ z. key_of z p.row.lookups) (sym (number_is q r x)) ∙ found p at)
 
-    change : (p r : PartState) → part_at v.epochs e c ≡ Some p → HasReplied class k q key w t checks p r
+    change : (p r : PartState) → part_at v.epochs e c ≡ Some p
+        → HasReplied class k q key (record { what = w; date = t }) checks p r
         → HasEnds (after_reply class k q key w t) (gone_one q) p r
     change p r at h = record {
       row_is = h.row_is;
@@ -163,7 +167,7 @@ reply_change v new e c k q t key w class checks i found ch =
 pub reply_engine : (v : EngineView) (new : EpochsState) (cs : List (ℕ × CheckParts)) (e c k q t : ℕ) (key : List ℕ)
     (w : What) (class : Class) (checks : List ℕ) → IsEngine v
     → ((p : PartState) → part_at v.epochs e c ≡ Some p → key_of q p.row.lookups ≡ Some key)
-    → IsChanged e c (HasReplied class k q key w t checks) v.epochs new
+    → IsChanged e c (HasReplied class k q key (record { what = w; date = t }) checks) v.epochs new
     → cs ≡ all_ended q w t v.checks → Rises (map held_number (rows_of v.checks))
     → IsEngine (record v { checks = cs; epochs = new; latest = t })
 reply_engine v new cs e c k q t key w class checks i found ch list rise =
@@ -176,7 +180,7 @@ reply_engine v new cs e c k q t key w class checks i found ch list rise =
 pub reply_same : (v : EngineView) (new : EpochsState) (cs : List (ℕ × CheckParts)) (e c k q t : ℕ) (key : List ℕ)
     (w : What) (class : Class) (checks : List ℕ) → IsEngine v
     → ((p : PartState) → part_at v.epochs e c ≡ Some p → key_of q p.row.lookups ≡ Some key)
-    → IsChanged e c (HasReplied class k q key w t checks) v.epochs new
+    → IsChanged e c (HasReplied class k q key (record { what = w; date = t }) checks) v.epochs new
     → cs ≡ all_ended q w t v.checks → Rises (map held_number (rows_of v.checks))
     → IsSame (state_of (record v { checks = cs; epochs = new; latest = t }))
     (after_reply_at (record { epoch = e; class = c }) class k q key w t (state_of v))

@@ -103,7 +103,7 @@ fits_gives false count s e fits = rw e refl
 -- what is told of a step that asked a class
 pub told_resolved : (v : EngineView) (t e c n : ℕ) (key : List ℕ) (class : Class) (said : StepEffect)
     (new : EpochsState) → class_at v.epochs e c ≡ Some class
-    → IsChanged e c (IsResolved class c key t n v.puts said) v.epochs new
+    → IsChanged e c (IsResolved class c key (record { now = t; check = n; count = v.puts }) said) v.epochs new
     → step_next v.puts (says_here v t e c key) ≡ gives (stepped_told (state_of v) e said.stepped)
 told_resolved v t e c n key class said new is ch =
     let s = says_of_row class e c key t v.puts ch.before.row in
@@ -147,7 +147,8 @@ map_else e c f d count s (Some p) apart is = ap Some (sym (said_else e c f d cou
 
 -- what a step that asked a class leaves of the classes
 pub rows_resolved : (v : EngineView) (t e c n : ℕ) (key : List ℕ) (class : Class) (said : StepEffect)
-    (new : EpochsState) → (ch : IsChanged e c (IsResolved class c key t n v.puts said) v.epochs new)
+    (new : EpochsState)
+    → (ch : IsChanged e c (IsResolved class c key (record { now = t; check = n; count = v.puts }) said) v.epochs new)
     → (f d : ℕ) → row_at new f d
     ≡ option_map (after_said (e == f) f d v.puts (says_of_row class e c key t v.puts ch.before.row))
     (row_at v.epochs f d)
@@ -158,7 +159,8 @@ rows_resolved v t e c n key class said new ch f d = by (e == f && c == d) refl
         (after_said (e == f) f d v.puts (says_of_row class e c key t v.puts ch.before.row)) (row_at v.epochs f d)
     by true x =
         let s = says_of_row class e c key t v.puts ch.before.row in
-        let k = part_changed e c (IsResolved class c key t n v.puts said) v.epochs new ch in
+        let k =
+        part_changed e c (IsResolved class c key (record { now = t; check = n; count = v.puts }) said) v.epochs new ch in
         let place = need_place class (record { epoch = e; class = c; key = key }) t ch.before.row.kept
         (pending_in key ch.before.row.lookups) (full ch.before.row.stock) v.puts in
         let here : row_at new e c ≡ option_map (after_said (e == e) e c v.puts s) (row_at v.epochs e c) =
@@ -173,7 +175,8 @@ rows_resolved v t e c n key class said new ch f d = by (e == f && c == d) refl
         (number_is c d two.1) here)
     by false x =
         let s = says_of_row class e c key t v.puts ch.before.row in
-        let k = part_changed e c (IsResolved class c key t n v.puts said) v.epochs new ch in
+        let k =
+        part_changed e c (IsResolved class c key (record { now = t; check = n; count = v.puts }) said) v.epochs new ch in
         let place = need_place class (record { epoch = e; class = c; key = key }) t ch.before.row.kept
         (pending_in key ch.before.row.lookups) (full ch.before.row.stock) v.puts in
         ap (option_map (λ p. p.row)) (k.other f d x) ∙ map_else e c f d v.puts s (part_at v.epochs f d) x place
@@ -181,13 +184,14 @@ rows_resolved v t e c n key class said new ch f d = by (e == f && c == d) refl
 -- what such a step leaves
 pub same_resolved : (v : EngineView) (t e c n : ℕ) (key : List ℕ) (class : Class) (said : StepEffect)
     (new : EpochsState) (cs : List (ℕ × CheckParts)) (puts : ℕ) → class_at v.epochs e c ≡ Some class
-    → IsChanged e c (IsResolved class c key t n v.puts said) v.epochs new
+    → IsChanged e c (IsResolved class c key (record { now = t; check = n; count = v.puts }) said) v.epochs new
     → rows_of cs ≡ after_step n (says_of said) (rows_of v.checks) → puts ≡ (if said.put then suc v.puts else v.puts)
     → IsSame (state_of (record v { checks = cs; puts = puts; epochs = new; latest = t }))
     (after_step_of n e (says_here v t e c key) t (state_of v))
 same_resolved v t e c n key class said new cs puts is ch rows put =
     let s = says_of_row class e c key t v.puts ch.before.row in
-    let k = part_changed e c (IsResolved class c key t n v.puts said) v.epochs new ch in
+    let k =
+    part_changed e c (IsResolved class c key (record { now = t; check = n; count = v.puts }) said) v.epochs new ch in
     let said_is = (ch.change e).said_is in
     subst (λ z. IsSame (state_of (record v { checks = cs; puts = puts; epochs = new; latest = t }))
     (after_step_of n e z t (state_of v))) (sym (says_is v t e c key class ch.before is ch.was)) record {

@@ -99,10 +99,11 @@ wait_else e c f d key said k is none apart = by (f == k.epoch) refl
 -- who waits where after it
 waiting_resolved : (v : EngineView) (t e c n : ℕ) (key : List ℕ) (class : Class) (said : StepEffect) (new : EpochsState)
     → IsEngine v → IsAsking v e n
-    → (ch : IsChanged e c (IsResolved class c key t n v.puts said) v.epochs new)
+    → (ch : IsChanged e c (IsResolved class c key (record { now = t; check = n; count = v.puts }) said) v.epochs new)
     → AreWaiting (part_at new) (value_at (change_at n (noted said c key) v.checks))
 waiting_resolved v t e c n key class said new i a ch =
-    let k = part_changed e c (IsResolved class c key t n v.puts said) v.epochs new ch in
+    let k =
+    part_changed e c (IsResolved class c key (record { now = t; check = n; count = v.puts }) said) v.epochs new ch in
     waiting_part e c ch.before ch.after v.epochs new (value_at (change_at n (noted said c key) v.checks))
     (value_at v.checks) k i.waiting here other there
   where
@@ -165,10 +166,11 @@ waiting_resolved v t e c n key class said new i a ch =
 -- the open questions after it
 fed_resolved : (v : EngineView) (t e c n : ℕ) (key : List ℕ) (class : Class) (said : StepEffect) (new : EpochsState)
     (puts : ℕ) → IsEngine v
-    → (ch : IsChanged e c (IsResolved class c key t n v.puts said) v.epochs new)
+    → (ch : IsChanged e c (IsResolved class c key (record { now = t; check = n; count = v.puts }) said) v.epochs new)
     → puts ≡ (if said.put then suc v.puts else v.puts) → AreFed (part_at new) puts
 fed_resolved v t e c n key class said new puts i ch put =
-    let k = part_changed e c (IsResolved class c key t n v.puts said) v.epochs new ch in
+    let k =
+    part_changed e c (IsResolved class c key (record { now = t; check = n; count = v.puts }) said) v.epochs new ch in
     subst (AreFed (part_at new)) (sym (put ∙ ap (λ z. if z.put then suc v.puts else v.puts) (ch.change e).said_is))
     (fed_changed e c ch.before ch.after v.epochs new v.puts (puts_after v.puts s.put) k i.fed part_fed own
     (λ p h. put_higher v.puts s.put p.row.lookups h) (few (is_some s.put) refl))
@@ -216,12 +218,13 @@ fed_resolved v t e c n key class said new puts i ch put =
 
 pub resolved_engine : (v : EngineView) (t e c n : ℕ) (key : List ℕ) (class : Class) (said : StepEffect)
     (new : EpochsState) (cs : List (ℕ × CheckParts)) (puts : ℕ) → IsEngine v → IsAsking v e n
-    → IsChanged e c (IsResolved class c key t n v.puts said) v.epochs new → cs ≡ change_at n (noted said c key) v.checks
-    → rows_of cs ≡ after_step n (says_of said) (rows_of v.checks)
+    → IsChanged e c (IsResolved class c key (record { now = t; check = n; count = v.puts }) said) v.epochs new
+    → cs ≡ change_at n (noted said c key) v.checks → rows_of cs ≡ after_step n (says_of said) (rows_of v.checks)
     → puts ≡ (if said.put then suc v.puts else v.puts)
     → IsEngine (record v { checks = cs; puts = puts; epochs = new; latest = t })
 resolved_engine v t e c n key class said new cs puts i a ch list rows put =
-    let k = part_changed e c (IsResolved class c key t n v.puts said) v.epochs new ch in
+    let k =
+    part_changed e c (IsResolved class c key (record { now = t; check = n; count = v.puts }) said) v.epochs new ch in
     record {
       asked = asked_stepped n (says_of said) (check_in v.conns) (rows_of v.checks) (rows_of cs) v.asks rows i.asked;
       counted = counted_part e c ch.before ch.after v.epochs new (rows_of cs) k

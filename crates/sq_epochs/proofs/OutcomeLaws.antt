@@ -115,11 +115,12 @@ pub replied : {B : Type 0} (r : Result (List ℕ) B) (class : Class) (place k q 
     → OnOk r ((n : ℕ) → question_of n p'.waiting ≡ (if waits_in p.waiting q n then None else question_of n p.waiting))
     → p'.limit ≡ p.limit
     → IfOk r (λ checks. (c : Class) → slice_get v.config.classes place ≡ Some c
-    → IsEpochChanged place (HasReplied c k q key what date checks) v new)
+    → IsEpochChanged place (HasReplied c k q key (record { what = what; date = date }) checks) v new)
 replied (Ok checks) class place k q key what date old v new p p' same within is n here are row waiting limit = λ c at.
-    subst (λ z. IsEpochChanged place (HasReplied z k q key what date checks) v new)
+    subst (λ z. IsEpochChanged place (HasReplied z k q key (record { what = what; date = date }) checks) v new)
     (same_Some class c (sym here ∙ ap (λ z. slice_get z.config.classes place) same ∙ at))
-    (epoch_changed old v new place p p' (HasReplied class k q key what date checks) same within is
+    (epoch_changed old v new place p p' (HasReplied class k q key (record { what = what; date = date }) checks)
+    same within is
     (record { checks_are = are; row_is = row; waiting_are = waiting; limit_is = limit }) n)
 replied (Err e) class place k q key what date old v new p p' same within is n here are row waiting limit = tt
 
@@ -156,11 +157,11 @@ pub all_replied : {B : Type 0} (r : Result (List ℕ) B) (k q : ℕ) (key : List
     (v w new : EpochsState) (e c i : ℕ) (f : IsFound v e c i) (x y : EpochState) → v ≡ w → x ≡ get_or v.epochs i x
     → new ≡ record v { epochs = set v.epochs i y }
     → IfOk r (λ checks. (z : Class) → slice_get x.config.classes c ≡ Some z
-    → IsEpochChanged c (HasReplied z k q key what date checks) x y)
+    → IsEpochChanged c (HasReplied z k q key (record { what = what; date = date }) checks) x y)
     → IfOk r (λ checks. (z : Class) → class_at w e c ≡ Some z
-    → IsChanged e c (HasReplied z k q key what date checks) w new)
+    → IsChanged e c (HasReplied z k q key (record { what = what; date = date }) checks) w new)
 all_replied (Ok checks) k q key what date v w new e c i f x y same is n ok = λ z at.
-    lifted v w new e c i f x y (HasReplied z k q key what date checks) same is n
+    lifted v w new e c i f x y (HasReplied z k q key (record { what = what; date = date }) checks) same is n
     (ok z (sym (class_here v w e c i f x same is) ∙ at))
 all_replied (Err z) k q key what date v w new e c i f x y same is n ok = tt
 

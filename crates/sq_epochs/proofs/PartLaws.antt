@@ -48,8 +48,8 @@ limits_kept parts limits c p q are is same = map-set_same part_limit parts c q p
 -- a step keeps the limit
 pub limit_kept : (r : Result StepEffect ResolveFault) (class : Class) (place : ℕ) (key : List ℕ) (now check count : ℕ)
     (old new : PartState)
-    → IfOk r (λ s. IsResolved class place key now check count s old new) → OnErr r (IsAsBefore old new)
-    → new.limit ≡ old.limit
+    → IfOk r (λ s. IsResolved class place key (record { now = now; check = check; count = count }) s old new)
+    → OnErr r (IsAsBefore old new) → new.limit ≡ old.limit
 limit_kept (Ok s) class place key now check count old new ok err = (ok 0).limit_is
 limit_kept (Err e) class place key now check count old new ok err = err.limit_is
 
@@ -71,13 +71,15 @@ pub resolved : (r : Result StepEffect ResolveFault) (class : Class) (place : ℕ
     (old v new : EpochState) (p q : PartState)
     → old ≡ v → place < length v.parts → p ≡ get_or old.parts place p → new ≡ with_part place q old
     → slice_get old.config.classes place ≡ Some class
-    → IfOk r (λ s. IsResolved class place key now check count s p q)
+    → IfOk r (λ s. IsResolved class place key (record { now = now; check = check; count = count }) s p q)
     → IfOk r (λ s. (k : Class) → slice_get v.config.classes place ≡ Some k
-    → IsEpochChanged place (IsResolved k place key now check count s) v new)
+    → IsEpochChanged place (IsResolved k place key (record { now = now; check = check; count = count }) s) v new)
 resolved (Ok s) class place key now check count old v new p q same within is n here ok = λ k at.
-    subst (λ z. IsEpochChanged place (IsResolved z place key now check count s) v new)
+    subst
+    (λ z. IsEpochChanged place (IsResolved z place key (record { now = now; check = check; count = count }) s) v new)
     (same_Some class k (sym here ∙ ap (λ z. slice_get z.config.classes place) same ∙ at))
-    (epoch_changed old v new place p q (IsResolved class place key now check count s) same within is ok n)
+    (epoch_changed old v new place p q
+    (IsResolved class place key (record { now = now; check = check; count = count }) s) same within is ok n)
 resolved (Err e) class place key now check count old v new p q same within is n here ok = tt
 
 -- a refusal that leaves the part as before leaves its epoch so
@@ -161,10 +163,11 @@ pub all_resolved : (r : Result StepEffect ResolveFault) (key : List ℕ) (now ch
     (e c i : ℕ) (f : IsFound v e c i) (x y : EpochState) → v ≡ w → x ≡ get_or v.epochs i x
     → new ≡ record v { epochs = set v.epochs i y }
     → IfOk r (λ s. (k : Class) → slice_get x.config.classes c ≡ Some k
-    → IsEpochChanged c (IsResolved k c key now check count s) x y)
-    → IfOk r (λ s. (k : Class) → class_at w e c ≡ Some k → IsChanged e c (IsResolved k c key now check count s) w new)
+    → IsEpochChanged c (IsResolved k c key (record { now = now; check = check; count = count }) s) x y)
+    → IfOk r (λ s. (k : Class) → class_at w e c ≡ Some k
+    → IsChanged e c (IsResolved k c key (record { now = now; check = check; count = count }) s) w new)
 all_resolved (Ok s) key now check count v w new e c i f x y same is n ok = λ k at.
-    lifted v w new e c i f x y (IsResolved k c key now check count s) same is n
+    lifted v w new e c i f x y (IsResolved k c key (record { now = now; check = check; count = count }) s) same is n
     (ok k (sym (class_here v w e c i f x same is) ∙ at))
 all_resolved (Err z) key now check count v w new e c i f x y same is n ok = tt
 

@@ -377,7 +377,8 @@ homed_less v w g e c p q are there at epochs homes less = λ d b k.
 -- the same processes live after each call that ends and starts none
 pub living_step : (r : Result StepEffect ResolveFault) (class : Class) (place : ℕ) (key : List ℕ) (now check count : ℕ)
     (p q : PartState)
-    → IfOk r (λ s. IsResolved class place key now check count s p q) → OnErr r (IsAsBefore p q) → (k : ℕ)
+    → IfOk r (λ s. IsResolved class place key (record { now = now; check = check; count = count }) s p q)
+    → OnErr r (IsAsBefore p q) → (k : ℕ)
     → lives k q.row.stock.procs ≡ lives k p.row.stock.procs
 living_step (Ok s) class place key now check count p q ok err = λ k.
     ap (λ x. lives k x.stock.procs) (ok 0).row_is

@@ -14,12 +14,18 @@ use Rattle.sq_class.specs.declared.lost.Lost.{Lost}
 use Rattle.sq_class.specs.Parts.{PartState}
 use Rattle.sq_class.specs.Steps.{IsStepped}
 
+-- a step at a moment, of this check, where so many questions were put before
+pub record Stepping : Type 0 where
+  pub now : ℕ
+  pub check : ℕ
+  pub count : ℕ
+
 -- a step of a check on the class at a place, which needs this key, says what the rule says, and the
 -- part is left so
-abbrev pub IsResolved : Class → ℕ → List ℕ → ℕ → ℕ → ℕ → StepEffect → PartState → PartState → Type 0
-IsResolved class place key now check count said old new =
-    (e : ℕ) → IsStepped place count check (says_of_row class e place key now count old.row) said old
-    new
+abbrev pub IsResolved : Class → ℕ → List ℕ → Stepping → StepEffect → PartState → PartState → Type 0
+IsResolved class place key s said old new =
+    (e : ℕ) → IsStepped place s.count s.check
+    (says_of_row class e place key s.now s.count old.row) said old new
 
 -- the check waits for nothing in this part
 pub record HasLeft (check : ℕ) (old new : PartState) : Type 0 where
@@ -28,12 +34,17 @@ pub record HasLeft (check : ℕ) (old new : PartState) : Type 0 where
       → question_of n new.waiting ≡ (if n == check then None else question_of n old.waiting)
   pub limit_is : new.limit ≡ old.limit
 
+-- what a reply says, and its date
+pub record Replied : Type 0 where
+  pub what : What
+  pub date : ℕ
+
 -- a reply of process k to question q, of this key, says so and dates from then; these checks waited
 -- for it
-pub record HasReplied (class : Class) (k q : ℕ) (key : List ℕ) (what : What) (date : ℕ)
+pub record HasReplied (class : Class) (k q : ℕ) (key : List ℕ) (r : Replied)
     (checks : List ℕ) (old new : PartState) : Type 0 where
   pub checks_are : (n : ℕ) → has_check n checks ≡ waits_in old.waiting q n
-  pub row_is : new.row ≡ after_reply class k q key what date old.row
+  pub row_is : new.row ≡ after_reply class k q key r.what r.date old.row
   pub waiting_are : (n : ℕ)
       → question_of n new.waiting
       ≡ (if waits_in old.waiting q n then None else question_of n old.waiting)

@@ -203,8 +203,9 @@ impl Epoch {
             → IsSpent count (says_of_row k e class key.now now count p.row) }
         ensures ok { IfOk result
             (λ s. (k : Class) → slice_get self.old.config.classes class ≡ Some k
-            → IsEpochChanged class (IsResolved k class key.now now check count s) self.old
-            self.new) }
+            → IsEpochChanged class
+            (IsResolved k class key.now (record { now = now; check = check; count = count }) s)
+            self.old self.new) }
         ensures err { OnErr result (IsEpochChanged class IsAsBefore self.old self.new) }
         ensures number { self.new.epoch ≡ self.old.epoch }
         ensures checks { self.new.checks ≡ self.old.checks }
@@ -242,7 +243,8 @@ impl Epoch {
             → is_open question (slots_in proc p.row.stock.procs) ≡ true }
         ensures ok { IfOk result
             (λ checks. (k : Class) → slice_get self.old.config.classes class ≡ Some k
-            → IsEpochChanged class (HasReplied k proc question key what date checks) self.old
+            → IsEpochChanged class
+            (HasReplied k proc question key (record { what = what; date = date }) checks) self.old
             self.new) }
         ensures err { OnErr result (IsEpochChanged class IsAsBefore self.old self.new) }
         ensures number { self.new.epoch ≡ self.old.epoch }

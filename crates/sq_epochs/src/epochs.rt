@@ -182,8 +182,9 @@ impl Epochs {
             → (e : ℕ) → IsSpent count (says_of_row k e class key.now now count p.row) }
         ensures ok { IfOk result
             (λ s. (k : Class) → class_at self.old epoch class ≡ Some k
-            → IsChanged epoch class (IsResolved k class key.now now check count s) self.old
-            self.new) }
+            → IsChanged epoch class
+            (IsResolved k class key.now (record { now = now; check = check; count = count }) s)
+            self.old self.new) }
         ensures err { OnErr result (IsChanged epoch class IsAsBefore self.old self.new) }
     {
         let place = place_of(&self.epochs, epoch);
@@ -218,7 +219,8 @@ impl Epochs {
             → is_open question (slots_in proc p.row.stock.procs) ≡ true }
         ensures ok { IfOk result
             (λ checks. (k : Class) → class_at self.old epoch class ≡ Some k
-            → IsChanged epoch class (HasReplied k proc question key what date checks) self.old
+            → IsChanged epoch class
+            (HasReplied k proc question key (record { what = what; date = date }) checks) self.old
             self.new) }
         ensures err { OnErr result (IsChanged epoch class IsAsBefore self.old self.new) }
     {

@@ -1,12 +1,9 @@
 -- How far the rules have come for each name, as one more rule comes.
-use Rattle.std.proofs.Common.{arith, ◌≡◌, ◌==◌, ℕ, List, [], ◌∷◌, Bool, true, false, ◌&&◌, cond, Option, Some, None, IfSome, inl, inr, refl, sym, ap, subst, ◌∙◌}
+use Rattle.std.proofs.Common.{◌≡◌, ℕ, List, [], ◌∷◌, Bool, true, false, ◌&&◌, cond, Option, Some, None, IfSome, inl, inr, refl, sym, ap, subst, ◌∙◌}
 use Rattle.std.proofs.lemmas.Bool.{cases_Bool}
-use Rattle.std.proofs.lemmas.Bool.Decides.{nat_tests}
 use Rattle.std.proofs.lemmas.Map.Text.{is_eq-slice_cmp}
 use Rattle.std.specs.BTreeMap.{is_at}
-use Rattle.std.specs.Char.{to_ascii_lowercase}
 use Rattle.std.specs.Cmp.Lexicographic.{slice_cmp, same_text}
-use Rattle.std.specs.List.{list_all}
 use Rattle.std.specs.Map.{lookup}
 use Rattle.std.specs.Ordering.{nat_cmp}
 use Rattle.std.specs.Prelude.{bytes_eq, unwrap_or}
@@ -144,19 +141,3 @@ decided_by c facts reply table name s others are here is =
     ap (λ o. unwrap_or o others) at
     ∙ ap (unwrap_or (settled (fact_taken facts) c.acls Unnamed (rules_for reply name c.headers))) is
     ∙ sym (allowed_is c facts reply name)
-
--- a name whose bytes are all in lower case
-pub lowered_is : (name : List ℕ) → list_all (λ b. to_ascii_lowercase b == b) name ≡ true
-    → str_to_ascii_lowercase name ≡ name
-lowered_is [] h = refl
-lowered_is (b ∷ name) h =
-    let both = and_both (to_ascii_lowercase b == b) (list_all (λ x. to_ascii_lowercase x == x) name) h in
-    ap (λ x. x ∷ str_to_ascii_lowercase name) (number_is (to_ascii_lowercase b) b both.0)
-    ∙ ap (λ l. b ∷ l) (lowered_is name both.1)
-  where
-    number_is : (x y : ℕ) → (x == y) ≡ true → x ≡ y
-    number_is x y e = grind (arith, nat_tests, e)
-
-    and_both : (x y : Bool) → (x && y) ≡ true → (x ≡ true) × (y ≡ true)
-    and_both true y e = (refl, e)
-    and_both false y e = absurd cc

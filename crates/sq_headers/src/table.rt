@@ -1,12 +1,9 @@
 //! How far the rules have come for each of some names, found by name.
-ghost use Rattle.std.specs.Prelude.{◌≡◌, ◌==◌, ℕ, List, true, Some, if◌then◌else◌, bytes_eq, length, IfOk, IfSome, OnOk, [], ◌∷◌};
-ghost use Rattle.std.specs.Char.{to_ascii_lowercase};
-ghost use Rattle.std.specs.List.{list_all};
-ghost use Rattle.std.specs.Str.{str_to_ascii_lowercase};
+ghost use Rattle.std.specs.Prelude.{◌≡◌, ℕ, List, true, Some, if◌then◌else◌, bytes_eq, length, IfOk, IfSome, OnOk, [], ◌∷◌};
 ghost use Rattle.sq_eval.specs.Takings.{fact_taken};
 ghost use Rattle.sq_headers.specs.Standings.{standing_at, AreStandings};
 ghost use Rattle.sq_headers.specs.declared.standing.Standing.TheVariants.{Unnamed};
-ghost use Rattle.sq_rules.specs.Configurations.{is_header};
+ghost use Rattle.sq_rules.specs.Configurations.{is_header, is_lower};
 ghost use Rattle.sq_rules.specs.Verdicts.{is_same_way};
 ghost use Rattle.sq_rules.specs.declared.headers.HeaderRule.{HeaderRule};
 
@@ -70,72 +67,37 @@ impl Standings {
         Ok(())
     }
 
-    // Goes on by a rule whose name in lower case is this key, if something stands there. It takes no memory.
-    fn go_on_at(
-        &mut self,
-        config: &Config,
-        facts: &Facts,
-        reply: bool,
-        key: &Text,
-        rule: &HeaderRule,
-    )
+    // Goes on by a rule that goes this way, if something stands at its name. It takes no memory.
+    fn go_on_at(&mut self, config: &Config, facts: &Facts, reply: bool, rule: &HeaderRule)
         requires facts { length facts.now ≡ length config.now.acls }
         requires is_header { is_header config.now.acls rule.now ≡ true }
+        requires lower { is_lower rule.now ≡ true }
         requires way { is_same_way rule.now.reply reply ≡ true }
-        requires key { key.now ≡ str_to_ascii_lowercase rule.now.name }
         ensures { (headers rest : List HeaderRule)
             → AreStandings (fact_taken facts.now) config.now.acls reply headers (rule.now ∷ rest)
             self.old
             → AreStandings (fact_taken facts.now) config.now.acls reply headers rest self.new }
     {
-        let Some(standing) = self.map.get_mut(key) else {
+        let Some(standing) = self.map.get_mut(&rule.name) else {
             return;
         };
         *standing = behind(config, facts, *standing, &rule.rule);
     }
 
-    // Goes on by a rule, if it is for a name that stands here. It takes memory where the rule's name is not in lower case.
-    fn go_on(
-        &mut self,
-        alloc: Global,
-        config: &Config,
-        facts: &Facts,
-        reply: bool,
-        rule: &HeaderRule,
-    ) -> Result<(), WantOfMemory>
+    // Goes on by a rule, if it is for a name that stands here. It takes no memory.
+    fn go_on(&mut self, config: &Config, facts: &Facts, reply: bool, rule: &HeaderRule)
         requires facts { length facts.now ≡ length config.now.acls }
         requires is_header { is_header config.now.acls rule.now ≡ true }
-        ensures { OnOk result
-            ((headers rest : List HeaderRule)
+        requires lower { is_lower rule.now ≡ true }
+        ensures { (headers rest : List HeaderRule)
             → AreStandings (fact_taken facts.now) config.now.acls reply headers (rule.now ∷ rest)
             self.old
-            → AreStandings (fact_taken facts.now) config.now.acls reply headers rest self.new) }
+            → AreStandings (fact_taken facts.now) config.now.acls reply headers rest self.new }
     {
-        if !is_same_way(rule, reply) {
-            return Ok(());
+        if is_same_way(rule, reply) {
+            self.go_on_at(config, facts, reply, rule);
         }
-        if is_lowered(rule.name.as_bytes()) {
-            self.go_on_at(config, facts, reply, &rule.name, rule);
-            return Ok(());
-        }
-        let key = lowered(alloc, rule.name.as_bytes())?;
-        self.go_on_at(config, facts, reply, &key, rule);
-        Ok(())
     }
-}
-
-// Whether a byte is in lower case, as all are that are no letters.
-fn is_lowered_byte(byte: u8) -> bool
-    ensures { result ≡ (to_ascii_lowercase byte == byte) }
-{
-    byte.to_ascii_lowercase() == byte
-}
-
-// Whether a name is in lower case.
-fn is_lowered(name: &[u8]) -> bool
-    ensures { result ≡ list_all (λ b. to_ascii_lowercase b == b) name.now }
-{
-    name.iter().all(|&byte| is_lowered_byte(byte))
 }
 
 // The names of these fields and of those that a proxy writes itself.
@@ -168,7 +130,7 @@ pub(crate) fn table_of(
     config.facts();
     let mut table = names_of(alloc, fields)?;
     for rule in config.headers() {
-        table.go_on(alloc, config, facts, reply, rule)?;
+        table.go_on(config, facts, reply, rule);
     }
     Ok(table)
 }

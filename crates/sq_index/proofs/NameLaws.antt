@@ -1,16 +1,17 @@
 -- What names stand for.
 use mathlib.Core.Bool.{or-false}
-use Rattle.std.proofs.Common.{◌≡◌, ℕ, suc, ◌-◌, ◌+◌, ◌<◌, ◌≤◌, List, zero, ◌++◌, ◌∷◌, [], length, get_or, take, drop, Bool, true, false, ◌&&◌, ◌||◌, ◌==◌, nat_eq, arith, inl, inr, sym, ◌∙◌, ap, refl, subst}
+use Rattle.std.proofs.Common.{◌≡◌, ℕ, suc, ◌-◌, ◌+◌, ◌<◌, ◌≤◌, List, zero, ◌++◌, ◌∷◌, [], length, get_or, take, drop, Bool, true, false, ◌&&◌, ◌||◌, not, ◌==◌, nat_eq, arith, inl, inr, sym, ◌∙◌, ap, refl, subst}
 use Rattle.std.proofs.Math.Seq.{take-length}
 use Rattle.std.proofs.lemmas.Bool.{and_from, and_parts, eqb-true, eq-eqb, or_cases, or_left, or_right}
 use Rattle.std.proofs.lemmas.Bool.Decides.{Decides-eqb, same_from_decides}
 use Rattle.std.proofs.lemmas.List.{drop_more, length-drop}
+use Rattle.std.proofs.lemmas.List.Folds.{list_any-append}
 use Rattle.std.proofs.lemmas.Slice.Eq.{bytes_eq-Decides, ends_is}
 use Rattle.std.specs.Bool.{Decides}
 use Rattle.std.specs.List.{ends_with, slice_range}
 use Rattle.std.specs.Str.{bytes_eq}
 use Rattle.sq_base.specs.Bytes.{dot}
-use Rattle.sq_index.specs.Names.{has_host, is_at, is_below, is_named, some_above, some_named}
+use Rattle.sq_index.specs.Names.{has_host, is_at, is_below, some_above, some_named}
 use Rattle.sq_index.specs.declared.names.Name.{Name}
 
 -- what it is to be below a name
@@ -138,3 +139,52 @@ whole_decides names host k past none =
     let fails : some_above names host ≡ false = subst (λ i. some_above names (drop i host) ≡ false) start none in
     sym (or-false (some_named names host true)) ∙ ap (λ t. some_named names host true || t) (sym fails)
     ∙ host_parts names host
+
+-- a name that covers another stands for all that this one stands for
+pub covered_at : (n m : Name) (host : List ℕ) → (bytes_eq n.name m.name && (n.wide || not m.wide)) ≡ true
+    → is_at m host ≡ true → is_at n host ≡ true
+covered_at n m host covers at =
+    let parts = and_parts (bytes_eq n.name m.name) (n.wide || not m.wide) covers in
+    let same : n.name ≡ m.name = (bytes_eq-Decides n.name m.name).0 parts.0 in
+    subst (λ t. (bytes_eq t host || (n.wide && is_below t host)) ≡ true) (sym same)
+    (wider n.wide m.wide (bytes_eq m.name host) (is_below m.name host) parts.1 at)
+  where
+    wider : (w v e b : Bool) → (w || not v) ≡ true → (e || (v && b)) ≡ true → (e || (w && b)) ≡ true
+    wider w v true b more is = refl
+    wider true true false b more is = is
+    wider true false false b more is = cc
+    wider false true false b more is = cc
+    wider false false false b more is = is
+
+-- what is kept and what is left have the hosts that they had before the last was taken
+last_out : (rest : List Name) (n : Name) (host : List ℕ)
+    → has_host (rest ++ n ∷ []) host ≡ (has_host rest host || (is_at n host || false))
+last_out rest n host = list_any-append (λ m. is_at m host) rest (n ∷ [])
+
+pub has_without : (kept rest : List Name) (n : Name) (host : List ℕ)
+    → (is_at n host ≡ true → has_host kept host ≡ true)
+    → (has_host kept host || has_host rest host) ≡ (has_host kept host || has_host (rest ++ n ∷ []) host)
+has_without kept rest n host covers =
+    covered_is (has_host kept host) (has_host rest host) (is_at n host) covers
+    ∙ ap (λ t. has_host kept host || t) (sym (last_out rest n host))
+  where
+    covered_is : (h r b : Bool) → (b ≡ true → h ≡ true) → (h || r) ≡ (h || (r || (b || false)))
+    covered_is true r b covers = refl
+    covered_is false true b covers = refl
+    covered_is false false true covers = covers refl
+    covered_is false false false covers = refl
+
+pub has_with : (kept rest : List Name) (n : Name) (host : List ℕ)
+    → (has_host (kept ++ n ∷ []) host || has_host rest host)
+    ≡ (has_host kept host || has_host (rest ++ n ∷ []) host)
+has_with kept rest n host =
+    ap (λ t. t || has_host rest host) (last_out kept n host)
+    ∙ moved (has_host kept host) (has_host rest host) (is_at n host)
+    ∙ ap (λ t. has_host kept host || t) (sym (last_out rest n host))
+  where
+    moved : (h r b : Bool) → ((h || (b || false)) || r) ≡ (h || (r || (b || false)))
+    moved true r b = refl
+    moved false true true = refl
+    moved false true false = refl
+    moved false false true = refl
+    moved false false false = refl

@@ -1,6 +1,6 @@
 -- Names at the places of their hashes.
 use mathlib.Core.Bool.{or-false}
-use Rattle.std.proofs.Common.{◌≡◌, ℕ, ◌-◌, ◌+◌, ◌<◌, ◌≤◌, List, ◌++◌, ◌∷◌, [], length, get_or, take, drop, Bool, true, false, ◌&&◌, ◌||◌, ltb, arith, inl, inr, sym, ◌∙◌, ap, refl, subst}
+use Rattle.std.proofs.Common.{◌≡◌, ℕ, ◌+◌, ◌<◌, ◌≤◌, List, ◌++◌, ◌∷◌, [], length, get_or, take, drop, Bool, true, false, ◌||◌, ltb, arith, inl, inr, sym, ◌∙◌, ap, refl, subst}
 use Rattle.std.proofs.lemmas.Bool.{and_parts, both_ways, cases_lt, lt-ltb, ltb-true}
 use Rattle.std.proofs.lemmas.List.{get_or-drop, get_or-take, get_or_append_left, get_or_push, length-append, length-drop, length-take, take-append-drop}
 use Rattle.std.proofs.lemmas.List.Folds.{drop_split, list_any-append, list_any_none}
@@ -71,5 +71,6 @@ starts_push names shift starts index all parts = λ place within.
       | inr last ↦
           let end : length starts ≡ place = omega (arith, more) in
           subst (λ j. Parts names shift j (get_or (starts ++ index ∷ []) j 0)) end
-          (subst (λ i. Parts names shift (length starts) i) (sym (get_or_push starts index 0 (length starts) refl)) parts)
+          (subst (λ i. Parts names shift (length starts) i) (sym (get_or_push starts index 0 (length starts) refl))
+          parts)
     ]

@@ -38,7 +38,10 @@ name_send = search (sendable, crosses) depth 40 fits 20000
 
 domain_set_inside_send : IsSend domain_set_inside.the_row
 domain_set_inside_send =
-    let parts : FieldsHave IsSend (domain_set_inside.the_type).parts = (search (sendable, Vec-send, name_send), (search (sendable, Vec-send, crosses), (search (sendable, crosses), tt))) in
+    let parts : FieldsHave IsSend (domain_set_inside.the_type).parts = (
+      search (sendable, Vec-send, name_send),
+      (search (sendable, Vec-send, crosses), (search (sendable, crosses), tt)),
+    ) in
     declared_send domain_set_inside.the_type parts
 
 -- a set of domains crosses threads
@@ -72,7 +75,10 @@ name_sync = search (sendable, crosses) depth 40 fits 20000
 
 domain_set_inside_sync : IsSync domain_set_inside.the_row
 domain_set_inside_sync =
-    let parts : FieldsHave IsSync (domain_set_inside.the_type).parts = (search (sendable, Vec-sync, name_sync), (search (sendable, Vec-sync, crosses), (search (sendable, crosses), tt))) in
+    let parts : FieldsHave IsSync (domain_set_inside.the_type).parts = (
+      search (sendable, Vec-sync, name_sync),
+      (search (sendable, Vec-sync, crosses), (search (sendable, crosses), tt)),
+    ) in
     declared_sync domain_set_inside.the_type parts
 
 -- a set of domains crosses threads

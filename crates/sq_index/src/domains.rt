@@ -1,16 +1,16 @@
 //! Sets of domains.
-ghost use Rattle.std.specs.Prelude.{◌≡◌, ◌<◌, ℕ, List, IfOk};
+ghost use Rattle.std.specs.Prelude.{◌≡◌, ◌<◌, ℕ, List, true, IfOk};
 ghost use Rattle.std.specs.List.Sorted.{IsNonDecreasingBy};
 ghost use Rattle.sq_index.specs.Members.{in_some_domain};
-ghost use Rattle.sq_index.specs.Names.{has_host, hash_of, place_of, some_named, AreHashed, AreStarts, IsTable};
+ghost use Rattle.sq_index.specs.Names.{has_host, hash_of, is_at, place_of, some_named, AreHashed, AreStarts, IsTable};
 
 use crate::names::{Name, mixed, place_of};
 use sq_base::{Text, Texts, WantOfMemory};
 use std::alloc::Global;
 use std::marker::Model;
 
-/// The names of a list of domains, by the places of their hashes: `starts` has for each place where its
-/// names begin, and there are about as many places as names. Contracts ask `has_host` of it.
+/// The names of a list of domains, by the places of their hashes: `starts` has for each place where
+/// its names begin, and there are about as many places as names. Contracts ask `has_host` of it.
 #[derive(Drop)]
 pub struct DomainSet {
     names: Vec<Name>,
@@ -31,13 +31,14 @@ impl Model for DomainSet {
 }
 
 impl DomainSet {
-    /// The hosts of these domains: case does not count in a domain, and one that begins with `.` has the
-    /// hosts below it too.
+    /// The hosts of these domains: case does not count in a domain, and one that begins with `.` has
+    /// the hosts below it too.
     pub fn make(alloc: Global, values: &Texts) -> Result<DomainSet, WantOfMemory>
         ensures { IfOk result
             (λ s. (host : List ℕ) → has_host s host ≡ in_some_domain values.now host) }
     {
         let names = names_of(alloc, values.as_slice())?;
+        let names = apart(alloc, sorted(names, 0)?)?;
         let shift = (names.len() as u64).leading_zeros().min(63);
         let names = sorted(names, shift)?;
         let starts = starts_of(alloc, names.as_slice(), shift)?;
@@ -74,11 +75,38 @@ fn names_of(alloc: Global, domains: &[Text]) -> Result<Vec<Name>, WantOfMemory>
     Ok(names)
 }
 
+// The names without those that the one before covers, as one covers itself: a list that is merged of
+// several has many names again and again, and all of one hash would be compared.
+fn apart(alloc: Global, mut names: Vec<Name>) -> Result<Vec<Name>, WantOfMemory>
+    requires hashed { AreHashed names.items }
+    ensures same { IfOk result
+        (λ n. (host : List ℕ) → has_host n.items host ≡ has_host names.items host) }
+    ensures hashed { IfOk result (λ n. AreHashed n.items) }
+{
+    let mut kept = Vec::with_capacity(alloc, names.len())?;
+    while let Some(name) = names.pop() {
+        if !is_covered(kept.as_slice(), &name) {
+            kept.push(name)?;
+        }
+    }
+    Ok(kept)
+}
+
+// Whether the last of these names stands for all that this one stands for.
+fn is_covered(kept: &[Name], name: &Name) -> bool
+    ensures { result ≡ true → (host : List ℕ) → is_at name.now host ≡ true
+        → has_host kept.now host ≡ true }
+{
+    let count = kept.len();
+    count > 0 && kept[count - 1].covers(name)
+}
+
 // The names by their places.
 fn sorted(mut names: Vec<Name>, shift: u32) -> Result<Vec<Name>, WantOfMemory>
     requires fits { shift < 64 }
     requires hashed { AreHashed names.items }
-    ensures same { IfOk result (λ n. (host : List ℕ) → has_host n.items host ≡ has_host names.items host) }
+    ensures same { IfOk result
+        (λ n. (host : List ℕ) → has_host n.items host ≡ has_host names.items host) }
     ensures hashed { IfOk result (λ n. AreHashed n.items) }
     ensures rising { IfOk result (λ n. IsNonDecreasingBy (λ x. place_of x.hash shift) n.items) }
 {
@@ -100,8 +128,8 @@ fn starts_of(alloc: Global, names: &[Name], shift: u32) -> Result<Vec<usize>, Wa
     Ok(starts)
 }
 
-// Whether some name stands for the host: each name that may do so is asked for by its hash, from the
-// shortest to the host itself.
+// Whether some name stands for the host: each name that may do so is asked for by its hash, from
+// the shortest to the host itself.
 fn finds(names: &[Name], shift: u32, starts: &[usize], host: &[u8]) -> bool
     requires { IsTable names.now shift starts.now }
     ensures { result ≡ has_host names.now host.now }

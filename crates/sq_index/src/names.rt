@@ -1,5 +1,5 @@
 //! Names of hosts, with hashes of their bytes.
-ghost use Rattle.std.specs.Prelude.{◌≡◌, ◌∷◌, ◌||◌, ◌<◌, ℕ, List, nat_eq, bytes_eq, IfOk};
+ghost use Rattle.std.specs.Prelude.{◌≡◌, ◌∷◌, ◌&&◌, ◌||◌, ◌<◌, ℕ, List, nat_eq, bytes_eq, not, IfOk};
 ghost use Rattle.std.specs.Char.{to_ascii_lowercase};
 ghost use Rattle.std.specs.List.{ends_with};
 ghost use Rattle.std.specs.Str.{str_to_ascii_lowercase};
@@ -22,7 +22,8 @@ impl Name {
     /// The name of a domain, which is wide where the domain begins with `.`.
     pub fn of(alloc: Global, domain: &[u8]) -> Result<Name, WantOfMemory>
         ensures stands { IfOk result
-            (λ n. (host : List ℕ) → is_at n host ≡ in_domain host (str_to_ascii_lowercase domain.now)) }
+            (λ n. (host : List ℕ) → is_at n host
+            ≡ in_domain host (str_to_ascii_lowercase domain.now)) }
         ensures hash { IfOk result (λ n. n.hash ≡ hash_of n.name) }
     {
         match domain {
@@ -31,13 +32,22 @@ impl Name {
         }
     }
 
-    /// Whether it is this one, whose hash is given; one that is not wide counts for a whole host alone.
+    /// Whether it is this one, whose hash is given; one that is not wide counts for a whole host
+    /// alone.
     pub fn is(&self, hash: u64, bytes: &[u8], whole: bool) -> bool
         requires own { self.now.hash ≡ hash_of self.now.name }
         requires asked { hash ≡ hash_of bytes.now }
         ensures { result ≡ is_named bytes.now whole self.now }
     {
         self.hash == hash && self.name.as_bytes() == bytes && (whole || self.wide)
+    }
+
+    /// Whether it stands for all that another does, as it is the same name and wide where that is.
+    pub fn covers(&self, other: &Name) -> bool
+        ensures { result ≡ (bytes_eq self.now.name other.now.name
+            && (self.now.wide || not other.now.wide)) }
+    {
+        self.name.as_bytes() == other.name.as_bytes() && (self.wide || !other.wide)
     }
 }
 

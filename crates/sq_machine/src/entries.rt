@@ -145,7 +145,7 @@ pub enum Told {
         seat: SeatNo,
         pool: u32,
     },
-    /// The connection's record has no pool; printed `none`.
+    /// The connection's record has no pool, or one of class 5 and no tag; printed `none`.
     NoSeat,
     /// So many bytes were granted, at most 2^63 - 1.
     Granted(u64),

@@ -79,7 +79,7 @@ asking_flat acls n v = nesting_at (with_two acls n v) (suc (length acls)) (askin
 one_deep : (i j : ℕ) → i ≡ 0 → j ≡ 0 → suc (max (max i (max j 0)) 0) ≡ 1
 one_deep i j e f = rw (e, f) refl
 
-named_deep : (acls : List Acl) (n : List ℕ) (v : List Range) → begins_literal acls ≡ true
+pub named_deep : (acls : List Acl) (n : List ℕ) (v : List Range) → begins_literal acls ≡ true
     → nesting_of (nestings (with_two acls n v)) (named_acl (length acls) n).body ≡ 1
 named_deep acls n v is =
     let first : slice_index_or (nestings (with_two acls n v)) 0 0 ≡ 0 =
@@ -95,7 +95,7 @@ index_end : (xs : List ℕ) (y : ℕ) → slice_index_or (xs ++ y ∷ []) (lengt
 index_end [] y = refl
 index_end (x ∷ xs) y = index_end xs y
 
-named_index : (acls : List Acl) (n : List ℕ) (v : List Range) → begins_literal acls ≡ true
+pub named_index : (acls : List Acl) (n : List ℕ) (v : List Range) → begins_literal acls ≡ true
     → slice_index_or (nestings (with_three acls n v)) (suc (suc (length acls))) 0 ≡ 1
 named_index acls n v is =
     let long : length (nestings (with_two acls n v)) ≡ suc (suc (length acls)) = nestings_length (with_two acls n v)
@@ -109,7 +109,7 @@ named_index acls n v is =
     (nesting_of (nestings (with_two acls n v)) (named_acl (length acls) n).body))
     ∙ named_deep acls n v is
 
-values_flat : (acls : List Acl) (n : List ℕ) (v : List Range)
+pub values_flat : (acls : List Acl) (n : List ℕ) (v : List Range)
     → slice_index_or (nestings (with_three acls n v)) (length acls) 0 ≡ 0
 values_flat acls n v =
     nesting_at (with_three acls n v) (length acls) (values_acl n v)

@@ -1,7 +1,7 @@
 pub mod AclLaws
 mod ConfTexts
 pub mod FactLaws
-mod FourLaws
+pub mod FourLaws
 mod HeaderLaws
 pub mod ListLaws
 pub mod LookupLaws

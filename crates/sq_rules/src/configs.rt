@@ -136,49 +136,60 @@ impl Model for Config {
         }) };
 }
 
+/// The fields of a configuration, before they are known to be one.
+pub struct ConfigFields {
+    pub source: Text,
+    pub dst_lookup: bool,
+    pub classes: Classes,
+    pub acls: Acls,
+    pub rules: Rules,
+    pub pools: PoolList,
+    pub initial: u8,
+    pub port: u16,
+    pub rewriter: Option<Class>,
+    pub headers: HeaderRules,
+    pub notices: Notices,
+}
+
+impl Model for ConfigFields {
+    ghost use Rattle.sq_rules.specs.Configurations.{Configuration};
+
+    ghost Value = { Configuration };
+
+    ghost view = { λ c. record {
+      source = c.source;
+      dst_lookup = c.dst_lookup;
+      classes = c.classes;
+      acls = c.acls;
+      rules = c.rules;
+      pools = c.pools;
+      initial = c.initial;
+      port = c.port;
+      rewriter = c.rewriter;
+      headers = c.headers;
+      notices = c.notices;
+    } };
+}
+
 impl Config {
-    /// The configuration of these parts, where they are one.
-    pub fn of_parts(
-        source: Text,
-        dst_lookup: bool,
-        classes: Classes,
-        acls: Acls,
-        rules: Rules,
-        pools: PoolList,
-        initial: u8,
-        port: u16,
-        rewriter: Option<Class>,
-        headers: HeaderRules,
-        notices: Notices,
-    ) -> Config
-        requires { IsConfiguration
-            (record {
-              source = source;
-              dst_lookup = dst_lookup;
-              classes = classes;
-              acls = acls;
-              rules = rules;
-              pools = pools;
-              initial = initial;
-              port = port;
-              rewriter = rewriter;
-              headers = headers;
-              notices = notices;
-            }) }
-        ensures { result ≡ record {
-          source = source;
-          dst_lookup = dst_lookup;
-          classes = classes;
-          acls = acls;
-          rules = rules;
-          pools = pools;
-          initial = initial;
-          port = port;
-          rewriter = rewriter;
-          headers = headers;
-          notices = notices;
-        } }
+    /// The configuration of these fields, where they are one.
+    pub fn of_fields(fields: ConfigFields) -> Config
+        requires { IsConfiguration fields }
+        ensures { result ≡ fields }
     {
+        let ConfigFields {
+            source,
+            dst_lookup,
+            classes,
+            acls,
+            rules,
+            pools,
+            initial,
+            port,
+            rewriter,
+            headers,
+            notices,
+        } = fields;
         Config {
             source,
             dst_lookup,

@@ -41,7 +41,7 @@ pub use acl_table::AclTable;
 pub use acl_types::AclType;
 pub use class_table::ClassTable;
 pub use classes::{Class, Classes, Token, Tokens};
-pub use configs::{Acl, Acls, Body, Config, Lines, Rule, Rules, Term, Terms};
+pub use configs::{Acl, Acls, Body, Config, ConfigFields, Lines, Rule, Rules, Term, Terms};
 pub use directives::{ClassOption, Directive};
 pub use facts::Facts;
 pub use fast_lists::{is_pool_class, pairs_of};

@@ -1,5 +1,5 @@
 //! What is made of a configuration once, and kept with it: the patterns of `url_regex` acls, compiled, and
-//! the lists of addresses and domains, sorted.
+//! the lists of addresses, sorted, and of domains, hashed.
 //!
 //! `Setup::make` takes a configuration and answers it with these, or names the first pattern that the
 //! grammar does not read; `is_pattern` tests one. `Setup::is_match` and

@@ -1,4 +1,4 @@
-//! The values of an acl in sorted lists.
+//! The values of an acl in lists that are sorted or hashed.
 ghost use Rattle.std.specs.Prelude.{◌≡◌, ℕ, IfOk};
 ghost use Rattle.sq_index.specs.Spans.{in_spans};
 ghost use Rattle.sq_urlmatch.specs.Values.{domains_in, in_some_ports, ports_in, ranges_in, HoldAlike, HoldValues};
@@ -8,7 +8,7 @@ use sq_index::{AddrSet, DomainSet, Span, Spans};
 use sq_rules::{Acl, Body, Leaf, PortRange};
 use std::alloc::Global;
 
-/// The ranges of a `src` or `dst` acl, the domains of a `dstdomain` acl, and the ranges of a `port` acl, sorted.
+/// The ranges of a `src` or `dst` acl and those of a `port` acl, sorted, and the domains of a `dstdomain` acl, hashed.
 /// An acl of another type has none.
 #[derive(Drop)]
 pub struct ValueSets {

@@ -1,4 +1,4 @@
-//! A configuration with its compiled patterns and its sorted lists.
+//! A configuration with its compiled patterns and its sorted and hashed lists.
 ghost use Rattle.std.specs.Prelude.{◌≡◌, ◌≢◌, Some, None, IfOk, IfErr};
 ghost use Rattle.std.specs.Arc.{arc_value};
 ghost use Rattle.sq_index.specs.Members.{in_some_domain, in_some_range};
@@ -38,7 +38,7 @@ impl From<WantOfMemory> for SetupFault {
 }
 
 /// A configuration, which threads may share, its compiled patterns, which serve one match at a time, and
-/// its lists of addresses and domains, sorted. A contract sees the configuration.
+/// its lists of addresses, sorted, and of domains, hashed. A contract sees the configuration.
 pub struct Setup {
     pub config: Arc<Config>,
     pub patterns: Patterns,

@@ -2,7 +2,7 @@
 //!
 //! One function for each type of leaf whose values are few: maxconn, method, proto and time. Each says whether some
 //! value of the list meets the type's rule, as the definition `holds` has it. They take no memory, and read each value
-//! once. Lists of addresses, domains and ports are looked up in what a setup keeps sorted, and patterns in what it
+//! once. Lists of addresses, domains and ports are looked up in what a setup keeps sorted or hashed, and patterns in what it
 //! keeps compiled.
 #![tactic(auto)]
 

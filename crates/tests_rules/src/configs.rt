@@ -1,7 +1,7 @@
 //! Configurations that are made of their parts.
 
 use sq_base::{Listed, Text};
-use sq_rules::{Acl, Body, Config, Leaf, PortRange, Rule, Term};
+use sq_rules::{Acl, Body, Config, ConfigFields, Leaf, PortRange, Rule, Term};
 use std::test::Fail;
 
 #[test]
@@ -27,19 +27,19 @@ fn a_configuration_gives_its_parts_back(rt: HostRuntime) -> Result<(), Fail> {
     rules.push(Rule { allow: true, terms })?;
     let none = Listed::new(alloc);
     let pools = Listed::new(alloc);
-    let config = Config::of_parts(
+    let config = Config::of_fields(ConfigFields {
         source,
-        false,
-        none,
+        dst_lookup: false,
+        classes: none,
         acls,
         rules,
         pools,
-        50,
-        8080,
-        None,
-        Listed::new(alloc),
-        Listed::new(alloc),
-    );
+        initial: 50,
+        port: 8080,
+        rewriter: None,
+        headers: Listed::new(alloc),
+        notices: Listed::new(alloc),
+    });
     assert!(rt; config.source().as_bytes().starts_with(b"acl web port"));
     assert!(rt; matches!(config.acls(), [acl] if acl.name.as_bytes() == b"web".as_slice()));
     assert!(rt; matches!(config.rules(), [rule] if rule.allow && rule.terms.len() == 1));

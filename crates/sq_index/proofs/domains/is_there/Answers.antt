@@ -1,4 +1,4 @@
-use Rattle.std.proofs.Common.{ap, arith, ◌∙◌}
+use Rattle.std.proofs.Common.{ap, ◌∙◌}
 use Rattle.sq_index.proofs.TableLaws.{place_decides}
 use Rattle.sq_index.specs.Names.{place_of}
 use Rattle.sq_index.proofs.domains.is_there.Goals as goal

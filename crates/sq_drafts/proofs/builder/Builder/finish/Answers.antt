@@ -4,8 +4,8 @@ use Rattle.sq_drafts.proofs.SoundLaws.{pools_finished, rewriter_finished}
 use Rattle.sq_rules.specs.Drafts.{pool_of_draft}
 use Rattle.sq_drafts.proofs.builder.Builder.finish.Goals as goal
 
-pub of_parts-requires : goal.of_parts-requires
-of_parts-requires c =
+pub of_fields-requires : goal.of_fields-requires
+of_fields-requires c =
     let long : length c.in_ok-pools.pools ≡ length c.self.inside.pools.items = ap length c.in_ok-pools.ensures.ok
     ∙ length-map c.self.inside.pools.items pool_of_draft in
     record {
