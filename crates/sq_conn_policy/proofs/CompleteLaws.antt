@@ -13,7 +13,7 @@ use Rattle.sq_headers.specs.Access.{HeaderAccess}
 use Rattle.sq_outside.specs.Dials.{Dialled}
 use Rattle.sq_session.specs.Begins.{fits_hosts}
 use Rattle.sq_session.specs.Fronts.{FrontAnswer, OfOpen, OfDecide, OfRewrite, OfSit, OfClose, SitsFor}
-use Rattle.sq_session.specs.Sessions.{IsSession, IsStep, JudgesBegun, JudgesOf, ServesOpened, SessionStep, Turns, answers_of, turn_of}
+use Rattle.sq_session.specs.Sessions.{IsSession, IsStep, JudgesBegun, JudgesOf, ServesOpened, SessionStep, Turns, answers_of, turn_of, session_seen}
 use Rattle.sq_session.specs.Turns.{ClientTurn, Reply, NoOrigin, Came, access_of, allowed, asked, carried, denied, dialled, forwarded, is_connect, is_head, is_served, judged, recorded, redirected, rewritten_on, says, seated, turn}
 use Rattle.sq_session.specs.declared.beginning.Begun.{Begun}
 use Rattle.sq_session.specs.declared.beginning.Begun.TheVariants as begun
@@ -26,6 +26,8 @@ use Rattle.sq_session.specs.declared.front.SitFault.TheVariants as sit
 use Rattle.sq_conn_policy.specs.Hubs.{Served}
 use Rattle.sq_conn_policy.specs.Completeness.{Completes, CompletesBegun, EachCompletes, GetsDenial, GetsRedirect, GetsUnserved, GetsReply, HasNoMemory, HasNone, is_unspent, sent_as}
 use Rattle.sq_conn_policy.specs.Pieces.{FrontStands, is_unrefused}
+use Rattle.sq_forward.specs.Exchanges.{message}
+use Rattle.sq_session.specs.Steps.{front_seen}
 
 both_left : (a b : Bool) → (a && b) ≡ true → a ≡ true
 both_left true b e = refl
@@ -42,7 +44,8 @@ spare_of : (access : HeaderAccess) (r : HttpRequest) (addr : Address) (p : BodyP
 spare_of access r addr p rest more NoOrigin = refl
 spare_of access r addr p rest more (Came bytes seen reading broke) = by (is_connect r) refl
   where
-    by : (t : Bool) → is_connect r ≡ t → (forwarded access r addr p rest bytes reading broke more).unasked ≡ more
+    by : (t : Bool) → is_connect r ≡ t → (forwarded access (message r addr p) rest bytes reading broke more).unasked ≡
+        more
     by true e = rw e refl
     by false e = rw e refl
 
@@ -273,7 +276,8 @@ pub session_completes : (conn refused : ℕ) (m n : Option Served) (list : List 
     {input : List ℕ} {a b : Option (List ℕ)} {before : Option Dialled} {now : Dialled} {failed : Type 0} {g h : ℕ}
     {e : End}
     → FrontStands conn m refused list
-    → (x : IsSession addr port input (FrontStands conn m refused) (FrontStands conn n 0) a b before now failed g h e)
+    → (x : IsSession addr port input (front_seen (FrontStands conn m refused) (FrontStands conn n 0))
+    (session_seen a b g h before) now failed e)
     → list_all is_unspent (answers_of x.steps) ≡ true → EachCompletes addr x.steps
 session_completes conn refused m None list st x few = absurd (x.told list st)
 session_completes conn refused m (Some s) list {addr} {port} {input} {e = e} st x few =

@@ -13,9 +13,9 @@ use Rattle.sq_head.specs.ReplyHeads.{reply_head_out_where}
 use Rattle.sq_head.specs.RequestHeads.{head_out_where, is_chunked}
 use Rattle.sq_head.specs.declared.replies.ReplyHead.{ReplyHead}
 use Rattle.sq_headers.specs.Access.{HeaderAccess}
-use Rattle.sq_forward.specs.Exchanges.{shape_of, answered, continue_part, interim_texts, replied, replied_if, Fronts, EndsExchange, Exchanges, ExchangeHasCause}
+use Rattle.sq_forward.specs.Exchanges.{shape_of, answered, continue_part, interim_texts, replied, replied_if, Fronts, EndsExchange, Exchanges, ExchangeHasCause, message, sink, exchange_seen}
 use Rattle.sq_forward.specs.Leading.{LeadsReply, LeadHasCause, PaysHeads, SentReply, SendsReply}
-use Rattle.sq_forward.specs.Meters.{granted_after, PaysAll, PaysPart, piece_limit}
+use Rattle.sq_forward.specs.Meters.{granted_after, PaysAll, PaysPart, piece_limit, metered}
 use Rattle.sq_forward.specs.Replies.{Reading, IsReading}
 use Rattle.sq_forward.specs.Sending.{SentSo, SendsRequest, SendHasCause}
 use Rattle.sq_forward.specs.declared.exchanging.Exchanged.{Exchanged}
@@ -59,7 +59,8 @@ answered_short access r own origin body reading e = rw e refl
 -- fronts of what goes out before the reply
 fronts_own : (own origin rest : List ℕ) (xend : Exchanged) (seated : Bool) (a b c d : Option (List ℕ)) (g spare : ℕ)
     → g ≤ count_limit → Grew a b (λ part. IsPrefix part own) → Grew c d (λ part. IsPrefix part origin)
-    → Fronts (record { own = own; client = []; origin = origin; rest = rest; end = xend }) seated a b c d g g spare
+    → Fronts (record { own = own; client = []; origin = origin; rest = rest; end = xend }) (metered seated a b g g)
+    (sink c d) spare
 fronts_own own origin rest xend seated a b c d g spare few (part, grew, (more, front)) v =
     let none : 0 ≡ length part - length own + 0 = omega (arith, ap length front, length-append part more) in
     record {
@@ -74,8 +75,9 @@ fronts_own own origin rest xend seated a b c d g spare few (part, grew, (more, f
 
 -- fronts of what the client gets behind that
 fronts_after : (own text origin rest : List ℕ) (xend : Exchanged) (seated : Bool) (a b e c d : Option (List ℕ))
-    (g h spare : ℕ) → Appends a b own → PaysPart seated text b e g h spare → Appends c d origin
-    → Fronts (record { own = own; client = text; origin = origin; rest = rest; end = xend }) seated a e c d g h spare
+    (g h spare : ℕ) → Appends a b own → PaysPart text (metered seated b e g h) spare → Appends c d origin
+    → Fronts (record { own = own; client = text; origin = origin; rest = rest; end = xend }) (metered seated a e g h)
+    (sink c d) spare
 fronts_after own text origin rest xend seated a b e c d g h spare w p v =
     let count : length p.part + p.more ≡ length (own ++ p.part) - length own + p.more =
     omega (arith, length-append own p.part) in
@@ -90,12 +92,14 @@ fronts_after own text origin rest xend seated a b e c d g h spare w p v =
     }
 
 -- a fault before the reply
-fault_ends : (access : HeaderAccess) (r : HttpRequest) (own origin rest : List ℕ) (xend : Exchanged) (body : Walk) (reply : List ℕ)
+fault_ends : (access : HeaderAccess) (r : HttpRequest) (own origin rest : List ℕ) (xend : Exchanged) (body : Walk)
+    (reply : List ℕ)
     (seated : Bool) (left a b c d : Option (List ℕ)) (g : ℕ) (failed : Type 0) (end : Exchanged)
-    → g ≤ count_limit → SentSo own origin body left a b c d (Some end) → (end ≡ NoReply → failed) → (end ≡ Cut → ⊥)
+    → g ≤ count_limit → SentSo own origin body left (sink a b) (sink c d) (Some end) → (end ≡ NoReply → failed) →
+    (end ≡ Cut → ⊥)
     → (end ≡ BadBody → ⊥)
-    → EndsExchange access r nothing (record { own = own; client = []; origin = origin; rest = rest; end = xend }) [] reply
-    seated left a b c d g g failed end
+    → EndsExchange access r nothing (record { own = own; client = []; origin = origin; rest = rest; end = xend })
+    ([] ≡ reply) (exchange_seen left (metered seated a b g g) (sink c d)) failed end
 fault_ends access r own origin rest xend body reply seated left a b c d g failed NoReply few s f i j =
     inr (
       f refl,
@@ -119,32 +123,42 @@ fault_ends access r own origin rest xend body reply seated left a b c d g failed
 fault_ends access r own origin rest xend body reply seated left a b c d g failed Starved few s f i j = absurd s
 
 -- whether its body is complete or not
-by_whole : (access : HeaderAccess) (r : HttpRequest) (own origin : List ℕ) (body : Walk) (reply : List ℕ) (seated : Bool)
+by_whole : (access : HeaderAccess) (r : HttpRequest) (own origin : List ℕ) (body : Walk) (reply : List ℕ)
+    (seated : Bool)
     (left a b c d : Option (List ℕ)) (g : ℕ) (failed : Type 0) (end : Exchanged)
-    → g ≤ count_limit → SentSo own origin body left a b c d (Some end) → (end ≡ NoReply → failed) → (end ≡ Cut → ⊥)
-    → (end ≡ BadBody → ⊥) → EndsExchange access r nothing (answered access r own origin body nothing) [] reply seated left a b c d g g
-    failed end
-by_whole access r own origin body reply seated left a b c d g failed end few s f i j = by (is_whole_body body.place) refl
+    → g ≤ count_limit → SentSo own origin body left (sink a b) (sink c d) (Some end) → (end ≡ NoReply → failed) →
+    (end ≡ Cut → ⊥)
+    → (end ≡ BadBody → ⊥) → EndsExchange access r nothing (answered access r own origin body nothing) ([] ≡ reply)
+    (exchange_seen left (metered seated a b g g) (sink c d)) failed end
+by_whole access r own origin body reply seated left a b c d g failed end few s f i j = by (is_whole_body body.place)
+    refl
   where
     by : (t : Bool) → is_whole_body body.place ≡ t
-        → EndsExchange access r nothing (answered access r own origin body nothing) [] reply seated left a b c d g g failed end
+        → EndsExchange access r nothing (answered access r own origin body nothing) ([] ≡ reply)
+        (exchange_seen left (metered seated a b g g) (sink c d)) failed end
     by true e =
-        subst (λ x. EndsExchange access r nothing x [] reply seated left a b c d g g failed end)
+        subst (λ x. EndsExchange access r nothing x ([] ≡ reply) (exchange_seen left (metered seated a b g g)
+        (sink c d)) failed end)
         (sym (answered_whole access r own origin body nothing e))
         (fault_ends access r own origin body.rest NoReply body reply seated left a b c d g failed end few s f i j)
     by false e =
-        subst (λ x. EndsExchange access r nothing x [] reply seated left a b c d g g failed end)
+        subst (λ x. EndsExchange access r nothing x ([] ≡ reply) (exchange_seen left (metered seated a b g g)
+        (sink c d)) failed end)
         (sym (answered_short access r own origin body nothing e))
-        (fault_ends access r own origin [] (if is_refused body.place then BadBody else Cut) body reply seated left a b c d g
+        (fault_ends access r own origin [] (if is_refused body.place then BadBody else Cut) body reply seated left a b c
+        d g
         failed end few s f i j)
 
 -- the request did not go out whole
-unsent_ends : (access : HeaderAccess) (r : HttpRequest) (own origin : List ℕ) (body : Walk) (reply : List ℕ) (seated : Bool)
+unsent_ends : (access : HeaderAccess) (r : HttpRequest) (own origin : List ℕ) (body : Walk) (reply : List ℕ)
+    (seated : Bool)
     (left a b c d : Option (List ℕ)) (g : ℕ) (failed : Type 0) (end : Exchanged)
-    → g ≤ count_limit → SentSo own origin body left a b c d (Some end) → (end ≡ NoReply → failed)
-    → EndsExchange access r nothing (answered access r own origin body nothing) [] reply seated left a b c d g g failed end
+    → g ≤ count_limit → SentSo own origin body left (sink a b) (sink c d) (Some end) → (end ≡ NoReply → failed)
+    → EndsExchange access r nothing (answered access r own origin body nothing) ([] ≡ reply)
+    (exchange_seen left (metered seated a b g g) (sink c d)) failed end
 unsent_ends access r own origin body reply seated left a b c d g failed Cut few s f =
-    subst (λ x. EndsExchange access r nothing x [] reply seated left a b c d g g failed Cut)
+    subst (λ x. EndsExchange access r nothing x ([] ≡ reply) (exchange_seen left (metered seated a b g g) (sink c d))
+    failed Cut)
     (sym (answered_short access r own origin body nothing s.0)) (record {
       client = subst (Appends a b) (sym (append-nil own)) s.2;
       granted = granted_none seated g few;
@@ -153,7 +167,8 @@ unsent_ends access r own origin body reply seated left a b c d g failed Cut few 
       ends = rw s.1 refl;
     })
 unsent_ends access r own origin body reply seated left a b c d g failed BadBody few s f =
-    subst (λ x. EndsExchange access r nothing x [] reply seated left a b c d g g failed BadBody)
+    subst (λ x. EndsExchange access r nothing x ([] ≡ reply) (exchange_seen left (metered seated a b g g) (sink c d))
+    failed BadBody)
     (sym (answered_short access r own origin body nothing s.0)) (record {
       client = subst (Appends a b) (sym (append-nil own)) s.2;
       granted = granted_none seated g few;
@@ -173,10 +188,13 @@ unsent_ends access r own origin body reply seated left a b c d g failed OriginCu
 unsent_ends access r own origin body reply seated left a b c d g failed OriginFault few s f = absurd s
 unsent_ends access r own origin body reply seated left a b c d g failed Starved few s f = absurd s
 
-pub exchange_unsent : (access : HeaderAccess) (r : HttpRequest) (addr : Address) (p : BodyPlan) (first told left a b c d : Option (List ℕ))
+pub exchange_unsent : (access : HeaderAccess) (r : HttpRequest) (addr : Address) (p : BodyPlan)
+    (first told left a b c d : Option (List ℕ))
     (seated : Bool) (g : ℕ) (failed : Type 0) (end : Exchanged)
-    → g ≤ count_limit → SendsRequest access r addr p first left a b c d (Some end) → (end ≡ NoReply → failed)
-    → IfSome first (λ input. IfSome told (λ reply. Exchanges access r addr p input reply seated left a b c d g g failed end))
+    → g ≤ count_limit → SendsRequest access (message r addr p) first left (sink a b) (sink c d) (Some end) →
+    (end ≡ NoReply → failed)
+    → IfSome first (λ input. IfSome told (λ reply. Exchanges access (message r addr p) input reply
+    (exchange_seen left (metered seated a b g g) (sink c d)) failed end))
 exchange_unsent access r addr p None told left a b c d seated g failed end few s f = tt
 exchange_unsent access r addr p (Some input) None left a b c d seated g failed end few s f = tt
 exchange_unsent access r addr p (Some input) (Some reply) left a b c d seated g failed end few s f =
@@ -186,22 +204,30 @@ exchange_unsent access r addr p (Some input) (Some reply) left a b c d seated g 
       reading = nothing;
       front = IsPrefix_nil reply;
       reads = reads_nothing;
-      ends = unsent_ends access r (continue_part r p) (head_out_where access.request r addr p ++ body.out) body reply seated left a b c d g failed
+      ends = unsent_ends access r (continue_part r p) (head_out_where access.request r addr p ++ body.out) body reply
+          seated left a b c d g failed
           end few s.known f;
     }
 
 -- no reply's own head was reached
-led_ends : (access : HeaderAccess) (r : HttpRequest) (reading : Reading) (own text origin : List ℕ) (rest seen reply : List ℕ) (seated : Bool)
+led_ends : (access : HeaderAccess) (r : HttpRequest) (reading : Reading) (own text origin : List ℕ)
+    (rest seen reply : List ℕ) (seated : Bool)
     (left a b e c d : Option (List ℕ)) (g h : ℕ) (failed : Type 0) (end : Exchanged)
-    → reading.final ≡ None → Appends a b own → Appends c d origin → PaysHeads text seated b e g h end
+    → reading.final ≡ None → Appends a b own → Appends c d origin → PaysHeads text (metered seated b e g h) end
     → (end ≡ NoReply → (seen ≡ reply) ⊎ failed)
-    → EndsExchange access r reading (record { own = own; client = text; origin = origin; rest = rest; end = NoReply }) seen
-    reply seated left a e c d g h failed end
-led_ends access r reading own text origin rest seen reply seated left a b e c d g h failed NoReply n w v p all = by (all refl)
+    → EndsExchange access r reading (record { own = own; client = text; origin = origin; rest = rest; end = NoReply })
+    (seen ≡ reply) (exchange_seen left (metered seated a e g h) (sink c d)) failed end
+led_ends access r reading own text origin rest seen reply seated left a b e c d g h failed NoReply n w v p all = by
+    (all refl)
   where
     by : (seen ≡ reply) ⊎ failed
-        → EndsExchange access r reading (record { own = own; client = text; origin = origin; rest = rest; end = NoReply }) seen
-        reply seated left a e c d g h failed NoReply
+        → EndsExchange access r reading (record {
+          own = own;
+          client = text;
+          origin = origin;
+          rest = rest;
+          end = NoReply;
+        }) (seen ≡ reply) (exchange_seen left (metered seated a e g h) (sink c d)) failed NoReply
     by (inl i) = inl (
       i,
       record {
@@ -230,15 +256,21 @@ led_ends access r reading own text origin rest seen reply seated left a b e c d 
 led_ends access r reading own text origin rest seen reply seated left a b e c d g h failed Kept n w v p all = absurd p
 led_ends access r reading own text origin rest seen reply seated left a b e c d g h failed Closed n w v p all = absurd p
 led_ends access r reading own text origin rest seen reply seated left a b e c d g h failed Cut n w v p all = absurd p
-led_ends access r reading own text origin rest seen reply seated left a b e c d g h failed BadBody n w v p all = absurd p
-led_ends access r reading own text origin rest seen reply seated left a b e c d g h failed OriginCut n w v p all = absurd p
-led_ends access r reading own text origin rest seen reply seated left a b e c d g h failed OriginFault n w v p all = absurd p
+led_ends access r reading own text origin rest seen reply seated left a b e c d g h failed BadBody n w v p all = absurd
+    p
+led_ends access r reading own text origin rest seen reply seated left a b e c d g h failed OriginCut n w v p all =
+    absurd p
+led_ends access r reading own text origin rest seen reply seated left a b e c d g h failed OriginFault n w v p all =
+    absurd p
 
-pub exchange_led : (access : HeaderAccess) (r : HttpRequest) (addr : Address) (p : BodyPlan) (first told left next a b e c d : Option (List ℕ))
+pub exchange_led : (access : HeaderAccess) (r : HttpRequest) (addr : Address) (p : BodyPlan)
+    (first told left next a b e c d : Option (List ℕ))
     (seated : Bool) (g h : ℕ) (source failed : Type 0) (end : Exchanged)
-    → SendsRequest access r addr p first left a b c d None → LeadsReply access r seated told next b e g h source (Err end)
+    → SendsRequest access (message r addr p) first left (sink a b) (sink c d) None → LeadsReply access r told next
+    (metered seated b e g h) source (Err end)
     → (source → failed)
-    → IfSome first (λ input. IfSome told (λ reply. Exchanges access r addr p input reply seated left a e c d g h failed end))
+    → IfSome first (λ input. IfSome told (λ reply. Exchanges access (message r addr p) input reply
+    (exchange_seen left (metered seated a e g h) (sink c d)) failed end))
 exchange_led access r addr p None told left next a b e c d seated g h source failed end s l f = tt
 exchange_led access r addr p (Some input) None left next a b e c d seated g h source failed end s l f = tt
 exchange_led access r addr p (Some input) (Some reply) left next a b e c d seated g h source failed end s l f =
@@ -258,8 +290,10 @@ exchange_led access r addr p (Some input) (Some reply) left next a b e c d seate
       front = y.front;
       reads = y.reads;
       ends =
-          subst (λ x. EndsExchange access r reading x y.seen reply seated left a e c d g h failed end) (sym whole)
-          (led_ends access r reading own text origin body.rest y.seen reply seated left a b e c d g h failed end refl s.known.2
+          subst (λ x. EndsExchange access r reading x (y.seen ≡ reply)
+          (exchange_seen left (metered seated a e g h) (sink c d)) failed end) (sym whole)
+          (led_ends access r reading own text origin body.rest y.seen reply seated left a b e c d g h failed end refl
+          s.known.2
           s.known.3 y.pays (λ i. or_failed (y.all i)));
     }
   where
@@ -268,14 +302,21 @@ exchange_led access r addr p (Some input) (Some reply) left next a b e c d seate
     or_failed (inr x) = inr (f x)
 
 -- the reply was sent, as far as it goes
-sent_ends : (access : HeaderAccess) (r : HttpRequest) (reading : Reading) (final : ReplyHead) (own text origin rest reply : List ℕ)
+sent_ends : (access : HeaderAccess) (r : HttpRequest) (reading : Reading) (final : ReplyHead)
+    (own text origin rest reply : List ℕ)
     (xend : Exchanged) (seated : Bool) (left a b e m c d : Option (List ℕ)) (g h i : ℕ) (failed : Type 0)
     (end : Exchanged)
     → reading.final ≡ Some final → left ≡ Some rest → Appends a b own → Appends c d origin
-    → PaysAll seated (interim_texts access r reading.interim) b e g h → SentReply access r final text xend seated e m h i end
-    → EndsExchange access r reading
-    (record { own = own; client = interim_texts access r reading.interim ++ text; origin = origin; rest = rest; end = xend })
-    reply reply seated left a m c d g i failed end
+    → PaysAll (interim_texts access r reading.interim) (metered seated b e g h) → SentReply access r final text xend
+    (metered seated e m h i) end
+    → EndsExchange access r reading (record {
+      own = own;
+      client = interim_texts access r reading.interim ++ text;
+      origin = origin;
+      rest = rest;
+      end = xend;
+    }) (reply ≡ reply) (exchange_seen left (metered seated a m g i) (sink c d))
+    failed end
 unfolding fronts_after pays_part_after
 sent_ends access r reading final own text origin rest reply xend seated left a b e m c d g h i failed Kept n
     at w v p (x, same) =
@@ -342,36 +383,48 @@ sent_ends access r reading final own text origin rest reply xend seated left a b
       sent = IsPrefix_after own (front ++ text_of) (front ++ x.pays.part)
           (IsPrefix_after front text_of x.pays.part x.sent);
     }
-sent_ends access r reading final own text origin rest reply xend seated left a b e m c d g h i failed Starved n at w v p x =
+sent_ends access r reading final own text origin rest reply xend seated left a b e m c d g h i failed Starved n at w v p
+    x =
     fronts_after own (interim_texts access r reading.interim ++ text) origin rest xend seated a b m c d g i 0 w
     (pays_part_after p x) v
 sent_ends access r reading final own text origin rest reply xend seated left a b e m c d g h i failed WantOfMemory n
-    at w v p x = fronts_after own (interim_texts access r reading.interim ++ text) origin rest xend seated a b m c d g i 0 w
+    at w v p x = fronts_after own (interim_texts access r reading.interim ++ text) origin rest xend seated a b m c d g i
+    0 w
     (pays_part_after p x) v
 sent_ends access r reading final own text origin rest reply xend seated left a b e m c d g h i failed Cut n at w v p x =
     absurd x
-sent_ends access r reading final own text origin rest reply xend seated left a b e m c d g h i failed BadBody n at w v p x =
+sent_ends access r reading final own text origin rest reply xend seated left a b e m c d g h i failed BadBody n at w v p
+    x =
     absurd x
 
 -- the reply with its own head, where what comes behind the head is told
-sent_known : {access : HeaderAccess} {r : HttpRequest} {head : ReplyHead} {seated : Bool} {a b : Option (List ℕ)} {g h : ℕ} {end : Exchanged}
-    (next : Option (List ℕ)) (rest : List ℕ) → next ≡ Some rest → SendsReply access r head seated next a b g h end
-    → SentReply access r head (replied access r head rest).text (replied access r head rest).end seated a b g h end
+sent_known : {access : HeaderAccess} {r : HttpRequest} {head : ReplyHead} {seated : Bool} {a b : Option (List ℕ)}
+    {g h : ℕ} {end : Exchanged}
+    (next : Option (List ℕ)) (rest : List ℕ) → next ≡ Some rest → SendsReply access r head next (metered seated a b g h)
+    end
+    → SentReply access r head (replied access r head rest).text (replied access r head rest).end
+    (metered seated a b g h) end
 sent_known {access} {r} {head} {seated} {a} {b} {g} {h} {end} None rest e x = absurd cc
 sent_known {access} {r} {head} {seated} {a} {b} {g} {h} {end} (Some bytes) rest e x =
     let same : bytes ≡ rest = cc in
-    subst (λ l. SentReply access r head (replied access r head l).text (replied access r head l).end seated a b g h end) same x.known
+    subst (λ l. SentReply access r head (replied access r head l).text (replied access r head l).end
+    (metered seated a b g h) end) same x.known
 
 pub exchange_sent : (access : HeaderAccess) (r : HttpRequest) (addr : Address) (p : BodyPlan)
     (first told left next a b e m c d : Option (List ℕ)) (seated now_seated : Bool) (g h i : ℕ) (source failed : Type 0)
     (head : ReplyHead) (end : Exchanged)
-    → SendsRequest access r addr p first left a b c d None → LeadsReply access r seated told next b e g h source (Ok head)
-    → now_seated ≡ seated → SendsReply access r head now_seated next e m h i end
-    → IfSome first (λ input. IfSome told (λ reply. Exchanges access r addr p input reply seated left a m c d g i failed end))
-exchange_sent access r addr p None told left next a b e m c d seated now_seated g h i source failed head end s l same x = tt
-exchange_sent access r addr p (Some input) None left next a b e m c d seated now_seated g h i source failed head end s l same
+    → SendsRequest access (message r addr p) first left (sink a b) (sink c d) None → LeadsReply access r told next
+    (metered seated b e g h) source (Ok head)
+    → now_seated ≡ seated → SendsReply access r head next (metered now_seated e m h i) end
+    → IfSome first (λ input. IfSome told (λ reply. Exchanges access (message r addr p) input reply
+    (exchange_seen left (metered seated a m g i) (sink c d)) failed end))
+exchange_sent access r addr p None told left next a b e m c d seated now_seated g h i source failed head end s l same
     x = tt
-exchange_sent access r addr p (Some input) (Some reply) left next a b e m c d seated now_seated g h i source failed head end s
+exchange_sent access r addr p (Some input) None left next a b e m c d seated now_seated g h i source failed head end s l
+    same
+    x = tt
+exchange_sent access r addr p (Some input) (Some reply) left next a b e m c d seated now_seated g h i source failed head
+    end s
     l same x =
     let body = body_of p (is_chunked p) input in
     let own = continue_part r p in
@@ -391,12 +444,15 @@ exchange_sent access r addr p (Some input) (Some reply) left next a b e m c d se
         final = (y.begins, y.own, y.goes);
       };
       ends =
-          subst (λ x. EndsExchange access r reading x reply reply seated left a m c d g i failed end)
+          subst (λ x. EndsExchange access r reading x (reply ≡ reply)
+          (exchange_seen left (metered seated a m g i) (sink c d)) failed end)
           (sym (answered_whole access r own origin body reading s.known.0))
-          (sent_ends access r reading head own (replied access r head y.rest).text origin body.rest reply (replied access r head y.rest).end
+          (sent_ends access r reading head own (replied access r head y.rest).text origin body.rest reply
+          (replied access r head y.rest).end
           seated left a b e m c d g h i failed end
           refl s.known.1 s.known.2 s.known.3 y.pays
-          (sent_known next y.rest y.left_is (subst (λ t. SendsReply access r head t next e m h i end) same x)));
+          (sent_known next y.rest y.left_is (subst (λ t. SendsReply access r head next (metered t e m h i) end) same
+          x)));
     }
 
 -- the link that failed in sending the request

@@ -7,7 +7,7 @@ use Rattle.sq_head.specs.declared.replies.ReplyHead.{ReplyHead}
 use Rattle.sq_headers.specs.Access.{HeaderAccess}
 use Rattle.sq_forward.specs.Exchanges.{interim_text, interim_texts}
 use Rattle.sq_forward.specs.Leading.{TakenHead, LedNowhere, LeadsReply, PaysHeads, LeadHasCause, own_head}
-use Rattle.sq_forward.specs.Meters.{PaysAll}
+use Rattle.sq_forward.specs.Meters.{PaysAll, metered}
 use Rattle.sq_forward.specs.Replies.{BeginsHead, AreInterim, IsReading, is_interim, interim_limit, IsHead}
 use Rattle.sq_forward.specs.declared.exchanging.Exchanged.{Exchanged}
 use Rattle.sq_forward.specs.declared.exchanging.Exchanged.TheVariants.{Kept, Closed, Cut, ClientFault, BadBody, NoReply, OriginCut, OriginFault, Starved, WantOfMemory}
@@ -15,7 +15,8 @@ use Rattle.sq_forward.proofs.HeadLaws.{missing_all}
 use Rattle.sq_forward.proofs.PayLaws.{pays_none, pays_after, pays_part_after, pays_whole}
 
 -- so many heads were passed on, none of which was the reply's own
-pub record Leading (access : HeaderAccess) (r : HttpRequest) (bytes : List ℕ) (seated : Bool) (passed : ℕ) (left before now : Option (List ℕ))
+pub record Leading (access : HeaderAccess) (r : HttpRequest) (bytes : List ℕ) (seated : Bool) (passed : ℕ)
+    (left before now : Option (List ℕ))
     (g h : ℕ) : Type 0 where
   pub heads : List ℕ
   pub more : List ℕ
@@ -24,13 +25,15 @@ pub record Leading (access : HeaderAccess) (r : HttpRequest) (bytes : List ℕ) 
   pub are : AreInterim heads interim
   pub count : length interim ≡ passed
   pub left_is : left ≡ Some more
-  pub pays : PaysAll seated (interim_texts access r interim) before now g h
+  pub pays : PaysAll (interim_texts access r interim) (metered seated before now g h)
 
-pub record LeadingSo (access : HeaderAccess) (r : HttpRequest) (seated : Bool) (passed : ℕ) (first left before now : Option (List ℕ))
+pub record LeadingSo (access : HeaderAccess) (r : HttpRequest) (seated : Bool) (passed : ℕ)
+    (first left before now : Option (List ℕ))
     (g h : ℕ) : Type 0 where
   pub known : IfSome first (λ bytes. Leading access r bytes seated passed left before now g h)
 
-pub leads_none : (access : HeaderAccess) (r : HttpRequest) (seated : Bool) (first out : Option (List ℕ)) (g : ℕ) → g ≤ count_limit
+pub leads_none : (access : HeaderAccess) (r : HttpRequest) (seated : Bool) (first out : Option (List ℕ)) (g : ℕ) → g ≤
+    count_limit
     → LeadingSo access r seated 0 first first out out g g
 leads_none access r seated None out g few = record { known = tt }
 leads_none access r seated (Some bytes) out g few = record {
@@ -61,7 +64,8 @@ interim_more heads head (x ∷ hs) h (rest, b, x_one, are) is one = (
 texts_more : (access : HeaderAccess) (r : HttpRequest) (hs : List ReplyHead) (h : ReplyHead)
     → interim_texts access r hs ++ interim_text access r h ≡ interim_texts access r (hs ++ h ∷ [])
 texts_more access r [] h = sym (append-nil (interim_text access r h))
-texts_more access r (x ∷ hs) h = append_assoc (interim_text access r x) (interim_texts access r hs) (interim_text access r h)
+texts_more access r (x ∷ hs) h = append_assoc (interim_text access r x) (interim_texts access r hs)
+    (interim_text access r h)
     ∙ ap (λ l. interim_text access r x ++ l) (texts_more access r hs h)
 
 -- a front of what comes that is heads alone
@@ -77,11 +81,12 @@ heads_alone heads hs are few = record {
 }
 
 -- the reply's own head was taken
-pub leads_to : {access : HeaderAccess} {r : HttpRequest} {seated : Bool} {passed : ℕ} {a b : Option (List ℕ)} {g h : ℕ} {failed : Type 0}
+pub leads_to : {access : HeaderAccess} {r : HttpRequest} {seated : Bool} {passed : ℕ} {a b : Option (List ℕ)} {g h : ℕ}
+    {failed : Type 0}
     (first left next : Option (List ℕ)) (head : ReplyHead)
     → LeadingSo access r seated passed first left a b g h → IfSome left (λ bytes. TakenHead bytes next head)
     → passed ≤ interim_limit → is_interim head ≡ false → (head.status ≡ 101 → ⊥)
-    → LeadsReply access r seated first next a b g h failed (Ok head)
+    → LeadsReply access r first next (metered seated a b g h) failed (Ok head)
 leads_to None left next head x t few own goes = record { known = tt }
 leads_to (Some bytes) None next head x t few own goes = absurd (let e = x.known.left_is in cc)
 leads_to (Some bytes) (Some now) next head x t few own goes =
@@ -105,12 +110,13 @@ leads_to (Some bytes) (Some now) next head x t few own goes =
     }
 
 -- what comes begins with no head that can be passed on
-leads_nowhere : {access : HeaderAccess} {r : HttpRequest} {seated : Bool} {passed : ℕ} {a b : Option (List ℕ)} {g h : ℕ} {failed : Type 0}
+leads_nowhere : {access : HeaderAccess} {r : HttpRequest} {seated : Bool} {passed : ℕ} {a b : Option (List ℕ)} {g h : ℕ}
+    {failed : Type 0}
     (bytes : List ℕ) (left : Option (List ℕ))
     → (x : Leading access r bytes seated passed left a b g h) → passed ≤ interim_limit
     → ((head : ReplyHead) (rest : List ℕ) → BeginsHead x.more head rest
     → (head.status ≡ 101) ⊎ ((is_interim head ≡ true) × (passed ≡ interim_limit)))
-    → LedNowhere access r bytes seated a b g h failed NoReply
+    → LedNowhere access r bytes (metered seated a b g h) failed NoReply
 leads_nowhere {access} {r} {seated} {passed} bytes left x few refused = record {
   seen = bytes;
   interim = x.interim;
@@ -132,12 +138,13 @@ leads_nowhere {access} {r} {seated} {passed} bytes left x few refused = record {
     refused_as (inr (p, e)) = inr (p, x.count ∙ e)
 
 -- no head comes
-pub leads_missing : {access : HeaderAccess} {r : HttpRequest} {seated : Bool} {passed : ℕ} {a b : Option (List ℕ)} {g h : ℕ} {failed : Type 0}
+pub leads_missing : {access : HeaderAccess} {r : HttpRequest} {seated : Bool} {passed : ℕ} {a b : Option (List ℕ)}
+    {g h : ℕ} {failed : Type 0}
     (first left next : Option (List ℕ))
     → LeadingSo access r seated passed first left a b g h
     → IfSome left (λ bytes. (head : ReplyHead) (rest : List ℕ) → BeginsHead bytes head rest → ⊥)
     → passed ≤ interim_limit
-    → LeadsReply access r seated first next a b g h failed (Err NoReply)
+    → LeadsReply access r first next (metered seated a b g h) failed (Err NoReply)
 leads_missing None left next x t few = record { known = tt }
 leads_missing (Some bytes) None next x t few = absurd (let e = x.known.left_is in cc)
 leads_missing (Some bytes) (Some now) next x t few =
@@ -148,11 +155,12 @@ leads_missing (Some bytes) (Some now) next x t few =
     }
 
 -- the head that came is refused
-pub leads_refused : {access : HeaderAccess} {r : HttpRequest} {seated : Bool} {passed : ℕ} {a b : Option (List ℕ)} {g h : ℕ} {failed : Type 0}
+pub leads_refused : {access : HeaderAccess} {r : HttpRequest} {seated : Bool} {passed : ℕ} {a b : Option (List ℕ)}
+    {g h : ℕ} {failed : Type 0}
     (first left next : Option (List ℕ)) (head : ReplyHead)
     → LeadingSo access r seated passed first left a b g h → IfSome left (λ bytes. TakenHead bytes next head)
     → passed ≤ interim_limit → (head.status ≡ 101) ⊎ ((is_interim head ≡ true) × (passed ≡ interim_limit))
-    → LeadsReply access r seated first next a b g h failed (Err NoReply)
+    → LeadsReply access r first next (metered seated a b g h) failed (Err NoReply)
 leads_refused None left next head x t few refused = record { known = tt }
 leads_refused (Some bytes) None next head x t few refused = absurd (let e = x.known.left_is in cc)
 leads_refused {access} {r} {seated} {passed} (Some bytes) (Some now) next head x t few refused =
@@ -164,29 +172,31 @@ leads_refused {access} {r} {seated} {passed} (Some bytes) (Some now) next head x
     }
 
 -- the head that came is no interim one
-pub leads_own : {access : HeaderAccess} {r : HttpRequest} {seated : Bool} {passed : ℕ} {a b : Option (List ℕ)} {g h : ℕ} (failed : Type 0)
+pub leads_own : {access : HeaderAccess} {r : HttpRequest} {seated : Bool} {passed : ℕ} {a b : Option (List ℕ)} {g h : ℕ}
+    (failed : Type 0)
     (first left next : Option (List ℕ)) (head : ReplyHead) (led : Result ReplyHead Exchanged)
     → LeadingSo access r seated passed first left a b g h → IfSome left (λ bytes. TakenHead bytes next head)
     → passed ≤ interim_limit → is_interim head ≡ false → led ≡ own_head head
-    → LeadsReply access r seated first next a b g h failed led
+    → LeadsReply access r first next (metered seated a b g h) failed led
 leads_own {access} {r} {seated} {passed} {a} {b} {g} {h} failed first left next head led x t few own e =
     by (head.status == 101) refl
   where
-    by : (u : Bool) → (head.status == 101) ≡ u → LeadsReply access r seated first next a b g h failed led
+    by : (u : Bool) → (head.status == 101) ≡ u → LeadsReply access r first next (metered seated a b g h) failed led
     by true i =
         let is : own_head head ≡ Err NoReply = rw i refl in
-        subst (LeadsReply access r seated first next a b g h failed) (sym (e ∙ is))
+        subst (LeadsReply access r first next (metered seated a b g h) failed) (sym (e ∙ is))
         (leads_refused first left next head x t few (inl (grind arith)))
     by false i =
         let is : own_head head ≡ Ok head = rw i refl in
-        subst (LeadsReply access r seated first next a b g h failed) (sym (e ∙ is))
+        subst (LeadsReply access r first next (metered seated a b g h) failed) (sym (e ∙ is))
         (leads_to first left next head x t few own (λ j. grind arith))
 
 -- the source failed: what was looked at is heads alone
-pub leads_failed : {access : HeaderAccess} {r : HttpRequest} {seated : Bool} {passed : ℕ} {a b : Option (List ℕ)} {g h : ℕ} {failed : Type 0}
+pub leads_failed : {access : HeaderAccess} {r : HttpRequest} {seated : Bool} {passed : ℕ} {a b : Option (List ℕ)}
+    {g h : ℕ} {failed : Type 0}
     (first left next : Option (List ℕ))
     → LeadingSo access r seated passed first left a b g h → failed → passed ≤ interim_limit
-    → LeadsReply access r seated first next a b g h failed (Err NoReply)
+    → LeadsReply access r first next (metered seated a b g h) failed (Err NoReply)
 leads_failed None left next x f few = record { known = tt }
 leads_failed (Some bytes) left next x f few =
     let y = x.known in
@@ -202,10 +212,11 @@ leads_failed (Some bytes) left next x f few =
     }
 
 -- there was no memory for a head
-pub leads_no_memory : {access : HeaderAccess} {r : HttpRequest} {seated : Bool} {passed : ℕ} {a b : Option (List ℕ)} {g h : ℕ} {failed : Type 0}
+pub leads_no_memory : {access : HeaderAccess} {r : HttpRequest} {seated : Bool} {passed : ℕ} {a b : Option (List ℕ)}
+    {g h : ℕ} {failed : Type 0}
     (first left next : Option (List ℕ))
     → LeadingSo access r seated passed first left a b g h → passed ≤ interim_limit
-    → LeadsReply access r seated first next a b g h failed (Err WantOfMemory)
+    → LeadsReply access r first next (metered seated a b g h) failed (Err WantOfMemory)
 leads_no_memory None left next x few = record { known = tt }
 leads_no_memory (Some bytes) left next x few =
     let y = x.known in
@@ -221,10 +232,11 @@ leads_no_memory (Some bytes) left next x few =
     }
 
 -- a head was taken that is not the reply's own, and sent
-pub leads_more : {access : HeaderAccess} {r : HttpRequest} {seated : Bool} {passed : ℕ} {a b d : Option (List ℕ)} {g h k : ℕ}
+pub leads_more : {access : HeaderAccess} {r : HttpRequest} {seated : Bool} {passed : ℕ} {a b d : Option (List ℕ)}
+    {g h k : ℕ}
     (first left next : Option (List ℕ)) (head : ReplyHead)
     → LeadingSo access r seated passed first left a b g h → IfSome left (λ bytes. TakenHead bytes next head)
-    → is_interim head ≡ true → PaysAll seated (interim_text access r head) b d h k
+    → is_interim head ≡ true → PaysAll (interim_text access r head) (metered seated b d h k)
     → LeadingSo access r seated (passed + 1) first next a d g k
 leads_more None left next head x t one p = record { known = tt }
 leads_more (Some bytes) None next head x t one p = absurd (let e = x.known.left_is in cc)
@@ -240,20 +252,23 @@ leads_more {access} {r} {seated} {passed} {a} {b} {d} {g} {h} {k} (Some bytes) (
         are = interim_more y.heads t.begins.head y.interim head y.are t.begins.is one;
         count = length-append y.interim (head ∷ []) ∙ ap (λ n. n + 1) y.count;
         left_is = t.left_is;
-        pays = subst (λ l. PaysAll seated l a d g k) (texts_more access r y.interim head) (pays_after y.pays p);
+        pays = subst (λ l. PaysAll l (metered seated a d g k)) (texts_more access r y.interim head)
+            (pays_after y.pays p);
       };
     }
 
 -- a head was taken that is not the reply's own, and a front of it sent
-pub leads_part : {access : HeaderAccess} {r : HttpRequest} {seated : Bool} {passed : ℕ} {a b d : Option (List ℕ)} {g h k : ℕ} {failed : Type 0}
+pub leads_part : {access : HeaderAccess} {r : HttpRequest} {seated : Bool} {passed : ℕ} {a b d : Option (List ℕ)}
+    {g h k : ℕ} {failed : Type 0}
     (first left next : Option (List ℕ)) (head : ReplyHead) (end : Exchanged)
     → LeadingSo access r seated passed first left a b g h → IfSome left (λ bytes. TakenHead bytes next head)
     → is_interim head ≡ true → passed + 1 ≤ interim_limit
-    → (end ≡ NoReply → ⊥) → PaysHeads (interim_text access r head) seated b d h k end
-    → LeadsReply access r seated first next a d g k failed (Err end)
+    → (end ≡ NoReply → ⊥) → PaysHeads (interim_text access r head) (metered seated b d h k) end
+    → LeadsReply access r first next (metered seated a d g k) failed (Err end)
 leads_part None left next head end x t one few other p = record { known = tt }
 leads_part (Some bytes) None next head end x t one few other p = absurd (let e = x.known.left_is in cc)
-leads_part {access} {r} {seated} {passed} {a} {b} {d} {g} {h} {k} (Some bytes) (Some now) next head end x t one few other p =
+leads_part {access} {r} {seated} {passed} {a} {b} {d} {g} {h} {k} (Some bytes) (Some now) next head end x t one few
+    other p =
     let y = x.known in
     let is : now ≡ y.more = let e = y.left_is in cc in
     record {
@@ -269,14 +284,14 @@ leads_part {access} {r} {seated} {passed} {a} {b} {d} {g} {h} {k} (Some bytes) (
             (interim_more y.heads t.begins.head y.interim head y.are t.begins.is one)
             (omega (arith, length-append y.interim (head ∷ []), y.count, few));
         all = λ e. absurd (other e);
-        pays = subst (λ l. PaysHeads l seated a d g k end) (texts_more access r y.interim head)
+        pays = subst (λ l. PaysHeads l (metered seated a d g k) end) (texts_more access r y.interim head)
             (part_by (interim_text access r head) d k end y.pays p);
       };
     }
   where
     part_by : {front : List ℕ} {seated : Bool} {a b : Option (List ℕ)} {g h : ℕ} (text : List ℕ) (d : Option (List ℕ))
-        (k : ℕ) (end : Exchanged) → PaysAll seated front a b g h → PaysHeads text seated b d h k end
-        → PaysHeads (front ++ text) seated a d g k end
+        (k : ℕ) (end : Exchanged) → PaysAll front (metered seated a b g h) → PaysHeads text (metered seated b d h k) end
+        → PaysHeads (front ++ text) (metered seated a d g k) end
     part_by text d k NoReply w p = pays_after w p
     part_by text d k ClientFault w p = pays_part_after w p
     part_by text d k Starved w p = pays_part_after w p

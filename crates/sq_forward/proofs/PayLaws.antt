@@ -7,7 +7,7 @@ use Rattle.std.proofs.KnownBytes.{Appends-trans, Appends-nil}
 use Rattle.sq_outside.specs.Causes.{count_limit}
 use Rattle.sq_outside.specs.Output.{IsPrefix, Grew}
 use Rattle.sq_outside.proofs.Writing.{IsPrefix_refl, IsPrefix_nil, IsPrefix_more, IsPrefix_after}
-use Rattle.sq_forward.specs.Meters.{granted_after, PaysAll, PaysPart, piece_limit, Gives, dry_after_grant}
+use Rattle.sq_forward.specs.Meters.{granted_after, PaysAll, PaysPart, piece_limit, Gives, dry_after_grant, metered}
 
 -- no byte more
 pub granted_none : (seated : Bool) (before : ℕ) → before ≤ count_limit → before ≡ granted_after seated before 0
@@ -28,7 +28,7 @@ take_more at n bytes rest piece e f = ap (λ p. take at bytes ++ p) (f ∙ ap (t
 -- what was written before a pause too many
 pub starved_part : (seated : Bool) (bytes : List ℕ) (before now : Option (List ℕ)) (g h at spare : ℕ)
     → at ≤ length bytes → Appends before now (take at bytes) → h ≡ granted_after seated g at
-    → PaysPart seated bytes before now g h spare
+    → PaysPart bytes (metered seated before now g h) spare
 starved_part seated bytes before now g h at spare within wrote granted = record {
   part = take at bytes;
   more = 0;
@@ -42,7 +42,7 @@ starved_part seated bytes before now g h at spare within wrote granted = record 
 pub failed_part : (seated : Bool) (bytes rest piece : List ℕ) (before mid now : Option (List ℕ)) (g h at n : ℕ)
     → at ≤ length bytes → rest ≡ drop at bytes → piece ≡ take n rest → n ≤ piece_limit → length piece ≡ n
     → Appends before mid (take at bytes) → Grew mid now (λ part. IsPrefix part piece)
-    → h ≡ granted_after seated g (at + n) → PaysPart seated bytes before now g h piece_limit
+    → h ≡ granted_after seated g (at + n) → PaysPart bytes (metered seated before now g h) piece_limit
 failed_part seated bytes rest piece before mid now g h
     at n within e f few len wrote (part, grew, (more, front)) granted =
     let whole : bytes ≡ (take at bytes ++ part) ++ (more ++ drop n rest) =
@@ -72,12 +72,13 @@ pub dry_reset : (given dry : ℕ) → (given ≡ 0 → ⊥) → dry_after_grant 
 dry_reset given dry h = let some : (given == 0) ≡ false = grind arith in rw some refl
 
 -- nothing was written yet
-pub pays_none : (seated : Bool) (out : Option (List ℕ)) (g : ℕ) → g ≤ count_limit → PaysAll seated [] out out g g
+pub pays_none : (seated : Bool) (out : Option (List ℕ)) (g : ℕ) → g ≤ count_limit → PaysAll []
+    (metered seated out out g g)
 pays_none seated out g few = record { wrote = Appends-nil out; granted = granted_none seated g few }
 
 -- nothing was written of a text
 pub pays_nothing : (seated : Bool) (text : List ℕ) (out : Option (List ℕ)) (g : ℕ) → g ≤ count_limit
-    → PaysPart seated text out out g g 0
+    → PaysPart text (metered seated out out g g) 0
 pays_nothing seated text out g few = record {
   part = [];
   more = 0;
@@ -89,7 +90,8 @@ pays_nothing seated text out g few = record {
 
 -- a text behind another
 pub pays_after : {seated : Bool} {front text : List ℕ} {a b d : Option (List ℕ)} {g h k : ℕ}
-    → PaysAll seated front a b g h → PaysAll seated text b d h k → PaysAll seated (front ++ text) a d g k
+    → PaysAll front (metered seated a b g h) → PaysAll text (metered seated b d h k) → PaysAll (front ++ text)
+    (metered seated a d g k)
 pays_after {seated} {front} {text} {a} {b} {d} {g} {h} {k} x y = record {
   wrote = Appends-trans a b d front text x.wrote y.wrote;
   granted =
@@ -100,7 +102,8 @@ pays_after {seated} {front} {text} {a} {b} {d} {g} {h} {k} x y = record {
 
 -- a part of a text behind another
 unfoldable pub pays_part_after : {seated : Bool} {front text : List ℕ} {a b d : Option (List ℕ)} {g h k spare : ℕ}
-    → PaysAll seated front a b g h → PaysPart seated text b d h k spare → PaysPart seated (front ++ text) a d g k spare
+    → PaysAll front (metered seated a b g h) → PaysPart text (metered seated b d h k) spare → PaysPart (front ++ text)
+    (metered seated a d g k) spare
 pays_part_after {seated} {front} {text} {a} {b} {d} {g} {h} {k} {spare} x y = record {
   part = front ++ y.part;
   more = y.more;
@@ -115,7 +118,7 @@ pays_part_after {seated} {front} {text} {a} {b} {d} {g} {h} {k} {spare} x y = re
 
 -- a part of a text that has more
 pub pays_part_more : {seated : Bool} {front : List ℕ} (text : List ℕ) {a b : Option (List ℕ)} {g h spare : ℕ}
-    → PaysPart seated front a b g h spare → PaysPart seated (front ++ text) a b g h spare
+    → PaysPart front (metered seated a b g h) spare → PaysPart (front ++ text) (metered seated a b g h) spare
 pays_part_more {seated} {front} text {a} {b} {g} {h} {spare} y = record {
   part = y.part;
   more = y.more;
@@ -126,8 +129,9 @@ pays_part_more {seated} {front} text {a} {b} {g} {h} {spare} y = record {
 }
 
 -- the whole of a text is a part of it
-pub pays_whole : {seated : Bool} {text : List ℕ} {a b : Option (List ℕ)} {g h : ℕ} → PaysAll seated text a b g h
-    → PaysPart seated text a b g h 0
+pub pays_whole : {seated : Bool} {text : List ℕ} {a b : Option (List ℕ)} {g h : ℕ} → PaysAll text
+    (metered seated a b g h)
+    → PaysPart text (metered seated a b g h) 0
 pays_whole {seated} {text} {a} {b} {g} {h} x = record {
   part = text;
   more = 0;
@@ -139,7 +143,7 @@ pays_whole {seated} {text} {a} {b} {g} {h} x = record {
 
 -- more may be granted than was
 pub pays_spare : {seated : Bool} {text : List ℕ} {a b : Option (List ℕ)} {g h : ℕ} (m n : ℕ) → m ≤ n
-    → PaysPart seated text a b g h m → PaysPart seated text a b g h n
+    → PaysPart text (metered seated a b g h) m → PaysPart text (metered seated a b g h) n
 pays_spare {seated} {text} {a} {b} {g} {h} m n few y = record {
   part = y.part;
   more = y.more;

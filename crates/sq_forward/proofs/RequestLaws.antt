@@ -14,8 +14,8 @@ use Rattle.sq_outside.proofs.Writing.{IsPrefix_nil, Grew_none, Grew_whole, Grew_
 use Rattle.sq_head.specs.RequestHeads.{head_out_where, is_chunked}
 use Rattle.sq_headers.specs.Access.{HeaderAccess}
 use Rattle.sq_forward.specs.Copying.{CopiesBody, Copies, CopyHasCause, dry_after_copy}
-use Rattle.sq_forward.specs.Exchanges.{continue_part, dry_after_exchange}
-use Rattle.sq_forward.specs.Meters.{PaysPart}
+use Rattle.sq_forward.specs.Exchanges.{continue_part, dry_after_exchange, message, sink}
+use Rattle.sq_forward.specs.Meters.{PaysPart, metered}
 use Rattle.sq_forward.specs.Sending.{sent, SentSo, SendsRequest, SendHasCause}
 use Rattle.sq_forward.specs.declared.copying.Copied.{Copied}
 use Rattle.sq_forward.specs.declared.copying.Copied.TheVariants as copied
@@ -23,8 +23,9 @@ use Rattle.sq_forward.specs.declared.exchanging.Exchanged.{Exchanged}
 use Rattle.sq_forward.specs.declared.exchanging.Exchanged.TheVariants.{ClientFault, NoReply, WantOfMemory}
 
 -- nothing was sent
-pub request_no_memory : (access : HeaderAccess) (r : HttpRequest) (addr : Address) (p : BodyPlan) (first left a c : Option (List ℕ))
-    → SendsRequest access r addr p first left a a c c (Some WantOfMemory)
+pub request_no_memory : (access : HeaderAccess) (r : HttpRequest) (addr : Address) (p : BodyPlan)
+    (first left a c : Option (List ℕ))
+    → SendsRequest access (message r addr p) first left (sink a a) (sink c c) (Some WantOfMemory)
 request_no_memory access r addr p None left a c = record { known = tt }
 request_no_memory access r addr p (Some input) left a c = record {
   known =
@@ -32,9 +33,10 @@ request_no_memory access r addr p (Some input) left a c = record {
 }
 
 -- the client did not hear that its body may come
-pub request_unheard : (access : HeaderAccess) (r : HttpRequest) (addr : Address) (p : BodyPlan) (first left a b c : Option (List ℕ))
+pub request_unheard : (access : HeaderAccess) (r : HttpRequest) (addr : Address) (p : BodyPlan)
+    (first left a b c : Option (List ℕ))
     (own : List ℕ) → own ≡ continue_part r p → Grew a b (λ part. IsPrefix part own)
-    → SendsRequest access r addr p first left a b c c (Some ClientFault)
+    → SendsRequest access (message r addr p) first left (sink a b) (sink c c) (Some ClientFault)
 request_unheard access r addr p None left a b c own e w = record { known = tt }
 request_unheard access r addr p (Some input) left a b c own e w = record {
   known =
@@ -42,10 +44,11 @@ request_unheard access r addr p (Some input) left a b c own e w = record {
 }
 
 -- the head was not sent
-pub request_unsent : (access : HeaderAccess) (r : HttpRequest) (addr : Address) (p : BodyPlan) (first left a b c d : Option (List ℕ))
+pub request_unsent : (access : HeaderAccess) (r : HttpRequest) (addr : Address) (p : BodyPlan)
+    (first left a b c d : Option (List ℕ))
     (own head : List ℕ) → own ≡ continue_part r p → Appends a b own
     → head ≡ head_out_where access.request r addr p → Grew c d (λ part. IsPrefix part head)
-    → SendsRequest access r addr p first left a b c d (Some NoReply)
+    → SendsRequest access (message r addr p) first left (sink a b) (sink c d) (Some NoReply)
 request_unsent access r addr p None left a b c d own head e w f v = record { known = tt }
 request_unsent access r addr p (Some input) left a b c d own head e w f v = record {
   known = (
@@ -67,13 +70,14 @@ refused_unfinished (place.Trailer n m) h = absurd cc
 refused_unfinished place.Done h = absurd cc
 
 -- a front of what a body gives
-front_of : {seated : Bool} {text : List ℕ} {a b : Option (List ℕ)} {g h spare : ℕ} → PaysPart seated text a b g h spare
+front_of : {seated : Bool} {text : List ℕ} {a b : Option (List ℕ)} {g h spare : ℕ} → PaysPart text
+    (metered seated a b g h) spare
     → Grew a b (λ part. IsPrefix part text)
 front_of x = (x.part, x.wrote, x.front)
 
 by_copied : (own head : List ℕ) (body : Walk) (left a b c m d : Option (List ℕ)) (k : Copied) → Appends a b own
-    → Appends c m head → CopiesBody false body left m d 0 0 k → 0 ≡ dry_after_copy k
-    → SentSo own (head ++ body.out) body left a b c d (sent k)
+    → Appends c m head → CopiesBody body left (metered false m d 0 0) k → 0 ≡ dry_after_copy k
+    → SentSo own (head ++ body.out) body left (sink a b) (sink c d) (sent k)
 by_copied own head body left a b c m d copied.Whole w v x h =
     (x.0, x.1, w, Appends-trans c m d head body.out v x.2.wrote)
 by_copied own head body left a b c m d copied.Cut w v x h = (x.0, x.1, w, Appends-trans c m d head body.out v x.3.wrote)
@@ -89,18 +93,21 @@ by_copied own head body left a b c m d copied.WantOfMemory w v x h =
 -- the body was sent as its copying says
 pub request_sent : (access : HeaderAccess) (r : HttpRequest) (addr : Address) (p : BodyPlan) (chunked : Bool)
     (first left a b c m d : Option (List ℕ)) (own head : List ℕ) (k : Copied) (ended : Option Exchanged)
-    → own ≡ continue_part r p → Appends a b own → head ≡ head_out_where access.request r addr p → Appends c m head → chunked ≡ is_chunked p
-    → Copies false p chunked first left m d 0 0 k → 0 ≡ dry_after_copy k → ended ≡ sent k
-    → SendsRequest access r addr p first left a b c d ended
+    → own ≡ continue_part r p → Appends a b own → head ≡ head_out_where access.request r addr p → Appends c m head →
+    chunked ≡ is_chunked p
+    → Copies p chunked first left (metered false m d 0 0) k → 0 ≡ dry_after_copy k → ended ≡ sent k
+    → SendsRequest access (message r addr p) first left (sink a b) (sink c d) ended
 request_sent access r addr p chunked None left a b c m d own head k ended e w f v i x h s = record { known = tt }
 request_sent access r addr p chunked (Some input) left a b c m d own head k ended e w f v i x h s =
     let body = body_of p (is_chunked p) input in
-    let copies : CopiesBody false body left m d 0 0 k =
-    subst (λ t. CopiesBody false (body_of p t input) left m d 0 0 k) i x.body in
+    let copies : CopiesBody body left (metered false m d 0 0) k =
+    subst (λ t. CopiesBody (body_of p t input) left (metered false m d 0 0) k) i x.body in
     record {
       known =
-          subst (SentSo (continue_part r p) (head_out_where access.request r addr p ++ body.out) body left a b c d) (sym s)
-          (by_copied (continue_part r p) (head_out_where access.request r addr p) body left a b c m d k (subst (Appends a b) e w)
+          subst (SentSo (continue_part r p) (head_out_where access.request r addr p ++ body.out) body left (sink a b)
+          (sink c d)) (sym s)
+          (by_copied (continue_part r p) (head_out_where access.request r addr p) body left a b c m d k
+          (subst (Appends a b) e w)
           (subst (Appends c m) f v) copies h);
     }
 

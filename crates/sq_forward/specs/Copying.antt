@@ -6,79 +6,74 @@ use Rattle.sq_base.specs.declared.plans.BodyPlan.{BodyPlan}
 use Rattle.sq_body.specs.declared.body_state.BodyState.{BodyState}
 use Rattle.sq_body.specs.Bodies.{Walk, after, walk, body_of, is_whole_body, is_refused}
 use Rattle.sq_body.specs.Feeding.{Feeds}
-use Rattle.sq_forward.specs.Meters.{PaysAll, PaysPart, piece_limit, dry_limit}
+use Rattle.sq_forward.specs.Meters.{Metered, PaysAll, PaysPart, piece_limit, dry_limit}
 use Rattle.sq_forward.specs.declared.copying.Copied.{Copied}
 use Rattle.sq_forward.specs.declared.copying.Copied.TheVariants.{Whole, Cut, Bad, NoSource, NoSink, Starved, WantOfMemory}
 use Rattle.sq_outside.specs.Causes.{Rose}
 
 -- what was written of a body: all that its bytes give, and then what is left of them; or a front of
 -- it
-abbrev pub CopiesBody : Bool → Walk → Option (List ℕ) → Option (List ℕ) → Option (List ℕ) → ℕ → ℕ
-    → Copied → Type 0
-CopiesBody seated body left before now g h Whole = (is_whole_body body.place ≡ true)
-    × (left ≡ Some body.rest) × PaysAll seated body.out before now g h
-CopiesBody seated body left before now g h Cut =
+abbrev pub CopiesBody : Walk → Option (List ℕ) → Metered → Copied → Type 0
+CopiesBody body left to Whole = (is_whole_body body.place ≡ true)
+    × (left ≡ Some body.rest) × PaysAll body.out to
+CopiesBody body left to Cut =
     (is_whole_body body.place ≡ false) × (is_refused body.place ≡ false) × IsAtEnd left
-    × PaysAll seated body.out before now g h
-CopiesBody seated body left before now g h Bad = (is_refused body.place ≡ true)
-    × PaysAll seated body.out before now g h
-CopiesBody seated body left before now g h NoSource = PaysPart seated body.out before now g h 0
-CopiesBody seated body left before now g h NoSink = PaysPart seated body.out before now g h
-    piece_limit
-CopiesBody seated body left before now g h Starved = PaysPart seated body.out before now g h 0
-CopiesBody seated body left before now g h WantOfMemory = PaysPart seated body.out before now g h 0
+    × PaysAll body.out to
+CopiesBody body left to Bad = (is_refused body.place ≡ true) × PaysAll body.out to
+CopiesBody body left to NoSource = PaysPart body.out to 0
+CopiesBody body left to NoSink = PaysPart body.out to piece_limit
+CopiesBody body left to Starved = PaysPart body.out to 0
+CopiesBody body left to WantOfMemory = PaysPart body.out to 0
 
 -- the same of the body at the front of what is to come, where that is told
-pub record Copies (seated : Bool) (plan : BodyPlan) (chunked : Bool)
-    (first left before now : Option (List ℕ)) (g h : ℕ) (copied : Copied) : Type 0 where
-  pub body : IfSome first
-      (λ bytes. CopiesBody seated (body_of plan chunked bytes) left before now g h copied)
+pub record Copies (plan : BodyPlan) (chunked : Bool) (first left : Option (List ℕ)) (to : Metered)
+    (copied : Copied) : Type 0 where
+  pub body : IfSome first (λ bytes. CopiesBody (body_of plan chunked bytes) left to copied)
 
 -- the bytes ahead were taken, up to the end of the body, and what they give was written
-pub record PieceFed (seated c : Bool) (p q : BodyState) (ahead : List ℕ) (used : ℕ) (ended : Bool)
-    (before now : Option (List ℕ)) (g h : ℕ) : Type 0 where
+pub record PieceFed (chunked : Bool) (place next : BodyState) (ahead : List ℕ) (used : ℕ)
+    (ended : Bool) (to : Metered) : Type 0 where
   pub piece : List ℕ
-  pub feeds : Feeds c p ahead q used ended [] piece
-  pub pays : PaysAll seated piece before now g h
+  pub feeds : Feeds chunked place ahead next used ended [] piece
+  pub pays : PaysAll piece to
 
 -- the copying ended in them, whatever follows them
-pub record PieceUnfed (seated c : Bool) (p : BodyState) (ahead : List ℕ)
-    (before now : Option (List ℕ)) (g h : ℕ) (copied : Copied) : Type 0 where
+pub record PieceUnfed (chunked : Bool) (place : BodyState) (ahead : List ℕ) (to : Metered)
+    (copied : Copied) : Type 0 where
   pub ends : (more : List ℕ) (left : Option (List ℕ))
-      → CopiesBody seated (walk c p (ahead ++ more)) left before now g h copied
+      → CopiesBody (walk chunked place (ahead ++ more)) left to copied
 
 -- a piece of the bytes to come was taken, which lead from here to there, and what they give was
 -- written
-pub record PieceGoes (seated chunked : Bool) (p q : BodyState) (bytes : List ℕ)
-    (left before now : Option (List ℕ)) (g h : ℕ) : Type 0 where
+pub record PieceGoes (chunked : Bool) (place next : BodyState) (bytes : List ℕ)
+    (left : Option (List ℕ)) (to : Metered) : Type 0 where
   pub piece : List ℕ
   pub rest : List ℕ
   pub left_is : left ≡ Some rest
-  pub walks : walk chunked p bytes ≡ after piece (walk chunked q rest)
-  pub pays : PaysAll seated piece before now g h
+  pub walks : walk chunked place bytes ≡ after piece (walk chunked next rest)
+  pub pays : PaysAll piece to
 
 -- a piece was copied, and the body goes on; or its copying ended
-abbrev pub PieceEnds : Bool → Bool → BodyState → BodyState → List ℕ → Option (List ℕ)
-    → Option (List ℕ) → Option (List ℕ) → ℕ → ℕ → Option Copied → Type 0
-PieceEnds seated chunked p q bytes left before now g h None =
-    PieceGoes seated chunked p q bytes left before now g h
-PieceEnds seated chunked p q bytes left before now g h (Some copied) =
-    CopiesBody seated (walk chunked p bytes) left before now g h copied
+abbrev pub PieceEnds : Bool → BodyState → BodyState → List ℕ → Option (List ℕ) → Metered
+    → Option Copied → Type 0
+PieceEnds chunked place next bytes left to None = PieceGoes chunked place next bytes left to
+PieceEnds chunked place next bytes left to (Some copied) =
+    CopiesBody (walk chunked place bytes) left to copied
 
 -- the same of what is to come, where that is told
-pub record CopiesPiece (seated chunked : Bool) (p q : BodyState)
-    (first left before now : Option (List ℕ)) (g h : ℕ) (ended : Option Copied) : Type 0 where
-  pub piece : IfSome first (λ bytes. PieceEnds seated chunked p q bytes left before now g h ended)
+pub record CopiesPiece (chunked : Bool) (place next : BodyState) (first left : Option (List ℕ))
+    (to : Metered) (ended : Option Copied) : Type 0 where
+  pub piece : IfSome first (λ bytes. PieceEnds chunked place next bytes left to ended)
 
 -- the count of the link that failed rose
 abbrev pub CopyHasCause : ℕ → ℕ → ℕ → ℕ → Copied → Type 0
-CopyHasCause a b c d NoSource = Rose a b
-CopyHasCause a b c d NoSink = Rose c d
-CopyHasCause a b c d Whole = ⊤
-CopyHasCause a b c d Cut = ⊤
-CopyHasCause a b c d Bad = ⊤
-CopyHasCause a b c d Starved = ⊤
-CopyHasCause a b c d WantOfMemory = ⊤
+CopyHasCause source source_now sink sink_now NoSource = Rose source source_now
+CopyHasCause source source_now sink sink_now NoSink = Rose sink sink_now
+CopyHasCause source source_now sink sink_now Whole = ⊤
+CopyHasCause source source_now sink sink_now Cut = ⊤
+CopyHasCause source source_now sink sink_now Bad = ⊤
+CopyHasCause source source_now sink sink_now Starved = ⊤
+CopyHasCause source source_now sink sink_now WantOfMemory = ⊤
 
 -- how dry the meter is then
 abbrev pub dry_after_copy : Copied → ℕ

@@ -18,7 +18,7 @@ use Rattle.sq_head.specs.declared.faults.BadBody as bad
 use Rattle.sq_head.specs.declared.replies.ReplyHead.{ReplyHead}
 use Rattle.sq_headers.specs.Access.{HeaderAccess}
 use Rattle.sq_head.specs.declared.replies.Shape.{Shape}
-use Rattle.sq_forward.specs.Meters.{granted_after, dry_limit, piece_limit}
+use Rattle.sq_forward.specs.Meters.{Metered, granted_after, dry_limit, piece_limit}
 use Rattle.sq_forward.specs.Replies.{Reading, IsReading}
 use Rattle.sq_forward.specs.declared.exchanging.Exchanged.{Exchanged}
 use Rattle.sq_forward.specs.declared.exchanging.Exchanged.TheVariants.{Kept, Closed, Cut, ClientFault, BadBody, NoReply, OriginCut, OriginFault, Starved, WantOfMemory}
@@ -122,88 +122,107 @@ exchange access r addr p input reading =
     let body = body_of p (is_chunked p) input in
     answered access r (continue_part r p) (head_out_where access.request r addr p ++ body.out) body reading
 
+-- a request that goes out, the address of the client that asked, and the plan of its body
+pub record Message : Type 0 where
+  pub request : HttpRequest
+  pub addr : Address
+  pub plan : BodyPlan
+
+abbrev pub message : HttpRequest → Address → BodyPlan → Message
+message request addr plan = record { request = request; addr = addr; plan = plan }
+
+-- what a sink held before and now, where it tells that
+pub record SinkSeen : Type 0 where
+  pub before : Option (List ℕ)
+  pub now : Option (List ℕ)
+
+abbrev pub sink : Option (List ℕ) → Option (List ℕ) → SinkSeen
+sink before now = record { before = before; now = now }
+
+-- what is seen of an exchange: what is left of the client's input, what went to the client, and
+-- what to the origin
+pub record ExchangeSeen : Type 0 where
+  pub left : Option (List ℕ)
+  pub client : Metered
+  pub origin : SinkSeen
+
+abbrev pub exchange_seen : Option (List ℕ) → Metered → SinkSeen → ExchangeSeen
+exchange_seen left client origin = record { left = left; client = client; origin = origin }
+
 -- both texts were written, and what came from the origin was granted; a kept connection stands
 -- behind the body
-pub record Exact (x : Exchange) (seated : Bool)
-    (left client_before client_now origin_before origin_now : Option (List ℕ)) (g h : ℕ)
-    (end : Exchanged) : Type 0 where
-  pub client : Appends client_before client_now (x.own ++ x.client)
-  pub granted : h ≡ granted_after seated g (length x.client)
-  pub origin : Appends origin_before origin_now x.origin
-  pub rest : end ≡ Kept → left ≡ Some x.rest
+pub record Exact (x : Exchange) (links : ExchangeSeen) (end : Exchanged) : Type 0 where
+  pub client : Appends links.client.before links.client.now (x.own ++ x.client)
+  pub granted : links.client.granted_now
+      ≡ granted_after links.client.seated links.client.granted_before (length x.client)
+  pub origin : Appends links.origin.before links.origin.now x.origin
+  pub rest : end ≡ Kept → links.left ≡ Some x.rest
   pub ends : end ≡ x.end
 
 -- fronts of both texts were written, and up to `spare` more was granted than came from the origin
-pub record Fronts (x : Exchange) (seated : Bool)
-    (client_before client_now origin_before origin_now : Option (List ℕ))
-    (g h spare : ℕ) : Type 0 where
+pub record Fronts (x : Exchange) (to : Metered) (to_origin : SinkSeen) (spare : ℕ) : Type 0 where
   pub part : List ℕ
   pub more : ℕ
   pub front : IsPrefix part (x.own ++ x.client)
-  pub client : Appends client_before client_now part
-  pub granted : h ≡ granted_after seated g (length part - length x.own + more)
+  pub client : Appends to.before to.now part
+  pub granted : to.granted_now
+      ≡ granted_after to.seated to.granted_before (length part - length x.own + more)
   pub close : more ≤ spare
-  pub origin : Grew origin_before origin_now (λ part. IsPrefix part x.origin)
+  pub origin : Grew to_origin.before to_origin.now (λ part. IsPrefix part x.origin)
 
 -- behind the reply's head: all up to that head was written to the client, and a front of what
 -- follows; nothing more was granted
-pub record Broken (access : HeaderAccess) (r : HttpRequest) (reading : Reading) (x : Exchange) (seated : Bool)
-    (client_before client_now origin_before origin_now : Option (List ℕ)) (g h : ℕ) : Type 0 where
+pub record Broken (access : HeaderAccess) (request : HttpRequest) (reading : Reading)
+    (x : Exchange) (to : Metered) (to_origin : SinkSeen) : Type 0 where
   pub head : ReplyHead
   pub plan : BodyPlan
   pub final : reading.final ≡ Some head
-  pub planned : reply_plan r.method head ≡ Ok plan
-  pub fronts : Fronts x seated client_before client_now origin_before origin_now g h 0
+  pub planned : reply_plan request.method head ≡ Ok plan
+  pub fronts : Fronts x to to_origin 0
   pub sent : IsPrefix (x.own
-      ++ (interim_texts access r reading.interim ++ reply_head_out_where access.reply head (shape_of r plan))) fronts.part
+      ++ (interim_texts access request reading.interim
+      ++ reply_head_out_where access.reply head (shape_of request plan))) fronts.part
 
 -- no head of the reply's own was reached: all that the client gets without a reply was written, and
 -- a front of what the origin gets
-pub record Unreached (reading : Reading) (x : Exchange) (seated : Bool)
-    (client_before client_now origin_before origin_now : Option (List ℕ)) (g h : ℕ) : Type 0 where
+pub record Unreached (reading : Reading) (x : Exchange) (to : Metered)
+    (to_origin : SinkSeen) : Type 0 where
   pub headless : reading.final ≡ None
-  pub client : Appends client_before client_now (x.own ++ x.client)
-  pub granted : h ≡ granted_after seated g (length x.client)
-  pub origin : Grew origin_before origin_now (λ part. IsPrefix part x.origin)
+  pub client : Appends to.before to.now (x.own ++ x.client)
+  pub granted : to.granted_now ≡ granted_after to.seated to.granted_before (length x.client)
+  pub origin : Grew to_origin.before to_origin.now (λ part. IsPrefix part x.origin)
 
--- what an exchange comes to by its answer, where the origin's bytes are this reply, and it looked
--- at these of them
-abbrev pub EndsExchange : HeaderAccess → HttpRequest → Reading → Exchange → List ℕ → List ℕ → Bool
-    → Option (List ℕ) → Option (List ℕ) → Option (List ℕ) → Option (List ℕ) → Option (List ℕ) → ℕ
-    → ℕ → Type 0 → Exchanged → Type 0
-EndsExchange access r reading x seen reply seated left a b c d g h failed ClientFault =
-    Fronts x seated a b c d g h piece_limit
-EndsExchange access r reading x seen reply seated left a b c d g h failed OriginFault =
-    Broken access r reading x seated a b c d g h
-EndsExchange access r reading x seen reply seated left a b c d g h failed Starved =
-    Fronts x seated a b c d g h 0
-EndsExchange access r reading x seen reply seated left a b c d g h failed WantOfMemory =
-    Fronts x seated a b c d g h 0
-EndsExchange access r reading x seen reply seated left a b c d g h failed NoReply =
-    ((seen ≡ reply) × Exact x seated left a b c d g h NoReply)
-    ⊎ (failed × Unreached reading x seated a b c d g h)
-EndsExchange access r reading x seen reply seated left a b c d g h failed Kept = (seen ≡ reply)
-    × Exact x seated left a b c d g h Kept
-EndsExchange access r reading x seen reply seated left a b c d g h failed Closed = (seen ≡ reply)
-    × Exact x seated left a b c d g h Closed
-EndsExchange access r reading x seen reply seated left a b c d g h failed OriginCut = (seen ≡ reply)
-    × Exact x seated left a b c d g h OriginCut
-EndsExchange access r reading x seen reply seated left a b c d g h failed Cut =
-    Exact x seated left a b c d g h Cut
-EndsExchange access r reading x seen reply seated left a b c d g h failed BadBody =
-    Exact x seated left a b c d g h BadBody
+-- what an exchange comes to by its answer, where the origin's bytes read so; `all` says that it
+-- looked at all of them
+abbrev pub EndsExchange : HeaderAccess → HttpRequest → Reading → Exchange → Type 0 → ExchangeSeen
+    → Type 0 → Exchanged → Type 0
+EndsExchange access request reading x all links failed ClientFault =
+    Fronts x links.client links.origin piece_limit
+EndsExchange access request reading x all links failed OriginFault =
+    Broken access request reading x links.client links.origin
+EndsExchange access request reading x all links failed Starved =
+    Fronts x links.client links.origin 0
+EndsExchange access request reading x all links failed WantOfMemory =
+    Fronts x links.client links.origin 0
+EndsExchange access request reading x all links failed NoReply =
+    (all × Exact x links NoReply) ⊎ (failed × Unreached reading x links.client links.origin)
+EndsExchange access request reading x all links failed Kept = all × Exact x links Kept
+EndsExchange access request reading x all links failed Closed = all × Exact x links Closed
+EndsExchange access request reading x all links failed OriginCut = all × Exact x links OriginCut
+EndsExchange access request reading x all links failed Cut = Exact x links Cut
+EndsExchange access request reading x all links failed BadBody = Exact x links BadBody
 
--- the exchange of this request: over a front of the origin's bytes that it looked at, by how these
+-- the exchange of this message: over a front of the origin's bytes that it looked at, by how these
 -- read
-pub record Exchanges (access : HeaderAccess) (r : HttpRequest) (addr : Address) (p : BodyPlan) (input reply : List ℕ)
-    (seated : Bool)
-    (left a b c d : Option (List ℕ)) (g h : ℕ) (failed : Type 0) (end : Exchanged) : Type 0 where
+pub record Exchanges (access : HeaderAccess) (sent : Message) (input reply : List ℕ)
+    (links : ExchangeSeen) (failed : Type 0) (end : Exchanged) : Type 0 where
   pub seen : List ℕ
   pub reading : Reading
   pub front : IsPrefix seen reply
   pub reads : IsReading seen reading
-  pub ends : EndsExchange access r reading (exchange access r addr p input reading) seen reply seated left a b c d
-      g h failed end
+  pub ends : EndsExchange access sent.request reading
+      (exchange access sent.request sent.addr sent.plan input reading) (seen ≡ reply) links failed
+      end
 
 -- the count of the link that failed rose
 abbrev pub ExchangeHasCause : Type 0 → Type 0 → Exchanged → Type 0

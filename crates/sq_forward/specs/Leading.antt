@@ -10,7 +10,7 @@ use Rattle.sq_head.specs.ReplyHeads.{reply_head_out_where}
 use Rattle.sq_head.specs.declared.replies.ReplyHead.{ReplyHead}
 use Rattle.sq_headers.specs.Access.{HeaderAccess}
 use Rattle.sq_forward.specs.Exchanges.{shape_of, interim_texts, replied, dry_after_exchange}
-use Rattle.sq_forward.specs.Meters.{PaysAll, PaysPart, piece_limit}
+use Rattle.sq_forward.specs.Meters.{Metered, PaysAll, PaysPart, piece_limit}
 use Rattle.sq_forward.specs.Replies.{BeginsHead, AreInterim, IsReading, is_interim, interim_limit}
 use Rattle.sq_forward.specs.declared.copying.Copied.{Copied}
 use Rattle.sq_forward.specs.declared.copying.Copied.TheVariants as copied
@@ -35,8 +35,8 @@ TakesHead bytes left (Err none.Failed) = ⊤
 TakesHead bytes left (Err none.WantOfMemory) = ⊤
 
 -- behind heads that are not the reply's own, which were passed on, stands its own, and it was taken
-pub record LedTo (access : HeaderAccess) (r : HttpRequest) (bytes : List ℕ) (seated : Bool)
-    (left before now : Option (List ℕ)) (g h : ℕ) (final : ReplyHead) : Type 0 where
+pub record LedTo (access : HeaderAccess) (request : HttpRequest) (bytes : List ℕ)
+    (left : Option (List ℕ)) (to : Metered) (final : ReplyHead) : Type 0 where
   pub heads : List ℕ
   pub more : List ℕ
   pub interim : List ReplyHead
@@ -48,21 +48,20 @@ pub record LedTo (access : HeaderAccess) (r : HttpRequest) (bytes : List ℕ) (s
   pub own : is_interim final ≡ false
   pub goes : final.status ≡ 101 → ⊥
   pub left_is : left ≡ Some rest
-  pub pays : PaysAll seated (interim_texts access r interim) before now g h
+  pub pays : PaysAll (interim_texts access request interim) to
 
 -- how much of the heads that were looked at went to the client
-abbrev pub PaysHeads : List ℕ → Bool → Option (List ℕ) → Option (List ℕ) → ℕ → ℕ → Exchanged
-    → Type 0
-PaysHeads text seated before now g h NoReply = PaysAll seated text before now g h
-PaysHeads text seated before now g h ClientFault = PaysPart seated text before now g h piece_limit
-PaysHeads text seated before now g h Starved = PaysPart seated text before now g h 0
-PaysHeads text seated before now g h WantOfMemory = PaysPart seated text before now g h 0
-PaysHeads text seated before now g h Kept = ⊥
-PaysHeads text seated before now g h Closed = ⊥
-PaysHeads text seated before now g h Cut = ⊥
-PaysHeads text seated before now g h BadBody = ⊥
-PaysHeads text seated before now g h OriginCut = ⊥
-PaysHeads text seated before now g h OriginFault = ⊥
+abbrev pub PaysHeads : List ℕ → Metered → Exchanged → Type 0
+PaysHeads text to NoReply = PaysAll text to
+PaysHeads text to ClientFault = PaysPart text to piece_limit
+PaysHeads text to Starved = PaysPart text to 0
+PaysHeads text to WantOfMemory = PaysPart text to 0
+PaysHeads text to Kept = ⊥
+PaysHeads text to Closed = ⊥
+PaysHeads text to Cut = ⊥
+PaysHeads text to BadBody = ⊥
+PaysHeads text to OriginCut = ⊥
+PaysHeads text to OriginFault = ⊥
 
 -- the count of the client's link rose where that failed
 abbrev pub LeadHasCause : Type 0 → Exchanged → Type 0
@@ -79,71 +78,64 @@ LeadHasCause client OriginFault = ⊥
 
 -- no reply's own head was reached: a front of the bytes was looked at, which is all of them where
 -- no link failed
-pub record LedNowhere (access : HeaderAccess) (r : HttpRequest) (bytes : List ℕ) (seated : Bool)
-    (before now : Option (List ℕ)) (g h : ℕ) (failed : Type 0) (end : Exchanged) : Type 0 where
+pub record LedNowhere (access : HeaderAccess) (request : HttpRequest) (bytes : List ℕ)
+    (to : Metered) (failed : Type 0) (end : Exchanged) : Type 0 where
   pub seen : List ℕ
   pub interim : List ReplyHead
   pub front : IsPrefix seen bytes
   pub reads : IsReading seen (record { interim = interim; final = None; rest = [] })
   pub all : end ≡ NoReply → (seen ≡ bytes) ⊎ failed
-  pub pays : PaysHeads (interim_texts access r interim) seated before now g h end
+  pub pays : PaysHeads (interim_texts access request interim) to end
 
-abbrev pub Leads : HeaderAccess → HttpRequest → List ℕ → Bool → Option (List ℕ) → Option (List ℕ) → Option (List ℕ)
-    → ℕ → ℕ → Type 0 → Result ReplyHead Exchanged → Type 0
-Leads access r bytes seated left before now g h failed (Ok final) =
-    LedTo access r bytes seated left before now g h final
-Leads access r bytes seated left before now g h failed (Err end) =
-    LedNowhere access r bytes seated before now g h failed end
+abbrev pub Leads : HeaderAccess → HttpRequest → List ℕ → Option (List ℕ) → Metered → Type 0
+    → Result ReplyHead Exchanged → Type 0
+Leads access request bytes left to failed (Ok final) = LedTo access request bytes left to final
+Leads access request bytes left to failed (Err end) =
+    LedNowhere access request bytes to failed end
 
 -- the same of what is to come, where that is told
-pub record LeadsReply (access : HeaderAccess) (r : HttpRequest) (seated : Bool) (first left before now : Option (List ℕ))
-    (g h : ℕ) (failed : Type 0) (led : Result ReplyHead Exchanged) : Type 0 where
-  pub known : IfSome first (λ bytes. Leads access r bytes seated left before now g h failed led)
+pub record LeadsReply (access : HeaderAccess) (request : HttpRequest)
+    (first left : Option (List ℕ)) (to : Metered) (failed : Type 0)
+    (led : Result ReplyHead Exchanged) : Type 0 where
+  pub known : IfSome first (λ bytes. Leads access request bytes left to failed led)
 
 -- the reply's head went to the client, and a front of its body
-pub record SentHead (access : HeaderAccess) (r : HttpRequest) (head : ReplyHead) (text : List ℕ) (seated : Bool)
-    (before now : Option (List ℕ)) (g h : ℕ) : Type 0 where
+pub record SentHead (access : HeaderAccess) (request : HttpRequest) (head : ReplyHead)
+    (text : List ℕ) (to : Metered) : Type 0 where
   pub plan : BodyPlan
-  pub planned : reply_plan r.method head ≡ Ok plan
-  pub pays : PaysPart seated text before now g h 0
-  pub sent : IsPrefix (reply_head_out_where access.reply head (shape_of r plan)) pays.part
+  pub planned : reply_plan request.method head ≡ Ok plan
+  pub pays : PaysPart text to 0
+  pub sent : IsPrefix (reply_head_out_where access.reply head (shape_of request plan)) pays.part
 
 -- how much of the reply went to the client
-abbrev pub SentReply : HeaderAccess → HttpRequest → ReplyHead → List ℕ → Exchanged → Bool → Option (List ℕ)
-    → Option (List ℕ) → ℕ → ℕ → Exchanged → Type 0
-SentReply access r head text end seated before now g h ClientFault =
-    PaysPart seated text before now g h piece_limit
-SentReply access r head text end seated before now g h OriginFault =
-    SentHead access r head text seated before now g h
-SentReply access r head text end seated before now g h Starved = PaysPart seated text before now g h 0
-SentReply access r head text end seated before now g h WantOfMemory = PaysPart seated text before now g h 0
-SentReply access r head text end seated before now g h Kept = PaysAll seated text before now g h
-    × (Kept ≡ end)
-SentReply access r head text end seated before now g h Closed = PaysAll seated text before now g h
-    × (Closed ≡ end)
-SentReply access r head text end seated before now g h OriginCut = PaysAll seated text before now g h
-    × (OriginCut ≡ end)
-SentReply access r head text end seated before now g h NoReply = PaysAll seated text before now g h
-    × (NoReply ≡ end)
-SentReply access r head text end seated before now g h Cut = ⊥
-SentReply access r head text end seated before now g h BadBody = ⊥
+abbrev pub SentReply : HeaderAccess → HttpRequest → ReplyHead → List ℕ → Exchanged → Metered
+    → Exchanged → Type 0
+SentReply access request head text end to ClientFault = PaysPart text to piece_limit
+SentReply access request head text end to OriginFault = SentHead access request head text to
+SentReply access request head text end to Starved = PaysPart text to 0
+SentReply access request head text end to WantOfMemory = PaysPart text to 0
+SentReply access request head text end to Kept = PaysAll text to × (Kept ≡ end)
+SentReply access request head text end to Closed = PaysAll text to × (Closed ≡ end)
+SentReply access request head text end to OriginCut = PaysAll text to × (OriginCut ≡ end)
+SentReply access request head text end to NoReply = PaysAll text to × (NoReply ≡ end)
+SentReply access request head text end to Cut = ⊥
+SentReply access request head text end to BadBody = ⊥
 
 -- the reply with this head, whose body begins what is to come, where that is told
-pub record SendsReply (access : HeaderAccess) (r : HttpRequest) (head : ReplyHead) (seated : Bool)
-    (first before now : Option (List ℕ)) (g h : ℕ) (end : Exchanged) : Type 0 where
+pub record SendsReply (access : HeaderAccess) (request : HttpRequest) (head : ReplyHead)
+    (first : Option (List ℕ)) (to : Metered) (end : Exchanged) : Type 0 where
   pub known : IfSome first
-      (λ bytes. SentReply access r head (replied access r head bytes).text (replied access r head bytes).end seated
-      before now g h end)
+      (λ bytes. SentReply access request head (replied access request head bytes).text
+      (replied access request head bytes).end to end)
 
 -- the reply's own head may not be 101
 abbrev pub own_head : ReplyHead → Result ReplyHead Exchanged
 own_head h = if h.status == 101 then Err NoReply else Ok h
 
 -- how much of a text went to the client
-abbrev pub SendsText : {T : Type 0} → List ℕ → Bool → Option (List ℕ) → Option (List ℕ) → ℕ → ℕ
-    → Result T Exchanged → Type 0
-SendsText text seated before now g h (Ok u) = PaysAll seated text before now g h
-SendsText text seated before now g h (Err end) = PaysHeads text seated before now g h end
+abbrev pub SendsText : {T : Type 0} → List ℕ → Metered → Result T Exchanged → Type 0
+SendsText text to (Ok u) = PaysAll text to
+SendsText text to (Err end) = PaysHeads text to end
 
 -- how dry the meter is then
 abbrev pub dry_after_sending : {T : Type 0} → Result T Exchanged → ℕ

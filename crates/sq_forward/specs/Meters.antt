@@ -34,18 +34,34 @@ dry_after_grant given dry = if given == 0 then dry else 0
 abbrev pub dry_after_pause : Bool → ℕ → ℕ
 dry_after_pause short dry = if short then min (dry + 1) count_limit else dry
 
+-- a sink and the meter of what goes into it: whether that holds a seat, what the sink held before
+-- and now, where it tells that, and how many bytes had been granted before and are now
+pub record Metered : Type 0 where
+  pub seated : Bool
+  pub before : Option (List ℕ)
+  pub now : Option (List ℕ)
+  pub granted_before : ℕ
+  pub granted_now : ℕ
+
+abbrev pub metered : Bool → Option (List ℕ) → Option (List ℕ) → ℕ → ℕ → Metered
+metered seated before now granted_before granted_now = record {
+  seated = seated;
+  before = before;
+  now = now;
+  granted_before = granted_before;
+  granted_now = granted_now;
+}
+
 -- the text was written, and as many bytes were granted
-pub record PaysAll (seated : Bool) (text : List ℕ) (before now : Option (List ℕ))
-    (granted_before granted_now : ℕ) : Type 0 where
-  pub wrote : Appends before now text
-  pub granted : granted_now ≡ granted_after seated granted_before (length text)
+pub record PaysAll (text : List ℕ) (to : Metered) : Type 0 where
+  pub wrote : Appends to.before to.now text
+  pub granted : to.granted_now ≡ granted_after to.seated to.granted_before (length text)
 
 -- a front of the text was written, and as many bytes were granted, or up to `spare` more
-pub record PaysPart (seated : Bool) (text : List ℕ) (before now : Option (List ℕ))
-    (granted_before granted_now spare : ℕ) : Type 0 where
+pub record PaysPart (text : List ℕ) (to : Metered) (spare : ℕ) : Type 0 where
   pub part : List ℕ
   pub more : ℕ
   pub front : IsPrefix part text
-  pub wrote : Appends before now part
-  pub granted : granted_now ≡ granted_after seated granted_before (length part + more)
+  pub wrote : Appends to.before to.now part
+  pub granted : to.granted_now ≡ granted_after to.seated to.granted_before (length part + more)
   pub close : more ≤ spare

@@ -2,14 +2,11 @@
 use Rattle.std.specs.Prelude.{◌≡◌, ℕ, List, ◌++◌, true, false, Some, None, IfSome, ⊤}
 use Rattle.std.specs.declared.option.Option.{Option}
 use Rattle.std.specs.Io.KnownBytes.{Appends}
-use Rattle.sq_base.specs.Addresses.{Address}
-use Rattle.sq_base.specs.Requests.{HttpRequest}
-use Rattle.sq_base.specs.declared.plans.BodyPlan.{BodyPlan}
 use Rattle.sq_body.specs.Bodies.{Walk, body_of, is_whole_body, is_refused}
 use Rattle.sq_outside.specs.Output.{IsPrefix, Grew}
 use Rattle.sq_head.specs.RequestHeads.{head_out_where, is_chunked}
 use Rattle.sq_headers.specs.Access.{HeaderAccess}
-use Rattle.sq_forward.specs.Exchanges.{continue_part}
+use Rattle.sq_forward.specs.Exchanges.{Message, SinkSeen, continue_part}
 use Rattle.sq_forward.specs.declared.copying.Copied.{Copied}
 use Rattle.sq_forward.specs.declared.copying.Copied.TheVariants as copied
 use Rattle.sq_forward.specs.declared.exchanging.Exchanged.{Exchanged}
@@ -26,32 +23,39 @@ sent copied.Starved = Some Starved
 sent copied.WantOfMemory = Some WantOfMemory
 
 -- what a client heard that waits, and what the origin got: the head and the body, as far as they go
-abbrev pub SentSo : List ℕ → List ℕ → Walk → Option (List ℕ) → Option (List ℕ) → Option (List ℕ)
-    → Option (List ℕ) → Option (List ℕ) → Option Exchanged → Type 0
-SentSo own origin body left a b c d None = (is_whole_body body.place ≡ true)
-    × (left ≡ Some body.rest) × Appends a b own × Appends c d origin
-SentSo own origin body left a b c d (Some Cut) = (is_whole_body body.place ≡ false)
-    × (is_refused body.place ≡ false) × Appends a b own × Appends c d origin
-SentSo own origin body left a b c d (Some BadBody) = (is_whole_body body.place ≡ false)
-    × (is_refused body.place ≡ true) × Appends a b own × Appends c d origin
-SentSo own origin body left a b c d (Some NoReply) = Appends a b own
-    × Grew c d (λ part. IsPrefix part origin)
-SentSo own origin body left a b c d (Some Kept) = ⊥
-SentSo own origin body left a b c d (Some Closed) = ⊥
-SentSo own origin body left a b c d (Some OriginCut) = ⊥
-SentSo own origin body left a b c d (Some OriginFault) = ⊥
-SentSo own origin body left a b c d (Some Starved) = ⊥
-SentSo own origin body left a b c d (Some ClientFault) = Grew a b (λ part. IsPrefix part own)
-    × Grew c d (λ part. IsPrefix part origin)
-SentSo own origin body left a b c d (Some WantOfMemory) = Grew a b (λ part. IsPrefix part own)
-    × Grew c d (λ part. IsPrefix part origin)
+abbrev pub SentSo : List ℕ → List ℕ → Walk → Option (List ℕ) → SinkSeen → SinkSeen
+    → Option Exchanged → Type 0
+SentSo own text body left client origin None = (is_whole_body body.place ≡ true)
+    × (left ≡ Some body.rest) × Appends client.before client.now own
+    × Appends origin.before origin.now text
+SentSo own text body left client origin (Some Cut) = (is_whole_body body.place ≡ false)
+    × (is_refused body.place ≡ false) × Appends client.before client.now own
+    × Appends origin.before origin.now text
+SentSo own text body left client origin (Some BadBody) = (is_whole_body body.place ≡ false)
+    × (is_refused body.place ≡ true) × Appends client.before client.now own
+    × Appends origin.before origin.now text
+SentSo own text body left client origin (Some NoReply) = Appends client.before client.now own
+    × Grew origin.before origin.now (λ part. IsPrefix part text)
+SentSo own text body left client origin (Some Kept) = ⊥
+SentSo own text body left client origin (Some Closed) = ⊥
+SentSo own text body left client origin (Some OriginCut) = ⊥
+SentSo own text body left client origin (Some OriginFault) = ⊥
+SentSo own text body left client origin (Some Starved) = ⊥
+SentSo own text body left client origin (Some ClientFault) =
+    Grew client.before client.now (λ part. IsPrefix part own)
+    × Grew origin.before origin.now (λ part. IsPrefix part text)
+SentSo own text body left client origin (Some WantOfMemory) =
+    Grew client.before client.now (λ part. IsPrefix part own)
+    × Grew origin.before origin.now (λ part. IsPrefix part text)
 
--- the same of the request whose body begins what is to come, where that is told
-pub record SendsRequest (access : HeaderAccess) (r : HttpRequest) (addr : Address) (p : BodyPlan)
-    (first left a b c d : Option (List ℕ)) (ended : Option Exchanged) : Type 0 where
+-- the same of a message whose body begins what is to come, where that is told
+pub record SendsRequest (access : HeaderAccess) (sent : Message) (first left : Option (List ℕ))
+    (client origin : SinkSeen) (ended : Option Exchanged) : Type 0 where
   pub known : IfSome first (λ input.
-      SentSo (continue_part r p) (head_out_where access.request r addr p ++ (body_of p (is_chunked p) input).out)
-      (body_of p (is_chunked p) input) left a b c d ended)
+      SentSo (continue_part sent.request sent.plan)
+      (head_out_where access.request sent.request sent.addr sent.plan
+      ++ (body_of sent.plan (is_chunked sent.plan) input).out)
+      (body_of sent.plan (is_chunked sent.plan) input) left client origin ended)
 
 -- the count of the link that failed rose
 abbrev pub SendHasCause : Type 0 → Type 0 → Exchanged → Type 0

@@ -1,10 +1,10 @@
 -- A tunnel and its ways: RFC 9110 section 9.3.6.
-use Rattle.std.specs.Prelude.{◌≡◌, ◌⊎◌, ℕ, List, Bool, IfSome, ⊤}
+use Rattle.std.specs.Prelude.{◌≡◌, ◌⊎◌, ℕ, List, IfSome, ⊤}
 use Rattle.std.specs.declared.option.Option.{Option}
 use Rattle.std.specs.Io.KnownBytes.{Appends, IsAtEnd}
 use Rattle.sq_outside.specs.Causes.{Rose}
 use Rattle.sq_outside.specs.Output.{IsPrefix, Grew}
-use Rattle.sq_forward.specs.Meters.{PaysAll, PaysPart, piece_limit, dry_limit}
+use Rattle.sq_forward.specs.Meters.{Metered, PaysAll, PaysPart, piece_limit, dry_limit}
 use Rattle.sq_forward.specs.declared.copying.Copied.{Copied}
 use Rattle.sq_forward.specs.declared.copying.Copied.TheVariants as copied
 use Rattle.sq_forward.specs.declared.tunnels.Tunnelled.{Tunnelled}
@@ -24,11 +24,11 @@ way_of copied.WantOfMemory = WantOfMemory
 
 -- the count of the link that failed rose
 abbrev pub WayHasCause : ℕ → ℕ → ℕ → ℕ → WayEnd → Type 0
-WayHasCause a b c d NoSource = Rose a b
-WayHasCause a b c d NoSink = Rose c d
-WayHasCause a b c d Ended = ⊤
-WayHasCause a b c d Starved = ⊤
-WayHasCause a b c d WantOfMemory = ⊤
+WayHasCause source source_now sink sink_now NoSource = Rose source source_now
+WayHasCause source source_now sink sink_now NoSink = Rose sink sink_now
+WayHasCause source source_now sink sink_now Ended = ⊤
+WayHasCause source source_now sink sink_now Starved = ⊤
+WayHasCause source source_now sink sink_now WantOfMemory = ⊤
 
 -- how dry the meter of a way is then
 abbrev pub dry_after_way : WayEnd → ℕ
@@ -83,16 +83,13 @@ abbrev pub GoesWhole : Option (List ℕ) → Option (List ℕ) → Option (List 
 GoesWhole first left before now = IfSome first (λ bytes. IsAtEnd left × Appends before now bytes)
 
 -- all that was to come was granted and written
-abbrev pub GoesPaid : Bool → Option (List ℕ) → Option (List ℕ) → Option (List ℕ) → ℕ → ℕ → Type 0
-GoesPaid seated first before now g h = IfSome first (λ bytes. PaysAll seated bytes before now g h)
+abbrev pub GoesPaid : Option (List ℕ) → Metered → Type 0
+GoesPaid first to = IfSome first (λ bytes. PaysAll bytes to)
 
 -- where the way ended
-pub record PaidAtEnd (seated : Bool) (first before now : Option (List ℕ)) (g h : ℕ)
-    (w : WayEnd) : Type 0 where
-  pub paid : w ≡ Ended → GoesPaid seated first before now g h
+pub record PaidAtEnd (first : Option (List ℕ)) (to : Metered) (w : WayEnd) : Type 0 where
+  pub paid : w ≡ Ended → GoesPaid first to
 
 -- a front of what was to come was written as it was granted
-abbrev pub GoesGranted : Bool → Option (List ℕ) → Option (List ℕ) → Option (List ℕ) → ℕ → ℕ → ℕ
-    → Type 0
-GoesGranted seated first before now g h spare = IfSome first
-    (λ bytes. PaysPart seated bytes before now g h spare)
+abbrev pub GoesGranted : Option (List ℕ) → Metered → ℕ → Type 0
+GoesGranted first to spare = IfSome first (λ bytes. PaysPart bytes to spare)

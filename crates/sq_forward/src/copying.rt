@@ -4,6 +4,7 @@ ghost use Rattle.std.specs.Prelude.{◌≡◌, ◌≤◌, ◌+◌, ℕ, [], leng
 ghost use Rattle.sq_outside.specs.Input.{ReadHasCause};
 ghost use Rattle.sq_forward.specs.Copying.{Copies, CopiesPiece, PieceFed, PieceUnfed, CopyHasCause, dry_after_copy, dry_after_piece};
 ghost use Rattle.sq_forward.specs.Halves.{to_come, large_read_limit, Filled};
+ghost use Rattle.sq_forward.specs.Meters.{metered};
 
 use crate::half::Half;
 use crate::meter::Meter;
@@ -46,9 +47,9 @@ pub(crate) fn copy_body<R: Wait, S: Source, O: Sink, M: Meter>(
     chunked_out: bool,
 ) -> Copied
     requires dry { M.dry meter.old ≡ 0 }
-    ensures copies { Copies (M.seated meter.old) plan chunked_out (to_come S.left from.old)
-        (to_come S.left from.new)
-        (O.contents to.old) (O.contents to.new) (M.granted meter.old) (M.granted meter.new) result }
+    ensures copies { Copies plan chunked_out (to_come S.left from.old) (to_come S.left from.new)
+        (metered (M.seated meter.old) (O.contents to.old) (O.contents to.new) (M.granted meter.old)
+        (M.granted meter.new)) result }
     ensures cause { CopyHasCause (S.faults from.old.source) (S.faults from.new.source)
         (O.faults to.old) (O.faults to.new) result }
     ensures dry { M.dry meter.new ≡ dry_after_copy result }
@@ -80,9 +81,10 @@ fn copy_piece<S: Source, O: Sink, M: Meter>(
     framed: &mut Text,
 ) -> Option<Copied>
     requires dry { M.dry meter.old ≡ 0 }
-    ensures copies { CopiesPiece (M.seated meter.old) cursor.old.chunked cursor.old.place
-        cursor.new.place (to_come S.left from.old) (to_come S.left from.new)
-        (O.contents to.old) (O.contents to.new) (M.granted meter.old) (M.granted meter.new) result }
+    ensures copies { CopiesPiece cursor.old.chunked cursor.old.place cursor.new.place
+        (to_come S.left from.old) (to_come S.left from.new)
+        (metered (M.seated meter.old) (O.contents to.old) (O.contents to.new) (M.granted meter.old)
+        (M.granted meter.new)) result }
     ensures chunked { cursor.new.chunked ≡ cursor.old.chunked }
     ensures cause { IfSome result
         (CopyHasCause (S.faults from.old.source) (S.faults from.new.source) (O.faults to.old)
@@ -138,14 +140,16 @@ fn write_ahead<O: Sink, M: Meter>(
 ) -> Result<Fed, Copied>
     requires dry { M.dry meter.old ≡ 0 }
     ensures fed { IfOk result
-        (λ f. PieceFed (M.seated meter.old) cursor.old.chunked cursor.old.place cursor.new.place
-        ahead.now f.used f.done
-        (O.contents to.old) (O.contents to.new) (M.granted meter.old) (M.granted meter.new)) }
+        (λ f. PieceFed cursor.old.chunked cursor.old.place cursor.new.place ahead.now f.used f.done
+        (metered (M.seated meter.old) (O.contents to.old) (O.contents to.new) (M.granted meter.old)
+        (M.granted meter.new))) }
     ensures unfed { IfErr result
-        (PieceUnfed (M.seated meter.old) cursor.old.chunked cursor.old.place ahead.now
-        (O.contents to.old) (O.contents to.new) (M.granted meter.old) (M.granted meter.new)) }
+        (PieceUnfed cursor.old.chunked cursor.old.place ahead.now
+        (metered (M.seated meter.old) (O.contents to.old) (O.contents to.new) (M.granted meter.old)
+        (M.granted meter.new))) }
     ensures cause { IfErr result
-        (λ copied. (a b : ℕ) → CopyHasCause a b (O.faults to.old) (O.faults to.new) copied) }
+        (λ copied. (source source_now : ℕ) → CopyHasCause source source_now (O.faults to.old)
+        (O.faults to.new) copied) }
     ensures chunked { cursor.new.chunked ≡ cursor.old.chunked }
     ensures dry_ok { OnOk result (M.dry meter.new ≡ 0) }
     ensures dry_err { IfErr result (λ copied. M.dry meter.new ≡ dry_after_copy copied) }
@@ -177,14 +181,16 @@ fn write_framed<O: Sink, M: Meter>(
 ) -> Result<Fed, Copied>
     requires dry { M.dry meter.old ≡ 0 }
     ensures fed { IfOk result
-        (λ f. PieceFed (M.seated meter.old) cursor.old.chunked cursor.old.place cursor.new.place
-        ahead.now f.used f.done
-        (O.contents to.old) (O.contents to.new) (M.granted meter.old) (M.granted meter.new)) }
+        (λ f. PieceFed cursor.old.chunked cursor.old.place cursor.new.place ahead.now f.used f.done
+        (metered (M.seated meter.old) (O.contents to.old) (O.contents to.new) (M.granted meter.old)
+        (M.granted meter.new))) }
     ensures unfed { IfErr result
-        (PieceUnfed (M.seated meter.old) cursor.old.chunked cursor.old.place ahead.now
-        (O.contents to.old) (O.contents to.new) (M.granted meter.old) (M.granted meter.new)) }
+        (PieceUnfed cursor.old.chunked cursor.old.place ahead.now
+        (metered (M.seated meter.old) (O.contents to.old) (O.contents to.new) (M.granted meter.old)
+        (M.granted meter.new))) }
     ensures cause { IfErr result
-        (λ copied. (a b : ℕ) → CopyHasCause a b (O.faults to.old) (O.faults to.new) copied) }
+        (λ copied. (source source_now : ℕ) → CopyHasCause source source_now (O.faults to.old)
+        (O.faults to.new) copied) }
     ensures chunked { cursor.new.chunked ≡ cursor.old.chunked }
     ensures dry_ok { OnOk result (M.dry meter.new ≡ 0) }
     ensures dry_err { IfErr result (λ copied. M.dry meter.new ≡ dry_after_copy copied) }

@@ -5,16 +5,15 @@ ghost use Rattle.sq_headers.specs.Access.{access_by, header_access};
 ghost use Rattle.sq_outside.specs.Causes.{Rose};
 ghost use Rattle.sq_rules.specs.Facts.{facts_of};
 ghost use Rattle.sq_rules.specs.declared.sights.Sight.{Sight};
-ghost use Rattle.sq_forward.specs.Exchanges.{Exchanges, ExchangeHasCause, dry_after_exchange};
+ghost use Rattle.sq_forward.specs.Exchanges.{Exchanges, ExchangeHasCause, dry_after_exchange, message, sink, exchange_seen};
 ghost use Rattle.sq_forward.specs.Halves.{to_come, read_limit, large_read_limit};
+ghost use Rattle.sq_forward.specs.Meters.{metered};
 
-use crate::half::Half;
+use crate::duplex::{Duplex, Ends};
 use crate::meter::Meter;
+use crate::outgoing::Outgoing;
 use crate::replies::{lead_reply, send_reply};
 use crate::requests::send_request;
-use sq_base::{Addr, BodyPlan, Request};
-use sq_outside::{Sink, Source};
-use sq_rules::{Config, Facts};
 use std::alloc::Global;
 use std::sync::Wait;
 
@@ -45,111 +44,117 @@ pub enum Exchanged {
 }
 
 // The exchange, over the facts of the request's check.
-fn exchange_by<R: Wait, I: Source, O: Sink, P: Source, Q: Sink, M: Meter>(
+fn exchange_by<R: Wait, C: Ends, O: Ends, M: Meter>(
     rt: &R,
     alloc: Global,
-    client: &mut Half<I>,
-    to_client: &mut O,
-    origin: &mut Half<P>,
-    to_origin: &mut Q,
+    client: &mut Duplex<C>,
+    origin: &mut Duplex<O>,
     meter: &mut M,
-    request: &Request,
-    addr: Addr,
-    plan: BodyPlan,
-    config: &Config,
-    facts: &Facts,
+    outgoing: &Outgoing,
 ) -> Exchanged
     requires dry { M.dry meter.old ≡ 0 }
-    requires facts { length facts.now ≡ length config.now.acls }
-    ensures told { IfSome (to_come I.left client.old)
-        (λ input. IfSome (to_come P.left origin.old) (λ reply.
-        Exchanges (access_by config.now facts.now) request.now addr plan input reply (M.seated meter.old) (to_come I.left client.new)
-        (O.contents to_client.old) (O.contents to_client.new) (Q.contents to_origin.old)
-        (Q.contents to_origin.new)
-        (M.granted meter.old) (M.granted meter.new)
-        (Rose (P.faults origin.old.source) (P.faults origin.new.source)
-        ⊎ Rose (Q.faults to_origin.old) (Q.faults to_origin.new)) result)) }
+    requires facts { length outgoing.now.facts.now ≡ length outgoing.now.config.now.acls }
+    ensures told { IfSome (to_come C.In.left client.old.from)
+        (λ input. IfSome (to_come O.In.left origin.old.from) (λ reply.
+        Exchanges (access_by outgoing.now.config.now outgoing.now.facts.now)
+        (message outgoing.now.request.now outgoing.now.addr outgoing.now.plan) input reply
+        (exchange_seen (to_come C.In.left client.new.from) (metered (M.seated meter.old)
+        (C.Outgo.Sink.contents client.old.to) (C.Outgo.Sink.contents client.new.to)
+        (M.granted meter.old) (M.granted meter.new))
+        (sink (O.Outgo.Sink.contents origin.old.to) (O.Outgo.Sink.contents origin.new.to)))
+        (Rose (O.In.faults origin.old.from.source) (O.In.faults origin.new.from.source)
+        ⊎ Rose (O.Outgo.Sink.faults origin.old.to) (O.Outgo.Sink.faults origin.new.to)) result)) }
     ensures cause { ExchangeHasCause
-        (Rose (I.faults client.old.source) (I.faults client.new.source)
-        ⊎ Rose (O.faults to_client.old) (O.faults to_client.new))
-        (Rose (P.faults origin.old.source) (P.faults origin.new.source)) result }
+        (Rose (C.In.faults client.old.from.source) (C.In.faults client.new.from.source)
+        ⊎ Rose (C.Outgo.Sink.faults client.old.to) (C.Outgo.Sink.faults client.new.to))
+        (Rose (O.In.faults origin.old.from.source) (O.In.faults origin.new.from.source)) result }
     // Starved exactly where the meter is that dry.
     ensures dry { M.dry meter.new ≡ dry_after_exchange result }
     ensures seated { M.seated meter.new ≡ M.seated meter.old }
     ensures besides { M.besides meter.new ≡ M.besides meter.old }
-    ensures client_later { I.faults client.old.source ≤ I.faults client.new.source }
-    ensures to_client_later { O.faults to_client.old ≤ O.faults to_client.new }
-    ensures origin_later { P.faults origin.old.source ≤ P.faults origin.new.source }
-    ensures to_origin_later { Q.faults to_origin.old ≤ Q.faults to_origin.new }
-    ensures client_dialled { I.origin client.new.source ≡ I.origin client.old.source }
-    ensures origin_dialled { P.origin origin.new.source ≡ P.origin origin.old.source }
-    ensures few_client { length client.new.ahead ≤ max (length client.old.ahead) large_read_limit }
-    ensures few_origin { length origin.new.ahead
-        ≤ max (length origin.old.ahead) (most_bytes + read_limit) }
+    ensures client_later { C.In.faults client.old.from.source ≤ C.In.faults client.new.from.source }
+    ensures to_client_later { C.Outgo.Sink.faults client.old.to
+        ≤ C.Outgo.Sink.faults client.new.to }
+    ensures origin_later { O.In.faults origin.old.from.source ≤ O.In.faults origin.new.from.source }
+    ensures to_origin_later { O.Outgo.Sink.faults origin.old.to
+        ≤ O.Outgo.Sink.faults origin.new.to }
+    ensures client_dialled { C.In.origin client.new.from.source
+        ≡ C.In.origin client.old.from.source }
+    ensures origin_dialled { O.In.origin origin.new.from.source
+        ≡ O.In.origin origin.old.from.source }
+    ensures few_client { length client.new.from.ahead ≤ max (length client.old.from.ahead)
+        large_read_limit }
+    ensures few_origin { length origin.new.from.ahead
+        ≤ max (length origin.old.from.ahead) (most_bytes + read_limit) }
 {
-    match send_request(
-        rt, alloc, client, to_client, to_origin, request, addr, plan, config, facts,
-    ) {
+    let Duplex {
+        from: client,
+        to: to_client,
+    } = client;
+    let Duplex {
+        from: origin,
+        to: to_origin,
+    } = origin;
+    match send_request(rt, alloc, client, to_client, to_origin, outgoing) {
         None => {}
         Some(end) => return end,
     }
-    let head = match lead_reply(rt, alloc, origin, to_client, meter, request, config, facts) {
+    let head = match lead_reply(rt, alloc, origin, to_client, meter, outgoing) {
         Ok(head) => head,
         Err(end) => return end,
     };
-    send_reply(
-        rt, alloc, origin, to_client, meter, request, &head, config, facts,
-    )
+    send_reply(rt, alloc, origin, to_client, meter, outgoing, &head)
 }
 
-/// Sends a request of the client at this address to the origin, and its reply back as the meter grants. The
-/// request's body, of this plan, is sent whole before the reply is read. It may wait as long as a source
-/// gives bytes. Of both heads, and of those that come before the reply's own, fields go on that the
-/// configuration allows, by the facts of the request's check.
-pub fn exchange<R: Wait, I: Source, O: Sink, P: Source, Q: Sink, M: Meter>(
+/// Sends a client's request to the origin, and its reply back as the meter grants. The request's body is sent whole
+/// before the reply is read. It may wait as long as a source gives bytes. Of both heads, and of those that come before
+/// the reply's own, fields go on that the configuration allows, by the facts of the request's check.
+pub fn exchange<R: Wait, C: Ends, O: Ends, M: Meter>(
     rt: &R,
     alloc: Global,
-    client: &mut Half<I>,
-    to_client: &mut O,
-    origin: &mut Half<P>,
-    to_origin: &mut Q,
+    client: &mut Duplex<C>,
+    origin: &mut Duplex<O>,
     meter: &mut M,
-    request: &Request,
-    addr: Addr,
-    plan: BodyPlan,
-    config: &Config,
-    facts: &Facts,
+    outgoing: &Outgoing,
 ) -> Exchanged
     requires dry { M.dry meter.old ≡ 0 }
-    requires facts { length facts.now ≡ length config.now.acls }
-    ensures told { (s : Sight) → facts.now ≡ facts_of config.now.acls s → IfSome (to_come I.left client.old)
-        (λ input. IfSome (to_come P.left origin.old) (λ reply.
-        Exchanges (header_access config.now s) request.now addr plan input reply (M.seated meter.old) (to_come I.left client.new)
-        (O.contents to_client.old) (O.contents to_client.new) (Q.contents to_origin.old)
-        (Q.contents to_origin.new)
-        (M.granted meter.old) (M.granted meter.new)
-        (Rose (P.faults origin.old.source) (P.faults origin.new.source)
-        ⊎ Rose (Q.faults to_origin.old) (Q.faults to_origin.new)) result)) }
+    requires facts { length outgoing.now.facts.now ≡ length outgoing.now.config.now.acls }
+    ensures told { (s : Sight) → outgoing.now.facts.now ≡ facts_of outgoing.now.config.now.acls s
+        → IfSome
+        (to_come C.In.left client.old.from)
+        (λ input. IfSome (to_come O.In.left origin.old.from) (λ reply.
+        Exchanges (header_access outgoing.now.config.now s)
+        (message outgoing.now.request.now outgoing.now.addr outgoing.now.plan) input reply
+        (exchange_seen (to_come C.In.left client.new.from) (metered (M.seated meter.old)
+        (C.Outgo.Sink.contents client.old.to) (C.Outgo.Sink.contents client.new.to)
+        (M.granted meter.old) (M.granted meter.new))
+        (sink (O.Outgo.Sink.contents origin.old.to) (O.Outgo.Sink.contents origin.new.to)))
+        (Rose (O.In.faults origin.old.from.source) (O.In.faults origin.new.from.source)
+        ⊎ Rose (O.Outgo.Sink.faults origin.old.to) (O.Outgo.Sink.faults origin.new.to)) result)) }
     ensures cause { ExchangeHasCause
-        (Rose (I.faults client.old.source) (I.faults client.new.source)
-        ⊎ Rose (O.faults to_client.old) (O.faults to_client.new))
-        (Rose (P.faults origin.old.source) (P.faults origin.new.source)) result }
+        (Rose (C.In.faults client.old.from.source) (C.In.faults client.new.from.source)
+        ⊎ Rose (C.Outgo.Sink.faults client.old.to) (C.Outgo.Sink.faults client.new.to))
+        (Rose (O.In.faults origin.old.from.source) (O.In.faults origin.new.from.source)) result }
     // Starved exactly where the meter is that dry.
     ensures dry { M.dry meter.new ≡ dry_after_exchange result }
     ensures seated { M.seated meter.new ≡ M.seated meter.old }
     ensures besides { M.besides meter.new ≡ M.besides meter.old }
-    ensures client_later { I.faults client.old.source ≤ I.faults client.new.source }
-    ensures to_client_later { O.faults to_client.old ≤ O.faults to_client.new }
-    ensures origin_later { P.faults origin.old.source ≤ P.faults origin.new.source }
-    ensures to_origin_later { Q.faults to_origin.old ≤ Q.faults to_origin.new }
-    ensures client_dialled { I.origin client.new.source ≡ I.origin client.old.source }
-    ensures origin_dialled { P.origin origin.new.source ≡ P.origin origin.old.source }
-    ensures few_client { length client.new.ahead ≤ max (length client.old.ahead) large_read_limit }
-    ensures few_origin { length origin.new.ahead
-        ≤ max (length origin.old.ahead) (most_bytes + read_limit) }
+    ensures client_later { C.In.faults client.old.from.source ≤ C.In.faults client.new.from.source }
+    ensures to_client_later { C.Outgo.Sink.faults client.old.to
+        ≤ C.Outgo.Sink.faults client.new.to }
+    ensures origin_later { O.In.faults origin.old.from.source ≤ O.In.faults origin.new.from.source }
+    ensures to_origin_later { O.Outgo.Sink.faults origin.old.to
+        ≤ O.Outgo.Sink.faults origin.new.to }
+    ensures client_dialled { C.In.origin client.new.from.source
+        ≡ C.In.origin client.old.from.source }
+    ensures origin_dialled { O.In.origin origin.new.from.source
+        ≡ O.In.origin origin.old.from.source }
+    ensures few_client { length client.new.from.ahead ≤ max (length client.old.from.ahead)
+        large_read_limit }
+    ensures few_origin { length origin.new.from.ahead
+        ≤ max (length origin.old.from.ahead) (most_bytes + read_limit) }
 {
+    let config = outgoing.config;
     config.facts();
-    exchange_by(
-        rt, alloc, client, to_client, origin, to_origin, meter, request, addr, plan, config, facts,
-    )
+    exchange_by(rt, alloc, client, origin, meter, outgoing)
 }

@@ -1,6 +1,6 @@
 //! Bytes that are granted before they are written.
 ghost use Rattle.std.specs.Prelude.{◌≡◌, ◌≤◌, OnOk, IsErrOf};
-ghost use Rattle.sq_forward.specs.Meters.{piece_limit, dry_limit, PaysAll, PaysPart};
+ghost use Rattle.sq_forward.specs.Meters.{piece_limit, dry_limit, PaysAll, PaysPart, metered};
 ghost use Rattle.sq_outside.specs.Causes.{Rose};
 
 use crate::meter::Meter;
@@ -26,14 +26,14 @@ pub(crate) enum Unpaid {
 pub(crate) fn pay<M: Meter, O: Sink>(meter: &mut M, to: &mut O, bytes: &[u8]) -> Result<(), Unpaid>
     requires dry { M.dry meter.old ≡ 0 }
     ensures ok { OnOk result
-        (PaysAll (M.seated meter.old) bytes.now (O.contents to.old) (O.contents to.new)
-        (M.granted meter.old) (M.granted meter.new)) }
+        (PaysAll bytes.now (metered (M.seated meter.old) (O.contents to.old) (O.contents to.new)
+        (M.granted meter.old) (M.granted meter.new))) }
     ensures failed { IsErrOf result Unpaid.Failed
-        → PaysPart (M.seated meter.old) bytes.now (O.contents to.old) (O.contents to.new)
-        (M.granted meter.old) (M.granted meter.new) piece_limit }
+        → PaysPart bytes.now (metered (M.seated meter.old) (O.contents to.old) (O.contents to.new)
+        (M.granted meter.old) (M.granted meter.new)) piece_limit }
     ensures starved { IsErrOf result Unpaid.Starved
-        → PaysPart (M.seated meter.old) bytes.now (O.contents to.old) (O.contents to.new)
-        (M.granted meter.old) (M.granted meter.new) 0 }
+        → PaysPart bytes.now (metered (M.seated meter.old) (O.contents to.old) (O.contents to.new)
+        (M.granted meter.old) (M.granted meter.new)) 0 }
     ensures dry_at_ok { OnOk result (M.dry meter.new ≡ 0) }
     ensures dry_at_failed { IsErrOf result Unpaid.Failed → M.dry meter.new ≡ 0 }
     ensures dry_at_starved { IsErrOf result Unpaid.Starved → M.dry meter.new ≡ dry_limit }
@@ -55,14 +55,14 @@ pub(crate) fn pay<M: Meter, O: Sink>(meter: &mut M, to: &mut O, bytes: &[u8]) ->
 fn pay_by_grants<M: Meter, O: Sink>(meter: &mut M, to: &mut O, bytes: &[u8]) -> Result<(), Unpaid>
     requires dry { M.dry meter.old ≡ 0 }
     ensures ok { OnOk result
-        (PaysAll (M.seated meter.old) bytes.now (O.contents to.old) (O.contents to.new)
-        (M.granted meter.old) (M.granted meter.new)) }
+        (PaysAll bytes.now (metered (M.seated meter.old) (O.contents to.old) (O.contents to.new)
+        (M.granted meter.old) (M.granted meter.new))) }
     ensures failed { IsErrOf result Unpaid.Failed
-        → PaysPart (M.seated meter.old) bytes.now (O.contents to.old) (O.contents to.new)
-        (M.granted meter.old) (M.granted meter.new) piece_limit }
+        → PaysPart bytes.now (metered (M.seated meter.old) (O.contents to.old) (O.contents to.new)
+        (M.granted meter.old) (M.granted meter.new)) piece_limit }
     ensures starved { IsErrOf result Unpaid.Starved
-        → PaysPart (M.seated meter.old) bytes.now (O.contents to.old) (O.contents to.new)
-        (M.granted meter.old) (M.granted meter.new) 0 }
+        → PaysPart bytes.now (metered (M.seated meter.old) (O.contents to.old) (O.contents to.new)
+        (M.granted meter.old) (M.granted meter.new)) 0 }
     ensures dry_at_ok { OnOk result (M.dry meter.new ≡ 0) }
     ensures dry_at_failed { IsErrOf result Unpaid.Failed → M.dry meter.new ≡ 0 }
     ensures dry_at_starved { IsErrOf result Unpaid.Starved → M.dry meter.new ≡ dry_limit }

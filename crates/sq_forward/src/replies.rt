@@ -8,12 +8,14 @@ ghost use Rattle.sq_forward.specs.Exchanges.{shape_of, is_to_close, interim_text
 ghost use Rattle.sq_forward.specs.Halves.{to_come, read_limit, large_read_limit};
 ghost use Rattle.sq_forward.specs.Leading.{TakesHead, LeadsReply, LeadHasCause, SendsText, SendsReply, own_head, complete, body_sent, dry_after_sending};
 ghost use Rattle.sq_forward.specs.Replies.{is_interim};
+ghost use Rattle.sq_forward.specs.Meters.{metered};
 
 use crate::copying::{Copied, copy_body};
 use crate::exchanging::Exchanged;
 use crate::half::Half;
 use crate::heads::{HeadFound, find_head};
 use crate::meter::Meter;
+use crate::outgoing::Outgoing;
 use crate::paying::{Unpaid, pay};
 use sq_base::{BodyPlan, Request};
 use sq_head::{
@@ -21,7 +23,6 @@ use sq_head::{
 };
 use sq_headers::reply_head;
 use sq_outside::{Sink, Source};
-use sq_rules::{Config, Facts};
 use std::alloc::Global;
 use std::sync::Wait;
 
@@ -113,17 +114,16 @@ pub(crate) fn lead_reply<R: Wait, P: Source, O: Sink, M: Meter>(
     origin: &mut Half<P>,
     to_client: &mut O,
     meter: &mut M,
-    request: &Request,
-    config: &Config,
-    facts: &Facts,
+    outgoing: &Outgoing,
 ) -> Result<ReplyHead, Exchanged>
     requires dry { M.dry meter.old ≡ 0 }
-    requires facts { length facts.now ≡ length config.now.acls }
-    ensures leads { LeadsReply (access_by config.now facts.now) request.now (M.seated meter.old) (to_come P.left origin.old)
-        (to_come P.left origin.new)
-        (O.contents to_client.old) (O.contents to_client.new) (M.granted meter.old)
-        (M.granted meter.new)
-        (Rose (P.faults origin.old.source) (P.faults origin.new.source)) result }
+    requires facts { length outgoing.now.facts.now ≡ length outgoing.now.config.now.acls }
+    ensures leads { LeadsReply (access_by outgoing.now.config.now outgoing.now.facts.now)
+        outgoing.now.request.now
+        (to_come P.left origin.old) (to_come P.left origin.new)
+        (metered (M.seated meter.old) (O.contents to_client.old) (O.contents to_client.new)
+        (M.granted meter.old) (M.granted meter.new)) (Rose (P.faults origin.old.source)
+        (P.faults origin.new.source)) result }
     ensures cause { IfErr result
         (LeadHasCause (Rose (O.faults to_client.old) (O.faults to_client.new))) }
     ensures dry { M.dry meter.new ≡ dry_after_sending result }
@@ -150,7 +150,7 @@ pub(crate) fn lead_reply<R: Wait, P: Source, O: Sink, M: Meter>(
             return Err(Exchanged::NoReply);
         }
         passed += 1;
-        match pass_on(alloc, to_client, meter, request, &head, config, facts) {
+        match pass_on(alloc, to_client, meter, outgoing, &head) {
             Ok(()) => {}
             Err(end) => return Err(end),
         }
@@ -173,16 +173,16 @@ fn pass_on<O: Sink, M: Meter>(
     alloc: Global,
     to_client: &mut O,
     meter: &mut M,
-    request: &Request,
+    outgoing: &Outgoing,
     head: &ReplyHead,
-    config: &Config,
-    facts: &Facts,
 ) -> Result<(), Exchanged>
     requires dry { M.dry meter.old ≡ 0 }
-    requires facts { length facts.now ≡ length config.now.acls }
-    ensures sends { SendsText (interim_text (access_by config.now facts.now) request.now head.now) (M.seated meter.old)
-        (O.contents to_client.old) (O.contents to_client.new) (M.granted meter.old)
-        (M.granted meter.new) result }
+    requires facts { length outgoing.now.facts.now ≡ length outgoing.now.config.now.acls }
+    ensures sends { SendsText (interim_text (access_by outgoing.now.config.now
+        outgoing.now.facts.now)
+        outgoing.now.request.now head.now)
+        (metered (M.seated meter.old) (O.contents to_client.old) (O.contents to_client.new)
+        (M.granted meter.old) (M.granted meter.new)) result }
     ensures cause { IfErr result
         (LeadHasCause (Rose (O.faults to_client.old) (O.faults to_client.new))) }
     ensures other { IfErr result (λ end. end ≡ Exchanged.NoReply → ⊥) }
@@ -191,6 +191,7 @@ fn pass_on<O: Sink, M: Meter>(
     ensures besides { M.besides meter.new ≡ M.besides meter.old }
     ensures later { O.faults to_client.old ≤ O.faults to_client.new }
 {
+    let request = outgoing.request;
     if request.minor == 0 {
         return Ok(());
     }
@@ -198,7 +199,7 @@ fn pass_on<O: Sink, M: Meter>(
         chunked: false,
         closes: false,
     };
-    let Ok(text) = reply_head(alloc, config, facts, head, shape) else {
+    let Ok(text) = reply_head(alloc, outgoing.config, outgoing.facts, head, shape) else {
         return Err(Exchanged::WantOfMemory);
     };
     match pay(meter, to_client, text.as_bytes()) {
@@ -215,16 +216,15 @@ pub(crate) fn send_reply<R: Wait, P: Source, O: Sink, M: Meter>(
     origin: &mut Half<P>,
     to_client: &mut O,
     meter: &mut M,
-    request: &Request,
+    outgoing: &Outgoing,
     head: &ReplyHead,
-    config: &Config,
-    facts: &Facts,
 ) -> Exchanged
     requires dry { M.dry meter.old ≡ 0 }
-    requires facts { length facts.now ≡ length config.now.acls }
-    ensures sends { SendsReply (access_by config.now facts.now) request.now head.now (M.seated meter.old) (to_come P.left origin.old)
-        (O.contents to_client.old) (O.contents to_client.new) (M.granted meter.old)
-        (M.granted meter.new) result }
+    requires facts { length outgoing.now.facts.now ≡ length outgoing.now.config.now.acls }
+    ensures sends { SendsReply (access_by outgoing.now.config.now outgoing.now.facts.now)
+        outgoing.now.request.now head.now
+        (to_come P.left origin.old) (metered (M.seated meter.old) (O.contents to_client.old)
+        (O.contents to_client.new) (M.granted meter.old) (M.granted meter.new)) result }
     ensures cause { ExchangeHasCause (Rose (O.faults to_client.old) (O.faults to_client.new))
         (Rose (P.faults origin.old.source) (P.faults origin.new.source)) result }
     ensures dry { M.dry meter.new ≡ dry_after_exchange result }
@@ -235,12 +235,13 @@ pub(crate) fn send_reply<R: Wait, P: Source, O: Sink, M: Meter>(
     ensures dialled { P.origin origin.new.source ≡ P.origin origin.old.source }
     ensures few { length origin.new.ahead ≤ max (length origin.old.ahead) large_read_limit }
 {
+    let request = outgoing.request;
     let plan = match plan_of(request, head) {
         Ok(plan) => plan,
         Err(_) => return Exchanged::NoReply,
     };
     let shape = shape_of(request, plan);
-    let Ok(text) = reply_head(alloc, config, facts, head, shape) else {
+    let Ok(text) = reply_head(alloc, outgoing.config, outgoing.facts, head, shape) else {
         return Exchanged::WantOfMemory;
     };
     match pay(meter, to_client, text.as_bytes()) {

@@ -3,7 +3,7 @@ ghost use Rattle.std.specs.Prelude.{◌≡◌, ◌≤◌, ◌⊎◌, length, max
 ghost use Rattle.sq_head.specs.RequestHeads.{is_chunked};
 ghost use Rattle.sq_headers.specs.Access.{access_by};
 ghost use Rattle.sq_outside.specs.Causes.{Rose};
-ghost use Rattle.sq_forward.specs.Exchanges.{continue_part, dry_after_exchange};
+ghost use Rattle.sq_forward.specs.Exchanges.{continue_part, dry_after_exchange, message, sink};
 ghost use Rattle.sq_forward.specs.Halves.{to_come, large_read_limit};
 ghost use Rattle.sq_forward.specs.Sending.{sent, SendsRequest, SendHasCause};
 
@@ -11,11 +11,11 @@ use crate::copying::{Copied, copy_body};
 use crate::exchanging::Exchanged;
 use crate::free::Free;
 use crate::half::Half;
-use sq_base::{Addr, BodyPlan, Request};
+use crate::outgoing::Outgoing;
+use sq_base::{BodyPlan, Request};
 use sq_head::wants_continue;
 use sq_headers::request_head;
 use sq_outside::{Failed, Sink, Source, write_all};
-use sq_rules::{Config, Facts};
 use std::alloc::Global;
 use std::sync::Wait;
 
@@ -26,17 +26,14 @@ pub(crate) fn send_request<R: Wait, I: Source, O: Sink, Q: Sink>(
     client: &mut Half<I>,
     to_client: &mut O,
     to_origin: &mut Q,
-    request: &Request,
-    addr: Addr,
-    plan: BodyPlan,
-    config: &Config,
-    facts: &Facts,
+    outgoing: &Outgoing,
 ) -> Option<Exchanged>
-    requires { length facts.now ≡ length config.now.acls }
-    ensures sends { SendsRequest (access_by config.now facts.now) request.now addr plan (to_come I.left client.old)
-        (to_come I.left client.new)
-        (O.contents to_client.old) (O.contents to_client.new) (Q.contents to_origin.old)
-        (Q.contents to_origin.new) result }
+    requires { length outgoing.now.facts.now ≡ length outgoing.now.config.now.acls }
+    ensures sends { SendsRequest (access_by outgoing.now.config.now outgoing.now.facts.now)
+        (message outgoing.now.request.now outgoing.now.addr outgoing.now.plan)
+        (to_come I.left client.old) (to_come I.left client.new)
+        (sink (O.contents to_client.old) (O.contents to_client.new))
+        (sink (Q.contents to_origin.old) (Q.contents to_origin.new)) result }
     ensures cause { IfSome result
         (SendHasCause (Rose (I.faults client.old.source) (I.faults client.new.source)
         ⊎ Rose (O.faults to_client.old) (O.faults to_client.new))
@@ -48,7 +45,16 @@ pub(crate) fn send_request<R: Wait, I: Source, O: Sink, Q: Sink>(
     ensures dialled { I.origin client.new.source ≡ I.origin client.old.source }
     ensures few { length client.new.ahead ≤ max (length client.old.ahead) large_read_limit }
 {
-    let Ok(head) = request_head(alloc, config, facts, request, addr, plan) else {
+    let request = outgoing.request;
+    let plan = outgoing.plan;
+    let Ok(head) = request_head(
+        alloc,
+        outgoing.config,
+        outgoing.facts,
+        request,
+        outgoing.addr,
+        plan,
+    ) else {
         return Some(Exchanged::WantOfMemory);
     };
     match write_all(to_client, continue_part(request, plan)) {

@@ -4,11 +4,11 @@ ghost use Rattle.sq_outside.specs.Causes.{Rose};
 ghost use Rattle.sq_outside.specs.Dials.{IsClosed};
 ghost use Rattle.sq_forward.specs.Halves.{to_come, large_read_limit};
 ghost use Rattle.sq_forward.specs.Tunnels.{JoinsWays, dry_after_tunnel, spare_of_tunnel, GoesInPart, GoesWhole, GoesPaid, GoesGranted};
+ghost use Rattle.sq_forward.specs.Meters.{metered};
 
-use crate::half::Half;
+use crate::duplex::{Duplex, Ends};
 use crate::meter::Meter;
 use crate::ways::{WayEnd, copy_way, send_way};
-use sq_outside::{Out, Source};
 use std::alloc::Global;
 use std::sync::Wait;
 use std::thread::{Threads, join_mut};
@@ -47,60 +47,64 @@ fn joined(up: WayEnd, down: WayEnd) -> Tunnelled
 
 /// Copies both ways at once, from the client and to it as its meter grants. A way that ends, or whose link
 /// fails, closes its sink, and the other goes on. It may wait as long as a source gives bytes.
-pub fn tunnel<
-    R: Threads + Wait + Sync,
-    I: Source + Send,
-    O: Out,
-    P: Source,
-    Q: Out + Send,
-    M: Meter,
->(
+pub fn tunnel<R: Threads + Wait + Sync, C: Ends, O: Ends, M: Meter>(
     rt: &R,
     alloc: Global,
-    client: &mut Half<I>,
-    to_client: &mut O,
-    origin: &mut Half<P>,
-    to_origin: &mut Q,
+    client: &mut Duplex<C>,
+    origin: &mut Duplex<O>,
     meter: &mut M,
 ) -> Tunnelled
     requires dry { M.dry meter.old ≡ 0 }
     // What goes to the origin is a front of what the client has to say, and back.
-    ensures up { GoesInPart (to_come I.left client.old) (Q.Sink.contents to_origin.old)
-        (Q.Sink.contents to_origin.new) }
+    ensures up { GoesInPart (to_come C.In.left client.old.from) (O.Outgo.Sink.contents
+        origin.old.to)
+        (O.Outgo.Sink.contents origin.new.to) }
     // What goes to the client was granted; all that was granted was written, unless the client's link failed.
-    ensures down { GoesGranted (M.seated meter.old) (to_come P.left origin.old)
-        (O.Sink.contents to_client.old) (O.Sink.contents to_client.new)
-        (M.granted meter.old) (M.granted meter.new) (spare_of_tunnel result) }
+    ensures down { GoesGranted (to_come O.In.left origin.old.from)
+        (metered (M.seated meter.old) (C.Outgo.Sink.contents client.old.to)
+        (C.Outgo.Sink.contents client.new.to) (M.granted meter.old) (M.granted meter.new))
+        (spare_of_tunnel result) }
     ensures up_ended { result ≡ Tunnelled.Ended
-        → GoesWhole (to_come I.left client.old) (to_come I.left client.new)
-        (Q.Sink.contents to_origin.old) (Q.Sink.contents to_origin.new) }
+        → GoesWhole (to_come C.In.left client.old.from) (to_come C.In.left client.new.from)
+        (O.Outgo.Sink.contents origin.old.to) (O.Outgo.Sink.contents origin.new.to) }
     ensures down_ended { result ≡ Tunnelled.Ended
-        → GoesWhole (to_come P.left origin.old) (to_come P.left origin.new)
-        (O.Sink.contents to_client.old) (O.Sink.contents to_client.new) }
+        → GoesWhole (to_come O.In.left origin.old.from) (to_come O.In.left origin.new.from)
+        (C.Outgo.Sink.contents client.old.to) (C.Outgo.Sink.contents client.new.to) }
     ensures down_paid { result ≡ Tunnelled.Ended
-        → GoesPaid (M.seated meter.old) (to_come P.left origin.old) (O.Sink.contents to_client.old)
-        (O.Sink.contents to_client.new)
-        (M.granted meter.old) (M.granted meter.new) }
-    ensures closed { IsClosed (Q.closed to_origin.new) × IsClosed (O.closed to_client.new) }
+        → GoesPaid (to_come O.In.left origin.old.from) (metered (M.seated meter.old)
+        (C.Outgo.Sink.contents client.old.to) (C.Outgo.Sink.contents client.new.to)
+        (M.granted meter.old)
+        (M.granted meter.new)) }
+    ensures closed { IsClosed (O.Outgo.closed origin.new.to) × IsClosed (C.Outgo.closed
+        client.new.to) }
     ensures client { result ≡ Tunnelled.ClientFault
-        → Rose (I.faults client.old.source) (I.faults client.new.source)
-        ⊎ Rose (O.Sink.faults to_client.old) (O.Sink.faults to_client.new) }
+        → Rose (C.In.faults client.old.from.source) (C.In.faults client.new.from.source)
+        ⊎ Rose (C.Outgo.Sink.faults client.old.to) (C.Outgo.Sink.faults client.new.to) }
     ensures origin { result ≡ Tunnelled.OriginFault
-        → Rose (P.faults origin.old.source) (P.faults origin.new.source)
-        ⊎ Rose (Q.Sink.faults to_origin.old) (Q.Sink.faults to_origin.new) }
+        → Rose (O.In.faults origin.old.from.source) (O.In.faults origin.new.from.source)
+        ⊎ Rose (O.Outgo.Sink.faults origin.old.to) (O.Outgo.Sink.faults origin.new.to) }
     // Starved exactly where the meter is that dry.
     ensures dry { M.dry meter.new ≡ dry_after_tunnel result }
     ensures seated { M.seated meter.new ≡ M.seated meter.old }
     ensures besides { M.besides meter.new ≡ M.besides meter.old }
-    ensures client_later { (I.faults client.old.source ≤ I.faults client.new.source)
-        × (O.Sink.faults to_client.old ≤ O.Sink.faults to_client.new) }
-    ensures origin_later { (P.faults origin.old.source ≤ P.faults origin.new.source)
-        × (Q.Sink.faults to_origin.old ≤ Q.Sink.faults to_origin.new) }
-    ensures dialled { (I.origin client.new.source ≡ I.origin client.old.source)
-        × (P.origin origin.new.source ≡ P.origin origin.old.source) }
-    ensures few { (length client.new.ahead ≤ max (length client.old.ahead) large_read_limit)
-        × (length origin.new.ahead ≤ max (length origin.old.ahead) large_read_limit) }
+    ensures client_later { (C.In.faults client.old.from.source ≤ C.In.faults client.new.from.source)
+        × (C.Outgo.Sink.faults client.old.to ≤ C.Outgo.Sink.faults client.new.to) }
+    ensures origin_later { (O.In.faults origin.old.from.source ≤ O.In.faults origin.new.from.source)
+        × (O.Outgo.Sink.faults origin.old.to ≤ O.Outgo.Sink.faults origin.new.to) }
+    ensures dialled { (C.In.origin client.new.from.source ≡ C.In.origin client.old.from.source)
+        × (O.In.origin origin.new.from.source ≡ O.In.origin origin.old.from.source) }
+    ensures few { (length client.new.from.ahead ≤ max (length client.old.from.ahead)
+        large_read_limit)
+        × (length origin.new.from.ahead ≤ max (length origin.old.from.ahead) large_read_limit) }
 {
+    let Duplex {
+        from: client,
+        to: to_client,
+    } = client;
+    let Duplex {
+        from: origin,
+        to: to_origin,
+    } = origin;
     let (up, down) = join_mut(
         rt,
         &mut || send_way(rt, alloc, client, to_origin),

@@ -3,6 +3,7 @@ ghost use Rattle.std.specs.Prelude.{◌≡◌, ◌≤◌, length, max};
 ghost use Rattle.sq_outside.specs.Dials.{IsClosed};
 ghost use Rattle.sq_forward.specs.Halves.{to_come, large_read_limit};
 ghost use Rattle.sq_forward.specs.Tunnels.{way_of, WayHasCause, dry_after_way, spare_of_way, GoesInPart, GoesWhole, PaidAtEnd, GoesGranted};
+ghost use Rattle.sq_forward.specs.Meters.{metered};
 
 use crate::copying::{Copied, copy_body};
 use crate::free::Free;
@@ -49,15 +50,15 @@ pub(crate) fn copy_way<R: Wait, S: Source, O: Out, M: Meter>(
     meter: &mut M,
 ) -> WayEnd
     requires dry { M.dry meter.old ≡ 0 }
-    ensures goes { GoesGranted (M.seated meter.old) (to_come S.left from.old)
-        (O.Sink.contents to.old) (O.Sink.contents to.new)
-        (M.granted meter.old) (M.granted meter.new) (spare_of_way result) }
+    ensures goes { GoesGranted (to_come S.left from.old)
+        (metered (M.seated meter.old) (O.Sink.contents to.old) (O.Sink.contents to.new)
+        (M.granted meter.old) (M.granted meter.new)) (spare_of_way result) }
     ensures whole { result ≡ WayEnd.Ended
         → GoesWhole (to_come S.left from.old) (to_come S.left from.new) (O.Sink.contents to.old)
         (O.Sink.contents to.new) }
-    ensures paid { PaidAtEnd (M.seated meter.old) (to_come S.left from.old) (O.Sink.contents to.old)
-        (O.Sink.contents to.new)
-        (M.granted meter.old) (M.granted meter.new) result }
+    ensures paid { PaidAtEnd (to_come S.left from.old) (metered (M.seated meter.old)
+        (O.Sink.contents to.old) (O.Sink.contents to.new) (M.granted meter.old)
+        (M.granted meter.new)) result }
     ensures closed { IsClosed (O.closed to.new) }
     ensures cause { WayHasCause (S.faults from.old.source) (S.faults from.new.source)
         (O.Sink.faults to.old) (O.Sink.faults to.new) result }

@@ -14,7 +14,7 @@ use Rattle.sq_replay.specs.declared.ends.RunEnd.{RunEnd}
 use Rattle.sq_replay.specs.Ends.{End, Done, Refused, Faulted, Reading, Writing, Lacking}
 use Rattle.sq_replay.specs.RunText.{ScriptRun, run_script}
 use Rattle.sq_replay.specs.Openings.{Added, RunOpened}
-use Rattle.sq_replay.specs.Runs.{Reaches, ScriptRuns, missed}
+use Rattle.sq_replay.specs.Runs.{Reaches, ScriptRuns, missed, paged, told_files}
 use Rattle.sq_replay.proofs.OpenedLaws.{Added_map, Added_none, Added_one, Added_then}
 use Rattle.sq_proxy.specs.declared.ends.Status.{Status}
 use Rattle.sq_proxy.specs.declared.ends.Status.TheVariants as ends
@@ -133,7 +133,7 @@ open_no_write texts name (ends.Differs l x j) is e = is
 pub play_opened : (texts : Texts) (old mid last new : Openings) (left a b written : Option (List ℕ))
     (before later now : ℕ) (name page : List ℕ) (config : Configuration) (end : RunEnd) (result : Status)
     → AddsOpening old mid name left → IfSome left (λ bytes. Added mid last (RunOpened 0 (lines bytes) end)) → new ≡ last
-    → before ≤ later → ScriptRuns texts mid last left a written page config end
+    → before ≤ later → ScriptRuns (told_files texts mid last) left (paged a written page) config end
     → IsSettled (run_status end) result
     → ((base : Option (List ℕ)) (ran : ScriptRun) → Reaches base written page ran end
     → Delivers base b later now (ran_output ran) result)

@@ -23,11 +23,12 @@ use Rattle.sq_proxy.proofs.OpenedLaws.{nothing_delivers, staged_ends}
 
 -- of a summary that was counted over the configuration that was read
 pub line_is : (count : ℕ) (config : Configuration) (s : Summary) (line : List ℕ)
-    → conf_read (conf_result configuration_text) ≡ Ok config → s ≡ rehearsal config count → line ≡ summary_line s
-    → rehearsed_stage count ≡ Ok line
+    → conf_read (conf_result configuration_text) ≡ Ok config → s ≡ rehearsal config count → s.asks ≡ count
+    → line ≡ summary_line s → rehearsed_stage count ≡ Ok line
 unfolding rehearsed_stage
-line_is count config s line reads counts is = ap (rehearsed_by count) reads
-    ∙ ap (λ (x : Summary). Ok (summary_line x)) (sym counts) ∙ ap (λ (x : List ℕ). Ok x) (sym is)
+line_is count config s line reads counts asks is = ap (rehearsed_by count) reads
+    ∙ ap (λ (x : Summary). Ok (summary_line (record x { asks = count }))) (sym counts)
+    ∙ ap (λ (n : ℕ). Ok (summary_line (record s { asks = n }))) (sym asks) ∙ ap (λ (x : List ℕ). Ok x) (sym is)
 
 -- no configuration was read
 pub unread_comes : (count : ℕ) (end : Status)

@@ -15,7 +15,7 @@ use Rattle.sq_replay.specs.declared.ends.RunEnd.TheVariants as ended
 use Rattle.sq_replay.specs.Ends as runs
 use Rattle.sq_replay.specs.Ends.{End, Done, Refused, Faulted, Fault, Reading, Writing, Lacking}
 use Rattle.sq_replay.specs.RunText.{ScriptRun, run_script}
-use Rattle.sq_replay.specs.Runs.{Reaches, ReachesAs, RunHasCauses, ScriptRuns, Wrote, WroteFront, WroteLines, WrotePart}
+use Rattle.sq_replay.specs.Runs.{Reaches, ReachesAs, RunHasCauses, ScriptRuns, Wrote, WroteFront, WroteLines, WrotePart, paged, told_files}
 use Rattle.sq_proxy.specs.declared.ends.Status.{Status}
 use Rattle.sq_proxy.specs.declared.ends.Status.TheVariants as ends
 use Rattle.sq_proxy.specs.Commands.{Output, ran_output, script_stage, shelf_of, staged}
@@ -189,7 +189,8 @@ nothing_yet a page e = record { done = []; appends = Appends-nil a; whole = e }
 
 play_text : (disk : List ℕ → Option (List ℕ)) (old new : Openings) (left a b mid : Option (List ℕ))
     (before later now : ℕ) (name page : List ℕ) (config : Configuration) (end : RunEnd) (result : Status)
-    → left ≡ disk name → IsSome left → before ≤ later → ScriptRuns (Some disk) old new left a mid page config end
+    → left ≡ disk name → IsSome left → before ≤ later → ScriptRuns (told_files (Some disk) old new) left
+    (paged a mid page) config end
     → ((base : Option (List ℕ)) (ran : ScriptRun) → Reaches base mid page ran end
     → Delivers base b later now (ran_output ran) result)
     → Delivers a b before now
@@ -206,7 +207,8 @@ play_text disk old new (Some bytes) a b mid before later now name page config en
 -- the script's text was run
 pub play_over : (texts same : Texts) (old new : Openings) (left a b mid : Option (List ℕ)) (before later now : ℕ)
     (name page : List ℕ) (config : Configuration) (end : RunEnd) (result : Status) → same ≡ texts
-    → GivesText texts name left → before ≤ later → ScriptRuns same old new left a mid page config end
+    → GivesText texts name left → before ≤ later → ScriptRuns (told_files same old new) left (paged a mid page) config
+    end
     → ((base : Option (List ℕ)) (ran : ScriptRun) → Reaches base mid page ran end
     → Delivers base b later now (ran_output ran) result)
     → IfSome texts (λ disk. Delivers a b before now
@@ -216,7 +218,7 @@ play_over None same old new left a b mid before later now name page config end r
 play_over (Some disk) same old new left a b mid before later now name page config end result is (e, some) le runs
     settle =
     play_text disk old new left a b mid before later now name page config end result e some le
-    (subst (λ (t : Texts). ScriptRuns t old new left a mid page config end) is runs) settle
+    (subst (λ (t : Texts). ScriptRuns (told_files t old new) left (paged a mid page) config end) is runs) settle
 
 -- a result that is told is the end that it was settled from
 pub told_end : (end result : Status) → IsSettled end result → IsToldEnd (end_of result) → result ≡ end

@@ -201,9 +201,11 @@ migrate_over text journal = staged (script_stage journal text) migrated_output
 abbrev pub migrate_output : Disk → List ℕ → Output
 migrate_output disk journal = migrate_over (disk journal) journal
 
--- the line that a rehearsal of so many requests comes to, over the configuration that was read
+-- the line that a rehearsal of so many requests comes to, over the configuration that was read: it
+-- asks as many
 abbrev pub rehearsed_by : ℕ → Result Configuration Status → Result (List ℕ) Status
-rehearsed_by count (Ok config) = Ok (summary_line (rehearsal config count))
+rehearsed_by count (Ok config) =
+    Ok (summary_line (record (rehearsal config count) { asks = count }))
 rehearsed_by count (Err end) = Err end
 
 unfoldable pub rehearsed_stage : ℕ → Result (List ℕ) Status

@@ -11,7 +11,7 @@ use sq_outside::{Failed, Sink, write_all};
 use sq_rehearse::{configuration, rehearse as run};
 use std::alloc::Global;
 
-// The line of a rehearsal of so many requests.
+// The line of a rehearsal of so many requests, which asks as many.
 fn summed(alloc: Global, count: u32) -> Result<Text, Status>
     ensures comes { Comes result (rehearsed_stage count) }
     ensures end { IfErr result IsConfEnd }

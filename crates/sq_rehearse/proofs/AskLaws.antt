@@ -1,6 +1,8 @@
--- A rehearsal asks no more requests than it shall, and all of them where it comes to its end.
-use Rattle.std.proofs.Common.{◌≡◌, inl, inr, ℕ, ◌+◌, ◌-◌, ◌≤◌, ◌<◌, ◌%◌, ◌==◌, ◌||◌, ◌&&◌, suc, zero, max, nat_lt, nat_le, not, List, [], ◌∷◌, ◌++◌, length, drop, slice_get, Bool, true, false, if◌then◌else◌, Option, Some, None, IfSome, is_some, is_none, pos, refl, sym, ap, subst, ◌∙◌, arith}
-use Rattle.std.specs.Prelude.{⊤}
+-- A rehearsal asks as many requests as it shall.
+use Rattle.std.proofs.Common.{◌≡◌, inl, inr, ℕ, ℤ, ◌*◌, ◌+◌, ◌-◌, ◌≤◌, ◌<◌, ◌%◌, ◌==◌, ◌||◌, ◌&&◌, suc, zero, max, nat_lt, nat_le, not, List, [], ◌∷◌, ◌++◌, length, drop, slice_get, Bool, true, false, if◌then◌else◌, Option, Some, None, IfSome, is_some, is_none, pos, refl, sym, ap, subst, ◌∙◌, arith}
+use Rattle.std.proofs.lemmas.Bool.Decides.{nat_tests}
+use Rattle.std.proofs.lemmas.Option.{none-some}
+use Rattle.std.specs.Prelude.{⊤, codes}
 use Rattle.std.specs.Option.{option_map, option_map_or, option_and_then, option_or}
 use Rattle.sq_request.specs.Written.{made_request}
 use Rattle.sq_machine.specs.declared.entries.Event.{Event}
@@ -9,7 +11,7 @@ use Rattle.sq_machine.specs.declared.entries.Told.{Told}
 use Rattle.sq_machine.specs.declared.entries.Told.TheVariants as told
 use Rattle.sq_machine.specs.declared.refusals.Refusal.{Refusal}
 use Rattle.sq_machine.specs.declared.refusals.Refusal.TheVariants as refusal
-use Rattle.sq_machine.specs.Connections.{open_count, peer_at}
+use Rattle.sq_machine.specs.Connections.{open_besides, open_count, peer_at}
 use Rattle.sq_rules.specs.declared.outcomes.Why.{Why}
 use Rattle.sq_rules.specs.declared.outcomes.Why.TheVariants as why
 use Rattle.sq_rules.specs.Classes.{Class}
@@ -23,7 +25,7 @@ use Rattle.sq_machine.specs.FarmReadings.{farm_of, farm_with}
 use Rattle.sq_machine.specs.Numbered.{picks}
 use Rattle.sq_machine.specs.Processes.{home_of, lives_on, proc_count, stop_due}
 use Rattle.sq_base.specs.declared.helpers.Cause.TheVariants as cause
-use Rattle.sq_rehearse.specs.Requests.{is_even_key, number_after}
+use Rattle.sq_rehearse.specs.Requests.{client_of, is_even_key, number_after, reply_line, target_text}
 use Rattle.sq_machine.specs.Machine.{act_next, has_start, next, next_at, outcome_over, step_next, told_of_line, with_place}
 use Rattle.sq_machine.specs.Marking.{marked}
 use Rattle.sq_machine.specs.Marks.{Past, Put, entries}
@@ -48,11 +50,16 @@ use Rattle.sq_rehearse.specs.declared.stages.SentQuestion.{SentQuestion}
 use Rattle.sq_rehearse.specs.declared.stages.StepKind.{StepKind}
 use Rattle.sq_rehearse.specs.declared.stages.StepKind.TheVariants as said
 use Rattle.sq_rehearse.specs.declared.summaries.Summary.{Summary}
-use Rattle.sq_rehearse.specs.Asking.{acted_left, driver_left, is_over, is_whole, made_left, turned_left}
-use Rattle.sq_rehearse.specs.Driving.{act_made, answered, answered_at, asked, event_at, event_of, first_driver, is_acting, moment_of, replied, reply_event, stepped}
-use Rattle.sq_rehearse.specs.Going.{acted, acted_by, after_request, at_stage, checks_begun, driven, first_driven, next_in_round, next_request, onward, put_back, round_begun}
+use Rattle.sq_rehearse.specs.Driving.{act_made, answered, answered_at, asked, event_at, event_of, first_driver, is_acting, moment_of, reply_event, request_event, said_by}
+use Rattle.sq_rehearse.specs.Going.{acted, acted_by, acting, after_request, at_stage, checks_begun, driven, first_driven, next_in_round, next_request, onward, put_back, round_begun, turn_taken}
 use Rattle.sq_rehearse.specs.Rehearsals.{acted_on, answer_to, drive, made_on, rehearsal, rehearsed, turn_limit, turned}
 use Rattle.sq_rehearse.specs.Summaries.{count_by, count_denied, count_told, counted}
+use Rattle.sq_machine.specs.Events.{asking, conn_news}
+use Rattle.sq_machine.proofs.ConnectionLaws.{peer_at_more}
+use Rattle.sq_rehearse.proofs.FuelLaws.{acted_low, acting_low, act_low, asked_low, at_hand, fuel, length_more, next_low, onward_low, replied_low, rest, stepped_low}
+use Rattle.sq_rehearse.proofs.TargetLaws.{target_made}
+use Rattle.sq_rehearse.proofs.TurnLaws.{turn_acts, turn_makes}
+use Rattle.sq_rehearse.proofs.WorldLaws.{AreHeld, AreOthers, IsOpen, IsQuiet, World, ask_given, asked_world, close_given, closed_world, held_more, none_held, open_given, opened_open, opened_world, quiet_entry, quiet_same, quiet_world}
 
 -- what answers count as requests
 
@@ -267,341 +274,546 @@ answer_so configs h now event w = next_so configs (marked configs h) (max now (l
 
 -- the driver
 
--- a request that was begun is not asked yet
-abbrev unasked : DriverStage → ℕ
-unasked stage.Opening = 1
-unasked stage.Asking = 1
-unasked s = 0
-
--- all were begun where it is over
-abbrev IfOver : DriverStage → Type 0 → Type 0
-IfOver stage.Over P = P
-IfOver s P = ⊤
-
--- so many requests were asked of those that the driver is to ask
-record IsAt (asked last : ℕ) (s : DriverStage) (d : Driver) : Type 0 where
-  counts : asked + unasked s ≡ d.number
+-- no check is at hand: all that were begun are put back or ended
+record Free (a last : ℕ) (h : History) (d : Driver) : Type 0 where
+  number_is : a ≡ d.number
   few : d.number ≤ d.last
   same : d.last ≡ last
-  all : IfOver s (d.number ≡ d.last)
+  room : length d.others ≤ 4
+  world : World a h d.others (suc d.number) (suc d.number) 0
 
--- and none is begun that was not asked
-record Settled (asked last : ℕ) (d : Driver) : Type 0 where
-  counts : asked ≡ d.number
+-- a check is at hand
+record Busy (a last : ℕ) (h : History) (d : Driver) : Type 0 where
+  number_is : a ≡ d.number
   few : d.number ≤ d.last
   same : d.last ≡ last
+  room : suc (length d.others) ≤ 4
+  world : World a h d.others (suc d.number) (suc d.number) 1
+  open_is : IsOpen h d.at.conn
+  other : AreOthers d.at.conn d.others
 
-abbrev IsNow : ℕ → ℕ → Driver → Type 0
-IsNow asked last d = IsAt asked last d.stage d
+-- a request was begun, and its connection did not open
+record Begun (a last : ℕ) (h : History) (d : Driver) : Type 0 where
+  number_is : suc a ≡ d.number
+  few : d.number ≤ d.last
+  same : d.last ≡ last
+  room : suc (length d.others) ≤ 4
+  world : World a h d.others d.number d.number 0
 
-next_now : (a last : ℕ) (d : Driver) → Settled a last d → IsNow a last (next_request d)
-next_now a last d s = by (nat_lt d.number d.last) refl
+-- or it did
+record Opened (a last : ℕ) (h : History) (d : Driver) : Type 0 where
+  number_is : suc a ≡ d.number
+  few : d.number ≤ d.last
+  same : d.last ≡ last
+  room : suc (length d.others) ≤ 4
+  world : World a h d.others (suc d.number) d.number 1
+  open_is : IsOpen h d.number
+  other : AreOthers d.number d.others
+
+-- so many requests were asked at each stage
+abbrev IsAt : ℕ → ℕ → History → DriverStage → Driver → Type 0
+IsAt a last h stage.Opening d = Begun a last h d
+IsAt a last h stage.Asking d = Opened a last h d
+IsAt a last h stage.Stepping d = Busy a last h d
+IsAt a last h stage.Acting d = Busy a last h d
+IsAt a last h (stage.Starting epoch class) d = Busy a last h d
+IsAt a last h stage.Replying d = Free a last h d × (0 < length d.sent)
+IsAt a last h stage.Taking d = Busy a last h d
+IsAt a last h stage.Closing d = Busy a last h d
+IsAt a last h stage.Over d = a ≡ last
+
+abbrev IsNow : ℕ → ℕ → History → Driver → Type 0
+IsNow a last h d = IsAt a last h d.stage d
+
+next_now : (a last : ℕ) (h : History) (d : Driver) → suc (length d.others) ≤ 4 → Free a last h d
+    → IsNow a last h (next_request d)
+next_now a last h d room f = by (nat_lt d.number d.last) refl
   where
-    by : (b : Bool) → nat_lt d.number d.last ≡ b → IsNow a last (if b then record d
+    by : (b : Bool) → nat_lt d.number d.last ≡ b → IsNow a last h (if b then record d
         { stage = stage.Opening; number = d.number + 1; x = number_after d.x; in_round = false }
         else record d { stage = stage.Over; in_round = false })
-    by true less = record {
-      counts = omega (arith, s.counts);
-      few = grind (arith, less);
-      same = s.same;
-      all = tt;
-    }
-    by false less =
-        let full : d.number ≡ d.last = grind (arith, less, s.few) in record {
-          counts = omega (arith, s.counts);
-          few = s.few;
-          same = s.same;
-          all = full;
+    by true less =
+        let few : d.number < d.last = grind (arith, nat_tests, less) in
+        record {
+          number_is = omega (arith, f.number_is);
+          few = omega (arith, few);
+          same = f.same;
+          room = room;
+          world = record {
+            counts = f.world.counts;
+            unopened = λ c far. f.world.unopened c (omega (arith, far));
+            unasked = λ n c is. let below = f.world.unasked n c is in omega (arith, below);
+            held = f.world.held;
+            few = f.world.few;
+          };
         }
+    by false less =
+        let all : d.number ≡ d.last = grind (arith, nat_tests, less, f.few) in f.number_is ∙ all ∙ f.same
 
--- at a stage with nothing begun
-abbrev IsIdle : DriverStage → Type 0
-IsIdle stage.Opening = ⊥
-IsIdle stage.Asking = ⊥
-IsIdle stage.Over = ⊥
-IsIdle s = ⊤
+-- the first of these checks is driven
+first_busy : (a last : ℕ) (h : History) (d e : Driver) (p : Pending) → d.others ≡ p ∷ e.others → e.at ≡ p
+    → e.number ≡ d.number → e.last ≡ d.last → Free a last h d → Busy a last h e
+first_busy a last h d e p is at number last_is f =
+    let room : length (p ∷ e.others) ≤ 4 = subst (λ (ps : List Pending). length ps ≤ 4) is f.room in
+    let held : AreHeld h (p ∷ e.others) = subst (AreHeld h) is f.world.held in
+    let few : open_count h ≤ length (p ∷ e.others) + 0 =
+    subst (λ (ps : List Pending). open_count h ≤ length ps + 0) is f.world.few in
+    record {
+      number_is = f.number_is ∙ sym number;
+      few = omega (arith, f.few, number, last_is);
+      same = last_is ∙ f.same;
+      room = room;
+      world = record {
+        counts = f.world.counts;
+        unopened = λ c far. f.world.unopened c (omega (arith, far, number));
+        unasked = λ n c is. let below = f.world.unasked n c is in omega (arith, below, number);
+        held = held.2;
+        few = omega (arith, few);
+      };
+      open_is = subst (λ (q : Pending). IsOpen h q.conn) (sym at) held.0;
+      other = subst (λ (q : Pending). AreOthers q.conn e.others) (sym at) held.1;
+    }
 
-idle_now : (a last : ℕ) (d : Driver) (s : DriverStage) → IsIdle s → Settled a last d → IsAt a last s d
-idle_now a last d stage.Opening idle at = absurd idle
-idle_now a last d stage.Asking idle at = absurd idle
-idle_now a last d stage.Over idle at = absurd idle
-idle_now a last d stage.Stepping idle at = record { counts = omega (arith, at.counts); few = at.few; same = at.same; all = tt }
-idle_now a last d stage.Acting idle at = record { counts = omega (arith, at.counts); few = at.few; same = at.same; all = tt }
-idle_now a last d (stage.Starting e c) idle at = record { counts = omega (arith, at.counts); few = at.few; same = at.same; all = tt }
-idle_now a last d stage.Replying idle at = record { counts = omega (arith, at.counts); few = at.few; same = at.same; all = tt }
-idle_now a last d stage.Taking idle at = record { counts = omega (arith, at.counts); few = at.few; same = at.same; all = tt }
-idle_now a last d stage.Closing idle at = record { counts = omega (arith, at.counts); few = at.few; same = at.same; all = tt }
+-- no check is left
+none_now : (a last : ℕ) (h : History) (d e : Driver) → e.others ≡ [] → e.number ≡ d.number → e.last ≡ d.last
+    → Free a last h d → d.others ≡ [] → IsNow a last h (next_request e)
+none_now a last h d e none number last_is f was =
+    let none_at : length e.others ≡ 0 = ap length none in
+    next_now a last h e (omega (arith, none_at)) (record {
+      number_is = f.number_is ∙ sym number;
+      few = omega (arith, f.few, number, last_is);
+      same = last_is ∙ f.same;
+      room = omega (arith, none_at);
+      world = record {
+        counts = f.world.counts;
+        unopened = λ c far. f.world.unopened c (omega (arith, far, number));
+        unasked = λ n c is. let below = f.world.unasked n c is in omega (arith, below, number);
+        held = subst (AreHeld h) (was ∙ sym none) f.world.held;
+        few = subst (λ (ps : List Pending). open_count h ≤ length ps + 0) (was ∙ sym none) f.world.few;
+      };
+    })
 
-idle_settled : (a last : ℕ) (d : Driver) (s : DriverStage) → IsIdle s → IsAt a last s d → Settled a last d
-idle_settled a last d stage.Opening idle at = absurd idle
-idle_settled a last d stage.Asking idle at = absurd idle
-idle_settled a last d stage.Over idle at = absurd idle
-idle_settled a last d stage.Stepping idle at = record { counts = omega (arith, at.counts); few = at.few; same = at.same }
-idle_settled a last d stage.Acting idle at = record { counts = omega (arith, at.counts); few = at.few; same = at.same }
-idle_settled a last d (stage.Starting e c) idle at = record { counts = omega (arith, at.counts); few = at.few; same = at.same }
-idle_settled a last d stage.Replying idle at = record { counts = omega (arith, at.counts); few = at.few; same = at.same }
-idle_settled a last d stage.Taking idle at = record { counts = omega (arith, at.counts); few = at.few; same = at.same }
-idle_settled a last d stage.Closing idle at = record { counts = omega (arith, at.counts); few = at.few; same = at.same }
+first_now : (a last : ℕ) (h : History) (d : Driver) (ps : List Pending) → d.others ≡ ps → Free a last h d
+    → IsNow a last h (first_driven (slice_get ps 0) (record d { others = drop 1 ps }))
+first_now a last h d [] is f = none_now a last h d (record d { others = [] }) refl refl refl f is
+first_now a last h d (p ∷ ps) is f = first_busy a last h d
+    (record d { stage = stage.Stepping; at = p; left = length ps; others = ps }) p is refl refl refl f
 
--- what is settled of a driver is so of each with its numbers
-alike : (a last : ℕ) (d e : Driver) → e.number ≡ d.number → e.last ≡ d.last → Settled a last d → Settled a last e
-alike a last d e n l s = record {
-  counts = s.counts ∙ sym n;
-  few = omega (arith, n, l, s.few);
-  same = l ∙ s.same;
+driven_now : (a last : ℕ) (h : History) (d : Driver) (ps : List Pending) → d.others ≡ ps → Free a last h d
+    → IsNow a last h (driven (slice_get ps 0) (record d { left = d.left - 1; others = drop 1 ps }))
+driven_now a last h d [] is f = none_now a last h d (record d { left = d.left - 1; others = [] }) refl refl refl f is
+driven_now a last h d (p ∷ ps) is f = first_busy a last h d
+    (record d { stage = stage.Stepping; at = p; left = d.left - 1; others = ps }) p is refl refl refl f
+
+-- what is so of a driver with no check at hand is so of each with its numbers and its open_is checks
+alike : (a last : ℕ) (h : History) (d e : Driver) → e.others ≡ d.others → e.number ≡ d.number → e.last ≡ d.last
+    → Free a last h d → Free a last h e
+alike a last h d e others number last_is f = record {
+  number_is = f.number_is ∙ sym number;
+  few = omega (arith, f.few, number, last_is);
+  same = last_is ∙ f.same;
+  room = subst (λ (ps : List Pending). length ps ≤ 4) (sym others) f.room;
+  world = record {
+    counts = f.world.counts;
+    unopened = λ c far. f.world.unopened c (omega (arith, far, number));
+    unasked = λ n c is. let below = f.world.unasked n c is in omega (arith, below, number);
+    held = subst (AreHeld h) (sym others) f.world.held;
+    few = subst (λ (ps : List Pending). open_count h ≤ length ps + 0) (sym others) f.world.few;
+  };
 }
 
-driven_now : (a last : ℕ) (o : Option Pending) (d : Driver) → Settled a last d → IsNow a last (driven o d)
-driven_now a last None d s = next_now a last d s
-driven_now a last (Some check) d s = idle_now a last (record d { stage = stage.Stepping; at = check }) stage.Stepping tt
-    (alike a last d _ refl refl s)
-
-first_driven_now : (a last : ℕ) (o : Option Pending) (d : Driver) → Settled a last d → IsNow a last (first_driven o d)
-first_driven_now a last None d s = next_now a last d s
-first_driven_now a last (Some check) d s = idle_now a last
-    (record d { stage = stage.Stepping; at = check; left = length d.others }) stage.Stepping tt
-    (alike a last d _ refl refl s)
-
-round_now : (a last : ℕ) (d : Driver) → Settled a last d → IsNow a last (round_begun d)
-round_now a last d s = by (length d.sent == 0)
+round_now : (a last : ℕ) (h : History) (d : Driver) → Free a last h d → IsNow a last h (round_begun d)
+round_now a last h d f = by (length d.sent == 0) refl
   where
-    by : (b : Bool) → IsNow a last (if b then checks_begun d else at_stage stage.Replying d)
-    by true = first_driven_now a last (slice_get d.others 0) (record d { others = drop 1 d.others })
-        (alike a last d _ refl refl s)
-    by false = idle_now a last (at_stage stage.Replying d) stage.Replying tt (alike a last d _ refl refl s)
+    by : (b : Bool) → (length d.sent == 0) ≡ b
+        → IsNow a last h (if b then checks_begun d else at_stage stage.Replying d)
+    by true none = first_now a last h d d.others refl f
+    by false some = (alike a last h d (at_stage stage.Replying d) refl refl refl f, grind (arith, nat_tests, some))
 
-next_in_round_now : (a last : ℕ) (d : Driver) → Settled a last d → IsNow a last (next_in_round d)
-next_in_round_now a last d s = by (length d.others == 0) (d.left == 0)
+next_in_round_now : (a last : ℕ) (h : History) (d : Driver) → Free a last h d → IsNow a last h (next_in_round d)
+next_in_round_now a last h d f = by (length d.others == 0) (d.left == 0) refl
   where
-    by : (b c : Bool) → IsNow a last (if b then next_request d else (if c then round_begun d
+    by : (b c : Bool) → (length d.others == 0) ≡ b → IsNow a last h (if b then next_request d
+        else (if c then round_begun d
         else driven (slice_get d.others 0) (record d { left = d.left - 1; others = drop 1 d.others })))
-    by true c = next_now a last d s
-    by false true = round_now a last d s
-    by false false = driven_now a last (slice_get d.others 0) (record d { left = d.left - 1; others = drop 1 d.others })
-        (alike a last d _ refl refl s)
+    by true c none = next_now a last h d (grind (arith, nat_tests, none)) f
+    by false true some = round_now a last h d f
+    by false false some = driven_now a last h d d.others refl f
 
-after_now : (a last : ℕ) (d : Driver) → Settled a last d → IsNow a last (after_request d)
-after_now a last d s = by (d.number % 4 == 0 || d.number == d.last)
+after_now : (a last : ℕ) (h : History) (d : Driver) → Free a last h d → IsNow a last h (after_request d)
+after_now a last h d f = by (nat_le 4 (length d.others)) (d.number == d.last) refl
   where
-    by : (b : Bool) → IsNow a last (if b then round_begun (record d { in_round = true }) else next_request d)
-    by true = round_now a last (record d { in_round = true }) (alike a last d _ refl refl s)
-    by false = next_now a last d s
+    by : (b c : Bool) → nat_le 4 (length d.others) ≡ b
+        → IsNow a last h (if b || c then round_begun (record d { in_round = true }) else next_request d)
+    by true c many = round_now a last h (record d { in_round = true }) (alike a last h d _ refl refl refl f)
+    by false true few = round_now a last h (record d { in_round = true }) (alike a last h d _ refl refl refl f)
+    by false false few = next_now a last h d (grind (arith, nat_tests, few)) f
 
-onward_now : (a last : ℕ) (d : Driver) → Settled a last d → IsNow a last (onward d)
-onward_now a last d s = by d.in_round
+onward_now : (a last : ℕ) (h : History) (d : Driver) → Free a last h d → IsNow a last h (onward d)
+onward_now a last h d f = by d.in_round
   where
-    by : (b : Bool) → IsNow a last (if b then next_in_round d else after_request d)
-    by true = next_in_round_now a last d s
-    by false = after_now a last d s
+    by : (b : Bool) → IsNow a last h (if b then next_in_round d else after_request d)
+    by true = next_in_round_now a last h d f
+    by false = after_now a last h d f
 
-back_now : (a last : ℕ) (d : Driver) → Settled a last d → IsNow a last (put_back d)
-back_now a last d s = onward_now a last (record d { others = d.others ++ d.at ∷ [] }) (alike a last d _ refl refl s)
+-- the check at hand is put back
+back_now : (a last : ℕ) (h : History) (d : Driver) → Busy a last h d → IsNow a last h (put_back d)
+back_now a last h d b =
+    let more : length (d.others ++ d.at ∷ []) ≡ suc (length d.others) = length_more d.others d.at in
+    onward_now a last h (record d { others = d.others ++ d.at ∷ [] }) (record {
+      number_is = b.number_is;
+      few = b.few;
+      same = b.same;
+      room = omega (arith, more, b.room);
+      world = record {
+        counts = b.world.counts;
+        unopened = b.world.unopened;
+        unasked = b.world.unasked;
+        held = held_more h d.others d.at b.open_is b.other b.world.held;
+        few = omega (arith, more, b.world.few);
+      };
+    })
 
-acted_now : (a last : ℕ) (d : Driver) → Settled a last d → IsNow a last (acted d)
-acted_now a last d s = by d.said
-  where
-    done : (b : Bool) → IsNow a last (if b then at_stage stage.Taking d else put_back d)
-    done true = idle_now a last (at_stage stage.Taking d) stage.Taking tt (alike a last d _ refl refl s)
-    done false = back_now a last d s
-
-    by : (k : StepKind) → IsNow a last (acted_by k d)
-    by said.Took = idle_now a last (at_stage stage.Stepping d) stage.Stepping tt (alike a last d _ refl refl s)
-    by said.Waits = back_now a last d s
-    by said.Done = done d.in_round
-
--- a request is asked at one stage alone
-abbrev asking : DriverStage → ℕ
-asking stage.Asking = 1
-asking s = 0
-
--- an answer that counts no request
-plain_now : (a last : ℕ) (t : Told) (d : Driver) → asks_in t ≡ 0 → IsNow a last d → IsNow (a + asks_in t) last d
-plain_now a last t d none at = let same : a ≡ a + asks_in t = omega (arith, none) in
-    subst (λ (n : ℕ). IsNow n last d) same at
-
-act_made_now : (a last : ℕ) (t : Told) (d : Driver) → d.stage ≡ stage.Acting → Settled a last d
-    → IsNow a last (act_made t d)
-act_made_now a last t d e s = by t
-  where
-    still : (x : Driver) → x.stage ≡ stage.Acting → Settled a last x → IsNow a last x
-    still x e s = subst (λ (z : DriverStage). IsAt a last z x) (sym e) (idle_now a last x stage.Acting tt s)
-
-    by : (t : Told) → IsNow a last (act_made t d)
-    by (told.Start epoch class) = idle_now a last (at_stage (stage.Starting epoch class) d)
-        (stage.Starting epoch class) tt (alike a last d _ refl refl s)
-    by (told.Send proc question channel key) = still
-        (record d { sent = d.sent ++ (record { proc = proc; channel = channel; ok = is_even_key key }) ∷ [] }) e
-        (alike a last d _ refl refl s)
-    by t = still d e s
-
-check_now : (a last : ℕ) (t : Told) (d : Driver) → asks_in t ≡ 1 → IsAt a last stage.Asking d
-    → IsNow (a + asks_in t) last (asked t d)
-check_now a last (told.Check n) d one at = record { counts = omega (arith, at.counts); few = at.few; same = at.same; all = tt }
-check_now a last t d one at = absurd (cc)
-
-told_now : (a last : ℕ) (s : DriverStage) (t : Told) (d : Driver) → d.stage ≡ s → asks_in t ≡ asking s
-    → IsAt a last s d → IsNow (a + asks_in t) last (answered_at s t d)
-told_now a last stage.Opening t d e so at = record {
-  counts = omega (arith, at.counts, so);
-  few = at.few;
-  same = at.same;
-  all = tt;
+-- and what is so of a driver with a check at hand is so of each with these
+still : (a last : ℕ) (h : History) (d e : Driver) → e.others ≡ d.others → e.number ≡ d.number → e.last ≡ d.last
+    → e.at.conn ≡ d.at.conn → Busy a last h d → Busy a last h e
+still a last h d e others number last_is conn b = record {
+  number_is = b.number_is ∙ sym number;
+  few = omega (arith, b.few, number, last_is);
+  same = last_is ∙ b.same;
+  room = subst (λ (ps : List Pending). suc (length ps) ≤ 4) (sym others) b.room;
+  world = record {
+    counts = b.world.counts;
+    unopened = λ c far. b.world.unopened c (omega (arith, far, number));
+    unasked = λ n c is. let below = b.world.unasked n c is in omega (arith, below, number);
+    held = subst (AreHeld h) (sym others) b.world.held;
+    few = subst (λ (ps : List Pending). open_count h ≤ length ps + 1) (sym others) b.world.few;
+  };
+  open_is = subst (IsOpen h) (sym conn) b.open_is;
+  other = subst (λ (c : ℕ). AreOthers c e.others) (sym conn)
+      (subst (λ (ps : List Pending). AreOthers d.at.conn ps) (sym others) b.other);
 }
-told_now a last stage.Asking t d e so at = check_now a last t d so at
-told_now a last stage.Stepping t d e so at = plain_now a last t (stepped t d) so
-    (idle_now a last (stepped t d) stage.Acting tt
-    (alike a last d (stepped t d) refl refl (idle_settled a last d stage.Stepping tt at)))
-told_now a last stage.Acting t d e so at = plain_now a last t (act_made t d) so
-    (act_made_now a last t d e (idle_settled a last d stage.Acting tt at))
-told_now a last (stage.Starting epoch class) t d e so at = plain_now a last t (at_stage stage.Acting d) so
-    (idle_now a last (at_stage stage.Acting d) stage.Acting tt
-    (alike a last d _ refl refl (idle_settled a last d (stage.Starting epoch class) tt at)))
-told_now a last stage.Replying t d e so at = plain_now a last t (replied d) so
-    (round_now a last (record d { sent = drop 1 d.sent })
-    (alike a last d _ refl refl (idle_settled a last d stage.Replying tt at)))
-told_now a last stage.Taking t d e so at = plain_now a last t (at_stage stage.Closing d) so
-    (idle_now a last (at_stage stage.Closing d) stage.Closing tt
-    (alike a last d _ refl refl (idle_settled a last d stage.Taking tt at)))
-told_now a last stage.Closing t d e so at = plain_now a last t (onward d) so
-    (onward_now a last d (idle_settled a last d stage.Closing tt at))
-told_now a last stage.Over t d e so at = plain_now a last t d so
-    (subst (λ (z : DriverStage). IsAt a last z d) (sym e) at)
 
--- the event of a stage asks a request where the stage does
-record IsOf (s : DriverStage) (event : Event) : Type 0 where
-  wanted : IsWanted event
-  asks : asks_of event ≡ asking s
+acted_now : (a last : ℕ) (h : History) (d : Driver) → Busy a last h d → IsNow a last h (acted d)
+acted_now a last h d b = by d.said
+  where
+    took : (c : Bool) → IsNow a last h (if c then at_stage stage.Closing d else at_stage stage.Stepping d)
+    took true = still a last h d (at_stage stage.Closing d) refl refl refl refl b
+    took false = still a last h d (at_stage stage.Stepping d) refl refl refl refl b
 
-reply_of_stage : (o : Option SentQuestion) → IfSome (reply_event o) (IsOf stage.Replying)
-reply_of_stage None = tt
-reply_of_stage (Some s) = record { wanted = tt; asks = refl }
+    waits : (c : Bool) → IsNow a last h (if c then at_stage stage.Closing d else put_back d)
+    waits true = still a last h d (at_stage stage.Closing d) refl refl refl refl b
+    waits false = back_now a last h d b
 
-stage_of : (s : DriverStage) (d : Driver) → IfSome (event_at s d) (IsOf s)
-stage_of stage.Opening d = record { wanted = tt; asks = refl }
-stage_of stage.Asking d = record { wanted = tt; asks = refl }
-stage_of stage.Stepping d = record { wanted = tt; asks = refl }
-stage_of stage.Acting d = record { wanted = tt; asks = refl }
-stage_of (stage.Starting epoch class) d = record { wanted = tt; asks = refl }
-stage_of stage.Replying d = reply_of_stage (slice_get d.sent 0)
-stage_of stage.Taking d = record { wanted = tt; asks = refl }
-stage_of stage.Closing d = record { wanted = tt; asks = refl }
-stage_of stage.Over d = tt
+    done : (c : Bool) → IsNow a last h (if c then at_stage stage.Taking d else put_back d)
+    done true = still a last h d (at_stage stage.Taking d) refl refl refl refl b
+    done false = back_now a last h d b
+
+    by : (k : StepKind) → IsNow a last h (acted_by k d)
+    by said.Took = took (d.at.more == 0)
+    by said.Waits = waits (d.at.more == 0)
+    by said.Done = done (d.in_round || d.at.more == 0)
+
+acting_now : (a last : ℕ) (h : History) (d : Driver) → Busy a last h d → IsNow a last h (acting d)
+acting_now a last h d b = by (d.at.more == 0)
+  where
+    by : (c : Bool) → IsNow a last h
+        (if c then acted d else record d { stage = stage.Acting; at = turn_taken d.at })
+    by true = acted_now a last h d b
+    by false = still a last h d (record d { stage = stage.Acting; at = turn_taken d.at }) refl refl refl refl b
+
+act_now : (a last : ℕ) (h : History) (t : Told) (d : Driver) → Busy a last h d → IsNow a last h (act_made t d)
+act_now a last h (told.Start epoch class) d b =
+    still a last h d (at_stage (stage.Starting epoch class) d) refl refl refl refl b
+act_now a last h (told.Send proc question channel key) d b =
+    let e : Driver = record d
+    { sent = d.sent ++ (record { proc = proc; channel = channel; ok = is_even_key key }) ∷ [] } in
+    acting_now a last h e (still a last h d e refl refl refl refl b)
+act_now a last h t d b = acting_now a last h d b
+
+busy_same : (a last : ℕ) (h g : History) (d : Driver) → IsQuiet h g → Busy a last h d → Busy a last g d
+busy_same a last h g d quiet b = record {
+  number_is = b.number_is;
+  few = b.few;
+  same = b.same;
+  room = b.room;
+  world = quiet_world a h g d.others (suc d.number) (suc d.number) 1 quiet b.world;
+  open_is = ap (λ o. is_some o) (quiet.peers d.at.conn) ∙ b.open_is;
+  other = b.other;
+}
+
+free_same : (a last : ℕ) (h g : History) (d : Driver) → IsQuiet h g → Free a last h d → Free a last g d
+free_same a last h g d quiet f = record {
+  number_is = f.number_is;
+  few = f.few;
+  same = f.same;
+  room = f.room;
+  world = quiet_world a h g d.others (suc d.number) (suc d.number) 0 quiet f.world;
+}
 
 -- turns
 
--- what was asked stays so to the end of all turns
-abbrev GoesOn : ℕ → (Driver → History → History) → (Driver → History → Driver) → Type 0
-GoesOn last go left = (d : Driver) (h : History) → IsNow (counted h).asks last d
-    → IsNow (counted (go d h)).asks last (left d h)
+-- all requests were asked at the end of the turns that are left
+abbrev GoesOn : ℕ → ℕ → (Driver → History → History) → Type 0
+GoesOn last k go = (a : ℕ) (d : Driver) (h : History) → (counted h).asks ≡ a → IsNow a last h d → fuel d ≤ k
+    → (counted (go d h)).asks ≡ last
 
-entry_now : (last : ℕ) (d : Driver) (h : History) (moment : ℕ) (event : Event) (t : Told)
-    → asks_in t ≡ asking d.stage → IsNow (counted h).asks last d
-    → IsNow (counted (entry_at moment event t ∷ h)).asks last (answered t d)
-entry_now last d h moment event t so at = subst (λ (n : ℕ). IsNow n last (answered t d)) (sym (told_asks t (counted h)))
-    (told_now (counted h).asks last d.stage t d refl so at)
-
-made_now : (last : ℕ) (go : Driver → History → History) (left : Driver → History → Driver) (d : Driver) (h : History)
-    (event : Event) (n : Next) → asks_of event ≡ asking d.stage → IfGives n (IsSoAt event)
-    → GoesOn last go left → IsNow (counted h).asks last d
-    → IsNow (counted (made_on go d h event n)).asks last (made_left left d h event n)
-made_now last go left d h event (gives t) asks so more at =
+-- an event that neither opens or closes a connection nor asks, made or refused
+quiet_made : (last : ℕ) (go : Driver → History → History) (d : Driver) (h : History) (event : Event) (n : Next)
+    → IfGives n (IsSoAt event) → asks_of event ≡ 0 → conn_news event ≡ None → asking event ≡ None
+    → ((t : Told) (g : History) → IsQuiet h g → (counted g).asks ≡ (counted h).asks
+    → (counted (go (answered t d) g)).asks ≡ last)
+    → (counted (made_on go d h event n)).asks ≡ last
+quiet_made last go d h event (gives t) so none news asks more =
     let moment = max (moment_of d) (latest h) in
-    more (answered t d) (entry_at moment event t ∷ h) (entry_now last d h moment event t (so ∙ asks) at)
-made_now last go left d h event (refuses r) asks so more at = at
-made_now last go left d h event nothing asks so more at = at
+    let e = entry_at moment event t in
+    let plain : asks_in t ≡ 0 = so ∙ none in
+    let count = told_asks t (counted h) in
+    more t (e ∷ h) (quiet_entry e h news asks) (omega (arith, plain, count))
+quiet_made last go d h event (refuses r) so none news asks more = more told.Fine h (quiet_same h) refl
+quiet_made last go d h event nothing so none news asks more = more told.Fine h (quiet_same h) refl
 
-acting_settled : (a last : ℕ) (s : DriverStage) (d : Driver) → is_acting s ≡ true → IsAt a last s d → Settled a last d
-acting_settled a last stage.Acting d acting at = idle_settled a last d stage.Acting tt at
-acting_settled a last s d acting at = absurd (cc)
+act_turn : (last : ℕ) (go : Driver → History → History) (d : Driver) (h : History) (n : Next)
+    → IfGives n (IsSoAt Act)
+    → ((t : Told) (g : History) → IsQuiet h g → (counted g).asks ≡ (counted h).asks
+    → (counted (go (answered t d) g)).asks ≡ last)
+    → (counted (go (acted d) h)).asks ≡ last
+    → (counted (acted_on go d h n)).asks ≡ last
+act_turn last go d h (gives t) so more none = quiet_made last go d h Act (gives t) so refl refl refl more
+act_turn last go d h (refuses r) so more none = none
+act_turn last go d h nothing so more none = none
 
-acting_asks : (s : DriverStage) → is_acting s ≡ true → 0 ≡ asking s
-acting_asks stage.Acting acting = refl
-acting_asks s acting = absurd (cc)
+-- the event that a stage wants, and what the machine makes of it
+made_at : (configs : List Configuration) (k : ℕ) (d : Driver) (h : History) (s : DriverStage) (event : Event)
+    → d.stage ≡ s → is_acting s ≡ false → event_at s d ≡ Some event
+    → drive configs (suc k) d h
+    ≡ made_on (drive configs k) d h event (answer_to configs h (moment_of d) event)
+made_at configs k d h s event is acting wanted =
+    turn_makes configs k d h (ap is_acting is ∙ acting)
+    ∙ ap (turned (drive configs k) configs d h) (ap (λ (x : DriverStage). event_at x d) is ∙ wanted)
 
-act_turn : (last : ℕ) (go : Driver → History → History) (left : Driver → History → Driver) (d : Driver) (h : History)
-    (n : Next) → is_acting d.stage ≡ true → IfGives n IsOther → GoesOn last go left
-    → IsNow (counted h).asks last d
-    → IsNow (counted (acted_on go d h n)).asks last (acted_left left d h n)
-act_turn last go left d h (gives t) acting so more at =
+abbrev AsksAll : ℕ → History → Type 0
+AsksAll last h = (counted h).asks ≡ last
+
+opening_turn : (configs : List Configuration) (last k a : ℕ) (d : Driver) (h : History) → d.stage ≡ stage.Opening
+    → (counted h).asks ≡ a → Begun a last h d → 30 + rest d ≤ suc k → GoesOn last k (drive configs k)
+    → AsksAll last (drive configs (suc k) d h)
+opening_turn configs last k a d h is counts b low more =
+    let event = Open d.number (client_of d.x) 4000 in
     let moment = max (moment_of d) (latest h) in
-    more (answered t d) (entry_at moment Act t ∷ h)
-    (entry_now last d h moment Act t (so ∙ acting_asks d.stage acting) at)
-act_turn last go left d h (refuses r) acting so more at = more (acted d) h
-    (acted_now (counted h).asks last d (acting_settled (counted h).asks last d.stage d acting at))
-act_turn last go left d h nothing acting so more at = more (acted d) h
-    (acted_now (counted h).asks last d (acting_settled (counted h).asks last d.stage d acting at))
+    let said : answer_to configs h (moment_of d) event ≡ gives told.Fine =
+    open_given configs h moment d.number (client_of d.x) 4000 (b.world.unopened d.number (omega arith))
+    (omega (arith, b.world.few, b.room)) in
+    let g = entry_at moment event told.Fine ∷ h in
+    let e = at_stage stage.Asking d in
+    let there : drive configs (suc k) d h ≡ drive configs k e g =
+    made_at configs k d h stage.Opening event is refl refl ∙ ap (made_on (drive configs k) d h event) said
+    ∙ ap (λ (s : DriverStage). drive configs k (answered_at s told.Fine d) g) is in
+    let open_is : Opened a last g e = record {
+      number_is = b.number_is;
+      few = b.few;
+      same = b.same;
+      room = b.room;
+      world = opened_world a h d.others d.number moment (client_of d.x) 4000 b.world;
+      open_is = opened_open h d.number moment (client_of d.x) 4000;
+      other = none_held h d.number d.others (b.world.unopened d.number (omega arith)) b.world.held;
+    } in
+    subst (AsksAll last) (sym there) (more a e g counts open_is (omega (arith, low)))
 
-event_turn : (configs : List Configuration) (last : ℕ) (go : Driver → History → History)
-    (left : Driver → History → Driver) (d : Driver) (h : History) (o : Option Event) → IfSome o (IsOf d.stage)
-    → GoesOn last go left → IsNow (counted h).asks last d
-    → IsNow (counted (turned go configs d h o)).asks last (turned_left left configs d h o)
-event_turn configs last go left d h None of more at = at
-event_turn configs last go left d h (Some event) of more at =
-    made_now last go left d h event (answer_to configs h (moment_of d) event) of.asks
-    (answer_so configs h (moment_of d) event of.wanted) more at
+asking_turn : (configs : List Configuration) (last k a : ℕ) (d : Driver) (h : History) → suc last < last_number
+    → d.stage ≡ stage.Asking → (counted h).asks ≡ a → Opened a last h d → 29 + rest d ≤ suc k
+    → GoesOn last k (drive configs k) → AsksAll last (drive configs (suc k) d h)
+asking_turn configs last k a d h few is counts b low more =
+    let event = request_event d in
+    let moment = max (moment_of d) (latest h) in
+    let n = suc (ask_count h) in
+    let below : suc (ask_count h) < last_number = omega (arith, few, b.world.counts, b.number_is, b.few, b.same) in
+    let next_is : next configs (marked configs h) moment event ≡ gives (told.Check n) =
+    ask_given configs h moment d.number (codes "GET") (target_text d.x) [] b.open_is b.world.unasked below in
+    let said : answer_to configs h (moment_of d) event ≡ gives (told.Check n) =
+    ap (λ (c : Bool). if c then next configs (marked configs h) moment event else nothing) (target_made d.x) ∙ next_is
+    in
+    let g = entry_at moment event (told.Check n) ∷ h in
+    let e = asked (told.Check n) d in
+    let there : drive configs (suc k) d h ≡ drive configs k e g =
+    made_at configs k d h stage.Asking event is refl refl ∙ ap (made_on (drive configs k) d h event) said
+    ∙ ap (λ (s : DriverStage). drive configs k (answered_at s (told.Check n) d) g) is in
+    let world = asked_world a h d.others d.number moment (codes "GET") (target_text d.x) [] n b.world in
+    let busy : Busy (suc a) last g e = record {
+      number_is = b.number_is;
+      few = b.few;
+      same = b.same;
+      room = b.room;
+      world = world;
+      open_is = ap (λ o. is_some o) (peer_at_more (entry_at moment event (told.Check n)) h d.number) ∙ b.open_is;
+      other = b.other;
+    } in
+    let less = asked_low (told.Check n) d in
+    subst (AsksAll last) (sym there) (more (suc a) e g (omega (arith, counts)) busy (omega (arith, low, less)))
 
-turn_now : (configs : List Configuration) (last : ℕ) (go : Driver → History → History)
-    (left : Driver → History → Driver) (d : Driver) (h : History) (b : Bool) → is_acting d.stage ≡ b
-    → GoesOn last go left → IsNow (counted h).asks last d
-    → IsNow
-    (counted (if b then acted_on go d h (next configs (marked configs h) (max (moment_of d) (latest h)) Act)
-    else turned go configs d h (event_of d))).asks last
-    (if b then acted_left left d h (next configs (marked configs h) (max (moment_of d) (latest h)) Act)
-    else turned_left left configs d h (event_of d))
-turn_now configs last go left d h true acting more at =
-    act_turn last go left d h (next configs (marked configs h) (max (moment_of d) (latest h)) Act) acting
-    (next_so configs (marked configs h) (max (moment_of d) (latest h)) Act tt) more at
-turn_now configs last go left d h false acting more at =
-    event_turn configs last go left d h (event_of d) (stage_of d.stage d) more at
+closing_turn : (configs : List Configuration) (last k a : ℕ) (d : Driver) (h : History) → d.stage ≡ stage.Closing
+    → (counted h).asks ≡ a → Busy a last h d → 2 + rest d ≤ suc k → GoesOn last k (drive configs k)
+    → AsksAll last (drive configs (suc k) d h)
+closing_turn configs last k a d h is counts b low more =
+    let event = Close d.at.conn in
+    let moment = max (moment_of d) (latest h) in
+    let said : answer_to configs h (moment_of d) event ≡ gives told.Fine =
+    close_given configs h moment d.at.conn b.open_is in
+    let g = entry_at moment event told.Fine ∷ h in
+    let there : drive configs (suc k) d h ≡ drive configs k (onward d) g =
+    made_at configs k d h stage.Closing event is refl refl ∙ ap (made_on (drive configs k) d h event) said
+    ∙ ap (λ (s : DriverStage). drive configs k (answered_at s told.Fine d) g) is in
+    let free : Free a last g d = record {
+      number_is = b.number_is;
+      few = b.few;
+      same = b.same;
+      room = omega (arith, b.room);
+      world = closed_world a h d.others d.at.conn moment (suc d.number) (suc d.number) b.open_is b.other b.world;
+    } in
+    let less = onward_low d in
+    subst (AsksAll last) (sym there) (more a (onward d) g counts (onward_now a last g d free)
+    (omega (arith, low, less)))
 
-drive_now : (configs : List Configuration) (last k : ℕ) → GoesOn last (drive configs k) (driver_left configs k)
-drive_now configs last zero d h at = at
-drive_now configs last (suc k) d h at =
-    turn_now configs last (drive configs k) (driver_left configs k) d h (is_acting d.stage) refl
-    (λ e g a. drive_now configs last k e g a) at
+-- a stage whose event is quiet
+quiet_turn : (configs : List Configuration) (last k a : ℕ) (d : Driver) (h : History) (s : DriverStage) (event : Event)
+    → d.stage ≡ s → is_acting s ≡ false → event_at s d ≡ Some event → IsWanted event → asks_of event ≡ 0
+    → conn_news event ≡ None → asking event ≡ None → (counted h).asks ≡ a
+    → ((t : Told) (g : History) → IsQuiet h g → IsNow a last g (answered_at s t d))
+    → ((t : Told) → fuel (answered_at s t d) ≤ k)
+    → GoesOn last k (drive configs k) → AsksAll last (drive configs (suc k) d h)
+quiet_turn configs last k a d h s event is acting wants wanted none news asks counts now low more =
+    subst (AsksAll last) (sym (made_at configs k d h s event is acting wants))
+    (quiet_made last (drive configs k) d h event (answer_to configs h (moment_of d) event)
+    (answer_so configs h (moment_of d) event wanted) none news asks
+    (λ t g quiet same. subst (λ (x : DriverStage). AsksAll last (drive configs k (answered_at x t d) g)) (sym is)
+    (more a (answered_at s t d) g (same ∙ counts) (now t g quiet) (low t))))
+
+acting_turn : (configs : List Configuration) (last k a : ℕ) (d : Driver) (h : History) → d.stage ≡ stage.Acting
+    → (counted h).asks ≡ a → Busy a last h d → 2 * d.at.more + 5 + rest d ≤ suc k → GoesOn last k (drive configs k)
+    → AsksAll last (drive configs (suc k) d h)
+acting_turn configs last k a d h is counts b low more =
+    let now = max (moment_of d) (latest h) in
+    let less = acted_low d in
+    subst (AsksAll last) (sym (turn_acts configs k d h (ap is_acting is)))
+    (act_turn last (drive configs k) d h (next configs (marked configs h) now Act)
+    (next_so configs (marked configs h) now Act tt)
+    (λ t g quiet same. subst (λ (x : DriverStage). AsksAll last (drive configs k (answered_at x t d) g)) (sym is)
+    (more a (act_made t d) g (same ∙ counts) (act_now a last g t d (busy_same a last h g d quiet b))
+    (let fewer = act_low t d in omega (arith, low, fewer))))
+    (more a (acted d) h counts (acted_now a last h d b) (omega (arith, low, less))))
+
+replying_turn : (configs : List Configuration) (last k a : ℕ) (d : Driver) (h : History) (sent : List SentQuestion)
+    → d.sent ≡ sent → d.stage ≡ stage.Replying → (counted h).asks ≡ a → Free a last h d → 0 < length d.sent
+    → 1 + rest d ≤ suc k → GoesOn last k (drive configs k) → AsksAll last (drive configs (suc k) d h)
+replying_turn configs last k a d h [] sent_is is counts f some low more =
+    let none : length d.sent ≡ 0 = ap length sent_is in absurd (omega (arith, none, some))
+replying_turn configs last k a d h (q ∷ sent) sent_is is counts f some low more =
+    let less = replied_low d some in
+    quiet_turn configs last k a d h stage.Replying (Line q.proc (reply_line q.channel q.ok)) is refl
+    (ap (λ (xs : List SentQuestion). reply_event (slice_get xs 0)) sent_is) tt refl refl refl counts
+    (λ t g quiet. round_now a last g (record d { sent = drop 1 d.sent })
+    (alike a last g d _ refl refl refl (free_same a last h g d quiet f)))
+    (λ t. omega (arith, low, less)) more
+
+over_turn : (configs : List Configuration) (last k a : ℕ) (d : Driver) (h : History) → d.stage ≡ stage.Over
+    → (counted h).asks ≡ a → a ≡ last → AsksAll last (drive configs k d h)
+over_turn configs last zero a d h is counts all = counts ∙ all
+over_turn configs last (suc k) a d h is counts all =
+    subst (AsksAll last) (sym (turn_makes configs k d h (ap is_acting is)
+    ∙ ap (turned (drive configs k) configs d h) (ap (λ (x : DriverStage). event_at x d) is))) (counts ∙ all)
+
+stage_turn : (configs : List Configuration) (last k a : ℕ) (d : Driver) (h : History) (s : DriverStage)
+    → suc last < last_number → d.stage ≡ s → (counted h).asks ≡ a → IsAt a last h s d
+    → at_hand s d.at.more + rest d ≤ suc k → GoesOn last k (drive configs k)
+    → AsksAll last (drive configs (suc k) d h)
+stage_turn configs last k a d h stage.Opening few is counts at low more =
+    opening_turn configs last k a d h is counts at low more
+stage_turn configs last k a d h stage.Asking few is counts at low more =
+    asking_turn configs last k a d h few is counts at low more
+stage_turn configs last k a d h stage.Stepping few is counts at low more =
+    quiet_turn configs last k a d h stage.Stepping (Step d.at.check) is refl refl tt refl refl refl counts
+    (λ t g quiet. acting_now a last g (record d { said = said_by t })
+    (still a last g d (record d { said = said_by t }) refl refl refl refl (busy_same a last h g d quiet at)))
+    (λ t. let less = stepped_low t d in omega (arith, low, less)) more
+stage_turn configs last k a d h stage.Acting few is counts at low more =
+    acting_turn configs last k a d h is counts at low more
+stage_turn configs last k a d h (stage.Starting epoch class) few is counts at low more =
+    let less = acting_low d in
+    quiet_turn configs last k a d h (stage.Starting epoch class) (Started epoch class) is refl refl tt refl refl refl
+    counts (λ t g quiet. acting_now a last g d (busy_same a last h g d quiet at))
+    (λ t. omega (arith, low, less)) more
+stage_turn configs last k a d h stage.Replying few is counts at low more =
+    replying_turn configs last k a d h d.sent refl is counts at.0 at.1 low more
+stage_turn configs last k a d h stage.Taking few is counts at low more =
+    quiet_turn configs last k a d h stage.Taking (Take d.at.check) is refl refl tt refl refl refl counts
+    (λ t g quiet. still a last g d (at_stage stage.Closing d) refl refl refl refl (busy_same a last h g d quiet at))
+    (λ t. omega (arith, low)) more
+stage_turn configs last k a d h stage.Closing few is counts at low more =
+    closing_turn configs last k a d h is counts at low more
+stage_turn configs last k a d h stage.Over few is counts at low more =
+    over_turn configs last (suc k) a d h is counts at
+
+-- no turn is left where none is before the driver
+end_all : (a last : ℕ) (h : History) (s : DriverStage) (d : Driver) → at_hand s d.at.more + rest d ≤ 0
+    → IsAt a last h s d → a ≡ last
+end_all a last h stage.Over d low at = at
+end_all a last h stage.Opening d low at = absurd (omega (arith, low))
+end_all a last h stage.Asking d low at = absurd (omega (arith, low))
+end_all a last h stage.Stepping d low at = absurd (omega (arith, low))
+end_all a last h stage.Acting d low at = absurd (omega (arith, low))
+end_all a last h (stage.Starting epoch class) d low at = absurd (omega (arith, low))
+end_all a last h stage.Replying d low at = absurd (omega (arith, low))
+end_all a last h stage.Taking d low at = absurd (omega (arith, low))
+end_all a last h stage.Closing d low at = absurd (omega (arith, low))
+
+drive_all : (configs : List Configuration) (last k : ℕ) → suc last < last_number → GoesOn last k (drive configs k)
+drive_all configs last zero few a d h counts now low = counts ∙ end_all a last h d.stage d low now
+drive_all configs last (suc k) few a d h counts now low =
+    stage_turn configs last k a d h d.stage few refl counts now low
+    (λ b e g is at less. drive_all configs last k few b e g is at less)
 
 -- a rehearsal
 
-rehearsed_now : (config : Configuration) (count : ℕ)
-    → IsNow (counted (rehearsed config count)).asks count
-    (driver_left (config ∷ []) (turn_limit count) (first_driver count) (first_history 0 (pos 0)))
-rehearsed_now config count = drive_now (config ∷ []) count (turn_limit count) (first_driver count)
-    (first_history 0 (pos 0))
-    (next_now 0 count (record {
-      stage = stage.Over;
-      last = count;
-      number = 0;
-      x = 1;
-      at = record { check = 0; conn = 0 };
-      said = said.Done;
-      in_round = false;
-      left = 0;
-      others = [];
-      sent = [];
-    }) (record { counts = refl; few = omega arith; same = refl }))
+abbrev begun : ℕ → Driver
+begun count = record {
+  stage = stage.Over;
+  last = count;
+  number = 0;
+  x = 1;
+  at = record { check = 0; conn = 0; more = 0 };
+  said = said.Done;
+  in_round = false;
+  left = 0;
+  others = [];
+  sent = [];
+}
 
-few_asked : (a last : ℕ) (s : DriverStage) (d : Driver) → IsAt a last s d → a ≤ last
-few_asked a last s d at = omega (arith, at.counts, at.few, at.same)
+begun_free : (count now : ℕ) (offset : ℤ) → Free 0 count (first_history now offset) (begun count)
+unfolding ask_count peer_at ask_of open_count open_besides
+begun_free count now offset = record {
+  number_is = refl;
+  few = omega arith;
+  same = refl;
+  room = omega arith;
+  world = record {
+    counts = refl;
+    unopened = λ c far. refl;
+    unasked = λ n c is. absurd (none-some c is);
+    held = tt;
+    few = omega arith;
+  };
+}
 
-all_asked : (a last : ℕ) (s : DriverStage) (d : Driver) → is_over s ≡ true → IsAt a last s d → a ≡ last
-all_asked a last stage.Over d over at = omega (arith, at.counts, at.all, at.same)
-all_asked a last s d over at = absurd (cc)
-
--- no more than so many are asked
-pub asks_few : (config : Configuration) (count : ℕ) → (rehearsal config count).asks ≤ count
-unfolding rehearsal
-asks_few config count = few_asked _ count _ _ (rehearsed_now config count)
-
--- and all where the rehearsal came to its end
-pub asks_all : (config : Configuration) (count : ℕ) → is_whole config count ≡ true
+-- each asks as many requests as it shall
+pub asks_all : (config : Configuration) (count : ℕ) → suc count < last_number
     → (rehearsal config count).asks ≡ count
-unfolding rehearsal is_whole
-asks_all config count whole = all_asked _ count _ _ whole (rehearsed_now config count)
+unfolding rehearsal
+asks_all config count few =
+    let low = next_low (begun count) in
+    drive_all (config ∷ []) count (turn_limit count) few 0 (first_driver count) (first_history 0 (pos 0)) refl
+    (next_now 0 count (first_history 0 (pos 0)) (begun count) (omega arith) (begun_free count 0 (pos 0)))
+    (omega (arith, low))
 
--- what a rehearsal came to has no more requests than it shall, and all of them where it is whole
-pub asks_told : (config : Configuration) (count : ℕ) (s : Summary) → s ≡ rehearsal config count
-    → (s.asks ≤ count) × (is_whole config count ≡ true → s.asks ≡ count)
-asks_told config count s is = (
-  subst (λ (x : Summary). x.asks ≤ count) (sym is) (asks_few config count),
-  λ whole. ap (λ (x : Summary). x.asks) is ∙ asks_all config count whole,
-)
+pub asks_told : (config : Configuration) (count : ℕ) (s : Summary) → suc count < last_number
+    → s ≡ rehearsal config count → s.asks ≡ count
+asks_told config count s few is = ap (λ (x : Summary). x.asks) is ∙ asks_all config count few

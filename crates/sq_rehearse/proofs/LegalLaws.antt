@@ -17,7 +17,7 @@ use Rattle.sq_replay.specs.declared.ends.RunEnd.TheVariants as ends
 use Rattle.sq_replay.specs.RunText.{Shelf, acts, answered as line_answered, asked_next, event_step, first_history}
 use Rattle.sq_replay.proofs.RunLaws.{event_made}
 use Rattle.sq_rehearse.specs.declared.drivers.Driver.{Driver}
-use Rattle.sq_rehearse.specs.Driving.{answered, event_of, first_driver, is_acting, moment_of}
+use Rattle.sq_rehearse.specs.Driving.{answered, event_of, first_driver, is_acting, moment_of, passed}
 use Rattle.sq_rehearse.specs.Going.{acted}
 use Rattle.sq_rehearse.specs.Rehearsals.{acted_on, answer_to, drive, made_on, rehearsed, turn_limit, turned}
 use Rattle.sq_rehearse.proofs.TurnLaws.{wanted_plain}
@@ -76,8 +76,8 @@ made_legal configs go d h event (gives told) later is more legal =
     let formed = answer_formed configs h (moment_of d) event told is in
     more (answered told d) (entry_at moment event told ∷ h)
     (legal_more configs h moment event told legal later formed.0 (omega arith) formed.1)
-made_legal configs go d h event (refuses r) later is more legal = legal
-made_legal configs go d h event nothing later is more legal = legal
+made_legal configs go d h event (refuses r) later is more legal = more (passed d) h legal
+made_legal configs go d h event nothing later is more legal = more (passed d) h legal
 
 turned_legal : (configs : List Configuration) (go : Driver → History → History) (d : Driver) (h : History)
     (o : Option Event) → is_acting d.stage ≡ false → event_of d ≡ o

@@ -2,5 +2,8 @@
 mod CountLaws
 mod TurnLaws
 mod LoopLaws
+mod FuelLaws
+mod WorldLaws
+mod TargetLaws
 mod AskLaws
 pub mod LegalLaws

@@ -11,14 +11,14 @@ use Rattle.sq_machine.specs.Machine.{next}
 use Rattle.sq_machine.specs.Next.{Next, gives, nothing, refuses}
 use Rattle.sq_machine.specs.Marking.{marked}
 use Rattle.sq_machine.specs.Readings.{latest}
-use Rattle.sq_replay.specs.Making.{IsRefusal, MayStand, is_refused}
+use Rattle.sq_replay.specs.Making.{IsRefusal, MayStand, is_pooled, is_refused}
 use Rattle.sq_replay.specs.Runs.{Is, IsMade, ScriptView}
 use Rattle.sq_rehearse.specs.declared.drivers.Driver.{Driver}
 use Rattle.sq_rehearse.specs.declared.stages.SentQuestion.{SentQuestion}
 use Rattle.sq_rehearse.specs.declared.stages.DriverStage.{DriverStage}
 use Rattle.sq_rehearse.specs.declared.stages.DriverStage.TheVariants as stage
 use Rattle.sq_rehearse.specs.declared.summaries.Summary.{Summary}
-use Rattle.sq_rehearse.specs.Driving.{answered, event_at, event_of, is_acting, moment_of, reply_event}
+use Rattle.sq_rehearse.specs.Driving.{answered, event_at, event_of, is_acting, moment_of, passed, reply_event}
 use Rattle.sq_rehearse.specs.Going.{acted}
 use Rattle.sq_rehearse.specs.Rehearsals.{acted_on, answer_to, drive, made_on, turned}
 use Rattle.sq_rehearse.specs.Summaries.{count_told, counted}
@@ -36,20 +36,22 @@ pub record IsPlain (event : Event) : Type 0 where
   pub plain : begins_epoch event ≡ false
   pub other : is_act event ≡ false
   pub later : is_begin event ≡ false
+  pub engine : is_pooled event ≡ false
 
 reply_plain : (o : Option SentQuestion) → IfSome (reply_event o) IsPlain
 reply_plain None = tt
-reply_plain (Some s) = record { event_is = refl; plain = refl; other = refl; later = refl }
+reply_plain (Some s) = record { event_is = refl; plain = refl; other = refl; later = refl; engine = refl }
 
 stage_plain : (s : DriverStage) (d : Driver) → is_acting s ≡ false → IfSome (event_at s d) IsPlain
-stage_plain stage.Opening d other = record { event_is = refl; plain = refl; other = refl; later = refl }
-stage_plain stage.Asking d other = record { event_is = refl; plain = refl; other = refl; later = refl }
-stage_plain stage.Stepping d other = record { event_is = refl; plain = refl; other = refl; later = refl }
+stage_plain stage.Opening d other = record { event_is = refl; plain = refl; other = refl; later = refl; engine = refl }
+stage_plain stage.Asking d other = record { event_is = refl; plain = refl; other = refl; later = refl; engine = refl }
+stage_plain stage.Stepping d other = record { event_is = refl; plain = refl; other = refl; later = refl; engine = refl }
 stage_plain stage.Acting d other = absurd (cc)
-stage_plain (stage.Starting epoch class) d other = record { event_is = refl; plain = refl; other = refl; later = refl }
+stage_plain (stage.Starting epoch class) d other =
+    record { event_is = refl; plain = refl; other = refl; later = refl; engine = refl }
 stage_plain stage.Replying d other = reply_plain (slice_get d.sent 0)
-stage_plain stage.Taking d other = record { event_is = refl; plain = refl; other = refl; later = refl }
-stage_plain stage.Closing d other = record { event_is = refl; plain = refl; other = refl; later = refl }
+stage_plain stage.Taking d other = record { event_is = refl; plain = refl; other = refl; later = refl; engine = refl }
+stage_plain stage.Closing d other = record { event_is = refl; plain = refl; other = refl; later = refl; engine = refl }
 stage_plain stage.Over d other = tt
 
 pub wanted_plain : (d : Driver) (event : Event) → is_acting d.stage ≡ false → event_of d ≡ Some event → IsPlain event
@@ -84,7 +86,7 @@ answer_refused configs h now (Ask conn method target fields) other (inr r) =
 answer_refused configs h now event other r = r
 
 made_refused : (go : Driver → History → History) (d : Driver) (h : History) (event : Event) (n : Next)
-    → is_refused n ≡ true → made_on go d h event n ≡ h
+    → is_refused n ≡ true → made_on go d h event n ≡ go (passed d) h
 made_refused go d h event (gives told) r = absurd (cc)
 made_refused go d h event (refuses x) r = refl
 made_refused go d h event nothing r = refl
@@ -97,7 +99,7 @@ on_ok (Ok a) P Q f p = f p
 on_ok (Err e) P Q f p = tt
 
 -- a turn of a driver that makes acts
-turn_acts : (configs : List Configuration) (k : ℕ) (d : Driver) (h : History) → is_acting d.stage ≡ true
+pub turn_acts : (configs : List Configuration) (k : ℕ) (d : Driver) (h : History) → is_acting d.stage ≡ true
     → drive configs (suc k) d h
     ≡ acted_on (drive configs k) d h (next configs (marked configs h) (max (moment_of d) (latest h)) Act)
 turn_acts configs k d h acting =
@@ -106,7 +108,7 @@ turn_acts configs k d h acting =
     else turned (drive configs k) configs d h (event_of d)) acting
 
 -- and of any other
-turn_makes : (configs : List Configuration) (k : ℕ) (d : Driver) (h : History) → is_acting d.stage ≡ false
+pub turn_makes : (configs : List Configuration) (k : ℕ) (d : Driver) (h : History) → is_acting d.stage ≡ false
     → drive configs (suc k) d h ≡ turned (drive configs k) configs d h (event_of d)
 turn_makes configs k d h acting =
     ap (λ (b : Bool). if b then acted_on (drive configs k) d h
@@ -166,16 +168,22 @@ event_done v w configs h d e s t event told acting wanted goes more may made is 
 }
 
 -- an event was refused
-pub event_refused : (v : ScriptView) (configs : List Configuration) (h : History) (d : Driver) (event : Event)
-    → is_acting d.stage ≡ false → event_of d ≡ Some event
-    → IsRefusal configs h (max (moment_of d) v.latest) event → Is v configs h → (k : ℕ) → drive configs k d h ≡ h
-event_refused v configs h d event acting wanted r is zero = refl
-event_refused v configs h d event acting wanted r is (suc k) =
-    let here : IsRefusal configs h (max (moment_of d) (latest h)) event =
-    subst (λ (n : ℕ). IsRefusal configs h (max (moment_of d) n) event) is.latest_is r in
-    turn_makes configs k d h acting ∙ ap (turned (drive configs k) configs d h) wanted
-    ∙ made_refused (drive configs k) d h event (answer_to configs h (moment_of d) event)
-    (answer_refused configs h (moment_of d) event (wanted_plain d event acting wanted).other here)
+pub event_refused : (v w : ScriptView) (configs : List Configuration) (h : History) (d e : Driver) (s : Summary)
+    (event : Event) → is_acting d.stage ≡ false → event_of d ≡ Some event → e ≡ passed d
+    → IsRefusal configs h (max (moment_of d) v.latest) event → Is w configs h → Is v configs h → s ≡ counted h
+    → TurnsTo configs h d w s e
+event_refused v w configs h d e s event acting wanted goes r left is counts = record {
+  history = h;
+  is = left;
+  counts = counts;
+  same = λ k.
+      let here : IsRefusal configs h (max (moment_of d) (latest h)) event =
+      subst (λ (n : ℕ). IsRefusal configs h (max (moment_of d) n) event) is.latest_is r in
+      turn_makes configs k d h acting ∙ ap (turned (drive configs k) configs d h) wanted
+      ∙ made_refused (drive configs k) d h event (answer_to configs h (moment_of d) event)
+      (answer_refused configs h (moment_of d) event (wanted_plain d event acting wanted).other here)
+      ∙ ap (λ (x : Driver). drive configs k x h) (sym goes);
+}
 
 -- no event is wanted
 pub none_wanted : (configs : List Configuration) (h : History) (d : Driver) → is_acting d.stage ≡ false

@@ -12,7 +12,7 @@ use Rattle.sq_rehearse.specs.declared.stages.StepKind.TheVariants as said
 use Rattle.sq_rehearse.specs.declared.stages.SentQuestion.{SentQuestion}
 use Rattle.sq_rehearse.specs.declared.stages.DriverStage.{DriverStage}
 use Rattle.sq_rehearse.specs.declared.stages.DriverStage.TheVariants as stage
-use Rattle.sq_rehearse.specs.Going.{at_stage, next_request, onward, round_begun}
+use Rattle.sq_rehearse.specs.Going.{acting, at_stage, check_turns, next_request, onward, round_begun}
 use Rattle.sq_rehearse.specs.Requests.{client_of, is_even_key, reply_line, target_text}
 
 -- the driver that asks so many requests
@@ -22,7 +22,7 @@ first_driver last = next_request (record {
   last = last;
   number = 0;
   x = 1;
-  at = record { check = 0; conn = 0 };
+  at = record { check = 0; conn = 0; more = 0 };
   said = said.Done;
   in_round = false;
   left = 0;
@@ -66,7 +66,7 @@ event_of d = event_at d.stage d
 -- a request was asked: its check is driven
 abbrev pub asked : Told → Driver → Driver
 asked (told.Check n) d = record d
-    { stage = stage.Stepping; at = record { check = n; conn = d.number } }
+    { stage = stage.Stepping; at = record { check = n; conn = d.number; more = check_turns } }
 asked answer d = at_stage stage.Over d
 
 -- what a step said
@@ -77,14 +77,14 @@ said_by answer = said.Done
 
 -- a check went on: acts are due after each step
 abbrev pub stepped : Told → Driver → Driver
-stepped answer d = record d { stage = stage.Acting; said = said_by answer }
+stepped answer d = acting (record d { said = said_by answer })
 
 -- an act was made: a start is answered at once, and a question that was sent is noted
 abbrev pub act_made : Told → Driver → Driver
 act_made (told.Start epoch class) d = at_stage (stage.Starting epoch class) d
-act_made (told.Send proc question channel key) d = record d
-    { sent = d.sent ++ (record { proc = proc; channel = channel; ok = is_even_key key }) ∷ [] }
-act_made answer d = d
+act_made (told.Send proc question channel key) d = acting (record d
+    { sent = d.sent ++ (record { proc = proc; channel = channel; ok = is_even_key key }) ∷ [] })
+act_made answer d = acting d
 
 -- the first question that was sent is answered
 abbrev pub replied : Driver → Driver
@@ -96,7 +96,7 @@ answered_at stage.Opening answer d = at_stage stage.Asking d
 answered_at stage.Asking answer d = asked answer d
 answered_at stage.Stepping answer d = stepped answer d
 answered_at stage.Acting answer d = act_made answer d
-answered_at (stage.Starting epoch class) answer d = at_stage stage.Acting d
+answered_at (stage.Starting epoch class) answer d = acting d
 answered_at stage.Replying answer d = replied d
 answered_at stage.Taking answer d = at_stage stage.Closing d
 answered_at stage.Closing answer d = onward d
@@ -104,3 +104,7 @@ answered_at stage.Over answer d = d
 
 abbrev pub answered : Told → Driver → Driver
 answered answer d = answered_at d.stage answer d
+
+-- what a refusal makes of it: it goes on as after an event that says nothing
+abbrev pub passed : Driver → Driver
+passed d = answered told.Fine d

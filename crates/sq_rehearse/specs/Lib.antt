@@ -5,4 +5,3 @@ pub mod Driving
 pub mod Summaries
 pub mod Rehearsals
 pub mod Turns
-pub mod Asking

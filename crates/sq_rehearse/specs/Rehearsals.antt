@@ -14,7 +14,7 @@ use Rattle.sq_machine.specs.Readings.{latest}
 use Rattle.sq_replay.specs.RunText.{first_history}
 use Rattle.sq_rehearse.specs.declared.drivers.Driver.{Driver}
 use Rattle.sq_rehearse.specs.declared.summaries.Summary.{Summary}
-use Rattle.sq_rehearse.specs.Driving.{answered, event_of, first_driver, is_acting, moment_of}
+use Rattle.sq_rehearse.specs.Driving.{answered, event_of, first_driver, is_acting, moment_of, passed}
 use Rattle.sq_rehearse.specs.Going.{acted}
 use Rattle.sq_rehearse.specs.Summaries.{counted}
 
@@ -41,11 +41,11 @@ answer_to configs h now (Ask conn method target fields) =
 answer_to configs h now event = next configs (marked configs h) (max now (latest h)) event
 
 -- the history goes on with an event's entry, and the driver by the answer; an event that is refused
--- ends the rehearsal
+-- is left out
 abbrev pub made_on : (Driver → History → History) → Driver → History → Event → Next → History
 made_on go d h event (gives told) = go (answered told d)
     (entry_at (max (moment_of d) (latest h)) event told ∷ h)
-made_on go d h event n = h
+made_on go d h event n = go (passed d) h
 
 -- the history goes on with the act that is due; where none is, the driver goes on
 abbrev pub acted_on : (Driver → History → History) → Driver → History → Next → History
@@ -67,7 +67,7 @@ drive configs (suc k) d h =
     (next configs (marked configs h) (max (moment_of d) (latest h)) Act)
     else turned (drive configs k) configs d h (event_of d)
 
--- so many turns a rehearsal has at most: more than twice as many as its requests take
+-- so many turns a rehearsal has at most: more than its requests can take
 abbrev pub turn_limit : ℕ → ℕ
 turn_limit count = 32 * count + 32
 

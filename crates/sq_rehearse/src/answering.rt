@@ -1,8 +1,8 @@
 //! What the machine's answers make of a driver.
 ghost use Rattle.std.specs.Prelude.{◌≡◌, OnOk};
-ghost use Rattle.sq_rehearse.specs.Driving.{act_made, answered, asked, replied, stepped};
+ghost use Rattle.sq_rehearse.specs.Driving.{act_made, answered, asked, passed, replied, stepped};
 
-use crate::drivers::Driver;
+use crate::drivers::{CHECK_TURNS, Driver};
 use crate::requests::is_even_key;
 use crate::stages::{DriverStage, Pending, SentQuestion, StepKind};
 use sq_base::{ConnNo, WantOfMemory};
@@ -18,6 +18,7 @@ impl Driver {
                 self.at = Pending {
                     check,
                     conn: ConnNo(self.number as u64),
+                    more: CHECK_TURNS,
                 };
                 self.stage = DriverStage::Stepping;
             }
@@ -26,15 +27,15 @@ impl Driver {
     }
 
     // A check went on.
-    fn stepped(&mut self, told: Told)
-        ensures { self.new ≡ stepped told self.old }
+    fn stepped(&mut self, told: Told) -> Result<(), WantOfMemory>
+        ensures { OnOk result (self.new ≡ stepped told self.old) }
     {
         self.said = match told {
             Told::Took(_) => StepKind::Took,
             Told::Waits(_) => StepKind::Waits,
             _ => StepKind::Done,
         };
-        self.stage = DriverStage::Acting;
+        self.go_acting()
     }
 
     // An act was made.
@@ -51,12 +52,15 @@ impl Driver {
                 question: _,
                 channel,
                 key,
-            } => self.sent.push(SentQuestion {
-                proc,
-                channel,
-                ok: is_even_key(key.as_bytes()),
-            }),
-            _ => Ok(()),
+            } => {
+                self.sent.push(SentQuestion {
+                    proc,
+                    channel,
+                    ok: is_even_key(key.as_bytes()),
+                })?;
+                self.go_acting()
+            }
+            _ => self.go_acting(),
         }
     }
 
@@ -75,14 +79,20 @@ impl Driver {
         match &self.stage {
             DriverStage::Opening => self.stage = DriverStage::Asking,
             DriverStage::Asking => self.asked(told),
-            DriverStage::Stepping => self.stepped(told),
+            DriverStage::Stepping => return self.stepped(told),
             DriverStage::Acting => return self.act_made(told),
-            DriverStage::Starting { epoch: _, class: _ } => self.stage = DriverStage::Acting,
+            DriverStage::Starting { epoch: _, class: _ } => return self.go_acting(),
             DriverStage::Replying => self.replied(),
             DriverStage::Taking => self.stage = DriverStage::Closing,
             DriverStage::Closing => self.onward(),
             DriverStage::Over => {}
         }
         Ok(())
+    }
+    /// The event that it wanted was refused.
+    pub fn passed(&mut self) -> Result<(), WantOfMemory>
+        ensures { OnOk result (self.new ≡ passed self.old) }
+    {
+        self.answered(Told::Fine)
     }
 }

@@ -10,6 +10,9 @@ use sq_base::{CheckNo, ConnNo, Copying, Fields, Moment, Text, WantOfMemory};
 use sq_machine::Event;
 use std::alloc::Global;
 
+/// So many turns a check has: its steps and the acts behind them take one each.
+pub const CHECK_TURNS: u8 = 12;
+
 /// From which port clients come.
 const CLIENT_PORT: u16 = 4000;
 
@@ -51,6 +54,7 @@ impl Driver {
             at: Pending {
                 check: CheckNo(0),
                 conn: ConnNo(0),
+                more: 0,
             },
             said: StepKind::Done,
             in_round: false,

@@ -1,6 +1,6 @@
 //! How a driver goes from check to check, and from round to round.
 ghost use Rattle.std.specs.Prelude.{◌≡◌, OnOk};
-ghost use Rattle.sq_rehearse.specs.Going.{acted, after_request, checks_begun, next_in_round, onward, put_back, round_begun};
+ghost use Rattle.sq_rehearse.specs.Going.{acted, acting, after_request, checks_begun, left_open, next_in_round, onward, put_back, round_begun};
 
 use crate::drivers::Driver;
 use crate::stages::{DriverStage, StepKind};
@@ -54,11 +54,11 @@ impl Driver {
         }
     }
 
-    // Behind every fourth request and the last rounds begin.
+    // Behind every fourth request, when four checks are open, and behind the last rounds begin.
     fn after_request(&mut self)
         ensures { self.new ≡ after_request self.old }
     {
-        if self.number % 4 == 0 || self.number == self.last {
+        if self.others.len() >= 4 || self.number == self.last {
             self.in_round = true;
             self.begin_round();
         } else {
@@ -86,23 +86,49 @@ impl Driver {
         Ok(())
     }
 
+    // The check that was driven has no outcome. Where it has no turn left, it is closed.
+    fn leave_open(&mut self) -> Result<(), WantOfMemory>
+        ensures { OnOk result (self.new ≡ left_open self.old) }
+    {
+        if self.at.more > 0 {
+            return self.put_back();
+        }
+        self.stage = DriverStage::Closing;
+        Ok(())
+    }
+
     /// No act is due any more after the step of the check that is driven.
     pub fn acted(&mut self) -> Result<(), WantOfMemory>
         ensures { OnOk result (self.new ≡ acted self.old) }
     {
         match self.said {
             StepKind::Took => {
-                self.stage = DriverStage::Stepping;
+                self.stage = if self.at.more == 0 {
+                    DriverStage::Closing
+                } else {
+                    DriverStage::Stepping
+                };
                 Ok(())
             }
-            StepKind::Waits => self.put_back(),
+            StepKind::Waits => self.leave_open(),
             StepKind::Done => {
-                if !self.in_round {
+                if !self.in_round && self.at.more > 0 {
                     return self.put_back();
                 }
                 self.stage = DriverStage::Taking;
                 Ok(())
             }
         }
+    }
+    /// Acts are made while the check that is driven has turns.
+    pub fn go_acting(&mut self) -> Result<(), WantOfMemory>
+        ensures { OnOk result (self.new ≡ acting self.old) }
+    {
+        if self.at.more == 0 {
+            return self.acted();
+        }
+        self.at.more -= 1;
+        self.stage = DriverStage::Acting;
+        Ok(())
     }
 }

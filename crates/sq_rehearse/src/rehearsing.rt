@@ -1,10 +1,9 @@
 //! The run of a rehearsal.
-ghost use Rattle.std.specs.Prelude.{◌≡◌, ◌+◌, ◌<◌, ◌≤◌, ◌^◌, ℕ, List, Some, suc, false, true, IfOk, OnOk};
+ghost use Rattle.std.specs.Prelude.{◌≡◌, ◌+◌, ◌<◌, ◌≤◌, ◌^◌, List, Some, suc, false, true, IfOk, OnOk};
 ghost use Rattle.sq_rules.specs.Configurations.{Configuration, IsConfiguration};
 ghost use Rattle.sq_machine.specs.Entries.{History};
 ghost use Rattle.sq_replay.specs.MachineViews.{machine_of};
 ghost use Rattle.sq_replay.specs.Runs.{Is};
-ghost use Rattle.sq_rehearse.specs.Asking.{is_whole};
 ghost use Rattle.sq_rehearse.specs.Driving.{event_of, is_acting};
 ghost use Rattle.sq_rehearse.specs.Rehearsals.{configuration_text, drive, rehearsal, turn_limit};
 ghost use Rattle.sq_rehearse.specs.Summaries.{counted, total};
@@ -61,33 +60,30 @@ fn make_act(
     }
 }
 
-// Makes the event that the driver wants, at its moment. False where the machine refuses it.
+// Makes the event that the driver wants, at its moment. One that the machine refuses is left out.
 fn make_event(
     alloc: Global,
     event: &Event,
     machine: &mut ScriptMachine,
     driver: &mut Driver,
     summary: &mut Summary,
-) -> Result<bool, WantOfMemory>
+) -> Result<(), WantOfMemory>
     requires wanted { event_of driver.old ≡ Some event.now }
     requires acting { is_acting driver.old.stage ≡ false }
     requires few { total summary.old < 2 ^ 63 }
-    ensures turns { IfOk result
-        (λ more. (configs : List Configuration) (h : History)
-        → Is (machine_of machine.old) configs h → summary.old ≡ counted h
-        → Turned configs h driver.old (machine_of machine.new) summary.new driver.new more) }
+    ensures turns { OnOk result
+        ((configs : List Configuration) (h : History) → Is (machine_of machine.old) configs h
+        → summary.old ≡ counted h
+        → TurnsTo configs h driver.old (machine_of machine.new) summary.new driver.new) }
     ensures few { OnOk result (total summary.new ≤ suc (total summary.old)) }
 {
     let told = match machine.make(alloc, event, driver.moment()) {
         Ok(told) => told,
-        Err(Stop::Refused) => return Ok(false),
+        Err(Stop::Refused) => return driver.passed(),
         Err(Stop::WantOfMemory) => return Err(WantOfMemory),
     };
     summary.count(&told);
-    match driver.answered(told) {
-        Ok(()) => Ok(true),
-        Err(WantOfMemory) => Err(WantOfMemory),
-    }
+    driver.answered(told)
 }
 
 // One turn of the driver. False where it was the last.
@@ -111,7 +107,10 @@ fn turn(
         };
     }
     match driver.event(alloc) {
-        Ok(Some(event)) => make_event(alloc, &event, machine, driver, summary),
+        Ok(Some(event)) => match make_event(alloc, &event, machine, driver, summary) {
+            Ok(()) => Ok(true),
+            Err(WantOfMemory) => Err(WantOfMemory),
+        },
         Ok(None) => Ok(false),
         Err(WantOfMemory) => Err(WantOfMemory),
     }
@@ -163,12 +162,11 @@ fn count_up(alloc: Global, setup: Setup, count: u32) -> Result<Summary, WantOfMe
 }
 
 /// Rehearses so many requests on the machine over a configuration, and counts what came of them. The history is not kept.
-/// It asks no more requests than these, and all of them where the rehearsal is whole.
+/// It asks as many requests as these.
 pub fn rehearse(alloc: Global, setup: Setup, count: u32) -> Result<Summary, WantOfMemory>
     requires { IsConfiguration setup }
     ensures counts { IfOk result (λ summary. summary ≡ rehearsal setup count) }
-    ensures asks { IfOk result
-        (λ summary. (summary.asks ≤ count) × (is_whole setup count ≡ true → summary.asks ≡ count)) }
+    ensures asks { IfOk result (λ summary. summary.asks ≡ count) }
 {
     let summary = count_up(alloc, setup, count)?;
     Ok(summary)

@@ -35,11 +35,12 @@ pub enum StepKind {
     Done,
 }
 
-/// An open check, and its connection.
+/// An open check, its connection, and how many turns it has left.
 #[derive(Clone, Copy, Drop)]
 pub struct Pending {
     pub check: CheckNo,
     pub conn: ConnNo,
+    pub more: u8,
 }
 
 /// A question that was sent and has no answer: to which process, on which channel, and whether it is answered OK.

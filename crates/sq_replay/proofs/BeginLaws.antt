@@ -23,7 +23,7 @@ use Rattle.sq_replay.specs.Ends.{Done, End, Faulted, Lacking, Reading, Refused, 
 use Rattle.sq_replay.specs.Entering.{first_kind}
 use Rattle.sq_replay.specs.Headline.{IsAhead}
 use Rattle.sq_replay.specs.RunText.{ScriptRun, Shelf, begun_history, configs_of, event_step, first_history, named_from, named_in, run_first, run_from, run_lines, run_on, run_script, run_stated, stated, stopped}
-use Rattle.sq_replay.specs.Runs.{Adds, AddsCount, At, BeginsAs, FirstRuns, Goes, HasNext, ScriptView, Reaches, ReachesAs, RunsOver, ScriptRuns, Stops, Tells, Wrote, WroteFront, missed, openings_of, whole_line}
+use Rattle.sq_replay.specs.Runs.{Adds, AddsCount, At, BeginsAs, FirstRuns, Goes, HasNext, Reaches, ReachesAs, RunsOver, ScriptRuns, ScriptView, Stops, Tells, Wrote, WroteFront, missed, openings_of, paged, told_files, whole_line}
 use Rattle.sq_replay.proofs.GrowthLaws.{event_grows, run_grows}
 use Rattle.sq_replay.proofs.LoopLaws.{ahead_next, front_more, part_more, stop_reaches}
 use Rattle.sq_replay.proofs.OpeningLaws.{count_adds, tells_after, tells_before}
@@ -82,7 +82,7 @@ from_stops files base contents page configs place now ls event end stops =
 pub none_script : (texts : Texts) (old new : Openings) (left after base contents : Option (List ℕ)) (page line : List ℕ)
     (config : Configuration) (end : RunEnd) → Finds 0 left after line found.End
     → ((files : Shelf) → Reaches base contents page (run_script files config []) end)
-    → ScriptRuns texts old new left base contents page config end
+    → ScriptRuns (told_files texts old new) left (paged base contents page) config end
 none_script texts old new None after base contents page line config end f r = tt
 none_script texts old new (Some bytes) after base contents page line config end f r =
     λ files tells. subst (λ (b : List ℕ). Reaches base contents page (run_script files config (lines b)) end) (sym f.0)
@@ -91,7 +91,8 @@ none_script texts old new (Some bytes) after base contents page line config end 
 -- one whose first line cannot be read
 pub faulty_script : (texts : Texts) (old new : Openings) (left after base contents : Option (List ℕ))
     (page line : List ℕ) (config : Configuration) → Finds 0 left after line found.Faulty
-    → Wrote base contents page [] → ScriptRuns texts old new left base contents page config (ends.Script 1)
+    → Wrote base contents page [] → ScriptRuns (told_files texts old new) left (paged base contents page) config
+    (ends.Script 1)
 faulty_script texts old new None after base contents page line config f w = tt
 faulty_script texts old new (Some bytes) after base contents page line config f w = λ files tells.
     let is : run_script files config (lines bytes) ≡ stopped (ends.Script 1) =
@@ -107,7 +108,7 @@ none_front base contents page text w = record { front = []; begins = IsPrefix_ni
 -- memory ran out before the first line
 pub lacking_script : (texts : Texts) (old new : Openings) (left base contents : Option (List ℕ)) (page : List ℕ)
     (config : Configuration) → Wrote base contents page []
-    → ScriptRuns texts old new left base contents page config ends.WantOfMemory
+    → ScriptRuns (told_files texts old new) left (paged base contents page) config ends.WantOfMemory
 lacking_script texts old new None base contents page config w = tt
 lacking_script texts old new (Some bytes) base contents page config w =
     λ files tells. none_front base contents page (written (run_script files config (lines bytes)).history) w
@@ -115,7 +116,7 @@ lacking_script texts old new (Some bytes) base contents page config w =
 -- it could not be read
 pub unread_script : (texts : Texts) (old new : Openings) (left base contents : Option (List ℕ)) (page : List ℕ)
     (config : Configuration) → Wrote base contents page []
-    → ScriptRuns texts old new left base contents page config ends.ReadFault
+    → ScriptRuns (told_files texts old new) left (paged base contents page) config ends.ReadFault
 unread_script texts old new None base contents page config w = tt
 unread_script texts old new (Some bytes) base contents page config w = λ files tells.
     record {
@@ -143,16 +144,16 @@ stated_script files config bytes after line place f moved =
 pub stated_first : (texts : Texts) (old new : Openings) (left after base contents : Option (List ℕ))
     (page line same : List ℕ) (config : Configuration) (place : ℕ) (end : RunEnd) → Finds 0 left after line found.Whole
     → same ≡ line → place ≡ length line + 1
-    → FirstRuns texts old new after base contents page config (whole_line same)
+    → FirstRuns (told_files texts old new) after (paged base contents page) config (whole_line same)
     (λ files configs bytes. run_stated files configs place (lines bytes) (stated same)) end
-    → ScriptRuns texts old new left base contents page config end
+    → ScriptRuns (told_files texts old new) left (paged base contents page) config end
 stated_first texts old new None after base contents page line same config place end f e moved r = tt
 stated_first texts old new (Some bytes) after base contents page line same config place end f e moved r = λ files tells.
-    let go : FirstRuns texts old new (Some f.rest) base contents page config (whole_line line)
+    let go : FirstRuns (told_files texts old new) (Some f.rest) (paged base contents page) config (whole_line line)
     (λ files configs bytes. run_stated files configs place (lines bytes) (stated line)) end =
-    subst (λ (o : Option (List ℕ)). FirstRuns texts old new o base contents page config (whole_line line)
-    (λ files configs bytes. run_stated files configs place (lines bytes) (stated line)) end) f.left
-    (subst (λ (l : List ℕ). FirstRuns texts old new after base contents page config (whole_line l)
+    subst (λ (o : Option (List ℕ)). FirstRuns (told_files texts old new) o (paged base contents page) config
+    (whole_line line) (λ files configs bytes. run_stated files configs place (lines bytes) (stated line)) end) f.left
+    (subst (λ (l : List ℕ). FirstRuns (told_files texts old new) after (paged base contents page) config (whole_line l)
     (λ files configs bytes. run_stated files configs place (lines bytes) (stated l)) end) e r) in
     subst (λ (x : ScriptRun). Reaches base contents page x end)
     (sym (stated_script files config bytes after line place f moved)) (go files tells)
@@ -163,8 +164,8 @@ stated_first texts old new (Some bytes) after base contents page line same confi
 pub first_same : (texts : Texts) (old new : Openings) (left base contents : Option (List ℕ)) (page : List ℕ)
     (config : Configuration) (l : SourceLine) (f g : Shelf → List Configuration → List ℕ → ScriptRun) (end : RunEnd)
     → ((files : Shelf) (configs : List Configuration) (bytes : List ℕ) → f files configs bytes ≡ g files configs bytes)
-    → FirstRuns texts old new left base contents page config l f end
-    → FirstRuns texts old new left base contents page config l g end
+    → FirstRuns (told_files texts old new) left (paged base contents page) config l f end
+    → FirstRuns (told_files texts old new) left (paged base contents page) config l g end
 first_same texts old new None base contents page config l f g end same r = tt
 first_same texts old new (Some bytes) base contents page config l f g end same r = λ files tells.
     subst (λ (x : ScriptRun). Reaches base contents page x end)
@@ -175,7 +176,7 @@ pub stopped_first : (texts : Texts) (old new : Openings) (left base contents : O
     (config : Configuration) (l : SourceLine) (run : Shelf → List Configuration → List ℕ → ScriptRun)
     → ((files : Shelf) (configs : List Configuration) (bytes : List ℕ)
     → run files configs bytes ≡ stopped (ends.Script 1)) → Wrote base contents page []
-    → FirstRuns texts old new left base contents page config l run (ends.Script 1)
+    → FirstRuns (told_files texts old new) left (paged base contents page) config l run (ends.Script 1)
 stopped_first texts old new None base contents page config l run is w = tt
 stopped_first texts old new (Some bytes) base contents page config l run is w = λ files tells.
     subst (λ (x : ScriptRun). Reaches base contents page x (ends.Script 1))
@@ -184,7 +185,8 @@ stopped_first texts old new (Some bytes) base contents page config l run is w = 
 -- memory ran out before
 pub lacking_first : (texts : Texts) (old new : Openings) (left base contents : Option (List ℕ)) (page : List ℕ)
     (config : Configuration) (l : SourceLine) (run : Shelf → List Configuration → List ℕ → ScriptRun)
-    → Wrote base contents page [] → FirstRuns texts old new left base contents page config l run ends.WantOfMemory
+    → Wrote base contents page [] → FirstRuns (told_files texts old new) left (paged base contents page) config l run
+    ends.WantOfMemory
 lacking_first texts old new None base contents page config l run w = tt
 lacking_first texts old new (Some bytes) base contents page config l run w = λ files tells.
     none_front base contents page (written (run files (configs_of files config (l ∷ lines bytes)) bytes).history) w
@@ -201,7 +203,8 @@ pub begins_first : (texts : Texts) (old new : Openings) (left base contents : Op
     → ((files : Shelf) (configs : List Configuration) (bytes : List ℕ)
     → IsPrefix (written (begun_history configs now offset)) (written (run files configs bytes).history))
     → BeginsOver config (λ configs. BeginsAs (end_of end) base contents page
-    (written (begun_history configs now offset))) → FirstRuns texts old new left base contents page config l run end
+    (written (begun_history configs now offset))) → FirstRuns (told_files texts old new) left (paged base contents page)
+    config l run end
 begins_first texts old new None base contents page config l run now offset end good p b = tt
 begins_first texts old new (Some bytes) base contents page config l run now offset end good p b = λ files tells.
     let configs = configs_of files config (l ∷ lines bytes) in
@@ -220,10 +223,11 @@ begun_tells texts old new files missing configs now offset t =
 pub begun_first : (texts : Texts) (old new : Openings) (left base contents : Option (List ℕ)) (page : List ℕ)
     (config : Configuration) (l : SourceLine) (place now : ℕ) (offset : ℤ) (end : RunEnd)
     → IsConfiguration config → stated l.bytes ≡ Some (now, Begin offset)
-    → BeginsOver config (λ configs. RunsOver texts old new left base contents page configs
-    (begun_history configs now offset)
-    (λ files bytes. run_lines files configs (begun_history configs now offset) 2 place (lines bytes)) end)
-    → FirstRuns texts old new left base contents page config l
+    → BeginsOver
+    config (λ configs. RunsOver (told_files texts old new) left (paged base contents page) configs
+    (begun_history configs now offset) (λ files bytes. run_lines files configs (begun_history configs now offset) 2
+    place (lines bytes)) end)
+    → FirstRuns (told_files texts old new) left (paged base contents page) config l
     (λ files configs bytes. run_lines files configs (begun_history configs now offset) 2 place (lines bytes)) end
 begun_first texts old new None base contents page config l place now offset end good states r = tt
 begun_first texts old new (Some bytes) base contents page config l place now offset end good states r = λ files tells.
@@ -243,7 +247,7 @@ pub from_first_stops : (texts : Texts) (old new : Openings) (left base contents 
     → HasNext files configs (begun_history configs now (pos 0)) event
     → Stops base contents page (begun_history configs now (pos 0))
     (event_step files configs (begun_history configs now (pos 0)) 1 now event) end)
-    → FirstRuns texts old new left base contents page config l
+    → FirstRuns (told_files texts old new) left (paged base contents page) config l
     (λ files configs bytes. run_from files configs place (lines bytes) now event) end
 from_first_stops texts old new None base contents page config l place now event end good states stops = tt
 from_first_stops texts old new (Some bytes) base contents page config l place now event end good states stops =
@@ -268,9 +272,9 @@ pub from_first_goes : (w : ScriptView) (texts : Texts) (old mid new : Openings)
     → Goes w base before old_page configs (begun_history configs now (pos 0))
     (event_step files configs (begun_history configs now (pos 0)) 1 now event) (Ok tt))
     → ((configs : List Configuration) (t : History) → At w base before old_page configs t
-    → RunsOver texts mid new left base contents page configs t
+    → RunsOver (told_files texts mid new) left (paged base contents page) configs t
     (λ files bytes. run_lines files configs t 2 place (lines bytes)) end)
-    → FirstRuns texts old new left base contents page config l
+    → FirstRuns (told_files texts old new) left (paged base contents page) config l
     (λ files configs bytes. run_from files configs place (lines bytes) now event) end
 from_first_goes w texts old mid new None base before contents old_page page config l place now event end good states
     counts adds goes rest = tt
@@ -326,9 +330,9 @@ first_is files configs place now ls (Leave s) = refl
 pub by_kind : (texts : Texts) (old new : Openings) (left base contents : Option (List ℕ)) (page : List ℕ)
     (config : Configuration) (l : SourceLine) (place now : ℕ) (event : Event) (kind : FirstEvent) (end : RunEnd)
     → kind ≡ first_kind event
-    → FirstRuns texts old new left base contents page config l
+    → FirstRuns (told_files texts old new) left (paged base contents page) config l
     (λ files configs bytes. run_by kind files configs place (lines bytes) now event) end
-    → FirstRuns texts old new left base contents page config l
+    → FirstRuns (told_files texts old new) left (paged base contents page) config l
     (λ files configs bytes. run_first files configs place (lines bytes) now event) end
 by_kind texts old new left base contents page config l place now event kind end e r =
     first_same texts old new left base contents page config l _ _ end

@@ -17,7 +17,7 @@ use Rattle.sq_replay.specs.declared.ends.RunEnd.TheVariants as ends
 use Rattle.sq_replay.specs.Ends.{Done, End, Faulted, Lacking, Reading, Refused, Writing, end_of}
 use Rattle.sq_replay.specs.Headline.{IsAhead}
 use Rattle.sq_replay.specs.RunText.{ScriptRun, Shelf, run_lines, run_on, stated, stated_step}
-use Rattle.sq_replay.specs.Runs.{Adds, AddsCount, At, EndsLine, GoesOn, Going, HasNext, LineGoes, ScriptView, Reaches, ReachesAs, RunsOver, Stops, StopsAs, Tells, WhereTold, WroteFront, WrotePart, missed, openings_in, openings_of, step_text}
+use Rattle.sq_replay.specs.Runs.{Adds, AddsCount, At, EndsLine, GoesOn, Going, HasNext, LineGoes, Reaches, ReachesAs, RunsOver, ScriptView, Stops, StopsAs, Tells, WhereTold, WroteFront, WrotePart, missed, openings_in, openings_of, paged, run_at, spot, step_text, told_files}
 use Rattle.sq_replay.proofs.GrowthLaws.{going_grows, run_grows, step_grows}
 use Rattle.sq_replay.proofs.OpeningLaws.{adds_none, count_adds, count_none, count_then, tells_after, tells_before}
 use Rattle.sq_replay.proofs.RunLaws.{stated_made}
@@ -77,19 +77,21 @@ written_lines (e ∷ h) = lines_last (written h) (entry_text e)
 -- the loop
 
 -- what was written so far begins the text of the run
-goes_begins : (v : ScriptView) (files : Shelf) (old new : Openings) (left base contents : Option (List ℕ))
+goes_begins : (v : ScriptView) (texts : Texts) (files : Shelf) (old new : Openings)
+    (left base contents : Option (List ℕ))
     (page : List ℕ) (configs : List Configuration) (run : ScriptRun) (e number place : ℕ)
-    → (g : GoesOn v files old new left base contents page configs run e number place)
+    → (g : GoesOn (run_at v (paged base contents page)) (told_files texts old new) files left configs run e
+    (spot number place))
     → IsPrefix (written g.history) (written run.history)
-goes_begins v files old new left base contents page configs run e number place g =
+goes_begins v texts files old new left base contents page configs run e number place g =
     subst (λ (x : ScriptRun). IsPrefix (written g.history) (written x.history)) g.same
     (run_grows files configs g.history number place (lines g.bytes))
 
 -- before the loop
 pub going_first : (v : ScriptView) (texts : Texts) (opened : Openings) (left base contents : Option (List ℕ))
     (page : List ℕ) (configs : List Configuration) (h : History) (number place : ℕ) → At v base contents page configs h
-    → Going v texts opened opened left left base contents page configs h
-    (λ files bytes. run_lines files configs h number place (lines bytes)) number place
+    → Going (run_at v (paged base contents page)) (told_files texts opened opened) left left configs h
+    (λ files bytes. run_lines files configs h number place (lines bytes)) (spot number place)
 going_first v texts opened None base contents page configs h number place at = tt
 going_first v texts opened (Some bytes) base contents page configs h number place at = λ files tells ahead. record {
   history = h;
@@ -107,16 +109,20 @@ going_first v texts opened (Some bytes) base contents page configs h number plac
 pub going_end : (v : ScriptView) (texts : Texts) (old new : Openings) (first left after base contents : Option (List ℕ))
     (page line : List ℕ) (configs : List Configuration) (h : History) (run : Shelf → List ℕ → ScriptRun)
     (number place : ℕ)
-    → Adds old new → Going v texts old new first left base contents page configs h run number place
-    → Finds place left after line found.End → RunsOver texts old new first base contents page configs h run ends.Ok
+    → Adds old new → Going (run_at v (paged base contents page)) (told_files texts old new) first left configs h run
+    (spot number place)
+    → Finds place left after line found.End → RunsOver (told_files texts old new) first (paged base contents page)
+    configs h run ends.Ok
 going_end v texts old new first left after base contents page line configs h run number place adds going f =
     told_map texts old new new None first configs h
-    (λ files bytes. GoesOn v files old new left base contents page configs (run files bytes) (current h) number place)
+    (λ files bytes. GoesOn (run_at v (paged base contents page)) (told_files texts old new) files left configs
+    (run files bytes) (current h) (spot number place))
     (λ files bytes. Reaches base contents page (run files bytes) ends.Ok) adds (adds_none new new refl)
     (λ files bytes g. by files bytes g) going
   where
     by : (files : Shelf) (bytes : List ℕ)
-        → GoesOn v files old new left base contents page configs (run files bytes) (current h) number place
+        → GoesOn (run_at v (paged base contents page)) (told_files texts old new) files left configs (run files bytes)
+        (current h) (spot number place)
         → Reaches base contents page (run files bytes) ends.Ok
     by files bytes g =
         let none = (subst (λ l. Finds place l after line found.End) g.left_is f).0 in
@@ -128,17 +134,20 @@ going_end v texts old new first left after base contents page line configs h run
 pub going_faulty : (v : ScriptView) (texts : Texts) (old new : Openings)
     (first left after base contents : Option (List ℕ)) (page line : List ℕ) (configs : List Configuration) (h : History)
     (run : Shelf → List ℕ → ScriptRun) (number place : ℕ)
-    → Adds old new → Going v texts old new first left base contents page configs h run number place
+    → Adds old new → Going (run_at v (paged base contents page)) (told_files texts old new) first left configs h run
+    (spot number place)
     → Finds place left after line found.Faulty
-    → RunsOver texts old new first base contents page configs h run (ends.Script number)
+    → RunsOver (told_files texts old new) first (paged base contents page) configs h run (ends.Script number)
 going_faulty v texts old new first left after base contents page line configs h run number place adds going f =
     told_map texts old new new None first configs h
-    (λ files bytes. GoesOn v files old new left base contents page configs (run files bytes) (current h) number place)
+    (λ files bytes. GoesOn (run_at v (paged base contents page)) (told_files texts old new) files left configs
+    (run files bytes) (current h) (spot number place))
     (λ files bytes. Reaches base contents page (run files bytes) (ends.Script number)) adds (adds_none new new refl)
     (λ files bytes g. by files bytes g) going
   where
     by : (files : Shelf) (bytes : List ℕ)
-        → GoesOn v files old new left base contents page configs (run files bytes) (current h) number place
+        → GoesOn (run_at v (paged base contents page)) (told_files texts old new) files left configs (run files bytes)
+        (current h) (spot number place)
         → Reaches base contents page (run files bytes) (ends.Script number)
     by files bytes g =
         let x = subst (λ l. Finds place l after line found.Faulty) g.left_is f in
@@ -153,30 +162,36 @@ going_faulty v texts old new first left after base contents page line configs h 
 -- memory ran out before the next line
 pub going_lacking : (v : ScriptView) (texts : Texts) (old new : Openings) (first left base contents : Option (List ℕ))
     (page : List ℕ) (configs : List Configuration) (h : History) (run : Shelf → List ℕ → ScriptRun) (number place : ℕ)
-    → Adds old new → Going v texts old new first left base contents page configs h run number place
-    → RunsOver texts old new first base contents page configs h run ends.WantOfMemory
+    → Adds old new → Going (run_at v (paged base contents page)) (told_files texts old new) first left configs h run
+    (spot number place)
+    → RunsOver (told_files texts old new) first (paged base contents page) configs h run ends.WantOfMemory
 going_lacking v texts old new first left base contents page configs h run number place adds going =
     told_map texts old new new None first configs h
-    (λ files bytes. GoesOn v files old new left base contents page configs (run files bytes) (current h) number place)
+    (λ files bytes. GoesOn (run_at v (paged base contents page)) (told_files texts old new) files left configs
+    (run files bytes) (current h) (spot number place))
     (λ files bytes. Reaches base contents page (run files bytes) ends.WantOfMemory) adds (adds_none new new refl)
     (λ files bytes g. record {
       front = written g.history;
-      begins = goes_begins v files old new left base contents page configs (run files bytes) (current h) number place g;
+      begins = goes_begins v texts files old new left base contents page configs (run files bytes) (current h) number
+          place g;
       wrote = g.at.wrote;
     }) going
 
 -- a fault of reading came before it
 pub going_unread : (v : ScriptView) (texts : Texts) (old new : Openings) (first left base contents : Option (List ℕ))
     (page : List ℕ) (configs : List Configuration) (h : History) (run : Shelf → List ℕ → ScriptRun) (number place : ℕ)
-    → Adds old new → Going v texts old new first left base contents page configs h run number place
-    → RunsOver texts old new first base contents page configs h run ends.ReadFault
+    → Adds old new → Going (run_at v (paged base contents page)) (told_files texts old new) first left configs h run
+    (spot number place)
+    → RunsOver (told_files texts old new) first (paged base contents page) configs h run ends.ReadFault
 going_unread v texts old new first left base contents page configs h run number place adds going =
     told_map texts old new new None first configs h
-    (λ files bytes. GoesOn v files old new left base contents page configs (run files bytes) (current h) number place)
+    (λ files bytes. GoesOn (run_at v (paged base contents page)) (told_files texts old new) files left configs
+    (run files bytes) (current h) (spot number place))
     (λ files bytes. Reaches base contents page (run files bytes) ends.ReadFault) adds (adds_none new new refl)
     (λ files bytes g. record {
       front = written g.history;
-      begins = goes_begins v files old new left base contents page configs (run files bytes) (current h) number place g;
+      begins = goes_begins v texts files old new left base contents page configs (run files bytes) (current h) number
+          place g;
       lines = written_lines g.history;
       wrote = g.at.wrote;
     }) going
@@ -244,11 +259,14 @@ pub going_next : (v w : ScriptView) (texts : Texts) (old mid new : Openings)
     (first left after base before contents : Option (List ℕ)) (old_page page line : List ℕ)
     (configs : List Configuration) (h : History)
     (run : Shelf → List ℕ → ScriptRun) (number place after_place : ℕ) → Adds old mid
-    → Going v texts old mid first left base before old_page configs h run number place
+    → Going (run_at v (paged base before old_page)) (told_files texts old mid) first left configs h run
+    (spot number place)
     → Finds place left after line found.Whole
     → after_place ≡ place + length line + 1 → AddsCount mid new (openings_in (stated line))
-    → LineGoes v w texts mid new base before contents old_page page configs number line (Ok tt)
-    → Going w texts old new first after base contents page configs h run (number + 1) after_place
+    → LineGoes (run_at v (paged base before old_page)) (run_at w (paged base contents page)) (told_files texts mid new)
+    configs number line (Ok tt)
+    → Going (run_at w (paged base contents page)) (told_files texts old new) first after configs h run
+    (spot (number + 1) after_place)
 going_next v w texts old mid new None left after base before contents old_page page line configs h run number place
     after_place adds going f moved counts step = tt
 going_next v w texts old mid new (Some whole) left after base before contents old_page page line configs h run number
@@ -257,8 +275,10 @@ going_next v w texts old mid new (Some whole) left after base before contents ol
     (going files (tells_before texts old mid new files (current h) None adds (count_adds mid new _ counts) tells) ahead)
   where
     by : (files : Shelf) → Tells texts old new files (current h) None
-        → GoesOn v files old mid left base before old_page configs (run files whole) (current h) number place
-        → GoesOn w files old new after base contents page configs (run files whole) (current h) (number + 1) after_place
+        → GoesOn (run_at v (paged base before old_page)) (told_files texts old mid) files left configs (run files whole)
+        (current h) (spot number place)
+        → GoesOn (run_at w (paged base contents page)) (told_files texts old new) files after configs (run files whole)
+        (current h) (spot (number + 1) after_place)
     by files tells g =
         let l : SourceLine = record { bytes = line; ended = true } in
         let x = subst (λ o. Finds place o after line found.Whole) g.left_is f in
@@ -295,10 +315,12 @@ pub going_stop : (v w : ScriptView) (texts : Texts) (old mid new : Openings)
     (first left after base before contents : Option (List ℕ)) (old_page page line : List ℕ)
     (configs : List Configuration) (h : History)
     (run : Shelf → List ℕ → ScriptRun) (number place : ℕ) (end : RunEnd) → Adds old mid → Adds mid new
-    → Going v texts old mid first left base before old_page configs h run number place
+    → Going (run_at v (paged base before old_page)) (told_files texts old mid) first left configs h run
+    (spot number place)
     → Finds place left after line found.Whole
-    → LineGoes v w texts mid new base before contents old_page page configs number line (Err end)
-    → RunsOver texts old new first base contents page configs h run end
+    → LineGoes (run_at v (paged base before old_page)) (run_at w (paged base contents page)) (told_files texts mid new)
+    configs number line (Err end)
+    → RunsOver (told_files texts old new) first (paged base contents page) configs h run end
 going_stop v w texts old mid new None left after base before contents old_page page line configs h run number place end
     adds more going f step = tt
 going_stop v w texts old mid new (Some whole) left after base before contents old_page page line configs h run number
@@ -307,7 +329,8 @@ going_stop v w texts old mid new (Some whole) left after base before contents ol
     (going files (tells_before texts old mid new files (current h) (missed end) adds more tells) ahead)
   where
     by : (files : Shelf) → Tells texts old new files (current h) (missed end)
-        → GoesOn v files old mid left base before old_page configs (run files whole) (current h) number place
+        → GoesOn (run_at v (paged base before old_page)) (told_files texts old mid) files left configs (run files whole)
+        (current h) (spot number place)
         → Reaches base contents page (run files whole) end
     by files tells g =
         let x = subst (λ o. Finds place o after line found.Whole) g.left_is f in

@@ -11,17 +11,18 @@ use Rattle.sq_machine.specs.Entries.{History}
 use Rattle.sq_machine.specs.Readings.{latest}
 use Rattle.sq_model_rows.specs.CheckRows.{Held}
 use Rattle.sq_model_state.specs.Promises.{IsAnswered, StandsFor}
-use Rattle.sq_model_state.specs.States.{State}
+use Rattle.sq_model_state.specs.States.{IsSame, State}
 use Rattle.sq_engine.specs.EngineViews.{EngineView, state_of}
 use Rattle.sq_engine.specs.Promised.{IsPromised}
 use Rattle.sq_replay.specs.Riding.{AreBasins}
 use Rattle.sq_replay.proofs.PairLaws.{is_elsewhere}
 use Rattle.sq_replay.specs.declared.stops.Stop.{Stop}
+use Rattle.sq_replay.specs.declared.stops.Stop.TheVariants as stop
 use Rattle.sq_replay.specs.MachineViews.{MachineView, machine_of}
-use Rattle.sq_replay.specs.Making.{IsMaking, MayStand, stop_for}
-use Rattle.sq_replay.specs.Runs.{ScriptView}
+use Rattle.sq_replay.specs.Making.{IsLeft, IsMaking, MayStand, stop_for}
+use Rattle.sq_replay.specs.Runs.{Is, ScriptView}
 use Rattle.sq_replay.proofs.EngineLaws.{IsPlain, quiet_at, stops_at}
-use Rattle.sq_replay.proofs.MakingLaws.{keeps_riders}
+use Rattle.sq_replay.proofs.MakingLaws.{keeps_riders, same_is}
 
 -- an event of the engine alone is made
 pub quiet_view : (m n : MachineView) (g : EngineView) (now u : ℕ) (event : Event) (answer : Told) → m ≡ n
@@ -45,6 +46,34 @@ stops_view tell m n w t now u event r s same by e plain p =
     subst (λ (z : MachineView). IsMaking (machine_of z) w now event (Err s)) same
     (subst (λ (x : Stop). IsMaking (machine_of m) w now event (Err x)) (sym by)
     (stops_at tell (machine_of m) w t now u event r e plain p))
+
+-- an event that is refused leaves the machine
+
+left_all : (v w : ScriptView) (s : Stop) → ((configs : List Configuration) (h : History) → Is v configs h → Is w configs
+    h)
+    → IsLeft v w (Err s)
+left_all v w stop.Refused stays = stays
+left_all v w stop.WantOfMemory stays = tt
+
+-- which no call was made of
+pub left_here : (m n : MachineView) (s : Stop) → m ≡ n → IsLeft (machine_of n) (machine_of m) (Err s)
+left_here m n s same = subst (λ (z : MachineView). IsLeft (machine_of z) (machine_of m) (Err s)) same
+    (left_all (machine_of m) (machine_of m) s (λ configs h is. is))
+
+-- whose engine's state is the same
+pub left_state : (m n : MachineView) (g : EngineView) (s : Stop) → m ≡ n → IsSame (state_of g) (state_of m.engine)
+    → IsLeft (machine_of n) (machine_of (record m { engine = g })) (Err s)
+left_state m n g s same is = subst
+    (λ (z : MachineView). IsLeft (machine_of z) (machine_of (record m { engine = g })) (Err s)) same
+    (left_all (machine_of m) (machine_of (record m { engine = g })) s
+    (λ configs h stood. same_is (machine_of m) (state_of g) configs h is stood))
+
+-- whose engine is the same
+pub left_engine : (m n : MachineView) (g : EngineView) (s : Stop) → m ≡ n → g ≡ m.engine
+    → IsLeft (machine_of n) (machine_of (record m { engine = g })) (Err s)
+left_engine m n g s same is = subst
+    (λ (x : EngineView). IsLeft (machine_of n) (machine_of (record m { engine = x })) (Err s)) (sym is)
+    (left_here m n s same)
 
 -- the epoch of a check, as it is read
 pub epoch_some : (o : Option Held) (e : ℕ) → Some e ≡ option_map (λ (h : Held). h.asked.epoch) o

@@ -4,7 +4,7 @@ use Rattle.std.specs.declared.option.Option.{Option}
 use Rattle.sq_base.specs.declared.memory.WantOfMemory.{WantOfMemory}
 use Rattle.sq_request.specs.Written.{made_request}
 use Rattle.sq_machine.specs.declared.entries.Event.{Event}
-use Rattle.sq_machine.specs.declared.entries.Event.TheVariants.{Act, Ask, Begin, Reconfigure}
+use Rattle.sq_machine.specs.declared.entries.Event.TheVariants.{Act, Ask, Begin, Grant, Leave, Reconfigure, Seat}
 use Rattle.sq_machine.specs.declared.entries.Told.{Told}
 use Rattle.sq_machine.specs.declared.refusals.Refusal.{Refusal}
 use Rattle.sq_machine.specs.declared.refusals.Refusal.TheVariants as refusal
@@ -50,6 +50,20 @@ IsMaking old new now event (Ok told) = MayStand event
 IsMaking old new now event (Err stop.Refused) = (configs : List Configuration) (h : History)
     → Is old configs h → IsRefusal configs h (max now old.latest) event
 IsMaking old new now event (Err stop.WantOfMemory) = Unit {0}
+
+-- an event of delay pools
+abbrev pub is_pooled : Event → Bool
+is_pooled (Seat conn) = true
+is_pooled (Grant seat wanted) = true
+is_pooled (Leave seat) = true
+is_pooled event = false
+
+-- where an event is refused, the machine stands for what it stood for
+abbrev pub IsLeft : ScriptView → ScriptView → Result Told Stop → Type 0
+IsLeft old new (Ok told) = Unit {0}
+IsLeft old new (Err stop.Refused) = (configs : List Configuration) (h : History)
+    → Is old configs h → Is new configs h
+IsLeft old new (Err stop.WantOfMemory) = Unit {0}
 
 -- the same of a reconfiguration, where this is the configuration of the next epoch
 abbrev pub IsReconfiguring : ScriptView → ScriptView → ℕ → Configuration → Result Told Stop → Type 0

@@ -243,16 +243,51 @@ Goes v base contents page configs h step (Ok done) = (t : History) × (step ≡ 
     × At v base contents page configs t
 Goes v base contents page configs h step (Err end) = Stops base contents page h step end
 
+-- what files told of a run: by the text of each name, or by the openings before it and after it
+pub record ToldFiles : Type 0 where
+  pub texts : Texts
+  pub before : Openings
+  pub after : Openings
+
+abbrev pub told_files : Texts → Openings → Openings → ToldFiles
+told_files texts before after = record { texts = texts; before = before; after = after }
+
+-- what a sink has, told since `base`, and the page that was not written to it
+pub record Paged : Type 0 where
+  pub base : Option (List ℕ)
+  pub contents : Option (List ℕ)
+  pub page : List ℕ
+
+abbrev pub paged : Option (List ℕ) → Option (List ℕ) → List ℕ → Paged
+paged base contents page = record { base = base; contents = contents; page = page }
+
+-- the machine, and what was written of its history
+pub record RunAt : Type 0 where
+  pub view : ScriptView
+  pub out : Paged
+
+abbrev pub run_at : ScriptView → Paged → RunAt
+run_at view out = record { view = view; out = out }
+
+-- the next line's number, and how many bytes stand before it
+pub record Spot : Type 0 where
+  pub number : ℕ
+  pub place : ℕ
+
+abbrev pub spot : ℕ → ℕ → Spot
+spot number place = record { number = number; place = place }
+
 -- a line of a script was run, where the files tell: over every history that the machine stood for,
 -- and configurations that go on as the line and those behind it say
-abbrev pub LineGoes : ScriptView → ScriptView → Texts → Openings → Openings → Option (List ℕ)
-    → Option (List ℕ) → Option (List ℕ) → List ℕ → List ℕ → List Configuration → ℕ → List ℕ
+abbrev pub LineGoes : RunAt → RunAt → ToldFiles → List Configuration → ℕ → List ℕ
     → Result (Unit {0}) RunEnd → Type 0
-LineGoes v w texts old new base before contents old_page page configs number line result =
-    (h : History) (files : Shelf) (ls : List SourceLine) → At v base before old_page configs h
-    → Tells texts old new files (current h) (missed_by result)
+LineGoes old new told configs number line result =
+    (h : History) (files : Shelf) (ls : List SourceLine)
+    → At old.view old.out.base old.out.contents old.out.page configs h
+    → Tells told.texts told.before told.after files (current h) (missed_by result)
     → IsAhead files configs h (record { bytes = line; ended = true } ∷ ls)
-    → Goes w base contents page configs h (stated_step files configs h number (stated line)) result
+    → Goes new.view new.out.base new.out.contents new.out.page configs h
+    (stated_step files configs h number (stated line)) result
 
 -- the run
 
@@ -282,36 +317,33 @@ WhereTold texts old new missing left configs h P =
     → IsAhead files configs h (lines bytes) → P files bytes)
 
 -- the run of what is left
-abbrev pub RunsOver : Texts → Openings → Openings → Option (List ℕ) → Option (List ℕ)
-    → Option (List ℕ) → List ℕ → List Configuration → History → (Shelf → List ℕ → ScriptRun)
-    → RunEnd → Type 0
-RunsOver texts old new left base contents page configs h run end =
-    WhereTold texts old new (missed end) left configs h
-    (λ files bytes. Reaches base contents page (run files bytes) end)
+abbrev pub RunsOver : ToldFiles → Option (List ℕ) → Paged → List Configuration → History
+    → (Shelf → List ℕ → ScriptRun) → RunEnd → Type 0
+RunsOver told left out configs h run end =
+    WhereTold told.texts told.before told.after (missed end) left configs h
+    (λ files bytes. Reaches out.base out.contents out.page (run files bytes) end)
 
--- the state that a run has come to: what the script has left runs, from this number and place on,
--- to the whole; and each epoch since e took an opening
-pub record GoesOn (v : ScriptView) (files : Shelf) (old new : Openings)
-    (left base contents : Option (List ℕ)) (page : List ℕ) (configs : List Configuration)
-    (run : ScriptRun) (e number place : ℕ) : Type 0 where
+-- the state that a run has come to: what the script has left runs, from this spot on, to the whole;
+-- and each epoch since e took an opening
+pub record GoesOn (now : RunAt) (told : ToldFiles) (files : Shelf) (left : Option (List ℕ))
+    (configs : List Configuration) (run : ScriptRun) (e : ℕ) (at_spot : Spot) : Type 0 where
   pub history : History
-  pub at : At v base contents page configs history
+  pub at : At now.view now.out.base now.out.contents now.out.page configs history
   pub bytes : List ℕ
   pub left_is : left ≡ Some bytes
   pub ahead : IsAhead files configs history (lines bytes)
   pub count : ℕ
-  pub adds : AddsCount old new count
+  pub adds : AddsCount told.before told.after count
   pub epoch_is : current history ≡ e + count
-  pub same : run_lines files configs history number place (lines bytes) ≡ run
+  pub same : run_lines files configs history at_spot.number at_spot.place (lines bytes) ≡ run
 
--- so it is in a loop over lines, where h, `old` and `first` are what there was before it
-abbrev pub Going : ScriptView → Texts → Openings → Openings → Option (List ℕ) → Option (List ℕ)
-    → Option (List ℕ) → Option (List ℕ) → List ℕ → List Configuration → History
-    → (Shelf → List ℕ → ScriptRun) → ℕ → ℕ → Type 0
-Going v texts old new first left base contents page configs h run number place =
-    WhereTold texts old new None first configs h
-    (λ files bytes. GoesOn v files old new left base contents page configs (run files bytes)
-    (current h) number place)
+-- so it is in a loop over lines, where h, the openings before and `first` are what there was before
+-- it
+abbrev pub Going : RunAt → ToldFiles → Option (List ℕ) → Option (List ℕ) → List Configuration
+    → History → (Shelf → List ℕ → ScriptRun) → Spot → Type 0
+Going now told first left configs h run at_spot =
+    WhereTold told.texts told.before told.after None first configs h
+    (λ files bytes. GoesOn now told files left configs (run files bytes) (current h) at_spot)
 
 -- the beginning
 
@@ -328,19 +360,20 @@ whole_line bytes = record { bytes = bytes; ended = true }
 
 -- the run of what is left behind the first line, over the configurations that this line and the
 -- others name
-abbrev pub FirstRuns : Texts → Openings → Openings → Option (List ℕ) → Option (List ℕ)
-    → Option (List ℕ) → List ℕ → Configuration → SourceLine
+abbrev pub FirstRuns : ToldFiles → Option (List ℕ) → Paged → Configuration → SourceLine
     → (Shelf → List Configuration → List ℕ → ScriptRun) → RunEnd → Type 0
-FirstRuns texts old new left base contents page config l run end =
-    IfSome left (λ bytes. (files : Shelf) → Tells texts old new files 1 (missed end)
-    → Reaches base contents page (run files (configs_of files config (l ∷ lines bytes)) bytes) end)
+FirstRuns told left out config l run end =
+    IfSome left (λ bytes. (files : Shelf)
+    → Tells told.texts told.before told.after files 1 (missed end)
+    → Reaches out.base out.contents out.page
+    (run files (configs_of files config (l ∷ lines bytes)) bytes) end)
 
 -- the run of a script from its first line on, where script and files tell
-abbrev pub ScriptRuns : Texts → Openings → Openings → Option (List ℕ) → Option (List ℕ)
-    → Option (List ℕ) → List ℕ → Configuration → RunEnd → Type 0
-ScriptRuns texts old new left base contents page config end =
-    IfSome left (λ bytes. (files : Shelf) → Tells texts old new files 1 (missed end)
-    → Reaches base contents page (run_script files config (lines bytes)) end)
+abbrev pub ScriptRuns : ToldFiles → Option (List ℕ) → Paged → Configuration → RunEnd → Type 0
+ScriptRuns told left out config end =
+    IfSome left (λ bytes. (files : Shelf)
+    → Tells told.texts told.before told.after files 1 (missed end)
+    → Reaches out.base out.contents out.page (run_script files config (lines bytes)) end)
 
 -- the counts of the script, of the files and of the sink never fall; one of the first two rose
 -- where a read fault came, and the third where a write fault did; and each stays where no such

@@ -12,12 +12,12 @@ ghost use Rattle.sq_model_laws.specs.Given.{EachOf};
 ghost use Rattle.sq_replay.specs.Entering.{Begins, IfMissed, IsBeginEnd, IsEmptyEnd, first_kind};
 ghost use Rattle.sq_replay.specs.Openings.{Added, ReachesEnd, RunOpened};
 ghost use Rattle.sq_replay.specs.RunText.{Shelf, begun_history, run_first, run_from, run_lines, run_script, run_stated, stated};
-ghost use Rattle.sq_replay.specs.Runs.{Adds, FirstRuns, IsRunEnd, Reaches, RunHasCauses, ScriptRuns, Wrote, missed, whole_line};
+ghost use Rattle.sq_replay.specs.Runs.{Adds, FirstRuns, IsRunEnd, Reaches, RunHasCauses, ScriptRuns, Wrote, missed, paged, told_files, whole_line};
 ghost use Rattle.sq_replay.specs.declared.ends.RunEnd.TheVariants as ends;
 
 use crate::ends::RunEnd;
 use crate::entering::enter;
-use crate::lines::{run_event, run_rest};
+use crate::lines::{ScriptReader, run_event, run_rest};
 use crate::machines::ScriptMachine;
 use crate::page::Unwritten;
 use sq_base::{EpochNo, Moment, WantOfMemory};
@@ -41,6 +41,20 @@ pub enum FirstEvent {
     Other,
 }
 
+// The moment and the event that the first line states.
+#[derive(Drop)]
+struct FirstLine {
+    moment: Moment,
+    event: Event,
+}
+
+// Where a machine begins: its moment, and the offset of its local time.
+#[derive(Clone, Copy)]
+struct Beginning {
+    moment: Moment,
+    offset: Offset,
+}
+
 // What an event is in the first line.
 fn first_kind(event: &Event) -> FirstEvent
     ensures { result ≡ first_kind event.now }
@@ -56,27 +70,26 @@ fn first_kind(event: &Event) -> FirstEvent
 fn begin<O: Sink>(
     alloc: Global,
     setup: Setup,
-    now: Moment,
-    offset: Offset,
+    at: Beginning,
     page: &mut Vec<u8>,
     out: &mut O,
 ) -> Result<ScriptMachine, RunEnd>
     ensures begins { (base : Option (List ℕ)) (configs : List Configuration)
         → EachOf IsConfiguration configs → config_of configs 1 ≡ Some setup
         → Wrote base (O.contents out.old) page.old.items []
-        → Begins base (O.contents out.new) page.new.items configs now offset result }
+        → Begins base (O.contents out.new) page.new.items configs at.moment at.offset result }
     ensures later { O.faults out.old ≤ O.faults out.new }
     ensures write { IsErrOf result ends.WriteFault → Rose (O.faults out.old) (O.faults out.new) }
     ensures quiet { (IsErrOf result ends.WriteFault → ⊥) → O.faults out.new ≡ O.faults out.old }
     ensures end { IfErr result IsBeginEnd }
 {
-    let mut machine = match ScriptMachine::begin(alloc, setup, offset, now) {
+    let mut machine = match ScriptMachine::begin(alloc, setup, at.offset, at.moment) {
         Ok(machine) => machine,
         Err(WantOfMemory) => return Err(RunEnd::WantOfMemory),
     };
-    let event = Event::Begin { offset };
+    let event = Event::Begin { offset: at.offset };
     let answer = Told::Epoch(EpochNo(1));
-    match enter(alloc, now, event, answer, &mut machine, page, out) {
+    match enter(alloc, at.moment, event, answer, &mut machine, page, out) {
         Ok(()) => Ok(machine),
         Err(Unwritten::Failed) => Err(RunEnd::WriteFault),
         Err(Unwritten::WantOfMemory) => Err(RunEnd::WantOfMemory),
@@ -87,30 +100,30 @@ fn begin<O: Sink>(
 fn run_from<S: Source, F: Files, O: Sink>(
     alloc: Global,
     setup: Setup,
-    now: Moment,
-    event: Event,
-    place: u64,
-    held: &mut Held,
+    first: FirstLine,
+    reader: &mut ScriptReader,
     script: &mut S,
     files: &mut F,
     page: &mut Vec<u8>,
     out: &mut O,
 ) -> RunEnd
     requires good { IsConfiguration setup }
-    requires event { is_event event ≡ true }
-    requires place { place ≤ total_limit }
-    ensures runs { (base : Option (List ℕ)) (l : SourceLine) → stated l.bytes ≡ Some (now, event)
+    requires event { is_event first.event ≡ true }
+    requires place { reader.old.place ≤ total_limit }
+    ensures runs { (base : Option (List ℕ)) (l : SourceLine) → stated l.bytes ≡ Some
+        (first.moment, first.event)
         → Wrote base (O.contents out.old) page.old.items []
-        → FirstRuns (F.texts files.old) (F.opened files.old) (F.opened files.new)
-        (prepend_known held.old (S.left script.old)) base (O.contents out.new) page.new.items
-        setup l
-        (λ shelf configs bytes. run_from shelf configs place (lines bytes) now event) result }
+        → FirstRuns (told_files (F.texts files.old) (F.opened files.old) (F.opened files.new))
+        (prepend_known reader.old.held (S.left script.old))
+        (paged base (O.contents out.new) page.new.items) setup l
+        (λ shelf configs bytes. run_from shelf configs reader.old.place (lines bytes) first.moment
+        first.event) result }
     ensures adds { Adds (F.opened files.old) (F.opened files.new) }
-    ensures opens { (l : SourceLine) → stated l.bytes ≡ Some (now, event)
-        → IfSome (prepend_known held.old (S.left script.old))
+    ensures opens { (l : SourceLine) → stated l.bytes ≡ Some (first.moment, first.event)
+        → IfSome (prepend_known reader.old.held (S.left script.old))
         (λ bytes. Added (F.opened files.old) (F.opened files.new)
         (RunOpened 0 (l ∷ lines bytes) result)) }
-    ensures reached { ReachesEnd result (prepend_known held.old (S.left script.old))
+    ensures reached { ReachesEnd result (prepend_known reader.old.held (S.left script.old))
         (S.left script.new) }
     ensures missing { IfMissed (missed result) (IsNotTold (F.texts files.old)) }
     ensures causes { RunHasCauses (S.faults script.old) (S.faults script.new) (F.faults files.old)
@@ -118,46 +131,58 @@ fn run_from<S: Source, F: Files, O: Sink>(
     ensures texts { F.texts files.new ≡ F.texts files.old }
     ensures end { IsRunEnd result }
 {
-    let mut machine = match begin(alloc, setup, now, Offset(0), page, out) {
+    let at = Beginning {
+        moment: first.moment,
+        offset: Offset(0),
+    };
+    let mut machine = match begin(alloc, setup, at, page, out) {
         Ok(machine) => machine,
         Err(end) => return end,
     };
-    match run_event(alloc, 1, now, event, &mut machine, files, page, out) {
+    match run_event(
+        alloc,
+        1,
+        first.moment,
+        first.event,
+        &mut machine,
+        files,
+        page,
+        out,
+    ) {
         Ok(()) => {}
         Err(end) => return end,
     }
-    run_rest(alloc, place, &mut machine, held, script, files, page, out)
+    run_rest(alloc, reader, &mut machine, script, files, page, out)
 }
 
 // Runs a script whose first line says where the machine begins.
 fn run_begun<S: Source, F: Files, O: Sink>(
     alloc: Global,
     setup: Setup,
-    now: Moment,
-    offset: Offset,
-    place: u64,
-    held: &mut Held,
+    at: Beginning,
+    reader: &mut ScriptReader,
     script: &mut S,
     files: &mut F,
     page: &mut Vec<u8>,
     out: &mut O,
 ) -> RunEnd
     requires good { IsConfiguration setup }
-    requires place { place ≤ total_limit }
+    requires place { reader.old.place ≤ total_limit }
     ensures runs { (base : Option (List ℕ)) (l : SourceLine)
-        → stated l.bytes ≡ Some (now, event.Begin offset)
+        → stated l.bytes ≡ Some (at.moment, event.Begin at.offset)
         → Wrote base (O.contents out.old) page.old.items []
-        → FirstRuns (F.texts files.old) (F.opened files.old) (F.opened files.new)
-        (prepend_known held.old (S.left script.old)) base (O.contents out.new) page.new.items
-        setup l
-        (λ shelf configs bytes. run_lines shelf configs (begun_history configs now offset) 2 place
+        → FirstRuns (told_files (F.texts files.old) (F.opened files.old) (F.opened files.new))
+        (prepend_known reader.old.held (S.left script.old))
+        (paged base (O.contents out.new) page.new.items) setup l
+        (λ shelf configs bytes. run_lines shelf configs (begun_history configs at.moment at.offset)
+        2 reader.old.place
         (lines bytes)) result }
     ensures adds { Adds (F.opened files.old) (F.opened files.new) }
-    ensures opens { (l : SourceLine) → stated l.bytes ≡ Some (now, event.Begin offset)
-        → IfSome (prepend_known held.old (S.left script.old))
+    ensures opens { (l : SourceLine) → stated l.bytes ≡ Some (at.moment, event.Begin at.offset)
+        → IfSome (prepend_known reader.old.held (S.left script.old))
         (λ bytes. Added (F.opened files.old) (F.opened files.new)
         (RunOpened 0 (l ∷ lines bytes) result)) }
-    ensures reached { ReachesEnd result (prepend_known held.old (S.left script.old))
+    ensures reached { ReachesEnd result (prepend_known reader.old.held (S.left script.old))
         (S.left script.new) }
     ensures missing { IfMissed (missed result) (IsNotTold (F.texts files.old)) }
     ensures causes { RunHasCauses (S.faults script.old) (S.faults script.new) (F.faults files.old)
@@ -165,11 +190,11 @@ fn run_begun<S: Source, F: Files, O: Sink>(
     ensures texts { F.texts files.new ≡ F.texts files.old }
     ensures end { IsRunEnd result }
 {
-    let mut machine = match begin(alloc, setup, now, offset, page, out) {
+    let mut machine = match begin(alloc, setup, at, page, out) {
         Ok(machine) => machine,
         Err(end) => return end,
     };
-    run_rest(alloc, place, &mut machine, held, script, files, page, out)
+    run_rest(alloc, reader, &mut machine, script, files, page, out)
 }
 
 // Runs a script without a line.
@@ -183,7 +208,11 @@ fn run_empty<O: Sink>(alloc: Global, setup: Setup, page: &mut Vec<u8>, out: &mut
     ensures quiet { (result ≡ ends.WriteFault → ⊥) → O.faults out.new ≡ O.faults out.old }
     ensures end { IsEmptyEnd result }
 {
-    match begin(alloc, setup, Moment(0), Offset(0), page, out) {
+    let at = Beginning {
+        moment: Moment(0),
+        offset: Offset(0),
+    };
+    match begin(alloc, setup, at, page, out) {
         Ok(_) => RunEnd::Ok,
         Err(end) => end,
     }
@@ -193,30 +222,30 @@ fn run_empty<O: Sink>(alloc: Global, setup: Setup, page: &mut Vec<u8>, out: &mut
 fn run_first<S: Source, F: Files, O: Sink>(
     alloc: Global,
     setup: Setup,
-    now: Moment,
-    event: Event,
-    place: u64,
-    held: &mut Held,
+    first: FirstLine,
+    reader: &mut ScriptReader,
     script: &mut S,
     files: &mut F,
     page: &mut Vec<u8>,
     out: &mut O,
 ) -> RunEnd
     requires good { IsConfiguration setup }
-    requires event { is_event event ≡ true }
-    requires place { place ≤ total_limit }
-    ensures runs { (base : Option (List ℕ)) (l : SourceLine) → stated l.bytes ≡ Some (now, event)
+    requires event { is_event first.event ≡ true }
+    requires place { reader.old.place ≤ total_limit }
+    ensures runs { (base : Option (List ℕ)) (l : SourceLine) → stated l.bytes ≡ Some
+        (first.moment, first.event)
         → Wrote base (O.contents out.old) page.old.items []
-        → FirstRuns (F.texts files.old) (F.opened files.old) (F.opened files.new)
-        (prepend_known held.old (S.left script.old)) base (O.contents out.new) page.new.items
-        setup l
-        (λ shelf configs bytes. run_first shelf configs place (lines bytes) now event) result }
+        → FirstRuns (told_files (F.texts files.old) (F.opened files.old) (F.opened files.new))
+        (prepend_known reader.old.held (S.left script.old))
+        (paged base (O.contents out.new) page.new.items) setup l
+        (λ shelf configs bytes. run_first shelf configs reader.old.place (lines bytes) first.moment
+        first.event) result }
     ensures adds { Adds (F.opened files.old) (F.opened files.new) }
-    ensures opens { (l : SourceLine) → stated l.bytes ≡ Some (now, event)
-        → IfSome (prepend_known held.old (S.left script.old))
+    ensures opens { (l : SourceLine) → stated l.bytes ≡ Some (first.moment, first.event)
+        → IfSome (prepend_known reader.old.held (S.left script.old))
         (λ bytes. Added (F.opened files.old) (F.opened files.new)
         (RunOpened 0 (l ∷ lines bytes) result)) }
-    ensures reached { ReachesEnd result (prepend_known held.old (S.left script.old))
+    ensures reached { ReachesEnd result (prepend_known reader.old.held (S.left script.old))
         (S.left script.new) }
     ensures missing { IfMissed (missed result) (IsNotTold (F.texts files.old)) }
     ensures causes { RunHasCauses (S.faults script.old) (S.faults script.new) (F.faults files.old)
@@ -224,14 +253,16 @@ fn run_first<S: Source, F: Files, O: Sink>(
     ensures texts { F.texts files.new ≡ F.texts files.old }
     ensures end { IsRunEnd result }
 {
-    match first_kind(&event) {
-        FirstEvent::Begin { offset } => run_begun(
-            alloc, setup, now, offset, place, held, script, files, page, out,
-        ),
+    match first_kind(&first.event) {
+        FirstEvent::Begin { offset } => {
+            let at = Beginning {
+                moment: first.moment,
+                offset,
+            };
+            run_begun(alloc, setup, at, reader, script, files, page, out)
+        }
         FirstEvent::Act => RunEnd::Script(1),
-        FirstEvent::Other => run_from(
-            alloc, setup, now, event, place, held, script, files, page, out,
-        ),
+        FirstEvent::Other => run_from(alloc, setup, first, reader, script, files, page, out),
     }
 }
 
@@ -240,25 +271,25 @@ fn run_stated<S: Source, F: Files, O: Sink>(
     alloc: Global,
     setup: Setup,
     line: &[u8],
-    place: u64,
-    held: &mut Held,
+    reader: &mut ScriptReader,
     script: &mut S,
     files: &mut F,
     page: &mut Vec<u8>,
     out: &mut O,
 ) -> RunEnd
     requires good { IsConfiguration setup }
-    requires place { place ≤ total_limit }
+    requires place { reader.old.place ≤ total_limit }
     ensures runs { (base : Option (List ℕ)) → Wrote base (O.contents out.old) page.old.items []
-        → FirstRuns (F.texts files.old) (F.opened files.old) (F.opened files.new)
-        (prepend_known held.old (S.left script.old)) base (O.contents out.new) page.new.items setup
-        (whole_line line.now) (λ shelf configs bytes. run_stated shelf configs place (lines bytes)
+        → FirstRuns (told_files (F.texts files.old) (F.opened files.old) (F.opened files.new))
+        (prepend_known reader.old.held (S.left script.old))
+        (paged base (O.contents out.new) page.new.items) setup (whole_line line.now)
+        (λ shelf configs bytes. run_stated shelf configs reader.old.place (lines bytes)
         (stated line.now)) result }
     ensures adds { Adds (F.opened files.old) (F.opened files.new) }
-    ensures opens { IfSome (prepend_known held.old (S.left script.old))
+    ensures opens { IfSome (prepend_known reader.old.held (S.left script.old))
         (λ bytes. Added (F.opened files.old) (F.opened files.new)
         (RunOpened 0 (whole_line line.now ∷ lines bytes) result)) }
-    ensures reached { ReachesEnd result (prepend_known held.old (S.left script.old))
+    ensures reached { ReachesEnd result (prepend_known reader.old.held (S.left script.old))
         (S.left script.new) }
     ensures missing { IfMissed (missed result) (IsNotTold (F.texts files.old)) }
     ensures causes { RunHasCauses (S.faults script.old) (S.faults script.new) (F.faults files.old)
@@ -267,9 +298,10 @@ fn run_stated<S: Source, F: Files, O: Sink>(
     ensures end { IsRunEnd result }
 {
     match read_event(alloc, line) {
-        Ok((now, event)) => run_first(
-            alloc, setup, now, event, place, held, script, files, page, out,
-        ),
+        Ok((moment, event)) => {
+            let first = FirstLine { moment, event };
+            run_first(alloc, setup, first, reader, script, files, page, out)
+        }
         Err(EntryFault::BadEntry) => RunEnd::Script(1),
         Err(EntryFault::WantOfMemory) => RunEnd::WantOfMemory,
     }
@@ -287,8 +319,8 @@ pub fn replay<S: Source, F: Files, O: Sink>(
 ) -> RunEnd
     // What it comes to, where the script and the files tell, by the texts of names or by openings: the run of the script's lines.
     ensures runs { (base : Option (List ℕ)) → Wrote base (O.contents out.old) page.old.items []
-        → ScriptRuns (F.texts files.old) (F.opened files.old) (F.opened files.new)
-        (S.left script.old) base (O.contents out.new) page.new.items setup result }
+        → ScriptRuns (told_files (F.texts files.old) (F.opened files.old) (F.opened files.new))
+        (S.left script.old) (paged base (O.contents out.new) page.new.items) setup result }
     // Openings are added alone.
     ensures adds { Adds (F.opened files.old) (F.opened files.new) }
     // Where the script tells: each file that it names in a line which was run was opened once, in the order of the lines; and at the line at which
@@ -308,13 +340,13 @@ pub fn replay<S: Source, F: Files, O: Sink>(
 {
     // For the proof: what holds of the configuration.
     setup.config().facts();
-    let mut held = match Held::new(alloc, CHUNK) {
+    let held = match Held::new(alloc, CHUNK) {
         Ok(held) => held,
         Err(WantOfMemory) => return RunEnd::WantOfMemory,
     };
-    let mut place = 0;
+    let mut reader = ScriptReader { held, place: 0 };
     let mut line = Vec::new(alloc);
-    match next_line(&mut held, script, &mut place, &mut line) {
+    match next_line(&mut reader.held, script, &mut reader.place, &mut line) {
         Ok(LineFound::Whole) => {}
         Ok(LineFound::End) => return run_empty(alloc, setup, page, out),
         Ok(LineFound::Faulty) => return RunEnd::Script(1),
@@ -325,8 +357,7 @@ pub fn replay<S: Source, F: Files, O: Sink>(
         alloc,
         setup,
         line.as_slice(),
-        place,
-        &mut held,
+        &mut reader,
         script,
         files,
         page,

@@ -4,7 +4,7 @@ ghost use Rattle.sq_machine.specs.Entries.{is_event, is_row};
 ghost use Rattle.sq_machine.specs.Events.{begins_epoch};
 ghost use Rattle.sq_machine.specs.declared.entries.Event.TheVariants as event;
 ghost use Rattle.sq_replay.specs.MachineViews.{machine_of};
-ghost use Rattle.sq_replay.specs.Making.{IsMaking};
+ghost use Rattle.sq_replay.specs.Making.{IsLeft, IsMaking, is_pooled};
 
 use crate::machines::ScriptMachine;
 use crate::stops::{Stop, stop_by};
@@ -16,12 +16,14 @@ use std::alloc::Global;
 
 impl ScriptMachine {
     /// Makes the event of a line, at the greatest moment so far, or says why not. `begin` stands in the first line
-    /// alone, which is run without this call, and `act` in none; a reconfiguration is `reconfigure`. Where memory is
-    /// wanting, the machine is not to be used any more.
+    /// alone, which is run without this call, and `act` in none; a reconfiguration is `reconfigure`. An event that is
+    /// refused and is none of delay pools leaves the machine. Where memory is wanting, it is not to be used any more.
     pub fn make(&mut self, alloc: Global, event: &Event, now: Moment) -> Result<Told, Stop>
         requires event { is_event event.now ≡ true }
         requires plain { begins_epoch event.now ≡ false }
         ensures making { IsMaking (machine_of self.old) (machine_of self.new) now event.now result }
+        ensures left { is_pooled event.now ≡ false
+            → IsLeft (machine_of self.old) (machine_of self.new) result }
         ensures row { IfOk result (λ told. is_row event.now told ≡ true) }
         ensures latest { OnOk result (self.new.latest ≡ max now self.old.latest) }
     {
@@ -53,6 +55,7 @@ impl ScriptMachine {
     fn open(&mut self, conn: ConnNo, addr: Addr, port: u16, now: Moment) -> Result<Told, Stop>
         ensures making { IsMaking (machine_of self.old) (machine_of self.new) now
             (event.Open conn addr port) result }
+        ensures left { IsLeft (machine_of self.old) (machine_of self.new) result }
         ensures row { IfOk result (λ told. is_row (event.Open conn addr port) told ≡ true) }
         ensures latest { OnOk result (self.new.latest ≡ max now self.old.latest) }
     {
@@ -71,6 +74,7 @@ impl ScriptMachine {
     fn close(&mut self, conn: ConnNo, now: Moment) -> Result<Told, Stop>
         ensures making { IsMaking (machine_of self.old) (machine_of self.new) now (event.Close conn)
             result }
+        ensures left { IsLeft (machine_of self.old) (machine_of self.new) result }
         ensures row { IfOk result (λ told. is_row (event.Close conn) told ≡ true) }
         ensures latest { OnOk result (self.new.latest ≡ max now self.old.latest) }
     {
@@ -98,6 +102,7 @@ impl ScriptMachine {
     ) -> Result<Told, Stop>
         ensures making { IsMaking (machine_of self.old) (machine_of self.new) now
             (event.Ask conn method.now target.now fields.now) result }
+        ensures left { IsLeft (machine_of self.old) (machine_of self.new) result }
         ensures row { IfOk result
             (λ told. is_row (event.Ask conn method.now target.now fields.now) told ≡ true) }
         ensures latest { OnOk result (self.new.latest ≡ max now self.old.latest) }
@@ -126,6 +131,7 @@ impl ScriptMachine {
     fn take(&mut self, alloc: Global, check: CheckNo, now: Moment) -> Result<Told, Stop>
         ensures making { IsMaking (machine_of self.old) (machine_of self.new) now (event.Take check)
             result }
+        ensures left { IsLeft (machine_of self.old) (machine_of self.new) result }
         ensures row { IfOk result (λ told. is_row (event.Take check) told ≡ true) }
         ensures latest { OnOk result (self.new.latest ≡ max now self.old.latest) }
     {
@@ -161,6 +167,7 @@ impl ScriptMachine {
     fn died(&mut self, proc: ProcNo, now: Moment) -> Result<Told, Stop>
         ensures making { IsMaking (machine_of self.old) (machine_of self.new) now (event.Died proc)
             result }
+        ensures left { IsLeft (machine_of self.old) (machine_of self.new) result }
         ensures row { IfOk result (λ told. is_row (event.Died proc) told ≡ true) }
         ensures latest { OnOk result (self.new.latest ≡ max now self.old.latest) }
     {

@@ -6,7 +6,7 @@ ghost use Rattle.sq_engine.specs.EngineViews.{state_of};
 ghost use Rattle.sq_engine.specs.Lines.{got_told};
 ghost use Rattle.sq_engine.specs.Stepping.{stepped_told};
 ghost use Rattle.sq_replay.specs.MachineViews.{machine_of};
-ghost use Rattle.sq_replay.specs.Making.{IsMaking};
+ghost use Rattle.sq_replay.specs.Making.{IsLeft, IsMaking};
 
 use crate::machines::ScriptMachine;
 use crate::names::place_of;
@@ -56,6 +56,7 @@ impl ScriptMachine {
     pub(crate) fn step(&mut self, alloc: Global, check: CheckNo, now: Moment) -> Result<Told, Stop>
         ensures making { IsMaking (machine_of self.old) (machine_of self.new) now (event.Step check)
             result }
+        ensures left { IsLeft (machine_of self.old) (machine_of self.new) result }
         ensures row { IfOk result (λ told. is_row (event.Step check) told ≡ true) }
         ensures latest { OnOk result (self.new.latest ≡ max now self.old.latest) }
     {
@@ -85,6 +86,7 @@ impl ScriptMachine {
     ) -> Result<Told, Stop>
         ensures making { IsMaking (machine_of self.old) (machine_of self.new) now
             (event.Started epoch class.now) result }
+        ensures left { IsLeft (machine_of self.old) (machine_of self.new) result }
         ensures row { IfOk result (λ told. is_row (event.Started epoch class.now) told ≡ true) }
         ensures latest { OnOk result (self.new.latest ≡ max now self.old.latest) }
     {
@@ -111,6 +113,7 @@ impl ScriptMachine {
     ) -> Result<Told, Stop>
         ensures making { IsMaking (machine_of self.old) (machine_of self.new) now
             (event.StartFail epoch class.now) result }
+        ensures left { IsLeft (machine_of self.old) (machine_of self.new) result }
         ensures row { IfOk result (λ told. is_row (event.StartFail epoch class.now) told ≡ true) }
         ensures latest { OnOk result (self.new.latest ≡ max now self.old.latest) }
     {
@@ -138,6 +141,7 @@ impl ScriptMachine {
     ) -> Result<Told, Stop>
         ensures making { IsMaking (machine_of self.old) (machine_of self.new) now
             (event.Line proc bytes.now) result }
+        ensures left { IsLeft (machine_of self.old) (machine_of self.new) result }
         ensures row { IfOk result (λ told. is_row (event.Line proc bytes.now) told ≡ true) }
         ensures latest { OnOk result (self.new.latest ≡ max now self.old.latest) }
     {

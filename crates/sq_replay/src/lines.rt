@@ -13,7 +13,7 @@ ghost use Rattle.sq_replay.specs.Entering.{IfMissed, IsPlainEnd, StepHasCauses, 
 ghost use Rattle.sq_replay.specs.MachineViews.{machine_of};
 ghost use Rattle.sq_replay.specs.Openings.{Added, ReachesEnd, RunOpened, StepOpened, name_in, name_of};
 ghost use Rattle.sq_replay.specs.RunText.{Shelf, event_step, run_lines, stated};
-ghost use Rattle.sq_replay.specs.Runs.{Adds, AddsCount, At, Goes, HasNext, IsRunEnd, IsStepEnd, LineGoes, RunHasCauses, RunsOver, Tells, missed, missed_by, openings_in, openings_of};
+ghost use Rattle.sq_replay.specs.Runs.{Adds, AddsCount, At, Goes, HasNext, IsRunEnd, IsStepEnd, LineGoes, RunHasCauses, RunsOver, Tells, missed, missed_by, openings_in, openings_of, paged, run_at, told_files};
 ghost use Rattle.sq_replay.specs.declared.ends.RunEnd.TheVariants as ends;
 
 use crate::ends::RunEnd;
@@ -27,6 +27,15 @@ use sq_journal::{EntryFault, read_event};
 use sq_machine::Event;
 use sq_outside::{Files, Held, LineFound, Sink, Source, Unread, next_line};
 use std::alloc::Global;
+
+/// How far a script was read.
+#[derive(Drop)]
+pub struct ScriptReader {
+    /// What was read ahead.
+    pub held: Held,
+    /// How many bytes stood before that.
+    pub place: u64,
+}
 
 // The name of a reconfiguration's file, and any other event as it is.
 fn named_of(event: Event) -> Result<Text, Event>
@@ -167,9 +176,10 @@ fn run_line<F: Files, O: Sink>(
     out: &mut O,
 ) -> Result<(), RunEnd>
     ensures goes { (base : Option (List ℕ)) (configs : List Configuration)
-        → LineGoes (machine_of machine.old) (machine_of machine.new) (F.texts files.old)
-        (F.opened files.old) (F.opened files.new)
-        base (O.contents out.old) (O.contents out.new) page.old.items page.new.items configs number
+        → LineGoes (run_at (machine_of machine.old)
+        (paged base (O.contents out.old) page.old.items))
+        (run_at (machine_of machine.new) (paged base (O.contents out.new) page.new.items))
+        (told_files (F.texts files.old) (F.opened files.old) (F.opened files.new)) configs number
         line.now result }
     ensures adds { Adds (F.opened files.old) (F.opened files.new) }
     ensures counts { OnOk result
@@ -189,29 +199,28 @@ fn run_line<F: Files, O: Sink>(
     }
 }
 
-/// Runs the lines that are left, from line 2 on. `place` bytes came before them.
+/// Runs the lines that are left, from line 2 on.
 pub fn run_rest<S: Source, F: Files, O: Sink>(
     alloc: Global,
-    place: u64,
+    reader: &mut ScriptReader,
     machine: &mut ScriptMachine,
-    held: &mut Held,
     script: &mut S,
     files: &mut F,
     page: &mut Vec<u8>,
     out: &mut O,
 ) -> RunEnd
-    requires { place ≤ total_limit }
+    requires { reader.old.place ≤ total_limit }
     ensures runs { (base : Option (List ℕ)) (configs : List Configuration) (h : History)
         → At (machine_of machine.old) base (O.contents out.old) page.old.items configs h
-        → RunsOver (F.texts files.old) (F.opened files.old) (F.opened files.new)
-        (prepend_known held.old (S.left script.old)) base (O.contents out.new) page.new.items
-        configs h
-        (λ shelf bytes. run_lines shelf configs h 2 place (lines bytes)) result }
+        → RunsOver (told_files (F.texts files.old) (F.opened files.old) (F.opened files.new))
+        (prepend_known reader.old.held (S.left script.old))
+        (paged base (O.contents out.new) page.new.items) configs h
+        (λ shelf bytes. run_lines shelf configs h 2 reader.old.place (lines bytes)) result }
     ensures adds { Adds (F.opened files.old) (F.opened files.new) }
-    ensures opens { IfSome (prepend_known held.old (S.left script.old))
+    ensures opens { IfSome (prepend_known reader.old.held (S.left script.old))
         (λ bytes. Added (F.opened files.old) (F.opened files.new)
         (RunOpened 1 (lines bytes) result)) }
-    ensures reached { ReachesEnd result (prepend_known held.old (S.left script.old))
+    ensures reached { ReachesEnd result (prepend_known reader.old.held (S.left script.old))
         (S.left script.new) }
     ensures missing { IfMissed (missed result) (IsNotTold (F.texts files.old)) }
     ensures causes { RunHasCauses (S.faults script.old) (S.faults script.new) (F.faults files.old)
@@ -220,10 +229,9 @@ pub fn run_rest<S: Source, F: Files, O: Sink>(
     ensures end { IsRunEnd result }
 {
     let mut number = 2;
-    let mut place = place;
     let mut line = Vec::new(alloc);
     'lines: loop {
-        match next_line(held, script, &mut place, &mut line) {
+        match next_line(&mut reader.held, script, &mut reader.place, &mut line) {
             Ok(LineFound::Whole) => {}
             Ok(LineFound::End) => return RunEnd::Ok,
             Ok(LineFound::Faulty) => return RunEnd::Script(number),

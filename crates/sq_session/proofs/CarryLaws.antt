@@ -16,7 +16,7 @@ use Rattle.sq_session.specs.Begins.{fits_hosts}
 use Rattle.sq_session.specs.Carrying.{sat}
 use Rattle.sq_session.specs.Fronts.{FrontAnswer, OfDecide, OfRewrite, OfSit, Decides, Rewrites, SitsFor, SitsBehind, takes_seat}
 use Rattle.sq_session.specs.Sessions.{JudgesOf, held_seat}
-use Rattle.sq_session.specs.Steps.{Goes, EndHasCause}
+use Rattle.sq_session.specs.Steps.{Goes, EndHasCause, turn_seen, front_seen}
 use Rattle.sq_session.specs.Written.{WritesReply}
 use Rattle.sq_session.specs.Told.{ReachesTold, CarriesTold, ObeysTold, AnswersTold}
 use Rattle.sq_session.specs.Turns.{Reply, NoOrigin, access_of, is_head, is_connect, is_served, dialled, seated, carried, rewritten_on, denied_closes, stays_unless, recorded, body_own, judged, asked}
@@ -28,6 +28,7 @@ use Rattle.sq_session.specs.declared.front.Rewritten.{Rewritten}
 use Rattle.sq_session.specs.declared.front.Rewritten.TheVariants as rewritten
 use Rattle.sq_session.proofs.GoesLaws.{goes_as, own_goes, own_turn, cause_map}
 use Rattle.sq_session.proofs.TurnLaws.{told_none}
+use Rattle.sq_forward.specs.Exchanges.{message}
 
 and_true : (b : Bool) → b ≡ b && true
 and_true true = refl
@@ -38,7 +39,7 @@ pub carries_unserved : {first : Option (List ℕ)} {d : Option Dialled} {stood :
     {left a b : Option (List ℕ)} {failed : Type 0} {g : ℕ} {ended : Carried} (r : HttpRequest) (addr : Address)
     (p : BodyPlan) (j : Judged)
     → is_served r ≡ false → WritesReply (error_text NotImplemented (is_head r)) Closes a b ended → g ≤ count_limit
-    → CarriesTold r addr p j first d d stood stood left a b failed g g ended
+    → CarriesTold (message r addr p) j first (front_seen stood stood) (turn_seen left a b g g d) d failed ended
 carries_unserved {first = None} r addr p j e w few = record { known = tt }
 carries_unserved {first = Some rest} {d = None} r addr p j e w few = record { known = tt }
 carries_unserved {first = Some rest} {d = Some now} {stood} r addr p j e w few = record {
@@ -61,7 +62,7 @@ pub carries_unseated : {first : Option (List ℕ)} {d : Option Dialled} {stood s
     → SitsFor j answers
     → ((list : List FrontAnswer) → stood list → stands (list ++ answers))
     → WritesReply (error_text own (is_head r)) Closes a b ended → g ≤ count_limit → h ≡ g
-    → CarriesTold r addr p j first d d stood stands left a b failed g h ended
+    → CarriesTold (message r addr p) j first (front_seen stood stands) (turn_seen left a b g h d) d failed ended
 carries_unseated {first = None} r addr p j answers own e turn sits told w few same = record { known = tt }
 carries_unseated {first = Some rest} {d = None} r addr p j answers own e turn sits told w few same =
     record { known = tt }
@@ -72,8 +73,7 @@ carries_unseated {first = Some rest} {d = Some now} {left} {a} {b} {failed} {g} 
         told = told;
         sits = sits;
         goes = subst (λ n. Goes (is_connect r) (carried (access_of j) r addr p rest answers) []
-            (takes_seat j && sat answers) left a b
-            (Some now) now failed g n ended) (sym same)
+            (takes_seat j && sat answers) (turn_seen left a b g n (Some now)) now failed ended) (sym same)
             (own_goes (carried (access_of j) r addr p rest answers) (error_text own (is_head r)) [] [] Closes (Some now)
             now
             (rw e (turn rest)) w few refl (λ s. absurd cc));
@@ -86,8 +86,8 @@ pub carries_seated : {first : Option (List ℕ)} {before d : Option Dialled} {st
     (addr : Address) (p : BodyPlan) (j : Judged) (u : Unit {0})
     → is_served r ≡ true → seat ≡ takes_seat j → g ≡ k → h ≡ n
     → ((list : List FrontAnswer) → stood list → stands (list ++ OfSit j (Ok u) ∷ []))
-    → ReachesTold (access_of j) r addr p first before d seat left a b failed g h ended
-    → CarriesTold r addr p j first before d stood stands left a b failed k n ended
+    → ReachesTold (access_of j) (message r addr p) first seat (turn_seen left a b g h before) d failed ended
+    → CarriesTold (message r addr p) j first (front_seen stood stands) (turn_seen left a b k n before) d failed ended
 carries_seated {first = None} r addr p j u e held same last told x = record { known = tt }
 carries_seated {first = Some rest} {d = None} r addr p j u e held same last told x = record { known = tt }
 carries_seated {first = Some rest} {before} {d = Some now} {left} {a} {b} {failed} {g} {h} {k} {n} {seat} {ended} r addr
@@ -98,17 +98,11 @@ carries_seated {first = Some rest} {before} {d = Some now} {left} {a} {b} {faile
         sits = refl;
         goes =
             subst (λ m. Goes (is_connect r) (carried (access_of j) r addr p rest (OfSit j (Ok u) ∷ [])) []
-            (takes_seat j && true) left
-            a b
-            before now failed k m ended) last
+            (takes_seat j && true) (turn_seen left a b k m before) now failed ended) last
             (subst (λ m. Goes (is_connect r) (carried (access_of j) r addr p rest (OfSit j (Ok u) ∷ [])) []
-            (takes_seat j && true)
-            left a
-            b before now failed m h ended) same
-            (subst (λ s. Goes (is_connect r) (carried (access_of j) r addr p rest (OfSit j (Ok u) ∷ [])) [] s left a b
-            before now
-            failed g
-            h ended) (held ∙ and_true (takes_seat j))
+            (takes_seat j && true) (turn_seen left a b m h before) now failed ended) same
+            (subst (λ s. Goes (is_connect r) (carried (access_of j) r addr p rest (OfSit j (Ok u) ∷ [])) [] s
+            (turn_seen left a b g h before) now failed ended) (held ∙ and_true (takes_seat j))
             (goes_as (dialled (access_of j) r addr p rest [])
             (carried (access_of j) r addr p rest (OfSit j (Ok u) ∷ [])) (λ reply. rw e refl)
             (x.known []))));
@@ -120,8 +114,8 @@ pub obeys_tunnel : {first : Option (List ℕ)} {before d : Option Dialled} {stoo
     {left a b : Option (List ℕ)} {failed : Type 0} {g h : ℕ} {ended : Carried} (r : HttpRequest) (addr : Address)
     (p : BodyPlan) (j : Judged)
     → j.outcome.allow ≡ true → is_connect r ≡ true
-    → CarriesTold r addr p j first before d stood stands left a b failed g h ended
-    → ObeysTold r addr p j first before d stood stands left a b failed g h ended
+    → CarriesTold (message r addr p) j first (front_seen stood stands) (turn_seen left a b g h before) d failed ended
+    → ObeysTold (message r addr p) j first (front_seen stood stands) (turn_seen left a b g h before) d failed ended
 obeys_tunnel {first = None} r addr p j e f x = record { known = tt }
 obeys_tunnel {first = Some rest} {d = None} r addr p j e f x = record { known = tt }
 obeys_tunnel {first = Some rest} {d = Some now} r addr p j e f x =
@@ -147,8 +141,8 @@ pub obeys_sent : {first : Option (List ℕ)} {before d : Option Dialled} {stood 
     ≡ rewritten_on (access_of j) r addr p rest (OfRewrite j said ∷ more) reply)
     → Rewrites j.sight.request said → g ≡ k
     → ((list : List FrontAnswer) → stood list → mid (list ++ OfRewrite j said ∷ []))
-    → CarriesTold sent addr p j first before d mid stands left a b failed g h ended
-    → ObeysTold r addr p j first before d stood stands left a b failed k h ended
+    → CarriesTold (message sent addr p) j first (front_seen mid stands) (turn_seen left a b g h before) d failed ended
+    → ObeysTold (message r addr p) j first (front_seen stood stands) (turn_seen left a b k h before) d failed ended
 obeys_sent {first = None} r sent addr p j said e f m goes_on is same told x = record { known = tt }
 obeys_sent {first = Some rest} {d = None} r sent addr p j said e f m goes_on is same told x = record { known = tt }
 obeys_sent {first = Some rest} {before} {d = Some now} {stands} {left} {a} {b} {failed} {g} {h} {k} {ended} r sent addr
@@ -157,7 +151,8 @@ obeys_sent {first = Some rest} {before} {d = Some now} {stands} {left} {a} {b} {
     let y = x.known in
     let all = OfRewrite j said ∷ y.answers in
     let seat = takes_seat j && sat y.answers in
-    let went : Goes (is_connect sent) (recorded r addr p rest j all) [] seat left a b before now failed g h ended =
+    let went : Goes (is_connect sent) (recorded r addr p rest j all) [] seat (turn_seen left a b g h before) now failed
+    ended =
     goes_as (carried (access_of j) sent addr p rest y.answers) (recorded r addr p rest j all)
     (λ reply. rw (e, f) (goes_on rest y.answers reply)) y.goes in
     record {
@@ -166,9 +161,9 @@ obeys_sent {first = Some rest} {before} {d = Some now} {stands} {left} {a} {b} {
         told = λ list s. subst stands (append_assoc list (OfRewrite j said ∷ []) y.answers)
             (y.told (list ++ OfRewrite j said ∷ []) (told list s));
         sits = (refl, is, y.sits);
-        goes = subst (λ n. Goes (is_connect r) (recorded r addr p rest j all) [] seat left a b before now failed n h
-            ended) same
-            (subst (λ c. Goes c (recorded r addr p rest j all) [] seat left a b before now failed g h ended)
+        goes = subst (λ n. Goes (is_connect r) (recorded r addr p rest j all) [] seat (turn_seen left a b n h before)
+            now failed ended) same
+            (subst (λ c. Goes c (recorded r addr p rest j all) [] seat (turn_seen left a b g h before) now failed ended)
             (ap (λ w. bytes_eq w (codes "CONNECT")) m) went);
       };
     }
@@ -182,7 +177,7 @@ pub obeys_told : {first : Option (List ℕ)} {d : Option Dialled} {stood stands 
     ≡ own_turn words [] [] Closes)
     → Rewrites j.sight.request said → ((list : List FrontAnswer) → stood list → stands (list ++ OfRewrite j said ∷ []))
     → WritesReply words Closes a b ended → g ≤ count_limit → h ≡ g
-    → ObeysTold r addr p j first d d stood stands left a b failed g h ended
+    → ObeysTold (message r addr p) j first (front_seen stood stands) (turn_seen left a b g h d) d failed ended
 obeys_told {first = None} r addr p j said words e f turn is told w few same = record { known = tt }
 obeys_told {first = Some rest} {d = None} r addr p j said words e f turn is told w few same = record { known = tt }
 obeys_told {first = Some rest} {d = Some now} {left} {a} {b} {failed} {g} {h} {ended} r addr p j said words e f turn is
@@ -193,8 +188,8 @@ obeys_told {first = Some rest} {d = Some now} {left} {a} {b} {failed} {g} {h} {e
         answers = all;
         told = told;
         sits = (refl, is, tt);
-        goes = subst (λ n. Goes (is_connect r) (recorded r addr p rest j all) [] (takes_seat j && false) left a b
-            (Some now) now failed g n ended) (sym same)
+        goes = subst (λ n. Goes (is_connect r) (recorded r addr p rest j all) [] (takes_seat j && false)
+            (turn_seen left a b g n (Some now)) now failed ended) (sym same)
             (own_goes (recorded r addr p rest j all) words [] [] Closes (Some now) now (rw (e, f) (turn rest)) w few
             refl (λ s. absurd cc));
       };
@@ -206,7 +201,7 @@ pub obeys_denied : {left : Option (List ℕ)} {d : Option Dialled} {stood : List
     (p : BodyPlan) (j : Judged) (closes : Bool)
     → j.outcome.allow ≡ false → closes ≡ denied_closes r p
     → WritesReply (denial j.outcome (is_head r) closes) (stays_unless closes) a b ended → g ≤ count_limit
-    → ObeysTold r addr p j left d d stood stood left a b failed g g ended
+    → ObeysTold (message r addr p) j left (front_seen stood stood) (turn_seen left a b g g d) d failed ended
 obeys_denied {left = None} r addr p j closes e same w few = record { known = tt }
 obeys_denied {left = Some rest} {d = None} r addr p j closes e same w few = record { known = tt }
 obeys_denied {left = Some rest} {d = Some now} {stood} r addr p j closes e same w few = record {
@@ -231,7 +226,7 @@ answers_own : {first : Option (List ℕ)} {d : Option Dialled} {stood stands : L
     → ((rest : List ℕ) → asked r addr rest answers NoOrigin ≡ own_turn (error_text own (is_head r)) [] [] Closes)
     → JudgesOf r answers → ((list : List FrontAnswer) → stood list → stands (list ++ answers))
     → WritesReply (error_text own (is_head r)) Closes a b ended → g ≤ count_limit → h ≡ g
-    → AnswersTold r addr first d d stood stands left a b failed g h ended
+    → AnswersTold r addr first (front_seen stood stands) (turn_seen left a b g h d) d failed ended
 answers_own {first = None} r addr answers own turn judges told w few same = record { known = tt }
 answers_own {first = Some rest} {d = None} r addr answers own turn judges told w few same = record { known = tt }
 answers_own {first = Some rest} {d = Some now} {left} {a} {b} {failed} {g} {h} {ended} r addr answers own turn judges
@@ -240,9 +235,8 @@ answers_own {first = Some rest} {d = Some now} {left} {a} {b} {failed} {g} {h} {
         answers = answers;
         told = told;
         judges = judges;
-        goes = subst (λ n. Goes (is_connect r) (asked r addr rest answers) [] (held_seat answers) left a b (Some now)
-            now
-            failed g n ended) (sym same)
+        goes = subst (λ n. Goes (is_connect r) (asked r addr rest answers) [] (held_seat answers)
+            (turn_seen left a b g n (Some now)) now failed ended) (sym same)
             (own_goes (asked r addr rest answers) (error_text own (is_head r)) [] [] Closes (Some now) now (turn rest) w
             few
             refl (λ s. absurd cc));
@@ -253,7 +247,7 @@ answers_own {first = Some rest} {d = Some now} {left} {a} {b} {failed} {g} {h} {
 pub answers_hosts : {first : Option (List ℕ)} {d : Option Dialled} {stood : List FrontAnswer → Type 0}
     {left a b : Option (List ℕ)} {failed : Type 0} {g : ℕ} {ended : Carried} (r : HttpRequest) (addr : Address)
     → fits_hosts r ≡ false → WritesReply (error_text BadRequest (is_head r)) Closes a b ended → g ≤ count_limit
-    → AnswersTold r addr first d d stood stood left a b failed g g ended
+    → AnswersTold r addr first (front_seen stood stood) (turn_seen left a b g g d) d failed ended
 answers_hosts {stood} r addr e w few = answers_own r addr [] BadRequest (λ rest. rw e refl) tt (told_none stood) w few
     refl
 
@@ -263,7 +257,7 @@ pub answers_body : {first : Option (List ℕ)} {d : Option Dialled} {stood : Lis
     (bad : BadBody) (own : Own)
     → fits_hosts r ≡ true → request_plan r ≡ Err bad → own ≡ body_own bad
     → WritesReply (error_text own (is_head r)) Closes a b ended → g ≤ count_limit
-    → AnswersTold r addr first d d stood stood left a b failed g g ended
+    → AnswersTold r addr first (front_seen stood stood) (turn_seen left a b g g d) d failed ended
 answers_body {stood} r addr bad own e f same w few = answers_own r addr [] own (λ rest. rw (e, f, same) refl) tt
     (told_none stood) w few refl
 
@@ -284,7 +278,7 @@ pub answers_unjudged : {first : Option (List ℕ)} {d : Option Dialled} {stood s
     ≡ own_turn (error_text own (is_head r)) [] [] Closes) → Decides r said
     → ((list : List FrontAnswer) → stood list → stands (list ++ OfDecide r said ∷ []))
     → WritesReply (error_text own (is_head r)) Closes a b ended → g ≤ count_limit → h ≡ g
-    → AnswersTold r addr first d d stood stands left a b failed g h ended
+    → AnswersTold r addr first (front_seen stood stands) (turn_seen left a b g h d) d failed ended
 answers_unjudged r addr p said own e f turn judges told w few same =
     answers_own r addr (OfDecide r said ∷ []) own
     (λ rest. sym (asked_judged r addr p rest (OfDecide r said ∷ []) NoOrigin e f) ∙ turn rest)
@@ -296,8 +290,8 @@ pub answers_judged : {first : Option (List ℕ)} {before d : Option Dialled}
     {ended : Carried} (r : HttpRequest) (addr : Address) (p : BodyPlan) (j : Judged)
     → fits_hosts r ≡ true → request_plan r ≡ Ok p → g ≡ k → j.sight.request ≡ r
     → ((list : List FrontAnswer) → stood list → mid (list ++ OfDecide r (decided.Record j) ∷ []))
-    → ObeysTold r addr p j first before d mid stands left a b failed g h ended
-    → AnswersTold r addr first before d stood stands left a b failed k h ended
+    → ObeysTold (message r addr p) j first (front_seen mid stands) (turn_seen left a b g h before) d failed ended
+    → AnswersTold r addr first (front_seen stood stands) (turn_seen left a b k h before) d failed ended
 answers_judged {first = None} r addr p j e f same judges told x = record { known = tt }
 answers_judged {first = Some rest} {d = None} r addr p j e f same judges told x = record { known = tt }
 answers_judged {first = Some rest} {before} {d = Some now} {stands} {left} {a} {b} {failed} {g} {h} {k} {ended} r addr p
@@ -310,8 +304,8 @@ answers_judged {first = Some rest} {before} {d = Some now} {stands} {left} {a} {
         told = λ list s. subst stands (append_assoc list (OfDecide r (decided.Record j) ∷ []) y.answers)
             (y.told (list ++ OfDecide r (decided.Record j) ∷ []) (told list s));
         judges = (refl, judges, y.sits);
-        goes = subst (λ m. Goes (is_connect r) (asked r addr rest all) [] (takes_seat j && sat y.answers) left a b
-            before now failed m h ended) same
+        goes = subst (λ m. Goes (is_connect r) (asked r addr rest all) [] (takes_seat j && sat y.answers)
+            (turn_seen left a b m h before) now failed ended) same
             (goes_as (recorded r addr p rest j y.answers) (asked r addr rest all)
             (λ reply. asked_judged r addr p rest all reply e f) y.goes);
       };

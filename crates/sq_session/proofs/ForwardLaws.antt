@@ -14,8 +14,8 @@ use Rattle.sq_checks.specs.Records.{Judged}
 use Rattle.sq_rules.specs.Configurations.{Configuration}
 use Rattle.sq_rules.specs.Facts.{facts_of}
 use Rattle.sq_rules.specs.declared.sights.Sight.{Sight}
-use Rattle.sq_forward.specs.Exchanges.{Exchange, exchange, Exact, Fronts, EndsExchange, Exchanges, ExchangeHasCause, dry_after_exchange}
-use Rattle.sq_forward.specs.Meters.{granted_after, piece_limit, PaysPart, PaysAll}
+use Rattle.sq_forward.specs.Exchanges.{Exchange, exchange, Exact, Fronts, EndsExchange, Exchanges, ExchangeHasCause, dry_after_exchange, message, sink, exchange_seen}
+use Rattle.sq_forward.specs.Meters.{granted_after, piece_limit, PaysPart, PaysAll, metered}
 use Rattle.sq_forward.specs.Tunnels.{spare_of_tunnel, dry_after_tunnel, GoesInPart, GoesWhole, GoesPaid, GoesGranted}
 use Rattle.sq_forward.specs.declared.exchanging.Exchanged.{Exchanged}
 use Rattle.sq_forward.specs.declared.exchanging.Exchanged.TheVariants as exchanged
@@ -53,7 +53,8 @@ forwards_exact : {seated : Bool} {left a b c d : Option (List ℕ)} {g h : ℕ} 
     (x : Exchange) (unasked : List FrontAnswer) (e : Exchanged) (ended : Carried)
     → carried_of e ≡ ended → gateway_part e (is_head r) ≡ [] → Appends a b (x.own ++ x.client)
     → h ≡ granted_after seated g (length x.client) → Appends c d x.origin → (ended ≡ Stays → left ≡ Some x.rest)
-    → ForwardsAs (exchanged_turn r bytes false e x unasked) unasked false seated left a b c d g h ended
+    → ForwardsAs (exchanged_turn r bytes false e x unasked) unasked false
+    (exchange_seen left (metered seated a b g h) (sink c d)) ended
 forwards_exact {seated} {left} {a} {b} {c} {d} {g} {h} r bytes x unasked e ended ends none client granted origin rest =
     let last = gateway_part e (is_head r) in
     let all : x.own ++ x.client ≡ x.own ++ x.client ++ last = sym (append-nil (x.own ++ x.client))
@@ -79,8 +80,9 @@ forwards_exact {seated} {left} {a} {b} {c} {d} {g} {h} r bytes x unasked e ended
 -- fronts of both texts were written
 forwards_part : {seated : Bool} {left a b c d : Option (List ℕ)} {g h spare : ℕ} (r : HttpRequest) (bytes : List ℕ)
     (x : Exchange) (unasked : List FrontAnswer) (e : Exchanged) (ended : Carried)
-    → is_exact ended ≡ false → spare ≤ spare_of ended → Fronts x seated a b c d g h spare
-    → ForwardsAs (exchanged_turn r bytes false e x unasked) unasked false seated left a b c d g h ended
+    → is_exact ended ≡ false → spare ≤ spare_of ended → Fronts x (metered seated a b g h) (sink c d) spare
+    → ForwardsAs (exchanged_turn r bytes false e x unasked) unasked false
+    (exchange_seen left (metered seated a b g h) (sink c d)) ended
 forwards_part {seated} {left} {a} {b} {c} {d} {g} {h} {spare} r bytes x unasked e ended fault few f =
     let last = gateway_part e (is_head r) in
     record {
@@ -108,7 +110,8 @@ gateway_part_told : {seated : Bool} {left a b c d : Option (List ℕ)} {g h : �
     → IsPrefix part (error_text BadGateway (is_head r)) → Appends a b ((x.own ++ x.client) ++ part)
     → h ≡ granted_after seated g (length x.client) → Appends c d given
     → WritesAs (is_exact ended && not broke) given x.origin → (ended ≡ Stays → ⊥)
-    → ForwardsAs (exchanged_turn r bytes broke exchanged.NoReply x unasked) unasked broke seated left a b c d g h ended
+    → ForwardsAs (exchanged_turn r bytes broke exchanged.NoReply x unasked) unasked broke
+    (exchange_seen left (metered seated a b g h) (sink c d)) ended
 gateway_part_told {seated} {left} {a} {b} {c} {d} {g} {h} r bytes x unasked broke given part ended exact front wrote
     granted gave gives closes =
     let words = error_text BadGateway (is_head r) in
@@ -135,7 +138,8 @@ gateway_told : {seated : Bool} {left a b c d : Option (List ℕ)} {g h : ℕ} (m
     → Appends a mid (x.own ++ x.client) → Tells (error_text BadGateway (is_head r)) Closes mid b ended
     → h ≡ granted_after seated g (length x.client) → Appends c d given → WritesAs (not broke) given x.origin
     → IsPrefix given x.origin
-    → ForwardsAs (exchanged_turn r bytes broke exchanged.NoReply x unasked) unasked broke seated left a b c d g h ended
+    → ForwardsAs (exchanged_turn r bytes broke exchanged.NoReply x unasked) unasked broke
+    (exchange_seen left (metered seated a b g h) (sink c d)) ended
 gateway_told {seated} {left} {a} {b} mid r bytes x unasked broke given Stays client w granted gave gives front =
     absurd (let e = w.0 in cc)
 gateway_told {seated} {left} {a} {b} mid r bytes x unasked broke given Closes client w granted gave gives front =
@@ -160,11 +164,13 @@ gateway_told mid r bytes x unasked broke given (Over Starved) client w granted g
 trades_exact : {seated : Bool} {left a b c d : Option (List ℕ)} {g h : ℕ} {failed : Type 0} (access : HeaderAccess)
     (r : HttpRequest)
     (addr : Address) (p : BodyPlan) (rest bytes : List ℕ) (e : Exchanged)
-    → (x : Exchanges access r addr p rest bytes seated left a b c d g h failed e) → gateway_part e (is_head r) ≡ []
+    → (x : Exchanges access (message r addr p) rest bytes (exchange_seen left (metered seated a b g h) (sink c d))
+    failed e) → gateway_part e (is_head r) ≡ []
     → (carried_of e ≡ Stays → e ≡ exchanged.Kept) → (is_by_origin (carried_of e) ≡ true → x.seen ≡ bytes)
     → (carried_of e ≡ Over OriginFault → ⊥)
-    → Exact (exchange access r addr p rest x.reading) seated left a b c d g h e
-    → Trades access r addr p rest bytes seated left a b c d failed g h (carried_of e)
+    → Exact (exchange access r addr p rest x.reading) (exchange_seen left (metered seated a b g h) (sink c d)) e
+    → Trades access (message r addr p) rest bytes (exchange_seen left (metered seated a b g h) (sink c d)) failed
+    (carried_of e)
 trades_exact {seated} {left} {a} {b} {c} {d} {g} {h} {failed} access r addr p rest bytes e x none kept whole other exact
     =
     let y = exchange access r addr p rest x.reading in
@@ -180,8 +186,8 @@ trades_exact {seated} {left} {a} {b} {c} {d} {g} {h} {failed} access r addr p re
         headed = λ i. absurd (other i);
       };
       broken = λ i. absurd cc;
-      goes = λ unasked. subst (λ z. ForwardsAs (exchanged_turn r bytes false z y unasked) unasked false seated left a b
-          c d g h (carried_of e)) exact.ends
+      goes = λ unasked. subst (λ z. ForwardsAs (exchanged_turn r bytes false z y unasked) unasked false
+          (exchange_seen left (metered seated a b g h) (sink c d)) (carried_of e)) exact.ends
           (forwards_exact r bytes y unasked e (carried_of e) refl none exact.client exact.granted exact.origin
           (λ s. exact.rest (kept s)));
     }
@@ -190,11 +196,13 @@ trades_exact {seated} {left} {a} {b} {c} {d} {g} {h} {failed} access r addr p re
 trades_part : {seated : Bool} {left a b c d : Option (List ℕ)} {g h : ℕ} {failed : Type 0} (access : HeaderAccess)
     (r : HttpRequest)
     (addr : Address) (p : BodyPlan) (rest bytes : List ℕ) (e : Exchanged) (spare : ℕ)
-    → (x : Exchanges access r addr p rest bytes seated left a b c d g h failed e) → is_exact (carried_of e) ≡ false
+    → (x : Exchanges access (message r addr p) rest bytes (exchange_seen left (metered seated a b g h) (sink c d))
+    failed e) → is_exact (carried_of e) ≡ false
     → is_by_origin (carried_of e) ≡ false → spare ≤ spare_of (carried_of e)
     → (carried_of e ≡ Over OriginFault → x.reading.final ≡ None → ⊥)
-    → Fronts (exchange access r addr p rest x.reading) seated a b c d g h spare
-    → Trades access r addr p rest bytes seated left a b c d failed g h (carried_of e)
+    → Fronts (exchange access r addr p rest x.reading) (metered seated a b g h) (sink c d) spare
+    → Trades access (message r addr p) rest bytes (exchange_seen left (metered seated a b g h) (sink c d)) failed
+    (carried_of e)
 trades_part {seated} {left} {a} {b} {c} {d} {g} {h} {failed} access r addr p rest bytes e spare x fault other few headed
     f =
     let y = exchange access r addr p rest x.reading in
@@ -217,8 +225,10 @@ trades_part {seated} {left} {a} {b} {c} {d} {g} {h} {failed} access r addr p res
 pub traded : {seated : Bool} {left a b c d : Option (List ℕ)} {g h : ℕ} {failed : Type 0} (access : HeaderAccess)
     (r : HttpRequest)
     (addr : Address) (p : BodyPlan) (rest bytes : List ℕ) (e : Exchanged)
-    → (e ≡ exchanged.NoReply → ⊥) → Exchanges access r addr p rest bytes seated left a b c d g h failed e
-    → Trades access r addr p rest bytes seated left a b c d failed g h (carried_of e)
+    → (e ≡ exchanged.NoReply → ⊥) → Exchanges access (message r addr p) rest bytes
+    (exchange_seen left (metered seated a b g h) (sink c d)) failed e
+    → Trades access (message r addr p) rest bytes (exchange_seen left (metered seated a b g h) (sink c d)) failed
+    (carried_of e)
 traded access r addr p rest bytes exchanged.Kept n x = trades_exact access r addr p rest bytes exchanged.Kept x refl
     (λ _. refl)
     (λ _. x.ends.0) (λ s. cc) x.ends.1
@@ -250,14 +260,15 @@ traded access r addr p rest bytes exchanged.NoReply n x = absurd (n refl)
 -- an exchange without a reply, and what the client heard of it
 pub untraded : {seated : Bool} {left a b c d : Option (List ℕ)} {g h : ℕ} {failed : Type 0} (mid : Option (List ℕ))
     (access : HeaderAccess) (r : HttpRequest) (addr : Address) (p : BodyPlan) (rest bytes : List ℕ) (ended : Carried)
-    → Exchanges access r addr p rest bytes seated left a mid c d g h failed exchanged.NoReply
+    → Exchanges access (message r addr p) rest bytes (exchange_seen left (metered seated a mid g h) (sink c d)) failed
+    exchanged.NoReply
     → WritesReply (error_text BadGateway (is_head r)) Closes mid b ended
-    → Trades access r addr p rest bytes seated left a b c d failed g h ended
+    → Trades access (message r addr p) rest bytes (exchange_seen left (metered seated a b g h) (sink c d)) failed ended
 untraded {seated} {left} {a} {b} {c} {d} {g} {h} {failed} mid access r addr p rest bytes ended x w = by x.ends
   where
-    by : EndsExchange access r x.reading (exchange access r addr p rest x.reading) x.seen bytes seated left a mid c d g
-        h failed
-        exchanged.NoReply → Trades access r addr p rest bytes seated left a b c d failed g h ended
+    by : EndsExchange access r x.reading (exchange access r addr p rest x.reading) (x.seen ≡ bytes)
+        (exchange_seen left (metered seated a mid g h) (sink c d)) failed exchanged.NoReply → Trades access
+        (message r addr p) rest bytes (exchange_seen left (metered seated a b g h) (sink c d)) failed ended
     by (inl (whole, exact)) = record {
       seen = x.seen;
       reading = x.reading;
@@ -270,11 +281,8 @@ untraded {seated} {left} {a} {b} {c} {d} {g} {h} {failed} mid access r addr p re
         headed = λ i. absurd (told_here w i);
       };
       broken = λ i. absurd cc;
-      goes = λ unasked. subst (λ z. ForwardsAs
-          (exchanged_turn r bytes false z (exchange access r addr p rest x.reading) unasked) unasked false seated left a
-          b c d
-          g h
-          ended) exact.ends
+      goes = λ unasked. subst (λ z. ForwardsAs (exchanged_turn r bytes false z (exchange access r addr p rest x.reading)
+          unasked) unasked false (exchange_seen left (metered seated a b g h) (sink c d)) ended) exact.ends
           (gateway_told mid r bytes (exchange access r addr p rest x.reading) unasked false
           (exchange access r addr p rest x.reading).origin ended exact.client w.is exact.granted exact.origin refl
           (IsPrefix_refl (exchange access r addr p rest x.reading).origin));
@@ -300,9 +308,10 @@ untraded {seated} {left} {a} {b} {c} {d} {g} {h} {failed} mid access r addr p re
 pub tunnelled_goes : {seated : Bool} {left a b c d : Option (List ℕ)} {g h : ℕ} (mid : Option (List ℕ))
     (r : HttpRequest) (rest bytes line : List ℕ) (unasked : List FrontAnswer) (e : Tunnelled)
     → line ≡ established_text → Appends a mid line → Grew c d (λ part. IsPrefix part rest)
-    → PaysPart seated bytes mid b g h (spare_of_tunnel e)
-    → (e ≡ tunnelled.Ended → Appends c d rest) → (e ≡ tunnelled.Ended → PaysAll seated bytes mid b g h)
-    → ForwardsAs (tunnelled_turn r bytes rest unasked) unasked false seated left a b c d g h (tunnel_end e)
+    → PaysPart bytes (metered seated mid b g h) (spare_of_tunnel e)
+    → (e ≡ tunnelled.Ended → Appends c d rest) → (e ≡ tunnelled.Ended → PaysAll bytes (metered seated mid b g h))
+    → ForwardsAs (tunnelled_turn r bytes rest unasked) unasked false
+    (exchange_seen left (metered seated a b g h) (sink c d)) (tunnel_end e)
 tunnelled_goes {seated} {left} {a} {b} {c} {d} {g} {h} mid r rest bytes line unasked e same told up down up_all
     down_all = by e up_all down_all down
   where
@@ -310,8 +319,9 @@ tunnelled_goes {seated} {left} {a} {b} {c} {d} {g} {h} mid r rest bytes line una
     first = subst (Appends a mid) same told
 
     part : (ended : Carried) (spare : ℕ) → is_exact ended ≡ false → spare ≤ spare_of ended
-        → PaysPart seated bytes mid b g h spare
-        → ForwardsAs (tunnelled_turn r bytes rest unasked) unasked false seated left a b c d g h ended
+        → PaysPart bytes (metered seated mid b g h) spare
+        → ForwardsAs (tunnelled_turn r bytes rest unasked) unasked false
+        (exchange_seen left (metered seated a b g h) (sink c d)) ended
     part ended spare fault few q = record {
       written = established_text ++ q.part;
       given = up.0;
@@ -332,8 +342,10 @@ tunnelled_goes {seated} {left} {a} {b} {c} {d} {g} {h} mid r rest bytes line una
     }
 
     by : (e : Tunnelled) → (e ≡ tunnelled.Ended → Appends c d rest)
-        → (e ≡ tunnelled.Ended → PaysAll seated bytes mid b g h) → PaysPart seated bytes mid b g h (spare_of_tunnel e)
-        → ForwardsAs (tunnelled_turn r bytes rest unasked) unasked false seated left a b c d g h (tunnel_end e)
+        → (e ≡ tunnelled.Ended → PaysAll bytes (metered seated mid b g h)) → PaysPart bytes (metered seated mid b g h)
+        (spare_of_tunnel e)
+        → ForwardsAs (tunnelled_turn r bytes rest unasked) unasked false
+        (exchange_seen left (metered seated a b g h) (sink c d)) (tunnel_end e)
     by tunnelled.Ended u v q = record {
       written = established_text ++ bytes ++ [];
       given = rest;
@@ -362,7 +374,8 @@ tunnelled_goes {seated} {left} {a} {b} {c} {d} {g} {h} mid r rest bytes line una
 pub untold_goes : {seated : Bool} {left a b c : Option (List ℕ)} {g : ℕ} (r : HttpRequest) (rest bytes line : List ℕ)
     (unasked : List FrontAnswer)
     → line ≡ established_text → Grew a b (λ part. IsPrefix part line) → Appends c c [] → g ≡ granted_after seated g 0
-    → ForwardsAs (tunnelled_turn r bytes rest unasked) unasked false seated left a b c c g g (Over ClientFault)
+    → ForwardsAs (tunnelled_turn r bytes rest unasked) unasked false
+    (exchange_seen left (metered seated a b g g) (sink c c)) (Over ClientFault)
 untold_goes {seated} {left} {a} {b} {c} {g} r rest bytes line unasked same (part, grew, front) none few =
     let begins : IsPrefix part established_text = subst (IsPrefix part) same front in
     record {
@@ -387,29 +400,35 @@ pub forwards_connect : {seated : Bool} {left a b c d : Option (List ℕ)} {g h :
     (access : HeaderAccess) (r : HttpRequest)
     (addr : Address) (p : BodyPlan) (rest bytes : List ℕ) (ended : Carried)
     → is_connect r ≡ true → ((unasked : List FrontAnswer)
-    → ForwardsAs (tunnelled_turn r bytes rest unasked) unasked false seated left a b c d g h ended)
-    → Forwards access r addr p rest bytes seated left a b c d failed g h ended
+    → ForwardsAs (tunnelled_turn r bytes rest unasked) unasked false
+    (exchange_seen left (metered seated a b g h) (sink c d)) ended)
+    → Forwards access (message r addr p) rest bytes (exchange_seen left (metered seated a b g h) (sink c d)) failed
+    ended
 forwards_connect {seated} {left} {a} {b} {c} {d} {g} {h} {failed} access r addr p rest bytes ended e x = record {
   seen = [];
   reading = record { interim = []; final = None; rest = [] };
   broke = false;
   fits = (λ i. absurd (let j : true ≡ false = sym e ∙ i in cc), λ _. refl);
   broken = λ i. absurd cc;
-  goes = λ unasked. subst (λ t. ForwardsAs t unasked false seated left a b c d g h ended) (rw e refl) (x unasked);
+  goes = λ unasked. subst (λ t. ForwardsAs t unasked false (exchange_seen left (metered seated a b g h) (sink c d))
+      ended) (rw e refl) (x unasked);
 }
 
 pub forwards_trade : {seated : Bool} {left a b c d : Option (List ℕ)} {g h : ℕ} {failed : Type 0}
     (access : HeaderAccess) (r : HttpRequest)
     (addr : Address) (p : BodyPlan) (rest bytes : List ℕ) (ended : Carried)
-    → is_connect r ≡ false → Trades access r addr p rest bytes seated left a b c d failed g h ended
-    → Forwards access r addr p rest bytes seated left a b c d failed g h ended
+    → is_connect r ≡ false → Trades access (message r addr p) rest bytes
+    (exchange_seen left (metered seated a b g h) (sink c d)) failed ended
+    → Forwards access (message r addr p) rest bytes (exchange_seen left (metered seated a b g h) (sink c d)) failed
+    ended
 forwards_trade {seated} {left} {a} {b} {c} {d} {g} {h} {failed} access r addr p rest bytes ended e x = record {
   seen = x.seen;
   reading = x.reading;
   broke = x.broke;
   fits = (λ _. x.fits, λ i. absurd (let j : false ≡ true = sym e ∙ i in cc));
   broken = x.broken;
-  goes = λ unasked. subst (λ t. ForwardsAs t unasked x.broke seated left a b c d g h ended) (rw e refl)
+  goes = λ unasked. subst (λ t. ForwardsAs t unasked x.broke (exchange_seen left (metered seated a b g h) (sink c d))
+      ended) (rw e refl)
       (x.goes unasked);
 }
 
@@ -419,15 +438,18 @@ pub traded_told : {first told : Option (List ℕ)} {seated : Bool} {left a b c d
     (ended : Carried)
     → ended ≡ carried_of e → (e ≡ exchanged.NoReply → ⊥)
     → IfSome first (λ input. IfSome told
-    (λ reply. Exchanges access r addr p input reply seated left a b c d g h failed e))
-    → TradesTold access r addr p first told seated left a b c d failed g h ended
+    (λ reply. Exchanges access (message r addr p) input reply (exchange_seen left (metered seated a b g h) (sink c d))
+    failed e))
+    → TradesTold access (message r addr p) first told (exchange_seen left (metered seated a b g h) (sink c d)) failed
+    ended
 traded_told {first = None} access r addr p e ended i n x = record { known = tt }
 traded_told {first = Some rest} {told = None} access r addr p e ended i n x = record { known = tt }
 traded_told {first = Some rest} {told = Some bytes} {seated} {left} {a} {b} {c} {d} {g} {h} {failed} access r addr p e
     ended i
     n x =
     record {
-      known = subst (λ z. Trades access r addr p rest bytes seated left a b c d failed g h z) (sym i)
+      known = subst (λ z. Trades access (message r addr p) rest bytes
+          (exchange_seen left (metered seated a b g h) (sink c d)) failed z) (sym i)
           (traded access r addr p rest bytes e n x);
     }
 
@@ -437,9 +459,11 @@ pub untraded_told : {first told : Option (List ℕ)} {seated : Bool} {left a b c
     (no_body : Bool) (ended : Carried)
     → e ≡ exchanged.NoReply → no_body ≡ is_head r
     → IfSome first (λ input. IfSome told
-    (λ reply. Exchanges access r addr p input reply seated left a mid c d g h failed e))
+    (λ reply. Exchanges access (message r addr p) input reply (exchange_seen left (metered seated a mid g h) (sink c d))
+    failed e))
     → WritesReply (error_text BadGateway no_body) Closes mid b ended
-    → TradesTold access r addr p first told seated left a b c d failed g h ended
+    → TradesTold access (message r addr p) first told (exchange_seen left (metered seated a b g h) (sink c d)) failed
+    ended
 untraded_told {first = None} mid access r addr p e no_body ended i n x w = record { known = tt }
 untraded_told {first = Some rest} {told = None} mid access r addr p e no_body ended i n x w = record { known = tt }
 untraded_told {first = Some rest} {told = Some bytes} {seated} {left} {a} {b} {c} {d} {g} {h} {failed} mid access r addr
@@ -447,7 +471,8 @@ untraded_told {first = Some rest} {told = Some bytes} {seated} {left} {a} {b} {c
     no_body ended i n x w =
     record {
       known = untraded mid access r addr p rest bytes ended
-          (subst (λ z. Exchanges access r addr p rest bytes seated left a mid c d g h failed z) i x)
+          (subst (λ z. Exchanges access (message r addr p) rest bytes
+          (exchange_seen left (metered seated a mid g h) (sink c d)) failed z) i x)
           (subst (λ z. WritesReply (error_text BadGateway z) Closes mid b ended) n w);
     }
 
@@ -457,12 +482,15 @@ pub traded_by : {first told : Option (List ℕ)} {seated : Bool} {left a b c d :
     (p : BodyPlan) (e : Exchanged) (ended : Carried)
     → conf ≡ j.config → facts ≡ facts_of j.config.acls j.sight → ended ≡ carried_of e → (e ≡ exchanged.NoReply → ⊥)
     → ((s : Sight) → facts ≡ facts_of conf.acls s → IfSome first (λ input. IfSome told
-    (λ reply. Exchanges (header_access conf s) r addr p input reply seated left a b c d g h failed e)))
-    → TradesTold (access_of j) r addr p first told seated left a b c d failed g h ended
+    (λ reply. Exchanges (header_access conf s) (message r addr p) input reply
+    (exchange_seen left (metered seated a b g h) (sink c d)) failed e)))
+    → TradesTold (access_of j) (message r addr p) first told (exchange_seen left (metered seated a b g h) (sink c d))
+    failed ended
 traded_by {first} {told} {seated} {left} {a} {b} {c} {d} {g} {h} {failed} j conf facts r addr p e ended same saw i n x =
     traded_told (access_of j) r addr p e ended i n
     (subst (λ z. IfSome first (λ input. IfSome told
-    (λ reply. Exchanges (header_access z j.sight) r addr p input reply seated left a b c d g h failed e))) same
+    (λ reply. Exchanges (header_access z j.sight) (message r addr p) input reply
+    (exchange_seen left (metered seated a b g h) (sink c d)) failed e))) same
     (x j.sight (subst (λ z. facts ≡ facts_of (Configuration.acls z) j.sight) (sym same) saw)))
 
 pub untraded_by : {first told : Option (List ℕ)} {seated : Bool} {left a b c d : Option (List ℕ)} {g h : ℕ}
@@ -470,14 +498,17 @@ pub untraded_by : {first told : Option (List ℕ)} {seated : Bool} {left a b c d
     (addr : Address) (p : BodyPlan) (e : Exchanged) (no_body : Bool) (ended : Carried)
     → conf ≡ j.config → facts ≡ facts_of j.config.acls j.sight → e ≡ exchanged.NoReply → no_body ≡ is_head r
     → ((s : Sight) → facts ≡ facts_of conf.acls s → IfSome first (λ input. IfSome told
-    (λ reply. Exchanges (header_access conf s) r addr p input reply seated left a mid c d g h failed e)))
+    (λ reply. Exchanges (header_access conf s) (message r addr p) input reply
+    (exchange_seen left (metered seated a mid g h) (sink c d)) failed e)))
     → WritesReply (error_text BadGateway no_body) Closes mid b ended
-    → TradesTold (access_of j) r addr p first told seated left a b c d failed g h ended
+    → TradesTold (access_of j) (message r addr p) first told (exchange_seen left (metered seated a b g h) (sink c d))
+    failed ended
 untraded_by {first} {told} {seated} {left} {a} {b} {c} {d} {g} {h} {failed} mid j conf facts r addr p e no_body ended
     same saw i n x w =
     untraded_told mid (access_of j) r addr p e no_body ended i n
     (subst (λ z. IfSome first (λ input. IfSome told
-    (λ reply. Exchanges (header_access z j.sight) r addr p input reply seated left a mid c d g h failed e))) same
+    (λ reply. Exchanges (header_access z j.sight) (message r addr p) input reply
+    (exchange_seen left (metered seated a mid g h) (sink c d)) failed e))) same
     (x j.sight (subst (λ z. facts ≡ facts_of (Configuration.acls z) j.sight) (sym same) saw))) w
 
 carried_cause : (A B C : Type 0) (e : Exchanged) → ExchangeHasCause A B e → EndHasCause A (B ⊎ C) (carried_of e)
@@ -515,23 +546,23 @@ traded_dry e ended i = carried_dry e ∙ ap dry_after (sym i)
 pub connects : {first told : Option (List ℕ)} {seated : Bool} {left a b c d : Option (List ℕ)} {g h : ℕ}
     (mid : Option (List ℕ)) (line : List ℕ) (e : Tunnelled) (ended : Carried)
     → ended ≡ tunnel_end e → line ≡ established_text → Appends a mid line → GoesInPart first c d
-    → GoesGranted seated told mid b g h (spare_of_tunnel e)
-    → (e ≡ tunnelled.Ended → GoesWhole first left c d) → (e ≡ tunnelled.Ended → GoesPaid seated told mid b g h)
-    → ConnectsTold first told seated left a b c d g h ended
+    → GoesGranted told (metered seated mid b g h) (spare_of_tunnel e)
+    → (e ≡ tunnelled.Ended → GoesWhole first left c d) → (e ≡ tunnelled.Ended → GoesPaid told
+    (metered seated mid b g h))
+    → ConnectsTold first told (exchange_seen left (metered seated a b g h) (sink c d)) ended
 connects {first = None} mid line e ended i same w up down up_all down_all = record { known = tt }
 connects {first = Some rest} {told = None} mid line e ended i same w up down up_all down_all = record { known = tt }
 connects {first = Some rest} {told = Some bytes} {seated} {left} {a} {b} {c} {d} {g} {h} mid line e ended i same w up
     down up_all down_all = record {
-      known = λ r unasked. subst (λ z. ForwardsAs (tunnelled_turn r bytes rest unasked) unasked false seated left a b c
-          d g
-          h z) (sym i)
+      known = λ r unasked. subst (λ z. ForwardsAs (tunnelled_turn r bytes rest unasked) unasked false
+          (exchange_seen left (metered seated a b g h) (sink c d)) z) (sym i)
           (tunnelled_goes mid r rest bytes line unasked e same w up down (λ k. (up_all k).1) down_all);
     }
 
 -- the line that tells of it was not written whole
 pub connects_not : {first told : Option (List ℕ)} {seated : Bool} {left a b c : Option (List ℕ)} {g : ℕ} (line : List ℕ)
     → line ≡ established_text → Grew a b (λ part. IsPrefix part line) → Appends c c [] → g ≡ granted_after seated g 0
-    → ConnectsTold first told seated left a b c c g g (Over ClientFault)
+    → ConnectsTold first told (exchange_seen left (metered seated a b g g) (sink c c)) (Over ClientFault)
 connects_not {first = None} line same w none few = record { known = tt }
 connects_not {first = Some rest} {told = None} line same w none few = record { known = tt }
 connects_not {first = Some rest} {told = Some bytes} line same w none few =
@@ -562,8 +593,9 @@ connects_dry e ended i = tunnel_dry e ∙ ap dry_after (sym i)
 -- a tunnel, or an exchange, as the request asks
 pub connects_forwards : {first told : Option (List ℕ)} {seated : Bool} {left a b c d : Option (List ℕ)} {g h : ℕ}
     {failed : Type 0} {ended : Carried} (access : HeaderAccess) (r : HttpRequest) (addr : Address) (p : BodyPlan)
-    → is_connect r ≡ true → ConnectsTold first told seated left a b c d g h ended
-    → ForwardsTold access r addr p first told seated left a b c d failed g h ended
+    → is_connect r ≡ true → ConnectsTold first told (exchange_seen left (metered seated a b g h) (sink c d)) ended
+    → ForwardsTold access (message r addr p) first told (exchange_seen left (metered seated a b g h) (sink c d)) failed
+    ended
 connects_forwards {first = None} access r addr p e x = record { known = tt }
 connects_forwards {first = Some rest} {told = None} access r addr p e x = record { known = tt }
 connects_forwards {first = Some rest} {told = Some bytes} access r addr p e x =
@@ -571,8 +603,10 @@ connects_forwards {first = Some rest} {told = Some bytes} access r addr p e x =
 
 pub trades_forwards : {first told : Option (List ℕ)} {seated : Bool} {left a b c d : Option (List ℕ)} {g h : ℕ}
     {failed : Type 0} {ended : Carried} (access : HeaderAccess) (r : HttpRequest) (addr : Address) (p : BodyPlan)
-    → is_connect r ≡ false → TradesTold access r addr p first told seated left a b c d failed g h ended
-    → ForwardsTold access r addr p first told seated left a b c d failed g h ended
+    → is_connect r ≡ false → TradesTold access (message r addr p) first told
+    (exchange_seen left (metered seated a b g h) (sink c d)) failed ended
+    → ForwardsTold access (message r addr p) first told (exchange_seen left (metered seated a b g h) (sink c d)) failed
+    ended
 trades_forwards {first = None} access r addr p e x = record { known = tt }
 trades_forwards {first = Some rest} {told = None} access r addr p e x = record { known = tt }
 trades_forwards {first = Some rest} {told = Some bytes} access r addr p e x =

@@ -7,7 +7,7 @@ use Rattle.sq_outside.specs.Output.{IsPrefix}
 use Rattle.sq_outside.proofs.Writing.{IsPrefix_refl}
 use Rattle.sq_forward.specs.Meters.{granted_after}
 use Rattle.sq_session.specs.Fronts.{FrontAnswer}
-use Rattle.sq_session.specs.Steps.{is_exact, Gives, Pays, DialsOn, WasTold, Goes, EndHasCause}
+use Rattle.sq_session.specs.Steps.{is_exact, Gives, Pays, DialsOn, WasTold, Goes, EndHasCause, turn_seen}
 use Rattle.sq_session.specs.Written.{Tells, WritesReply}
 use Rattle.sq_session.specs.Turns.{ClientTurn, Reply, NoOrigin, is_broken}
 use Rattle.sq_session.specs.declared.ends.Carried.{Carried}
@@ -22,8 +22,8 @@ granted_none false before h = refl
 -- the same part of a turn, said in another way
 pub goes_as : {tunnel seated : Bool} {unasked : List FrontAnswer} {left a b : Option (List ℕ)} {d : Option Dialled}
     {now : Dialled} {failed : Type 0} {g h : ℕ} {ended : Carried} (t u : Reply → ClientTurn)
-    → ((x : Reply) → t x ≡ u x) → Goes tunnel t unasked seated left a b d now failed g h ended
-    → Goes tunnel u unasked seated left a b d now failed g h ended
+    → ((x : Reply) → t x ≡ u x) → Goes tunnel t unasked seated (turn_seen left a b g h d) now failed ended
+    → Goes tunnel u unasked seated (turn_seen left a b g h d) now failed ended
 goes_as {tunnel} {seated} {unasked} {left} {a} {b} {d} {now} {failed} {g} {h} {ended} t u e x = record {
   reply = x.reply;
   written = x.written;
@@ -81,7 +81,7 @@ own_part : {tunnel seated : Bool} {left a b : Option (List ℕ)} {failed : Type 
     → t NoOrigin ≡ own_turn_of faulted words rest unasked then
     → (is_exact ended ≡ true → (then ≡ ended) × (written ≡ words)) → IsPrefix written words → Appends a b written
     → g ≤ count_limit → before ≡ Some now → (ended ≡ Stays → left ≡ Some rest) → (ended ≡ Over OriginFault → ⊥)
-    → Goes tunnel t unasked seated left a b before now failed g g ended
+    → Goes tunnel t unasked seated (turn_seen left a b g g before) now failed ended
 own_part {tunnel} {seated} {left} {a} {b} {failed} {g} faulted fault t words rest unasked then before now ended written
     e exact front wrote few same stays here = record {
       reply = NoOrigin;
@@ -108,7 +108,7 @@ told_goes : {tunnel seated : Bool} {left a b : Option (List ℕ)} {failed : Type
     (then : Carried) (before : Option Dialled) (now : Dialled) (ended : Carried)
     → t NoOrigin ≡ own_turn_of faulted words rest unasked then → Tells words then a b ended → g ≤ count_limit
     → before ≡ Some now → (then ≡ Stays → left ≡ Some rest)
-    → Goes tunnel t unasked seated left a b before now failed g g ended
+    → Goes tunnel t unasked seated (turn_seen left a b g g before) now failed ended
 told_goes faulted fault t words rest unasked then before now Stays e w few same stays =
     own_part faulted fault t words rest unasked then before now Stays words e (λ _. (w.0, refl)) (IsPrefix_refl words)
     w.1 few same (λ _. stays w.0) (λ s. cc)
@@ -132,7 +132,7 @@ pub own_goes : {tunnel seated : Bool} {left a b : Option (List ℕ)} {failed : T
     (before : Option Dialled) (now : Dialled)
     → t NoOrigin ≡ own_turn words rest unasked then → WritesReply words then a b ended → g ≤ count_limit
     → before ≡ Some now → (then ≡ Stays → left ≡ Some rest)
-    → Goes tunnel t unasked seated left a b before now failed g g ended
+    → Goes tunnel t unasked seated (turn_seen left a b g g before) now failed ended
 own_goes {tunnel} {seated} {left} {a} {b} {failed} {g} {ended} t words rest unasked then before now e w few same stays =
     told_goes false (λ f. absurd cc) t words rest unasked then before now ended e w.is few same stays
 
@@ -142,7 +142,7 @@ pub fault_goes : {tunnel seated : Bool} {left a b : Option (List ℕ)} {failed :
     (before : Option Dialled) (now : Dialled)
     → failed → t NoOrigin ≡ own_turn_of true words rest unasked then → WritesReply words then a b ended
     → g ≤ count_limit → before ≡ Some now → (then ≡ Stays → left ≡ Some rest)
-    → Goes tunnel t unasked seated left a b before now failed g g ended
+    → Goes tunnel t unasked seated (turn_seen left a b g g before) now failed ended
 fault_goes {tunnel} {seated} {left} {a} {b} {failed} {g} {ended} t words rest unasked then before now fault e w few same
     stays = told_goes true (λ _. fault) t words rest unasked then before now ended e w.is few same stays
 
@@ -155,7 +155,8 @@ was_told (Some now) = record { told = (now, refl) }
 pub silent_goes : {tunnel seated : Bool} {left a : Option (List ℕ)} {failed : Type 0} {g : ℕ} (t : Reply → ClientTurn)
     (unasked : List FrontAnswer) (before : Option Dialled) (now : Dialled) (ended : Carried)
     → t NoOrigin ≡ own_turn [] [] unasked ended → Appends a a [] → (ended ≡ Stays → ⊥) → (ended ≡ Over OriginFault → ⊥)
-    → g ≤ count_limit → before ≡ Some now → Goes tunnel t unasked seated left a a before now failed g g ended
+    → g ≤ count_limit → before ≡ Some now → Goes tunnel t unasked seated (turn_seen left a a g g before) now failed
+    ended
 silent_goes t unasked before now ended e wrote goes here few same =
     own_part false (λ f. absurd cc) t [] [] unasked ended before now ended [] e (λ _. (refl, refl)) (IsPrefix_refl [])
     wrote few same (λ s. absurd (goes s)) here

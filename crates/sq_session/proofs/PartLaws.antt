@@ -10,7 +10,7 @@ use Rattle.sq_headers.specs.Access.{HeaderAccess}
 use Rattle.sq_forward.specs.Replies.{Reading}
 use Rattle.sq_session.specs.Fronts.{FrontAnswer}
 use Rattle.sq_session.specs.Forwarding.{Forwards, given_by}
-use Rattle.sq_session.specs.Steps.{is_exact, WritesAs, FitsDial, WasTold, Goes}
+use Rattle.sq_session.specs.Steps.{is_exact, WritesAs, FitsDial, WasTold, Goes, turn_seen}
 use Rattle.sq_session.specs.Told.{ForwardsTold, ReachesTold}
 use Rattle.sq_session.specs.Turns.{Came, is_head, is_connect, dial_to, forwarded, dialled}
 use Rattle.sq_session.specs.declared.ends.Carried.{Carried}
@@ -19,6 +19,8 @@ use Rattle.sq_head.specs.declared.own.Own.TheVariants.{BadGateway}
 use Rattle.sq_session.specs.Written.{WritesReply}
 use Rattle.sq_session.specs.declared.ends.Carried.TheVariants.{Closes}
 use Rattle.sq_session.proofs.GoesLaws.{fault_goes}
+use Rattle.sq_forward.specs.Meters.{metered}
+use Rattle.sq_forward.specs.Exchanges.{message, sink, exchange_seen}
 
 -- a dialer that told at a dial and at its return
 pub dialled_told : (before mid now : Option Dialled) (origin_back : Option Origin) (written_back : Option (List ℕ))
@@ -39,20 +41,21 @@ calls_after before mid now more same = subst (λ n. CallsMore before n) (sym sam
 dial_of : (access : HeaderAccess) (r : HttpRequest) (addr : Address) (p : BodyPlan) (rest bytes : List ℕ)
     (reading : Reading) (broke : Bool)
     (unasked : List FrontAnswer)
-    → (forwarded access r addr p rest bytes reading broke unasked).dial
-    ≡ Some (dial_to r bytes (given_by (forwarded access r addr p rest bytes reading broke unasked).dial))
+    → (forwarded access (message r addr p) rest bytes reading broke unasked).dial
+    ≡ Some (dial_to r bytes (given_by (forwarded access (message r addr p) rest bytes reading broke unasked).dial))
 dial_of access r addr p rest bytes reading broke unasked = by (is_connect r) refl
   where
     by : (b : Bool) → is_connect r ≡ b
-        → (forwarded access r addr p rest bytes reading broke unasked).dial
-        ≡ Some (dial_to r bytes (given_by (forwarded access r addr p rest bytes reading broke unasked).dial))
+        → (forwarded access (message r addr p) rest bytes reading broke unasked).dial
+        ≡ Some (dial_to r bytes (given_by (forwarded access (message r addr p) rest bytes reading broke unasked).dial))
     by true e = rw e refl
     by false e = rw e refl
 
 -- a turn of a link that failed
 faulted_of : (access : HeaderAccess) (r : HttpRequest) (addr : Address) (p : BodyPlan) (rest bytes : List ℕ)
     (reading : Reading) (broke : Bool)
-    (unasked : List FrontAnswer) → (forwarded access r addr p rest bytes reading broke unasked).faulted ≡ true → broke
+    (unasked : List FrontAnswer) → (forwarded access (message r addr p) rest bytes reading broke unasked).faulted ≡ true
+    → broke
     ≡ true
 faulted_of access r addr p rest bytes reading broke unasked h = by (is_connect r) refl
   where
@@ -76,9 +79,11 @@ pub reached : {seated : Bool} {left a b : Option (List ℕ)} {g h : ℕ} {fails 
     (came written written_back : Option (List ℕ)) (first : Option (List ℕ))
     → DialsMore before mid → DialReaches mid r.host r.port origin came written → origin_back ≡ origin
     → first ≡ prepend_known [] came → GivesDial mid (Some now) origin_back written_back
-    → IfSome first (λ bytes. Forwards access r addr p rest bytes seated left a b written written_back fails g h ended)
+    → IfSome first (λ bytes. Forwards access (message r addr p) rest bytes
+    (exchange_seen left (metered seated a b g h) (sink written written_back)) fails ended)
     → (fails → failed)
-    → Goes (is_connect r) (dialled access r addr p rest unasked) unasked seated left a b before now failed g h ended
+    → Goes (is_connect r) (dialled access r addr p rest unasked) unasked seated (turn_seen left a b g h before) now
+    failed ended
 reached access r addr p rest unasked before None now origin origin_back came written written_back first m reach same
     at back f fault = absurd (let e = back.1 in cc)
 reached {seated} {left} {a} {b} {g} {h} {fails} {failed} {ended} access r addr p rest unasked before (Some mid) now
@@ -86,11 +91,13 @@ reached {seated} {left} {a} {b} {g} {h} {fails} {failed} {ended} access r addr p
     origin_back came written written_back first m reach same at back f fault =
     let bytes = reach.0 in
     let made_is : back.0 ≡ mid = let e : Some mid ≡ Some back.0 = back.1 in cc in
-    let all : Forwards access r addr p rest bytes seated left a b written written_back fails g h ended =
-    subst (λ o. IfSome o (λ bs. Forwards access r addr p rest bs seated left a b written written_back fails g h ended))
+    let all : Forwards access (message r addr p) rest bytes (exchange_seen left (metered seated a b g h)
+    (sink written written_back)) fails ended =
+    subst (λ o. IfSome o (λ bs. Forwards access (message r addr p) rest bs
+    (exchange_seen left (metered seated a b g h) (sink written written_back)) fails ended))
     (at ∙ ap (prepend_known []) reach.2) f in
     let x = all.goes unasked in
-    let t = forwarded access r addr p rest bytes all.reading all.broke unasked in
+    let t = forwarded access (message r addr p) rest bytes all.reading all.broke unasked in
     let wrote_all : written_back ≡ Some x.given = wrote_to written written_back x.given reach.3 x.gave in
     let dial : now.back ≡ back.0.back
     ++ record { origin = record { host = r.host; port = r.port; bytes = bytes }; written = x.given } ∷ [] =
@@ -141,7 +148,7 @@ pub unreached_told : {first : Option (List ℕ)} {before now : Option Dialled} {
     {failed : Type 0} {g : ℕ} {ended : Carried} (access : HeaderAccess) (r : HttpRequest) (addr : Address)
     (p : BodyPlan)
     → failed → WritesReply (error_text BadGateway (is_head r)) Closes a b ended → g ≤ count_limit → now ≡ before
-    → ReachesTold access r addr p first before now seat left a b failed g g ended
+    → ReachesTold access (message r addr p) first seat (turn_seen left a b g g before) now failed ended
 unreached_told {first = None} access r addr p fault w few same = record { known = tt }
 unreached_told {first = Some rest} {now = None} access r addr p fault w few same = record { known = tt }
 unreached_told {first = Some rest} {before} {now = Some d} access r addr p fault w few same = record {
@@ -157,8 +164,9 @@ pub reaches : {first : Option (List ℕ)} {before now : Option Dialled} {seated 
     (host : List ℕ) (port : ℕ) (mid : Option Dialled) (origin origin_back : Option Origin) (came : Option (List ℕ))
     → host ≡ r.host → port ≡ r.port → DialsMore before mid → DialReaches mid host port origin came written
     → origin_back ≡ origin → bytes ≡ prepend_known [] came → GivesDial mid now origin_back written_back
-    → ForwardsTold access r addr p first bytes seated left a b written written_back fails g h ended → (fails → failed)
-    → ReachesTold access r addr p first before now seated left a b failed g h ended
+    → ForwardsTold access (message r addr p) first bytes (exchange_seen left (metered seated a b g h)
+    (sink written written_back)) fails ended → (fails → failed)
+    → ReachesTold access (message r addr p) first seated (turn_seen left a b g h before) now failed ended
 reaches {first = None} access r addr p host port mid origin origin_back came e f0 m reach same at back f fault =
     record { known = tt }
 reaches {first = Some rest} {now = None} access r addr p host port mid origin origin_back came e f0 m reach same
@@ -179,9 +187,10 @@ pub reaches_as : {first same_first left same_left : Option (List ℕ)} {before n
     {a b : Option (List ℕ)} {failed : Type 0} {g h : ℕ} {ended : Carried}
     {access : HeaderAccess} {r : HttpRequest} {addr : Address} {p : BodyPlan}
     → same_first ≡ first → left ≡ same_left
-    → ReachesTold access r addr p same_first before now seated same_left a b failed g h ended
-    → ReachesTold access r addr p first before now seated left a b failed g h ended
+    → ReachesTold access (message r addr p) same_first seated (turn_seen same_left a b g h before) now failed ended
+    → ReachesTold access (message r addr p) first seated (turn_seen left a b g h before) now failed ended
 reaches_as {same_first} {left} {before} {now} {seated} {a} {b} {failed} {g} {h} {ended} {access} {r} {addr} {p} e f
     told =
-    subst (λ l. ReachesTold access r addr p l before now seated left a b failed g h ended) e
-    (subst (λ l. ReachesTold access r addr p same_first before now seated l a b failed g h ended) (sym f) told)
+    subst (λ l. ReachesTold access (message r addr p) l seated (turn_seen left a b g h before) now failed ended) e
+    (subst (λ l. ReachesTold access (message r addr p) same_first seated (turn_seen l a b g h before) now failed ended)
+    (sym f) told)

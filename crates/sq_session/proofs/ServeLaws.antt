@@ -10,8 +10,8 @@ use Rattle.sq_outside.specs.Causes.{count_limit}
 use Rattle.sq_outside.specs.Dials.{Dialled}
 use Rattle.sq_forward.specs.Meters.{granted_after}
 use Rattle.sq_session.specs.Fronts.{FrontAnswer}
-use Rattle.sq_session.specs.Sessions.{SessionStep, IsStep, TakesTurn, Turns, EndsSession, answers_of, client_of, dials_of, granted_of, HasFaulted, DialsAll, turn_of}
-use Rattle.sq_session.specs.Steps.{DialsOn, WasTold}
+use Rattle.sq_session.specs.Sessions.{SessionStep, IsStep, TakesTurn, Turns, EndsSession, answers_of, client_of, dials_of, granted_of, HasFaulted, DialsAll, turn_of, session_seen}
+use Rattle.sq_session.specs.Steps.{DialsOn, WasTold, turn_seen, front_seen}
 use Rattle.sq_session.specs.Told.{TurnTold, ServesTold}
 use Rattle.sq_session.specs.declared.ends.Carried.{Carried}
 use Rattle.sq_session.specs.declared.ends.Carried.TheVariants.{Stays}
@@ -122,7 +122,7 @@ pub serves_more : {addr : Address} {stood mid stands : List FrontAnswer → Type
     {first left next a b c : Option (List ℕ)} {before held now : Option Dialled} {failed fails fails_now : Type 0}
     {g h k : ℕ} {ended : Carried}
     → ended ≡ Stays → ServedSo addr stood mid first left a b before held failed g h → WasTold held now
-    → TurnTold addr left held now mid stands next b c fails h k ended
+    → TurnTold addr left (front_seen mid stands) (turn_seen next b c h k held) now fails ended
     → (failed → fails_now) → (fails → fails_now) → ServedSo addr stood stands first next a c before now fails_now g k
 serves_more {first = None} stays x w t early late = record { known = tt }
 serves_more {first = Some input} {now = None} stays x w t early late = record { known = tt }
@@ -130,8 +130,9 @@ serves_more {first = Some input} {held = None} {now = Some d} stays x w t early 
 serves_more {addr} {stood} {mid} {stands} {first = Some input} {left} {next} {a} {b} {c} {before} {held = Some o}
     {now = Some d} {failed} {fails} {fails_now} {g} {h} {k} {ended} stays x w t early late =
     let y = x.known in
-    let u : TakesTurn addr y.rest mid stands next b c (Some o) d fails h k ended =
-    subst (λ l. IfSome l (λ i. TakesTurn addr i mid stands next b c (Some o) d fails h k ended)) y.left_is t.known in
+    let u : TakesTurn addr y.rest (front_seen mid stands) (turn_seen next b c h k (Some o)) d fails ended =
+    subst (λ l. IfSome l (λ i. TakesTurn addr i (front_seen mid stands) (turn_seen next b c h k (Some o)) d fails
+    ended)) y.left_is t.known in
     let s = u.step in
     record {
       known = record {
@@ -153,8 +154,9 @@ pub serves_last : {addr : Address} {stood mid stands : List FrontAnswer → Type
     {first left next a b c : Option (List ℕ)} {before held now : Option Dialled} {failed fails fails_now : Type 0}
     {g h k : ℕ} {end : End} (ended : Carried)
     → EndsSession ended end → ServedSo addr stood mid first left a b before held failed g h → WasTold held now
-    → TurnTold addr left held now mid stands next b c fails h k ended
-    → (failed → fails_now) → (fails → fails_now) → ServesTold addr first before now stood stands a c fails_now g k end
+    → TurnTold addr left (front_seen mid stands) (turn_seen next b c h k held) now fails ended
+    → (failed → fails_now) → (fails → fails_now) → ServesTold addr first (front_seen stood stands)
+    (session_seen a c g k before) now fails_now end
 serves_last {first = None} ended ends x w t early late = record { known = tt }
 serves_last {first = Some input} {now = None} ended ends x w t early late = record { known = tt }
 serves_last {first = Some input} {held = None} {now = Some d} ended ends x w t early late =
@@ -162,8 +164,9 @@ serves_last {first = Some input} {held = None} {now = Some d} ended ends x w t e
 serves_last {addr} {stood} {mid} {stands} {first = Some input} {left} {next} {a} {b} {c} {before} {held = Some o}
     {now = Some d} {failed} {fails} {fails_now} {g} {h} {k} {end} ended ends x w t early late =
     let y = x.known in
-    let u : TakesTurn addr y.rest mid stands next b c (Some o) d fails h k ended =
-    subst (λ l. IfSome l (λ i. TakesTurn addr i mid stands next b c (Some o) d fails h k ended)) y.left_is t.known in
+    let u : TakesTurn addr y.rest (front_seen mid stands) (turn_seen next b c h k (Some o)) d fails ended =
+    subst (λ l. IfSome l (λ i. TakesTurn addr i (front_seen mid stands) (turn_seen next b c h k (Some o)) d fails
+    ended)) y.left_is t.known in
     let s = u.step in
     record {
       known = record {

@@ -5,8 +5,8 @@ use Rattle.sq_outside.specs.Causes.{count_limit, Rose}
 use Rattle.sq_outside.specs.Dials.{Dialled}
 use Rattle.sq_forward.specs.Meters.{granted_after}
 use Rattle.sq_session.specs.Fronts.{FrontAnswer, OfOpen, OfClose}
-use Rattle.sq_session.specs.Sessions.{answers_of, client_of, granted_of, ServesOpened, ClosesOpened, TellsWhole, TellsAs, SessionHasCause, dry_after_session}
-use Rattle.sq_session.specs.Steps.{EndHasCause, dry_after}
+use Rattle.sq_session.specs.Sessions.{answers_of, client_of, granted_of, ServesOpened, ClosesOpened, TellsWhole, TellsAs, SessionHasCause, dry_after_session, session_seen}
+use Rattle.sq_session.specs.Steps.{EndHasCause, dry_after, front_seen}
 use Rattle.sq_session.specs.Told.{ServesTold, SessionTold}
 use Rattle.sq_session.specs.Written.{WritesReply}
 use Rattle.sq_session.specs.declared.ends.Carried.{Carried}
@@ -47,8 +47,8 @@ pub session_in : {addr : Address} {port : ℕ} {first : Option (List ℕ)} {befo
     → (c : Result (Unit {0}) CloseFault)
     → ((list : List FrontAnswer) → stood list → mid (list ++ OfOpen addr port opened.In ∷ []))
     → ((list : List FrontAnswer) → stands list → last (list ++ OfClose c ∷ [])) → g ≡ k → n ≡ h
-    → ServesTold addr first before now mid stands a b failed g h end
-    → SessionTold addr port first before now stood last a b failed k n end
+    → ServesTold addr first (front_seen mid stands) (session_seen a b g h before) now failed end
+    → SessionTold addr port first (front_seen stood last) (session_seen a b k n before) now failed end
 session_in {first = None} c told closed same after x = record { known = tt }
 session_in {first = Some input} {now = None} c told closed same after x = record { known = tt }
 session_in {addr} {port} {first = Some input} {now = Some o} {stands} {last} c told closed same after x =
@@ -81,7 +81,7 @@ pub session_not : {addr : Address} {port : ℕ} {first : Option (List ℕ)} {d :
     → ClosesOpened opening []
     → ((list : List FrontAnswer) → stood list → stands (list ++ OfOpen addr port opening ∷ []))
     → TellsWhole words a b end → g ≤ count_limit → h ≡ g
-    → SessionTold addr port first d d stood stands a b failed g h end
+    → SessionTold addr port first (front_seen stood stands) (session_seen a b g h d) d failed end
 session_not {first = None} opening words serves closes told w few same = record { known = tt }
 session_not {first = Some input} {d = None} opening words serves closes told w few same = record { known = tt }
 session_not {first = Some input} {d = Some o} {g} opening words serves closes told w few same = record {
@@ -149,7 +149,8 @@ session_said A B C WantOfMemory x = tt
 -- the client's sink was closed behind it
 pub session_closed : {addr : Address} {port : ℕ} {first : Option (List ℕ)} {before now : Option Dialled}
     {stood stands : List FrontAnswer → Type 0} {a b c : Option (List ℕ)} {failed : Type 0} {g h : ℕ} {end : End}
-    → c ≡ b → SessionTold addr port first before now stood stands a b failed g h end
-    → SessionTold addr port first before now stood stands a c failed g h end
+    → c ≡ b → SessionTold addr port first (front_seen stood stands) (session_seen a b g h before) now failed end
+    → SessionTold addr port first (front_seen stood stands) (session_seen a c g h before) now failed end
 session_closed {addr} {port} {first} {before} {now} {stood} {stands} {a} {b} {c} {failed} {g} {h} {end} e x =
-    subst (λ z. SessionTold addr port first before now stood stands a z failed g h end) (sym e) x
+    subst (λ z. SessionTold addr port first (front_seen stood stands) (session_seen a z g h before) now failed end)
+    (sym e) x

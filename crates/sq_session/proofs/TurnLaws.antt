@@ -8,7 +8,7 @@ use Rattle.sq_forward.specs.Meters.{granted_after}
 use Rattle.sq_session.specs.Begins.{Begins}
 use Rattle.sq_session.specs.Fronts.{FrontAnswer}
 use Rattle.sq_session.specs.Sessions.{TakesTurn, JudgesBegun, IsGranted, held_seat, asks_tunnel}
-use Rattle.sq_session.specs.Steps.{Pays, Goes}
+use Rattle.sq_session.specs.Steps.{Pays, Goes, turn_seen, front_seen}
 use Rattle.sq_session.specs.Turns.{ClientTurn, from_origin, turn}
 use Rattle.sq_session.specs.declared.beginning.Begun.{Begun}
 use Rattle.sq_session.specs.declared.ends.Carried.{Carried}
@@ -61,8 +61,9 @@ pub takes_turn : {stood stands : List FrontAnswer → Type 0} {left a b : Option
     (rest : List ℕ) (answers : List FrontAnswer)
     → Begins input begun rest → ((list : List FrontAnswer) → stood list → stands (list ++ answers)) → g ≤ count_limit
     → JudgesBegun begun answers
-    → Goes (asks_tunnel begun) (turn addr begun rest answers) [] (held_seat answers) left a b d now failed g h ended
-    → TakesTurn addr input stood stands left a b d now failed g h ended
+    → Goes (asks_tunnel begun) (turn addr begun rest answers) [] (held_seat answers) (turn_seen left a b g h d) now
+    failed ended
+    → TakesTurn addr input (front_seen stood stands) (turn_seen left a b g h d) now failed ended
 takes_turn {stood} {stands} {left} {a} {b} {d} {now} {failed} {g} {h} {ended} addr input begun rest answers begins told
     few judges x =
     let k = counted (held_seat answers) few x.pays in
@@ -98,14 +99,15 @@ takes_turn {stood} {stands} {left} {a} {b} {d} {now} {failed} {g} {h} {ended} ad
 pub takes_request : {first : Option (List ℕ)} {before now : Option Dialled} {stood stands : List FrontAnswer → Type 0}
     {left mid a b : Option (List ℕ)} {failed : Type 0} {g h : ℕ} {ended : Carried} (addr : Address) (r : HttpRequest)
     → g ≤ count_limit → BeginsTold first mid (begun.Asks r)
-    → AnswersTold r addr mid before now stood stands left a b failed g h ended
-    → TurnTold addr first before now stood stands left a b failed g h ended
+    → AnswersTold r addr mid (front_seen stood stands) (turn_seen left a b g h before) now failed ended
+    → TurnTold addr first (front_seen stood stands) (turn_seen left a b g h before) now failed ended
 takes_request {first = None} addr r few x y = record { known = tt }
 takes_request {first = Some input} {now = None} addr r few x y = record { known = tt }
 takes_request {first = Some input} {before} {now = Some o} {stood} {stands} {left} {mid} {a} {b} {failed} {g} {h}
     {ended} addr r few x y =
-    let z : Answers r addr x.known.rest stood stands left a b before o failed g h ended =
-    subst (λ l. IfSome l (λ rest. Answers r addr rest stood stands left a b before o failed g h ended)) x.known.left_is
+    let z : Answers r addr x.known.rest (front_seen stood stands) (turn_seen left a b g h before) o failed ended =
+    subst (λ l. IfSome l (λ rest. Answers r addr rest (front_seen stood stands) (turn_seen left a b g h before) o failed
+    ended)) x.known.left_is
     y.known in
     record {
       known = takes_turn addr input (begun.Asks r) x.known.rest z.answers x.known.begins z.told few z.judges
@@ -118,7 +120,7 @@ pub takes_own : {first : Option (List ℕ)} {d : Option Dialled} {stood : List F
     (words : List ℕ)
     → ((rest : List ℕ) → turn addr begun rest [] NoOrigin ≡ own_turn words [] [] Closes) → g ≤ count_limit
     → BeginsTold first mid begun → WritesReply words Closes a b ended
-    → TurnTold addr first d d stood stood left a b failed g g ended
+    → TurnTold addr first (front_seen stood stood) (turn_seen left a b g g d) d failed ended
 takes_own {first = None} addr begun words e few x w = record { known = tt }
 takes_own {first = Some input} {d = None} addr begun words e few x w = record { known = tt }
 takes_own {first = Some input} {d = Some o} {stood} addr begun words e few x w = record {
@@ -132,7 +134,7 @@ pub takes_none : {first : Option (List ℕ)} {d : Option Dialled} {stood : List 
     {left mid a : Option (List ℕ)} {failed : Type 0} {g : ℕ} (addr : Address) (begun : Begun) (ended : Carried)
     → ((rest : List ℕ) → turn addr begun rest [] NoOrigin ≡ own_turn [] [] [] ended) → (ended ≡ Stays → ⊥)
     → (ended ≡ Over OriginFault → ⊥) → g ≤ count_limit → BeginsTold first mid begun
-    → TurnTold addr first d d stood stood left a a failed g g ended
+    → TurnTold addr first (front_seen stood stood) (turn_seen left a a g g d) d failed ended
 takes_none {first = None} addr begun ended e goes here few x = record { known = tt }
 takes_none {first = Some input} {d = None} addr begun ended e goes here few x = record { known = tt }
 takes_none {first = Some input} {d = Some o} {stood} {a} addr begun ended e goes here few x = record {

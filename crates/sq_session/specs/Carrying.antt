@@ -1,13 +1,11 @@
 -- What follows an allowed verdict.
 use Rattle.std.specs.Prelude.{◌≡◌, ℕ, List, [], ◌∷◌, ◌++◌, Bool, true, false, ◌&&◌, Ok, Err}
-use Rattle.std.specs.declared.option.Option.{Option}
-use Rattle.sq_base.specs.Addresses.{Address}
 use Rattle.sq_base.specs.Requests.{HttpRequest}
-use Rattle.sq_base.specs.declared.plans.BodyPlan.{BodyPlan}
 use Rattle.sq_checks.specs.Records.{Judged}
+use Rattle.sq_forward.specs.Exchanges.{Message}
 use Rattle.sq_outside.specs.Dials.{Dialled}
 use Rattle.sq_session.specs.Fronts.{FrontAnswer, OfOpen, OfDecide, OfRewrite, OfSit, OfClose, SitsFor, takes_seat}
-use Rattle.sq_session.specs.Steps.{Goes}
+use Rattle.sq_session.specs.Steps.{FrontSeen, TurnSeen, Goes}
 use Rattle.sq_session.specs.Turns.{access_of, is_connect, carried, recorded}
 use Rattle.sq_session.specs.declared.ends.Carried.{Carried}
 
@@ -28,24 +26,21 @@ sat (OfClose c ∷ more) = false
 sat [] = false
 
 -- the part of a turn from the scheme on, with the answers that the front gave in it
-pub record Carries (r : HttpRequest) (addr : Address) (p : BodyPlan) (rest : List ℕ) (j : Judged)
-    (stood stands : List FrontAnswer → Type 0) (left a b : Option (List ℕ))
-    (dialled_before : Option Dialled) (dialled_now : Dialled) (failed : Type 0) (g h : ℕ)
-    (ended : Carried) : Type 0 where
+pub record Carries (sent : Message) (rest : List ℕ) (j : Judged) (front : FrontSeen)
+    (links : TurnSeen) (dialled_now : Dialled) (failed : Type 0) (ended : Carried) : Type 0 where
   pub answers : List FrontAnswer
-  pub told : (list : List FrontAnswer) → stood list → stands (list ++ answers)
+  pub told : (list : List FrontAnswer) → front.stood list → front.stands (list ++ answers)
   pub sits : SitsFor j answers
-  pub goes : Goes (is_connect r) (carried (access_of j) r addr p rest answers) []
-      (takes_seat j && sat answers)
-      left a b dialled_before dialled_now failed g h ended
+  pub goes : Goes (is_connect sent.request)
+      (carried (access_of j) sent.request sent.addr sent.plan rest answers) []
+      (takes_seat j && sat answers) links dialled_now failed ended
 
 -- the part of a turn from the record on
-pub record Obeys (r : HttpRequest) (addr : Address) (p : BodyPlan) (rest : List ℕ) (j : Judged)
-    (stood stands : List FrontAnswer → Type 0) (left a b : Option (List ℕ))
-    (dialled_before : Option Dialled) (dialled_now : Dialled) (failed : Type 0) (g h : ℕ)
-    (ended : Carried) : Type 0 where
+pub record Obeys (sent : Message) (rest : List ℕ) (j : Judged) (front : FrontSeen)
+    (links : TurnSeen) (dialled_now : Dialled) (failed : Type 0) (ended : Carried) : Type 0 where
   pub answers : List FrontAnswer
-  pub told : (list : List FrontAnswer) → stood list → stands (list ++ answers)
+  pub told : (list : List FrontAnswer) → front.stood list → front.stands (list ++ answers)
   pub sits : SitsFor j answers
-  pub goes : Goes (is_connect r) (recorded r addr p rest j answers) [] (takes_seat j && sat answers)
-      left a b dialled_before dialled_now failed g h ended
+  pub goes : Goes (is_connect sent.request)
+      (recorded sent.request sent.addr sent.plan rest j answers) []
+      (takes_seat j && sat answers) links dialled_now failed ended

@@ -13,7 +13,7 @@ use Rattle.sq_forward.specs.Meters.{granted_after, dry_limit}
 use Rattle.sq_session.specs.Begins.{Begins}
 use Rattle.sq_session.specs.Carrying.{sat}
 use Rattle.sq_session.specs.Fronts.{FrontAnswer, OfOpen, OfDecide, OfRewrite, OfSit, OfClose, Decides, SitsBehind, takes_seat}
-use Rattle.sq_session.specs.Steps.{spare_of, FitsReply, Gives, DialsOn, Goes}
+use Rattle.sq_session.specs.Steps.{FrontSeen, TurnSeen, spare_of, FitsReply, Gives, DialsOn, Goes}
 use Rattle.sq_session.specs.Turns.{ClientTurn, from_origin, Reply, is_broken, is_connect, asked, turn}
 use Rattle.sq_session.specs.declared.beginning.Begun.{Begun}
 use Rattle.sq_session.specs.declared.beginning.Begun.TheVariants as begun
@@ -50,15 +50,13 @@ JudgesOf r (OfClose c ∷ more) = ⊤
 JudgesOf r [] = ⊤
 
 -- the part of a turn from the request on, with the answers that the front gave in it
-pub record Answers (r : HttpRequest) (addr : Address) (rest : List ℕ)
-    (stood stands : List FrontAnswer → Type 0) (left a b : Option (List ℕ))
-    (dialled_before : Option Dialled) (dialled_now : Dialled) (failed : Type 0) (g h : ℕ)
-    (ended : Carried) : Type 0 where
+pub record Answers (r : HttpRequest) (addr : Address) (rest : List ℕ) (front : FrontSeen)
+    (links : TurnSeen) (dialled_now : Dialled) (failed : Type 0) (ended : Carried) : Type 0 where
   pub answers : List FrontAnswer
-  pub told : (list : List FrontAnswer) → stood list → stands (list ++ answers)
+  pub told : (list : List FrontAnswer) → front.stood list → front.stands (list ++ answers)
   pub judges : JudgesOf r answers
-  pub goes : Goes (is_connect r) (asked r addr rest answers) [] (held_seat answers) left a b
-      dialled_before dialled_now failed g h ended
+  pub goes : Goes (is_connect r) (asked r addr rest answers) [] (held_seat answers) links dialled_now
+      failed ended
 
 -- a turn of a session: what its input begins with and what follows that, the answers that the front
 -- gave, the origin's part, what was written to the client, the dial that came back, what was
@@ -113,19 +111,17 @@ pub record IsStep (addr : Address) (input : List ℕ) (s : SessionStep) : Type 0
   pub grants : IsGranted (turn_of addr s) (held_seat s.answers) (length s.written) s.ended s.granted
 
 -- one turn was taken
-pub record TakesTurn (addr : Address) (input : List ℕ) (stood stands : List FrontAnswer → Type 0)
-    (left a b : Option (List ℕ))
-    (dialled_before : Option Dialled) (dialled_now : Dialled) (failed : Type 0) (g h : ℕ)
-    (ended : Carried) : Type 0 where
+pub record TakesTurn (addr : Address) (input : List ℕ) (front : FrontSeen) (links : TurnSeen)
+    (dialled_now : Dialled) (failed : Type 0) (ended : Carried) : Type 0 where
   pub step : SessionStep
   pub is : IsStep addr input step
   pub ended_is : step.ended ≡ ended
-  pub told : (list : List FrontAnswer) → stood list → stands (list ++ step.answers)
-  pub wrote : Appends a b step.written
-  pub dials : DialsOn dialled_before dialled_now step.dial
+  pub told : (list : List FrontAnswer) → front.stood list → front.stands (list ++ step.answers)
+  pub wrote : Appends links.before links.now step.written
+  pub dials : DialsOn links.dialled_before dialled_now step.dial
   pub broken : (turn_of addr step).faulted ≡ true → failed
-  pub granted : h ≡ granted_after true g step.granted
-  pub rest : ended ≡ Stays → left ≡ Some (turn_of addr step).rest
+  pub granted : links.granted_now ≡ granted_after true links.granted_before step.granted
+  pub rest : ended ≡ Stays → links.left ≡ Some (turn_of addr step).rest
 
 -- how the last turn ends a session
 abbrev pub EndsSession : Carried → End → Type 0
@@ -165,18 +161,35 @@ pub record DialsAll (before : Option Dialled) (now : Dialled) (dials : List Dial
   pub made : now.made ≡ old.made + length dials
   pub back : now.back ≡ old.back ++ dials
 
+-- what is seen of a session: what the client's sink held before and now, how much had been granted
+-- before and is now, and the dials before, where they are told
+pub record SessionSeen : Type 0 where
+  pub before : Option (List ℕ)
+  pub now : Option (List ℕ)
+  pub granted_before : ℕ
+  pub granted_now : ℕ
+  pub dialled_before : Option Dialled
+
+abbrev pub session_seen : Option (List ℕ) → Option (List ℕ) → ℕ → ℕ → Option Dialled → SessionSeen
+session_seen before now granted_before granted_now dialled_before = record {
+  before = before;
+  now = now;
+  granted_before = granted_before;
+  granted_now = granted_now;
+  dialled_before = dialled_before;
+}
+
 -- what the steps of an open connection come to
-pub record Serves (addr : Address) (input : List ℕ) (stood stands : List FrontAnswer → Type 0)
-    (a b : Option (List ℕ))
-    (dialled_before : Option Dialled) (dialled_now : Dialled) (failed : Type 0) (g h : ℕ)
-    (end : End) : Type 0 where
+pub record Serves (addr : Address) (input : List ℕ) (front : FrontSeen) (links : SessionSeen)
+    (dialled_now : Dialled) (failed : Type 0) (end : End) : Type 0 where
   pub steps : List SessionStep
   pub turns : Turns addr input steps end
-  pub told : (list : List FrontAnswer) → stood list → stands (list ++ answers_of steps)
-  pub wrote : Appends a b (client_of steps)
-  pub dials : DialsAll dialled_before dialled_now (dials_of steps)
+  pub told : (list : List FrontAnswer) → front.stood list
+      → front.stands (list ++ answers_of steps)
+  pub wrote : Appends links.before links.now (client_of steps)
+  pub dials : DialsAll links.dialled_before dialled_now (dials_of steps)
   pub broken : HasFaulted addr steps → failed
-  pub granted : h ≡ granted_after true g (granted_of steps)
+  pub granted : links.granted_now ≡ granted_after true links.granted_before (granted_of steps)
 
 -- a reply was written whole, or a front of it before a fault
 abbrev pub TellsAs : List ℕ → List ℕ → End → Type 0
@@ -188,9 +201,9 @@ TellsAs text written OriginCut = ⊥
 TellsAs text written OriginFault = ⊥
 TellsAs text written Starved = ⊥
 
-pub record TellsWhole (text : List ℕ) (a b : Option (List ℕ)) (end : End) : Type 0 where
+pub record TellsWhole (text : List ℕ) (before now : Option (List ℕ)) (end : End) : Type 0 where
   pub written : List ℕ
-  pub wrote : Appends a b written
+  pub wrote : Appends before now written
   pub tells : TellsAs text written end
 
 -- a connection that was opened has its turns, and any other none and one reply
@@ -215,22 +228,20 @@ ClosesOpened opened.JournalFault closing = closing ≡ []
 ClosesOpened opened.WantOfMemory closing = closing ≡ []
 
 -- a session: its opening for the client's address and port, its turns, and its close
-pub record IsSession (addr : Address) (port : ℕ) (input : List ℕ)
-    (stood stands : List FrontAnswer → Type 0) (a b : Option (List ℕ))
-    (dialled_before : Option Dialled) (dialled_now : Dialled) (failed : Type 0) (g h : ℕ)
-    (end : End) : Type 0 where
+pub record IsSession (addr : Address) (port : ℕ) (input : List ℕ) (front : FrontSeen)
+    (links : SessionSeen) (dialled_now : Dialled) (failed : Type 0) (end : End) : Type 0 where
   pub opening : Opened
   pub steps : List SessionStep
   pub written : List ℕ
   pub closing : List FrontAnswer
   pub serves : ServesOpened addr input opening steps written end
   pub closes : ClosesOpened opening closing
-  pub told : (list : List FrontAnswer) → stood list
-      → stands (list ++ OfOpen addr port opening ∷ (answers_of steps ++ closing))
-  pub wrote : Appends a b written
-  pub dials : DialsAll dialled_before dialled_now (dials_of steps)
+  pub told : (list : List FrontAnswer) → front.stood list
+      → front.stands (list ++ OfOpen addr port opening ∷ (answers_of steps ++ closing))
+  pub wrote : Appends links.before links.now written
+  pub dials : DialsAll links.dialled_before dialled_now (dials_of steps)
   pub broken : HasFaulted addr steps → failed
-  pub granted : h ≡ granted_after true g (granted_of steps)
+  pub granted : links.granted_now ≡ granted_after true links.granted_before (granted_of steps)
 
 -- a fault of a link has its cause
 abbrev pub SessionHasCause : Type 0 → Type 0 → End → Type 0

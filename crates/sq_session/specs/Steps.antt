@@ -99,10 +99,11 @@ pub record Gives (t : ClientTurn) (broke : Bool) (written : List ℕ) (came : Op
 
 -- so much was granted in a turn of which so many bytes were written
 pub record Pays (t : ClientTurn) (seated : Bool) (written : List ℕ) (ended : Carried)
-    (g h : ℕ) : Type 0 where
+    (granted_before granted_now : ℕ) : Type 0 where
   pub more : ℕ
   pub close : more ≤ spare_of ended
-  pub granted : h ≡ granted_after seated g (from_origin t (length written) + more)
+  pub granted : granted_now
+      ≡ granted_after seated granted_before (from_origin t (length written) + more)
 
 -- a dialer that tells its dials told them before
 pub record WasTold (before now : Option Dialled) : Type 0 where
@@ -115,21 +116,50 @@ pub record DialsOn (before : Option Dialled) (now : Dialled) (dial : Option Dial
   pub made : now.made ≡ old.made + length (option_to_list dial)
   pub back : now.back ≡ old.back ++ option_to_list dial
 
+-- what is seen of a turn: what is left of the client's input, what the client's sink held before
+-- and now, how much had been granted before and is now, and the dials before, where they are told
+pub record TurnSeen : Type 0 where
+  pub left : Option (List ℕ)
+  pub before : Option (List ℕ)
+  pub now : Option (List ℕ)
+  pub granted_before : ℕ
+  pub granted_now : ℕ
+  pub dialled_before : Option Dialled
+
+abbrev pub turn_seen : Option (List ℕ) → Option (List ℕ) → Option (List ℕ) → ℕ → ℕ
+    → Option Dialled → TurnSeen
+turn_seen left before now granted_before granted_now dialled_before = record {
+  left = left;
+  before = before;
+  now = now;
+  granted_before = granted_before;
+  granted_now = granted_now;
+  dialled_before = dialled_before;
+}
+
+-- the lists of answers that a front stood for before, and those that it stands for now
+pub record FrontSeen : Type 1 where
+  pub stood : List FrontAnswer → Type 0
+  pub stands : List FrontAnswer → Type 0
+
+abbrev pub front_seen : (List FrontAnswer → Type 0) → (List FrontAnswer → Type 0) → FrontSeen
+front_seen stood stands = record { stood = stood; stands = stands }
+
 -- a part of a turn, which is t by what the origin had to say, and has these answers of the front to
 -- spare
 pub record Goes (tunnel : Bool) (t : Reply → ClientTurn) (unasked : List FrontAnswer)
-    (seated : Bool) (left before now : Option (List ℕ)) (dialled_before : Option Dialled)
-    (dialled_now : Dialled) (failed : Type 0) (g h : ℕ) (ended : Carried) : Type 0 where
+    (seated : Bool) (links : TurnSeen) (dialled_now : Dialled) (failed : Type 0)
+    (ended : Carried) : Type 0 where
   pub reply : Reply
   pub written : List ℕ
   pub dial : Option Dial
   pub fits : FitsReply tunnel reply ended
   pub broken : (t reply).faulted ≡ true → failed
   pub gives : Gives (t reply) (is_broken reply) written dial ended
-  pub wrote : Appends before now written
-  pub pays : Pays (t reply) seated written ended g h
-  pub dials : DialsOn dialled_before dialled_now dial
-  pub rest : ended ≡ Stays → left ≡ Some (t reply).rest
+  pub wrote : Appends links.before links.now written
+  pub pays : Pays (t reply) seated written ended links.granted_before links.granted_now
+  pub dials : DialsOn links.dialled_before dialled_now dial
+  pub rest : ended ≡ Stays → links.left ≡ Some (t reply).rest
   pub spare : (t reply).unasked ≡ unasked
 
 -- a fault of a link has its cause

@@ -3,16 +3,16 @@ use Rattle.std.specs.Prelude.{ℕ, List, Bool, false, IfSome}
 use Rattle.std.specs.declared.option.Option.{Option}
 use Rattle.sq_base.specs.Addresses.{Address}
 use Rattle.sq_base.specs.Requests.{HttpRequest}
-use Rattle.sq_base.specs.declared.plans.BodyPlan.{BodyPlan}
 use Rattle.sq_checks.specs.Records.{Judged}
+use Rattle.sq_forward.specs.Exchanges.{Message, ExchangeSeen}
 use Rattle.sq_headers.specs.Access.{HeaderAccess}
 use Rattle.sq_outside.specs.Dials.{Dialled}
 use Rattle.sq_session.specs.Begins.{BeginsSo}
 use Rattle.sq_session.specs.Carrying.{Carries, Obeys}
 use Rattle.sq_session.specs.Forwarding.{ForwardsAs, Trades, Forwards}
 use Rattle.sq_session.specs.Fronts.{FrontAnswer}
-use Rattle.sq_session.specs.Sessions.{Answers, TakesTurn, Serves, IsSession}
-use Rattle.sq_session.specs.Steps.{Goes}
+use Rattle.sq_session.specs.Sessions.{SessionSeen, Answers, TakesTurn, Serves, IsSession}
+use Rattle.sq_session.specs.Steps.{FrontSeen, TurnSeen, Goes}
 use Rattle.sq_session.specs.Turns.{is_connect, dialled, tunnelled_turn}
 use Rattle.sq_session.specs.declared.beginning.Begun.{Begun}
 use Rattle.sq_session.specs.declared.ends.Carried.{Carried}
@@ -23,87 +23,72 @@ pub record BeginsTold (first left : Option (List ℕ)) (begun : Begun) : Type 0 
   pub known : IfSome first (λ input. BeginsSo input left begun)
 
 -- an exchange, of the client's input and the origin's bytes
-pub record TradesTold (access : HeaderAccess) (r : HttpRequest) (addr : Address) (p : BodyPlan)
-    (first told : Option (List ℕ)) (seated : Bool) (left a b c d : Option (List ℕ))
-    (failed : Type 0) (g h : ℕ) (ended : Carried) : Type 0 where
+pub record TradesTold (access : HeaderAccess) (sent : Message) (first told : Option (List ℕ))
+    (links : ExchangeSeen) (failed : Type 0) (ended : Carried) : Type 0 where
   pub known : IfSome first
-      (λ rest. IfSome told
-      (λ bytes. Trades access r addr p rest bytes seated left a b c d failed g h
-      ended))
+      (λ rest. IfSome told (λ bytes. Trades access sent rest bytes links failed ended))
 
 -- a tunnel
-pub record ConnectsTold (first told : Option (List ℕ)) (seated : Bool)
-    (left a b c d : Option (List ℕ)) (g h : ℕ) (ended : Carried) : Type 0 where
+pub record ConnectsTold (first told : Option (List ℕ)) (links : ExchangeSeen)
+    (ended : Carried) : Type 0 where
   pub known : IfSome first
       (λ rest. IfSome told (λ bytes. (r : HttpRequest) (unasked : List FrontAnswer)
-      → ForwardsAs (tunnelled_turn r bytes rest unasked) unasked false seated left a b c d g h
-      ended))
+      → ForwardsAs (tunnelled_turn r bytes rest unasked) unasked false links ended))
 
 -- either, as the request asks
-pub record ForwardsTold (access : HeaderAccess) (r : HttpRequest) (addr : Address) (p : BodyPlan)
-    (first told : Option (List ℕ)) (seated : Bool) (left a b c d : Option (List ℕ))
-    (failed : Type 0) (g h : ℕ) (ended : Carried) : Type 0 where
+pub record ForwardsTold (access : HeaderAccess) (sent : Message) (first told : Option (List ℕ))
+    (links : ExchangeSeen) (failed : Type 0) (ended : Carried) : Type 0 where
   pub known : IfSome first
-      (λ rest. IfSome told
-      (λ bytes. Forwards access r addr p rest bytes seated left a b c d failed g h
-      ended))
+      (λ rest. IfSome told (λ bytes. Forwards access sent rest bytes links failed ended))
 
 -- the part of a turn from the dial on, of the client's input and the dialer's word
-pub record ReachesTold (access : HeaderAccess) (r : HttpRequest) (addr : Address) (p : BodyPlan)
-    (first : Option (List ℕ))
-    (before now : Option Dialled) (seated : Bool) (left a b : Option (List ℕ)) (failed : Type 0)
-    (g h : ℕ) (ended : Carried) : Type 0 where
+pub record ReachesTold (access : HeaderAccess) (sent : Message) (first : Option (List ℕ))
+    (seated : Bool) (links : TurnSeen) (dialled_now : Option Dialled) (failed : Type 0)
+    (ended : Carried) : Type 0 where
   pub known : IfSome first
-      (λ rest. IfSome now (λ o. (unasked : List FrontAnswer)
-      → Goes (is_connect r) (dialled access r addr p rest unasked) unasked seated left a b before o
-      failed
-      g h ended))
+      (λ rest. IfSome dialled_now (λ now. (unasked : List FrontAnswer)
+      → Goes (is_connect sent.request)
+      (dialled access sent.request sent.addr sent.plan rest unasked) unasked seated links now
+      failed ended))
 
 -- the part of a turn from the scheme on
-pub record CarriesTold (r : HttpRequest) (addr : Address) (p : BodyPlan) (j : Judged)
-    (first : Option (List ℕ)) (before now : Option Dialled)
-    (stood stands : List FrontAnswer → Type 0) (left a b : Option (List ℕ)) (failed : Type 0)
-    (g h : ℕ) (ended : Carried) : Type 0 where
+pub record CarriesTold (sent : Message) (j : Judged) (first : Option (List ℕ)) (front : FrontSeen)
+    (links : TurnSeen) (dialled_now : Option Dialled) (failed : Type 0)
+    (ended : Carried) : Type 0 where
   pub known : IfSome first
-      (λ rest. IfSome now (λ o. Carries r addr p rest j stood stands left a b before o failed g h
-      ended))
+      (λ rest. IfSome dialled_now (λ now. Carries sent rest j front links now failed ended))
 
 -- the part of a turn from the record on
-pub record ObeysTold (r : HttpRequest) (addr : Address) (p : BodyPlan) (j : Judged)
-    (first : Option (List ℕ)) (before now : Option Dialled)
-    (stood stands : List FrontAnswer → Type 0) (left a b : Option (List ℕ)) (failed : Type 0)
-    (g h : ℕ) (ended : Carried) : Type 0 where
+pub record ObeysTold (sent : Message) (j : Judged) (first : Option (List ℕ)) (front : FrontSeen)
+    (links : TurnSeen) (dialled_now : Option Dialled) (failed : Type 0)
+    (ended : Carried) : Type 0 where
   pub known : IfSome first
-      (λ rest. IfSome now (λ o. Obeys r addr p rest j stood stands left a b before o failed g h
-      ended))
+      (λ rest. IfSome dialled_now (λ now. Obeys sent rest j front links now failed ended))
 
 -- the part of a turn from the request on
 pub record AnswersTold (r : HttpRequest) (addr : Address) (first : Option (List ℕ))
-    (before now : Option Dialled) (stood stands : List FrontAnswer → Type 0)
-    (left a b : Option (List ℕ)) (failed : Type 0) (g h : ℕ) (ended : Carried) : Type 0 where
+    (front : FrontSeen) (links : TurnSeen) (dialled_now : Option Dialled) (failed : Type 0)
+    (ended : Carried) : Type 0 where
   pub known : IfSome first
-      (λ rest. IfSome now (λ o. Answers r addr rest stood stands left a b before o failed g h
-      ended))
+      (λ rest. IfSome dialled_now (λ now. Answers r addr rest front links now failed ended))
 
 -- a turn
-pub record TurnTold (addr : Address) (first : Option (List ℕ)) (before now : Option Dialled)
-    (stood stands : List FrontAnswer → Type 0) (left a b : Option (List ℕ)) (failed : Type 0)
-    (g h : ℕ) (ended : Carried) : Type 0 where
+pub record TurnTold (addr : Address) (first : Option (List ℕ)) (front : FrontSeen)
+    (links : TurnSeen) (dialled_now : Option Dialled) (failed : Type 0)
+    (ended : Carried) : Type 0 where
   pub known : IfSome first
-      (λ input. IfSome now (λ o. TakesTurn addr input stood stands left a b before o failed g h
-      ended))
+      (λ input. IfSome dialled_now (λ now. TakesTurn addr input front links now failed ended))
 
 -- the turns of an open connection
-pub record ServesTold (addr : Address) (first : Option (List ℕ)) (before now : Option Dialled)
-    (stood stands : List FrontAnswer → Type 0) (a b : Option (List ℕ)) (failed : Type 0) (g h : ℕ)
+pub record ServesTold (addr : Address) (first : Option (List ℕ)) (front : FrontSeen)
+    (links : SessionSeen) (dialled_now : Option Dialled) (failed : Type 0)
     (end : End) : Type 0 where
   pub known : IfSome first
-      (λ input. IfSome now (λ o. Serves addr input stood stands a b before o failed g h end))
+      (λ input. IfSome dialled_now (λ now. Serves addr input front links now failed end))
 
 -- a session
-pub record SessionTold (addr : Address) (port : ℕ) (first : Option (List ℕ))
-    (before now : Option Dialled) (stood stands : List FrontAnswer → Type 0) (a b : Option (List ℕ))
-    (failed : Type 0) (g h : ℕ) (end : End) : Type 0 where
+pub record SessionTold (addr : Address) (port : ℕ) (first : Option (List ℕ)) (front : FrontSeen)
+    (links : SessionSeen) (dialled_now : Option Dialled) (failed : Type 0)
+    (end : End) : Type 0 where
   pub known : IfSome first
-      (λ input. IfSome now (λ o. IsSession addr port input stood stands a b before o failed g h
-      end))
+      (λ input. IfSome dialled_now (λ now. IsSession addr port input front links now failed end))

@@ -17,7 +17,7 @@ use Rattle.sq_head.specs.declared.faults.BadBody.TheVariants.{BothLengths, BadLe
 use Rattle.sq_head.specs.declared.own.Own.{Own}
 use Rattle.sq_head.specs.declared.own.Own.TheVariants.{BadRequest, HeadTooLarge, Inner, Stopped, NoMemory, NotImplemented, BadGateway}
 use Rattle.sq_headers.specs.Access.{HeaderAccess, header_access}
-use Rattle.sq_forward.specs.Exchanges.{Exchange, exchange}
+use Rattle.sq_forward.specs.Exchanges.{Exchange, Message, exchange, message}
 use Rattle.sq_forward.specs.Replies.{Reading}
 use Rattle.sq_forward.specs.declared.exchanging.Exchanged.{Exchanged}
 use Rattle.sq_forward.specs.declared.exchanging.Exchanged.TheVariants as exchanged
@@ -171,13 +171,13 @@ abbrev pub ends_exchange : Bool → Exchange → Exchanged
 ends_exchange broke x = if broke then exchanged.NoReply else x.end
 
 -- behind the dial: the tunnel, or the exchange
-abbrev pub forwarded : HeaderAccess → HttpRequest → Address → BodyPlan → List ℕ → List ℕ → Reading
-    → Bool
+abbrev pub forwarded : HeaderAccess → Message → List ℕ → List ℕ → Reading → Bool
     → List FrontAnswer → ClientTurn
-forwarded access r addr p rest bytes reading broke unasked =
-    if is_connect r then tunnelled_turn r bytes rest unasked
-    else exchanged_turn r bytes broke (ends_exchange broke (exchange access r addr p rest reading))
-    (exchange access r addr p rest reading) unasked
+forwarded access sent rest bytes reading broke unasked =
+    if is_connect sent.request then tunnelled_turn sent.request bytes rest unasked
+    else exchanged_turn sent.request bytes broke
+    (ends_exchange broke (exchange access sent.request sent.addr sent.plan rest reading))
+    (exchange access sent.request sent.addr sent.plan rest reading) unasked
 
 -- an origin that was not reached
 abbrev pub unreached : HttpRequest → List FrontAnswer → ClientTurn
@@ -198,7 +198,7 @@ abbrev pub dialled : HeaderAccess → HttpRequest → Address → BodyPlan → L
     → ClientTurn
 dialled access r addr p rest unasked NoOrigin = unreached r unasked
 dialled access r addr p rest unasked (Came bytes seen reading broke) =
-    forwarded access r addr p rest bytes reading broke unasked
+    forwarded access (message r addr p) rest bytes reading broke unasked
 
 -- from the seat on
 abbrev pub seated : HeaderAccess → HttpRequest → Address → BodyPlan → List ℕ → List FrontAnswer

@@ -6,109 +6,106 @@ ghost use Rattle.sq_session.specs.Forwarding.{tunnel_end};
 ghost use Rattle.sq_session.specs.Steps.{EndHasCause, dry_after};
 ghost use Rattle.sq_session.specs.Told.{ForwardsTold, TradesTold, ConnectsTold};
 ghost use Rattle.sq_session.specs.Turns.{access_of, carried_of};
+ghost use Rattle.sq_forward.specs.Meters.{metered};
+ghost use Rattle.sq_forward.specs.Exchanges.{message, sink, exchange_seen};
 
 use crate::ends::{Carried, End};
+use crate::judged::JudgedRequest;
 use crate::own_replies::{is_connect, is_head, say};
-use sq_base::{Addr, BodyPlan, Request};
-use sq_checks::Record;
-use sq_forward::{Exchanged, Half, Meter, Tunnelled, exchange, tunnel};
+use sq_forward::{Duplex, Ends, Exchanged, Meter, Outgoing, Tunnelled, exchange, tunnel};
 use sq_head::Own;
-use sq_outside::{Failed, Out, Source, write_all};
+use sq_outside::{Failed, write_all};
 use std::alloc::Global;
 use std::sync::Wait;
 use std::thread::Threads;
 
 /// Exchanges a request for its reply, or opens the tunnel that it asks for.
-pub(crate) fn forward<
-    R: Threads + Wait + Sync,
-    I: Source + Send,
-    O: Out,
-    P: Source,
-    Q: Out + Send,
-    M: Meter,
->(
+pub(crate) fn forward<R: Threads + Wait + Sync, C: Ends, O: Ends, M: Meter>(
     rt: &R,
     alloc: Global,
-    client: &mut Half<I>,
-    to: &mut O,
-    origin: &mut Half<P>,
-    to_origin: &mut Q,
+    client: &mut Duplex<C>,
+    origin: &mut Duplex<O>,
     meter: &mut M,
-    judged: &Record,
-    sent: &Request,
-    addr: Addr,
-    plan: BodyPlan,
+    request: &JudgedRequest,
 ) -> Carried
     requires dry { M.dry meter.old ≡ 0 }
-    ensures told { ForwardsTold (access_of judged.now) sent.now addr plan
-        (to_come I.left client.old) (to_come P.left origin.old) (M.seated meter.old) (to_come I.left client.new)
-        (O.Sink.contents to.old) (O.Sink.contents to.new)
-        (Q.Sink.contents to_origin.old) (Q.Sink.contents to_origin.new)
-        (Rose (P.faults origin.old.source) (P.faults origin.new.source)
-        ⊎ Rose (Q.Sink.faults to_origin.old) (Q.Sink.faults to_origin.new))
-        (M.granted meter.old) (M.granted meter.new) result }
+    ensures told { ForwardsTold (access_of request.now.judged.now)
+        (message request.now.sent.now request.now.addr request.now.plan)
+        (to_come C.In.left client.old.from) (to_come O.In.left origin.old.from)
+        (exchange_seen (to_come C.In.left client.new.from) (metered (M.seated meter.old)
+        (C.Outgo.Sink.contents client.old.to) (C.Outgo.Sink.contents client.new.to)
+        (M.granted meter.old)
+        (M.granted meter.new)) (sink (O.Outgo.Sink.contents origin.old.to)
+        (O.Outgo.Sink.contents origin.new.to))) (Rose (O.In.faults origin.old.from.source)
+        (O.In.faults origin.new.from.source)
+        ⊎ Rose (O.Outgo.Sink.faults origin.old.to) (O.Outgo.Sink.faults origin.new.to)) result }
     ensures cause { EndHasCause
-        (Rose (I.faults client.old.source) (I.faults client.new.source)
-        ⊎ Rose (O.Sink.faults to.old) (O.Sink.faults to.new))
-        (Rose (P.faults origin.old.source) (P.faults origin.new.source)
-        ⊎ Rose (Q.Sink.faults to_origin.old) (Q.Sink.faults to_origin.new)) result }
+        (Rose (C.In.faults client.old.from.source) (C.In.faults client.new.from.source)
+        ⊎ Rose (C.Outgo.Sink.faults client.old.to) (C.Outgo.Sink.faults client.new.to))
+        (Rose (O.In.faults origin.old.from.source) (O.In.faults origin.new.from.source)
+        ⊎ Rose (O.Outgo.Sink.faults origin.old.to) (O.Outgo.Sink.faults origin.new.to)) result }
     ensures dry { M.dry meter.new ≡ dry_after result }
     ensures seated { M.seated meter.new ≡ M.seated meter.old }
     ensures besides { M.besides meter.new ≡ M.besides meter.old }
-    ensures client_later { I.faults client.old.source ≤ I.faults client.new.source }
-    ensures to_later { O.Sink.faults to.old ≤ O.Sink.faults to.new }
-    ensures origin_dialled { P.origin origin.new.source ≡ P.origin origin.old.source }
+    ensures client_later { C.In.faults client.old.from.source ≤ C.In.faults client.new.from.source }
+    ensures to_later { C.Outgo.Sink.faults client.old.to ≤ C.Outgo.Sink.faults client.new.to }
+    ensures origin_dialled { O.In.origin origin.new.from.source
+        ≡ O.In.origin origin.old.from.source }
 {
-    if is_connect(sent) {
-        connect(rt, alloc, client, to, origin, to_origin, meter)
+    if is_connect(request.sent) {
+        connect(rt, alloc, client, origin, meter)
     } else {
-        trade(
-            rt, alloc, client, to, origin, to_origin, meter, judged, sent, addr, plan,
-        )
+        trade(rt, alloc, client, origin, meter, request)
     }
 }
 
 // Exchanges a request for its reply. Where there is none that can be passed on, the client hears that.
-fn trade<R: Wait, I: Source, O: Out, P: Source, Q: Out, M: Meter>(
+fn trade<R: Wait, C: Ends, O: Ends, M: Meter>(
     rt: &R,
     alloc: Global,
-    client: &mut Half<I>,
-    to: &mut O,
-    origin: &mut Half<P>,
-    to_origin: &mut Q,
+    client: &mut Duplex<C>,
+    origin: &mut Duplex<O>,
     meter: &mut M,
-    judged: &Record,
-    sent: &Request,
-    addr: Addr,
-    plan: BodyPlan,
+    request: &JudgedRequest,
 ) -> Carried
     requires dry { M.dry meter.old ≡ 0 }
-    ensures told { TradesTold (access_of judged.now) sent.now addr plan
-        (to_come I.left client.old) (to_come P.left origin.old) (M.seated meter.old) (to_come I.left client.new)
-        (O.Sink.contents to.old) (O.Sink.contents to.new)
-        (Q.Sink.contents to_origin.old) (Q.Sink.contents to_origin.new)
-        (Rose (P.faults origin.old.source) (P.faults origin.new.source)
-        ⊎ Rose (Q.Sink.faults to_origin.old) (Q.Sink.faults to_origin.new))
-        (M.granted meter.old) (M.granted meter.new) result }
+    ensures told { TradesTold (access_of request.now.judged.now)
+        (message request.now.sent.now request.now.addr request.now.plan)
+        (to_come C.In.left client.old.from) (to_come O.In.left origin.old.from)
+        (exchange_seen (to_come C.In.left client.new.from) (metered (M.seated meter.old)
+        (C.Outgo.Sink.contents client.old.to) (C.Outgo.Sink.contents client.new.to)
+        (M.granted meter.old)
+        (M.granted meter.new)) (sink (O.Outgo.Sink.contents origin.old.to)
+        (O.Outgo.Sink.contents origin.new.to))) (Rose (O.In.faults origin.old.from.source)
+        (O.In.faults origin.new.from.source)
+        ⊎ Rose (O.Outgo.Sink.faults origin.old.to) (O.Outgo.Sink.faults origin.new.to)) result }
     ensures cause { EndHasCause
-        (Rose (I.faults client.old.source) (I.faults client.new.source)
-        ⊎ Rose (O.Sink.faults to.old) (O.Sink.faults to.new))
-        (Rose (P.faults origin.old.source) (P.faults origin.new.source)
-        ⊎ Rose (Q.Sink.faults to_origin.old) (Q.Sink.faults to_origin.new)) result }
+        (Rose (C.In.faults client.old.from.source) (C.In.faults client.new.from.source)
+        ⊎ Rose (C.Outgo.Sink.faults client.old.to) (C.Outgo.Sink.faults client.new.to))
+        (Rose (O.In.faults origin.old.from.source) (O.In.faults origin.new.from.source)
+        ⊎ Rose (O.Outgo.Sink.faults origin.old.to) (O.Outgo.Sink.faults origin.new.to)) result }
     ensures dry { M.dry meter.new ≡ dry_after result }
     ensures seated { M.seated meter.new ≡ M.seated meter.old }
     ensures besides { M.besides meter.new ≡ M.besides meter.old }
-    ensures client_later { I.faults client.old.source ≤ I.faults client.new.source }
-    ensures to_later { O.Sink.faults to.old ≤ O.Sink.faults to.new }
-    ensures origin_dialled { P.origin origin.new.source ≡ P.origin origin.old.source }
+    ensures client_later { C.In.faults client.old.from.source ≤ C.In.faults client.new.from.source }
+    ensures to_later { C.Outgo.Sink.faults client.old.to ≤ C.Outgo.Sink.faults client.new.to }
+    ensures origin_dialled { O.In.origin origin.new.from.source
+        ≡ O.In.origin origin.old.from.source }
 {
+    let judged = request.judged;
+    let sent = request.sent;
     let config = judged.config();
     let facts = judged.facts();
-    let ended = exchange(
-        rt, alloc, client, to, origin, to_origin, meter, sent, addr, plan, config, facts,
-    );
+    let outgoing = Outgoing {
+        request: sent,
+        addr: request.addr,
+        plan: request.plan,
+        config,
+        facts,
+    };
+    let ended = exchange(rt, alloc, client, origin, meter, &outgoing);
     match ended {
-        Exchanged::NoReply => say(alloc, to, Own::BadGateway, is_head(sent)),
+        Exchanged::NoReply => say(alloc, &mut client.to, Own::BadGateway, is_head(sent)),
         ended => carried_of(ended),
     }
 }
@@ -132,38 +129,42 @@ fn carried_of(ended: Exchanged) -> Carried
 }
 
 // Tells the client that the tunnel is there, and copies both ways.
-fn connect<R: Threads + Wait + Sync, I: Source + Send, O: Out, P: Source, Q: Out + Send, M: Meter>(
+fn connect<R: Threads + Wait + Sync, C: Ends, O: Ends, M: Meter>(
     rt: &R,
     alloc: Global,
-    client: &mut Half<I>,
-    to: &mut O,
-    origin: &mut Half<P>,
-    to_origin: &mut Q,
+    client: &mut Duplex<C>,
+    origin: &mut Duplex<O>,
     meter: &mut M,
 ) -> Carried
     requires dry { M.dry meter.old ≡ 0 }
-    ensures told { ConnectsTold (to_come I.left client.old) (to_come P.left origin.old)
-        (M.seated meter.old) (to_come I.left client.new)
-        (O.Sink.contents to.old) (O.Sink.contents to.new) (Q.Sink.contents to_origin.old)
-        (Q.Sink.contents to_origin.new)
-        (M.granted meter.old) (M.granted meter.new) result }
+    ensures told { ConnectsTold (to_come C.In.left client.old.from) (to_come O.In.left
+        origin.old.from)
+        (exchange_seen (to_come C.In.left client.new.from) (metered (M.seated meter.old)
+        (C.Outgo.Sink.contents client.old.to) (C.Outgo.Sink.contents client.new.to)
+        (M.granted meter.old)
+        (M.granted meter.new)) (sink (O.Outgo.Sink.contents origin.old.to)
+        (O.Outgo.Sink.contents origin.new.to))) result }
     ensures cause { EndHasCause
-        (Rose (I.faults client.old.source) (I.faults client.new.source)
-        ⊎ Rose (O.Sink.faults to.old) (O.Sink.faults to.new))
-        (Rose (P.faults origin.old.source) (P.faults origin.new.source)
-        ⊎ Rose (Q.Sink.faults to_origin.old) (Q.Sink.faults to_origin.new)) result }
+        (Rose (C.In.faults client.old.from.source) (C.In.faults client.new.from.source)
+        ⊎ Rose (C.Outgo.Sink.faults client.old.to) (C.Outgo.Sink.faults client.new.to))
+        (Rose (O.In.faults origin.old.from.source) (O.In.faults origin.new.from.source)
+        ⊎ Rose (O.Outgo.Sink.faults origin.old.to) (O.Outgo.Sink.faults origin.new.to)) result }
     ensures dry { M.dry meter.new ≡ dry_after result }
     ensures seated { M.seated meter.new ≡ M.seated meter.old }
     ensures besides { M.besides meter.new ≡ M.besides meter.old }
-    ensures client_later { I.faults client.old.source ≤ I.faults client.new.source }
-    ensures to_later { O.Sink.faults to.old ≤ O.Sink.faults to.new }
-    ensures origin_dialled { P.origin origin.new.source ≡ P.origin origin.old.source }
+    ensures client_later { C.In.faults client.old.from.source ≤ C.In.faults client.new.from.source }
+    ensures to_later { C.Outgo.Sink.faults client.old.to ≤ C.Outgo.Sink.faults client.new.to }
+    ensures origin_dialled { O.In.origin origin.new.from.source
+        ≡ O.In.origin origin.old.from.source }
 {
-    match write_all(to, b"HTTP/1.1 200 Connection established\r\n\r\n") {
+    match write_all(
+        &mut client.to,
+        b"HTTP/1.1 200 Connection established\r\n\r\n",
+    ) {
         Ok(()) => {}
         Err(Failed) => return Carried::Over(End::ClientFault),
     }
-    tunnel_end(tunnel(rt, alloc, client, to, origin, to_origin, meter))
+    tunnel_end(tunnel(rt, alloc, client, origin, meter))
 }
 
 // How a turn ends by its tunnel.

@@ -5,16 +5,17 @@ ghost use Rattle.sq_outside.specs.Dials.{IsClosed};
 ghost use Rattle.sq_head.specs.OwnReplies.{error_text};
 ghost use Rattle.sq_forward.specs.Halves.{to_come};
 ghost use Rattle.sq_session.specs.Told.{ServesTold, SessionTold};
-ghost use Rattle.sq_session.specs.Sessions.{TellsWhole, SessionHasCause, dry_after_session};
+ghost use Rattle.sq_session.specs.Sessions.{TellsWhole, SessionHasCause, dry_after_session, session_seen};
+ghost use Rattle.sq_session.specs.Steps.{front_seen};
 
 use crate::ends::{Carried, End};
 use crate::front::{Front, Opened};
 use crate::own_replies::say;
 use crate::turning::turn;
 use sq_base::Addr;
-use sq_forward::{Half, Meter};
+use sq_forward::{Duplex, Ends, Meter};
 use sq_head::Own;
-use sq_outside::{Dialer, Out, Sink, Source};
+use sq_outside::{Dialer, Out, Sink};
 use std::alloc::Global;
 use std::sync::Wait;
 use std::thread::Threads;
@@ -32,11 +33,10 @@ pub struct SessionEnd {
 
 /// Serves the connection of a client at this address and port, from its first byte to its last, and closes it. It
 /// may wait as long as a source gives bytes, and as a helper owes an answer.
-pub fn session<R: Threads + Wait + Sync, I: Source + Send, O: Out, F: Front, D: Dialer>(
+pub fn session<R: Threads + Wait + Sync, C: Ends, F: Front, D: Dialer>(
     rt: &R,
     alloc: Global,
-    client: &mut Half<I>,
-    to: &mut O,
+    client: &mut Duplex<C>,
     addr: Addr,
     port: u16,
     front: &mut F,
@@ -46,28 +46,29 @@ pub fn session<R: Threads + Wait + Sync, I: Source + Send, O: Out, F: Front, D: 
     requires unseated { F.Meter.seated front.old ≡ false }
     // The front is opened for this address and port, asked about each request that came, and closed where it was opened.
     // What was written is what the turns of the input give, with the front's answers and the origins' bytes.
-    ensures told { SessionTold addr port (to_come I.left client.old) (D.dialled dialer.old)
-        (D.dialled dialer.new) (F.stands front.old) (F.stands front.new)
-        (O.Sink.contents to.old) (O.Sink.contents to.new)
-        (Rose (D.faults dialer.old) (D.faults dialer.new))
-        (F.Meter.granted front.old) (F.Meter.granted front.new) result.why }
+    ensures told { SessionTold addr port (to_come C.In.left client.old.from)
+        (front_seen (F.stands front.old) (F.stands front.new))
+        (session_seen (C.Outgo.Sink.contents client.old.to) (C.Outgo.Sink.contents client.new.to)
+        (F.Meter.granted front.old)
+        (F.Meter.granted front.new) (D.dialled dialer.old)) (D.dialled dialer.new)
+        (Rose (D.faults dialer.old) (D.faults dialer.new)) result.why }
     ensures requests { result.requests ≡ F.asked front.new - F.asked front.old }
     ensures granted { result.granted ≡ F.Meter.granted front.new - F.Meter.granted front.old }
     ensures cause { SessionHasCause
-        (Rose (I.faults client.old.source) (I.faults client.new.source)
-        ⊎ Rose (O.Sink.faults to.old) (O.Sink.faults to.new))
+        (Rose (C.In.faults client.old.from.source) (C.In.faults client.new.from.source)
+        ⊎ Rose (C.Outgo.Sink.faults client.old.to) (C.Outgo.Sink.faults client.new.to))
         (Rose (D.faults dialer.old) (D.faults dialer.new)) result.why }
     // Starved exactly where the front is that dry.
     ensures dry { F.Meter.dry front.new ≡ dry_after_session result.why }
     ensures unseated { F.Meter.seated front.new ≡ false }
-    ensures closed { IsClosed (O.closed to.new) }
-    ensures client_later { I.faults client.old.source ≤ I.faults client.new.source }
-    ensures to_later { O.Sink.faults to.old ≤ O.Sink.faults to.new }
+    ensures closed { IsClosed (C.Outgo.closed client.new.to) }
+    ensures client_later { C.In.faults client.old.from.source ≤ C.In.faults client.new.from.source }
+    ensures to_later { C.Outgo.Sink.faults client.old.to ≤ C.Outgo.Sink.faults client.new.to }
     ensures dialer_later { D.faults dialer.old ≤ D.faults dialer.new }
 {
     let before = front.counted();
-    let why = open(rt, alloc, client, to, addr, port, front, dialer);
-    to.close();
+    let why = open(rt, alloc, client, addr, port, front, dialer);
+    client.to.close();
     let after = front.counted();
     SessionEnd {
         why,
@@ -77,11 +78,10 @@ pub fn session<R: Threads + Wait + Sync, I: Source + Send, O: Out, F: Front, D: 
 }
 
 // Opens the connection, serves it and closes it; or says why it is not opened.
-fn open<R: Threads + Wait + Sync, I: Source + Send, O: Out, F: Front, D: Dialer>(
+fn open<R: Threads + Wait + Sync, C: Ends, F: Front, D: Dialer>(
     rt: &R,
     alloc: Global,
-    client: &mut Half<I>,
-    to: &mut O,
+    client: &mut Duplex<C>,
     addr: Addr,
     port: u16,
     front: &mut F,
@@ -89,32 +89,33 @@ fn open<R: Threads + Wait + Sync, I: Source + Send, O: Out, F: Front, D: Dialer>
 ) -> End
     requires dry { F.Meter.dry front.old ≡ 0 }
     requires unseated { F.Meter.seated front.old ≡ false }
-    ensures told { SessionTold addr port (to_come I.left client.old) (D.dialled dialer.old)
-        (D.dialled dialer.new) (F.stands front.old) (F.stands front.new)
-        (O.Sink.contents to.old) (O.Sink.contents to.new)
-        (Rose (D.faults dialer.old) (D.faults dialer.new))
-        (F.Meter.granted front.old) (F.Meter.granted front.new) result }
+    ensures told { SessionTold addr port (to_come C.In.left client.old.from)
+        (front_seen (F.stands front.old) (F.stands front.new))
+        (session_seen (C.Outgo.Sink.contents client.old.to) (C.Outgo.Sink.contents client.new.to)
+        (F.Meter.granted front.old)
+        (F.Meter.granted front.new) (D.dialled dialer.old)) (D.dialled dialer.new)
+        (Rose (D.faults dialer.old) (D.faults dialer.new)) result }
     ensures cause { SessionHasCause
-        (Rose (I.faults client.old.source) (I.faults client.new.source)
-        ⊎ Rose (O.Sink.faults to.old) (O.Sink.faults to.new))
+        (Rose (C.In.faults client.old.from.source) (C.In.faults client.new.from.source)
+        ⊎ Rose (C.Outgo.Sink.faults client.old.to) (C.Outgo.Sink.faults client.new.to))
         (Rose (D.faults dialer.old) (D.faults dialer.new)) result }
     ensures dry { F.Meter.dry front.new ≡ dry_after_session result }
     ensures unseated { F.Meter.seated front.new ≡ false }
     ensures asked { F.asked front.old ≤ F.asked front.new }
-    ensures client_later { I.faults client.old.source ≤ I.faults client.new.source }
-    ensures to_later { O.Sink.faults to.old ≤ O.Sink.faults to.new }
+    ensures client_later { C.In.faults client.old.from.source ≤ C.In.faults client.new.from.source }
+    ensures to_later { C.Outgo.Sink.faults client.old.to ≤ C.Outgo.Sink.faults client.new.to }
     ensures dialer_later { D.faults dialer.old ≤ D.faults dialer.new }
 {
     match front.open(alloc, addr, port) {
         Opened::In => {
-            let why = serve(rt, alloc, client, to, addr, front, dialer);
+            let why = serve(rt, alloc, client, addr, front, dialer);
             let _closed = front.close();
             why
         }
-        Opened::Full => refuse(alloc, to, Own::TooManyConns),
-        Opened::Refused(_) => refuse(alloc, to, Own::Inner),
-        Opened::JournalFault => refuse(alloc, to, Own::Stopped),
-        Opened::WantOfMemory => refuse(alloc, to, Own::NoMemory),
+        Opened::Full => refuse(alloc, &mut client.to, Own::TooManyConns),
+        Opened::Refused(_) => refuse(alloc, &mut client.to, Own::Inner),
+        Opened::JournalFault => refuse(alloc, &mut client.to, Own::Stopped),
+        Opened::WantOfMemory => refuse(alloc, &mut client.to, Own::NoMemory),
     }
 }
 
@@ -134,35 +135,35 @@ fn refuse<O: Sink>(alloc: Global, to: &mut O, own: Own) -> End
 }
 
 // Takes one turn after the other.
-fn serve<R: Threads + Wait + Sync, I: Source + Send, O: Out, F: Front, D: Dialer>(
+fn serve<R: Threads + Wait + Sync, C: Ends, F: Front, D: Dialer>(
     rt: &R,
     alloc: Global,
-    client: &mut Half<I>,
-    to: &mut O,
+    client: &mut Duplex<C>,
     addr: Addr,
     front: &mut F,
     dialer: &mut D,
 ) -> End
     requires dry { F.Meter.dry front.old ≡ 0 }
     requires unseated { F.Meter.seated front.old ≡ false }
-    ensures told { ServesTold addr (to_come I.left client.old) (D.dialled dialer.old)
-        (D.dialled dialer.new) (F.stands front.old) (F.stands front.new)
-        (O.Sink.contents to.old) (O.Sink.contents to.new)
-        (Rose (D.faults dialer.old) (D.faults dialer.new))
-        (F.Meter.granted front.old) (F.Meter.granted front.new) result }
+    ensures told { ServesTold addr (to_come C.In.left client.old.from)
+        (front_seen (F.stands front.old) (F.stands front.new))
+        (session_seen (C.Outgo.Sink.contents client.old.to) (C.Outgo.Sink.contents client.new.to)
+        (F.Meter.granted front.old)
+        (F.Meter.granted front.new) (D.dialled dialer.old)) (D.dialled dialer.new)
+        (Rose (D.faults dialer.old) (D.faults dialer.new)) result }
     ensures cause { SessionHasCause
-        (Rose (I.faults client.old.source) (I.faults client.new.source)
-        ⊎ Rose (O.Sink.faults to.old) (O.Sink.faults to.new))
+        (Rose (C.In.faults client.old.from.source) (C.In.faults client.new.from.source)
+        ⊎ Rose (C.Outgo.Sink.faults client.old.to) (C.Outgo.Sink.faults client.new.to))
         (Rose (D.faults dialer.old) (D.faults dialer.new)) result }
     ensures dry { F.Meter.dry front.new ≡ dry_after_session result }
     ensures unseated { F.Meter.seated front.new ≡ false }
     ensures asked { F.asked front.old ≤ F.asked front.new }
-    ensures client_later { I.faults client.old.source ≤ I.faults client.new.source }
-    ensures to_later { O.Sink.faults to.old ≤ O.Sink.faults to.new }
+    ensures client_later { C.In.faults client.old.from.source ≤ C.In.faults client.new.from.source }
+    ensures to_later { C.Outgo.Sink.faults client.old.to ≤ C.Outgo.Sink.faults client.new.to }
     ensures dialer_later { D.faults dialer.old ≤ D.faults dialer.new }
 {
     for _ in rt.forever() {
-        match turn(rt, alloc, client, to, addr, front, dialer) {
+        match turn(rt, alloc, client, addr, front, dialer) {
             Carried::Stays => {}
             Carried::Closes => return End::Finished,
             Carried::Over(end) => return end,

@@ -11,7 +11,7 @@ use Rattle.sq_verify.specs.declared.findings.Finding.TheVariants as finding
 use Rattle.sq_verify.specs.declared.halts.Halt.{Halt}
 use Rattle.sq_verify.specs.declared.halts.Halt.TheVariants as halt
 use Rattle.sq_verify.specs.declared.versions.Version.{Version}
-use Rattle.sq_verify.specs.Promised.{AreAhead, Comes, Goes, GoesOn, Going, IsKnown, IsNext, JudgeHasCauses, JudgesOver, ReachesEnd, Stands, StaysKnown}
+use Rattle.sq_verify.specs.Promised.{AreAhead, Comes, Goes, GoesOn, Going, IsKnown, IsNext, JudgeHasCauses, JudgesOver, ReachesEnd, Stands, StaysKnown, journal_spot}
 use Rattle.sq_verify.specs.JournalLines.{line_limit, noted_in}
 use Rattle.sq_verify.specs.Judging.{Judged, found_at, go_on, judged_lines, line_number, stated_line}
 use Rattle.sq_verify.proofs.LaterLaws.{ahead_next, later_ahead, stated_later}
@@ -27,7 +27,8 @@ told_map (Some bytes) v configs h P Q f p = λ ahead. f bytes (p ahead)
 -- nothing is judged yet
 pub going_first : (w : ScriptView) (v : Version) (left : Option (List ℕ)) (configs : List Configuration) (h : History)
     (count epoch place : ℕ) → Stands w count epoch configs h
-    → Going w v left left configs h (λ bytes. judged_lines v configs h place (lines bytes)) count epoch place
+    → Going w v left left configs h (λ bytes. judged_lines v configs h place (lines bytes))
+    (journal_spot count epoch place)
 going_first w v None configs h count epoch place s = tt
 going_first w v (Some bytes) configs h count epoch place s =
     λ ahead. record { history = h; stands = s; bytes = bytes; left_is = refl; ahead = ahead; same = refl }
@@ -46,7 +47,7 @@ ends_so w v left after line configs whole count epoch place f g =
 pub going_end : (w : ScriptView) (v : Version) (first left after : Option (List ℕ)) (line : List ℕ)
     (configs : List Configuration) (h : History) (judged : List ℕ → Judged) (count epoch place : ℕ)
     → FindsWithin (line_limit v) place left after line found.End
-    → Going w v first left configs h judged count epoch place
+    → Going w v first left configs h judged (journal_spot count epoch place)
     → JudgesOver first v configs h judged (finding.Verified count)
 going_end w v first left after line configs h judged count epoch place f going =
     told_map first v configs h (λ bytes. GoesOn w v left configs (judged bytes) count epoch place)
@@ -70,7 +71,7 @@ faulty_so w v left after line configs whole count epoch place f g =
 pub going_faulty : (w : ScriptView) (v : Version) (first left after : Option (List ℕ)) (line : List ℕ)
     (configs : List Configuration) (h : History) (judged : List ℕ → Judged) (count epoch place : ℕ)
     → FindsWithin (line_limit v) place left after line found.Faulty
-    → Going w v first left configs h judged count epoch place
+    → Going w v first left configs h judged (journal_spot count epoch place)
     → JudgesOver first v configs h judged (finding.Script (line_number v count))
 going_faulty w v first left after line configs h judged count epoch place f going =
     told_map first v configs h (λ bytes. GoesOn w v left configs (judged bytes) count epoch place)
@@ -80,7 +81,7 @@ going_faulty w v first left after line configs h judged count epoch place f goin
 -- a fault came: nothing is said
 pub going_stopped : (w : ScriptView) (v : Version) (first left : Option (List ℕ)) (configs : List Configuration)
     (h : History) (judged : List ℕ → Judged) (count epoch place : ℕ) (end : Finding) → ((j : Judged) → Comes j end)
-    → Going w v first left configs h judged count epoch place → JudgesOver first v configs h judged end
+    → Going w v first left configs h judged (journal_spot count epoch place) → JudgesOver first v configs h judged end
 going_stopped w v first left configs h judged count epoch place end any going =
     told_map first v configs h (λ bytes. GoesOn w v left configs (judged bytes) count epoch place)
     (λ bytes. Comes (judged bytes) end) (λ bytes g. any (judged bytes)) going
@@ -143,7 +144,7 @@ pub going_stop : (old w : ScriptView) (v : Version) (first left after : Option (
     → FindsWithin (line_limit v) place left after line found.Whole
     → ((cs : List Configuration) (g : History) → Stands old count epoch cs g → IsNext cs g (noted_in v line)
     → Goes w (count + 1) cs (stated_line v cs g line (noted_in v line)) (Err stop))
-    → Going old v first left configs h judged count epoch place
+    → Going old v first left configs h judged (journal_spot count epoch place)
     → JudgesOver first v configs h judged (found_at v count line stop)
 going_stop old w v first left after line configs h judged count epoch place stop f goes going =
     told_map first v configs h (λ bytes. GoesOn old v left configs (judged bytes) count epoch place)
@@ -188,8 +189,8 @@ pub going_on : (old w : ScriptView) (v : Version) (first left after : Option (Li
     → FindsWithin (line_limit v) place left after line found.Whole → moved ≡ place + length line + 1
     → ((cs : List Configuration) (g : History) → Stands old count epoch cs g → IsNext cs g (noted_in v line)
     → Goes w (count + 1) cs (stated_line v cs g line (noted_in v line)) (Ok next))
-    → Going old v first left configs h judged count epoch place
-    → Going w v first after configs h judged (count + 1) next moved
+    → Going old v first left configs h judged (journal_spot count epoch place)
+    → Going w v first after configs h judged (journal_spot (count + 1) next moved)
 going_on old w v first left after line configs h judged count epoch place next moved f at goes going =
     told_map first v configs h (λ bytes. GoesOn old v left configs (judged bytes) count epoch place)
     (λ bytes. GoesOn w v after configs (judged bytes) (count + 1) next moved) (λ bytes g. by bytes g) going

@@ -153,11 +153,21 @@ pub record GoesOn (w : ScriptView) (v : Version) (left : Option (List ℕ))
   pub ahead : AreAhead v configs history (lines bytes)
   pub same : judged_lines v configs history place (lines bytes) ≡ whole
 
+-- where a journal was judged to: how many entries, the epoch of the newest, and the bytes before the
+-- next line
+pub record JournalSpot : Type 0 where
+  pub count : ℕ
+  pub epoch : ℕ
+  pub place : ℕ
+
+abbrev pub journal_spot : ℕ → ℕ → ℕ → JournalSpot
+journal_spot count epoch place = record { count = count; epoch = epoch; place = place }
+
 abbrev pub Going : ScriptView → Version → Option (List ℕ) → Option (List ℕ) → List Configuration
-    → History → (List ℕ → Judged) → ℕ → ℕ → ℕ → Type 0
-Going w v first left configs h judged count epoch place =
+    → History → (List ℕ → Judged) → JournalSpot → Type 0
+Going w v first left configs h judged at =
     IfSome first (λ bytes. AreAhead v configs h (lines bytes)
-    → GoesOn w v left configs (judged bytes) count epoch place)
+    → GoesOn w v left configs (judged bytes) at.count at.epoch at.place)
 
 -- the bytes are known
 abbrev pub IsKnown : Option (List ℕ) → Type 0

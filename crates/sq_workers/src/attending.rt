@@ -7,7 +7,7 @@ use crate::sums::Sums;
 use sq_base::{Addr, ConnNo};
 use sq_calls::DeskCalls;
 use sq_conn_policy::HubFront;
-use sq_forward::{Ahead, Half};
+use sq_forward::{Ahead, Duplex, Half};
 use sq_outside::{Clock, Dialer, Out, Source, raised_by};
 use sq_session::{SessionEnd, session};
 use sq_shared::{Bank, RewriterRoom, Room};
@@ -21,7 +21,7 @@ use std::thread::Threads;
 pub(crate) fn attend<
     R: Threads + Wait + Sync,
     I: Source + Send + Drop,
-    O: Out + Drop,
+    O: Out + Send + Drop,
     D: DeskCalls,
     A: Ledger,
     M: Ledger,
@@ -80,7 +80,7 @@ pub(crate) fn attend<
 fn serve_link<
     R: Threads + Wait + Sync,
     I: Source + Send + Drop,
-    O: Out + Drop,
+    O: Out + Send + Drop,
     D: DeskCalls,
     A: Ledger,
     M: Ledger,
@@ -96,7 +96,7 @@ fn serve_link<
     rewriter: Option<&RewriterRoom>,
     conn: ConnNo,
     from: I,
-    mut to: O,
+    to: O,
     addr: Addr,
     port: u16,
     dialer: &mut Q,
@@ -118,19 +118,13 @@ fn serve_link<
     } = shares;
     let hub = LockHub::new(rt, room, bank, rewriter, clock, asked, refused, granted);
     let mut front = HubFront::new(rt, hub, conn);
-    let mut client = Half {
-        source: from,
-        ahead: Ahead::new(alloc),
+    let mut client: Duplex<(I, O)> = Duplex {
+        from: Half {
+            source: from,
+            ahead: Ahead::new(alloc),
+        },
+        to,
     };
-    let end = session(
-        rt,
-        alloc,
-        &mut client,
-        &mut to,
-        addr,
-        port,
-        &mut front,
-        dialer,
-    );
+    let end = session(rt, alloc, &mut client, addr, port, &mut front, dialer);
     (end, front.finish().finish())
 }

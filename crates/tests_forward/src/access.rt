@@ -1,10 +1,10 @@
 //! Which fields of heads go on by the rules of a configuration, both ways, as a table of whole exchanges.
-use crate::links::{CLIENT, half, judged, meter, sink};
+use crate::links::{CLIENT, half, joined, judged, meter, sink, wire};
 use crate::reply_fields::REPLIES;
 use crate::request_fields::REQUESTS;
 use sq_addr::read_addr;
 use sq_base::{Addr, BodyPlan, Request, Text, WantOfMemory};
-use sq_forward::exchange;
+use sq_forward::{Outgoing, exchange};
 use sq_head::request_plan;
 use sq_request::{head_end, read_request, retarget};
 use std::alloc::Global;
@@ -87,31 +87,29 @@ fn check<R: Wait + Abort>(rt: &R, alloc: Global, shows: &str, row: &Row) {
             .expect(rt, "memory")
             .expect(rt, "a target")
     };
-    let mut client = half(rt, alloc, input.as_bytes(), 7, &[]);
-    let mut origin = half(rt, alloc, reply.as_bytes(), 7, &[]);
-    let mut to_client = sink(rt, alloc, 11, &[]);
-    let mut to_origin = sink(rt, alloc, 11, &[]);
+    let client_wire = wire(rt, alloc);
+    let origin_wire = wire(rt, alloc);
+    let from = half(rt, alloc, input.as_bytes(), 7, &[]);
+    let mut client = joined(from, sink(rt, alloc, 11, &[]), &client_wire);
+    let from = half(rt, alloc, reply.as_bytes(), 7, &[]);
+    let mut origin = joined(from, sink(rt, alloc, 11, &[]), &origin_wire);
     let mut meter = meter(None);
-    exchange(
-        rt,
-        alloc,
-        &mut client,
-        &mut to_client,
-        &mut origin,
-        &mut to_origin,
-        &mut meter,
-        &sent,
-        row.from,
+    let outgoing = Outgoing {
+        request: &sent,
+        addr: row.from,
         plan,
-        setup.config(),
-        &facts,
-    );
+        config: setup.config(),
+        facts: &facts,
+    };
+    exchange(rt, alloc, &mut client, &mut origin, &mut meter, &outgoing);
+    let written = origin_wire.text(alloc).expect(rt, "memory");
     assert!(rt;
-        to_origin.bytes().starts_with(row.sent.as_bytes()),
+        written.as_bytes().starts_with(row.sent.as_bytes()),
         "to the origin: {shows}"
     );
+    let written = client_wire.text(alloc).expect(rt, "memory");
     assert!(rt;
-        to_client.bytes().starts_with(row.got.as_bytes()),
+        written.as_bytes().starts_with(row.got.as_bytes()),
         "to the client: {shows}"
     );
 }

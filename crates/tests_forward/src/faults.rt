@@ -1,8 +1,8 @@
 //! One exchange, of which each call of each half of both links fails in turn.
-use crate::links::{CLIENT, half, judged, meter, request, sink};
+use crate::links::{CLIENT, half, joined, judged, meter, request, sink, wire};
 use Exchanged::{ClientFault, Kept, NoReply, OriginFault};
 use Place::{ClientRead, ClientWrite, OriginRead, OriginWrite};
-use sq_forward::{Exchanged, exchange};
+use sq_forward::{Exchanged, Outgoing, exchange};
 use sq_head::request_plan;
 use std::alloc::Global;
 use std::process::Abort;
@@ -87,41 +87,41 @@ fn check<R: Wait + Abort>(rt: &R, alloc: Global, row: &Row) {
     let request = request(rt, alloc, "POST", "http://h.example/p", false, &fields);
     let plan = request_plan(&request).expect(rt, "a plan");
     let (setup, facts) = judged(rt, alloc, b"", CLIENT, &request);
-    let mut client = half(
+    let from = half(
         rt,
         alloc,
         INPUT.as_bytes(),
         4,
         fails(*place, ClientRead, call),
     );
-    let mut origin = half(
+    let client_wire = wire(rt, alloc);
+    let to = sink(rt, alloc, 50, fails(*place, ClientWrite, call));
+    let mut client = joined(from, to, &client_wire);
+    let from = half(
         rt,
         alloc,
         REPLY.as_bytes(),
         30,
         fails(*place, OriginRead, call),
     );
-    let mut to_client = sink(rt, alloc, 50, fails(*place, ClientWrite, call));
-    let mut to_origin = sink(rt, alloc, 50, fails(*place, OriginWrite, call));
+    let origin_wire = wire(rt, alloc);
+    let to = sink(rt, alloc, 50, fails(*place, OriginWrite, call));
+    let mut origin = joined(from, to, &origin_wire);
     let mut meter = meter(None);
-    let end = exchange(
-        rt,
-        alloc,
-        &mut client,
-        &mut to_client,
-        &mut origin,
-        &mut to_origin,
-        &mut meter,
-        &request,
-        CLIENT,
+    let outgoing = Outgoing {
+        request: &request,
+        addr: CLIENT,
         plan,
-        setup.config(),
-        &facts,
-    );
+        config: setup.config(),
+        facts: &facts,
+    };
+    let end = exchange(rt, alloc, &mut client, &mut origin, &mut meter, &outgoing);
     assert!(rt; end == *wanted, "{place:?} {call}");
-    let as_far = is_front(to_client.bytes(), *client_count, TO_CLIENT);
+    let written = client_wire.text(alloc).expect(rt, "memory");
+    let as_far = is_front(written.as_bytes(), *client_count, TO_CLIENT);
     assert!(rt; as_far, "{place:?} {call}");
-    let as_far = is_front(to_origin.bytes(), *origin_count, TO_ORIGIN);
+    let written = origin_wire.text(alloc).expect(rt, "memory");
+    let as_far = is_front(written.as_bytes(), *origin_count, TO_ORIGIN);
     assert!(rt; as_far, "{place:?} {call}");
 }
 

@@ -4,8 +4,8 @@ ghost use Rattle.std.specs.Prelude.{◌≡◌, length};
 use sq_base::{Addr, Copying, Field, Fields, Request, Text};
 use sq_conf::read_config;
 use sq_facts::read_facts;
-use sq_forward::{Ahead, Half, MemMeter};
-use sq_outside_mem::{MemSink, MemSource};
+use sq_forward::{Ahead, Duplex, Half, MemMeter};
+use sq_outside_mem::{MemOut, MemSink, MemSource, Wire};
 use sq_request::make_request;
 use sq_rules::{Facts, Sight};
 use sq_urlmatch::Setup;
@@ -38,6 +38,17 @@ pub fn half(
 pub fn sink(rt: &impl Abort, alloc: Global, step: usize, fails: &[u64]) -> MemSink {
     let fails = Vec::from_slice(alloc, fails).expect(rt, "memory");
     MemSink::new(alloc, 4096, step, fails).expect(rt, "memory")
+}
+
+/// A wire with as much room as a sink.
+pub fn wire(rt: &impl Abort, alloc: Global) -> Wire {
+    Wire::new(alloc, 4096).expect(rt, "memory")
+}
+
+/// The link of these halves. The wire gets what goes into it.
+pub fn joined(from: Half<MemSource>, to: MemSink, wire: &Wire) -> Duplex<(MemSource, MemOut<'_>)> {
+    let to = MemOut::new(to, Some(wire));
+    Duplex { from, to }
 }
 
 /// A request of version 1.0 where it is old, and else of version 1.1.

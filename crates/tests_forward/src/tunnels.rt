@@ -1,8 +1,7 @@
 //! Tunnels, of which each call of each half of both links fails in turn.
-use crate::links::{half, meter, sink};
+use crate::links::{half, joined, meter, sink, wire};
 use Tunnelled::{ClientFault, Ended, OriginFault, Starved};
 use sq_forward::{Tunnelled, tunnel};
-use sq_outside_mem::{MemOut, Wire};
 use std::alloc::Global;
 use std::process::Abort;
 use std::sync::Wait;
@@ -89,24 +88,16 @@ static ROWS: [Row; 29] = [
 fn check<R: Threads + Wait + Sync + Abort>(rt: &R, alloc: Global, number: usize, row: &Row) {
     let ((client_reads, client_writes, origin_reads, origin_writes), grants, wanted, down, up) =
         row;
-    let mut client = half(rt, alloc, AHEAD.as_bytes(), 3, &[]);
-    assert!(rt; client.fill() == Ok(true));
-    client.source = half(rt, alloc, UP.as_bytes(), 3, client_reads).source;
-    let mut origin = half(rt, alloc, DOWN.as_bytes(), 4, origin_reads);
-    let client_wire = Wire::new(alloc, 64).expect(rt, "memory");
-    let origin_wire = Wire::new(alloc, 64).expect(rt, "memory");
-    let mut to_client = MemOut::new(sink(rt, alloc, 2, client_writes), Some(&client_wire));
-    let mut to_origin = MemOut::new(sink(rt, alloc, 2, origin_writes), Some(&origin_wire));
+    let mut from = half(rt, alloc, AHEAD.as_bytes(), 3, &[]);
+    assert!(rt; from.fill() == Ok(true));
+    from.source = half(rt, alloc, UP.as_bytes(), 3, client_reads).source;
+    let client_wire = wire(rt, alloc);
+    let origin_wire = wire(rt, alloc);
+    let mut client = joined(from, sink(rt, alloc, 2, client_writes), &client_wire);
+    let from = half(rt, alloc, DOWN.as_bytes(), 4, origin_reads);
+    let mut origin = joined(from, sink(rt, alloc, 2, origin_writes), &origin_wire);
     let mut meter = meter(*grants);
-    let end = tunnel(
-        rt,
-        alloc,
-        &mut client,
-        &mut to_client,
-        &mut origin,
-        &mut to_origin,
-        &mut meter,
-    );
+    let end = tunnel(rt, alloc, &mut client, &mut origin, &mut meter);
     assert!(rt; end == *wanted, "{number}");
     let written = client_wire.text(alloc).expect(rt, "memory");
     assert!(rt; written.as_bytes() == down.as_bytes(), "{number}");

@@ -3,7 +3,7 @@ use crate::failing::Failing;
 use sq_base::{Addr, ConnNo, Copying, Moment, Text};
 use sq_conf::read_config;
 use sq_conn_policy::HubFront;
-use sq_forward::{Ahead, Half};
+use sq_forward::{Ahead, Duplex, Half};
 use sq_mem_hub::MemHub;
 use sq_outside_mem::{MemDialer, MemOrigin, MemOut, MemPair, MemShape, MemSink, MemSource, Wire};
 use sq_session::{SessionEnd, session};
@@ -127,25 +127,18 @@ pub fn run<R: Threads + Wait + Sync + Abort>(
     };
     let wire = Wire::new(alloc, ROOM).expect(rt, "memory");
     let sink = MemSink::new(alloc, ROOM, ROOM, Vec::new(alloc)).expect(rt, "memory");
-    let mut to = MemOut::new(sink, Some(&wire));
     let sent = input.copy(alloc).expect(rt, "memory").into_vec();
-    let mut from = Half {
-        source: MemSource::new(sent, ROOM, Vec::new(alloc)),
-        ahead: Ahead::new(alloc),
+    let mut link: Duplex<(MemSource, MemOut)> = Duplex {
+        from: Half {
+            source: MemSource::new(sent, ROOM, Vec::new(alloc)),
+            ahead: Ahead::new(alloc),
+        },
+        to: MemOut::new(sink, Some(&wire)),
     };
     let mut dialer = dialer(rt, alloc);
     let hub = Failing::new(machine(rt, alloc), call);
     let mut front = HubFront::new(rt, hub, ConnNo(1));
-    let end = session(
-        rt,
-        alloc,
-        &mut from,
-        &mut to,
-        client,
-        4000,
-        &mut front,
-        &mut dialer,
-    );
+    let end = session(rt, alloc, &mut link, client, 4000, &mut front, &mut dialer);
     let hub = front.finish();
     Ran {
         end,

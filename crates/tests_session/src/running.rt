@@ -5,7 +5,7 @@ use crate::cases::{Case, Side};
 use crate::front::{MemFront, Other, Told, config_with};
 use Place::{ClientRead, ClientWrite, Dial, Front, OriginRead, OriginWrite};
 use sq_base::{Copying, Text};
-use sq_forward::{Ahead, Half};
+use sq_forward::{Ahead, Duplex, Half};
 use sq_outside_mem::{MemDialer, MemOrigin, MemOut, MemPair, MemShape, MemSink, MemSource, Wire};
 use sq_session::{SessionEnd, session};
 use std::alloc::Global;
@@ -138,20 +138,22 @@ pub fn run<R: Threads + Wait + Sync + Abort>(
 ) -> Ran {
     let wire = Wire::new(alloc, room_for(&case.text)).expect(rt, "memory");
     let input = copy(rt, alloc, &case.input).into_vec();
-    let mut client = Half {
+    let from = Half {
         source: MemSource::new(input, step, fails(rt, alloc, fault, ClientRead)),
         ahead: Ahead::new(alloc),
     };
     let writes = fails(rt, alloc, fault, ClientWrite);
     let sink = MemSink::new(alloc, room_for(&case.text), step, writes).expect(rt, "memory");
-    let mut to = MemOut::new(sink, Some(&wire));
+    let mut client: Duplex<(MemSource, MemOut)> = Duplex {
+        from,
+        to: MemOut::new(sink, Some(&wire)),
+    };
     let mut front = mem_front(rt, alloc, case, fault);
     let mut dialer = mem_dialer(rt, alloc, case, step, fault);
     let end = session(
         rt,
         alloc,
         &mut client,
-        &mut to,
         case.addr,
         4000,
         &mut front,

@@ -3,7 +3,7 @@ use Rattle.std.specs.Io.KnownBytes.{prepend_known}
 use Rattle.sq_headers.specs.Access.{access_by}
 use Rattle.sq_forward.specs.Exchanges.{interim_text}
 use Rattle.sq_forward.specs.Leading.{TakesHead, PaysHeads}
-use Rattle.sq_forward.specs.Meters.{PaysAll}
+use Rattle.sq_forward.specs.Meters.{PaysAll, metered}
 use Rattle.sq_forward.proofs.LeadLaws.{leads_none, leads_own, leads_missing, leads_refused, leads_failed, leads_no_memory, leads_more, leads_part}
 use Rattle.sq_forward.proofs.replies.lead_reply.Goals as goal
 
@@ -62,9 +62,11 @@ returns-in-Err-clause-leads g c =
     c.loop.invariant.leads c.in-Ok.ensures.takes
     (sym c.is_interim.ensures ∙ c.if-not-is_interim.false)
     (omega (arith, c.loop.invariant.room, c.if-passed-eq-INTERIM_LIMIT.false)) c.in-Err.ensures.other
-    (subst (λ s. PaysHeads (interim_text (access_by c.args.config.now c.args.facts.now) c.args.request.now c.in-Ok.head) s (g.O.Sink.contents c.loop.to_client)
-    (g.O.Sink.contents c.pass_on.new.to_client) (g.M.Meter.granted c.loop.meter) (g.M.Meter.granted c.pass_on.new.meter)
-    c.in-Err.end) c.loop.invariant.seated c.in-Err.ensures.sends)
+    (subst (λ s. PaysHeads (interim_text (access_by c.args.outgoing.now.config.now c.args.outgoing.now.facts.now)
+    c.args.outgoing.now.request.now c.in-Ok.head)
+    (metered s (g.O.Sink.contents c.loop.to_client) (g.O.Sink.contents c.pass_on.new.to_client)
+    (g.M.Meter.granted c.loop.meter) (g.M.Meter.granted c.pass_on.new.meter)) c.in-Err.end) c.loop.invariant.seated
+    c.in-Err.ensures.sends)
 
 pub loop-preserved : goal.loop-preserved
 loop-preserved g c =
@@ -75,9 +77,11 @@ loop-preserved g c =
           leads_more _ (prepend_known c.loop.origin.ahead (left c.loop.origin.source)) _ c.in-Ok.head inv.leads
           c.in-Ok.ensures.takes
           (sym c.is_interim.ensures ∙ c.if-not-is_interim.false)
-          (subst (λ s. PaysAll s (interim_text (access_by c.args.config.now c.args.facts.now) c.args.request.now c.in-Ok.head) (g.O.Sink.contents c.loop.to_client)
-          (g.O.Sink.contents c.pass_on.new.to_client) (g.M.Meter.granted c.loop.meter)
-          (g.M.Meter.granted c.pass_on.new.meter)) inv.seated c.in-Ok-pass_on.ensures.sends);
+          (subst (λ s. PaysAll (interim_text (access_by c.args.outgoing.now.config.now c.args.outgoing.now.facts.now)
+          c.args.outgoing.now.request.now
+          c.in-Ok.head) (metered s (g.O.Sink.contents c.loop.to_client) (g.O.Sink.contents c.pass_on.new.to_client)
+          (g.M.Meter.granted c.loop.meter) (g.M.Meter.granted c.pass_on.new.meter))) inv.seated
+          c.in-Ok-pass_on.ensures.sends);
       room = omega (arith, inv.room, c.if-passed-eq-INTERIM_LIMIT.false);
       dry = c.in-Ok-pass_on.ensures.dry;
       seated = c.pass_on.ensures.seated ∙ inv.seated;

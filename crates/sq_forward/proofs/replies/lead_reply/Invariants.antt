@@ -12,7 +12,8 @@ abbrev pub invariant-loop : goal.invariant-loop
 invariant-loop g l =
     let left = g.P.Source.left in
     record {
-      leads : LeadingSo (access_by l.fn.config l.fn.facts) l.fn.request (g.M.Meter.seated l.fn.meter) l.passed
+      leads : LeadingSo (access_by l.fn.outgoing.config.now l.fn.outgoing.facts.now) l.fn.outgoing.request.now
+          (g.M.Meter.seated l.fn.meter) l.passed
           (prepend_known l.fn.origin.ahead (left l.fn.origin.source))
           (prepend_known l.origin.ahead (left l.origin.source))
           (g.O.Sink.contents l.fn.to_client) (g.O.Sink.contents l.to_client) (g.M.Meter.granted l.fn.meter)

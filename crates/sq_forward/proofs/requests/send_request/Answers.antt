@@ -1,6 +1,9 @@
 use Rattle.std.proofs.Common.{◌∙◌}
-use Rattle.sq_forward.proofs.RequestLaws.{request_unheard, request_unsent, request_sent}
+use Rattle.sq_forward.proofs.RequestLaws.{request_no_memory, request_unheard, request_unsent, request_sent}
 use Rattle.sq_forward.proofs.requests.send_request.Goals as goal
+
+pub returns-in_default-clause-sends : goal.returns-in_default-clause-sends
+returns-in_default-clause-sends g c = request_no_memory _ _ _ _ _ _ _ _
 
 pub returns-in-Err-clause-sends : goal.returns-in-Err-clause-sends
 returns-in-Err-clause-sends g c =

@@ -17,4 +17,4 @@ returns-in-Ok-line-clause-comes c =
     line_is c.args.count c.in-Ok.setup c.in-Ok-run.summary c.in-Ok-line.line
     (subst (λ (t : List ℕ). Comes {A = Configuration} (Ok c.in-Ok.setup) (conf_read (conf_result t)))
     c.configuration.ensures c.in-Ok.ensures.comes)
-    c.in-Ok-run.ensures.counts c.in-Ok-line.ensures
+    c.in-Ok-run.ensures.counts c.in-Ok-run.ensures.asks c.in-Ok-line.ensures

@@ -11,11 +11,11 @@ returns-in-Ok-enter-clause-begins g c = λ base configs good at w. c.in-Ok-enter
 pub returns-in-Err-Failed-clause-begins : goal.returns-in-Err-Failed-clause-begins
 returns-in-Err-Failed-clause-begins g c = λ base configs good at w.
     subst (λ f. Arrives (machine_of c.enter.new.machine) base (g.O.Sink.contents c.enter.new.out) c.enter.new.page.items
-    configs (begun_history configs c.args.now c.args.offset) (Err f)) c.in-Err-Failed.field-0-is
+    configs (begun_history configs c.args.at.moment c.args.at.offset) (Err f)) c.in-Err-Failed.field-0-is
     (c.in-Err-Failed.ensures.arrives base configs [] (c.in-Ok.ensures.begun configs good at) w)
 
 pub returns-clause-begins : goal.returns-clause-begins
 returns-clause-begins g c = λ base configs good at w.
     subst (λ f. Arrives (machine_of c.enter.new.machine) base (g.O.Sink.contents c.enter.new.out) c.enter.new.page.items
-    configs (begun_history configs c.args.now c.args.offset) (Err f)) c.in-Err-WantOfMemory.field-0-is
+    configs (begun_history configs c.args.at.moment c.args.at.offset) (Err f)) c.in-Err-WantOfMemory.field-0-is
     (c.in-Err-WantOfMemory.ensures.arrives base configs [] (c.in-Ok.ensures.begun configs good at) w)

@@ -9,7 +9,8 @@ use Rattle.sq_session.proofs.carrying.carry.Goals as goal
 
 pub returns-then-not-is_served-clause-told : goal.returns-then-not-is_served-clause-told
 returns-then-not-is_served-clause-told g c =
-    carries_unserved c.args.sent.now c.args.addr c.args.plan c.args.judged.now
+    carries_unserved c.args.request.now.sent.now c.args.request.now.addr c.args.request.now.plan
+    c.args.request.now.judged.now
     (sym c.is_served.ensures ∙ c.if-not-is_served.true)
     (tells_as NotImplemented c.is_head.result _ c.is_head.ensures c.say.ensures.tells)
     (g.met.F.Meter.capped c.args.front.now)
@@ -25,11 +26,14 @@ returns-then-not-is_served-clause-calls g c = inl refl
 
 pub returns-in-Err-Spent-clause-told : goal.returns-in-Err-Spent-clause-told
 returns-in-Err-Spent-clause-told g c =
-    carries_unseated c.args.sent.now c.args.addr c.args.plan c.args.judged.now
-    (OfSit c.args.judged.now (Err sit.Spent) ∷ []) Inner (sym c.is_served.ensures ∙ c.if-not-is_served.false)
+    carries_unseated c.args.request.now.sent.now c.args.request.now.addr c.args.request.now.plan
+    c.args.request.now.judged.now
+    (OfSit c.args.request.now.judged.now (Err sit.Spent) ∷ []) Inner (sym c.is_served.ensures
+    ∙ c.if-not-is_served.false)
     (λ rest. refl) refl
     (subst (λ e. (list : List FrontAnswer) → g.F.Front.stands c.args.front.now list
-    → g.F.Front.stands c.sit.new.self (list ++ OfSit c.args.judged.now (Err e) ∷ [])) c.in-Err-Spent.field-0-is
+    → g.F.Front.stands c.sit.new.self (list ++ OfSit c.args.request.now.judged.now (Err e) ∷ []))
+    c.in-Err-Spent.field-0-is
     c.in-Err-Spent.ensures.told)
     (tells_as Inner c.is_head-in-Err-Spent.result _ c.is_head-in-Err-Spent.ensures c.say-in-Err-Spent.ensures.tells)
     (g.met.F.Meter.capped c.args.front.now) c.in-Err-Spent.ensures.granted
@@ -45,11 +49,14 @@ returns-in-Err-Spent-clause-calls g c = inl refl
 
 pub returns-in-Err-WantOfMemory-clause-told : goal.returns-in-Err-WantOfMemory-clause-told
 returns-in-Err-WantOfMemory-clause-told g c =
-    carries_unseated c.args.sent.now c.args.addr c.args.plan c.args.judged.now
-    (OfSit c.args.judged.now (Err sit.WantOfMemory) ∷ []) NoMemory (sym c.is_served.ensures ∙ c.if-not-is_served.false)
+    carries_unseated c.args.request.now.sent.now c.args.request.now.addr c.args.request.now.plan
+    c.args.request.now.judged.now
+    (OfSit c.args.request.now.judged.now (Err sit.WantOfMemory) ∷ []) NoMemory (sym c.is_served.ensures
+    ∙ c.if-not-is_served.false)
     (λ rest. refl) refl
     (subst (λ e. (list : List FrontAnswer) → g.F.Front.stands c.args.front.now list
-    → g.F.Front.stands c.sit.new.self (list ++ OfSit c.args.judged.now (Err e) ∷ [])) c.in-Err-WantOfMemory.field-0-is
+    → g.F.Front.stands c.sit.new.self (list ++ OfSit c.args.request.now.judged.now (Err e) ∷ []))
+    c.in-Err-WantOfMemory.field-0-is
     c.in-Err-WantOfMemory.ensures.told)
     (tells_as NoMemory c.is_head-in-Err-WantOfMemory.result _ c.is_head-in-Err-WantOfMemory.ensures
     c.say-in-Err-WantOfMemory.ensures.tells) (g.met.F.Meter.capped c.args.front.now)
@@ -67,7 +74,8 @@ returns-in-Err-WantOfMemory-clause-calls g c = inl refl
 
 pub returns-clause-told : goal.returns-clause-told
 returns-clause-told g c =
-    carries_seated c.args.sent.now c.args.addr c.args.plan c.args.judged.now _
+    carries_seated c.args.request.now.sent.now c.args.request.now.addr c.args.request.now.plan
+    c.args.request.now.judged.now _
     (sym c.is_served.ensures ∙ c.if-not-is_served.false) c.in-Ok.ensures.seated c.in-Ok.ensures.granted
     (sym c.rise.ensures.granted)
     (λ list s. c.rise.ensures.told _

@@ -10,7 +10,8 @@ use Rattle.sq_session.proofs.carrying.reach.Goals as goal
 
 pub returns-in_default-clause-told : goal.returns-in_default-clause-told
 returns-in_default-clause-told g c =
-    unreached_told (access_of c.args.judged.now) c.args.sent.now c.args.addr c.args.plan
+    unreached_told (access_of c.args.request.now.judged.now) c.args.request.now.sent.now c.args.request.now.addr
+    c.args.request.now.plan
     c.in_default.ensures.cause.failed
     (tells_as BadGateway c.is_head.result _ c.is_head.ensures c.say.ensures.tells)
     (g.met.M.Meter.capped c.args.meter.now) c.in_default.ensures.failed
@@ -23,9 +24,10 @@ returns-in_default-clause-dialled g c = refused_told _ _ c.in_default.ensures.fa
 
 pub returns-clause-told : goal.returns-clause-told
 returns-clause-told g c =
-    reaches_as (ap (λ l. prepend_known l (g.I.Source.left c.args.client.now.source)) c.lend_room.ensures.same)
-    (ap (λ l. prepend_known l (g.I.Source.left c.forward-carried.new.client.source)) c.take_room.ensures)
-    (reaches (access_of c.args.judged.now) c.args.sent.now c.args.addr c.args.plan _ _ _ _ _ _
+    reaches_as (ap (λ l. prepend_known l (g.C.In.Source.left c.args.client.now.from.source)) c.lend_room.ensures.same)
+    (ap (λ l. prepend_known l (g.C.In.Source.left c.forward-carried.new.client.from.source)) c.take_room.ensures)
+    (reaches (access_of c.args.request.now.judged.now) c.args.request.now.sent.now c.args.request.now.addr
+    c.args.request.now.plan _ _ _ _ _ _
     (ap HttpRequest.host c.sent.view_is)
     (ap HttpRequest.port c.sent.view_is) c.in-Ok.ensures.made c.in-Ok.ensures.reaches
     c.forward-carried.ensures.origin_dialled

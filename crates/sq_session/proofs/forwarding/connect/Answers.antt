@@ -7,7 +7,7 @@ use Rattle.sq_session.proofs.forwarding.connect.Goals as goal
 
 pub returns-in-Err-clause-told : goal.returns-in-Err-clause-told
 returns-in-Err-clause-told g c =
-    connects_not _ refl c.in-Err.ensures.err (Appends-nil (g.Q.Sink.contents c.args.to_origin.now))
+    connects_not _ refl c.in-Err.ensures.err (Appends-nil (g.O.Outgo.Sink.contents c.args.origin.now.to))
     (granted_none (g.M.Meter.seated c.args.meter.now) (g.M.Meter.granted c.args.meter.now)
     (g.met.M.Meter.capped c.args.meter.now))
 
@@ -16,7 +16,8 @@ returns-in-Err-clause-cause g c = inr c.in-Err.ensures.cause.failed
 
 pub returns-clause-told : goal.returns-clause-told
 returns-clause-told g c =
-    connects (g.O.Sink.contents c.write_all.new.out) _ c.tunnel.result c.tunnel_end.result c.tunnel_end.ensures refl
+    connects (g.C.Outgo.Sink.contents c.write_all.new.out) _ c.tunnel.result c.tunnel_end.result c.tunnel_end.ensures
+    refl
     c.in-Ok.ensures.ok c.tunnel.ensures.up c.tunnel.ensures.down c.tunnel.ensures.up_ended c.tunnel.ensures.down_paid
 
 pub returns-clause-cause : goal.returns-clause-cause

@@ -6,9 +6,10 @@ use Rattle.sq_session.proofs.forwarding.trade.Goals as goal
 
 pub returns-in-NoReply-clause-told : goal.returns-in-NoReply-clause-told
 returns-in-NoReply-clause-told g c =
-    let config : c.deref.result.now ≡ c.args.judged.now.config = search rules in
-    untraded_by (g.O.Sink.contents c.exchange-ended.new.to_client) c.args.judged.now _ _ c.args.sent.now c.args.addr
-    c.args.plan c.exchange-ended.result c.is_head.result c.say.result config c.facts-facts.ensures
+    let config : c.deref.result.now ≡ c.args.request.now.judged.now.config = search rules in
+    untraded_by (g.C.Outgo.Sink.contents c.exchange-ended.new.client.to) c.args.request.now.judged.now _
+    _ c.args.request.now.sent.now c.args.request.now.addr
+    c.args.request.now.plan c.exchange-ended.result c.is_head.result c.say.result config c.facts-facts.ensures
     c.in-NoReply.is c.is_head.ensures (λ s e. c.exchange-ended.ensures.told s e) c.say.ensures.tells
 
 pub returns-in-NoReply-clause-cause : goal.returns-in-NoReply-clause-cause
@@ -21,8 +22,9 @@ returns-in-NoReply-clause-dry g c = c.exchange-ended.ensures.dry ∙ ap dry_afte
 
 pub returns-in_default-clause-told : goal.returns-in_default-clause-told
 returns-in_default-clause-told g c =
-    let config : c.deref.result.now ≡ c.args.judged.now.config = search rules in
-    traded_by c.args.judged.now _ _ c.args.sent.now c.args.addr c.args.plan
+    let config : c.deref.result.now ≡ c.args.request.now.judged.now.config = search rules in
+    traded_by c.args.request.now.judged.now _ _ c.args.request.now.sent.now c.args.request.now.addr
+    c.args.request.now.plan
     c.exchange-ended.result c.carried_of.result config c.facts-facts.ensures c.carried_of.ensures
     c.in_default.not-NoReply (λ s e. c.exchange-ended.ensures.told s e)
 

@@ -11,25 +11,28 @@ use Rattle.sq_session.proofs.OwnReplyLaws.{tells_as, tells_same}
 use Rattle.sq_session.proofs.rewriting.go_on.Goals as goal
 
 pub returns-then-is_connect-clause-told : goal.returns-then-is_connect-clause-told
-returns-then-is_connect-clause-told g c = obeys_tunnel c.args.request.now c.args.addr c.args.plan c.args.judged.now
+returns-then-is_connect-clause-told g c = obeys_tunnel c.args.request.now.sent.now c.args.request.now.addr
+    c.args.request.now.plan c.args.request.now.judged.now
     c.requires.allowed (sym c.is_connect.ensures ∙ c.if-is_connect.true) c.carry.ensures.told
 
 pub returns-in-Same-clause-told : goal.returns-in-Same-clause-told
 returns-in-Same-clause-told g c =
-    obeys_sent c.args.request.now c.args.request.now c.args.addr c.args.plan c.args.judged.now rewritten.Same
+    obeys_sent c.args.request.now.sent.now c.args.request.now.sent.now c.args.request.now.addr c.args.request.now.plan
+    c.args.request.now.judged.now rewritten.Same
     c.requires.allowed (sym c.is_connect.ensures ∙ c.if-is_connect.false) refl (λ rest more reply. refl)
     c.in-Same.ensures.rewrites c.in-Same.ensures.granted c.in-Same.ensures.told c.carry-in-Same.ensures.told
 
 pub returns-in-New-clause-told : goal.returns-in-New-clause-told
 returns-in-New-clause-told g c =
-    obeys_sent c.args.request.now c.in-New.new c.args.addr c.args.plan c.args.judged.now (rewritten.New c.in-New.new)
+    obeys_sent c.args.request.now.sent.now c.in-New.new c.args.request.now.addr c.args.request.now.plan
+    c.args.request.now.judged.now (rewritten.New c.in-New.new)
     c.requires.allowed (sym c.is_connect.ensures ∙ c.if-is_connect.false)
     (c.in-New.ensures.rewrites.method ∙ ap HttpRequest.method c.requires.same) (λ rest more reply. refl)
     c.in-New.ensures.rewrites c.in-New.ensures.granted c.in-New.ensures.told c.carry-in-New.ensures.told
 
 pub returns-in-Redirect-clause-told : goal.returns-in-Redirect-clause-told
 returns-in-Redirect-clause-told g c =
-    obeys_told c.args.request.now c.args.addr c.args.plan c.args.judged.now
+    obeys_told c.args.request.now.sent.now c.args.request.now.addr c.args.request.now.plan c.args.request.now.judged.now
     (rewritten.Redirect c.in-Redirect.status c.in-Redirect.url) (redirect_text c.in-Redirect.status c.in-Redirect.url)
     c.requires.allowed (sym c.is_connect.ensures ∙ c.if-is_connect.false) (λ rest. refl)
     c.in-Redirect.ensures.rewrites c.in-Redirect.ensures.told
@@ -47,7 +50,8 @@ returns-in-Redirect-clause-calls g c = inl refl
 
 pub returns-in-WantOfMemory-clause-told : goal.returns-in-WantOfMemory-clause-told
 returns-in-WantOfMemory-clause-told g c =
-    obeys_told c.args.request.now c.args.addr c.args.plan c.args.judged.now rewritten.WantOfMemory _
+    obeys_told c.args.request.now.sent.now c.args.request.now.addr c.args.request.now.plan c.args.request.now.judged.now
+    rewritten.WantOfMemory _
     c.requires.allowed (sym c.is_connect.ensures ∙ c.if-is_connect.false) (λ rest. refl)
     c.in-WantOfMemory.ensures.rewrites c.in-WantOfMemory.ensures.told
     (tells_as NoMemory c.is_head.result _ c.is_head.ensures c.say.ensures.tells)

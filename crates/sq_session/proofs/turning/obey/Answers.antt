@@ -8,11 +8,12 @@ use Rattle.sq_session.proofs.turning.obey.Goals as goal
 
 pub returns-else-outcome-clause-told : goal.returns-else-outcome-clause-told
 returns-else-outcome-clause-told g c =
-    obeys_denied c.args.request.now c.args.addr c.args.plan c.args.judged.now c.denied_closes-closes.result
+    obeys_denied c.args.request.now.sent.now c.args.request.now.addr c.args.request.now.plan
+    c.args.request.now.judged.now c.denied_closes-closes.result
     (sym (ap Outcome.allow c.outcome.ensures.value) ∙ c.if-outcome.false) c.denied_closes-closes.ensures
     (tells_same _ _ _ _ (ap (λ o. denial o c.is_head.result c.denied_closes-closes.result)
     c.outcome-else-outcome.ensures.value
-    ∙ ap (λ b. denial c.args.judged.now.outcome b c.denied_closes-closes.result) c.is_head.ensures) refl
+    ∙ ap (λ b. denial c.args.request.now.judged.now.outcome b c.denied_closes-closes.result) c.is_head.ensures) refl
     c.deny.ensures.tells)
     (g.met.F.Meter.capped c.args.front.now)
 

@@ -3,7 +3,7 @@ use Rattle.std.specs.Io.KnownBytes.{prepend_known}
 use Rattle.sq_outside.specs.SourceLines.{lines, total_limit}
 use Rattle.sq_rules.specs.Configurations.{Configuration}
 use Rattle.sq_machine.specs.Entries.{History}
-use Rattle.sq_verify.specs.Promised.{Going, Stands, StaysKnown}
+use Rattle.sq_verify.specs.Promised.{Going, Stands, StaysKnown, journal_spot}
 use Rattle.sq_verify.specs.Judging.{judged_lines}
 use Rattle.sq_verify.proofs.judging.judge_rest.Given as goal
 
@@ -20,7 +20,8 @@ invariant-lines g l =
       goes : (configs : List Configuration) (h : History) → Stands (machine l.fn.machine) 1 1 configs h
           → Going (machine l.machine) l.fn.version (prepend_known l.fn.held (left l.fn.journal))
           (prepend_known l.held (left l.journal)) configs h
-          (λ bytes. judged_lines l.fn.version configs h l.fn.place (lines bytes)) l.count l.epoch l.place;
+          (λ bytes. judged_lines l.fn.version configs h l.fn.place (lines bytes))
+          (journal_spot l.count l.epoch l.place);
     }
 
 abbrev pub decreases-lines : goal.decreases-lines

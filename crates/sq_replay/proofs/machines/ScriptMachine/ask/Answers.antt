@@ -3,7 +3,7 @@ use Rattle.sq_machine.specs.declared.entries.Event.TheVariants as event
 use Rattle.sq_machine.specs.declared.entries.Told.TheVariants as told
 use Rattle.sq_engine.specs.EngineViews.{state_of}
 use Rattle.sq_replay.specs.MachineViews.{MachineView, machine_of}
-use Rattle.sq_replay.proofs.ViewLaws.{quiet_view, stops_view}
+use Rattle.sq_replay.proofs.ViewLaws.{left_engine, quiet_view, stops_view}
 use Rattle.sq_request.specs.Written.{made_request}
 use Rattle.sq_rules.specs.Sights.{asked_request, unversioned}
 use Rattle.sq_rules.proofs.SightLaws.{asked_unversioned}
@@ -54,3 +54,13 @@ returns-clause-making c =
     (event.Ask c.args.conn c.args.method.now c.args.target.now c.args.fields.now) (told.Check c.in-Ok-ask.check)
     c.self.view_is c.later-moment.ensures c.facts.ensures refl refl (ap is_some made)
     (c.in-Ok-ask.ensures.promised method target fields same of.has_form)
+
+pub returns-in-Err-ask-clause-left : goal.returns-in-Err-ask-clause-left
+returns-in-Err-ask-clause-left c =
+    let m : MachineView = record {
+      engine = c.self.inside.engine;
+      pools = c.self.inside.pools;
+      latest = c.self.inside.latest;
+      riders = c.self.inside.riders;
+    } in
+    left_engine m c.args.self.now c.ask.new.self c.stop_by.result c.self.view_is c.in-Err-ask.ensures.err

@@ -4,7 +4,7 @@ use Rattle.sq_machine.specs.declared.entries.Told.{Told}
 use Rattle.sq_engine.specs.EngineViews.{state_of}
 use Rattle.sq_replay.specs.MachineViews.{MachineView, machine_of}
 use Rattle.sq_replay.specs.Making.{IsMaking}
-use Rattle.sq_replay.proofs.ViewLaws.{quiet_view, stops_view}
+use Rattle.sq_replay.proofs.ViewLaws.{left_state, quiet_view, stops_view}
 use Rattle.sq_channel.specs.declared.replies.Got.{Got}
 use Rattle.sq_engine.specs.Lines.{got_told}
 use Rattle.sq_engine.specs.Promised.{IsPromised}
@@ -51,3 +51,13 @@ returns-clause-making c =
     (quiet_view m c.args.self.now c.line.new.self c.args.now c.later-moment.result
     (event.Line c.args.proc c.args.bytes.now) (got_told c.in-Ok.got) c.self.view_is c.later-moment.ensures
     c.facts.ensures refl refl tt promised)
+
+pub returns-in-Err-clause-left : goal.returns-in-Err-clause-left
+returns-in-Err-clause-left c =
+    let m : MachineView = record {
+      engine = c.self.inside.engine;
+      pools = c.self.inside.pools;
+      latest = c.self.inside.latest;
+      riders = c.self.inside.riders;
+    } in
+    left_state m c.args.self.now c.line.new.self c.stop_by.result c.self.view_is c.in-Err.ensures.err

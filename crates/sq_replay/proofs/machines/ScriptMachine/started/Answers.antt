@@ -9,6 +9,7 @@ use Rattle.sq_replay.specs.Making.{IsMaking}
 use Rattle.sq_replay.specs.Naming.{IsNowhere}
 use Rattle.std.specs.Prelude.{IfNone}
 use Rattle.sq_replay.proofs.NamingLaws.{started_stops, named_at, named_stops_at}
+use Rattle.sq_replay.proofs.ViewLaws.{left_engine}
 use Rattle.sq_replay.proofs.machines.ScriptMachine.started.Goals as goal
 
 pub returns-in_default-clause-making : goal.returns-in_default-clause-making
@@ -63,3 +64,16 @@ returns-clause-making c =
     (named_at (machine_of m) (state_of c.started.new.self) c.args.now c.later-moment.result event.Started
     (told.Proc c.in-Ok.proc) c.args.epoch c.in-Some.place c.args.class.now c.later-moment.ensures c.facts.ensures
     c.in-Some.ensures.some refl refl tt c.in-Ok.ensures.promised)
+
+pub returns-in-Err-clause-left : goal.returns-in-Err-clause-left
+returns-in-Err-clause-left c =
+    let m : MachineView = record {
+      engine = c.self.inside.engine;
+      pools = c.self.inside.pools;
+      latest = c.self.inside.latest;
+      riders = c.self.inside.riders;
+    } in
+    left_engine m c.args.self.now c.started.new.self c.stop_by.result c.self.view_is c.in-Err.ensures.err
+
+pub returns-in_default-clause-left : goal.returns-in_default-clause-left
+returns-in_default-clause-left c = λ configs h is. is

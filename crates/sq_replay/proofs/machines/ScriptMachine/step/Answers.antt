@@ -4,7 +4,7 @@ use Rattle.sq_machine.specs.declared.entries.Told.{Told}
 use Rattle.sq_engine.specs.EngineViews.{state_of}
 use Rattle.sq_replay.specs.MachineViews.{MachineView, machine_of}
 use Rattle.sq_replay.specs.Making.{IsMaking}
-use Rattle.sq_replay.proofs.ViewLaws.{quiet_view, stops_view}
+use Rattle.sq_replay.proofs.ViewLaws.{left_state, quiet_view, stops_view}
 use Rattle.sq_model_rows.specs.declared.stepping.Stepped.{Stepped}
 use Rattle.sq_engine.specs.Stepping.{epoch_of, stepped_told}
 use Rattle.sq_replay.proofs.NamingLaws.{stepped_same}
@@ -48,3 +48,13 @@ returns-clause-making c =
     (quiet_view m c.args.self.now c.step.new.self c.args.now c.later-moment.result (event.Step c.args.check)
     (stepped_told s (epoch_of s c.args.check) c.in-Ok.stepped) c.self.view_is c.later-moment.ensures c.facts.ensures
     refl refl tt c.in-Ok.ensures.promised)
+
+pub returns-in-Err-clause-left : goal.returns-in-Err-clause-left
+returns-in-Err-clause-left c =
+    let m : MachineView = record {
+      engine = c.self.inside.engine;
+      pools = c.self.inside.pools;
+      latest = c.self.inside.latest;
+      riders = c.self.inside.riders;
+    } in
+    left_state m c.args.self.now c.step.new.self c.stop_by.result c.self.view_is c.in-Err.ensures.err

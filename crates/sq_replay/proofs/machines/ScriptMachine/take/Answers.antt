@@ -5,7 +5,7 @@ use Rattle.sq_engine.specs.EngineViews.{state_of}
 use Rattle.sq_replay.specs.declared.stops.Stop.TheVariants as stop
 use Rattle.sq_replay.specs.MachineViews.{MachineView, machine_of}
 use Rattle.sq_replay.specs.Making.{IsMaking}
-use Rattle.sq_replay.proofs.ViewLaws.{stops_view}
+use Rattle.sq_replay.proofs.ViewLaws.{left_engine, stops_view}
 use Rattle.std.proofs.Common.{true}
 use Rattle.sq_rules.specs.declared.outcomes.Outcome.{Outcome}
 use Rattle.sq_machine.specs.Entries.{is_outcome}
@@ -76,3 +76,16 @@ returns-clause-row c =
     let out : c.in-Ok-copy_outcome.outcome ≡ r.outcome = c.in-Ok-copy_outcome.ensures ∙ c.outcome.ensures.value in
     subst (λ (o : Outcome). is_outcome o ≡ true) (sym out)
     (verdict_sound r.answers r.config r.sight r.outcome c.outcome.ensures.verdict)
+
+pub returns-in-Err-clause-left : goal.returns-in-Err-clause-left
+returns-in-Err-clause-left c =
+    let m : MachineView = record {
+      engine = c.self.inside.engine;
+      pools = c.self.inside.pools;
+      latest = c.self.inside.latest;
+      riders = c.self.inside.riders;
+    } in
+    left_engine m c.args.self.now c.take.new.self c.stop_by.result c.self.view_is c.in-Err.ensures.err
+
+pub returns-in_default-clause-left : goal.returns-in_default-clause-left
+returns-in_default-clause-left c = λ configs h is. is
