@@ -2,3 +2,4 @@
 pub mod Faults
 pub mod Legality
 pub mod Telling
+pub mod Moments

@@ -1,6 +1,5 @@
--- In the statement: docs/STATEMENT.md lists which definitions.
 -- What a desk's call adds to the journal, and what it counts.
-use Rattle.std.specs.Prelude.{◌≡◌, ℕ, ◌+◌, ◌≤◌, List, ◌∷◌, Some, None, IfSome, Result, Ok, Err}
+use Rattle.std.specs.Prelude.{◌≡◌, ℕ, ◌+◌, ◌≤◌, max, List, ◌∷◌, Some, None, IfSome, Result, Ok, Err}
 use Rattle.std.specs.declared.option.Option.{Option}
 use Rattle.sq_outside.specs.Causes.{raised}
 use Rattle.sq_base.specs.Addresses.{Address}
@@ -9,13 +8,17 @@ use Rattle.sq_machine.specs.declared.entries.Event.{Event}
 use Rattle.sq_machine.specs.declared.entries.Event.TheVariants as event
 use Rattle.sq_machine.specs.declared.entries.Told.{Told}
 use Rattle.sq_machine.specs.declared.entries.Told.TheVariants as told
+use Rattle.sq_machine.specs.declared.refusals.Refusal.{Refusal}
+use Rattle.sq_machine.specs.declared.refusals.Refusal.TheVariants as refusal
 use Rattle.sq_checks.specs.Records.{Judged}
 use Rattle.sq_model_rows.specs.declared.stepping.Stepped.{Stepped}
 use Rattle.sq_model_rows.specs.declared.stepping.Stepped.TheVariants as stepped
+use Rattle.sq_rules.specs.Classes.{Class}
 use Rattle.sq_rules.specs.Configurations.{Configuration}
-use Rattle.sq_machine.specs.Entries.{History, Noted, entry_at}
+use Rattle.sq_machine.specs.Entries.{History, entry_at}
+use Rattle.sq_machine.specs.Epochs.{class_at}
 use Rattle.sq_machine.specs.Machine.{next}
-use Rattle.sq_machine.specs.Next.{Next, gives, nothing}
+use Rattle.sq_machine.specs.Next.{Next, gives, nothing, refuses}
 use Rattle.sq_machine.specs.Marking.{marked}
 use Rattle.sq_machine.specs.Readings.{latest}
 use Rattle.sq_channel.specs.declared.replies.Got.{Got}
@@ -26,30 +29,72 @@ use Rattle.sq_calls.specs.declared.faults.DeskFault.{DeskFault}
 use Rattle.sq_calls.specs.declared.faults.DeskFault.TheVariants as fault
 use Rattle.sq_calls.specs.Legality.{Beginning, IsLegalFrom, IsNameOf, configs_over}
 
--- where the journal is told, one entry was added, with this answer, and P holds of its event
-abbrev pub AddsOne : (Event → Type 0) → Told → Option History → Option History → Type 0
-AddsOne P answer None new = new ≡ None
-AddsOne P answer (Some h) new = (moment : ℕ) × (e : Event) × P e
-    × (new ≡ Some (entry_at moment e answer ∷ h))
+-- over the configurations of the history, which is legal, this is what the machine answers next to
+-- the event at a moment
+pub record HasNext (first : Option Beginning) (h : History) (moment : ℕ) (e : Event)
+    (answer : Next) : Type 0 where
+  pub over : IsLegalFrom first h
+  pub next_is : next (configs_over over) (marked (configs_over over) h) moment e ≡ answer
+
+-- the moment of a call's entry: its own, or the latest so far where that is later
+abbrev pub noted_at : ℕ → History → ℕ
+noted_at now h = max now (latest h)
+
+-- the event was entered at a call's moment: its answer is the machine's next, and the journal has
+-- one entry more
+pub record Enters (first : Option Beginning) (now : ℕ) (h : History) (e : Event) (answer : Told)
+    (new : Option History) : Type 0 where
+  pub next : HasNext first h (noted_at now h) e (gives answer)
+  pub entry : new ≡ Some (entry_at (noted_at now h) e answer ∷ h)
+
+-- where the journal is told, an event of which P holds was entered with this answer
+abbrev pub AddsOne : Option Beginning → ℕ → (Event → Type 0) → Told → Option History
+    → Option History → Type 0
+AddsOne first now P answer None new = new ≡ None
+AddsOne first now P answer (Some h) new = (e : Event) × P e × Enters first now h e answer new
 
 -- the same, with an answer of which R holds
-abbrev pub AddsSome : (Told → Type 0) → (Event → Type 0) → Option History → Option History → Type 0
-AddsSome R P None new = new ≡ None
-AddsSome R P (Some h) new = (answer : Told) × R answer × (moment : ℕ) × (e : Event) × P e
-    × (new ≡ Some (entry_at moment e answer ∷ h))
+abbrev pub AddsSome : Option Beginning → ℕ → (Told → Type 0) → (Event → Type 0) → Option History
+    → Option History → Type 0
+AddsSome first now R P None new = new ≡ None
+AddsSome first now R P (Some h) new = (answer : Told) × R answer × (e : Event) × P e
+    × Enters first now h e answer new
 
--- a call that was made added its entry; one that was not added nothing
-abbrev pub Notes : {A : Type 0} → (A → Told) → (Event → Type 0) → Option History → Option History
+-- a call that was made at this moment added its entry; one that was not added nothing
+abbrev pub Notes : {A : Type 0} → Option Beginning → ℕ → (A → Told) → (Event → Type 0)
+    → Option History → Option History → Result A DeskFault → Type 0
+Notes first now told P old new (Ok a) = AddsOne first now P (told a) old new
+Notes first now told P old new (Err f) = new ≡ old
+
+-- a call that was made at this moment added its entry, whose answer tells what it gave; one that
+-- was not added nothing
+abbrev pub NotesAs : {A : Type 0} → Option Beginning → ℕ → (A → Told → Type 0) → (Event → Type 0)
+    → Option History → Option History → Result A DeskFault → Type 0
+NotesAs first now R P old new (Ok a) = AddsSome first now (R a) P old new
+NotesAs first now R P old new (Err f) = new ≡ old
+
+-- where the journal is told, a refusal of the event is the machine's next; want of memory is none
+abbrev pub Refuses : {A : Type 0} → Option Beginning → ℕ → Event → Option History
     → Result A DeskFault → Type 0
-Notes told P old new (Ok a) = AddsOne P (told a) old new
-Notes told P old new (Err f) = new ≡ old
+Refuses first now e old (Err (fault.Engine refusal.WantOfMemory)) = IfSome old (λ h. ⊥)
+Refuses first now e old (Err (fault.Engine r)) = IfSome old
+    (λ h. HasNext first h (noted_at now h) e (refuses r))
+Refuses first now e old r = Unit {0}
 
--- a call that was made added its entry, whose answer tells what it gave; one that was not added
--- nothing
-abbrev pub NotesAs : {A : Type 0} → (A → Told → Type 0) → (Event → Type 0) → Option History
+-- the same of an event that names the class at a place of an epoch, where there is that class
+pub record RefusesClass (first : Option Beginning) (h : History) (moment : ℕ)
+    (e : List ℕ → Event) (epoch place : ℕ) (r : Refusal) : Type 0 where
+  pub over : IsLegalFrom first h
+  pub next_is : (class : Class) → class_at (configs_over over) epoch place ≡ Some class
+      → next (configs_over over) (marked (configs_over over) h) moment (e class.name) ≡ refuses r
+
+abbrev pub RefusesAt : {A : Type 0} → Option Beginning → ℕ → (List ℕ → Event) → ℕ → ℕ
     → Option History → Result A DeskFault → Type 0
-NotesAs R P old new (Ok a) = AddsSome (R a) P old new
-NotesAs R P old new (Err f) = new ≡ old
+RefusesAt first now e epoch place old (Err (fault.Engine refusal.WantOfMemory)) = IfSome old
+    (λ h. ⊥)
+RefusesAt first now e epoch place old (Err (fault.Engine r)) = IfSome old
+    (λ h. RefusesClass first h (noted_at now h) e epoch place r)
+RefusesAt first now e epoch place old r = Unit {0}
 
 -- the count rose by one where the call was refused or its note failed, up to its limit, and stayed
 -- otherwise
@@ -124,29 +169,15 @@ IsEventOf (act.Send proc question channel text) answer = answer
     ≡ told.Send proc question channel text
 IsEventOf (act.Start epoch class) answer = (name : List ℕ) × (answer ≡ told.Start epoch name)
 
--- over the configurations of the history, which is legal, this is what the machine answers next to
--- the event
-pub record HasNext (first : Option Beginning) (h : History) (e : Event)
-    (answer : Next) : Type 0 where
-  pub over : IsLegalFrom first h
-  pub moment : ℕ
-  pub late : latest h ≤ moment
-  pub next_is : next (configs_over over) (marked (configs_over over) h) moment e ≡ answer
-
--- where the journal is told, an act that was given is the machine's next, and none was given where
--- the machine has none
-abbrev pub IsNextAct : Option Beginning → Option History → Result (Option Act) DeskFault → Type 0
-IsNextAct first None r = Unit {0}
-IsNextAct first (Some h) (Ok (Some a)) = (answer : Told) × IsEventOf a answer
-    × HasNext first h event.Act (gives answer)
-IsNextAct first (Some h) (Ok None) = HasNext first h event.Act nothing
-IsNextAct first (Some h) (Err f) = Unit {0}
-
--- an act was noted as it is told; where none is due, or the call was not made, nothing was
-abbrev pub MayAct : Option History → Option History → Result (Option Act) DeskFault → Type 0
-MayAct old new (Ok (Some a)) = AddsSome (IsEventOf a) (λ e. e ≡ event.Act) old new
-MayAct old new (Ok None) = new ≡ old
-MayAct old new (Err f) = new ≡ old
+-- where the journal is told, the act that was given is the machine's next at this moment, and was
+-- noted as it is told; where none is due, or the call was not made, nothing was noted
+abbrev pub MayAct : Option Beginning → ℕ → Option History → Option History
+    → Result (Option Act) DeskFault → Type 0
+MayAct first now old new (Ok (Some a)) = AddsSome first now (IsEventOf a) (λ e. e ≡ event.Act)
+    old new
+MayAct first now old new (Ok None) = IfSome old
+    (λ h. HasNext first h (noted_at now h) event.Act nothing) × (new ≡ old)
+MayAct first now old new (Err f) = new ≡ old
 
 -- a reconfiguration that was made is counted, and its epoch is one above the count; one that was
 -- not made leaves the count

@@ -5,11 +5,12 @@ ghost use Rattle.sq_outside.specs.Causes.{count_limit};
 ghost use Rattle.std.specs.declared.option.Option.{Option};
 ghost use Rattle.sq_rules.specs.Configurations.{Configuration};
 ghost use Rattle.sq_machine.specs.Entries.{History};
+ghost use Rattle.sq_machine.specs.declared.entries.Event.TheVariants as event;
 ghost use Rattle.sq_machine.specs.declared.entries.Told.TheVariants as answer;
 ghost use Rattle.sq_calls.specs.declared.faults.DeskFault.{DeskFault as Fault};
 ghost use Rattle.sq_calls.specs.declared.faults.DeskFault.TheVariants as fault;
 ghost use Rattle.sq_calls.specs.Legality.{Beginning, IsStated};
-ghost use Rattle.sq_calls.specs.Telling.{CountsReconfigured, CountsLine, CountsRefusal, IsAsking, IsClosing, IsDead, IsFailed, IsLine, IsNextAct, IsOpening, IsReread, IsStarted, IsStep, IsStepTold, IsTakeTold, IsTaking, MayAct, Notes, NotesAs, got_told};
+ghost use Rattle.sq_calls.specs.Telling.{CountsReconfigured, CountsLine, CountsRefusal, IsAsking, IsClosing, IsDead, IsFailed, IsLine, IsOpening, IsReread, IsStarted, IsStep, IsStepTold, IsTakeTold, IsTaking, MayAct, Notes, NotesAs, Refuses, RefusesAt, got_told};
 
 use crate::faults::DeskFault;
 use sq_base::{Addr, CheckNo, ConnNo, EpochNo, Moment, ProcNo, Request, Texts, WantOfMemory};
@@ -22,8 +23,8 @@ use sq_urlmatch::Setup;
 use std::alloc::Global;
 use std::sync::Arc;
 
-/// The calls of a desk. Each that is made notes its entry; `act` notes none where nothing is due.
-pub trait DeskCalls {
+/// What a desk tells all who call it.
+pub trait TellsJournal {
     /// The journal's entries, the newest first, where it tells them.
     ghost told: { Self → Option History };
 
@@ -36,34 +37,37 @@ pub trait DeskCalls {
     /// How many reconfigurations it made, where it tells that.
     ghost made: { Self → Option ℕ };
 
-    /// Whether each desk of this type tells that of a reconfiguration that it makes.
-    ghost is_counting: { Bool };
-
-    /// What `reconfigure` with a configuration at a moment answers and leaves, where a desk says more of it than its entries
-    /// and counts tell: the desk before, the configuration, the moment, the answer, and the desk after.
-    ghost rereads: { Self → Configuration → ℕ → Result ℕ Fault → Self
-        → Type 0 } = { λ _ _ _ _ _. ⊤ };
-
-    /// The words of the program of the class at a place of a live epoch, if there is such a class, where it tells that.
-    ghost programs: { Self → ℕ → ℕ → Option (Option (List (List ℕ))) } = { λ _ _ _. None };
-
     /// The configuration of a live epoch, if there is such an epoch, where it tells that.
     ghost configs: { Self → ℕ → Option (Option Configuration) } = { λ _ _. None };
 
+    /// The configuration of a live epoch; none, too, where it cannot be shared once more.
+    fn config(&self, epoch: EpochNo) -> Option<Arc<Config>>
+        ensures { IfSome (configs self.now epoch)
+            (λ o. IfSome result (λ c. o ≡ Some (arc_value c))) };
+
+    ghost capped: { (desk : Self) → refused desk ≤ count_limit };
+}
+
+/// What a client's session calls. Each call that is made notes its entry, at its moment or the latest so far, and answers
+/// what the machine does next.
+pub trait ConnCalls: TellsJournal {
     /// A client's connection opens.
     fn open(&mut self, conn: ConnNo, addr: Addr, port: u16, now: Moment) -> Result<(), DeskFault>
-        ensures told { Notes (λ _. answer.Fine) (IsOpening conn addr port) (told self.old)
-            (told self.new) result }
-        ensures refused { CountsRefusal (refused self.old) (refused self.new) result }
-        ensures made { made self.new ≡ made self.old };
+        ensures told { Notes Self.first now (λ _. answer.Fine) (IsOpening conn addr port)
+            (Self.told self.old) (Self.told self.new) result }
+        ensures refuses { Refuses Self.first now (event.Open conn addr port) (Self.told self.old)
+            result }
+        ensures refused { CountsRefusal (Self.refused self.old) (Self.refused self.new) result }
+        ensures made { Self.made self.new ≡ Self.made self.old };
 
     /// A connection closes. It takes no memory.
     fn close(&mut self, conn: ConnNo, now: Moment) -> Result<(), DeskFault>
-        ensures told { Notes (λ _. answer.Fine) (IsClosing conn) (told self.old) (told self.new)
-            result }
+        ensures told { Notes Self.first now (λ _. answer.Fine) (IsClosing conn)
+            (Self.told self.old) (Self.told self.new) result }
+        ensures refuses { Refuses Self.first now (event.Close conn) (Self.told self.old) result }
         ensures memory { IsErrOf result fault.WantOfMemory → ⊥ }
-        ensures refused { CountsRefusal (refused self.old) (refused self.new) result }
-        ensures made { made self.new ≡ made self.old };
+        ensures refused { CountsRefusal (Self.refused self.old) (Self.refused self.new) result }
+        ensures made { Self.made self.new ≡ Self.made self.old };
 
     /// A request arrives on a connection, and its check begins: its number.
     fn ask(
@@ -73,22 +77,37 @@ pub trait DeskCalls {
         request: Request,
         now: Moment,
     ) -> Result<CheckNo, DeskFault>
-        ensures told { Notes answer.Check (IsAsking conn request) (told self.old) (told self.new)
+        ensures told { Notes Self.first now answer.Check (IsAsking conn request)
+            (Self.told self.old) (Self.told self.new) result }
+        ensures refuses { Refuses Self.first now
+            (event.Ask conn request.method request.target request.fields) (Self.told self.old)
             result }
-        ensures refused { CountsRefusal (refused self.old) (refused self.new) result }
-        ensures made { made self.new ≡ made self.old };
+        ensures refused { CountsRefusal (Self.refused self.old) (Self.refused self.new) result }
+        ensures made { Self.made self.new ≡ Self.made self.old };
 
     /// A check goes on.
     fn step(&mut self, alloc: Global, check: CheckNo, now: Moment) -> Result<Stepped, DeskFault>
-        ensures told { NotesAs IsStepTold (IsStep check) (told self.old) (told self.new) result }
-        ensures refused { CountsRefusal (refused self.old) (refused self.new) result }
-        ensures made { made self.new ≡ made self.old };
+        ensures told { NotesAs Self.first now IsStepTold (IsStep check) (Self.told self.old)
+            (Self.told self.new) result }
+        ensures refuses { Refuses Self.first now (event.Step check) (Self.told self.old) result }
+        ensures refused { CountsRefusal (Self.refused self.old) (Self.refused self.new) result }
+        ensures made { Self.made self.new ≡ Self.made self.old };
 
-    /// The outcome of a check is taken.
+    /// The outcome of a check is taken: the record of this check.
     fn take(&mut self, alloc: Global, check: CheckNo, now: Moment) -> Result<Record, DeskFault>
-        ensures told { NotesAs IsTakeTold (IsTaking check) (told self.old) (told self.new) result }
-        ensures refused { CountsRefusal (refused self.old) (refused self.new) result }
-        ensures made { made self.new ≡ made self.old };
+        ensures told { NotesAs Self.first now IsTakeTold (IsTaking check) (Self.told self.old)
+            (Self.told self.new) result }
+        ensures record { IfOk result (λ r. r.check ≡ check) }
+        ensures refuses { Refuses Self.first now (event.Take check) (Self.told self.old) result }
+        ensures refused { CountsRefusal (Self.refused self.old) (Self.refused self.new) result }
+        ensures made { Self.made self.new ≡ Self.made self.old };
+}
+
+/// What the threads of helper processes call. Each call that is made notes its entry, at its moment or the latest so far,
+/// and answers what the machine does next; `act` notes none where nothing is due.
+pub trait HelperCalls: TellsJournal {
+    /// The words of the program of the class at a place of a live epoch, if there is such a class, where it tells that.
+    ghost programs: { Self → ℕ → ℕ → Option (Option (List (List ℕ))) } = { λ _ _ _. None };
 
     /// A process of the class at a place of an epoch was started: its number.
     fn started(
@@ -98,10 +117,13 @@ pub trait DeskCalls {
         class: u32,
         now: Moment,
     ) -> Result<ProcNo, DeskFault>
-        ensures told { Notes answer.Proc (IsStarted first (told self.old) epoch class)
-            (told self.old) (told self.new) result }
-        ensures refused { CountsRefusal (refused self.old) (refused self.new) result }
-        ensures made { made self.new ≡ made self.old };
+        ensures told { Notes Self.first now answer.Proc
+            (IsStarted Self.first (Self.told self.old) epoch class) (Self.told self.old)
+            (Self.told self.new) result }
+        ensures refuses { RefusesAt Self.first now (λ name. event.Started epoch name) epoch class
+            (Self.told self.old) result }
+        ensures refused { CountsRefusal (Self.refused self.old) (Self.refused self.new) result }
+        ensures made { Self.made self.new ≡ Self.made self.old };
 
     /// A start of the class at a place of an epoch failed.
     fn start_failed(
@@ -111,10 +133,13 @@ pub trait DeskCalls {
         class: u32,
         now: Moment,
     ) -> Result<(), DeskFault>
-        ensures told { Notes (λ _. answer.Fine) (IsFailed first (told self.old) epoch class)
-            (told self.old) (told self.new) result }
-        ensures refused { CountsRefusal (refused self.old) (refused self.new) result }
-        ensures made { made self.new ≡ made self.old };
+        ensures told { Notes Self.first now (λ _. answer.Fine)
+            (IsFailed Self.first (Self.told self.old) epoch class) (Self.told self.old)
+            (Self.told self.new) result }
+        ensures refuses { RefusesAt Self.first now (λ name. event.StartFail epoch name) epoch class
+            (Self.told self.old) result }
+        ensures refused { CountsRefusal (Self.refused self.old) (Self.refused self.new) result }
+        ensures made { Self.made self.new ≡ Self.made self.old };
 
     /// A process wrote a line.
     fn line(
@@ -124,41 +149,29 @@ pub trait DeskCalls {
         bytes: &[u8],
         now: Moment,
     ) -> Result<Got, DeskFault>
-        ensures told { Notes got_told (IsLine proc bytes.now) (told self.old) (told self.new)
+        ensures told { Notes Self.first now got_told (IsLine proc bytes.now) (Self.told self.old)
+            (Self.told self.new) result }
+        ensures refuses { Refuses Self.first now (event.Line proc bytes.now) (Self.told self.old)
             result }
-        ensures refused { CountsLine (refused self.old) (refused self.new) result }
-        ensures made { made self.new ≡ made self.old };
+        ensures refused { CountsLine (Self.refused self.old) (Self.refused self.new) result }
+        ensures made { Self.made self.new ≡ Self.made self.old };
 
     /// A process died. It takes no memory.
     fn died(&mut self, proc: ProcNo, now: Moment) -> Result<(), DeskFault>
-        ensures told { Notes (λ _. answer.Fine) (IsDead proc) (told self.old) (told self.new)
-            result }
+        ensures told { Notes Self.first now (λ _. answer.Fine) (IsDead proc)
+            (Self.told self.old) (Self.told self.new) result }
+        ensures refuses { Refuses Self.first now (event.Died proc) (Self.told self.old) result }
         ensures memory { IsErrOf result fault.WantOfMemory → ⊥ }
-        ensures refused { CountsRefusal (refused self.old) (refused self.new) result }
-        ensures made { made self.new ≡ made self.old };
+        ensures refused { CountsRefusal (Self.refused self.old) (Self.refused self.new) result }
+        ensures made { Self.made self.new ≡ Self.made self.old };
 
     /// The next act that is due, which counts as made with this call. No program comes or goes with it.
     fn act(&mut self, alloc: Global, now: Moment) -> Result<Option<Act>, DeskFault>
-        ensures told { MayAct (told self.old) (told self.new) result }
-        ensures next { IsNextAct first (told self.old) result }
-        ensures refused { CountsRefusal (refused self.old) (refused self.new) result }
-        ensures made { made self.new ≡ made self.old }
+        ensures told { MayAct Self.first now (Self.told self.old) (Self.told self.new) result }
+        ensures refuses { Refuses Self.first now event.Act (Self.told self.old) result }
+        ensures refused { CountsRefusal (Self.refused self.old) (Self.refused self.new) result }
+        ensures made { Self.made self.new ≡ Self.made self.old }
         ensures programs { programs self.new ≡ programs self.old };
-
-    /// Another configuration is current, which is the one that its source states: the number of its epoch, which where
-    /// `made` is told is one above it.
-    fn reconfigure(
-        &mut self,
-        alloc: Global,
-        setup: Setup,
-        now: Moment,
-    ) -> Result<EpochNo, DeskFault>
-        requires { IsStated setup }
-        ensures told { Notes answer.Epoch (IsReread setup) (told self.old) (told self.new) result }
-        ensures rereads { rereads self.old setup now result self.new }
-        ensures refused { CountsRefusal (refused self.old) (refused self.new) result }
-        ensures made { CountsReconfigured (made self.old) (made self.new) result }
-        ensures counting { is_counting ≡ true → OnOk result (IsSome (made self.old)) };
 
     /// A copy of the words of the program of the class at a place of a live epoch.
     fn words(
@@ -168,11 +181,36 @@ pub trait DeskCalls {
         class: u32,
     ) -> Result<Option<Texts>, WantOfMemory>
         ensures { IfSome (programs self.now epoch class) (λ p. IfOk result (λ t. t ≡ p)) };
-
-    /// The configuration of a live epoch; none, too, where it cannot be shared once more.
-    fn config(&self, epoch: EpochNo) -> Option<Arc<Config>>
-        ensures { IfSome (configs self.now epoch)
-            (λ o. IfSome result (λ c. o ≡ Some (arc_value c))) };
-
-    ghost capped: { (desk : Self) → refused desk ≤ count_limit };
 }
+
+/// What the control of a server calls.
+pub trait ControlCalls: TellsJournal {
+    /// Whether each desk of this type tells that of a reconfiguration that it makes.
+    ghost is_counting: { Bool };
+
+    /// What `reconfigure` with a configuration at a moment answers and leaves, where a desk says more of it than its entries
+    /// and counts tell: the desk before, the configuration, the moment, the answer, and the desk after.
+    ghost rereads: { Self → Configuration → ℕ → Result ℕ Fault → Self
+        → Type 0 } = { λ _ _ _ _ _. ⊤ };
+
+    /// Another configuration is current, which is the one that its source states: the number of its epoch, which where
+    /// `made` is told is one above it. It notes its entry, at its moment or the latest so far.
+    fn reconfigure(
+        &mut self,
+        alloc: Global,
+        setup: Setup,
+        now: Moment,
+    ) -> Result<EpochNo, DeskFault>
+        requires { IsStated setup }
+        ensures told { Notes Self.first now answer.Epoch (IsReread setup) (Self.told self.old)
+            (Self.told self.new) result }
+        ensures refuses { Refuses Self.first now (event.Reconfigure setup.source)
+            (Self.told self.old) result }
+        ensures rereads { rereads self.old setup now result self.new }
+        ensures refused { CountsRefusal (Self.refused self.old) (Self.refused self.new) result }
+        ensures made { CountsReconfigured (Self.made self.old) (Self.made self.new) result }
+        ensures counting { is_counting ≡ true → OnOk result (IsSome (Self.made self.old)) };
+}
+
+/// All calls of a desk.
+pub trait DeskCalls: ConnCalls + HelperCalls + ControlCalls {}

@@ -9,18 +9,18 @@ use Rattle.sq_machine.specs.Farms.{full}
 use Rattle.sq_machine.specs.Limits.{last_number}
 use Rattle.sq_model_state.specs.States.{State}
 use Rattle.sq_rewrite.proofs.WorkLaws.{calls_more, run_more, taken_fits, taken_known}
-use Rattle.sq_rewrite.specs.Calls.{Calls, Took}
+use Rattle.sq_rewrite.specs.Calls.{Took}
 use Rattle.sq_rewrite.specs.Rewritings.{MayBecome}
-use Rattle.sq_rewrite.specs.States.{Refuses, RewriteState, RunsOn, after, after_calls, ask_refusal, is_of_processes, is_spent}
+use Rattle.sq_rewrite.specs.States.{Refuses, RewriteState, after, after_calls, ask_refusal, is_spent}
 use Rattle.sq_rewrite.specs.declared.faults.RewriteFault.{RewriteFault}
 use Rattle.sq_rewrite.specs.declared.faults.RewriteFault.TheVariants as fault
 use Rattle.sq_rewrite.specs.declared.rewritings.Rewriting.{Rewriting}
 use Rattle.sq_session.specs.declared.front.Rewritten.{Rewritten}
 use Rattle.sq_session.specs.declared.front.Rewritten.TheVariants as rewritten
 use Rattle.sq_conn_policy.specs.Judging.{ComesTo, HadNoMemory, WasRefused, WasTaken, RewritesBy, RewritesFor, TakesAtLast, TakesLast, rewritten_of, unasked_of}
-use Rattle.sq_conn_policy.specs.Tellings.{AreKept, HubState, LeavesOthers, Puts, PutsBy, SaysRewriter, StandsAt, TakesBy, TakesRewriting, Tells, Waited, Works, is_outside, puts_for}
+use Rattle.sq_conn_policy.specs.Tellings.{HubState, Puts, PutsBy, SaysRewriter, StandsAt, TakesBy, TakesRewriting, Tells, Waited, Works, is_outside, puts_for}
 use Rattle.sq_conn_policy.proofs.TellLaws.{tells_as, tells_self, tells_then}
-use Rattle.sq_conn_policy.proofs.WorkLaws.{all_more, works_before, works_self, works_then}
+use Rattle.sq_conn_policy.proofs.WorkLaws.{works_before, works_self, works_then}
 
 both : (a b : Bool) → a ≡ true → b ≡ true → (a && b) ≡ true
 both true true p q = refl

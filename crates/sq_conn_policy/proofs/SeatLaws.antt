@@ -8,7 +8,7 @@ use Rattle.sq_pools.specs.declared.pools.ChooseFault.{ChooseFault}
 use Rattle.sq_session.specs.Fronts.{takes_seat}
 use Rattle.sq_session.specs.declared.front.SitFault.{SitFault}
 use Rattle.sq_session.specs.declared.front.SitFault.TheVariants as sit
-use Rattle.sq_conn_policy.specs.Judging.{GrantsOn, Rises, Seats, SeatsAt, Sits, seat_of, unseated_of}
+use Rattle.sq_conn_policy.specs.Judging.{GrantsOn, Rises, Seats, SeatsAt, Sits, seat_of}
 use Rattle.sq_conn_policy.specs.Tellings.{Chooses, ChoosesTag, HubState, LeavesMachine, Tells}
 use Rattle.sq_pools.specs.declared.held_seats.HeldSeat.{HeldSeat}
 use Rattle.sq_pools.specs.declared.held_seats.HeldSeat.TheVariants as held

@@ -1,10 +1,10 @@
 -- A rewriter that went on by its processes alone.
-use Rattle.std.proofs.Common.{◌≡◌, ℕ, List, [], ◌∷◌, ◌++◌, Bool, true, false, ◌&&◌, Option, Some, None, refl, sym, subst, ap, ◌∙◌}
+use Rattle.std.proofs.Common.{◌≡◌, [], ◌++◌, Bool, true, false, ◌&&◌, Option, Some, None, refl, sym, subst, ap, ◌∙◌}
 use Rattle.std.specs.List.{list_all}
 use Rattle.std.proofs.lemmas.List.Folds.{list_all-append}
 use Rattle.sq_rewrite.proofs.WorkLaws.{calls_more, run_more}
 use Rattle.sq_rewrite.specs.Calls.{Calls}
-use Rattle.sq_rewrite.specs.States.{RewriteState, RunsOn, after_calls, is_of_processes}
+use Rattle.sq_rewrite.specs.States.{RewriteState, is_of_processes}
 use Rattle.sq_conn_policy.specs.Tellings.{Works}
 
 both : (a b : Bool) → a ≡ true → b ≡ true → (a && b) ≡ true

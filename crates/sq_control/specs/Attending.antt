@@ -140,10 +140,15 @@ pub record Attends (texts : Texts) (name : List ℕ) (port : ℕ) (before now : 
   pub writes : Writes end v.contents w.contents (control_text port rereads)
   pub causes : HasCauses v w end
 
+-- how it ended, and how many reconfigurations it made
+pub record PanelRun : Type 0 where
+  pub end : PanelEnd
+  pub made : ℕ
+
 -- the same over a desk of which is told alone that it had made none, and how many it made
-abbrev pub Runs : Texts → List ℕ → ℕ → FilesSeen → FilesSeen → Streams → Streams → PanelEnd → ℕ
+abbrev pub Runs : Texts → List ℕ → ℕ → FilesSeen → FilesSeen → Streams → Streams → PanelRun
     → Type 0
-Runs texts name port before now v w end made =
-    (desk : DeskSeen) × (later : DeskSeen) × (desk.made ≡ Some 0) × (later.made ≡ Some made)
+Runs texts name port before now v w run =
+    (desk : DeskSeen) × (later : DeskSeen) × (desk.made ≡ Some 0) × (later.made ≡ Some run.made)
     × Attends texts name port (record { files = before; desk = desk })
-    (record { files = now; desk = later }) v w end
+    (record { files = now; desk = later }) v w run.end

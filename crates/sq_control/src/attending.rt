@@ -1,5 +1,8 @@
 //! A control that follows the orders of its input.
-ghost use Rattle.std.specs.Prelude.{◌≡◌, ◌⊎◌, true};
+ghost use Rattle.std.specs.Prelude.{◌≡◌, ◌⊎◌, List, true, ℕ};
+ghost use Rattle.std.specs.declared.option.Option.{Option};
+ghost use Rattle.sq_outside.specs.World.{GivesMoment};
+ghost use Rattle.sq_calls.specs.Moments.{IsTimely};
 ghost use Rattle.sq_control.specs.Attending.{Attends};
 ghost use Rattle.sq_control_reread.specs.ControlViews.{desk_of};
 
@@ -7,23 +10,53 @@ use crate::orders::{Order, next_order};
 use crate::panel::PanelEnd;
 use crate::writing::{write_listening, write_reread};
 use sq_base::{EpochNo, Moment, Text};
-use sq_calls::DeskCalls;
+use sq_calls::{ControlCalls, TellsJournal};
 use sq_control_reread::{Control, Reread};
-use sq_outside::{Clock, Failed, Files, Sink, Source};
+use sq_outside::{Failed, Files, Sink, Source};
 use sq_rules::Config;
 use std::sync::{Arc, Wait};
 
-/// What stands beside the desk of a control. Nothing is claimed of it.
+/// What stands beside the desk of a control, and its clock. Nothing is claimed of it but of that.
 pub trait Beside {
-    /// Learns that an epoch has begun with this configuration.
-    fn renew(&mut self, epoch: EpochNo, config: &Arc<Config>, now: Moment);
+    /// The moments that its clock will give, the next one first, where it tells them.
+    ghost moments: { Self → Option (List ℕ) };
 
-    /// Whether the desk has stopped since its journal failed, as far as this is known.
-    fn has_stopped(&mut self) -> bool;
+    /// What `must_end` needs.
+    ghost callable: { Self → Type 0 };
+
+    /// The moment of this call.
+    fn now(&mut self) -> Moment
+        ensures moment { GivesMoment (moments self.old) (moments self.new) result }
+        ensures callable { callable self.old → callable self.new };
+
+    /// Learns that an epoch has begun with this configuration.
+    fn renew(&self, epoch: EpochNo, config: &Arc<Config>, now: Moment);
+
+    /// Whether the server has to end, as far as this is known: the desk has stopped since its journal failed, or the listener
+    /// failed.
+    fn must_end(&self) -> bool
+        requires { callable self.now };
+}
+
+/// Of which types the files, the input and the output of a control are.
+pub trait Console {
+    type F: Files;
+
+    type S: Source;
+
+    type O: Sink;
+}
+
+impl<F: Files, S: Source, O: Sink> Console for (F, S, O) {
+    type F = F;
+
+    type S = S;
+
+    type O = O;
 }
 
 // Tells of an epoch that has begun.
-fn renew<K: DeskCalls, B: Beside>(desk: &K, beside: &mut B, reread: &Reread, now: Moment) {
+fn renew<K: TellsJournal, B: Beside>(desk: &K, beside: &B, reread: &Reread, now: Moment) {
     if let Reread::Made(epoch) = reread {
         if let Some(config) = desk.config(*epoch) {
             beside.renew(*epoch, &config, now);
@@ -31,27 +64,20 @@ fn renew<K: DeskCalls, B: Beside>(desk: &K, beside: &mut B, reread: &Reread, now
     }
 }
 
-// Whether the server has to end.
-fn must_end<B: Beside, W: Fn() -> bool>(beside: &mut B, failed: &W) -> bool
-    requires { W.IsAlwaysCallable failed.now }
-{
-    beside.has_stopped() || failed()
-}
-
 // Whether the server has to end after a reconfiguration.
-fn is_over<B: Beside, W: Fn() -> bool>(reread: &Reread, beside: &mut B, failed: &W) -> bool
-    requires { W.IsAlwaysCallable failed.now }
+fn is_over<B: Beside>(reread: &Reread, beside: &B) -> bool
+    requires { B.callable beside.now }
     ensures { reread.now ≡ Reread.Journal → result ≡ true }
 {
-    *reread == Reread::Journal || must_end(beside, failed)
+    *reread == Reread::Journal || beside.must_end()
 }
 
 // How a control ends that was ordered to, or gets no more orders.
-fn ending<B: Beside, W: Fn() -> bool>(beside: &mut B, failed: &W) -> PanelEnd
-    requires { W.IsAlwaysCallable failed.now }
+fn ending<B: Beside>(beside: &B) -> PanelEnd
+    requires { B.callable beside.now }
     ensures { (result ≡ PanelEnd.Ended) ⊎ (result ≡ PanelEnd.Faulted) }
 {
-    if must_end(beside, failed) {
+    if beside.must_end() {
         PanelEnd::Faulted
     } else {
         PanelEnd::Ended
@@ -60,32 +86,21 @@ fn ending<B: Beside, W: Fn() -> bool>(beside: &mut B, failed: &W) -> PanelEnd
 
 /// Says that the server listens at this port, and then follows the orders of the input until `shutdown`, the end or a
 /// fault. At each `reconfigure` the file of this name is read, one reconfiguration is made of it, and a line says what
-/// became of that. `failed` says whether the listener failed, as far as is known.
-pub fn attend<
-    R: Wait,
-    K: DeskCalls,
-    F: Files,
-    S: Source,
-    O: Sink,
-    C: Clock,
-    B: Beside,
-    W: Fn() -> bool,
->(
+/// became of that.
+pub fn attend<R: Wait, K: ControlCalls, I: Console, B: Beside>(
     rt: &R,
     port: u16,
     conf: &Text,
     control: &mut Control<K>,
-    files: &mut F,
-    input: &mut S,
-    out: &mut O,
-    clock: &mut C,
+    files: &mut I::F,
+    input: &mut I::S,
+    out: &mut I::O,
     beside: &mut B,
-    failed: &W,
 ) -> PanelEnd
-    requires { W.IsAlwaysCallable failed.now }
-    ensures attends { Attends (F.texts files.old) conf.now port
+    requires { B.callable beside.old }
+    ensures attends { Attends (I.F.texts files.old) conf.now port
         (record {
-          files = record { opened = F.opened files.old; faults = F.faults files.old };
+          files = record { opened = I.F.opened files.old; faults = I.F.faults files.old };
           desk = record {
             told = K.told (desk_of control.old);
             made = K.made (desk_of control.old);
@@ -93,7 +108,7 @@ pub fn attend<
           };
         })
         (record {
-          files = record { opened = F.opened files.new; faults = F.faults files.new };
+          files = record { opened = I.F.opened files.new; faults = I.F.faults files.new };
           desk = record {
             told = K.told (desk_of control.new);
             made = K.made (desk_of control.new);
@@ -101,19 +116,22 @@ pub fn attend<
           };
         })
         (record {
-          left = S.left input.old;
-          input_faults = S.faults input.old;
-          contents = O.contents out.old;
-          output_faults = O.faults out.old;
+          left = I.S.left input.old;
+          input_faults = I.S.faults input.old;
+          contents = I.O.contents out.old;
+          output_faults = I.O.faults out.old;
         })
         (record {
-          left = S.left input.new;
-          input_faults = S.faults input.new;
-          contents = O.contents out.new;
-          output_faults = O.faults out.new;
+          left = I.S.left input.new;
+          input_faults = I.S.faults input.new;
+          contents = I.O.contents out.new;
+          output_faults = I.O.faults out.new;
         })
         result }
-    ensures texts { F.texts files.new ≡ F.texts files.old }
+    ensures texts { I.F.texts files.new ≡ I.F.texts files.old }
+    // Each reconfiguration was noted at a moment that the clock gave meanwhile, or the latest so far.
+    ensures timely { IsTimely (B.moments beside.old) (B.moments beside.new)
+        (K.told (desk_of control.old)) (K.told (desk_of control.new)) }
 {
     match write_listening(out, port) {
         Ok(()) => {}
@@ -122,24 +140,24 @@ pub fn attend<
     'orders: for _ in rt.forever() {
         match next_order(rt, input) {
             Ok(Order::Nothing) => {
-                if must_end(beside, failed) {
+                if beside.must_end() {
                     return PanelEnd::Faulted;
                 }
             }
             Ok(Order::Reconfigure) => {
-                let now = clock.now();
+                let now = beside.now();
                 let reread = control.reread(conf, files, now);
-                renew(control.desk(), beside, &reread, now);
+                renew(control.desk(), &*beside, &reread, now);
                 match write_reread(out, &reread) {
                     Ok(()) => {}
                     Err(Failed) => return PanelEnd::WriteFault,
                 }
-                if is_over(&reread, beside, failed) {
+                if is_over(&reread, &*beside) {
                     return PanelEnd::Faulted;
                 }
             }
-            Ok(Order::Shutdown) => return ending(beside, failed),
-            Ok(Order::End) => return ending(beside, failed),
+            Ok(Order::Shutdown) => return ending(&*beside),
+            Ok(Order::End) => return ending(&*beside),
             Err(Failed) => return PanelEnd::ReadFault,
         }
     }

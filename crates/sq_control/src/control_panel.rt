@@ -2,60 +2,44 @@
 ghost use Rattle.std.specs.Prelude.{◌≡◌, ℕ, ◌<◌, Some, true};
 
 use crate::attending::{Beside, attend};
-use crate::panel::{Panel, PanelEnd};
+use crate::panel::{Monitor, Panel, PanelEnd};
 use sq_base::{EpochNo, Moment, Text};
 use sq_calls::DeskCalls;
 use sq_control_reread::Control;
-use sq_outside::{Clock, Files, Sink, Source};
+use sq_outside::{Files, Sink, Source};
 use sq_rules::Config;
-use sq_shared::{Bank, ControlDesk, LockDesk, Room};
+use sq_shared::{Bank, ControlDesk, Grants, Ledgers, Makes, Refusals, Room, is_stopped};
 use std::alloc::Global;
-use std::sync::ledger::{Ledger, Share};
+use std::sync::ledger::Share;
 use std::sync::{Arc, Mutex, Wait};
 
-// The locks of the desk and of the pools.
+// The locks of the desk and of the pools, and the monitor of a control.
 #[derive(Drop)]
-struct Locks<'a, R, D: DeskCalls, A: Ledger, M: Ledger, N: Ledger, G: Ledger> {
+struct Locks<'a, R, D: DeskCalls, B: Ledgers, M> {
     alloc: Global,
     rt: &'a R,
-    room: &'a Room<D, A, M, N>,
-    bank: &'a Mutex<Bank<G>>,
+    room: &'a Room<D, B>,
+    bank: &'a Mutex<Bank<Grants<B>>>,
+    monitor: M,
 }
 
-impl<'a, R: Wait, D: DeskCalls, A: Ledger, M: Ledger, N: Ledger, G: Ledger> Locks<
-    'a,
-    R,
-    D,
-    A,
-    M,
-    N,
-    G,
-> {
-    fn new(
-        alloc: Global,
-        rt: &'a R,
-        room: &'a Room<D, A, M, N>,
-        bank: &'a Mutex<Bank<G>>,
-    ) -> Locks<'a, R, D, A, M, N, G> {
-        Locks {
-            alloc,
-            rt,
-            room,
-            bank,
-        }
+impl<'a, R: Wait, D: DeskCalls, B: Ledgers, M: Monitor> Beside for Locks<'a, R, D, B, M> {
+    ghost moments = { λ s. M.moments s.monitor };
+
+    ghost callable = { λ s. M.callable s.monitor };
+
+    fn now(&mut self) -> Moment {
+        self.monitor.now()
     }
-}
 
-impl<'a, R: Wait, D: DeskCalls, A: Ledger, M: Ledger, N: Ledger, G: Ledger> Beside
-    for Locks<'a, R, D, A, M, N, G> {
     // Want of memory is passed over: pools of either kind make the generation where a seat is chosen.
-    fn renew(&mut self, epoch: EpochNo, config: &Arc<Config>, now: Moment) {
+    fn renew(&self, epoch: EpochNo, config: &Arc<Config>, now: Moment) {
         let _ = sq_shared::renew(self.rt, self.alloc, self.bank, epoch, config, now);
         let _ = sq_shared::renew_tags(self.rt, self.alloc, self.bank, epoch, config, now);
     }
 
-    fn has_stopped(&mut self) -> bool {
-        sq_shared::is_stopped(self.rt, self.room)
+    fn must_end(&self) -> bool {
+        is_stopped(self.rt, self.room) || self.monitor.has_failed()
     }
 }
 
@@ -98,27 +82,17 @@ impl<'c, 'f, 's, 'o, F: Files, S: Source, O: Sink> Panel for ControlPanel<'c, 'f
           contents = O.contents t.out.now;
           output_faults = O.faults t.out.now;
         })
-        end n };
+        (record { end = end; made = n }) };
 
-    fn run<
-        R: Wait,
-        D: DeskCalls,
-        A: Ledger,
-        M: Ledger,
-        N: Ledger,
-        G: Ledger,
-        W: Fn() -> bool,
-        C: Clock + Drop,
-    >(
+    fn run<R: Wait, D: DeskCalls, B: Ledgers, M: Monitor + Drop>(
         self,
         rt: &R,
-        room: &Room<D, A, M, N>,
-        bank: &Mutex<Bank<G>>,
-        failed: &W,
-        clock: C,
-        made: Share<M>,
-        refused: Share<N>,
-    ) -> (Self, PanelEnd, Share<M>) {
+        room: &Room<D, B>,
+        bank: &Mutex<Bank<Grants<B>>>,
+        monitor: M,
+        made: Share<Makes<B>>,
+        refused: Share<Refusals<B>>,
+    ) -> (Self, PanelEnd, Share<Makes<B>>) {
         let ControlPanel {
             alloc,
             port,
@@ -127,11 +101,16 @@ impl<'c, 'f, 's, 'o, F: Files, S: Source, O: Sink> Panel for ControlPanel<'c, 'f
             input,
             out,
         } = self;
-        let mut clock = clock;
-        let mut locks = Locks::new(alloc, rt, room, bank);
-        let desk = ControlDesk::new(LockDesk::new(rt, room, refused), made);
+        let mut locks: Locks<'_, R, D, B, M> = Locks {
+            alloc,
+            rt,
+            room,
+            bank,
+            monitor,
+        };
+        let desk = ControlDesk::new(rt, room, made, refused);
         let mut control = Control::new(alloc, desk);
-        let end = attend(
+        let end = attend::<R, ControlDesk<'_, R, D, B>, (F, S, O), Locks<'_, R, D, B, M>>(
             rt,
             port,
             conf,
@@ -139,9 +118,7 @@ impl<'c, 'f, 's, 'o, F: Files, S: Source, O: Sink> Panel for ControlPanel<'c, 'f
             files,
             input,
             out,
-            &mut clock,
             &mut locks,
-            failed,
         );
         let made = control.into_desk().finish();
         let panel = ControlPanel {

@@ -15,8 +15,8 @@ mod orders;
 mod panel;
 mod writing;
 
-pub use attending::{Beside, attend};
+pub use attending::{Beside, Console, attend};
 pub use control_panel::{ControlPanel, take_back};
 pub use orders::{Order, next_order};
-pub use panel::{Panel, PanelEnd};
+pub use panel::{ListenerMonitor, Monitor, Panel, PanelEnd};
 pub use writing::write_reread;

@@ -1,15 +1,16 @@
 -- A text that is read, and what it states.
-use Rattle.std.proofs.Common.{◌≡◌, ℕ, List, Result, Ok, Err, Some, None, IfSome, sym, ap, ◌∙◌, subst}
+use Rattle.std.proofs.Common.{◌≡◌, ℕ, List, ◌∷◌, Result, Ok, Err, Some, None, IfSome, sym, ap, ◌∙◌, subst}
 use Rattle.std.specs.declared.option.Option.{Option}
 use Rattle.sq_outside.specs.Input.{IsWhole, ReadsFile, ReadsOpening}
 use Rattle.sq_outside.specs.Told.{AddsText, Openings, Texts}
 use Rattle.sq_rules.specs.Configurations.{Configuration}
-use Rattle.sq_calls.specs.Legality.{IsStated}
-use Rattle.sq_calls.specs.Telling.{IsReread, Notes}
+use Rattle.sq_calls.specs.Legality.{Beginning, IsStated}
+use Rattle.sq_calls.specs.Telling.{IsReread, Notes, noted_at}
 use Rattle.sq_calls.specs.declared.faults.DeskFault.{DeskFault}
 use Rattle.sq_calls.specs.declared.faults.DeskFault.TheVariants as desk
 use Rattle.sq_conf.specs.declared.faults.ConfFault.TheVariants as fault
-use Rattle.sq_machine.specs.Entries.{History}
+use Rattle.sq_machine.specs.Entries.{History, entry_at}
+use Rattle.sq_machine.specs.declared.entries.Event.{Event}
 use Rattle.sq_machine.specs.declared.entries.Told.TheVariants as answer
 use Rattle.sq_rules.specs.declared.kinds.Kind.{Kind}
 use Rattle.sq_machine.specs.declared.refusals.Refusal.TheVariants as refusal
@@ -18,7 +19,7 @@ use Rattle.sq_rules.specs.Limits.{text_limit}
 use Rattle.sq_rules.specs.declared.kinds.ConfError.{ConfError}
 use Rattle.sq_rules.specs.declared.kinds.Kind.TheVariants as kind
 use Rattle.sq_drafts.proofs.TextLaws.{gives_source, too_long}
-use Rattle.sq_control_reread.specs.Rereading.{Adds, OfFile, States, answers}
+use Rattle.sq_control_reread.specs.Rereading.{Adds, AddsReread, OfFile, States, answers}
 
 -- a configuration that a text gives is the one that its source states
 pub is_stated : (text : List ℕ) (config : Configuration) → conf_gives text config → IsStated config
@@ -61,23 +62,34 @@ refused_long line k text bytes e none whole =
     let same : record { line = 0; kind = kind.TooMany } ≡ record { line = line; kind = k } = cc in
     too_long bytes (subst (IsWhole text_limit bytes) none whole) ∙ ap {B = Result Configuration ConfError} Err same
 
+-- what a desk notes of a reconfiguration is its entry
+adds_reread : (first : Option Beginning) (moment : ℕ) (config : Configuration) (epoch : ℕ) (old new : Option History)
+    → Notes first moment answer.Epoch (IsReread config) old new (Ok epoch) → AddsReread config epoch old new
+adds_reread first moment config epoch None new is = is
+adds_reread first moment config epoch (Some h) new (e, is, enters) = (
+  noted_at moment h,
+  enters.entry ∙ ap (λ (x : Event). Some
+      (entry_at (noted_at moment h) x (answer.Epoch epoch) ∷ h)) is,
+)
+
 -- what the desk's answer adds
-pub adds_of : (texts : Texts) (before now : Openings) (name : List ℕ) (old new : Option History)
-    (config : Configuration) (r : Result ℕ DeskFault)
-    → OfFile texts before now name (States config) → Notes answer.Epoch (IsReread config) old new r
+pub adds_of : (first : Option Beginning) (moment : ℕ) (texts : Texts) (before now : Openings) (name : List ℕ)
+    (old new : Option History) (config : Configuration) (r : Result ℕ DeskFault)
+    → OfFile texts before now name (States config) → Notes first moment answer.Epoch (IsReread config) old new r
     → Adds texts before now name old new (answers r)
-adds_of texts before now name old new config (Ok epoch) file is = (config, file, is)
-adds_of texts before now name old new config (Err desk.Stopped) file is = is
-adds_of texts before now name old new config (Err desk.JournalFault) file is = is
-adds_of texts before now name old new config (Err desk.WantOfMemory) file is = is
-adds_of texts before now name old new config (Err (desk.Engine (refusal.ConnInUse n))) file is = is
-adds_of texts before now name old new config (Err (desk.Engine (refusal.UnknownConn n))) file is = is
-adds_of texts before now name old new config (Err (desk.Engine (refusal.TooManyConns n))) file is = is
-adds_of texts before now name old new config (Err (desk.Engine (refusal.CheckOpen n))) file is = is
-adds_of texts before now name old new config (Err (desk.Engine (refusal.UnknownCheck n))) file is = is
-adds_of texts before now name old new config (Err (desk.Engine (refusal.NotDone n))) file is = is
-adds_of texts before now name old new config (Err (desk.Engine (refusal.NoStartOpen n c))) file is = is
-adds_of texts before now name old new config (Err (desk.Engine (refusal.UnknownProc n))) file is = is
-adds_of texts before now name old new config (Err (desk.Engine (refusal.TooManyEpochs n))) file is = is
-adds_of texts before now name old new config (Err (desk.Engine (refusal.Spent n))) file is = is
-adds_of texts before now name old new config (Err (desk.Engine refusal.WantOfMemory)) file is = is
+adds_of first moment texts before now name old new config (Ok epoch) file is =
+    (config, file, adds_reread first moment config epoch old new is)
+adds_of first moment texts before now name old new config (Err desk.Stopped) file is = is
+adds_of first moment texts before now name old new config (Err desk.JournalFault) file is = is
+adds_of first moment texts before now name old new config (Err desk.WantOfMemory) file is = is
+adds_of first moment texts before now name old new config (Err (desk.Engine (refusal.ConnInUse n))) file is = is
+adds_of first moment texts before now name old new config (Err (desk.Engine (refusal.UnknownConn n))) file is = is
+adds_of first moment texts before now name old new config (Err (desk.Engine (refusal.TooManyConns n))) file is = is
+adds_of first moment texts before now name old new config (Err (desk.Engine (refusal.CheckOpen n))) file is = is
+adds_of first moment texts before now name old new config (Err (desk.Engine (refusal.UnknownCheck n))) file is = is
+adds_of first moment texts before now name old new config (Err (desk.Engine (refusal.NotDone n))) file is = is
+adds_of first moment texts before now name old new config (Err (desk.Engine (refusal.NoStartOpen n c))) file is = is
+adds_of first moment texts before now name old new config (Err (desk.Engine (refusal.UnknownProc n))) file is = is
+adds_of first moment texts before now name old new config (Err (desk.Engine (refusal.TooManyEpochs n))) file is = is
+adds_of first moment texts before now name old new config (Err (desk.Engine (refusal.Spent n))) file is = is
+adds_of first moment texts before now name old new config (Err (desk.Engine refusal.WantOfMemory)) file is = is

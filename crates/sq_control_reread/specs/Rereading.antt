@@ -1,14 +1,14 @@
 -- In the statement: docs/STATEMENT.md lists which definitions.
 -- What becomes of a reconfiguration.
-use Rattle.std.specs.Prelude.{◌≡◌, ◌⊎◌, ℕ, ◌+◌, List, Bool, true, false, Some, IfSome, Result, Ok, Err}
+use Rattle.std.specs.Prelude.{◌≡◌, ◌⊎◌, ℕ, ◌+◌, List, ◌∷◌, Bool, true, false, Some, None, IfSome, Result, Ok, Err}
 use Rattle.std.specs.declared.option.Option.{Option}
 use Rattle.sq_outside.specs.Told.{Texts, Openings, AddsText}
 use Rattle.sq_calls.specs.declared.faults.DeskFault.{DeskFault}
 use Rattle.sq_calls.specs.declared.faults.DeskFault.TheVariants as fault
-use Rattle.sq_calls.specs.Telling.{AddsOne, IsReread}
 use Rattle.sq_rules.specs.ConfText.{conf_gives, conf_refuses}
 use Rattle.sq_rules.specs.Configurations.{Configuration}
-use Rattle.sq_machine.specs.Entries.{History}
+use Rattle.sq_machine.specs.Entries.{History, entry_at}
+use Rattle.sq_machine.specs.declared.entries.Event.TheVariants as event
 use Rattle.sq_machine.specs.declared.entries.Told.TheVariants as answer
 use Rattle.sq_rules.specs.declared.kinds.ConfError.{ConfError}
 use Rattle.sq_machine.specs.declared.refusals.Refusal.TheVariants as refusal
@@ -69,13 +69,19 @@ abbrev pub Asks : {K : Type 0} → Texts → Openings → Openings → List ℕ
 Asks texts before now name R old new r = IsAnswered texts before now name R r
     ⊎ ((new ≡ old) × (is_answer r ≡ false))
 
+-- where the journal is told, a reconfiguration with this configuration was entered, with this epoch
+abbrev pub AddsReread : Configuration → ℕ → Option History → Option History → Type 0
+AddsReread config epoch None new = new ≡ None
+AddsReread config epoch (Some h) new = (moment : ℕ)
+    × (new ≡ Some (entry_at moment (event.Reconfigure config.source) (answer.Epoch epoch) ∷ h))
+
 -- one entry was added exactly where the reconfiguration was made: that of the configuration that
 -- the text of the file states
 abbrev pub Adds : Texts → Openings → Openings → List ℕ → Option History → Option History → Reread
     → Type 0
 Adds texts before now name old new (reread.Made epoch) =
     (config : Configuration) × OfFile texts before now name (States config)
-    × AddsOne (IsReread config) (answer.Epoch epoch) old new
+    × AddsReread config epoch old new
 Adds texts before now name old new r = new ≡ old
 
 -- a reconfiguration that was made is counted, and its epoch is one above the count; else the count

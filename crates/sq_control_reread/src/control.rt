@@ -1,5 +1,5 @@
 //! `Control`: what reads the configuration of a server again.
-ghost use Rattle.std.specs.Prelude.{◌≡◌, ◌≤◌, ℕ, List, true, IfOk, IfErr};
+ghost use Rattle.std.specs.Prelude.{◌≡◌, ◌≤◌, ◌∷◌, [], ℕ, List, true, IfOk, IfErr};
 ghost use Rattle.sq_rules.specs.declared.kinds.ConfError.{ConfError};
 ghost use Rattle.sq_outside.specs.Causes.{Rose};
 ghost use Rattle.sq_outside.specs.Input.{IsWhole};
@@ -8,11 +8,13 @@ ghost use Rattle.sq_rules.specs.ConfText.{conf_gives, conf_refuses};
 ghost use Rattle.sq_rules.specs.Limits.{text_limit};
 ghost use Rattle.sq_rules.specs.declared.kinds.Kind.{Kind};
 ghost use Rattle.sq_calls.specs.Legality.{IsStated};
-ghost use Rattle.sq_calls.specs.Telling.{CountsRefusal};
+ghost use Rattle.sq_calls.specs.Moments.{GrewAt};
+ghost use Rattle.sq_calls.specs.Telling.{CountsRefusal, IsReread, Notes};
+ghost use Rattle.sq_machine.specs.declared.entries.Told.TheVariants as answer;
 ghost use Rattle.sq_control_reread.specs.Rereading.{Adds, Asks, CountsMade, IsRefused, answers, is_refusal};
 
 use sq_base::{EpochNo, Moment, Text};
-use sq_calls::{DeskCalls, DeskFault};
+use sq_calls::{ControlCalls, DeskFault};
 use sq_conf::{ConfFault, read_config};
 use sq_machine::Refusal;
 use sq_outside::{Files, NoOpen, read_file};
@@ -80,7 +82,7 @@ fn answer_of(gave: Result<EpochNo, DeskFault>) -> Reread
     }
 }
 
-impl<K: DeskCalls> Control<K> {
+impl<K: ControlCalls> Control<K> {
     ghost use Rattle.sq_control_reread.specs.ControlViews.{desk_of};
 
     /// A control over this desk.
@@ -104,17 +106,21 @@ impl<K: DeskCalls> Control<K> {
         self.desk
     }
 
-    /// Reads the file of this name, and makes one reconfiguration of what it states.
+    /// Reads the file of this name, and makes one reconfiguration of what it states, at this moment.
     pub fn reread<F: Files>(&mut self, conf: &Text, files: &mut F, now: Moment) -> Reread
         // At most one entry is added: the reconfiguration of the text that was read, and that exactly where it was made.
         ensures adds { Adds (F.texts files.old) (F.opened files.old) (F.opened files.new) conf.now
             (K.told (desk_of self.old)) (K.told (desk_of self.new)) result }
+        // It was noted at this moment, or the latest so far.
+        ensures grew { GrewAt (now ∷ []) (K.told (desk_of self.old)) (K.told (desk_of self.new)) }
         // Where it tells its count, that rose by one, and the epoch is one above it.
         ensures made { CountsMade (K.made (desk_of self.old)) (K.made (desk_of self.new)) result }
         // What the desk's `reconfigure` gave is answered, and none of its answers comes otherwise.
         ensures asks { Asks (F.texts files.old) (F.opened files.old) (F.opened files.new) conf.now
             (λ config gave. K.rereads (desk_of self.old) config now gave (desk_of self.new)
-            × CountsRefusal (K.refused (desk_of self.old)) (K.refused (desk_of self.new)) gave)
+            × CountsRefusal (K.refused (desk_of self.old)) (K.refused (desk_of self.new)) gave
+            × Notes K.first now answer.Epoch (IsReread config) (K.told (desk_of self.old))
+            (K.told (desk_of self.new)) gave)
             (desk_of self.old) (desk_of self.new) result }
         ensures at { (e : ConfError) → result ≡ Reread.At e
             → IsRefused (F.texts files.old) (F.opened files.old) (F.opened files.new) conf.now e }

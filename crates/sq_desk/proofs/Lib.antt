@@ -4,5 +4,5 @@ mod SpareLaws
 mod ReplayLaws
 mod EventLaws
 mod NameLaws
+mod NextLaws
 mod TellingLaws
-mod DueLaws

@@ -2,3 +2,4 @@
 pub mod Noting
 pub mod Desks
 pub mod Calling
+pub mod Tells

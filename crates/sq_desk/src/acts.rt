@@ -1,11 +1,9 @@
 //! What is to be done next.
-ghost use Rattle.std.specs.Prelude.{◌≡◌, ◌+◌, Some, max, IfOk};
-ghost use Rattle.sq_calls.specs.Telling.{IsNextAct};
+ghost use Rattle.std.specs.Prelude.{◌≡◌, ◌+◌, max, IfOk};
 ghost use Rattle.sq_engine.specs.Acting.{IsActPromised};
 ghost use Rattle.sq_engine.specs.EngineViews.{state_of};
 ghost use Rattle.sq_desk.specs.Calling.{Acts, Leaves, desk_of, load_of, told_due};
 
-use crate::desks::{Desk, DeskStart};
 use crate::notes::Notes;
 use sq_base::{Moment, WantOfMemory};
 use sq_calls::DeskFault;
@@ -30,7 +28,7 @@ fn told_next(alloc: Global, engine: &Engine) -> Result<Option<Told>, WantOfMemor
 }
 
 // The next act that is due, which counts as made.
-fn act<J: Journal>(
+pub(crate) fn act<J: Journal>(
     engine: &mut Engine,
     notes: &mut Notes<J>,
     alloc: Global,
@@ -66,19 +64,5 @@ fn act<J: Journal>(
     match notes.note(entry) {
         Ok(()) => Ok(Some(act)),
         Err(fault) => Err(fault),
-    }
-}
-
-impl<J: Journal, F: DeskStart> Desk<J, F> {
-    /// The next act that is due, which counts as made with this call. Where none is, nothing is noted.
-    pub fn act(&mut self, alloc: Global, now: Moment) -> Result<Option<Act>, DeskFault>
-        ensures acts { Acts (max now self.old.engine.latest) self.old result self.new }
-        ensures promised { IfOk result
-            (λ a. IsActPromised (state_of self.old.engine) (max now self.old.engine.latest) a
-            (state_of self.new.engine)) }
-        // Where the journal is told, what is given is the machine's next act.
-        ensures next { IsNextAct (Some F.first) self.old.notes.history result }
-    {
-        act(&mut self.engine, &mut self.notes, alloc, now)
     }
 }

@@ -10,7 +10,6 @@ ghost use Rattle.sq_model_state.specs.Changes.{after_ask};
 ghost use Rattle.sq_engine.specs.EngineViews.{state_of};
 ghost use Rattle.sq_desk.specs.Calling.{Leaves, Makes, desk_of, load_of};
 
-use crate::desks::{Desk, DeskStart};
 use crate::notes::Notes;
 use sq_base::{CheckNo, ConnNo, Copying, Moment, Request, WantOfMemory};
 use sq_calls::DeskFault;
@@ -46,7 +45,7 @@ fn asked(alloc: Global, conn: ConnNo, request: &Request) -> Result<Event, WantOf
 }
 
 // A request arrives on a connection, and its check begins.
-fn ask<J: Journal>(
+pub(crate) fn ask<J: Journal>(
     engine: &mut Engine,
     notes: &mut Notes<J>,
     alloc: Global,
@@ -84,27 +83,5 @@ fn ask<J: Journal>(
     match notes.note(entry) {
         Ok(()) => Ok(check),
         Err(fault) => Err(fault),
-    }
-}
-
-impl<J: Journal, F: DeskStart> Desk<J, F> {
-    /// A request arrives on a connection, and its check begins in the current epoch.
-    pub fn ask(
-        &mut self,
-        alloc: Global,
-        conn: ConnNo,
-        request: Request,
-        now: Moment,
-    ) -> Result<CheckNo, DeskFault>
-        ensures makes { Makes (λ n. told.Check n) (ask_answer (state_of self.old.engine) conn)
-            (max now self.old.engine.latest)
-            (event.Ask conn request.method request.target request.fields)
-            (after_ask (asked_in (state_of self.old.engine) (max now self.old.engine.latest) conn
-            request.method request.target request.fields) (max now self.old.engine.latest)
-            (state_of self.old.engine))
-            self.old result self.new }
-        ensures formed { is_some (target_of request.method request.target) ≡ true }
-    {
-        ask(&mut self.engine, &mut self.notes, alloc, conn, request, now)
     }
 }

@@ -9,7 +9,6 @@ ghost use Rattle.sq_model_state.specs.Changes.{after_close, after_open};
 ghost use Rattle.sq_engine.specs.EngineViews.{state_of};
 ghost use Rattle.sq_desk.specs.Calling.{Leaves, Makes, desk_of, load_of};
 
-use crate::desks::{Desk, DeskStart};
 use crate::notes::Notes;
 use sq_base::{Addr, ConnNo, Moment};
 use sq_calls::DeskFault;
@@ -18,7 +17,7 @@ use sq_journal_writers::Journal;
 use sq_machine::{Entry, Event, Told, later};
 
 // A client's connection opens, and a place is made for its close.
-fn open<J: Journal>(
+pub(crate) fn open<J: Journal>(
     engine: &mut Engine,
     notes: &mut Notes<J>,
     conn: ConnNo,
@@ -51,7 +50,7 @@ fn open<J: Journal>(
 }
 
 // A connection closes. The place is there.
-fn close<J: Journal>(
+pub(crate) fn close<J: Journal>(
     engine: &mut Engine,
     notes: &mut Notes<J>,
     conn: ConnNo,
@@ -81,33 +80,4 @@ fn close<J: Journal>(
         answer: Told::Fine,
     };
     notes.note(entry)
-}
-
-impl<J: Journal, F: DeskStart> Desk<J, F> {
-    /// A client's connection opens.
-    pub fn open(
-        &mut self,
-        conn: ConnNo,
-        addr: Addr,
-        port: u16,
-        now: Moment,
-    ) -> Result<(), DeskFault>
-        ensures { Makes (λ _. told.Fine) (open_answer (state_of self.old.engine) conn)
-            (max now self.old.engine.latest) (event.Open conn addr port)
-            (after_open conn (record { addr = addr; port = port }) (max now self.old.engine.latest)
-            (state_of self.old.engine)) self.old result self.new }
-    {
-        open(&mut self.engine, &mut self.notes, conn, addr, port, now)
-    }
-
-    /// A connection closes, and its open check is dropped. It takes no memory.
-    pub fn close(&mut self, conn: ConnNo, now: Moment) -> Result<(), DeskFault>
-        ensures makes { Makes (λ _. told.Fine) (close_answer (state_of self.old.engine) conn)
-            (max now self.old.engine.latest) (event.Close conn)
-            (after_close conn (max now self.old.engine.latest) (state_of self.old.engine)) self.old
-            result self.new }
-        ensures memory { IsErrOf result fault.WantOfMemory → ⊥ }
-    {
-        close(&mut self.engine, &mut self.notes, conn, now)
-    }
 }

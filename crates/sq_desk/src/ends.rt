@@ -8,7 +8,6 @@ ghost use Rattle.sq_model_state.specs.Answers.{died_answer};
 ghost use Rattle.sq_engine.specs.EngineViews.{state_of};
 ghost use Rattle.sq_desk.specs.Calling.{Leaves, Makes, after_died, desk_of};
 
-use crate::desks::{Desk, DeskStart};
 use crate::notes::Notes;
 use sq_base::{Moment, ProcNo};
 use sq_calls::DeskFault;
@@ -17,7 +16,7 @@ use sq_journal_writers::Journal;
 use sq_machine::{Entry, Event, Told, later};
 
 // A process died. The place is there.
-fn died<J: Journal>(
+pub(crate) fn died<J: Journal>(
     engine: &mut Engine,
     notes: &mut Notes<J>,
     proc: ProcNo,
@@ -47,17 +46,4 @@ fn died<J: Journal>(
         answer: Told::Fine,
     };
     notes.note(entry)
-}
-
-impl<J: Journal, F: DeskStart> Desk<J, F> {
-    /// A process died. It takes no memory.
-    pub fn died(&mut self, proc: ProcNo, now: Moment) -> Result<(), DeskFault>
-        ensures makes { Makes (λ _. told.Fine) (died_answer (state_of self.old.engine) proc)
-            (max now self.old.engine.latest) (event.Died proc)
-            (after_died proc (max now self.old.engine.latest) (state_of self.old.engine)) self.old
-            result self.new }
-        ensures memory { IsErrOf result fault.WantOfMemory → ⊥ }
-    {
-        died(&mut self.engine, &mut self.notes, proc, now)
-    }
 }

@@ -19,7 +19,6 @@ mod desks;
 mod ends;
 mod lines;
 mod notes;
-mod reading;
 mod reconfiguring;
 mod starts;
 mod stepping;

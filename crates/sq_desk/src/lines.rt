@@ -1,12 +1,11 @@
 //! Lines of processes.
-ghost use Rattle.std.specs.Prelude.{◌≡◌, ◌+◌, max, IfOk};
+ghost use Rattle.std.specs.Prelude.{◌≡◌, ◌+◌, max};
 ghost use Rattle.sq_engine.specs.EngineViews.{state_of};
 ghost use Rattle.sq_engine.specs.Lines.{got_told};
 ghost use Rattle.sq_engine.specs.Promised.{IsPromised};
 ghost use Rattle.sq_machine.specs.declared.entries.Event.TheVariants as event;
 ghost use Rattle.sq_desk.specs.Calling.{IsLinePromised, Leaves, Reads, desk_of, load_of};
 
-use crate::desks::{Desk, DeskStart};
 use crate::notes::Notes;
 use sq_base::{Moment, ProcNo, Text, WantOfMemory};
 use sq_calls::DeskFault;
@@ -31,7 +30,7 @@ fn told_of(got: &Got) -> Told
 }
 
 // A line of a process.
-fn line<J: Journal>(
+pub(crate) fn line<J: Journal>(
     engine: &mut Engine,
     notes: &mut Notes<J>,
     alloc: Global,
@@ -74,20 +73,4 @@ fn line<J: Journal>(
         Got::Stray => notes.count(),
     }
     Ok(got)
-}
-
-impl<J: Journal, F: DeskStart> Desk<J, F> {
-    /// A line of a process: a reply to a question that is open on it, or one that ends it, which counts as a refusal.
-    pub fn line(
-        &mut self,
-        alloc: Global,
-        proc: ProcNo,
-        bytes: &[u8],
-        now: Moment,
-    ) -> Result<Got, DeskFault>
-        ensures reads { Reads (max now self.old.engine.latest) proc bytes.now self.old result
-            self.new }
-    {
-        line(&mut self.engine, &mut self.notes, alloc, proc, bytes, now)
-    }
 }

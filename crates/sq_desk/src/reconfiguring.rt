@@ -1,10 +1,8 @@
 //! Another configuration.
 ghost use Rattle.std.specs.Prelude.{◌≡◌, ◌+◌, max, IfOk};
 ghost use Rattle.sq_rules.specs.Configurations.{IsConfiguration};
-ghost use Rattle.sq_calls.specs.Legality.{IsStated};
-ghost use Rattle.sq_desk.specs.Calling.{CountsMade, Leaves, Rereads, desk_of, load_of};
+ghost use Rattle.sq_desk.specs.Calling.{Leaves, Rereads, desk_of, load_of};
 
-use crate::desks::{Desk, DeskStart};
 use crate::notes::Notes;
 use sq_base::{Copying, EpochNo, Moment, Text, WantOfMemory};
 use sq_calls::DeskFault;
@@ -22,7 +20,7 @@ fn source_of(alloc: Global, setup: &Setup) -> Result<Text, WantOfMemory>
 }
 
 // Another configuration is current.
-fn reconfigure<J: Journal>(
+pub(crate) fn reconfigure<J: Journal>(
     engine: &mut Engine,
     notes: &mut Notes<J>,
     alloc: Global,
@@ -64,22 +62,4 @@ pub(crate) fn good(setup: &Setup)
     ensures { IsConfiguration setup.now }
 {
     setup.config().facts();
-}
-
-impl<J: Journal, F: DeskStart> Desk<J, F> {
-    /// Another configuration is current, which is the one that its source states, in an epoch of its own: its number.
-    pub fn reconfigure(
-        &mut self,
-        alloc: Global,
-        setup: Setup,
-        now: Moment,
-    ) -> Result<EpochNo, DeskFault>
-        requires { IsStated setup }
-        ensures rereads { Rereads (max now self.old.engine.latest) setup self.old result self.new }
-        ensures made { CountsMade self.old.notes.made result self.new.notes.made }
-    {
-        // For the proof: what holds of the configuration.
-        good(&setup);
-        reconfigure(&mut self.engine, &mut self.notes, alloc, setup, now)
-    }
 }

@@ -1,14 +1,12 @@
 //! How starts of processes end.
-ghost use Rattle.std.specs.Prelude.{◌≡◌, ◌+◌, max, Some, OnOk};
+ghost use Rattle.std.specs.Prelude.{◌+◌, max};
 ghost use Rattle.sq_machine.specs.declared.entries.Event.TheVariants as event;
 ghost use Rattle.sq_machine.specs.declared.entries.Told.TheVariants as told;
 ghost use Rattle.sq_model_state.specs.Answers.{failed_answer, name_in, started_answer};
 ghost use Rattle.sq_model_state.specs.Changes.{after_failed_at, after_started_at};
 ghost use Rattle.sq_engine.specs.EngineViews.{state_of};
-ghost use Rattle.sq_calls.specs.Legality.{IsNameOf};
 ghost use Rattle.sq_desk.specs.Calling.{Leaves, Makes, desk_of, load_of};
 
-use crate::desks::{Desk, DeskStart};
 use crate::notes::Notes;
 use sq_base::{EpochNo, Moment, ProcNo, WantOfMemory};
 use sq_calls::DeskFault;
@@ -18,7 +16,7 @@ use sq_machine::{Entry, Event, Told, later};
 use std::alloc::Global;
 
 // A process was started, and a place is made for its death.
-fn started<J: Journal>(
+pub(crate) fn started<J: Journal>(
     engine: &mut Engine,
     notes: &mut Notes<J>,
     alloc: Global,
@@ -61,7 +59,7 @@ fn started<J: Journal>(
 }
 
 // A start of a class failed.
-fn start_failed<J: Journal>(
+pub(crate) fn start_failed<J: Journal>(
     engine: &mut Engine,
     notes: &mut Notes<J>,
     alloc: Global,
@@ -98,52 +96,4 @@ fn start_failed<J: Journal>(
         answer: Told::Fine,
     };
     notes.note(entry)
-}
-
-impl<J: Journal, F: DeskStart> Desk<J, F> {
-    /// A process was started for an open start of the class at a place of an epoch: its number. Where no start is open,
-    /// the caller stops the process itself.
-    pub fn started(
-        &mut self,
-        alloc: Global,
-        epoch: EpochNo,
-        class: u32,
-        now: Moment,
-    ) -> Result<ProcNo, DeskFault>
-        ensures makes { Makes told.Proc
-            (started_answer (state_of self.old.engine) (record { epoch = epoch; class = class }))
-            (max now self.old.engine.latest)
-            (event.Started epoch (name_in (state_of self.old.engine)
-            (record { epoch = epoch; class = class })))
-            (after_started_at (record { epoch = epoch; class = class })
-            (max now self.old.engine.latest) (state_of self.old.engine)) self.old result self.new }
-        // Where the journal is told, the name that is noted is that of the class in the configuration of its epoch.
-        ensures named { OnOk result
-            (IsNameOf (Some F.first) self.old.notes.history epoch class
-            (name_in (state_of self.old.engine) (record { epoch = epoch; class = class }))) }
-    {
-        started(&mut self.engine, &mut self.notes, alloc, epoch, class, now)
-    }
-
-    /// A start of the class at a place of an epoch failed.
-    pub fn start_failed(
-        &mut self,
-        alloc: Global,
-        epoch: EpochNo,
-        class: u32,
-        now: Moment,
-    ) -> Result<(), DeskFault>
-        ensures makes { Makes (λ _. told.Fine)
-            (failed_answer (state_of self.old.engine) (record { epoch = epoch; class = class }))
-            (max now self.old.engine.latest)
-            (event.StartFail epoch (name_in (state_of self.old.engine)
-            (record { epoch = epoch; class = class })))
-            (after_failed_at (record { epoch = epoch; class = class })
-            (max now self.old.engine.latest) (state_of self.old.engine)) self.old result self.new }
-        ensures named { OnOk result
-            (IsNameOf (Some F.first) self.old.notes.history epoch class
-            (name_in (state_of self.old.engine) (record { epoch = epoch; class = class }))) }
-    {
-        start_failed(&mut self.engine, &mut self.notes, alloc, epoch, class, now)
-    }
 }

@@ -7,7 +7,6 @@ ghost use Rattle.sq_engine.specs.EngineViews.{state_of};
 ghost use Rattle.sq_engine.specs.Stepping.{after_step_now, epoch_of, step_now, stepped_told};
 ghost use Rattle.sq_desk.specs.Calling.{Leaves, Makes, desk_of, load_of};
 
-use crate::desks::{Desk, DeskStart};
 use crate::notes::Notes;
 use sq_base::{CheckNo, EpochNo, Moment, Text, WantOfMemory};
 use sq_calls::DeskFault;
@@ -58,7 +57,7 @@ fn told_of(engine: &Engine, epoch: EpochNo, stepped: &Stepped, room: Vec<u8>) ->
 }
 
 // A check goes on.
-fn step<J: Journal>(
+pub(crate) fn step<J: Journal>(
     engine: &mut Engine,
     notes: &mut Notes<J>,
     alloc: Global,
@@ -96,19 +95,5 @@ fn step<J: Journal>(
     match notes.note(entry) {
         Ok(()) => Ok(stepped),
         Err(fault) => Err(fault),
-    }
-}
-
-impl<J: Journal, F: DeskStart> Desk<J, F> {
-    /// A check goes on: it takes an answer, waits for one, or has its outcome.
-    pub fn step(&mut self, alloc: Global, check: CheckNo, now: Moment) -> Result<Stepped, DeskFault>
-        ensures { Makes (stepped_told (state_of self.old.engine)
-            (epoch_of (state_of self.old.engine) check))
-            (step_now (state_of self.old.engine) check (max now self.old.engine.latest))
-            (max now self.old.engine.latest) (event.Step check)
-            (after_step_now (state_of self.old.engine) check (max now self.old.engine.latest))
-            self.old result self.new }
-    {
-        step(&mut self.engine, &mut self.notes, alloc, check, now)
     }
 }

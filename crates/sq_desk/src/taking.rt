@@ -10,7 +10,6 @@ ghost use Rattle.sq_model_state.specs.Changes.{after_take};
 ghost use Rattle.sq_engine.specs.EngineViews.{state_of};
 ghost use Rattle.sq_desk.specs.Calling.{Leaves, Makes, desk_of, load_of};
 
-use crate::desks::{Desk, DeskStart};
 use crate::notes::Notes;
 use sq_base::{CheckNo, Moment, WantOfMemory};
 use sq_calls::DeskFault;
@@ -22,7 +21,7 @@ use sq_model_state::copy_outcome;
 use std::alloc::Global;
 
 // The outcome of a check is taken, and the check is over.
-fn take<J: Journal>(
+pub(crate) fn take<J: Journal>(
     engine: &mut Engine,
     notes: &mut Notes<J>,
     alloc: Global,
@@ -67,22 +66,5 @@ fn take<J: Journal>(
     match notes.note(entry) {
         Ok(()) => Ok(record),
         Err(fault) => Err(fault),
-    }
-}
-
-impl<J: Journal, F: DeskStart> Desk<J, F> {
-    /// The outcome of a check is taken, and the check is over. The record comes exactly where its entry is in the
-    /// journal.
-    pub fn take(&mut self, alloc: Global, check: CheckNo, now: Moment) -> Result<Record, DeskFault>
-        ensures makes { Makes (λ r. told.Judged r.epoch r.outcome)
-            (take_answer (state_of self.old.engine) check) (max now self.old.engine.latest)
-            (event.Take check)
-            (after_take check (max now self.old.engine.latest) (state_of self.old.engine)) self.old
-            result self.new }
-        ensures record { IfOk result
-            (λ r. (k : CheckParts) → value_at self.old.engine.checks check ≡ Some k
-            → r ≡ judged_of check r.outcome k) }
-    {
-        take(&mut self.engine, &mut self.notes, alloc, check, now)
     }
 }

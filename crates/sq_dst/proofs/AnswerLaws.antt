@@ -4,7 +4,7 @@ use Rattle.std.specs.Prelude.{IfNone}
 use Rattle.std.specs.Option.{option_map}
 use Rattle.std.specs.declared.option.Option.{Option}
 use Rattle.sq_base.specs.Addresses.{Address}
-use Rattle.sq_dst.specs.AnsweredLines.{Answers, AnswersLines, AnswersTold, AreTold, HandsAnswers, IsFound, IsReply, StandsFor, told_reply}
+use Rattle.sq_dst.specs.AnsweredLines.{Answers, AnswersLines, AnswersTold, AreTold, HandsAnswers, IsFound, IsReply, StandsFor, answer_step, told_reply}
 use Rattle.sq_dst.specs.LookupAcls.{reply_text}
 use Rattle.sq_dst.specs.LookupKeys.{host_asked}
 use Rattle.sq_keeper.proofs.AddLaws.{adds_more, adds_none}
@@ -27,11 +27,12 @@ answers_more c names x y z (a ∷ asked) b (h ∷ handed) k p q =
     (p.0, p.1, answers_more c names p.0 y z asked b handed k p.2 q)
 
 pub hands_none : (c : Configuration) (names : Names) (n : ℕ) (told : Option (List Handed))
-    → HandsAnswers c names n n told told []
+    → HandsAnswers c (answer_step names n n told told) []
 hands_none c names n told = record { handed = []; answers = refl; adds = adds_none told }
 
 pub hands_more : (c : Configuration) (names : Names) (x y z : ℕ) (s t u : Option (List Handed)) (a b : List Handed)
-    → HandsAnswers c names x y s t a → HandsAnswers c names y z t u b → HandsAnswers c names x z s u (a ++ b)
+    → HandsAnswers c (answer_step names x y s t) a → HandsAnswers c (answer_step names y z t u) b
+    → HandsAnswers c (answer_step names x z s u) (a ++ b)
 hands_more c names x y z s t u a b p q = record {
   handed = p.handed ++ q.handed;
   answers = answers_more c names x y z a b p.handed q.handed p.answers q.answers;
@@ -39,7 +40,7 @@ hands_more c names x y z s t u a b p q = record {
 }
 
 pub hands_death : (c : Configuration) (names : Names) (n proc : ℕ) (t u : Option (List Handed))
-    → Adds t u (Died proc ∷ []) → HandsAnswers c names n n t u (Died proc ∷ [])
+    → Adds t u (Died proc ∷ []) → HandsAnswers c (answer_step names n n t u) (Died proc ∷ [])
 hands_death c names n proc t u adds = record {
   handed = Died proc ∷ [];
   answers = (n, (refl, refl), refl);
@@ -50,7 +51,7 @@ hands_death c names n proc t u adds = record {
 pub hands_reply : (c : Configuration) (names : Names) (x y proc : ℕ) (question reply : List ℕ)
     (found : Option (List Address)) (t u : Option (List Handed)) (more : Bool) → IsFound names x y question found
     → reply ≡ reply_text c question found → Adds t u (Line proc reply ∷ closing proc more)
-    → HandsAnswers c names x y t u (Line proc question ∷ closing proc more)
+    → HandsAnswers c (answer_step names x y t u) (Line proc question ∷ closing proc more)
 hands_reply c names x y proc question reply found t u true is e adds = record {
   handed = Line proc reply ∷ [];
   answers = (y, (refl, record { found = found; is_found = is; reply_is = e }), refl);
@@ -155,7 +156,7 @@ all_told c of x y (a ∷ asked) (h ∷ handed) is less =
 
 pub lines_told : (c : Configuration) (names : Names) (x y proc : ℕ) (left_before left_now : Option (List ℕ))
     (before now : Option (List Handed)) (end : KeeperEnd)
-    → AnswersLines c names x y proc left_before left_now before now end
+    → AnswersLines c (answer_step names x y before now) proc left_before left_now end
     → IfSome names (λ of. y < raised x → AnswersTold c of proc left_before left_now before now end)
 lines_told c None x y proc left_before left_now before now end is = tt
 lines_told c (Some of) x y proc left_before left_now before now end is = λ less. record {

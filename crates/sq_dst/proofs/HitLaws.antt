@@ -1,5 +1,5 @@
 -- What a match of an acl of type dst rests on.
-use Rattle.std.proofs.Common.{◌≡◌, ℕ, ◌+◌, ◌-◌, ◌<◌, ◌≤◌, ◌^◌, ◌⊎◌, suc, zero, List, [], ◌∷◌, ◌++◌, length, Bool, true, false, not, ◌&&◌, ◌||◌, ◌==◌, Some, None, IfSome, map, refl, sym, ap, subst, ◌∙◌, inl, inr, ⊎_elim, arith, slice_get, codes, bytes_eq, nat_le, nat_lt}
+use Rattle.std.proofs.Common.{◌≡◌, ℕ, ◌+◌, ◌-◌, ◌<◌, ◌≤◌, ◌^◌, ◌⊎◌, suc, zero, List, [], ◌∷◌, length, Bool, true, false, not, ◌&&◌, ◌||◌, ◌==◌, Some, None, IfSome, map, refl, sym, ap, subst, ◌∙◌, inl, inr, ⊎_elim, arith, slice_get, codes, bytes_eq, nat_le, nat_lt}
 use Rattle.std.proofs.lemmas.Bool.{and_from, and_parts}
 use Rattle.std.proofs.lemmas.Bool.Decides.{nat_tests}
 use Rattle.std.proofs.lemmas.Slice.Eq.{bytes_eq-Decides}
@@ -18,7 +18,7 @@ use Rattle.sq_rules.specs.Classes.{Class}
 use Rattle.sq_rules.specs.Configurations.{Configuration, IsConfiguration, are_known_bodies}
 use Rattle.sq_rules.specs.Keys.{acl_key, body_key, format_text, key_text}
 use Rattle.sq_rules.specs.Leaves.{in_ranges}
-use Rattle.sq_rules.specs.Lookups.{are_behind, are_either, are_in_four, are_looked_up, are_named, begins_literal, begins_lookup, begins_with_all, has_no_words, holds_all, is_all, is_asking, is_dst, is_either_body, is_last_of_four, is_lookup_format, is_named_body, is_no_literal, is_plain, literal_name, lookup_name, name_at, named_name, no_literal, plain_term}
+use Rattle.sq_rules.specs.Lookups.{are_behind, are_either, are_in_four, are_looked_up, are_named, begins_literal, begins_lookup, begins_with_all, has_no_words, holds_all, is_all, is_asking, is_dst, is_either_body, is_lookup_format, is_named_body, is_no_literal, is_plain, literal_name, lookup_name, name_at, named_name, no_literal, plain_term}
 use Rattle.sq_rules.specs.Values.{acl_value, answer_for, answer_value, body_value, both, either, member_value, negated, taken_at, taken_of_acl, taken_of_body, term_value, value_if}
 use Rattle.sq_rules.specs.declared.classes.Token.{Token}
 use Rattle.sq_rules.specs.declared.classes.Token.TheVariants as token

@@ -3,7 +3,7 @@ use Rattle.std.proofs.Common.{◌≡◌, ℕ, List, [], ◌∷◌, ◌++◌, tru
 use Rattle.std.specs.declared.option.Option.{Option}
 use Rattle.std.specs.Io.KnownBytes.{Consumes, Keeps}
 use Rattle.sq_dst.proofs.AnswerLaws.{hands_death, hands_more, hands_none}
-use Rattle.sq_dst.specs.AnsweredLines.{AnswersLines, HandsAnswers, WalksAnswers}
+use Rattle.sq_dst.specs.AnsweredLines.{AnswersLines, HandsAnswers, WalksAnswers, answer_step}
 use Rattle.sq_keeper.proofs.KeeperLaws.{SoFar, begins, goes_on, is_ended, is_failed, is_refused, is_told}
 use Rattle.sq_keeper.specs.Handing.{Adds}
 use Rattle.sq_keeper.specs.Walk.{closing, walk_handed}
@@ -18,7 +18,7 @@ pub record SoFarAnswered (c : Configuration) (names : Names) (x y proc : ℕ) (l
     (before now : Option (List Handed)) (line : List ℕ) : Type 0 where
   pub asked : List Handed
   pub reads : SoFar proc left_before left_now (Some []) (Some asked) line
-  pub hands : HandsAnswers c names x y before now asked
+  pub hands : HandsAnswers c (answer_step names x y before now) asked
 
 pub none_read : (c : Configuration) (names : Names) (n proc : ℕ) (left : Option (List ℕ)) (told : Option (List Handed))
     (line : List ℕ) → line ≡ [] → SoFarAnswered c names n n proc left left told told line
@@ -31,7 +31,7 @@ none_read c names n proc left told line e = record {
 -- more bytes, all of which were taken
 pub more_read : (c : Configuration) (names : Names) (x y z proc : ℕ) (i j k : Option (List ℕ))
     (s t u : Option (List Handed)) (line longer bytes : List ℕ) → SoFarAnswered c names x y proc i j s t line
-    → Consumes j k bytes → WalksAnswers c names y z proc line longer bytes t u true
+    → Consumes j k bytes → WalksAnswers c (answer_step names y z t u) proc line longer bytes true
     → SoFarAnswered c names x z proc i k s u longer
 more_read c names x y z proc i j k s t u line longer bytes so took walks =
     let more = walk_handed proc line bytes in
@@ -45,8 +45,8 @@ more_read c names x y z proc i j k s t u line longer bytes so took walks =
 -- more bytes, up to the LF at which the desk wanted no more
 pub told_read : (c : Configuration) (names : Names) (x y z proc : ℕ) (i j k : Option (List ℕ))
     (s t u : Option (List Handed)) (line longer bytes : List ℕ) → SoFarAnswered c names x y proc i j s t line
-    → Consumes j k bytes → WalksAnswers c names y z proc line longer bytes t u false
-    → AnswersLines c names x z proc i k s u Told
+    → Consumes j k bytes → WalksAnswers c (answer_step names y z t u) proc line longer bytes false
+    → AnswersLines c (answer_step names x z s u) proc i k Told
 told_read c names x y z proc i j k s t u line longer bytes so took walks =
     let more = walk_handed proc line (walks.0 ++ 10 ∷ []) ++ closing proc false in
     record {
@@ -59,7 +59,7 @@ told_read c names x y z proc i j k s t u line longer bytes so took walks =
 -- the end of the input, and the death
 pub all_read : (c : Configuration) (names : Names) (x y proc : ℕ) (i j k : Option (List ℕ))
     (s t u : Option (List Handed)) (line : List ℕ) → SoFarAnswered c names x y proc i j s t line → Consumes j k []
-    → Adds t u (Died proc ∷ []) → AnswersLines c names x y proc i k s u Ended
+    → Adds t u (Died proc ∷ []) → AnswersLines c (answer_step names x y s u) proc i k Ended
 all_read c names x y proc i j k s t u line so took died =
     record {
       asked = so.asked ++ Died proc ∷ [];
@@ -72,7 +72,7 @@ all_read c names x y proc i j k s t u line so took died =
 -- a fault, and the death
 pub failed_read : (c : Configuration) (names : Names) (x y proc : ℕ) (i j k : Option (List ℕ))
     (s t u : Option (List Handed)) (line : List ℕ) → SoFarAnswered c names x y proc i j s t line → Keeps j k
-    → Adds t u (Died proc ∷ []) → AnswersLines c names x y proc i k s u ReadFault
+    → Adds t u (Died proc ∷ []) → AnswersLines c (answer_step names x y s u) proc i k ReadFault
 failed_read c names x y proc i j k s t u line so kept died =
     record {
       asked = so.asked ++ Died proc ∷ [];
@@ -84,7 +84,7 @@ failed_read c names x y proc i j k s t u line so kept died =
 
 -- nothing was read or handed on
 pub not_read : (c : Configuration) (names : Names) (n proc : ℕ) (left : Option (List ℕ)) (told : Option (List Handed))
-    → AnswersLines c names n n proc left left told told WantOfMemory
+    → AnswersLines c (answer_step names n n told told) proc left left WantOfMemory
 not_read c names n proc left told = record {
   asked = [];
   reads = is_refused proc left (Some []);

@@ -1,6 +1,5 @@
 -- What a match of an acl of type dst says (configuration reference, `acl`: type dst).
 use Rattle.std.specs.Prelude.{◌≡◌, ℕ, ◌-◌, ◌⊎◌, List, Bool, true, false, Some, None, slice_get}
-use Rattle.std.specs.declared.option.Option.{Option}
 use Rattle.sq_base.specs.declared.addresses.Range.{Range}
 use Rattle.sq_base.specs.declared.helpers.Answer.{Answer}
 use Rattle.sq_base.specs.declared.helpers.Pair.{Pair}

@@ -2,7 +2,7 @@
 ghost use Rattle.std.specs.Prelude.{◌≡◌, ◌≤◌, ◌<◌, ◌∷◌, ◌++◌, [], true, false, IfSome, IfNone};
 ghost use Rattle.std.specs.Option.{OnSome, option_copied};
 ghost use Rattle.std.specs.Io.KnownBytes.{IsAtEnd};
-ghost use Rattle.sq_dst.specs.AnsweredLines.{AnswersLines, AnswersTold, HandsAnswers, IsFound, WalksAnswers};
+ghost use Rattle.sq_dst.specs.AnsweredLines.{AnswersLines, AnswersTold, HandsAnswers, IsFound, WalksAnswers, answer_step};
 ghost use Rattle.sq_dst.specs.LookupAcls.{reply_text};
 ghost use Rattle.sq_dst.specs.LookupKeys.{host_asked};
 ghost use Rattle.sq_keeper.specs.Walk.{closing, step_handed, step_line};
@@ -100,13 +100,15 @@ fn answer<R: Wait, Q: Resolver, K: LineDesk>(
     question: &[u8],
     desk: &mut K,
 ) -> bool
-    ensures hands { HandsAnswers config.now (Q.names resolver.old) (Q.faults resolver.old)
-        (Q.faults resolver.new) (K.handed desk.old) (K.handed desk.new)
+    ensures hands { HandsAnswers config.now
+        (answer_step (Q.names resolver.old) (Q.faults resolver.old) (Q.faults resolver.new)
+        (K.handed desk.old) (K.handed desk.new))
         (handed.Line proc question.now ∷ closing proc result) }
     ensures names { Q.names resolver.new ≡ Q.names resolver.old }
     ensures looks_later { Q.faults resolver.old ≤ Q.faults resolver.new }
     ensures later { K.refused desk.old ≤ K.refused desk.new }
     ensures told { result ≡ false → Rose (K.refused desk.old) (K.refused desk.new) }
+    ensures passes { K.passes desk.old desk.new }
 {
     let found = find(rt, alloc, resolver, question);
     let text = reply(rt, alloc, config, question, found.as_ref());
@@ -124,14 +126,16 @@ fn take_byte<R: Wait, Q: Resolver, K: LineDesk>(
     byte: u8,
     desk: &mut K,
 ) -> bool
-    ensures hands { HandsAnswers config.now (Q.names resolver.old) (Q.faults resolver.old)
-        (Q.faults resolver.new) (K.handed desk.old) (K.handed desk.new)
+    ensures hands { HandsAnswers config.now
+        (answer_step (Q.names resolver.old) (Q.faults resolver.old) (Q.faults resolver.new)
+        (K.handed desk.old) (K.handed desk.new))
         (step_handed proc line.old byte ++ closing proc result) }
     ensures names { Q.names resolver.new ≡ Q.names resolver.old }
     ensures looks_later { Q.faults resolver.old ≤ Q.faults resolver.new }
     ensures line { line.new ≡ step_line line.old byte }
     ensures later { K.refused desk.old ≤ K.refused desk.new }
     ensures told { result ≡ false → Rose (K.refused desk.old) (K.refused desk.new) }
+    ensures passes { K.passes desk.old desk.new }
     ensures ended { result ≡ false → byte ≡ 10 }
 {
     if byte != b'\n' {
@@ -154,13 +158,15 @@ fn take_bytes<R: Wait, Q: Resolver, K: LineDesk>(
     bytes: &[u8],
     desk: &mut K,
 ) -> bool
-    ensures walks { WalksAnswers config.now (Q.names resolver.old) (Q.faults resolver.old)
-        (Q.faults resolver.new) proc line.old line.new bytes.now (K.handed desk.old)
-        (K.handed desk.new) result }
+    ensures walks { WalksAnswers config.now
+        (answer_step (Q.names resolver.old) (Q.faults resolver.old) (Q.faults resolver.new)
+        (K.handed desk.old) (K.handed desk.new))
+        proc line.old line.new bytes.now result }
     ensures names { Q.names resolver.new ≡ Q.names resolver.old }
     ensures looks_later { Q.faults resolver.old ≤ Q.faults resolver.new }
     ensures later { K.refused desk.old ≤ K.refused desk.new }
     ensures told { result ≡ false → Rose (K.refused desk.old) (K.refused desk.new) }
+    ensures passes { K.passes desk.old desk.new }
 {
     for &byte in bytes {
         if !take_byte(rt, alloc, resolver, config, proc, line, byte, desk) {
@@ -184,9 +190,10 @@ pub fn answer_lines<R: Wait + Sync, S: Source, Q: Resolver, K: LineDesk>(
     proc: ProcNo,
     desk: &mut K,
 ) -> KeeperEnd
-    ensures lines { AnswersLines config.now (Q.names resolver.old) (Q.faults resolver.old)
-        (Q.faults resolver.new) proc (S.left from.old) (S.left from.new) (K.handed desk.old)
-        (K.handed desk.new) result }
+    ensures lines { AnswersLines config.now
+        (answer_step (Q.names resolver.old) (Q.faults resolver.old) (Q.faults resolver.new)
+        (K.handed desk.old) (K.handed desk.new))
+        proc (S.left from.old) (S.left from.new) result }
     // Where the resolver tells its addresses, and its count did not rise, each reply is over these.
     ensures found { IfSome (Q.names resolver.old)
         (λ of. Q.faults resolver.new < raised (Q.faults resolver.old)
@@ -203,6 +210,7 @@ pub fn answer_lines<R: Wait + Sync, S: Source, Q: Resolver, K: LineDesk>(
     // The first read that fails ends the reading: where it ended otherwise, none failed.
     ensures quiet { (result ≡ KeeperEnd.ReadFault → ⊥) → S.faults from.new ≡ S.faults from.old }
     ensures refused_later { K.refused desk.old ≤ K.refused desk.new }
+    ensures passes { K.passes desk.old desk.new }
 {
     let Ok(mut line) = LineBuffer::new(alloc) else {
         return KeeperEnd::WantOfMemory;

@@ -1,5 +1,6 @@
 -- Lemmas, by subject.
 pub mod TableLaws
+pub mod ConfigLaws
 mod BegunLaws
 mod HeldLaws
 mod PlaceLaws

@@ -1,5 +1,5 @@
 -- What a rule decides that asks no helper does not hang on what is taken of external acls.
-use Rattle.std.proofs.Common.{◌≡◌, ℕ, List, [], ◌∷◌, length, Bool, true, ◌&&◌, refl, sym, ap, ◌∙◌, slice_get}
+use Rattle.std.proofs.Common.{◌≡◌, ℕ, List, [], ◌∷◌, length, Bool, true, ◌&&◌, refl, sym, ap, ◌∙◌}
 use Rattle.std.specs.Prelude.{unwrap_or}
 use Rattle.sq_rules.proofs.ValueLaws.{AgreeOnLeaves, fast_rules}
 use Rattle.sq_rules.specs.Configurations.{Configuration, are_known_bodies, is_fast_rule, is_leaf_body}

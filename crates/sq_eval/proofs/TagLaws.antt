@@ -3,21 +3,19 @@ use Rattle.std.proofs.Common.{◌≡◌, ℕ, List, [], ◌∷◌, ◌++◌, map
 use Rattle.std.specs.Option.{option_map, option_or}
 use Rattle.std.specs.Prelude.{find}
 use Rattle.sq_base.specs.declared.helpers.Answer.{Answer}
-use Rattle.sq_rules.specs.Tags.{first_tag, tag_at, tag_of, tag_of_acl}
-use Rattle.sq_rules.specs.Configurations.{Configuration, are_known_bodies}
-use Rattle.sq_rules.specs.Values.{acl_value, answer_for, both, either, taken_at, turned, value_if}
-use Rattle.sq_rules.specs.Walks.{Seen, acl_walk, is_hit, is_miss, line_seen, rule_seen, term_seen, walk_while}
-use Rattle.sq_rules.specs.declared.configs.Acl.{Acl}
+use Rattle.sq_rules.specs.Tags.{first_tag, tag_of}
+use Rattle.sq_rules.specs.Configurations.{are_known_bodies}
+use Rattle.sq_rules.specs.Values.{answer_for, both, either, turned}
+use Rattle.sq_rules.specs.Walks.{Seen, is_hit, is_miss, line_seen, rule_seen, term_seen, walk_while}
 use Rattle.sq_rules.specs.declared.configs.Rule.{Rule}
 use Rattle.sq_rules.specs.declared.configs.Term.{Term}
-use Rattle.sq_rules.specs.declared.sights.Sight.{Sight}
 use Rattle.sq_rules.specs.declared.values.TermValue.{TermValue}
 use Rattle.sq_rules.specs.declared.values.TermValue.TheVariants.{Hit, Miss, Fault, Need}
 use Rattle.sq_eval.specs.Takings.{answers_for}
 use Rattle.sq_eval.specs.Traces.{all_traced, line_traced, rules_tag, some_traced, tags_in, tags_while, taken_by_tags, term_traced, trace}
 use Rattle.sq_eval.specs.declared.tags.TagInputs.{TagInputs}
 use Rattle.sq_eval.specs.declared.tags.Traced.{Traced}
-use Rattle.sq_eval.proofs.SeenLaws.{acl_seen, term_over_members, turned_seen}
+use Rattle.sq_eval.proofs.SeenLaws.{acl_seen, term_over_members}
 
 -- tags one after the other
 

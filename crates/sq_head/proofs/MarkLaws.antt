@@ -1,5 +1,5 @@
 -- Marks at the names of fields, as options come.
-use Rattle.std.proofs.Common.{◌≡◌, ℕ, zero, suc, ◌+◌, ◌<◌, List, [], ◌∷◌, ◌++◌, Bool, true, false, cond, ◌||◌, ◌&&◌, ◌==◌, not, codes, inl, inr, arith, if◌then◌else◌, Option, Some, None, take, map, length, get_or, refl, sym, ap, ◌∙◌, subst}
+use Rattle.std.proofs.Common.{◌≡◌, ℕ, zero, suc, ◌+◌, ◌<◌, List, [], ◌∷◌, ◌++◌, Bool, true, false, cond, ◌||◌, ◌&&◌, ◌==◌, not, codes, inl, inr, arith, if◌then◌else◌, Option, Some, None, take, map, length, get_or, refl, sym, ap, ◌∙◌}
 use Rattle.std.proofs.lemmas.Bool.{cases_Bool}
 use Rattle.std.proofs.lemmas.List.Folds.{list_any-append, list_any_more}
 use Rattle.std.proofs.lemmas.Map.Text.{is_eq-slice_cmp}
@@ -7,13 +7,13 @@ use Rattle.std.specs.Borrow.{Bor}
 use Rattle.std.specs.BTreeMap.{is_at}
 use Rattle.std.specs.Char.{to_ascii_lowercase}
 use Rattle.std.specs.Cmp.Lexicographic.{slice_cmp, same_text}
-use Rattle.std.specs.List.{filter, flat_map, list_any}
+use Rattle.std.specs.List.{filter, list_any}
 use Rattle.std.specs.Map.{lookup}
 use Rattle.std.specs.Ordering.{nat_cmp}
 use Rattle.std.specs.Prelude.{bytes_eq}
 use Rattle.std.specs.Str.{str_eq_ignore_ascii_case, str_to_ascii_lowercase}
 use Rattle.sq_base.specs.declared.requests.Field.{Field}
-use Rattle.sq_head.specs.FieldNames.{dropped, goes_out, is_kept, is_listed, is_one_of, is_sent}
+use Rattle.sq_head.specs.FieldNames.{dropped, goes_out, is_one_of, is_sent}
 use Rattle.sq_head.specs.Marks.{mark_at, mark_of, marked_if, names_some, IsMarked}
 use Rattle.sq_head.specs.declared.names.Direction.{Direction}
 

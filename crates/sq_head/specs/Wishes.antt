@@ -1,6 +1,6 @@
 -- What a request says of its connection and of its body: RFC 9112 sections 9.3 and 9.6 (close), RFC
 -- 9110 section 10.1.1 (100-continue).
-use Rattle.std.specs.Prelude.{ℕ, Bool, true, false, not, ◌&&◌, ◌||◌, ◌==◌, nat_lt, codes}
+use Rattle.std.specs.Prelude.{Bool, true, false, not, ◌&&◌, ◌||◌, ◌==◌, nat_lt, codes}
 use Rattle.std.specs.List.{list_any}
 use Rattle.std.specs.Str.{str_eq_ignore_ascii_case}
 use Rattle.sq_base.specs.Requests.{HttpRequest}

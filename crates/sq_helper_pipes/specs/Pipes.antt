@@ -16,6 +16,18 @@ pipe_place proc pipes = position (λ p. p.proc == proc) pipes
 abbrev pub open_ones : {O : Type 0} → List (Pipe O) → List (Pipe O)
 open_ones pipes = filter (λ p. not p.closed) pipes
 
+-- what the half of a process that is written to tells: what was written to it, how often a call of
+-- it failed, and whether it is closed
+pub record HalfTells (O : Type 0) : Type 0 where
+  pub contents : O → Option (List ℕ)
+  pub faults : O → ℕ
+  pub closed : O → Option Bool
+
+abbrev pub half_tells : {O : Type 0} → (O → Option (List ℕ)) → (O → ℕ) → (O → Option Bool)
+    → HalfTells O
+half_tells contents faults closed = record
+    { contents = contents; faults = faults; closed = closed }
+
 -- the line was written to a half
 pub record Asks {O : Type 0} (contents : O → Option (List ℕ)) (faults : O → ℕ) (line : List ℕ)
     (old new : Pipe O) : Type 0 where

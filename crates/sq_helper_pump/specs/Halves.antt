@@ -2,6 +2,7 @@
 -- nothing, and never fails.
 use Rattle.std.specs.Prelude.{ℕ, List, Bool, None}
 use Rattle.std.specs.declared.option.Option.{Option}
+use Rattle.sq_helper_pipes.specs.Pipes.{HalfTells, half_tells}
 use Rattle.sq_helper_pump.specs.declared.halves.ProcIn.{ProcIn}
 use Rattle.sq_helper_pump.specs.declared.halves.ProcIn.TheVariants.{Asker, Child}
 
@@ -16,3 +17,9 @@ in_faults faults (Asker to) = 0
 abbrev pub in_closed : {Q R : Type 0} → (Q → Option Bool) → ProcIn Q R → Option Bool
 in_closed closed (Child to) = closed to
 in_closed closed (Asker to) = None
+
+-- all of it, by what the half of a program tells
+abbrev pub in_tells : {Q R : Type 0} → (Q → Option (List ℕ)) → (Q → ℕ) → (Q → Option Bool)
+    → HalfTells (ProcIn Q R)
+in_tells contents faults closed = half_tells (in_contents contents) (in_faults faults)
+    (in_closed closed)

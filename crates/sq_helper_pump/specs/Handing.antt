@@ -5,6 +5,7 @@ use Rattle.sq_channel.specs.declared.replies.Got.{Got}
 use Rattle.sq_channel.specs.declared.replies.Got.TheVariants as got
 use Rattle.sq_calls.specs.declared.faults.DeskFault.{DeskFault}
 use Rattle.sq_calls.specs.declared.faults.DeskFault.TheVariants as fault
+use Rattle.sq_calls.specs.Legality.{Beginning}
 use Rattle.sq_calls.specs.Telling.{CountsLine, CountsRefusal, IsDead, IsLine, Notes, got_told}
 use Rattle.sq_keeper.specs.declared.desk.LineEnd.{LineEnd}
 use Rattle.sq_keeper.specs.declared.desk.LineEnd.TheVariants as end
@@ -20,15 +21,35 @@ line_end (Ok got.Stray) = end.End
 line_end (Err fault.WantOfMemory) = end.WantOfMemory
 line_end (Err f) = end.End
 
--- the desk was handed this line of this process, and what it gave is answered so; `before` and
--- `now` are its counts of refusals
-abbrev pub HandsLine : Option History → Option History → ℕ → ℕ → ℕ → List ℕ → LineEnd → Type 0
-HandsLine old new before now proc bytes result =
-    (gave : Result Got DeskFault) × Notes got_told (IsLine proc bytes) old new gave
-    × CountsLine before now gave × (result ≡ line_end gave)
+-- what is seen of a desk round a call: with what it began, where that is told, the journal before
+-- and behind, where it is told, and how often it had refused before and behind
+pub record DeskStep : Type 0 where
+  pub first : Option Beginning
+  pub told_before : Option History
+  pub told_now : Option History
+  pub refused_before : ℕ
+  pub refused_now : ℕ
 
--- the desk was told of this death, and noted or refused it
-abbrev pub HandsDeath : Option History → Option History → ℕ → ℕ → ℕ → Type 0
-HandsDeath old new before now proc =
-    (gave : Result (Unit {0}) DeskFault) × Notes (λ _. told.Fine) (IsDead proc) old new gave
-    × CountsRefusal before now gave × (IsErrOf gave fault.WantOfMemory → ⊥)
+abbrev pub desk_step : Option Beginning → Option History → Option History → ℕ → ℕ → DeskStep
+desk_step first told_before told_now refused_before refused_now = record {
+  first = first;
+  told_before = told_before;
+  told_now = told_now;
+  refused_before = refused_before;
+  refused_now = refused_now;
+}
+
+-- the desk was handed this line of this process at this moment, and what it gave is answered so
+abbrev pub HandsLine : DeskStep → ℕ → List ℕ → LineEnd → ℕ → Type 0
+HandsLine desk proc bytes result moment =
+    (gave : Result Got DeskFault)
+    × Notes desk.first moment got_told (IsLine proc bytes) desk.told_before desk.told_now gave
+    × CountsLine desk.refused_before desk.refused_now gave × (result ≡ line_end gave)
+
+-- the desk was told of this death at this moment, and noted or refused it
+abbrev pub HandsDeath : DeskStep → ℕ → ℕ → Type 0
+HandsDeath desk proc moment =
+    (gave : Result (Unit {0}) DeskFault)
+    × Notes desk.first moment (λ _. told.Fine) (IsDead proc) desk.told_before desk.told_now gave
+    × CountsRefusal desk.refused_before desk.refused_now gave
+    × (IsErrOf gave fault.WantOfMemory → ⊥)

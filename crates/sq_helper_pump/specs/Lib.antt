@@ -3,4 +3,5 @@ pub mod Halves
 pub mod Handing
 pub mod LineViews
 pub mod Pumps
+pub mod ReaderViews
 pub mod Turning

@@ -47,6 +47,6 @@ impl<'a, Q: Out, R: Wait> Out for ProcIn<'a, Q, R> {
 /// The half of a thread that answers look-ups of names that is read, and the configuration by which it answers.
 #[derive(Drop)]
 pub struct AskerOut<'a, R: Wait> {
-    pub from: PipeOut<'a, R>,
-    pub config: Arc<Config>,
+    pub(crate) from: PipeOut<'a, R>,
+    pub(crate) config: Arc<Config>,
 }

@@ -1,21 +1,23 @@
 //! The entries that a pump still owes the desk.
 ghost use Rattle.std.specs.Prelude.{◌≡◌, None};
+ghost use Rattle.sq_helper_pump.specs.Pumps.{step};
 ghost use Rattle.sq_helper_pump.specs.Turning.{PumpCounts, IsAdmitted, IsTakenUp, Reports, SameHalves, SameSpawner};
 
 use crate::halves::{AskerOut, ProcIn};
 use crate::pump::ServePump;
-use crate::turns::{Left, Reader, Turn};
+use crate::reader::Reader;
+use crate::turns::{Left, Turn};
 use sq_base::{EpochNo, Moment, ProcNo};
-use sq_calls::{DeskCalls, DeskFault};
+use sq_calls::{DeskFault, HelperCalls};
 use sq_epochs::Act;
 use sq_outside::{Out, Spawner};
 use std::sync::Wait;
 
-impl<'a, S: Spawner, K: DeskCalls, R: Wait> ServePump<'a, S, K, R> {
+impl<'a, S: Spawner, K: HelperCalls, R: Wait> ServePump<'a, S, K, R> {
     // The half of this process failed in this act.
     pub(crate) fn report_died(&mut self, proc: ProcNo, act: Act, now: Moment) -> Turn
         requires { self.old.left ≡ None }
-        ensures reports { Reports (Left.Died proc act) self.old.told self.old.refused result
+        ensures reports { Reports (Left.Died proc act) now self.old.told self.old.refused result
             self.new }
         ensures spawner { SameSpawner self.old self.new }
         ensures halves { SameHalves self.old self.new }
@@ -34,8 +36,8 @@ impl<'a, S: Spawner, K: DeskCalls, R: Wait> ServePump<'a, S, K, R> {
     // The spawner failed this start.
     pub(crate) fn report_failed(&mut self, epoch: EpochNo, class: u32, now: Moment) -> Turn
         requires { self.old.left ≡ None }
-        ensures reports { Reports (Left.Failed epoch class) self.old.told self.old.refused result
-            self.new }
+        ensures reports { Reports (Left.Failed epoch class) now self.old.told self.old.refused
+            result self.new }
         ensures spawner { SameSpawner self.old self.new }
         ensures halves { SameHalves self.old self.new }
         ensures counts { PumpCounts self.old self.new }
@@ -60,9 +62,10 @@ impl<'a, S: Spawner, K: DeskCalls, R: Wait> ServePump<'a, S, K, R> {
         now: Moment,
     ) -> Turn
         requires { self.old.left ≡ None }
-        ensures reports { Reports (Left.Started epoch class from to.entry) self.old.told self.old.refused
-            result self.new }
-        ensures admitted { IsAdmitted epoch class from to.entry self.old self.new }
+        ensures reports { Reports (Left.Started epoch class from to.entry) now self.old.told
+            self.old.refused result self.new }
+        ensures admitted { IsAdmitted epoch class from to.entry
+            (step now self.old result self.new) }
         ensures spawner { SameSpawner self.old self.new }
         ensures counts { PumpCounts self.old self.new }
     {
@@ -78,7 +81,7 @@ impl<'a, S: Spawner, K: DeskCalls, R: Wait> ServePump<'a, S, K, R> {
         match self.desk.started(self.alloc, epoch, class, now) {
             Ok(proc) => {
                 self.pipes.put(proc, to);
-                self.readers.push_reserved(Reader { proc, from });
+                self.readers.push_reserved(Reader::new(proc, from));
                 Turn::Acted(Act::Start { epoch, class })
             }
             Err(DeskFault::Engine(_)) => {
@@ -111,9 +114,10 @@ impl<'a, S: Spawner, K: DeskCalls, R: Wait> ServePump<'a, S, K, R> {
         now: Moment,
     ) -> Turn
         requires { self.old.left ≡ None }
-        ensures reports { Reports (Left.Asked epoch class from.entry to.entry) self.old.told self.old.refused
-            result self.new }
-        ensures taken { IsTakenUp epoch class from.entry to.entry self.old self.new }
+        ensures reports { Reports (Left.Asked epoch class from.entry to.entry) now self.old.told
+            self.old.refused result self.new }
+        ensures taken { IsTakenUp epoch class from.entry to.entry
+            (step now self.old result self.new) }
         ensures spawner { SameSpawner self.old self.new }
         ensures counts { PumpCounts self.old self.new }
     {
@@ -129,7 +133,7 @@ impl<'a, S: Spawner, K: DeskCalls, R: Wait> ServePump<'a, S, K, R> {
         match self.desk.started(self.alloc, epoch, class, now) {
             Ok(proc) => {
                 self.pipes.put(proc, to);
-                self.asking.push_reserved(Reader { proc, from });
+                self.asking.push_reserved(Reader::new(proc, from));
                 Turn::Acted(Act::Start { epoch, class })
             }
             Err(DeskFault::Engine(_)) => {

@@ -1,6 +1,7 @@
 //! Starts of processes.
 ghost use Rattle.std.specs.Prelude.{◌≡◌, None};
-ghost use Rattle.sq_helper_pump.specs.Halves.{in_closed, in_contents, in_faults};
+ghost use Rattle.sq_helper_pump.specs.Halves.{in_tells};
+ghost use Rattle.sq_helper_pump.specs.Pumps.{pump_tells, step};
 ghost use Rattle.sq_helper_pump.specs.Turning.{PumpCounts, IsStarting};
 
 use crate::asking::is_lookup_program;
@@ -8,21 +9,21 @@ use crate::halves::ProcIn;
 use crate::pump::ServePump;
 use crate::turns::{Left, Turn};
 use sq_base::{EpochNo, Moment, WantOfMemory};
-use sq_calls::DeskCalls;
+use sq_calls::HelperCalls;
 use sq_epochs::Act;
 use sq_outside::{Failed, Spawner};
 use std::sync::Wait;
 
-impl<'a, S: Spawner, K: DeskCalls, R: Wait> ServePump<'a, S, K, R>
+impl<'a, S: Spawner, K: HelperCalls, R: Wait> ServePump<'a, S, K, R>
 where
     S::ChildIn: Drop,
 {
     // Starts a process of a class. Halves that were closed are let go of.
     pub(crate) fn start(&mut self, epoch: EpochNo, class: u32, now: Moment) -> Turn
         requires { self.old.left ≡ None }
-        ensures starting { IsStarting K.programs K.configs S.ChildOut.faults
-            (in_contents S.ChildIn.contents) (in_faults S.ChildIn.faults)
-            (in_closed S.ChildIn.closed) epoch class self.old result self.new }
+        ensures starting { IsStarting (pump_tells K.programs K.configs S.ChildOut.faults
+            (in_tells S.ChildIn.contents S.ChildIn.faults S.ChildIn.closed))
+            epoch class (step now self.old result self.new) }
         ensures counts { PumpCounts self.old self.new }
     {
         let words = match self.desk.words(self.alloc, epoch, class) {

@@ -1,28 +1,30 @@
 //! A turn of a pump: one act, or what an earlier turn left.
-ghost use Rattle.std.specs.Prelude.{◌≡◌, None, IfSome};
-ghost use Rattle.sq_helper_pump.specs.Entries.{IsCaused, NotesTurn};
-ghost use Rattle.sq_helper_pump.specs.Halves.{in_closed, in_contents, in_faults};
+ghost use Rattle.std.specs.Prelude.{◌≡◌, ◌≤◌, None};
+ghost use Rattle.sq_helper_pump.specs.Entries.{IsTurn};
+ghost use Rattle.sq_helper_pump.specs.Halves.{in_tells};
+ghost use Rattle.sq_calls.specs.Moments.{AtMoment};
+ghost use Rattle.sq_helper_pump.specs.Pumps.{pump_tells, step};
 ghost use Rattle.sq_helper_pump.specs.Turning.{BeginsTurn, PumpCounts, IsSending, IsStopping, Performs, Resumes, Turns};
 
 use crate::halves::{AskerOut, ProcIn};
 use crate::pump::ServePump;
 use crate::turns::{Left, Turn};
 use sq_base::{Moment, ProcNo, QuestionNo, Text};
-use sq_calls::{DeskCalls, DeskFault};
+use sq_calls::{DeskFault, HelperCalls};
 use sq_epochs::Act;
 use sq_helper_pipes::SendEnd;
-use sq_outside::Spawner;
+use sq_outside::{Clock, Spawner};
 use std::sync::Wait;
 
-impl<'a, S: Spawner, K: DeskCalls, R: Wait> ServePump<'a, S, K, R>
+impl<'a, S: Spawner, K: HelperCalls, R: Wait> ServePump<'a, S, K, R>
 where
     S::ChildIn: Drop,
 {
     // Stops a process. Its half is kept, closed.
     fn stop(&mut self, proc: ProcNo) -> Turn
         requires { self.old.left ≡ None }
-        ensures { IsStopping (in_contents S.ChildIn.contents) (in_faults S.ChildIn.faults)
-            (in_closed S.ChildIn.closed) proc self.old result self.new }
+        ensures { IsStopping (in_tells S.ChildIn.contents S.ChildIn.faults S.ChildIn.closed) proc
+            self.old result self.new }
     {
         self.pipes.stop(proc);
         Turn::Acted(Act::Stop(proc))
@@ -38,8 +40,9 @@ where
         now: Moment,
     ) -> Turn
         requires { self.old.left ≡ None }
-        ensures sending { IsSending (in_contents S.ChildIn.contents) (in_faults S.ChildIn.faults)
-            (in_closed S.ChildIn.closed) proc question channel text self.old result self.new }
+        ensures sending { IsSending
+            (in_tells S.ChildIn.contents S.ChildIn.faults S.ChildIn.closed) proc question channel
+            text (step now self.old result self.new) }
         ensures counts { PumpCounts self.old self.new }
     {
         let sent = self.pipes.send(proc, channel, text.as_bytes());
@@ -58,9 +61,9 @@ where
     // Performs an act.
     fn perform(&mut self, act: Act, now: Moment) -> Turn
         requires { self.old.left ≡ None }
-        ensures performs { Performs K.programs K.configs S.ChildOut.faults
-            (in_contents S.ChildIn.contents) (in_faults S.ChildIn.faults)
-            (in_closed S.ChildIn.closed) act self.old result self.new }
+        ensures performs { Performs (pump_tells K.programs K.configs S.ChildOut.faults
+            (in_tells S.ChildIn.contents S.ChildIn.faults S.ChildIn.closed)) act
+            (step now self.old result self.new) }
         ensures counts { PumpCounts self.old self.new }
     {
         match act {
@@ -82,9 +85,9 @@ where
         now: Moment,
     ) -> Turn
         requires { self.old.left ≡ None }
-        ensures resumes { Resumes K.programs K.configs S.ChildOut.faults
-            (in_contents S.ChildIn.contents) (in_faults S.ChildIn.faults)
-            (in_closed S.ChildIn.closed) left.entry self.old result self.new }
+        ensures resumes { Resumes (pump_tells K.programs K.configs S.ChildOut.faults
+            (in_tells S.ChildIn.contents S.ChildIn.faults S.ChildIn.closed))
+            left.entry (step now self.old result self.new) }
         ensures counts { PumpCounts self.old self.new }
     {
         match left {
@@ -109,9 +112,9 @@ where
     // Asks the desk for an act, and performs it.
     fn begin(&mut self, now: Moment) -> Turn
         requires { self.old.left ≡ None }
-        ensures begins { BeginsTurn K.programs K.configs S.ChildOut.faults
-            (in_contents S.ChildIn.contents) (in_faults S.ChildIn.faults)
-            (in_closed S.ChildIn.closed) self.old result self.new }
+        ensures begins { BeginsTurn (pump_tells K.programs K.configs S.ChildOut.faults
+            (in_tells S.ChildIn.contents S.ChildIn.faults S.ChildIn.closed))
+            (step now self.old result self.new) }
         ensures counts { PumpCounts self.old self.new }
     {
         match self.desk.act(self.alloc, now) {
@@ -124,9 +127,9 @@ where
 
     // Goes on with what an earlier turn left, or begins.
     fn go_on(&mut self, now: Moment) -> Turn
-        ensures turns { Turns K.programs K.configs S.ChildOut.faults
-            (in_contents S.ChildIn.contents) (in_faults S.ChildIn.faults)
-            (in_closed S.ChildIn.closed) self.old result self.new }
+        ensures turns { Turns (pump_tells K.programs K.configs S.ChildOut.faults
+            (in_tells S.ChildIn.contents S.ChildIn.faults S.ChildIn.closed))
+            (step now self.old result self.new) }
         ensures counts { PumpCounts self.old self.new }
     {
         match self.left.take() {
@@ -135,20 +138,18 @@ where
         }
     }
 
-    /// Performs one act that is due, or goes on with what an earlier turn left.
-    #[tactic(auto, using(crate::proofs::EntryLaws::turned_notes, crate::proofs::EntryLaws::turned_left))]
-    pub fn turn(&mut self, now: Moment) -> Turn
-        ensures turns { Turns K.programs K.configs S.ChildOut.faults
-            (in_contents S.ChildIn.contents) (in_faults S.ChildIn.faults)
-            (in_closed S.ChildIn.closed) self.old result self.new }
-        // Each entry that is noted behind an act, and what is left, has its cause in this turn or in an earlier one.
-        ensures notes { NotesTurn K.programs (in_contents S.ChildIn.contents)
-            (in_faults S.ChildIn.faults) (in_closed S.ChildIn.closed) self.old self.new }
-        ensures left { IfSome self.new.left
-            (IsCaused K.programs (in_contents S.ChildIn.contents) (in_faults S.ChildIn.faults)
-            (in_closed S.ChildIn.closed) self.old self.new) }
+    /// Performs one act that is due, or goes on with what an earlier turn left, at the moment that the clock gives.
+    pub fn turn<C: Clock>(&mut self, clock: &mut C) -> Turn
+        // What it did. Each entry that is noted behind an act, and what is left, has its cause in this turn or in an earlier one,
+        // and all that is noted is noted at this moment.
+        ensures turn { AtMoment (C.moments clock.old) (C.moments clock.new)
+            (λ moment. IsTurn (pump_tells K.programs K.configs S.ChildOut.faults
+            (in_tells S.ChildIn.contents S.ChildIn.faults S.ChildIn.closed))
+            (step moment self.old result self.new)) }
         ensures counts { PumpCounts self.old self.new }
+        ensures later { C.faults clock.old ≤ C.faults clock.new }
     {
+        let now = clock.now();
         self.go_on(now)
     }
 }

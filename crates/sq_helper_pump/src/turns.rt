@@ -47,10 +47,3 @@ pub enum Left<P, Q, A> {
         act: Act,
     },
 }
-
-/// The half of a process that is read, until a keeper has it.
-#[derive(Drop)]
-pub struct Reader<P> {
-    pub proc: ProcNo,
-    pub from: P,
-}

@@ -1,33 +1,38 @@
 //! What the pump and the keepers share, as it lies behind its lock.
-ghost use Rattle.std.specs.Prelude.{◌≡◌, ◌++◌, ◌∷◌, ◌==◌, [], false, position, IfSome, IfNone, IfErr, OnOk, OnErr};
+ghost use Rattle.std.specs.Prelude.{ℕ, ◌≡◌, ◌++◌, ◌∷◌, ◌==◌, [], false, position, IfSome, IfNone, IfErr, OnOk, OnErr};
 ghost use Rattle.sq_helper_threads.specs.Boards.{TakesEnded, marked, no_end, without};
 
 use sq_base::ProcNo;
+use sq_shared::{Ledgers, Refusals};
 use std::alloc::Global;
-use std::sync::ledger::{Ledger, Share};
+use std::sync::ledger::Share;
+
+/// A half that has the number of its process.
+pub(crate) trait OfProcess {
+    /// That number.
+    ghost proc_of: { Self → ℕ };
+
+    /// That number.
+    fn proc(&self) -> ProcNo
+        ensures { result ≡ proc_of self.now };
+}
 
 /// What a keeper takes up: the half of a process that is read, and a part of the book of refusals.
 #[derive(Drop)]
-pub(crate) struct Task<P, N: Ledger> {
-    pub(crate) proc: ProcNo,
-    pub(crate) from: P,
-    pub(crate) refused: Share<N>,
+pub(crate) struct Task<P, B: Ledgers> {
+    pub(crate) half: P,
+    pub(crate) refused: Share<Refusals<B>>,
     ghost part: { refused.parts ≡ 1 },
 }
 
-impl<P, N: Ledger> Task<P, N> {
+impl<P, B: Ledgers> Task<P, B> {
     // The half of a process, and a part of the book.
-    pub(crate) fn new(proc: ProcNo, from: P, refused: Share<N>) -> Task<P, N>
+    pub(crate) fn new(half: P, refused: Share<Refusals<B>>) -> Task<P, B>
         requires { refused.parts ≡ 1 }
-        ensures proc { result.proc ≡ proc }
-        ensures from { result.from ≡ from }
+        ensures half { result.half ≡ half }
         ensures refused { result.refused ≡ refused }
     {
-        Task {
-            proc,
-            from,
-            refused,
-        }
+        Task { half, refused }
     }
 }
 
@@ -41,14 +46,14 @@ pub(crate) struct Post {
 /// The tasks that no keeper has taken up so far, and the posts of those that were given out, until the pump has let go
 /// of their processes.
 #[derive(Drop)]
-pub(crate) struct Board<P, N: Ledger> {
-    tasks: Vec<Task<P, N>>,
+pub(crate) struct Board<P, B: Ledgers> {
+    tasks: Vec<Task<P, B>>,
     posts: Vec<Post>,
 }
 
-impl<P: Drop, N: Ledger> Board<P, N> {
+impl<P: OfProcess + Drop, B: Ledgers> Board<P, B> {
     // Nothing lies there yet.
-    pub(crate) fn new(alloc: Global) -> Board<P, N>
+    pub(crate) fn new(alloc: Global) -> Board<P, B>
         ensures tasks { result.tasks.items ≡ [] }
         ensures posts { result.posts.items ≡ [] }
     {
@@ -59,26 +64,26 @@ impl<P: Drop, N: Ledger> Board<P, N> {
     }
 
     // Puts a task for a keeper, which is handed back where memory is wanting.
-    pub(crate) fn put(&mut self, task: Task<P, N>) -> Result<(), Task<P, N>>
+    pub(crate) fn put(&mut self, task: Task<P, B>) -> Result<(), Task<P, B>>
         ensures task { IfErr result (λ back. back ≡ task) }
         ensures tasks { OnOk result (self.new.tasks.items ≡ self.old.tasks.items ++ task ∷ []) }
         ensures posts { OnOk result
             (self.new.posts.items ≡ self.old.posts.items
-            ++ record { proc = task.proc; ended = false } ∷ []) }
+            ++ record { proc = P.proc_of task.half; ended = false } ∷ []) }
         ensures err_tasks { OnErr result (self.new.tasks.items ≡ self.old.tasks.items) }
         ensures err_posts { OnErr result (self.new.posts.items ≡ self.old.posts.items) }
     {
         if self.tasks.reserve(1).is_err() || self.posts.reserve(1).is_err() {
             return Err(task);
         }
-        let proc = task.proc;
+        let proc = task.half.proc();
         self.posts.push_reserved(Post { proc, ended: false });
         self.tasks.push_reserved(task);
         Ok(())
     }
 
     // The task that was put last, for a keeper. Its post stays.
-    pub(crate) fn take(&mut self) -> Option<Task<P, N>>
+    pub(crate) fn take(&mut self) -> Option<Task<P, B>>
         ensures some { IfSome result
             (λ task. self.old.tasks.items ≡ self.new.tasks.items ++ task ∷ []) }
         ensures none { IfNone result (self.old.tasks.items ≡ []) }
@@ -89,18 +94,18 @@ impl<P: Drop, N: Ledger> Board<P, N> {
     }
 
     // The task that was put last, for the pump, with its post.
-    pub(crate) fn take_back(&mut self) -> Option<Task<P, N>>
+    pub(crate) fn take_back(&mut self) -> Option<Task<P, B>>
         ensures some { IfSome result
             (λ task. self.old.tasks.items ≡ self.new.tasks.items ++ task ∷ []) }
         ensures posts { IfSome result
-            (λ task. self.new.posts.items ≡ without task.proc self.old.posts.items) }
+            (λ task. self.new.posts.items ≡ without (P.proc_of task.half) self.old.posts.items) }
         ensures none { IfNone result (self.old.tasks.items ≡ []) }
         ensures none_posts { IfNone result (self.new.posts ≡ self.old.posts) }
     {
         match self.tasks.pop() {
             None => None,
             Some(task) => {
-                self.unpost(task.proc);
+                self.unpost(task.half.proc());
                 Some(task)
             }
         }
@@ -133,8 +138,16 @@ impl<P: Drop, N: Ledger> Board<P, N> {
         self.posts.iter().position(|post| post.ended)
     }
 
-    // The keeper of this process has ended. It takes no memory.
-    pub(crate) fn end(&mut self, proc: ProcNo)
+    // The keeper of this half has ended. It takes no memory.
+    pub(crate) fn end(&mut self, half: &P)
+        ensures posts { self.new.posts.items ≡ marked (P.proc_of half.now) self.old.posts.items }
+        ensures tasks { self.new.tasks ≡ self.old.tasks }
+    {
+        self.mark(half.proc());
+    }
+
+    // The keeper of this process has ended.
+    fn mark(&mut self, proc: ProcNo)
         ensures posts { self.new.posts.items ≡ marked proc self.old.posts.items }
         ensures tasks { self.new.tasks ≡ self.old.tasks }
     {

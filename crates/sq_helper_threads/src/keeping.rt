@@ -2,28 +2,24 @@
 use crate::board::Task;
 use crate::halves::ProcOut;
 use crate::shelf::Shelf;
-use sq_base::ProcNo;
 use sq_calls::DeskCalls;
-use sq_dst::answer_lines;
-use sq_helper_pump::{AskerOut, ServeLines};
-use sq_keeper::{KeeperEnd, LineDesk, read_lines};
-use sq_outside::{Clock, Resolver, Source};
-use sq_shared::{LockDesk, Room, tell_end};
+use sq_helper_pump::{AskerOut, Reader, ServeLines};
+use sq_keeper::{KeeperEnd, LineDesk};
+use sq_outside::{Resolver, Source, Spawner};
+use sq_shared::{Ledgers, LockDesk, NetTypes, Room, tell_end};
 use std::alloc::Global;
 use std::sync::Wait;
-use std::sync::ledger::Ledger;
 use std::thread;
 
 // Hands the lines of a program to the desk, until it ends or no more are wanted.
 fn read_all<R: Wait + Sync, P: Source, K: LineDesk>(
     rt: &R,
     alloc: Global,
-    from: &mut P,
-    proc: ProcNo,
+    half: &mut Reader<P>,
     lines: &mut K,
 ) {
     for _ in rt.forever() {
-        match read_lines(rt, alloc, from, proc, lines) {
+        match half.read_lines(rt, alloc, lines) {
             KeeperEnd::WantOfMemory => thread::yield_now(),
             KeeperEnd::Ended | KeeperEnd::ReadFault | KeeperEnd::Told => break,
         }
@@ -34,14 +30,12 @@ fn read_all<R: Wait + Sync, P: Source, K: LineDesk>(
 fn answer_all<R: Wait + Sync, Q: Resolver, K: LineDesk>(
     rt: &R,
     alloc: Global,
-    asker: &mut AskerOut<'_, R>,
+    half: &mut Reader<AskerOut<'_, R>>,
     resolver: &mut Q,
-    proc: ProcNo,
     lines: &mut K,
 ) {
     for _ in rt.forever() {
-        let AskerOut { from, config } = asker;
-        match answer_lines(rt, alloc, from, resolver, config, proc, lines) {
+        match half.answer_lines(rt, alloc, resolver, lines) {
             KeeperEnd::WantOfMemory => thread::yield_now(),
             KeeperEnd::Ended | KeeperEnd::ReadFault | KeeperEnd::Told => break,
         }
@@ -51,37 +45,23 @@ fn answer_all<R: Wait + Sync, Q: Resolver, K: LineDesk>(
 /// Takes a half from the shelf, and hands its lines to the desk until the process ends or no more are wanted; of a process of
 /// the class by which names are looked up, the replies to its questions, over what the resolver finds. No lock is held while
 /// it looks. Whatever made it end, the pump learns by the shelf that this keeper has ended, and is woken for it.
-pub(crate) fn keep<
-    'x,
-    R: Wait + Sync,
-    P: Source + Drop,
-    Q: Resolver + Drop,
-    D: DeskCalls,
-    A: Ledger,
-    M: Ledger,
-    N: Ledger,
-    C: Clock + Drop,
->(
+pub(crate) fn keep<'x, R: Wait + Sync, N: NetTypes, D: DeskCalls, B: Ledgers>(
     rt: &'x R,
     alloc: Global,
-    room: &'x Room<D, A, M, N>,
-    shelf: &Shelf<'_, P, R, N>,
-    mut resolver: Q,
-    clock: C,
+    room: &'x Room<D, B>,
+    shelf: &Shelf<'_, <N::S as Spawner>::ChildOut, R, B>,
+    mut resolver: N::Q,
+    clock: N::C,
 ) {
     let Some(task) = shelf.board.take(rt) else {
         return;
     };
-    let Task {
-        proc,
-        mut from,
-        refused,
-    } = task;
+    let Task { mut half, refused } = task;
     let mut lines = ServeLines::new(alloc, LockDesk::new(rt, room, refused), clock);
-    match &mut from {
-        ProcOut::Child(from) => read_all(rt, alloc, from, proc, &mut lines),
-        ProcOut::Asker(asker) => answer_all(rt, alloc, asker, &mut resolver, proc, &mut lines),
+    match &mut half {
+        ProcOut::Child(half) => read_all(rt, alloc, half, &mut lines),
+        ProcOut::Asker(half) => answer_all(rt, alloc, half, &mut resolver, &mut lines),
     }
-    shelf.board.end(rt, proc);
+    shelf.board.end(rt, &half);
     tell_end(rt, room);
 }

@@ -14,5 +14,5 @@ mod keeping;
 mod pumping;
 mod shelf;
 
-pub use pumping::pump_all;
+pub use pumping::{KeeperParts, PumpParts, PumpTools, pump_all};
 pub use shelf::Shelf;

@@ -1,51 +1,88 @@
 //! The pump's thread.
-ghost use Rattle.std.specs.Prelude.{◌≡◌, ◌+◌, ◌<◌};
+ghost use Rattle.std.specs.Prelude.{◌≡◌, ◌<◌};
+ghost use Rattle.std.specs.Thread.{IsSend};
 
 use crate::board::Task;
 use crate::halves::ProcOut;
 use crate::keeping::keep;
 use crate::shelf::Shelf;
-use sq_base::ProcNo;
-use sq_calls::DeskCalls;
-use sq_helper_pump::{AskerOut, ServePump, Turn};
-use sq_outside::{Another, Clock, Resolver, Source, Spawner};
-use sq_shared::{LockDesk, Room, changes, wait_due};
+use sq_calls::{DeskCalls, HelperCalls};
+use sq_helper_pump::{ServePump, Turn};
+use sq_outside::{Another, Clock, Spawner};
+use sq_shared::{Ledgers, LockDesk, NetTypes, Refusals, Room, changes, wait_due};
 use std::alloc::Global;
 use std::sync::Wait;
-use std::sync::ledger::{Ledger, Share};
+use std::sync::ledger::Share;
 use std::thread;
 use std::thread::{Scope, Threads};
+
+/// What the pump starts processes with, what its keepers look names up with, and its clock.
+#[derive(Drop)]
+pub struct PumpTools<N: NetTypes> {
+    pub spawner: N::S,
+    pub resolver: N::Q,
+    pub clock: N::C,
+}
+
+/// The parts of the book of refusals that are for keepers, and how many they are.
+#[derive(Drop)]
+pub struct KeeperParts<B: Ledgers> {
+    pub refused: Share<Refusals<B>>,
+    pub spare: u64,
+    pub ghost spare_is: { refused.parts ≡ spare },
+}
+
+/// The parts of the book of refusals that the pump has for itself, and those for its keepers.
+#[derive(Drop)]
+pub struct PumpParts<B: Ledgers> {
+    pub own: Share<Refusals<B>>,
+    pub keepers: KeeperParts<B>,
+    pub ghost own_some: { 0 < own.parts },
+}
+
+// What the pump and its keepers share: the runtime, the memory, the desk behind its lock, and the shelf.
+#[derive(Drop)]
+struct Site<'s, 'r, R: Wait, N: NetTypes, D: DeskCalls, B: Ledgers> {
+    rt: &'s R,
+    alloc: Global,
+    room: &'s Room<D, B>,
+    shelf: &'s Shelf<'r, <N::S as Spawner>::ChildOut, R, B>,
+}
 
 // Starts a keeper for a task. Where its thread could not be started, a task is handed back, unless a keeper took it up.
 fn begin<
     's,
+    'e,
     'r: 's,
-    E,
     R: Threads + Wait + Sync + 's + 'r,
-    P: Source + Send + Drop + 's,
-    Q: Resolver + Another + Send + Drop + 's,
+    N: NetTypes + Send + 's,
     D: DeskCalls + Send + 's,
-    A: Ledger + Send + Sync + 's,
-    M: Ledger + Send + Sync + 's,
-    N: Ledger + Send + Sync + 's,
-    C: Clock + Another + Send + Drop + 's,
+    B: Ledgers + Send + Sync + 's,
 >(
-    rt: &'s R,
-    alloc: Global,
-    scope: &'s Scope<'s, E>,
-    room: &'s Room<D, A, M, N>,
-    shelf: &'s Shelf<'r, P, R, N>,
-    resolver: &Q,
-    clock: &C,
-    task: Task<ProcOut<'r, P, R>, N>,
-) -> Result<(), Option<Task<ProcOut<'r, P, R>, N>>> {
+    scope: &'s Scope<'s, &'e ()>,
+    site: &Site<'s, 'r, R, N, D, B>,
+    resolver: &N::Q,
+    clock: &N::C,
+    task: Task<ProcOut<'r, <N::S as Spawner>::ChildOut, R>, B>,
+) -> Result<(), Option<Task<ProcOut<'r, <N::S as Spawner>::ChildOut, R>, B>>> {
+    let rt = site.rt;
+    let alloc = site.alloc;
+    let room = site.room;
+    let shelf = site.shelf;
     match shelf.board.put(rt, task) {
         Ok(()) => {}
         Err(task) => return Err(Some(task)),
     }
     let looker = resolver.another();
     let theirs = clock.another();
-    let started = scope.spawn(move || keep(rt, alloc, room, shelf, looker, theirs));
+    let started = scope.spawn(
+        move || -> ()
+            requires { IsSend N.L.row × IsSend N.L.In.row × IsSend N.L.Outgo.row × IsSend N.T.row
+                × IsSend N.D.row × IsSend N.D.In.row × IsSend N.D.Outgo.row
+                × IsSend N.S.row × IsSend N.S.ChildOut.row × IsSend N.S.ChildIn.row
+                × IsSend N.C.row × IsSend N.Q.row }
+        { keep::<R, N, D, B>(rt, alloc, room, shelf, looker, theirs) },
+    );
     if started.is_ok() {
         return Ok(());
     }
@@ -53,32 +90,31 @@ fn begin<
 }
 
 // A half that the pump holds, for a keeper.
-fn next_half<'r, S: Spawner, K: DeskCalls, R: Wait>(
+fn next_half<'r, S: Spawner, K: HelperCalls, R: Wait>(
     pump: &mut ServePump<'r, S, K, R>,
-) -> Option<(ProcNo, ProcOut<'r, S::ChildOut, R>)>
+) -> Option<ProcOut<'r, S::ChildOut, R>>
     ensures room { 0 < pump.old.room → 0 < pump.new.room }
     ensures asking_room { 0 < pump.old.asking_room → 0 < pump.new.asking_room }
 {
     match pump.reader() {
-        Some((proc, from)) => Some((proc, ProcOut::Child(from))),
+        Some(half) => Some(ProcOut::Child(half)),
         None => {
-            let (proc, from, config) = pump.asker()?;
-            Some((proc, ProcOut::Asker(AskerOut { from, config })))
+            let half = pump.asker()?;
+            Some(ProcOut::Asker(half))
         }
     }
 }
 
 // Hands a half back to the pump, whose keeper could not be started.
-fn put_back<'r, S: Spawner, K: DeskCalls, R: Wait>(
+fn put_back<'r, S: Spawner, K: HelperCalls, R: Wait>(
     pump: &mut ServePump<'r, S, K, R>,
-    proc: ProcNo,
     half: ProcOut<'r, S::ChildOut, R>,
 )
     requires { (0 < pump.old.room) × (0 < pump.old.asking_room) }
 {
     match half {
-        ProcOut::Child(from) => pump.unread(proc, from),
-        ProcOut::Asker(AskerOut { from, config }) => pump.unasked(proc, from, config),
+        ProcOut::Child(half) => pump.unread(half),
+        ProcOut::Asker(half) => pump.unasked(half),
     }
 }
 
@@ -86,54 +122,43 @@ fn put_back<'r, S: Spawner, K: DeskCalls, R: Wait>(
 // could not be started: that is held on.
 fn hand_out<
     's,
+    'e,
     'r: 's,
-    E,
     R: Threads + Wait + Sync + 's + 'r,
-    S: Spawner + Drop + 's,
-    Q: Resolver + Another + Send + Drop + 's,
+    N: NetTypes + Send + 's,
     D: DeskCalls + Send + 's,
-    A: Ledger + Send + Sync + 's,
-    M: Ledger + Send + Sync + 's,
-    N: Ledger + Send + Sync + 's,
-    C: Clock + Another + Send + Drop + 's,
+    B: Ledgers + Send + Sync + 's,
 >(
-    rt: &'s R,
-    alloc: Global,
-    scope: &'s Scope<'s, E>,
-    room: &'s Room<D, A, M, N>,
-    shelf: &'s Shelf<'r, S::ChildOut, R, N>,
-    resolver: &Q,
-    clock: &C,
-    pump: &mut ServePump<'r, S, LockDesk<'s, R, D, A, M, N>, R>,
-    refused: &mut Share<N>,
-    spare: &mut u64,
-)
-    requires { refused.old.parts ≡ spare.old }
-    ensures { refused.new.parts ≡ spare.new }
-{
+    scope: &'s Scope<'s, &'e ()>,
+    site: &Site<'s, 'r, R, N, D, B>,
+    resolver: &N::Q,
+    clock: &N::C,
+    pump: &mut ServePump<'r, N::S, LockDesk<'s, R, D, B>, R>,
+    parts: &mut KeeperParts<B>,
+) {
     // A keeper that began before may have taken up this half, and then another one comes back.
     if pump.reserve().is_err() {
         return;
     }
-    for _ in rt.forever() {
+    let KeeperParts { refused, spare } = parts;
+    for _ in site.rt.forever() {
         if *spare <= 1 {
             return;
         }
-        let Some((proc, from)) = next_half(pump) else {
+        let Some(half) = next_half(pump) else {
             return;
         };
         let part = refused.split_off(1, 0);
-        let task = Task::new(proc, from, part);
-        match begin(rt, alloc, scope, room, shelf, resolver, clock, task) {
+        let task = Task::new(half, part);
+        match begin(scope, site, resolver, clock, task) {
             Ok(()) | Err(None) => *spare -= 1,
             Err(Some(back)) => {
                 let Task {
-                    proc,
-                    from,
+                    half,
                     refused: part,
                 } = back;
                 refused.merge(part);
-                put_back(pump, proc, from);
+                put_back(pump, half);
                 return;
             }
         }
@@ -143,14 +168,17 @@ fn hand_out<
 
 // Ends a process whose half the pump holds still, since no keeper is to be had: nobody would hear it, nor see that it owes an
 // answer. Answers whether there was one.
-fn end_unread<S: Spawner + Drop, K: DeskCalls, R: Wait, C: Clock>(
+fn end_unread<S: Spawner + Drop, K: HelperCalls, R: Wait, C: Clock>(
     pump: &mut ServePump<'_, S, K, R>,
     clock: &mut C,
 ) -> bool {
-    let Some((proc, _half)) = next_half(pump) else {
+    let Some(half) = next_half(pump) else {
         return false;
     };
-    pump.unkept(proc, clock.now());
+    match &half {
+        ProcOut::Child(half) => pump.unkept(half, clock),
+        ProcOut::Asker(half) => pump.unkept(half, clock),
+    }
     true
 }
 
@@ -158,60 +186,40 @@ fn end_unread<S: Spawner + Drop, K: DeskCalls, R: Wait, C: Clock>(
 // ended where nothing else is due: by then it was asked what it can be asked, so each of these questions is answered by its end.
 fn turns<
     's,
+    'e,
     'r: 's,
-    E,
     R: Threads + Wait + Sync + 's + 'r,
-    S: Spawner + Drop + 's,
-    Q: Resolver + Another + Send + Drop + 's,
+    N: NetTypes + Send + 's,
     D: DeskCalls + Send + 's,
-    A: Ledger + Send + Sync + 's,
-    M: Ledger + Send + Sync + 's,
-    N: Ledger + Send + Sync + 's,
-    C: Clock + Another + Send + Drop + 's,
+    B: Ledgers + Send + Sync + 's,
 >(
-    rt: &'s R,
-    alloc: Global,
-    scope: &'s Scope<'s, E>,
-    room: &'s Room<D, A, M, N>,
-    shelf: &'s Shelf<'r, S::ChildOut, R, N>,
-    spawner: S,
-    resolver: Q,
-    mut clock: C,
-    own: Share<N>,
-    mut refused: Share<N>,
-    mut spare: u64,
-)
-    requires own { 0 < own.parts }
-    requires spare { refused.parts ≡ spare }
-{
-    let pipes = shelf.rt;
-    let desk = LockDesk::new(rt, room, own);
-    let mut pump = ServePump::new(pipes, alloc, spawner, desk);
-    for _ in rt.forever() {
-        let seen = changes(rt, room);
-        if let Some(proc) = shelf.board.ended(rt) {
+    scope: &'s Scope<'s, &'e ()>,
+    site: Site<'s, 'r, R, N, D, B>,
+    tools: PumpTools<N>,
+    parts: PumpParts<B>,
+) {
+    let PumpTools {
+        spawner,
+        resolver,
+        mut clock,
+    } = tools;
+    let PumpParts { own, mut keepers } = parts;
+    let desk = LockDesk::new(site.rt, site.room, own);
+    let mut pump = ServePump::new(site.shelf.rt, site.alloc, spawner, desk);
+    for _ in site.rt.forever() {
+        let seen = changes(site.rt, site.room);
+        if let Some(proc) = site.shelf.board.ended(site.rt) {
             pump.ended(proc);
             continue;
         }
-        hand_out(
-            rt,
-            alloc,
-            scope,
-            room,
-            shelf,
-            &resolver,
-            &clock,
-            &mut pump,
-            &mut refused,
-            &mut spare,
-        );
-        match pump.turn(clock.now()) {
+        hand_out(scope, &site, &resolver, &clock, &mut pump, &mut keepers);
+        match pump.turn(&mut clock) {
             Turn::Acted(_) => {}
             Turn::Idle => {
                 if end_unread(&mut pump, &mut clock) {
                     continue;
                 }
-                if wait_due(rt, room, seen) {
+                if wait_due(site.rt, site.room, seen) {
                     return;
                 }
             }
@@ -222,46 +230,42 @@ fn turns<
 }
 
 /// Performs the acts of the desk behind its lock until no more is to be done or the desk has stopped, and returns once
-/// every keeper has. Each keeper has a resolver of its own for look-ups of names. `own` is the pump's part of the book of refusals, and `refused` has `spare` further ones: all but one
-/// of them are for keepers. A keeper that was started has its part for good, so with `spare` parts at most `spare - 1`
-/// keepers are ever started; after that no keeper is to be had. A process whose keeper is not to be had is ended as if it had
-/// died.
+/// every keeper has. Each keeper has a resolver of its own for look-ups of names. Of the parts of the book of refusals all of
+/// the keepers' but one are handed out: a keeper that was started has its part for good, so with `spare` parts at most
+/// `spare - 1` keepers are ever started; after that no keeper is to be had. A process whose keeper is not to be had is ended
+/// as if it had died.
 pub fn pump_all<
     'x,
     'r: 'x,
     R: Threads + Wait + Sync,
-    S: Spawner + Send + Drop,
-    Q: Resolver + Another + Send + Drop,
+    N: NetTypes + Send,
     D: DeskCalls + Send,
-    A: Ledger + Send + Sync,
-    M: Ledger + Send + Sync,
-    N: Ledger + Send + Sync,
-    C: Clock + Another + Send + Drop,
+    B: Ledgers + Send + Sync,
 >(
     rt: &'x R,
     alloc: Global,
-    room: &'x Room<D, A, M, N>,
-    shelf: &'x Shelf<'r, S::ChildOut, R, N>,
-    spawner: S,
-    resolver: Q,
-    clock: C,
-    own: Share<N>,
-    refused: Share<N>,
-    spare: u64,
-)
-    requires own { 0 < own.parts }
-    requires spare { refused.parts ≡ spare }
-{
+    room: &'x Room<D, B>,
+    shelf: &'x Shelf<'r, <N::S as Spawner>::ChildOut, R, B>,
+    tools: PumpTools<N>,
+    parts: PumpParts<B>,
+) {
     thread::scope(
         thread::scope_env(),
         rt,
-        move |scope|
-            requires own { 0 < own.parts }
-            requires spare { refused.parts ≡ spare }
+        move |scope| -> ()
+            requires { IsSend N.row × IsSend D.row × IsSend B.row
+                × IsSend N.L.row × IsSend N.L.In.row × IsSend N.L.Outgo.row × IsSend N.T.row
+                × IsSend N.D.row × IsSend N.D.In.row × IsSend N.D.Outgo.row
+                × IsSend N.S.row × IsSend N.S.ChildOut.row × IsSend N.S.ChildIn.row
+                × IsSend N.C.row × IsSend N.Q.row }
         {
-            turns(
-                rt, alloc, scope, room, shelf, spawner, resolver, clock, own, refused, spare,
-            )
+            let site = Site {
+                rt,
+                alloc,
+                room,
+                shelf,
+            };
+            turns(scope, site, tools, parts)
         },
     );
 }

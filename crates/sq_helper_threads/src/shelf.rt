@@ -1,50 +1,50 @@
 //! The shelf: what the pump and the keepers share. Each call of `LockedBoard` is one hold of its lock, in which it makes the one
 //! call of its name. Nothing is proved here of what lies under the lock.
-use crate::board::{Board, Task};
+use crate::board::{Board, OfProcess, Task};
 use crate::halves::ProcOut;
 use sq_base::ProcNo;
+use sq_shared::Ledgers;
 use std::alloc::Global;
-use std::sync::ledger::Ledger;
 use std::sync::{Mutex, Wait};
 
 /// Tasks and posts, behind their lock.
-pub(crate) struct LockedBoard<P, N: Ledger> {
-    board: Mutex<Board<P, N>>,
+pub(crate) struct LockedBoard<P, B: Ledgers> {
+    board: Mutex<Board<P, B>>,
 }
 
 // Written out, so that the drops of its parts are proved here alone, whatever a half borrows.
-impl<P: Drop, N: Ledger> Drop for LockedBoard<P, N> {
+impl<P: Drop, B: Ledgers> Drop for LockedBoard<P, B> {
     fn drop(self) {
         let LockedBoard { board: _ } = self;
     }
 }
 
-impl<P: Drop, N: Ledger> LockedBoard<P, N> {
+impl<P: OfProcess + Drop, B: Ledgers> LockedBoard<P, B> {
     // Nothing lies there yet.
-    fn new(alloc: Global) -> LockedBoard<P, N> {
+    fn new(alloc: Global) -> LockedBoard<P, B> {
         LockedBoard {
             board: Mutex::new(Board::new(alloc)),
         }
     }
 
     // Puts a task for a keeper, which is handed back where memory is wanting.
-    pub(crate) fn put<R: Wait>(&self, rt: &R, task: Task<P, N>) -> Result<(), Task<P, N>> {
+    pub(crate) fn put<R: Wait>(&self, rt: &R, task: Task<P, B>) -> Result<(), Task<P, B>> {
         self.board.lock(rt).put(task)
     }
 
     // A task, for a keeper.
-    pub(crate) fn take<R: Wait>(&self, rt: &R) -> Option<Task<P, N>> {
+    pub(crate) fn take<R: Wait>(&self, rt: &R) -> Option<Task<P, B>> {
         self.board.lock(rt).take()
     }
 
     // A task, for the pump.
-    pub(crate) fn take_back<R: Wait>(&self, rt: &R) -> Option<Task<P, N>> {
+    pub(crate) fn take_back<R: Wait>(&self, rt: &R) -> Option<Task<P, B>> {
         self.board.lock(rt).take_back()
     }
 
-    // The keeper of this process has ended.
-    pub(crate) fn end<R: Wait>(&self, rt: &R, proc: ProcNo) {
-        self.board.lock(rt).end(proc);
+    // The keeper of this half has ended.
+    pub(crate) fn end<R: Wait>(&self, rt: &R, half: &P) {
+        self.board.lock(rt).end(half);
     }
 
     // A process whose keeper has ended.
@@ -57,14 +57,14 @@ impl<P: Drop, N: Ledger> LockedBoard<P, N> {
 /// hands back no half, so they lie here meanwhile, each with the part of the book of refusals that its keeper needs. It has
 /// the runtime by which the pipes of look-ups wait.
 #[derive(Drop)]
-pub struct Shelf<'r, P, R: Wait, N: Ledger> {
+pub struct Shelf<'r, P, R: Wait, B: Ledgers> {
     pub(crate) rt: &'r R,
-    pub(crate) board: LockedBoard<ProcOut<'r, P, R>, N>,
+    pub(crate) board: LockedBoard<ProcOut<'r, P, R>, B>,
 }
 
-impl<'r, P: Drop, R: Wait, N: Ledger> Shelf<'r, P, R, N> {
+impl<'r, P: Drop, R: Wait, B: Ledgers> Shelf<'r, P, R, B> {
     /// Nothing lies there yet.
-    pub fn new(rt: &'r R, alloc: Global) -> Shelf<'r, P, R, N> {
+    pub fn new(rt: &'r R, alloc: Global) -> Shelf<'r, P, R, B> {
         Shelf {
             rt,
             board: LockedBoard::new(alloc),

@@ -1,5 +1,5 @@
 -- Numbered entries: what is written of one is read, and nothing else is.
-use Rattle.std.proofs.Common.{◌≡◌, ℕ, List, [], ◌∷◌, ◌++◌, Some, None, Result, Ok, Err, IfOk, codes, decimal, refl, sym, ap, subst, ◌∙◌, option_map, option_and_then}
+use Rattle.std.proofs.Common.{◌≡◌, ℕ, List, [], ◌∷◌, Some, None, Result, Ok, Err, IfOk, decimal, refl, sym, ap, subst, ◌∙◌, option_map, option_and_then}
 use Rattle.std.proofs.lemmas.Option.{same_Some, none-some}
 use Rattle.sq_base.proofs.CommonLaws.{then_some, map_some}
 use Rattle.sq_base.specs.Texts.{AreBytes}
@@ -10,7 +10,7 @@ use Rattle.sq_journal.specs.declared.faults.EntryFault.TheVariants.{BadEntry, Wa
 use Rattle.sq_journal.specs.EntryText.{entry_words}
 use Rattle.sq_journal.specs.Journals.{numbered_words, numbered_text}
 use Rattle.sq_journal.specs.Lines.{spaced_words, line_of}
-use Rattle.sq_journal.specs.Reading.{Reads, word_in, number_in, ReadsText, Is}
+use Rattle.sq_journal.specs.Reading.{word_in, number_in, ReadsText, Is}
 use Rattle.sq_journal.specs.ToldReading.{entry_of, numbered_of, numbered_from}
 use Rattle.sq_journal.specs.Values.{IsNumber, IsNoted}
 use Rattle.sq_journal.proofs.EntryLaws.{entry_takes, entry_again, entry_plain}

@@ -36,6 +36,7 @@ pub fn hand<R: Wait, K: LineDesk>(rt: &R, proc: ProcNo, line: &[u8], desk: &mut 
         (handed.Line proc line.now ∷ closing proc result) }
     ensures later { K.refused desk.old ≤ K.refused desk.new }
     ensures told { result ≡ false → Rose (K.refused desk.old) (K.refused desk.new) }
+    ensures passes { K.passes desk.old desk.new }
 {
     for _ in rt.forever() {
         match desk.line(proc, line) {
@@ -61,6 +62,7 @@ fn take_byte<R: Wait, K: LineDesk>(
     ensures later { K.refused desk.old ≤ K.refused desk.new }
     ensures told { result ≡ false → Rose (K.refused desk.old) (K.refused desk.new) }
     ensures ended { result ≡ false → byte ≡ 10 }
+    ensures passes { K.passes desk.old desk.new }
 {
     if byte != b'\n' {
         line.take(byte);
@@ -83,6 +85,7 @@ fn take_bytes<R: Wait, K: LineDesk>(
         result }
     ensures later { K.refused desk.old ≤ K.refused desk.new }
     ensures told { result ≡ false → Rose (K.refused desk.old) (K.refused desk.new) }
+    ensures passes { K.passes desk.old desk.new }
 {
     for &byte in bytes {
         if !take_byte(rt, proc, line, byte, desk) {
@@ -112,6 +115,7 @@ pub fn read_lines<R: Wait + Sync, S: Source, K: LineDesk>(
     // The first read that fails ends the reading: where it ended otherwise, none failed.
     ensures quiet { (result ≡ KeeperEnd.ReadFault → ⊥) → S.faults from.new ≡ S.faults from.old }
     ensures refused_later { K.refused desk.old ≤ K.refused desk.new }
+    ensures passes { K.passes desk.old desk.new }
 {
     let Ok(mut line) = LineBuffer::new(alloc) else {
         return KeeperEnd::WantOfMemory;

@@ -85,6 +85,10 @@ impl LineDesk for MemDesk {
 
     ghost handed = { desk_handed };
 
+    ghost still = { λ d. tt };
+
+    ghost further = { λ a b c x y. tt };
+
     fn line(&mut self, proc: ProcNo, bytes: &[u8]) -> LineEnd
         ensures handed { Adds (desk_handed self.old) (desk_handed self.new)
             (taken proc bytes.now result) }

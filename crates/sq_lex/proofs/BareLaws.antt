@@ -1,8 +1,8 @@
 -- No word of a line holds a blank.
-use Rattle.std.proofs.Common.{◌≡◌, ℕ, suc, zero, List, [], ◌∷◌, Bool, true, false, not, ◌&&◌, ◌||◌, cond, Option, Some, None, Result, Ok, Err, IfOk, take, filter, take_while, refl, ap, ◌∙◌}
+use Rattle.std.proofs.Common.{◌≡◌, ℕ, suc, zero, List, [], ◌∷◌, Bool, true, false, not, ◌&&◌, ◌||◌, cond, Option, Some, None, Result, Ok, Err, IfOk, take, filter, refl, ap, ◌∙◌}
 use Rattle.std.proofs.lemmas.List.Splits.{slice_split-cons_yes, slice_split-cons_no}
 use Rattle.std.specs.List.{list_all, list_any, onto_first, slice_split}
-use Rattle.sq_base.specs.Lines.{Joined, begins_comment, fault_of, file_lines, is_blank, is_word, joined, lexed, lexed_before, lexed_lines, line_before, words_of}
+use Rattle.sq_base.specs.Lines.{Joined, fault_of, file_lines, is_blank, is_word, joined, lexed, lexed_before, lexed_lines, line_before, words_of}
 use Rattle.sq_base.specs.declared.config_lines.Lexed.{Lexed}
 use Rattle.sq_base.specs.declared.config_lines.LineFault.{LineFault}
 use Rattle.sq_lex.specs.Words.{are_bare, is_bare, is_bare_line}

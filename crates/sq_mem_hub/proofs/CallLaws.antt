@@ -1,6 +1,6 @@
 -- Calls of a hub in memory, by those of its engine.
 use Rattle.std.proofs.Common.{◌≡◌, ◌==◌, ℕ, ◌≤◌, List, [], ◌∷◌, Bool, true, false, if◌then◌else◌, max, Option, Some, None, option_map, Result, Ok, Err, OnErr, IfOk, refl, sym, subst, ap, ◌∙◌, arith}
-use Rattle.std.proofs.lemmas.Option.{none-some, same_Some}
+use Rattle.std.proofs.lemmas.Option.{none-some}
 use Rattle.sq_base.specs.Requests.{HttpRequest}
 use Rattle.sq_model_rows.specs.CheckRows.{Held, held_at}
 use Rattle.sq_model_rows.specs.declared.stepping.Stepped.{Stepped}
@@ -35,7 +35,7 @@ use Rattle.sq_engine.specs.EngineViews.{EngineView, state_of}
 use Rattle.sq_engine.specs.Promised.{IsPromised}
 use Rattle.sq_engine.specs.Stepping.{stepped_told}
 use Rattle.sq_engine.specs.Tellings.{IsAlwaysTold}
-use Rattle.sq_conn_policy.specs.Tellings.{AreKept, Asks, BegunCheck, BeginsCheck, HubState, IsCheck, IsNext, IsOfCheck, IsRefused, IsStep, IsTaken, Makes, MakesOn, StandsAt, Takes, asks_for, begun_of, machine_now}
+use Rattle.sq_conn_policy.specs.Tellings.{AreKept, Asks, BegunCheck, BeginsCheck, HubState, IsCheck, IsNext, IsOfCheck, IsRefused, IsStep, IsTaken, Makes, MakesOn, Takes, asks_for, begun_of, machine_now}
 use Rattle.sq_conn_policy.specs.declared.hub.HubFault.{HubFault}
 use Rattle.sq_mem_hub.specs.MemHubs.{begun_in, check_of, hub_result, hub_state}
 

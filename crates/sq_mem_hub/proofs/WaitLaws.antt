@@ -11,7 +11,6 @@ use Rattle.sq_machine.specs.declared.entries.Event.{Event}
 use Rattle.sq_machine.specs.declared.entries.Event.TheVariants as event
 use Rattle.sq_machine.specs.declared.entries.Told.{Told}
 use Rattle.sq_machine.specs.declared.refusals.Refusal.{Refusal}
-use Rattle.sq_checks.specs.OpenChecks.{CheckParts}
 use Rattle.sq_epochs.specs.declared.acts.Act.{Act}
 use Rattle.sq_conn_policy.proofs.WorkLaws.{works_same, works_self, works_then}
 use Rattle.sq_rewrite.specs.Calls.{Call, Asked, Acted, Took}
@@ -25,14 +24,14 @@ use Rattle.sq_conn_policy.specs.Tellings.{DelayPools}
 use Rattle.sq_model_state.proofs.Lawful.{stands_same}
 use Rattle.sq_model_state.specs.Answers.{name_in}
 use Rattle.sq_model_state.specs.Promises.{IsAnswered, StandsFor}
-use Rattle.sq_model_state.specs.States.{IsSame, State, is_of_pools}
+use Rattle.sq_model_state.specs.States.{IsSame, is_of_pools}
 use Rattle.sq_engine.specs.Acting.{IsActPromised, told_of_act}
 use Rattle.sq_engine.specs.Begun as engine
 use Rattle.sq_engine.specs.EngineViews.{EngineView, state_of}
 use Rattle.sq_engine.specs.Promised.{IsPromised, IsPromisedAt}
 use Rattle.sq_conn_policy.specs.Tellings.{AreKept, HubState, PutsBy, StandsAt, TakesBy, Waited, Works, comes_outside, is_outside}
 use Rattle.sq_mem_hub.specs.MemHubs.{WorksOn, begun_in, hub_state}
-use Rattle.sq_mem_hub.proofs.CallLaws.{kept_by, kept_same, next_by}
+use Rattle.sq_mem_hub.proofs.CallLaws.{kept_same, next_by}
 
 both : (a b : Bool) → a ≡ true → b ≡ true → (a && b) ≡ true
 both true true p q = refl

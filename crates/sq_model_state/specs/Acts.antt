@@ -5,7 +5,7 @@ use Rattle.std.specs.List.{flat_map}
 use Rattle.std.specs.Option.{option_and_then, option_map, option_map_or, option_or}
 use Rattle.std.specs.declared.option.Option.{Option}
 use Rattle.sq_machine.specs.DueActs.{ClassId, Due, first_made, first_of, sends, starts, stops}
-use Rattle.sq_machine.specs.Farms.{Sending, send_of, start_due}
+use Rattle.sq_machine.specs.Farms.{send_of, start_due}
 use Rattle.sq_machine.specs.Numbered.{below, picks}
 use Rattle.sq_model_state.specs.States.{State, live}
 

@@ -1,5 +1,5 @@
 -- What a migration writes, how it ends, and its openings.
-use Rattle.std.proofs.Common.{◌≡◌, ◌⊎◌, inl, inr, ℕ, ◌+◌, ◌<◌, ◌≤◌, List, [], length, arith, Result, Ok, Err, Some, None, IfSome, IsSome, true, false, refl, sym, ap, ◌∙◌, subst}
+use Rattle.std.proofs.Common.{◌≡◌, ◌⊎◌, inl, inr, ℕ, ◌+◌, ◌<◌, ◌≤◌, List, [], length, arith, Result, Ok, Err, Some, None, IfSome, true, false, refl, sym, ap, ◌∙◌, subst}
 use Rattle.std.specs.declared.option.Option.{Option}
 use Rattle.sq_outside.specs.Causes.{Rose, TakesBack}
 use Rattle.sq_outside.specs.SourceLines.{lines}

@@ -5,7 +5,7 @@ use Rattle.sq_outside.specs.SourceLines.{SourceLine, is_readable, lines}
 use Rattle.sq_outside.specs.Told.{IsNotTold, Texts}
 use Rattle.sq_request.specs.Written.{made_request}
 use Rattle.sq_machine.specs.declared.entries.Event.{Event}
-use Rattle.sq_machine.specs.declared.entries.Event.TheVariants.{Begin, Open, Close, Ask, Step, Take, Started, StartFail, Line as HelperLine, Died, Act, Reconfigure, Seat, Grant, Leave}
+use Rattle.sq_machine.specs.declared.entries.Event.TheVariants.{Begin, Ask, Act, Reconfigure}
 use Rattle.sq_rules.specs.ConfText.{conf_result}
 use Rattle.sq_rules.specs.declared.kinds.ConfError.{ConfError}
 use Rattle.sq_rules.specs.Configurations.{Configuration}
@@ -19,7 +19,7 @@ use Rattle.sq_replay.specs.declared.ends.RunEnd.TheVariants as ended
 use Rattle.sq_replay.specs.RunText.{ScriptRun, Shelf, accepted, answered, asked_next, begun_history, configs_of, event_step, line_step, reconfigured, run_first, run_from, run_lines, run_on, run_over, run_script, run_stated, stated, stated_step, stopped}
 use Rattle.sq_proxy.specs.declared.ends.Status.{Status}
 use Rattle.sq_proxy.specs.declared.ends.Status.TheVariants as ends
-use Rattle.sq_proxy.specs.Commands.{Disk, IsNamed, NamesFile, NamesIn, Replay, conf_read, ran_output, replay_output, script_stage, shelf_of, staged, conf_stage}
+use Rattle.sq_proxy.specs.Commands.{Disk, IsNamed, NamesIn, Replay, conf_read, ran_output, replay_output, script_stage, shelf_of, staged, conf_stage}
 use Rattle.sq_proxy.specs.Ends.{IfMissing, IsReplayEnd, run_status}
 use Rattle.sq_proxy.specs.Outputs.{Delivers}
 

@@ -1,7 +1,6 @@
 -- What pairs of an option and its value state.
-use Rattle.std.proofs.Common.{◌≡◌, ℕ, ◌-◌, ◌≤◌, List, [], ◌∷◌, length, take, drop, get_or, Some, option_and_then, sym, ap, ◌∙◌, arith}
+use Rattle.std.proofs.Common.{◌≡◌, ℕ, ◌-◌, ◌≤◌, List, [], ◌∷◌, length, take, drop, get_or, Some, option_and_then, ap, ◌∙◌, arith}
 use Rattle.std.proofs.Math.Seq.{take-length}
-use Rattle.std.specs.declared.option.Option.{Option}
 use Rattle.sq_proxy.specs.declared.options.Options.{Options}
 use Rattle.sq_proxy.specs.Serving.{options_from, with_option}
 

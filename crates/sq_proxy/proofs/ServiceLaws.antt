@@ -26,7 +26,7 @@ use Rattle.sq_proxy.specs.Outputs.{IsSettled}
 use Rattle.sq_proxy.specs.Serving.{Server}
 use Rattle.sq_proxy.specs.declared.ends.Status.{Status}
 use Rattle.sq_proxy.specs.declared.ends.Status.TheVariants as ends
-use Rattle.sq_proxy.specs.Service.{CameTo, EndsByLine, EndsOver, EndsWell, IsConf, IsServed, IsServerEnd, IsService, IsServiceEnd, IsTrueOrEmpty, IsTrueOver, IsUnservedEnd, RunsOrNot, beginning_of, ended_status, port_of, stopped_line}
+use Rattle.sq_proxy.specs.Service.{CameTo, EndsByLine, EndsOver, EndsWell, IsConf, IsServed, IsServerEnd, IsService, IsServiceEnd, IsTrueOrEmpty, IsTrueOver, IsUnservedEnd, RunsOrNot, beginning_of, ended_status, port_of, server_seen, stopped_line}
 use Rattle.sq_proxy.proofs.EndLaws.{empty_line}
 use Rattle.sq_replay.specs.Openings.{Added}
 use Rattle.sq_replay.proofs.OpenedLaws.{Added_map}
@@ -113,7 +113,7 @@ unserved_not s t u e = subst IsUnservedEnd e u
 unserved : (first : Beginning) (texts : Texts) (name : List ℕ) (port : ℕ) (f : FilesSeen) (v : Streams) (jb jn ln : ℕ)
     (history : Option History) (status : Status) → IsUnservedEnd status
     → IsTrueOrEmpty first history → (status ≡ ends.JournalFault → Rose jb jn) → min jb count_limit ≤ jn
-    → IsServed first texts name port f f v v jb jn ln history status
+    → IsServed first texts name port (server_seen f v jb 0) (server_seen f v jn ln) history status
 unserved first texts name port f v jb jn ln history status u is_true journal later = record {
   ok = λ e. absurd (unserved_not status ends.Ok u e);
   is_true = is_true;
@@ -143,17 +143,18 @@ reread_later texts name v (r ∷ older) w (u, before, last) =
 -- a server whose panel ran
 pub served : (first : Beginning) (texts : Texts) (name : List ℕ) (port : ℕ) (f g : FilesSeen) (v w : Streams)
     (jb jn ln : ℕ) (history : Option History) (end : PanelEnd) (stopped failed : Bool) (made : ℕ)
-    (status : Status) → status ≡ ended_status end stopped failed → Runs texts name port f g v w end made
+    (status : Status) → status ≡ ended_status end stopped failed
+    → Runs texts name port f g v w (record { end = end; made = made })
     → ForSome history (λ h. made + 1 ≡ current h) → IfSome history (IsLegal first)
     → (status ≡ ends.JournalFault → Rose jb jn) → (status ≡ ends.Net → 0 < ln) → jb ≤ jn
-    → IsServed first texts name port f g v w jb jn ln history status
+    → IsServed first texts name port (server_seen f v jb 0) (server_seen g w jn ln) history status
 served first texts name port f g v w jb jn ln history end stopped failed made status is runs makes legal journal net
     later =
     let causes = runs.4.causes in
     record {
       ok = λ e. (
         made,
-        subst (λ (x : PanelEnd). Runs texts name port f g v w x made)
+        subst (λ (x : PanelEnd). Runs texts name port f g v w (record { end = x; made = made }))
             (ended_ok end stopped failed (sym is ∙ e)) runs,
         makes,
       );
@@ -176,10 +177,13 @@ served first texts name port f g v w jb jn ln history end stopped failed made st
 pub unserved_moved : (first : Beginning) (texts : Texts) (name : List ℕ) (port : ℕ) (f g : FilesSeen) (v w : Streams)
     (jb jn ln : ℕ) (history before : Option History) (status : Status) → g ≡ f → w ≡ v
     → IsUnservedEnd status → history ≡ before → IfSome before (λ h. h ≡ []) → (status ≡ ends.JournalFault → Rose jb jn)
-    → min jb count_limit ≤ jn → IsServed first texts name port f g v w jb jn ln history status
+    → min jb count_limit ≤ jn → IsServed first texts name port (server_seen f v jb 0) (server_seen g w jn ln) history
+    status
 unserved_moved first texts name port f g v w jb jn ln history before status e k u same empty journal later =
-    subst (λ (h : FilesSeen). IsServed first texts name port f h v w jb jn ln history status) (sym e)
-    (subst (λ (x : Streams). IsServed first texts name port f f v x jb jn ln history status) (sym k)
+    subst (λ (h : FilesSeen). IsServed first texts name port (server_seen f v jb 0) (server_seen h w jn ln) history
+    status) (sym e)
+    (subst (λ (x : Streams). IsServed first texts name port (server_seen f v jb 0) (server_seen f x jn ln) history
+    status) (sym k)
     (unserved first texts name port f v jb jn ln history status u
     (true_unran first history (subst (λ (o : Option History). IfSome o (λ h. h ≡ [])) (sym same) empty)) journal later))
 
@@ -287,7 +291,7 @@ pub conf_failed : (s : Server) (texts : Texts) (f g : FilesSeen) (v : Streams) (
     → (status ≡ ends.ReadFault → Rose f.faults g.faults) → IfSome history (λ h. h ≡ [])
     → f.faults ≤ g.faults → Added f.opened g.opened
     (λ more. IsOnce s.conf more × Comes {A = Configuration} (Err status) (conf_stage s.conf (first_text more)))
-    → CameTo [] s texts f g v v jb jb nb nb history status
+    → CameTo [] s texts (server_seen f v jb nb) (server_seen g v jb nb) history status
 conf_failed s texts f g v jb nb history status o comes read empty later opened = record {
   ok = λ e. absurd (no_end texts s.conf status ends.Ok o e);
   bytes = λ e. unrun s texts f g v v status
@@ -347,7 +351,7 @@ pub net_failed : (s : Server) (texts : Texts) (f g : FilesSeen) (v : Streams) (j
     → IfSome texts (λ disk. conf_stage s.conf (disk s.conf) ≡ Ok config) → Rose nb nn → nb ≤ nn
     → IfSome history (λ h. h ≡ []) → f.faults ≤ g.faults
     → Added f.opened g.opened (λ more. IsOnce s.conf more × (conf_stage s.conf (first_text more) ≡ Ok config))
-    → CameTo [] s texts f g v v jb jb nb nn history ends.Net
+    → CameTo [] s texts (server_seen f v jb nb) (server_seen g v jb nn) history ends.Net
 net_failed s texts f g v jb nb nn history config comes rose net empty later opened = record {
   ok = λ e. absurd (cc);
   bytes = λ e. unrun s texts f g v v ends.Net (opened_over s.conf f.opened g.opened config ends.Net tt opened) refl
@@ -425,7 +429,8 @@ run_told s texts f begun g v w x port config status r is_port conf end ran settl
         ran = w;
         end = run.end;
         made = run.made;
-        runs = subst (λ (p : ℕ). Runs texts s.conf p begun g v w run.end run.made) is_port run.runs;
+        runs = subst (λ (p : ℕ). Runs texts s.conf p begun g v w
+            (record { end = run.end; made = run.made })) is_port run.runs;
         after = inr (ended_ok run.end run.stopped run.failed (sym run.ended ∙ is), failed is, short is (failed is));
       });
       writes = no_line x.contents x.output_faults;
@@ -439,7 +444,8 @@ run_told s texts f begun g v w x port config status r is_port conf end ran settl
         ran = w;
         end = run.end;
         made = run.made;
-        runs = subst (λ (p : ℕ). Runs texts s.conf p begun g v w run.end run.made) is_port run.runs;
+        runs = subst (λ (p : ℕ). Runs texts s.conf p begun g v w
+            (record { end = run.end; made = run.made })) is_port run.runs;
         after = inl ((kept other).1, run.stopped, run.failed, (kept other).0 ∙ run.ended);
       });
       writes = no_line x.contents x.output_faults;
@@ -448,14 +454,15 @@ run_told s texts f begun g v w x port config status r is_port conf end ran settl
 pub served_service : (s : Server) (texts : Texts) (f begun g : FilesSeen) (v w x : Streams) (jb jn nb nm nn ln port : ℕ)
     (history : Option History) (config : Configuration) (status r : Status)
     → port ≡ port_of s config → IsConf texts s.conf f.opened begun.opened config
-    → IsServed (beginning_of s config) texts s.conf port begun g v w jb jn ln history status → nm ≡ nb
+    → IsServed (beginning_of s config) texts s.conf port (server_seen begun v jb 0) (server_seen g w jn ln) history
+    status → nm ≡ nb
     → TakesBack nm nn ln → f.faults ≤ begun.faults
     → (r ≡ ends.Ok → (status ≡ ends.Ok) × Appends w.contents x.contents stopped_line) → IsSettled status r
     → (r ≡ ends.WriteFault → (status ≡ ends.WriteFault) ⊎ Rose w.output_faults x.output_faults)
     → ((status ≡ ends.Ok → ⊥) → (r ≡ status) × (x ≡ w))
     → (status ≡ ends.Ok → r ≡ ends.WriteFault → Grew w.contents x.contents (λ part. IsProperPrefix part stopped_line))
     → x.left ≡ w.left → x.input_faults ≡ w.input_faults → w.output_faults ≤ x.output_faults
-    → CameTo [] s texts f g v x jb jn nb nn history r
+    → CameTo [] s texts (server_seen f v jb nb) (server_seen g x jn nn) history r
 served_service s texts f begun g v w x jb jn nb nm nn ln port history config status r is_port conf served same back
     read_later told settled unwritten kept short left input later = record {
       ok = λ e.
@@ -467,7 +474,8 @@ served_service s texts f begun g v w x jb jn nb nm nn ln port history config sta
             conf = conf;
             ran = w;
             made = ran.0;
-            runs = subst (λ (p : ℕ). Runs texts s.conf p begun g v w panel.Ended ran.0) is_port ran.1;
+            runs = subst (λ (p : ℕ). Runs texts s.conf p begun g v w
+                (record { end = panel.Ended; made = ran.0 })) is_port ran.1;
             left = left;
             writes = both.1;
             makes = ran.2;
@@ -526,12 +534,13 @@ told_line line s texts f g v w x status later grew e = record {
 -- the last line was written
 pub finished : (s : Server) (texts : Texts) (f g : FilesSeen) (v w x : Streams) (jb jn nb nn : ℕ)
     (history : Option History) (status r : Status) → r ≡ status
-    → CameTo [] s texts f g v w jb jn nb nn history status → (status ≡ ends.Ok → x ≡ w)
+    → CameTo [] s texts (server_seen f v jb nb) (server_seen g w jn nn) history status → (status ≡ ends.Ok → x ≡ w)
     → Grew w.contents x.contents (IsWritten w.output_faults x.output_faults (last_line status))
     → x.input_faults ≡ w.input_faults → w.output_faults ≤ x.output_faults
-    → IsService s texts f g v x jb jn nb nn history r
+    → IsService s texts (server_seen f v jb nb) (server_seen g x jn nn) history r
 finished s texts f g v w x jb jn nb nn history status r is h ok grew input later =
-    subst (λ (t : Status). IsService s texts f g v x jb jn nb nn history t) (sym is) (record {
+    subst (λ (t : Status). IsService s texts (server_seen f v jb nb) (server_seen g x jn nn) history t) (sym is)
+    (record {
       ok = λ e. subst (λ (y : Streams). EndsWell s texts f g v y history) (sym (ok e)) (h.ok e);
       bytes = λ e. told_line (last_line status) s texts f g v w x status later grew (h.bytes e);
       is_true = h.is_true;
@@ -558,19 +567,21 @@ finished s texts f g v w x jb jn nb nn history status r is h ok grew input later
 pub served_from : (s : Server) (config : Configuration) (offset : ℤ) (texts : Texts) (name : List ℕ) (port : ℕ)
     (f g : FilesSeen) (v w : Streams) (jb jn ln : ℕ) (history : Option History) (status : Status)
     → offset ≡ unwrap_or s.options.offset (pos 0)
-    → IsServed (record { config = config; offset = offset }) texts name port f g v w jb jn ln history status
-    → IsServed (beginning_of s config) texts name port f g v w jb jn ln history status
+    → IsServed (record { config = config; offset = offset }) texts name port (server_seen f v jb 0)
+    (server_seen g w jn ln) history status
+    → IsServed (beginning_of s config) texts name port (server_seen f v jb 0) (server_seen g w jn ln) history status
 served_from s config offset texts name port f g v w jb jn ln history status e h =
-    subst (λ (z : ℤ). IsServed (record { config = config; offset = z }) texts name port f g v w jb jn ln history status)
+    subst (λ (z : ℤ). IsServed (record { config = config; offset = z }) texts name port (server_seen f v jb 0)
+    (server_seen g w jn ln) history status)
     e h
 
 -- the same of a server over texts that are these
 pub served_texts : (first : Beginning) (t u : Texts) (name : List ℕ) (port : ℕ) (f g : FilesSeen) (v w : Streams)
     (jb jn ln : ℕ) (history : Option History) (status : Status) → t ≡ u
-    → IsServed first t name port f g v w jb jn ln history status
-    → IsServed first u name port f g v w jb jn ln history status
+    → IsServed first t name port (server_seen f v jb 0) (server_seen g w jn ln) history status
+    → IsServed first u name port (server_seen f v jb 0) (server_seen g w jn ln) history status
 served_texts first t u name port f g v w jb jn ln history status e h =
-    subst (λ (x : Texts). IsServed first x name port f g v w jb jn ln history status) e h
+    subst (λ (x : Texts). IsServed first x name port (server_seen f v jb 0) (server_seen g w jn ln) history status) e h
 
 pub begun_fault : (fault : DeskFault) (before now : ℕ) → fault ≡ desk.JournalFault → IsUnbegun fault before now
     → Rose before now

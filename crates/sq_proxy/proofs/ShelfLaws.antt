@@ -1,9 +1,9 @@
 -- Openings as a shelf, and those before and behind the first.
-use Rattle.std.proofs.Common.{◌≡◌, inr, ℕ, ◌+◌, ◌<◌, ◌≤◌, ◌==◌, List, [], ◌∷◌, ◌++◌, length, Bool, true, false, bytes_eq, if◌then◌else◌, Option, Some, None, refl, sym, ap, subst, ◌∙◌, arith}
+use Rattle.std.proofs.Common.{◌≡◌, inr, ℕ, ◌+◌, ◌<◌, ◌≤◌, ◌==◌, List, [], ◌∷◌, ◌++◌, length, Bool, false, bytes_eq, if◌then◌else◌, Option, Some, None, refl, ap, ◌∙◌, arith}
 use Rattle.std.proofs.lemmas.Bool.Decides.{nat_tests}
 use Rattle.sq_outside.specs.Told.{Opening, Openings, Texts}
 use Rattle.sq_model_laws.proofs.ClassParts.{bytes_itself, itself}
-use Rattle.sq_replay.specs.Runs.{Opened, StandOn, Tells}
+use Rattle.sq_replay.specs.Runs.{StandOn, Tells}
 use Rattle.sq_proxy.specs.Opened.{BeginsWith, behind_first, first_text, shelf_over}
 
 other : (a b : ℕ) → a < b → (a == b) ≡ false

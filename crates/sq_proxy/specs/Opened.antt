@@ -80,9 +80,9 @@ shelf_over (o ∷ more) e name = if e == 1
 -- script's; the numbers are the sink's count
 abbrev pub PlayOpened : List ℕ → Configuration → Option (List ℕ) → Option (List ℕ) → ℕ → ℕ → Status
     → List Opening → Type 0
-PlayOpened script config a b before now result more =
+PlayOpened script config old new before now result more =
     ScriptOpened script result more
-    × Delivers a b before now
+    × Delivers old new before now
     (staged (script_stage script (first_text more))
     (λ text. ran_output (run_script (shelf_over (behind_first more)) config (lines text)))) result
 
@@ -90,8 +90,8 @@ PlayOpened script config a b before now result more =
 -- sink's count
 abbrev pub JournalOpened : List ℕ → (List ℕ → Output) → Option (List ℕ) → Option (List ℕ) → ℕ → ℕ
     → Status → List Opening → Type 0
-JournalOpened journal go a b before now result more = IsOnce journal more
-    × Delivers a b before now (staged (script_stage journal (first_text more)) go) result
+JournalOpened journal go old new before now result more = IsOnce journal more
+    × Delivers old new before now (staged (script_stage journal (first_text more)) go) result
 
 -- what a command comes to over the texts of its openings
 abbrev pub opened_output : Option Command → List Opening → Output
@@ -109,8 +109,8 @@ opened_output (Some (Rehearse count)) more = rehearse_output count
 -- and how it ended by their texts
 abbrev pub CommandOpened : Option Command → Option (List ℕ) → Option (List ℕ) → ℕ → ℕ → Status
     → List Opening → Type 0
-CommandOpened command a b before now result more = IsOpened command result more
-    × Delivers a b before now (opened_output command more) result
+CommandOpened command old new before now result more = IsOpened command result more
+    × Delivers old new before now (opened_output command more) result
 
 -- what is true of the run of a script over the texts of these openings
 abbrev pub TrueOpened : Option Command → List Opening → Type 0
@@ -128,10 +128,10 @@ AuditedOpened command more = Unit {0}
 -- What came of a command by its openings: which they are; what it wrote, and how it ended, by their
 -- texts, or by a fault; what is true of the run of a script; and, where it ended well, of the
 -- journal that was judged. The numbers are the sink's count.
-pub record CameOf (command : Option Command) (a b : Option (List ℕ)) (before now : ℕ)
+pub record CameOf (command : Option Command) (old new : Option (List ℕ)) (before now : ℕ)
     (result : Status) (more : List Opening) : Type 0 where
   pub names : IsOpened command result more
-  pub bytes : Grew a b (IsOutput (opened_output command more) before now result)
+  pub bytes : Grew old new (IsOutput (opened_output command more) before now result)
   pub ended : EndsBy (opened_output command more).end result
   pub truly : TrueOpened command more
   pub audits : result ≡ ends.Ok → AuditedOpened command more

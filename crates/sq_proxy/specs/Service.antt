@@ -94,55 +94,72 @@ IsTrueOrEmpty first history = IfSome history (λ h. (h ≡ []) ⊎ IsTrueFrom fi
 
 -- A panel ran: how it ended, by which the server ended so, and by whether a note of its journal
 -- failed, and whether its listener did.
-pub record HasRun (texts : Texts) (name : List ℕ) (port : ℕ) (f g : FilesSeen) (v w : Streams)
-    (status : Status) : Type 0 where
+pub record HasRun (texts : Texts) (name : List ℕ) (port : ℕ) (files_before files_now : FilesSeen)
+    (streams_before streams_now : Streams) (status : Status) : Type 0 where
   pub end : PanelEnd
   pub stopped : Bool
   pub failed : Bool
   pub made : ℕ
-  pub runs : Runs texts name port f g v w end made
+  pub runs : Runs texts name port files_before files_now streams_before streams_now
+      (record { end = end; made = made })
   pub ended : status ≡ ended_status end stopped failed
 
 -- the desk was not made, and files and streams are as they were; or a panel ran
 abbrev pub RunsOrNot : Texts → List ℕ → ℕ → FilesSeen → FilesSeen → Streams → Streams → Status
     → Type 0
-RunsOrNot texts name port f g v w status = ((g ≡ f) × (w ≡ v) × IsUnservedEnd status)
-    ⊎ HasRun texts name port f g v w status
+RunsOrNot texts name port files_before files_now streams_before streams_now status =
+    ((files_now ≡ files_before) × (streams_now ≡ streams_before) × IsUnservedEnd status)
+    ⊎ HasRun texts name port files_before files_now streams_before streams_now status
 
--- what came of a server at a port; the numbers are the journal's counts of faults, and the
--- listener's
-pub record IsServed (first : Beginning) (texts : Texts) (name : List ℕ) (port : ℕ) (f g : FilesSeen)
-    (v w : Streams) (journal_before journal_now listener_now : ℕ) (history : Option History)
-    (status : Status) : Type 0 where
+-- what a server's world tells: the files, the streams, and the counts of faults of its journal and
+-- of its net
+pub record ServerSeen : Type 0 where
+  pub files : FilesSeen
+  pub streams : Streams
+  pub journal : ℕ
+  pub net : ℕ
+
+abbrev pub server_seen : FilesSeen → Streams → ℕ → ℕ → ServerSeen
+server_seen files streams journal net =
+    record { files = files; streams = streams; journal = journal; net = net }
+
+-- what came of a server at a port, by what its world told before and after; the net's counts are
+-- those of its listener
+pub record IsServed (first : Beginning) (texts : Texts) (name : List ℕ) (port : ℕ)
+    (before now : ServerSeen) (history : Option History) (status : Status) : Type 0 where
   pub ok : status ≡ ends.Ok
-      → (made : ℕ) × Runs texts name port f g v w panel.Ended made
+      → (made : ℕ) × Runs texts name port before.files now.files before.streams now.streams
+      (record { end = panel.Ended; made = made })
       × ForSome history (λ h. made + 1 ≡ current h)
   pub is_true : IsTrueOrEmpty first history
   pub noted : status ≡ ends.Ok → IfSome history (IsTrueFrom first)
-  pub read : status ≡ ends.ReadFault → Rose v.input_faults w.input_faults
-  pub write : status ≡ ends.WriteFault → Rose v.output_faults w.output_faults
-  pub journal : status ≡ ends.JournalFault → Rose journal_before journal_now
-  pub net : status ≡ ends.Net → 0 < listener_now
+  pub read : status ≡ ends.ReadFault
+      → Rose before.streams.input_faults now.streams.input_faults
+  pub write : status ≡ ends.WriteFault
+      → Rose before.streams.output_faults now.streams.output_faults
+  pub journal : status ≡ ends.JournalFault → Rose before.journal now.journal
+  pub net : status ≡ ends.Net → 0 < now.net
   pub end : IsServerEnd status
-  pub ran : RunsOrNot texts name port f g v w status
-  pub files_later : f.faults ≤ g.faults
-  pub input_later : v.input_faults ≤ w.input_faults
-  pub output_later : v.output_faults ≤ w.output_faults
-  pub journal_later : min journal_before count_limit ≤ journal_now
+  pub ran : RunsOrNot texts name port before.files now.files before.streams now.streams status
+  pub files_later : before.files.faults ≤ now.files.faults
+  pub input_later : before.streams.input_faults ≤ now.streams.input_faults
+  pub output_later : before.streams.output_faults ≤ now.streams.output_faults
+  pub journal_later : min before.journal count_limit ≤ now.journal
 
 -- A server that ended well: the configuration of its file; at which port it listened; what its
 -- panel did; that it wrote so at the end; that its journal, where it tells, is true from that
 -- configuration and the stated offset on, with as many reconfigurations as were made.
-pub record EndsWell (s : Server) (texts : Texts) (f g : FilesSeen) (v w : Streams)
-    (history : Option History) : Type 0 where
+pub record EndsWell (s : Server) (texts : Texts) (files_before files_now : FilesSeen)
+    (streams_before streams_now : Streams) (history : Option History) : Type 0 where
   pub config : Configuration
   pub begun : FilesSeen
-  pub conf : IsConf texts s.conf f.opened begun.opened config
+  pub conf : IsConf texts s.conf files_before.opened begun.opened config
   pub ran : Streams
   pub made : ℕ
-  pub runs : Runs texts s.conf (port_of s config) begun g v ran panel.Ended made
-  pub left : w.left ≡ ran.left
-  pub writes : Appends ran.contents w.contents stopped_line
+  pub runs : Runs texts s.conf (port_of s config) begun files_now streams_before ran
+      (record { end = panel.Ended; made = made })
+  pub left : streams_now.left ≡ ran.left
+  pub writes : Appends ran.contents streams_now.contents stopped_line
   pub makes : ForSome history (λ h. made + 1 ≡ current h)
   pub is_true : IfSome history (IsTrueFrom (beginning_of s config))
 
@@ -153,40 +170,45 @@ EndsOver (result.Ok config) status = IsServerEnd status
 
 -- The panel of a server did not run: the file of the configuration was opened once at most, the
 -- server ended by what its text comes to, and nothing was written by then.
-pub record IsUnrun (s : Server) (f g : FilesSeen) (v w : Streams) (status : Status) : Type 0 where
-  pub opened : Added f.opened g.opened
+pub record IsUnrun (s : Server) (files_before files_now : FilesSeen)
+    (streams_before streams_now : Streams) (status : Status) : Type 0 where
+  pub opened : Added files_before.opened files_now.opened
       (λ more. IsOnce s.conf more × EndsOver (conf_stage s.conf (first_text more)) status)
-  pub same : w ≡ v
+  pub same : streams_now ≡ streams_before
   pub unwritten : status ≡ ends.WriteFault → ⊥
 
 -- a server whose panel ended so ended by that, and wrote nothing behind what the panel wrote; or it
 -- would have ended well, but of the line `stopped` it could write only a part
 abbrev pub EndsAfter : PanelEnd → Streams → Streams → Status → Type 0
-EndsAfter end ran w status =
-    ((w ≡ ran) × (stopped : Bool) × (failed : Bool) × (status ≡ ended_status end stopped failed))
+EndsAfter end ran now status =
+    ((now ≡ ran) × (stopped : Bool) × (failed : Bool) × (status ≡ ended_status end stopped failed))
     ⊎ ((end ≡ panel.Ended) × (status ≡ ends.WriteFault)
-    × Grew ran.contents w.contents (λ part. IsProperPrefix part stopped_line))
+    × Grew ran.contents now.contents (λ part. IsProperPrefix part stopped_line))
 
 -- The panel of a server ran: the configuration of its file; at which port it listened; what its
 -- panel did, and wrote; and how the server ended by that.
-pub record IsRun (s : Server) (texts : Texts) (f g : FilesSeen) (v w : Streams)
-    (status : Status) : Type 0 where
+pub record IsRun (s : Server) (texts : Texts) (files_before files_now : FilesSeen)
+    (streams_before streams_now : Streams) (status : Status) : Type 0 where
   pub config : Configuration
   pub begun : FilesSeen
-  pub conf : IsConf texts s.conf f.opened begun.opened config
+  pub conf : IsConf texts s.conf files_before.opened begun.opened config
   pub ran : Streams
   pub end : PanelEnd
   pub made : ℕ
-  pub runs : Runs texts s.conf (port_of s config) begun g v ran end made
-  pub after : EndsAfter end ran w status
+  pub runs : Runs texts s.conf (port_of s config) begun files_now streams_before ran
+      (record { end = end; made = made })
+  pub after : EndsAfter end ran streams_now status
 
 -- What a server wrote: nothing, where its panel did not run, or what that wrote; and then this
 -- line, or a part of it where a write failed.
-pub record EndsByLine (line : List ℕ) (s : Server) (texts : Texts) (f g : FilesSeen) (v w : Streams)
+pub record EndsByLine (line : List ℕ) (s : Server) (texts : Texts)
+    (files_before files_now : FilesSeen) (streams_before streams_now : Streams)
     (status : Status) : Type 0 where
   pub told : Streams
-  pub came : IsUnrun s f g v told status ⊎ IsRun s texts f g v told status
-  pub writes : Grew told.contents w.contents (IsWritten told.output_faults w.output_faults line)
+  pub came : IsUnrun s files_before files_now streams_before told status
+      ⊎ IsRun s texts files_before files_now streams_before told status
+  pub writes : Grew told.contents streams_now.contents
+      (IsWritten told.output_faults streams_now.output_faults line)
 
 -- the history is true from the configuration of the file and the stated offset on
 pub record IsTrueOver (s : Server) (texts : Texts) (before : Openings) (h : History) : Type 0 where
@@ -195,30 +217,31 @@ pub record IsTrueOver (s : Server) (texts : Texts) (before : Openings) (h : Hist
   pub conf : IsConf texts s.conf before begun config
   pub is_true : IsTrueFrom (beginning_of s config) h
 
--- what came of a server by its words, which wrote this line last where it did not end well; the
--- numbers are the journal's counts of faults, and the net's
-pub record CameTo (line : List ℕ) (s : Server) (texts : Texts) (f g : FilesSeen) (v w : Streams)
-    (journal_before journal_now net_before net_now : ℕ) (history : Option History)
-    (status : Status) : Type 0 where
-  pub ok : status ≡ ends.Ok → EndsWell s texts f g v w history
-  pub bytes : (status ≡ ends.Ok → ⊥) → EndsByLine line s texts f g v w status
-  pub is_true : IfSome history (λ h. (h ≡ []) ⊎ IsTrueOver s texts f.opened h)
-  pub read : status ≡ ends.ReadFault → Rose f.faults g.faults ⊎ Rose v.input_faults w.input_faults
-  pub write : status ≡ ends.WriteFault → Rose v.output_faults w.output_faults
-  pub journal : status ≡ ends.JournalFault → Rose journal_before journal_now
-  pub net : status ≡ ends.Net → Rose net_before net_now
+-- what came of a server by its words, which wrote this line last where it did not end well: by what
+-- its world told before and after
+pub record CameTo (line : List ℕ) (s : Server) (texts : Texts) (before now : ServerSeen)
+    (history : Option History) (status : Status) : Type 0 where
+  pub ok : status ≡ ends.Ok
+      → EndsWell s texts before.files now.files before.streams now.streams history
+  pub bytes : (status ≡ ends.Ok → ⊥)
+      → EndsByLine line s texts before.files now.files before.streams now.streams status
+  pub is_true : IfSome history (λ h. (h ≡ []) ⊎ IsTrueOver s texts before.files.opened h)
+  pub read : status ≡ ends.ReadFault → Rose before.files.faults now.files.faults
+      ⊎ Rose before.streams.input_faults now.streams.input_faults
+  pub write : status ≡ ends.WriteFault
+      → Rose before.streams.output_faults now.streams.output_faults
+  pub journal : status ≡ ends.JournalFault → Rose before.journal now.journal
+  pub net : status ≡ ends.Net → Rose before.net now.net
   pub conf : IfSome texts (λ disk. EndsOver (conf_stage s.conf (disk s.conf)) status)
   pub missing : IfMissing status (λ name. (name ≡ s.conf) × IsNotTold texts name)
   pub end : IsServiceEnd status
-  pub files_later : f.faults ≤ g.faults
-  pub input_later : v.input_faults ≤ w.input_faults
-  pub output_later : v.output_faults ≤ w.output_faults
-  pub journal_later : min journal_before count_limit ≤ journal_now
-  pub net_later : net_before ≤ net_now
+  pub files_later : before.files.faults ≤ now.files.faults
+  pub input_later : before.streams.input_faults ≤ now.streams.input_faults
+  pub output_later : before.streams.output_faults ≤ now.streams.output_faults
+  pub journal_later : min before.journal count_limit ≤ now.journal
+  pub net_later : before.net ≤ now.net
 
 -- the same of one that wrote the last line of its status
-abbrev pub IsService : Server → Texts → FilesSeen → FilesSeen → Streams → Streams → ℕ → ℕ → ℕ → ℕ
-    → Option History → Status → Type 0
-IsService s texts f g v w journal_before journal_now net_before net_now history status =
-    CameTo (last_line status) s texts f g v w journal_before journal_now net_before net_now history
-    status
+abbrev pub IsService : Server → Texts → ServerSeen → ServerSeen → Option History → Status → Type 0
+IsService s texts before now history status =
+    CameTo (last_line status) s texts before now history status

@@ -1,6 +1,6 @@
 -- In the statement: docs/STATEMENT.md lists which definitions.
 -- The words of `serve`.
-use Rattle.std.specs.Prelude.{ℕ, ℤ, ◌==◌, List, [], ◌∷◌, if◌then◌else◌, Some, None, bytes_eq, codes, option_map, option_and_then}
+use Rattle.std.specs.Prelude.{ℕ, ◌==◌, List, [], ◌∷◌, if◌then◌else◌, Some, None, bytes_eq, codes, option_map, option_and_then}
 use Rattle.std.specs.declared.option.Option.{Option}
 use Rattle.sq_base.specs.Decimals.{number_of, port_limit}
 use Rattle.sq_journal.specs.Reading.{offset_from}

@@ -4,10 +4,10 @@ ghost use Rattle.sq_proxy.specs.declared.ends.Status.TheVariants as ends;
 ghost use Rattle.sq_proxy.specs.Service.{IsServed, IsUnservedEnd, ended_status};
 
 use crate::ends::Status;
+use crate::world::World;
 use sq_calls::DeskFault;
 use sq_control::{ControlPanel, PanelEnd};
-use sq_journal_writers::Journal;
-use sq_outside::{Files, Net, Parts, Sink, Source};
+use sq_outside::{Net, Parts};
 use sq_server::{Served, Start, Unserved, serve};
 use std::alloc::Global;
 use std::sync::Wait;
@@ -54,56 +54,51 @@ fn unserved_status(fault: DeskFault) -> Status
 
 /// Serves the links that come to the parts of a net which was opened, until the run of the panel has ended. The panel is
 /// handed back with the references that it had.
-pub(crate) fn run_panel<
-    'c,
-    'f,
-    's,
-    'o,
-    R: Threads + Wait + Sync,
-    F: Files,
-    S: Source,
-    O: Sink,
-    N: Net,
-    J: Journal + Send + Drop,
->(
+pub(crate) fn run_panel<'c, 'f, 's, 'o, R: Threads + Wait + Sync, W: World>(
     rt: &R,
     alloc: Global,
     start: Start,
-    parts: Parts<N>,
-    journal: J,
+    parts: Parts<W::N>,
+    journal: W::J,
     workers: u32,
-    panel: ControlPanel<'c, 'f, 's, 'o, F, S, O>,
-) -> Back<'c, 'f, 's, 'o, N::L, J, F, S, O>
-    requires empty { IfSome (J.history journal) (λ h. h ≡ []) }
+    panel: ControlPanel<'c, 'f, 's, 'o, W::F, W::C, W::O>,
+) -> Back<'c, 'f, 's, 'o, <W::N as Net>::L, W::J, W::F, W::C, W::O>
+    requires empty { IfSome (W.J.history journal) (λ h. h ≡ []) }
     requires some { (0 < workers) × (workers ≤ 2 ^ 31) }
     ensures files { result.panel.files.ghost_name ≡ panel.entry.files.ghost_name }
     ensures input { result.panel.input.ghost_name ≡ panel.entry.input.ghost_name }
     ensures out { result.panel.out.ghost_name ≡ panel.entry.out.ghost_name }
     ensures served { IsServed (record { config = start.setup; offset = start.offset })
-        (F.texts panel.entry.files.now) panel.entry.conf.now panel.entry.port
+        (W.F.texts panel.entry.files.now) panel.entry.conf.now panel.entry.port
         (record {
-          opened = F.opened panel.entry.files.now;
-          faults = F.faults panel.entry.files.now;
+          files = record {
+            opened = W.F.opened panel.entry.files.now;
+            faults = W.F.faults panel.entry.files.now;
+          };
+          streams = record {
+            left = W.C.left panel.entry.input.now;
+            input_faults = W.C.faults panel.entry.input.now;
+            contents = W.O.contents panel.entry.out.now;
+            output_faults = W.O.faults panel.entry.out.now;
+          };
+          journal = W.J.faults journal;
+          net = 0;
         })
         (record {
-          opened = F.opened result.panel.files.now;
-          faults = F.faults result.panel.files.now;
-        })
-        (record {
-          left = S.left panel.entry.input.now;
-          input_faults = S.faults panel.entry.input.now;
-          contents = O.contents panel.entry.out.now;
-          output_faults = O.faults panel.entry.out.now;
-        })
-        (record {
-          left = S.left result.panel.input.now;
-          input_faults = S.faults result.panel.input.now;
-          contents = O.contents result.panel.out.now;
-          output_faults = O.faults result.panel.out.now;
-        })
-        (J.faults journal) (J.faults result.journal) (N.L.faults result.listener)
-        (J.history result.journal) result.status }
-    ensures texts { F.texts result.panel.files.now ≡ F.texts panel.entry.files.now }
+          files = record {
+            opened = W.F.opened result.panel.files.now;
+            faults = W.F.faults result.panel.files.now;
+          };
+          streams = record {
+            left = W.C.left result.panel.input.now;
+            input_faults = W.C.faults result.panel.input.now;
+            contents = W.O.contents result.panel.out.now;
+            output_faults = W.O.faults result.panel.out.now;
+          };
+          journal = W.J.faults result.journal;
+          net = W.N.L.faults result.listener;
+        }) (W.J.history result.journal) result.status }
+    ensures texts { W.F.texts result.panel.files.now ≡ W.F.texts panel.entry.files.now }
 {
     match serve(rt, alloc, start, parts, journal, workers, panel) {
         Ok(served) => {

@@ -21,7 +21,9 @@ mod serving;
 mod stages;
 mod top;
 mod verifying;
+mod world;
 
 pub use ends::Status;
 pub use proxying::proxy;
 pub use top::run_command;
+pub use world::{Platform, World};

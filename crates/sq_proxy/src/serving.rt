@@ -13,12 +13,11 @@ use crate::held::{Back, run_panel};
 use crate::last_line::finish;
 use crate::options::{Options, Service};
 use crate::stages::open_conf;
+use crate::world::{Platform, World};
 use sq_base::Text;
-use sq_cache::HashSeed;
 use sq_control::{ControlPanel, take_back};
-use sq_journal_writers::Journal;
 use sq_machine::Offset;
-use sq_outside::{Failed, Files, Net, Parts, Sink, Source, write_line};
+use sq_outside::{Failed, Net, Parts, Sink, write_line};
 use sq_rules::Config;
 use sq_server::Start;
 use std::alloc::Global;
@@ -28,49 +27,63 @@ use std::thread::Threads;
 /// How many workers serve connections where no option says.
 const WORKERS: u32 = 8;
 
+/// How a server begins: with what it starts, at which port its net was opened, the name of its configuration's file,
+/// and how many workers it has.
+#[derive(Drop)]
+pub struct Plan<'a> {
+    pub start: Start,
+    pub port: u16,
+    pub conf: &'a Text,
+    pub workers: u32,
+}
+
 /// Serves the links that come to the parts of a net which was opened at this port, until the input orders the end, or its
 /// end comes, or a fault. The journal and the listener are handed back.
-pub fn serve_at<
-    R: Threads + Wait + Sync,
-    F: Files,
-    O: Sink,
-    C: Source,
-    N: Net,
-    J: Journal + Send + Drop,
->(
+pub fn serve_at<R: Threads + Wait + Sync, W: World>(
     rt: &R,
     alloc: Global,
-    start: Start,
-    port: u16,
-    conf: &Text,
-    workers: u32,
-    files: &mut F,
-    out: &mut O,
-    control: &mut C,
-    parts: Parts<N>,
-    journal: J,
-) -> (Status, J, N::L)
-    requires empty { IfSome (J.history journal) (λ h. h ≡ []) }
-    requires some { (0 < workers) × (workers ≤ 2 ^ 31) }
-    ensures served { IsServed (record { config = start.setup; offset = start.offset })
-        (F.texts files.old) conf.now port
-        (record { opened = F.opened files.old; faults = F.faults files.old })
-        (record { opened = F.opened files.new; faults = F.faults files.new })
+    plan: Plan<'_>,
+    files: &mut W::F,
+    out: &mut W::O,
+    control: &mut W::C,
+    parts: Parts<W::N>,
+    journal: W::J,
+) -> (Status, W::J, <W::N as Net>::L)
+    requires empty { IfSome (W.J.history journal) (λ h. h ≡ []) }
+    requires some { (0 < plan.workers) × (plan.workers ≤ 2 ^ 31) }
+    ensures served { IsServed
+        (record { config = plan.entry.start.setup; offset = plan.entry.start.offset })
+        (W.F.texts files.old) plan.entry.conf.now plan.entry.port
         (record {
-          left = C.left control.old;
-          input_faults = C.faults control.old;
-          contents = O.contents out.old;
-          output_faults = O.faults out.old;
+          files = record { opened = W.F.opened files.old; faults = W.F.faults files.old };
+          streams = record {
+            left = W.C.left control.old;
+            input_faults = W.C.faults control.old;
+            contents = W.O.contents out.old;
+            output_faults = W.O.faults out.old;
+          };
+          journal = W.J.faults journal;
+          net = 0;
         })
         (record {
-          left = C.left control.new;
-          input_faults = C.faults control.new;
-          contents = O.contents out.new;
-          output_faults = O.faults out.new;
-        })
-        (J.faults journal) (J.faults result.1) (N.L.faults result.2) (J.history result.1) result.0 }
-    ensures texts { F.texts files.new ≡ F.texts files.old }
+          files = record { opened = W.F.opened files.new; faults = W.F.faults files.new };
+          streams = record {
+            left = W.C.left control.new;
+            input_faults = W.C.faults control.new;
+            contents = W.O.contents out.new;
+            output_faults = W.O.faults out.new;
+          };
+          journal = W.J.faults result.1;
+          net = W.N.L.faults result.2;
+        }) (W.J.history result.1) result.0 }
+    ensures texts { W.F.texts files.new ≡ W.F.texts files.old }
 {
+    let Plan {
+        start,
+        port,
+        conf,
+        workers,
+    } = plan;
     let panel = ControlPanel {
         alloc,
         port,
@@ -84,7 +97,7 @@ pub fn serve_at<
         journal,
         panel,
         status,
-    } = run_panel(rt, alloc, start, parts, journal, workers, panel);
+    } = run_panel::<R, W>(rt, alloc, start, parts, journal, workers, panel);
     let ControlPanel {
         files,
         input,
@@ -152,42 +165,40 @@ fn write_stopped<O: Sink>(out: &mut O, status: Status) -> Status
 
 /// Serves by the configuration of a file and by options: it reads the file, opens the net, and serves until the input
 /// orders the end, or its end comes, or a fault. The journal is handed back.
-pub fn serve_conf<
-    R: Threads + Wait + Sync,
-    F: Files,
-    O: Sink,
-    C: Source,
-    N: Net,
-    J: Journal + Send + Drop,
->(
-    rt: &R,
+pub fn serve_conf<R: Threads + Wait + Sync, W: World>(
+    platform: Platform<'_, R>,
     alloc: Global,
     service: &Service<'_>,
-    seed: HashSeed,
-    files: &mut F,
-    out: &mut O,
-    control: &mut C,
-    net: &mut N,
-    journal: J,
-) -> (Status, J)
-    requires { IfSome (J.history journal) (λ h. h ≡ []) }
-    ensures { CameTo [] (shown_service service.now) (F.texts files.old)
-        (record { opened = F.opened files.old; faults = F.faults files.old })
-        (record { opened = F.opened files.new; faults = F.faults files.new })
+    files: &mut W::F,
+    out: &mut W::O,
+    control: &mut W::C,
+    net: &mut W::N,
+    journal: W::J,
+) -> (Status, W::J)
+    requires { IfSome (W.J.history journal) (λ h. h ≡ []) }
+    ensures { CameTo [] (shown_service service.now) (W.F.texts files.old)
         (record {
-          left = C.left control.old;
-          input_faults = C.faults control.old;
-          contents = O.contents out.old;
-          output_faults = O.faults out.old;
+          files = record { opened = W.F.opened files.old; faults = W.F.faults files.old };
+          streams = record {
+            left = W.C.left control.old;
+            input_faults = W.C.faults control.old;
+            contents = W.O.contents out.old;
+            output_faults = W.O.faults out.old;
+          };
+          journal = W.J.faults journal;
+          net = W.N.faults net.old;
         })
         (record {
-          left = C.left control.new;
-          input_faults = C.faults control.new;
-          contents = O.contents out.new;
-          output_faults = O.faults out.new;
-        })
-        (J.faults journal) (J.faults result.1) (N.faults net.old) (N.faults net.new)
-        (J.history result.1) result.0 }
+          files = record { opened = W.F.opened files.new; faults = W.F.faults files.new };
+          streams = record {
+            left = W.C.left control.new;
+            input_faults = W.C.faults control.new;
+            contents = W.O.contents out.new;
+            output_faults = W.O.faults out.new;
+          };
+          journal = W.J.faults result.1;
+          net = W.N.faults net.new;
+        }) (W.J.history result.1) result.0 }
 {
     let setup = match open_conf(alloc, service.conf, files) {
         Ok(setup) => setup,
@@ -201,16 +212,19 @@ pub fn serve_conf<
     let start = Start {
         setup,
         offset: offset_of(&service.options),
-        seed,
+        seed: platform.seed,
     };
     let workers = workers_of(&service.options);
-    let (status, journal, listener) = serve_at(
-        rt,
-        alloc,
+    let plan = Plan {
         start,
         port,
-        service.conf,
+        conf: service.conf,
         workers,
+    };
+    let (status, journal, listener) = serve_at::<R, W>(
+        platform.rt,
+        alloc,
+        plan,
         files,
         out,
         control,
@@ -222,43 +236,43 @@ pub fn serve_conf<
 }
 
 /// The same, and then the last line.
-pub fn serve_service<
-    R: Threads + Wait + Sync,
-    F: Files,
-    O: Sink,
-    C: Source,
-    N: Net,
-    J: Journal + Send + Drop,
->(
-    rt: &R,
+pub fn serve_service<R: Threads + Wait + Sync, W: World>(
+    platform: Platform<'_, R>,
     alloc: Global,
     service: &Service<'_>,
-    seed: HashSeed,
-    files: &mut F,
-    out: &mut O,
-    control: &mut C,
-    net: &mut N,
-    journal: J,
-) -> (Status, J)
-    requires { IfSome (J.history journal) (λ h. h ≡ []) }
-    ensures { IsService (shown_service service.now) (F.texts files.old)
-        (record { opened = F.opened files.old; faults = F.faults files.old })
-        (record { opened = F.opened files.new; faults = F.faults files.new })
+    files: &mut W::F,
+    out: &mut W::O,
+    control: &mut W::C,
+    net: &mut W::N,
+    journal: W::J,
+) -> (Status, W::J)
+    requires { IfSome (W.J.history journal) (λ h. h ≡ []) }
+    ensures { IsService (shown_service service.now) (W.F.texts files.old)
         (record {
-          left = C.left control.old;
-          input_faults = C.faults control.old;
-          contents = O.contents out.old;
-          output_faults = O.faults out.old;
+          files = record { opened = W.F.opened files.old; faults = W.F.faults files.old };
+          streams = record {
+            left = W.C.left control.old;
+            input_faults = W.C.faults control.old;
+            contents = W.O.contents out.old;
+            output_faults = W.O.faults out.old;
+          };
+          journal = W.J.faults journal;
+          net = W.N.faults net.old;
         })
         (record {
-          left = C.left control.new;
-          input_faults = C.faults control.new;
-          contents = O.contents out.new;
-          output_faults = O.faults out.new;
-        })
-        (J.faults journal) (J.faults result.1) (N.faults net.old) (N.faults net.new)
-        (J.history result.1) result.0 }
+          files = record { opened = W.F.opened files.new; faults = W.F.faults files.new };
+          streams = record {
+            left = W.C.left control.new;
+            input_faults = W.C.faults control.new;
+            contents = W.O.contents out.new;
+            output_faults = W.O.faults out.new;
+          };
+          journal = W.J.faults result.1;
+          net = W.N.faults net.new;
+        }) (W.J.history result.1) result.0 }
 {
-    let (status, journal) = serve_conf(rt, alloc, service, seed, files, out, control, net, journal);
+    let (status, journal) = serve_conf::<R, W>(
+        platform, alloc, service, files, out, control, net, journal,
+    );
     (finish(out, status), journal)
 }

@@ -1,12 +1,12 @@
 -- A rehearsal asks as many requests as it shall.
-use Rattle.std.proofs.Common.{◌≡◌, inl, inr, ℕ, ℤ, ◌*◌, ◌+◌, ◌-◌, ◌≤◌, ◌<◌, ◌%◌, ◌==◌, ◌||◌, ◌&&◌, suc, zero, max, nat_lt, nat_le, not, List, [], ◌∷◌, ◌++◌, length, drop, slice_get, Bool, true, false, if◌then◌else◌, Option, Some, None, IfSome, is_some, is_none, pos, refl, sym, ap, subst, ◌∙◌, arith}
+use Rattle.std.proofs.Common.{◌≡◌, inl, inr, ℕ, ℤ, ◌*◌, ◌+◌, ◌-◌, ◌≤◌, ◌<◌, ◌==◌, ◌||◌, ◌&&◌, suc, zero, max, nat_lt, nat_le, not, List, [], ◌∷◌, ◌++◌, length, drop, slice_get, Bool, true, false, if◌then◌else◌, Option, Some, None, is_some, is_none, pos, refl, sym, ap, subst, ◌∙◌, arith}
 use Rattle.std.proofs.lemmas.Bool.Decides.{nat_tests}
 use Rattle.std.proofs.lemmas.Option.{none-some}
 use Rattle.std.specs.Prelude.{⊤, codes}
 use Rattle.std.specs.Option.{option_map, option_map_or, option_and_then, option_or}
 use Rattle.sq_request.specs.Written.{made_request}
 use Rattle.sq_machine.specs.declared.entries.Event.{Event}
-use Rattle.sq_machine.specs.declared.entries.Event.TheVariants.{Begin, Open, Close, Ask, Step, Take, Started, StartFail, Line, Died, Act, Reconfigure, Seat, Grant, Leave}
+use Rattle.sq_machine.specs.declared.entries.Event.TheVariants.{Open, Close, Ask, Step, Take, Started, Line, Act}
 use Rattle.sq_machine.specs.declared.entries.Told.{Told}
 use Rattle.sq_machine.specs.declared.entries.Told.TheVariants as told
 use Rattle.sq_machine.specs.declared.refusals.Refusal.{Refusal}
@@ -17,7 +17,6 @@ use Rattle.sq_rules.specs.declared.outcomes.Why.TheVariants as why
 use Rattle.sq_rules.specs.Classes.{Class}
 use Rattle.sq_rules.specs.Configurations.{Configuration}
 use Rattle.sq_machine.specs.declared.kept.CachedReply.{CachedReply}
-use Rattle.sq_machine.specs.Checks.{Asked}
 use Rattle.sq_machine.specs.DueActs.{ClassId, sending_told, first_made, first_of, live_places, next_act, send_at, start_at, stop_of}
 use Rattle.sq_machine.specs.Entries.{History, entry_at}
 use Rattle.sq_machine.specs.Farms.{Sending, Stock, full, send_of, start_due}
@@ -32,14 +31,13 @@ use Rattle.sq_machine.specs.Marks.{Past, Put, entries}
 use Rattle.sq_machine.specs.Next.{Next, gives, nothing, refuse_if, refuse_open, refuses}
 use Rattle.sq_machine.specs.Readings.{counted_moment, latest}
 use Rattle.sq_machine.specs.KeptLists.{CachedReplies, fresh_for}
-use Rattle.sq_machine.specs.Freshness.{is_due}
 use Rattle.sq_machine.specs.Limits.{conn_limit, key_limit, last_number}
 use Rattle.sq_machine.specs.Epochs.{channels_named, name_of_class, place_of_class}
 use Rattle.sq_machine.specs.Checks.{ask_count, ask_of, check_open, epoch_of, is_done, open_check}
 use Rattle.sq_machine.specs.Questions.{pending, put_count}
 use Rattle.sq_machine.specs.KeptReadings.{kept}
-use Rattle.sq_machine.specs.StepRule.{StepSays, refresh, says_asked, says_fault, says_fresh, says_need, step_says}
-use Rattle.sq_model_laws.proofs.RuleLaws.{SaysNeed, SaysOf, step_is}
+use Rattle.sq_machine.specs.StepRule.{StepSays, says_asked, says_fault, says_fresh, says_need, step_says}
+use Rattle.sq_model_laws.proofs.RuleLaws.{SaysOf, step_is}
 use Rattle.sq_machine.specs.Transcripts.{LineIs, OnFree, Outside, ReplyTo, channels_of, line_is, line_told}
 use Rattle.sq_replay.specs.RunText.{first_history}
 use Rattle.sq_rehearse.specs.declared.drivers.Driver.{Driver}
@@ -50,9 +48,9 @@ use Rattle.sq_rehearse.specs.declared.stages.SentQuestion.{SentQuestion}
 use Rattle.sq_rehearse.specs.declared.stages.StepKind.{StepKind}
 use Rattle.sq_rehearse.specs.declared.stages.StepKind.TheVariants as said
 use Rattle.sq_rehearse.specs.declared.summaries.Summary.{Summary}
-use Rattle.sq_rehearse.specs.Driving.{act_made, answered, answered_at, asked, event_at, event_of, first_driver, is_acting, moment_of, reply_event, request_event, said_by}
+use Rattle.sq_rehearse.specs.Driving.{act_made, answered, answered_at, asked, event_at, first_driver, is_acting, moment_of, reply_event, request_event, said_by}
 use Rattle.sq_rehearse.specs.Going.{acted, acted_by, acting, after_request, at_stage, checks_begun, driven, first_driven, next_in_round, next_request, onward, put_back, round_begun, turn_taken}
-use Rattle.sq_rehearse.specs.Rehearsals.{acted_on, answer_to, drive, made_on, rehearsal, rehearsed, turn_limit, turned}
+use Rattle.sq_rehearse.specs.Rehearsals.{acted_on, answer_to, drive, made_on, rehearsal, turn_limit, turned}
 use Rattle.sq_rehearse.specs.Summaries.{count_by, count_denied, count_told, counted}
 use Rattle.sq_machine.specs.Events.{asking, conn_news}
 use Rattle.sq_machine.proofs.ConnectionLaws.{peer_at_more}

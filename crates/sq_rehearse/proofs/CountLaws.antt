@@ -1,5 +1,5 @@
 -- How much an answer adds to what was counted.
-use Rattle.std.proofs.Common.{◌≡◌, ℕ, ◌+◌, ◌≤◌, suc, Bool, true, false, arith}
+use Rattle.std.proofs.Common.{◌≤◌, suc, Bool, true, false, arith}
 use Rattle.sq_machine.specs.declared.entries.Told.{Told}
 use Rattle.sq_machine.specs.declared.entries.Told.TheVariants as told
 use Rattle.sq_rules.specs.declared.outcomes.Why.{Why}

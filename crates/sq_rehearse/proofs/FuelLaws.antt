@@ -1,5 +1,5 @@
 -- Each turn of a driver lowers what it has before it, so its turns suffice.
-use Rattle.std.proofs.Common.{◌≡◌, ℕ, ◌+◌, ◌*◌, ◌-◌, ◌≤◌, ◌<◌, ◌==◌, ◌||◌, suc, zero, nat_lt, nat_le, List, [], ◌∷◌, ◌++◌, length, drop, slice_get, Bool, true, false, if◌then◌else◌, Option, Some, None, refl, sym, ap, subst, ◌∙◌, arith}
+use Rattle.std.proofs.Common.{◌≡◌, ℕ, ◌+◌, ◌*◌, ◌-◌, ◌≤◌, ◌<◌, ◌==◌, ◌||◌, suc, nat_lt, nat_le, List, [], ◌∷◌, ◌++◌, length, drop, slice_get, Bool, true, false, if◌then◌else◌, refl, ap, arith}
 use Rattle.std.proofs.lemmas.Bool.Decides.{nat_tests}
 use Rattle.sq_machine.specs.declared.entries.Told.{Told}
 use Rattle.sq_machine.specs.declared.entries.Told.TheVariants as told
@@ -11,7 +11,7 @@ use Rattle.sq_rehearse.specs.declared.stages.SentQuestion.{SentQuestion}
 use Rattle.sq_rehearse.specs.declared.stages.StepKind.{StepKind}
 use Rattle.sq_rehearse.specs.declared.stages.StepKind.TheVariants as said
 use Rattle.sq_rehearse.specs.Driving.{act_made, asked, replied, said_by, stepped}
-use Rattle.sq_rehearse.specs.Going.{acted, acted_by, acting, after_request, at_stage, checks_begun, driven, first_driven, left_open, next_in_round, next_request, onward, put_back, round_begun, turn_taken}
+use Rattle.sq_rehearse.specs.Going.{acted, acted_by, acting, after_request, at_stage, checks_begun, driven, first_driven, next_in_round, next_request, onward, put_back, round_begun, turn_taken}
 use Rattle.sq_rehearse.specs.Requests.{is_even_key, number_after}
 
 -- what is before a driver

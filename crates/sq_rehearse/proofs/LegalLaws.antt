@@ -1,5 +1,5 @@
 -- The history of a rehearsal is legal.
-use Rattle.std.proofs.Common.{◌≡◌, ℕ, suc, zero, max, List, [], ◌∷◌, Bool, true, false, if◌then◌else◌, Option, Some, None, Ok, Err, is_some, pos, refl, sym, ap, subst, ◌∙◌, arith}
+use Rattle.std.proofs.Common.{◌≡◌, ℕ, suc, zero, max, List, [], ◌∷◌, Bool, true, false, if◌then◌else◌, Option, Some, None, Ok, Err, is_some, pos, refl, ap, subst, ◌∙◌, arith}
 use Rattle.sq_base.specs.declared.requests.Field.{Field}
 use Rattle.sq_request.specs.Written.{made_request}
 use Rattle.sq_machine.specs.declared.entries.Event.{Event}

@@ -1,5 +1,5 @@
 -- Each request of a rehearsal can be made.
-use Rattle.std.proofs.Common.{◌≡◌, ◌⊎◌, inl, inr, ℕ, ◌/◌, ◌%◌, ◌<◌, ◌==◌, ◌&&◌, suc, zero, List, [], ◌++◌, Bool, true, false, if◌then◌else◌, is_some, refl, sym, ap, subst, ◌∙◌, arith}
+use Rattle.std.proofs.Common.{◌≡◌, ℕ, ◌/◌, ◌%◌, ◌<◌, ◌==◌, ◌&&◌, suc, zero, List, [], ◌++◌, Bool, true, false, if◌then◌else◌, is_some, refl, subst, arith}
 use Rattle.std.proofs.lemmas.Bool.Decides.{nat_tests}
 use Rattle.std.specs.Char.{encode_utf8 as encode}
 use Rattle.std.specs.Fmt.{digits}
@@ -8,7 +8,7 @@ use Rattle.std.specs.Str.{chars, is_utf8}
 use Rattle.httparse.specs.Grammar.{is_token_byte}
 use Rattle.sq_base.specs.Targets.{absolute_form as absolute, host_in, port_of as port_in, target_of, with_scheme}
 use Rattle.sq_request.specs.Written.{is_written, made_request}
-use Rattle.sq_rehearse.specs.Requests.{host_number, port_of, target_text}
+use Rattle.sq_rehearse.specs.Requests.{host_number, target_text}
 
 abbrev text_of : ℕ → ℕ → List ℕ
 text_of k port = codes "http://h" ++ decimal k ++ codes ".example:" ++ decimal port ++ codes "/"

@@ -22,7 +22,7 @@ use Rattle.sq_rehearse.specs.Driving.{answered, event_at, event_of, is_acting, m
 use Rattle.sq_rehearse.specs.Going.{acted}
 use Rattle.sq_rehearse.specs.Rehearsals.{acted_on, answer_to, drive, made_on, turned}
 use Rattle.sq_rehearse.specs.Summaries.{count_told, counted}
-use Rattle.sq_rehearse.specs.Turns.{Turned, TurnsTo}
+use Rattle.sq_rehearse.specs.Turns.{TurnsTo}
 
 -- the events that a driver wants
 

@@ -1,19 +1,18 @@
 -- The connections and the checks of a rehearsal's history.
-use Rattle.std.proofs.Common.{◌≡◌, ℕ, ◌+◌, ◌≤◌, ◌<◌, ◌==◌, suc, zero, max, nat_le, List, [], ◌∷◌, ◌++◌, length, Bool, true, false, if◌then◌else◌, Option, Some, None, is_some, is_none, refl, sym, ap, subst, ◌∙◌, arith}
+use Rattle.std.proofs.Common.{◌≡◌, ℕ, ◌+◌, ◌≤◌, ◌<◌, ◌==◌, suc, nat_le, List, [], ◌∷◌, ◌++◌, length, Bool, true, false, if◌then◌else◌, Option, Some, None, is_some, is_none, refl, sym, ap, subst, ◌∙◌, arith}
 use Rattle.std.proofs.lemmas.Bool.Decides.{nat_tests}
 use Rattle.std.proofs.lemmas.Option.{none-some, same_Some}
 use Rattle.std.specs.Prelude.{⊤}
 use Rattle.std.specs.Option.{option_map, option_or}
 use Rattle.sq_base.specs.Addresses.{Address}
 use Rattle.sq_base.specs.declared.requests.Field.{Field}
-use Rattle.sq_machine.specs.declared.entries.Event.{Event}
 use Rattle.sq_machine.specs.declared.entries.Event.TheVariants.{Ask, Close, Open}
 use Rattle.sq_machine.specs.declared.entries.Told.{Told}
 use Rattle.sq_machine.specs.declared.entries.Told.TheVariants as told
 use Rattle.sq_machine.specs.declared.refusals.Refusal.TheVariants as refusal
 use Rattle.sq_rules.specs.Configurations.{Configuration}
 use Rattle.sq_rules.specs.declared.sights.Peer.{Peer}
-use Rattle.sq_machine.specs.Checks.{Asked, ask_count, ask_of, asked_by, conn_in, conn_of, more_if, numbered, open_check}
+use Rattle.sq_machine.specs.Checks.{ask_count, ask_of, asked_by, conn_in, conn_of, more_if, open_check}
 use Rattle.sq_machine.specs.Connections.{open_count, peer_after, peer_at}
 use Rattle.sq_machine.specs.Entries.{History, Noted, entry_at}
 use Rattle.sq_machine.specs.Events.{Asking, ConnNews, asking, conn_news}
@@ -26,7 +25,6 @@ use Rattle.sq_machine.proofs.ConnectionLaws.{open_count_closed, open_count_opene
 use Rattle.sq_machine.proofs.OpenCheckLaws.{open_check_found}
 use Rattle.sq_model_laws.proofs.LegalLaws.{marked_entries}
 use Rattle.sq_rehearse.specs.declared.stages.Pending.{Pending}
-use Rattle.sq_rehearse.proofs.FuelLaws.{length_more}
 
 -- connections
 

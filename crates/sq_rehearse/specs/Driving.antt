@@ -1,6 +1,6 @@
 -- In the statement: docs/STATEMENT.md lists which definitions.
 -- The driver of a rehearsal: the event that it wants, and what the machine's answer makes of it.
-use Rattle.std.specs.Prelude.{ℕ, ◌+◌, ◌*◌, List, [], ◌∷◌, ◌++◌, drop, slice_get, Bool, true, false, Some, None, codes}
+use Rattle.std.specs.Prelude.{ℕ, ◌+◌, ◌*◌, [], ◌∷◌, ◌++◌, drop, slice_get, Bool, true, false, Some, None, codes}
 use Rattle.std.specs.declared.option.Option.{Option}
 use Rattle.sq_machine.specs.declared.entries.Event.{Event}
 use Rattle.sq_machine.specs.declared.entries.Event.TheVariants as event

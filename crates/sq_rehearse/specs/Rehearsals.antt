@@ -1,6 +1,6 @@
 -- In the statement: docs/STATEMENT.md lists which definitions.
 -- A rehearsal: the history that the driver and the machine make together, and what it came to.
-use Rattle.std.specs.Prelude.{ℕ, ◌+◌, ◌*◌, pos, zero, suc, max, List, [], ◌∷◌, ◌++◌, Bool, true, false, if◌then◌else◌, is_some, Some, None, codes}
+use Rattle.std.specs.Prelude.{ℕ, ◌+◌, ◌*◌, pos, zero, suc, max, List, [], ◌∷◌, ◌++◌, if◌then◌else◌, is_some, Some, None, codes}
 use Rattle.std.specs.declared.option.Option.{Option}
 use Rattle.sq_request.specs.Written.{made_request}
 use Rattle.sq_machine.specs.declared.entries.Event.{Event}

@@ -22,10 +22,11 @@ use Rattle.sq_model_rows.specs.declared.stepping.Stepped.{Stepped}
 use Rattle.sq_model_rows.specs.declared.stepping.Stepped.TheVariants as stepped
 use Rattle.sq_epochs.specs.declared.acts.Act.{Act}
 use Rattle.sq_epochs.specs.declared.acts.Act.TheVariants as act
-use Rattle.sq_machine.specs.DueActs.{Due, sends, starts, stops}
+use Rattle.sq_machine.specs.DueActs.{Due}
 use Rattle.sq_model_state.specs.Answers.{name_in}
 use Rattle.sq_model_state.specs.Promises.{IsAnswered, StandsFor}
 use Rattle.sq_model_state.specs.States.{IsSame, State}
+use Rattle.sq_engine.proofs.ConfigLaws.{acted_config}
 use Rattle.sq_engine.specs.Acting.{after_act, told_of_act}
 use Rattle.sq_engine.specs.Promised.{IsPromisedAt}
 use Rattle.sq_engine.specs.Stepping.{after_step_held, after_step_now, stepped_told}
@@ -61,19 +62,12 @@ stepped_same s t n now e (stepped.Took c) same =
 stepped_same s t n now e (stepped.Waits q) same = refl
 stepped_same s t n now e stepped.Done same = refl
 
--- nor does an act
-act_config : (o : Option Due) (s : State) (now e : ℕ) → (after_act o now s).config e ≡ s.config e
-act_config None s now e = refl
-act_config (Some (stops k)) s now e = refl
-act_config (Some (sends p x)) s now e = refl
-act_config (Some (starts p)) s now e = refl
-
 pub act_same : (s t : State) (o : Option Due) (now : ℕ) (a : Act) → IsSame t (after_act o now s)
     → told_of_act t a ≡ told_of_act s a
 act_same s t o now (act.Stop k) same = refl
 act_same s t o now (act.Send k q channel text) same = refl
 act_same s t o now (act.Start e c) same = ap (λ (name : List ℕ). told.Start e name)
-    (name_same s t e c (same.configs_are e ∙ act_config o s now e))
+    (name_same s t e c (same.configs_are e ∙ acted_config o now s e))
 
 -- starts
 

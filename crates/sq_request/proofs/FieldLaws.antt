@@ -5,7 +5,7 @@ use Rattle.std.proofs.lemmas.List.{length-map}
 use Rattle.std.proofs.lemmas.List.Sums.{sum_by-append}
 use Rattle.std.specs.List.{count_by, flat_map}
 use Rattle.httparse.specs.Ascii.{space, colon}
-use Rattle.httparse.specs.Grammar.{LineEnd, crlf, lf, print_end, print_blank, print_version, print_field, print_section, print_request, RequestHead, is_token_byte, AllPass, IsField, IsToken}
+use Rattle.httparse.specs.Grammar.{LineEnd, crlf, lf, print_end, print_blank, print_version, print_field, print_section, print_request, RequestHead, is_token_byte, AllPass, IsField}
 use Rattle.httparse.specs.Grammar as grammar
 use Rattle.sq_base.specs.Lines.{is_lf}
 use Rattle.sq_base.specs.Requests.{has_no_colon, have_plain_names}

@@ -7,7 +7,7 @@ use Rattle.std.proofs.lemmas.List.Sums.{AllPass-from_list_all, list_all-from_All
 use Rattle.std.proofs.lemmas.Slice.Eq.{bytes_eq-Decides}
 use Rattle.std.proofs.lemmas.Str.{IsUtf8-from_is_utf8, is_utf8-from_IsUtf8}
 use Rattle.std.specs.List.{flat_map, list_all}
-use Rattle.httparse.specs.Grammar.{crlf, print_request, print_field, RequestHead, IsRequestHead, IsField, AllPass, is_token, is_uri_byte, is_value_byte, is_ows, skip_ows, trim_ows}
+use Rattle.httparse.specs.Grammar.{crlf, print_request, print_field, RequestHead, IsRequestHead, IsField, AllPass, is_token, is_uri_byte, is_value_byte, trim_ows}
 use Rattle.httparse.specs.Grammar as grammar
 use Rattle.httparse.proofs.TrimLemmas.{AllPass-trim_ows}
 use Rattle.sq_base.specs.declared.requests.Field.{Field}

@@ -3,7 +3,7 @@ use Rattle.std.proofs.Common.{◌≡◌, ◌∙◌, ◌-◌, Bool, true, false, 
 use Rattle.std.specs.Option.{option_map}
 use Rattle.sq_farm.specs.Acts.{act_by, act_of}
 use Rattle.sq_machine.specs.Channels.{channel_name, least_free}
-use Rattle.sq_machine.specs.Farms.{Sending, Stock, Waiting, after_act, after_send, after_start, send_by, send_of, start_due}
+use Rattle.sq_machine.specs.Farms.{Sending, Stock, Waiting, after_act, after_send, send_by, send_of, start_due}
 use Rattle.sq_machine.specs.Living.{Living, has_free, sent, some_free, target}
 use Rattle.sq_rewrite.specs.States.{RewriteState, act_due, as_act, due_by}
 use Rattle.sq_rewrite.specs.declared.acts.RewriteAct.{RewriteAct}

@@ -1,8 +1,7 @@
 -- The state of a rewriter and the status of each question agree, and each call keeps that.
-use Rattle.std.proofs.Common.{◌≡◌, ◌∙◌, ◌==◌, ◌&&◌, ◌||◌, ◌<◌, ◌++◌, ◌-◌, not, cond, Bool, true, false, ℕ, suc, List, [], ◌∷◌, map, Option, None, Some, if◌then◌else◌, is_some, refl, ap, sym, subst, arith}
+use Rattle.std.proofs.Common.{◌≡◌, ◌∙◌, ◌==◌, ◌&&◌, ◌||◌, ◌<◌, ◌++◌, ◌-◌, not, cond, Bool, true, false, ℕ, suc, List, [], ◌∷◌, map, Option, None, Some, if◌then◌else◌, refl, ap, sym, subst, arith}
 use Rattle.std.specs.List.{list_any}
 use Rattle.std.proofs.lemmas.Bool.Decides.{nat_tests}
-use Rattle.std.specs.Option.{option_map}
 use Rattle.sq_channel.proofs.RisingLaws.{if_false, if_true}
 use Rattle.sq_base.specs.Addresses.{Address}
 use Rattle.sq_base.specs.Requests.{HttpRequest}
@@ -11,16 +10,15 @@ use Rattle.sq_base.specs.declared.helpers.Cause.TheVariants as cause
 use Rattle.sq_base.specs.declared.helpers.Reply.{Reply}
 use Rattle.sq_channel.specs.declared.replies.Got.{Got}
 use Rattle.sq_channel.specs.declared.replies.Got.TheVariants as got
-use Rattle.sq_farm.specs.Acts.{act_by, act_of}
-use Rattle.sq_machine.specs.Channels.{channel_name, is_open, least_free, opened}
-use Rattle.sq_machine.specs.Farms.{Sending, Stock, Waiting, after_act, after_send, after_start, emptied, ended, is_last_start, send_by, send_of, start_due, waiting_number}
-use Rattle.sq_machine.specs.Living.{Living, has_free, is_target, living_number, sent, slots_in, some_free, target}
+use Rattle.sq_machine.specs.Channels.{is_open, opened}
+use Rattle.sq_machine.specs.Farms.{Waiting, emptied, ended, is_last_start, waiting_number}
+use Rattle.sq_machine.specs.Living.{is_target, living_number, sent, slots_in}
 use Rattle.sq_machine.specs.Losses.{AreOfCause, Loss, lose_all}
 use Rattle.sq_machine.specs.Rising.{AreBelow, Rises}
 use Rattle.sq_rules.specs.Classes.{Class}
 use Rattle.sq_rewrite.specs.Calls.{Call, Calls, Asked, Acted, Started, StartFailed, Wrote, Died, Took}
 use Rattle.sq_rewrite.specs.Rewritings.{question_text, rewriting_of}
-use Rattle.sq_rewrite.specs.States.{Answers, IsRun, RewriteState, act_due, after, after_acted, after_line, answered_by, as_act, begun, due_by, ended_in, handed, lost_rows, row_at, state_of, stops_after}
+use Rattle.sq_rewrite.specs.States.{Answers, IsRun, RewriteState, act_due, after, after_acted, after_line, answered_by, begun, ended_in, handed, lost_rows, row_at, state_of, stops_after}
 use Rattle.sq_rewrite.specs.Statuses.{Status, Unasked, Waits, IsAt, HasEnded, IsTaken, IsAtProcess, WaitsWith, once, once_acted, once_failed, once_lost, once_replied, once_sent, once_written, status}
 use Rattle.sq_rewrite.specs.declared.acts.RewriteAct.{RewriteAct}
 use Rattle.sq_rewrite.specs.declared.acts.RewriteAct.TheVariants as act

@@ -6,15 +6,14 @@ use Rattle.std.specs.Option.{option_map}
 use Rattle.sq_base.specs.Bytes.{space}
 use Rattle.sq_base.specs.Decimals.{number_of}
 use Rattle.sq_base.specs.Replies.{Answer, after_channel, channel_limit, is_word_byte, on_channel, reply_limit, reply_line_in, reply_of, result_in, without_last_cr}
-use Rattle.sq_base.specs.declared.helpers.Cause.{Cause}
 use Rattle.sq_base.specs.declared.helpers.Reply.{Reply}
 use Rattle.sq_channel.specs.Gots.{got_at, got_by, got_in}
 use Rattle.sq_channel.specs.declared.replies.Got.{Got}
 use Rattle.sq_channel.specs.declared.replies.Got.TheVariants as got
 use Rattle.sq_farm.specs.Replies.{got_of}
 use Rattle.sq_machine.specs.Channels.{Channels, freed, slot_of}
-use Rattle.sq_machine.specs.Farms.{AreOfClass, Stock, after_act, emptied, fresh, is_last_start}
-use Rattle.sq_machine.specs.Living.{Living, find_proc, is_none_living, is_target, living_number, sent, settled_in, target, with_proc, without}
+use Rattle.sq_machine.specs.Farms.{AreOfClass, Stock, emptied, fresh, is_last_start}
+use Rattle.sq_machine.specs.Living.{Living, find_proc, is_none_living, is_target, living_number, sent, settled_in, target, without}
 use Rattle.sq_machine.specs.Rising.{AreBelow, Rises}
 use Rattle.sq_rules.specs.Classes.{Class}
 use Rattle.sq_rewrite.specs.Calls.{Call, Calls, Asked, Acted, Started, StartFailed, Wrote, Died, Took}

@@ -1,5 +1,5 @@
 -- What calls behind a state come to, and what is taken of a question then.
-use Rattle.std.proofs.Common.{◌≡◌, ◌∙◌, ◌==◌, ◌&&◌, ◌||◌, ◌++◌, cond, Bool, true, false, not, ℕ, suc, List, [], ◌∷◌, Option, None, Some, if◌then◌else◌, bytes_eq, codes, refl, ap, sym, subst, arith}
+use Rattle.std.proofs.Common.{◌≡◌, ◌∙◌, ◌==◌, ◌&&◌, ◌++◌, cond, Bool, true, false, ℕ, List, [], ◌∷◌, Option, None, Some, if◌then◌else◌, bytes_eq, codes, refl, ap, sym, subst}
 use Rattle.std.proofs.lemmas.Slice.Eq.{bytes_eq-Decides}
 use Rattle.std.specs.List.{list_all}
 use Rattle.std.specs.Option.{option_map}
@@ -20,7 +20,7 @@ use Rattle.sq_request.specs.Heads.{at_target, retargeted}
 use Rattle.sq_rules.specs.Classes.{Class}
 use Rattle.sq_rewrite.specs.Calls.{Call, Calls, Asked, Acted, Started, StartFailed, Wrote, Died, Took}
 use Rattle.sq_rewrite.specs.Rewritings.{IsInPlaceOf, IsRedirect, MayBecome, chosen, code_by, code_named, is_redirect_code, is_url, new_request, plain_only, redirect_by, redirect_of, request_by, rewriting_by, rewriting_of, value_of}
-use Rattle.sq_rewrite.specs.States.{Answers, IsRun, RewriteState, Rows, RunsOn, after, after_calls, after_line, answered_by, ended_in, ended_row, is_of_processes, lost_rows, refusal_at, row_at, rows_after, state_of, take_refusal, with_row}
+use Rattle.sq_rewrite.specs.States.{Answers, IsRun, RewriteState, Rows, RunsOn, after, after_calls, answered_by, ended_in, ended_row, is_of_processes, lost_rows, refusal_at, row_at, rows_after, state_of, take_refusal, with_row}
 use Rattle.sq_rewrite.specs.declared.acts.RewriteAct.{RewriteAct}
 use Rattle.sq_rewrite.specs.declared.acts.RewriteAct.TheVariants as act
 use Rattle.sq_rewrite.specs.declared.faults.RewriteFault.{RewriteFault}

@@ -4,8 +4,9 @@ use Rattle.std.specs.declared.option.Option.{Option}
 use Rattle.sq_outside.specs.World.{Starts}
 use Rattle.sq_helper_pipes.specs.declared.pipes.Pipe.{Pipe}
 use Rattle.sq_rewrite.specs.States.{RewriteState}
+use Rattle.sq_rewrite_pump.specs.declared.turns.RewriterTurn.{RewriterTurn}
 use Rattle.sq_rewrite_pump.specs.declared.turns.StartedHalves.{StartedHalves}
-use Rattle.sq_rewrite_pump.specs.declared.turns.UnreadHalf.{UnreadHalf}
+use Rattle.sq_rewrite_pump.specs.declared.unread.UnreadHalf.{UnreadHalf}
 
 -- what its rewriter tells; the words of the program; of the spawner: the words of the starts that were
 -- made, where they are told, and how often it failed; the halves of processes that are written to,
@@ -20,3 +21,13 @@ pub record RewritePumpView (P Q : Type 0) : Type 0 where
   pub readers : List (UnreadHalf P)
   pub room : ℕ
   pub left : Option (StartedHalves P Q)
+
+-- what is seen of a pump round a call of it: before, what the call answered, and behind it
+pub record RewriteStep (P Q : Type 0) : Type 0 where
+  pub before : RewritePumpView P Q
+  pub result : RewriterTurn
+  pub now : RewritePumpView P Q
+
+abbrev pub step : {P Q : Type 0} → RewritePumpView P Q → RewriterTurn → RewritePumpView P Q
+    → RewriteStep P Q
+step before result now = record { before = before; result = result; now = now }

@@ -7,37 +7,39 @@ use Rattle.sq_rewrite.specs.States.{Answers, Refuses, RewriteState, act_due, aft
 use Rattle.sq_rewrite.specs.declared.acts.RewriteAct.{RewriteAct}
 use Rattle.sq_rewrite.specs.declared.faults.RewriteFault.{RewriteFault}
 
--- where its state is told it goes on being told, and P holds of what it was and is
+-- where its state is told it goes on being told, and this holds of what it was and is
 abbrev pub Tells : (RewriteState → RewriteState → Type 0) → Option RewriteState → Option RewriteState
     → Type 0
-Tells P None new = new ≡ None
-Tells P (Some s) new = (t : RewriteState) × (new ≡ Some t) × P s t
+Tells Went None new = new ≡ None
+Tells Went (Some before) new = (now : RewriteState) × (new ≡ Some now) × Went before now
 
 -- this call was made, and it has its answer
 abbrev pub Makes : Call → RewriteState → RewriteState → Type 0
-Makes e s t = Answers e s × (t ≡ after e s)
+Makes call before now = Answers call before × (now ≡ after call before)
 
 -- the act that is due was made; without one nothing is due
 abbrev pub MakesAct : Option RewriteAct → RewriteState → RewriteState → Type 0
-MakesAct None s t = (act_due s ≡ None) × (t ≡ s)
-MakesAct (Some a) s t = Makes (Acted a) s t
+MakesAct None before now = (act_due before ≡ None) × (now ≡ before)
+MakesAct (Some act) before now = Makes (Acted act) before now
 
 -- the start of a process is noted, or it is refused and nothing changed
 abbrev pub NotesStart : Result ℕ RewriteFault → RewriteState → RewriteState → Type 0
-NotesStart (Ok k) s t = Makes (Started k) s t
-NotesStart (Err f) s t = Refuses (start_refusal s) f × (t ≡ s)
+NotesStart (Ok proc) before now = Makes (Started proc) before now
+NotesStart (Err fault) before now = Refuses (start_refusal before) fault × (now ≡ before)
 
 -- so is a start that failed
 abbrev pub NotesFailure : Result (Unit {0}) RewriteFault → RewriteState → RewriteState → Type 0
-NotesFailure (Ok u) s t = Makes StartFailed s t
-NotesFailure (Err f) s t = (fail_refusal s ≡ Some f) × (t ≡ s)
+NotesFailure (Ok _) before now = Makes StartFailed before now
+NotesFailure (Err fault) before now = (fail_refusal before ≡ Some fault) × (now ≡ before)
 
 -- a line
 abbrev pub NotesLine : ℕ → List ℕ → Result Got RewriteFault → RewriteState → RewriteState → Type 0
-NotesLine k line (Ok g) s t = Makes (Wrote k line g) s t
-NotesLine k line (Err f) s t = Refuses (proc_refusal k s) f × (t ≡ s)
+NotesLine proc line (Ok got) before now = Makes (Wrote proc line got) before now
+NotesLine proc line (Err fault) before now = Refuses (proc_refusal proc before) fault
+    × (now ≡ before)
 
 -- and a death
 abbrev pub NotesDeath : ℕ → Result (Unit {0}) RewriteFault → RewriteState → RewriteState → Type 0
-NotesDeath k (Ok u) s t = Makes (Died k) s t
-NotesDeath k (Err f) s t = (proc_refusal k s ≡ Some f) × (t ≡ s)
+NotesDeath proc (Ok _) before now = Makes (Died proc) before now
+NotesDeath proc (Err fault) before now = (proc_refusal proc before ≡ Some fault)
+    × (now ≡ before)

@@ -1,7 +1,8 @@
 //! What a rewriter's pump and its keepers share, as it lies behind its lock.
 ghost use Rattle.std.specs.Prelude.{◌≡◌, ◌+◌, ◌-◌, ◌++◌, ◌∷◌, ◌<◌, ◌≤◌, [], vec_capacity, vec_len, IfSome, IfNone, IfErr, OnOk, OnErr};
+ghost use Rattle.sq_rewrite_pump.specs.LineViews.{half_proc};
 
-use crate::turns::UnreadHalf;
+use crate::unread::UnreadHalf;
 use sq_base::ProcNo;
 use std::alloc::Global;
 
@@ -75,16 +76,16 @@ impl<P: Drop> RewriterBoard<P> {
         Some(half)
     }
 
-    // The keeper of this process has ended. It takes no memory.
-    pub(crate) fn end(&mut self, proc: ProcNo)
+    // The keeper of this half has ended. It takes no memory.
+    pub(crate) fn end(&mut self, half: &UnreadHalf<P>)
         ensures ends { 0 < self.old.keepers
-            → self.new.ends.items ≡ self.old.ends.items ++ proc ∷ [] }
+            → self.new.ends.items ≡ self.old.ends.items ++ half_proc half.now ∷ [] }
         ensures keepers { self.new.keepers ≡ self.old.keepers - 1 }
         ensures halves { self.new.halves ≡ self.old.halves }
     {
         if self.keepers > 0 {
             self.keepers -= 1;
-            self.ends.push_reserved(proc);
+            self.ends.push_reserved(half.proc());
         }
     }
 

@@ -2,8 +2,7 @@
 use crate::lines::RewriterLines;
 use crate::lock_rewriter::LockRewriter;
 use crate::rewriter_shelf::RewriterShelf;
-use crate::turns::UnreadHalf;
-use sq_keeper::{KeeperEnd, read_lines};
+use sq_keeper::KeeperEnd;
 use sq_outside::{Clock, Source};
 use sq_shared::RewriterRoom;
 use std::alloc::Global;
@@ -19,17 +18,16 @@ pub(crate) fn keep<R: Wait + Sync, P: Source + Drop, C: Clock + Drop>(
     shelf: &RewriterShelf<P>,
     clock: C,
 ) {
-    let Some(half) = shelf.take(rt) else {
+    let Some(mut half) = shelf.take(rt) else {
         return;
     };
-    let UnreadHalf { proc, mut from } = half;
     let mut lines = RewriterLines::new(alloc, LockRewriter::new(rt, room), clock);
     for _ in rt.forever() {
-        match read_lines(rt, alloc, &mut from, proc, &mut lines) {
+        match half.read_lines(rt, alloc, &mut lines) {
             KeeperEnd::WantOfMemory => thread::yield_now(),
             KeeperEnd::Ended | KeeperEnd::ReadFault | KeeperEnd::Told => break,
         }
     }
-    shelf.end(rt, proc);
+    shelf.end(rt, &half);
     room.tell_end(rt);
 }

@@ -18,6 +18,7 @@ mod pumping;
 mod rewriter_shelf;
 mod turning;
 mod turns;
+mod unread;
 
 pub use calls::RewriterCalls;
 pub use lines::RewriterLines;
@@ -25,4 +26,5 @@ pub use lock_rewriter::LockRewriter;
 pub use pump::RewritePump;
 pub use pumping::rewrite_all;
 pub use rewriter_shelf::RewriterShelf;
-pub use turns::{RewriterTurn, StartedHalves, UnreadHalf};
+pub use turns::{RewriterTurn, StartedHalves};
+pub use unread::UnreadHalf;

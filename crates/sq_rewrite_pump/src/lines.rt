@@ -59,6 +59,10 @@ impl<K: RewriterCalls, C: Clock> LineDesk for RewriterLines<K, C> {
 
     ghost handed = { λ _. None };
 
+    ghost still = { λ d. tt };
+
+    ghost further = { λ a b c x y. tt };
+
     fn line(&mut self, proc: ProcNo, bytes: &[u8]) -> LineEnd
         ensures handed { Adds None None (taken proc bytes.now result) }
         ensures later { lines_refused self.old ≤ lines_refused self.new }

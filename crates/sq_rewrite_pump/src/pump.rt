@@ -1,10 +1,13 @@
 //! `RewritePump`: what performs the acts of a rewriter.
 ghost use Rattle.std.specs.Prelude.{◌≡◌, ◌++◌, ◌∷◌, ◌<◌, [], None, IfNone, IfSome};
+ghost use Rattle.sq_helper_pipes.specs.Pipes.{half_tells};
 ghost use Rattle.sq_rewrite_pump.specs.Handing.{HandsDeath};
+ghost use Rattle.sq_rewrite_pump.specs.LineViews.{half_proc};
 ghost use Rattle.sq_rewrite_pump.specs.Turning.{ClosesHalf};
 
 use crate::calls::RewriterCalls;
-use crate::turns::{StartedHalves, UnreadHalf};
+use crate::turns::StartedHalves;
+use crate::unread::UnreadHalf;
 use sq_base::{ProcNo, Texts};
 use sq_helper_pipes::Pipes;
 use sq_outside::Spawner;
@@ -95,24 +98,27 @@ where
     /// This process ended by itself, or its lines are no more read: the half of it that is written to is closed and let go
     /// of, with those that were closed before. The rewriter learns nothing.
     pub fn ended(&mut self, proc: ProcNo)
-        ensures pipes { ClosesHalf S.ChildIn.contents S.ChildIn.faults S.ChildIn.closed proc
-            self.old.pipes self.new.pipes }
+        ensures pipes { ClosesHalf
+            (half_tells S.ChildIn.contents S.ChildIn.faults S.ChildIn.closed) proc self.old.pipes
+            self.new.pipes }
         ensures same { self.new ≡ record self.old { pipes = self.new.pipes } }
     {
         self.pipes.stop(proc);
         self.pipes.sweep();
     }
 
-    /// No keeper is to be had for this process: the half of it that is written to is closed and let go of, with those that
-    /// were closed before, and the rewriter is told that it died. It takes no memory.
-    pub fn unkept(&mut self, proc: ProcNo)
-        ensures pipes { ClosesHalf S.ChildIn.contents S.ChildIn.faults S.ChildIn.closed proc
-            self.old.pipes self.new.pipes }
+    /// No keeper is to be had for this half: that of its process that is written to is closed and let go of, with those that
+    /// were closed before, and the rewriter is told that the process died. It takes no memory.
+    pub fn unkept(&mut self, half: &UnreadHalf<S::ChildOut>)
+        ensures pipes { ClosesHalf
+            (half_tells S.ChildIn.contents S.ChildIn.faults S.ChildIn.closed)
+            (half_proc half.now) self.old.pipes self.new.pipes }
         // The rewriter noted this death, or refused it.
-        ensures hands { HandsDeath self.old.told self.new.told proc }
+        ensures hands { HandsDeath self.old.told self.new.told (half_proc half.now) }
         ensures same { self.new ≡ record self.old
             { pipes = self.new.pipes; told = self.new.told } }
     {
+        let proc = half.proc();
         self.ended(proc);
         let _gave = self.rewriter.died(proc);
     }

@@ -4,7 +4,8 @@ use crate::keeping::keep;
 use crate::lock_rewriter::LockRewriter;
 use crate::pump::RewritePump;
 use crate::rewriter_shelf::RewriterShelf;
-use crate::turns::{RewriterTurn, UnreadHalf};
+use crate::turns::RewriterTurn;
+use crate::unread::UnreadHalf;
 use sq_base::Texts;
 use sq_outside::{Another, Clock, Source, Spawner};
 use sq_shared::RewriterRoom;
@@ -78,7 +79,7 @@ fn end_unread<S: Spawner + Drop, K: RewriterCalls>(pump: &mut RewritePump<S, K>)
     let Some(half) = pump.reader() else {
         return false;
     };
-    pump.unkept(half.proc);
+    pump.unkept(&half);
     true
 }
 

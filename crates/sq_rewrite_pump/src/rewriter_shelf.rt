@@ -1,7 +1,7 @@
 //! The shelf: what a rewriter's pump and its keepers share. Each call is one hold of its lock, in which it makes the one call of
 //! its name. Nothing is proved here of what lies under the lock.
 use crate::board::RewriterBoard;
-use crate::turns::UnreadHalf;
+use crate::unread::UnreadHalf;
 use sq_base::ProcNo;
 use std::alloc::Global;
 use std::sync::{Mutex, Wait};
@@ -36,9 +36,9 @@ impl<P: Drop> RewriterShelf<P> {
         self.board.lock(rt).take_back()
     }
 
-    // The keeper of this process has ended.
-    pub(crate) fn end<R: Wait>(&self, rt: &R, proc: ProcNo) {
-        self.board.lock(rt).end(proc);
+    // The keeper of this half has ended.
+    pub(crate) fn end<R: Wait>(&self, rt: &R, half: &UnreadHalf<P>) {
+        self.board.lock(rt).end(half);
     }
 
     // A process whose keeper has ended.

@@ -1,10 +1,13 @@
 //! A turn of a rewriter's pump: one act, or the process that an earlier turn left.
 ghost use Rattle.std.specs.Prelude.{◌≡◌, None};
+ghost use Rattle.sq_helper_pipes.specs.Pipes.{half_tells};
+ghost use Rattle.sq_rewrite_pump.specs.Pumps.{step};
 ghost use Rattle.sq_rewrite_pump.specs.Turning.{BeginsAct, NotesProcess, PerformsAct, SendsQuestion, SpawnerStays, StartsProcess, StopsProcess, TurnsFrom};
 
 use crate::calls::RewriterCalls;
 use crate::pump::RewritePump;
-use crate::turns::{RewriterTurn, StartedHalves, UnreadHalf};
+use crate::turns::{RewriterTurn, StartedHalves};
+use crate::unread::UnreadHalf;
 use sq_base::{ProcNo, QuestionNo, Text};
 use sq_helper_pipes::SendEnd;
 use sq_outside::{Failed, Out, Spawner};
@@ -17,7 +20,7 @@ where
     // This process was started.
     fn admit(&mut self, from: S::ChildOut, mut to: S::ChildIn) -> RewriterTurn
         requires { self.old.left ≡ None }
-        ensures notes { NotesProcess from to self.old result self.new }
+        ensures notes { NotesProcess from to (step self.old result self.new) }
         ensures spawner { SpawnerStays self.old self.new }
         ensures words { self.new.words ≡ self.old.words }
     {
@@ -28,7 +31,7 @@ where
         match self.rewriter.started(self.alloc) {
             Ok(proc) => {
                 self.pipes.put(proc, to);
-                self.readers.push_reserved(UnreadHalf { proc, from });
+                self.readers.push_reserved(UnreadHalf::new(proc, from));
                 RewriterTurn::Acted(RewriteAct::Start)
             }
             Err(RewriteFault::WantOfMemory) => {
@@ -45,8 +48,9 @@ where
     // Starts a process. Halves that were closed are let go of.
     fn start(&mut self) -> RewriterTurn
         requires { self.old.left ≡ None }
-        ensures starts { StartsProcess S.ChildOut.faults S.ChildIn.contents S.ChildIn.faults
-            S.ChildIn.closed self.old result self.new }
+        ensures starts { StartsProcess S.ChildOut.faults
+            (half_tells S.ChildIn.contents S.ChildIn.faults S.ChildIn.closed)
+            (step self.old result self.new) }
         ensures words { self.new.words ≡ self.old.words }
     {
         self.pipes.sweep();
@@ -62,8 +66,9 @@ where
     // Stops a process. Its half is kept, closed.
     fn stop(&mut self, proc: ProcNo) -> RewriterTurn
         requires { self.old.left ≡ None }
-        ensures stops { StopsProcess S.ChildIn.contents S.ChildIn.faults S.ChildIn.closed proc
-            self.old result self.new }
+        ensures stops { StopsProcess
+            (half_tells S.ChildIn.contents S.ChildIn.faults S.ChildIn.closed) proc
+            (step self.old result self.new) }
         ensures words { self.new.words ≡ self.old.words }
     {
         self.pipes.stop(proc);
@@ -79,8 +84,9 @@ where
         text: Text,
     ) -> RewriterTurn
         requires { self.old.left ≡ None }
-        ensures sends { SendsQuestion S.ChildIn.contents S.ChildIn.faults S.ChildIn.closed proc
-            question channel text self.old result self.new }
+        ensures sends { SendsQuestion
+            (half_tells S.ChildIn.contents S.ChildIn.faults S.ChildIn.closed) proc question channel
+            text (step self.old result self.new) }
         ensures words { self.new.words ≡ self.old.words }
     {
         match self.pipes.send(proc, channel, text.as_bytes()) {
@@ -100,8 +106,9 @@ where
     // Performs an act.
     fn perform(&mut self, act: RewriteAct) -> RewriterTurn
         requires { self.old.left ≡ None }
-        ensures performs { PerformsAct S.ChildOut.faults S.ChildIn.contents S.ChildIn.faults
-            S.ChildIn.closed act self.old result self.new }
+        ensures performs { PerformsAct S.ChildOut.faults
+            (half_tells S.ChildIn.contents S.ChildIn.faults S.ChildIn.closed) act
+            (step self.old result self.new) }
         ensures words { self.new.words ≡ self.old.words }
     {
         match act {
@@ -119,8 +126,9 @@ where
     // Takes the act that is due, and performs it.
     fn begin(&mut self) -> RewriterTurn
         requires { self.old.left ≡ None }
-        ensures begins { BeginsAct S.ChildOut.faults S.ChildIn.contents S.ChildIn.faults
-            S.ChildIn.closed self.old result self.new }
+        ensures begins { BeginsAct S.ChildOut.faults
+            (half_tells S.ChildIn.contents S.ChildIn.faults S.ChildIn.closed)
+            (step self.old result self.new) }
         ensures words { self.new.words ≡ self.old.words }
     {
         match self.rewriter.act() {
@@ -131,8 +139,9 @@ where
 
     /// Performs one act that is due, or goes on with the process that an earlier turn left.
     pub fn turn(&mut self) -> RewriterTurn
-        ensures turns { TurnsFrom S.ChildOut.faults S.ChildIn.contents S.ChildIn.faults
-            S.ChildIn.closed self.old.left self.old result self.new }
+        ensures turns { TurnsFrom S.ChildOut.faults
+            (half_tells S.ChildIn.contents S.ChildIn.faults S.ChildIn.closed) self.old.left
+            (step self.old result self.new) }
         ensures words { self.new.words ≡ self.old.words }
     {
         match self.left.take() {

@@ -1,5 +1,4 @@
 //! What a turn of a rewriter's pump answers, and what it may leave.
-use sq_base::ProcNo;
 use sq_rewrite::RewriteAct;
 
 /// What a turn did.
@@ -18,11 +17,4 @@ pub enum RewriterTurn {
 pub struct StartedHalves<P, Q> {
     pub from: P,
     pub to: Q,
-}
-
-/// The half of a process that is read, until a keeper has it.
-#[derive(Drop)]
-pub struct UnreadHalf<P> {
-    pub proc: ProcNo,
-    pub from: P,
 }

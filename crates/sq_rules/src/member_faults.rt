@@ -5,8 +5,8 @@ use thiserror::Error;
 /// Why a group can't have a further member.
 #[derive(Clone, Copy, PartialEq, Eq, Debug, Error)]
 pub enum MemberFault {
-    /// A rule of a delay pool would then reach an acl that asks a helper.
-    #[error("a rule of a delay pool would reach an acl that asks a helper")]
+    /// A rule of a delay pool or for fields would then reach an acl that asks a helper.
+    #[error("a rule of a delay pool or for fields would reach an acl that asks a helper")]
     Slow,
     /// Groups would then nest more than 32 deep.
     #[error("groups would nest more than 32 deep")]

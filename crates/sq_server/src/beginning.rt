@@ -6,7 +6,7 @@ ghost use Rattle.sq_outside.specs.Causes.{count_limit};
 ghost use Rattle.sq_shared.specs.Granting.{granted_together};
 ghost use Rattle.sq_server.specs.Beginning.{HasCountedNone};
 
-use crate::running::Wholes;
+use crate::running::{OpenedBooks, Wholes};
 use crate::starting::Start;
 use crate::watched::{Before, Watched};
 use sq_base::{Copying, EpochNo, Moment, Texts, WantOfMemory};
@@ -16,9 +16,9 @@ use sq_journal_writers::Journal;
 use sq_pools::{Pools, TagPools};
 use sq_rewrite::Rewriter;
 use sq_rules::Config;
-use sq_shared::{Bank, Hall, RewriterHall, RewriterRoom};
+use sq_shared::{Asks, Bank, Grants, Hall, Ledgers, Makes, Refusals, RewriterHall, RewriterRoom};
 use std::alloc::Global;
-use std::sync::ledger::{Blank, Ledger};
+use std::sync::ledger::Blank;
 
 /// A blank for each book.
 #[derive(Drop)]
@@ -31,8 +31,8 @@ pub(crate) struct Blanks {
 
 /// The machine with its journal, and the pools of both kinds.
 #[derive(Drop)]
-pub(crate) struct DeskAndPools<J: Journal, B: Before, F: DeskStart> {
-    pub desk: Desk<Watched<J, B>, F>,
+pub(crate) struct DeskAndPools<J: Journal, B: Before + DeskStart> {
+    pub desk: Desk<Watched<J, B>, B>,
     pub pools: Pools,
     pub tags: TagPools,
 }
@@ -62,13 +62,13 @@ pub(crate) fn rewriter_of(
 
 /// Makes the desk over this journal, and the pools of both kinds of its first epoch. Where none is made the journal is handed back.
 #[tactic(auto, using(crate::proofs::BeginLaws::has_counted))]
-pub(crate) fn begin<J: Journal, B: Before, F: DeskStart>(
+pub(crate) fn begin<J: Journal, B: Before + DeskStart>(
     alloc: Global,
     start: Start,
     journal: J,
     now: Moment,
-) -> Result<DeskAndPools<J, B, F>, (DeskFault, J)>
-    requires first { F.first ≡ record { config = start.setup; offset = start.offset } }
+) -> Result<DeskAndPools<J, B>, (DeskFault, J)>
+    requires first { B.first ≡ record { config = start.setup; offset = start.offset } }
     requires before { B.faults ≡ J.faults journal }
     requires empty { IfSome (J.history journal) (λ h. h ≡ []) }
     ensures begun { IfOk result
@@ -102,23 +102,26 @@ pub(crate) fn begin<J: Journal, B: Before, F: DeskStart>(
 
 /// Opens the books of a desk and of pools that counted nothing yet.
 #[tactic(auto, using(crate::proofs::BeginLaws::counted_none, crate::proofs::BeginLaws::made_none, crate::proofs::BeginLaws::refused_none, crate::proofs::BeginLaws::granted_none))]
-pub(crate) fn open_books<D: DeskCalls, A: Ledger, M: Ledger, N: Ledger, G: Ledger>(
+pub(crate) fn open_books<D: DeskCalls, B: Ledgers>(
     alloc: Global,
     desk: D,
     pools: Pools,
     tags: TagPools,
     blanks: Blanks,
-) -> (Hall<D, A, M, N>, Bank<G>, Wholes<A, M, N, G>)
-    requires asks { (blanks.asks.name ≡ A.name) × (blanks.asks.parts ≡ A.parts) }
-    requires makes { (blanks.makes.name ≡ M.name) × (blanks.makes.parts ≡ M.parts) }
-    requires refusals { (blanks.refusals.name ≡ N.name) × (blanks.refusals.parts ≡ N.parts) }
-    requires grants { (blanks.grants.name ≡ G.name) × (blanks.grants.parts ≡ G.parts) }
+) -> OpenedBooks<D, B>
+    requires asks { (blanks.asks.name ≡ B.asks.name) × (blanks.asks.parts ≡ B.asks.parts) }
+    requires makes { (blanks.makes.name ≡ B.makes.name) × (blanks.makes.parts ≡ B.makes.parts) }
+    requires refusals { (blanks.refusals.name ≡ B.refusals.name)
+        × (blanks.refusals.parts ≡ B.refusals.parts) }
+    requires grants { (blanks.grants.name ≡ B.grants.name)
+        × (blanks.grants.parts ≡ B.grants.parts) }
     requires begun { HasCountedNone (D.told desk) (D.made desk) (D.refused desk)
         (granted_together pools tags) }
-    ensures asked { (result.2.asked.parts ≡ A.parts) × (result.2.asked.amount ≡ 0) }
-    ensures made { (result.2.made.parts ≡ M.parts) × (result.2.made.amount ≡ 0) }
-    ensures refused { result.2.refused.parts ≡ N.parts }
-    ensures grants { (result.2.grants.parts ≡ G.parts) × (result.2.grants.amount ≡ 0) }
+    ensures asked { (result.wholes.asked.parts ≡ B.asks.parts) × (result.wholes.asked.amount ≡ 0) }
+    ensures made { (result.wholes.made.parts ≡ B.makes.parts) × (result.wholes.made.amount ≡ 0) }
+    ensures refused { result.wholes.refused.parts ≡ B.refusals.parts }
+    ensures grants { (result.wholes.grants.parts ≡ B.grants.parts)
+        × (result.wholes.grants.amount ≡ 0) }
 {
     let Blanks {
         asks,
@@ -126,19 +129,19 @@ pub(crate) fn open_books<D: DeskCalls, A: Ledger, M: Ledger, N: Ledger, G: Ledge
         refusals,
         grants,
     } = blanks;
-    let (asks, asked) = asks.open::<A>();
-    let (makes, made) = makes.open::<M>();
-    let (refusals, refused) = refusals.open::<N>();
-    let (grants, granted) = grants.open::<G>();
+    let (asks, asked) = asks.open::<Asks<B>>();
+    let (makes, made) = makes.open::<Makes<B>>();
+    let (refusals, refused) = refusals.open::<Refusals<B>>();
+    let (grants, granted) = grants.open::<Grants<B>>();
     let wholes = Wholes {
         asked,
         made,
         refused,
         grants: granted,
     };
-    (
-        Hall::new(alloc, desk, asks, makes, refusals),
-        Bank::new(pools, tags, grants),
+    OpenedBooks {
+        hall: Hall::new(alloc, desk, asks, makes, refusals),
+        bank: Bank::new(pools, tags, grants),
         wholes,
-    )
+    }
 }

@@ -9,7 +9,7 @@ ghost use Rattle.sq_desk.specs.Calling.{IsUnbegun};
 ghost use Rattle.sq_calls.specs.Legality.{IsLegal};
 
 use crate::beginning::{Blanks, DeskAndPools, begin, open_books, rewriter_of};
-use crate::running::{REFUSALS, ServerRun, Tools, run};
+use crate::running::{REFUSALS, ServerRun, ThreadTools, Tools};
 use crate::starting::{Served, Start, Unserved};
 use crate::threads::has_threads;
 use crate::watched::{Before, Watched};
@@ -18,17 +18,18 @@ use sq_calls::DeskFault;
 use sq_control::Panel;
 use sq_desk::{Desk, DeskStart};
 use sq_journal_writers::Journal;
-use sq_outside::{Another, Clock, Dialer, Listener, Net, Parts, Resolver, Spawner, Stopper};
+use sq_outside::{Clock, Net, Parts};
 use sq_rules::Config;
+use sq_shared::{Ledgers, NetTypes};
 use std::alloc::Global;
 use std::marker::Brand;
 use std::sync::Wait;
-use std::sync::ledger::{Blank, Ledger};
+use std::sync::ledger::Blank;
 use std::thread::Threads;
 
 // The journal of a desk, and whether a note of it failed.
-fn journal_of<J: Journal, B: Before, F: DeskStart>(desk: Desk<Watched<J, B>, F>) -> (J, bool)
-    ensures legal { IfSome (J.history result.0) (IsLegal F.first) }
+fn journal_of<J: Journal, B: Before + DeskStart>(desk: Desk<Watched<J, B>, B>) -> (J, bool)
+    ensures legal { IfSome (J.history result.0) (IsLegal B.first) }
     ensures history { J.history result.0 ≡ desk.notes.history }
     ensures later { B.faults ≤ J.faults result.0 }
     ensures cause { result.1 ≡ true → Rose B.faults (J.faults result.0) }
@@ -45,119 +46,107 @@ fn pump_count(config: &Config) -> u32
     if config.rewriter().is_some() { 2 } else { 1 }
 }
 
-// Makes the desk, the rewriter and the pools, and runs the server.
-fn serve_with<
-    R: Threads + Wait + Sync,
-    L: Listener + Send + Drop,
-    T: Stopper + Drop,
-    Q: Dialer + Another + Send + Drop,
-    S: Spawner + Another + Send + Drop,
-    V: Resolver + Another + Send + Drop,
-    C: Clock + Another + Send + Drop,
-    J: Journal + Send + Drop,
-    K: Panel + Drop,
-    B: Before + Send + Sync,
-    F: DeskStart + Send + Sync,
-    A: Ledger + Send + Sync,
-    M: Ledger + Send + Sync,
-    N: Ledger + Send + Sync,
-    G: Ledger + Send + Sync,
->(
-    rt: &R,
-    alloc: Global,
-    start: Start,
-    listener: L,
-    mut tools: Tools<T, Q, S, V, C>,
-    journal: J,
-    workers: u32,
-    panel: K,
-    blanks: Blanks,
-) -> Result<Served<L, J, K>, Unserved<L, J, K>>
-    requires begun { B.faults ≡ J.faults journal }
-    requires first { F.first ≡ record { config = start.setup; offset = start.offset } }
-    requires empty { IfSome (J.history journal) (λ h. h ≡ []) }
-    requires some { (0 < workers) × (workers ≤ 2 ^ 31) }
-    requires asks { (blanks.asks.name ≡ A.name) × (blanks.asks.parts ≡ A.parts)
-        × (A.parts ≡ workers + workers) }
-    requires makes { (blanks.makes.name ≡ M.name) × (blanks.makes.parts ≡ M.parts) × (M.parts ≡ 1) }
-    requires refusals { (blanks.refusals.name ≡ N.name) × (blanks.refusals.parts ≡ N.parts)
-        × (N.parts ≡ REFUSALS) }
-    requires grants { (blanks.grants.name ≡ G.name) × (blanks.grants.parts ≡ G.parts)
-        × (G.parts ≡ workers + workers) }
-    ensures legal { IfOk result
-        (λ s. IfSome (J.history s.journal)
-        (IsLegal (record { config = start.setup; offset = start.offset }))) }
-    ensures asks { IfOk result
-        (λ s. ForSome (J.history s.journal) (λ h. s.requests ≡ min (asks_in h) count_limit)) }
-    ensures grants { IfOk result
-        (λ s. s.granted ≡ min (granted_together s.pools s.tags) count_limit) }
-    ensures panel { IfOk result
-        (λ s. (n : ℕ) × K.gives panel s.panel s.end n
-        × ForSome (J.history s.journal) (λ h. n + 1 ≡ current h)) }
-    ensures stopped { IfOk result
-        (λ s. s.stopped ≡ true → Rose (J.faults journal) (J.faults s.journal)) }
-    ensures quiet { IfOk result
-        (λ s. s.stopped ≡ false → J.faults s.journal ≡ J.faults journal) }
-    ensures failed { IfOk result (λ s. s.failed ≡ true → 0 < L.faults s.listener) }
-    ensures later { IfOk result (λ s. J.faults journal ≤ J.faults s.journal) }
-    ensures unserved { IfErr result
-        (λ u. IsUnbegun u.fault (J.faults journal) (J.faults u.journal)) }
-    ensures unwritten { IfErr result (λ u. J.history u.journal ≡ J.history journal) }
-    ensures unrun { IfErr result (λ u. (u.panel ≡ panel) × (u.listener ≡ listener)) }
-{
-    let rewriter = match rewriter_of(alloc, start.setup.config()) {
-        Ok(rewriter) => rewriter,
-        Err(WantOfMemory) => {
-            return Err(Unserved {
-                fault: DeskFault::WantOfMemory,
-                listener,
-                journal,
-                panel,
-            });
-        }
-    };
-    let now = tools.clock.now();
-    let machine = match begin::<J, B, F>(alloc, start, journal, now) {
-        Ok(machine) => machine,
-        Err((fault, journal)) => {
-            return Err(Unserved {
-                fault,
-                listener,
-                journal,
-                panel,
-            });
-        }
-    };
-    let DeskAndPools { desk, pools, tags } = machine;
-    let (hall, bank, wholes) = open_books::<Desk<Watched<J, B>, F>, A, M, N, G>(
-        alloc, desk, pools, tags, blanks,
-    );
-    let ServerRun {
-        desk,
-        pools,
-        tags,
-        listener,
-        failed,
-        panel,
-        end,
-        requests,
-        granted,
-    } = run(
-        rt, alloc, hall, bank, rewriter, listener, tools, workers, panel, wholes,
-    );
-    let (journal, stopped) = journal_of(desk);
-    Ok(Served {
-        listener,
-        journal,
-        panel,
-        end,
-        pools,
-        tags,
-        stopped,
-        failed,
-        requests,
-        granted,
-    })
+impl<N: NetTypes + Send> Tools<N> {
+    // Makes the desk, the rewriter and the pools, and runs the server.
+    fn serve_with<
+        R: Threads + Wait + Sync,
+        J: Journal + Send + Drop,
+        K: Panel + Drop,
+        B: Ledgers + Before + DeskStart + Send + Sync,
+    >(
+        mut self,
+        rt: &R,
+        alloc: Global,
+        start: Start,
+        journal: J,
+        workers: u32,
+        panel: K,
+        blanks: Blanks,
+    ) -> Result<Served<N::L, J, K>, Unserved<N::L, J, K>>
+        requires begun { B.faults ≡ J.faults journal }
+        requires first { B.first ≡ record { config = start.setup; offset = start.offset } }
+        requires empty { IfSome (J.history journal) (λ h. h ≡ []) }
+        requires some { (0 < workers) × (workers ≤ 2 ^ 31) }
+        requires asks { (blanks.asks.name ≡ B.asks.name) × (blanks.asks.parts ≡ B.asks.parts)
+            × (B.asks.parts ≡ workers + workers) }
+        requires makes { (blanks.makes.name ≡ B.makes.name) × (blanks.makes.parts ≡ B.makes.parts)
+            × (B.makes.parts ≡ 1) }
+        requires refusals { (blanks.refusals.name ≡ B.refusals.name)
+            × (blanks.refusals.parts ≡ B.refusals.parts)
+            × (B.refusals.parts ≡ REFUSALS) }
+        requires grants { (blanks.grants.name ≡ B.grants.name) × (blanks.grants.parts ≡ B.grants.parts)
+            × (B.grants.parts ≡ workers + workers) }
+        ensures legal { IfOk result
+            (λ s. IfSome (J.history s.journal)
+            (IsLegal (record { config = start.setup; offset = start.offset }))) }
+        ensures asks { IfOk result
+            (λ s. ForSome (J.history s.journal) (λ h. s.requests ≡ min (asks_in h) count_limit)) }
+        ensures grants { IfOk result
+            (λ s. s.granted ≡ min (granted_together s.pools s.tags) count_limit) }
+        ensures panel { IfOk result
+            (λ s. (n : ℕ) × K.gives panel s.panel s.end n
+            × ForSome (J.history s.journal) (λ h. n + 1 ≡ current h)) }
+        ensures stopped { IfOk result
+            (λ s. s.stopped ≡ true → Rose (J.faults journal) (J.faults s.journal)) }
+        ensures quiet { IfOk result
+            (λ s. s.stopped ≡ false → J.faults s.journal ≡ J.faults journal) }
+        ensures failed { IfOk result (λ s. s.failed ≡ true → 0 < N.L.faults s.listener) }
+        ensures later { IfOk result (λ s. J.faults journal ≤ J.faults s.journal) }
+        ensures unserved { IfErr result
+            (λ u. IsUnbegun u.fault (J.faults journal) (J.faults u.journal)) }
+        ensures unwritten { IfErr result (λ u. J.history u.journal ≡ J.history journal) }
+        ensures unrun { IfErr result (λ u. (u.panel ≡ panel) × (u.listener ≡ self.listener)) }
+    {
+        let rewriter = match rewriter_of(alloc, start.setup.config()) {
+            Ok(rewriter) => rewriter,
+            Err(WantOfMemory) => {
+                return Err(Unserved {
+                    fault: DeskFault::WantOfMemory,
+                    listener: self.listener,
+                    journal,
+                    panel,
+                });
+            }
+        };
+        let now = self.threads.clock.now();
+        let machine = match begin::<J, B>(alloc, start, journal, now) {
+            Ok(machine) => machine,
+            Err((fault, journal)) => {
+                return Err(Unserved {
+                    fault,
+                    listener: self.listener,
+                    journal,
+                    panel,
+                });
+            }
+        };
+        let DeskAndPools { desk, pools, tags } = machine;
+        let opened = open_books::<Desk<Watched<J, B>, B>, B>(alloc, desk, pools, tags, blanks);
+        let ServerRun {
+            desk,
+            pools,
+            tags,
+            listener,
+            failed,
+            panel,
+            end,
+            requests,
+            granted,
+        } = opened.run::<R, N, K>(rt, alloc, rewriter, self, workers, panel);
+        let (journal, stopped) = journal_of(desk);
+        Ok(Served {
+            listener,
+            journal,
+            panel,
+            end,
+            pools,
+            tags,
+            stopped,
+            failed,
+            requests,
+            granted,
+        })
+    }
 }
 
 /// Makes the desk of a configuration over a journal without an entry, and serves the links that come to the parts of an
@@ -219,12 +208,15 @@ pub fn serve<R: Threads + Wait + Sync, N: Net, J: Journal + Send + Drop, K: Pane
         clock,
         resolver,
     } = parts;
-    let tools = Tools {
+    let tools: Tools<(N::L, N::T, N::D, N::S, N::C, N::Q)> = Tools {
+        listener,
         stopper,
-        dialer,
-        spawner,
-        resolver,
-        clock,
+        threads: ThreadTools {
+            dialer,
+            spawner,
+            resolver,
+            clock,
+        },
     };
     let both = u64::from(workers) + u64::from(workers);
     let blanks = Blanks {
@@ -233,23 +225,5 @@ pub fn serve<R: Threads + Wait + Sync, N: Net, J: Journal + Send + Drop, K: Pane
         refusals: Blank::new(REFUSALS),
         grants: Blank::new(both),
     };
-    serve_with::<
-        R,
-        N::L,
-        N::T,
-        N::D,
-        N::S,
-        N::Q,
-        N::C,
-        J,
-        K,
-        Brand,
-        Brand,
-        Brand,
-        Brand,
-        Brand,
-        Brand,
-    >(
-        rt, alloc, start, listener, tools, journal, workers, panel, blanks,
-    )
+    tools.serve_with::<R, J, K, Brand>(rt, alloc, start, journal, workers, panel, blanks)
 }

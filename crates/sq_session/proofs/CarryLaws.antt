@@ -7,11 +7,10 @@ use Rattle.sq_checks.specs.Records.{Judged}
 use Rattle.sq_outside.specs.Causes.{count_limit, Rose, TakesBack}
 use Rattle.sq_outside.specs.Dials.{Dialled}
 use Rattle.sq_head.specs.BodyPlans.{request_plan}
-use Rattle.sq_head.specs.OwnReplies.{error_text, denial, redirect_text}
+use Rattle.sq_head.specs.OwnReplies.{error_text, denial}
 use Rattle.sq_head.specs.declared.faults.BadBody.{BadBody}
 use Rattle.sq_head.specs.declared.own.Own.{Own}
-use Rattle.sq_head.specs.declared.own.Own.TheVariants.{BadRequest, NoMemory, NotImplemented}
-use Rattle.sq_rewrite.specs.Rewritings.{IsInPlaceOf}
+use Rattle.sq_head.specs.declared.own.Own.TheVariants.{BadRequest, NotImplemented}
 use Rattle.sq_session.specs.Begins.{fits_hosts}
 use Rattle.sq_session.specs.Carrying.{sat}
 use Rattle.sq_session.specs.Fronts.{FrontAnswer, OfDecide, OfRewrite, OfSit, Decides, Rewrites, SitsFor, SitsBehind, takes_seat}

@@ -7,7 +7,7 @@ use Rattle.sq_outside.specs.Causes.{count_limit, raised}
 use Rattle.sq_base.specs.Addresses.{Address}
 use Rattle.sq_base.specs.Requests.{HttpRequest}
 use Rattle.sq_calls.specs.Legality.{Beginning}
-use Rattle.sq_calls.specs.Telling.{AddsOne, AddsSome, CountsReconfigured, CountsLine, CountsRefusal, IsAsking, IsClosing, IsDead, IsEventOf, IsFailed, IsLine, IsOpening, IsReread, IsStarted, IsStep, IsStepTold, IsTakeTold, IsTaking, MayAct, Notes, NotesAs, got_told}
+use Rattle.sq_calls.specs.Telling.{AddsOne, AddsSome, CountsReconfigured, CountsLine, CountsRefusal, IsAsking, IsClosing, IsDead, IsEventOf, IsFailed, IsLine, IsOpening, IsReread, IsStarted, IsStep, IsStepTold, IsTakeTold, IsTaking, MayAct, Notes, NotesAs, got_told, noted_at}
 use Rattle.sq_calls.specs.declared.faults.DeskFault.{DeskFault}
 use Rattle.sq_calls.specs.declared.faults.DeskFault.TheVariants as fault
 use Rattle.sq_channel.specs.declared.replies.Got.{Got}
@@ -55,125 +55,147 @@ counted_entry a b asks makes h moment e answer (is_a, is_b) (n, k) = (
   epochs b makes (current h) k ∙ sym (ap (λ c. epoch_after c (current h)) is_b),
 )
 
-if_one : (a b : Bool) (P : Event → Type 0) (answer : Told) (old new : Option History) (asks makes : ℕ) → IsOf a b P
-    → AddsOne P answer old new
+if_one : (first : Option Beginning) (now : ℕ) (a b : Bool) (P : Event → Type 0) (answer : Told)
+    (old new : Option History)
+    (asks makes : ℕ) → IsOf a b P → AddsOne first now P answer old new
     → If asks makes old → If (counted a asks) (counted b makes) new
 unfolding If
-if_one a b P answer None new asks makes of is c = subst (If (counted a asks) (counted b makes)) (sym is) tt
-if_one a b P answer (Some h) new asks makes of (moment, e, p, is) c =
-    subst (If (counted a asks) (counted b makes)) (sym is) (counted_entry a b asks makes h moment e answer (of e p) c)
+if_one first now a b P answer None new asks makes of is c = subst (If (counted a asks) (counted b makes)) (sym is) tt
+if_one first now a b P answer (Some h) new asks makes of (e, p, enters) c =
+    subst (If (counted a asks) (counted b makes)) (sym enters.entry)
+    (counted_entry a b asks makes h (noted_at now h) e answer (of e p) c)
 
-if_some : (R : Told → Type 0) (P : Event → Type 0) (old new : Option History) (asks makes : ℕ) → IsOf false false P
-    → AddsSome R P old new
+if_some : (first : Option Beginning) (now : ℕ) (R : Told → Type 0) (P : Event → Type 0) (old new : Option History)
+    (asks makes : ℕ) → IsOf false false P → AddsSome first now R P old new
     → If asks makes old → If asks makes new
 unfolding If
-if_some R P None new asks makes of is c = subst (If asks makes) (sym is) tt
-if_some R P (Some h) new asks makes of (answer, r, moment, e, p, is) c =
-    subst (If asks makes) (sym is) (counted_entry false false asks makes h moment e answer (of e p) c)
+if_some first now R P None new asks makes of is c = subst (If asks makes) (sym is) tt
+if_some first now R P (Some h) new asks makes of (answer, r, e, p, enters) c =
+    subst (If asks makes) (sym enters.entry)
+    (counted_entry false false asks makes h (noted_at now h) e answer (of e p) c)
 
-counted_one : (a b : Bool) (P : Event → Type 0) (answer : Told) (old new : Option History) (asks makes : ℕ) → IsOf a b P
-    → AddsOne P answer old new
+counted_one : (first : Option Beginning) (now : ℕ) (a b : Bool) (P : Event → Type 0) (answer : Told)
+    (old new : Option History) (asks makes : ℕ) → IsOf a b P → AddsOne first now P answer old new
     → AreCounted asks makes old → AreCounted (counted a asks) (counted b makes) new
 unfolding If
-counted_one a b P answer old new asks makes of is c = for_if new _
-    (if_one a b P answer old new asks makes of is (if_for old _ c))
+counted_one first now a b P answer old new asks makes of is c = for_if new _
+    (if_one first now a b P answer old new asks makes of is (if_for old _ c))
 
-counted_some : (R : Told → Type 0) (P : Event → Type 0) (old new : Option History) (asks makes : ℕ) → IsOf false false P
-    → AddsSome R P old new
+counted_some : (first : Option Beginning) (now : ℕ) (R : Told → Type 0) (P : Event → Type 0) (old new : Option History)
+    (asks makes : ℕ) → IsOf false false P → AddsSome first now R P old new
     → AreCounted asks makes old → AreCounted asks makes new
 unfolding If
-counted_some R P old new asks makes of is c = for_if new _ (if_some R P old new asks makes of is (if_for old _ c))
+counted_some first now R P old new asks makes of is c = for_if new _
+    (if_some first now R P old new asks makes of is (if_for old _ c))
 
 -- a call of which the entry is neither a request nor a reconfiguration
-counted_notes : {A : Type 0} (told : A → Told) (P : Event → Type 0) (old new : Option History) (r : Result A DeskFault)
-    (asks makes : ℕ) → IsOf false false P
-    → Notes told P old new r → AreCounted asks makes old → AreCounted asks makes new
-counted_notes told P old new (Ok a) asks makes of is c = counted_one false false P (told a) old new asks makes of is c
-counted_notes told P old new (Err f) asks makes of is c = subst (AreCounted asks makes) (sym is) c
+counted_notes : {A : Type 0} (first : Option Beginning) (now : ℕ) (told : A → Told) (P : Event → Type 0)
+    (old new : Option History) (r : Result A DeskFault) (asks makes : ℕ) → IsOf false false P
+    → Notes first now told P old new r → AreCounted asks makes old → AreCounted asks makes new
+counted_notes first now told P old new (Ok a) asks makes of is c = counted_one first now false false P (told a) old new
+    asks makes of is c
+counted_notes first now told P old new (Err f) asks makes of is c = subst (AreCounted asks makes) (sym is) c
 
-counted_notes_as : {A : Type 0} (R : A → Told → Type 0) (P : Event → Type 0) (old new : Option History)
-    (r : Result A DeskFault) (asks makes : ℕ) → IsOf false false P
-    → NotesAs R P old new r → AreCounted asks makes old → AreCounted asks makes new
-counted_notes_as R P old new (Ok a) asks makes of is c = counted_some (R a) P old new asks makes of is c
-counted_notes_as R P old new (Err f) asks makes of is c = subst (AreCounted asks makes) (sym is) c
+counted_notes_as : {A : Type 0} (first : Option Beginning) (now : ℕ) (R : A → Told → Type 0) (P : Event → Type 0)
+    (old new : Option History) (r : Result A DeskFault) (asks makes : ℕ) → IsOf false false P
+    → NotesAs first now R P old new r → AreCounted asks makes old → AreCounted asks makes new
+counted_notes_as first now R P old new (Ok a) asks makes of is c = counted_some first now (R a) P old new asks makes of
+    is c
+counted_notes_as first now R P old new (Err f) asks makes of is c = subst (AreCounted asks makes) (sym is) c
 
-pub counted_act : (old new : Option History) (r : Result (Option Act) DeskFault) (asks makes : ℕ) → MayAct old new r
+pub counted_act : (first : Option Beginning) (now : ℕ) (old new : Option History) (r : Result (Option Act) DeskFault)
+    (asks makes : ℕ) → MayAct first now old new r
     → AreCounted asks makes old → AreCounted asks makes new
-counted_act old new (Ok (Some a)) asks makes is c = counted_some (IsEventOf a) (λ e. e ≡ event.Act) old new asks makes
+counted_act first now old new (Ok (Some a)) asks makes is c = counted_some first now (IsEventOf a) (λ e. e ≡ event.Act)
+    old new asks makes
     (λ e p. (ap is_ask p, ap begins_epoch p)) is c
-counted_act old new (Ok None) asks makes is c = subst (AreCounted asks makes) (sym is) c
-counted_act old new (Err f) asks makes is c = subst (AreCounted asks makes) (sym is) c
+counted_act first now old new (Ok None) asks makes is c = subst (AreCounted asks makes) (sym is.1) c
+counted_act first now old new (Err f) asks makes is c = subst (AreCounted asks makes) (sym is) c
 
 -- the same of each call
-pub kept_open : (conn port : ℕ) (addr : Address) (old new : Option History) (r : Result (Unit {0}) DeskFault)
-    (asks makes : ℕ) → Notes (λ _. answer.Fine) (IsOpening conn addr port) old new r
+pub kept_open : (first : Option Beginning) (now : ℕ) (conn port : ℕ) (addr : Address) (old new : Option History)
+    (r : Result (Unit {0}) DeskFault)
+    (asks makes : ℕ) → Notes first now (λ _. answer.Fine) (IsOpening conn addr port) old new r
     → AreCounted asks makes old → AreCounted asks makes new
-kept_open conn port addr old new r asks makes = counted_notes _ (IsOpening conn addr port) old new r asks makes
+kept_open first now conn port addr old new r asks makes = counted_notes first now _ (IsOpening conn addr port) old new
+    r asks makes
     (λ e p. (ap is_ask p, ap begins_epoch p))
 
-pub kept_close : (conn : ℕ) (old new : Option History) (r : Result (Unit {0}) DeskFault) (asks makes : ℕ)
-    → Notes (λ _. answer.Fine) (IsClosing conn) old new r
-    → AreCounted asks makes old → AreCounted asks makes new
-kept_close conn old new r asks makes = counted_notes _ (IsClosing conn) old new r asks makes
-    (λ e p. (ap is_ask p, ap begins_epoch p))
-
-pub kept_died : (proc : ℕ) (old new : Option History) (r : Result (Unit {0}) DeskFault) (asks makes : ℕ)
-    → Notes (λ _. answer.Fine) (IsDead proc) old new r
-    → AreCounted asks makes old → AreCounted asks makes new
-kept_died proc old new r asks makes = counted_notes _ (IsDead proc) old new r asks makes
-    (λ e p. (ap is_ask p, ap begins_epoch p))
-
-pub kept_failed : (first : Option Beginning) (epoch class : ℕ) (old new : Option History)
+pub kept_close : (first : Option Beginning) (now : ℕ) (conn : ℕ) (old new : Option History)
     (r : Result (Unit {0}) DeskFault) (asks makes : ℕ)
-    → Notes (λ _. answer.Fine) (IsFailed first old epoch class) old new r
+    → Notes first now (λ _. answer.Fine) (IsClosing conn) old new r
     → AreCounted asks makes old → AreCounted asks makes new
-kept_failed first epoch class old new r asks makes = counted_notes _ (IsFailed first old epoch class) old new r asks
-    makes (λ e p. (ap is_ask p.2, ap begins_epoch p.2))
-
-pub kept_started : (first : Option Beginning) (epoch class : ℕ) (old new : Option History) (r : Result ℕ DeskFault)
-    (asks makes : ℕ) → Notes answer.Proc (IsStarted first old epoch class) old new r
-    → AreCounted asks makes old → AreCounted asks makes new
-kept_started first epoch class old new r asks makes = counted_notes _ (IsStarted first old epoch class) old new r asks
-    makes (λ e p. (ap is_ask p.2, ap begins_epoch p.2))
-
-pub kept_line : (proc : ℕ) (bytes : List ℕ) (old new : Option History) (r : Result Got DeskFault) (asks makes : ℕ)
-    → Notes got_told (IsLine proc bytes) old new r
-    → AreCounted asks makes old → AreCounted asks makes new
-kept_line proc bytes old new r asks makes = counted_notes _ (IsLine proc bytes) old new r asks makes
+kept_close first now conn old new r asks makes = counted_notes first now _ (IsClosing conn) old new r asks makes
     (λ e p. (ap is_ask p, ap begins_epoch p))
 
-pub kept_step : (check : ℕ) (old new : Option History) (r : Result Stepped DeskFault) (asks makes : ℕ)
-    → NotesAs IsStepTold (IsStep check) old new r
+pub kept_died : (first : Option Beginning) (now : ℕ) (proc : ℕ) (old new : Option History)
+    (r : Result (Unit {0}) DeskFault) (asks makes : ℕ)
+    → Notes first now (λ _. answer.Fine) (IsDead proc) old new r
     → AreCounted asks makes old → AreCounted asks makes new
-kept_step check old new r asks makes = counted_notes_as IsStepTold (IsStep check) old new r asks makes
+kept_died first now proc old new r asks makes = counted_notes first now _ (IsDead proc) old new r asks makes
     (λ e p. (ap is_ask p, ap begins_epoch p))
 
-pub kept_take : (check : ℕ) (old new : Option History) (r : Result Judged DeskFault) (asks makes : ℕ)
-    → NotesAs IsTakeTold (IsTaking check) old new r
+pub kept_failed : (first : Option Beginning) (now : ℕ) (epoch class : ℕ) (old new : Option History)
+    (r : Result (Unit {0}) DeskFault) (asks makes : ℕ)
+    → Notes first now (λ _. answer.Fine) (IsFailed first old epoch class) old new r
     → AreCounted asks makes old → AreCounted asks makes new
-kept_take check old new r asks makes = counted_notes_as IsTakeTold (IsTaking check) old new r asks makes
+kept_failed first now epoch class old new r asks makes = counted_notes first now _ (IsFailed first old epoch class) old
+    new r asks
+    makes (λ e p. (ap is_ask p.2, ap begins_epoch p.2))
+
+pub kept_started : (first : Option Beginning) (now : ℕ) (epoch class : ℕ) (old new : Option History)
+    (r : Result ℕ DeskFault)
+    (asks makes : ℕ) → Notes first now answer.Proc (IsStarted first old epoch class) old new r
+    → AreCounted asks makes old → AreCounted asks makes new
+kept_started first now epoch class old new r asks makes = counted_notes first now _ (IsStarted first old epoch class)
+    old new r asks
+    makes (λ e p. (ap is_ask p.2, ap begins_epoch p.2))
+
+pub kept_line : (first : Option Beginning) (now : ℕ) (proc : ℕ) (bytes : List ℕ) (old new : Option History)
+    (r : Result Got DeskFault) (asks makes : ℕ)
+    → Notes first now got_told (IsLine proc bytes) old new r
+    → AreCounted asks makes old → AreCounted asks makes new
+kept_line first now proc bytes old new r asks makes = counted_notes first now _ (IsLine proc bytes) old new r asks makes
+    (λ e p. (ap is_ask p, ap begins_epoch p))
+
+pub kept_step : (first : Option Beginning) (now : ℕ) (check : ℕ) (old new : Option History)
+    (r : Result Stepped DeskFault) (asks makes : ℕ)
+    → NotesAs first now IsStepTold (IsStep check) old new r
+    → AreCounted asks makes old → AreCounted asks makes new
+kept_step first now check old new r asks makes = counted_notes_as first now IsStepTold (IsStep check) old new r asks
+    makes
+    (λ e p. (ap is_ask p, ap begins_epoch p))
+
+pub kept_take : (first : Option Beginning) (now : ℕ) (check : ℕ) (old new : Option History)
+    (r : Result Judged DeskFault) (asks makes : ℕ)
+    → NotesAs first now IsTakeTold (IsTaking check) old new r
+    → AreCounted asks makes old → AreCounted asks makes new
+kept_take first now check old new r asks makes = counted_notes_as first now IsTakeTold (IsTaking check) old new r asks
+    makes
     (λ e p. (ap is_ask p, ap begins_epoch p))
 
 -- a request that was made is counted
-pub kept_ask : (conn : ℕ) (request : HttpRequest) (old new : Option History) (r : Result ℕ DeskFault)
-    (asks more makes : ℕ) → Notes answer.Check (IsAsking conn request) old new r
+pub kept_ask : (first : Option Beginning) (now : ℕ) (conn : ℕ) (request : HttpRequest) (old new : Option History)
+    (r : Result ℕ DeskFault)
+    (asks more makes : ℕ) → Notes first now answer.Check (IsAsking conn request) old new r
     → SharesMade asks more r → AreCounted asks makes old → AreCounted more makes new
-kept_ask conn request old new (Ok n) asks more makes is made c =
+kept_ask first now conn request old new (Ok n) asks more makes is made c =
     subst (λ k. AreCounted k makes new) (sym made)
-    (counted_one true false (IsAsking conn request) (answer.Check n) old new asks makes
+    (counted_one first now true false (IsAsking conn request) (answer.Check n) old new asks makes
     (λ e p. (ap is_ask p, ap begins_epoch p)) is c)
-kept_ask conn request old new (Err f) asks more makes is made c =
+kept_ask first now conn request old new (Err f) asks more makes is made c =
     subst (λ k. AreCounted k makes new) (sym made) (subst (AreCounted asks makes) (sym is) c)
 
 -- and so is a reconfiguration
-pub kept_reread : (config : Configuration) (old new : Option History) (r : Result ℕ DeskFault) (asks makes more : ℕ)
-    → Notes answer.Epoch (IsReread config) old new r
+pub kept_reread : (first : Option Beginning) (now : ℕ) (config : Configuration) (old new : Option History)
+    (r : Result ℕ DeskFault) (asks makes more : ℕ)
+    → Notes first now answer.Epoch (IsReread config) old new r
     → SharesMade makes more r → AreCounted asks makes old → AreCounted asks more new
-kept_reread config old new (Ok n) asks makes more is made c =
+kept_reread first now config old new (Ok n) asks makes more is made c =
     subst (λ k. AreCounted asks k new) (sym made)
-    (counted_one false true (IsReread config) (answer.Epoch n) old new asks makes
+    (counted_one first now false true (IsReread config) (answer.Epoch n) old new asks makes
     (λ e p. (ap is_ask p, ap begins_epoch p)) is c)
-kept_reread config old new (Err f) asks makes more is made c =
+kept_reread first now config old new (Err f) asks makes more is made c =
     subst (λ k. AreCounted asks k new) (sym made) (subst (AreCounted asks makes) (sym is) c)
 
 if_made : (old new : Option ℕ) (r : Result ℕ DeskFault) (makes more : ℕ) → CountsReconfigured old new r

@@ -1,9 +1,10 @@
 -- What a desk that tells no journal says of its calls, and how its count of refusals stands to a share.
-use Rattle.std.proofs.Common.{◌≡◌, ℕ, ◌+◌, ◌≤◌, ◌==◌, if◌then◌else◌, min, Bool, true, false, Result, Ok, Err, Some, None, IfOk, refl, sym, ap, subst, ◌∙◌, arith}
+use Rattle.std.proofs.Common.{◌≡◌, ℕ, ◌+◌, ◌≤◌, ◌==◌, if◌then◌else◌, min, List, Bool, true, false, Result, Ok, Err, Some, None, IfOk, refl, sym, ap, subst, ◌∙◌, arith}
 use Rattle.std.proofs.lemmas.Bool.Decides.{nat_tests}
 use Rattle.std.specs.declared.option.Option.{Option}
 use Rattle.sq_outside.specs.Causes.{count_limit, raised}
-use Rattle.sq_calls.specs.Telling.{CountsReconfigured, CountsLine, CountsRefusal, MayAct, Notes, NotesAs}
+use Rattle.sq_calls.specs.Legality.{Beginning}
+use Rattle.sq_calls.specs.Telling.{CountsReconfigured, CountsLine, CountsRefusal, MayAct, Notes, Refuses, RefusesAt}
 use Rattle.sq_calls.specs.declared.faults.DeskFault.{DeskFault}
 use Rattle.sq_calls.specs.declared.faults.DeskFault.TheVariants as fault
 use Rattle.sq_channel.specs.declared.replies.Got.{Got}
@@ -11,21 +12,36 @@ use Rattle.sq_channel.specs.declared.replies.Got.TheVariants as got
 use Rattle.sq_epochs.specs.declared.acts.Act.{Act}
 use Rattle.sq_machine.specs.declared.entries.Event.{Event}
 use Rattle.sq_machine.specs.declared.entries.Told.{Told}
+use Rattle.sq_machine.specs.declared.refusals.Refusal.TheVariants as refusal
 use Rattle.sq_shared.specs.Books.{SharesLine, SharesMade, SharesRefusal}
 
-pub untold : {A : Type 0} (told : A → Told) (P : Event → Type 0) (r : Result A DeskFault) → Notes told P None None r
-untold told P (Ok a) = refl
-untold told P (Err f) = refl
+pub untold : {A : Type 0} (first : Option Beginning) (now : ℕ) (told : A → Told) (P : Event → Type 0)
+    (r : Result A DeskFault) → Notes first now told P None None r
+untold first now told P (Ok a) = refl
+untold first now told P (Err f) = refl
 
-pub untold_as : {A : Type 0} (R : A → Told → Type 0) (P : Event → Type 0) (r : Result A DeskFault)
-    → NotesAs R P None None r
-untold_as R P (Ok a) = refl
-untold_as R P (Err f) = refl
+pub untold_act : (first : Option Beginning) (now : ℕ) (r : Result (Option Act) DeskFault) → MayAct first now None None r
+untold_act first now (Ok (Some a)) = refl
+untold_act first now (Ok None) = (tt, refl)
+untold_act first now (Err f) = refl
 
-pub untold_act : (r : Result (Option Act) DeskFault) → MayAct None None r
-untold_act (Ok (Some a)) = refl
-untold_act (Ok None) = refl
-untold_act (Err f) = refl
+pub unrefused : {A : Type 0} (first : Option Beginning) (now : ℕ) (e : Event) (r : Result A DeskFault)
+    → Refuses first now e None r
+unrefused first now e (Ok a) = tt
+unrefused first now e (Err fault.Stopped) = tt
+unrefused first now e (Err (fault.Engine refusal.WantOfMemory)) = tt
+unrefused first now e (Err (fault.Engine r)) = tt
+unrefused first now e (Err fault.JournalFault) = tt
+unrefused first now e (Err fault.WantOfMemory) = tt
+
+pub unrefused_at : {A : Type 0} (first : Option Beginning) (now : ℕ) (e : List ℕ → Event) (epoch place : ℕ)
+    (r : Result A DeskFault) → RefusesAt first now e epoch place None r
+unrefused_at first now e epoch place (Ok a) = tt
+unrefused_at first now e epoch place (Err fault.Stopped) = tt
+unrefused_at first now e epoch place (Err (fault.Engine refusal.WantOfMemory)) = tt
+unrefused_at first now e epoch place (Err (fault.Engine r)) = tt
+unrefused_at first now e epoch place (Err fault.JournalFault) = tt
+unrefused_at first now e epoch place (Err fault.WantOfMemory) = tt
 
 stays : (a b : ℕ) → b ≡ a → min b count_limit ≡ min a count_limit
 stays a b e = ap (λ n. min n count_limit) e

@@ -7,23 +7,24 @@ ghost use Rattle.sq_shared.specs.Waking.{is_awaited, one_more};
 ghost use Rattle.sq_machine.specs.Readings.{current};
 
 use crate::awaited::Awaited;
+use crate::ledgers::{Asks, Ledgers, Makes, Refusals};
 use crate::older::Older;
 use sq_base::{EpochNo, QuestionNo, Texts, WantOfMemory};
 use sq_calls::DeskCalls;
 use sq_rules::Config;
 use std::alloc::Global;
 use std::sync::Arc;
-use std::sync::ledger::{Book, Ledger, Share};
+use std::sync::ledger::{Book, Share};
 
 /// A desk with the books of its requests, reconfigurations and refusals, how often an act may have become due, for which
 /// questions' answers sessions wait, and whether it was given up. A book goes on counting where the number that the desk tells stands
 /// at its limit.
 #[derive(Drop)]
-pub struct Hall<D: DeskCalls, A: Ledger, M: Ledger, N: Ledger> {
+pub struct Hall<D: DeskCalls, B: Ledgers> {
     pub(crate) desk: D,
-    pub(crate) requests: Book<A>,
-    pub(crate) makes: Book<M>,
-    pub(crate) refusals: Book<N>,
+    pub(crate) requests: Book<Asks<B>>,
+    pub(crate) makes: Book<Makes<B>>,
+    pub(crate) refusals: Book<Refusals<B>>,
     pub(crate) changes: u64,
     pub(crate) awaited: Awaited,
     pub(crate) older: Older,
@@ -34,15 +35,15 @@ pub struct Hall<D: DeskCalls, A: Ledger, M: Ledger, N: Ledger> {
     ghost refusals_are: { D.refused desk ≡ min refusals.total count_limit },
 }
 
-impl<D: DeskCalls, A: Ledger, M: Ledger, N: Ledger> Hall<D, A, M, N> {
+impl<D: DeskCalls, B: Ledgers> Hall<D, B> {
     /// A desk and its books.
     pub fn new(
         alloc: Global,
         desk: D,
-        requests: Book<A>,
-        makes: Book<M>,
-        refusals: Book<N>,
-    ) -> Hall<D, A, M, N>
+        requests: Book<Asks<B>>,
+        makes: Book<Makes<B>>,
+        refusals: Book<Refusals<B>>,
+    ) -> Hall<D, B>
         requires entries { AreCounted requests.total makes.total (D.told desk) }
         requires makes { ForSome (D.made desk) (λ m. m ≡ makes.total) }
         requires refusals { D.refused desk ≡ min refusals.total count_limit }
@@ -143,9 +144,9 @@ impl<D: DeskCalls, A: Ledger, M: Ledger, N: Ledger> Hall<D, A, M, N> {
 
     /// The desk, given back. Where it tells its journal, its requests are the whole share of their book, and so are its
     /// reconfigurations.
-    pub fn end(self, asked: Share<A>, made: Share<M>) -> D
-        requires asked { asked.parts ≡ A.parts }
-        requires made { made.parts ≡ M.parts }
+    pub fn end(self, asked: Share<Asks<B>>, made: Share<Makes<B>>) -> D
+        requires asked { asked.parts ≡ B.asks.parts }
+        requires made { made.parts ≡ B.makes.parts }
         ensures desk { result ≡ self.desk }
         ensures asks { ForSome (D.told result) (λ h. asked.amount ≡ asks_in h) }
         ensures makes { ForSome (D.told result) (λ h. made.amount + 1 ≡ current h) }

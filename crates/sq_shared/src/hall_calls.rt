@@ -1,7 +1,9 @@
-//! The calls of the desk under its lock, each counted.
+//! The calls of the desk under its lock, each counted. Those of a session are made at the moment that its clock gives
+//! there.
 ghost use Rattle.std.specs.Prelude.{◌≡◌, ◌+◌, ◌<◌, [], true, IfOk, IsErrOf, nat_lt};
 ghost use Rattle.sq_calls.specs.declared.faults.DeskFault.TheVariants as fault;
 ghost use Rattle.sq_calls.specs.Legality.{IsStated};
+ghost use Rattle.sq_calls.specs.Moments.{AtMoment};
 ghost use Rattle.sq_calls.specs.Telling.{IsAsking, IsClosing, IsDead, IsFailed, IsLine, IsOpening, IsReread, IsStarted, IsStep, IsStepTold, IsTakeTold, IsTaking, MayAct, Notes, NotesAs, got_told};
 ghost use Rattle.sq_machine.specs.declared.entries.Told.TheVariants as answer;
 ghost use Rattle.sq_shared.specs.Books.{SharesLine, SharesMade, SharesRefusal};
@@ -9,6 +11,7 @@ ghost use Rattle.sq_shared.specs.Waking.{after_line, after_step, may_ask, one_mo
 
 use crate::counting::{count, count_line, count_made};
 use crate::hall::Hall;
+use crate::ledgers::{Asks, Ledgers, Makes, Refusals};
 use crate::older::may_ask;
 use sq_base::{Addr, CheckNo, ConnNo, EpochNo, Moment, ProcNo, Request};
 use sq_calls::{DeskCalls, DeskFault};
@@ -16,29 +19,32 @@ use sq_channel::Got;
 use sq_checks::Record;
 use sq_epochs::Act;
 use sq_model_rows::Stepped;
+use sq_outside::Clock;
 use sq_urlmatch::Setup;
 use std::alloc::Global;
-use std::sync::ledger::{Ledger, Share};
+use std::sync::ledger::Share;
 
-impl<D: DeskCalls, A: Ledger, M: Ledger, N: Ledger> Hall<D, A, M, N> {
+impl<D: DeskCalls, B: Ledgers> Hall<D, B> {
     /// A client's connection opens.
     #[tactic(auto, using(crate::proofs::BookLaws::kept_open, crate::proofs::BookLaws::kept_refusal))]
-    pub fn open(
+    pub fn open<C: Clock>(
         &mut self,
         conn: ConnNo,
         addr: Addr,
         port: u16,
-        now: Moment,
-        refused: &mut Share<N>,
+        clock: &mut C,
+        refused: &mut Share<Refusals<B>>,
     ) -> Result<(), DeskFault>
         requires { 0 < refused.old.parts }
-        ensures noted { Notes (λ _. answer.Fine) (IsOpening conn addr port) (D.told self.old.desk)
-            (D.told self.new.desk) result }
+        ensures noted { AtMoment (C.moments clock.old) (C.moments clock.new)
+            (λ now. Notes D.first now (λ _. answer.Fine) (IsOpening conn addr port)
+            (D.told self.old.desk) (D.told self.new.desk) result) }
         ensures refused { SharesRefusal refused.old.amount refused.new.amount result }
         ensures parts { refused.new.parts ≡ refused.old.parts }
         ensures changes { self.new.changes ≡ self.old.changes }
         ensures awaited { self.new.awaited ≡ self.old.awaited }
     {
+        let now = clock.now();
         let Hall { desk, refusals, .. } = self;
         let gave = desk.open(conn, addr, port, now);
         count(refusals, refused, &gave);
@@ -47,15 +53,16 @@ impl<D: DeskCalls, A: Ledger, M: Ledger, N: Ledger> Hall<D, A, M, N> {
 
     /// A connection closes.
     #[tactic(auto, using(crate::proofs::BookLaws::kept_close, crate::proofs::BookLaws::kept_refusal))]
-    pub fn close(
+    pub fn close<C: Clock>(
         &mut self,
         conn: ConnNo,
-        now: Moment,
-        refused: &mut Share<N>,
+        clock: &mut C,
+        refused: &mut Share<Refusals<B>>,
     ) -> Result<(), DeskFault>
         requires { 0 < refused.old.parts }
-        ensures noted { Notes (λ _. answer.Fine) (IsClosing conn) (D.told self.old.desk)
-            (D.told self.new.desk) result }
+        ensures noted { AtMoment (C.moments clock.old) (C.moments clock.new)
+            (λ now. Notes D.first now (λ _. answer.Fine) (IsClosing conn) (D.told self.old.desk)
+            (D.told self.new.desk) result) }
         ensures memory { IsErrOf result fault.WantOfMemory → ⊥ }
         ensures refused { SharesRefusal refused.old.amount refused.new.amount result }
         ensures parts { refused.new.parts ≡ refused.old.parts }
@@ -63,6 +70,7 @@ impl<D: DeskCalls, A: Ledger, M: Ledger, N: Ledger> Hall<D, A, M, N> {
             ≡ raised_if (nat_lt self.old.older.oldest self.old.older.current) self.old.changes }
         ensures awaited { self.new.awaited ≡ self.old.awaited }
     {
+        let now = clock.now();
         let Hall {
             desk,
             refusals,
@@ -80,19 +88,20 @@ impl<D: DeskCalls, A: Ledger, M: Ledger, N: Ledger> Hall<D, A, M, N> {
 
     /// A request arrives on a connection.
     #[tactic(auto, using(crate::proofs::BookLaws::kept_ask, crate::proofs::BookLaws::kept_refusal))]
-    pub fn ask(
+    pub fn ask<C: Clock>(
         &mut self,
         alloc: Global,
         conn: ConnNo,
         request: Request,
-        now: Moment,
-        asked: &mut Share<A>,
-        refused: &mut Share<N>,
+        clock: &mut C,
+        asked: &mut Share<Asks<B>>,
+        refused: &mut Share<Refusals<B>>,
     ) -> Result<CheckNo, DeskFault>
         requires asked { 0 < asked.old.parts }
         requires refused { 0 < refused.old.parts }
-        ensures noted { Notes answer.Check (IsAsking conn request) (D.told self.old.desk)
-            (D.told self.new.desk) result }
+        ensures noted { AtMoment (C.moments clock.old) (C.moments clock.new)
+            (λ now. Notes D.first now answer.Check (IsAsking conn request) (D.told self.old.desk)
+            (D.told self.new.desk) result) }
         ensures asked { SharesMade asked.old.amount asked.new.amount result }
         ensures asked_parts { asked.new.parts ≡ asked.old.parts }
         ensures refused { SharesRefusal refused.old.amount refused.new.amount result }
@@ -100,6 +109,7 @@ impl<D: DeskCalls, A: Ledger, M: Ledger, N: Ledger> Hall<D, A, M, N> {
         ensures changes { self.new.changes ≡ self.old.changes }
         ensures awaited { self.new.awaited ≡ self.old.awaited }
     {
+        let now = clock.now();
         let Hall {
             desk,
             requests,
@@ -114,22 +124,24 @@ impl<D: DeskCalls, A: Ledger, M: Ledger, N: Ledger> Hall<D, A, M, N> {
 
     /// A check goes on.
     #[tactic(auto, using(crate::proofs::BookLaws::kept_step, crate::proofs::BookLaws::kept_refusal))]
-    pub fn step(
+    pub fn step<C: Clock>(
         &mut self,
         alloc: Global,
         check: CheckNo,
-        now: Moment,
-        refused: &mut Share<N>,
+        clock: &mut C,
+        refused: &mut Share<Refusals<B>>,
     ) -> Result<Stepped, DeskFault>
         requires { 0 < refused.old.parts }
-        ensures noted { NotesAs IsStepTold (IsStep check) (D.told self.old.desk)
-            (D.told self.new.desk) result }
+        ensures noted { AtMoment (C.moments clock.old) (C.moments clock.new)
+            (λ now. NotesAs D.first now IsStepTold (IsStep check) (D.told self.old.desk)
+            (D.told self.new.desk) result) }
         ensures refused { SharesRefusal refused.old.amount refused.new.amount result }
         ensures parts { refused.new.parts ≡ refused.old.parts }
         ensures changes { self.new.changes ≡ raised_if (may_ask result) self.old.changes }
         ensures awaited { self.new.awaited.questions.items
             ≡ after_step result self.old.awaited.questions.items }
     {
+        let now = clock.now();
         let Hall {
             desk,
             refusals,
@@ -151,22 +163,25 @@ impl<D: DeskCalls, A: Ledger, M: Ledger, N: Ledger> Hall<D, A, M, N> {
 
     /// The outcome of a check is taken.
     #[tactic(auto, using(crate::proofs::BookLaws::kept_take, crate::proofs::BookLaws::kept_refusal))]
-    pub fn take(
+    pub fn take<C: Clock>(
         &mut self,
         alloc: Global,
         check: CheckNo,
-        now: Moment,
-        refused: &mut Share<N>,
+        clock: &mut C,
+        refused: &mut Share<Refusals<B>>,
     ) -> Result<Record, DeskFault>
         requires { 0 < refused.old.parts }
-        ensures noted { NotesAs IsTakeTold (IsTaking check) (D.told self.old.desk)
-            (D.told self.new.desk) result }
+        ensures noted { AtMoment (C.moments clock.old) (C.moments clock.new)
+            (λ now. NotesAs D.first now IsTakeTold (IsTaking check) (D.told self.old.desk)
+            (D.told self.new.desk) result) }
+        ensures record { IfOk result (λ r. r.check ≡ check) }
         ensures refused { SharesRefusal refused.old.amount refused.new.amount result }
         ensures parts { refused.new.parts ≡ refused.old.parts }
         ensures changes { self.new.changes
             ≡ raised_if (nat_lt self.old.older.oldest self.old.older.current) self.old.changes }
         ensures awaited { self.new.awaited ≡ self.old.awaited }
     {
+        let now = clock.now();
         let Hall {
             desk,
             refusals,
@@ -190,11 +205,12 @@ impl<D: DeskCalls, A: Ledger, M: Ledger, N: Ledger> Hall<D, A, M, N> {
         epoch: EpochNo,
         class: u32,
         now: Moment,
-        refused: &mut Share<N>,
+        refused: &mut Share<Refusals<B>>,
     ) -> Result<ProcNo, DeskFault>
         requires { 0 < refused.old.parts }
-        ensures noted { Notes answer.Proc (IsStarted D.first (D.told self.old.desk) epoch class)
-            (D.told self.old.desk) (D.told self.new.desk) result }
+        ensures noted { Notes D.first now answer.Proc
+            (IsStarted D.first (D.told self.old.desk) epoch class) (D.told self.old.desk)
+            (D.told self.new.desk) result }
         ensures refused { SharesRefusal refused.old.amount refused.new.amount result }
         ensures parts { refused.new.parts ≡ refused.old.parts }
         ensures changes { self.new.changes ≡ one_more self.old.changes }
@@ -220,10 +236,10 @@ impl<D: DeskCalls, A: Ledger, M: Ledger, N: Ledger> Hall<D, A, M, N> {
         epoch: EpochNo,
         class: u32,
         now: Moment,
-        refused: &mut Share<N>,
+        refused: &mut Share<Refusals<B>>,
     ) -> Result<(), DeskFault>
         requires { 0 < refused.old.parts }
-        ensures noted { Notes (λ _. answer.Fine)
+        ensures noted { Notes D.first now (λ _. answer.Fine)
             (IsFailed D.first (D.told self.old.desk) epoch class) (D.told self.old.desk)
             (D.told self.new.desk) result }
         ensures refused { SharesRefusal refused.old.amount refused.new.amount result }
@@ -253,10 +269,10 @@ impl<D: DeskCalls, A: Ledger, M: Ledger, N: Ledger> Hall<D, A, M, N> {
         proc: ProcNo,
         bytes: &[u8],
         now: Moment,
-        refused: &mut Share<N>,
+        refused: &mut Share<Refusals<B>>,
     ) -> Result<Got, DeskFault>
         requires { 0 < refused.old.parts }
-        ensures noted { Notes got_told (IsLine proc bytes.now) (D.told self.old.desk)
+        ensures noted { Notes D.first now got_told (IsLine proc bytes.now) (D.told self.old.desk)
             (D.told self.new.desk) result }
         ensures refused { SharesLine refused.old.amount refused.new.amount result }
         ensures parts { refused.new.parts ≡ refused.old.parts }
@@ -284,10 +300,10 @@ impl<D: DeskCalls, A: Ledger, M: Ledger, N: Ledger> Hall<D, A, M, N> {
         &mut self,
         proc: ProcNo,
         now: Moment,
-        refused: &mut Share<N>,
+        refused: &mut Share<Refusals<B>>,
     ) -> Result<(), DeskFault>
         requires { 0 < refused.old.parts }
-        ensures noted { Notes (λ _. answer.Fine) (IsDead proc) (D.told self.old.desk)
+        ensures noted { Notes D.first now (λ _. answer.Fine) (IsDead proc) (D.told self.old.desk)
             (D.told self.new.desk) result }
         ensures memory { IsErrOf result fault.WantOfMemory → ⊥ }
         ensures refused { SharesRefusal refused.old.amount refused.new.amount result }
@@ -315,10 +331,10 @@ impl<D: DeskCalls, A: Ledger, M: Ledger, N: Ledger> Hall<D, A, M, N> {
         &mut self,
         alloc: Global,
         now: Moment,
-        refused: &mut Share<N>,
+        refused: &mut Share<Refusals<B>>,
     ) -> Result<Option<Act>, DeskFault>
         requires { 0 < refused.old.parts }
-        ensures noted { MayAct (D.told self.old.desk) (D.told self.new.desk) result }
+        ensures noted { MayAct D.first now (D.told self.old.desk) (D.told self.new.desk) result }
         ensures refused { SharesRefusal refused.old.amount refused.new.amount result }
         ensures parts { refused.new.parts ≡ refused.old.parts }
         ensures changes { self.new.changes ≡ self.old.changes }
@@ -345,19 +361,19 @@ impl<D: DeskCalls, A: Ledger, M: Ledger, N: Ledger> Hall<D, A, M, N> {
         alloc: Global,
         setup: Setup,
         now: Moment,
-        made: &mut Share<M>,
-        refused: &mut Share<N>,
+        made: &mut Share<Makes<B>>,
+        refused: &mut Share<Refusals<B>>,
     ) -> Result<EpochNo, DeskFault>
         requires stated { IsStated setup }
         requires counting { D.is_counting ≡ true }
         requires made { 0 < made.old.parts }
         requires refused { 0 < refused.old.parts }
-        ensures noted { Notes answer.Epoch (IsReread setup) (D.told self.old.desk)
+        ensures noted { Notes D.first now answer.Epoch (IsReread setup) (D.told self.old.desk)
             (D.told self.new.desk) result }
         ensures made { SharesMade made.old.amount made.new.amount result }
         ensures made_parts { made.new.parts ≡ made.old.parts }
         // Where the share is the whole book's, it tells the number of the epoch.
-        ensures whole { made.old.parts ≡ M.parts → IfOk result (λ e. e ≡ made.new.amount + 1) }
+        ensures whole { made.old.parts ≡ B.makes.parts → IfOk result (λ e. e ≡ made.new.amount + 1) }
         ensures refused { SharesRefusal refused.old.amount refused.new.amount result }
         ensures parts { refused.new.parts ≡ refused.old.parts }
         ensures changes { self.new.changes ≡ one_more self.old.changes }

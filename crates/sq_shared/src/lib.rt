@@ -1,12 +1,13 @@
 //! What the threads of a server share, each value behind a lock of its own.
 //!
-//! `Hall` is the desk with the books of its requests, reconfigurations and refusals; `Door` is the listener with the
-//! word whether it failed; `Bank` is the delay pools of both kinds with the book of their grants: what they granted together
-//! is what the book counts, or 2^127 where that is less; `RewriterHall` is the rewriter of requests. Their methods say what a
-//! call does to the value and to the shares that are handed in, and their types keep what their books count. `Room` is the
-//! desk's lock, and `LockDesk` the desk behind it, as one thread sees it; `ControlDesk` is the same with the right to make
-//! reconfigurations. `RewriterRoom` is the rewriter's lock. The lines that take a lock stand in `holds`, `door_holds`,
-//! `bank_holds`, `waits` and `rewriter_room`.
+//! `Ledgers` names the ledgers of a server's four books by one type, and `NetTypes` the types of an opened net's parts. `Hall` is
+//! the desk with the books of its requests, reconfigurations and refusals; `Door` is the listener with the word whether it
+//! failed; `Bank` is the delay pools of both kinds with the book of their grants: what they granted together is what the book
+//! counts, or 2^127 where that is less; `RewriterHall` is the rewriter of requests. Their methods say what a call does to the
+//! value and to the shares that are handed in, and their types keep what their books count. `Room` is the desk's lock;
+//! `LockDesk` is the desk behind it, as a thread of helper processes sees it, and `ControlDesk` as the control does.
+//! `RewriterRoom` is the rewriter's lock. The lines that take a lock stand in `holds`, which sessions call, `lock_desk`,
+//! `control_desk`, `door_holds`, `bank_holds`, `waits` and `rewriter_room`.
 #![tactic(auto)]
 
 mod awaited;
@@ -19,7 +20,9 @@ mod door_holds;
 mod hall;
 mod hall_calls;
 pub mod holds;
+mod ledgers;
 mod lock_desk;
+mod net_types;
 mod older;
 mod rewriter_hall;
 mod rewriter_room;
@@ -36,7 +39,9 @@ pub use control_desk::ControlDesk;
 pub use door::Door;
 pub use door_holds::{accept, has_failed};
 pub use hall::Hall;
+pub use ledgers::{Asks, Grants, Ledgers, Makes, Refusals};
 pub use lock_desk::LockDesk;
+pub use net_types::NetTypes;
 pub use rewriter_hall::RewriterHall;
 pub use rewriter_room::RewriterRoom;
 pub use room::Room;

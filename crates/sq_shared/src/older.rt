@@ -3,7 +3,7 @@ ghost use Rattle.std.specs.Prelude.{◌≡◌, nat_lt};
 ghost use Rattle.sq_shared.specs.Waking.{may_ask};
 
 use sq_base::EpochNo;
-use sq_calls::{DeskCalls, DeskFault};
+use sq_calls::{DeskFault, TellsJournal};
 use sq_model_rows::Stepped;
 
 /// Whether a step may have put a question, for a check or to refresh a kept answer.
@@ -45,7 +45,7 @@ impl Older {
     }
 
     // Lets go of the oldest epoch where it lives no more. A pump that finds nothing due calls it each time.
-    pub(crate) fn forget<D: DeskCalls>(&mut self, desk: &D) {
+    pub(crate) fn forget<D: TellsJournal>(&mut self, desk: &D) {
         if self.oldest.0 < self.current.0 && desk.config(self.oldest).is_none() {
             self.oldest = EpochNo(self.oldest.0 + 1);
         }

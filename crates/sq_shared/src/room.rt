@@ -1,24 +1,24 @@
 //! The desk's lock.
 use crate::hall::Hall;
+use crate::ledgers::Ledgers;
 use sq_base::QuestionNo;
 use sq_calls::DeskCalls;
 use std::array;
-use std::sync::ledger::Ledger;
 use std::sync::{Condvar, Mutex};
 
 /// The desk behind its lock, and where threads sleep: a session at the place of the question that it waits for, the pump at
 /// `due` until an act may be due. Questions that are open at once have numbers near one another, so with as many places as
 /// there are workers at most few share one.
 #[derive(Drop)]
-pub struct Room<D: DeskCalls, A: Ledger, M: Ledger, N: Ledger> {
-    pub(crate) hall: Mutex<Hall<D, A, M, N>>,
+pub struct Room<D: DeskCalls, B: Ledgers> {
+    pub(crate) hall: Mutex<Hall<D, B>>,
     pub(crate) answered: [Condvar; 64],
     pub(crate) due: Condvar,
 }
 
-impl<D: DeskCalls, A: Ledger, M: Ledger, N: Ledger> Room<D, A, M, N> {
+impl<D: DeskCalls, B: Ledgers> Room<D, B> {
     /// A lock round this value.
-    pub fn new(hall: Hall<D, A, M, N>) -> Room<D, A, M, N> {
+    pub fn new(hall: Hall<D, B>) -> Room<D, B> {
         Room {
             hall: Mutex::new(hall),
             answered: array::from_fn(|_place| Condvar::new()),
@@ -27,7 +27,7 @@ impl<D: DeskCalls, A: Ledger, M: Ledger, N: Ledger> Room<D, A, M, N> {
     }
 
     /// The value, given back.
-    pub fn into_hall(self) -> Hall<D, A, M, N> {
+    pub fn into_hall(self) -> Hall<D, B> {
         let Room {
             hall,
             answered: _,

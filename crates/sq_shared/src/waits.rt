@@ -4,6 +4,7 @@
 ghost use Rattle.std.specs.Prelude.{◌≡◌, ◌<◌, ◌^◌};
 ghost use Rattle.sq_shared.specs.Waking.{number_told};
 
+use crate::ledgers::Ledgers;
 use crate::older::may_ask;
 use crate::room::Room;
 use sq_base::QuestionNo;
@@ -11,13 +12,9 @@ use sq_calls::{DeskCalls, DeskFault};
 use sq_channel::Got;
 use sq_model_rows::Stepped;
 use std::sync::Wait;
-use std::sync::ledger::Ledger;
 
 /// How often an act may have become due, or a keeper have ended, so far.
-pub fn changes<R: Wait, D: DeskCalls, A: Ledger, M: Ledger, N: Ledger>(
-    rt: &R,
-    room: &Room<D, A, M, N>,
-) -> u64 {
+pub fn changes<R: Wait, D: DeskCalls, B: Ledgers>(rt: &R, room: &Room<D, B>) -> u64 {
     room.hall.lock(rt).changes()
 }
 
@@ -33,9 +30,9 @@ pub fn number_told(gave: &Result<Stepped, DeskFault>) -> u64
 }
 
 /// Sleeps, as a session does, while the answer to this question has not come.
-pub fn wait_answered<R: Wait, D: DeskCalls, A: Ledger, M: Ledger, N: Ledger>(
+pub fn wait_answered<R: Wait, D: DeskCalls, B: Ledgers>(
     rt: &R,
-    room: &Room<D, A, M, N>,
+    room: &Room<D, B>,
     question: QuestionNo,
 ) {
     let guard = room.hall.lock(rt);
@@ -45,9 +42,9 @@ pub fn wait_answered<R: Wait, D: DeskCalls, A: Ledger, M: Ledger, N: Ledger>(
 }
 
 /// Whether a session sleeps, or is about to, until the answer to this question comes.
-pub fn is_awaited<R: Wait, D: DeskCalls, A: Ledger, M: Ledger, N: Ledger>(
+pub fn is_awaited<R: Wait, D: DeskCalls, B: Ledgers>(
     rt: &R,
-    room: &Room<D, A, M, N>,
+    room: &Room<D, B>,
     question: QuestionNo,
 ) -> bool {
     room.hall.lock(rt).is_awaited(question)
@@ -55,11 +52,7 @@ pub fn is_awaited<R: Wait, D: DeskCalls, A: Ledger, M: Ledger, N: Ledger>(
 
 /// Sleeps, as the pump does, until acts may have become due more often than this, or no more is to be done. Answers whether
 /// that is so.
-pub fn wait_due<R: Wait, D: DeskCalls, A: Ledger, M: Ledger, N: Ledger>(
-    rt: &R,
-    room: &Room<D, A, M, N>,
-    seen: u64,
-) -> bool {
+pub fn wait_due<R: Wait, D: DeskCalls, B: Ledgers>(rt: &R, room: &Room<D, B>, seen: u64) -> bool {
     let guard = room.hall.lock(rt);
     let guard = room.due.wait_while(rt, guard, |hall| {
         hall.changes() == seen && !hall.is_done()
@@ -68,19 +61,13 @@ pub fn wait_due<R: Wait, D: DeskCalls, A: Ledger, M: Ledger, N: Ledger>(
 }
 
 /// A keeper has ended, and the pump learns it.
-pub fn tell_end<R: Wait, D: DeskCalls, A: Ledger, M: Ledger, N: Ledger>(
-    rt: &R,
-    room: &Room<D, A, M, N>,
-) {
+pub fn tell_end<R: Wait, D: DeskCalls, B: Ledgers>(rt: &R, room: &Room<D, B>) {
     room.hall.lock(rt).note_end();
     room.wake_pump();
 }
 
 /// No more is to be done, and the pump learns it.
-pub fn set_done<R: Wait, D: DeskCalls, A: Ledger, M: Ledger, N: Ledger>(
-    rt: &R,
-    room: &Room<D, A, M, N>,
-) {
+pub fn set_done<R: Wait, D: DeskCalls, B: Ledgers>(rt: &R, room: &Room<D, B>) {
     room.hall.lock(rt).set_done();
     room.wake_pump();
 }
@@ -91,9 +78,9 @@ fn has_stopped<T>(gave: &Result<T, DeskFault>) -> bool {
 }
 
 /// Where a call shows that the desk has stopped, all who wait learn it.
-pub fn wake_if_stopped<R: Wait, D: DeskCalls, A: Ledger, M: Ledger, N: Ledger, T>(
+pub fn wake_if_stopped<R: Wait, D: DeskCalls, B: Ledgers, T>(
     rt: &R,
-    room: &Room<D, A, M, N>,
+    room: &Room<D, B>,
     gave: &Result<T, DeskFault>,
 ) {
     if has_stopped(gave) {
@@ -103,9 +90,9 @@ pub fn wake_if_stopped<R: Wait, D: DeskCalls, A: Ledger, M: Ledger, N: Ledger, T
 }
 
 /// After a call by which an act may have become due: the pump learns it, and all who wait where the desk has stopped.
-pub fn wake_pump_after<R: Wait, D: DeskCalls, A: Ledger, M: Ledger, N: Ledger, T>(
+pub fn wake_pump_after<R: Wait, D: DeskCalls, B: Ledgers, T>(
     rt: &R,
-    room: &Room<D, A, M, N>,
+    room: &Room<D, B>,
     gave: &Result<T, DeskFault>,
 ) {
     wake_if_stopped(rt, room, gave);
@@ -113,9 +100,9 @@ pub fn wake_pump_after<R: Wait, D: DeskCalls, A: Ledger, M: Ledger, N: Ledger, T
 }
 
 /// After a step: the pump learns where it may have put a question, and all who wait where the desk has stopped.
-pub fn wake_after_step<R: Wait, D: DeskCalls, A: Ledger, M: Ledger, N: Ledger>(
+pub fn wake_after_step<R: Wait, D: DeskCalls, B: Ledgers>(
     rt: &R,
-    room: &Room<D, A, M, N>,
+    room: &Room<D, B>,
     gave: &Result<Stepped, DeskFault>,
 ) {
     wake_if_stopped(rt, room, gave);
@@ -125,9 +112,9 @@ pub fn wake_after_step<R: Wait, D: DeskCalls, A: Ledger, M: Ledger, N: Ledger>(
 }
 
 /// After a call that may have answered any question: all who wait learn it.
-pub fn wake_all_after<R: Wait, D: DeskCalls, A: Ledger, M: Ledger, N: Ledger, T>(
+pub fn wake_all_after<R: Wait, D: DeskCalls, B: Ledgers, T>(
     rt: &R,
-    room: &Room<D, A, M, N>,
+    room: &Room<D, B>,
     gave: &Result<T, DeskFault>,
 ) {
     wake_if_stopped(rt, room, gave);
@@ -135,9 +122,9 @@ pub fn wake_all_after<R: Wait, D: DeskCalls, A: Ledger, M: Ledger, N: Ledger, T>
 }
 
 /// After a line of a process: who waits for the question that it replied to learns it, or all where it ended the process.
-pub fn wake_after_line<R: Wait, D: DeskCalls, A: Ledger, M: Ledger, N: Ledger>(
+pub fn wake_after_line<R: Wait, D: DeskCalls, B: Ledgers>(
     rt: &R,
-    room: &Room<D, A, M, N>,
+    room: &Room<D, B>,
     gave: &Result<Got, DeskFault>,
 ) {
     wake_if_stopped(rt, room, gave);
@@ -149,9 +136,6 @@ pub fn wake_after_line<R: Wait, D: DeskCalls, A: Ledger, M: Ledger, N: Ledger>(
 }
 
 /// Whether the desk was given up.
-pub fn is_stopped<R: Wait, D: DeskCalls, A: Ledger, M: Ledger, N: Ledger>(
-    rt: &R,
-    room: &Room<D, A, M, N>,
-) -> bool {
+pub fn is_stopped<R: Wait, D: DeskCalls, B: Ledgers>(rt: &R, room: &Room<D, B>) -> bool {
     room.hall.lock(rt).is_stopped()
 }

@@ -3,47 +3,41 @@ ghost use Rattle.std.specs.Prelude.{◌≡◌, ◌+◌, min};
 ghost use Rattle.sq_outside.specs.Causes.{count_limit};
 
 use crate::lock_hub::{LockHub, Shares};
+use crate::rooms::SessionRooms;
 use crate::sums::Sums;
 use sq_base::{Addr, ConnNo};
 use sq_calls::DeskCalls;
 use sq_conn_policy::HubFront;
 use sq_forward::{Ahead, Duplex, Half};
-use sq_outside::{Clock, Dialer, Out, Source, raised_by};
+use sq_outside::{Listener, raised_by};
 use sq_session::{SessionEnd, session};
-use sq_shared::{Bank, RewriterRoom, Room};
+use sq_shared::{Ledgers, NetTypes, Refusals};
 use std::alloc::Global;
-use std::sync::ledger::{Ledger, Share};
-use std::sync::{Mutex, Wait};
+use std::sync::Wait;
+use std::sync::ledger::Share;
 use std::thread::Threads;
 
-/// Serves a link as the connection of this number. Its session begins with shares of its own in which nothing is counted;
+/// A client's link, the address and the port that it has there, and the number of the connection as which it is served.
+#[derive(Drop)]
+pub(crate) struct ClientLink<N: NetTypes> {
+    pub(crate) conn: ConnNo,
+    pub(crate) from: <N::L as Listener>::In,
+    pub(crate) to: <N::L as Listener>::Outgo,
+    pub(crate) addr: Addr,
+    pub(crate) port: u16,
+}
+
+/// Serves a link. Its session begins with shares of its own in which nothing is counted;
 /// what it asked and was granted is added to the sums.
-pub(crate) fn attend<
-    R: Threads + Wait + Sync,
-    I: Source + Send + Drop,
-    O: Out + Send + Drop,
-    D: DeskCalls,
-    A: Ledger,
-    M: Ledger,
-    N: Ledger,
-    G: Ledger,
-    Q: Dialer,
-    C: Clock + Drop,
->(
+pub(crate) fn attend<R: Threads + Wait + Sync, N: NetTypes, D: DeskCalls, B: Ledgers>(
     rt: &R,
     alloc: Global,
-    room: &Room<D, A, M, N>,
-    bank: &Mutex<Bank<G>>,
-    rewriter: Option<&RewriterRoom>,
-    conn: ConnNo,
-    from: I,
-    to: O,
-    addr: Addr,
-    port: u16,
-    dialer: &mut Q,
-    clock: C,
-    refused: &mut Share<N>,
-    sums: &mut Sums<A, G>,
+    rooms: &SessionRooms<'_, D, B>,
+    link: ClientLink<N>,
+    dialer: &mut N::D,
+    clock: N::C,
+    refused: &mut Share<Refusals<B>>,
+    sums: &mut Sums<B>,
 ) -> SessionEnd
     requires asked { sums.old.asked.parts ≡ 2 }
     requires grants { sums.old.grants.parts ≡ 2 }
@@ -65,9 +59,7 @@ pub(crate) fn attend<
         refused: refused.split_off(1, 0),
         granted: grants.split_off(1, 0),
     };
-    let (end, back) = serve_link(
-        rt, alloc, room, bank, rewriter, conn, from, to, addr, port, dialer, clock, theirs,
-    );
+    let (end, back) = serve_link::<R, N, D, B>(rt, alloc, rooms, link, dialer, clock, theirs);
     asked.merge(back.asked);
     refused.merge(back.refused);
     grants.merge(back.granted);
@@ -77,32 +69,15 @@ pub(crate) fn attend<
 }
 
 // Serves a link with these shares, in which nothing is counted yet.
-fn serve_link<
-    R: Threads + Wait + Sync,
-    I: Source + Send + Drop,
-    O: Out + Send + Drop,
-    D: DeskCalls,
-    A: Ledger,
-    M: Ledger,
-    N: Ledger,
-    G: Ledger,
-    Q: Dialer,
-    C: Clock + Drop,
->(
+fn serve_link<R: Threads + Wait + Sync, N: NetTypes, D: DeskCalls, B: Ledgers>(
     rt: &R,
     alloc: Global,
-    room: &Room<D, A, M, N>,
-    bank: &Mutex<Bank<G>>,
-    rewriter: Option<&RewriterRoom>,
-    conn: ConnNo,
-    from: I,
-    to: O,
-    addr: Addr,
-    port: u16,
-    dialer: &mut Q,
-    clock: C,
-    shares: Shares<A, N, G>,
-) -> (SessionEnd, Shares<A, N, G>)
+    rooms: &SessionRooms<'_, D, B>,
+    link: ClientLink<N>,
+    dialer: &mut N::D,
+    clock: N::C,
+    shares: Shares<B>,
+) -> (SessionEnd, Shares<B>)
     requires asked { (shares.asked.parts ≡ 1) × (shares.asked.amount ≡ 0) }
     requires refused { shares.refused.parts ≡ 1 }
     requires granted { (shares.granted.parts ≡ 1) × (shares.granted.amount ≡ 0) }
@@ -116,9 +91,25 @@ fn serve_link<
         refused,
         granted,
     } = shares;
-    let hub = LockHub::new(rt, room, bank, rewriter, clock, asked, refused, granted);
+    let ClientLink {
+        conn,
+        from,
+        to,
+        addr,
+        port,
+    } = link;
+    let hub = LockHub::new(
+        rt,
+        rooms.room,
+        rooms.bank,
+        rooms.rewriter,
+        clock,
+        asked,
+        refused,
+        granted,
+    );
     let mut front = HubFront::new(rt, hub, conn);
-    let mut client: Duplex<(I, O)> = Duplex {
+    let mut client: Duplex<(<N::L as Listener>::In, <N::L as Listener>::Outgo)> = Duplex {
         from: Half {
             source: from,
             ahead: Ahead::new(alloc),

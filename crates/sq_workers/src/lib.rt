@@ -9,9 +9,11 @@
 
 mod attending;
 mod lock_hub;
+mod rooms;
 mod sums;
 mod working;
 
 pub use lock_hub::{LockHub, Shares};
+pub use rooms::SessionRooms;
 pub use sums::Sums;
-pub use working::work_all;
+pub use working::{WorkerTools, work_all};

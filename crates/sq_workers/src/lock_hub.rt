@@ -14,21 +14,22 @@ use sq_rewrite::{RewriteFault, Rewriting};
 use sq_rules::Config;
 use sq_session::Counts;
 use sq_shared::{
-    Bank, RewriterRoom, Room, holds, number_told, wait_answered, wake_after_step, wake_if_stopped,
+    Asks, Bank, Grants, Ledgers, Refusals, RewriterRoom, Room, holds, number_told, wait_answered,
+    wake_after_step, wake_if_stopped,
 };
 use std::alloc::Global;
-use std::sync::ledger::{Ledger, Share};
+use std::sync::ledger::Share;
 use std::sync::{Arc, Mutex, Wait};
 
 /// The shares of a hub.
 #[derive(Drop)]
-pub struct Shares<A: Ledger, N: Ledger, G: Ledger> {
+pub struct Shares<B: Ledgers> {
     /// Of the requests that it made.
-    pub asked: Share<A>,
+    pub asked: Share<Asks<B>>,
     /// Of the calls that were refused.
-    pub refused: Share<N>,
+    pub refused: Share<Refusals<B>>,
     /// Of the bytes that it was granted.
-    pub granted: Share<G>,
+    pub granted: Share<Grants<B>>,
 }
 
 // A question to the rewriter that had not ended, and how often one may have ended by then.
@@ -44,19 +45,10 @@ struct RewriteWait {
 /// said to wait, or 0, the question to the rewriter of which nothing could be taken yet, for the next wait alone, and when
 /// the buckets gain of the seat that was granted nothing last.
 #[derive(Drop)]
-pub struct LockHub<
-    'a,
-    R: Wait,
-    D: DeskCalls,
-    A: Ledger,
-    M: Ledger,
-    N: Ledger,
-    G: Ledger,
-    C: Clock + Drop,
-> {
+pub struct LockHub<'a, R: Wait, D: DeskCalls, B: Ledgers, C: Clock + Drop> {
     rt: &'a R,
-    room: &'a Room<D, A, M, N>,
-    bank: &'a Mutex<Bank<G>>,
+    room: &'a Room<D, B>,
+    bank: &'a Mutex<Bank<Grants<B>>>,
     rewriter: Option<&'a RewriterRoom>,
     clock: C,
     asks: u64,
@@ -64,9 +56,9 @@ pub struct LockHub<
     question: u64,
     rewriting: Option<RewriteWait>,
     gains_at: Moment,
-    asked: Share<A>,
-    refused: Share<N>,
-    granted: Share<G>,
+    asked: Share<Asks<B>>,
+    refused: Share<Refusals<B>>,
+    granted: Share<Grants<B>>,
     ghost asked_part: { asked.parts ≡ 1 },
     ghost refused_part: { refused.parts ≡ 1 },
     ghost granted_part: { granted.parts ≡ 1 },
@@ -109,27 +101,18 @@ fn hub_gave<T>(gave: Result<T, DeskFault>) -> Result<T, HubFault>
     }
 }
 
-impl<
-    'a,
-    R: Wait,
-    D: DeskCalls,
-    A: Ledger,
-    M: Ledger,
-    N: Ledger,
-    G: Ledger,
-    C: Clock + Drop,
-> LockHub<'a, R, D, A, M, N, G, C> {
+impl<'a, R: Wait, D: DeskCalls, B: Ledgers, C: Clock + Drop> LockHub<'a, R, D, B, C> {
     /// A hub over these locks that asked nothing yet and was granted nothing.
     pub fn new(
         rt: &'a R,
-        room: &'a Room<D, A, M, N>,
-        bank: &'a Mutex<Bank<G>>,
+        room: &'a Room<D, B>,
+        bank: &'a Mutex<Bank<Grants<B>>>,
         rewriter: Option<&'a RewriterRoom>,
         clock: C,
-        asked: Share<A>,
-        refused: Share<N>,
-        granted: Share<G>,
-    ) -> LockHub<'a, R, D, A, M, N, G, C>
+        asked: Share<Asks<B>>,
+        refused: Share<Refusals<B>>,
+        granted: Share<Grants<B>>,
+    ) -> LockHub<'a, R, D, B, C>
         requires asked { (asked.parts ≡ 1) × (asked.amount ≡ 0) }
         requires refused { refused.parts ≡ 1 }
         requires granted { (granted.parts ≡ 1) × (granted.amount ≡ 0) }
@@ -155,7 +138,7 @@ impl<
     }
 
     /// Its shares, given back.
-    pub fn finish(self) -> Shares<A, N, G>
+    pub fn finish(self) -> Shares<B>
         ensures asked { result.asked ≡ self.entry.asked }
         ensures refused { result.refused ≡ self.entry.refused }
         ensures granted { result.granted ≡ self.entry.granted }
@@ -176,8 +159,7 @@ impl<
     }
 }
 
-impl<'a, R: Wait, D: DeskCalls, A: Ledger, M: Ledger, N: Ledger, G: Ledger, C: Clock + Drop> Hub
-    for LockHub<'a, R, D, A, M, N, G, C> {
+impl<'a, R: Wait, D: DeskCalls, B: Ledgers, C: Clock + Drop> Hub for LockHub<'a, R, D, B, C> {
     ghost use Rattle.std.proofs.Common.{arith};
 
     ghost told = { λ _. None };
@@ -203,32 +185,44 @@ impl<'a, R: Wait, D: DeskCalls, A: Ledger, M: Ledger, N: Ledger, G: Ledger, C: C
         addr: Addr,
         port: u16,
     ) -> Result<(), HubFault> {
-        let now = self.clock.now();
-        let gave = holds::open(self.rt, self.room, conn, addr, port, now, &mut self.refused);
+        let LockHub {
+            rt,
+            room,
+            clock,
+            refused,
+            ..
+        } = self;
+        let gave = holds::open(*rt, *room, conn, addr, port, clock, refused);
         wake_if_stopped(self.rt, self.room, &gave);
         hub_gave(gave)
     }
 
     #[tactic(auto, using(crate::proofs::HubLaws::hub_refuses, crate::proofs::HubLaws::hub_fails, crate::proofs::HubLaws::share_rises))]
     fn close(&mut self, conn: ConnNo) -> Result<(), HubFault> {
-        let now = self.clock.now();
-        let gave = holds::close(self.rt, self.room, conn, now, &mut self.refused);
+        let LockHub {
+            rt,
+            room,
+            clock,
+            refused,
+            ..
+        } = self;
+        let gave = holds::close(*rt, *room, conn, clock, refused);
         wake_if_stopped(self.rt, self.room, &gave);
         hub_gave(gave)
     }
 
     #[tactic(auto, using(crate::proofs::HubLaws::hub_refuses, crate::proofs::HubLaws::hub_fails, crate::proofs::HubLaws::share_rises, crate::proofs::HubLaws::hub_asks))]
     fn ask(&mut self, alloc: Global, conn: ConnNo, request: Request) -> Result<CheckNo, HubFault> {
-        let now = self.clock.now();
         let LockHub {
             rt,
             room,
+            clock,
             asks,
             asked,
             refused,
             ..
         } = self;
-        let gave = holds::ask(*rt, *room, alloc, conn, request, now, asked, refused);
+        let gave = holds::ask(*rt, *room, alloc, conn, request, clock, asked, refused);
         wake_if_stopped(*rt, *room, &gave);
         if gave.is_ok() {
             *asks = raised(*asks);
@@ -238,8 +232,14 @@ impl<'a, R: Wait, D: DeskCalls, A: Ledger, M: Ledger, N: Ledger, G: Ledger, C: C
 
     #[tactic(auto, using(crate::proofs::HubLaws::hub_refuses, crate::proofs::HubLaws::hub_fails, crate::proofs::HubLaws::share_rises))]
     fn step(&mut self, alloc: Global, check: CheckNo) -> Result<Stepped, HubFault> {
-        let now = self.clock.now();
-        let gave = holds::step(self.rt, self.room, alloc, check, now, &mut self.refused);
+        let LockHub {
+            rt,
+            room,
+            clock,
+            refused,
+            ..
+        } = self;
+        let gave = holds::step(*rt, *room, alloc, check, clock, refused);
         wake_after_step(self.rt, self.room, &gave);
         self.question = number_told(&gave);
         hub_gave(gave)
@@ -247,8 +247,14 @@ impl<'a, R: Wait, D: DeskCalls, A: Ledger, M: Ledger, N: Ledger, G: Ledger, C: C
 
     #[tactic(auto, using(crate::proofs::HubLaws::hub_refuses, crate::proofs::HubLaws::hub_fails, crate::proofs::HubLaws::share_rises))]
     fn take(&mut self, alloc: Global, check: CheckNo) -> Result<Record, HubFault> {
-        let now = self.clock.now();
-        let gave = holds::take(self.rt, self.room, alloc, check, now, &mut self.refused);
+        let LockHub {
+            rt,
+            room,
+            clock,
+            refused,
+            ..
+        } = self;
+        let gave = holds::take(*rt, *room, alloc, check, clock, refused);
         wake_if_stopped(self.rt, self.room, &gave);
         hub_gave(gave)
     }

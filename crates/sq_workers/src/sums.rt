@@ -3,24 +3,25 @@ ghost use Rattle.std.specs.Prelude.{◌≡◌, ◌+◌, min};
 ghost use Rattle.sq_outside.specs.Causes.{count_limit};
 
 use sq_outside::raised_by;
-use std::sync::ledger::{Ledger, Share};
+use sq_shared::{Asks, Grants, Ledgers};
+use std::sync::ledger::Share;
 
 /// The sums of what the sessions of workers asked and were granted, each up to 2^63 - 1, with the workers' shares of the
 /// books of requests and of grants: they are the same.
 #[derive(Drop)]
-pub struct Sums<A: Ledger, G: Ledger> {
+pub struct Sums<B: Ledgers> {
     /// The sum of the sessions' requests.
     pub requests: u64,
     /// The sum of the bytes that the sessions were granted.
     pub granted: u64,
-    pub asked: Share<A>,
-    pub grants: Share<G>,
+    pub asked: Share<Asks<B>>,
+    pub grants: Share<Grants<B>>,
     pub ghost requests_are: { requests ≡ min asked.amount count_limit },
     pub ghost granted_are: { granted ≡ min grants.amount count_limit },
 }
 
 /// The sums of both.
-pub(crate) fn both<A: Ledger, G: Ledger>(one: Sums<A, G>, other: Sums<A, G>) -> Sums<A, G>
+pub(crate) fn both<B: Ledgers>(one: Sums<B>, other: Sums<B>) -> Sums<B>
     ensures requests { result.requests ≡ min (one.requests + other.requests) count_limit }
     ensures granted { result.granted ≡ min (one.granted + other.granted) count_limit }
     ensures asked { result.asked.parts ≡ one.asked.parts + other.asked.parts }

@@ -1,49 +1,59 @@
 //! Workers, one after another in halves.
-ghost use Rattle.std.specs.Prelude.{◌≡◌, ◌+◌, ◌<◌, ◌^◌};
+ghost use Rattle.std.specs.Prelude.{◌≡◌, ◌+◌, ◌-◌, ◌<◌, ◌^◌};
 ghost use Rattle.std.specs.Thread.{IsSend, IsSync};
 
-use crate::attending::attend;
+use crate::attending::{ClientLink, attend};
+use crate::lock_hub::Shares;
+use crate::rooms::SessionRooms;
 use crate::sums::{Sums, both};
 use sq_base::ConnNo;
 use sq_calls::DeskCalls;
-use sq_outside::{Accepted, Another, Clock, Dialer, Listener};
-use sq_shared::{Bank, Door, RewriterRoom, Room, accept};
+use sq_outside::{Accepted, Another, Clock};
+use sq_shared::{Asks, Door, Grants, Ledgers, NetTypes, Refusals, accept};
 use std::alloc::Global;
-use std::sync::ledger::{Ledger, Share};
+use std::sync::ledger::Share;
 use std::sync::{Mutex, Wait};
 use std::thread::{Threads, join};
 
+/// What a worker dials with, and its clock.
+#[derive(Drop)]
+pub struct WorkerTools<N: NetTypes> {
+    pub dialer: N::D,
+    pub clock: N::C,
+}
+
+impl<N: NetTypes> WorkerTools<N> {
+    // Those of another worker.
+    fn another(&self) -> WorkerTools<N> {
+        WorkerTools {
+            dialer: self.dialer.another(),
+            clock: self.clock.another(),
+        }
+    }
+}
+
 // Takes one link after the other and serves it as the connection of this number, until the listener stops. Where a call
 // of the listener failed, it pauses and tries again: the fault stands at the door.
-fn work<
-    R: Threads + Wait + Sync,
-    L: Listener + Drop,
-    D: DeskCalls,
-    A: Ledger,
-    M: Ledger,
-    N: Ledger,
-    G: Ledger,
-    Q: Dialer + Drop,
-    C: Clock + Another + Drop,
->(
+fn work<R: Threads + Wait + Sync, N: NetTypes, D: DeskCalls, B: Ledgers>(
     rt: &R,
     alloc: Global,
-    door: &Mutex<Door<L>>,
-    room: &Room<D, A, M, N>,
-    bank: &Mutex<Bank<G>>,
-    rewriter: Option<&RewriterRoom>,
+    door: &Mutex<Door<N::L>>,
+    rooms: &SessionRooms<'_, D, B>,
     conn: ConnNo,
-    mut dialer: Q,
-    mut clock: C,
-    mut sums: Sums<A, G>,
-    mut refused: Share<N>,
-) -> Sums<A, G>
+    tools: WorkerTools<N>,
+    mut sums: Sums<B>,
+    mut refused: Share<Refusals<B>>,
+) -> Sums<B>
     requires asked { sums.asked.parts ≡ 2 }
     requires grants { sums.grants.parts ≡ 2 }
     requires refused { refused.parts ≡ 2 }
     ensures asked { result.asked.parts ≡ 2 }
     ensures grants { result.grants.parts ≡ 2 }
 {
+    let WorkerTools {
+        mut dialer,
+        mut clock,
+    } = tools;
     for _ in rt.forever() {
         match accept(rt, alloc, door) {
             Accepted::Link {
@@ -52,18 +62,19 @@ fn work<
                 addr,
                 port,
             } => {
-                let theirs = clock.another();
-                let _end = attend(
-                    rt,
-                    alloc,
-                    room,
-                    bank,
-                    rewriter,
+                let link = ClientLink {
                     conn,
                     from,
                     to,
                     addr,
                     port,
+                };
+                let theirs = clock.another();
+                let _end = attend::<R, N, D, B>(
+                    rt,
+                    alloc,
+                    rooms,
+                    link,
                     &mut dialer,
                     theirs,
                     &mut refused,
@@ -78,7 +89,7 @@ fn work<
 }
 
 // Nothing was asked yet, and nothing granted.
-fn nothing<A: Ledger, G: Ledger>(asked: Share<A>, grants: Share<G>) -> Sums<A, G>
+fn nothing<B: Ledgers>(asked: Share<Asks<B>>, grants: Share<Grants<B>>) -> Sums<B>
     requires asked { asked.amount ≡ 0 }
     requires grants { grants.amount ≡ 0 }
     ensures asked { result.asked ≡ asked }
@@ -92,105 +103,108 @@ fn nothing<A: Ledger, G: Ledger>(asked: Share<A>, grants: Share<G>) -> Sums<A, G
     }
 }
 
+// So many parts of shares in which nothing is counted, and the rest.
+fn split<B: Ledgers>(shares: Shares<B>, parts: u64) -> (Shares<B>, Shares<B>)
+    requires asked { (parts < shares.asked.parts) × (shares.asked.amount ≡ 0) }
+    requires refused { parts < shares.refused.parts }
+    requires granted { (parts < shares.granted.parts) × (shares.granted.amount ≡ 0) }
+    ensures asked { (result.0.asked.parts ≡ parts) × (result.0.asked.amount ≡ 0) }
+    ensures refused { result.0.refused.parts ≡ parts }
+    ensures granted { (result.0.granted.parts ≡ parts) × (result.0.granted.amount ≡ 0) }
+    ensures asked_rest { (result.1.asked.parts ≡ shares.asked.parts - parts)
+        × (result.1.asked.amount ≡ 0) }
+    ensures refused_rest { result.1.refused.parts ≡ shares.refused.parts - parts }
+    ensures granted_rest { (result.1.granted.parts ≡ shares.granted.parts - parts)
+        × (result.1.granted.amount ≡ 0) }
+{
+    let Shares {
+        mut asked,
+        mut refused,
+        mut granted,
+    } = shares;
+    let theirs = Shares {
+        asked: asked.split_off(parts, 0),
+        refused: refused.split_off(parts, 0),
+        granted: granted.split_off(parts, 0),
+    };
+    (
+        theirs,
+        Shares {
+            asked,
+            refused,
+            granted,
+        },
+    )
+}
+
 /// Runs `count` workers beside one another, the first of which opens its connections as number `first` and each later one
 /// as the next number, until the listener stops and each has served its last link. Each worker takes two parts of each
 /// share: one stays with it, one goes with its sessions. What comes back are the sums over all sessions.
 pub fn work_all<
     R: Threads + Wait + Sync,
-    L: Listener + Send + Drop,
+    N: NetTypes + Send,
     D: DeskCalls + Send,
-    A: Ledger + Send + Sync,
-    M: Ledger + Send + Sync,
-    N: Ledger + Send + Sync,
-    G: Ledger + Send + Sync,
-    Q: Dialer + Another + Send + Drop,
-    C: Clock + Another + Send + Drop,
+    B: Ledgers + Send + Sync,
 >(
     rt: &R,
     alloc: Global,
-    door: &Mutex<Door<L>>,
-    room: &Room<D, A, M, N>,
-    bank: &Mutex<Bank<G>>,
-    rewriter: Option<&RewriterRoom>,
-    dialer: Q,
-    clock: C,
+    door: &Mutex<Door<N::L>>,
+    rooms: &SessionRooms<'_, D, B>,
+    tools: WorkerTools<N>,
     first: u32,
     count: u32,
-    mut asked: Share<A>,
-    mut refused: Share<N>,
-    mut grants: Share<G>,
-) -> Sums<A, G>
+    shares: Shares<B>,
+) -> Sums<B>
     requires some { 0 < count }
     requires last { first + count < 2 ^ 32 }
-    requires asked { (asked.parts ≡ count + count) × (asked.amount ≡ 0) }
-    requires refused { refused.parts ≡ count + count }
-    requires grants { (grants.parts ≡ count + count) × (grants.amount ≡ 0) }
+    requires asked { (shares.asked.parts ≡ count + count) × (shares.asked.amount ≡ 0) }
+    requires refused { shares.refused.parts ≡ count + count }
+    requires grants { (shares.granted.parts ≡ count + count) × (shares.granted.amount ≡ 0) }
     ensures asked { result.asked.parts ≡ count + count }
     ensures grants { result.grants.parts ≡ count + count }
 {
     if count == 1 {
+        let Shares {
+            asked,
+            refused,
+            granted,
+        } = shares;
         let conn = ConnNo(u64::from(first));
-        let sums = nothing(asked, grants);
-        return work(
-            rt, alloc, door, room, bank, rewriter, conn, dialer, clock, sums, refused,
-        );
+        let sums = nothing(asked, granted);
+        return work::<R, N, D, B>(rt, alloc, door, rooms, conn, tools, sums, refused);
     }
     let low = count / 2;
     let high = count - low;
     let next = first + low;
     let parts = u64::from(low) + u64::from(low);
-    let asked_low = asked.split_off(parts, 0);
-    let refused_low = refused.split_off(parts, 0);
-    let grants_low = grants.split_off(parts, 0);
-    let dialer_low = dialer.another();
-    let clock_low = clock.another();
+    let (shares_low, shares) = split(shares, parts);
+    let tools_low = tools.another();
     let (one, other) = join(
         rt,
-        move || -> Sums<A, G>
-            requires { IsSync R.row × IsSend L.row × IsSend L.In.row × IsSend L.Outgo.row
-                × IsSend D.row
-                × IsSend A.row × IsSync A.row × IsSend M.row × IsSync M.row × IsSend N.row
-                × IsSync N.row × IsSend G.row × IsSync G.row
-                × IsSend Q.row × IsSend Q.In.row × IsSend Q.Outgo.row × IsSend C.row
+        move || -> Sums<B>
+            requires { IsSync R.row × IsSend N.row × IsSend D.row × IsSend B.row × IsSync B.row
+                × IsSend N.L.row × IsSend N.L.In.row × IsSend N.L.Outgo.row × IsSend N.T.row
+                × IsSend N.D.row × IsSend N.D.In.row × IsSend N.D.Outgo.row
+                × IsSend N.S.row × IsSend N.S.ChildOut.row × IsSend N.S.ChildIn.row
+                × IsSend N.C.row × IsSend N.Q.row
                 × (0 < low) × (first + low < 2 ^ 32)
-                × (asked_low.parts ≡ low + low) × (asked_low.amount ≡ 0)
-                × (refused_low.parts ≡ low + low)
-                × (grants_low.parts ≡ low + low) × (grants_low.amount ≡ 0) }
+                × (shares_low.asked.parts ≡ low + low) × (shares_low.asked.amount ≡ 0)
+                × (shares_low.refused.parts ≡ low + low)
+                × (shares_low.granted.parts ≡ low + low) × (shares_low.granted.amount ≡ 0) }
             ensures { (result.asked.parts ≡ low + low) × (result.grants.parts ≡ low + low) }
-        {
-            work_all(
-                rt,
-                alloc,
-                door,
-                room,
-                bank,
-                rewriter,
-                dialer_low,
-                clock_low,
-                first,
-                low,
-                asked_low,
-                refused_low,
-                grants_low,
-            )
-        },
-        move || -> Sums<A, G>
-            requires { IsSync R.row × IsSend L.row × IsSend L.In.row × IsSend L.Outgo.row
-                × IsSend D.row
-                × IsSend A.row × IsSync A.row × IsSend M.row × IsSync M.row × IsSend N.row
-                × IsSync N.row × IsSend G.row × IsSync G.row
-                × IsSend Q.row × IsSend Q.In.row × IsSend Q.Outgo.row × IsSend C.row
+        { work_all::<R, N, D, B>(rt, alloc, door, rooms, tools_low, first, low, shares_low) },
+        move || -> Sums<B>
+            requires { IsSync R.row × IsSend N.row × IsSend D.row × IsSend B.row × IsSync B.row
+                × IsSend N.L.row × IsSend N.L.In.row × IsSend N.L.Outgo.row × IsSend N.T.row
+                × IsSend N.D.row × IsSend N.D.In.row × IsSend N.D.Outgo.row
+                × IsSend N.S.row × IsSend N.S.ChildOut.row × IsSend N.S.ChildIn.row
+                × IsSend N.C.row × IsSend N.Q.row
                 × (0 < high) × (next + high < 2 ^ 32)
-                × (asked.parts ≡ high + high) × (asked.amount ≡ 0)
-                × (refused.parts ≡ high + high)
-                × (grants.parts ≡ high + high) × (grants.amount ≡ 0) }
+                × (shares.asked.parts ≡ high + high) × (shares.asked.amount ≡ 0)
+                × (shares.refused.parts ≡ high + high)
+                × (shares.granted.parts ≡ high + high) × (shares.granted.amount ≡ 0) }
             ensures { (result.asked.parts ≡ high + high) × (result.grants.parts ≡ high + high) }
-        {
-            work_all(
-                rt, alloc, door, room, bank, rewriter, dialer, clock, next, high, asked, refused,
-                grants,
-            )
-        },
+        { work_all::<R, N, D, B>(rt, alloc, door, rooms, tools, next, high, shares) },
     );
     both(one, other)
 }

@@ -3,7 +3,7 @@ ghost use Rattle.std.specs.Prelude.{IfOk};
 ghost use Rattle.sq_calls.specs.Legality.{IsStated};
 
 use sq_base::{CheckNo, ConnNo, EpochNo, Moment, ProcNo, Request, Text};
-use sq_calls::{DeskCalls, DeskFault};
+use sq_calls::{ConnCalls, ControlCalls, DeskCalls, DeskFault, HelperCalls};
 use sq_channel::Got;
 use sq_checks::Record;
 use sq_conf::read_config;
@@ -79,7 +79,7 @@ fn begun(gave: Result<CheckNo, DeskFault>) -> Gave {
 }
 
 // A request arrives.
-fn ask<D: DeskCalls>(alloc: Global, desk: &mut D, event: Event, now: Moment) -> Result<Gave, Fail> {
+fn ask<D: ConnCalls>(alloc: Global, desk: &mut D, event: Event, now: Moment) -> Result<Gave, Fail> {
     let (conn, request) = asking(alloc, event)?;
     Ok(begun(desk.ask(alloc, conn, request, now)))
 }
@@ -138,7 +138,7 @@ fn told_act(alloc: Global, act: Act) -> Result<Told, Fail> {
 }
 
 // The next act.
-fn act<D: DeskCalls>(alloc: Global, desk: &mut D, now: Moment) -> Result<Gave, Fail> {
+fn act<D: HelperCalls>(alloc: Global, desk: &mut D, now: Moment) -> Result<Gave, Fail> {
     match desk.act(alloc, now) {
         Ok(Some(act)) => Ok(Ok(Some(told_act(alloc, act)?))),
         Ok(None) => Ok(Ok(None)),
@@ -147,7 +147,7 @@ fn act<D: DeskCalls>(alloc: Global, desk: &mut D, now: Moment) -> Result<Gave, F
 }
 
 // A process runs.
-fn started<D: DeskCalls>(
+fn started<D: HelperCalls>(
     alloc: Global,
     desk: &mut D,
     epoch: EpochNo,
@@ -173,7 +173,7 @@ fn told_line(got: &Got) -> Told {
 }
 
 // A line of a process.
-fn line<D: DeskCalls>(
+fn line<D: HelperCalls>(
     alloc: Global,
     desk: &mut D,
     proc: ProcNo,
@@ -187,7 +187,7 @@ fn line<D: DeskCalls>(
 }
 
 // Another configuration, by its text.
-fn reconfigure<D: DeskCalls>(
+fn reconfigure<D: ControlCalls>(
     alloc: Global,
     desk: &mut D,
     text: &Text,
@@ -197,6 +197,26 @@ fn reconfigure<D: DeskCalls>(
     match desk.reconfigure(alloc, setup, now) {
         Ok(epoch) => Ok(Ok(Some(Told::Epoch(epoch)))),
         Err(fault) => Ok(Err(fault)),
+    }
+}
+
+/// Makes the call of an event that a thread of a helper process makes.
+pub fn call_helper<D: HelperCalls>(
+    alloc: Global,
+    desk: &mut D,
+    event: Event,
+    now: Moment,
+) -> Result<Gave, Fail> {
+    match event {
+        Event::Started { epoch, class } => Ok(started(alloc, desk, epoch, &class, now)),
+        Event::StartFail { epoch, class } => {
+            let class = place_of(&class);
+            Ok(fine(desk.start_failed(alloc, epoch, class, now)))
+        }
+        Event::Line { proc, bytes } => Ok(line(alloc, desk, proc, &bytes, now)),
+        Event::Died { proc } => Ok(fine(desk.died(proc, now))),
+        Event::Act => act(alloc, desk, now),
+        _ => Err(Fail::new("no call of a helper")),
     }
 }
 
@@ -210,18 +230,11 @@ pub fn call<D: DeskCalls>(
     match event {
         Event::Open { conn, addr, port } => Ok(fine(desk.open(conn, addr, port, now))),
         Event::Close { conn } => Ok(fine(desk.close(conn, now))),
+        Event::Ask { .. } => ask(alloc, desk, event, now),
         Event::Step { check } => stepped(alloc, desk.step(alloc, check, now)),
         Event::Take { check } => taken(alloc, desk.take(alloc, check, now)),
-        Event::Started { epoch, class } => Ok(started(alloc, desk, epoch, &class, now)),
-        Event::StartFail { epoch, class } => {
-            let class = place_of(&class);
-            Ok(fine(desk.start_failed(alloc, epoch, class, now)))
-        }
-        Event::Line { proc, bytes } => Ok(line(alloc, desk, proc, &bytes, now)),
-        Event::Died { proc } => Ok(fine(desk.died(proc, now))),
-        Event::Act => act(alloc, desk, now),
         Event::Reconfigure { text } => reconfigure(alloc, desk, &text, now),
-        event => ask(alloc, desk, event, now),
+        event => call_helper(alloc, desk, event, now),
     }
 }
 

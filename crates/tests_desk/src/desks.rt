@@ -2,16 +2,16 @@
 ghost use Rattle.std.specs.Prelude.{◌≡◌, pos, []};
 ghost use Rattle.sq_journal_writers.specs.Memory.{mem_history};
 
-use crate::calls::{Gave, call, call_hub, is_same, setup_of};
+use crate::calls::{Gave, call, call_helper, call_hub, is_same, setup_of};
 use crate::jobs::{BEGIN, CONF, Job, lines_of};
 use sq_base::Moment;
 use sq_cache::HashSeed;
-use sq_calls::{DeskCalls, DeskFault};
+use sq_calls::{DeskCalls, DeskFault, HelperCalls};
 use sq_conn_policy::Hub;
 use sq_desk::{Desk, DeskStart};
 use sq_journal::{print_entry, read_entry, read_event};
 use sq_journal_writers::{Journal, MemJournal};
-use sq_machine::{Entry, Offset, Told};
+use sq_machine::{Entry, Event, Offset, Told};
 use sq_urlmatch::Setup;
 use std::alloc::Global;
 use std::marker::Brand;
@@ -51,20 +51,6 @@ fn told_mark(told: &Told, wanted: &Told) -> &'static str {
     }
 }
 
-// The mark of a line whose call adds no entry.
-fn silent_mark<D: DeskCalls>(
-    alloc: Global,
-    desk: &mut D,
-    line: &str,
-) -> Result<&'static str, Fail> {
-    let (moment, event) = read_event(alloc, line.as_bytes())?;
-    match call(alloc, desk, event, moment)? {
-        Ok(None) => Ok("-"),
-        Ok(Some(_)) => Ok("x"),
-        Err(fault) => Ok(fault_mark(fault)),
-    }
-}
-
 /// The mark of what a call gave, where this is wanted.
 pub fn gave_mark(gave: &Gave, wanted: &Told) -> &'static str {
     match gave {
@@ -72,17 +58,6 @@ pub fn gave_mark(gave: &Gave, wanted: &Told) -> &'static str {
         Ok(None) => "x",
         Err(fault) => fault_mark(*fault),
     }
-}
-
-// The mark of a line whose call adds an entry.
-fn entry_mark<D: DeskCalls>(alloc: Global, desk: &mut D, row: &str) -> Result<&'static str, Fail> {
-    let Entry {
-        moment,
-        event,
-        answer,
-    } = read_entry(alloc, row.as_bytes())?;
-    let gave = call(alloc, desk, event, moment)?;
-    Ok(gave_mark(&gave, &answer))
 }
 
 /// The mark of a line whose call a hub makes, at the moment of its clock.
@@ -97,13 +72,41 @@ pub fn is_noted(row: &str) -> bool {
     !(row.ends_with(" => refused") || row.ends_with(" => none") || row.ends_with(" => wanting"))
 }
 
-/// The mark of a line.
-pub fn mark<D: DeskCalls>(alloc: Global, desk: &mut D, row: &str) -> Result<&'static str, Fail> {
+// The moment and the event of a line, and the answer that is wanted, where its call adds an entry.
+fn read_row(alloc: Global, row: &str) -> Result<(Moment, Event, Option<Told>), Fail> {
     if is_noted(row) {
-        return entry_mark(alloc, desk, row);
+        let entry = read_entry(alloc, row.as_bytes())?;
+        return Ok((entry.moment, entry.event, Some(entry.answer)));
     }
     let (line, _) = row.split_once(" => ").ok_or("no answer")?;
-    silent_mark(alloc, desk, line)
+    let (moment, event) = read_event(alloc, line.as_bytes())?;
+    Ok((moment, event, None))
+}
+
+// The mark of what a call gave, where this is wanted, or no entry.
+fn row_mark(gave: &Gave, wanted: &Option<Told>) -> &'static str {
+    match (wanted, gave) {
+        (Some(wanted), gave) => gave_mark(gave, wanted),
+        (None, Ok(None)) => "-",
+        (None, Ok(Some(_))) => "x",
+        (None, Err(fault)) => fault_mark(*fault),
+    }
+}
+
+/// The mark of a line.
+pub fn mark<D: DeskCalls>(alloc: Global, desk: &mut D, row: &str) -> Result<&'static str, Fail> {
+    let (moment, event, wanted) = read_row(alloc, row)?;
+    Ok(row_mark(&call(alloc, desk, event, moment)?, &wanted))
+}
+
+/// The mark of a line whose call a thread of a helper process makes.
+pub fn helper_mark<D: HelperCalls>(
+    alloc: Global,
+    desk: &mut D,
+    row: &str,
+) -> Result<&'static str, Fail> {
+    let (moment, event, wanted) = read_row(alloc, row)?;
+    Ok(row_mark(&call_helper(alloc, desk, event, moment)?, &wanted))
 }
 
 // Makes the calls of the lines. Where memory was wanting the call is made once more, but for a line that wants that.

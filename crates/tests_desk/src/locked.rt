@@ -5,12 +5,12 @@ ghost use Rattle.sq_calls.specs.Legality.{IsStated};
 ghost use Rattle.sq_shared.specs.Books.{AreCounted};
 
 use crate::calls::setup_of;
-use crate::desks::{gave_mark, hub_mark, is_noted, mark};
+use crate::desks::{gave_mark, helper_mark, hub_mark, is_noted, mark};
 use crate::jobs::BEGIN;
 use crate::locks::{Blanks, CALLERS, Wholes, lock, pools_of};
 use sq_base::{EpochNo, Moment};
 use sq_cache::HashSeed;
-use sq_calls::{DeskCalls, DeskFault};
+use sq_calls::{ControlCalls, DeskCalls, DeskFault, HelperCalls, TellsJournal};
 use sq_conn_policy::Hub;
 use sq_desk::{Desk, DeskStart};
 use sq_journal::{print_entry, read_entry};
@@ -18,12 +18,12 @@ use sq_journal_writers::MemJournal;
 use sq_machine::{Entry, Event, Offset, Told};
 use sq_outside_mem::MemClock;
 use sq_pools::{Pools, TagPools};
-use sq_shared::{Bank, ControlDesk, LockDesk, Room};
+use sq_shared::{Asks, Bank, ControlDesk, Grants, Ledgers, LockDesk, Makes, Refusals, Room};
 use sq_urlmatch::Setup;
 use sq_workers::LockHub;
 use std::alloc::Global;
 use std::marker::Brand;
-use std::sync::ledger::{Ledger, Share};
+use std::sync::ledger::Share;
 use std::sync::{Mutex, Wait};
 use std::test::Fail;
 
@@ -40,16 +40,16 @@ http_access allow b
 ";
 
 /// What is done before another configuration is current: a check, a question and a process of each class. Each line has its
-/// caller: `d` the desk behind its lock, `h` a hub.
-static FIRST: &str = "d 5 open 1 10.0.0.1 4001 => ok
-d 5 open 2 10.0.0.2 4002 => ok
+/// caller: `d` the desk behind its lock, as a helper's thread sees it, `h` a hub.
+static FIRST: &str = "h 5 open 1 10.0.0.1 4001 => ok
+h 5 open 2 10.0.0.2 4002 => ok
 h 5 ask 1 GET http://a.example/ => check 1
-d 5 step 1 => waits 1
+h 5 step 1 => waits 1
 d 5 act => start 1 v
 d 5 started 1 v => proc 1
 d 5 act => send 1 1 - a.example%20-
 h 5 ask 2 GET http://b.example:81/ => check 2
-d 5 step 2 => waits 2
+h 5 step 2 => waits 2
 d 5 act => start 1 w
 d 5 started 1 w => proc 2
 d 5 act => send 2 2 - b.example%20-
@@ -61,43 +61,37 @@ static AGAIN: &str =
 
 /// What is done behind it: a check and a due start of each class, two checks that are done, and a question more, for which
 /// another process is to be started.
-static SECOND: &str = "d 5 open 3 10.0.0.3 4003 => ok
+static SECOND: &str = "h 5 open 3 10.0.0.3 4003 => ok
 h 5 ask 3 GET http://c.example/ => check 3
-d 5 step 3 => waits 3
+h 5 step 3 => waits 3
 d 5 act => start 2 v
-d 5 open 4 10.0.0.4 4004 => ok
+h 5 open 4 10.0.0.4 4004 => ok
 h 5 ask 4 GET http://d.example:81/ => check 4
-d 5 step 4 => waits 4
+h 5 step 4 => waits 4
 d 5 act => start 2 w
-d 5 open 5 10.0.0.5 4005 => ok
+h 5 open 5 10.0.0.5 4005 => ok
 h 5 ask 5 GET http://e.example:82/ => check 5
-d 5 step 5 => done
-d 5 open 6 10.0.0.6 4006 => ok
+h 5 step 5 => done
+h 5 open 6 10.0.0.6 4006 => ok
 h 5 ask 6 GET http://f.example:82/ => check 6
-d 5 step 6 => done
-d 5 open 7 10.0.0.7 4007 => ok
+h 5 step 6 => done
+h 5 open 7 10.0.0.7 4007 => ok
 h 5 ask 7 GET http://g.example/ => check 7
-d 5 step 7 => waits 5
-d 5 open 8 10.0.0.8 4008 => ok
-d 5 open 9 10.0.0.9 4009 => ok
+h 5 step 7 => waits 5
+h 5 open 8 10.0.0.8 4008 => ok
+h 5 open 9 10.0.0.9 4009 => ok
 ";
 
 /// The calls, each of which is made once in the state that is left then. Where it names one of what is there, there are two of
 /// that kind or more, and it is not the first. `c` is the control, and `r` reads: the words of a class, or a configuration's
-/// port. A desk behind its lock asks nothing and makes no reconfiguration: it wants memory.
-static CASES: &str = "d 9 open 10 10.0.0.10 4010 => ok
-d 9 close 9 => ok
-d 9 step 4 => waits 4
-d 9 take 6 => epoch 2 denied rule 1
-d 9 started 2 w => proc 3
+/// port.
+static CASES: &str = "d 9 started 2 w => proc 3
 d 9 startfail 2 w => ok
 d 9 line 2 OK => reply 2 ok
 d 9 line 9 OK => refused
 d 9 died 2 => ok
 d 9 died 9 => refused
 d 9 act => start 2 v
-d 9 ask 9 GET http://h.example/ => wanting
-d 9 reconfigure http_access%20deny%20all%0A => wanting
 r words /bin/g2
 r port 3129
 c 9 reconfigure http_access%20deny%20all%0A => epoch 3
@@ -111,10 +105,10 @@ h 8 take 6 => epoch 2 denied rule 1
 /// For how many entries a journal has room.
 const ROOM: usize = 100;
 
-// The moments of a connection's clock: it asks seven times at 5, and then is called at 8.
+// The moments of a connection's clock: it is called 23 times at 5, and then at 8.
 fn clock(alloc: Global) -> Result<MemClock, Fail> {
     let mut rest = Vec::new(alloc);
-    for _ in 1..7 {
+    for _ in 1..23 {
         rest.push(Moment(5))?;
     }
     rest.push(Moment(8))?;
@@ -122,7 +116,7 @@ fn clock(alloc: Global) -> Result<MemClock, Fail> {
 }
 
 // Whether these are the words of the class at place 1 of epoch 2.
-fn has_words<D: DeskCalls>(alloc: Global, desk: &D, word: &str) -> Result<bool, Fail> {
+fn has_words<D: HelperCalls>(alloc: Global, desk: &D, word: &str) -> Result<bool, Fail> {
     match desk.words(alloc, EpochNo(2), 1)? {
         Some(words) => match words.as_slice() {
             [only] => Ok(only.as_bytes() == word.as_bytes()),
@@ -133,7 +127,7 @@ fn has_words<D: DeskCalls>(alloc: Global, desk: &D, word: &str) -> Result<bool, 
 }
 
 // Whether epoch 2 listens at this port.
-fn has_port<D: DeskCalls>(desk: &D, port: &str) -> bool {
+fn has_port<D: TellsJournal>(desk: &D, port: &str) -> bool {
     match desk.config(EpochNo(2)) {
         Some(config) => port.parse::<u16>() == Ok(config.port()),
         None => false,
@@ -141,7 +135,7 @@ fn has_port<D: DeskCalls>(desk: &D, port: &str) -> bool {
 }
 
 // The mark of a line that reads: `.` where that is read.
-fn read_mark<D: DeskCalls>(alloc: Global, desk: &D, line: &str) -> Result<&'static str, Fail> {
+fn read_mark<D: HelperCalls>(alloc: Global, desk: &D, line: &str) -> Result<&'static str, Fail> {
     let is_read = match line.split_once(' ') {
         Some(("words", word)) => has_words(alloc, desk, word)?,
         Some(("port", port)) => has_port(desk, port),
@@ -151,14 +145,14 @@ fn read_mark<D: DeskCalls>(alloc: Global, desk: &D, line: &str) -> Result<&'stat
 }
 
 // The mark of a line whose call is made behind the lock.
-fn row_mark<D: DeskCalls, H: Hub>(
+fn row_mark<D: HelperCalls, H: Hub>(
     alloc: Global,
     desk: &mut D,
     hub: &mut H,
     row: &str,
 ) -> Result<&'static str, Fail> {
     match row.split_at_checked(2) {
-        Some(("d ", line)) => mark(alloc, desk, line),
+        Some(("d ", line)) => helper_mark(alloc, desk, line),
         Some(("h ", line)) => hub_mark(alloc, hub, line),
         Some(("r ", line)) => read_mark(alloc, desk, line),
         _ => Ok("?"),
@@ -166,7 +160,7 @@ fn row_mark<D: DeskCalls, H: Hub>(
 }
 
 // Makes the calls of these lines, and puts down their marks, unless something failed before.
-fn run_rows<D: DeskCalls, H: Hub>(
+fn run_rows<D: HelperCalls, H: Hub>(
     done: Result<(), Fail>,
     alloc: Global,
     desk: &mut D,
@@ -221,54 +215,54 @@ fn put(marks: &mut String, gave: Result<EpochNo, DeskFault>, wanted: &Told) -> R
 // Makes a reconfiguration behind the lock, as the control does, and puts down its mark, unless something failed before. The
 // share is given back.
 #[tactic(auto, using(crate::proofs::BeginLaws::whole_share))]
-fn reread<R: Wait, D: DeskCalls, A: Ledger, M: Ledger, N: Ledger>(
+fn reread<R: Wait, D: DeskCalls, B: Ledgers>(
     done: Result<(), Fail>,
     rt: &R,
     alloc: Global,
-    room: &Room<D, A, M, N>,
-    made: Share<M>,
-    refused: Share<N>,
+    room: &Room<D, B>,
+    made: Share<Makes<B>>,
+    refused: Share<Refusals<B>>,
     row: &str,
     marks: &mut String,
-) -> (Result<(), Fail>, Share<M>)
+) -> (Result<(), Fail>, Share<Makes<B>>)
     requires counting { D.is_counting ≡ true }
-    requires made { (made.parts ≡ M.parts) × (0 < made.parts) }
+    requires made { (made.parts ≡ B.makes.parts) × (0 < made.parts) }
     requires refused { 0 < refused.parts }
-    ensures { result.1.parts ≡ M.parts }
+    ensures { result.1.parts ≡ B.makes.parts }
 {
     let (now, setup, wanted) = match reread_of(done, alloc, row) {
         Ok(reread) => reread,
         Err(fault) => return (Err(fault), made),
     };
-    let mut control = ControlDesk::new(LockDesk::new(rt, room, refused), made);
+    let mut control = ControlDesk::new(rt, room, made, refused);
     let gave = control.reconfigure(alloc, setup, now);
     (put(marks, gave, &wanted), control.finish())
 }
 
 // Whether all went well, and the shares, which are whole again once all calls were made.
-struct Back<A: Ledger, M: Ledger> {
+struct Back<B: Ledgers> {
     done: Result<(), Fail>,
-    asked: Share<A>,
-    made: Share<M>,
+    asked: Share<Asks<B>>,
+    made: Share<Makes<B>>,
 }
 
 // Makes all calls and then the one of the case, and puts down their marks.
-fn run_case<'x, R: Wait, D: DeskCalls, A: Ledger, M: Ledger, N: Ledger, G: Ledger>(
+fn run_case<'x, R: Wait, D: DeskCalls, B: Ledgers>(
     rt: &'x R,
     alloc: Global,
-    room: &'x Room<D, A, M, N>,
-    bank: &'x Mutex<Bank<G>>,
+    room: &'x Room<D, B>,
+    bank: &'x Mutex<Bank<Grants<B>>>,
     clock: MemClock,
-    wholes: Wholes<A, M, N, G>,
+    wholes: Wholes<B>,
     case: &str,
     marks: &mut String,
-) -> Back<A, M>
+) -> Back<B>
     requires counting { D.is_counting ≡ true }
-    requires asked { (wholes.asked.parts ≡ 1) × (wholes.asked.amount ≡ 0) × (A.parts ≡ 1) }
-    requires made { (wholes.made.parts ≡ 1) × (M.parts ≡ 1) }
+    requires asked { (wholes.asked.parts ≡ 1) × (wholes.asked.amount ≡ 0) × (B.asks.parts ≡ 1) }
+    requires made { (wholes.made.parts ≡ 1) × (B.makes.parts ≡ 1) }
     requires refused { wholes.refused.parts ≡ CALLERS }
     requires granted { (wholes.granted.parts ≡ 1) × (wholes.granted.amount ≡ 0) }
-    ensures { (result.asked.parts ≡ A.parts) × (result.made.parts ≡ M.parts) }
+    ensures { (result.asked.parts ≡ B.asks.parts) × (result.made.parts ≡ B.makes.parts) }
 {
     let Wholes {
         asked,
@@ -294,7 +288,7 @@ fn run_case<'x, R: Wait, D: DeskCalls, A: Ledger, M: Ledger, N: Ledger, G: Ledge
 }
 
 // The desk, once all calls were made behind its lock and that was opened, and whether all went well.
-fn run_locked<R: Wait, D: DeskCalls, A: Ledger, M: Ledger, N: Ledger, G: Ledger>(
+fn run_locked<R: Wait, D: DeskCalls, B: Ledgers>(
     rt: &R,
     alloc: Global,
     desk: D,
@@ -305,18 +299,21 @@ fn run_locked<R: Wait, D: DeskCalls, A: Ledger, M: Ledger, N: Ledger, G: Ledger>
     marks: &mut String,
 ) -> (Result<(), Fail>, D)
     requires counting { D.is_counting ≡ true }
-    requires asks { (blanks.asks.name ≡ A.name) × (blanks.asks.parts ≡ A.parts) × (A.parts ≡ 1) }
-    requires makes { (blanks.makes.name ≡ M.name) × (blanks.makes.parts ≡ M.parts) × (M.parts ≡ 1) }
-    requires refusals { (blanks.refusals.name ≡ N.name) × (blanks.refusals.parts ≡ N.parts)
-        × (N.parts ≡ CALLERS) }
-    requires grants { (blanks.grants.name ≡ G.name) × (blanks.grants.parts ≡ G.parts)
-        × (G.parts ≡ 1) }
+    requires asks { (blanks.asks.name ≡ B.asks.name) × (blanks.asks.parts ≡ B.asks.parts)
+        × (B.asks.parts ≡ 1) }
+    requires makes { (blanks.makes.name ≡ B.makes.name) × (blanks.makes.parts ≡ B.makes.parts)
+        × (B.makes.parts ≡ 1) }
+    requires refusals { (blanks.refusals.name ≡ B.refusals.name)
+        × (blanks.refusals.parts ≡ B.refusals.parts)
+        × (B.refusals.parts ≡ CALLERS) }
+    requires grants { (blanks.grants.name ≡ B.grants.name) × (blanks.grants.parts ≡ B.grants.parts)
+        × (B.grants.parts ≡ 1) }
     requires entries { AreCounted 0 0 (D.told desk) }
     requires made { ForSome (D.made desk) (λ m. m ≡ 0) }
     requires refused { D.refused desk ≡ 0 }
     requires granted { (pools.0.granted ≡ 0) × (pools.1.granted ≡ 0) }
 {
-    let (room, bank, wholes) = lock::<D, A, M, N, G>(alloc, desk, pools, blanks);
+    let (room, bank, wholes) = lock::<D, B>(alloc, desk, pools, blanks);
     let Back { done, asked, made } = run_case(rt, alloc, &room, &bank, clock, wholes, case, marks);
     (done, room.into_hall().end(asked, made))
 }
@@ -363,7 +360,7 @@ fn told(alloc: Global, marks: &str, journal: &MemJournal) -> Result<String, Fail
 }
 
 // The journal, once all calls were made behind the lock.
-fn run_behind<R: Wait, F: DeskStart, A: Ledger, M: Ledger, N: Ledger, G: Ledger>(
+fn run_behind<R: Wait, F: DeskStart, B: Ledgers>(
     rt: &R,
     alloc: Global,
     setup: Setup,
@@ -372,17 +369,20 @@ fn run_behind<R: Wait, F: DeskStart, A: Ledger, M: Ledger, N: Ledger, G: Ledger>
     marks: &mut String,
 ) -> Result<MemJournal, Fail>
     requires first { F.first ≡ record { config = setup; offset = pos 0 } }
-    requires asks { (blanks.asks.name ≡ A.name) × (blanks.asks.parts ≡ A.parts) × (A.parts ≡ 1) }
-    requires makes { (blanks.makes.name ≡ M.name) × (blanks.makes.parts ≡ M.parts) × (M.parts ≡ 1) }
-    requires refusals { (blanks.refusals.name ≡ N.name) × (blanks.refusals.parts ≡ N.parts)
-        × (N.parts ≡ CALLERS) }
-    requires grants { (blanks.grants.name ≡ G.name) × (blanks.grants.parts ≡ G.parts)
-        × (G.parts ≡ 1) }
+    requires asks { (blanks.asks.name ≡ B.asks.name) × (blanks.asks.parts ≡ B.asks.parts)
+        × (B.asks.parts ≡ 1) }
+    requires makes { (blanks.makes.name ≡ B.makes.name) × (blanks.makes.parts ≡ B.makes.parts)
+        × (B.makes.parts ≡ 1) }
+    requires refusals { (blanks.refusals.name ≡ B.refusals.name)
+        × (blanks.refusals.parts ≡ B.refusals.parts)
+        × (B.refusals.parts ≡ CALLERS) }
+    requires grants { (blanks.grants.name ≡ B.grants.name) × (blanks.grants.parts ≡ B.grants.parts)
+        × (B.grants.parts ≡ 1) }
 {
     let clock = clock(alloc)?;
     let pools = pools_of(alloc, setup.config())?;
     let desk = begin::<F>(alloc, setup)?;
-    let (done, desk) = run_locked::<R, Desk<MemJournal, F>, A, M, N, G>(
+    let (done, desk) = run_locked::<R, Desk<MemJournal, F>, B>(
         rt,
         alloc,
         desk,
@@ -401,14 +401,7 @@ fn run_behind<R: Wait, F: DeskStart, A: Ledger, M: Ledger, N: Ledger, G: Ledger>
 fn told_locked<R: Wait>(rt: &R, alloc: Global, case: &String) -> Result<String, Fail> {
     let mut marks = String::new(alloc);
     let setup = setup_of(alloc, CONF.as_bytes())?;
-    let journal = run_behind::<R, Brand, Brand, Brand, Brand, Brand>(
-        rt,
-        alloc,
-        setup,
-        Blanks::new(),
-        case,
-        &mut marks,
-    )?;
+    let journal = run_behind::<R, Brand, Brand>(rt, alloc, setup, Blanks::new(), case, &mut marks)?;
     told(alloc, marks.as_str(), &journal)
 }
 
@@ -464,9 +457,7 @@ fn told_plain(alloc: Global, case: &String) -> Result<String, Fail> {
 // The mark that the call of a line has to have: a refused one must not be told as one that wants memory, by which it would be
 // tried for good.
 fn wanted_mark(row: &str) -> char {
-    if row.ends_with(" => wanting") {
-        'M'
-    } else if row.ends_with(" => refused") {
+    if row.ends_with(" => refused") {
         'R'
     } else {
         '.'
@@ -512,10 +503,8 @@ fn each_call_behind_the_lock_is_that_of_the_desk(rt: HostRuntime) -> Result<(), 
         let text = text_of(rt.alloc(), case)?;
         let locked = told_locked(&rt, rt.alloc(), &text)?;
         assert!(rt; locked.as_str() == wanted.as_str(), "{case}: {locked}");
-        if !case.ends_with(" => wanting") {
-            let plain = told_plain(rt.alloc(), &text)?;
-            assert!(rt; plain.as_str() == wanted.as_str(), "{case}: {plain}");
-        }
+        let plain = told_plain(rt.alloc(), &text)?;
+        assert!(rt; plain.as_str() == wanted.as_str(), "{case}: {plain}");
     }
     Ok(())
 }

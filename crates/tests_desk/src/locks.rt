@@ -7,7 +7,7 @@ use sq_base::{EpochNo, Moment, WantOfMemory};
 use sq_calls::DeskCalls;
 use sq_pools::{Pools, TagPools};
 use sq_rules::Config;
-use sq_shared::{Bank, Hall, Room};
+use sq_shared::{Asks, Bank, Grants, Hall, Ledgers, Makes, Refusals, Room};
 use std::alloc::Global;
 use std::sync::ledger::{Blank, Book, Ledger, Share};
 use std::sync::{Arc, Mutex};
@@ -43,22 +43,22 @@ impl Blanks {
 
 /// The whole share of each book.
 #[derive(Drop)]
-pub struct Wholes<A: Ledger, M: Ledger, N: Ledger, G: Ledger> {
-    pub asked: Share<A>,
-    pub made: Share<M>,
-    pub refused: Share<N>,
-    pub granted: Share<G>,
+pub struct Wholes<B: Ledgers> {
+    pub asked: Share<Asks<B>>,
+    pub made: Share<Makes<B>>,
+    pub refused: Share<Refusals<B>>,
+    pub granted: Share<Grants<B>>,
 }
 
 // Puts a desk that counted nothing yet behind its lock.
 #[tactic(auto, using(crate::proofs::BeginLaws::counted_none, crate::proofs::BeginLaws::made_none, crate::proofs::BeginLaws::refused_none))]
-fn room_of<D: DeskCalls, A: Ledger, M: Ledger, N: Ledger>(
+fn room_of<D: DeskCalls, B: Ledgers>(
     alloc: Global,
     desk: D,
-    asks: Book<A>,
-    makes: Book<M>,
-    refusals: Book<N>,
-) -> Room<D, A, M, N>
+    asks: Book<Asks<B>>,
+    makes: Book<Makes<B>>,
+    refusals: Book<Refusals<B>>,
+) -> Room<D, B>
     requires totals { (asks.total ≡ 0) × (makes.total ≡ 0) × (refusals.total ≡ 0) }
     requires entries { AreCounted 0 0 (D.told desk) }
     requires made { ForSome (D.made desk) (λ m. m ≡ 0) }
@@ -86,24 +86,26 @@ pub fn bank_of<G: Ledger>(pools: (Pools, TagPools), grants: Book<G>) -> Mutex<Ba
 }
 
 /// Puts a desk and pools that counted nothing yet behind their locks.
-pub fn lock<D: DeskCalls, A: Ledger, M: Ledger, N: Ledger, G: Ledger>(
+pub fn lock<D: DeskCalls, B: Ledgers>(
     alloc: Global,
     desk: D,
     pools: (Pools, TagPools),
     blanks: Blanks,
-) -> (Room<D, A, M, N>, Mutex<Bank<G>>, Wholes<A, M, N, G>)
-    requires asks { (blanks.asks.name ≡ A.name) × (blanks.asks.parts ≡ A.parts) }
-    requires makes { (blanks.makes.name ≡ M.name) × (blanks.makes.parts ≡ M.parts) }
-    requires refusals { (blanks.refusals.name ≡ N.name) × (blanks.refusals.parts ≡ N.parts) }
-    requires grants { (blanks.grants.name ≡ G.name) × (blanks.grants.parts ≡ G.parts) }
+) -> (Room<D, B>, Mutex<Bank<Grants<B>>>, Wholes<B>)
+    requires asks { (blanks.asks.name ≡ B.asks.name) × (blanks.asks.parts ≡ B.asks.parts) }
+    requires makes { (blanks.makes.name ≡ B.makes.name) × (blanks.makes.parts ≡ B.makes.parts) }
+    requires refusals { (blanks.refusals.name ≡ B.refusals.name)
+        × (blanks.refusals.parts ≡ B.refusals.parts) }
+    requires grants { (blanks.grants.name ≡ B.grants.name)
+        × (blanks.grants.parts ≡ B.grants.parts) }
     requires entries { AreCounted 0 0 (D.told desk) }
     requires made { ForSome (D.made desk) (λ m. m ≡ 0) }
     requires refused { D.refused desk ≡ 0 }
     requires granted { (pools.0.granted ≡ 0) × (pools.1.granted ≡ 0) }
-    ensures asked { (result.2.asked.parts ≡ A.parts) × (result.2.asked.amount ≡ 0) }
-    ensures made { (result.2.made.parts ≡ M.parts) × (result.2.made.amount ≡ 0) }
-    ensures refused { result.2.refused.parts ≡ N.parts }
-    ensures granted { (result.2.granted.parts ≡ G.parts) × (result.2.granted.amount ≡ 0) }
+    ensures asked { (result.2.asked.parts ≡ B.asks.parts) × (result.2.asked.amount ≡ 0) }
+    ensures made { (result.2.made.parts ≡ B.makes.parts) × (result.2.made.amount ≡ 0) }
+    ensures refused { result.2.refused.parts ≡ B.refusals.parts }
+    ensures granted { (result.2.granted.parts ≡ B.grants.parts) × (result.2.granted.amount ≡ 0) }
 {
     let Blanks {
         asks,
@@ -111,10 +113,10 @@ pub fn lock<D: DeskCalls, A: Ledger, M: Ledger, N: Ledger, G: Ledger>(
         refusals,
         grants,
     } = blanks;
-    let (asks, asked) = asks.open::<A>();
-    let (makes, made) = makes.open::<M>();
-    let (refusals, refused) = refusals.open::<N>();
-    let (grants, granted) = grants.open::<G>();
+    let (asks, asked) = asks.open::<Asks<B>>();
+    let (makes, made) = makes.open::<Makes<B>>();
+    let (refusals, refused) = refusals.open::<Refusals<B>>();
+    let (grants, granted) = grants.open::<Grants<B>>();
     let wholes = Wholes {
         asked,
         made,

@@ -19,12 +19,11 @@ use sq_request::make_request;
 use sq_rewrite::{Got, RewriteAct, RewriteFault, Rewriter, Rewriting};
 use sq_rewrite_pump::{LockRewriter, RewriterCalls};
 use sq_rules::Config;
-use sq_shared::{Bank, RewriterHall, RewriterRoom, Room};
+use sq_shared::{Bank, Grants, Ledgers, RewriterHall, RewriterRoom, Room};
 use sq_urlmatch::Setup;
 use sq_workers::LockHub;
 use std::alloc::Global;
 use std::marker::Brand;
-use std::sync::ledger::Ledger;
 use std::sync::{Mutex, Wait};
 use std::test::Fail;
 
@@ -345,13 +344,13 @@ fn told_plain(alloc: Global) -> Result<String, Fail> {
 }
 
 // What is told of the calls behind the lock.
-fn run_hub<'x, R: Wait, D: DeskCalls, A: Ledger, M: Ledger, N: Ledger, G: Ledger>(
+fn run_hub<'x, R: Wait, D: DeskCalls, B: Ledgers>(
     rt: &'x R,
     alloc: Global,
     rewriter: &'x RewriterRoom,
-    room: &'x Room<D, A, M, N>,
-    bank: &'x Mutex<Bank<G>>,
-    wholes: Wholes<A, M, N, G>,
+    room: &'x Room<D, B>,
+    bank: &'x Mutex<Bank<Grants<B>>>,
+    wholes: Wholes<B>,
 ) -> Result<String, Fail>
     requires asked { (wholes.asked.parts ≡ 1) × (wholes.asked.amount ≡ 0) }
     requires refused { wholes.refused.parts ≡ CALLERS }
@@ -376,7 +375,7 @@ fn run_hub<'x, R: Wait, D: DeskCalls, A: Ledger, M: Ledger, N: Ledger, G: Ledger
 }
 
 // What is told of the calls behind the lock, beside this desk.
-fn run_locked<R: Wait, D: DeskCalls + Drop, A: Ledger, M: Ledger, N: Ledger, G: Ledger>(
+fn run_locked<R: Wait, D: DeskCalls + Drop, B: Ledgers>(
     rt: &R,
     alloc: Global,
     rewriter: Rewriter,
@@ -384,47 +383,51 @@ fn run_locked<R: Wait, D: DeskCalls + Drop, A: Ledger, M: Ledger, N: Ledger, G: 
     pools: (Pools, TagPools),
     blanks: Blanks,
 ) -> Result<String, Fail>
-    requires asks { (blanks.asks.name ≡ A.name) × (blanks.asks.parts ≡ A.parts) × (A.parts ≡ 1) }
-    requires makes { (blanks.makes.name ≡ M.name) × (blanks.makes.parts ≡ M.parts) }
-    requires refusals { (blanks.refusals.name ≡ N.name) × (blanks.refusals.parts ≡ N.parts)
-        × (N.parts ≡ CALLERS) }
-    requires grants { (blanks.grants.name ≡ G.name) × (blanks.grants.parts ≡ G.parts)
-        × (G.parts ≡ 1) }
+    requires asks { (blanks.asks.name ≡ B.asks.name) × (blanks.asks.parts ≡ B.asks.parts)
+        × (B.asks.parts ≡ 1) }
+    requires makes { (blanks.makes.name ≡ B.makes.name) × (blanks.makes.parts ≡ B.makes.parts) }
+    requires refusals { (blanks.refusals.name ≡ B.refusals.name)
+        × (blanks.refusals.parts ≡ B.refusals.parts)
+        × (B.refusals.parts ≡ CALLERS) }
+    requires grants { (blanks.grants.name ≡ B.grants.name) × (blanks.grants.parts ≡ B.grants.parts)
+        × (B.grants.parts ≡ 1) }
     requires entries { AreCounted 0 0 (D.told desk) }
     requires made { ForSome (D.made desk) (λ m. m ≡ 0) }
     requires refused { D.refused desk ≡ 0 }
     requires granted { (pools.0.granted ≡ 0) × (pools.1.granted ≡ 0) }
 {
-    let (room, bank, wholes) = lock::<D, A, M, N, G>(alloc, desk, pools, blanks);
+    let (room, bank, wholes) = lock::<D, B>(alloc, desk, pools, blanks);
     let rewriter = RewriterRoom::new(RewriterHall::new(rewriter));
     run_hub(rt, alloc, &rewriter, &room, &bank, wholes)
 }
 
 // What is told of the calls behind the lock, by parts of their own.
-fn run_behind<R: Wait, F: DeskStart, A: Ledger, M: Ledger, N: Ledger, G: Ledger>(
+fn run_behind<R: Wait, F: DeskStart, B: Ledgers>(
     rt: &R,
     alloc: Global,
     setup: Setup,
     blanks: Blanks,
 ) -> Result<String, Fail>
     requires first { F.first ≡ record { config = setup; offset = pos 0 } }
-    requires asks { (blanks.asks.name ≡ A.name) × (blanks.asks.parts ≡ A.parts) × (A.parts ≡ 1) }
-    requires makes { (blanks.makes.name ≡ M.name) × (blanks.makes.parts ≡ M.parts) }
-    requires refusals { (blanks.refusals.name ≡ N.name) × (blanks.refusals.parts ≡ N.parts)
-        × (N.parts ≡ CALLERS) }
-    requires grants { (blanks.grants.name ≡ G.name) × (blanks.grants.parts ≡ G.parts)
-        × (G.parts ≡ 1) }
+    requires asks { (blanks.asks.name ≡ B.asks.name) × (blanks.asks.parts ≡ B.asks.parts)
+        × (B.asks.parts ≡ 1) }
+    requires makes { (blanks.makes.name ≡ B.makes.name) × (blanks.makes.parts ≡ B.makes.parts) }
+    requires refusals { (blanks.refusals.name ≡ B.refusals.name)
+        × (blanks.refusals.parts ≡ B.refusals.parts)
+        × (B.refusals.parts ≡ CALLERS) }
+    requires grants { (blanks.grants.name ≡ B.grants.name) × (blanks.grants.parts ≡ B.grants.parts)
+        × (B.grants.parts ≡ 1) }
 {
     let rewriter = rewriter_of(alloc, setup.config())?;
     let pools = pools_of(alloc, setup.config())?;
     let desk = begin::<F>(alloc, setup)?;
-    run_locked::<R, Desk<MemJournal, F>, A, M, N, G>(rt, alloc, rewriter, desk, pools, blanks)
+    run_locked::<R, Desk<MemJournal, F>, B>(rt, alloc, rewriter, desk, pools, blanks)
 }
 
 // What is told of the calls behind the lock.
 fn told_locked<R: Wait>(rt: &R, alloc: Global) -> Result<String, Fail> {
     let setup = setup_of(alloc, CONF.as_bytes())?;
-    run_behind::<R, Brand, Brand, Brand, Brand, Brand>(rt, alloc, setup, Blanks::new())
+    run_behind::<R, Brand, Brand>(rt, alloc, setup, Blanks::new())
 }
 
 #[test]

@@ -16,12 +16,12 @@ use sq_outside::Clock;
 use sq_outside_mem::MemClock;
 use sq_pools::{Pools, Seat, TagPools, TagSeat};
 use sq_rules::Config;
-use sq_shared::{Bank, Room};
+use sq_shared::{Bank, Grants, Ledgers, Room};
 use sq_urlmatch::Setup;
 use sq_workers::LockHub;
 use std::alloc::Global;
 use std::marker::Brand;
-use std::sync::ledger::{Ledger, Share};
+use std::sync::ledger::Share;
 use std::sync::{Arc, Mutex, Wait};
 use std::test::Fail;
 
@@ -335,16 +335,16 @@ fn told_plain(alloc: Global, config: &Arc<Config>, case: &str) -> Result<String,
 }
 
 // What the call of a case answers behind the lock, and the share of what was granted.
-fn run_hub<'x, R: Wait, D: DeskCalls, A: Ledger, M: Ledger, N: Ledger, G: Ledger>(
+fn run_hub<'x, R: Wait, D: DeskCalls, B: Ledgers>(
     rt: &'x R,
     alloc: Global,
     config: &Arc<Config>,
-    room: &'x Room<D, A, M, N>,
-    bank: &'x Mutex<Bank<G>>,
+    room: &'x Room<D, B>,
+    bank: &'x Mutex<Bank<Grants<B>>>,
     clock: MemClock,
-    wholes: Wholes<A, M, N, G>,
+    wholes: Wholes<B>,
     case: &str,
-) -> (Result<Option<u64>, Fail>, Share<G>)
+) -> (Result<Option<u64>, Fail>, Share<Grants<B>>)
     requires asked { (wholes.asked.parts ≡ 1) × (wholes.asked.amount ≡ 0) }
     requires refused { wholes.refused.parts ≡ CALLERS }
     requires granted { (wholes.granted.parts ≡ 1) × (wholes.granted.amount ≡ 0) }
@@ -364,7 +364,7 @@ fn run_hub<'x, R: Wait, D: DeskCalls, A: Ledger, M: Ledger, N: Ledger, G: Ledger
 }
 
 // What is told of the calls of the pools behind their lock.
-fn run_locked<R: Wait, D: DeskCalls + Drop, A: Ledger, M: Ledger, N: Ledger, G: Ledger>(
+fn run_locked<R: Wait, D: DeskCalls + Drop, B: Ledgers>(
     rt: &R,
     alloc: Global,
     config: &Arc<Config>,
@@ -374,25 +374,27 @@ fn run_locked<R: Wait, D: DeskCalls + Drop, A: Ledger, M: Ledger, N: Ledger, G: 
     blanks: Blanks,
     case: &str,
 ) -> Result<String, Fail>
-    requires asks { (blanks.asks.name ≡ A.name) × (blanks.asks.parts ≡ A.parts) × (A.parts ≡ 1) }
-    requires makes { (blanks.makes.name ≡ M.name) × (blanks.makes.parts ≡ M.parts) }
-    requires refusals { (blanks.refusals.name ≡ N.name) × (blanks.refusals.parts ≡ N.parts)
-        × (N.parts ≡ CALLERS) }
-    requires grants { (blanks.grants.name ≡ G.name) × (blanks.grants.parts ≡ G.parts)
-        × (G.parts ≡ 1) }
+    requires asks { (blanks.asks.name ≡ B.asks.name) × (blanks.asks.parts ≡ B.asks.parts)
+        × (B.asks.parts ≡ 1) }
+    requires makes { (blanks.makes.name ≡ B.makes.name) × (blanks.makes.parts ≡ B.makes.parts) }
+    requires refusals { (blanks.refusals.name ≡ B.refusals.name)
+        × (blanks.refusals.parts ≡ B.refusals.parts)
+        × (B.refusals.parts ≡ CALLERS) }
+    requires grants { (blanks.grants.name ≡ B.grants.name) × (blanks.grants.parts ≡ B.grants.parts)
+        × (B.grants.parts ≡ 1) }
     requires entries { AreCounted 0 0 (D.told desk) }
     requires made { ForSome (D.made desk) (λ m. m ≡ 0) }
     requires refused { D.refused desk ≡ 0 }
     requires granted { (pools.0.granted ≡ 0) × (pools.1.granted ≡ 0) }
 {
-    let (room, bank, wholes) = lock::<D, A, M, N, G>(alloc, desk, pools, blanks);
+    let (room, bank, wholes) = lock::<D, B>(alloc, desk, pools, blanks);
     let (answer, granted) = run_hub(rt, alloc, config, &room, &bank, clock, wholes, case);
     let (pools, tags) = bank.into_inner().end(granted);
     told(alloc, config, &pools, &tags, case, answer)
 }
 
 // What is told of the calls of the pools behind their lock.
-fn run_behind<R: Wait, F: DeskStart, A: Ledger, M: Ledger, N: Ledger, G: Ledger>(
+fn run_behind<R: Wait, F: DeskStart, B: Ledgers>(
     rt: &R,
     alloc: Global,
     config: &Arc<Config>,
@@ -401,17 +403,19 @@ fn run_behind<R: Wait, F: DeskStart, A: Ledger, M: Ledger, N: Ledger, G: Ledger>
     case: &String,
 ) -> Result<String, Fail>
     requires first { F.first ≡ record { config = setup; offset = pos 0 } }
-    requires asks { (blanks.asks.name ≡ A.name) × (blanks.asks.parts ≡ A.parts) × (A.parts ≡ 1) }
-    requires makes { (blanks.makes.name ≡ M.name) × (blanks.makes.parts ≡ M.parts) }
-    requires refusals { (blanks.refusals.name ≡ N.name) × (blanks.refusals.parts ≡ N.parts)
-        × (N.parts ≡ CALLERS) }
-    requires grants { (blanks.grants.name ≡ G.name) × (blanks.grants.parts ≡ G.parts)
-        × (G.parts ≡ 1) }
+    requires asks { (blanks.asks.name ≡ B.asks.name) × (blanks.asks.parts ≡ B.asks.parts)
+        × (B.asks.parts ≡ 1) }
+    requires makes { (blanks.makes.name ≡ B.makes.name) × (blanks.makes.parts ≡ B.makes.parts) }
+    requires refusals { (blanks.refusals.name ≡ B.refusals.name)
+        × (blanks.refusals.parts ≡ B.refusals.parts)
+        × (B.refusals.parts ≡ CALLERS) }
+    requires grants { (blanks.grants.name ≡ B.grants.name) × (blanks.grants.parts ≡ B.grants.parts)
+        × (B.grants.parts ≡ 1) }
 {
     let clock = clock(alloc)?;
     let pools = pools_of(alloc, config)?;
     let desk = begin::<F>(alloc, setup)?;
-    run_locked::<R, Desk<MemJournal, F>, A, M, N, G>(
+    run_locked::<R, Desk<MemJournal, F>, B>(
         rt,
         alloc,
         config,
@@ -431,14 +435,7 @@ fn told_locked<R: Wait>(
     case: &String,
 ) -> Result<String, Fail> {
     let setup = setup_of(alloc, CONF.as_bytes())?;
-    run_behind::<R, Brand, Brand, Brand, Brand, Brand>(
-        rt,
-        alloc,
-        config,
-        setup,
-        Blanks::new(),
-        case,
-    )
+    run_behind::<R, Brand, Brand>(rt, alloc, config, setup, Blanks::new(), case)
 }
 
 #[test]

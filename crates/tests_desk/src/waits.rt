@@ -5,23 +5,25 @@ ghost use Rattle.std.specs.Option.{ForSome};
 ghost use Rattle.sq_shared.specs.Books.{AreCounted};
 
 use crate::calls::setup_of;
-use crate::desks::{hub_mark, mark};
+use crate::desks::{helper_mark, hub_mark};
 use crate::locked::{begin_failing, text_of};
 use crate::locks::{Blanks, CALLERS, Wholes, lock, pools_of};
 use sq_base::{Moment, QuestionNo};
-use sq_calls::DeskCalls;
+use sq_calls::{DeskCalls, HelperCalls};
 use sq_conn_policy::Hub;
 use sq_desk::{Desk, DeskStart};
 use sq_journal_writers::MemJournal;
 use sq_outside_mem::MemClock;
 use sq_pools::{Pools, TagPools};
-use sq_shared::{Bank, LockDesk, Room, changes, is_awaited, set_done, tell_end, wait_due};
+use sq_shared::{
+    Bank, Grants, Ledgers, LockDesk, Room, changes, is_awaited, set_done, tell_end, wait_due,
+};
 use sq_urlmatch::Setup;
 use sq_workers::LockHub;
 use std::alloc::Global;
 use std::marker::Brand;
 use std::process::Abort;
-use std::sync::ledger::{Blank, Ledger};
+use std::sync::ledger::Blank;
 use std::sync::{Mutex, Wait};
 use std::test::Fail;
 
@@ -38,8 +40,8 @@ http_access allow b
 /// Each line has its caller: `d` the desk behind its lock, `1` and `2` two connections; a connection that waits has to wake. `+`
 /// stands before a question on which one sleeps, and `-` before one on which none does. The second helper answers first; then
 /// both wait for the first helper's answer. At last the second helper dies: who waits for the first looks once more, and waits.
-static ROWS: &str = "d 5 open 1 10.0.0.1 4001 => ok
-d 5 open 2 10.0.0.2 4002 => ok
+static ROWS: &str = "1 5 open 1 10.0.0.1 4001 => ok
+2 5 open 2 10.0.0.2 4002 => ok
 1 5 ask 1 GET http://a.example/ => check 1
 1 5 step 1 => waits 1
 d 5 act => start 1 v
@@ -88,12 +90,12 @@ d 5 died 2 => ok
 ";
 
 /// The journal fails while a connection waits: its sixth note is the third opening. Who waits learns it.
-static STOPPED: &str = "d 5 open 1 10.0.0.1 4001 => ok
-d 5 open 2 10.0.0.2 4002 => ok
+static STOPPED: &str = "1 5 open 1 10.0.0.1 4001 => ok
+2 5 open 2 10.0.0.2 4002 => ok
 1 5 ask 1 GET http://a.example/ => check 1
 1 5 step 1 => waits 1
 + 1
-d 5 open 3 10.0.0.3 4003 => ok
+2 5 open 3 10.0.0.3 4003 => ok
 - 1
 1 wait
 1 5 step 1 => done
@@ -102,7 +104,7 @@ d 5 open 3 10.0.0.3 4003 => ok
 
 /// The pump: it `looks` at what it was told, which stays `untold` or was `told` when it goes to sleep, so that it sleeps on.
 /// It was told of each thing here that came behind its look, as it does while it makes an act. At last it is `over`.
-static TOLD: &str = "d 5 open 1 10.0.0.1 4001 => ok
+static TOLD: &str = "1 5 open 1 10.0.0.1 4001 => ok
 1 5 ask 1 GET http://a.example/ => check 1
 p looks
 p untold
@@ -159,9 +161,9 @@ fn session_mark<H: Hub>(alloc: Global, hub: &mut H, line: &str) -> Result<&'stat
 }
 
 // The mark of a question: `.` where it is awaited as `wanted` says.
-fn awaited_mark<R: Wait, D: DeskCalls, A: Ledger, M: Ledger, N: Ledger>(
+fn awaited_mark<R: Wait, D: DeskCalls, B: Ledgers>(
     rt: &R,
-    room: &Room<D, A, M, N>,
+    room: &Room<D, B>,
     question: &str,
     wanted: bool,
 ) -> &'static str {
@@ -172,9 +174,9 @@ fn awaited_mark<R: Wait, D: DeskCalls, A: Ledger, M: Ledger, N: Ledger>(
 }
 
 // The mark of what the pump does, which looked last when it had been told so often. Where it would sleep it is not let.
-fn pump_mark<R: Wait, D: DeskCalls, A: Ledger, M: Ledger, N: Ledger>(
+fn pump_mark<R: Wait, D: DeskCalls, B: Ledgers>(
     rt: &R,
-    room: &Room<D, A, M, N>,
+    room: &Room<D, B>,
     seen: &mut u64,
     line: &str,
 ) -> &'static str {
@@ -193,9 +195,9 @@ fn pump_mark<R: Wait, D: DeskCalls, A: Ledger, M: Ledger, N: Ledger>(
 }
 
 // The mark of what others tell the pump: a keeper has ended, or no more is to be done.
-fn tell_mark<R: Wait, D: DeskCalls, A: Ledger, M: Ledger, N: Ledger>(
+fn tell_mark<R: Wait, D: DeskCalls, B: Ledgers>(
     rt: &R,
-    room: &Room<D, A, M, N>,
+    room: &Room<D, B>,
     line: &str,
 ) -> &'static str {
     match line {
@@ -206,10 +208,10 @@ fn tell_mark<R: Wait, D: DeskCalls, A: Ledger, M: Ledger, N: Ledger>(
 }
 
 // The mark of a row.
-fn row_mark<R: Wait, D: DeskCalls, A: Ledger, M: Ledger, N: Ledger, K: DeskCalls, H: Hub, I: Hub>(
+fn row_mark<R: Wait, D: DeskCalls, B: Ledgers, K: HelperCalls, H: Hub, I: Hub>(
     rt: &R,
     alloc: Global,
-    room: &Room<D, A, M, N>,
+    room: &Room<D, B>,
     desk: &mut K,
     one: &mut H,
     two: &mut I,
@@ -217,7 +219,7 @@ fn row_mark<R: Wait, D: DeskCalls, A: Ledger, M: Ledger, N: Ledger, K: DeskCalls
     row: &str,
 ) -> Result<&'static str, Fail> {
     match row.split_at_checked(2) {
-        Some(("d ", line)) => mark(alloc, desk, line),
+        Some(("d ", line)) => helper_mark(alloc, desk, line),
         Some(("1 ", line)) => session_mark(alloc, one, line),
         Some(("2 ", line)) => session_mark(alloc, two, line),
         Some(("+ ", question)) => Ok(awaited_mark(rt, room, question, true)),
@@ -229,10 +231,10 @@ fn row_mark<R: Wait, D: DeskCalls, A: Ledger, M: Ledger, N: Ledger, K: DeskCalls
 }
 
 // The marks of all rows.
-fn run_rows<R: Wait, D: DeskCalls, A: Ledger, M: Ledger, N: Ledger, K: DeskCalls, H: Hub, I: Hub>(
+fn run_rows<R: Wait, D: DeskCalls, B: Ledgers, K: HelperCalls, H: Hub, I: Hub>(
     rt: &R,
     alloc: Global,
-    room: &Room<D, A, M, N>,
+    room: &Room<D, B>,
     desk: &mut K,
     one: &mut H,
     two: &mut I,
@@ -253,12 +255,12 @@ fn clock(alloc: Global) -> MemClock {
 }
 
 // The marks of all rows, of two connections and a desk that have these shares.
-fn run_shared<'x, R: Wait, D: DeskCalls, A: Ledger, M: Ledger, N: Ledger, G: Ledger>(
+fn run_shared<'x, R: Wait, D: DeskCalls, B: Ledgers>(
     rt: &'x R,
     alloc: Global,
-    room: &'x Room<D, A, M, N>,
-    bank: &'x Mutex<Bank<G>>,
-    wholes: Wholes<A, M, N, G>,
+    room: &'x Room<D, B>,
+    bank: &'x Mutex<Bank<Grants<B>>>,
+    wholes: Wholes<B>,
     rows: &str,
 ) -> Result<String, Fail>
     requires asked { (wholes.asked.parts ≡ 2) × (wholes.asked.amount ≡ 0) }
@@ -282,7 +284,7 @@ fn run_shared<'x, R: Wait, D: DeskCalls, A: Ledger, M: Ledger, N: Ledger, G: Led
 }
 
 // The marks of all rows behind a lock.
-fn run_locked<R: Wait, D: DeskCalls + Drop, A: Ledger, M: Ledger, N: Ledger, G: Ledger>(
+fn run_locked<R: Wait, D: DeskCalls + Drop, B: Ledgers>(
     rt: &R,
     alloc: Global,
     desk: D,
@@ -290,23 +292,25 @@ fn run_locked<R: Wait, D: DeskCalls + Drop, A: Ledger, M: Ledger, N: Ledger, G: 
     blanks: Blanks,
     rows: &str,
 ) -> Result<String, Fail>
-    requires asks { (blanks.asks.name ≡ A.name) × (blanks.asks.parts ≡ A.parts) × (A.parts ≡ 2) }
-    requires makes { (blanks.makes.name ≡ M.name) × (blanks.makes.parts ≡ M.parts) }
-    requires refusals { (blanks.refusals.name ≡ N.name) × (blanks.refusals.parts ≡ N.parts)
-        × (N.parts ≡ CALLERS) }
-    requires grants { (blanks.grants.name ≡ G.name) × (blanks.grants.parts ≡ G.parts)
-        × (G.parts ≡ 2) }
+    requires asks { (blanks.asks.name ≡ B.asks.name) × (blanks.asks.parts ≡ B.asks.parts)
+        × (B.asks.parts ≡ 2) }
+    requires makes { (blanks.makes.name ≡ B.makes.name) × (blanks.makes.parts ≡ B.makes.parts) }
+    requires refusals { (blanks.refusals.name ≡ B.refusals.name)
+        × (blanks.refusals.parts ≡ B.refusals.parts)
+        × (B.refusals.parts ≡ CALLERS) }
+    requires grants { (blanks.grants.name ≡ B.grants.name) × (blanks.grants.parts ≡ B.grants.parts)
+        × (B.grants.parts ≡ 2) }
     requires entries { AreCounted 0 0 (D.told desk) }
     requires made { ForSome (D.made desk) (λ m. m ≡ 0) }
     requires refused { D.refused desk ≡ 0 }
     requires granted { (pools.0.granted ≡ 0) × (pools.1.granted ≡ 0) }
 {
-    let (room, bank, wholes) = lock::<D, A, M, N, G>(alloc, desk, pools, blanks);
+    let (room, bank, wholes) = lock::<D, B>(alloc, desk, pools, blanks);
     run_shared(rt, alloc, &room, &bank, wholes, rows)
 }
 
 // The marks of all rows behind the lock of a desk over this setup.
-fn run_behind<R: Wait, F: DeskStart, A: Ledger, M: Ledger, N: Ledger, G: Ledger>(
+fn run_behind<R: Wait, F: DeskStart, B: Ledgers>(
     rt: &R,
     alloc: Global,
     setup: Setup,
@@ -315,23 +319,25 @@ fn run_behind<R: Wait, F: DeskStart, A: Ledger, M: Ledger, N: Ledger, G: Ledger>
     rows: &String,
 ) -> Result<String, Fail>
     requires first { F.first ≡ record { config = setup; offset = pos 0 } }
-    requires asks { (blanks.asks.name ≡ A.name) × (blanks.asks.parts ≡ A.parts) × (A.parts ≡ 2) }
-    requires makes { (blanks.makes.name ≡ M.name) × (blanks.makes.parts ≡ M.parts) }
-    requires refusals { (blanks.refusals.name ≡ N.name) × (blanks.refusals.parts ≡ N.parts)
-        × (N.parts ≡ CALLERS) }
-    requires grants { (blanks.grants.name ≡ G.name) × (blanks.grants.parts ≡ G.parts)
-        × (G.parts ≡ 2) }
+    requires asks { (blanks.asks.name ≡ B.asks.name) × (blanks.asks.parts ≡ B.asks.parts)
+        × (B.asks.parts ≡ 2) }
+    requires makes { (blanks.makes.name ≡ B.makes.name) × (blanks.makes.parts ≡ B.makes.parts) }
+    requires refusals { (blanks.refusals.name ≡ B.refusals.name)
+        × (blanks.refusals.parts ≡ B.refusals.parts)
+        × (B.refusals.parts ≡ CALLERS) }
+    requires grants { (blanks.grants.name ≡ B.grants.name) × (blanks.grants.parts ≡ B.grants.parts)
+        × (B.grants.parts ≡ 2) }
 {
     let pools = pools_of(alloc, setup.config())?;
     let desk = begin_failing::<F>(alloc, setup, fails)?;
-    run_locked::<R, Desk<MemJournal, F>, A, M, N, G>(rt, alloc, desk, pools, blanks, rows.as_str())
+    run_locked::<R, Desk<MemJournal, F>, B>(rt, alloc, desk, pools, blanks, rows.as_str())
 }
 
 // The marks of all rows, where these notes of the journal fail.
 fn marks<R: Wait>(rt: &R, alloc: Global, fails: &[u64], rows: &String) -> Result<String, Fail> {
     let setup = setup_of(alloc, CONF.as_bytes())?;
     let fails = Vec::from_slice(alloc, fails)?;
-    run_behind::<R, Brand, Brand, Brand, Brand, Brand>(rt, alloc, setup, blanks(), fails, rows)
+    run_behind::<R, Brand, Brand>(rt, alloc, setup, blanks(), fails, rows)
 }
 
 // Ends the process unless these marks are told of these rows.

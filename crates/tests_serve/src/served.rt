@@ -7,7 +7,7 @@ use sq_cache::HashSeed;
 use sq_journal::print_entry;
 use sq_journal_writers::MemJournal;
 use sq_outside_mem::{MemName, MemSink, Wire};
-use sq_proxy::proxy;
+use sq_proxy::{Platform, proxy};
 use std::alloc::Global;
 use std::process::Abort;
 use std::sync::Wait;
@@ -129,9 +129,12 @@ fn run_over<R: Threads + Wait + Sync>(
     let journal = MemJournal::new(alloc, 100, fails, Vec::new(alloc))?;
     let mut files = Versions::new(job.conf);
     let mut control = Orders::new(wires, job.orders);
-    let seed = HashSeed::fixed();
-    let (status, journal) = proxy(
+    let platform = Platform {
         rt,
+        seed: HashSeed::fixed(),
+    };
+    let (status, journal) = proxy::<_, (_, _, _, _, _)>(
+        platform,
         alloc,
         words.as_slice(),
         &mut files,
@@ -139,7 +142,6 @@ fn run_over<R: Threads + Wait + Sync>(
         &mut control,
         net,
         journal,
-        seed,
     );
     match journal {
         Some(journal) => sum_up(

@@ -1,5 +1,4 @@
-use Rattle.std.proofs.Common.{Some, Ok, rules, ◌∙◌, arith, subst}
-use Rattle.sq_conn_policy.specs.Tellings.{TakesRewriting, Tells}
+use Rattle.std.proofs.Common.{Some, Ok, rules, ◌∙◌, arith}
 use Rattle.sq_conn_policy.proofs.RewriteLaws.{tells_refused, tells_taken, tells_untaken, tells_unwaited}
 use Rattle.sq_conn_policy.proofs.rewriting.take.Goals as goal
 

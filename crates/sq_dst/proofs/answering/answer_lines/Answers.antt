@@ -2,7 +2,7 @@ use Rattle.std.proofs.Common.{[], arith, take, subst, refl, ◌∙◌, true, fal
 use Rattle.std.specs.Io.KnownBytes.{Consumes}
 use Rattle.sq_dst.proofs.AnswerLaws.{lines_told}
 use Rattle.sq_dst.proofs.ReadLaws.{all_read, failed_read, more_read, none_read, not_read, told_read}
-use Rattle.sq_dst.specs.AnsweredLines.{AnswersLines, WalksAnswers}
+use Rattle.sq_dst.specs.AnsweredLines.{WalksAnswers, answer_step}
 use Rattle.sq_keeper.specs.declared.keeper.KeeperEnd.TheVariants.{Ended, ReadFault, Told, WantOfMemory}
 use Rattle.sq_dst.proofs.answering.answer_lines.Goals as goal
 
@@ -16,6 +16,7 @@ loop-init g c =
       looks = omega arith;
       faults = refl;
       refused = omega arith;
+      passes = g.met.K.LineDesk.still c.args.desk.now;
     }
 
 pub returns-in-Err-clause-lines : goal.returns-in-Err-clause-lines
@@ -67,8 +68,8 @@ returns-then-not-take_bytes-clause-lines g c =
     let z = g.Q.Resolver.faults c.take_bytes.new.resolver in
     let now = g.K.LineDesk.handed c.loop.desk in
     let new = g.K.LineDesk.handed c.take_bytes.new.desk in
-    let walks = subst (λ n. WalksAnswers config n y z c.args.proc c.loop.line c.take_bytes.new.line
-    (take c.in-Ok-read.count c.read.new.into) now new false)
+    let walks = subst (λ n. WalksAnswers config (answer_step n y z now new) c.args.proc c.loop.line
+    c.take_bytes.new.line (take c.in-Ok-read.count c.read.new.into) false)
     c.loop.invariant.names c.if-not-take_bytes.ensures.walks in
     told_read config (g.Q.Resolver.names c.args.resolver.now) (g.Q.Resolver.faults c.args.resolver.now) y z
     c.args.proc _ (g.S.Source.left c.loop.from) (g.S.Source.left c.read.new.self) _ now new
@@ -83,8 +84,8 @@ returns-then-not-take_bytes-clause-found g c =
     let z = g.Q.Resolver.faults c.take_bytes.new.resolver in
     let now = g.K.LineDesk.handed c.loop.desk in
     let new = g.K.LineDesk.handed c.take_bytes.new.desk in
-    let walks = subst (λ n. WalksAnswers config n y z c.args.proc c.loop.line c.take_bytes.new.line
-    (take c.in-Ok-read.count c.read.new.into) now new false)
+    let walks = subst (λ n. WalksAnswers config (answer_step n y z now new) c.args.proc c.loop.line
+    c.take_bytes.new.line (take c.in-Ok-read.count c.read.new.into) false)
     c.loop.invariant.names c.if-not-take_bytes.ensures.walks in
     lines_told config names x z c.args.proc (g.S.Source.left c.args.from.now) (g.S.Source.left c.read.new.self)
     (g.K.LineDesk.handed c.args.desk.now) new Told
@@ -99,8 +100,8 @@ loop-preserved g c =
     let z = g.Q.Resolver.faults c.take_bytes.new.resolver in
     let now = g.K.LineDesk.handed c.loop.desk in
     let new = g.K.LineDesk.handed c.take_bytes.new.desk in
-    let walks = subst (λ n. WalksAnswers config n y z c.args.proc c.loop.line c.take_bytes.new.line
-    (take c.in-Ok-read.count c.read.new.into) now new true)
+    let walks = subst (λ n. WalksAnswers config (answer_step n y z now new) c.args.proc c.loop.line
+    c.take_bytes.new.line (take c.in-Ok-read.count c.read.new.into) true)
     c.loop.invariant.names c.if-not-take_bytes.ensures.walks in
     record {
       read = more_read config (g.Q.Resolver.names c.args.resolver.now) (g.Q.Resolver.faults c.args.resolver.now) y z
@@ -110,6 +111,7 @@ loop-preserved g c =
       looks = omega arith;
       faults = c.in-Ok-read.ensures.cause.quiet ∙ c.loop.invariant.faults;
       refused = omega arith;
+      passes = g.met.K.LineDesk.further _ c.loop.desk _ c.loop.invariant.passes c.if-not-take_bytes.ensures.passes;
     }
 
 pub returns-in_default-clause-lines : goal.returns-in_default-clause-lines

@@ -12,4 +12,5 @@ invariant-loop g l = record {
   looks : g.Q.Resolver.faults l.fn.resolver ≤ g.Q.Resolver.faults l.resolver;
   faults : g.S.Source.faults l.from ≡ g.S.Source.faults l.fn.from;
   refused : g.K.LineDesk.refused l.fn.desk ≤ g.K.LineDesk.refused l.desk;
+  passes : g.K.LineDesk.passes l.fn.desk l.desk;
 }

@@ -1,7 +1,7 @@
 use Rattle.std.proofs.Common.{◌≡◌, ◌∙◌, ◌+◌, ◌++◌, ◌∷◌, [], refl, sym, ap, subst, arith, false, true, append_assoc, append-nil, add-one, take, drop, get_or, drop-cons, take-append-drop}
 use Rattle.std.proofs.Math.Seq.{take-suc}
 use Rattle.sq_dst.proofs.AnswerLaws.{hands_more, hands_none}
-use Rattle.sq_dst.specs.AnsweredLines.{HandsAnswers}
+use Rattle.sq_dst.specs.AnsweredLines.{HandsAnswers, answer_step}
 use Rattle.sq_keeper.proofs.WalkLaws.{walk_none, line_none, one_more_handed, one_more_line}
 use Rattle.sq_keeper.specs.Walk.{closing, step_handed, walk_handed, walk_line}
 use Rattle.sq_dst.proofs.answering.take_bytes.Goals as goal
@@ -12,12 +12,13 @@ loop-byte-init g c =
     let names = g.Q.Resolver.names c.args.resolver.now in
     let faults = g.Q.Resolver.faults c.args.resolver.now in
     record {
-      hands = subst (HandsAnswers c.args.config.now names faults faults told told)
+      hands = subst (HandsAnswers c.args.config.now (answer_step names faults faults told told))
           (sym (walk_none c.args.proc c.args.line.now)) (hands_none c.args.config.now names faults told);
       names = refl;
       looks = omega arith;
       line = sym (line_none c.args.line.now);
       later = omega arith;
+      passes = g.met.K.LineDesk.still c.args.desk.now;
     }
 
 pub returns-then-not-take_byte-clause-walks : goal.returns-then-not-take_byte-clause-walks
@@ -37,7 +38,7 @@ returns-then-not-take_byte-clause-walks g c =
     let new = g.K.LineDesk.handed c.take_byte.new.desk in
     let cons : drop i bytes ≡ b ∷ drop (i + 1) bytes = rw (add-one) (drop-cons bytes i 0 c.loop-byte-test.true) in
     let end : b ≡ 10 = c.if-not-take_byte.ensures.ended refl in
-    let one = subst (λ n. HandsAnswers config n y z now new
+    let one = subst (λ n. HandsAnswers config (answer_step n y z now new)
     (step_handed c.args.proc c.loop-byte.line b ++ closing c.args.proc false))
     c.loop-byte.invariant.names c.if-not-take_byte.ensures.hands in
     let all = hands_more config names x y z old now new _ _ c.loop-byte.invariant.hands one in
@@ -45,10 +46,10 @@ returns-then-not-take_byte-clause-walks g c =
       front,
       drop (i + 1) bytes,
       sym (take-append-drop i bytes) ∙ ap (λ l. front ++ l) cons ∙ ap (λ t. front ++ t ∷ drop (i + 1) bytes) end,
-      subst (λ t. HandsAnswers config names x z old new
+      subst (λ t. HandsAnswers config (answer_step names x z old new)
           (walk_handed c.args.proc before (front ++ t ∷ []) ++ closing c.args.proc false)) end
-          (subst (HandsAnswers config names x z old new) (sym (append_assoc _ _ (closing c.args.proc false))
-          ∙ ap (λ l. l ++ closing c.args.proc false) shape) all),
+          (subst (HandsAnswers config (answer_step names x z old new))
+          (sym (append_assoc _ _ (closing c.args.proc false)) ∙ ap (λ l. l ++ closing c.args.proc false) shape) all),
     )
 
 pub loop-byte-preserved : goal.loop-byte-preserved
@@ -67,13 +68,13 @@ loop-byte-preserved g c =
     let now = g.K.LineDesk.handed c.loop-byte.desk in
     let new = g.K.LineDesk.handed c.take_byte.new.desk in
     let longer : front ++ b ∷ [] ≡ take (i + 1) bytes = rw (add-one) (sym (take-suc bytes i 0 c.loop-byte-test.true)) in
-    let one = subst (λ n. HandsAnswers config n y z now new
+    let one = subst (λ n. HandsAnswers config (answer_step n y z now new)
     (step_handed c.args.proc c.loop-byte.line b ++ closing c.args.proc true))
     c.loop-byte.invariant.names c.if-not-take_byte.ensures.hands in
     let all = hands_more config names x y z old now new _ _ c.loop-byte.invariant.hands one in
     let shape = one_more_handed c.args.proc before c.loop-byte.line front b c.loop-byte.invariant.line in
     record {
-      hands = subst (HandsAnswers config names x z old new)
+      hands = subst (HandsAnswers config (answer_step names x z old new))
           (ap (λ l. walk_handed c.args.proc before front ++ l) (append-nil (step_handed c.args.proc c.loop-byte.line b))
           ∙ shape ∙ ap (walk_handed c.args.proc before) longer) all;
       names = c.take_byte.ensures.names ∙ c.loop-byte.invariant.names;
@@ -81,4 +82,6 @@ loop-byte-preserved g c =
       line = c.take_byte.ensures.line ∙ one_more_line before c.loop-byte.line front b c.loop-byte.invariant.line
           ∙ ap (walk_line before) longer;
       later = omega arith;
+      passes = g.met.K.LineDesk.further _ c.loop-byte.desk _ c.loop-byte.invariant.passes
+          c.if-not-take_byte.ensures.passes;
     }

@@ -2,7 +2,7 @@ use Rattle.std.proofs.Common.{◌≡◌, ◌+◌, ◌*◌, true, map, drop}
 use Rattle.std.specs.List.{list_all}
 use Rattle.std.specs.Option.{option_or}
 use Rattle.sq_rules.specs.Configurations.{are_known}
-use Rattle.sq_eval.specs.Traces.{all_traced, line_traced, some_traced, term_traced}
+use Rattle.sq_eval.specs.Traces.{line_traced, some_traced, term_traced}
 use Rattle.sq_eval.proofs.TagLaws.{traced}
 use Rattle.sq_eval.proofs.tags.+tags.Given as goal
 

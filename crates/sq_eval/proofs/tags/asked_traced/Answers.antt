@@ -2,7 +2,7 @@ use Rattle.std.proofs.Common.{◌≡◌, IfOk, ap, sym, subst, ◌∙◌}
 use Rattle.std.specs.Option.{option_copied, option_map}
 use Rattle.sq_rules.specs.Tags.{tag_in}
 use Rattle.sq_rules.specs.Keys.{key_text}
-use Rattle.sq_rules.specs.Values.{answer_for, answer_value}
+use Rattle.sq_rules.specs.Values.{answer_value}
 use Rattle.sq_rules.specs.declared.values.TermValue.TheVariants.{Need}
 use Rattle.sq_eval.proofs.TagLaws.{answer_by}
 use Rattle.sq_eval.proofs.tags.asked_traced.Goals as goal

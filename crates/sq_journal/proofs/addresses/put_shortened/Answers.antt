@@ -1,4 +1,4 @@
-use Rattle.std.proofs.Common.{◌≡◌, ◌+◌, ◌++◌, codes, take, drop, ap, ◌∙◌}
+use Rattle.std.proofs.Common.{◌+◌, ◌++◌, codes, take, drop, ap, ◌∙◌}
 use Rattle.std.proofs.lemmas.List.{drop-drop}
 use Rattle.std.specs.Net.Text.{groups_text}
 use Rattle.sq_journal.proofs.AddressPutLaws.{shortened}

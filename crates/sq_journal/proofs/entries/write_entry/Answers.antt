@@ -1,4 +1,4 @@
-use Rattle.std.proofs.Common.{◌≡◌, ◌∷◌, [], ◌++◌, ◌∙◌, codes, decimal, ap}
+use Rattle.std.proofs.Common.{◌∷◌, [], ◌++◌, ◌∙◌, codes, decimal, ap}
 use Rattle.sq_machine.specs.Entries.{Noted}
 use Rattle.sq_journal.specs.EntryText.{event_words, told_words, entry_text}
 use Rattle.sq_journal.specs.Lines.{after_spaces}

@@ -7,4 +7,5 @@ abbrev pub invariant-loop : goal.invariant-loop
 invariant-loop g l = record {
   adds : Adds (g.K.LineDesk.handed l.fn.desk) (g.K.LineDesk.handed l.desk) [];
   later : g.K.LineDesk.refused l.fn.desk ≤ g.K.LineDesk.refused l.desk;
+  passes : g.K.LineDesk.passes l.fn.desk l.desk;
 }

@@ -10,6 +10,7 @@ loop-init g c =
           c.in-Ok.ensures;
       faults = refl;
       refused = omega arith;
+      passes = g.met.K.LineDesk.still c.args.desk.now;
     }
 
 pub returns-in-Err-clause-lines : goal.returns-in-Err-clause-lines
@@ -42,4 +43,5 @@ loop-preserved g c =
           c.loop.invariant.read c.in-Ok-read.ensures.bytes.0 c.if-not-take_bytes.ensures.walks;
       faults = c.in-Ok-read.ensures.cause.quiet ∙ c.loop.invariant.faults;
       refused = omega arith;
+      passes = g.met.K.LineDesk.further _ c.loop.desk _ c.loop.invariant.passes c.if-not-take_bytes.ensures.passes;
     }

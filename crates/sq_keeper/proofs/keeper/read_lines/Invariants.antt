@@ -9,4 +9,5 @@ invariant-loop g l = record {
       (g.K.LineDesk.handed l.desk) l.line;
   faults : g.S.Source.faults l.from ≡ g.S.Source.faults l.fn.from;
   refused : g.K.LineDesk.refused l.fn.desk ≤ g.K.LineDesk.refused l.desk;
+  passes : g.K.LineDesk.passes l.fn.desk l.desk;
 }

@@ -13,6 +13,7 @@ loop-byte-init g c =
       adds = subst (Adds told told) (sym (walk_none c.args.proc c.args.line.now)) (adds_none told);
       line = sym (line_none c.args.line.now);
       later = omega arith;
+      passes = g.met.K.LineDesk.still c.args.desk.now;
     }
 
 pub returns-then-not-take_byte-clause-walks : goal.returns-then-not-take_byte-clause-walks
@@ -57,4 +58,6 @@ loop-byte-preserved g c =
       line = c.take_byte.ensures.line ∙ one_more_line before c.loop-byte.line front b c.loop-byte.invariant.line
           ∙ ap (walk_line before) longer;
       later = omega arith;
+      passes = g.met.K.LineDesk.further _ c.loop-byte.desk _ c.loop-byte.invariant.passes
+          c.if-not-take_byte.ensures.passes;
     }

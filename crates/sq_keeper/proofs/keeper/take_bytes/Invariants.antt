@@ -10,4 +10,5 @@ invariant-loop-byte g l = record {
       (walk_handed l.proc l.fn.line (take l.byte-index l.bytes));
   line : l.line ≡ walk_line l.fn.line (take l.byte-index l.bytes);
   later : g.K.LineDesk.refused l.fn.desk ≤ g.K.LineDesk.refused l.desk;
+  passes : g.K.LineDesk.passes l.fn.desk l.desk;
 }

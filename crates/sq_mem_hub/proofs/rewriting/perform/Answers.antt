@@ -1,5 +1,3 @@
-use Rattle.std.proofs.Common.{sym, subst}
-use Rattle.sq_mem_hub.specs.MemHubs.{WorksOn}
 use Rattle.sq_mem_hub.proofs.WaitLaws.{works_on_before, works_on_same}
 use Rattle.sq_mem_hub.proofs.rewriting.perform.Goals as goal
 use Rattle.sq_mem_hub.proofs.rewriting.perform.Goals.{in-Stop, in-Send, in-Start}

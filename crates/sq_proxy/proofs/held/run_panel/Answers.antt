@@ -17,13 +17,14 @@ pub returns-in-Err-clause-served : goal.returns-in-Err-clause-served
 returns-in-Err-clause-served g c =
     let same = c.in-Err.ensures.unrun.0 in
     unserved_moved _ _ _ _ _ _ _ _ _ _ _ _ _ _
-    (ap {B = FilesSeen} (λ p. record { opened = g.F.Files.opened p.files.now; faults = g.F.Files.faults p.files.now })
+    (ap {B = FilesSeen}
+    (λ p. record { opened = g.W.F.Files.opened p.files.now; faults = g.W.F.Files.faults p.files.now })
     same)
     (ap {B = Streams} (λ p. record {
-      left = g.S.Source.left p.input.now;
-      input_faults = g.S.Source.faults p.input.now;
-      contents = g.O.Sink.contents p.out.now;
-      output_faults = g.O.Sink.faults p.out.now;
+      left = g.W.C.Source.left p.input.now;
+      input_faults = g.W.C.Source.faults p.input.now;
+      contents = g.W.O.Sink.contents p.out.now;
+      output_faults = g.W.O.Sink.faults p.out.now;
     }) same)
     c.unserved_status.ensures.end c.in-Err.ensures.unwritten c.requires.empty
     (λ e. begun_fault c.in-Err.unserved.fault _ _ (c.unserved_status.ensures.journal e) c.in-Err.ensures.unserved)

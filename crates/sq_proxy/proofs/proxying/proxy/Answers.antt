@@ -5,10 +5,10 @@ use Rattle.sq_proxy.proofs.DoneLaws.{migrates_truly_told, runs_truly_told}
 use Rattle.sq_proxy.proofs.proxying.proxy.Goals as goal
 
 pub returns-in-Some-clause-truly : goal.returns-in-Some-clause-truly
-returns-in-Some-clause-truly g c = runs_truly_told (g.F.Files.texts c.args.files.now) c.args.words.now
+returns-in-Some-clause-truly g c = runs_truly_told (g.W.F.Files.texts c.args.files.now) c.args.words.now
 
 pub returns-in-Some-clause-migrates : goal.returns-in-Some-clause-migrates
-returns-in-Some-clause-migrates g c = migrates_truly_told (g.F.Files.texts c.args.files.now) c.args.words.now
+returns-in-Some-clause-migrates g c = migrates_truly_told (g.W.F.Files.texts c.args.files.now) c.args.words.now
 
 pub returns-in-Some-clause-usage : goal.returns-in-Some-clause-usage
 returns-in-Some-clause-usage g c = (

@@ -32,10 +32,10 @@ returns g c =
       both.0,
       ap {B = Streams}
           (λ o. record {
-            left = g.C.Source.left c.serve_at-status.new.control;
-            input_faults = g.C.Source.faults c.serve_at-status.new.control;
-            contents = g.O.Sink.contents o;
-            output_faults = g.O.Sink.faults o;
+            left = g.W.C.Source.left c.serve_at-status.new.control;
+            input_faults = g.W.C.Source.faults c.serve_at-status.new.control;
+            contents = g.W.O.Sink.contents o;
+            output_faults = g.W.O.Sink.faults o;
           })
           both.1,
     ))

@@ -12,10 +12,10 @@ returns g c =
     c.finish.ensures.same c.serve_conf-status.ensures
     (λ e. ap {B = Streams}
     (λ o. record {
-      left = g.C.Source.left c.serve_conf-status.new.control;
-      input_faults = g.C.Source.faults c.serve_conf-status.new.control;
-      contents = g.O.Sink.contents o;
-      output_faults = g.O.Sink.faults o;
+      left = g.W.C.Source.left c.serve_conf-status.new.control;
+      input_faults = g.W.C.Source.faults c.serve_conf-status.new.control;
+      contents = g.W.O.Sink.contents o;
+      output_faults = g.W.O.Sink.faults o;
     })
     (c.finish.ensures.silent (ap (λ (s : Status). is_silent (end_of s)) e)))
     c.finish.ensures.written refl c.finish.ensures.later

@@ -1,4 +1,4 @@
-use Rattle.sq_proxy.proofs.OpenedLaws.{open_no_write, replay_ends, replay_opened, replay_stops, replay_told}
+use Rattle.sq_proxy.proofs.OpenedLaws.{open_no_write, replay_ends, replay_opened, replay_told}
 use Rattle.sq_proxy.proofs.top.replay.Goals as goal
 
 pub returns-in-Ok-clause-delivers : goal.returns-in-Ok-clause-delivers

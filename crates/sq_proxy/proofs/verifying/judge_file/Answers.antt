@@ -1,4 +1,3 @@
-use Rattle.sq_outside.specs.SourceLines.{lines}
 use Rattle.sq_proxy.specs.declared.ends.Status.TheVariants as ends
 use Rattle.sq_proxy.specs.Commands.{journal_output, script_stage, staged}
 use Rattle.sq_proxy.proofs.OpenedLaws.{fault_told}

@@ -1,4 +1,4 @@
-use Rattle.sq_proxy.proofs.VerifyLaws.{verify_ends, verify_opened, verify_played, verify_stops, verify_told}
+use Rattle.sq_proxy.proofs.VerifyLaws.{verify_opened, verify_played, verify_told}
 use Rattle.sq_proxy.proofs.verifying.verify.Goals as goal
 
 pub returns-in-Ok-clause-delivers : goal.returns-in-Ok-clause-delivers

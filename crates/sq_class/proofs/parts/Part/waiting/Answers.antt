@@ -1,7 +1,6 @@
-use Rattle.std.proofs.Common.{◌≡◌, ◌∙◌, true, ap}
+use Rattle.std.proofs.Common.{◌≡◌, ◌∙◌, true}
 use Rattle.sq_machine.specs.Channels.{is_open}
 use Rattle.sq_machine.specs.Living.{slots_in}
-use Rattle.sq_machine.specs.OpenLookups.{is_open_lookup}
 use Rattle.sq_class.proofs.HoldLaws.{is_there, open_place}
 use Rattle.sq_class.proofs.parts.Part.waiting.Goals as goal
 

@@ -1,4 +1,4 @@
-use Rattle.std.proofs.Common.{◌≡◌, length, true, nat_lt, refl, sym, subst}
+use Rattle.std.proofs.Common.{◌≡◌, true, nat_lt, refl, sym, subst}
 use Rattle.sq_drafts.proofs.SoundLaws.{IsSound_by, IsSound_push, no_leaf}
 use Rattle.sq_drafts.proofs.TakesLaws.{takes_pushed}
 use Rattle.sq_rules.specs.Limits.{acl_limit}

@@ -7,12 +7,11 @@ returns-in-Ok-Some-clause-begins g c =
       act = c.in-Ok-Some.act;
       mid = record c.args.self.now {
         desk = c.act.new.self;
-        told = g.K.DeskCalls.told c.act.new.self;
-        refused = g.K.DeskCalls.refused c.act.new.self;
-        made = g.K.DeskCalls.made c.act.new.self;
+        told = g.K.TellsJournal.told c.act.new.self;
+        refused = g.K.TellsJournal.refused c.act.new.self;
+        made = g.K.TellsJournal.made c.act.new.self;
       };
       noted = search rules;
-      next = search rules;
       same = search rules;
       later = search rules;
       programs_stay = search rules;

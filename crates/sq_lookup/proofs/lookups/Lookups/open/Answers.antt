@@ -1,11 +1,10 @@
-use Rattle.std.proofs.Common.{◌≡◌, ◌∙◌, ◌==◌, ◌&&◌, ◌||◌, ◌∷◌, [], ◌++◌, ap, cond, Some}
+use Rattle.std.proofs.Common.{◌≡◌, ◌∙◌, ◌∷◌, [], ◌++◌, ap, cond, Some}
 use Rattle.sq_machine.specs.KeptLists.{same_key}
-use Rattle.sq_machine.specs.Events.{is_number}
-use Rattle.sq_machine.specs.OpenLookups.{LookupRow, is_open_lookup, pending_in, all_below, waits_in}
+use Rattle.sq_machine.specs.OpenLookups.{LookupRow, is_open_lookup, pending_in, all_below}
 use Rattle.sq_lookup.specs.Index.{rows_of, question_at}
 use Rattle.sq_lookup.specs.Waits.{is_free}
 use Rattle.sq_lookup.proofs.OpenLaws.{at_end}
-use Rattle.sq_lookup.proofs.IndexLaws.{no_row, opened, waits_with}
+use Rattle.sq_lookup.proofs.IndexLaws.{no_row, opened}
 use Rattle.sq_lookup.proofs.lookups.Lookups.open.Goals as goal
 
 pub put-requires-2 : goal.put-requires-2

@@ -1,4 +1,4 @@
-use Rattle.std.proofs.Common.{◌≡◌, ◌∙◌, ap, sym, None, false}
+use Rattle.std.proofs.Common.{◌≡◌, ◌∙◌, ap, sym, None}
 use Rattle.sq_machine.specs.OpenLookups.{is_open_lookup}
 use Rattle.sq_lookup.specs.Index.{listed_by, row_at, rows_of}
 use Rattle.sq_lookup.proofs.IndexLaws.{no_row}

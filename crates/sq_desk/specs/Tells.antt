@@ -1,0 +1,87 @@
+-- What a call of a desk says to those who make it, by what it leaves.
+use Rattle.std.specs.Prelude.{◌≡◌, ℕ, List, min, Some, IsSome, Result, OnOk}
+use Rattle.std.specs.Option.{option_map}
+use Rattle.std.specs.declared.option.Option.{Option}
+use Rattle.sq_outside.specs.Causes.{count_limit}
+use Rattle.sq_rules.specs.Configurations.{Configuration}
+use Rattle.sq_machine.specs.declared.entries.Event.{Event}
+use Rattle.sq_machine.specs.declared.entries.Event.TheVariants as event
+use Rattle.sq_machine.specs.declared.entries.Told.{Told}
+use Rattle.sq_machine.specs.declared.entries.Told.TheVariants as told
+use Rattle.sq_machine.specs.DueActs.{ClassId}
+use Rattle.sq_machine.specs.Entries.{History}
+use Rattle.sq_channel.specs.declared.replies.Got.{Got}
+use Rattle.sq_epochs.specs.declared.acts.Act.{Act}
+use Rattle.sq_model_state.specs.Says.{class_in}
+use Rattle.sq_engine.specs.EngineViews.{state_of}
+use Rattle.sq_calls.specs.declared.faults.DeskFault.{DeskFault}
+use Rattle.sq_calls.specs.Legality.{Beginning, IsNameOf}
+use Rattle.sq_calls.specs.Telling.{CountsLine, CountsReconfigured, CountsRefusal, IsReread, MayAct, Notes, NotesAs, Refuses, RefusesAt, got_told}
+use Rattle.sq_desk.specs.Desks.{DeskView}
+
+-- the count of refusals as it is shown
+abbrev pub shown : DeskView → ℕ
+shown v = min v.notes.refusals count_limit
+
+-- the words of the program of a class, as they are shown
+abbrev pub programs_of : DeskView → ℕ → ℕ → Option (Option (List (List ℕ)))
+programs_of v epoch class = Some
+    (option_map (λ c. c.words) (class_in (state_of v.engine) epoch class))
+
+-- a call of this event at a moment, whose answer is told so
+pub record Tells {A : Type 0} (first : Beginning) (moment : ℕ) (tell : A → Told) (e : Event)
+    (v w : DeskView) (r : Result A DeskFault) : Type 0 where
+  pub told : Notes (Some first) moment tell (λ x. x ≡ e) v.notes.history w.notes.history r
+  pub refuses : Refuses (Some first) moment e v.notes.history r
+  pub refused : CountsRefusal (shown v) (shown w) r
+  pub made : Some w.notes.made ≡ Some v.notes.made
+
+-- the same where the answer is as R says
+pub record TellsAs {A : Type 0} (first : Beginning) (moment : ℕ) (R : A → Told → Type 0) (e : Event)
+    (v w : DeskView) (r : Result A DeskFault) : Type 0 where
+  pub told : NotesAs (Some first) moment R (λ x. x ≡ e) v.notes.history w.notes.history r
+  pub refuses : Refuses (Some first) moment e v.notes.history r
+  pub refused : CountsRefusal (shown v) (shown w) r
+  pub made : Some w.notes.made ≡ Some v.notes.made
+
+-- this event, with the name that the class at a place has
+abbrev pub IsOfClass : Beginning → Option History → (List ℕ → Event) → ClassId → Event → Type 0
+IsOfClass first old e p x = (name : List ℕ) × IsNameOf (Some first) old p.epoch p.class name
+    × (x ≡ e name)
+
+-- the same of an event that names a class
+pub record TellsClass {A : Type 0} (first : Beginning) (moment : ℕ) (tell : A → Told)
+    (e : List ℕ → Event) (p : ClassId) (v w : DeskView) (r : Result A DeskFault) : Type 0 where
+  pub told : Notes (Some first) moment tell (IsOfClass first v.notes.history e p) v.notes.history
+      w.notes.history r
+  pub refuses : RefusesAt (Some first) moment e p.epoch p.class v.notes.history r
+  pub refused : CountsRefusal (shown v) (shown w) r
+  pub made : Some w.notes.made ≡ Some v.notes.made
+
+-- a call for a line of a process
+pub record TellsLine (first : Beginning) (moment k : ℕ) (line : List ℕ) (v w : DeskView)
+    (r : Result Got DeskFault) : Type 0 where
+  pub told : Notes (Some first) moment got_told (λ x. x ≡ event.Line k line) v.notes.history
+      w.notes.history r
+  pub refuses : Refuses (Some first) moment (event.Line k line) v.notes.history r
+  pub refused : CountsLine (shown v) (shown w) r
+  pub made : Some w.notes.made ≡ Some v.notes.made
+
+-- a call for the next act
+pub record TellsAct (first : Beginning) (moment : ℕ) (v w : DeskView)
+    (r : Result (Option Act) DeskFault) : Type 0 where
+  pub told : MayAct (Some first) moment v.notes.history w.notes.history r
+  pub refuses : Refuses (Some first) moment event.Act v.notes.history r
+  pub refused : CountsRefusal (shown v) (shown w) r
+  pub made : Some w.notes.made ≡ Some v.notes.made
+  pub programs : programs_of w ≡ programs_of v
+
+-- a call for another configuration
+pub record TellsReread (first : Beginning) (config : Configuration) (moment : ℕ) (v w : DeskView)
+    (r : Result ℕ DeskFault) : Type 0 where
+  pub told : Notes (Some first) moment told.Epoch (IsReread config) v.notes.history w.notes.history
+      r
+  pub refuses : Refuses (Some first) moment (event.Reconfigure config.source) v.notes.history r
+  pub refused : CountsRefusal (shown v) (shown w) r
+  pub made : CountsReconfigured (Some v.notes.made) (Some w.notes.made) r
+  pub counting : OnOk r (IsSome (Some v.notes.made))

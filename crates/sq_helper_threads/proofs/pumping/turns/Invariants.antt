@@ -1,6 +1,0 @@
-use Rattle.std.proofs.Common.{◌≡◌}
-use Rattle.sq_helper_threads.proofs.pumping.turns.Given as goal
-
--- the share has as many parts as are to spare
-abbrev pub invariant-loop : goal.invariant-loop
-invariant-loop g l = record { parts : l.refused.parts ≡ l.spare }

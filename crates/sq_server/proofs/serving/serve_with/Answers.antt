@@ -1,9 +1,0 @@
-use denote.Exit.{no}
-use denote.Param.Send.{arg_send, param_send}
-use Rattle.sq_server.proofs.ThreadLaws.{desk_send, watched_send}
-use Rattle.sq_server.proofs.serving.serve_with.Goals as goal
-
-pub run-desk-requires-send-D : goal.run-desk-requires-send-D
-run-desk-requires-send-D g c κs within = param_send _ _
-    (arg_send _ no _ (desk_send _ _ _ _ (watched_send _ _ _ _ c.type_bounds.send-J c.type_bounds.send-B)
-    c.type_bounds.send-F))
