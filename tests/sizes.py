@@ -2,9 +2,11 @@
 """Functions and relations that take too much at once, in the library crates: tests/sizes.py
 
 It lists each function with more than eight parameters (`self` is one) or four type parameters, and each relation of the specs with more
-than eight arguments; what is implied is none. What belongs together goes as one value with names: a struct, a record, a trait with
-associated types. It first counts two texts of its own. The status is 0 where nothing takes too much."""
+than eight arguments, or with three in a row that are called by letters as `a b c`; what is implied is none. What belongs together goes as
+one value with names: a struct, a record, a trait with associated types. It first counts two texts of its own. The status is 0 where
+nothing takes too much."""
 
+import itertools
 import os
 import re
 import sys
@@ -12,12 +14,15 @@ from collections.abc import Iterator
 from pathlib import Path
 
 PARAMETERS, TYPES, ARGUMENTS = 8, 4, 8
+# So many arguments in a row that are called by one of these letters say nothing of what each is.
+LETTERS, ROW = "abcdgh", 3
 CRATES = Path(__file__).resolve().parent.parent / "crates"
 # The brackets of a function's head, and those of a definition's, where `<` is a relation.
 HEADS = ("([{<", ")]}>")
 DEFINITIONS = ("([{", ")]}")
 
-# What is counted in these texts: of each function parameters and type parameters, of each relation arguments.
+# What is counted in these texts: of each function parameters and type parameters, of each relation arguments, and of each of its
+# equations the longest row of letters.
 CODE = """
 fn none() {}
 // fn not_this(a: u8) {}
@@ -35,10 +40,16 @@ pub record IsOne {A : Type 0} (a b : List A)
   pub same : a ≡ b
 abbrev pub IsTwo (a : ℕ) : (b c : ℕ) → List (ℕ → ℕ) → Type 0
 IsTwo a b c d = a < b
+IsTwo {A = A} (suc a) b
+    c d =
+    b < c
 data IsThree : Type 0 where
-abbrev pub none : ℕ → ℕ
+abbrev pub none : ℕ → ℕ → ℕ → ℕ
+none a b c = a
 """
-RELATED = [("IsOne", 3), ("IsTwo", 4), ("IsThree", 0)]
+RELATED = [
+    ("IsOne", ["a", "b", "few"]), ("IsTwo", ["a", "b", "c", ""]), ("IsTwo", ["a", "b", "c", "d"]), ("IsTwo", ["", "b", "c", "d"]), ("IsThree", []),
+]
 
 
 def behind(text: str, at: int, brackets: tuple[str, str]) -> int:
@@ -83,25 +94,40 @@ def functions(text: str) -> Iterator[tuple[str, int, int]]:
         yield found[1], len(split(text[at + 1 : behind(text, at, HEADS) - 1], ",", HEADS)), len(types)
 
 
-def names_of(binder: str) -> int:
-    """How many arguments a binder `(a b : T)` has; one that is implied, `{a : T}`, has none."""
+def names_of(binder: str) -> list[str]:
+    """The arguments of a binder `(a b : T)`; one that is implied, `{a : T}`, has none, and one without a name is empty."""
     named = re.match(r"\(([^():]+) :", binder)
-    return 0 if binder.startswith("{") else len(named[1].split()) if named else 1
+    return [] if binder.startswith("{") else named[1].split() if named else [""]
 
 
-def relations(text: str) -> Iterator[tuple[str, int]]:
-    """Name and arguments of each definition whose value is a type."""
-    text = re.sub(r"--.*", "", text)
-    for found in re.finditer(r"^(?:abbrev )?(?:pub )?(?:record |data )?([^\s:(){}]+)(.*(?:\n[ \t].*)*)", text, re.M):
-        rest, count = found[2].split(" where")[0].lstrip(), 0
+def relations(text: str) -> Iterator[tuple[str, list[str]]]:
+    """Name and arguments of each definition whose value is a type, and of each of its equations."""
+    text, seen = re.sub(r"--.*", "", text), set()
+    for found in re.finditer(r"^((?:abbrev |unfoldable |pub |record |data )*)([^\s:(){}]+)(.*(?:\n[ \t].*)*)", text, re.M):
+        if found[2] in seen and not found[1]:
+            left = split(" ".join([*found[0].split(), ""]), " = ", DEFINITIONS)[0]
+            patterns = [word for word in split(left, " ", DEFINITIONS)[1:] if not word.startswith("{")]
+            yield found[2], [word if word.isalpha() else "" for word in patterns]
+            continue
+        rest, names = found[3].split(" where")[0].lstrip(), []
         while rest.startswith(("(", "{")):
             end = behind(rest, 0, DEFINITIONS)
-            count += names_of(rest[:end])
+            names += names_of(rest[:end])
             rest = rest[end:].lstrip()
         if rest.startswith(": "):
             *taken, value = split(rest[2:], "→", DEFINITIONS) or [""]
             if value.startswith("Type"):
-                yield found[1], count + sum(map(names_of, taken))
+                seen.add(found[2])
+                yield found[2], names + [name for binder in taken for name in names_of(binder)]
+
+
+def letters(names: list[str]) -> str:
+    """The first row of arguments that are called by letters, where one is too long."""
+    for at in range(len(names) - ROW + 1):
+        row = list(itertools.takewhile(lambda name: len(name) == 1 and name in LETTERS, names[at:]))
+        if len(row) >= ROW:
+            return " ".join(row)
+    return ""
 
 
 def too_much() -> Iterator[str]:
@@ -111,8 +137,10 @@ def too_much() -> Iterator[str]:
                 yield f"{os.path.relpath(path)}: {name}: {parameters} parameters, {types} type parameters"
     for path in sorted(CRATES.glob("sq_*/specs/**/*.antt")):
         for name, arguments in relations(path.read_text(encoding="utf-8")):
-            if arguments > ARGUMENTS:
-                yield f"{os.path.relpath(path)}: {name}: {arguments} arguments"
+            if len(arguments) > ARGUMENTS:
+                yield f"{os.path.relpath(path)}: {name}: {len(arguments)} arguments"
+            if row := letters(arguments):
+                yield f"{os.path.relpath(path)}: {name}: arguments {row}"
 
 
 def main() -> int:
@@ -120,7 +148,9 @@ def main() -> int:
         sys.exit(f"sizes: it counts {counted}, and not {COUNTED}")
     if (related := list(relations(SPECS))) != RELATED:
         sys.exit(f"sizes: it counts {related}, and not {RELATED}")
-    found = list(too_much())
+    if (row := letters(["x", "a", "", "d", "g", "h", "e"])) != "d g h":
+        sys.exit(f"sizes: it finds the letters {row}, and not d g h")
+    found = list(dict.fromkeys(too_much()))
     for line in found:
         print(line)
     return 1 if found else 0

@@ -1,7 +1,7 @@
 #!/bin/sh
 # What can be seen of the texts without a proof, in seconds: layout and spelling of the crates' files, that a type's
-# name is declared once, that each edit can be applied, layout of the other files, that scripts can be read, and that
-# links lead to something. The status is 0 where all is well.
+# name is declared once, that no function or relation takes too much, that each edit can be applied, layout of the
+# other files, that scripts can be read, and that links lead to something. The status is 0 where all is well.
 # `tests/texts.sh`; it takes along rt, shellcheck, perl and python3 where they are there.
 cd "$(dirname "$0")/.." || exit 1
 LC_ALL=C
@@ -51,6 +51,10 @@ none 'type names that are declared twice in library crates' "$(in_those '^crates
         if (name in home && name != "Lines" && name != "Parts") print FILENAME ":" FNR ": " name ", as in " home[name]
         home[name] = FILENAME
     }')"
+# A function or a relation that takes much takes it as one value with names: tests/sizes.py has the bounds.
+if command -v python3 >/dev/null; then
+    none 'functions and relations that take too much at once' "$(python3 tests/sizes.py 2>&1)"
+fi
 # An edit replaces a line that stands once in its file; further ones apply to what the earlier ones made.
 none 'edits that cannot be applied' "$(in_those '/must-fail/.*\.edit$' awk '
     function read_all(path,    text, line) {
